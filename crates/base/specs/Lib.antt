@@ -1,0 +1,3 @@
+pub mod DecodeError
+pub mod ParseError
+pub mod ProtoError

@@ -1,0 +1,70 @@
+ghost use Rattle.std.specs.Prelude.{◌≡◌};
+ghost use Rattle.base.specs.DecodeError.{decode_number};
+ghost use Rattle.base.specs.declared.error.decode_error.DecodeError.TheVariants as faults;
+
+use std::alloc::{AllocError, AllocFailed};
+use thiserror::Error;
+
+/// Why bytes could not be read.
+#[derive(Debug, Drop, Error)]
+pub enum DecodeError {
+    /// A growth was refused.
+    #[error("out of memory")]
+    Memory,
+    /// The buffer ends inside a field outside data.
+    #[error("the buffer ends inside a field")]
+    InsufficientBytes,
+    /// A name outside data is spelled wrongly (RFC 1035, 4.1.4).
+    #[error("a name is spelled wrongly")]
+    BadName,
+    /// RDLENGTH says more bytes than are left.
+    #[error("record data of {len} bytes, with {read} bytes left")]
+    IncorrectRDataLengthRead {
+        /// The bytes that are left.
+        read: usize,
+        /// What RDLENGTH says.
+        len: usize,
+    },
+    /// Empty data outside Update and outside type OPT (RFC 2136, 2.4).
+    #[error("a record without data outside an update")]
+    InvalidEmptyRecord,
+    /// A record behind a nonempty TSIG (RFC 8945, 5.1).
+    #[error("record after TSIG or SIG(0)")]
+    RecordAfterSig,
+    /// A second OPT record (RFC 6891, 6.1.1).
+    #[error("more than one EDNS record")]
+    DuplicateEdns,
+}
+
+impl DecodeError {
+    /// The number of the refusal.
+    pub fn number(&self) -> u8
+        ensures { result ≡ decode_number self.now }
+    {
+        match self {
+            DecodeError::Memory => 3,
+            DecodeError::InsufficientBytes => 4,
+            DecodeError::BadName => 5,
+            DecodeError::IncorrectRDataLengthRead { .. } => 7,
+            DecodeError::InvalidEmptyRecord => 10,
+            DecodeError::RecordAfterSig => 11,
+            DecodeError::DuplicateEdns => 13,
+        }
+    }
+}
+
+impl From<AllocError> for DecodeError {
+    ghost from_gives = { λ _ e. e ≡ faults.Memory };
+
+    fn from(_e: AllocError) -> DecodeError {
+        DecodeError::Memory
+    }
+}
+
+impl<T: Drop> From<AllocFailed<T>> for DecodeError {
+    ghost from_gives = { λ _ e. e ≡ faults.Memory };
+
+    fn from(_e: AllocFailed<T>) -> DecodeError {
+        DecodeError::Memory
+    }
+}

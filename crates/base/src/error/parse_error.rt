@@ -1,0 +1,65 @@
+ghost use Rattle.std.specs.Prelude.{◌≡◌};
+ghost use Rattle.base.specs.ParseError.{parse_number};
+ghost use Rattle.base.specs.declared.error.parse_error.ParseError.TheVariants as refusals;
+
+use std::alloc::{AllocError, AllocFailed};
+use thiserror::Error;
+
+/// Why zone text could not be read.
+#[derive(Debug, Drop, Error)]
+pub enum ParseError {
+    /// A growth was refused.
+    #[error("out of memory")]
+    Memory,
+    /// A character or a bracket that no token has a place for.
+    #[error("the text can't be cut into tokens")]
+    Lexer,
+    /// An entry that can't be carried out, in words.
+    #[error("{0}")]
+    Message(&'static str),
+    /// An included text that was not handed in.
+    #[error("no text of the name {0}")]
+    IncludeNotFound(String),
+    /// A text that is no record type, its ASCII letters raised.
+    #[error("unknown record type: {0}")]
+    UnknownRecordType(String),
+    /// A name that the text rules refuse (RFC 1035, 5.1).
+    #[error("a name is written wrongly")]
+    BadName,
+    /// A TTL that the text rules refuse.
+    #[error("a TTL is written wrongly")]
+    BadTtl,
+}
+
+impl ParseError {
+    /// The number of the refusal.
+    pub fn number(&self) -> u8
+        ensures { result ≡ parse_number self.now }
+    {
+        match self {
+            ParseError::Memory => 3,
+            ParseError::Lexer => 18,
+            ParseError::Message(_) => 19,
+            ParseError::IncludeNotFound(_) => 20,
+            ParseError::UnknownRecordType(_) => 21,
+            ParseError::BadName => 23,
+            ParseError::BadTtl => 23,
+        }
+    }
+}
+
+impl From<AllocError> for ParseError {
+    ghost from_gives = { λ _ e. e ≡ refusals.Memory };
+
+    fn from(_e: AllocError) -> ParseError {
+        ParseError::Memory
+    }
+}
+
+impl<T: Drop> From<AllocFailed<T>> for ParseError {
+    ghost from_gives = { λ _ e. e ≡ refusals.Memory };
+
+    fn from(_e: AllocFailed<T>) -> ParseError {
+        ParseError::Memory
+    }
+}

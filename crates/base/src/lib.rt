@@ -1,0 +1,7 @@
+//! Names, types, classes, the encoder and the decoder: what the messages, records and zones above stand on.
+#![tactic(auto)]
+
+pub mod error;
+pub mod wire;
+
+pub use error::{DecodeError, ParseError, ProtoError};
