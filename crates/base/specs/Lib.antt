@@ -1,3 +1,11 @@
 pub mod DecodeError
+pub mod Labels
+pub mod Laws
 pub mod ParseError
 pub mod ProtoError
+pub mod Reader
+pub mod Reading
+pub mod Spelling
+pub mod State
+pub mod Wire
+pub mod Words

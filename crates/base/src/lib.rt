@@ -5,3 +5,4 @@ pub mod error;
 pub mod wire;
 
 pub use error::{DecodeError, ParseError, ProtoError};
+pub use wire::{BinDecodable, BinDecoder, BinEncodable, BinEncoder, EncodedSize, Place};

@@ -1,1 +1,14 @@
-//! The encoder and the decoder.
+//! The encoder and the decoder, and what is written and read through them.
+
+pub mod decodable;
+pub mod decoder;
+pub mod encodable;
+pub mod encoder;
+pub mod place;
+pub mod suffix;
+
+pub use decodable::BinDecodable;
+pub use decoder::BinDecoder;
+pub use encodable::{BinEncodable, EncodedSize};
+pub use encoder::BinEncoder;
+pub use place::Place;

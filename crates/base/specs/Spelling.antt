@@ -1,0 +1,44 @@
+-- How a name is spelled in a message (RFC 1035, 4.1.4).
+use Rattle.std.specs.Prelude.{◌≡◌, ℕ, ◌+◌, ◌-◌, ◌*◌, ◌<◌, ◌≤◌, ◌⊎◌, List, [], ◌∷◌, length, slice_index, true}
+use Rattle.base.specs.Labels.{NameValue, plain_len}
+
+-- The byte at i is b. The places that may be looked at are those of which looks holds.
+pub record ByteAt (looks : ℕ → Type 0) (bytes : List ℕ) (i b : ℕ) : Type 0 where
+  pub inside : i < length bytes
+  pub is : slice_index bytes i ≡ b
+  pub seen : looks i
+
+-- These bytes stand from i on.
+pub record BytesAt (looks : ℕ → Type 0) (bytes : List ℕ) (i : ℕ) (x : List ℕ) : Type 0 where
+  pub inside : i + length x ≤ length bytes
+  pub is : (k : ℕ) → k < length x → slice_index bytes (i + k) ≡ slice_index x k
+  pub seen : (k : ℕ) → k < length x → looks (i + k)
+
+-- the offset of a pointer of two bytes, the top bits of the first being 11
+abbrev pub target : ℕ → ℕ → ℕ
+target b c = 256 * (b - 192) + c
+
+-- The labels are spelled from i up to e, in a piece that begins at s: a zero byte; or a label, and
+-- the others behind it; or a pointer to a place below s, where a new piece begins.
+pub data SpelledIn (looks : ℕ → Type 0) (bytes : List ℕ) : ℕ → ℕ → List (List ℕ) → ℕ → Type 0 where
+  ends : {s i : ℕ} → ByteAt looks bytes i 0 → SpelledIn looks bytes s i [] (i + 1)
+  label : {s i e : ℕ} {x : List ℕ} {xs : List (List ℕ)} → ByteAt looks bytes i (length x) → 1 ≤ length x → length x ≤ 63 → BytesAt looks bytes (i + 1) x
+      → SpelledIn looks bytes s (i + 1 + length x) xs e → SpelledIn looks bytes s i (x ∷ xs) e
+  pointer : {s i b c e : ℕ} {xs : List (List ℕ)} → ByteAt looks bytes i b → ByteAt looks bytes (i + 1) c → 192 ≤ b → target b c < s
+      → SpelledIn looks bytes (target b c) (target b c) xs e → SpelledIn looks bytes s i xs (i + 2)
+
+abbrev pub anywhere : ℕ → Type 0
+anywhere i = Unit {0}
+
+abbrev pub outside : ℕ → ℕ → ℕ → Type 0
+outside from to i = (i < from) ⊎ (to ≤ i)
+
+-- the labels are spelled from i up to e, in a piece that begins at s
+abbrev pub Spelled : List ℕ → List (List ℕ) → ℕ → ℕ → ℕ → Type 0
+Spelled bytes labels s i e = SpelledIn anywhere bytes s i labels e
+
+-- a name stands from i up to e: absolute, and of at most 255 bytes without compression
+pub record IsNameAt (bytes : List ℕ) (i : ℕ) (name : NameValue) (e : ℕ) : Type 0 where
+  pub spelled : Spelled bytes name.labels i i e
+  pub short : plain_len name.labels ≤ 255
+  pub absolute : name.absolute ≡ true

@@ -1,0 +1,27 @@
+-- An encoder as its contracts see it.
+use Rattle.std.specs.Prelude.{ℕ, ◌+◌, List, ◌++◌, length, take, drop}
+
+-- a suffix of a name, and where it is spelled
+pub record Stored : Type 0 where
+  pub labels : List (List ℕ)
+  pub offset : ℕ
+
+-- The borrow that is written through, what was written, the limit in bytes, and the suffixes that a
+-- later name may point to, oldest first.
+pub record State : Type 0 where
+  pub buffer : ℕ
+  pub bytes : List ℕ
+  pub limit : ℕ
+  pub suffixes : List Stored
+
+-- with these bytes behind what was written
+abbrev pub appended : List ℕ → State → State
+appended xs s = record s { bytes = s.bytes ++ xs }
+
+-- with these bytes in the place of as many from start on
+abbrev pub overwritten : ℕ → List ℕ → State → State
+overwritten start xs s = record s { bytes = take start s.bytes ++ (xs ++ drop (start + length xs) s.bytes) }
+
+-- cut back to as many bytes and suffixes
+abbrev pub cut : ℕ → ℕ → State → State
+cut len count s = record s { bytes = take len s.bytes; suffixes = take count s.suffixes }

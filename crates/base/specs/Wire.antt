@@ -1,0 +1,24 @@
+-- The encoder's struct as a state.
+use Rattle.std.specs.Prelude.{ℕ, ◌+◌, ◌<◌, length, Result, Ok, Err, Vec}
+use Rattle.std.specs.declared.alloc.Global.{Global}
+use Rattle.base.specs.declared.error.proto_error.ProtoError.{ProtoError}
+use Rattle.base.specs.declared.error.proto_error.ProtoError.TheVariants as refusals
+use Rattle.base.specs.declared.wire.encoder.BinEncoder.{BinEncoder}
+use Rattle.base.specs.State.{State, Stored}
+
+abbrev pub Encoder : Type 0
+Encoder = BinEncoder (Vec Stored Global)
+
+abbrev pub state_of : Encoder → State
+state_of e = record { buffer = e.buffer.ghost_name; bytes = e.buffer.now.items; limit = e.limit; suffixes = e.suffixes.items }
+
+-- the vector that an encoder writes to
+abbrev pub vector_of : {T : Type 0} → BinEncoder T → Vec ℕ Global
+vector_of e = e.buffer.now
+
+-- of as many bytes at most: refused for the limit only where they would pass it, and else for memory alone
+abbrev pub Refuses : {X : Type 0} → ℕ → State → Result X ProtoError → Type 0
+Refuses n s (Ok _) = Unit {0}
+Refuses n s (Err refusals.MaxBufferSizeExceeded) = s.limit < length s.bytes + n
+Refuses n s (Err refusals.Memory) = Unit {0}
+Refuses n s (Err _) = ⊥

@@ -1,0 +1,29 @@
+ghost use Rattle.std.specs.Int.{w16};
+ghost use Rattle.base.specs.Reading.{number_at};
+
+use crate::error::DecodeError;
+use crate::wire::decoder::BinDecoder;
+
+/// A value that can be read.
+///
+/// `read_at` is what a buffer spells at a place: the value and the place behind it, or the first fault.
+pub trait BinDecodable: Drop {
+    ghost use Rattle.std.specs.Prelude.{ℕ, List};
+    ghost use Rattle.base.specs.Reading.{Read, Reads};
+
+    ghost read_at: { List ℕ → ℕ → Read Self };
+
+    /// Reads the value at the decoder's place, and moves behind it.
+    ///
+    /// Refused with the first fault, and for want of memory. A decoder that refused isn't used again.
+    fn read(decoder: &mut BinDecoder<'_>) -> Result<Self, DecodeError>
+        ensures read { Reads (λ x. x) decoder.old decoder.new result (read_at decoder.old.bytes decoder.old.index) };
+}
+
+impl BinDecodable for u16 {
+    ghost read_at = { number_at w16 };
+
+    fn read(decoder: &mut BinDecoder<'_>) -> Result<u16, DecodeError> {
+        decoder.read_u16()
+    }
+}

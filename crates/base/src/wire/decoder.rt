@@ -1,0 +1,109 @@
+//! Reads a message's bytes.
+
+ghost use Rattle.std.specs.Prelude.{◌≡◌, ◌-◌, ◌^◌, ◌<◌, ◌≤◌, length, nat_le};
+ghost use Rattle.std.specs.Int.{w16, w32};
+ghost use Rattle.base.specs.Reader.{begun};
+ghost use Rattle.base.specs.Reading.{Reads, byte_at, number_at};
+
+use crate::error::DecodeError;
+use std::alloc::Global;
+use std::marker::Model;
+
+/// Reads values one by one from a buffer, which a name in it may point back into.
+#[derive(Drop)]
+pub struct BinDecoder<'a> {
+    alloc: Global,
+    buffer: &'a [u8],
+    index: usize,
+}
+
+impl<'a> Model for BinDecoder<'a> {
+    ghost use Rattle.std.specs.Prelude.{◌≤◌, length};
+    ghost use Rattle.base.specs.Reader.{Reader};
+
+    ghost Value = { Reader };
+
+    ghost view = { λ d. record { bytes = d.buffer.now; index = d.index } };
+
+    ghost invariant = { λ d. d.index ≤ length d.buffer.now };
+}
+
+impl<'a> BinDecoder<'a> {
+    /// A decoder at the start of the buffer. Takes no memory.
+    pub fn new(alloc: Global, buffer: &'a [u8]) -> BinDecoder<'a>
+        ensures { result ≡ begun buffer.now }
+    {
+        BinDecoder {
+            alloc,
+            buffer,
+            index: 0,
+        }
+    }
+
+    /// The place that is read next, in bytes from the buffer's start.
+    pub fn index(&self) -> usize
+        ensures value { result ≡ self.now.index }
+        ensures inside { result ≤ length self.now.bytes }
+        ensures addressable { length self.now.bytes < 2 ^ 63 }
+    {
+        self.index
+    }
+
+    /// How many bytes are left.
+    pub fn len(&self) -> usize
+        ensures { result ≡ length self.now.bytes - self.now.index }
+    {
+        self.buffer.len() - self.index
+    }
+
+    /// Whether no byte is left.
+    pub fn is_empty(&self) -> bool
+        ensures { result ≡ nat_le (length self.now.bytes) self.now.index }
+    {
+        self.index >= self.buffer.len()
+    }
+
+    /// The allocator that values read here take their memory from.
+    pub fn allocator(&self) -> Global {
+        self.alloc
+    }
+
+    /// Reads one byte. Refused where none is left.
+    pub fn pop(&mut self) -> Result<u8, DecodeError>
+        ensures read { Reads (λ b. b) self.old self.new result (byte_at self.old.bytes self.old.index) }
+    {
+        match self.buffer.get(self.index) {
+            Some(byte) => {
+                self.index += 1;
+                Ok(*byte)
+            }
+            None => Err(DecodeError::InsufficientBytes),
+        }
+    }
+
+    /// Reads a number of two bytes, the high one first (RFC 1035, 2.3.2). Refused where fewer are left.
+    pub fn read_u16(&mut self) -> Result<u16, DecodeError>
+        ensures read { Reads (λ n. n) self.old self.new result (number_at w16 self.old.bytes self.old.index) }
+    {
+        match &self.buffer[self.index..] {
+            [high, low, ..] => {
+                self.index += 2;
+                Ok(u16::from_be_bytes([*high, *low]))
+            }
+            _ => Err(DecodeError::InsufficientBytes),
+        }
+    }
+
+    /// Reads a number of four bytes, the highest one first (RFC 1035, 2.3.2). Refused where fewer are left.
+    pub fn read_u32(&mut self) -> Result<u32, DecodeError>
+        ensures read { Reads (λ n. n) self.old self.new result (number_at w32 self.old.bytes self.old.index) }
+    {
+        match &self.buffer[self.index..] {
+            [highest, high, low, lowest, ..] => {
+                self.index += 4;
+                Ok(u32::from_be_bytes([*highest, *high, *low, *lowest]))
+            }
+            _ => Err(DecodeError::InsufficientBytes),
+        }
+    }
+}

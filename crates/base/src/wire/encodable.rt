@@ -1,0 +1,77 @@
+ghost use Rattle.std.specs.Prelude.{◌≡◌, []};
+ghost use Rattle.std.specs.Int.{w16, to_be_bytes};
+ghost use Rattle.base.specs.Words.{Number};
+
+use crate::error::ProtoError;
+use crate::wire::encoder::BinEncoder;
+
+/// A value that can be written.
+///
+/// `word` relates a buffer to the places where what is written of the value begins and ends there,
+/// `plain_len` is how many bytes it takes with every name uncompressed, and `owner` are the labels of
+/// the name of a question or record, none for all else.
+pub trait BinEncodable {
+    ghost use Rattle.std.specs.Prelude.{ℕ, List, OnOk};
+    ghost use Rattle.base.specs.Laws.{Keeps, Writes};
+    ghost use Rattle.base.specs.Wire.{state_of, Refuses};
+
+    ghost word: { Self → List ℕ → ℕ → ℕ → Type 0 };
+
+    ghost plain_len: { Self → ℕ };
+
+    ghost owner: { Self → List (List ℕ) };
+
+    /// Writes the value behind what the encoder holds (RFC 1035, 4.1).
+    ///
+    /// Refused where a byte would pass the limit, and for want of memory. What stood before stays.
+    fn emit(&self, encoder: &mut BinEncoder<'_>) -> Result<(), ProtoError>
+        ensures keeps { Keeps (state_of encoder.old) (state_of encoder.new) }
+        ensures writes { OnOk result (Writes (word self.now) (plain_len self.now) (owner self.now)
+            (state_of encoder.old) (state_of encoder.new)) }
+        ensures refuses { Refuses (plain_len self.now) (state_of encoder.old) result };
+}
+
+/// A value that takes as many bytes whatever it is, so that room can be kept for it.
+pub trait EncodedSize: BinEncodable {
+    ghost use Rattle.std.specs.Prelude.{◌≡◌, ◌+◌, ℕ, List, length};
+    ghost use Rattle.base.specs.Words.{Stands};
+
+    ghost encoded: { Self → List ℕ };
+
+    ghost LEN: { ℕ };
+
+    /// How many bytes the value takes.
+    const LEN: usize;
+
+    /// Writes the value over the bytes kept for it.
+    fn fill(&self, room: &mut [u8])
+        requires { length room.old ≡ LEN }
+        ensures bytes { room.new ≡ encoded self.now }
+        ensures word { (B : List ℕ) (i : ℕ) → Stands (encoded self.now) B i → Self.word self.now B i (i + LEN) };
+}
+
+impl BinEncodable for u16 {
+    ghost word = { Number w16 };
+
+    ghost plain_len = { λ _. 2 };
+
+    ghost owner = { λ _. [] };
+
+    fn emit(&self, encoder: &mut BinEncoder<'_>) -> Result<(), ProtoError> {
+        let number = *self;
+        encoder.emit_u16(number)
+    }
+}
+
+impl EncodedSize for u16 {
+    ghost encoded = { to_be_bytes w16 };
+
+    ghost LEN = { 2 };
+
+    const LEN: usize = 2;
+
+    fn fill(&self, room: &mut [u8]) {
+        let number = *self;
+        room.copy_from_slice(&number.to_be_bytes());
+    }
+}

@@ -1,0 +1,168 @@
+//! Writes a message's bytes under a limit.
+
+ghost use Rattle.std.specs.Prelude.{◌≡◌, ◌+◌, ◌-◌, ◌^◌, ◌<◌, ◌≤◌, [], ◌∷◌, length, replicate, OnOk, OnErr, IfOk, IsErrOf, ◌==◌};
+ghost use Rattle.std.specs.Int.{w16, w32, to_be_bytes};
+ghost use Rattle.base.specs.State.{appended, overwritten};
+ghost use Rattle.base.specs.Wire.{state_of, vector_of, Refuses};
+
+use crate::error::ProtoError;
+use crate::wire::encodable::EncodedSize;
+use crate::wire::place::Place;
+use crate::wire::suffix::Suffix;
+use std::marker::PhantomData;
+
+/// Writes bytes to a vector, up to a limit.
+///
+/// Everyone writes `BinEncoder<'a>`: the second parameter is there for proofs alone.
+pub struct BinEncoder<'a, T = Vec<Suffix>> {
+    buffer: &'a mut Vec<u8>,
+    limit: u16,
+    suffixes: T,
+}
+
+impl<'a, T: Drop> Drop for BinEncoder<'a, T> {
+    fn drop(self)
+        ensures { self.exit.0.now ≡ vector_of self.entry }
+    {
+        let BinEncoder {
+            buffer: _,
+            limit: _,
+            suffixes: _,
+        } = self;
+    }
+}
+
+impl<'a> BinEncoder<'a> {
+    /// An encoder over the emptied vector, with the limit of 65,535 bytes. Takes no memory.
+    pub fn new(buffer: &'a mut Vec<u8>) -> BinEncoder<'a>
+        ensures { state_of result ≡ record { buffer = buffer.entry.ghost_name; bytes = []; limit = 65535; suffixes = [] } }
+    {
+        buffer.clear();
+        let alloc = *buffer.allocator();
+        BinEncoder {
+            buffer,
+            limit: u16::MAX,
+            suffixes: Vec::new(alloc),
+        }
+    }
+
+    /// Sets the limit: no byte is written past as many bytes from now on. What stands past it stays.
+    pub fn set_max_size(&mut self, limit: u16)
+        ensures { state_of self.new ≡ record (state_of self.old) { limit = limit } }
+    {
+        self.limit = limit;
+    }
+
+    /// Appends one byte.
+    ///
+    /// Refused, with nothing written, where the byte would pass the limit, and for want of memory.
+    pub fn emit(&mut self, byte: u8) -> Result<(), ProtoError>
+        ensures ok { OnOk result (state_of self.new ≡ appended (byte ∷ []) (state_of self.old)) }
+        ensures err { OnErr result (state_of self.new ≡ state_of self.old) }
+        ensures within { OnOk result (length (state_of self.new).bytes ≤ (state_of self.old).limit) }
+        ensures refuses { Refuses 1 (state_of self.old) result }
+        ensures full { (state_of self.old).limit < length (state_of self.old).bytes + 1 → IsErrOf result ProtoError.MaxBufferSizeExceeded }
+    {
+        self.emit_slice(&[byte])
+    }
+
+    /// Appends a number in two bytes, the high one first (RFC 1035, 2.3.2).
+    ///
+    /// Refused, with nothing written, where a byte would pass the limit, and for want of memory.
+    pub fn emit_u16(&mut self, number: u16) -> Result<(), ProtoError>
+        ensures ok { OnOk result (state_of self.new ≡ appended (to_be_bytes w16 number) (state_of self.old)) }
+        ensures err { OnErr result (state_of self.new ≡ state_of self.old) }
+        ensures within { OnOk result (length (state_of self.new).bytes ≤ (state_of self.old).limit) }
+        ensures refuses { Refuses 2 (state_of self.old) result }
+        ensures full { (state_of self.old).limit < length (state_of self.old).bytes + 2 → IsErrOf result ProtoError.MaxBufferSizeExceeded }
+    {
+        self.emit_slice(&number.to_be_bytes())
+    }
+
+    /// Appends a number in four bytes, the highest one first (RFC 1035, 2.3.2).
+    ///
+    /// Refused, with nothing written, where a byte would pass the limit, and for want of memory.
+    pub fn emit_u32(&mut self, number: u32) -> Result<(), ProtoError>
+        ensures ok { OnOk result (state_of self.new ≡ appended (to_be_bytes w32 number) (state_of self.old)) }
+        ensures err { OnErr result (state_of self.new ≡ state_of self.old) }
+        ensures within { OnOk result (length (state_of self.new).bytes ≤ (state_of self.old).limit) }
+        ensures refuses { Refuses 4 (state_of self.old) result }
+        ensures full { (state_of self.old).limit < length (state_of self.old).bytes + 4 → IsErrOf result ProtoError.MaxBufferSizeExceeded }
+    {
+        self.emit_slice(&number.to_be_bytes())
+    }
+
+    /// Appends bytes as they are.
+    ///
+    /// Refused, with nothing written, where a byte would pass the limit, and for want of memory.
+    pub fn emit_slice(&mut self, bytes: &[u8]) -> Result<(), ProtoError>
+        ensures ok { OnOk result (state_of self.new ≡ appended bytes.now (state_of self.old)) }
+        ensures err { OnErr result (state_of self.new ≡ state_of self.old) }
+        ensures within { OnOk result (length (state_of self.new).bytes ≤ (state_of self.old).limit) }
+        ensures refuses { Refuses (length bytes.now) (state_of self.old) result }
+        ensures full { (state_of self.old).limit < length (state_of self.old).bytes + length bytes.now → IsErrOf result ProtoError.MaxBufferSizeExceeded }
+    {
+        let limit = usize::from(self.limit);
+        if limit < self.buffer.len() || limit - self.buffer.len() < bytes.len() {
+            return Err(ProtoError::MaxBufferSizeExceeded);
+        }
+        self.buffer.extend_from_slice(bytes)?;
+        Ok(())
+    }
+
+    /// How many bytes stand.
+    pub fn len(&self) -> usize
+        ensures { result ≡ length (state_of self.now).bytes }
+    {
+        self.buffer.len()
+    }
+
+    /// Whether no byte stands.
+    pub fn is_empty(&self) -> bool
+        ensures { result ≡ (length (state_of self.now).bytes == 0) }
+    {
+        self.buffer.is_empty()
+    }
+
+    /// Keeps room for a value that comes later: appends as many zero bytes as it takes.
+    ///
+    /// Refused, with nothing written, where a byte would pass the limit, and for want of memory.
+    pub fn place<T: EncodedSize>(&mut self) -> Result<Place<T>, ProtoError>
+        ensures ok { IfOk result (λ place. (state_of self.new ≡ appended (replicate T.LEN 0) (state_of self.old))
+            × (place ≡ length (state_of self.old).bytes)) }
+        ensures err { OnErr result (state_of self.new ≡ state_of self.old) }
+        ensures within { OnOk result (length (state_of self.new).bytes ≤ (state_of self.old).limit) }
+        ensures refuses { Refuses T.LEN (state_of self.old) result }
+        ensures full { (state_of self.old).limit < length (state_of self.old).bytes + T.LEN → IsErrOf result ProtoError.MaxBufferSizeExceeded }
+        ensures narrow { (state_of self.old).limit < 2 ^ 16 }
+    {
+        let start = self.buffer.len();
+        let limit = usize::from(self.limit);
+        if limit < start || limit - start < T::LEN {
+            return Err(ProtoError::MaxBufferSizeExceeded);
+        }
+        self.buffer.resize(start + T::LEN, 0)?;
+        Ok(Place {
+            start,
+            value: PhantomData,
+        })
+    }
+
+    /// How many bytes were written behind the room that was kept.
+    pub fn len_since_place<T: EncodedSize>(&self, place: &Place<T>) -> usize
+        requires { place.now + T.LEN ≤ length (state_of self.now).bytes }
+        ensures { result ≡ length (state_of self.now).bytes - (place.now + T.LEN) }
+    {
+        self.buffer.len() - (place.start + T::LEN)
+    }
+
+    /// Writes the value into the room that was kept for it. The bytes of the room still stand, and no
+    /// name was written there: the caller's condition.
+    pub fn replace<T: EncodedSize>(&mut self, place: Place<T>, value: &T)
+        requires { place + T.LEN ≤ length (state_of self.old).bytes }
+        ensures state { state_of self.new ≡ overwritten place (T.encoded value.now) (state_of self.old) }
+    {
+        let start = place.start;
+        value.fill(&mut self.buffer[start..start + T::LEN]);
+    }
+}

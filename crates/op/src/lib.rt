@@ -1,0 +1,2 @@
+//! Messages: codes, headers, and what stands in them.
+#![tactic(auto)]
