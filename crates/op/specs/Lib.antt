@@ -1,0 +1,5 @@
+pub mod Flags
+pub mod MessageType
+pub mod Metadata
+pub mod OpCode
+pub mod ResponseCode
