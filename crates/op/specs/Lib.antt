@@ -1,1 +1,5 @@
--- The definitions of headers and codes.
+pub mod Flags
+pub mod MessageType
+pub mod Metadata
+pub mod OpCode
+pub mod ResponseCode
