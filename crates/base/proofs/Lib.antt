@@ -1,2 +1,3 @@
 pub mod LawLemmas
 pub mod WordLemmas
+pub mod ReadLemmas

@@ -1,5 +1,5 @@
-ghost use Rattle.std.specs.Prelude.{Some};
-ghost use Rattle.op.specs.MessageType.{message_type_text};
+ghost use Rattle.std.specs.Prelude.{◌≡◌, Some};
+ghost use Rattle.op.specs.MessageType.{is_response, kind_value, message_type_text};
 
 use std::fmt;
 
@@ -10,6 +10,29 @@ pub enum MessageType {
     Query,
     /// An answer to a request.
     Response,
+}
+
+impl MessageType {
+    // What the QR bit says.
+    pub(crate) fn from_bit(bit: bool) -> MessageType
+        ensures { result ≡ kind_value bit }
+    {
+        if bit {
+            MessageType::Response
+        } else {
+            MessageType::Query
+        }
+    }
+
+    // What the QR bit is set to.
+    pub(crate) fn bit(self) -> bool
+        ensures { result ≡ is_response self }
+    {
+        match self {
+            MessageType::Query => false,
+            MessageType::Response => true,
+        }
+    }
 }
 
 /// `QUERY` or `RESPONSE`.

@@ -1,4 +1,4 @@
-use Rattle.std.proofs.Common.{◌≡◌, ◌%◌, arith, ap}
+use Rattle.std.proofs.Common.{◌≡◌, ◌%◌, arith}
 use Rattle.op.specs.ResponseCode.{code_number}
 use Rattle.op.proofs.header.metadata.Metadata.merge_response_code.Goals as goal
 
