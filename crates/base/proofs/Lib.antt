@@ -1,1 +1,3 @@
+pub mod ClassTexts
 pub mod ReadTexts
+pub mod TypeTexts

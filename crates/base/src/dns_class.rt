@@ -1,11 +1,11 @@
 //! The classes (RFC 1035, 3.2.4 and 3.2.5; RFC 6895, 3.2).
 
-ghost use Rattle.std.specs.Prelude.{◌≡◌, ◌^◌, ◌<◌, ◌≤◌, ℕ, List, IsTrue, Some};
+ghost use Rattle.std.specs.Prelude.{◌≡◌, ◌^◌, ◌<◌, ◌≤◌, ◌⊎◌, ℕ, List, IsTrue, Some, false, codes};
 ghost use Rattle.std.proofs.Common.{rules};
 ghost use Rattle.std.specs.Cmp.{partial_order_from_own_ties};
 ghost use Rattle.std.specs.Cmp.Rules.{comparing};
 ghost use Rattle.std.specs.Ordering.{nat_cmp, on, then_cmp, as_partial_cmp};
-ghost use Rattle.base.specs.DNSClass.{class_cmp, class_from_text, class_number, class_of, class_rank, class_text, opt_class};
+ghost use Rattle.base.specs.DNSClass.{class_cmp, class_from_text, class_number, class_of, class_rank, class_text, is_named_class, is_opt_class, opt_class};
 
 use std::cmp::Ordering;
 use std::fmt;
@@ -142,3 +142,37 @@ impl PartialOrd for DNSClass {
         Some(self.cmp(other))
     }
 }
+
+/// A number is kept through the class that it is read as, which is no payload size, and a named class through
+/// its number (RFC 3597, 2).
+pub fn class_round_trip()
+    ensures number { (n : ℕ) → n < 2 ^ 16 → class_number (class_of n) ≡ n }
+    ensures named { (c : DNSClass) → IsTrue (is_named_class c) → class_of (class_number c) ≡ c }
+    ensures no_payload { (n : ℕ) → is_opt_class (class_of n) ≡ false }
+{}
+
+/// A payload size is kept from 512 on, and a smaller one is 512 (RFC 6891, 6.2.3).
+pub fn payload_sizes()
+    ensures payload { (n : ℕ) → IsTrue (is_opt_class (opt_class n)) }
+    ensures kept { (n : ℕ) → 512 ≤ n → class_number (opt_class n) ≡ n }
+    ensures raised { (n : ℕ) → n < 512 → class_number (opt_class n) ≡ 512 }
+{}
+
+/// The text of a named class is read as that class and `*` as ANY, and what is read as a class is the text of it,
+/// a named one, or `*` (RFC 1035, 3.2.4 and 3.2.5).
+pub fn class_text_round_trip()
+    ensures text { (c : DNSClass) → IsTrue (is_named_class c) → class_from_text (class_text c) ≡ Some c }
+    ensures star { class_from_text (codes "*") ≡ Some DNSClass.ANY }
+    ensures read { (text : List ℕ) (c : DNSClass) → class_from_text text ≡ Some c → (class_text c ≡ text) ⊎ ((text ≡ codes "*") × (c ≡ DNSClass.ANY)) }
+    ensures named { (text : List ℕ) (c : DNSClass) → class_from_text text ≡ Some c → IsTrue (is_named_class c) }
+{}
+
+/// The order goes by number, at one number a named class stands before a payload size and that before an unknown
+/// class, and no two classes tie: classes serve as the keys of maps.
+pub fn class_order()
+    ensures by_number { (a b : DNSClass) → class_number a < class_number b → ⟦<DNSClass as Ord>⟧.cmp a b ≡ Ordering.Less }
+    ensures named_first { (c : DNSClass) → IsTrue (is_named_class c) → ⟦<DNSClass as Ord>⟧.cmp c (DNSClass.OPT (class_number c)) ≡ Ordering.Less }
+    ensures payload_next { (n : ℕ) → ⟦<DNSClass as Ord>⟧.cmp (DNSClass.OPT n) (DNSClass.Unknown n) ≡ Ordering.Less }
+    ensures exact { (a b : DNSClass) → ⟦<DNSClass as Ord>⟧.cmp a b ≡ Ordering.Equal → a ≡ b }
+    ensures same { (a b : DNSClass) → IsTrue (⟦<DNSClass as PartialEq>⟧.eq a b) → a ≡ b }
+{}

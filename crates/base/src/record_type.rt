@@ -1,6 +1,6 @@
 //! The record types (RFC 1035, 3.2.2 and 3.2.3; RFC 6895, 3.1).
 
-ghost use Rattle.std.specs.Prelude.{◌≡◌, ◌↔◌, ◌++◌, ◌^◌, ◌<◌, ℕ, List, IsTrue, Some, nat_eq};
+ghost use Rattle.std.specs.Prelude.{◌≡◌, ◌++◌, ◌^◌, ◌<◌, ℕ, List, IsTrue, Some, nat_eq};
 ghost use Rattle.std.proofs.Common.{rules};
 ghost use Rattle.std.specs.Cmp.{partial_order_from_own_ties};
 ghost use Rattle.std.specs.Cmp.Rules.{comparing, hashing};
@@ -309,3 +309,26 @@ impl PartialOrd for RecordType {
         Some(self.cmp(other))
     }
 }
+
+/// A number is kept through the type that it is read as, and so is a named type through its number (RFC 3597, 2).
+pub fn type_round_trip()
+    ensures number { (n : ℕ) → n < 2 ^ 16 → type_number (type_of n) ≡ n }
+    ensures named { (t : RecordType) → IsTrue (is_named_type t) → type_of (type_number t) ≡ t }
+{}
+
+/// The text of a named type is read as that type, and what is read as a type is the text of it, a named one
+/// (RFC 1035, 3.2.2 and 3.2.3).
+pub fn type_text_round_trip()
+    ensures text { (t : RecordType) → IsTrue (is_named_type t) → type_from_text (type_text t) ≡ Some t }
+    ensures read { (text : List ℕ) (t : RecordType) → type_from_text text ≡ Some t → type_text t ≡ text }
+    ensures named { (text : List ℕ) (t : RecordType) → type_from_text text ≡ Some t → IsTrue (is_named_type t) }
+{}
+
+/// The order goes by number, a named type stands before an unknown one of its number, and no two types tie:
+/// types serve as the keys of maps.
+pub fn type_order()
+    ensures by_number { (a b : RecordType) → type_number a < type_number b → ⟦<RecordType as Ord>⟧.cmp a b ≡ Ordering.Less }
+    ensures named_first { (t : RecordType) → IsTrue (is_named_type t) → ⟦<RecordType as Ord>⟧.cmp t (RecordType.Unknown (type_number t)) ≡ Ordering.Less }
+    ensures exact { (a b : RecordType) → ⟦<RecordType as Ord>⟧.cmp a b ≡ Ordering.Equal → a ≡ b }
+    ensures same { (a b : RecordType) → IsTrue (⟦<RecordType as PartialEq>⟧.eq a b) → a ≡ b }
+{}
