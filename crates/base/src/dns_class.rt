@@ -1,10 +1,10 @@
 //! The classes (RFC 1035, 3.2.4 and 3.2.5; RFC 6895, 3.2).
 
-ghost use Rattle.std.specs.Prelude.{◌≡◌, ◌^◌, ◌<◌, ◌≤◌, ◌⊎◌, ℕ, List, IsTrue, Some, false, codes};
+ghost use Rattle.std.specs.Prelude.{◌≡◌, ◌^◌, ◌<◌, ◌≤◌, ◌⊎◌, ℕ, List, IsTrue, Some, None, false, codes};
 ghost use Rattle.std.proofs.Common.{rules};
 ghost use Rattle.std.specs.Cmp.{partial_order_from_own_ties};
 ghost use Rattle.std.specs.Cmp.Rules.{comparing};
-ghost use Rattle.std.specs.Ordering.{nat_cmp, on, then_cmp, as_partial_cmp};
+ghost use Rattle.std.specs.Ordering.{as_partial_cmp};
 ghost use Rattle.base.specs.DNSClass.{class_cmp, class_from_text, class_number, class_of, class_rank, class_text, is_named_class, is_opt_class, opt_class};
 
 use std::cmp::Ordering;
@@ -118,7 +118,7 @@ impl fmt::Display for DNSClass {
 }
 
 impl Ord for DNSClass {
-    ghost cmp = { then_cmp (on class_number nat_cmp) (on class_rank nat_cmp) };
+    ghost cmp = { class_cmp };
 
     ghost total = { Prim.search (comparing, rules) };
 
@@ -134,7 +134,7 @@ impl Ord for DNSClass {
 }
 
 impl PartialOrd for DNSClass {
-    ghost partial_cmp = { as_partial_cmp (then_cmp (on class_number nat_cmp) (on class_rank nat_cmp)) };
+    ghost partial_cmp = { as_partial_cmp class_cmp };
 
     ghost laws = { partial_order_from_own_ties (Prim.search (comparing, rules)) (Prim.search (comparing, rules)) };
 
@@ -158,10 +158,11 @@ pub fn payload_sizes()
     ensures raised { (n : ℕ) → n < 512 → class_number (opt_class n) ≡ 512 }
 {}
 
-/// The text of a named class is read as that class and `*` as ANY, and what is read as a class is the text of it,
-/// a named one, or `*` (RFC 1035, 3.2.4 and 3.2.5).
+/// The text of a named class is read as that class and `*` as ANY, and that of another is not read; what is read as
+/// a class is the text of it, a named one, or `*` (RFC 1035, 3.2.4 and 3.2.5; RFC 3597, 5).
 pub fn class_text_round_trip()
     ensures text { (c : DNSClass) → IsTrue (is_named_class c) → class_from_text (class_text c) ≡ Some c }
+    ensures unread { (c : DNSClass) → is_named_class c ≡ false → class_from_text (class_text c) ≡ None }
     ensures star { class_from_text (codes "*") ≡ Some DNSClass.ANY }
     ensures read { (text : List ℕ) (c : DNSClass) → class_from_text text ≡ Some c → (class_text c ≡ text) ⊎ ((text ≡ codes "*") × (c ≡ DNSClass.ANY)) }
     ensures named { (text : List ℕ) (c : DNSClass) → class_from_text text ≡ Some c → IsTrue (is_named_class c) }

@@ -1,13 +1,13 @@
 //! The record types (RFC 1035, 3.2.2 and 3.2.3; RFC 6895, 3.1).
 
-ghost use Rattle.std.specs.Prelude.{◌≡◌, ◌++◌, ◌^◌, ◌<◌, ℕ, List, IsTrue, Some, nat_eq};
+ghost use Rattle.std.specs.Prelude.{◌≡◌, ◌++◌, ◌^◌, ◌<◌, ℕ, List, IsTrue, Some, None, false};
 ghost use Rattle.std.proofs.Common.{rules};
 ghost use Rattle.std.specs.Cmp.{partial_order_from_own_ties};
 ghost use Rattle.std.specs.Cmp.Rules.{comparing, hashing};
 ghost use Rattle.std.specs.Hash as fed;
-ghost use Rattle.std.specs.Ordering.{nat_cmp, on, then_cmp, eq_of_both, as_partial_cmp};
+ghost use Rattle.std.specs.Ordering.{as_partial_cmp};
 ghost use Rattle.base.specs.Keys.{keys_match};
-ghost use Rattle.base.specs.RecordType.{is_dnssec_type, is_named_type, type_cmp, type_from_text, type_number, type_of, type_rank, type_text};
+ghost use Rattle.base.specs.RecordType.{is_dnssec_type, is_named_type, same_type, type_cmp, type_from_text, type_number, type_of, type_rank, type_text};
 
 use std::cmp::Ordering;
 use std::fmt;
@@ -259,7 +259,7 @@ impl fmt::Display for RecordType {
 }
 
 impl PartialEq for RecordType {
-    ghost eq = { eq_of_both (on type_number nat_eq) (on type_rank nat_eq) };
+    ghost eq = { same_type };
 
     ghost laws = { Prim.search (comparing, rules) };
 
@@ -284,7 +284,7 @@ impl Hash for RecordType {
 }
 
 impl Ord for RecordType {
-    ghost cmp = { then_cmp (on type_number nat_cmp) (on type_rank nat_cmp) };
+    ghost cmp = { type_cmp };
 
     ghost total = { Prim.search (comparing, rules) };
 
@@ -300,7 +300,7 @@ impl Ord for RecordType {
 }
 
 impl PartialOrd for RecordType {
-    ghost partial_cmp = { as_partial_cmp (then_cmp (on type_number nat_cmp) (on type_rank nat_cmp)) };
+    ghost partial_cmp = { as_partial_cmp type_cmp };
 
     ghost laws = { partial_order_from_own_ties (Prim.search (comparing, rules))
         (keys_match type_number type_rank) };
@@ -316,11 +316,12 @@ pub fn type_round_trip()
     ensures named { (t : RecordType) → IsTrue (is_named_type t) → type_of (type_number t) ≡ t }
 {}
 
-/// The text of a named type is read as that type, and what is read as a type is the text of it, a named one
-/// (RFC 1035, 3.2.2 and 3.2.3).
+/// The text of a named type is read as that type, and that of another is not read; what is read as a type is the
+/// text of it, a named one (RFC 1035, 3.2.2 and 3.2.3; RFC 3597, 5).
 pub fn type_text_round_trip()
     ensures text { (t : RecordType) → IsTrue (is_named_type t) → type_from_text (type_text t) ≡ Some t }
     ensures read { (text : List ℕ) (t : RecordType) → type_from_text text ≡ Some t → type_text t ≡ text }
+    ensures unread { (t : RecordType) → is_named_type t ≡ false → type_from_text (type_text t) ≡ None }
     ensures named { (text : List ℕ) (t : RecordType) → type_from_text text ≡ Some t → IsTrue (is_named_type t) }
 {}
 
