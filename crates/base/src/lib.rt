@@ -9,3 +9,6 @@ pub mod wire;
 pub use dns_class::DNSClass;
 pub use error::{DecodeError, ParseError, ProtoError};
 pub use record_type::RecordType;
+
+#[cfg(test)]
+mod types_tests;
