@@ -164,15 +164,18 @@ pub fn class_text_round_trip()
     ensures text { (c : DNSClass) → IsTrue (is_named_class c) → class_from_text (class_text c) ≡ Some c }
     ensures unread { (c : DNSClass) → is_named_class c ≡ false → class_from_text (class_text c) ≡ None }
     ensures star { class_from_text (codes "*") ≡ Some DNSClass.ANY }
-    ensures read { (text : List ℕ) (c : DNSClass) → class_from_text text ≡ Some c → (class_text c ≡ text) ⊎ ((text ≡ codes "*") × (c ≡ DNSClass.ANY)) }
+    ensures read { (text : List ℕ) (c : DNSClass) → class_from_text text ≡ Some c
+        → (class_text c ≡ text) ⊎ ((text ≡ codes "*") × (c ≡ DNSClass.ANY)) }
     ensures named { (text : List ℕ) (c : DNSClass) → class_from_text text ≡ Some c → IsTrue (is_named_class c) }
 {}
 
 /// The order goes by number, at one number a named class stands before a payload size and that before an unknown
 /// class, and no two classes tie: classes serve as the keys of maps.
 pub fn class_order()
-    ensures by_number { (a b : DNSClass) → class_number a < class_number b → ⟦<DNSClass as Ord>⟧.cmp a b ≡ Ordering.Less }
-    ensures named_first { (c : DNSClass) → IsTrue (is_named_class c) → ⟦<DNSClass as Ord>⟧.cmp c (DNSClass.OPT (class_number c)) ≡ Ordering.Less }
+    ensures by_number { (a b : DNSClass) → class_number a < class_number b
+        → ⟦<DNSClass as Ord>⟧.cmp a b ≡ Ordering.Less }
+    ensures named_first { (c : DNSClass) → IsTrue (is_named_class c)
+        → ⟦<DNSClass as Ord>⟧.cmp c (DNSClass.OPT (class_number c)) ≡ Ordering.Less }
     ensures payload_next { (n : ℕ) → ⟦<DNSClass as Ord>⟧.cmp (DNSClass.OPT n) (DNSClass.Unknown n) ≡ Ordering.Less }
     ensures exact { (a b : DNSClass) → ⟦<DNSClass as Ord>⟧.cmp a b ≡ Ordering.Equal → a ≡ b }
     ensures same { (a b : DNSClass) → IsTrue (⟦<DNSClass as PartialEq>⟧.eq a b) → a ≡ b }

@@ -328,8 +328,10 @@ pub fn type_text_round_trip()
 /// The order goes by number, a named type stands before an unknown one of its number, and no two types tie:
 /// types serve as the keys of maps.
 pub fn type_order()
-    ensures by_number { (a b : RecordType) → type_number a < type_number b → ⟦<RecordType as Ord>⟧.cmp a b ≡ Ordering.Less }
-    ensures named_first { (t : RecordType) → IsTrue (is_named_type t) → ⟦<RecordType as Ord>⟧.cmp t (RecordType.Unknown (type_number t)) ≡ Ordering.Less }
+    ensures by_number { (a b : RecordType) → type_number a < type_number b
+        → ⟦<RecordType as Ord>⟧.cmp a b ≡ Ordering.Less }
+    ensures named_first { (t : RecordType) → IsTrue (is_named_type t)
+        → ⟦<RecordType as Ord>⟧.cmp t (RecordType.Unknown (type_number t)) ≡ Ordering.Less }
     ensures exact { (a b : RecordType) → ⟦<RecordType as Ord>⟧.cmp a b ≡ Ordering.Equal → a ≡ b }
     ensures same { (a b : RecordType) → IsTrue (⟦<RecordType as PartialEq>⟧.eq a b) → a ≡ b }
 {}
