@@ -1,3 +1,6 @@
+pub mod ClassTexts
 pub mod LawLemmas
-pub mod WordLemmas
 pub mod ReadLemmas
+pub mod ReadTexts
+pub mod TypeTexts
+pub mod WordLemmas

@@ -1,10 +1,13 @@
+pub mod DNSClass
 pub mod DecodeError
+pub mod Keys
 pub mod Labels
 pub mod Laws
 pub mod ParseError
 pub mod ProtoError
 pub mod Reader
 pub mod Reading
+pub mod RecordType
 pub mod Spelling
 pub mod State
 pub mod Wire
