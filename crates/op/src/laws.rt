@@ -1,10 +1,14 @@
 //! Laws of the codes. Each is the contract of an empty function.
-ghost use Rattle.std.specs.Prelude.{◌≡◌, ◌+◌, ◌*◌, ◌/◌, ◌%◌, ◌<◌, ◌^◌, ℕ, Some};
+ghost use Rattle.std.specs.Prelude.{◌≡◌, ◌%◌, ◌<◌, ◌^◌, ℕ, Some};
 ghost use Rattle.op.specs.OpCode.{op_number, op_value, op_cmp};
-ghost use Rattle.op.specs.ResponseCode.{code_number, code_value, code_cmp};
+ghost use Rattle.op.specs.ResponseCode.{code_number, code_value, code_low, code_high, code_from, code_cmp};
+ghost use Rattle.op.specs.HeaderCounts.{zero_counts};
+ghost use Rattle.op.specs.declared.header.header_counts.HeaderCounts.{HeaderCounts};
 ghost use Rattle.op.specs.declared.op_code.OpCode.{OpCode};
 ghost use Rattle.op.specs.declared.response_code.ResponseCode.{ResponseCode};
+ghost use Rattle.op.specs.declared.response_code.ResponseCode.TheVariants as response_codes;
 
+use crate::header::HeaderCounts;
 use crate::op_code::OpCode;
 use crate::response_code::ResponseCode;
 
@@ -20,7 +24,17 @@ pub fn response_codes_keep_numbers()
 
 /// The two parts of a response code make up the lowest twelve bits of its number (RFC 6891, 6.1.3).
 pub fn parts_make_up_codes()
-    ensures { (code : ResponseCode) → code_number (code_value (code_number code / 16 % 256 * 16 + code_number code % 16 % 16)) ≡ code_number code % 4096 }
+    ensures { (code : ResponseCode) → code_number (code_from (code_high code) (code_low code)) ≡ code_number code % 4096 }
+{}
+
+/// The default response code is that of no error.
+pub fn default_is_no_error()
+    ensures { (code : ResponseCode) → ⟦<ResponseCode as Default>⟧.is_default code → code ≡ response_codes.NoError }
+{}
+
+/// The default counts are zeros.
+pub fn default_counts_are_zero()
+    ensures { (counts : HeaderCounts) → ⟦<HeaderCounts as Default>⟧.is_default counts → counts ≡ zero_counts }
 {}
 
 /// Operations are ordered as they are listed, and two unknown ones by number.
