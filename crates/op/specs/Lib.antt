@@ -1,4 +1,5 @@
 pub mod Flags
+pub mod Header
 pub mod HeaderCounts
 pub mod MessageType
 pub mod Metadata

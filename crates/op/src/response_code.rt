@@ -47,7 +47,7 @@ pub enum ResponseCode {
     BADNAME,
     /// An algorithm that the server doesn't know (RFC 2930, 2.6).
     BADALG,
-    /// A signature that was cut too short (RFC 8945, 5.2.2.1).
+    /// A signature that was cut too short (RFC 8945, 5.2.4).
     BADTRUNC,
     /// A server cookie that is missing or wrong (RFC 7873, 8).
     BADCOOKIE,
