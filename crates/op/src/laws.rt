@@ -1,4 +1,4 @@
-//! Laws of the codes. Each is the contract of an empty function.
+//! Laws of the codes and of the types of the header. Each is the contract of an empty function.
 ghost use Rattle.std.specs.Prelude.{◌≡◌, ◌↔◌, ◌%◌, ◌<◌, ◌^◌, ℕ, Some, IsTrue};
 ghost use Rattle.op.specs.MessageType.{message_type_cmp};
 ghost use Rattle.op.specs.Metadata.{metadata_cmp};
