@@ -1,4 +1,5 @@
--- Lemmas on headers.
 pub mod BitLemmas
+pub mod Equals
 pub mod HeaderLemmas
 pub mod HeaderReading
+pub mod Orders

@@ -1,10 +1,14 @@
 -- The header word (RFC 1035, 4.1.1; AD and CD of RFC 4035, 3.1.6).
 use Rattle.std.specs.Prelude.{◌≡◌, ℕ, ◌+◌, ◌*◌, ◌/◌, ◌%◌, Bool, true, false, ◌||◌, ◌==◌, List, [], ◌∷◌, ◌++◌, Ok}
 use Rattle.std.specs.Int.{w16, to_be_bytes}
+use Rattle.std.specs.Ordering.{on, then_cmp}
+use Rattle.std.specs.declared.cmp.Ordering.{Ordering}
 use Rattle.base.specs.Spelling.{ByteAt, anywhere}
 use Rattle.base.specs.Words.{IsNumberAt}
 use Rattle.base.specs.Reading.{Read, ◌>>=◌, byte_at, number_at}
+use Rattle.op.specs.HeaderCounts.{counts_cmp}
 use Rattle.op.specs.MessageType.{kind_value, is_response}
+use Rattle.op.specs.Metadata.{metadata_cmp}
 use Rattle.op.specs.OpCode.{op_number, op_value}
 use Rattle.op.specs.ResponseCode.{code_number, code_value}
 use Rattle.op.specs.declared.header.Header.{Header}
@@ -146,3 +150,9 @@ header_at bytes i = do
   authorities ← number_at w16 bytes answers.1
   additionals ← number_at w16 bytes authorities.1
   Ok (record { metadata = metadata_of_bytes id.0 high.0 low.0; counts = record { queries = queries.0; answers = answers.0; authorities = authorities.0; additionals = additionals.0 } }, additionals.1)
+
+-- ---- order
+
+-- by metadata, then counts
+abbrev pub header_cmp : Header → Header → Ordering
+header_cmp = then_cmp (on (λ h. h.metadata) metadata_cmp) (on (λ h. h.counts) counts_cmp)

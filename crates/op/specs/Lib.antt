@@ -1,5 +1,6 @@
 pub mod Flags
 pub mod Header
+pub mod HeaderCounts
 pub mod MessageType
 pub mod Metadata
 pub mod OpCode

@@ -1,5 +1,8 @@
 -- The QR bit of the header (RFC 1035, 4.1.1).
 use Rattle.std.specs.Prelude.{ℕ, List, codes, Bool, true, false}
+use Rattle.std.specs.Int.{from_bool}
+use Rattle.std.specs.Ordering.{nat_cmp, on}
+use Rattle.std.specs.declared.cmp.Ordering.{Ordering}
 use Rattle.op.specs.declared.header.message_type.MessageType.{MessageType}
 use Rattle.op.specs.declared.header.message_type.MessageType.TheVariants as kind
 
@@ -15,3 +18,7 @@ kind_value false = kind.Query
 abbrev pub is_response : MessageType → Bool
 is_response kind.Response = true
 is_response kind.Query = false
+
+-- queries before responses
+abbrev pub message_type_cmp : MessageType → MessageType → Ordering
+message_type_cmp = on (λ m. from_bool (is_response m)) nat_cmp

@@ -2,10 +2,12 @@
 use Rattle.std.specs.Prelude.{ℕ, false, List, [], ◌∷◌}
 use Rattle.std.specs.Fmt.{decimal}
 use Rattle.std.specs.List.{join_with_byte}
+use Rattle.std.specs.Ordering.{nat_cmp, bool_cmp, on, then_cmp}
+use Rattle.std.specs.declared.cmp.Ordering.{Ordering}
 use Rattle.op.specs.Flags.{flags_text}
-use Rattle.op.specs.MessageType.{message_type_text}
-use Rattle.op.specs.OpCode.{op_text}
-use Rattle.op.specs.ResponseCode.{code_label}
+use Rattle.op.specs.MessageType.{message_type_text, message_type_cmp}
+use Rattle.op.specs.OpCode.{op_text, op_cmp}
+use Rattle.op.specs.ResponseCode.{code_label, code_cmp}
 use Rattle.op.specs.declared.header.flags.Flags.{Flags}
 use Rattle.op.specs.declared.header.message_type.MessageType.{MessageType}
 use Rattle.op.specs.declared.header.message_type.MessageType.TheVariants as kind
@@ -51,3 +53,12 @@ abbrev pub metadata_text : Metadata → List ℕ
 metadata_text metadata = join_with_byte 58
     (decimal metadata.id ∷ message_type_text metadata.message_type ∷ flags_text (metadata_flags metadata)
     ∷ code_label metadata.response_code ∷ op_text metadata.op_code ∷ [])
+
+-- by the fields in turn
+abbrev pub metadata_cmp : Metadata → Metadata → Ordering
+metadata_cmp =
+    then_cmp (on (λ m. m.id) nat_cmp) (then_cmp (on (λ m. m.message_type) message_type_cmp) (then_cmp (on (λ m. m.op_code) op_cmp)
+    (then_cmp (on (λ m. m.authoritative) bool_cmp) (then_cmp (on (λ m. m.truncation) bool_cmp)
+    (then_cmp (on (λ m. m.recursion_desired) bool_cmp) (then_cmp (on (λ m. m.recursion_available) bool_cmp)
+    (then_cmp (on (λ m. m.authentic_data) bool_cmp) (then_cmp (on (λ m. m.checking_disabled) bool_cmp)
+    (on (λ m. m.response_code) code_cmp)))))))))

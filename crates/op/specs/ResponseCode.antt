@@ -1,5 +1,5 @@
 -- The response codes (RFC 1035, 4.1.1; RFC 2136, 2.2; RFC 6891, 9; RFC 8945, 3; RFC 2930, 2.6; RFC 7873, 8).
-use Rattle.std.specs.Prelude.{ℕ, List, ◌++◌, ◌==◌, codes, if◌then◌else◌, Option, Some, None, unwrap_or}
+use Rattle.std.specs.Prelude.{ℕ, List, ◌++◌, ◌+◌, ◌*◌, ◌/◌, ◌%◌, ◌==◌, codes, if◌then◌else◌, Option, Some, None, unwrap_or}
 use Rattle.std.specs.Fmt.{decimal}
 use Rattle.std.specs.Ordering.{nat_cmp, on, then_cmp}
 use Rattle.std.specs.declared.cmp.Ordering.{Ordering}
@@ -53,6 +53,18 @@ code_value number =
     else (if number == 22 then code.BADTRUNC
     else (if number == 23 then code.BADCOOKIE
     else code.Unknown number))))))))))))))))))
+
+-- the four bits that the header holds (RFC 1035, 4.1.1)
+abbrev pub code_low : ResponseCode → ℕ
+code_low c = code_number c % 16
+
+-- the eight bits above them, which an OPT record holds (RFC 6891, 6.1.3)
+abbrev pub code_high : ResponseCode → ℕ
+code_high c = code_number c / 16 % 256
+
+-- the code of both parts
+abbrev pub code_from : ℕ → ℕ → ResponseCode
+code_from high low = code_value (high * 16 + low % 16)
 
 -- the name that the standards give the code
 abbrev pub code_name : ResponseCode → Option (List ℕ)

@@ -9,3 +9,6 @@ pub mod response_code;
 pub use header::{Flags, Header, HeaderCounts, MessageType, Metadata};
 pub use op_code::OpCode;
 pub use response_code::ResponseCode;
+
+#[cfg(test)]
+mod tests;

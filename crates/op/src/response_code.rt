@@ -1,6 +1,6 @@
-ghost use Rattle.std.specs.Prelude.{◌≡◌, ◌+◌, ◌*◌, ◌/◌, ◌%◌, Some};
+ghost use Rattle.std.specs.Prelude.{◌≡◌, ◌%◌, Some};
 ghost use Rattle.std.specs.Option.{option_map};
-ghost use Rattle.op.specs.ResponseCode.{code_number, code_value, code_name, code_text};
+ghost use Rattle.op.specs.ResponseCode.{code_number, code_value, code_low, code_high, code_from, code_name, code_text};
 
 use std::fmt;
 
@@ -47,7 +47,7 @@ pub enum ResponseCode {
     BADNAME,
     /// An algorithm that the server doesn't know (RFC 2930, 2.6).
     BADALG,
-    /// A signature that was cut too short (RFC 8945, 5.2.2.1).
+    /// A signature that was cut too short (RFC 8945, 5.2.4).
     BADTRUNC,
     /// A server cookie that is missing or wrong (RFC 7873, 8).
     BADCOOKIE,
@@ -58,7 +58,7 @@ pub enum ResponseCode {
 impl ResponseCode {
     /// The lowest four bits of the number, which the header holds (RFC 1035, 4.1.1).
     pub fn low(self) -> u8
-        ensures { result ≡ code_number self % 16 }
+        ensures { result ≡ code_low self }
     {
         (u16::from(self) & 0x000F) as u8
     }
@@ -67,7 +67,7 @@ impl ResponseCode {
     ///
     /// Of a number from 4096 on the highest bits are in neither part.
     pub fn high(self) -> u8
-        ensures { result ≡ code_number self / 16 % 256 }
+        ensures { result ≡ code_high self }
     {
         ((u16::from(self) >> 4) & 0x00FF) as u8
     }
@@ -83,7 +83,7 @@ impl ResponseCode {
     ///
     /// The high half of `low` is ignored.
     pub fn from(high: u8, low: u8) -> ResponseCode
-        ensures { result ≡ code_value (high * 16 + low % 16) }
+        ensures { result ≡ code_from high low }
     {
         ((u16::from(high) << 4) | (u16::from(low) & 0x000F)).into()
     }

@@ -1,6 +1,6 @@
-ghost use Rattle.std.specs.Prelude.{◌≡◌, ◌+◌, ◌*◌, ◌%◌, Some};
+ghost use Rattle.std.specs.Prelude.{◌≡◌, Some};
 ghost use Rattle.op.specs.Metadata.{plain_metadata, response_metadata, metadata_flags, metadata_text};
-ghost use Rattle.op.specs.ResponseCode.{code_number, code_value, code_label};
+ghost use Rattle.op.specs.ResponseCode.{code_low, code_from, code_label};
 
 use super::{Flags, MessageType};
 use crate::op_code::OpCode;
@@ -78,7 +78,7 @@ impl Metadata {
 
     /// Puts an OPT record's eight bits above the lowest four of the code, and keeps no others (RFC 6891, 6.1.3).
     pub fn merge_response_code(&mut self, high: u8)
-        ensures { self.new ≡ record self.old { response_code = code_value (high * 16 + code_number self.old.response_code % 16) } }
+        ensures { self.new ≡ record self.old { response_code = code_from high (code_low self.old.response_code) } }
     {
         self.response_code = ResponseCode::from(high, self.response_code.low());
     }
