@@ -12,3 +12,6 @@ pub use decoder::BinDecoder;
 pub use encodable::{BinEncodable, EncodedSize};
 pub use encoder::BinEncoder;
 pub use place::Place;
+
+#[cfg(test)]
+mod tests;

@@ -33,8 +33,8 @@ raw_of id high low counts = record {
   counts = counts;
 }
 
-ok_same : {A : Type 0} {x y : A} → ◌≡◌ {A = Result A DecodeError} (Ok x) (Ok y) → x ≡ y
-ok_same is = cc
+ok_same : {A : Type 0} (x y : A) → ◌≡◌ {A = Result A DecodeError} (Ok x) (Ok y) → x ≡ y
+ok_same x y is = cc
 
 -- a header that was read, and the place behind it
 record IsReadHeader (B : List ℕ) (i : ℕ) (r : Header × ℕ) : Type 0 where
@@ -66,7 +66,8 @@ header_is B i r is =
     let p4 : answers.value.1 ≡ i + 8 = omega (arith, answers_is.behind) in
     let p5 : authorities.value.1 ≡ i + 10 = omega (arith, authorities_is.behind) in
     let p6 : additionals.value.1 ≡ i + 12 = omega (arith, additionals_is.behind) in
-    let same : ◌≡◌ {A = Header × ℕ} (record { metadata = metadata_of_bytes id.value.0 high.value.0 low.value.0; counts = counts }, additionals.value.1) r = ok_same additionals.second in
+    let header : Header = record { metadata = metadata_of_bytes id.value.0 high.value.0 low.value.0; counts = counts } in
+    let same = ok_same (header, additionals.value.1) r additionals.second in
     record {
       word = record {
         raw = raw_of id.value.0 high.value.0 low.value.0 counts;
