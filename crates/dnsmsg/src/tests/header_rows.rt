@@ -1,4 +1,5 @@
 use super::ran;
+use std::process::Abort;
 use std::test::Fail;
 
 const USAGE: &str = "usage: dnsmsg COMMAND [WORDS]\n";
@@ -49,20 +50,21 @@ fn other_input_is_refused(rt: HostRuntime) -> Result<(), Fail> {
     Ok(())
 }
 
+fn prints_usage(rt: &(impl Abort + AllocGlobal), words: &[&str]) -> Result<(), Fail> {
+    let (status, printed) = ran(rt.alloc(), words, "0110AA83 88776655 44332211\n")?;
+    assert_eq!(rt; printed.as_slice(), USAGE.as_bytes());
+    assert_eq!(rt; status, 2);
+    Ok(())
+}
+
 #[test]
 fn wrong_words_print_the_usage_line(rt: HostRuntime) -> Result<(), Fail> {
-    for words in [
-        [].as_slice(),
-        ["header", "x"].as_slice(),
-        ["HEADER"].as_slice(),
-        ["headers"].as_slice(),
-        [""].as_slice(),
-        ["read"].as_slice(),
-        ["header", "header", "header"].as_slice(),
-    ] {
-        let (status, printed) = ran(rt.alloc(), words, "0110AA83 88776655 44332211\n")?;
-        assert_eq!(rt; printed.as_slice(), USAGE.as_bytes(), "{words:?}");
-        assert_eq!(rt; status, 2, "{words:?}");
-    }
+    prints_usage(&rt, &[])?;
+    prints_usage(&rt, &["header", "x"])?;
+    prints_usage(&rt, &["HEADER"])?;
+    prints_usage(&rt, &["headers"])?;
+    prints_usage(&rt, &[""])?;
+    prints_usage(&rt, &["read"])?;
+    prints_usage(&rt, &["header", "header", "header"])?;
     Ok(())
 }
