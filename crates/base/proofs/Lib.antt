@@ -1,5 +1,6 @@
 pub mod ClassTexts
 pub mod LawLemmas
+pub mod ManyLemmas
 pub mod ReadLemmas
 pub mod ReadTexts
 pub mod TypeTexts

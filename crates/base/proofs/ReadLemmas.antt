@@ -5,7 +5,7 @@ use Rattle.std.specs.Prelude.{nat_lt, slice_index}
 use Rattle.std.specs.Int.{Width, byte_len, from_be_bytes}
 use Rattle.base.specs.declared.error.decode_error.DecodeError.{DecodeError}
 use Rattle.base.specs.declared.error.decode_error.DecodeError.TheVariants as faults
-use Rattle.base.specs.Reading.{◌>>=◌, byte_at, number_at}
+use Rattle.base.specs.Reading.{Fails, ◌>>=◌, byte_at, number_at}
 use Rattle.base.specs.Spelling.{ByteAt, anywhere}
 use Rattle.base.specs.Words.{IsNumberAt}
 
@@ -103,3 +103,8 @@ byte_short B i f is =
 
 pub byte_again : (B : List ℕ) (i b : ℕ) → ByteAt anywhere B i b → byte_at B i ≡ Ok (b, i + 1)
 byte_again B i b s = rw (lt-ltb i (length B) s.inside, s.is) refl
+
+-- a refusal that is passed on
+pub Fails-through : {X Y : Type 0} (e : DecodeError) (r : Result X DecodeError) (s : Result Y DecodeError) → (r ≡ Err e → s ≡ Err e) → Fails e r → Fails e s
+Fails-through faults.Memory r s through fails = tt
+Fails-through e r s through fails = through fails

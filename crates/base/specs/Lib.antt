@@ -3,6 +3,7 @@ pub mod DecodeError
 pub mod Keys
 pub mod Labels
 pub mod Laws
+pub mod Many
 pub mod ParseError
 pub mod ProtoError
 pub mod Reader

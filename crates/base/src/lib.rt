@@ -9,7 +9,7 @@ pub mod wire;
 pub use dns_class::DNSClass;
 pub use error::{DecodeError, ParseError, ProtoError};
 pub use record_type::RecordType;
-pub use wire::{BinDecodable, BinDecoder, BinEncodable, BinEncoder, EncodedSize, Place};
+pub use wire::{BinDecodable, BinDecoder, BinEncodable, BinEncoder, EncodedSize, Place, read_many};
 
 #[cfg(test)]
 mod types_tests;

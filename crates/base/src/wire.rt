@@ -4,6 +4,7 @@ pub mod decodable;
 pub mod decoder;
 pub mod encodable;
 pub mod encoder;
+pub mod many;
 pub mod place;
 pub mod suffix;
 
@@ -11,6 +12,7 @@ pub use decodable::BinDecodable;
 pub use decoder::BinDecoder;
 pub use encodable::{BinEncodable, EncodedSize};
 pub use encoder::BinEncoder;
+pub use many::read_many;
 pub use place::Place;
 
 #[cfg(test)]

@@ -1,4 +1,4 @@
-use super::{BinDecoder, BinEncoder};
+use super::{BinDecoder, BinEncoder, read_many};
 use crate::{BinDecodable, BinEncodable, DecodeError, ProtoError};
 use std::test::Fail;
 
@@ -95,4 +95,18 @@ fn a_number_that_the_end_cuts_is_refused(rt: HostRuntime) {
     assert!(rt; matches!(&three, Err(DecodeError::InsufficientBytes)));
     let none = BinDecoder::new(rt.alloc(), &[]).pop();
     assert!(rt; matches!(&none, Err(DecodeError::InsufficientBytes)));
+}
+
+#[test]
+fn values_are_read_one_behind_the_other(rt: HostRuntime) -> Result<(), Fail> {
+    let buffer = [0, 1, 0, 2, 1, 0, 9];
+    let mut decoder = BinDecoder::new(rt.alloc(), &buffer);
+    let none = read_many::<u16>(&mut decoder, 0)?;
+    assert_eq!(rt; none.len(), 0);
+    let numbers = read_many::<u16>(&mut decoder, 3)?;
+    assert_eq!(rt; numbers.as_slice(), [1, 2, 256].as_slice());
+    assert_eq!(rt; decoder.index(), 6);
+    let cut = read_many::<u16>(&mut decoder, 1);
+    assert!(rt; matches!(&cut, Err(DecodeError::InsufficientBytes)));
+    Ok(())
 }

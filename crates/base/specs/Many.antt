@@ -1,0 +1,11 @@
+-- Values that are read one behind the other.
+use Rattle.std.specs.Prelude.{ℕ, List, [], ◌∷◌, zero, suc, Ok}
+use Rattle.base.specs.Reading.{Read, ◌>>=◌}
+
+-- as many values, each at the place behind the one before it, or the first fault
+unfoldable pub many_at : {A : Type 0} → (List ℕ → ℕ → Read A) → ℕ → List ℕ → ℕ → Read (List A)
+many_at read zero bytes i = Ok ([], i)
+many_at read (suc n) bytes i = do
+  first ← read bytes i
+  others ← many_at read n bytes first.1
+  Ok (first.0 ∷ others.0, others.1)

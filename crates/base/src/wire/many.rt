@@ -1,0 +1,24 @@
+ghost use Rattle.std.specs.Prelude.{◌≡◌, length, IfOk};
+ghost use Rattle.base.specs.Many.{many_at};
+ghost use Rattle.base.specs.Reading.{Reads};
+
+use crate::error::DecodeError;
+use crate::wire::decodable::BinDecodable;
+use crate::wire::decoder::BinDecoder;
+
+/// Reads as many values, one behind the other.
+///
+/// Refused with the first fault, and for want of memory. A decoder that refused isn't used again.
+pub fn read_many<T: BinDecodable>(
+    decoder: &mut BinDecoder<'_>,
+    count: usize,
+) -> Result<Vec<T>, DecodeError>
+    ensures read { Reads (λ v. v.items) decoder.old decoder.new result (many_at T.read_at count decoder.old.bytes decoder.old.index) }
+{
+    let mut values = Vec::new(decoder.allocator());
+    for _ in 0..count {
+        let value = T::read(decoder)?;
+        values.push(value)?;
+    }
+    Ok(values)
+}
