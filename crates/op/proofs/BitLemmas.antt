@@ -1,23 +1,9 @@
 -- The bits of the two bytes of codes and flags.
-use Rattle.std.proofs.Common.{◌≡◌, ℕ, ◌+◌, ◌*◌, ◌/◌, ◌%◌, ◌^◌, ◌<◌, Bool, true, false, nat_eq, bit_and, bit_or, refl, ap, ◌∙◌, arith, zero, suc, lit<}
-use Rattle.std.specs.Prelude.{not, ◌||◌}
+use Rattle.std.proofs.Common.{◌≡◌, ℕ, ◌+◌, ◌*◌, ◌/◌, ◌%◌, ◌^◌, ◌<◌, Bool, true, false, nat_eq, bit_or, refl, ap, ◌∙◌, arith, zero, suc, lit<}
+use Rattle.std.specs.Prelude.{◌||◌}
 use Rattle.std.specs.Int.{from_bool}
 use Rattle.std.proofs.lemmas.Nat.{or_block, or_shifted}
-use Rattle.std.proofs.lemmas.Nat.Bits.{and_pow}
-use Rattle.std.proofs.lemmas.Bool.{ne_eqb}
 use Rattle.op.specs.Header.{bit_of, weighed, high_byte, low_byte}
-
--- whether a digit of two times a weight is there is whether the digit is one
-digit_test : (d w : ℕ) → d < 2 → 0 < w → not (nat_eq (d * w) 0) ≡ nat_eq d 1
-digit_test zero w small some =
-    let none : 0 * w ≡ 0 = omega arith in
-    rw none refl
-digit_test (suc zero) w small some = ap not (ne_eqb (1 * w) 0 (λ e. omega arith))
-digit_test (suc (suc d)) w small some = absurd (omega arith)
-
--- a bit that a mask leaves
-pub mask_tests : (n k : ℕ) → 0 < 2 ^ k → not (nat_eq (bit_and n (2 ^ k)) 0) ≡ bit_of (2 ^ k) n
-mask_tests n k some = rw (and_pow n k) (digit_test (n / 2 ^ k % 2) (2 ^ k) (omega arith) some)
 
 -- a number below the lowest bit of another
 or_below : (x y k m : ℕ) → x ≡ m * 2 ^ k → y < 2 ^ k → bit_or x y ≡ x + y

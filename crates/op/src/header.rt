@@ -1,4 +1,4 @@
-ghost use Rattle.std.specs.Prelude.{◌≡◌, ◌↔◌, ◌<◌, ◌+◌, ◌*◌, ◌/◌, ◌%◌, ◌||◌, ℕ, List, [], length, Ok, Err, IfOk, OnOk, OnErr, IsOkUnless, IsErrOf};
+ghost use Rattle.std.specs.Prelude.{◌≡◌, ◌↔◌, ◌<◌, ◌+◌, ◌*◌, ◌/◌, ◌%◌, ◌||◌, ◌^◌, ℕ, List, [], length, Ok, Err, IfOk, OnOk, OnErr, IsOkUnless, IsErrOf};
 ghost use Rattle.base.specs.Reading.{Reads};
 ghost use Rattle.base.specs.State.{appended};
 ghost use Rattle.base.specs.Laws.{Keeps, Writes};
@@ -164,16 +164,24 @@ fn metadata_of(id: u16, high: u8, low: u8) -> Metadata
 {
     Metadata {
         id,
-        message_type: MessageType::from_bit(high & 0x80 != 0),
+        message_type: MessageType::from_bit(bit(high, 7)),
         op_code: OpCode::from_u8(high >> 3 & 0x0F),
-        authoritative: high & 0x04 != 0,
-        truncation: high & 0x02 != 0,
-        recursion_desired: high & 0x01 != 0,
-        recursion_available: low & 0x80 != 0,
-        authentic_data: low & 0x20 != 0,
-        checking_disabled: low & 0x10 != 0,
+        authoritative: bit(high, 2),
+        truncation: bit(high, 1),
+        recursion_desired: bit(high, 0),
+        recursion_available: bit(low, 7),
+        authentic_data: bit(low, 5),
+        checking_disabled: bit(low, 4),
         response_code: ResponseCode::from_low(low),
     }
+}
+
+// Whether the bit is set, counted from the lowest and from 0.
+fn bit(byte: u8, place: u32) -> bool
+    requires { place < 8 }
+    ensures { result ≡ bit_of (2 ^ place) byte }
+{
+    byte >> place & 1 == 1
 }
 
 /// Reading a header is the header word, and a header can't be read exactly where fewer than twelve bytes
