@@ -1,6 +1,8 @@
 pub mod DecodeError
+pub mod Faults
 pub mod Labels
 pub mod Laws
+pub mod Names
 pub mod ParseError
 pub mod ProtoError
 pub mod Reader
