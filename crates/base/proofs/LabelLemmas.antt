@@ -91,6 +91,7 @@ IsWire-push bytes x wire some small short = record {
 pub record IsFirst (bytes : List ℕ) (n : ℕ) : Type 0 where
   pub fits : n ≤ length bytes
   pub labels : labels_of bytes ≡ slice_range bytes 1 n ∷ labels_of (drop n bytes)
+  pub parts : bytes ≡ (length (slice_range bytes 1 n) ∷ slice_range bytes 1 n) ++ drop n bytes
   pub whole : wire_of (labels_of (drop n bytes)) ≡ drop n bytes
 
 first_at : (x : List ℕ) (xs : List (List ℕ)) (bytes : List ℕ) → bytes ≡ length x ∷ (x ++ wire_of xs) → labels_of bytes ≡ x ∷ xs → (n : ℕ) → n ≡ length x + 1 → IsFirst bytes n
@@ -101,6 +102,7 @@ first_at x xs bytes is labels n end =
     record {
       fits = omega (arith, ap length is, length-append x (wire_of xs));
       labels = labels ∙ ap (λ (y : List ℕ). y ∷ xs) (sym front) ∙ ap (λ (ys : List (List ℕ)). slice_range bytes 1 n ∷ ys) (sym others);
+      parts = is ∙ ap (λ (y : List ℕ). (length y ∷ y) ++ wire_of xs) (sym front) ∙ ap (λ (ys : List ℕ). (length (slice_range bytes 1 n) ∷ slice_range bytes 1 n) ++ ys) (sym rest);
       whole = ap wire_of others ∙ sym rest;
     }
 

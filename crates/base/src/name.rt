@@ -1,6 +1,6 @@
 //! Domain names (RFC 1035, 3.1).
 
-ghost use Rattle.std.specs.Prelude.{◌≡◌, ◌+◌, ◌<◌, ◌≤◌, ◌↔◌, [], ◌∷◌, true, length, IsTrue, MatchOption, slice_get};
+ghost use Rattle.std.specs.Prelude.{◌≡◌, ◌+◌, ◌<◌, ◌≤◌, ◌↔◌, [], ◌∷◌, ◌++◌, true, length, IsTrue, IfSome, MatchOption, slice_get};
 ghost use Rattle.std.specs.Option.{option_copied};
 ghost use Rattle.base.specs.Labels.{AreLabels, plain_len, wire_of, labels_of};
 
@@ -119,8 +119,10 @@ impl Clone for Name {
 /// The first of the labels, and the others, each with its length before it; none where there is no label.
 pub(crate) fn first_label(wire: &[u8]) -> Option<(&[u8], &[u8])>
     requires { wire_of (labels_of wire.now) ≡ wire.now }
-    ensures { MatchOption result (labels_of wire.now ≡ []) (λ r. (labels_of wire.now ≡ r.0.now ∷ labels_of r.1.now)
-        × (wire_of (labels_of r.1.now) ≡ r.1.now) × (length r.1.now < length wire.now)) }
+    ensures labels { MatchOption result (labels_of wire.now ≡ []) (λ r. labels_of wire.now ≡ r.0.now ∷ labels_of r.1.now) }
+    ensures bytes { MatchOption result (wire.now ≡ []) (λ r. wire.now ≡ (length r.0.now ∷ r.0.now) ++ r.1.now) }
+    ensures others { IfSome result (λ r. wire_of (labels_of r.1.now) ≡ r.1.now) }
+    ensures shorter { IfSome result (λ r. length r.1.now < length wire.now) }
 {
     if wire.is_empty() {
         return None;

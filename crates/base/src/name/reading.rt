@@ -1,6 +1,6 @@
 //! Reads a name (RFC 1035, 4.1.4).
 
-ghost use Rattle.std.specs.Prelude.{◌≡◌, ◌≤◌, length, take, MatchResult};
+ghost use Rattle.std.specs.Prelude.{◌≡◌, ◌≤◌, length, take, IfOk, MatchResult};
 ghost use Rattle.base.specs.Labels.{IsWire, labels_of};
 ghost use Rattle.base.specs.Names.{part_at, labels_at, name_at};
 ghost use Rattle.base.specs.Reading.{Fails};
@@ -60,7 +60,9 @@ fn gather(buffer: &[u8], first: usize, room: &mut [u8; ROOM]) -> Result<(usize, 
     ensures read { MatchResult result
         (λ r. labels_at buffer.now first first 0 ≡ Ok (labels_of (take r.0 room.new), r.1))
         (λ e. Fails e (labels_at buffer.now first first 0)) }
-    ensures wire { MatchResult result (λ r. (r.0 ≤ 254) × (r.1 ≤ length buffer.now) × IsWire (take r.0 room.new)) (λ e. Unit {0}) }
+    ensures used { IfOk result (λ r. r.0 ≤ 254) }
+    ensures end { IfOk result (λ r. r.1 ≤ length buffer.now) }
+    ensures wire { IfOk result (λ r. IsWire (take r.0 room.new)) }
 {
     let mut used = 0;
     let mut start = first;

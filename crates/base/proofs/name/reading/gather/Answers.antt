@@ -23,11 +23,13 @@ returns-in-Root-clause-read c =
     let end = c.unwrap_or.ensures in
     at_root _ _ _ _ _ _ _ c.parts.invariant is ∙ ap (λ (e : ℕ). Ok (labels_of (take c.parts.used c.parts.room), e)) (sym end)
 
-pub returns-in-Root-clause-wire : goal.returns-in-Root-clause-wire
-returns-in-Root-clause-wire c =
+pub returns-in-Root-clause-used : goal.returns-in-Root-clause-used
+returns-in-Root-clause-used c = omega (arith, c.parts.invariant.wire.short, c.parts.invariant.len)
+
+pub returns-in-Root-clause-end : goal.returns-in-Root-clause-end
+returns-in-Root-clause-end c =
     let is : part_at c.args.buffer.now c.parts.at ≡ Ok Root = cc (c.part_of.ensures, c.in_ok-part_of.was, c.in-Root.is) in
-    let wire = c.parts.invariant.wire in
-    (omega (arith, wire.short, c.parts.invariant.len), rw c.unwrap_or.ensures (root_inside _ _ _ _ _ _ _ c.parts.invariant is), wire)
+    rw c.unwrap_or.ensures (root_inside _ _ _ _ _ _ _ c.parts.invariant is)
 
 pub returns-then-used-size-gt-LONGEST-clause-read :
     goal.returns-then-used-size-gt-LONGEST-clause-read
