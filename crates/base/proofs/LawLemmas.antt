@@ -64,3 +64,8 @@ Writes-appended word plain xs a fits is_word = record {
 
 pub Writes-bytes : (word : List ℕ → ℕ → ℕ → Type 0) (plain : ℕ) (xs : List ℕ) (a b : State) → b ≡ appended xs a → length xs ≤ plain → ((B : List ℕ) → Stands xs B (length a.bytes) → word B (length a.bytes) (length a.bytes + length xs)) → Writes word plain [] a b
 Writes-bytes word plain xs a b is fits is_word = subst (λ (s : State). Writes word plain [] a s) (sym is) (Writes-appended word plain xs a fits is_word)
+
+-- the same where the answer may be a refusal
+pub Writes-either : {X : Type 0} (r : Result X ProtoError) (word : List ℕ → ℕ → ℕ → Type 0) (plain : ℕ) (xs : List ℕ) (a b : State) → OnOk r (b ≡ appended xs a) → length xs ≤ plain → ((B : List ℕ) → Stands xs B (length a.bytes) → word B (length a.bytes) (length a.bytes + length xs)) → OnOk r (Writes word plain [] a b)
+Writes-either (Ok x) word plain xs a b ok fits is_word = Writes-bytes word plain xs a b ok fits is_word
+Writes-either (Err e) word plain xs a b ok fits is_word = ok

@@ -1,5 +1,7 @@
+pub mod DNSClass
 pub mod DecodeError
 pub mod Faults
+pub mod Keys
 pub mod Labels
 pub mod Laws
 pub mod Names
@@ -7,6 +9,7 @@ pub mod ParseError
 pub mod ProtoError
 pub mod Reader
 pub mod Reading
+pub mod RecordType
 pub mod Spelling
 pub mod State
 pub mod Wire

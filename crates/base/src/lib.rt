@@ -1,10 +1,17 @@
 //! Names, types, classes, the encoder and the decoder: what the messages, records and zones above stand on.
 #![tactic(auto)]
 
+pub mod dns_class;
 pub mod error;
 pub mod name;
+pub mod record_type;
 pub mod wire;
 
+pub use dns_class::DNSClass;
 pub use error::{DecodeError, ParseError, ProtoError};
 pub use name::Name;
+pub use record_type::RecordType;
 pub use wire::{BinDecodable, BinDecoder, BinEncodable, BinEncoder, EncodedSize, Place};
+
+#[cfg(test)]
+mod types_tests;

@@ -1,1 +1,6 @@
--- The definitions of headers and codes.
+pub mod Flags
+pub mod Header
+pub mod MessageType
+pub mod Metadata
+pub mod OpCode
+pub mod ResponseCode

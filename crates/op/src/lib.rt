@@ -1,2 +1,11 @@
-//! Messages: codes, headers, and what stands in them.
+//! DNS messages: the codes and the header, and above them questions, EDNS and whole messages.
 #![tactic(auto)]
+
+pub mod header;
+pub mod laws;
+pub mod op_code;
+pub mod response_code;
+
+pub use header::{Flags, Header, HeaderCounts, MessageType, Metadata};
+pub use op_code::OpCode;
+pub use response_code::ResponseCode;

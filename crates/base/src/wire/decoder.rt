@@ -1,6 +1,6 @@
 //! Reads a message's bytes.
 
-ghost use Rattle.std.specs.Prelude.{◌≡◌, ◌-◌, ◌^◌, ◌<◌, ◌≤◌, length, nat_le};
+ghost use Rattle.std.specs.Prelude.{◌≡◌, ◌-◌, ◌^◌, ◌<◌, ◌≤◌, length, nat_le, IsOkUnless};
 ghost use Rattle.std.specs.Int.{w16, w32};
 ghost use Rattle.base.specs.Reader.{begun};
 ghost use Rattle.base.specs.Reading.{Reads, byte_at, number_at};
@@ -85,6 +85,7 @@ impl<'a> BinDecoder<'a> {
 
     /// Reads one byte. Refused where none is left.
     pub fn pop(&mut self) -> Result<u8, DecodeError>
+        ensures only { IsOkUnless result DecodeError.InsufficientBytes }
         ensures read { Reads (λ b. b) self.old self.new result (byte_at self.old.bytes self.old.index) }
     {
         match self.buffer.get(self.index) {
@@ -98,6 +99,7 @@ impl<'a> BinDecoder<'a> {
 
     /// Reads a number of two bytes, the high one first (RFC 1035, 2.3.2). Refused where fewer are left.
     pub fn read_u16(&mut self) -> Result<u16, DecodeError>
+        ensures only { IsOkUnless result DecodeError.InsufficientBytes }
         ensures read { Reads (λ n. n) self.old self.new result (number_at w16 self.old.bytes self.old.index) }
     {
         match &self.buffer[self.index..] {
@@ -111,6 +113,7 @@ impl<'a> BinDecoder<'a> {
 
     /// Reads a number of four bytes, the highest one first (RFC 1035, 2.3.2). Refused where fewer are left.
     pub fn read_u32(&mut self) -> Result<u32, DecodeError>
+        ensures only { IsOkUnless result DecodeError.InsufficientBytes }
         ensures read { Reads (λ n. n) self.old self.new result (number_at w32 self.old.bytes self.old.index) }
     {
         match &self.buffer[self.index..] {

@@ -1,0 +1,33 @@
+-- What a run prints, and the status that it ends with.
+use Rattle.std.specs.Prelude.{◌≡◌, ◌⊎◌, ℕ, List, [], ◌∷◌, ◌++◌, codes, Option}
+use Rattle.std.specs.Fmt.{decimal}
+use Rattle.std.specs.Io.KnownBytes.{Appends}
+
+pub record Answer : Type 0 where
+  pub text : List ℕ
+  pub status : ℕ
+
+-- a command did what it is for
+abbrev pub done : List ℕ → Answer
+done text = record { text = text; status = 0 }
+
+-- the refusal of this number
+abbrev pub refused : ℕ → Answer
+refused number = record { text = codes "refused " ++ decimal number ++ 10 ∷ []; status = 1 }
+
+-- the words name no command
+abbrev pub usage : Answer
+usage = record { text = codes "usage: dnsmsg COMMAND [WORDS]" ++ 10 ∷ []; status = 2 }
+
+-- the status where a read or a write failed
+abbrev pub broken : ℕ
+broken = 3
+
+-- The answer was printed behind what stood, and is the status.
+pub record IsGiven (answer : Answer) (status : ℕ) (old new : Option (List ℕ)) : Type 0 where
+  pub is_status : status ≡ answer.status
+  pub printed : Appends old new answer.text
+
+-- The answer was given, or for want of memory the refusal for that.
+abbrev pub IsAnswered : Answer → ℕ → Option (List ℕ) → Option (List ℕ) → Type 0
+IsAnswered answer status old new = IsGiven answer status old new ⊎ IsGiven (refused 3) status old new

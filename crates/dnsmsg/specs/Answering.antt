@@ -1,0 +1,17 @@
+-- What a command's call answers, against what the run is to print.
+use Rattle.std.specs.Prelude.{◌≡◌, ◌⊎◌, ℕ, List, Result, Ok, Err, IsErr, Vec}
+use Rattle.std.specs.declared.alloc.Global.{Global}
+use Rattle.hex.specs.declared.error.FromHexError.{FromHexError}
+use Rattle.dnsmsg.specs.Answer.{Answer, done, refused}
+use Rattle.dnsmsg.specs.Refusal.{refusal_number}
+use Rattle.dnsmsg.specs.declared.refusal.Refusal.{Refusal}
+
+-- The text of the answer, or its refusal, or that for want of memory.
+abbrev pub Answers : {X : Type 0} → (X → List ℕ) → Answer → Result X Refusal → Type 0
+Answers text answer (Ok x) = answer ≡ done (text x)
+Answers text answer (Err refusal) = (refusal_number refusal ≡ 3) ⊎ (answer ≡ refused (refusal_number refusal))
+
+-- The bytes that hexadecimal text spells, or that it isn't hexadecimal, or want of memory.
+abbrev pub Decodes : Result (List ℕ) FromHexError → Result (Vec ℕ Global) Refusal → Type 0
+Decodes spelled (Ok bytes) = spelled ≡ Ok bytes.items
+Decodes spelled (Err refusal) = (refusal_number refusal ≡ 3) ⊎ ((refusal_number refusal ≡ 24) × IsErr spelled)

@@ -1,0 +1,7 @@
+pub mod Answer
+pub mod Answering
+pub mod Command
+pub mod HeaderCommand
+pub mod HexInput
+pub mod Refusal
+pub mod Words

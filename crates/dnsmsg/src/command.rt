@@ -1,0 +1,25 @@
+//! What the words after the program's name ask for.
+
+ghost use Rattle.std.specs.Prelude.{◌≡◌, List, ℕ};
+ghost use Rattle.std.specs.Str.{bytes_eq};
+ghost use Rattle.dnsmsg.specs.Command.{command_of};
+ghost use Rattle.dnsmsg.specs.Words.{texts};
+
+/// What the program can do.
+#[derive(Clone, Copy, Debug, Drop)]
+pub enum Command {
+    /// A header in hexadecimal: its text, and the same twelve bytes again.
+    Header,
+}
+
+impl Command {
+    /// The command that the words name, if they name one.
+    pub fn from_words(words: &[String]) -> Option<Command>
+        ensures { result ≡ command_of (texts words.now) }
+    {
+        match words {
+            [word] if word.as_str() == "header" => Some(Command::Header),
+            _ => None,
+        }
+    }
+}

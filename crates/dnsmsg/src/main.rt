@@ -1,0 +1,23 @@
+//! `dnsmsg`: DNS messages and zones on the command line.
+#![tactic(auto)]
+
+mod command;
+mod header_command;
+mod hex_input;
+mod refusal;
+mod run;
+#[cfg(test)]
+mod tests;
+
+use run::run;
+use std::io;
+use std::process::ExitCode;
+
+fn main(rt: HostRuntime) -> io::Result<ExitCode> {
+    let mut words = Vec::new(rt.alloc());
+    for word in std::env::args(&rt)?.skip(1) {
+        words.push(word)?;
+    }
+    let status = run(rt.alloc(), &words, &mut rt.stdin(), &mut rt.stdout());
+    Ok(ExitCode::from(status))
+}

@@ -1,0 +1,54 @@
+ghost use Rattle.std.specs.Prelude.{◌≡◌};
+ghost use Rattle.dnsmsg.specs.Refusal.{refusal_number};
+ghost use Rattle.dnsmsg.specs.declared.refusal.Refusal.TheVariants as refusals;
+
+use base::{DecodeError, ProtoError};
+use std::alloc::AllocError;
+
+/// Why a command printed nothing of its own.
+#[derive(Debug, Drop)]
+pub enum Refusal {
+    /// The input isn't what the command takes.
+    Input,
+    /// The bytes could not be read.
+    Decode(DecodeError),
+    /// A call of the library was refused.
+    Proto(ProtoError),
+}
+
+impl Refusal {
+    /// The number that is printed.
+    pub fn number(&self) -> u8
+        ensures { result ≡ refusal_number self.now }
+    {
+        match self {
+            Refusal::Input => 24,
+            Refusal::Decode(e) => e.number(),
+            Refusal::Proto(e) => e.number(),
+        }
+    }
+}
+
+impl From<AllocError> for Refusal {
+    ghost from_gives = { λ _ e. refusal_number e ≡ 3 };
+
+    fn from(_e: AllocError) -> Refusal {
+        Refusal::Proto(ProtoError::Memory)
+    }
+}
+
+impl From<DecodeError> for Refusal {
+    ghost from_gives = { λ d e. e ≡ refusals.Decode d };
+
+    fn from(e: DecodeError) -> Refusal {
+        Refusal::Decode(e)
+    }
+}
+
+impl From<ProtoError> for Refusal {
+    ghost from_gives = { λ p e. e ≡ refusals.Proto p };
+
+    fn from(e: ProtoError) -> Refusal {
+        Refusal::Proto(e)
+    }
+}

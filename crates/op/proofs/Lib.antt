@@ -1,0 +1,4 @@
+-- Lemmas on headers.
+pub mod BitLemmas
+pub mod HeaderLemmas
+pub mod HeaderReading

@@ -1,0 +1,180 @@
+ghost use Rattle.std.specs.Prelude.{◌≡◌, ◌↔◌, ◌<◌, ◌+◌, ◌*◌, ◌/◌, ◌%◌, ◌||◌, ℕ, List, [], length, Ok, Err, IfOk, OnOk, OnErr, IsOkUnless, IsErrOf};
+ghost use Rattle.base.specs.Reading.{Reads};
+ghost use Rattle.base.specs.State.{appended};
+ghost use Rattle.base.specs.Laws.{Keeps, Writes};
+ghost use Rattle.base.specs.Wire.{state_of, Refuses};
+ghost use Rattle.base.specs.Words.{Stands};
+ghost use Rattle.op.specs.Header.{HeaderWord, IsHeaderAt, bit_of, header_at, header_bytes, high_byte, low_byte, metadata_of_bytes, raw_header};
+ghost use Rattle.op.specs.MessageType.{is_response};
+ghost use Rattle.op.specs.OpCode.{op_number};
+ghost use Rattle.op.specs.ResponseCode.{code_number};
+
+pub mod flags;
+pub mod header_counts;
+pub mod message_type;
+pub mod metadata;
+
+use crate::op_code::OpCode;
+use crate::response_code::ResponseCode;
+use base::{
+    BinDecodable, BinDecoder, BinEncodable, BinEncoder, DecodeError, EncodedSize, ProtoError,
+};
+pub use flags::Flags;
+pub use header_counts::HeaderCounts;
+pub use message_type::MessageType;
+pub use metadata::Metadata;
+
+/// The twelve bytes in front of a message (RFC 1035, 4.1.1).
+#[derive(Clone, Copy, Debug, Drop, PartialEq, Eq, PartialOrd, Hash)]
+pub struct Header {
+    /// The first four bytes: id, codes and flags.
+    pub metadata: Metadata,
+    /// How many items each section holds.
+    pub counts: HeaderCounts,
+}
+
+impl Header {
+    /// The twelve bytes of the header. Bit 0x40 of the fourth is clear, and an opcode whose number has
+    /// more than four bits spills into QR.
+    pub fn to_bytes(&self) -> [u8; 12]
+        ensures bytes { result ≡ header_bytes (raw_header self.now) }
+        ensures word { (B : List ℕ) (i : ℕ) → Stands (header_bytes (raw_header self.now)) B i → HeaderWord self.now B i (i + 12) }
+    {
+        let HeaderCounts {
+            queries,
+            answers,
+            authorities,
+            additionals,
+        } = self.counts;
+        let [id_high, id_low] = self.metadata.id.to_be_bytes();
+        let [queries_high, queries_low] = queries.to_be_bytes();
+        let [answers_high, answers_low] = answers.to_be_bytes();
+        let [authorities_high, authorities_low] = authorities.to_be_bytes();
+        let [additionals_high, additionals_low] = additionals.to_be_bytes();
+        [
+            id_high,
+            id_low,
+            high_byte_of(&self.metadata),
+            low_byte_of(&self.metadata),
+            queries_high,
+            queries_low,
+            answers_high,
+            answers_low,
+            authorities_high,
+            authorities_low,
+            additionals_high,
+            additionals_low,
+        ]
+    }
+}
+
+// QR, the opcode, AA, TC and RD.
+fn high_byte_of(metadata: &Metadata) -> u8
+    ensures { let m = metadata.now in result ≡ high_byte (is_response m.message_type || bit_of 16 (op_number m.op_code)) (op_number m.op_code % 16)
+        m.authoritative m.truncation m.recursion_desired }
+{
+    let response = u8::from(metadata.message_type.bit());
+    let op_code = u8::from(metadata.op_code);
+    let authoritative = u8::from(metadata.authoritative);
+    let truncation = u8::from(metadata.truncation);
+    let recursion_desired = u8::from(metadata.recursion_desired);
+    response << 7 | op_code << 3 | authoritative << 2 | truncation << 1 | recursion_desired
+}
+
+// RA, AD, CD and the code.
+fn low_byte_of(metadata: &Metadata) -> u8
+    ensures { let m = metadata.now in result ≡ low_byte m.recursion_available m.authentic_data m.checking_disabled (code_number m.response_code % 16) }
+{
+    let recursion_available = u8::from(metadata.recursion_available);
+    let authentic_data = u8::from(metadata.authentic_data);
+    let checking_disabled = u8::from(metadata.checking_disabled);
+    recursion_available << 7
+        | authentic_data << 5
+        | checking_disabled << 4
+        | metadata.response_code.low()
+}
+
+impl BinEncodable for Header {
+    ghost word = { HeaderWord };
+
+    ghost plain_len = { λ _. 12 };
+
+    ghost owner = { λ _. [] };
+
+    fn emit(&self, encoder: &mut BinEncoder<'_>) -> Result<(), ProtoError>
+        ensures keeps { Keeps (state_of encoder.old) (state_of encoder.new) }
+        ensures writes { OnOk result (Writes (HeaderWord self.now) 12 [] (state_of encoder.old) (state_of encoder.new)) }
+        ensures refuses { Refuses 12 (state_of encoder.old) result }
+        ensures ok { OnOk result (state_of encoder.new ≡ appended (header_bytes (raw_header self.now)) (state_of encoder.old)) }
+        ensures err { OnErr result (state_of encoder.new ≡ state_of encoder.old) }
+        ensures full { (state_of encoder.old).limit < length (state_of encoder.old).bytes + 12 → IsErrOf result ProtoError.MaxBufferSizeExceeded }
+    {
+        encoder.emit_slice(&self.to_bytes())
+    }
+}
+
+impl EncodedSize for Header {
+    ghost encoded = { λ h. header_bytes (raw_header h) };
+
+    ghost LEN = { 12 };
+
+    const LEN: usize = 12;
+
+    fn fill(&self, room: &mut [u8]) {
+        room.copy_from_slice(&self.to_bytes());
+    }
+}
+
+impl BinDecodable for Header {
+    ghost read_at = { header_at };
+
+    // Takes no memory.
+    #[tactic(auto, unfolding(crate::specs::Header::header_at))]
+    fn read(decoder: &mut BinDecoder<'_>) -> Result<Header, DecodeError>
+        ensures read { Reads (λ x. x) decoder.old decoder.new result (header_at decoder.old.bytes decoder.old.index) }
+        ensures found { IfOk result (λ h. IsHeaderAt decoder.old.bytes decoder.old.index h × (decoder.new.index ≡ decoder.old.index + 12)) }
+        ensures only { IsOkUnless result DecodeError.InsufficientBytes }
+        ensures short { length decoder.old.bytes < decoder.old.index + 12 ↔ IsErrOf result DecodeError.InsufficientBytes }
+    {
+        let id = decoder.read_u16()?;
+        let high = decoder.pop()?;
+        let low = decoder.pop()?;
+        let metadata = metadata_of(id, high, low);
+        let queries = decoder.read_u16()?;
+        let answers = decoder.read_u16()?;
+        let authorities = decoder.read_u16()?;
+        let additionals = decoder.read_u16()?;
+        let counts = HeaderCounts {
+            queries,
+            answers,
+            authorities,
+            additionals,
+        };
+        Ok(Header { metadata, counts })
+    }
+}
+
+// What an id and the two bytes of codes and flags behind it are read as.
+fn metadata_of(id: u16, high: u8, low: u8) -> Metadata
+    ensures { result ≡ metadata_of_bytes id high low }
+{
+    Metadata {
+        id,
+        message_type: MessageType::from_bit(high & 0x80 != 0),
+        op_code: OpCode::from_u8(high >> 3 & 0x0F),
+        authoritative: high & 0x04 != 0,
+        truncation: high & 0x02 != 0,
+        recursion_desired: high & 0x01 != 0,
+        recursion_available: low & 0x80 != 0,
+        authentic_data: low & 0x20 != 0,
+        checking_disabled: low & 0x10 != 0,
+        response_code: ResponseCode::from_low(low),
+    }
+}
+
+/// Reading a header is the header word, and a header can't be read exactly where fewer than twelve bytes
+/// are left (RFC 1035, 4.1.1).
+pub fn reading_is_the_header_word()
+    ensures word { (B : List ℕ) (i : ℕ) (h : Header) (e : ℕ) → (header_at B i ≡ Ok (h, e)) ↔ (IsHeaderAt B i h × (e ≡ i + 12)) }
+    ensures fault { (B : List ℕ) (i : ℕ) (f : DecodeError) → (header_at B i ≡ Err f) ↔ ((f ≡ DecodeError.InsufficientBytes) × (length B < i + 12)) }
+{}
