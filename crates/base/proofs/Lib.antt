@@ -2,6 +2,7 @@ pub mod ClassTexts
 pub mod GatherLemmas
 pub mod LabelLemmas
 pub mod LawLemmas
+pub mod PatchLemmas
 pub mod ReadLemmas
 pub mod ReadTexts
 pub mod ReadingLemmas

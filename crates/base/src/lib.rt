@@ -11,7 +11,9 @@ pub use dns_class::DNSClass;
 pub use error::{DecodeError, ParseError, ProtoError};
 pub use name::Name;
 pub use record_type::RecordType;
-pub use wire::{BinDecodable, BinDecoder, BinEncodable, BinEncoder, EncodedSize, Place};
+pub use wire::{
+    BinDecodable, BinDecoder, BinEncodable, BinEncoder, EncodedSize, Place, emit_sized,
+};
 
 #[cfg(test)]
 mod types_tests;

@@ -4,7 +4,9 @@ pub mod decodable;
 pub mod decoder;
 pub mod encodable;
 pub mod encoder;
+pub mod numbers;
 pub mod place;
+pub mod sized;
 pub mod suffix;
 
 pub use decodable::BinDecodable;
@@ -12,3 +14,4 @@ pub use decoder::BinDecoder;
 pub use encodable::{BinEncodable, EncodedSize};
 pub use encoder::BinEncoder;
 pub use place::Place;
+pub use sized::emit_sized;
