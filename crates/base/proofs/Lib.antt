@@ -1,5 +1,6 @@
 pub mod ClassTexts
 pub mod GatherLemmas
+pub mod ItemLemmas
 pub mod LabelLemmas
 pub mod LawLemmas
 pub mod PatchLemmas

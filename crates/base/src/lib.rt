@@ -12,7 +12,8 @@ pub use error::{DecodeError, ParseError, ProtoError};
 pub use name::Name;
 pub use record_type::RecordType;
 pub use wire::{
-    BinDecodable, BinDecoder, BinEncodable, BinEncoder, EncodedSize, Place, emit_sized,
+    BinDecodable, BinDecoder, BinEncodable, BinEncoder, EmitAndCount, EncodedSize, Place,
+    emit_sized,
 };
 
 #[cfg(test)]

@@ -2,6 +2,7 @@
 
 pub mod decodable;
 pub mod decoder;
+pub mod emit_and_count;
 pub mod encodable;
 pub mod encoder;
 pub mod numbers;
@@ -11,6 +12,7 @@ pub mod suffix;
 
 pub use decodable::BinDecodable;
 pub use decoder::BinDecoder;
+pub use emit_and_count::EmitAndCount;
 pub use encodable::{BinEncodable, EncodedSize};
 pub use encoder::BinEncoder;
 pub use place::Place;
