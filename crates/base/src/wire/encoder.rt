@@ -7,6 +7,7 @@ ghost use Rattle.base.specs.Wire.{state_of, vector_of, Refuses};
 
 pub mod items;
 pub mod rollback;
+pub mod table;
 
 use crate::error::ProtoError;
 use crate::wire::encodable::EncodedSize;
