@@ -42,7 +42,7 @@ Keeps-either (Ok x) xs a b ok err within = Keeps-appended xs a b ok within
 Keeps-either (Err e) xs a b ok err within = Keeps-same a b err
 
 -- what is valid for an earlier place is valid for a later one
-spelled_later : (B : List ℕ) (m n : ℕ) → m ≤ n → (t : Stored) → IsSpelled B m t → IsSpelled B n t
+pub spelled_later : (B : List ℕ) (m n : ℕ) → m ≤ n → (t : Stored) → IsSpelled B m t → IsSpelled B n t
 spelled_later B m n le t s = record { below = omega (arith, s.below); fits = s.fits; end = s.end; spelled = s.spelled }
 
 -- Bytes that are a word wherever they stand were written.
@@ -87,7 +87,7 @@ Keeps-then {a} {b} {c} k l = record {
 }
 
 -- what was added to the bytes
-added_bytes : (a b : State) (xs : List ℕ) → b.bytes ≡ a.bytes ++ xs → drop (length a.bytes) b.bytes ≡ xs
+pub added_bytes : (a b : State) (xs : List ℕ) → b.bytes ≡ a.bytes ++ xs → drop (length a.bytes) b.bytes ≡ xs
 added_bytes a b xs is = ap (drop (length a.bytes)) is ∙ drop-append_seam a.bytes xs
 
 module _ (a b c : State) (k : Keeps a b) (l : Keeps b c) (B : List ℕ) where
@@ -104,19 +104,20 @@ module _ (a b c : State) (k : Keeps a b) (l : Keeps b c) (B : List ℕ) where
         subst (λ (xs : List ℕ). Stands xs B (length a.bytes)) (sym (added_bytes a b k.appended k.bytes)) (first_stands k.appended l.appended B (length a.bytes) all);
   }
 
-  -- and the second, if it holds the suffixes between them
+  -- what was added by the second stands behind the first
+  pub Stands-second : Holds a c B → Stands (drop (length b.bytes) c.bytes) B (length b.bytes)
+  Stands-second h =
+      let all : Stands (k.appended ++ (l.appended ++ [])) B (length a.bytes) = subst (λ (xs : List ℕ). Stands xs B (length a.bytes)) (both ∙ ap (λ (xs : List ℕ). k.appended ++ xs) (sym (append-nil l.appended))) h.bytes in
+      let place : length a.bytes + length k.appended ≡ length b.bytes = sym (ap length k.bytes ∙ length-append a.bytes k.appended) in
+      subst (λ (xs : List ℕ). Stands xs B (length b.bytes)) (sym (added_bytes b c l.appended l.bytes))
+      (subst (Stands l.appended B) place (stands_part k.appended l.appended [] B (length a.bytes) all))
+
+  -- and what holds both holds the second, if the suffixes between them are spelled there
   pub Holds-second : IsValid b B → Holds a c B → Holds b c B
-  Holds-second table h = record {
-    table = table;
-    bytes =
-        let all : Stands (k.appended ++ (l.appended ++ [])) B (length a.bytes) = subst (λ (xs : List ℕ). Stands xs B (length a.bytes)) (both ∙ ap (λ (xs : List ℕ). k.appended ++ xs) (sym (append-nil l.appended))) h.bytes in
-        let place : length a.bytes + length k.appended ≡ length b.bytes = sym (ap length k.bytes ∙ length-append a.bytes k.appended) in
-        subst (λ (xs : List ℕ). Stands xs B (length b.bytes)) (sym (added_bytes b c l.appended l.bytes))
-        (subst (Stands l.appended B) place (stands_part k.appended l.appended [] B (length a.bytes) all));
-  }
+  Holds-second table h = record { table = table; bytes = Stands-second h }
 
 -- what is among the first elements is among all
-any_append : (P : Stored → Type 0) (xs ys zs : List Stored) → zs ≡ xs ++ ys → Any P xs → Any P zs
+pub any_append : (P : Stored → Type 0) (xs ys zs : List Stored) → zs ≡ xs ++ ys → Any P xs → Any P zs
 any_append P xs ys zs is (k, t, inside, at, holds) =
     (k, t, omega (arith, ap length is, length-append xs ys), ap (λ (ts : List Stored). get_or ts k t) is ∙ get_or_append_left xs ys t k inside ∙ at, holds)
 

@@ -8,6 +8,7 @@ pub mod laws;
 pub mod reading;
 #[cfg(test)]
 mod tests;
+pub mod writing;
 
 use std::alloc::{AllocError, Global};
 use std::marker::Model;

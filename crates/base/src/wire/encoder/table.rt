@@ -13,8 +13,8 @@ use crate::wire::suffix::Suffix;
 const FIRST_FAR: usize = 16384;
 
 impl<'a> BinEncoder<'a> {
-    /// Where the suffix of these labels, each with its length before it, was first stored. Letters are
-    /// looked at as they are.
+    /// Where a stored suffix of these labels, each with its length before it, is spelled; the oldest, where
+    /// there are more. Letters are compared as they are.
     pub(crate) fn find(&self, wire: &[u8]) -> Option<u16>
         requires { wire_of (labels_of wire.now) ≡ wire.now }
         ensures found { MatchOption result (All (λ t. t.labels ≢ labels_of wire.now) (state_of self.now).suffixes)
