@@ -9,6 +9,8 @@ pub mod numbers;
 pub mod place;
 pub mod sized;
 pub mod suffix;
+#[cfg(test)]
+mod tests;
 
 pub use decodable::BinDecodable;
 pub use decoder::BinDecoder;
