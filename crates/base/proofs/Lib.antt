@@ -1,11 +1,16 @@
 pub mod ClassTexts
 pub mod GatherLemmas
+pub mod ItemLemmas
 pub mod LabelLemmas
 pub mod LawLemmas
 pub mod ManyLemmas
+pub mod PatchLemmas
+pub mod PointerLemmas
+pub mod ProgressLemmas
 pub mod ReadLemmas
 pub mod ReadTexts
 pub mod ReadingLemmas
+pub mod RefusalLemmas
 pub mod SpellingLemmas
 pub mod TypeTexts
 pub mod WalkLemmas

@@ -8,6 +8,7 @@ pub mod laws;
 mod reading;
 #[cfg(test)]
 mod tests;
+pub mod writing;
 
 use std::alloc::{AllocError, Global};
 use std::marker::Model;

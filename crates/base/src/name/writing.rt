@@ -1,0 +1,63 @@
+//! Writes a name (RFC 1035, 4.1.4).
+
+ghost use Rattle.std.specs.Prelude.{◌≡◌, [], ◌∷◌, ◌++◌, OnOk};
+ghost use Rattle.base.specs.Labels.{plain_len, wire_of};
+ghost use Rattle.base.specs.Laws.{Keeps, Writes};
+ghost use Rattle.base.specs.State.{appended};
+ghost use Rattle.base.specs.Wire.{state_of, Refuses};
+ghost use Rattle.base.specs.Words.{NameAt};
+
+use crate::error::ProtoError;
+use crate::name::{Name, first_label};
+use crate::wire::{BinEncodable, BinEncoder};
+
+/// The two bytes of a pointer to offset 0 (RFC 1035, 4.1.4).
+const POINTER: u16 = 0xC000;
+
+impl BinEncodable for Name {
+    ghost word = { λ n. NameAt n.labels };
+
+    ghost plain_len = { λ n. plain_len n.labels };
+
+    ghost owner = { λ n. n.labels };
+
+    /// Writes the name, letters as they are; whether it is absolute isn't written.
+    ///
+    /// Ends with a pointer at the first suffix of it, but the root, that was stored with the same labels
+    /// byte for byte. Each suffix before that is stored, if it begins below the offset 16,384
+    /// (RFC 1035, 4.1.4).
+    ///
+    /// Refused where a byte would pass the limit, and for want of memory. What stood before stays, and
+    /// labels that were written before the refusal stand behind it.
+    fn emit(&self, encoder: &mut BinEncoder<'_>) -> Result<(), ProtoError> {
+        let mut rest = self.as_wire();
+        while let Some((label, tail)) = first_label(rest) {
+            if let Some(offset) = encoder.find(rest) {
+                return encoder.emit_u16(POINTER + offset);
+            }
+            let at = encoder.len();
+            encoder.emit_slice(&rest[..1 + label.len()])?;
+            encoder.store(rest, at)?;
+            rest = tail;
+        }
+        encoder.emit(0)
+    }
+}
+
+impl Name {
+    /// Writes the name without compression, letters as they are; whether it is absolute isn't written.
+    /// Neither looks suffixes up nor stores them.
+    ///
+    /// Refused where a byte would pass the limit, and for want of memory. What stood before stays, and
+    /// labels that were written before the refusal stand behind it.
+    pub fn emit_plain(&self, encoder: &mut BinEncoder<'_>) -> Result<(), ProtoError>
+        ensures state { OnOk result (state_of encoder.new ≡ appended (wire_of self.now.labels ++ 0 ∷ []) (state_of encoder.old)) }
+        ensures keeps { Keeps (state_of encoder.old) (state_of encoder.new) }
+        ensures writes { OnOk result (Writes (NameAt self.now.labels) (plain_len self.now.labels) []
+            (state_of encoder.old) (state_of encoder.new)) }
+        ensures refuses { Refuses (plain_len self.now.labels) (state_of encoder.old) result }
+    {
+        encoder.emit_slice(self.as_wire())?;
+        encoder.emit(0)
+    }
+}
