@@ -1,4 +1,5 @@
 pub mod ClassTexts
+pub mod CompareLemmas
 pub mod GatherLemmas
 pub mod LabelLemmas
 pub mod LawLemmas

@@ -4,6 +4,7 @@ pub mod Faults
 pub mod Keys
 pub mod Labels
 pub mod Laws
+pub mod NameOrder
 pub mod Names
 pub mod ParseError
 pub mod ProtoError
