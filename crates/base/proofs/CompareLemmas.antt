@@ -10,9 +10,9 @@ use Rattle.std.specs.Bool.{Decides, one_answer}
 use Rattle.std.specs.Char.{to_ascii_lowercase}
 use Rattle.std.proofs.lemmas.Bool.{cond-true, lt-ltb}
 use Rattle.std.proofs.lemmas.List.{map-append, drop-map, length-map, length-reverse, length-take-le, reverse-append, take-append-drop, drop_at, drop_all, drop-drop}
-use Rattle.base.specs.Labels.{NameValue, AreLabels, wire_of, labels_of}
-use Rattle.base.specs.NameOrder.{folded_labels, same_labels, labels_cmp, labels_decide, name_cmp}
-use Rattle.base.proofs.LabelLemmas.{labels_of-wire_of}
+use Rattle.base.specs.Labels.{NameValue, AreLabels, IsWire, wire_of, labels_of}
+use Rattle.base.specs.NameOrder.{folded, folded_labels, lowered, same_labels, labels_cmp, labels_decide, name_cmp}
+use Rattle.base.proofs.LabelLemmas.{IsWire-wire_of, labels_of-wire_of, labels_of_is, length-wire_of}
 
 -- no length of a label is an ASCII letter
 lower_length : (n : ℕ) → n ≤ 63 → to_ascii_lowercase n ≡ n
@@ -205,3 +205,41 @@ name_cmp_is a b us vs m n k l flags labels both counts all m_is n_is k_is l_is u
     all_is ∙ ap (λ (o : Ordering). ordering_then o counts) both_is ∙ sym (then-assoc flags labels counts)
     ∙ ap (λ (o : Ordering). ordering_then o (ordering_then labels counts)) flags_is
     ∙ ap (ordering_then (bool_cmp a.absolute b.absolute)) (cc (labels_cmp-counts a.labels b.labels))
+
+AreLabels-folded : (labels : List (List ℕ)) → AreLabels labels → AreLabels (folded_labels labels)
+AreLabels-folded [] are = are
+AreLabels-folded (x ∷ xs) are =
+    let len = length-map x to_ascii_lowercase in
+    (record { some = omega (arith, are.0.some); short = omega (arith, are.0.short) }, AreLabels-folded xs are.1)
+
+-- the bytes of a name in lower case
+pub IsWire-lower : (bytes : List ℕ) → IsWire bytes → IsWire (map to_ascii_lowercase bytes)
+IsWire-lower bytes wire =
+    let lower = map_lower-wire bytes wire.whole wire.labels in
+    let folds = folded_labels (labels_of bytes) in
+    rw lower (IsWire-wire_of folds (AreLabels-folded (labels_of bytes) wire.labels)
+    (omega (arith, wire.short, length-map bytes to_ascii_lowercase, ap length lower, length-wire_of folds)))
+
+pub labels_of-lower : (bytes : List ℕ) → IsWire bytes → labels_of (map to_ascii_lowercase bytes) ≡ folded_labels (labels_of bytes)
+labels_of-lower bytes wire = labels_of_is _ (folded_labels (labels_of bytes)) (map_lower-wire bytes wire.whole wire.labels)
+
+-- what is in lower case stays
+lower_twice : (c : ℕ) → to_ascii_lowercase (to_ascii_lowercase c) ≡ to_ascii_lowercase c
+lower_twice c = grind (arith, nat_tests)
+
+label_twice : (x : List ℕ) → map to_ascii_lowercase (map to_ascii_lowercase x) ≡ map to_ascii_lowercase x
+label_twice [] = refl
+label_twice (c ∷ cs) = ap (λ (d : ℕ). d ∷ map to_ascii_lowercase (map to_ascii_lowercase cs)) (lower_twice c) ∙ ap (λ (ds : List ℕ). to_ascii_lowercase c ∷ ds) (label_twice cs)
+
+pub folded_twice : (labels : List (List ℕ)) → folded_labels (folded_labels labels) ≡ folded_labels labels
+folded_twice [] = refl
+folded_twice (x ∷ xs) = ap (λ (y : List ℕ). y ∷ folded_labels (folded_labels xs)) (label_twice x) ∙ ap (λ (ys : List (List ℕ)). map to_ascii_lowercase x ∷ ys) (folded_twice xs)
+
+pub folded_lower : (n lower : NameValue) → lower ≡ lowered n → folded lower ≡ lower.labels
+folded_lower n lower is = ap folded is ∙ folded_twice n.labels ∙ ap (λ (m : NameValue). m.labels) (sym is)
+
+pub lowered_is : (bytes lower : List ℕ) (flag : Bool) (n : NameValue) → labels_of lower ≡ folded_labels (labels_of bytes) → ◌≡◌ {A = NameValue} (record { labels = labels_of bytes; absolute = flag }) n
+    → ◌≡◌ {A = NameValue} (record { labels = labels_of lower; absolute = flag }) (lowered n)
+lowered_is bytes lower flag n labels is =
+    let named : List (List ℕ) → NameValue = λ l. record { labels = l; absolute = flag } in
+    ap named labels ∙ ap lowered is

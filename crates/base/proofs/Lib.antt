@@ -1,6 +1,7 @@
 pub mod ClassTexts
 pub mod CompareLemmas
 pub mod GatherLemmas
+pub mod KeyLemmas
 pub mod LabelLemmas
 pub mod LawLemmas
 pub mod ReadLemmas

@@ -3,14 +3,18 @@
 
 pub mod dns_class;
 pub mod error;
+pub mod lower_name;
 pub mod name;
 pub mod record_type;
+pub mod rr_key;
 pub mod wire;
 
 pub use dns_class::DNSClass;
 pub use error::{DecodeError, ParseError, ProtoError};
+pub use lower_name::LowerName;
 pub use name::Name;
 pub use record_type::RecordType;
+pub use rr_key::RrKey;
 pub use wire::{BinDecodable, BinDecoder, BinEncodable, BinEncoder, EncodedSize, Place};
 
 #[cfg(test)]

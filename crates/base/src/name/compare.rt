@@ -1,14 +1,15 @@
 //! Comparing names: ASCII letters are the same in either case (RFC 4343, 3; RFC 4034, 6.1).
 
-ghost use Rattle.std.specs.Prelude.{◌≡◌, ◌≤◌, ◌↔◌, ◌++◌, ℕ, List, IsTrue, take, drop, length, map, refl};
+ghost use Rattle.std.specs.Prelude.{◌≡◌, ◌≤◌, ◌↔◌, ◌++◌, ℕ, List, IfOk, IsTrue, true, false, take, drop, length, map, refl};
 ghost use Rattle.std.specs.Char.{to_ascii_lowercase};
 ghost use Rattle.std.specs.Cmp.{partial_equiv_from_equiv};
 ghost use Rattle.std.specs.Cmp.Lexicographic.{slice_cmp};
 ghost use Rattle.std.specs.Ordering.{as_partial_cmp, nat_cmp};
-ghost use Rattle.base.specs.Labels.{AreLabels, wire_of, labels_of};
-ghost use Rattle.base.specs.NameOrder.{folded, folded_labels, labels_cmp, same_labels, same_name, name_cmp, name_fed, same_by-equiv, same_by-tie, cmp_by-total, cmp_by-partial, fed_by-same};
+ghost use Rattle.base.specs.Labels.{NameValue, AreLabels, wire_of, labels_of};
+ghost use Rattle.base.specs.NameOrder.{folded, folded_labels, lowered, labels_cmp, same_labels, same_name, name_cmp, name_fed, same_by-equiv, same_by-tie, cmp_by-total, cmp_by-partial, fed_by-same};
 
 use crate::name::{Name, first_label};
+use std::alloc::AllocError;
 use std::cmp::Ordering;
 use std::hash::{Hash, Hasher};
 
@@ -24,6 +25,16 @@ impl Name {
         let (count, others) = (self.label_count(), other.label_count());
         count <= others
             && same_in_any_case(past_labels(other.as_wire(), others - count), self.as_wire())
+    }
+
+    /// The name with its ASCII letters in lower case. Grows memory once, and not at all for a name without
+    /// labels; refused for want of it.
+    pub(crate) fn to_lowercase(&self) -> Result<Name, AllocError>
+        ensures { IfOk result (λ n. n ≡ lowered self.now) }
+    {
+        let mut name = self.clone()?;
+        lower_all(&mut name.bytes);
+        Ok(name)
     }
 }
 
@@ -100,6 +111,13 @@ fn same_in_any_case(left: &[u8], right: &[u8]) -> bool
     left.eq_ignore_ascii_case(right)
 }
 
+/// Puts the ASCII letters of bytes in lower case.
+fn lower_all(bytes: &mut Vec<u8>)
+    ensures { bytes.new.items ≡ map to_ascii_lowercase bytes.old.items }
+{
+    bytes.make_ascii_lowercase();
+}
+
 /// Puts bytes in lower case at the front of `room`.
 fn lower_into(wire: &[u8], room: &mut [u8; ROOM])
     requires { length wire.now ≤ 254 }
@@ -166,3 +184,11 @@ fn cmp_labels(left: &[u8], right: &[u8]) -> Ordering
     }
     order
 }
+
+/// Names are equal, and tie in the order, exactly where they have the same flag and the same labels in
+/// whatever case (RFC 4343, 3); every relative name comes before every absolute one.
+pub fn name_order()
+    ensures equal { (a b : NameValue) → IsTrue (⟦<Name as PartialEq>⟧.eq a b) ↔ ((a.absolute ≡ b.absolute) × (folded a ≡ folded b)) }
+    ensures ties { (a b : NameValue) → (⟦<Name as Ord>⟧.cmp a b ≡ Ordering.Equal) ↔ ((a.absolute ≡ b.absolute) × (folded a ≡ folded b)) }
+    ensures relative_first { (a b : NameValue) → a.absolute ≡ false → b.absolute ≡ true → ⟦<Name as Ord>⟧.cmp a b ≡ Ordering.Less }
+{}
