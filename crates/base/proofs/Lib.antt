@@ -8,6 +8,7 @@ pub mod ReadLemmas
 pub mod ReadTexts
 pub mod ReadingLemmas
 pub mod SpellingLemmas
+pub mod TextLemmas
 pub mod TypeTexts
 pub mod WalkLemmas
 pub mod WordLemmas

@@ -5,6 +5,7 @@ pub mod Keys
 pub mod Labels
 pub mod Laws
 pub mod NameOrder
+pub mod NameText
 pub mod Names
 pub mod ParseError
 pub mod ProtoError

@@ -1,9 +1,10 @@
 //! Names in lower case, by which records are looked up (RFC 4343, 3).
 
-ghost use Rattle.std.specs.Prelude.{◌≡◌, IfOk, IsTrue, refl};
+ghost use Rattle.std.specs.Prelude.{◌≡◌, IfOk, IsTrue, Some, refl};
 ghost use Rattle.std.specs.Cmp.{partial_equiv_from_equiv};
 ghost use Rattle.std.specs.Ordering.{as_partial_cmp};
 ghost use Rattle.base.specs.Labels.{NameValue};
+ghost use Rattle.base.specs.NameText.{name_text};
 ghost use Rattle.base.specs.NameOrder.{exact, lowered, same_lower, lower_cmp, lower_fed, same_by-equiv, same_by-tie, cmp_by-total, cmp_by-partial, fed_by-same};
 
 use crate::name::Name;
@@ -52,6 +53,15 @@ impl Clone for LowerName {
         Ok(LowerName {
             name: self.name.clone()?,
         })
+    }
+}
+
+impl fmt::Display for LowerName {
+    ghost output = { λ n. Some (name_text n) };
+
+    /// As names are (RFC 1035, 5.1).
+    fn fmt<W: fmt::Write>(&self, f: &mut fmt::Formatter<W>) -> fmt::Result {
+        write!(f, "{}", self.name)
     }
 }
 

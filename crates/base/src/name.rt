@@ -5,6 +5,7 @@ ghost use Rattle.std.specs.Option.{option_copied};
 ghost use Rattle.base.specs.Labels.{AreLabels, plain_len, wire_of, labels_of};
 
 pub mod compare;
+pub mod display;
 pub mod laws;
 pub mod reading;
 #[cfg(test)]
