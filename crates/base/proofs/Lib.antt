@@ -1,6 +1,8 @@
 pub mod ClassTexts
+pub mod CompareLemmas
 pub mod GatherLemmas
 pub mod ItemLemmas
+pub mod KeyLemmas
 pub mod LabelLemmas
 pub mod LawLemmas
 pub mod ManyLemmas
@@ -12,6 +14,7 @@ pub mod ReadTexts
 pub mod ReadingLemmas
 pub mod RefusalLemmas
 pub mod SpellingLemmas
+pub mod TextLemmas
 pub mod TypeTexts
 pub mod WalkLemmas
 pub mod WordLemmas

@@ -6,6 +6,8 @@ pub mod Keys
 pub mod Labels
 pub mod Laws
 pub mod Many
+pub mod NameOrder
+pub mod NameText
 pub mod Names
 pub mod ParseError
 pub mod ProtoError

@@ -1,0 +1,80 @@
+//! The text of names (RFC 1035, 5.1).
+
+ghost use Rattle.std.specs.Prelude.{◌≡◌, ◌++◌, [], ◌∷◌, Some, if◌then◌else◌};
+ghost use Rattle.base.specs.NameText.{byte_text, label_text, name_text};
+
+use crate::name::{Name, first_label};
+use std::fmt;
+
+/// The text of a byte of a label.
+#[derive(Drop)]
+struct ByteText(u8);
+
+impl fmt::Display for ByteText {
+    ghost output = { λ b. Some (byte_text b.0) };
+
+    fn fmt<W: fmt::Write>(&self, f: &mut fmt::Formatter<W>) -> fmt::Result {
+        match self.0 {
+            b'.' | b'\\' | b'"' | b'(' | b')' | b';' | b'@' | b'$' => {
+                write!(f, "\\{}", self.0 as char)
+            }
+            b'!'..=b'~' => write!(f, "{}", self.0 as char),
+            b => write!(
+                f,
+                "\\{}{}{}",
+                (b'0' + b / 100) as char,
+                (b'0' + b / 10 % 10) as char,
+                (b'0' + b % 10) as char
+            ),
+        }
+    }
+}
+
+/// A dot, or nothing.
+fn dot_if(is_wanted: bool) -> &'static str
+    ensures { result.now ≡ (if is_wanted then 46 ∷ [] else []) }
+{
+    if is_wanted { "." } else { "" }
+}
+
+/// The text of a label, and the dot behind it where more labels follow.
+#[derive(Drop)]
+struct LabelText<'a> {
+    label: &'a [u8],
+    is_last: bool,
+}
+
+impl<'a> fmt::Display for LabelText<'a> {
+    ghost output = { λ t. Some (label_text t.label.now ++ (if t.is_last then [] else 46 ∷ [])) };
+
+    fn fmt<W: fmt::Write>(&self, f: &mut fmt::Formatter<W>) -> fmt::Result {
+        for b in self.label {
+            write!(f, "{}", ByteText(*b))?;
+        }
+        f.write_str(dot_if(!self.is_last))
+    }
+}
+
+impl fmt::Display for Name {
+    ghost output = { λ n. Some (name_text n) };
+
+    /// The labels with dots between them, and a dot at the end of an absolute name: the root is `.`, and
+    /// the relative name without labels the empty text. The bytes 0x21 to 0x7E print as themselves, with
+    /// a backslash before `.`, `\`, `"`, `(`, `)`, `;`, `@` and `$`; others as a backslash and three decimal
+    /// digits (RFC 1035, 5.1).
+    fn fmt<W: fmt::Write>(&self, f: &mut fmt::Formatter<W>) -> fmt::Result {
+        let mut rest = self.as_wire();
+        while let Some((label, tail)) = first_label(rest) {
+            write!(
+                f,
+                "{}",
+                LabelText {
+                    label,
+                    is_last: tail.is_empty()
+                }
+            )?;
+            rest = tail;
+        }
+        f.write_str(dot_if(self.is_fqdn()))
+    }
+}
