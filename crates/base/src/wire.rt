@@ -10,8 +10,6 @@ pub mod numbers;
 pub mod place;
 pub mod sized;
 pub mod suffix;
-#[cfg(test)]
-mod tests;
 
 pub use decodable::BinDecodable;
 pub use decoder::BinDecoder;
@@ -20,7 +18,7 @@ pub use encodable::{BinEncodable, EncodedSize};
 pub use encoder::BinEncoder;
 pub use many::read_many;
 pub use place::Place;
+pub use sized::emit_sized;
 
 #[cfg(test)]
 mod tests;
-pub use sized::emit_sized;
