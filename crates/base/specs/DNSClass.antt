@@ -1,5 +1,5 @@
 -- Classes: their numbers, texts and order (RFC 1035, 3.2.4 and 3.2.5; RFC 2136, 2.4; RFC 6891, 6.1.2; RFC 6895, 3.2).
-use Rattle.std.specs.Prelude.{ℕ, Bool, true, false, Option, Some, List, [], ◌∷◌, ◌++◌, ◌==◌, codes, if◌then◌else◌, nat_lt}
+use Rattle.std.specs.Prelude.{ℕ, ◌+◌, ◌%◌, nat_le, Bool, true, false, Option, Some, List, [], ◌∷◌, ◌++◌, ◌==◌, codes, if◌then◌else◌, nat_lt}
 use Rattle.std.specs.declared.cmp.Ordering.{Ordering}
 use Rattle.std.specs.Fmt.{decimal}
 use Rattle.std.specs.List.{find}
@@ -31,6 +31,19 @@ class_of number =
     (if number == 254 then classes.NONE else
     (if number == 255 then classes.ANY else
     classes.Unknown number))))
+
+-- The class field of a question or record: the class number, its top bit set where a unicast response is
+-- asked for or the cache is to be flushed (RFC 6762, 5.4 and 10.2).
+abbrev pub class_field : Bool → ℕ → ℕ
+class_field true number = 32768 + number % 32768
+class_field false number = number
+
+-- the class of a field, and its top bit
+abbrev pub field_class : ℕ → DNSClass
+field_class field = class_of (field % 32768)
+
+abbrev pub field_top : ℕ → Bool
+field_top field = nat_le 32768 field
 
 -- the class field of an OPT record: the sender's payload size, of 512 bytes at least (RFC 6891, 6.1.2 and 6.2.3)
 abbrev pub opt_class : ℕ → DNSClass

@@ -5,7 +5,7 @@ ghost use Rattle.std.proofs.Common.{rules};
 ghost use Rattle.std.specs.Cmp.{partial_order_from_own_ties};
 ghost use Rattle.std.specs.Cmp.Rules.{comparing};
 ghost use Rattle.std.specs.Ordering.{as_partial_cmp};
-ghost use Rattle.base.specs.DNSClass.{class_cmp, class_from_text, class_number, class_of, class_rank, class_text, is_named_class, is_opt_class, opt_class};
+ghost use Rattle.base.specs.DNSClass.{class_cmp, class_field, class_from_text, class_number, class_of, class_rank, class_text, field_class, field_top, is_named_class, is_opt_class, opt_class};
 
 use std::cmp::Ordering;
 use std::fmt;
@@ -53,6 +53,23 @@ impl DNSClass {
         ensures { result ≡ opt_class payload }
     {
         DNSClass::OPT(payload.max(512))
+    }
+
+    /// The class field of a question or record: the number, with its top bit set where `top_bit` says so:
+    /// a unicast response is asked for, or the cache is to be flushed (RFC 6762, 5.4 and 10.2).
+    pub fn to_field(self, top_bit: bool) -> u16
+        ensures { result ≡ class_field top_bit (class_number self) }
+    {
+        let number = u16::from(self);
+        if top_bit { 0x8000 | number & 0x7FFF } else { number }
+    }
+
+    /// The class of a class field, never `OPT`, and the field's top bit (RFC 6762, 5.4 and 10.2).
+    pub fn from_field(field: u16) -> (DNSClass, bool)
+        ensures class { result.0 ≡ field_class field }
+        ensures top { result.1 ≡ field_top field }
+    {
+        (DNSClass::from(field & 0x7FFF), field >= 0x8000)
     }
 
     /// Where this class stands among those of its number.
