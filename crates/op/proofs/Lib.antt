@@ -3,3 +3,4 @@ pub mod Equals
 pub mod HeaderLemmas
 pub mod HeaderReading
 pub mod Orders
+pub mod QueryLemmas

@@ -4,4 +4,5 @@ pub mod HeaderCounts
 pub mod MessageType
 pub mod Metadata
 pub mod OpCode
+pub mod Query
 pub mod ResponseCode

@@ -1,0 +1,168 @@
+//! Questions (RFC 1035, 4.1.2).
+
+ghost use Rattle.std.specs.Prelude.{◌≡◌, Some, [], true};
+ghost use Rattle.base.specs.Labels.{NameValue};
+ghost use Rattle.op.specs.Query.{QueryWord, plain_query, plain_question, query_at, query_text};
+
+use base::{BinDecodable, BinDecoder, BinEncodable, BinEncoder, DNSClass, DecodeError, Name, ProtoError, RecordType};
+use std::alloc::{AllocError, Global};
+use std::fmt;
+
+/// A question: which records of a name are asked for (RFC 1035, 4.1.2).
+///
+/// Equal questions have equal names, letters folded, and the same type, class and bit.
+#[derive(Debug, Drop, PartialEq, Eq, Hash)]
+pub struct Query {
+    /// QNAME: the name that is asked for.
+    pub name: Name,
+    /// QTYPE: the type of the records that are asked for.
+    pub query_type: RecordType,
+    /// QCLASS: their class.
+    pub query_class: DNSClass,
+    /// The top bit of the class field: an answer by unicast is asked for (RFC 6762, 5.4).
+    pub mdns_unicast_response: bool,
+}
+
+impl Query {
+    /// The question for the addresses of the root in the class IN. Takes no memory.
+    pub fn new(alloc: Global) -> Query
+        ensures { result ≡ plain_question (record { labels = []; absolute = true }) RecordType.A }
+    {
+        Query::query(Name::root(alloc), RecordType::A)
+    }
+
+    /// The question for the records of a type of a name in the class IN. Takes no memory.
+    pub fn query(name: Name, query_type: RecordType) -> Query
+        ensures { result ≡ plain_question name query_type }
+    {
+        Query {
+            name,
+            query_type,
+            query_class: DNSClass::IN,
+            mdns_unicast_response: false,
+        }
+    }
+
+    /// Asks for another name. The other fields stay.
+    pub fn set_name(&mut self, name: Name) -> &mut Query
+        ensures same { result.ghost_name ≡ self.entry.ghost_name }
+        ensures value { result.now ≡ record self.old { name = name } }
+    {
+        self.name = name;
+        self
+    }
+
+    /// Asks for another type. The other fields stay.
+    pub fn set_query_type(&mut self, query_type: RecordType) -> &mut Query
+        ensures same { result.ghost_name ≡ self.entry.ghost_name }
+        ensures value { result.now ≡ record self.old { query_type = query_type } }
+    {
+        self.query_type = query_type;
+        self
+    }
+
+    /// Asks in another class. The other fields stay.
+    pub fn set_query_class(&mut self, query_class: DNSClass) -> &mut Query
+        ensures same { result.ghost_name ≡ self.entry.ghost_name }
+        ensures value { result.now ≡ record self.old { query_class = query_class } }
+    {
+        self.query_class = query_class;
+        self
+    }
+
+    /// Asks for an answer by unicast, or not (RFC 6762, 5.4). The other fields stay.
+    pub fn set_mdns_unicast_response(&mut self, flag: bool) -> &mut Query
+        ensures same { result.ghost_name ≡ self.entry.ghost_name }
+        ensures value { result.now ≡ record self.old { mdns_unicast_response = flag } }
+    {
+        self.mdns_unicast_response = flag;
+        self
+    }
+
+    /// The name that is asked for.
+    pub fn name(&self) -> &Name
+        ensures { result.now ≡ self.now.name }
+    {
+        &self.name
+    }
+
+    /// The type that is asked for.
+    pub fn query_type(&self) -> RecordType
+        ensures { result ≡ self.now.query_type }
+    {
+        self.query_type
+    }
+
+    /// The class that is asked in.
+    pub fn query_class(&self) -> DNSClass
+        ensures { result ≡ self.now.query_class }
+    {
+        self.query_class
+    }
+
+    /// Whether an answer by unicast is asked for (RFC 6762, 5.4).
+    pub fn mdns_unicast_response(&self) -> bool
+        ensures { result ≡ self.now.mdns_unicast_response }
+    {
+        self.mdns_unicast_response
+    }
+}
+
+impl Clone for Query {
+    ghost is_clone = { λ a b. b ≡ a };
+
+    /// The same question. Refused for want of memory.
+    fn clone(&self) -> Result<Query, AllocError> {
+        Ok(Query {
+            name: self.name.clone()?,
+            query_type: self.query_type,
+            query_class: self.query_class,
+            mdns_unicast_response: self.mdns_unicast_response,
+        })
+    }
+}
+
+impl BinEncodable for Query {
+    ghost word = { QueryWord };
+    ghost plain_len = { plain_query };
+    ghost owner = { λ q. q.name.labels };
+
+    fn emit(&self, encoder: &mut BinEncoder<'_>) -> Result<(), ProtoError> {
+        self.name.emit(encoder)?;
+        self.query_type.emit(encoder)?;
+        let class = self.query_class.to_field(self.mdns_unicast_response);
+        class.emit(encoder)
+    }
+}
+
+impl BinDecodable for Query {
+    ghost read_at = { query_at };
+
+    /// Reads a question at the decoder's place, and moves behind it. Refused with the first fault of its
+    /// name, or with `InsufficientBytes` where the end cuts type or class.
+    #[tactic(auto, unfolding(crate::specs::Query::query_at))]
+    fn read(decoder: &mut BinDecoder<'_>) -> Result<Query, DecodeError> {
+        let name = Name::read(decoder)?;
+        let query_type = RecordType::read(decoder)?;
+        let (query_class, mdns_unicast_response) = DNSClass::from_field(decoder.read_u16()?);
+        Ok(Query {
+            name,
+            query_type,
+            query_class,
+            mdns_unicast_response,
+        })
+    }
+}
+
+/// `name class type; mdns_unicast_response: BOOL`.
+impl fmt::Display for Query {
+    ghost output = { λ q. Some (query_text q) };
+
+    fn fmt<W: fmt::Write>(&self, f: &mut fmt::Formatter<W>) -> fmt::Result {
+        write!(
+            f,
+            "{} {} {}; mdns_unicast_response: {}",
+            self.name, self.query_class, self.query_type, self.mdns_unicast_response
+        )
+    }
+}
