@@ -4,6 +4,8 @@ pub mod GatherLemmas
 pub mod KeyLemmas
 pub mod LabelLemmas
 pub mod LawLemmas
+pub mod NamedLemmas
+pub mod ParseLemmas
 pub mod ReadLemmas
 pub mod ReadTexts
 pub mod ReadingLemmas
