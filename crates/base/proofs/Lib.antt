@@ -10,6 +10,7 @@ pub mod ReadLemmas
 pub mod ReadTexts
 pub mod ReadingLemmas
 pub mod SpellingLemmas
+pub mod TextLawLemmas
 pub mod TextLemmas
 pub mod TypeTexts
 pub mod WalkLemmas

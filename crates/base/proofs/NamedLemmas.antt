@@ -14,7 +14,7 @@ reads_dot : Reads (46 ∷ []) (Dot ∷ [])
 unfolding first_char
 reads_dot = more refl none
 
-reads_at : Reads (64 ∷ []) (Byte 64 ∷ [])
+pub reads_at : Reads (64 ∷ []) (Byte 64 ∷ [])
 unfolding first_char
 reads_at = more refl none
 
@@ -45,13 +45,13 @@ labels_once {xs = xs} {ys = ys} {a = a} {b = b} h g = go a b (sym (text_pieces h
   go false true e = absurd (not_labels ys (subst AreLabels (sym (append-nil xs) ∙ e) h.each))
   go false false e = (sym (append-nil xs) ∙ e ∙ append-nil ys, refl)
 
-some_once : {A : Type 0} {x y : A} → Some x ≡ Some y → x ≡ y
+pub some_once : {A : Type 0} {x y : A} → Some x ≡ Some y → x ≡ y
 some_once e = cc
 
-some_none : {A : Type 0} {x : A} → Some x ≡ None → ⊥
+pub some_none : {A : Type 0} {x : A} → Some x ≡ None → ⊥
 some_none e = cc
 
-at_dot : {text : List ℕ} → text ≡ 46 ∷ [] → text ≡ 64 ∷ [] → ⊥
+pub at_dot : {text : List ℕ} → text ≡ 46 ∷ [] → text ≡ 64 ∷ [] → ⊥
 at_dot e f = let codes : 46 ∷ [] ≡ 64 ∷ [] = sym e ∙ f in omega (arith, ap (λ (t : List ℕ). get_or t 0 0) codes)
 
 -- what is named where the text is no labels
