@@ -6,6 +6,8 @@ pub mod KeyLemmas
 pub mod LabelLemmas
 pub mod LawLemmas
 pub mod ManyLemmas
+pub mod NamedLemmas
+pub mod ParseLemmas
 pub mod PatchLemmas
 pub mod PointerLemmas
 pub mod ProgressLemmas
@@ -14,6 +16,7 @@ pub mod ReadTexts
 pub mod ReadingLemmas
 pub mod RefusalLemmas
 pub mod SpellingLemmas
+pub mod TextLawLemmas
 pub mod TextLemmas
 pub mod TypeTexts
 pub mod WalkLemmas

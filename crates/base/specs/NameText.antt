@@ -1,7 +1,10 @@
 -- The text of names (RFC 1035, 5.1; RFC 4343, 2.1).
-use Rattle.std.specs.Prelude.{ℕ, Bool, ◌+◌, ◌/◌, ◌%◌, ◌||◌, ◌==◌, List, [], ◌∷◌, ◌++◌, map, nat_lt, if◌then◌else◌}
+use Rattle.std.specs.Prelude.{◌≡◌, ◌≢◌, ℕ, Bool, true, false, ◌+◌, ◌-◌, ◌*◌, ◌/◌, ◌%◌, ◌≤◌, ◌&&◌, ◌||◌, ◌==◌, List, [], ◌∷◌, ◌++◌, map, nat_lt, nat_le, if◌then◌else◌, Option, Some, None}
+use Rattle.std.specs.Char.{is_ascii_digit}
 use Rattle.std.specs.List.{flat_map, join_with_byte}
-use Rattle.base.specs.Labels.{NameValue}
+use Rattle.base.specs.declared.name.parse.TextChar.{TextChar}
+use Rattle.base.specs.declared.name.parse.TextChar.TheVariants.{Dot, Byte}
+use Rattle.base.specs.Labels.{NameValue, AreLabels, plain_len}
 
 -- the bytes before which a backslash stands: . \ " ( ) ; @ $
 abbrev pub is_special : ℕ → Bool
@@ -25,3 +28,55 @@ labels_text labels = join_with_byte 46 (map label_text labels)
 -- the text of a name: its labels, and a dot at the end if it is absolute
 abbrev pub name_text : NameValue → List ℕ
 name_text name = labels_text name.labels ++ (if name.absolute then 46 ∷ [] else [])
+
+-- The character behind a backslash and a digit, which two more digits follow: the byte of this number.
+unfoldable pub decimal_char : ℕ → List ℕ → Option (TextChar × List ℕ)
+decimal_char x (y ∷ z ∷ rest) =
+    let number = 100 * (x - 48) + 10 * (y - 48) + (z - 48) in
+    if is_ascii_digit y && is_ascii_digit z && nat_lt number 256 then Some (Byte number, rest) else None
+decimal_char x _ = None
+
+-- The character behind a backslash: the byte of three decimal digits, or any other of ASCII as a byte.
+unfoldable pub escaped_char : List ℕ → Option (TextChar × List ℕ)
+escaped_char [] = None
+escaped_char (c ∷ rest) =
+    if is_ascii_digit c then decimal_char c rest
+    else (if nat_lt c 128 then Some (Byte c, rest) else None)
+
+-- The first character of a text, and the text behind it: an escaped one, a dot, or a printable one that is
+-- no space. None where the text begins otherwise.
+unfoldable pub first_char : List ℕ → Option (TextChar × List ℕ)
+first_char [] = None
+first_char (c ∷ rest) =
+    if c == 92 then escaped_char rest
+    else (if c == 46 then Some (Dot, rest)
+    else (if nat_le 33 c && nat_le c 126 then Some (Byte c, rest) else None))
+
+-- the characters of a text
+pub data Reads : List ℕ → List TextChar → Type 0 where
+  none : Reads [] []
+  more : {text rest : List ℕ} {c : TextChar} {cs : List TextChar} → first_char text ≡ Some (c, rest) → Reads rest cs → Reads text (c ∷ cs)
+
+-- the characters of labels with dots between them
+abbrev pub dotted : List (List ℕ) → List TextChar
+dotted [] = []
+dotted (x ∷ []) = map Byte x
+dotted (x ∷ y ∷ ys) = map Byte x ++ (Dot ∷ dotted (y ∷ ys))
+
+-- The text is one or more labels with dots between them, and with a dot at the end if the name is absolute.
+pub record IsLabelsText (text : List ℕ) (labels : List (List ℕ)) (absolute : Bool) : Type 0 where
+  pub reads : Reads text (dotted labels ++ (if absolute then Dot ∷ [] else []))
+  pub some : labels ≢ []
+  pub each : AreLabels labels
+  pub short : plain_len labels ≤ 255
+
+-- The text names this name, where an origin may be given: a dot alone the root; a sign @ alone the origin;
+-- labels with a dot at the end an absolute name, and without one a relative name, or the absolute one that
+-- the origin completes.
+pub data IsNameText (text : List ℕ) (origin : Option NameValue) : NameValue → Type 0 where
+  is_root : text ≡ 46 ∷ [] → IsNameText text origin (record { labels = []; absolute = true })
+  is_origin : {o : NameValue} → origin ≡ Some o → text ≡ 64 ∷ [] → IsNameText text origin o
+  is_absolute : {labels : List (List ℕ)} → IsLabelsText text labels true → IsNameText text origin (record { labels = labels; absolute = true })
+  is_relative : {labels : List (List ℕ)} → origin ≡ None → text ≢ 64 ∷ [] → IsLabelsText text labels false → IsNameText text origin (record { labels = labels; absolute = false })
+  is_completed : {o : NameValue} {labels : List (List ℕ)} → origin ≡ Some o → text ≢ 64 ∷ [] → IsLabelsText text labels false → plain_len (labels ++ o.labels) ≤ 255
+      → IsNameText text origin (record { labels = labels ++ o.labels; absolute = true })

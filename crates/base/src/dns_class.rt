@@ -61,7 +61,11 @@ impl DNSClass {
         ensures { result ≡ class_field top_bit (class_number self) }
     {
         let number = u16::from(self);
-        if top_bit { 0x8000 | number & 0x7FFF } else { number }
+        if top_bit {
+            0x8000 | number & 0x7FFF
+        } else {
+            number
+        }
     }
 
     /// The class of a class field, never `OPT`, and the field's top bit (RFC 6762, 5.4 and 10.2).

@@ -7,6 +7,7 @@ ghost use Rattle.base.specs.Labels.{AreLabels, plain_len, wire_of, labels_of};
 pub mod compare;
 pub mod display;
 pub mod laws;
+pub mod parse;
 mod reading;
 #[cfg(test)]
 mod tests;

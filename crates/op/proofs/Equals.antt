@@ -22,7 +22,7 @@ both_so true t h g = g
 both_so false t h g = h
 
 -- where two tests decide two facts, their conjunction decides both
-both_Decides : {P Q : Type 0} → (s t : Bool) → Decides s P → Decides t Q → Decides (s && t) (P × Q)
+pub both_Decides : {P Q : Type 0} → (s t : Bool) → Decides s P → Decides t Q → Decides (s && t) (P × Q)
 both_Decides s t p q = (λ h. (p.0 (first_so s t h), q.0 (second_so s t h)), λ f. both_so s t (p.1 f.0) (q.1 f.1))
 
 pub op_codes_Decide : (a b : OpCode) → Decides ((op_eq.ghosts).eq a b) (a ≡ b)

@@ -3,4 +3,5 @@ pub mod Equals
 pub mod HeaderLemmas
 pub mod HeaderReading
 pub mod Orders
+pub mod QueryEquals
 pub mod QueryLemmas

@@ -1,6 +1,7 @@
 pub mod Flags
 pub mod Header
 pub mod HeaderCounts
+pub mod LowerQuery
 pub mod MessageType
 pub mod Metadata
 pub mod OpCode

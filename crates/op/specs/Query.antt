@@ -1,13 +1,17 @@
 -- The question word (RFC 1035, 4.1.2; the top bit of the class: RFC 6762, 5.4).
-use Rattle.std.specs.Prelude.{◌≡◌, ℕ, ◌+◌, List, [], ◌++◌, codes, Bool, true, false, if◌then◌else◌, Ok}
+use Rattle.std.specs.Prelude.{◌≡◌, ℕ, ◌+◌, ◌<◌, ◌⊎◌, ◌≤◌, length, List, [], ◌++◌, codes, Bool, true, false, if◌then◌else◌, Ok}
 use Rattle.std.specs.Int.{w16}
-use Rattle.base.specs.DNSClass.{class_field, class_number, class_text, field_class, field_top}
+use Rattle.base.specs.DNSClass.{class_field, class_number, class_text, class_of, field_class, field_top}
 use Rattle.base.specs.Labels.{NameValue, plain_len}
 use Rattle.base.specs.NameText.{name_text}
 use Rattle.base.specs.Names.{name_at}
 use Rattle.base.specs.Reading.{Read, ◌>>=◌, number_at}
 use Rattle.base.specs.RecordType.{type_number, type_of, type_text}
+use Rattle.base.specs.Faults.{IsFaulty}
+use Rattle.base.specs.Spelling.{IsNameAt}
 use Rattle.base.specs.Words.{IsNumberAt, NameAt}
+use Rattle.base.specs.declared.error.decode_error.DecodeError.{DecodeError}
+use Rattle.base.specs.declared.error.decode_error.DecodeError.TheVariants as faults
 use Rattle.base.specs.declared.dns_class.DNSClass.{DNSClass}
 use Rattle.base.specs.declared.dns_class.DNSClass.TheVariants as classes
 use Rattle.base.specs.declared.record_type.RecordType.{RecordType}
@@ -59,13 +63,13 @@ QueryWord q B i e = IsRawQueryAt B i (raw_query q) e
 abbrev pub plain_query : Query → ℕ
 plain_query q = plain_len q.name.labels + 4
 
--- A question that can stand on the wire, and is read as it was: the name is absolute, type and class are
+-- A question that can stand on the wire and is read as it was: the name is absolute, type and class are
 -- those of their numbers, and the class leaves the top bit free.
 pub record FitsQuery (q : Query) : Type 0 where
   pub absolute : q.name.absolute ≡ true
   pub type_reads : type_of (type_number q.query_type) ≡ q.query_type
-  pub class_reads : field_class (class_field q.mdns_unicast_response (class_number q.query_class)) ≡ q.query_class
-  pub top_reads : field_top (class_field q.mdns_unicast_response (class_number q.query_class)) ≡ q.mdns_unicast_response
+  pub class_reads : class_of (class_number q.query_class) ≡ q.query_class
+  pub narrow : class_number q.query_class < 32768
 
 -- the question that stands at i, or its first fault
 unfoldable pub query_at : List ℕ → ℕ → Read Query
@@ -74,6 +78,10 @@ query_at bytes i = do
   type ← number_at w16 bytes owner.1
   class ← number_at w16 bytes type.1
   Ok (record { name = owner.0; query_type = type_of type.0; query_class = field_class class.0; mdns_unicast_response = field_top class.0 }, class.1)
+
+-- The first fault of a question at i: that of its name, or the end of the buffer in type or class.
+abbrev pub IsQueryFault : List ℕ → ℕ → DecodeError → Type 0
+IsQueryFault B i f = IsFaulty B i i 0 f ⊎ ((name : NameValue) × (m : ℕ) × IsNameAt B i name m × (length B < m + 4) × (f ≡ faults.InsufficientBytes))
 
 -- name, class and type, and whether a unicast response is asked for
 abbrev pub query_text : Query → List ℕ

@@ -3,11 +3,13 @@
 
 pub mod header;
 pub mod laws;
+pub mod lower_query;
 pub mod op_code;
 pub mod query;
 pub mod response_code;
 
 pub use header::{Flags, Header, HeaderCounts, MessageType, Metadata};
+pub use lower_query::LowerQuery;
 pub use op_code::OpCode;
 pub use query::Query;
 pub use response_code::ResponseCode;

@@ -1,12 +1,21 @@
 //! Questions (RFC 1035, 4.1.2).
 
-ghost use Rattle.std.specs.Prelude.{◌≡◌, Some, [], true};
+ghost use Rattle.std.specs.Prelude.{◌≡◌, ◌↔◌, ℕ, List, Ok, Err, Some, IsTrue, [], true};
 ghost use Rattle.base.specs.Labels.{NameValue};
-ghost use Rattle.op.specs.Query.{QueryWord, plain_query, plain_question, query_at, query_text};
+ghost use Rattle.base.specs.NameOrder.{same_name};
+ghost use Rattle.op.specs.Query.{FitsQuery, IsQueryAt, IsQueryFault, QueryWord, plain_query, plain_question, query_at, query_text, query_value, raw_query};
+ghost use Rattle.op.specs.declared.query.Query.{Query};
 
-use base::{BinDecodable, BinDecoder, BinEncodable, BinEncoder, DNSClass, DecodeError, Name, ProtoError, RecordType};
+#[cfg(test)]
+mod tests;
+
+use base::{
+    BinDecodable, BinDecoder, BinEncodable, BinEncoder, DNSClass, DecodeError, Name, ProtoError,
+    RecordType,
+};
 use std::alloc::{AllocError, Global};
 use std::fmt;
+use std::hash::Hash;
 
 /// A question: which records of a name are asked for (RFC 1035, 4.1.2).
 ///
@@ -124,7 +133,9 @@ impl Clone for Query {
 
 impl BinEncodable for Query {
     ghost word = { QueryWord };
+
     ghost plain_len = { plain_query };
+
     ghost owner = { λ q. q.name.labels };
 
     fn emit(&self, encoder: &mut BinEncoder<'_>) -> Result<(), ProtoError> {
@@ -166,3 +177,21 @@ impl fmt::Display for Query {
         )
     }
 }
+
+/// Reading a question is the question word, and refuses with its first fault (RFC 1035, 4.1.2). A question
+/// that fits, and was written, is read as the same question; of one whose class number has the top bit, that
+/// bit is read as the wish for a unicast response.
+pub fn reading_is_the_question_word()
+    ensures word { (B : List ℕ) (i : ℕ) (q : Query) (e : ℕ) → (query_at B i ≡ Ok (q, e)) ↔ IsQueryAt B i q e }
+    ensures fault { (B : List ℕ) (i : ℕ) (f : DecodeError) → (query_at B i ≡ Err f) ↔ IsQueryFault B i f }
+    ensures written { (B : List ℕ) (i : ℕ) (q : Query) (e : ℕ) → QueryWord q B i e → IsQueryAt B i (query_value (raw_query q)) e }
+    ensures same { (q : Query) → FitsQuery q → query_value (raw_query q) ≡ q }
+{}
+
+/// Questions are equal where their names are, letters folded, and their types, classes and bits are the
+/// same; and equal questions hash alike.
+pub fn equal_questions()
+    ensures equal { (a b : Query) → IsTrue (⟦<Query as PartialEq>⟧.eq a b) ↔ (IsTrue (same_name a.name b.name) × (a.query_type ≡ b.query_type)
+        × (a.query_class ≡ b.query_class) × (a.mdns_unicast_response ≡ b.mdns_unicast_response)) }
+    ensures hashed { (a b : Query) → IsTrue (⟦<Query as PartialEq>⟧.eq a b) → ⟦<Query as Hash>⟧.hash_input a ≡ ⟦<Query as Hash>⟧.hash_input b }
+{}

@@ -1,8 +1,9 @@
 //! Laws of the definitions that names are read by.
 
-ghost use Rattle.std.specs.Prelude.{◌≡◌, ◌↔◌, ℕ, ◌+◌, ◌≤◌, List, ◌++◌, length, take, drop};
+ghost use Rattle.std.specs.Prelude.{◌≡◌, ◌≢◌, ◌↔◌, ℕ, ◌+◌, ◌<◌, ◌≤◌, List, [], ◌++◌, length, take, drop, All, Option, false};
 ghost use Rattle.base.specs.Faults.{IsFaulty};
-ghost use Rattle.base.specs.Labels.{NameValue};
+ghost use Rattle.base.specs.Labels.{NameValue, AreLabels, plain_len};
+ghost use Rattle.base.specs.NameText.{IsNameText, name_text};
 ghost use Rattle.base.specs.Names.{name_at};
 ghost use Rattle.base.specs.Spelling.{Spelled, SpelledIn, IsNameAt, outside};
 
@@ -20,4 +21,12 @@ pub fn spellings_stay()
         → SpelledIn (outside from to) bytes s i xs e → SpelledIn (outside from to) (bytes ++ more) s i xs e }
     ensures patched { (from to : ℕ) (bytes patch : List ℕ) (s i e : ℕ) (xs : List (List ℕ)) → from + length patch ≡ to → to ≤ length bytes
         → SpelledIn (outside from to) bytes s i xs e → SpelledIn (outside from to) (take from bytes ++ (patch ++ drop to bytes)) s i xs e }
+{}
+
+/// The text of a name is read as that name, save that of the relative name without labels; and a text
+/// names one name at most (RFC 1035, 5.1).
+pub fn text_is_name()
+    ensures named { (n : NameValue) → All (All (λ b. b < 256)) n.labels → AreLabels n.labels → plain_len n.labels ≤ 255
+        → (n.absolute ≡ false → n.labels ≢ []) → IsNameText (name_text n) None n }
+    ensures once { (text : List ℕ) (origin : Option NameValue) (a b : NameValue) → IsNameText text origin a → IsNameText text origin b → a ≡ b }
 {}

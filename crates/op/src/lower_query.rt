@@ -1,0 +1,153 @@
+//! Questions with their names in lower case, by which records are looked up.
+
+ghost use Rattle.std.specs.Prelude.{◌≡◌, IfOk, IsOkUnless, MatchResult, Some};
+ghost use Rattle.base.specs.declared.error.proto_error.ProtoError.TheVariants as refusals;
+ghost use Rattle.std.specs.Cmp.{partial_equiv_from_equiv};
+ghost use Rattle.base.specs.NameOrder.{lowered};
+ghost use Rattle.op.specs.contracts.query.QueryEq.TheImpl.Laws.{laws-law as query_laws};
+ghost use Rattle.op.specs.LowerQuery.{lower_query_text};
+ghost use Rattle.op.specs.Query.{QueryWord, plain_query, query_at};
+
+use crate::query::Query;
+use base::{
+    BinDecodable, BinDecoder, BinEncodable, BinEncoder, DNSClass, DecodeError, LowerName,
+    ProtoError, RecordType,
+};
+use std::alloc::AllocError;
+use std::fmt;
+use std::marker::Model;
+
+/// A question, and its name in lower case (RFC 4343, 3). Contracts see the question.
+#[derive(Debug, Drop)]
+pub struct LowerQuery {
+    name: LowerName,
+    original: Query,
+}
+
+impl Model for LowerQuery {
+    ghost use Rattle.std.specs.Prelude.{◌≡◌};
+    ghost use Rattle.base.specs.NameOrder.{lowered};
+    ghost use Rattle.op.specs.declared.query.Query.{Query};
+
+    ghost Value = { Query };
+
+    ghost view = { λ q. q.original };
+
+    ghost invariant = { λ q. q.name ≡ lowered q.original.name };
+}
+
+impl LowerQuery {
+    /// The question with its name in lower case beside it. Refused for want of memory.
+    pub fn query(query: Query) -> Result<LowerQuery, ProtoError>
+        ensures value { IfOk result (λ lower. lower ≡ query) }
+        ensures only { IsOkUnless result ProtoError.Memory }
+    {
+        Ok(LowerQuery {
+            name: LowerName::new(&query.name)?,
+            original: query,
+        })
+    }
+
+    /// The name in lower case.
+    pub fn name(&self) -> &LowerName
+        ensures { result.now ≡ lowered self.now.name }
+    {
+        &self.name
+    }
+
+    /// The question as it was asked.
+    pub fn original(&self) -> &Query
+        ensures { result.now ≡ self.now }
+    {
+        &self.original
+    }
+
+    /// The type that is asked for.
+    pub fn query_type(&self) -> RecordType
+        ensures { result ≡ self.now.query_type }
+    {
+        self.original.query_type
+    }
+
+    /// The class that is asked in.
+    pub fn query_class(&self) -> DNSClass
+        ensures { result ≡ self.now.query_class }
+    {
+        self.original.query_class
+    }
+}
+
+impl TryFrom<Query> for LowerQuery {
+    type Error = ProtoError;
+
+    ghost try_from_gives = { λ query result. MatchResult result (λ lower. lower ≡ query) (λ e. e ≡ refusals.Memory) };
+
+    fn try_from(query: Query) -> Result<LowerQuery, ProtoError> {
+        LowerQuery::query(query)
+    }
+}
+
+impl Clone for LowerQuery {
+    ghost is_clone = { λ a b. b ≡ a };
+
+    /// The same question. Refused for want of memory.
+    fn clone(&self) -> Result<LowerQuery, AllocError> {
+        Ok(LowerQuery {
+            name: self.name.clone()?,
+            original: self.original.clone()?,
+        })
+    }
+}
+
+impl PartialEq for LowerQuery {
+    ghost eq = { ⟦<Query as PartialEq>⟧.eq };
+
+    ghost laws = { partial_equiv_from_equiv query_laws };
+
+    fn eq(&self, other: &LowerQuery) -> bool {
+        self.original == other.original
+    }
+}
+
+impl Eq for LowerQuery {
+    ghost laws = { query_laws };
+}
+
+impl BinEncodable for LowerQuery {
+    ghost word = { QueryWord };
+
+    ghost plain_len = { plain_query };
+
+    ghost owner = { λ q. q.name.labels };
+
+    /// Writes the question as it was asked.
+    fn emit(&self, encoder: &mut BinEncoder<'_>) -> Result<(), ProtoError> {
+        self.original.emit(encoder)
+    }
+}
+
+impl BinDecodable for LowerQuery {
+    ghost read_at = { query_at };
+
+    /// Reads a question. Refused as `Query::read` is, and for want of memory.
+    fn read(decoder: &mut BinDecoder<'_>) -> Result<LowerQuery, DecodeError> {
+        let original = Query::read(decoder)?;
+        let name = LowerName::new(&original.name)?;
+        Ok(LowerQuery { name, original })
+    }
+}
+
+/// `name: N type: T class: C`, N in lower case.
+impl fmt::Display for LowerQuery {
+    ghost output = { λ q. Some (lower_query_text q) };
+
+    fn fmt<W: fmt::Write>(&self, f: &mut fmt::Formatter<W>) -> fmt::Result {
+        write!(
+            f,
+            "name: {} type: {} class: {}",
+            self.name,
+            self.query_type(),
+            self.query_class()
+        )
+    }
+}
