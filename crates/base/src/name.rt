@@ -70,8 +70,13 @@ impl Name {
     }
 
     /// How many labels the name has, a label `*` counted too. The root has none.
+    ///
+    /// Tells a caller what is true of every name: its labels have 1 to 63 bytes, and it has at most 255
+    /// (RFC 1035, 2.3.4).
     pub fn label_count(&self) -> usize
-        ensures { result ≡ length self.now.labels }
+        ensures count { result ≡ length self.now.labels }
+        ensures labels { AreLabels self.now.labels }
+        ensures short { plain_len self.now.labels ≤ 255 }
     {
         let mut count = 0;
         let mut rest = self.as_wire();
