@@ -7,6 +7,7 @@ abbrev pub decode_number : DecodeError → ℕ
 decode_number faults.Memory = 3
 decode_number faults.InsufficientBytes = 4
 decode_number faults.BadName = 5
+decode_number (faults.EdnsNameNotRoot owner) = 6
 decode_number (faults.IncorrectRDataLengthRead read len) = 7
 decode_number (faults.BadData type) = 8
 decode_number faults.InvalidEmptyRecord = 10

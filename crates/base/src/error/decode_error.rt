@@ -2,6 +2,7 @@ ghost use Rattle.std.specs.Prelude.{◌≡◌};
 ghost use Rattle.base.specs.DecodeError.{decode_number};
 ghost use Rattle.base.specs.declared.error.decode_error.DecodeError.TheVariants as faults;
 
+use crate::name::Name;
 use crate::record_type::RecordType;
 use std::alloc::{AllocError, AllocFailed};
 use thiserror::Error;
@@ -18,6 +19,9 @@ pub enum DecodeError {
     /// A name outside data is spelled wrongly (RFC 1035, 4.1.4).
     #[error("a name is spelled wrongly")]
     BadName,
+    /// An OPT record whose owner isn't the root (RFC 6891, 6.1.2).
+    #[error("an OPT record of the owner {0}")]
+    EdnsNameNotRoot(Name),
     /// RDLENGTH says more bytes than are left.
     #[error("record data of {len} bytes, with {read} bytes left")]
     IncorrectRDataLengthRead {
@@ -52,6 +56,7 @@ impl DecodeError {
             DecodeError::Memory => 3,
             DecodeError::InsufficientBytes => 4,
             DecodeError::BadName => 5,
+            DecodeError::EdnsNameNotRoot(_) => 6,
             DecodeError::IncorrectRDataLengthRead { .. } => 7,
             DecodeError::BadData(_) => 8,
             DecodeError::InvalidEmptyRecord => 10,

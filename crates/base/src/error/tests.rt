@@ -1,13 +1,15 @@
 use super::{DecodeError, ParseError, ProtoError};
-use crate::RecordType;
+use crate::{Name, RecordType};
 use std::test::Fail;
 
 #[test]
 fn refusals_of_reading_have_their_numbers_and_texts(rt: HostRuntime) -> Result<(), Fail> {
+    let owner = Name::root(rt.alloc());
     for (refusal, number) in [
         (DecodeError::Memory, 3),
         (DecodeError::InsufficientBytes, 4),
         (DecodeError::BadName, 5),
+        (DecodeError::EdnsNameNotRoot(owner), 6),
         (DecodeError::IncorrectRDataLengthRead { read: 4, len: 5 }, 7),
         (DecodeError::BadData(RecordType::MX), 8),
         (DecodeError::InvalidEmptyRecord, 10),
