@@ -121,6 +121,8 @@ pub any_append : (P : Stored → Type 0) (xs ys zs : List Stored) → zs ≡ xs 
 any_append P xs ys zs is (k, t, inside, at, holds) =
     (k, t, omega (arith, ap length is, length-append xs ys), ap (λ (ts : List Stored). get_or ts k t) is ∙ get_or_append_left xs ys t k inside ∙ at, holds)
 
+-- With on_ok_weaker of std, the law of an emit in parts is one term: on_ok_weaker of the last answer,
+-- a λ of Writes-then of the first part and of Writes-then of the second and so on, and the last clause.
 pub Writes-then : {first second : List ℕ → ℕ → ℕ → Type 0} {n m : ℕ} {owner : List (List ℕ)} {a b c : State} → Keeps a b → Keeps b c → Writes first n owner a b → Writes second m [] b c → Writes (Then first second) (n + m) owner a c
 Writes-then {a = a} {b = b} {c = c} k l v w = record {
   word_stands = λ B h. (length b.bytes, v.word_stands B (Holds-first a b c k l B h), w.word_stands B (behind B h));
@@ -158,3 +160,6 @@ Writes-unowned w = record {
     stored = λ some. absurd (some refl);
   };
 }
+
+-- what `search` composes writings by
+pub ruleset writing = (Keeps-same, Keeps-then)
