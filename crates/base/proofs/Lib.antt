@@ -10,6 +10,7 @@ pub mod ReadLemmas
 pub mod ReadTexts
 pub mod ReadingLemmas
 pub mod RefusalLemmas
+pub mod SliceLemmas
 pub mod SpellingLemmas
 pub mod TypeTexts
 pub mod WalkLemmas
