@@ -6,9 +6,10 @@ ghost use Rattle.base.specs.Labels.{AreLabels, plain_len, wire_of, labels_of};
 
 pub mod laws;
 pub mod reading;
+pub mod round_trip;
 #[cfg(test)]
 mod tests;
-pub mod writing;
+mod writing;
 
 use std::alloc::{AllocError, Global};
 use std::marker::Model;

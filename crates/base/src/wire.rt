@@ -5,7 +5,7 @@ pub mod decoder;
 pub mod emit_and_count;
 pub mod encodable;
 pub mod encoder;
-pub mod numbers;
+mod numbers;
 pub mod place;
 pub mod sized;
 pub mod suffix;

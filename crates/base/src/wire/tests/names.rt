@@ -55,6 +55,25 @@ fn points_to_stored_suffixes(rt: HostRuntime) -> Result<(), Fail> {
 }
 
 #[test]
+fn reads_what_was_written(rt: HostRuntime) -> Result<(), Fail> {
+    let alloc = rt.alloc();
+    let bytes = written(
+        alloc,
+        &[b"\x01a\x01b\0".as_slice(), b"\x01C\x01b\0".as_slice()],
+    )?;
+    let mut decoder = BinDecoder::new(alloc, &bytes);
+    let first = Name::read(&mut decoder)?;
+    let second = Name::read(&mut decoder)?;
+    assert_eq!(rt; decoder.index(), bytes.len());
+    assert_eq!(rt; first.label(0), Some(b"a".as_slice()));
+    assert_eq!(rt; second.label(0), Some(b"C".as_slice()));
+    assert_eq!(rt; second.label(1), Some(b"b".as_slice()));
+    assert_eq!(rt; second.label_count(), 2);
+    assert!(rt; second.is_fqdn());
+    Ok(())
+}
+
+#[test]
 fn stores_what_a_pointer_reaches(rt: HostRuntime) -> Result<(), Fail> {
     let alloc = rt.alloc();
     let near = name_of(alloc, b"\x01a\x01b\0")?;
