@@ -54,6 +54,13 @@ fn points_to_stored_suffixes(rt: HostRuntime) -> Result<(), Fail> {
     Ok(())
 }
 
+fn has_label(name: &Name, i: usize, wanted: &[u8]) -> bool {
+    match name.label(i) {
+        Some(label) => label == wanted,
+        None => false,
+    }
+}
+
 #[test]
 fn reads_what_was_written(rt: HostRuntime) -> Result<(), Fail> {
     let alloc = rt.alloc();
@@ -65,9 +72,9 @@ fn reads_what_was_written(rt: HostRuntime) -> Result<(), Fail> {
     let first = Name::read(&mut decoder)?;
     let second = Name::read(&mut decoder)?;
     assert_eq!(rt; decoder.index(), bytes.len());
-    assert_eq!(rt; first.label(0), Some(b"a".as_slice()));
-    assert_eq!(rt; second.label(0), Some(b"C".as_slice()));
-    assert_eq!(rt; second.label(1), Some(b"b".as_slice()));
+    assert!(rt; has_label(&first, 0, b"a"));
+    assert!(rt; has_label(&second, 0, b"C"));
+    assert!(rt; has_label(&second, 1, b"b"));
     assert_eq!(rt; second.label_count(), 2);
     assert!(rt; second.is_fqdn());
     Ok(())
