@@ -1,5 +1,5 @@
 -- Items that were written one behind the other, and going back behind the last that fits.
-use Rattle.std.proofs.Common.{◌≡◌, ℕ, List, [], ◌∷◌, ◌++◌, length, take, refl, ap, sym, ◌∙◌, subst}
+use Rattle.std.proofs.Common.{◌≡◌, ℕ, List, [], ◌∷◌, ◌++◌, length, take, map, refl, ap, sym, ◌∙◌, subst}
 use Rattle.std.proofs.Math.Seq.{take-append_seam}
 use Rattle.base.specs.State.{State, Stored, cut}
 use Rattle.base.specs.Words.{BackToBack, none, more}
@@ -42,3 +42,9 @@ module _ {E : Type 0} (word : E → List ℕ → ℕ → ℕ → Type 0) (plain 
 
   pub Each-valid : (xs : List E) (a b : State) → EachWritten word plain owner xs a b → (B : List ℕ) → Holds a b B → IsValid b B
   Each-valid xs a b each B h = (Words-each xs a b each B h).1
+
+-- items whose words are read of a value, as those of references are, were written as those values
+pub Each-map : {A E : Type 0} (view : A → E) (word : E → List ℕ → ℕ → ℕ → Type 0) (plain : E → ℕ) (owner : E → List (List ℕ)) (xs : List A) (a b : State)
+    → EachWritten (λ x. word (view x)) (λ x. plain (view x)) (λ x. owner (view x)) xs a b → EachWritten word plain owner (map view xs) a b
+Each-map view word plain owner [] a b same = same
+Each-map view word plain owner (x ∷ xs) a c (b, keeps, writes, others) = (b, keeps, writes, Each-map view word plain owner xs b c others)

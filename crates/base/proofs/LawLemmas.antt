@@ -1,9 +1,9 @@
 -- The laws of writing, for what appends bytes and for what is written in parts.
 use Rattle.std.proofs.Common.{◌≡◌, ℕ, ◌+◌, ◌≤◌, List, [], ◌++◌, length, drop, get_or, refl, ap, sym, ◌∙◌, subst, append_assoc, arith, Result, Ok, Err, length-append}
-use Rattle.std.specs.Prelude.{OnOk, OnErr, Any}
+use Rattle.std.specs.Prelude.{OnOk, OnErr, All, Any}
 use Rattle.std.proofs.lemmas.List.{append-nil, get_or_append_left}
 use Rattle.std.proofs.lemmas.List.Elements.{All-nil, All-append, All-weaker}
-use Rattle.std.proofs.Math.Seq.{drop-append_seam}
+use Rattle.std.proofs.Math.Seq.{drop-append_seam, take-length}
 use Rattle.base.specs.declared.error.proto_error.ProtoError.{ProtoError}
 use Rattle.base.specs.State.{State, Stored, appended}
 use Rattle.base.specs.Words.{Stands, Then}
@@ -121,6 +121,8 @@ pub any_append : (P : Stored → Type 0) (xs ys zs : List Stored) → zs ≡ xs 
 any_append P xs ys zs is (k, t, inside, at, holds) =
     (k, t, omega (arith, ap length is, length-append xs ys), ap (λ (ts : List Stored). get_or ts k t) is ∙ get_or_append_left xs ys t k inside ∙ at, holds)
 
+-- With on_ok_weaker of std, the law of an emit in parts is one term: on_ok_weaker of the last answer,
+-- a λ of Writes-then of the first part and of Writes-then of the second and so on, and the last clause.
 pub Writes-then : {first second : List ℕ → ℕ → ℕ → Type 0} {n m : ℕ} {owner : List (List ℕ)} {a b c : State} → Keeps a b → Keeps b c → Writes first n owner a b → Writes second m [] b c → Writes (Then first second) (n + m) owner a c
 Writes-then {a = a} {b = b} {c = c} k l v w = record {
   word_stands = λ B h. (length b.bytes, v.word_stands B (Holds-first a b c k l B h), w.word_stands B (behind B h));
@@ -158,3 +160,21 @@ Writes-unowned w = record {
     stored = λ some. absurd (some refl);
   };
 }
+
+-- ---- what stands at the end
+
+-- the bytes of an encoder hold what it wrote, if the suffixes stored before are spelled there
+pub Holds-own : (a b : State) → IsValid a b.bytes → Holds a b b.bytes
+Holds-own a b table = record { table = table; bytes = record { is = take-length (drop (length a.bytes) b.bytes) } }
+
+-- of a new encoder they hold all
+pub Holds-new : (a b : State) → a.suffixes ≡ [] → Holds a b b.bytes
+Holds-new a b none = Holds-own a b (record { each = subst (λ (ts : List Stored). All (IsSpelled b.bytes (length a.bytes)) ts) (sym none) (All-nil (IsSpelled b.bytes (length a.bytes))) })
+
+-- so the word of what a new encoder wrote stands in its bytes
+pub Writes-new : {word : List ℕ → ℕ → ℕ → Type 0} {n : ℕ} {owner : List (List ℕ)} {a b : State} → a.bytes ≡ [] → a.suffixes ≡ [] → Writes word n owner a b → word b.bytes 0 (length b.bytes)
+Writes-new {word} {a = a} {b = b} empty none w =
+    subst (λ (i : ℕ). word b.bytes i (length b.bytes)) (ap length empty) (w.word_stands b.bytes (Holds-new a b none))
+
+-- what `search` composes writings by
+pub ruleset writing = (Keeps-same, Keeps-then)

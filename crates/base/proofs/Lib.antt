@@ -15,6 +15,7 @@ pub mod ReadLemmas
 pub mod ReadTexts
 pub mod ReadingLemmas
 pub mod RefusalLemmas
+pub mod SliceLemmas
 pub mod SpellingLemmas
 pub mod TextLawLemmas
 pub mod TextLemmas

@@ -9,9 +9,11 @@ pub mod display;
 pub mod laws;
 pub mod parse;
 mod reading;
+pub mod reading;
+pub mod round_trip;
 #[cfg(test)]
 mod tests;
-pub mod writing;
+mod writing;
 
 use std::alloc::{AllocError, Global};
 use std::marker::Model;

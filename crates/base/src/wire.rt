@@ -7,6 +7,7 @@ pub mod encodable;
 pub mod encoder;
 pub mod many;
 pub mod numbers;
+mod numbers;
 pub mod place;
 pub mod sized;
 pub mod suffix;

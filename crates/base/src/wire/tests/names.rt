@@ -54,6 +54,32 @@ fn points_to_stored_suffixes(rt: HostRuntime) -> Result<(), Fail> {
     Ok(())
 }
 
+fn has_label(name: &Name, i: usize, wanted: &[u8]) -> bool {
+    match name.label(i) {
+        Some(label) => label == wanted,
+        None => false,
+    }
+}
+
+#[test]
+fn reads_what_was_written(rt: HostRuntime) -> Result<(), Fail> {
+    let alloc = rt.alloc();
+    let bytes = written(
+        alloc,
+        &[b"\x01a\x01b\0".as_slice(), b"\x01C\x01b\0".as_slice()],
+    )?;
+    let mut decoder = BinDecoder::new(alloc, &bytes);
+    let first = Name::read(&mut decoder)?;
+    let second = Name::read(&mut decoder)?;
+    assert_eq!(rt; decoder.index(), bytes.len());
+    assert!(rt; has_label(&first, 0, b"a"));
+    assert!(rt; has_label(&second, 0, b"C"));
+    assert!(rt; has_label(&second, 1, b"b"));
+    assert_eq!(rt; second.label_count(), 2);
+    assert!(rt; second.is_fqdn());
+    Ok(())
+}
+
 #[test]
 fn stores_what_a_pointer_reaches(rt: HostRuntime) -> Result<(), Fail> {
     let alloc = rt.alloc();
