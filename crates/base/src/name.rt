@@ -11,6 +11,8 @@ pub mod parse;
 pub mod reading;
 #[cfg(test)]
 mod tests;
+#[cfg(test)]
+mod text_tests;
 
 use std::alloc::{AllocError, Global};
 use std::marker::Model;
