@@ -14,7 +14,7 @@ unfolding first_char
 nothing_first h = cc
 
 -- the parts of one first character
-same_first : {c d : TextChar} {r r' : List ℕ} → ◌≡◌ {A = Option (TextChar × List ℕ)} (Some (c, r)) (Some (d, r')) → (c ≡ d) × (r ≡ r')
+pub same_first : {c d : TextChar} {r r' : List ℕ} → ◌≡◌ {A = Option (TextChar × List ℕ)} (Some (c, r)) (Some (d, r')) → (c ≡ d) × (r ≡ r')
 same_first {c} {d} {r} {r'} h =
     let pair : ◌≡◌ {A = TextChar × List ℕ} (c, r) (d, r') = cc in
     (ap (λ (p : TextChar × List ℕ). p.0) pair, ap (λ (p : TextChar × List ℕ). p.1) pair)

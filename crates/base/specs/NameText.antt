@@ -1,5 +1,5 @@
 -- The text of names (RFC 1035, 5.1; RFC 4343, 2.1).
-use Rattle.std.specs.Prelude.{◌≡◌, ◌≢◌, ℕ, Bool, true, false, ◌+◌, ◌-◌, ◌*◌, ◌/◌, ◌%◌, ◌≤◌, ◌&&◌, ◌||◌, ◌==◌, List, [], ◌∷◌, ◌++◌, map, nat_lt, nat_le, if◌then◌else◌, Option, Some, None}
+use Rattle.std.specs.Prelude.{◌≡◌, ◌≢◌, ℕ, Bool, true, false, ◌+◌, ◌-◌, ◌*◌, ◌/◌, ◌%◌, ◌<◌, ◌≤◌, ◌&&◌, ◌||◌, ◌==◌, List, [], ◌∷◌, ◌++◌, map, nat_lt, nat_le, if◌then◌else◌, Option, Some, None, IsTrue}
 use Rattle.std.specs.Char.{is_ascii_digit}
 use Rattle.std.specs.List.{flat_map, join_with_byte}
 use Rattle.base.specs.declared.name.parse.TextChar.{TextChar}
@@ -28,6 +28,22 @@ labels_text labels = join_with_byte 46 (map label_text labels)
 -- the text of a name: its labels, and a dot at the end if it is absolute
 abbrev pub name_text : NameValue → List ℕ
 name_text name = labels_text name.labels ++ (if name.absolute then 46 ∷ [] else [])
+
+-- three decimal digits of this number, which is a byte
+pub record IsDecimal (x y z number : ℕ) : Type 0 where
+  pub first : IsTrue (is_ascii_digit x)
+  pub second : IsTrue (is_ascii_digit y)
+  pub third : IsTrue (is_ascii_digit z)
+  pub is : number ≡ 100 * (x - 48) + 10 * (y - 48) + (z - 48)
+  pub byte : number ≤ 255
+
+-- A piece of text that is one character: a dot; a printable byte that is neither space, dot nor backslash;
+-- a backslash and another character of ASCII, but a digit; or a backslash and three decimal digits.
+pub data IsCharText (text : List ℕ) : TextChar → Type 0 where
+  is_dot : text ≡ 46 ∷ [] → IsCharText text Dot
+  is_printable : {b : ℕ} → text ≡ b ∷ [] → 33 ≤ b → b ≤ 126 → b ≢ 46 → b ≢ 92 → IsCharText text (Byte b)
+  is_escaped : {b : ℕ} → text ≡ 92 ∷ b ∷ [] → b < 128 → is_ascii_digit b ≡ false → IsCharText text (Byte b)
+  is_number : {x y z b : ℕ} → text ≡ 92 ∷ x ∷ y ∷ z ∷ [] → IsDecimal x y z b → IsCharText text (Byte b)
 
 -- The character behind a backslash and a digit, which two more digits follow: the byte of this number.
 unfoldable pub decimal_char : ℕ → List ℕ → Option (TextChar × List ℕ)

@@ -14,6 +14,8 @@ pub mod round_trip;
 #[cfg(test)]
 mod tests;
 mod writing;
+#[cfg(test)]
+mod text_tests;
 
 use std::alloc::{AllocError, Global};
 use std::marker::Model;
