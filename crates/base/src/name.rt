@@ -9,13 +9,12 @@ pub mod display;
 pub mod laws;
 pub mod parse;
 mod reading;
-pub mod reading;
 pub mod round_trip;
 #[cfg(test)]
 mod tests;
-mod writing;
 #[cfg(test)]
 mod text_tests;
+mod writing;
 
 use std::alloc::{AllocError, Global};
 use std::marker::Model;

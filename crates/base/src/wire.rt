@@ -6,7 +6,6 @@ pub mod emit_and_count;
 pub mod encodable;
 pub mod encoder;
 pub mod many;
-pub mod numbers;
 mod numbers;
 pub mod place;
 pub mod sized;
