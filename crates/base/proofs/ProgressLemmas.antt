@@ -10,7 +10,7 @@ use Rattle.base.specs.Labels.{size_of, plain_len, AreLabels, IsLabel}
 use Rattle.base.specs.Spelling.{Spelled}
 use Rattle.base.specs.State.{State, Stored, appended, stored}
 use Rattle.base.specs.Words.{Stands, NameAt}
-use Rattle.base.specs.Laws.{IsSpelled, IsValid, Holds, Keeps, Writes}
+use Rattle.base.specs.Laws.{IsSpelled, IsValid, Holds, Keeps, Writes, StoresSuffixes}
 use Rattle.base.proofs.LawLemmas.{Keeps-same, Keeps-appended, Keeps-then, Holds-first, Stands-second, added_bytes, any_append, spelled_later}
 use Rattle.base.proofs.PointerLemmas.{spelled_from_later, root_stands, label_stands, pointer_stands}
 
@@ -32,6 +32,8 @@ pub record Progress (labels rest : List (List ℕ)) (a s : State) : Type 0 where
   pub longer : All (λ t. size_of rest < size_of t.labels) added
   pub spells : (B : List ℕ) (e : ℕ) → Holds a s B → Spelled B rest (length a.bytes) (length s.bytes) e → Spelled B labels (length a.bytes) (length a.bytes) e × IsValid s B
   pub begun : ((front ≡ []) × (s.suffixes ≡ a.suffixes)) ⊎ (length a.bytes < 16384 → Any (λ t. t.labels ≡ labels) s.suffixes)
+  pub each : (before back : List (List ℕ)) → labels ≡ before ++ back → size_of before < size_of front → length a.bytes + size_of before < 16384
+      → Any (λ t. (t.labels ≡ back) × (t.offset ≡ length a.bytes + size_of before)) s.suffixes
 
 pub Progress-start : (labels : List (List ℕ)) (a : State) → AreLabels labels → Progress labels labels a a
 Progress-start labels a are = record {
@@ -46,6 +48,7 @@ Progress-start labels a are = record {
   longer = All-nil (λ (t : Stored). size_of labels < size_of t.labels);
   spells = λ B e h spelled. (spelled, h.table);
   begun = inl (refl, refl);
+  each = λ before back parts less early. absurd (omega arith);
 }
 
 -- two beginnings of one list, where what is behind the shorter one is not what is behind the other
@@ -60,6 +63,19 @@ behind (y ∷ front) (z ∷ before) x xs ys same order other =
     let rest : front ++ x ∷ xs ≡ before ++ ys = cc in
     let len = ap length first in
     omega (arith, behind front before x xs ys rest (omega arith) other)
+
+-- two beginnings of one list, where the second ends inside the label behind the first
+same_end : (front before : List (List ℕ)) (x : List ℕ) (xs back : List (List ℕ)) → front ++ x ∷ xs ≡ before ++ back → size_of front ≤ size_of before → size_of before < size_of (front ++ x ∷ []) → x ∷ xs ≡ back
+same_end [] [] x xs back same order less = same
+same_end [] (y ∷ before) x xs back same order less =
+    let first : x ≡ y = cc in
+    absurd (omega (arith, ap length first))
+same_end (y ∷ front) [] x xs back same order less = absurd (omega arith)
+same_end (y ∷ front) (z ∷ before) x xs back same order less =
+    let first : y ≡ z = cc in
+    let rest : front ++ x ∷ xs ≡ before ++ back = cc in
+    let len = ap length first in
+    same_end front before x xs back rest (omega arith) (omega arith)
 
 -- what storing a suffix adds
 pub record Stores (labels : List (List ℕ)) (at : ℕ) (m z : State) : Type 0 where
@@ -157,6 +173,20 @@ module _ (labels : List (List ℕ)) (x : List ℕ) (xs : List (List ℕ)) (a s z
             subst (λ (ts : List Stored). Any (λ t. t.labels ≡ labels) ts) (sym (st.suffixes ∙ ap (λ (ts : List Stored). s.suffixes ++ ts) near.0)) pushed
       ]
     ]);
+    each = λ before back parts less early.
+        elim (cases_lt (size_of before) (size_of p.front)) [
+          | inl inner ↦ any_append (λ t. (t.labels ≡ back) × (t.offset ≡ length a.bytes + size_of before)) s.suffixes st.added z.suffixes st.suffixes (p.each before back parts inner early)
+          | inr outer ↦
+              let end : x ∷ xs ≡ back = same_end p.front before x xs back (sym p.parts ∙ parts) outer less in
+              let place : length s.bytes ≡ length a.bytes + size_of before =
+              omega (arith, p.len, ap size_of end, ap size_of (sym p.parts ∙ parts), size_of-append p.front (x ∷ xs), size_of-append before back) in
+              elim st.which [
+                | inl far ↦ absurd (omega (arith, place, far.1))
+                | inr near ↦
+                    let pushed = Any-push (λ (t : Stored). (t.labels ≡ back) × (t.offset ≡ length a.bytes + size_of before)) s.suffixes (record { labels = x ∷ xs; offset = length s.bytes }) (end, place) in
+                    subst (λ (ts : List Stored). Any (λ t. (t.labels ≡ back) × (t.offset ≡ length a.bytes + size_of before)) ts) (sym (st.suffixes ∙ ap (λ (ts : List Stored). s.suffixes ++ ts) near.0)) pushed
+              ]
+        ];
   }
 
 -- what is among all elements, and is none of the last ones, is among the first
@@ -198,6 +228,13 @@ module _ (labels rest : List (List ℕ)) (a s z : State) (p : Progress labels re
       ];
     };
   }
+
+-- the suffixes of a name that was written
+pub Progress-stores : (labels rest : List (List ℕ)) (a s z : State) → Progress labels rest a s → z.suffixes ≡ s.suffixes → length z.bytes ≤ length s.bytes + 2 → StoresSuffixes labels a z
+Progress-stores labels rest a s z p same few = record {
+  each = λ front back parts more early.
+      subst (λ (ts : List Stored). Any (λ t. (t.labels ≡ back) × (t.offset ≡ length a.bytes + size_of front)) ts) (sym same) (p.each front back parts (omega (arith, p.len)) early);
+}
 
 -- what appending bytes adds
 appended_bytes : (xs : List ℕ) (a s z : State) (k : Keeps a s) (l : Keeps s z) → z ≡ appended xs s → (B : List ℕ) → Holds a z B → Stands xs B (length s.bytes)

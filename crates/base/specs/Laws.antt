@@ -46,3 +46,9 @@ pub record Writes (word : List ℕ → ℕ → ℕ → Type 0) (plain : ℕ) (ow
   pub valid : (B : List ℕ) → Holds old new B → IsValid new B
   pub at_most : length new.bytes ≤ length old.bytes + plain
   pub compresses : Compresses owner old new
+
+-- Each suffix of a name that was written by labels, and begins early, is stored where it begins: from
+-- there on stands more than a pointer or a zero byte.
+pub record StoresSuffixes (labels : List (List ℕ)) (old new : State) : Type 0 where
+  pub each : (front back : List (List ℕ)) → labels ≡ front ++ back → length old.bytes + size_of front + 2 < length new.bytes → length old.bytes + size_of front < 16384
+      → Any (λ t. (t.labels ≡ back) × (t.offset ≡ length old.bytes + size_of front)) new.suffixes

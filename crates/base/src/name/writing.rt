@@ -2,7 +2,7 @@
 
 ghost use Rattle.std.specs.Prelude.{◌≡◌, [], ◌∷◌, ◌++◌, OnOk};
 ghost use Rattle.base.specs.Labels.{plain_len, wire_of};
-ghost use Rattle.base.specs.Laws.{Keeps, Writes};
+ghost use Rattle.base.specs.Laws.{Keeps, Writes, StoresSuffixes};
 ghost use Rattle.base.specs.State.{appended};
 ghost use Rattle.base.specs.Wire.{state_of, Refuses};
 ghost use Rattle.base.specs.Words.{NameAt};
@@ -29,7 +29,13 @@ impl BinEncodable for Name {
     ///
     /// Refused where a byte would pass the limit, and for want of memory. What stood before stays, and
     /// labels that were written before the refusal stand behind it.
-    fn emit(&self, encoder: &mut BinEncoder<'_>) -> Result<(), ProtoError> {
+    fn emit(&self, encoder: &mut BinEncoder<'_>) -> Result<(), ProtoError>
+        ensures keeps { Keeps (state_of encoder.old) (state_of encoder.new) }
+        ensures writes { OnOk result (Writes (NameAt self.now.labels) (plain_len self.now.labels) self.now.labels
+            (state_of encoder.old) (state_of encoder.new)) }
+        ensures refuses { Refuses (plain_len self.now.labels) (state_of encoder.old) result }
+        ensures stores { OnOk result (StoresSuffixes self.now.labels (state_of encoder.old) (state_of encoder.new)) }
+    {
         let mut rest = self.as_wire();
         while let Some((label, tail)) = first_label(rest) {
             if let Some(offset) = encoder.find(rest) {

@@ -1,12 +1,13 @@
-use Rattle.std.proofs.Common.{◌≡◌, ◌≢◌, ℕ, ◌+◌, ◌≤◌, ◌∙◌, List, ◌∷◌, ◌++◌, Err, length, length-append, take, subst, ap, sym, arith}
+use Rattle.std.proofs.Common.{◌≡◌, ◌≢◌, ℕ, ◌+◌, ◌≤◌, ◌∙◌, List, [], ◌∷◌, ◌++◌, Err, length, length-append, take, subst, ap, sym, arith}
 use Rattle.std.specs.Prelude.{All}
+use Rattle.std.specs.Int.{w16, to_be_bytes}
 use Rattle.std.proofs.lemmas.List.{take_at}
-use Rattle.std.proofs.lemmas.Result.{err_from_is_err_and}
+use Rattle.std.proofs.lemmas.Result.{on_ok_weaker, err_from_is_err_and}
 use Rattle.base.specs.Labels.{IsWire, AreLabels, size_of, labels_of}
 use Rattle.base.specs.State.{State, appended, stored}
 use Rattle.base.specs.Wire.{state_of}
 use Rattle.base.proofs.LabelLemmas.{IsWire-wire_of, labels_of_is}
-use Rattle.base.proofs.ProgressLemmas.{Progress, Progress-start, Progress-step, Progress-root, Progress-pointer, size_of-append, stores}
+use Rattle.base.proofs.ProgressLemmas.{Progress, Progress-start, Progress-step, Progress-root, Progress-pointer, Progress-stores, size_of-append, stores}
 use Rattle.base.proofs.RefusalLemmas.{Refuses-earlier, on_ok_both}
 use Rattle.base.proofs.name.writing.NameBinEncodable.emit.Goals as goal
 
@@ -74,3 +75,19 @@ loop-label-preserved c =
 pub returns-clause-writes : goal.returns-clause-writes
 returns-clause-writes c =
     on_ok_both c.emit.result (λ is within. Progress-root _ _ _ _ _ c.loop-label.invariant.progress c.in_default.ensures.labels is within c.as_wire-rest.ensures.plain) c.emit.ensures.ok c.emit.ensures.within
+
+pub returns-in-Some-find-clause-stores : goal.returns-in-Some-find-clause-stores
+returns-in-Some-find-clause-stores c =
+    let s = state_of c.loop-label.encoder in
+    on_ok_weaker c.emit_u16.result
+    (λ is. Progress-stores _ _ _ s (state_of c.emit_u16.new.self) c.loop-label.invariant.progress (ap (λ (z : State). z.suffixes) is)
+    (omega (arith, ap (λ (z : State). length z.bytes) is, length-append s.bytes (to_be_bytes w16 (49152 + c.in-Some-find.offset)))))
+    c.emit_u16.ensures.ok
+
+pub returns-clause-stores : goal.returns-clause-stores
+returns-clause-stores c =
+    let s = state_of c.loop-label.encoder in
+    on_ok_weaker c.emit.result
+    (λ is. Progress-stores _ _ _ s (state_of c.emit.new.self) c.loop-label.invariant.progress (ap (λ (z : State). z.suffixes) is)
+    (omega (arith, ap (λ (z : State). length z.bytes) is, length-append s.bytes (0 ∷ []))))
+    c.emit.ensures.ok
