@@ -6,17 +6,18 @@ use Rattle.base.specs.declared.error.parse_error.ParseError.{ParseError}
 use Rattle.base.specs.declared.error.parse_error.ParseError.TheVariants as refusals
 use Rattle.base.specs.declared.name.parse.TextChar.TheVariants.{Dot, Byte}
 use Rattle.base.specs.Labels.{NameValue, AreLabels, IsWire, wire_of, labels_of, plain_len, size_of}
-use Rattle.base.specs.NameText.{Reads, none, more, IsLabelsText, IsNameText, is_root, is_origin, is_absolute, is_relative, is_completed, first_char}
+use Rattle.base.specs.NameText.{Reads, none, IsLabelsText, IsNameText, is_root, is_origin, is_absolute, is_relative, is_completed, first_char}
+use Rattle.base.proofs.CharLemmas.{reads_more}
 use Rattle.base.proofs.LabelLemmas.{AreLabels-append, IsWire-wire_of, labels_of-wire_of, length-wire_of, size_of-labels_of, wire_of-append}
 use Rattle.base.proofs.ParseLemmas.{last_piece, not_nil, size_of-append, text_pieces}
 
 reads_dot : Reads (46 ∷ []) (Dot ∷ [])
 unfolding first_char
-reads_dot = more refl none
+reads_dot = reads_more refl none
 
 pub reads_at : Reads (64 ∷ []) (Byte 64 ∷ [])
 unfolding first_char
-reads_at = more refl none
+reads_at = reads_more refl none
 
 -- a dot alone is no labels
 pub not_dot : {text : List ℕ} {labels : List (List ℕ)} {absolute : Bool} → text ≡ 46 ∷ [] → IsLabelsText text labels absolute → ⊥

@@ -1,5 +1,5 @@
 -- Reading the text of names: what was gathered, and what no name can be.
-use Rattle.std.proofs.Common.{◌≡◌, ◌≢◌, ℕ, zero, suc, ◌+◌, ◌<◌, ◌≤◌, ◌⊎◌, inl, inr, List, [], ◌∷◌, ◌++◌, length, map, take, drop, set, refl, ap, sym, ◌∙◌, subst, arith, append_assoc, length-append, length-drop, length-set, length-take-le, Bool, true, false, Option, Some, None}
+use Rattle.std.proofs.Common.{◌≡◌, ◌≢◌, ℕ, zero, suc, ◌+◌, ◌<◌, ◌≤◌, ◌⊎◌, inl, inr, List, [], ◌∷◌, ◌++◌, length, map, take, drop, set, refl, ap, sym, ◌∙◌, subst, arith, append_assoc, length-append, length-drop, length-set, length-take-le, Bool, true, false, Some, None}
 use Rattle.std.specs.Prelude.{if◌then◌else◌}
 use Rattle.std.proofs.lemmas.List.{append-nil, map-append, drop-set-add, nil_from_length, set_split, take-set-le, take_more_set}
 use Rattle.std.proofs.Math.Seq.{take-append-add}
@@ -7,25 +7,20 @@ use Rattle.base.specs.declared.name.parse.TextChar.{TextChar}
 use Rattle.base.specs.declared.name.parse.TextChar.TheVariants.{Dot, Byte}
 use Rattle.base.specs.Labels.{AreLabels, IsWire, labels_of, plain_len, size_of}
 use Rattle.base.specs.NameText.{Reads, none, more, IsLabelsText, dotted, first_char}
+use Rattle.base.proofs.CharLemmas.{first_of_piece, reads_more, same_first}
 use Rattle.base.proofs.LabelLemmas.{AreLabels-append, IsWire-nil, IsWire-push, labels_of-nil, labels_of-push, size_of-labels_of}
 
 nothing_first : {r : TextChar × List ℕ} → first_char [] ≡ Some r → ⊥
 unfolding first_char
 nothing_first h = cc
 
--- the parts of one first character
-pub same_first : {c d : TextChar} {r r' : List ℕ} → ◌≡◌ {A = Option (TextChar × List ℕ)} (Some (c, r)) (Some (d, r')) → (c ≡ d) × (r ≡ r')
-same_first {c} {d} {r} {r'} h =
-    let pair : ◌≡◌ {A = TextChar × List ℕ} (c, r) (d, r') = cc in
-    (ap (λ (p : TextChar × List ℕ). p.0) pair, ap (λ (p : TextChar × List ℕ). p.1) pair)
-
 -- a text has one list of characters
 pub reads_once : {text : List ℕ} {cs ds : List TextChar} → Reads text cs → Reads text ds → cs ≡ ds
 reads_once none none = refl
-reads_once none (more h rest) = absurd (nothing_first h)
-reads_once (more h rest) none = absurd (nothing_first h)
-reads_once (more {rest = r} {c = c} h rest) (more {rest = r'} {c = d} {cs = ds} g rest') =
-    let same = same_first (sym h ∙ g) in
+reads_once none (more spells is rest) = absurd (nothing_first (first_of_piece spells is))
+reads_once (more spells is rest) none = absurd (nothing_first (first_of_piece spells is))
+reads_once (more {rest = r} {c = c} spells is rest) (more {rest = r'} {c = d} {cs = ds} spells' is' rest') =
+    let same = same_first (sym (first_of_piece spells is) ∙ first_of_piece spells' is') in
     cc (same.0, reads_once rest (subst (λ (t : List ℕ). Reads t ds) (sym same.1) rest'))
 
 -- labels with a dot behind each
@@ -181,20 +176,20 @@ gathered_none text = record { goes_on = λ cs reads. reads; comes_from = λ cs r
 -- the characters from a place on
 reads_on : {text rest : List ℕ} {c : TextChar} {cs : List TextChar} → Reads text cs → first_char text ≡ Some (c, rest) → (ds : List TextChar) × Reads rest ds × (cs ≡ c ∷ ds)
 reads_on none is = absurd (nothing_first is)
-reads_on {rest = rest} {c = c} (more {rest = r} {c = d} {cs = ds} h reads) is =
-    let same = same_first (sym h ∙ is) in
+reads_on {rest = rest} {c = c} (more {rest = r} {c = d} {cs = ds} spells whole reads) is =
+    let same = same_first (sym (first_of_piece spells whole) ∙ is) in
     (ds, subst (λ (t : List ℕ). Reads t ds) same.1 reads, ap (λ (e : TextChar). e ∷ ds) same.0)
 
 stuck : {rest : List ℕ} {ds : List TextChar} → Reads rest ds → first_char rest ≡ None → rest ≢ [] → ⊥
 stuck none nothing some = some refl
-stuck (more h reads) nothing some = absurd (none_some (sym nothing ∙ h)) where
+stuck (more spells is reads) nothing some = absurd (none_some (sym nothing ∙ first_of_piece spells is)) where
   none_some : {r : TextChar × List ℕ} → None ≡ Some r → ⊥
   none_some e = cc
 
 module _ {text rest : List ℕ} {done : List (List ℕ)} {current : List ℕ} (gathered : Gathered text rest done current) where
   pub gathered_byte : {b : ℕ} {tail : List ℕ} → first_char rest ≡ Some (Byte b, tail) → Gathered text tail done (current ++ b ∷ [])
   gathered_byte {b} {tail} is = record {
-    goes_on = λ cs reads. subst (Reads text) (one_more cs) (gathered.goes_on (Byte b ∷ cs) (more is reads));
+    goes_on = λ cs reads. subst (Reads text) (one_more cs) (gathered.goes_on (Byte b ∷ cs) (reads_more is reads));
     comes_from = λ cs reads.
         let earlier = gathered.comes_from cs reads in
         let on = reads_on earlier.1 is in
@@ -205,7 +200,7 @@ module _ {text rest : List ℕ} {done : List (List ℕ)} {current : List ℕ} (g
 
   pub gathered_dot : {tail : List ℕ} → first_char rest ≡ Some (Dot, tail) → Gathered text tail (done ++ current ∷ []) []
   gathered_dot {tail} is = record {
-    goes_on = λ cs reads. subst (Reads text) (one_more cs) (gathered.goes_on (Dot ∷ cs) (more is reads));
+    goes_on = λ cs reads. subst (Reads text) (one_more cs) (gathered.goes_on (Dot ∷ cs) (reads_more is reads));
     comes_from = λ cs reads.
         let earlier = gathered.comes_from cs reads in
         let on = reads_on earlier.1 is in
@@ -283,7 +278,7 @@ ends_absolute {text} {done} gathered some are short = record {
 
 reads_nil : {ds : List TextChar} → Reads [] ds → ds ≡ []
 reads_nil none = refl
-reads_nil (more h reads) = absurd (nothing_first h)
+reads_nil (more spells is reads) = absurd (nothing_first (first_of_piece spells is))
 
 -- the empty text is no name
 ends_nothing : {text : List ℕ} {done labels : List (List ℕ)} {current : List ℕ} {absolute : Bool} → Gathered text [] done current → done ≡ [] → current ≡ [] → IsLabelsText text labels absolute → ⊥

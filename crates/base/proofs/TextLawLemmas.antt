@@ -7,7 +7,8 @@ use Rattle.std.proofs.lemmas.List.{append-nil}
 use Rattle.base.specs.declared.name.parse.TextChar.{TextChar}
 use Rattle.base.specs.declared.name.parse.TextChar.TheVariants.{Dot, Byte}
 use Rattle.base.specs.Labels.{NameValue, AreLabels, plain_len}
-use Rattle.base.specs.NameText.{Reads, none, more, IsLabelsText, IsNameText, is_root, is_origin, is_absolute, is_relative, is_completed, byte_text, decimal_char, decimal_text, dotted, escaped_char, first_char, is_special, label_text, labels_text, name_text}
+use Rattle.base.specs.NameText.{Reads, none, IsLabelsText, IsNameText, is_root, is_origin, is_absolute, is_relative, is_completed, byte_text, decimal_char, decimal_text, dotted, escaped_char, first_char, is_special, label_text, labels_text, name_text}
+use Rattle.base.proofs.CharLemmas.{reads_more}
 use Rattle.base.proofs.NamedLemmas.{at_dot, labels_once, not_absolute_at, not_dot, reads_at, some_once, some_none}
 use Rattle.base.proofs.ParseLemmas.{text_pieces}
 
@@ -62,7 +63,7 @@ label_reads : (x rest : List ℕ) (cs : List TextChar) → All (λ b. b < 256) x
 label_reads [] rest cs bytes reads = reads
 label_reads (b ∷ x) rest cs bytes reads =
     subst (λ (text : List ℕ). Reads text (Byte b ∷ (map Byte x ++ cs))) (sym (append_assoc (byte_text b) (label_text x) rest))
-    (more (first_byte_text b (label_text x ++ rest) (All-first (λ (c : ℕ). c < 256) b x bytes)) (label_reads x rest cs (All-others (λ (c : ℕ). c < 256) b x bytes) reads))
+    (reads_more (first_byte_text b (label_text x ++ rest) (All-first (λ (c : ℕ). c < 256) b x bytes)) (label_reads x rest cs (All-others (λ (c : ℕ). c < 256) b x bytes) reads))
 
 first_dot : (rest : List ℕ) → first_char (46 ∷ rest) ≡ Some (Dot, rest)
 unfolding first_char
@@ -72,13 +73,13 @@ labels_read : (xs : List (List ℕ)) (rest : List ℕ) (cs : List TextChar) → 
 labels_read [] rest cs bytes reads = reads
 labels_read (x ∷ []) rest cs bytes reads = label_reads x rest cs (All-first (All (λ (c : ℕ). c < 256)) x [] bytes) reads
 labels_read (x ∷ y ∷ ys) rest cs bytes reads =
-    let behind = more (first_dot (labels_text (y ∷ ys) ++ rest)) (labels_read (y ∷ ys) rest cs (All-others (All (λ (c : ℕ). c < 256)) x (y ∷ ys) bytes) reads) in
+    let behind = reads_more (first_dot (labels_text (y ∷ ys) ++ rest)) (labels_read (y ∷ ys) rest cs (All-others (All (λ (c : ℕ). c < 256)) x (y ∷ ys) bytes) reads) in
     let here = label_reads x (46 ∷ (labels_text (y ∷ ys) ++ rest)) (Dot ∷ (dotted (y ∷ ys) ++ cs)) (All-first (All (λ (c : ℕ). c < 256)) x (y ∷ ys) bytes) behind in
     subst (λ (text : List ℕ). Reads text (dotted (x ∷ y ∷ ys) ++ cs)) (sym (append_assoc (label_text x) (46 ∷ labels_text (y ∷ ys)) rest))
     (subst (Reads (label_text x ++ (46 ∷ (labels_text (y ∷ ys) ++ rest)))) (sym (append_assoc (map Byte x) (Dot ∷ dotted (y ∷ ys)) cs)) here)
 
 dot_reads : Reads (46 ∷ []) (Dot ∷ [])
-dot_reads = more (first_dot []) none
+dot_reads = reads_more (first_dot []) none
 
 -- the text of labels is those labels
 labels_text_is : (labels : List (List ℕ)) (absolute : Bool) → All (All (λ b. b < 256)) labels → AreLabels labels → plain_len labels ≤ 255 → labels ≢ [] → IsLabelsText (name_text (record { labels = labels; absolute = absolute })) labels absolute

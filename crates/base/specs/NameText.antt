@@ -68,10 +68,10 @@ first_char (c ∷ rest) =
     else (if c == 46 then Some (Dot, rest)
     else (if nat_le 33 c && nat_le c 126 then Some (Byte c, rest) else None))
 
--- the characters of a text
+-- the text is these characters, one behind the other
 pub data Reads : List ℕ → List TextChar → Type 0 where
   none : Reads [] []
-  more : {text rest : List ℕ} {c : TextChar} {cs : List TextChar} → first_char text ≡ Some (c, rest) → Reads rest cs → Reads text (c ∷ cs)
+  more : {text piece rest : List ℕ} {c : TextChar} {cs : List TextChar} → IsCharText piece c → text ≡ piece ++ rest → Reads rest cs → Reads text (c ∷ cs)
 
 -- the characters of labels with dots between them
 abbrev pub dotted : List (List ℕ) → List TextChar

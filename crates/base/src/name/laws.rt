@@ -3,8 +3,7 @@
 ghost use Rattle.std.specs.Prelude.{◌≡◌, ◌≢◌, ◌↔◌, ℕ, ◌+◌, ◌<◌, ◌≤◌, List, [], ◌++◌, length, take, drop, All, Option, false};
 ghost use Rattle.base.specs.Faults.{IsFaulty};
 ghost use Rattle.base.specs.Labels.{NameValue, AreLabels, plain_len};
-ghost use Rattle.base.specs.NameText.{IsCharText, IsNameText, first_char, name_text};
-ghost use Rattle.base.specs.declared.name.parse.TextChar.{TextChar};
+ghost use Rattle.base.specs.NameText.{IsNameText, name_text};
 ghost use Rattle.base.specs.Names.{name_at};
 ghost use Rattle.base.specs.Spelling.{Spelled, SpelledIn, IsNameAt, outside};
 
@@ -22,12 +21,6 @@ pub fn spellings_stay()
         → SpelledIn (outside from to) bytes s i xs e → SpelledIn (outside from to) (bytes ++ more) s i xs e }
     ensures patched { (from to : ℕ) (bytes patch : List ℕ) (s i e : ℕ) (xs : List (List ℕ)) → from + length patch ≡ to → to ≤ length bytes
         → SpelledIn (outside from to) bytes s i xs e → SpelledIn (outside from to) (take from bytes ++ (patch ++ drop to bytes)) s i xs e }
-{}
-
-/// The first character of a text is the piece of it that is a character: a dot, a printable one, or an
-/// escaped one (RFC 1035, 5.1).
-pub fn first_char_is_piece()
-    ensures { (text : List ℕ) (c : TextChar) (rest : List ℕ) → (first_char text ≡ Some (c, rest)) ↔ ((piece : List ℕ) × IsCharText piece c × (text ≡ piece ++ rest)) }
 {}
 
 /// The text of a name is read as that name, save that of the relative name without labels; and a text
