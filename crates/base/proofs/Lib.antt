@@ -1,7 +1,12 @@
 pub mod ClassTexts
+pub mod GatherLemmas
+pub mod LabelLemmas
 pub mod LawLemmas
 pub mod ManyLemmas
 pub mod ReadLemmas
 pub mod ReadTexts
+pub mod ReadingLemmas
+pub mod SpellingLemmas
 pub mod TypeTexts
+pub mod WalkLemmas
 pub mod WordLemmas

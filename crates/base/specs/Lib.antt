@@ -1,9 +1,11 @@
 pub mod DNSClass
 pub mod DecodeError
+pub mod Faults
 pub mod Keys
 pub mod Labels
 pub mod Laws
 pub mod Many
+pub mod Names
 pub mod ParseError
 pub mod ProtoError
 pub mod Reader

@@ -4,6 +4,7 @@
 pub mod dns_class;
 pub mod error;
 pub mod record_type;
+pub mod name;
 pub mod wire;
 
 pub use dns_class::DNSClass;
@@ -13,3 +14,5 @@ pub use wire::{BinDecodable, BinDecoder, BinEncodable, BinEncoder, EncodedSize, 
 
 #[cfg(test)]
 mod types_tests;
+pub use name::Name;
+pub use wire::{BinDecodable, BinDecoder, BinEncodable, BinEncoder, EncodedSize, Place};

@@ -68,6 +68,21 @@ impl<'a> BinDecoder<'a> {
         self.alloc
     }
 
+    /// The whole buffer, what is read already too.
+    pub(crate) fn buffer(&self) -> &'a [u8]
+        ensures { result.now ≡ self.now.bytes }
+    {
+        self.buffer
+    }
+
+    /// Goes to a place inside the buffer or at its end.
+    pub(crate) fn move_to(&mut self, index: usize)
+        requires { index ≤ length self.old.bytes }
+        ensures { self.new ≡ record self.old { index = index } }
+    {
+        self.index = index;
+    }
+
     /// Reads one byte. Refused where none is left.
     pub fn pop(&mut self) -> Result<u8, DecodeError>
         ensures only { IsOkUnless result DecodeError.InsufficientBytes }

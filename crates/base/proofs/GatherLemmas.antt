@@ -1,0 +1,180 @@
+-- The loop that gathers the labels of a name.
+use Rattle.std.proofs.Common.{◌≡◌, ℕ, suc, ◌+◌, ◌-◌, ◌<◌, ◌≤◌, List, [], ◌∷◌, ◌++◌, length, take, drop, Option, Some, None, Result, Ok, Err, refl, ap, sym, ◌∙◌, subst, arith, append_assoc, length-append}
+use Rattle.std.specs.Prelude.{nat_lt, nat_le, unwrap_or}
+use Rattle.std.specs.List.{slice_range}
+use Rattle.std.proofs.lemmas.Bool.{cond-true, cond-false, le-leb, lt-leb, lt-ltb}
+use Rattle.std.proofs.lemmas.List.{append-nil, drop_more}
+use Rattle.base.specs.declared.error.decode_error.DecodeError.{DecodeError}
+use Rattle.base.specs.declared.error.decode_error.DecodeError.TheVariants as faults
+use Rattle.base.specs.declared.name.reading.Part.{Part}
+use Rattle.base.specs.declared.name.reading.Part.TheVariants.{Root, Label, Pointer}
+use Rattle.base.specs.Labels.{IsWire, labels_of}
+use Rattle.base.specs.Names.{Labels, part_at, with_label, ending, labels_at}
+use Rattle.base.specs.Reading.{◌>>=◌, Fails}
+use Rattle.base.specs.Spelling.{ByteAt, anywhere}
+use Rattle.base.proofs.LabelLemmas.{IsWire-nil, IsWire-push, labels_of-nil, labels_of-push}
+use Rattle.base.proofs.ReadingLemmas.{labels_at-part, labels_at-label, length-range}
+use Rattle.base.proofs.WalkLemmas.{PartIs, is_past, is_root, is_cut_label, is_label, is_bits, is_cut_pointer, is_pointer, part_is}
+
+-- the labels that were read, before those that are read behind them
+abbrev pub with_front : List (List ℕ) → Labels → Labels
+with_front front read = read >>= λ r. Ok (front ++ r.0, r.1)
+
+-- the labels that are read, of a name that ends behind its first pointer, if it has passed one
+abbrev pub ended_at : Option ℕ → Labels → Labels
+ended_at None read = read
+ended_at (Some e) read = ending e read
+
+-- What was gathered, before what is read from at on, is the whole name.
+pub record Gathers (buffer : List ℕ) (first start at used : ℕ) (bytes : List ℕ) (end : Option ℕ) : Type 0 where
+  pub so_far : with_front (labels_of bytes) (ended_at end (labels_at buffer start at used)) ≡ labels_at buffer first first 0
+  pub wire : IsWire bytes
+  pub len : length bytes ≡ used
+  pub low : start ≤ length buffer
+  pub inside : at ≤ length buffer
+  pub end_inside : unwrap_or end 0 ≤ length buffer
+
+with_front-nil : (read : Labels) → with_front [] read ≡ read
+with_front-nil (Ok r) = refl
+with_front-nil (Err f) = refl
+
+pub gathers_none : (buffer : List ℕ) (first : ℕ) → first ≤ length buffer → Gathers buffer first first first 0 [] None
+gathers_none buffer first inside = record {
+  so_far = rw labels_of-nil (with_front-nil (labels_at buffer first first 0));
+  wire = IsWire-nil;
+  len = refl;
+  low = inside;
+  inside = inside;
+  end_inside = omega arith;
+}
+
+module _ (buffer : List ℕ) (first start at used : ℕ) (bytes : List ℕ) (end : Option ℕ) (gathers : Gathers buffer first start at used bytes end) where
+  few : used ≤ 254
+  few = omega (arith, gathers.len, gathers.wire.short)
+
+  -- what is read from here on, as the whole name
+  goes : (read : Labels) → labels_at buffer start at used ≡ read → labels_at buffer first first 0 ≡ with_front (labels_of bytes) (ended_at end read)
+  goes read is = sym gathers.so_far ∙ ap (λ (r : Labels). with_front (labels_of bytes) (ended_at end r)) is
+
+  fails : (f : DecodeError) → labels_at buffer start at used ≡ Err f → labels_at buffer first first 0 ≡ Err f
+  fails f is = goes (Err f) is ∙ at_err end f where
+    at_err : (end : Option ℕ) (f : DecodeError) → with_front (labels_of bytes) (ended_at end (Err f)) ≡ Err f
+    at_err None f = refl
+    at_err (Some e) f = refl
+
+  pub at_fault : (f : DecodeError) → part_at buffer at ≡ Err f → labels_at buffer first first 0 ≡ Err f
+  at_fault f is = fails f (labels_at-part buffer start at used (Err f) few is)
+
+  pub at_long : (n : ℕ) → part_at buffer at ≡ Ok (Label n) → 255 < used + n + 2 → labels_at buffer first first 0 ≡ Err faults.BadName
+  at_long n is more = fails faults.BadName (labels_at-part buffer start at used (Ok (Label n)) few is ∙ cond-true (nat_lt 255 (used + n + 2)) _ _ (lt-ltb 255 (used + n + 2) more))
+
+  pub at_forward : (t : ℕ) → part_at buffer at ≡ Ok (Pointer t) → start ≤ t → labels_at buffer first first 0 ≡ Err faults.BadName
+  at_forward t is above = fails faults.BadName (labels_at-part buffer start at used (Ok (Pointer t)) few is ∙ cond-true (nat_le start t) _ _ (le-leb start t above))
+
+  pub at_root : part_at buffer at ≡ Ok Root → labels_at buffer first first 0 ≡ Ok (labels_of bytes, unwrap_or end (at + 1))
+  at_root is = goes (Ok ([], at + 1)) (labels_at-part buffer start at used (Ok Root) few is) ∙ at_end end where
+    at_end : (end : Option ℕ) → with_front (labels_of bytes) (ended_at end (Ok ([], at + 1))) ≡ Ok (labels_of bytes, unwrap_or end (at + 1))
+    at_end None = ap (λ (labels : List (List ℕ)). Ok (labels, at + 1)) (append-nil (labels_of bytes))
+    at_end (Some e) = ap (λ (labels : List (List ℕ)). Ok (labels, e)) (append-nil (labels_of bytes))
+
+-- what a label is
+label_part : (bytes : List ℕ) (i n : ℕ) (read : Result Part DecodeError) → PartIs bytes i read → read ≡ Ok (Label n) → ByteAt anywhere bytes i n × (1 ≤ n) × (n ≤ 63) × (i + 1 + n ≤ length bytes)
+label_part bytes i n _ (is_past h) is = absurd cc
+label_part bytes i n _ (is_root h) is = absurd cc
+label_part bytes i n _ (is_cut_label h some small cut) is = absurd cc
+label_part bytes i n _ (is_label {n = m} h some small fits) is =
+    let same : m ≡ n = cc in
+    (subst (ByteAt anywhere bytes i) same h, omega arith, omega arith, omega arith)
+label_part bytes i n _ (is_bits h low high) is = absurd cc
+label_part bytes i n _ (is_cut_pointer h high cut) is = absurd cc
+label_part bytes i n _ (is_pointer h next high) is = absurd cc
+
+pub label_fits : (bytes : List ℕ) (i n : ℕ) → part_at bytes i ≡ Ok (Label n) → i + 1 + n ≤ length bytes
+label_fits bytes i n is = (label_part bytes i n (part_at bytes i) (part_is bytes i) is).3
+
+root_part : (bytes : List ℕ) (i : ℕ) (read : Result Part DecodeError) → PartIs bytes i read → read ≡ Ok Root → i + 1 ≤ length bytes
+root_part bytes i _ (is_past h) is = absurd cc
+root_part bytes i _ (is_root h) is = omega (arith, h.inside)
+root_part bytes i _ (is_cut_label h some small cut) is = absurd cc
+root_part bytes i _ (is_label h some small fits) is = absurd cc
+root_part bytes i _ (is_bits h low high) is = absurd cc
+root_part bytes i _ (is_cut_pointer h high cut) is = absurd cc
+root_part bytes i _ (is_pointer h next high) is = absurd cc
+
+pointer_part : (bytes : List ℕ) (i t : ℕ) (read : Result Part DecodeError) → PartIs bytes i read → read ≡ Ok (Pointer t) → i + 2 ≤ length bytes
+pointer_part bytes i t _ (is_past h) is = absurd cc
+pointer_part bytes i t _ (is_root h) is = absurd cc
+pointer_part bytes i t _ (is_cut_label h some small cut) is = absurd cc
+pointer_part bytes i t _ (is_label h some small fits) is = absurd cc
+pointer_part bytes i t _ (is_bits h low high) is = absurd cc
+pointer_part bytes i t _ (is_cut_pointer h high cut) is = absurd cc
+pointer_part bytes i t _ (is_pointer h next high) is = omega (arith, next.inside)
+
+either_end : (end : Option ℕ) (e len : ℕ) → unwrap_or end 0 ≤ len → e ≤ len → unwrap_or end e ≤ len
+either_end None e len fits inside = inside
+either_end (Some f) e len fits inside = fits
+
+-- a label with its length before it, and its bytes
+label_range : (buffer : List ℕ) (at n : ℕ) → ByteAt anywhere buffer at n → at + 1 + n ≤ length buffer
+    → slice_range buffer at (at + 1 + n) ≡ length (slice_range buffer (at + 1) (at + 1 + n)) ∷ slice_range buffer (at + 1) (at + 1 + n)
+label_range buffer at n h fits =
+    let x = slice_range buffer (at + 1) (at + 1 + n) in
+    let len = length-range buffer at n fits in
+    let whole : at + 1 + n - at ≡ suc n = omega arith in
+    let back : n ≡ at + 1 + n - (at + 1) = omega arith in
+    ap (λ (k : ℕ). take k (drop at buffer)) whole
+    ∙ ap (take (suc n)) (drop_more buffer at 0 h.inside)
+    ∙ ap (λ (b : ℕ). b ∷ take n (drop (at + 1) buffer)) (h.is ∙ sym len)
+    ∙ ap (λ (k : ℕ). length x ∷ take k (drop (at + 1) buffer)) back
+
+push_front : (front : List (List ℕ)) (x : List ℕ) (end : Option ℕ) (read : Labels) → with_front front (ended_at end (with_label x read)) ≡ with_front (front ++ x ∷ []) (ended_at end read)
+push_front front x None (Ok r) = ap (λ (labels : List (List ℕ)). Ok (labels, r.1)) (sym (append_assoc front (x ∷ []) r.0))
+push_front front x (Some e) (Ok r) = ap (λ (labels : List (List ℕ)). Ok (labels, e)) (sym (append_assoc front (x ∷ []) r.0))
+push_front front x None (Err f) = refl
+push_front front x (Some e) (Err f) = refl
+
+pub fails_is : {A : Type 0} (f : DecodeError) (read : Result A DecodeError) → read ≡ Err f → Fails f read
+fails_is faults.Memory read is = tt
+fails_is f read is = is
+
+module _ (buffer : List ℕ) (first start at used : ℕ) (bytes : List ℕ) (end : Option ℕ) (gathers : Gathers buffer first start at used bytes end) where
+  pub root_inside : part_at buffer at ≡ Ok Root → unwrap_or end (at + 1) ≤ length buffer
+  root_inside is = either_end end (at + 1) (length buffer) gathers.end_inside (root_part buffer at (part_at buffer at) (part_is buffer at) is)
+
+  pub gathers_pointer : (t : ℕ) → part_at buffer at ≡ Ok (Pointer t) → t < start → Gathers buffer first t t used bytes (Some (unwrap_or end (at + 2)))
+  gathers_pointer t is below = record {
+    so_far = ap (with_front (labels_of bytes)) (earlier end (labels_at buffer t t used)) ∙ sym (goes buffer first start at used bytes end gathers (ending (at + 2) (labels_at buffer t t used))
+        (labels_at-part buffer start at used (Ok (Pointer t)) (few buffer first start at used bytes end gathers) is ∙ cond-false (nat_le start t) _ _ (lt-leb start t below)));
+    wire = gathers.wire;
+    len = gathers.len;
+    low = omega (arith, gathers.low);
+    inside = omega (arith, gathers.low);
+    end_inside = either_end end (at + 2) (length buffer) gathers.end_inside (pointer_part buffer at t (part_at buffer at) (part_is buffer at) is);
+  } where
+    earlier : (end : Option ℕ) (read : Labels) → ended_at (Some (unwrap_or end (at + 2))) read ≡ ended_at end (ending (at + 2) read)
+    earlier None read = refl
+    earlier (Some e) (Ok r) = refl
+    earlier (Some e) (Err f) = refl
+
+  pub gathers_label : (n size : ℕ) (next : List ℕ) → part_at buffer at ≡ Ok (Label n) → size ≡ 1 + n → used + size + 1 ≤ 255 → next ≡ bytes ++ slice_range buffer at (at + size)
+      → Gathers buffer first start (at + size) (used + size) next end
+  gathers_label n size next is size_is short next_is =
+      let part = label_part buffer at n (part_at buffer at) (part_is buffer at) is in
+      let x = slice_range buffer (at + 1) (at + 1 + n) in
+      let len : length x ≡ n = length-range buffer at n part.3 in
+      let step_is : at + size ≡ at + 1 + n = omega arith in
+      let used_is : used + size ≡ used + n + 1 = omega arith in
+      let pushed : next ≡ bytes ++ (length x ∷ x) = next_is ∙ ap (λ (k : ℕ). bytes ++ slice_range buffer at k) step_is ∙ ap (λ (xs : List ℕ). bytes ++ xs) (label_range buffer at n part.0 part.3) in
+      let labels : labels_of next ≡ labels_of bytes ++ x ∷ [] = ap labels_of pushed ∙ labels_of-push bytes x gathers.wire in
+      let read : Labels = labels_at buffer start (at + 1 + n) (used + n + 1) in
+      let goes_on : labels_at buffer first first 0 ≡ with_front (labels_of bytes) (ended_at end (with_label x read)) = goes buffer first start at used bytes end gathers (with_label x read)
+      (labels_at-label buffer start at used n part.0 part.1 part.2 part.3 (omega arith)) in
+      let here : labels_at buffer start (at + size) (used + size) ≡ read = ap (λ (k : ℕ). labels_at buffer start k (used + size)) step_is ∙ ap (labels_at buffer start (at + 1 + n)) used_is in
+      record {
+        so_far = ap (λ (r : Labels). with_front (labels_of next) (ended_at end r)) here ∙ ap (λ (front : List (List ℕ)). with_front front (ended_at end read)) labels ∙ sym (push_front (labels_of bytes) x end read) ∙ sym goes_on;
+        wire = subst IsWire (sym pushed) (IsWire-push bytes x gathers.wire (omega (arith, part.1)) (omega (arith, part.2)) (omega (arith, gathers.len)));
+        len = omega (arith, ap length pushed, length-append bytes (length x ∷ x), gathers.len);
+        low = gathers.low;
+        inside = omega (arith, part.3);
+        end_inside = gathers.end_inside;
+      }

@@ -1,0 +1,10 @@
+use Rattle.std.proofs.Common.{ap, arith}
+use Rattle.base.specs.Labels.{NameValue, plain_len}
+use Rattle.base.proofs.LabelLemmas.{size_of-labels_of}
+use Rattle.base.proofs.name.Name.as_wire.Goals as goal
+
+pub returns-clause-plain : goal.returns-clause-plain
+returns-clause-plain c =
+    let wire = c.self.invariant in
+    let is = ap (λ (n : NameValue). plain_len n.labels) c.self.view_is in
+    omega (arith, is, size_of-labels_of c.self.inside.bytes.items wire, wire.short)

@@ -1,0 +1,11 @@
+use Rattle.base.proofs.SpellingLemmas.{spelled_once, spelled_longer, spelled_patched}
+use Rattle.base.proofs.name.laws.spellings_stay.Goals as goal
+
+pub returns-clause-once : goal.returns-clause-once
+returns-clause-once c = λ bytes s i e f xs ys h g. spelled_once h g
+
+pub returns-clause-longer : goal.returns-clause-longer
+returns-clause-longer c = λ from to bytes more s i e xs h. spelled_longer more h
+
+pub returns-clause-patched : goal.returns-clause-patched
+returns-clause-patched c = λ from to bytes patch s i e xs is fits h. spelled_patched from to bytes patch is fits h

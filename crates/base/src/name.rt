@@ -1,0 +1,132 @@
+//! Domain names (RFC 1035, 3.1).
+
+ghost use Rattle.std.specs.Prelude.{◌≡◌, ◌+◌, ◌<◌, ◌≤◌, ◌↔◌, [], ◌∷◌, ◌++◌, true, length, IsTrue, IfSome, MatchOption, slice_get};
+ghost use Rattle.std.specs.Option.{option_copied};
+ghost use Rattle.base.specs.Labels.{AreLabels, plain_len, wire_of, labels_of};
+
+pub mod laws;
+mod reading;
+#[cfg(test)]
+mod tests;
+
+use std::alloc::{AllocError, Global};
+use std::marker::Model;
+
+/// A domain name: its labels, each of 1 to 63 bytes, and whether it is absolute (RFC 1035, 2.3.4 and 3.1).
+///
+/// It has at most 255 bytes, each label counted with the byte for its length, and the final zero byte too.
+/// The case of letters is kept. Contracts see the labels from the left, and the flag.
+#[derive(Debug, Drop)]
+pub struct Name {
+    /// The labels from the left, each with its length before it, without a final zero byte.
+    bytes: Vec<u8>,
+    is_fqdn: bool,
+}
+
+impl Model for Name {
+    ghost use Rattle.base.specs.Labels.{NameValue, IsWire, labels_of};
+
+    ghost Value = { NameValue };
+
+    ghost view = { λ n. record { labels = labels_of n.bytes.items; absolute = n.is_fqdn } };
+
+    ghost invariant = { λ n. IsWire n.bytes.items };
+}
+
+impl Name {
+    /// The absolute name without labels. Takes no memory.
+    pub fn root(alloc: Global) -> Name
+        ensures { result ≡ record { labels = []; absolute = true } }
+    {
+        Name {
+            bytes: Vec::new(alloc),
+            is_fqdn: true,
+        }
+    }
+
+    /// Whether this is the absolute name without labels.
+    pub fn is_root(&self) -> bool
+        ensures { IsTrue result ↔ (self.now ≡ record { labels = []; absolute = true }) }
+    {
+        self.is_fqdn && self.bytes.is_empty()
+    }
+
+    /// Makes the name absolute, or relative. Its labels stay.
+    pub fn set_fqdn(&mut self, is_fqdn: bool)
+        ensures { self.new ≡ record self.old { absolute = is_fqdn } }
+    {
+        self.is_fqdn = is_fqdn;
+    }
+
+    /// Whether the name is absolute.
+    pub fn is_fqdn(&self) -> bool
+        ensures { result ≡ self.now.absolute }
+    {
+        self.is_fqdn
+    }
+
+    /// How many labels the name has, a label `*` counted too. The root has none.
+    pub fn label_count(&self) -> usize
+        ensures { result ≡ length self.now.labels }
+    {
+        let mut count = 0;
+        let mut rest = self.as_wire();
+        while let Some((_, tail)) = first_label(rest) {
+            count += 1;
+            rest = tail;
+        }
+        count
+    }
+
+    /// The label at `i`, counted from the left and from 0, without its length; none past the last.
+    pub fn label(&self, i: usize) -> Option<&[u8]>
+        ensures { option_copied result ≡ slice_get self.now.labels i }
+    {
+        let mut before = i;
+        let mut rest = self.as_wire();
+        while let Some((label, tail)) = first_label(rest) {
+            if before == 0 {
+                return Some(label);
+            }
+            before -= 1;
+            rest = tail;
+        }
+        None
+    }
+
+    /// The labels from the left, each with its length before it, without a final zero byte.
+    pub(crate) fn as_wire(&self) -> &[u8]
+        ensures value { result.now ≡ wire_of self.now.labels }
+        ensures labels { AreLabels self.now.labels }
+        ensures short { length result.now ≤ 254 }
+        ensures plain { plain_len self.now.labels ≤ 255 }
+    {
+        &self.bytes
+    }
+}
+
+impl Clone for Name {
+    ghost is_clone = { λ a b. b ≡ a };
+
+    fn clone(&self) -> Result<Name, AllocError> {
+        Ok(Name {
+            bytes: self.bytes.clone()?,
+            is_fqdn: self.is_fqdn,
+        })
+    }
+}
+
+/// The first of the labels, and the others, each with its length before it; none where there is no label.
+pub(crate) fn first_label(wire: &[u8]) -> Option<(&[u8], &[u8])>
+    requires { wire_of (labels_of wire.now) ≡ wire.now }
+    ensures labels { MatchOption result (labels_of wire.now ≡ []) (λ r. labels_of wire.now ≡ r.0.now ∷ labels_of r.1.now) }
+    ensures bytes { MatchOption result (wire.now ≡ []) (λ r. wire.now ≡ (length r.0.now ∷ r.0.now) ++ r.1.now) }
+    ensures others { IfSome result (λ r. wire_of (labels_of r.1.now) ≡ r.1.now) }
+    ensures shorter { IfSome result (λ r. length r.1.now < length wire.now) }
+{
+    if wire.is_empty() {
+        return None;
+    }
+    let end = 1 + usize::from(wire[0]);
+    Some((&wire[1..end], &wire[end..]))
+}
