@@ -1,13 +1,14 @@
 -- The laws of writing, for what appends bytes and for what is written in parts.
-use Rattle.std.proofs.Common.{◌≡◌, ℕ, ◌+◌, ◌≤◌, List, [], ◌++◌, length, refl, ap, sym, ◌∙◌, subst, arith, Result, Ok, Err, length-append}
-use Rattle.std.specs.Prelude.{OnOk, OnErr}
-use Rattle.std.proofs.lemmas.List.{append-nil}
-use Rattle.std.proofs.lemmas.List.Elements.{All-nil, All-weaker}
+use Rattle.std.proofs.Common.{◌≡◌, ℕ, ◌+◌, ◌≤◌, List, [], ◌++◌, length, drop, get_or, refl, ap, sym, ◌∙◌, subst, append_assoc, arith, Result, Ok, Err, length-append}
+use Rattle.std.specs.Prelude.{OnOk, OnErr, Any}
+use Rattle.std.proofs.lemmas.List.{append-nil, get_or_append_left}
+use Rattle.std.proofs.lemmas.List.Elements.{All-nil, All-append, All-weaker}
 use Rattle.std.proofs.Math.Seq.{drop-append_seam}
 use Rattle.base.specs.declared.error.proto_error.ProtoError.{ProtoError}
 use Rattle.base.specs.State.{State, Stored, appended}
-use Rattle.base.specs.Words.{Stands}
-use Rattle.base.specs.Laws.{IsSpelled, Keeps, Writes}
+use Rattle.base.specs.Words.{Stands, Then}
+use Rattle.base.specs.Laws.{IsSpelled, IsValid, Holds, Keeps, Writes}
+use Rattle.base.proofs.WordLemmas.{first_stands, stands_part}
 
 -- nothing was written
 pub Keeps-same : (a b : State) → b ≡ a → Keeps a b
@@ -45,7 +46,7 @@ spelled_later : (B : List ℕ) (m n : ℕ) → m ≤ n → (t : Stored) → IsSp
 spelled_later B m n le t s = record { below = omega (arith, s.below); fits = s.fits; end = s.end; spelled = s.spelled }
 
 -- Bytes that are a word wherever they stand were written.
-Writes-appended : (word : List ℕ → ℕ → ℕ → Type 0) (plain : ℕ) (xs : List ℕ) (a : State) → length xs ≤ plain → ((B : List ℕ) → Stands xs B (length a.bytes) → word B (length a.bytes) (length a.bytes + length xs)) → Writes word plain [] a (appended xs a)
+pub Writes-appended : (word : List ℕ → ℕ → ℕ → Type 0) (plain : ℕ) (xs : List ℕ) (a : State) → length xs ≤ plain → ((B : List ℕ) → Stands xs B (length a.bytes) → word B (length a.bytes) (length a.bytes + length xs)) → Writes word plain [] a (appended xs a)
 Writes-appended word plain xs a fits is_word = record {
   word_stands = λ B h.
       let stands : Stands xs B (length a.bytes) = rw drop-append_seam at h.bytes in
@@ -69,3 +70,90 @@ Writes-bytes word plain xs a b is fits is_word = subst (λ (s : State). Writes w
 pub Writes-either : {X : Type 0} (r : Result X ProtoError) (word : List ℕ → ℕ → ℕ → Type 0) (plain : ℕ) (xs : List ℕ) (a b : State) → OnOk r (b ≡ appended xs a) → length xs ≤ plain → ((B : List ℕ) → Stands xs B (length a.bytes) → word B (length a.bytes) (length a.bytes + length xs)) → OnOk r (Writes word plain [] a b)
 Writes-either (Ok x) word plain xs a b ok fits is_word = Writes-bytes word plain xs a b ok fits is_word
 Writes-either (Err e) word plain xs a b ok fits is_word = ok
+
+-- ---- one writing behind another
+
+unfoldable pub Keeps-then : {a b c : State} → Keeps a b → Keeps b c → Keeps a c
+Keeps-then {a} {b} {c} k l = record {
+  appended = k.appended ++ l.appended;
+  added = k.added ++ l.added;
+  bytes = l.bytes ∙ ap (λ (xs : List ℕ). xs ++ l.appended) k.bytes ∙ append_assoc a.bytes k.appended l.appended;
+  suffixes = l.suffixes ∙ ap (λ (ts : List Stored). ts ++ l.added) k.suffixes ∙ append_assoc a.suffixes k.added l.added;
+  offsets = All-append (λ (t : Stored). length a.bytes ≤ t.offset) k.added l.added k.offsets
+      (All-weaker (λ (t : Stored). length b.bytes ≤ t.offset) (λ (t : Stored). length a.bytes ≤ t.offset) (λ t later. omega (arith, ap length k.bytes, length-append a.bytes k.appended)) l.added l.offsets);
+  limit = l.limit ∙ k.limit;
+  buffer = l.buffer ∙ k.buffer;
+  within = omega (arith, k.within, l.within, k.limit);
+}
+
+-- what was added to the bytes
+added_bytes : (a b : State) (xs : List ℕ) → b.bytes ≡ a.bytes ++ xs → drop (length a.bytes) b.bytes ≡ xs
+added_bytes a b xs is = ap (drop (length a.bytes)) is ∙ drop-append_seam a.bytes xs
+
+module _ (a b c : State) (k : Keeps a b) (l : Keeps b c) (B : List ℕ) where
+  -- what was added by both
+  both : drop (length a.bytes) c.bytes ≡ k.appended ++ l.appended
+  both = added_bytes a c (k.appended ++ l.appended) (l.bytes ∙ ap (λ (xs : List ℕ). xs ++ l.appended) k.bytes ∙ append_assoc a.bytes k.appended l.appended)
+
+  -- what holds both holds the first
+  pub Holds-first : Holds a c B → Holds a b B
+  Holds-first h = record {
+    table = h.table;
+    bytes =
+        let all : Stands (k.appended ++ l.appended) B (length a.bytes) = subst (λ (xs : List ℕ). Stands xs B (length a.bytes)) both h.bytes in
+        subst (λ (xs : List ℕ). Stands xs B (length a.bytes)) (sym (added_bytes a b k.appended k.bytes)) (first_stands k.appended l.appended B (length a.bytes) all);
+  }
+
+  -- and the second, if it holds the suffixes between them
+  pub Holds-second : IsValid b B → Holds a c B → Holds b c B
+  Holds-second table h = record {
+    table = table;
+    bytes =
+        let all : Stands (k.appended ++ (l.appended ++ [])) B (length a.bytes) = subst (λ (xs : List ℕ). Stands xs B (length a.bytes)) (both ∙ ap (λ (xs : List ℕ). k.appended ++ xs) (sym (append-nil l.appended))) h.bytes in
+        let place : length a.bytes + length k.appended ≡ length b.bytes = sym (ap length k.bytes ∙ length-append a.bytes k.appended) in
+        subst (λ (xs : List ℕ). Stands xs B (length b.bytes)) (sym (added_bytes b c l.appended l.bytes))
+        (subst (Stands l.appended B) place (stands_part k.appended l.appended [] B (length a.bytes) all));
+  }
+
+-- what is among the first elements is among all
+any_append : (P : Stored → Type 0) (xs ys zs : List Stored) → zs ≡ xs ++ ys → Any P xs → Any P zs
+any_append P xs ys zs is (k, t, inside, at, holds) =
+    (k, t, omega (arith, ap length is, length-append xs ys), ap (λ (ts : List Stored). get_or ts k t) is ∙ get_or_append_left xs ys t k inside ∙ at, holds)
+
+pub Writes-then : {first second : List ℕ → ℕ → ℕ → Type 0} {n m : ℕ} {owner : List (List ℕ)} {a b c : State} → Keeps a b → Keeps b c → Writes first n owner a b → Writes second m [] b c → Writes (Then first second) (n + m) owner a c
+Writes-then {a = a} {b = b} {c = c} k l v w = record {
+  word_stands = λ B h. (length b.bytes, v.word_stands B (Holds-first a b c k l B h), w.word_stands B (behind B h));
+  valid = λ B h. w.valid B (behind B h);
+  at_most = omega (arith, v.at_most, w.at_most);
+  compresses = record {
+    end = v.compresses.end;
+    spelled = λ some B h. v.compresses.spelled some B (Holds-first a b c k l B h);
+    short = v.compresses.short;
+    stored = λ some early. any_append _ b.suffixes l.added c.suffixes l.suffixes (v.compresses.stored some early);
+  };
+} where
+  behind : (B : List ℕ) → Holds a c B → Holds b c B
+  behind B h = Holds-second a b c k l B (v.valid B (Holds-first a b c k l B h)) h
+
+-- a word that follows from the one that was written, and as many bytes or more
+pub Writes-weaker : {word other : List ℕ → ℕ → ℕ → Type 0} {n m : ℕ} {owner : List (List ℕ)} {a b : State} → ((B : List ℕ) (i e : ℕ) → word B i e → other B i e) → n ≤ m → Writes word n owner a b → Writes other m owner a b
+Writes-weaker {a = a} {b = b} follows fits w = record {
+  word_stands = λ B h. follows B (length a.bytes) (length b.bytes) (w.word_stands B h);
+  valid = w.valid;
+  at_most = omega (arith, w.at_most);
+  compresses = w.compresses;
+}
+
+-- no owner, so that what has an owner can be written behind something else
+pub Writes-unowned : {word : List ℕ → ℕ → ℕ → Type 0} {n : ℕ} {owner : List (List ℕ)} {a b : State} → Writes word n owner a b → Writes word n [] a b
+Writes-unowned w = record {
+  word_stands = w.word_stands;
+  valid = w.valid;
+  at_most = w.at_most;
+  compresses = record {
+    end = 0;
+    spelled = λ some. absurd (some refl);
+    short = λ some. absurd (some refl);
+    stored = λ some. absurd (some refl);
+  };
+}

@@ -1,8 +1,10 @@
 pub mod ClassTexts
 pub mod GatherLemmas
+pub mod ItemLemmas
 pub mod LabelLemmas
 pub mod LawLemmas
 pub mod ManyLemmas
+pub mod PatchLemmas
 pub mod ReadLemmas
 pub mod ReadTexts
 pub mod ReadingLemmas

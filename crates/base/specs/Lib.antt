@@ -1,6 +1,7 @@
 pub mod DNSClass
 pub mod DecodeError
 pub mod Faults
+pub mod Items
 pub mod Keys
 pub mod Labels
 pub mod Laws

@@ -1,5 +1,5 @@
 -- An encoder as its contracts see it.
-use Rattle.std.specs.Prelude.{ℕ, ◌+◌, List, ◌++◌, length, take, drop}
+use Rattle.std.specs.Prelude.{ℕ, ◌+◌, List, [], ◌∷◌, ◌++◌, length, take, drop, nat_le, if◌then◌else◌}
 
 -- a suffix of a name, and where it is spelled
 pub record Stored : Type 0 where
@@ -25,3 +25,7 @@ overwritten start xs s = record s { bytes = take start s.bytes ++ (xs ++ drop (s
 -- cut back to as many bytes and suffixes
 abbrev pub cut : ℕ → ℕ → State → State
 cut len count s = record s { bytes = take len s.bytes; suffixes = take count s.suffixes }
+
+-- with a suffix that was written at a place, unless the place is too far for a pointer (RFC 1035, 4.1.4)
+abbrev pub stored : List (List ℕ) → ℕ → State → State
+stored labels at s = if nat_le 16384 at then s else record s { suffixes = s.suffixes ++ record { labels = labels; offset = at } ∷ [] }

@@ -1,5 +1,5 @@
 -- The encoder's struct as a state.
-use Rattle.std.specs.Prelude.{ℕ, ◌+◌, ◌<◌, length, Result, Ok, Err, Vec}
+use Rattle.std.specs.Prelude.{◌≡◌, ℕ, ◌+◌, ◌<◌, length, Result, Ok, Err, Vec}
 use Rattle.std.specs.declared.alloc.Global.{Global}
 use Rattle.base.specs.declared.error.proto_error.ProtoError.{ProtoError}
 use Rattle.base.specs.declared.error.proto_error.ProtoError.TheVariants as refusals
@@ -22,3 +22,8 @@ Refuses n s (Ok _) = Unit {0}
 Refuses n s (Err refusals.MaxBufferSizeExceeded) = s.limit < length s.bytes + n
 Refuses n s (Err refusals.Memory) = Unit {0}
 Refuses n s (Err _) = ⊥
+
+-- refused for memory alone
+abbrev pub IsMemory : {X : Type 0} → Result X ProtoError → Type 0
+IsMemory (Ok _) = Unit {0}
+IsMemory (Err e) = e ≡ refusals.Memory

@@ -5,12 +5,20 @@ pub mod dns_class;
 pub mod error;
 pub mod record_type;
 pub mod name;
+pub mod name;
+pub mod record_type;
 pub mod wire;
 
 pub use dns_class::DNSClass;
 pub use error::{DecodeError, ParseError, ProtoError};
 pub use record_type::RecordType;
 pub use wire::{BinDecodable, BinDecoder, BinEncodable, BinEncoder, EncodedSize, Place, read_many};
+pub use name::Name;
+pub use record_type::RecordType;
+pub use wire::{
+    BinDecodable, BinDecoder, BinEncodable, BinEncoder, EmitAndCount, EncodedSize, Place,
+    emit_sized,
+};
 
 #[cfg(test)]
 mod types_tests;

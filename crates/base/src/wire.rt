@@ -2,14 +2,18 @@
 
 pub mod decodable;
 pub mod decoder;
+pub mod emit_and_count;
 pub mod encodable;
 pub mod encoder;
 pub mod many;
+pub mod numbers;
 pub mod place;
+pub mod sized;
 pub mod suffix;
 
 pub use decodable::BinDecodable;
 pub use decoder::BinDecoder;
+pub use emit_and_count::EmitAndCount;
 pub use encodable::{BinEncodable, EncodedSize};
 pub use encoder::BinEncoder;
 pub use many::read_many;
@@ -17,3 +21,4 @@ pub use place::Place;
 
 #[cfg(test)]
 mod tests;
+pub use sized::emit_sized;

@@ -63,6 +63,19 @@ impl BinEncodable for u16 {
     }
 }
 
+impl<E: BinEncodable> BinEncodable for &E {
+    ghost word = { λ e. E.word e.now };
+
+    ghost plain_len = { λ e. E.plain_len e.now };
+
+    ghost owner = { λ e. E.owner e.now };
+
+    fn emit(&self, encoder: &mut BinEncoder<'_>) -> Result<(), ProtoError> {
+        let value: &E = self;
+        value.emit(encoder)
+    }
+}
+
 impl EncodedSize for u16 {
     ghost encoded = { to_be_bytes w16 };
 

@@ -5,6 +5,10 @@ ghost use Rattle.std.specs.Int.{w16, w32, to_be_bytes};
 ghost use Rattle.base.specs.State.{appended, overwritten};
 ghost use Rattle.base.specs.Wire.{state_of, vector_of, Refuses};
 
+pub mod items;
+pub mod rollback;
+pub mod table;
+
 use crate::error::ProtoError;
 use crate::wire::encodable::EncodedSize;
 use crate::wire::place::Place;

@@ -1,3 +1,7 @@
+ghost use Rattle.std.specs.Prelude.{◌≡◌, ◌<◌, ◌↔◌, IfOk, IsTrue};
+ghost use Rattle.base.specs.Labels.{wire_of, labels_of, IsWire};
+
+use std::alloc::{AllocError, Global};
 use std::marker::Model;
 
 /// A suffix of a name that was written, and the offset at which it is spelled.
@@ -18,4 +22,34 @@ impl Model for Suffix {
     ghost view = { λ s. record { labels = labels_of s.labels.items; offset = s.offset } };
 
     ghost invariant = { λ s. IsWire s.labels.items × (s.offset < 16384) };
+}
+
+impl Suffix {
+    /// The suffix of these labels, each with its length before it, at an offset.
+    pub(crate) fn new(alloc: Global, wire: &[u8], offset: u16) -> Result<Suffix, AllocError>
+        requires wire { IsWire wire.now }
+        requires near { offset < 16384 }
+        ensures { IfOk result (λ suffix. suffix ≡ record { labels = labels_of wire.now; offset = offset }) }
+    {
+        Ok(Suffix {
+            labels: Vec::from_slice(alloc, wire)?,
+            offset,
+        })
+    }
+
+    /// Whether the suffix has these labels, each with its length before it, byte for byte.
+    pub(crate) fn is(&self, wire: &[u8]) -> bool
+        requires { wire_of (labels_of wire.now) ≡ wire.now }
+        ensures { IsTrue result ↔ (self.now.labels ≡ labels_of wire.now) }
+    {
+        self.labels.as_slice() == wire
+    }
+
+    /// The offset.
+    pub(crate) fn offset(&self) -> u16
+        ensures value { result ≡ self.now.offset }
+        ensures near { result < 16384 }
+    {
+        self.offset
+    }
 }

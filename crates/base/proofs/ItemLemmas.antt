@@ -1,0 +1,44 @@
+-- Items that were written one behind the other, and going back behind the last that fits.
+use Rattle.std.proofs.Common.{◌≡◌, ℕ, List, [], ◌∷◌, ◌++◌, length, take, refl, ap, sym, ◌∙◌, subst}
+use Rattle.std.proofs.Math.Seq.{take-append_seam}
+use Rattle.base.specs.State.{State, Stored, cut}
+use Rattle.base.specs.Words.{BackToBack, none, more}
+use Rattle.base.specs.Laws.{IsValid, Holds, Keeps, Writes}
+use Rattle.base.specs.Items.{EachWritten}
+use Rattle.base.proofs.LawLemmas.{Keeps-same, Keeps-then, Holds-first, Holds-second}
+
+-- cut back to what stood before
+pub cut-Keeps : (a b : State) → Keeps a b → cut (length a.bytes) (length a.suffixes) b ≡ a
+cut-Keeps a b k =
+    let bytes : take (length a.bytes) b.bytes ≡ a.bytes = ap (take (length a.bytes)) k.bytes ∙ take-append_seam a.bytes k.appended in
+    let suffixes : take (length a.suffixes) b.suffixes ≡ a.suffixes = ap (take (length a.suffixes)) k.suffixes ∙ take-append_seam a.suffixes k.added in
+    let state : List ℕ → ℕ → ℕ → List Stored → State = λ xs l b ts. record { buffer = b; bytes = xs; limit = l; suffixes = ts } in
+    ap (λ (xs : List ℕ). state xs b.limit b.buffer (take (length a.suffixes) b.suffixes)) bytes
+    ∙ ap (λ (l : ℕ). state a.bytes l b.buffer (take (length a.suffixes) b.suffixes)) k.limit
+    ∙ ap (λ (n : ℕ). state a.bytes a.limit n (take (length a.suffixes) b.suffixes)) k.buffer
+    ∙ ap (λ (ts : List Stored). state a.bytes a.limit a.buffer ts) suffixes
+
+module _ {E : Type 0} (word : E → List ℕ → ℕ → ℕ → Type 0) (plain : E → ℕ) (owner : E → List (List ℕ)) where
+  pub Each-keeps : (xs : List E) (a b : State) → EachWritten word plain owner xs a b → Keeps a b
+  Each-keeps [] a b same = Keeps-same a b same
+  Each-keeps (x ∷ xs) a c (b, keeps, writes, others) = Keeps-then keeps (Each-keeps xs b c others)
+
+  -- one item more
+  pub Each-push : (xs : List E) (x : E) (a b c : State) → EachWritten word plain owner xs a b → Keeps b c → Writes (word x) (plain x) (owner x) b c → EachWritten word plain owner (xs ++ x ∷ []) a c
+  Each-push [] x a b c same keeps writes =
+      (c, subst (λ (s : State). Keeps s c) same keeps, subst (λ (s : State). Writes (word x) (plain x) (owner x) s c) same writes, refl)
+  Each-push (y ∷ ys) x a b c (m, first, wrote, others) keeps writes = (m, first, wrote, Each-push ys x m b c others keeps writes)
+
+  -- the words of items that were written stand back to back in every buffer that holds them, and all
+  -- suffixes stored until then are spelled there
+  pub Words-each : (xs : List E) (a b : State) → EachWritten word plain owner xs a b → (B : List ℕ) → Holds a b B → BackToBack (λ i x e. word x B i e) (length a.bytes) xs (length b.bytes) × IsValid b B
+  Words-each [] a b same B h =
+      (subst (λ (s : State). BackToBack (λ i x e. word x B i e) (length a.bytes) [] (length s.bytes)) (sym same) none, subst (λ (s : State). IsValid s B) (sym same) h.table)
+  Words-each (x ∷ xs) a c (b, keeps, writes, others) B h =
+      let later = Each-keeps xs b c others in
+      let first = Holds-first a b c keeps later B h in
+      let rest = Words-each xs b c others B (Holds-second a b c keeps later B (writes.valid B first) h) in
+      (more (writes.word_stands B first) rest.0, rest.1)
+
+  pub Each-valid : (xs : List E) (a b : State) → EachWritten word plain owner xs a b → (B : List ℕ) → Holds a b B → IsValid b B
+  Each-valid xs a b each B h = (Words-each xs a b each B h).1

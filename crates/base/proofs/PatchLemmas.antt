@@ -1,0 +1,112 @@
+-- Writing behind room that was kept, which is filled at the end.
+use Rattle.std.proofs.Common.{◌≡◌, ℕ, ◌+◌, ◌-◌, ◌<◌, ◌≤◌, ◌^◌, List, [], ◌++◌, length, take, drop, refl, ap, sym, ◌∙◌, subst, append_assoc, arith, length-append}
+use Rattle.std.specs.Prelude.{All, Any}
+use Rattle.std.specs.Int.{w16, to_be_bytes}
+use Rattle.std.proofs.lemmas.List.Elements.{All-weaker}
+use Rattle.std.proofs.Math.Seq.{drop-append_seam, take-append_seam}
+use Rattle.base.specs.Spelling.{Spelled}
+use Rattle.base.specs.State.{State, Stored, appended, overwritten}
+use Rattle.base.specs.Words.{Stands, Number, Sized, Then}
+use Rattle.base.specs.Laws.{IsSpelled, Holds, Keeps, Writes}
+use Rattle.base.proofs.LawLemmas.{Keeps-appended, Keeps-then, Writes-appended, Writes-then, Writes-unowned}
+use Rattle.base.proofs.WordLemmas.{number16_stands}
+
+-- Room of as many bytes was kept behind a, something was written behind it, and the room was filled.
+module _ (room xs : List ℕ) (a b c d : State) (size : length xs ≡ length room) (kept : b ≡ appended room a) (k : Keeps b c) (filled : d ≡ overwritten (length a.bytes) xs c) where
+  begins : c.bytes ≡ (a.bytes ++ room) ++ k.appended
+  begins = k.bytes ∙ ap (λ (ys : List ℕ). ys ++ k.appended) (ap (λ (s : State). s.bytes) kept)
+
+  front : take (length a.bytes) c.bytes ≡ a.bytes
+  front = ap (take (length a.bytes)) (begins ∙ append_assoc a.bytes room k.appended) ∙ take-append_seam a.bytes (room ++ k.appended)
+
+  back : drop (length a.bytes + length xs) c.bytes ≡ k.appended
+  back =
+      let place : length a.bytes + length xs ≡ length (a.bytes ++ room) = omega (arith, length-append a.bytes room) in
+      ap (λ (n : ℕ). drop n c.bytes) place ∙ ap (drop (length (a.bytes ++ room))) begins ∙ drop-append_seam (a.bytes ++ room) k.appended
+
+  bytes : d.bytes ≡ (a.bytes ++ xs) ++ k.appended
+  bytes =
+      ap (λ (s : State). s.bytes) filled
+      ∙ ap (λ (ys : List ℕ). ys ++ (xs ++ drop (length a.bytes + length xs) c.bytes)) front
+      ∙ ap (λ (ys : List ℕ). a.bytes ++ (xs ++ ys)) back
+      ∙ sym (append_assoc a.bytes xs k.appended)
+
+  start : length b.bytes ≡ length (a.bytes ++ xs)
+  start = omega (arith, ap (λ (s : State). length s.bytes) kept, length-append a.bytes room, length-append a.bytes xs)
+
+  stop : length c.bytes ≡ length d.bytes
+  stop = omega (arith, ap length k.bytes, ap length bytes, length-append b.bytes k.appended, length-append (a.bytes ++ xs) k.appended, start)
+
+  old : b.suffixes ≡ a.suffixes
+  old = ap (λ (s : State). s.suffixes) kept
+
+  new : c.suffixes ≡ d.suffixes
+  new = sym (ap (λ (s : State). s.suffixes) filled)
+
+  -- all is as if the room had been filled from the start
+  pub Keeps-filled : Keeps (appended xs a) d
+  Keeps-filled = record {
+    appended = k.appended;
+    added = k.added;
+    bytes = bytes;
+    suffixes = sym new ∙ k.suffixes ∙ ap (λ (ts : List Stored). ts ++ k.added) old;
+    offsets = All-weaker (λ (t : Stored). length b.bytes ≤ t.offset) (λ (t : Stored). length (a.bytes ++ xs) ≤ t.offset) (λ t later. omega (arith, start)) k.added k.offsets;
+    limit = ap (λ (s : State). s.limit) filled ∙ k.limit ∙ ap (λ (s : State). s.limit) kept;
+    buffer = ap (λ (s : State). s.buffer) filled ∙ k.buffer ∙ ap (λ (s : State). s.buffer) kept;
+    within = omega (arith, k.within, start, stop, ap (λ (s : State). s.limit) kept);
+  }
+
+  pub Holds-behind : (B : List ℕ) → Holds (appended xs a) d B → Holds b c B
+  Holds-behind B h = record {
+    table = record {
+      each = subst (λ (n : ℕ). (ts : List Stored) → ts ≡ a.suffixes → All (IsSpelled B n) ts) (sym start) (λ ts is. subst (λ (us : List Stored). All (IsSpelled B (length (a.bytes ++ xs))) us) (sym is) h.table.each) b.suffixes old;
+    };
+    bytes =
+        let behind : drop (length (a.bytes ++ xs)) d.bytes ≡ k.appended = ap (drop (length (a.bytes ++ xs))) bytes ∙ drop-append_seam (a.bytes ++ xs) k.appended in
+        let was : drop (length b.bytes) c.bytes ≡ k.appended = ap (drop (length b.bytes)) k.bytes ∙ drop-append_seam b.bytes k.appended in
+        subst (λ (ys : List ℕ). Stands ys B (length b.bytes)) (behind ∙ sym was) (subst (Stands (drop (length (a.bytes ++ xs)) d.bytes) B) (sym start) h.bytes);
+  }
+
+  pub Writes-filled : {word : List ℕ → ℕ → ℕ → Type 0} {plain : ℕ} {owner : List (List ℕ)} → Writes word plain owner b c → Writes word plain owner (appended xs a) d
+  Writes-filled {word} {plain} {owner} w = record {
+    word_stands = λ B h. subst (λ (i : ℕ). word B i (length d.bytes)) start (subst (word B (length b.bytes)) stop (w.word_stands B (Holds-behind B h)));
+    valid = λ B h. record {
+      each = subst (λ (n : ℕ). All (IsSpelled B n) d.suffixes) stop (subst (λ (ts : List Stored). All (IsSpelled B (length c.bytes)) ts) new (w.valid B (Holds-behind B h)).each);
+    };
+    at_most = omega (arith, w.at_most, start, stop);
+    compresses = record {
+      end = w.compresses.end;
+      spelled = λ some B h. subst (λ (i : ℕ). Spelled B owner i i w.compresses.end) start (w.compresses.spelled some B (Holds-behind B h));
+      short = λ some first ends. omega (arith, start, w.compresses.short some first (subst (λ (ts : List Stored). Any (λ t. owner ≡ first ++ t.labels) ts) (sym old) ends));
+      stored = λ some early. subst (λ (ts : List Stored). Any (λ t. t.labels ≡ owner) ts) new (w.compresses.stored some (omega (arith, start)));
+    };
+  }
+
+-- a word behind its length
+module _ (n : ℕ) (room : List ℕ) (a b c d : State) (small : n < 2 ^ 16) (size : 2 ≡ length room) (kept : b ≡ appended room a) (k : Keeps b c) (len : n ≡ length c.bytes - (length a.bytes + 2)) (filled : d ≡ overwritten (length a.bytes) (to_be_bytes w16 n) c) where
+  number : Writes (Number w16 n) 2 [] a (appended (to_be_bytes w16 n) a)
+  number = Writes-appended (Number w16 n) 2 (to_be_bytes w16 n) a (omega arith) (λ B stands. (number16_stands n B (length a.bytes) small stands, refl))
+
+  pub Keeps-sized : length b.bytes ≤ a.limit → Keeps a d
+  Keeps-sized within =
+      let first : Keeps a (appended (to_be_bytes w16 n) a) = Keeps-appended (to_be_bytes w16 n) a (appended (to_be_bytes w16 n) a) refl (omega (arith, start room (to_be_bytes w16 n) a b c d size kept k filled)) in
+      Keeps-then first (Keeps-filled room (to_be_bytes w16 n) a b c d size kept k filled)
+
+  pub Writes-sized : {word : List ℕ → ℕ → ℕ → Type 0} {plain : ℕ} {owner : List (List ℕ)} → length b.bytes ≤ a.limit → Writes word plain owner b c → Writes (Sized word) (2 + plain) [] a d
+  Writes-sized {word} {plain} {owner} within w = record {
+    word_stands = λ B h.
+        let word_at = both.word_stands B h in
+        let place : word_at.0 ≡ length a.bytes + 2 = word_at.1.1 in
+        (n, end, word_at.1.0, subst (λ (i : ℕ). word B i (length d.bytes)) place word_at.2);
+    valid = both.valid;
+    at_most = both.at_most;
+    compresses = both.compresses;
+  } where
+    first : Keeps a (appended (to_be_bytes w16 n) a)
+    first = Keeps-appended (to_be_bytes w16 n) a (appended (to_be_bytes w16 n) a) refl (omega (arith, start room (to_be_bytes w16 n) a b c d size kept k filled))
+
+    both : Writes (Then (Number w16 n) word) (2 + plain) [] a d
+    both = Writes-then first (Keeps-filled room (to_be_bytes w16 n) a b c d size kept k filled) number (Writes-unowned (Writes-filled room (to_be_bytes w16 n) a b c d size kept k filled w))
+
+    end : length d.bytes ≡ length a.bytes + 2 + n
+    end = omega (arith, len, stop room (to_be_bytes w16 n) a b c d size kept k filled, ap length k.bytes, length-append b.bytes k.appended, ap (λ (s : State). length s.bytes) kept, length-append a.bytes room)

@@ -1,0 +1,55 @@
+use Rattle.std.proofs.Common.{◌≡◌, ◌<◌, ◌+◌, ℕ, length, length-append, Err, refl, ap, sym, ◌∙◌, subst, arith}
+use Rattle.base.specs.declared.error.proto_error.ProtoError.{ProtoError}
+use Rattle.base.specs.State.{State, cut}
+use Rattle.base.specs.Items.{EachWritten}
+use Rattle.base.specs.Wire.{state_of, Refuses}
+use Rattle.base.proofs.LawLemmas.{Keeps-then}
+use Rattle.base.proofs.ItemLemmas.{cut-Keeps, Each-keeps, Each-push, Each-valid}
+use Rattle.base.proofs.wire.encoder.items.BinEncoder.emit_all.Goals as goal
+
+pub loop-item-init : goal.loop-item-init
+loop-item-init g c = record { each = refl; counted = refl; room = omega (arith, c.requires.countable.1) }
+
+pub overflow_add-count : goal.overflow_add-count
+overflow_add-count g c = omega (arith, (c.in-Some.ensures.goes.on c.loop-item.iterator.1).2)
+
+pub returns-in-MaxBufferSizeExceeded : goal.returns-in-MaxBufferSizeExceeded
+returns-in-MaxBufferSizeExceeded g c =
+    let each = c.loop-item.invariant.each in
+    let rolled : state_of c.roll_back.new.self ≡ state_of c.loop-item.self =
+    c.roll_back.ensures
+    ∙ ap (λ (n : ℕ). cut n c.mark-mark.result.count (state_of c.emit.new.encoder)) c.mark-mark.ensures.len
+    ∙ ap (λ (n : ℕ). cut (length (state_of c.loop-item.self).bytes) n (state_of c.emit.new.encoder)) c.mark-mark.ensures.count
+    ∙ cut-Keeps _ _ c.in-Err.ensures.keeps in
+    let is = subst (λ (s : State). EachWritten g.E.BinEncodable.word g.E.BinEncodable.plain_len g.E.BinEncodable.owner c.loop-item.yielded (state_of c.args.self.now) s) (sym rolled) each in
+    let full : c.loop-item.self.limit < length c.loop-item.self.buffer.now.items + g.E.BinEncodable.plain_len c.in-Some.item =
+    subst (λ (e : ProtoError). Refuses {X = ℕ} (g.E.BinEncodable.plain_len c.in-Some.item) (state_of c.loop-item.self) (Err e)) c.in-MaxBufferSizeExceeded.is c.in-Err.ensures.refuses in
+    record {
+      keeps = Each-keeps g.E.BinEncodable.word g.E.BinEncodable.plain_len g.E.BinEncodable.owner _ _ _ is;
+      valid = Each-valid g.E.BinEncodable.word g.E.BinEncodable.plain_len g.E.BinEncodable.owner _ _ _ is;
+      emits = (
+        c.loop-item.yielded,
+        c.in-Some.item,
+        (c.loop-item.items, c.loop-item.yielded_by, c.in-Some.ensures.steps),
+        is,
+        c.loop-item.invariant.counted,
+        omega (arith, full, (Each-keeps g.E.BinEncodable.word g.E.BinEncodable.plain_len g.E.BinEncodable.owner _ _ _ each).limit, ap (λ (s : State). length s.bytes) rolled),
+      );
+    }
+
+pub returns-in_default-error-clause-keeps : goal.returns-in_default-error-clause-keeps
+returns-in_default-error-clause-keeps g c =
+    Keeps-then (Each-keeps g.E.BinEncodable.word g.E.BinEncodable.plain_len g.E.BinEncodable.owner _ _ _ c.loop-item.invariant.each) c.in-Err.ensures.keeps
+
+pub loop-item-preserved : goal.loop-item-preserved
+loop-item-preserved g c = record {
+  each = Each-push g.E.BinEncodable.word g.E.BinEncodable.plain_len g.E.BinEncodable.owner _ _ _ _ _ c.loop-item.invariant.each c.in-Ok.ensures.keeps c.in-Ok.ensures.writes;
+  counted = omega (arith, length-append {A = g.row.E.Denot});
+  room = omega (arith, (c.in-Some.ensures.goes.on c.loop-item.iterator.1).2);
+}
+
+pub returns-clause-keeps : goal.returns-clause-keeps
+returns-clause-keeps g c = Each-keeps g.E.BinEncodable.word g.E.BinEncodable.plain_len g.E.BinEncodable.owner _ _ _ c.loop-item.invariant.each
+
+pub returns-clause-valid : goal.returns-clause-valid
+returns-clause-valid g c = Each-valid g.E.BinEncodable.word g.E.BinEncodable.plain_len g.E.BinEncodable.owner _ _ _ c.loop-item.invariant.each

@@ -1,0 +1,43 @@
+//! Writes items one behind the other.
+
+ghost use Rattle.base.specs.Items.{IsCountable, EmitsAll, StaysValid};
+ghost use Rattle.base.specs.Laws.{Keeps};
+ghost use Rattle.base.specs.Wire.{state_of};
+
+use crate::error::ProtoError;
+use crate::wire::encodable::BinEncodable;
+use crate::wire::encoder::BinEncoder;
+
+impl<'a> BinEncoder<'a> {
+    /// Writes the items that the iterator gives, to its end, and answers their number.
+    ///
+    /// Where an item doesn't fit the limit, refused with `NotAllRecordsWritten`, the number of the items
+    /// before it, and bytes and suffixes as they were behind those; the iterator stands behind that item.
+    /// Refused for want of memory, too.
+    pub fn emit_all<E: BinEncodable + Drop, I: Iterator<Item = E>>(
+        &mut self,
+        items: &mut I,
+    ) -> Result<usize, ProtoError>
+        requires can { I.can_next items.old }
+        requires countable { IsCountable (I.remaining items.old) }
+        ensures keeps { Keeps (state_of self.old) (state_of self.new) }
+        ensures valid { StaysValid (state_of self.old) (state_of self.new) result }
+        ensures emits { EmitsAll E.word E.plain_len E.owner I.next_gives items.old items.new (state_of self.old) (state_of self.new) result }
+    {
+        let mut count = 0;
+        while let Some(item) = items.next() {
+            let mark = self.mark();
+            match item.emit(self) {
+                Ok(()) => count += 1,
+                Err(error) => match error {
+                    ProtoError::MaxBufferSizeExceeded => {
+                        self.roll_back(mark);
+                        return Err(ProtoError::NotAllRecordsWritten { count });
+                    }
+                    other => return Err(other),
+                },
+            }
+        }
+        Ok(count)
+    }
+}

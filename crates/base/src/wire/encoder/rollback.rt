@@ -1,0 +1,35 @@
+//! Going back to an earlier state of an encoder.
+
+ghost use Rattle.std.specs.Prelude.{◌≡◌, length};
+ghost use Rattle.base.specs.State.{cut};
+ghost use Rattle.base.specs.Wire.{state_of};
+
+use crate::wire::encoder::BinEncoder;
+
+/// How many bytes stand, and how many suffixes are stored.
+#[derive(Drop)]
+pub(crate) struct Mark {
+    len: usize,
+    count: usize,
+}
+
+impl<'a> BinEncoder<'a> {
+    /// Where the encoder stands.
+    pub(crate) fn mark(&self) -> Mark
+        ensures len { result.len ≡ length (state_of self.now).bytes }
+        ensures count { result.count ≡ length (state_of self.now).suffixes }
+    {
+        Mark {
+            len: self.buffer.len(),
+            count: self.suffixes.len(),
+        }
+    }
+
+    /// Cuts back to as many bytes and suffixes.
+    pub(crate) fn roll_back(&mut self, mark: Mark)
+        ensures { state_of self.new ≡ cut mark.len mark.count (state_of self.old) }
+    {
+        self.buffer.truncate(mark.len);
+        self.suffixes.truncate(mark.count);
+    }
+}

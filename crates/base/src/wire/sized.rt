@@ -1,0 +1,27 @@
+ghost use Rattle.std.specs.Prelude.{◌+◌, ◌≤◌, [], OnOk};
+ghost use Rattle.base.specs.Laws.{Keeps, Writes};
+ghost use Rattle.base.specs.Wire.{state_of, Refuses};
+ghost use Rattle.base.specs.Words.{Sized};
+
+use crate::error::ProtoError;
+use crate::wire::encodable::BinEncodable;
+use crate::wire::encoder::BinEncoder;
+
+/// Writes a value behind the number of its bytes, a `u16` (RDLENGTH, RFC 1035, 3.2.1).
+///
+/// Refused where a byte would pass the limit, and for want of memory. What stood before stays.
+pub fn emit_sized<R: BinEncodable>(
+    value: &R,
+    encoder: &mut BinEncoder<'_>,
+) -> Result<(), ProtoError>
+    ensures keeps { Keeps (state_of encoder.old) (state_of encoder.new) }
+    ensures writes { OnOk result (Writes (Sized (R.word value.now)) (2 + R.plain_len value.now) []
+        (state_of encoder.old) (state_of encoder.new)) }
+    ensures refuses { Refuses (2 + R.plain_len value.now) (state_of encoder.old) result }
+{
+    let place = encoder.place::<u16>()?;
+    value.emit(encoder)?;
+    let len = encoder.len_since_place(&place);
+    encoder.replace(place, &(len as u16));
+    Ok(())
+}
