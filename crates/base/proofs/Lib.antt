@@ -1,6 +1,8 @@
 pub mod ClassTexts
+pub mod CompareLemmas
 pub mod GatherLemmas
 pub mod ItemLemmas
+pub mod KeyLemmas
 pub mod LabelLemmas
 pub mod LawLemmas
 pub mod ManyLemmas

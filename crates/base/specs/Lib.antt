@@ -6,6 +6,7 @@ pub mod Keys
 pub mod Labels
 pub mod Laws
 pub mod Many
+pub mod NameOrder
 pub mod Names
 pub mod ParseError
 pub mod ProtoError

@@ -5,8 +5,10 @@ pub mod dns_class;
 pub mod error;
 pub mod record_type;
 pub mod name;
+pub mod lower_name;
 pub mod name;
 pub mod record_type;
+pub mod rr_key;
 pub mod wire;
 
 pub use dns_class::DNSClass;
@@ -19,6 +21,11 @@ pub use wire::{
     BinDecodable, BinDecoder, BinEncodable, BinEncoder, EmitAndCount, EncodedSize, Place,
     emit_sized,
 };
+pub use lower_name::LowerName;
+pub use name::Name;
+pub use record_type::RecordType;
+pub use rr_key::RrKey;
+pub use wire::{BinDecodable, BinDecoder, BinEncodable, BinEncoder, EncodedSize, Place};
 
 #[cfg(test)]
 mod types_tests;

@@ -4,6 +4,7 @@ ghost use Rattle.std.specs.Prelude.{◌≡◌, ◌+◌, ◌<◌, ◌≤◌, ◌�
 ghost use Rattle.std.specs.Option.{option_copied};
 ghost use Rattle.base.specs.Labels.{AreLabels, plain_len, wire_of, labels_of};
 
+pub mod compare;
 pub mod laws;
 mod reading;
 #[cfg(test)]
@@ -97,6 +98,8 @@ impl Name {
     /// The labels from the left, each with its length before it, without a final zero byte.
     pub(crate) fn as_wire(&self) -> &[u8]
         ensures value { result.now ≡ wire_of self.now.labels }
+        ensures whole { wire_of (labels_of result.now) ≡ result.now }
+        ensures cut { labels_of result.now ≡ self.now.labels }
         ensures labels { AreLabels self.now.labels }
         ensures short { length result.now ≤ 254 }
         ensures plain { plain_len self.now.labels ≤ 255 }

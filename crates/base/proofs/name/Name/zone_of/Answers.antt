@@ -1,0 +1,13 @@
+use Rattle.std.proofs.Common.{ap, sym, ◌∙◌, subst, arith, drop}
+use Rattle.base.specs.Labels.{AreLabels}
+use Rattle.base.proofs.CompareLemmas.{AreLabels-drop, are_last_at}
+use Rattle.base.proofs.name.Name.zone_of.Goals as goal
+
+pub same_in_any_case-requires-clause-left_labels :
+    goal.same_in_any_case-requires-clause-left_labels
+same_in_any_case-requires-clause-left_labels c =
+    subst AreLabels (sym (c.past_labels.ensures.labels)) (AreLabels-drop _ _ (subst AreLabels (sym c.as_wire.ensures.cut) c.as_wire.ensures.labels))
+
+pub returns-then-count-others : goal.returns-then-count-others
+returns-then-count-others c =
+    are_last_at _ _ _ _ _ _ (omega (arith, c.if-count-others.true, c.label_count-count.ensures, c.label_count-others.ensures)) (c.past_labels.ensures.labels ∙ ap (drop _) c.as_wire.ensures.cut) c.as_wire-then-count-others.ensures.cut c.same_in_any_case.ensures

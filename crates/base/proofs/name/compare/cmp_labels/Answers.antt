@@ -1,0 +1,17 @@
+use Rattle.std.proofs.Common.{◌≡◌, length, ap, ◌∙◌, arith}
+use Rattle.base.specs.Labels.{labels_of}
+use Rattle.base.proofs.CompareLemmas.{labels_cmp-step}
+use Rattle.base.proofs.name.compare.cmp_labels.Goals as goal
+
+pub loop-x-preserved : goal.loop-x-preserved
+loop-x-preserved c =
+    let first = c.in-Some.ensures in
+    let other = c.in-Some-first_label.ensures in
+    let before = c.loop-x.invariant in
+    let same : length (labels_of c.in-Some.xs.now) ≡ length (labels_of c.in-Some-first_label.ys.now) = omega (arith, before.same_count, ap length first.labels, ap length other.labels) in
+    record {
+      whole = first.others;
+      other_whole = other.others;
+      same_count = same;
+      so_far = labels_cmp-step _ _ _ _ _ _ c.loop-x.order _ _ first.labels other.labels same c.cmp_label.ensures c.then-order.ensures ∙ before.so_far;
+    }

@@ -1,0 +1,11 @@
+use Rattle.base.specs.NameOrder.{folded, same_by-is, cmp_by-ties}
+use Rattle.base.proofs.name.compare.name_order.Goals as goal
+
+pub returns-clause-equal : goal.returns-clause-equal
+returns-clause-equal c = same_by-is folded
+
+pub returns-clause-ties : goal.returns-clause-ties
+returns-clause-ties c = cmp_by-ties folded
+
+pub returns-clause-relative_first : goal.returns-clause-relative_first
+returns-clause-relative_first c = λ a b relative absolute. rw (relative, absolute)

@@ -1,0 +1,194 @@
+//! Comparing names: ASCII letters are the same in either case (RFC 4343, 3; RFC 4034, 6.1).
+
+ghost use Rattle.std.specs.Prelude.{◌≡◌, ◌≤◌, ◌↔◌, ◌++◌, ℕ, List, IfOk, IsTrue, true, false, take, drop, length, map, refl};
+ghost use Rattle.std.specs.Char.{to_ascii_lowercase};
+ghost use Rattle.std.specs.Cmp.{partial_equiv_from_equiv};
+ghost use Rattle.std.specs.Cmp.Lexicographic.{slice_cmp};
+ghost use Rattle.std.specs.Ordering.{as_partial_cmp, nat_cmp};
+ghost use Rattle.base.specs.Labels.{NameValue, AreLabels, wire_of, labels_of};
+ghost use Rattle.base.specs.NameOrder.{folded, folded_labels, lowered, labels_cmp, same_labels, same_name, name_cmp, name_fed, same_by-equiv, same_by-tie, cmp_by-total, cmp_by-partial, fed_by-same};
+
+use crate::name::{Name, first_label};
+use std::alloc::AllocError;
+use std::cmp::Ordering;
+use std::hash::{Hash, Hasher};
+
+/// The bytes of the labels of the longest name, each with its length before it (RFC 1035, 2.3.4).
+const ROOM: usize = 254;
+
+impl Name {
+    /// Whether `other` lies in the zone of this name, or is this name: the labels of this name are the
+    /// last labels of `other`, in whatever case. Whether the names are absolute is not looked at.
+    pub fn zone_of(&self, other: &Name) -> bool
+        ensures { IsTrue result ↔ ((front : List (List ℕ)) × (folded other.now ≡ front ++ folded self.now)) }
+    {
+        let (count, others) = (self.label_count(), other.label_count());
+        count <= others
+            && same_in_any_case(past_labels(other.as_wire(), others - count), self.as_wire())
+    }
+
+    /// The name with its ASCII letters in lower case. Grows memory once, and not at all for a name without
+    /// labels; refused for want of it.
+    pub(crate) fn to_lowercase(&self) -> Result<Name, AllocError>
+        ensures { IfOk result (λ n. n ≡ lowered self.now) }
+    {
+        let mut name = self.clone()?;
+        lower_all(&mut name.bytes);
+        Ok(name)
+    }
+}
+
+impl PartialEq for Name {
+    ghost eq = { same_name };
+
+    ghost laws = { partial_equiv_from_equiv (same_by-equiv folded) };
+
+    /// The same flag, and the same labels in whatever case (RFC 4343, 3).
+    fn eq(&self, other: &Name) -> bool {
+        self.is_fqdn() == other.is_fqdn() && same_in_any_case(self.as_wire(), other.as_wire())
+    }
+}
+
+impl Eq for Name {
+    ghost laws = { same_by-equiv folded };
+}
+
+impl Hash for Name {
+    ghost hash_input = { name_fed };
+
+    ghost respects_eq = { fed_by-same folded };
+
+    /// Feeds the flag, and the labels with their ASCII letters in lower case, so that equal names hash alike.
+    fn hash<H: Hasher>(&self, state: &mut H) {
+        self.is_fqdn().hash(state);
+        let mut room = [0; ROOM];
+        let wire = self.as_wire();
+        lower_into(wire, &mut room);
+        state.write(&room[..wire.len()]);
+    }
+}
+
+impl Ord for Name {
+    ghost cmp = { name_cmp };
+
+    ghost total = { cmp_by-total folded };
+
+    ghost matches_partial_cmp = { λ _ _. refl };
+
+    ghost matches_eq = { same_by-tie folded };
+
+    /// Relative names first; then by the labels from the last to the first, each by its bytes in lower
+    /// case, what is a beginning before what it begins; then the fewer labels first (RFC 4034, 6.1).
+    fn cmp(&self, other: &Name) -> Ordering {
+        let (count, others) = (self.label_count(), other.label_count());
+        let behind = past_labels(self.as_wire(), count.saturating_sub(others));
+        let others_behind = past_labels(other.as_wire(), others.saturating_sub(count));
+        self.is_fqdn()
+            .cmp(&other.is_fqdn())
+            .then(cmp_labels(behind, others_behind))
+            .then(count.cmp(&others))
+    }
+}
+
+impl PartialOrd for Name {
+    ghost partial_cmp = { as_partial_cmp name_cmp };
+
+    ghost laws = { cmp_by-partial folded };
+
+    fn partial_cmp(&self, other: &Name) -> Option<Ordering> {
+        Some(self.cmp(other))
+    }
+}
+
+/// Whether labels are the same in whatever case.
+fn same_in_any_case(left: &[u8], right: &[u8]) -> bool
+    requires left { wire_of (labels_of left.now) ≡ left.now }
+    requires left_labels { AreLabels (labels_of left.now) }
+    requires right { wire_of (labels_of right.now) ≡ right.now }
+    requires right_labels { AreLabels (labels_of right.now) }
+    ensures { result ≡ same_labels (folded_labels (labels_of left.now)) (folded_labels (labels_of right.now)) }
+{
+    left.eq_ignore_ascii_case(right)
+}
+
+/// Puts the ASCII letters of bytes in lower case.
+fn lower_all(bytes: &mut Vec<u8>)
+    ensures { bytes.new.items ≡ map to_ascii_lowercase bytes.old.items }
+{
+    bytes.make_ascii_lowercase();
+}
+
+/// Puts bytes in lower case at the front of `room`.
+fn lower_into(wire: &[u8], room: &mut [u8; ROOM])
+    requires { length wire.now ≤ 254 }
+    ensures { take (length wire.now) room.new ≡ map to_ascii_lowercase wire.now }
+{
+    let front = &mut room[..wire.len()];
+    front.copy_from_slice(wire);
+    front.make_ascii_lowercase();
+}
+
+/// What is behind as many labels.
+fn past_labels(wire: &[u8], count: usize) -> &[u8]
+    requires { wire_of (labels_of wire.now) ≡ wire.now }
+    ensures labels { labels_of result.now ≡ drop count (labels_of wire.now) }
+    ensures whole { wire_of (labels_of result.now) ≡ result.now }
+{
+    let mut rest = wire;
+    for _ in 0..count {
+        let Some((_, tail)) = first_label(rest) else {
+            return rest;
+        };
+        rest = tail;
+    }
+    rest
+}
+
+/// The order of two labels, their ASCII letters in lower case.
+fn cmp_label(left: &[u8], right: &[u8]) -> Ordering
+    ensures { result ≡ slice_cmp nat_cmp (map to_ascii_lowercase left.now) (map to_ascii_lowercase right.now) }
+{
+    let mut rest = left;
+    let mut others = right;
+    while let [x, xs @ ..] = rest {
+        let [y, ys @ ..] = others else {
+            break;
+        };
+        let order = x.to_ascii_lowercase().cmp(&y.to_ascii_lowercase());
+        if order.is_ne() {
+            return order;
+        }
+        rest = xs;
+        others = ys;
+    }
+    rest.len().cmp(&others.len())
+}
+
+/// The order of as many labels from the last on, their ASCII letters in lower case.
+fn cmp_labels(left: &[u8], right: &[u8]) -> Ordering
+    requires left { wire_of (labels_of left.now) ≡ left.now }
+    requires right { wire_of (labels_of right.now) ≡ right.now }
+    requires same_count { length (labels_of left.now) ≡ length (labels_of right.now) }
+    ensures { result ≡ labels_cmp (folded_labels (labels_of left.now)) (folded_labels (labels_of right.now)) }
+{
+    let mut order = Ordering::Equal;
+    let mut rest = left;
+    let mut others = right;
+    while let Some((x, xs)) = first_label(rest) {
+        let Some((y, ys)) = first_label(others) else {
+            return order;
+        };
+        order = cmp_label(x, y).then(order);
+        rest = xs;
+        others = ys;
+    }
+    order
+}
+
+/// Names are equal, and tie in the order, exactly where they have the same flag and the same labels in
+/// whatever case (RFC 4343, 3); every relative name comes before every absolute one.
+pub fn name_order()
+    ensures equal { (a b : NameValue) → IsTrue (⟦<Name as PartialEq>⟧.eq a b) ↔ ((a.absolute ≡ b.absolute) × (folded a ≡ folded b)) }
+    ensures ties { (a b : NameValue) → (⟦<Name as Ord>⟧.cmp a b ≡ Ordering.Equal) ↔ ((a.absolute ≡ b.absolute) × (folded a ≡ folded b)) }
+    ensures relative_first { (a b : NameValue) → a.absolute ≡ false → b.absolute ≡ true → ⟦<Name as Ord>⟧.cmp a b ≡ Ordering.Less }
+{}

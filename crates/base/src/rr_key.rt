@@ -1,0 +1,36 @@
+//! The key under which the records of one name and one type stand together.
+
+ghost use Rattle.std.specs.Prelude.{◌≡◌};
+ghost use Rattle.std.specs.Ordering.{ordering_then};
+
+use crate::lower_name::LowerName;
+use crate::record_type::RecordType;
+use std::cmp::Ordering;
+
+/// A name in lower case and a record type: the key of a set of records (RFC 2181, 5).
+///
+/// Keys are ordered by name, then by type.
+#[derive(Debug, Drop, Eq, Ord, PartialEq, PartialOrd)]
+pub struct RrKey {
+    /// The owner of the records, its ASCII letters in lower case.
+    pub name: LowerName,
+    /// Their type.
+    pub record_type: RecordType,
+}
+
+impl RrKey {
+    /// The key of these.
+    pub fn new(name: LowerName, record_type: RecordType) -> RrKey
+        ensures name { result.name ≡ name }
+        ensures record_type { result.record_type ≡ record_type }
+    {
+        RrKey { name, record_type }
+    }
+}
+
+/// Keys are ordered by name, then by type, and no two of them tie: they serve as the keys of maps.
+pub fn rr_key_order()
+    ensures by_name_and_type { (a b : RrKey) → ⟦<RrKey as Ord>⟧.cmp a b
+        ≡ ordering_then (⟦<LowerName as Ord>⟧.cmp a.name b.name) (⟦<RecordType as Ord>⟧.cmp a.record_type b.record_type) }
+    ensures exact { (a b : RrKey) → ⟦<RrKey as Ord>⟧.cmp a b ≡ Ordering.Equal → a ≡ b }
+{}
