@@ -3,8 +3,6 @@
 
 pub mod dns_class;
 pub mod error;
-pub mod record_type;
-pub mod name;
 pub mod lower_name;
 pub mod name;
 pub mod record_type;
@@ -13,21 +11,14 @@ pub mod wire;
 
 pub use dns_class::DNSClass;
 pub use error::{DecodeError, ParseError, ProtoError};
-pub use record_type::RecordType;
-pub use wire::{BinDecodable, BinDecoder, BinEncodable, BinEncoder, EncodedSize, Place, read_many};
-pub use name::Name;
-pub use record_type::RecordType;
-pub use wire::{
-    BinDecodable, BinDecoder, BinEncodable, BinEncoder, EmitAndCount, EncodedSize, Place,
-    emit_sized,
-};
 pub use lower_name::LowerName;
 pub use name::Name;
 pub use record_type::RecordType;
 pub use rr_key::RrKey;
-pub use wire::{BinDecodable, BinDecoder, BinEncodable, BinEncoder, EncodedSize, Place};
+pub use wire::{
+    BinDecodable, BinDecoder, BinEncodable, BinEncoder, EmitAndCount, EncodedSize, Place,
+    emit_sized, read_many,
+};
 
 #[cfg(test)]
 mod types_tests;
-pub use name::Name;
-pub use wire::{BinDecodable, BinDecoder, BinEncodable, BinEncoder, EncodedSize, Place};

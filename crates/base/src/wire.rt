@@ -18,7 +18,7 @@ pub use encodable::{BinEncodable, EncodedSize};
 pub use encoder::BinEncoder;
 pub use many::read_many;
 pub use place::Place;
+pub use sized::emit_sized;
 
 #[cfg(test)]
 mod tests;
-pub use sized::emit_sized;
