@@ -1,0 +1,3 @@
+pub mod A
+pub mod AAAA
+pub mod Opaque

@@ -1,0 +1,6 @@
+//! The data of records: every kind, how it is read, written, compared and printed (RFC 1035, 3.3).
+#![tactic(auto)]
+
+pub mod rdata;
+
+pub use rdata::{A, AAAA, NULL, TSIG};

@@ -1,0 +1,13 @@
+//! The kinds of record data, each in a file of its own.
+
+pub mod a;
+pub mod aaaa;
+mod emit;
+mod hex_text;
+pub mod null;
+pub mod tsig;
+
+pub use a::A;
+pub use aaaa::AAAA;
+pub use null::NULL;
+pub use tsig::TSIG;
