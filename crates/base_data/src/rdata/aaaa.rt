@@ -1,9 +1,10 @@
 //! Addresses of sixteen bytes.
 
-ghost use Rattle.std.specs.Prelude.{◌≡◌, [], Some};
+ghost use Rattle.std.specs.Prelude.{◌≡◌, ◌+◌, ◌++◌, ◌≤◌, ℕ, List, [], Some, codes, take, drop};
 ghost use Rattle.std.specs.Net.Addr.{ipv6_octets, ipv6_segments, segments_of};
+ghost use Rattle.std.specs.Net.Text.{groups_text};
 ghost use Rattle.base.specs.Words.{Bytes};
-ghost use Rattle.base_data.specs.AAAA.{aaaa_at, aaaa_text};
+ghost use Rattle.base_data.specs.AAAA.{AreZeros, IsFirstLongest, aaaa_at, aaaa_text};
 
 use crate::rdata::emit::emit_bytes;
 use base::{BinDecodable, BinDecoder, BinEncodable, BinEncoder, DecodeError, ProtoError};
@@ -69,3 +70,12 @@ impl BinDecodable for AAAA {
         Ok(AAAA { octets })
     }
 }
+
+/// The text of an address has `::` in place of the first of the longest runs of zero groups, if that run has
+/// two groups or more; where no two zero groups stand side by side, it has all groups (RFC 5952, 4.2).
+pub fn address_text()
+    ensures shortened { (octets : List ℕ) (start len : ℕ) → IsFirstLongest (segments_of octets) start len → 2 ≤ len
+        → aaaa_text octets ≡ groups_text (take start (segments_of octets)) ++ codes "::" ++ groups_text (drop (start + len) (segments_of octets)) }
+    ensures whole { (octets : List ℕ) → ((start : ℕ) → ¬ AreZeros (segments_of octets) start 2)
+        → aaaa_text octets ≡ groups_text (segments_of octets) }
+{}
