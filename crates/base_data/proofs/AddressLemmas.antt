@@ -1,10 +1,10 @@
 -- The text of addresses of sixteen bytes.
-use Rattle.std.proofs.Common.{◌≡◌, ℕ, ◌+◌, ◌*◌, ◌-◌, ◌/◌, ◌%◌, ◌<◌, ◌≤◌, List, [], ◌∷◌, ◌++◌, length, get_or, take, drop, codes, refl, ap, subst, sym, ◌∙◌, arith, suc, ◌⊎◌, inl, inr}
+use Rattle.std.proofs.Common.{◌≡◌, ℕ, ◌+◌, ◌-◌, ◌≤◌, List, ◌++◌, take, drop, codes, refl, ap, subst, sym, ◌∙◌, arith, suc, inl, inr}
 use Rattle.std.proofs.lemmas.Bool.{cases_lt, lt-ltb, le-ltb}
 use Rattle.std.proofs.lemmas.List.{take-take}
 use Rattle.std.proofs.NetLemmas.Texts.{IsZeroRun-longest_zero_run, longest_zero_run_first}
-use Rattle.std.specs.Net.Addr.{octets_of, segments_of}
-use Rattle.std.specs.Net.Text.{compressed_text, groups_text, hex_groups_text, longest_zero_run}
+use Rattle.std.specs.Net.Addr.{segments_of}
+use Rattle.std.specs.Net.Text.{groups_text, hex_groups_text, longest_zero_run}
 use Rattle.base_data.specs.AAAA.{AreZeros, IsFirstLongest, aaaa_text}
 
 -- the run that `::` takes the place of
@@ -39,7 +39,7 @@ aaaa_text-whole octets none =
     let run = longest_zero_run (segments_of octets) in
     elim (cases_lt 1 run.1) [
       | inl long ↦
-        let more : run.1 ≡ suc (suc (run.1 - 2)) = omega arith in
-        absurd (none run.0 (two_zeros (segments_of octets) run.0 (run.1 - 2) (subst (λ (n : ℕ). AreZeros (segments_of octets) run.0 n) more (longest_run (segments_of octets)))))
+          let more : run.1 ≡ suc (suc (run.1 - 2)) = omega arith in
+          absurd (none run.0 (two_zeros (segments_of octets) run.0 (run.1 - 2) (subst (λ (n : ℕ). AreZeros (segments_of octets) run.0 n) more (longest_run (segments_of octets)))))
       | inr short ↦ rw (le-ltb 1 run.1 short) refl
     ]

@@ -1,1 +1,4 @@
 pub mod AddressLemmas
+pub mod BytesRead
+pub mod StringLemmas
+pub mod StringTexts

@@ -1,3 +1,4 @@
 pub mod A
 pub mod AAAA
 pub mod Opaque
+pub mod TXT

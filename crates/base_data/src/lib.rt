@@ -3,4 +3,4 @@
 
 pub mod rdata;
 
-pub use rdata::{A, AAAA, NULL, TSIG};
+pub use rdata::{A, AAAA, NULL, TSIG, TXT};

@@ -6,8 +6,10 @@ mod emit;
 mod hex_text;
 pub mod null;
 pub mod tsig;
+pub mod txt;
 
 pub use a::A;
 pub use aaaa::AAAA;
 pub use null::NULL;
 pub use tsig::TSIG;
+pub use txt::TXT;
