@@ -1,4 +1,6 @@
 pub mod AddressLemmas
 pub mod BytesRead
+pub mod OptionLemmas
 pub mod StringLemmas
 pub mod StringTexts
+pub mod WriteLemmas

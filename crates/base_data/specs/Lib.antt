@@ -1,4 +1,5 @@
 pub mod A
 pub mod AAAA
+pub mod OPT
 pub mod Opaque
 pub mod TXT

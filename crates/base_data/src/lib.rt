@@ -3,4 +3,4 @@
 
 pub mod rdata;
 
-pub use rdata::{A, AAAA, NULL, TSIG, TXT};
+pub use rdata::{A, AAAA, EdnsOption, NULL, OPT, TSIG, TXT};
