@@ -32,7 +32,7 @@ fn digit(value: u8) -> char
 
 /// Bytes in hexadecimal, two digits in lower case each.
 #[derive(Drop)]
-struct HexText<'a>(&'a [u8]);
+pub(crate) struct HexText<'a>(pub &'a [u8]);
 
 impl fmt::Display for HexText<'_> {
     ghost output = { λ text. Some (hex_text text.0.now) };

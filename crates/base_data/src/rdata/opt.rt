@@ -6,6 +6,7 @@ ghost use Rattle.std.specs.Option.{option_copied};
 ghost use Rattle.base.specs.Reading.{Reads};
 ghost use Rattle.base_data.specs.OPT.{first_option, has_code, opt_at, options_len, options_word, same_options, same_options-equiv, with_option, without_code};
 
+mod display;
 mod edns_option;
 
 use base::{BinDecodable, BinDecoder, BinEncodable, BinEncoder, DecodeError, ProtoError};
