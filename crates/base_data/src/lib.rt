@@ -4,3 +4,6 @@
 pub mod rdata;
 
 pub use rdata::{A, AAAA, EdnsOption, NULL, OPT, TSIG, TXT};
+
+#[cfg(test)]
+mod tests;

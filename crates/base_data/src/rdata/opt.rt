@@ -87,7 +87,7 @@ impl OPT {
     {
         let end = decoder.index() + usize::from(len);
         let mut options = Vec::new(decoder.allocator());
-        while decoder.index() < end {
+        'options: while decoder.index() < end {
             options.push(EdnsOption::read(decoder)?)?;
         }
         Ok(OPT { options })
