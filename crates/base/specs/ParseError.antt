@@ -9,5 +9,7 @@ parse_number refusals.Lexer = 18
 parse_number (refusals.Message text) = 19
 parse_number (refusals.IncludeNotFound name) = 20
 parse_number (refusals.UnknownRecordType text) = 21
+parse_number (refusals.UnsupportedRecordType type) = 22
+parse_number (refusals.BadData type) = 23
 parse_number refusals.BadName = 23
 parse_number refusals.BadTtl = 23

@@ -2,6 +2,7 @@ ghost use Rattle.std.specs.Prelude.{◌≡◌};
 ghost use Rattle.base.specs.DecodeError.{decode_number};
 ghost use Rattle.base.specs.declared.error.decode_error.DecodeError.TheVariants as faults;
 
+use crate::record_type::RecordType;
 use std::alloc::{AllocError, AllocFailed};
 use thiserror::Error;
 
@@ -25,12 +26,18 @@ pub enum DecodeError {
         /// What RDLENGTH says.
         len: usize,
     },
+    /// Data that its type doesn't read, or that doesn't fill its length.
+    #[error("data that type {0} doesn't have")]
+    BadData(RecordType),
     /// Empty data outside Update and outside type OPT (RFC 2136, 2.4).
     #[error("a record without data outside an update")]
     InvalidEmptyRecord,
     /// A record behind a nonempty TSIG (RFC 8945, 5.1).
     #[error("record after TSIG or SIG(0)")]
     RecordAfterSig,
+    /// A record of a type that stands among additionals alone: OPT, SIG or TSIG.
+    #[error("record type {0} only allowed in additional")]
+    RecordNotInAdditionalSection(RecordType),
     /// A second OPT record (RFC 6891, 6.1.1).
     #[error("more than one EDNS record")]
     DuplicateEdns,
@@ -46,8 +53,10 @@ impl DecodeError {
             DecodeError::InsufficientBytes => 4,
             DecodeError::BadName => 5,
             DecodeError::IncorrectRDataLengthRead { .. } => 7,
+            DecodeError::BadData(_) => 8,
             DecodeError::InvalidEmptyRecord => 10,
             DecodeError::RecordAfterSig => 11,
+            DecodeError::RecordNotInAdditionalSection(_) => 12,
             DecodeError::DuplicateEdns => 13,
         }
     }

@@ -2,6 +2,7 @@ ghost use Rattle.std.specs.Prelude.{◌≡◌};
 ghost use Rattle.base.specs.ParseError.{parse_number};
 ghost use Rattle.base.specs.declared.error.parse_error.ParseError.TheVariants as refusals;
 
+use crate::record_type::RecordType;
 use std::alloc::{AllocError, AllocFailed};
 use thiserror::Error;
 
@@ -23,6 +24,12 @@ pub enum ParseError {
     /// A text that is no record type, its ASCII letters raised.
     #[error("unknown record type: {0}")]
     UnknownRecordType(String),
+    /// A type without a text form.
+    #[error("record type {0} has no text form")]
+    UnsupportedRecordType(RecordType),
+    /// Items that are no data of the type.
+    #[error("data that type {0} doesn't have")]
+    BadData(RecordType),
     /// A name that the text rules refuse (RFC 1035, 5.1).
     #[error("a name is written wrongly")]
     BadName,
@@ -42,6 +49,8 @@ impl ParseError {
             ParseError::Message(_) => 19,
             ParseError::IncludeNotFound(_) => 20,
             ParseError::UnknownRecordType(_) => 21,
+            ParseError::UnsupportedRecordType(_) => 22,
+            ParseError::BadData(_) => 23,
             ParseError::BadName => 23,
             ParseError::BadTtl => 23,
         }

@@ -1,4 +1,5 @@
 use super::{DecodeError, ParseError, ProtoError};
+use crate::RecordType;
 use std::test::Fail;
 
 #[test]
@@ -8,14 +9,25 @@ fn refusals_of_reading_have_their_numbers_and_texts(rt: HostRuntime) -> Result<(
         (DecodeError::InsufficientBytes, 4),
         (DecodeError::BadName, 5),
         (DecodeError::IncorrectRDataLengthRead { read: 4, len: 5 }, 7),
+        (DecodeError::BadData(RecordType::MX), 8),
         (DecodeError::InvalidEmptyRecord, 10),
         (DecodeError::RecordAfterSig, 11),
+        (
+            DecodeError::RecordNotInAdditionalSection(RecordType::OPT),
+            12,
+        ),
         (DecodeError::DuplicateEdns, 13),
     ] {
         assert_eq!(rt; refusal.number(), number, "{refusal:?}");
     }
     let after = DecodeError::RecordAfterSig.to_string(rt.alloc())?;
     assert_eq!(rt; after.as_str(), "record after TSIG or SIG(0)");
+    let outside = DecodeError::RecordNotInAdditionalSection(RecordType::OPT);
+    let placed = outside.to_string(rt.alloc())?;
+    assert_eq!(rt;
+        placed.as_str(),
+        "record type OPT only allowed in additional"
+    );
     let second = DecodeError::DuplicateEdns.to_string(rt.alloc())?;
     assert_eq!(rt; second.as_str(), "more than one EDNS record");
     Ok(())
@@ -30,6 +42,8 @@ fn refusals_of_zone_text_have_their_numbers_and_texts(rt: HostRuntime) -> Result
         (ParseError::Lexer, 18),
         (ParseError::Message("$ORIGIN was not specified"), 19),
         (ParseError::IncludeNotFound(missing), 20),
+        (ParseError::UnsupportedRecordType(RecordType::NULL), 22),
+        (ParseError::BadData(RecordType::A), 23),
         (ParseError::BadName, 23),
         (ParseError::BadTtl, 23),
     ] {
