@@ -38,6 +38,14 @@ labels_cmp = on reverse (slice_cmp (slice_cmp nat_cmp))
 abbrev pub same_by : (NameValue → List (List ℕ)) → NameValue → NameValue → Bool
 same_by shown = eq_of_both (on (λ n. n.absolute) beq) (on shown same_labels)
 
+-- the canonical form of a name (RFC 4034, 6.2), but for the final zero byte
+abbrev pub canonical_name : NameValue → List ℕ
+canonical_name name = wire_of (folded name)
+
+-- the order of names by their canonical forms: by the first byte that differs (RFC 4034, 6.3)
+abbrev pub canonical_cmp : NameValue → NameValue → Ordering
+canonical_cmp = on canonical_name (slice_cmp nat_cmp)
+
 -- relative names before absolute ones, and then by the labels as they are shown
 abbrev pub cmp_by : (NameValue → List (List ℕ)) → NameValue → NameValue → Ordering
 cmp_by shown = then_cmp (on (λ n. n.absolute) bool_cmp) (on shown labels_cmp)

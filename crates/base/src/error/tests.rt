@@ -1,5 +1,6 @@
 use super::{DecodeError, ParseError, ProtoError};
 use crate::{Name, RecordType};
+use crate::RecordType;
 use std::test::Fail;
 
 #[test]

@@ -6,7 +6,7 @@ ghost use Rattle.std.specs.Cmp.{partial_equiv_from_equiv};
 ghost use Rattle.std.specs.Cmp.Lexicographic.{slice_cmp};
 ghost use Rattle.std.specs.Ordering.{as_partial_cmp, nat_cmp};
 ghost use Rattle.base.specs.Labels.{NameValue, AreLabels, wire_of, labels_of};
-ghost use Rattle.base.specs.NameOrder.{folded, folded_labels, lowered, labels_cmp, same_labels, same_name, name_cmp, name_fed, same_by-equiv, same_by-tie, cmp_by-total, cmp_by-partial, fed_by-same};
+ghost use Rattle.base.specs.NameOrder.{canonical_cmp, folded, folded_labels, lowered, labels_cmp, same_labels, same_name, name_cmp, name_fed, same_by-equiv, same_by-tie, cmp_by-total, cmp_by-partial, fed_by-same};
 
 use crate::name::{Name, first_label};
 use std::alloc::AllocError;
@@ -25,6 +25,15 @@ impl Name {
         let (count, others) = (self.label_count(), other.label_count());
         count <= others
             && same_in_any_case(past_labels(other.as_wire(), others - count), self.as_wire())
+    }
+
+    /// The order of the canonical forms of names: the labels from the left, each behind its length, with their
+    /// ASCII letters in lower case, by the first byte that differs (RFC 4034, 6.2 and 6.3). Whether the names
+    /// are absolute is not looked at.
+    pub fn canonical_cmp(&self, other: &Name) -> Ordering
+        ensures { result ≡ canonical_cmp self.now other.now }
+    {
+        cmp_label(self.as_wire(), other.as_wire())
     }
 
     /// The name with its ASCII letters in lower case. Grows memory once, and not at all for a name without

@@ -3,7 +3,7 @@
 ghost use Rattle.std.specs.Prelude.{◌≡◌, ◌-◌, ◌^◌, ◌<◌, ◌≤◌, length, nat_le, IsOkUnless};
 ghost use Rattle.std.specs.Int.{w16, w32};
 ghost use Rattle.base.specs.Reader.{begun};
-ghost use Rattle.base.specs.Reading.{Reads, byte_at, number_at};
+ghost use Rattle.base.specs.Reading.{Reads, byte_at, bytes_at, number_at};
 
 use crate::error::DecodeError;
 use std::alloc::Global;
@@ -123,5 +123,18 @@ impl<'a> BinDecoder<'a> {
             }
             _ => Err(DecodeError::InsufficientBytes),
         }
+    }
+
+    /// Reads as many bytes as they are. Refused where fewer are left.
+    pub fn read_slice(&mut self, len: usize) -> Result<&'a [u8], DecodeError>
+        ensures only { IsOkUnless result DecodeError.InsufficientBytes }
+        ensures read { Reads (λ bytes. bytes.now) self.old self.new result (bytes_at len self.old.bytes self.old.index) }
+    {
+        let start = self.index;
+        if len > self.buffer.len() - start {
+            return Err(DecodeError::InsufficientBytes);
+        }
+        self.index += len;
+        Ok(&self.buffer[start..start + len])
     }
 }

@@ -1,0 +1,7 @@
+pub mod AddressLemmas
+pub mod BytesRead
+pub mod OptionLemmas
+pub mod OptionTexts
+pub mod StringLemmas
+pub mod StringTexts
+pub mod WriteLemmas

@@ -1,0 +1,154 @@
+-- Options, written and read one behind the other.
+use Rattle.std.proofs.Common.{◌≡◌, ℕ, ◌+◌, ◌<◌, ◌≤◌, List, [], ◌∷◌, ◌++◌, zero, suc, length, take, get_or, refl, ap, sym, ◌∙◌, subst, arith, append_assoc, Result, Ok, Err}
+use Rattle.std.proofs.lemmas.Bool.{le-leb, lt-leb}
+use Rattle.std.specs.Int.{w16}
+use Rattle.std.proofs.lemmas.List.{take_more, append-nil}
+use Rattle.base.proofs.LawLemmas.{Keeps-same, Keeps-then, Writes-then, Writes-weaker}
+use Rattle.base.proofs.ManyLemmas.{with_front, front_none}
+use Rattle.base.proofs.ReadLemmas.{Fails-through, bind_ok, number_is}
+use Rattle.base.specs.Laws.{Keeps, Writes}
+use Rattle.base.specs.Reading.{Read, Fails, ◌>>=◌, bytes_at, number_at}
+use Rattle.base.specs.State.{State}
+use Rattle.base.specs.Wire.{Refuses}
+use Rattle.base.specs.Words.{BackToBack}
+use Rattle.base.specs.Words.BackToBack.{none, more}
+use Rattle.base.specs.declared.error.decode_error.DecodeError.{DecodeError}
+use Rattle.base.specs.declared.error.proto_error.ProtoError.{ProtoError}
+use Rattle.base.specs.declared.error.proto_error.ProtoError.TheVariants as refusals
+use Rattle.base_data.proofs.BytesRead.{bytes_is}
+use Rattle.base_data.specs.OPT.{OptionValue, opt_at, option_at, option_len, option_word, options_len, options_to, options_word}
+
+-- ---- writing
+
+-- one word more behind the others
+back_push : {A : Type 0} {Word : ℕ → A → ℕ → Type 0} {i m e : ℕ} {xs : List A} {x : A} → BackToBack Word i xs m → Word m x e → BackToBack Word i (xs ++ x ∷ []) e
+back_push none word = more word none
+back_push (more first rest) word = more first (back_push rest word)
+
+options_len-push : (xs : List OptionValue) (x : OptionValue) → options_len (xs ++ x ∷ []) ≡ options_len xs + option_len x
+options_len-push [] x = omega arith
+options_len-push (y ∷ ys) x = omega (arith, options_len-push ys x)
+
+-- options were written
+pub record AreWritten (options : List OptionValue) (a s : State) : Type 0 where
+  pub keeps : Keeps a s
+  pub writes : Writes (options_word options) (options_len options) [] a s
+
+pub written_none : (a : State) → AreWritten [] a a
+written_none a = record {
+  keeps = Keeps-same a a refl;
+  writes = record {
+    word_stands = λ B h. none;
+    valid = λ B h. h.table;
+    at_most = omega arith;
+    compresses = record {
+      end = 0;
+      spelled = λ some. absurd (some refl);
+      short = λ some. absurd (some refl);
+      stored = λ some. absurd (some refl);
+    };
+  };
+}
+
+written_push : (options : List OptionValue) (option : OptionValue) (a s t : State) → AreWritten options a s → Keeps s t → Writes (option_word option) (option_len option) [] s t → AreWritten (options ++ option ∷ []) a t
+written_push options option a s t before k w = record {
+  keeps = Keeps-then before.keeps k;
+  writes = Writes-weaker (λ B i e both. back_push both.1 both.2) (omega (arith, options_len-push options option)) (Writes-then before.keeps k before.writes w);
+}
+
+pub written_more : (options : List OptionValue) (i : ℕ) (option : OptionValue) (a s t : State) → i < length options → option ≡ get_or options i option → AreWritten (take i options) a s → Keeps s t → Writes (option_word option) (option_len option) [] s t → AreWritten (take (i + 1) options) a t
+written_more options i option a s t inside is before k w =
+    let next : take (i + 1) options ≡ take i options ++ option ∷ [] = take_more options i option inside ∙ ap (λ (x : OptionValue). take i options ++ x ∷ []) (sym is) in
+    subst (λ (xs : List OptionValue). AreWritten xs a t) (sym next) (written_push (take i options) option a s t before k w)
+
+len_take : (xs : List OptionValue) (n : ℕ) → options_len (take n xs) ≤ options_len xs
+len_take xs zero = omega arith
+len_take [] (suc n) = omega arith
+len_take (x ∷ xs) (suc n) = omega (arith, len_take xs n)
+
+refuses_later : (e : ProtoError) (n m : ℕ) (a s : State) → (s.limit < length s.bytes + n → a.limit < length a.bytes + m) → Refuses {X = Unit {0}} n s (Err e) → Refuses {X = Unit {0}} m a (Err e)
+refuses_later refusals.MaxBufferSizeExceeded n m a s follows full = follows full
+refuses_later refusals.Memory n m a s follows full = tt
+refuses_later _ n m a s follows full = full
+
+-- an option that does not fit passes the limit of all
+pub refused_all : (options : List OptionValue) (i : ℕ) (option : OptionValue) (e : ProtoError) (a s : State) → i < length options → option ≡ get_or options i option → AreWritten (take i options) a s
+    → Refuses {X = Unit {0}} (option_len option) s (Err e) → Refuses {X = Unit {0}} (options_len options) a (Err e)
+refused_all options i option e a s inside is before refused =
+    let next : options_len (take (i + 1) options) ≡ options_len (take i options) + option_len option =
+    ap options_len (take_more options i option inside ∙ ap (λ (x : OptionValue). take i options ++ x ∷ []) (sym is)) ∙ options_len-push (take i options) option in
+    refuses_later e (option_len option) (options_len options) a s (λ (full : s.limit < length s.bytes + option_len option).
+    omega (arith, full, next, len_take options (i + 1), before.writes.at_most, before.keeps.limit)) refused
+
+-- ---- reading
+
+-- an option takes a byte at least
+pub option_moves : (B : List ℕ) (i : ℕ) (r : OptionValue × ℕ) → option_at B i ≡ Ok r → i < r.1
+option_moves B i r is =
+    let code = bind_ok (number_at w16 B i) _ r is in
+    let len = bind_ok (number_at w16 B code.value.1) _ r code.second in
+    let text = bind_ok (bytes_at len.value.0 B len.value.1) _ r len.second in
+    let end : text.value.1 ≡ r.1 = ap (λ (x : OptionValue × ℕ). x.1) (same_ok text.second) in
+    omega (arith, (number_is w16 B i code.value code.first).behind, (number_is w16 B code.value.1 len.value len.first).behind, (bytes_is len.value.0 B len.value.1 text.value text.first).behind, end) where
+      same_ok : {A : Type 0} {x y : A} → ◌≡◌ {A = Result A DecodeError} (Ok x) (Ok y) → x ≡ y
+      same_ok same = cc
+
+-- the options that were read, and those that are still read, are all; in the one buffer
+pub record AreGathered (count end : ℕ) (first bytes : List ℕ) (start i : ℕ) (items : List OptionValue) : Type 0 where
+  pub fuel : ℕ
+  pub room : end ≤ i + fuel
+  pub whole : with_front items (options_to fuel end bytes i) ≡ options_to count end first start
+  pub same : bytes ≡ first
+
+pub gathered_none : (count end : ℕ) (bytes : List ℕ) (i : ℕ) → end ≡ i + count → AreGathered count end bytes bytes i i []
+gathered_none count end bytes i is = record { fuel = count; room = omega arith; whole = front_none (options_to count end bytes i); same = refl }
+
+one_more : (items : List OptionValue) (x : OptionValue) (r : Read (List OptionValue)) → with_front items (r >>= λ others. Ok (x ∷ others.0, others.1)) ≡ with_front (items ++ x ∷ []) r
+one_more items x (Ok r) = ap (λ ys. Ok (ys, r.1)) (sym (append_assoc items (x ∷ []) r.0))
+one_more items x (Err e) = refl
+
+options_step : (n end : ℕ) (B : List ℕ) (i : ℕ) (items : List OptionValue) (x : OptionValue) (e : ℕ) → i < end → option_at B i ≡ Ok (x, e)
+    → with_front items (options_to (suc n) end B i) ≡ with_front (items ++ x ∷ []) (options_to n end B e)
+unfolding options_to
+options_step n end B i items x e below is = rw (lt-leb end i below, is) (one_more items x (options_to n end B e))
+
+options_fault : (n end : ℕ) (B : List ℕ) (i : ℕ) (items : List OptionValue) (f : DecodeError) → i < end → option_at B i ≡ Err f → with_front items (options_to (suc n) end B i) ≡ Err f
+unfolding options_to
+options_fault n end B i items f below is = rw (lt-leb end i below, is) refl
+
+options_end : (n end : ℕ) (B : List ℕ) (i : ℕ) (items : List OptionValue) → end ≤ i → with_front items (options_to n end B i) ≡ Ok (items, i)
+unfolding options_to
+options_end zero end B i items done = ap (λ ys. Ok (ys, i)) (append-nil items)
+options_end (suc n) end B i items done = rw (le-leb end i done) (ap (λ ys. Ok (ys, i)) (append-nil items))
+
+-- some options are still looked for before the end
+some_fuel : (count end : ℕ) (first bytes : List ℕ) (start i : ℕ) (items : List OptionValue) → i < end → (g : AreGathered count end first bytes start i items) → (n : ℕ) × (g.fuel ≡ suc n)
+some_fuel count end first bytes start i items below g = at g.fuel g.room where
+  at : (n : ℕ) → end ≤ i + n → (m : ℕ) × (n ≡ suc m)
+  at zero room = absurd (omega arith)
+  at (suc n) room = (n, refl)
+
+pub gathered_more : (count end : ℕ) (first bytes : List ℕ) (start i : ℕ) (items : List OptionValue) (x : OptionValue) (e : ℕ) → i < end → option_at bytes i ≡ Ok (x, e) → AreGathered count end first bytes start i items → AreGathered count end first bytes start e (items ++ x ∷ [])
+gathered_more count end first bytes start i items x e below is g =
+    let fuel = some_fuel count end first bytes start i items below g in
+    let moved : i < e = option_moves bytes i (x, e) is in
+    record {
+      fuel = fuel.0;
+      room = omega (arith, g.room, fuel.1, moved);
+      whole = sym (options_step fuel.0 end bytes i items x e below is) ∙ ap (λ (n : ℕ). with_front items (options_to n end bytes i)) (sym fuel.1) ∙ g.whole;
+      same = g.same;
+    }
+
+pub gathered_fault : (count end : ℕ) (first bytes : List ℕ) (start i : ℕ) (items : List OptionValue) (f : DecodeError) → i < end → Fails f (option_at bytes i) → AreGathered count end first bytes start i items → Fails f (options_to count end first start)
+gathered_fault count end first bytes start i items f below fails g =
+    let fuel = some_fuel count end first bytes start i items below g in
+    Fails-through f (option_at bytes i) (options_to count end first start)
+    (λ is. sym g.whole ∙ ap (λ (n : ℕ). with_front items (options_to n end bytes i)) fuel.1 ∙ options_fault fuel.0 end bytes i items f below is) fails
+
+pub gathered_all : (count end : ℕ) (first bytes : List ℕ) (start i : ℕ) (items : List OptionValue) → end ≤ i → AreGathered count end first bytes start i items → options_to count end first start ≡ Ok (items, i)
+gathered_all count end first bytes start i items done g = sym g.whole ∙ options_end g.fuel end bytes i items done
+
+-- the options of as many bytes are those up to their end
+pub opt_at-to : (len end : ℕ) (B : List ℕ) (i : ℕ) → end ≡ i + len → opt_at len B i ≡ options_to len end B i
+unfolding opt_at
+opt_at-to len end B i is = ap (λ (n : ℕ). options_to len n B i) (sym is)

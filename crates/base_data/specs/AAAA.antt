@@ -1,0 +1,25 @@
+-- Addresses of sixteen bytes (RFC 3596, 2.2), and their text (RFC 5952, 4).
+use Rattle.std.specs.Prelude.{◌≡◌, ℕ, ◌+◌, ◌≤◌, List, length, take, drop, replicate, Ok}
+use Rattle.std.specs.Net.Addr.{segments_of}
+use Rattle.std.specs.Net.Text.{hex_groups_text}
+use Rattle.base.specs.Reading.{Read, bytes_at, ◌>>=◌}
+use Rattle.base_data.specs.declared.rdata.aaaa.AAAA.{AAAA}
+
+-- the address at a place
+abbrev pub aaaa_at : List ℕ → ℕ → Read AAAA
+aaaa_at bytes i = bytes_at 16 bytes i >>= λ r. Ok (record { octets = r.0 }, r.1)
+
+-- the text of sixteen bytes: eight groups of two bytes each
+abbrev pub aaaa_text : List ℕ → List ℕ
+aaaa_text octets = hex_groups_text (segments_of octets)
+
+-- as many groups from here on are zero
+pub record AreZeros (groups : List ℕ) (start len : ℕ) : Type 0 where
+  pub inside : start + len ≤ length groups
+  pub zeros : take len (drop start groups) ≡ replicate len 0
+
+-- the first of the longest runs of zero groups
+pub record IsFirstLongest (groups : List ℕ) (start len : ℕ) : Type 0 where
+  pub run : AreZeros groups start len
+  pub longest : (s n : ℕ) → AreZeros groups s n → n ≤ len
+  pub first : (s : ℕ) → AreZeros groups s len → start ≤ s

@@ -1,0 +1,13 @@
+pub mod A
+pub mod AAAA
+pub mod ANAME
+pub mod CNAME
+pub mod MX
+pub mod NS
+pub mod NameData
+pub mod OPT
+pub mod Opaque
+pub mod PTR
+pub mod SOA
+pub mod SRV
+pub mod TXT

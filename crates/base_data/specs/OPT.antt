@@ -1,0 +1,86 @@
+-- EDNS options: each a code, a length and as many bytes (RFC 6891, 6.1.2).
+use Rattle.std.specs.Prelude.{ℕ, Bool, ◌+◌, ◌==◌, not, List, [], ◌∷◌, ◌++◌, zero, suc, length, filter, find, position, slice_set, nat_eq, nat_le, if◌then◌else◌, Option, Ok}
+use Rattle.std.proofs.Common.{rules}
+use Rattle.std.specs.Cmp.{IsEquivalence}
+use Rattle.std.specs.Cmp.Lexicographic.{pointwise}
+use Rattle.std.specs.Cmp.Rules.{comparing}
+use Rattle.std.specs.Int.{w16, to_be_bytes}
+use Rattle.std.specs.Option.{option_map_or}
+use Rattle.std.specs.Ordering.{eq_of_both, on}
+use Rattle.base.specs.Reading.{Read, bytes_at, number_at, ◌>>=◌}
+use Rattle.base.specs.Words.{BackToBack, Bytes, Number, Then}
+use Rattle.base_data.specs.Opaque.{same_bytes}
+
+-- an option's code and bytes
+pub record OptionValue : Type 0 where
+  pub code : ℕ
+  pub bytes : List ℕ
+
+-- the bytes of an option on the wire
+abbrev pub option_wire : OptionValue → List ℕ
+option_wire option = to_be_bytes w16 option.code ++ to_be_bytes w16 (length option.bytes) ++ option.bytes
+
+abbrev pub options_wire : List OptionValue → List ℕ
+options_wire [] = []
+options_wire (option ∷ options) = option_wire option ++ options_wire options
+
+-- an option stands here
+abbrev pub option_word : OptionValue → List ℕ → ℕ → ℕ → Type 0
+option_word option = Then (Number w16 option.code) (Then (Number w16 (length option.bytes)) (Bytes option.bytes))
+
+abbrev pub option_len : OptionValue → ℕ
+option_len option = 2 + (2 + length option.bytes)
+
+-- options stand here, back to back
+abbrev pub options_word : List OptionValue → List ℕ → ℕ → ℕ → Type 0
+options_word options B i e = BackToBack (λ (j : ℕ) (option : OptionValue) (k : ℕ). option_word option B j k) i options e
+
+abbrev pub options_len : List OptionValue → ℕ
+options_len [] = 0
+options_len (option ∷ options) = option_len option + options_len options
+
+-- the option at a place
+abbrev pub option_at : List ℕ → ℕ → Read OptionValue
+option_at bytes i =
+    number_at w16 bytes i >>= λ code. number_at w16 bytes code.1 >>= λ len.
+    bytes_at len.0 bytes len.1 >>= λ text. Ok (record { code = code.0; bytes = text.0 }, text.1)
+
+-- the options up to an end, of as many at most
+unfoldable pub options_to : ℕ → ℕ → List ℕ → ℕ → Read (List OptionValue)
+options_to zero end bytes i = Ok ([], i)
+options_to (suc n) end bytes i =
+    if nat_le end i then Ok ([], i)
+    else (option_at bytes i >>= λ first. options_to n end bytes first.1 >>= λ others. Ok (first.0 ∷ others.0, others.1))
+
+-- The options that begin within as many bytes. An option takes a byte at least, so as many options suffice.
+unfoldable pub opt_at : ℕ → List ℕ → ℕ → Read (List OptionValue)
+opt_at len bytes i = options_to len (i + len) bytes i
+
+-- whether an option has the code
+abbrev pub has_code : ℕ → OptionValue → Bool
+has_code code option = option.code == code
+
+-- the first option of a code
+abbrev pub first_option : ℕ → List OptionValue → Option OptionValue
+first_option code options = find (has_code code) options
+
+-- with an option in the place of the first of its code, or behind all others where none has its code
+abbrev pub with_option : OptionValue → List OptionValue → List OptionValue
+with_option option options = option_map_or (λ i. slice_set options i option) (position (has_code option.code) options) (options ++ option ∷ [])
+
+-- without the options of a code
+abbrev pub without_code : ℕ → List OptionValue → List OptionValue
+without_code code options = filter (λ option. not (has_code code option)) options
+
+-- the same code and the same bytes
+abbrev pub same_option : OptionValue → OptionValue → Bool
+same_option = eq_of_both (on (λ o. o.code) nat_eq) (on (λ o. o.bytes) same_bytes)
+
+abbrev pub same_options : List OptionValue → List OptionValue → Bool
+same_options = pointwise same_option
+
+pub same_option-equiv : IsEquivalence same_option
+same_option-equiv = search (comparing, rules)
+
+pub same_options-equiv : IsEquivalence same_options
+same_options-equiv = search (comparing, rules) depth 9

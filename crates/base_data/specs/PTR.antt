@@ -1,0 +1,25 @@
+-- Pointers to names (RFC 1035, 3.3.12).
+use Rattle.std.specs.Prelude.{ℕ, List, Ok}
+use Rattle.std.proofs.Common.{rules}
+use Rattle.std.specs.Cmp.{IsTotalOrder}
+use Rattle.std.specs.Cmp.Rules.{comparing}
+use Rattle.std.specs.Ordering.{on, then_cmp}
+use Rattle.std.specs.declared.cmp.Ordering.{Ordering}
+use Rattle.base.specs.NameOrder.{canonical_cmp}
+use Rattle.base.specs.Names.{name_at}
+use Rattle.base.specs.Reading.{Read, ◌>>=◌}
+use Rattle.base_data.specs.NameData.{canonical_cmp-total, flag_cmp, flag_cmp-total}
+use Rattle.base_data.specs.declared.rdata.ptr.PTR.{PTR}
+
+-- the data at a place
+unfoldable pub ptr_at : List ℕ → ℕ → Read PTR
+ptr_at bytes i = do
+  name ← name_at bytes i
+  Ok (record { name = name.0 }, name.1)
+
+-- the order: by the bytes of the canonical form (RFC 4034, 6.3), then relative names first
+abbrev pub ptr_cmp : PTR → PTR → Ordering
+ptr_cmp = then_cmp (on (λ x. x.name) canonical_cmp) (on (λ x. x.name) flag_cmp)
+
+pub ptr_cmp-total : IsTotalOrder ptr_cmp
+ptr_cmp-total = search (canonical_cmp-total, flag_cmp-total, comparing, rules) depth 6

@@ -1,0 +1,32 @@
+-- Starts of zones (RFC 1035, 3.3.13).
+use Rattle.std.specs.Prelude.{ℕ, List, Ok}
+use Rattle.std.proofs.Common.{rules}
+use Rattle.std.specs.Cmp.{IsTotalOrder}
+use Rattle.std.specs.Cmp.Rules.{comparing}
+use Rattle.std.specs.Int.{w32}
+use Rattle.std.specs.Ordering.{nat_cmp, on, then_cmp}
+use Rattle.std.specs.declared.cmp.Ordering.{Ordering}
+use Rattle.base.specs.NameOrder.{canonical_cmp}
+use Rattle.base.specs.Names.{name_at}
+use Rattle.base.specs.Reading.{Read, number_at, ◌>>=◌}
+use Rattle.base_data.specs.NameData.{canonical_cmp-total, flag_cmp, flag_cmp-total}
+use Rattle.base_data.specs.declared.rdata.soa.SOA.{SOA}
+
+-- the data at a place
+unfoldable pub soa_at : List ℕ → ℕ → Read SOA
+soa_at bytes i = do
+  mname ← name_at bytes i
+  rname ← name_at bytes mname.1
+  serial ← number_at w32 bytes rname.1
+  refresh ← number_at w32 bytes serial.1
+  retry ← number_at w32 bytes refresh.1
+  expire ← number_at w32 bytes retry.1
+  minimum ← number_at w32 bytes expire.1
+  Ok (record { mname = mname.0; rname = rname.0; serial = serial.0; refresh = refresh.0; retry = retry.0; expire = expire.0; minimum = minimum.0 }, minimum.1)
+
+-- the order: by the bytes of the canonical form (RFC 4034, 6.3), then relative names first
+abbrev pub soa_cmp : SOA → SOA → Ordering
+soa_cmp = then_cmp (then_cmp (then_cmp (then_cmp (then_cmp (then_cmp (then_cmp (then_cmp (on (λ x. x.mname) canonical_cmp) (on (λ x. x.rname) canonical_cmp)) (on (λ x. x.serial) nat_cmp)) (on (λ x. x.refresh) nat_cmp)) (on (λ x. x.retry) nat_cmp)) (on (λ x. x.expire) nat_cmp)) (on (λ x. x.minimum) nat_cmp)) (on (λ x. x.mname) flag_cmp)) (on (λ x. x.rname) flag_cmp)
+
+pub soa_cmp-total : IsTotalOrder soa_cmp
+soa_cmp-total = search (canonical_cmp-total, flag_cmp-total, comparing, rules) depth 13

@@ -1,0 +1,9 @@
+//! The data of records: every kind, how it is read, written, compared and printed (RFC 1035, 3.3).
+#![tactic(auto)]
+
+pub mod rdata;
+
+pub use rdata::{A, AAAA, ANAME, CNAME, EdnsOption, MX, NS, NULL, OPT, PTR, SOA, SRV, TSIG, TXT};
+
+#[cfg(test)]
+mod tests;

@@ -1,0 +1,73 @@
+//! Addresses of four bytes.
+
+ghost use Rattle.std.specs.Prelude.{◌≡◌, [], Some};
+ghost use Rattle.std.specs.Net.Addr.{ipv4_octets};
+ghost use Rattle.std.specs.Net.Text.{ipv4_text};
+ghost use Rattle.base.specs.Words.{Bytes};
+ghost use Rattle.base_data.specs.A.{a_at};
+
+use crate::rdata::emit::emit_bytes;
+use base::{BinDecodable, BinDecoder, BinEncodable, BinEncoder, DecodeError, ProtoError};
+use std::fmt;
+use std::net::Ipv4Addr;
+
+/// An address of a host: four bytes (RFC 1035, 3.4.1). Ordered by its bytes.
+#[derive(Clone, Copy, Debug, PartialEq, Eq, PartialOrd, Ord)]
+pub struct A {
+    /// The bytes of the address, in the order of the wire.
+    pub octets: [u8; 4],
+}
+
+impl A {
+    /// The data of this address.
+    pub fn new(address: Ipv4Addr) -> A
+        ensures { result.octets ≡ ipv4_octets address }
+    {
+        A {
+            octets: address.octets(),
+        }
+    }
+
+    /// The address.
+    pub fn address(&self) -> Ipv4Addr
+        ensures { ipv4_octets result ≡ self.now.octets }
+    {
+        Ipv4Addr::from_octets(self.octets)
+    }
+}
+
+impl fmt::Display for A {
+    ghost output = { λ a. Some (ipv4_text a.octets) };
+
+    /// Four decimal numbers with dots between them (RFC 1035, 3.4.1).
+    fn fmt<W: fmt::Write>(&self, f: &mut fmt::Formatter<W>) -> fmt::Result {
+        write!(f, "{}", self.address())
+    }
+}
+
+impl BinEncodable for A {
+    ghost word = { λ a. Bytes a.octets };
+
+    ghost plain_len = { λ _. 4 };
+
+    ghost owner = { λ _. [] };
+
+    /// Writes the four bytes.
+    fn emit(&self, encoder: &mut BinEncoder<'_>) -> Result<(), ProtoError> {
+        emit_bytes(&self.octets, encoder)
+    }
+}
+
+impl BinDecodable for A {
+    ghost read_at = { a_at };
+
+    /// Reads four bytes. Refused with `InsufficientBytes` where fewer are left.
+    fn read(decoder: &mut BinDecoder<'_>) -> Result<A, DecodeError> {
+        match decoder.read_slice(4)? {
+            [a, b, c, d] => Ok(A {
+                octets: [*a, *b, *c, *d],
+            }),
+            _ => Err(DecodeError::InsufficientBytes),
+        }
+    }
+}

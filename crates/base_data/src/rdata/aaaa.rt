@@ -1,0 +1,81 @@
+//! Addresses of sixteen bytes.
+
+ghost use Rattle.std.specs.Prelude.{◌≡◌, ◌+◌, ◌++◌, ◌≤◌, ℕ, List, [], Some, codes, take, drop};
+ghost use Rattle.std.specs.Net.Addr.{ipv6_octets, ipv6_segments, segments_of};
+ghost use Rattle.std.specs.Net.Text.{groups_text};
+ghost use Rattle.base.specs.Words.{Bytes};
+ghost use Rattle.base_data.specs.AAAA.{AreZeros, IsFirstLongest, aaaa_at, aaaa_text};
+
+use crate::rdata::emit::emit_bytes;
+use base::{BinDecodable, BinDecoder, BinEncodable, BinEncoder, DecodeError, ProtoError};
+use std::fmt;
+use std::net::Ipv6Addr;
+
+/// An address of a host: sixteen bytes (RFC 3596, 2.2). Ordered by its bytes.
+#[derive(Clone, Copy, Debug, PartialEq, Eq, PartialOrd, Ord)]
+pub struct AAAA {
+    /// The bytes of the address, in the order of the wire.
+    pub octets: [u8; 16],
+}
+
+impl AAAA {
+    /// The data of this address.
+    pub fn new(address: Ipv6Addr) -> AAAA
+        ensures { result.octets ≡ ipv6_octets address }
+    {
+        AAAA {
+            octets: address.octets(),
+        }
+    }
+
+    /// The address.
+    pub fn address(&self) -> Ipv6Addr
+        ensures { ipv6_segments result ≡ segments_of self.now.octets }
+    {
+        Ipv6Addr::from_octets(self.octets)
+    }
+}
+
+impl fmt::Display for AAAA {
+    ghost output = { λ a. Some (aaaa_text a.octets) };
+
+    /// Eight groups in hexadecimal with colons between them, in lower case and without leading zeros. The
+    /// first longest run of zero groups, if it has two or more, is written `::`; no part is ever dotted
+    /// (RFC 5952, 4).
+    fn fmt<W: fmt::Write>(&self, f: &mut fmt::Formatter<W>) -> fmt::Result {
+        write!(f, "{}", self.address().hex_groups())
+    }
+}
+
+impl BinEncodable for AAAA {
+    ghost word = { λ a. Bytes a.octets };
+
+    ghost plain_len = { λ _. 16 };
+
+    ghost owner = { λ _. [] };
+
+    /// Writes the sixteen bytes.
+    fn emit(&self, encoder: &mut BinEncoder<'_>) -> Result<(), ProtoError> {
+        emit_bytes(&self.octets, encoder)
+    }
+}
+
+impl BinDecodable for AAAA {
+    ghost read_at = { aaaa_at };
+
+    /// Reads sixteen bytes. Refused with `InsufficientBytes` where fewer are left.
+    fn read(decoder: &mut BinDecoder<'_>) -> Result<AAAA, DecodeError> {
+        let mut octets = [0; 16];
+        octets.copy_from_slice(decoder.read_slice(16)?);
+        Ok(AAAA { octets })
+    }
+}
+
+/// The text of an address has `::` in place of the first of the longest runs of zero groups, if that run has
+/// two groups or more; where no two zero groups stand side by side, it has all groups (RFC 5952, 4.2).
+pub fn address_text()
+    ensures shortened { (octets : List ℕ) (start len : ℕ) → IsFirstLongest (segments_of octets) start len → 2 ≤ len
+        → aaaa_text octets ≡ groups_text (take start (segments_of octets)) ++ codes "::" ++ groups_text (drop (start + len) (segments_of octets)) }
+    ensures whole { (octets : List ℕ) → ((start : ℕ) → ¬ AreZeros (segments_of octets) start 2)
+        → aaaa_text octets ≡ groups_text (segments_of octets) }
+{}

@@ -1,0 +1,98 @@
+//! Names whose addresses another name has too.
+
+ghost use Rattle.std.specs.Prelude.{◌≡◌, refl};
+ghost use Rattle.std.specs.Cmp.{eq_by_cmp_equiv, partial_equiv_from_equiv, partial_order_from_total};
+ghost use Rattle.std.specs.Ordering.{as_partial_cmp, eq_by_cmp};
+ghost use Rattle.base_data.specs.ANAME.{aname_at, aname_cmp, aname_cmp-total};
+
+use base::{BinDecodable, BinDecoder, DecodeError, Name};
+use std::alloc::AllocError;
+use std::cmp::Ordering;
+
+/// The name whose addresses a name has too.
+#[derive(Debug, Drop)]
+pub struct ANAME {
+    /// The name that has the addresses.
+    pub name: Name,
+}
+
+impl ANAME {
+    /// The data of these fields.
+    pub fn new(name: Name) -> ANAME
+        ensures { result ≡ record { name = name } }
+    {
+        ANAME { name }
+    }
+
+    /// The name that has the addresses.
+    pub fn name(&self) -> &Name
+        ensures { result.now ≡ self.now.name }
+    {
+        &self.name
+    }
+}
+
+impl Clone for ANAME {
+    ghost is_clone = { λ a b. b ≡ a };
+
+    fn clone(&self) -> Result<ANAME, AllocError> {
+        Ok(ANAME {
+            name: self.name.clone()?,
+        })
+    }
+}
+
+impl PartialEq for ANAME {
+    ghost eq = { eq_by_cmp aname_cmp };
+
+    ghost laws = { partial_equiv_from_equiv (eq_by_cmp_equiv aname_cmp-total) };
+
+    /// The same fields, letters of names in either case.
+    fn eq(&self, other: &ANAME) -> bool {
+        self.cmp(other).is_eq()
+    }
+}
+
+impl Eq for ANAME {
+    ghost laws = { eq_by_cmp_equiv aname_cmp-total };
+}
+
+impl Ord for ANAME {
+    ghost cmp = { aname_cmp };
+
+    ghost total = { aname_cmp-total };
+
+    ghost matches_partial_cmp = { λ _ _. refl };
+
+    ghost matches_eq = { λ _ _. refl };
+
+    /// By the bytes of the canonical form (RFC 4034, 6.3), then relative names first.
+    fn cmp(&self, other: &ANAME) -> Ordering {
+        self.name
+            .canonical_cmp(&other.name)
+            .then(self.name.is_fqdn().cmp(&other.name.is_fqdn()))
+    }
+}
+
+impl PartialOrd for ANAME {
+    ghost partial_cmp = { as_partial_cmp aname_cmp };
+
+    ghost laws = { partial_order_from_total aname_cmp-total };
+
+    fn partial_cmp(&self, other: &ANAME) -> Option<Ordering> {
+        Some(self.cmp(other))
+    }
+}
+
+impl BinDecodable for ANAME {
+    ghost read_at = { aname_at };
+
+    /// Reads the fields one behind the other, names with their pointers followed. Refused with the first fault,
+    /// and for want of memory.
+    #[tactic(auto, unfolding(crate::specs::ANAME::aname_at))]
+    fn read(decoder: &mut BinDecoder<'_>) -> Result<ANAME, DecodeError> {
+        Ok(ANAME {
+            name: Name::read(decoder)?,
+        })
+    }
+}

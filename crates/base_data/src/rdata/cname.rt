@@ -1,0 +1,98 @@
+//! Aliases.
+
+ghost use Rattle.std.specs.Prelude.{◌≡◌, refl};
+ghost use Rattle.std.specs.Cmp.{eq_by_cmp_equiv, partial_equiv_from_equiv, partial_order_from_total};
+ghost use Rattle.std.specs.Ordering.{as_partial_cmp, eq_by_cmp};
+ghost use Rattle.base_data.specs.CNAME.{cname_at, cname_cmp, cname_cmp-total};
+
+use base::{BinDecodable, BinDecoder, DecodeError, Name};
+use std::alloc::AllocError;
+use std::cmp::Ordering;
+
+/// The name that an alias stands for (RFC 1035, 3.3.1).
+#[derive(Debug, Drop)]
+pub struct CNAME {
+    /// The name that the alias stands for.
+    pub name: Name,
+}
+
+impl CNAME {
+    /// The data of these fields.
+    pub fn new(name: Name) -> CNAME
+        ensures { result ≡ record { name = name } }
+    {
+        CNAME { name }
+    }
+
+    /// The name that the alias stands for.
+    pub fn name(&self) -> &Name
+        ensures { result.now ≡ self.now.name }
+    {
+        &self.name
+    }
+}
+
+impl Clone for CNAME {
+    ghost is_clone = { λ a b. b ≡ a };
+
+    fn clone(&self) -> Result<CNAME, AllocError> {
+        Ok(CNAME {
+            name: self.name.clone()?,
+        })
+    }
+}
+
+impl PartialEq for CNAME {
+    ghost eq = { eq_by_cmp cname_cmp };
+
+    ghost laws = { partial_equiv_from_equiv (eq_by_cmp_equiv cname_cmp-total) };
+
+    /// The same fields, letters of names in either case.
+    fn eq(&self, other: &CNAME) -> bool {
+        self.cmp(other).is_eq()
+    }
+}
+
+impl Eq for CNAME {
+    ghost laws = { eq_by_cmp_equiv cname_cmp-total };
+}
+
+impl Ord for CNAME {
+    ghost cmp = { cname_cmp };
+
+    ghost total = { cname_cmp-total };
+
+    ghost matches_partial_cmp = { λ _ _. refl };
+
+    ghost matches_eq = { λ _ _. refl };
+
+    /// By the bytes of the canonical form (RFC 4034, 6.3), then relative names first.
+    fn cmp(&self, other: &CNAME) -> Ordering {
+        self.name
+            .canonical_cmp(&other.name)
+            .then(self.name.is_fqdn().cmp(&other.name.is_fqdn()))
+    }
+}
+
+impl PartialOrd for CNAME {
+    ghost partial_cmp = { as_partial_cmp cname_cmp };
+
+    ghost laws = { partial_order_from_total cname_cmp-total };
+
+    fn partial_cmp(&self, other: &CNAME) -> Option<Ordering> {
+        Some(self.cmp(other))
+    }
+}
+
+impl BinDecodable for CNAME {
+    ghost read_at = { cname_at };
+
+    /// Reads the fields one behind the other, names with their pointers followed. Refused with the first fault,
+    /// and for want of memory.
+    #[tactic(auto, unfolding(crate::specs::CNAME::cname_at))]
+    fn read(decoder: &mut BinDecoder<'_>) -> Result<CNAME, DecodeError> {
+        Ok(CNAME {
+            name: Name::read(decoder)?,
+        })
+    }
+}

@@ -1,0 +1,20 @@
+//! Writes bytes as data.
+
+ghost use Rattle.std.specs.Prelude.{OnOk, length, []};
+ghost use Rattle.base.specs.Laws.{Keeps, Writes};
+ghost use Rattle.base.specs.Wire.{state_of, Refuses};
+ghost use Rattle.base.specs.Words.{Bytes};
+
+use base::{BinEncoder, ProtoError};
+
+/// Writes bytes as they are.
+///
+/// Refused where a byte would pass the limit, and for want of memory. What stood before stays.
+pub(crate) fn emit_bytes(bytes: &[u8], encoder: &mut BinEncoder<'_>) -> Result<(), ProtoError>
+    ensures keeps { Keeps (state_of encoder.old) (state_of encoder.new) }
+    ensures writes { OnOk result (Writes (Bytes bytes.now) (length bytes.now) []
+        (state_of encoder.old) (state_of encoder.new)) }
+    ensures refuses { Refuses (length bytes.now) (state_of encoder.old) result }
+{
+    encoder.emit_slice(bytes)
+}

@@ -1,0 +1,113 @@
+//! Hosts that take mail.
+
+ghost use Rattle.std.specs.Prelude.{◌≡◌, refl};
+ghost use Rattle.std.specs.Cmp.{eq_by_cmp_equiv, partial_equiv_from_equiv, partial_order_from_total};
+ghost use Rattle.std.specs.Ordering.{as_partial_cmp, eq_by_cmp};
+ghost use Rattle.base_data.specs.MX.{mx_at, mx_cmp, mx_cmp-total};
+
+use base::{BinDecodable, BinDecoder, DecodeError, Name};
+use std::alloc::AllocError;
+use std::cmp::Ordering;
+
+/// A host that takes mail (RFC 1035, 3.3.9).
+#[derive(Debug, Drop)]
+pub struct MX {
+    /// Lower ones come first.
+    pub preference: u16,
+    /// The name of the host.
+    pub exchange: Name,
+}
+
+impl MX {
+    /// The data of these fields.
+    pub fn new(preference: u16, exchange: Name) -> MX
+        ensures { result ≡ record { preference = preference; exchange = exchange } }
+    {
+        MX {
+            preference,
+            exchange,
+        }
+    }
+
+    /// Lower ones come first.
+    pub fn preference(&self) -> u16
+        ensures { result ≡ self.now.preference }
+    {
+        self.preference
+    }
+
+    /// The name of the host.
+    pub fn exchange(&self) -> &Name
+        ensures { result.now ≡ self.now.exchange }
+    {
+        &self.exchange
+    }
+}
+
+impl Clone for MX {
+    ghost is_clone = { λ a b. b ≡ a };
+
+    fn clone(&self) -> Result<MX, AllocError> {
+        Ok(MX {
+            preference: self.preference,
+            exchange: self.exchange.clone()?,
+        })
+    }
+}
+
+impl PartialEq for MX {
+    ghost eq = { eq_by_cmp mx_cmp };
+
+    ghost laws = { partial_equiv_from_equiv (eq_by_cmp_equiv mx_cmp-total) };
+
+    /// The same fields, letters of names in either case.
+    fn eq(&self, other: &MX) -> bool {
+        self.cmp(other).is_eq()
+    }
+}
+
+impl Eq for MX {
+    ghost laws = { eq_by_cmp_equiv mx_cmp-total };
+}
+
+impl Ord for MX {
+    ghost cmp = { mx_cmp };
+
+    ghost total = { mx_cmp-total };
+
+    ghost matches_partial_cmp = { λ _ _. refl };
+
+    ghost matches_eq = { λ _ _. refl };
+
+    /// By the bytes of the canonical form (RFC 4034, 6.3), then relative names first.
+    fn cmp(&self, other: &MX) -> Ordering {
+        self.preference
+            .cmp(&other.preference)
+            .then(self.exchange.canonical_cmp(&other.exchange))
+            .then(self.exchange.is_fqdn().cmp(&other.exchange.is_fqdn()))
+    }
+}
+
+impl PartialOrd for MX {
+    ghost partial_cmp = { as_partial_cmp mx_cmp };
+
+    ghost laws = { partial_order_from_total mx_cmp-total };
+
+    fn partial_cmp(&self, other: &MX) -> Option<Ordering> {
+        Some(self.cmp(other))
+    }
+}
+
+impl BinDecodable for MX {
+    ghost read_at = { mx_at };
+
+    /// Reads the fields one behind the other, names with their pointers followed. Refused with the first fault,
+    /// and for want of memory.
+    #[tactic(auto, unfolding(crate::specs::MX::mx_at))]
+    fn read(decoder: &mut BinDecoder<'_>) -> Result<MX, DecodeError> {
+        Ok(MX {
+            preference: decoder.read_u16()?,
+            exchange: Name::read(decoder)?,
+        })
+    }
+}

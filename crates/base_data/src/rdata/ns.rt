@@ -1,0 +1,98 @@
+//! Authoritative servers.
+
+ghost use Rattle.std.specs.Prelude.{◌≡◌, refl};
+ghost use Rattle.std.specs.Cmp.{eq_by_cmp_equiv, partial_equiv_from_equiv, partial_order_from_total};
+ghost use Rattle.std.specs.Ordering.{as_partial_cmp, eq_by_cmp};
+ghost use Rattle.base_data.specs.NS.{ns_at, ns_cmp, ns_cmp-total};
+
+use base::{BinDecodable, BinDecoder, DecodeError, Name};
+use std::alloc::AllocError;
+use std::cmp::Ordering;
+
+/// An authoritative server of a zone (RFC 1035, 3.3.11).
+#[derive(Debug, Drop)]
+pub struct NS {
+    /// The name of the server.
+    pub name: Name,
+}
+
+impl NS {
+    /// The data of these fields.
+    pub fn new(name: Name) -> NS
+        ensures { result ≡ record { name = name } }
+    {
+        NS { name }
+    }
+
+    /// The name of the server.
+    pub fn name(&self) -> &Name
+        ensures { result.now ≡ self.now.name }
+    {
+        &self.name
+    }
+}
+
+impl Clone for NS {
+    ghost is_clone = { λ a b. b ≡ a };
+
+    fn clone(&self) -> Result<NS, AllocError> {
+        Ok(NS {
+            name: self.name.clone()?,
+        })
+    }
+}
+
+impl PartialEq for NS {
+    ghost eq = { eq_by_cmp ns_cmp };
+
+    ghost laws = { partial_equiv_from_equiv (eq_by_cmp_equiv ns_cmp-total) };
+
+    /// The same fields, letters of names in either case.
+    fn eq(&self, other: &NS) -> bool {
+        self.cmp(other).is_eq()
+    }
+}
+
+impl Eq for NS {
+    ghost laws = { eq_by_cmp_equiv ns_cmp-total };
+}
+
+impl Ord for NS {
+    ghost cmp = { ns_cmp };
+
+    ghost total = { ns_cmp-total };
+
+    ghost matches_partial_cmp = { λ _ _. refl };
+
+    ghost matches_eq = { λ _ _. refl };
+
+    /// By the bytes of the canonical form (RFC 4034, 6.3), then relative names first.
+    fn cmp(&self, other: &NS) -> Ordering {
+        self.name
+            .canonical_cmp(&other.name)
+            .then(self.name.is_fqdn().cmp(&other.name.is_fqdn()))
+    }
+}
+
+impl PartialOrd for NS {
+    ghost partial_cmp = { as_partial_cmp ns_cmp };
+
+    ghost laws = { partial_order_from_total ns_cmp-total };
+
+    fn partial_cmp(&self, other: &NS) -> Option<Ordering> {
+        Some(self.cmp(other))
+    }
+}
+
+impl BinDecodable for NS {
+    ghost read_at = { ns_at };
+
+    /// Reads the fields one behind the other, names with their pointers followed. Refused with the first fault,
+    /// and for want of memory.
+    #[tactic(auto, unfolding(crate::specs::NS::ns_at))]
+    fn read(decoder: &mut BinDecoder<'_>) -> Result<NS, DecodeError> {
+        Ok(NS {
+            name: Name::read(decoder)?,
+        })
+    }
+}

@@ -1,0 +1,135 @@
+//! EDNS options.
+
+ghost use Rattle.std.specs.Prelude.{◌≡◌, ◌+◌, ◌≤◌, [], OnOk, OnErr, position};
+ghost use Rattle.std.specs.Cmp.{partial_equiv_from_equiv};
+ghost use Rattle.std.specs.Option.{option_copied};
+ghost use Rattle.base.specs.Reading.{Reads};
+ghost use Rattle.base_data.specs.OPT.{first_option, has_code, opt_at, options_len, options_word, same_options, same_options-equiv, with_option, without_code};
+
+mod display;
+mod edns_option;
+
+use base::{BinDecodable, BinDecoder, BinEncodable, BinEncoder, DecodeError, ProtoError};
+pub use edns_option::EdnsOption;
+use std::alloc::AllocError;
+use std::marker::Model;
+
+/// The options of an EDNS message, in their order (RFC 6891, 6.1.2). Contracts see the list of them.
+#[derive(Debug, Drop)]
+pub struct OPT {
+    options: Vec<EdnsOption>,
+}
+
+impl Model for OPT {
+    ghost use Rattle.std.specs.Prelude.{List};
+    ghost use Rattle.base_data.specs.OPT.{OptionValue};
+
+    ghost Value = { List OptionValue };
+
+    ghost view = { λ o. o.options.items };
+}
+
+impl OPT {
+    /// The data of these options.
+    pub fn new(options: Vec<EdnsOption>) -> OPT
+        ensures { result ≡ options.items }
+    {
+        OPT { options }
+    }
+
+    /// The first option of a code.
+    pub fn get(&self, code: u16) -> Option<&EdnsOption>
+        ensures { option_copied result ≡ first_option code self.now }
+    {
+        self.options.iter().find(|option| option.code() == code)
+    }
+
+    /// Puts an option in the place of the first of its code, or behind all others where none has its code.
+    ///
+    /// Refused for want of memory; the options stay as they were then.
+    pub fn insert(&mut self, option: EdnsOption) -> Result<(), AllocError>
+        ensures ok { OnOk result (self.new ≡ with_option option self.old) }
+        ensures err { OnErr result (self.new ≡ self.old) }
+    {
+        match self.position_of(option.code()) {
+            Some(i) => self.options[i] = option,
+            None => self.options.push(option)?,
+        }
+        Ok(())
+    }
+
+    /// Where the first option of a code stands.
+    fn position_of(&self, code: u16) -> Option<usize>
+        ensures { result ≡ position (has_code code) self.now }
+    {
+        self.options.iter().position(|option| option.code() == code)
+    }
+
+    /// Takes away every option of a code. The others stay in their order.
+    pub fn remove(&mut self, code: u16)
+        ensures { self.new ≡ without_code code self.old }
+    {
+        self.options.retain(|option| option.code() != code);
+    }
+
+    /// The options in their order.
+    pub fn as_ref(&self) -> &[EdnsOption]
+        ensures { result.now ≡ self.now }
+    {
+        &self.options
+    }
+
+    /// Reads options as long as they begin within as many bytes. Options of one code are all kept.
+    ///
+    /// Refused with `InsufficientBytes` where the buffer ends inside one, and for want of memory.
+    pub(crate) fn read(decoder: &mut BinDecoder<'_>, len: u16) -> Result<OPT, DecodeError>
+        ensures read { Reads (λ x. x) decoder.old decoder.new result (opt_at len decoder.old.bytes decoder.old.index) }
+    {
+        let end = decoder.index() + usize::from(len);
+        let mut options = Vec::new(decoder.allocator());
+        'options: while decoder.index() < end {
+            options.push(EdnsOption::read(decoder)?)?;
+        }
+        Ok(OPT { options })
+    }
+}
+
+impl Clone for OPT {
+    ghost is_clone = { λ a b. b ≡ a };
+
+    fn clone(&self) -> Result<OPT, AllocError> {
+        Ok(OPT {
+            options: self.options.clone()?,
+        })
+    }
+}
+
+impl PartialEq for OPT {
+    ghost eq = { same_options };
+
+    ghost laws = { partial_equiv_from_equiv same_options-equiv };
+
+    fn eq(&self, other: &OPT) -> bool {
+        self.as_ref() == other.as_ref()
+    }
+}
+
+impl Eq for OPT {
+    ghost laws = { same_options-equiv };
+}
+
+impl BinEncodable for OPT {
+    ghost word = { options_word };
+
+    ghost plain_len = { options_len };
+
+    ghost owner = { λ _. [] };
+
+    /// Writes each option: its code, the number of its bytes, and its bytes.
+    fn emit(&self, encoder: &mut BinEncoder<'_>) -> Result<(), ProtoError> {
+        for option in &self.options {
+            option.emit(encoder)?;
+        }
+        Ok(())
+    }
+}

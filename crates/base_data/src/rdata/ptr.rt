@@ -1,0 +1,98 @@
+//! Pointers to names.
+
+ghost use Rattle.std.specs.Prelude.{◌≡◌, refl};
+ghost use Rattle.std.specs.Cmp.{eq_by_cmp_equiv, partial_equiv_from_equiv, partial_order_from_total};
+ghost use Rattle.std.specs.Ordering.{as_partial_cmp, eq_by_cmp};
+ghost use Rattle.base_data.specs.PTR.{ptr_at, ptr_cmp, ptr_cmp-total};
+
+use base::{BinDecodable, BinDecoder, DecodeError, Name};
+use std::alloc::AllocError;
+use std::cmp::Ordering;
+
+/// A name that another one points to (RFC 1035, 3.3.12).
+#[derive(Debug, Drop)]
+pub struct PTR {
+    /// The name that is pointed to.
+    pub name: Name,
+}
+
+impl PTR {
+    /// The data of these fields.
+    pub fn new(name: Name) -> PTR
+        ensures { result ≡ record { name = name } }
+    {
+        PTR { name }
+    }
+
+    /// The name that is pointed to.
+    pub fn name(&self) -> &Name
+        ensures { result.now ≡ self.now.name }
+    {
+        &self.name
+    }
+}
+
+impl Clone for PTR {
+    ghost is_clone = { λ a b. b ≡ a };
+
+    fn clone(&self) -> Result<PTR, AllocError> {
+        Ok(PTR {
+            name: self.name.clone()?,
+        })
+    }
+}
+
+impl PartialEq for PTR {
+    ghost eq = { eq_by_cmp ptr_cmp };
+
+    ghost laws = { partial_equiv_from_equiv (eq_by_cmp_equiv ptr_cmp-total) };
+
+    /// The same fields, letters of names in either case.
+    fn eq(&self, other: &PTR) -> bool {
+        self.cmp(other).is_eq()
+    }
+}
+
+impl Eq for PTR {
+    ghost laws = { eq_by_cmp_equiv ptr_cmp-total };
+}
+
+impl Ord for PTR {
+    ghost cmp = { ptr_cmp };
+
+    ghost total = { ptr_cmp-total };
+
+    ghost matches_partial_cmp = { λ _ _. refl };
+
+    ghost matches_eq = { λ _ _. refl };
+
+    /// By the bytes of the canonical form (RFC 4034, 6.3), then relative names first.
+    fn cmp(&self, other: &PTR) -> Ordering {
+        self.name
+            .canonical_cmp(&other.name)
+            .then(self.name.is_fqdn().cmp(&other.name.is_fqdn()))
+    }
+}
+
+impl PartialOrd for PTR {
+    ghost partial_cmp = { as_partial_cmp ptr_cmp };
+
+    ghost laws = { partial_order_from_total ptr_cmp-total };
+
+    fn partial_cmp(&self, other: &PTR) -> Option<Ordering> {
+        Some(self.cmp(other))
+    }
+}
+
+impl BinDecodable for PTR {
+    ghost read_at = { ptr_at };
+
+    /// Reads the fields one behind the other, names with their pointers followed. Refused with the first fault,
+    /// and for want of memory.
+    #[tactic(auto, unfolding(crate::specs::PTR::ptr_at))]
+    fn read(decoder: &mut BinDecoder<'_>) -> Result<PTR, DecodeError> {
+        Ok(PTR {
+            name: Name::read(decoder)?,
+        })
+    }
+}

@@ -1,0 +1,187 @@
+//! Starts of zones.
+
+ghost use Rattle.std.specs.Prelude.{◌≡◌, refl};
+ghost use Rattle.std.specs.Cmp.{eq_by_cmp_equiv, partial_equiv_from_equiv, partial_order_from_total};
+ghost use Rattle.std.specs.Ordering.{as_partial_cmp, eq_by_cmp};
+ghost use Rattle.base_data.specs.SOA.{soa_at, soa_cmp, soa_cmp-total};
+
+use base::{BinDecodable, BinDecoder, DecodeError, Name};
+use std::alloc::AllocError;
+use std::cmp::Ordering;
+
+/// The start of a zone (RFC 1035, 3.3.13).
+#[derive(Debug, Drop)]
+pub struct SOA {
+    /// The server that has the zone first.
+    pub mname: Name,
+    /// The mailbox of who cares for the zone.
+    pub rname: Name,
+    /// The version of the zone.
+    pub serial: u32,
+    /// Seconds until the zone is asked for again.
+    pub refresh: u32,
+    /// Seconds until a refresh that failed is tried again.
+    pub retry: u32,
+    /// Seconds after which the zone is no longer held.
+    pub expire: u32,
+    /// The least time to live.
+    pub minimum: u32,
+}
+
+impl SOA {
+    /// The data of these fields.
+    pub fn new(
+        mname: Name,
+        rname: Name,
+        serial: u32,
+        refresh: u32,
+        retry: u32,
+        expire: u32,
+        minimum: u32,
+    ) -> SOA
+        ensures { result ≡ record { mname = mname; rname = rname; serial = serial; refresh = refresh; retry = retry; expire = expire; minimum = minimum } }
+    {
+        SOA {
+            mname,
+            rname,
+            serial,
+            refresh,
+            retry,
+            expire,
+            minimum,
+        }
+    }
+
+    /// The server that has the zone first.
+    pub fn mname(&self) -> &Name
+        ensures { result.now ≡ self.now.mname }
+    {
+        &self.mname
+    }
+
+    /// The mailbox of who cares for the zone.
+    pub fn rname(&self) -> &Name
+        ensures { result.now ≡ self.now.rname }
+    {
+        &self.rname
+    }
+
+    /// The version of the zone.
+    pub fn serial(&self) -> u32
+        ensures { result ≡ self.now.serial }
+    {
+        self.serial
+    }
+
+    /// Seconds until the zone is asked for again.
+    pub fn refresh(&self) -> u32
+        ensures { result ≡ self.now.refresh }
+    {
+        self.refresh
+    }
+
+    /// Seconds until a refresh that failed is tried again.
+    pub fn retry(&self) -> u32
+        ensures { result ≡ self.now.retry }
+    {
+        self.retry
+    }
+
+    /// Seconds after which the zone is no longer held.
+    pub fn expire(&self) -> u32
+        ensures { result ≡ self.now.expire }
+    {
+        self.expire
+    }
+
+    /// The least time to live.
+    pub fn minimum(&self) -> u32
+        ensures { result ≡ self.now.minimum }
+    {
+        self.minimum
+    }
+}
+
+impl Clone for SOA {
+    ghost is_clone = { λ a b. b ≡ a };
+
+    fn clone(&self) -> Result<SOA, AllocError> {
+        Ok(SOA {
+            mname: self.mname.clone()?,
+            rname: self.rname.clone()?,
+            serial: self.serial,
+            refresh: self.refresh,
+            retry: self.retry,
+            expire: self.expire,
+            minimum: self.minimum,
+        })
+    }
+}
+
+impl PartialEq for SOA {
+    ghost eq = { eq_by_cmp soa_cmp };
+
+    ghost laws = { partial_equiv_from_equiv (eq_by_cmp_equiv soa_cmp-total) };
+
+    /// The same fields, letters of names in either case.
+    fn eq(&self, other: &SOA) -> bool {
+        self.cmp(other).is_eq()
+    }
+}
+
+impl Eq for SOA {
+    ghost laws = { eq_by_cmp_equiv soa_cmp-total };
+}
+
+impl Ord for SOA {
+    ghost cmp = { soa_cmp };
+
+    ghost total = { soa_cmp-total };
+
+    ghost matches_partial_cmp = { λ _ _. refl };
+
+    ghost matches_eq = { λ _ _. refl };
+
+    /// By the bytes of the canonical form (RFC 4034, 6.3), then relative names first.
+    fn cmp(&self, other: &SOA) -> Ordering {
+        self.mname
+            .canonical_cmp(&other.mname)
+            .then(self.rname.canonical_cmp(&other.rname))
+            .then(self.serial.cmp(&other.serial))
+            .then(self.refresh.cmp(&other.refresh))
+            .then(self.retry.cmp(&other.retry))
+            .then(self.expire.cmp(&other.expire))
+            .then(self.minimum.cmp(&other.minimum))
+            .then(self.mname.is_fqdn().cmp(&other.mname.is_fqdn()))
+            .then(self.rname.is_fqdn().cmp(&other.rname.is_fqdn()))
+    }
+}
+
+impl PartialOrd for SOA {
+    ghost partial_cmp = { as_partial_cmp soa_cmp };
+
+    ghost laws = { partial_order_from_total soa_cmp-total };
+
+    fn partial_cmp(&self, other: &SOA) -> Option<Ordering> {
+        Some(self.cmp(other))
+    }
+}
+
+impl BinDecodable for SOA {
+    ghost read_at = { soa_at };
+
+    /// Reads the fields one behind the other, names with their pointers followed. Refused with the first fault,
+    /// and for want of memory.
+    #[tactic(auto, unfolding(crate::specs::SOA::soa_at))]
+    fn read(decoder: &mut BinDecoder<'_>) -> Result<SOA, DecodeError> {
+        Ok(SOA {
+            mname: Name::read(decoder)?,
+            rname: Name::read(decoder)?,
+            serial: decoder.read_u32()?,
+            refresh: decoder.read_u32()?,
+            retry: decoder.read_u32()?,
+            expire: decoder.read_u32()?,
+            minimum: decoder.read_u32()?,
+        })
+    }
+}

@@ -1,0 +1,133 @@
+//! The data of transaction signatures.
+
+ghost use Rattle.std.specs.Prelude.{◌≡◌, ◌≢◌, ◌<◌, [], Some, length, refl};
+ghost use Rattle.std.specs.Cmp.{partial_equiv_from_equiv};
+ghost use Rattle.std.specs.Ordering.{as_partial_cmp};
+ghost use Rattle.base.specs.Reading.{Reads, bytes_at};
+ghost use Rattle.base.specs.Words.{Bytes};
+ghost use Rattle.base_data.specs.Opaque.{bytes_cmp, bytes_cmp-partial, bytes_cmp-total, opaque_text, same_bytes, same_bytes-equiv, same_bytes-tie};
+
+use crate::rdata::emit::emit_bytes;
+use crate::rdata::hex_text::OpaqueText;
+use base::{BinDecoder, BinEncodable, BinEncoder, DecodeError, ProtoError};
+use std::alloc::AllocError;
+use std::cmp::Ordering;
+use std::fmt;
+use std::marker::Model;
+
+/// The data of a transaction signature, one byte at least, as it stands (RFC 8945, 4.2).
+#[derive(Debug, Drop)]
+pub struct TSIG {
+    bytes: Vec<u8>,
+}
+
+impl Model for TSIG {
+    ghost use Rattle.std.specs.Prelude.{◌≢◌, ℕ, List, []};
+
+    ghost Value = { List ℕ };
+
+    ghost view = { λ t. t.bytes.items };
+
+    ghost invariant = { λ t. t.bytes.items ≢ [] };
+}
+
+impl TSIG {
+    /// The data of these bytes, one at least.
+    pub fn new(bytes: Vec<u8>) -> TSIG
+        requires { bytes.items ≢ [] }
+        ensures { result ≡ bytes.items }
+    {
+        TSIG { bytes }
+    }
+
+    /// The bytes, one at least.
+    pub fn bytes(&self) -> &[u8]
+        ensures value { result.now ≡ self.now }
+        ensures some { result.now ≢ [] }
+    {
+        &self.bytes
+    }
+}
+
+impl TSIG {
+    /// Reads data of as many bytes, one at least. Refused with `InsufficientBytes` where fewer are left, and for
+    /// want of memory.
+    pub(crate) fn read(decoder: &mut BinDecoder<'_>, len: usize) -> Result<TSIG, DecodeError>
+        requires { 0 < len }
+        ensures read { Reads (λ x. x) decoder.old decoder.new result (bytes_at len decoder.old.bytes decoder.old.index) }
+    {
+        let bytes = decoder.read_slice(len)?;
+        Ok(TSIG::new(Vec::from_slice(decoder.allocator(), bytes)?))
+    }
+}
+
+impl Clone for TSIG {
+    ghost is_clone = { λ a b. b ≡ a };
+
+    fn clone(&self) -> Result<TSIG, AllocError> {
+        Ok(TSIG {
+            bytes: self.bytes.clone()?,
+        })
+    }
+}
+
+impl PartialEq for TSIG {
+    ghost eq = { same_bytes };
+
+    ghost laws = { partial_equiv_from_equiv same_bytes-equiv };
+
+    fn eq(&self, other: &TSIG) -> bool {
+        self.bytes() == other.bytes()
+    }
+}
+
+impl Eq for TSIG {
+    ghost laws = { same_bytes-equiv };
+}
+
+impl Ord for TSIG {
+    ghost cmp = { bytes_cmp };
+
+    ghost total = { bytes_cmp-total };
+
+    ghost matches_partial_cmp = { λ _ _. refl };
+
+    ghost matches_eq = { same_bytes-tie };
+
+    /// By the bytes, what is a beginning before what it begins (RFC 4034, 6.3).
+    fn cmp(&self, other: &TSIG) -> Ordering {
+        self.bytes().cmp(other.bytes())
+    }
+}
+
+impl PartialOrd for TSIG {
+    ghost partial_cmp = { as_partial_cmp bytes_cmp };
+
+    ghost laws = { bytes_cmp-partial };
+
+    fn partial_cmp(&self, other: &TSIG) -> Option<Ordering> {
+        Some(self.cmp(other))
+    }
+}
+
+impl fmt::Display for TSIG {
+    ghost output = { λ n. Some (opaque_text n) };
+
+    /// `\#`, the number of bytes, and the bytes in hexadecimal in lower case, if there are any (RFC 3597, 5).
+    fn fmt<W: fmt::Write>(&self, f: &mut fmt::Formatter<W>) -> fmt::Result {
+        write!(f, "{}", OpaqueText(self.bytes()))
+    }
+}
+
+impl BinEncodable for TSIG {
+    ghost word = { Bytes };
+
+    ghost plain_len = { length };
+
+    ghost owner = { λ _. [] };
+
+    /// Writes the bytes as they are.
+    fn emit(&self, encoder: &mut BinEncoder<'_>) -> Result<(), ProtoError> {
+        emit_bytes(self.bytes(), encoder)
+    }
+}

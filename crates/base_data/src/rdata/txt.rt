@@ -1,0 +1,178 @@
+//! Texts.
+
+ghost use Rattle.std.specs.Prelude.{◌≡◌, ◌≢◌, ◌<◌, ◌≤◌, ◌↔◌, ℕ, List, [], ◌∷◌, ◌++◌, All, IfOk, IsTrue, OnOk, length, map, refl};
+ghost use Rattle.std.specs.Cmp.{partial_equiv_from_equiv};
+ghost use Rattle.std.specs.Ordering.{as_partial_cmp};
+ghost use Rattle.base.specs.Labels.{wire_of, labels_of};
+ghost use Rattle.base.specs.Reading.{Reads};
+ghost use Rattle.base.specs.Words.{Bytes};
+ghost use Rattle.base_data.specs.TXT.{AreShort, are_strings, same_txt, same_txt-equiv, same_txt-tie, txt_at, txt_cmp, txt_cmp-partial, txt_cmp-total};
+
+mod display;
+mod strings;
+
+use crate::rdata::emit::emit_bytes;
+use base::{BinDecoder, BinEncodable, BinEncoder, DecodeError, ProtoError};
+use std::alloc::{AllocError, Global};
+use std::cmp::Ordering;
+use std::marker::Model;
+pub use strings::Strings;
+
+/// One or more character strings, each of up to 255 bytes (RFC 1035, 3.3.14). Contracts see the strings.
+#[derive(Debug, Drop)]
+pub struct TXT {
+    /// The strings, each with its length before it.
+    bytes: Vec<u8>,
+}
+
+impl Model for TXT {
+    ghost use Rattle.std.specs.Prelude.{ℕ, List};
+    ghost use Rattle.base.specs.Labels.{labels_of};
+    ghost use Rattle.base_data.specs.TXT.{IsText};
+
+    ghost Value = { List (List ℕ) };
+
+    ghost view = { λ t. labels_of t.bytes.items };
+
+    ghost invariant = { λ t. IsText t.bytes.items };
+}
+
+impl TXT {
+    /// The text of these strings, one at least, each of up to 255 bytes. Refused for want of memory.
+    pub fn new(alloc: Global, strings: &[&[u8]]) -> Result<TXT, AllocError>
+        requires some { strings.now ≢ [] }
+        requires short { All (λ string. length string.now ≤ 255) strings.now }
+        ensures { IfOk result (λ text. text ≡ map (λ string. string.now) strings.now) }
+    {
+        let mut bytes = Vec::new(alloc);
+        for string in strings {
+            push_string(&mut bytes, string)?;
+        }
+        Ok(TXT { bytes })
+    }
+
+    /// The strings, from the first on.
+    pub fn strings(&self) -> Strings<'_>
+        ensures strings { result ≡ self.now }
+        ensures some { self.now ≢ [] }
+        ensures short { AreShort self.now }
+    {
+        Strings::new(&self.bytes)
+    }
+
+    /// The strings as they stand on the wire, each with its length before it.
+    pub(crate) fn as_wire(&self) -> &[u8]
+        ensures value { result.now ≡ wire_of self.now }
+        ensures whole { wire_of (labels_of result.now) ≡ result.now }
+        ensures strings { labels_of result.now ≡ self.now }
+    {
+        &self.bytes
+    }
+
+    /// Reads strings that fill as many bytes exactly. Refused where they don't, and for want of memory.
+    pub(crate) fn read(decoder: &mut BinDecoder<'_>, len: usize) -> Result<TXT, DecodeError>
+        requires { 0 < len }
+        ensures read { Reads (λ x. x) decoder.old decoder.new result (txt_at len decoder.old.bytes decoder.old.index) }
+    {
+        let bytes = decoder.read_slice(len)?;
+        if !are_strings(bytes) {
+            return Err(DecodeError::InsufficientBytes);
+        }
+        Ok(TXT {
+            bytes: Vec::from_slice(decoder.allocator(), bytes)?,
+        })
+    }
+}
+
+/// Puts a string behind those before it, with its length.
+fn push_string(bytes: &mut Vec<u8>, string: &[u8]) -> Result<(), AllocError>
+    requires { length string.now ≤ 255 }
+    ensures { OnOk result (bytes.new.items ≡ bytes.old.items ++ (length string.now ∷ string.now)) }
+{
+    bytes.push(string.len() as u8)?;
+    bytes.extend_from_slice(string)
+}
+
+/// Whether bytes are strings, each with its length before it, that fill them exactly.
+fn are_strings(bytes: &[u8]) -> bool
+    ensures value { result ≡ are_strings bytes.now }
+    ensures short { IsTrue result → AreShort (labels_of bytes.now) }
+{
+    let mut rest = bytes;
+    while !rest.is_empty() {
+        let end = 1 + usize::from(rest[0]);
+        if rest.len() < end {
+            return false;
+        }
+        rest = &rest[end..];
+    }
+    true
+}
+
+impl Clone for TXT {
+    ghost is_clone = { λ a b. b ≡ a };
+
+    fn clone(&self) -> Result<TXT, AllocError> {
+        Ok(TXT {
+            bytes: self.bytes.clone()?,
+        })
+    }
+}
+
+impl PartialEq for TXT {
+    ghost eq = { same_txt };
+
+    ghost laws = { partial_equiv_from_equiv same_txt-equiv };
+
+    fn eq(&self, other: &TXT) -> bool {
+        self.as_wire() == other.as_wire()
+    }
+}
+
+impl Eq for TXT {
+    ghost laws = { same_txt-equiv };
+}
+
+impl Ord for TXT {
+    ghost cmp = { txt_cmp };
+
+    ghost total = { txt_cmp-total };
+
+    ghost matches_partial_cmp = { λ _ _. refl };
+
+    ghost matches_eq = { same_txt-tie };
+
+    /// By the bytes on the wire, what is a beginning before what it begins (RFC 4034, 6.3).
+    fn cmp(&self, other: &TXT) -> Ordering {
+        self.as_wire().cmp(other.as_wire())
+    }
+}
+
+impl PartialOrd for TXT {
+    ghost partial_cmp = { as_partial_cmp txt_cmp };
+
+    ghost laws = { txt_cmp-partial };
+
+    fn partial_cmp(&self, other: &TXT) -> Option<Ordering> {
+        Some(self.cmp(other))
+    }
+}
+
+impl BinEncodable for TXT {
+    ghost word = { λ t. Bytes (wire_of t) };
+
+    ghost plain_len = { λ t. length (wire_of t) };
+
+    ghost owner = { λ _. [] };
+
+    /// Writes each string behind its length.
+    fn emit(&self, encoder: &mut BinEncoder<'_>) -> Result<(), ProtoError> {
+        emit_bytes(self.as_wire(), encoder)
+    }
+}
+
+/// Texts are equal, and tie in the order, exactly where they have the same strings.
+pub fn text_order()
+    ensures equal { (a b : List (List ℕ)) → IsTrue (⟦<TXT as PartialEq>⟧.eq a b) ↔ (a ≡ b) }
+    ensures ties { (a b : List (List ℕ)) → (⟦<TXT as Ord>⟧.cmp a b ≡ Ordering.Equal) ↔ (a ≡ b) }
+{}

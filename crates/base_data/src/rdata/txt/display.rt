@@ -1,0 +1,78 @@
+//! The text of texts (RFC 1035, 5.1).
+
+ghost use Rattle.std.specs.Prelude.{◌≡◌, ◌++◌, [], ◌∷◌, Some, if◌then◌else◌};
+ghost use Rattle.base_data.specs.TXT.{string_byte, string_text, txt_text};
+
+use crate::rdata::txt::TXT;
+use crate::rdata::txt::strings::first_string;
+use std::fmt;
+
+/// The text of a byte of a string.
+#[derive(Drop)]
+struct ByteText(u8);
+
+impl fmt::Display for ByteText {
+    ghost output = { λ b. Some (string_byte b.0) };
+
+    fn fmt<W: fmt::Write>(&self, f: &mut fmt::Formatter<W>) -> fmt::Result {
+        match self.0 {
+            b'\\' | b'"' => write!(f, "\\{}", self.0 as char),
+            b' '..=b'~' => write!(f, "{}", self.0 as char),
+            b => write!(
+                f,
+                "\\{}{}{}",
+                (b'0' + b / 100) as char,
+                (b'0' + b / 10 % 10) as char,
+                (b'0' + b % 10) as char
+            ),
+        }
+    }
+}
+
+/// A space, or nothing.
+fn space_if(is_wanted: bool) -> &'static str
+    ensures { result.now ≡ (if is_wanted then 32 ∷ [] else []) }
+{
+    if is_wanted { " " } else { "" }
+}
+
+/// A string in quotes, and the space behind it where more strings follow.
+#[derive(Drop)]
+struct StringText<'a> {
+    string: &'a [u8],
+    is_last: bool,
+}
+
+impl<'a> fmt::Display for StringText<'a> {
+    ghost output = { λ t. Some (string_text t.string.now ++ (if t.is_last then [] else 32 ∷ [])) };
+
+    fn fmt<W: fmt::Write>(&self, f: &mut fmt::Formatter<W>) -> fmt::Result {
+        write!(f, "\"")?;
+        for b in self.string {
+            write!(f, "{}", ByteText(*b))?;
+        }
+        write!(f, "\"{}", space_if(!self.is_last))
+    }
+}
+
+impl fmt::Display for TXT {
+    ghost output = { λ t. Some (txt_text t) };
+
+    /// Each string in quotes, with a space between them. The bytes 0x20 to 0x7E print as themselves, with a
+    /// backslash before `"` and `\`; others as a backslash and three decimal digits (RFC 1035, 5.1).
+    fn fmt<W: fmt::Write>(&self, f: &mut fmt::Formatter<W>) -> fmt::Result {
+        let mut rest = self.as_wire();
+        while let Some((string, tail)) = first_string(rest) {
+            write!(
+                f,
+                "{}",
+                StringText {
+                    string,
+                    is_last: tail.is_empty()
+                }
+            )?;
+            rest = tail;
+        }
+        Ok(())
+    }
+}
