@@ -7,7 +7,6 @@ pub mod encodable;
 pub mod encoder;
 pub mod many;
 mod numbers;
-pub mod numbers;
 pub mod place;
 pub mod sized;
 pub mod suffix;

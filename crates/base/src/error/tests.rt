@@ -1,6 +1,5 @@
 use super::{DecodeError, ParseError, ProtoError};
 use crate::{Name, RecordType};
-use crate::RecordType;
 use std::test::Fail;
 
 #[test]
