@@ -1,5 +1,5 @@
 -- Hosts that take mail (RFC 1035, 3.3.9).
-use Rattle.std.specs.Prelude.{ℕ, List, Ok}
+use Rattle.std.specs.Prelude.{ℕ, List, Ok, ◌+◌, ◌++◌, codes}
 use Rattle.std.proofs.Common.{rules}
 use Rattle.std.specs.Cmp.{IsTotalOrder}
 use Rattle.std.specs.Cmp.Rules.{comparing}
@@ -10,6 +10,10 @@ use Rattle.base.specs.NameOrder.{canonical_cmp}
 use Rattle.base.specs.Names.{name_at}
 use Rattle.base.specs.Reading.{Read, number_at, ◌>>=◌}
 use Rattle.base_data.specs.NameData.{canonical_cmp-total, flag_cmp, flag_cmp-total}
+use Rattle.base.specs.Labels.{plain_len}
+use Rattle.base.specs.NameText.{name_text}
+use Rattle.base.specs.Words.{NameAt, Number, Then}
+use Rattle.std.specs.Fmt.{decimal}
 use Rattle.base_data.specs.declared.rdata.mx.MX.{MX}
 
 -- the data at a place
@@ -25,3 +29,15 @@ mx_cmp = then_cmp (then_cmp (on (λ x. x.preference) nat_cmp) (on (λ x. x.excha
 
 pub mx_cmp-total : IsTotalOrder mx_cmp
 mx_cmp-total = search (canonical_cmp-total, flag_cmp-total, comparing, rules) depth 7
+
+-- the word that the fields are written as, one behind the other
+abbrev pub MXWord : MX → List ℕ → ℕ → ℕ → Type 0
+MXWord x = Then (Number w16 x.preference) (NameAt x.exchange.labels)
+
+-- the bytes of the fields, names without compression
+abbrev pub plain_mx : MX → ℕ
+plain_mx x = 2 + (plain_len x.exchange.labels)
+
+-- the fields, with a space between each two
+abbrev pub mx_text : MX → List ℕ
+mx_text x = decimal x.preference ++ (codes " " ++ (name_text x.exchange))

@@ -9,6 +9,9 @@ use Rattle.base.specs.NameOrder.{canonical_cmp}
 use Rattle.base.specs.Names.{name_at}
 use Rattle.base.specs.Reading.{Read, ◌>>=◌}
 use Rattle.base_data.specs.NameData.{canonical_cmp-total, flag_cmp, flag_cmp-total}
+use Rattle.base.specs.Labels.{plain_len}
+use Rattle.base.specs.NameText.{name_text}
+use Rattle.base.specs.Words.{NameAt}
 use Rattle.base_data.specs.declared.rdata.ptr.PTR.{PTR}
 
 -- the data at a place
@@ -23,3 +26,15 @@ ptr_cmp = then_cmp (on (λ x. x.name) canonical_cmp) (on (λ x. x.name) flag_cmp
 
 pub ptr_cmp-total : IsTotalOrder ptr_cmp
 ptr_cmp-total = search (canonical_cmp-total, flag_cmp-total, comparing, rules) depth 6
+
+-- the word that the fields are written as, one behind the other
+abbrev pub PTRWord : PTR → List ℕ → ℕ → ℕ → Type 0
+PTRWord x = NameAt x.name.labels
+
+-- the bytes of the fields, names without compression
+abbrev pub plain_ptr : PTR → ℕ
+plain_ptr x = plain_len x.name.labels
+
+-- the fields, with a space between each two
+abbrev pub ptr_text : PTR → List ℕ
+ptr_text x = name_text x.name

@@ -1,5 +1,5 @@
 -- Starts of zones (RFC 1035, 3.3.13).
-use Rattle.std.specs.Prelude.{ℕ, List, Ok}
+use Rattle.std.specs.Prelude.{ℕ, List, Ok, ◌+◌, ◌++◌, codes}
 use Rattle.std.proofs.Common.{rules}
 use Rattle.std.specs.Cmp.{IsTotalOrder}
 use Rattle.std.specs.Cmp.Rules.{comparing}
@@ -10,6 +10,10 @@ use Rattle.base.specs.NameOrder.{canonical_cmp}
 use Rattle.base.specs.Names.{name_at}
 use Rattle.base.specs.Reading.{Read, number_at, ◌>>=◌}
 use Rattle.base_data.specs.NameData.{canonical_cmp-total, flag_cmp, flag_cmp-total}
+use Rattle.base.specs.Labels.{plain_len}
+use Rattle.base.specs.NameText.{name_text}
+use Rattle.base.specs.Words.{NameAt, Number, Then}
+use Rattle.std.specs.Fmt.{decimal}
 use Rattle.base_data.specs.declared.rdata.soa.SOA.{SOA}
 
 -- the data at a place
@@ -30,3 +34,15 @@ soa_cmp = then_cmp (then_cmp (then_cmp (then_cmp (then_cmp (then_cmp (then_cmp (
 
 pub soa_cmp-total : IsTotalOrder soa_cmp
 soa_cmp-total = search (canonical_cmp-total, flag_cmp-total, comparing, rules) depth 13
+
+-- the word that the fields are written as, one behind the other
+abbrev pub SOAWord : SOA → List ℕ → ℕ → ℕ → Type 0
+SOAWord x = Then (NameAt x.mname.labels) (Then (NameAt x.rname.labels) (Then (Number w32 x.serial) (Then (Number w32 x.refresh) (Then (Number w32 x.retry) (Then (Number w32 x.expire) (Number w32 x.minimum))))))
+
+-- the bytes of the fields, names without compression
+abbrev pub plain_soa : SOA → ℕ
+plain_soa x = plain_len x.mname.labels + (plain_len x.rname.labels + (4 + (4 + (4 + (4 + (4))))))
+
+-- the fields, with a space between each two
+abbrev pub soa_text : SOA → List ℕ
+soa_text x = name_text x.mname ++ (codes " " ++ (name_text x.rname ++ (codes " " ++ (decimal x.serial ++ (codes " " ++ (decimal x.refresh ++ (codes " " ++ (decimal x.retry ++ (codes " " ++ (decimal x.expire ++ (codes " " ++ (decimal x.minimum))))))))))))

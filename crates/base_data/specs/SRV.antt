@@ -1,5 +1,5 @@
 -- Hosts that have a service (RFC 2782).
-use Rattle.std.specs.Prelude.{ℕ, List, Ok}
+use Rattle.std.specs.Prelude.{ℕ, List, Ok, ◌+◌, ◌++◌, codes}
 use Rattle.std.proofs.Common.{rules}
 use Rattle.std.specs.Cmp.{IsTotalOrder}
 use Rattle.std.specs.Cmp.Rules.{comparing}
@@ -10,6 +10,10 @@ use Rattle.base.specs.NameOrder.{canonical_cmp}
 use Rattle.base.specs.Names.{name_at}
 use Rattle.base.specs.Reading.{Read, number_at, ◌>>=◌}
 use Rattle.base_data.specs.NameData.{canonical_cmp-total, flag_cmp, flag_cmp-total}
+use Rattle.base.specs.Labels.{plain_len}
+use Rattle.base.specs.NameText.{name_text}
+use Rattle.base.specs.Words.{NameAt, Number, Then}
+use Rattle.std.specs.Fmt.{decimal}
 use Rattle.base_data.specs.declared.rdata.srv.SRV.{SRV}
 
 -- the data at a place
@@ -27,3 +31,15 @@ srv_cmp = then_cmp (then_cmp (then_cmp (then_cmp (on (λ x. x.priority) nat_cmp)
 
 pub srv_cmp-total : IsTotalOrder srv_cmp
 srv_cmp-total = search (canonical_cmp-total, flag_cmp-total, comparing, rules) depth 9
+
+-- the word that the fields are written as, one behind the other
+abbrev pub SRVWord : SRV → List ℕ → ℕ → ℕ → Type 0
+SRVWord x = Then (Number w16 x.priority) (Then (Number w16 x.weight) (Then (Number w16 x.port) (NameAt x.target.labels)))
+
+-- the bytes of the fields, names without compression
+abbrev pub plain_srv : SRV → ℕ
+plain_srv x = 2 + (2 + (2 + (plain_len x.target.labels)))
+
+-- the fields, with a space between each two
+abbrev pub srv_text : SRV → List ℕ
+srv_text x = decimal x.priority ++ (codes " " ++ (decimal x.weight ++ (codes " " ++ (decimal x.port ++ (codes " " ++ (name_text x.target))))))

@@ -1,3 +1,5 @@
+mod names;
+
 use crate::{A, AAAA, EdnsOption, NULL, OPT, TSIG, TXT};
 use base::{BinDecodable, BinDecoder, BinEncodable, BinEncoder, DecodeError};
 use std::alloc::Global;

@@ -1,13 +1,14 @@
 //! Names whose addresses another name has too.
 
-ghost use Rattle.std.specs.Prelude.{◌≡◌, refl};
+ghost use Rattle.std.specs.Prelude.{◌≡◌, refl, Some, []};
 ghost use Rattle.std.specs.Cmp.{eq_by_cmp_equiv, partial_equiv_from_equiv, partial_order_from_total};
 ghost use Rattle.std.specs.Ordering.{as_partial_cmp, eq_by_cmp};
-ghost use Rattle.base_data.specs.ANAME.{aname_at, aname_cmp, aname_cmp-total};
+ghost use Rattle.base_data.specs.ANAME.{ANAMEWord, aname_at, aname_cmp, aname_cmp-total, plain_aname, aname_text};
 
-use base::{BinDecodable, BinDecoder, DecodeError, Name};
+use base::{BinDecodable, BinDecoder, BinEncodable, BinEncoder, DecodeError, Name, ProtoError};
 use std::alloc::AllocError;
 use std::cmp::Ordering;
+use std::fmt;
 
 /// The name whose addresses a name has too.
 #[derive(Debug, Drop)]
@@ -94,5 +95,28 @@ impl BinDecodable for ANAME {
         Ok(ANAME {
             name: Name::read(decoder)?,
         })
+    }
+}
+
+impl BinEncodable for ANAME {
+    ghost word = { ANAMEWord };
+
+    ghost plain_len = { plain_aname };
+
+    ghost owner = { λ _. [] };
+
+    /// Writes the fields one behind the other, its name without compression (RFC 3597, 4). Refused where a byte would pass the limit,
+    /// and for want of memory.
+    fn emit(&self, encoder: &mut BinEncoder<'_>) -> Result<(), ProtoError> {
+        self.name.emit_plain(encoder)
+    }
+}
+
+impl fmt::Display for ANAME {
+    ghost output = { λ x. Some (aname_text x) };
+
+    /// The fields as in zone files, with a space between each two (RFC 1035, 5.1).
+    fn fmt<W: fmt::Write>(&self, f: &mut fmt::Formatter<W>) -> fmt::Result {
+        write!(f, "{}", self.name)
     }
 }

@@ -1,13 +1,14 @@
 //! Aliases.
 
-ghost use Rattle.std.specs.Prelude.{◌≡◌, refl};
+ghost use Rattle.std.specs.Prelude.{◌≡◌, refl, Some, []};
 ghost use Rattle.std.specs.Cmp.{eq_by_cmp_equiv, partial_equiv_from_equiv, partial_order_from_total};
 ghost use Rattle.std.specs.Ordering.{as_partial_cmp, eq_by_cmp};
-ghost use Rattle.base_data.specs.CNAME.{cname_at, cname_cmp, cname_cmp-total};
+ghost use Rattle.base_data.specs.CNAME.{CNAMEWord, cname_at, cname_cmp, cname_cmp-total, plain_cname, cname_text};
 
-use base::{BinDecodable, BinDecoder, DecodeError, Name};
+use base::{BinDecodable, BinDecoder, BinEncodable, BinEncoder, DecodeError, Name, ProtoError};
 use std::alloc::AllocError;
 use std::cmp::Ordering;
+use std::fmt;
 
 /// The name that an alias stands for (RFC 1035, 3.3.1).
 #[derive(Debug, Drop)]
@@ -94,5 +95,28 @@ impl BinDecodable for CNAME {
         Ok(CNAME {
             name: Name::read(decoder)?,
         })
+    }
+}
+
+impl BinEncodable for CNAME {
+    ghost word = { CNAMEWord };
+
+    ghost plain_len = { plain_cname };
+
+    ghost owner = { λ _. [] };
+
+    /// Writes the fields one behind the other, names with compression. Refused where a byte would pass the limit,
+    /// and for want of memory.
+    fn emit(&self, encoder: &mut BinEncoder<'_>) -> Result<(), ProtoError> {
+        self.name.emit(encoder)
+    }
+}
+
+impl fmt::Display for CNAME {
+    ghost output = { λ x. Some (cname_text x) };
+
+    /// The fields as in zone files, with a space between each two (RFC 1035, 5.1).
+    fn fmt<W: fmt::Write>(&self, f: &mut fmt::Formatter<W>) -> fmt::Result {
+        write!(f, "{}", self.name)
     }
 }

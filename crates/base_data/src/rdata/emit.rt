@@ -3,7 +3,8 @@
 ghost use Rattle.std.specs.Prelude.{OnOk, length, []};
 ghost use Rattle.base.specs.Laws.{Keeps, Writes};
 ghost use Rattle.base.specs.Wire.{state_of, Refuses};
-ghost use Rattle.base.specs.Words.{Bytes};
+ghost use Rattle.std.specs.Int.{w32};
+ghost use Rattle.base.specs.Words.{Bytes, Number};
 
 use base::{BinEncoder, ProtoError};
 
@@ -17,4 +18,14 @@ pub(crate) fn emit_bytes(bytes: &[u8], encoder: &mut BinEncoder<'_>) -> Result<(
     ensures refuses { Refuses (length bytes.now) (state_of encoder.old) result }
 {
     encoder.emit_slice(bytes)
+}
+
+/// Writes a number of four bytes, the highest one first.
+pub(crate) fn emit_u32(number: u32, encoder: &mut BinEncoder<'_>) -> Result<(), ProtoError>
+    ensures keeps { Keeps (state_of encoder.old) (state_of encoder.new) }
+    ensures writes { OnOk result (Writes (Number w32 number) 4 []
+        (state_of encoder.old) (state_of encoder.new)) }
+    ensures refuses { Refuses 4 (state_of encoder.old) result }
+{
+    encoder.emit_u32(number)
 }

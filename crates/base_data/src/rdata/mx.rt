@@ -1,13 +1,14 @@
 //! Hosts that take mail.
 
-ghost use Rattle.std.specs.Prelude.{◌≡◌, refl};
+ghost use Rattle.std.specs.Prelude.{◌≡◌, refl, Some, []};
 ghost use Rattle.std.specs.Cmp.{eq_by_cmp_equiv, partial_equiv_from_equiv, partial_order_from_total};
 ghost use Rattle.std.specs.Ordering.{as_partial_cmp, eq_by_cmp};
-ghost use Rattle.base_data.specs.MX.{mx_at, mx_cmp, mx_cmp-total};
+ghost use Rattle.base_data.specs.MX.{MXWord, mx_at, mx_cmp, mx_cmp-total, plain_mx, mx_text};
 
-use base::{BinDecodable, BinDecoder, DecodeError, Name};
+use base::{BinDecodable, BinDecoder, BinEncodable, BinEncoder, DecodeError, Name, ProtoError};
 use std::alloc::AllocError;
 use std::cmp::Ordering;
+use std::fmt;
 
 /// A host that takes mail (RFC 1035, 3.3.9).
 #[derive(Debug, Drop)]
@@ -109,5 +110,29 @@ impl BinDecodable for MX {
             preference: decoder.read_u16()?,
             exchange: Name::read(decoder)?,
         })
+    }
+}
+
+impl BinEncodable for MX {
+    ghost word = { MXWord };
+
+    ghost plain_len = { plain_mx };
+
+    ghost owner = { λ _. [] };
+
+    /// Writes the fields one behind the other, names with compression. Refused where a byte would pass the limit,
+    /// and for want of memory.
+    fn emit(&self, encoder: &mut BinEncoder<'_>) -> Result<(), ProtoError> {
+        self.preference.emit(encoder)?;
+        self.exchange.emit(encoder)
+    }
+}
+
+impl fmt::Display for MX {
+    ghost output = { λ x. Some (mx_text x) };
+
+    /// The fields as in zone files, with a space between each two (RFC 1035, 5.1).
+    fn fmt<W: fmt::Write>(&self, f: &mut fmt::Formatter<W>) -> fmt::Result {
+        write!(f, "{} {}", self.preference, self.exchange)
     }
 }

@@ -1,13 +1,14 @@
 //! Authoritative servers.
 
-ghost use Rattle.std.specs.Prelude.{◌≡◌, refl};
+ghost use Rattle.std.specs.Prelude.{◌≡◌, refl, Some, []};
 ghost use Rattle.std.specs.Cmp.{eq_by_cmp_equiv, partial_equiv_from_equiv, partial_order_from_total};
 ghost use Rattle.std.specs.Ordering.{as_partial_cmp, eq_by_cmp};
-ghost use Rattle.base_data.specs.NS.{ns_at, ns_cmp, ns_cmp-total};
+ghost use Rattle.base_data.specs.NS.{NSWord, ns_at, ns_cmp, ns_cmp-total, plain_ns, ns_text};
 
-use base::{BinDecodable, BinDecoder, DecodeError, Name};
+use base::{BinDecodable, BinDecoder, BinEncodable, BinEncoder, DecodeError, Name, ProtoError};
 use std::alloc::AllocError;
 use std::cmp::Ordering;
+use std::fmt;
 
 /// An authoritative server of a zone (RFC 1035, 3.3.11).
 #[derive(Debug, Drop)]
@@ -94,5 +95,28 @@ impl BinDecodable for NS {
         Ok(NS {
             name: Name::read(decoder)?,
         })
+    }
+}
+
+impl BinEncodable for NS {
+    ghost word = { NSWord };
+
+    ghost plain_len = { plain_ns };
+
+    ghost owner = { λ _. [] };
+
+    /// Writes the fields one behind the other, names with compression. Refused where a byte would pass the limit,
+    /// and for want of memory.
+    fn emit(&self, encoder: &mut BinEncoder<'_>) -> Result<(), ProtoError> {
+        self.name.emit(encoder)
+    }
+}
+
+impl fmt::Display for NS {
+    ghost output = { λ x. Some (ns_text x) };
+
+    /// The fields as in zone files, with a space between each two (RFC 1035, 5.1).
+    fn fmt<W: fmt::Write>(&self, f: &mut fmt::Formatter<W>) -> fmt::Result {
+        write!(f, "{}", self.name)
     }
 }

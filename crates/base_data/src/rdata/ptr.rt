@@ -1,13 +1,14 @@
 //! Pointers to names.
 
-ghost use Rattle.std.specs.Prelude.{◌≡◌, refl};
+ghost use Rattle.std.specs.Prelude.{◌≡◌, refl, Some, []};
 ghost use Rattle.std.specs.Cmp.{eq_by_cmp_equiv, partial_equiv_from_equiv, partial_order_from_total};
 ghost use Rattle.std.specs.Ordering.{as_partial_cmp, eq_by_cmp};
-ghost use Rattle.base_data.specs.PTR.{ptr_at, ptr_cmp, ptr_cmp-total};
+ghost use Rattle.base_data.specs.PTR.{PTRWord, ptr_at, ptr_cmp, ptr_cmp-total, plain_ptr, ptr_text};
 
-use base::{BinDecodable, BinDecoder, DecodeError, Name};
+use base::{BinDecodable, BinDecoder, BinEncodable, BinEncoder, DecodeError, Name, ProtoError};
 use std::alloc::AllocError;
 use std::cmp::Ordering;
+use std::fmt;
 
 /// A name that another one points to (RFC 1035, 3.3.12).
 #[derive(Debug, Drop)]
@@ -94,5 +95,28 @@ impl BinDecodable for PTR {
         Ok(PTR {
             name: Name::read(decoder)?,
         })
+    }
+}
+
+impl BinEncodable for PTR {
+    ghost word = { PTRWord };
+
+    ghost plain_len = { plain_ptr };
+
+    ghost owner = { λ _. [] };
+
+    /// Writes the fields one behind the other, names with compression. Refused where a byte would pass the limit,
+    /// and for want of memory.
+    fn emit(&self, encoder: &mut BinEncoder<'_>) -> Result<(), ProtoError> {
+        self.name.emit(encoder)
+    }
+}
+
+impl fmt::Display for PTR {
+    ghost output = { λ x. Some (ptr_text x) };
+
+    /// The fields as in zone files, with a space between each two (RFC 1035, 5.1).
+    fn fmt<W: fmt::Write>(&self, f: &mut fmt::Formatter<W>) -> fmt::Result {
+        write!(f, "{}", self.name)
     }
 }

@@ -1,13 +1,15 @@
 //! Starts of zones.
 
-ghost use Rattle.std.specs.Prelude.{◌≡◌, refl};
+ghost use Rattle.std.specs.Prelude.{◌≡◌, refl, Some, []};
 ghost use Rattle.std.specs.Cmp.{eq_by_cmp_equiv, partial_equiv_from_equiv, partial_order_from_total};
 ghost use Rattle.std.specs.Ordering.{as_partial_cmp, eq_by_cmp};
-ghost use Rattle.base_data.specs.SOA.{soa_at, soa_cmp, soa_cmp-total};
+ghost use Rattle.base_data.specs.SOA.{SOAWord, soa_at, soa_cmp, soa_cmp-total, plain_soa, soa_text};
 
-use base::{BinDecodable, BinDecoder, DecodeError, Name};
+use crate::rdata::emit::emit_u32;
+use base::{BinDecodable, BinDecoder, BinEncodable, BinEncoder, DecodeError, Name, ProtoError};
 use std::alloc::AllocError;
 use std::cmp::Ordering;
+use std::fmt;
 
 /// The start of a zone (RFC 1035, 3.3.13).
 #[derive(Debug, Drop)]
@@ -183,5 +185,38 @@ impl BinDecodable for SOA {
             expire: decoder.read_u32()?,
             minimum: decoder.read_u32()?,
         })
+    }
+}
+
+impl BinEncodable for SOA {
+    ghost word = { SOAWord };
+
+    ghost plain_len = { plain_soa };
+
+    ghost owner = { λ _. [] };
+
+    /// Writes the fields one behind the other, names with compression. Refused where a byte would pass the limit,
+    /// and for want of memory.
+    fn emit(&self, encoder: &mut BinEncoder<'_>) -> Result<(), ProtoError> {
+        self.mname.emit(encoder)?;
+        self.rname.emit(encoder)?;
+        emit_u32(self.serial, encoder)?;
+        emit_u32(self.refresh, encoder)?;
+        emit_u32(self.retry, encoder)?;
+        emit_u32(self.expire, encoder)?;
+        emit_u32(self.minimum, encoder)
+    }
+}
+
+impl fmt::Display for SOA {
+    ghost output = { λ x. Some (soa_text x) };
+
+    /// The fields as in zone files, with a space between each two (RFC 1035, 5.1).
+    fn fmt<W: fmt::Write>(&self, f: &mut fmt::Formatter<W>) -> fmt::Result {
+        write!(
+            f,
+            "{} {} {} {} {} {} {}",
+            self.mname, self.rname, self.serial, self.refresh, self.retry, self.expire, self.minimum
+        )
     }
 }

@@ -1,13 +1,14 @@
 //! Hosts that have a service.
 
-ghost use Rattle.std.specs.Prelude.{◌≡◌, refl};
+ghost use Rattle.std.specs.Prelude.{◌≡◌, refl, Some, []};
 ghost use Rattle.std.specs.Cmp.{eq_by_cmp_equiv, partial_equiv_from_equiv, partial_order_from_total};
 ghost use Rattle.std.specs.Ordering.{as_partial_cmp, eq_by_cmp};
-ghost use Rattle.base_data.specs.SRV.{srv_at, srv_cmp, srv_cmp-total};
+ghost use Rattle.base_data.specs.SRV.{SRVWord, srv_at, srv_cmp, srv_cmp-total, plain_srv, srv_text};
 
-use base::{BinDecodable, BinDecoder, DecodeError, Name};
+use base::{BinDecodable, BinDecoder, BinEncodable, BinEncoder, DecodeError, Name, ProtoError};
 use std::alloc::AllocError;
 use std::cmp::Ordering;
+use std::fmt;
 
 /// A host that has a service (RFC 2782).
 #[derive(Debug, Drop)]
@@ -135,5 +136,35 @@ impl BinDecodable for SRV {
             port: decoder.read_u16()?,
             target: Name::read(decoder)?,
         })
+    }
+}
+
+impl BinEncodable for SRV {
+    ghost word = { SRVWord };
+
+    ghost plain_len = { plain_srv };
+
+    ghost owner = { λ _. [] };
+
+    /// Writes the fields one behind the other, its name without compression (RFC 3597, 4). Refused where a byte would pass the limit,
+    /// and for want of memory.
+    fn emit(&self, encoder: &mut BinEncoder<'_>) -> Result<(), ProtoError> {
+        self.priority.emit(encoder)?;
+        self.weight.emit(encoder)?;
+        self.port.emit(encoder)?;
+        self.target.emit_plain(encoder)
+    }
+}
+
+impl fmt::Display for SRV {
+    ghost output = { λ x. Some (srv_text x) };
+
+    /// The fields as in zone files, with a space between each two (RFC 1035, 5.1).
+    fn fmt<W: fmt::Write>(&self, f: &mut fmt::Formatter<W>) -> fmt::Result {
+        write!(
+            f,
+            "{} {} {} {}",
+            self.priority, self.weight, self.port, self.target
+        )
     }
 }
