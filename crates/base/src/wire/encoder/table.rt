@@ -1,6 +1,6 @@
 //! The suffixes that were written, and where (RFC 1035, 4.1.4).
 
-ghost use Rattle.std.specs.Prelude.{◌≡◌, ◌<◌, ◌≤◌, ◌≢◌, ◌++◌, [], ◌∷◌, All, Any, MatchOption, OnOk, OnErr, IfSome, length};
+ghost use Rattle.std.specs.Prelude.{◌≡◌, ◌<◌, ◌≢◌, All, Any, MatchOption, OnOk, OnErr, IfSome};
 ghost use Rattle.base.specs.Labels.{wire_of, labels_of, IsWire};
 ghost use Rattle.base.specs.State.{stored};
 ghost use Rattle.base.specs.Wire.{state_of, IsMemory};
