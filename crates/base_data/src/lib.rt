@@ -3,7 +3,9 @@
 
 pub mod rdata;
 
-pub use rdata::{A, AAAA, ANAME, CNAME, EdnsOption, MX, NS, NULL, OPT, PTR, SOA, SRV, TSIG, TXT};
+pub use rdata::{
+    A, AAAA, ANAME, CNAME, EdnsOption, MX, NS, NULL, OPT, PTR, RData, SOA, SRV, TSIG, TXT,
+};
 
 #[cfg(test)]
 mod tests;
