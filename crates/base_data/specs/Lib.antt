@@ -8,6 +8,8 @@ pub mod NameData
 pub mod OPT
 pub mod Opaque
 pub mod PTR
+pub mod RData
+pub mod RecordData
 pub mod SOA
 pub mod SRV
 pub mod TXT

@@ -2,8 +2,12 @@
 #![tactic(auto)]
 
 pub mod rdata;
+pub mod record_data;
 
-pub use rdata::{A, AAAA, ANAME, CNAME, EdnsOption, MX, NS, NULL, OPT, PTR, SOA, SRV, TSIG, TXT};
+pub use rdata::{
+    A, AAAA, ANAME, CNAME, EdnsOption, MX, NS, NULL, OPT, PTR, RData, SOA, SRV, TSIG, TXT,
+};
+pub use record_data::RecordData;
 
 #[cfg(test)]
 mod tests;

@@ -1,0 +1,82 @@
+//! Reads data by type and length.
+
+ghost use Rattle.std.specs.Prelude.{◌≡◌, ◌<◌};
+ghost use Rattle.base.specs.Reading.{Reads};
+ghost use Rattle.base_data.specs.RData.{in_data, kind_at, rdata_at};
+
+use crate::rdata::{A, AAAA, ANAME, CNAME, MX, NS, NULL, OPT, PTR, RData, SOA, SRV, TSIG, TXT};
+use base::{BinDecodable, BinDecoder, DecodeError, RecordType};
+
+impl RData {
+    /// Reads the data of a type, of as many bytes (RFC 1035, 3.2.1): data of length 0 is `Update0`, and data of a
+    /// type that has no kind of its own is `Unknown`. Pointers of names are followed.
+    ///
+    /// Refused with `BadData` where the bytes are no data of the type, where the data doesn't fill its length
+    /// exactly, and for data of type 0 that has a byte; and for want of memory.
+    #[tactic(auto, unfolding(crate::specs::RData::rdata_at))]
+    pub fn read(
+        decoder: &mut BinDecoder<'_>,
+        record_type: RecordType,
+        len: u16,
+    ) -> Result<RData, DecodeError>
+        ensures read { Reads (λ x. x) decoder.old decoder.new result (rdata_at record_type len decoder.old.bytes decoder.old.index) }
+    {
+        if len == 0 {
+            return Ok(RData::Update0(record_type));
+        }
+        let end = decoder.index() + usize::from(len);
+        match read_kind(decoder, record_type, len) {
+            Ok(rdata) => {
+                if decoder.index() == end {
+                    Ok(rdata)
+                } else {
+                    Err(DecodeError::BadData(record_type))
+                }
+            }
+            Err(e) => Err(inside(record_type, e)),
+        }
+    }
+}
+
+/// The fault of data that has a fault inside.
+fn inside(record_type: RecordType, fault: DecodeError) -> DecodeError
+    ensures { result ≡ in_data record_type fault }
+{
+    match fault {
+        DecodeError::Memory => DecodeError::Memory,
+        _ => DecodeError::BadData(record_type),
+    }
+}
+
+/// Reads the data of a type that begins at the decoder's place, and has a byte at least. Where it ends is not
+/// looked at.
+#[tactic(auto, unfolding(crate::specs::RData::kind_at))]
+fn read_kind(
+    decoder: &mut BinDecoder<'_>,
+    record_type: RecordType,
+    len: u16,
+) -> Result<RData, DecodeError>
+    requires { 0 < len }
+    ensures read { Reads (λ x. x) decoder.old decoder.new result (kind_at record_type len decoder.old.bytes decoder.old.index) }
+{
+    Ok(match record_type {
+        RecordType::A => RData::A(A::read(decoder)?),
+        RecordType::AAAA => RData::AAAA(AAAA::read(decoder)?),
+        RecordType::NS => RData::NS(NS::read(decoder)?),
+        RecordType::CNAME => RData::CNAME(CNAME::read(decoder)?),
+        RecordType::PTR => RData::PTR(PTR::read(decoder)?),
+        RecordType::ANAME => RData::ANAME(ANAME::read(decoder)?),
+        RecordType::MX => RData::MX(MX::read(decoder)?),
+        RecordType::SOA => RData::SOA(SOA::read(decoder)?),
+        RecordType::SRV => RData::SRV(SRV::read(decoder)?),
+        RecordType::TXT => RData::TXT(TXT::read(decoder, usize::from(len))?),
+        RecordType::NULL => RData::NULL(NULL::read(decoder, usize::from(len))?),
+        RecordType::OPT => RData::OPT(OPT::read(decoder, len)?),
+        RecordType::TSIG => RData::TSIG(TSIG::read(decoder, usize::from(len))?),
+        RecordType::ZERO => return Err(DecodeError::BadData(RecordType::ZERO)),
+        code => RData::Unknown {
+            code,
+            rdata: NULL::read(decoder, usize::from(len))?,
+        },
+    })
+}

@@ -1,0 +1,447 @@
+//! What all data has in common.
+
+ghost use Rattle.std.specs.Prelude.{Some, refl};
+ghost use Rattle.base_data.specs.RecordData.{a_in, aaaa_in, aname_in, cname_in, mx_in, ns_in, null_in, opt_in, ptr_in, soa_in, srv_in, tsig_in, txt_in};
+ghost use Rattle.base_data.specs.declared.rdata.RData.TheVariants as kinds;
+
+use crate::rdata::{A, AAAA, ANAME, CNAME, MX, NS, NULL, OPT, PTR, RData, SOA, SRV, TSIG, TXT};
+use base::RecordType;
+
+/// Data of one kind, or of any.
+///
+/// `as_rdata` is the data as that of any record, and `of_rdata` takes the kind out of such data.
+pub trait RecordData: Eq + Clone + Drop {
+    ghost use Rattle.std.specs.Prelude.{◌≡◌, Option, Some};
+    ghost use Rattle.std.specs.Option.{option_copied};
+    ghost use Rattle.base_data.specs.RData.{is_empty_data, type_of_data};
+    ghost use Rattle.base_data.specs.declared.rdata.RData.{RData as AnyData};
+
+    ghost as_rdata: { Self → AnyData };
+
+    ghost of_rdata: { AnyData → Option Self };
+
+    /// The data of this kind, if it is of this kind.
+    fn try_borrow(rdata: &RData) -> Option<&Self>
+        ensures { option_copied result ≡ of_rdata rdata.now };
+
+    /// The data as that of any record.
+    fn into_rdata(self) -> RData
+        ensures { result ≡ as_rdata self };
+
+    /// The type of the data.
+    fn record_type(&self) -> RecordType
+        ensures { result ≡ type_of_data (as_rdata self.now) };
+
+    /// Whether the data is empty, as in updates (RFC 2136, 2.4).
+    fn is_update(&self) -> bool
+        ensures { result ≡ is_empty_data (as_rdata self.now) };
+
+    /// What was made the data of any record is taken out of it again.
+    ghost borrows_back: { (r : Self) → of_rdata (as_rdata r) ≡ Some r };
+
+    /// As data of any record, data is equal where it was.
+    ghost keeps_equality: { (r s : Self) → ⟦<RData as PartialEq>⟧.eq (as_rdata r) (as_rdata s) ≡ Self.eq r s };
+}
+
+impl RecordData for RData {
+    ghost as_rdata = { λ r. r };
+
+    ghost of_rdata = { Some };
+
+    ghost borrows_back = { λ _. refl };
+
+    ghost keeps_equality = { λ _ _. refl };
+
+    fn try_borrow(rdata: &RData) -> Option<&RData> {
+        Some(rdata)
+    }
+
+    fn into_rdata(self) -> RData {
+        self
+    }
+
+    fn record_type(&self) -> RecordType {
+        RData::record_type(self)
+    }
+
+    fn is_update(&self) -> bool {
+        RData::is_update(self)
+    }
+}
+
+impl RecordData for A {
+    ghost as_rdata = { kinds.A };
+
+    ghost of_rdata = { a_in };
+
+    ghost borrows_back = { λ _. refl };
+
+    ghost keeps_equality = { λ _ _. refl };
+
+    fn try_borrow(rdata: &RData) -> Option<&A> {
+        match rdata {
+            RData::A(rdata) => Some(rdata),
+            _ => None,
+        }
+    }
+
+    fn into_rdata(self) -> RData {
+        RData::A(self)
+    }
+
+    fn record_type(&self) -> RecordType {
+        RecordType::A
+    }
+
+    fn is_update(&self) -> bool {
+        false
+    }
+}
+
+impl RecordData for AAAA {
+    ghost as_rdata = { kinds.AAAA };
+
+    ghost of_rdata = { aaaa_in };
+
+    ghost borrows_back = { λ _. refl };
+
+    ghost keeps_equality = { λ _ _. refl };
+
+    fn try_borrow(rdata: &RData) -> Option<&AAAA> {
+        match rdata {
+            RData::AAAA(rdata) => Some(rdata),
+            _ => None,
+        }
+    }
+
+    fn into_rdata(self) -> RData {
+        RData::AAAA(self)
+    }
+
+    fn record_type(&self) -> RecordType {
+        RecordType::AAAA
+    }
+
+    fn is_update(&self) -> bool {
+        false
+    }
+}
+
+impl RecordData for NS {
+    ghost as_rdata = { kinds.NS };
+
+    ghost of_rdata = { ns_in };
+
+    ghost borrows_back = { λ _. refl };
+
+    ghost keeps_equality = { λ _ _. refl };
+
+    fn try_borrow(rdata: &RData) -> Option<&NS> {
+        match rdata {
+            RData::NS(rdata) => Some(rdata),
+            _ => None,
+        }
+    }
+
+    fn into_rdata(self) -> RData {
+        RData::NS(self)
+    }
+
+    fn record_type(&self) -> RecordType {
+        RecordType::NS
+    }
+
+    fn is_update(&self) -> bool {
+        false
+    }
+}
+
+impl RecordData for CNAME {
+    ghost as_rdata = { kinds.CNAME };
+
+    ghost of_rdata = { cname_in };
+
+    ghost borrows_back = { λ _. refl };
+
+    ghost keeps_equality = { λ _ _. refl };
+
+    fn try_borrow(rdata: &RData) -> Option<&CNAME> {
+        match rdata {
+            RData::CNAME(rdata) => Some(rdata),
+            _ => None,
+        }
+    }
+
+    fn into_rdata(self) -> RData {
+        RData::CNAME(self)
+    }
+
+    fn record_type(&self) -> RecordType {
+        RecordType::CNAME
+    }
+
+    fn is_update(&self) -> bool {
+        false
+    }
+}
+
+impl RecordData for PTR {
+    ghost as_rdata = { kinds.PTR };
+
+    ghost of_rdata = { ptr_in };
+
+    ghost borrows_back = { λ _. refl };
+
+    ghost keeps_equality = { λ _ _. refl };
+
+    fn try_borrow(rdata: &RData) -> Option<&PTR> {
+        match rdata {
+            RData::PTR(rdata) => Some(rdata),
+            _ => None,
+        }
+    }
+
+    fn into_rdata(self) -> RData {
+        RData::PTR(self)
+    }
+
+    fn record_type(&self) -> RecordType {
+        RecordType::PTR
+    }
+
+    fn is_update(&self) -> bool {
+        false
+    }
+}
+
+impl RecordData for ANAME {
+    ghost as_rdata = { kinds.ANAME };
+
+    ghost of_rdata = { aname_in };
+
+    ghost borrows_back = { λ _. refl };
+
+    ghost keeps_equality = { λ _ _. refl };
+
+    fn try_borrow(rdata: &RData) -> Option<&ANAME> {
+        match rdata {
+            RData::ANAME(rdata) => Some(rdata),
+            _ => None,
+        }
+    }
+
+    fn into_rdata(self) -> RData {
+        RData::ANAME(self)
+    }
+
+    fn record_type(&self) -> RecordType {
+        RecordType::ANAME
+    }
+
+    fn is_update(&self) -> bool {
+        false
+    }
+}
+
+impl RecordData for MX {
+    ghost as_rdata = { kinds.MX };
+
+    ghost of_rdata = { mx_in };
+
+    ghost borrows_back = { λ _. refl };
+
+    ghost keeps_equality = { λ _ _. refl };
+
+    fn try_borrow(rdata: &RData) -> Option<&MX> {
+        match rdata {
+            RData::MX(rdata) => Some(rdata),
+            _ => None,
+        }
+    }
+
+    fn into_rdata(self) -> RData {
+        RData::MX(self)
+    }
+
+    fn record_type(&self) -> RecordType {
+        RecordType::MX
+    }
+
+    fn is_update(&self) -> bool {
+        false
+    }
+}
+
+impl RecordData for SOA {
+    ghost as_rdata = { kinds.SOA };
+
+    ghost of_rdata = { soa_in };
+
+    ghost borrows_back = { λ _. refl };
+
+    ghost keeps_equality = { λ _ _. refl };
+
+    fn try_borrow(rdata: &RData) -> Option<&SOA> {
+        match rdata {
+            RData::SOA(rdata) => Some(rdata),
+            _ => None,
+        }
+    }
+
+    fn into_rdata(self) -> RData {
+        RData::SOA(self)
+    }
+
+    fn record_type(&self) -> RecordType {
+        RecordType::SOA
+    }
+
+    fn is_update(&self) -> bool {
+        false
+    }
+}
+
+impl RecordData for SRV {
+    ghost as_rdata = { kinds.SRV };
+
+    ghost of_rdata = { srv_in };
+
+    ghost borrows_back = { λ _. refl };
+
+    ghost keeps_equality = { λ _ _. refl };
+
+    fn try_borrow(rdata: &RData) -> Option<&SRV> {
+        match rdata {
+            RData::SRV(rdata) => Some(rdata),
+            _ => None,
+        }
+    }
+
+    fn into_rdata(self) -> RData {
+        RData::SRV(self)
+    }
+
+    fn record_type(&self) -> RecordType {
+        RecordType::SRV
+    }
+
+    fn is_update(&self) -> bool {
+        false
+    }
+}
+
+impl RecordData for TXT {
+    ghost as_rdata = { kinds.TXT };
+
+    ghost of_rdata = { txt_in };
+
+    ghost borrows_back = { λ _. refl };
+
+    ghost keeps_equality = { λ _ _. refl };
+
+    fn try_borrow(rdata: &RData) -> Option<&TXT> {
+        match rdata {
+            RData::TXT(rdata) => Some(rdata),
+            _ => None,
+        }
+    }
+
+    fn into_rdata(self) -> RData {
+        RData::TXT(self)
+    }
+
+    fn record_type(&self) -> RecordType {
+        RecordType::TXT
+    }
+
+    fn is_update(&self) -> bool {
+        false
+    }
+}
+
+impl RecordData for NULL {
+    ghost as_rdata = { kinds.NULL };
+
+    ghost of_rdata = { null_in };
+
+    ghost borrows_back = { λ _. refl };
+
+    ghost keeps_equality = { λ _ _. refl };
+
+    fn try_borrow(rdata: &RData) -> Option<&NULL> {
+        match rdata {
+            RData::NULL(rdata) => Some(rdata),
+            _ => None,
+        }
+    }
+
+    fn into_rdata(self) -> RData {
+        RData::NULL(self)
+    }
+
+    fn record_type(&self) -> RecordType {
+        RecordType::NULL
+    }
+
+    fn is_update(&self) -> bool {
+        false
+    }
+}
+
+impl RecordData for OPT {
+    ghost as_rdata = { kinds.OPT };
+
+    ghost of_rdata = { opt_in };
+
+    ghost borrows_back = { λ _. refl };
+
+    ghost keeps_equality = { λ _ _. refl };
+
+    fn try_borrow(rdata: &RData) -> Option<&OPT> {
+        match rdata {
+            RData::OPT(rdata) => Some(rdata),
+            _ => None,
+        }
+    }
+
+    fn into_rdata(self) -> RData {
+        RData::OPT(self)
+    }
+
+    fn record_type(&self) -> RecordType {
+        RecordType::OPT
+    }
+
+    fn is_update(&self) -> bool {
+        false
+    }
+}
+
+impl RecordData for TSIG {
+    ghost as_rdata = { kinds.TSIG };
+
+    ghost of_rdata = { tsig_in };
+
+    ghost borrows_back = { λ _. refl };
+
+    ghost keeps_equality = { λ _ _. refl };
+
+    fn try_borrow(rdata: &RData) -> Option<&TSIG> {
+        match rdata {
+            RData::TSIG(rdata) => Some(rdata),
+            _ => None,
+        }
+    }
+
+    fn into_rdata(self) -> RData {
+        RData::TSIG(self)
+    }
+
+    fn record_type(&self) -> RecordType {
+        RecordType::TSIG
+    }
+
+    fn is_update(&self) -> bool {
+        false
+    }
+}
