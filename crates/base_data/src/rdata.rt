@@ -19,6 +19,7 @@ pub mod soa;
 pub mod srv;
 pub mod tsig;
 pub mod txt;
+mod writing;
 
 pub use a::A;
 pub use aaaa::AAAA;

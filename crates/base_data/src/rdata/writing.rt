@@ -1,0 +1,64 @@
+//! Writes and prints the data of any record.
+
+ghost use Rattle.std.specs.Prelude.{Some, []};
+ghost use Rattle.base_data.specs.DataWord.{DataWord, data_text, plain_data};
+
+use crate::rdata::RData;
+use base::{BinEncodable, BinEncoder, ProtoError};
+use std::fmt;
+
+impl BinEncodable for RData {
+    ghost word = { DataWord };
+
+    ghost plain_len = { plain_data };
+
+    ghost owner = { λ _. [] };
+
+    /// Writes the data as its kind is written, and nothing for empty data (RFC 1035, 3.3; RFC 3597, 4).
+    ///
+    /// Refused where a byte would pass the limit, and for want of memory.
+    fn emit(&self, encoder: &mut BinEncoder<'_>) -> Result<(), ProtoError> {
+        match self {
+            RData::A(rdata) => rdata.emit(encoder),
+            RData::AAAA(rdata) => rdata.emit(encoder),
+            RData::NS(rdata) => rdata.emit(encoder),
+            RData::CNAME(rdata) => rdata.emit(encoder),
+            RData::PTR(rdata) => rdata.emit(encoder),
+            RData::ANAME(rdata) => rdata.emit(encoder),
+            RData::MX(rdata) => rdata.emit(encoder),
+            RData::SOA(rdata) => rdata.emit(encoder),
+            RData::SRV(rdata) => rdata.emit(encoder),
+            RData::TXT(rdata) => rdata.emit(encoder),
+            RData::NULL(rdata) => rdata.emit(encoder),
+            RData::OPT(rdata) => rdata.emit(encoder),
+            RData::TSIG(rdata) => rdata.emit(encoder),
+            RData::Update0(_) => Ok(()),
+            RData::Unknown { rdata, .. } => rdata.emit(encoder),
+        }
+    }
+}
+
+impl fmt::Display for RData {
+    ghost output = { λ r. Some (data_text r) };
+
+    /// The text of its kind; `\# 0` for empty data (RFC 3597, 5).
+    fn fmt<W: fmt::Write>(&self, f: &mut fmt::Formatter<W>) -> fmt::Result {
+        match self {
+            RData::A(rdata) => write!(f, "{rdata}"),
+            RData::AAAA(rdata) => write!(f, "{rdata}"),
+            RData::NS(rdata) => write!(f, "{rdata}"),
+            RData::CNAME(rdata) => write!(f, "{rdata}"),
+            RData::PTR(rdata) => write!(f, "{rdata}"),
+            RData::ANAME(rdata) => write!(f, "{rdata}"),
+            RData::MX(rdata) => write!(f, "{rdata}"),
+            RData::SOA(rdata) => write!(f, "{rdata}"),
+            RData::SRV(rdata) => write!(f, "{rdata}"),
+            RData::TXT(rdata) => write!(f, "{rdata}"),
+            RData::NULL(rdata) => write!(f, "{rdata}"),
+            RData::OPT(rdata) => write!(f, "{rdata}"),
+            RData::TSIG(rdata) => write!(f, "{rdata}"),
+            RData::Update0(_) => write!(f, "\\# 0"),
+            RData::Unknown { rdata, .. } => write!(f, "{rdata}"),
+        }
+    }
+}
