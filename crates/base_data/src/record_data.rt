@@ -5,14 +5,16 @@ ghost use Rattle.base_data.specs.RecordData.{a_in, aaaa_in, aname_in, cname_in, 
 ghost use Rattle.base_data.specs.declared.rdata.RData.TheVariants as kinds;
 
 use crate::rdata::{A, AAAA, ANAME, CNAME, MX, NS, NULL, OPT, PTR, RData, SOA, SRV, TSIG, TXT};
-use base::RecordType;
+use base::{BinEncodable, RecordType};
+use std::fmt;
 
 /// Data of one kind, or of any.
 ///
 /// `as_rdata` is the data as that of any record, and `of_rdata` takes the kind out of such data.
-pub trait RecordData: Eq + Clone + Drop {
-    ghost use Rattle.std.specs.Prelude.{◌≡◌, Option, Some};
+pub trait RecordData: Eq + Clone + BinEncodable + fmt::Display + Drop {
+    ghost use Rattle.std.specs.Prelude.{◌≡◌, ◌↔◌, ℕ, List, Option, Some};
     ghost use Rattle.std.specs.Option.{option_copied};
+    ghost use Rattle.base_data.specs.DataWord.{DataWord, data_text, plain_data};
     ghost use Rattle.base_data.specs.RData.{is_empty_data, type_of_data};
     ghost use Rattle.base_data.specs.declared.rdata.RData.{RData as AnyData};
 
@@ -39,6 +41,14 @@ pub trait RecordData: Eq + Clone + Drop {
     /// What was made the data of any record is taken out of it again.
     ghost borrows_back: { (r : Self) → of_rdata (as_rdata r) ≡ Some r };
 
+    /// As data of any record, data has the word and the length that it had.
+    ghost keeps_word: { (r : Self) (B : List ℕ) (i e : ℕ) → DataWord (as_rdata r) B i e ↔ Self.word r B i e };
+
+    ghost keeps_len: { (r : Self) → plain_data (as_rdata r) ≡ Self.plain_len r };
+
+    /// And the text.
+    ghost keeps_text: { (r : Self) → Some (data_text (as_rdata r)) ≡ Self.output r };
+
     /// As data of any record, data is equal where it was.
     ghost keeps_equality: { (r s : Self) → ⟦<RData as PartialEq>⟧.eq (as_rdata r) (as_rdata s) ≡ Self.eq r s };
 }
@@ -49,6 +59,12 @@ impl RecordData for RData {
     ghost of_rdata = { Some };
 
     ghost borrows_back = { λ _. refl };
+
+    ghost keeps_word = { λ _ _ _ _. (λ h. h, λ h. h) };
+
+    ghost keeps_len = { λ _. refl };
+
+    ghost keeps_text = { λ _. refl };
 
     ghost keeps_equality = { λ _ _. refl };
 
@@ -75,6 +91,12 @@ impl RecordData for A {
     ghost of_rdata = { a_in };
 
     ghost borrows_back = { λ _. refl };
+
+    ghost keeps_word = { λ _ _ _ _. (λ h. h, λ h. h) };
+
+    ghost keeps_len = { λ _. refl };
+
+    ghost keeps_text = { λ _. refl };
 
     ghost keeps_equality = { λ _ _. refl };
 
@@ -105,6 +127,12 @@ impl RecordData for AAAA {
 
     ghost borrows_back = { λ _. refl };
 
+    ghost keeps_word = { λ _ _ _ _. (λ h. h, λ h. h) };
+
+    ghost keeps_len = { λ _. refl };
+
+    ghost keeps_text = { λ _. refl };
+
     ghost keeps_equality = { λ _ _. refl };
 
     fn try_borrow(rdata: &RData) -> Option<&AAAA> {
@@ -133,6 +161,12 @@ impl RecordData for NS {
     ghost of_rdata = { ns_in };
 
     ghost borrows_back = { λ _. refl };
+
+    ghost keeps_word = { λ _ _ _ _. (λ h. h, λ h. h) };
+
+    ghost keeps_len = { λ _. refl };
+
+    ghost keeps_text = { λ _. refl };
 
     ghost keeps_equality = { λ _ _. refl };
 
@@ -163,6 +197,12 @@ impl RecordData for CNAME {
 
     ghost borrows_back = { λ _. refl };
 
+    ghost keeps_word = { λ _ _ _ _. (λ h. h, λ h. h) };
+
+    ghost keeps_len = { λ _. refl };
+
+    ghost keeps_text = { λ _. refl };
+
     ghost keeps_equality = { λ _ _. refl };
 
     fn try_borrow(rdata: &RData) -> Option<&CNAME> {
@@ -191,6 +231,12 @@ impl RecordData for PTR {
     ghost of_rdata = { ptr_in };
 
     ghost borrows_back = { λ _. refl };
+
+    ghost keeps_word = { λ _ _ _ _. (λ h. h, λ h. h) };
+
+    ghost keeps_len = { λ _. refl };
+
+    ghost keeps_text = { λ _. refl };
 
     ghost keeps_equality = { λ _ _. refl };
 
@@ -221,6 +267,12 @@ impl RecordData for ANAME {
 
     ghost borrows_back = { λ _. refl };
 
+    ghost keeps_word = { λ _ _ _ _. (λ h. h, λ h. h) };
+
+    ghost keeps_len = { λ _. refl };
+
+    ghost keeps_text = { λ _. refl };
+
     ghost keeps_equality = { λ _ _. refl };
 
     fn try_borrow(rdata: &RData) -> Option<&ANAME> {
@@ -249,6 +301,12 @@ impl RecordData for MX {
     ghost of_rdata = { mx_in };
 
     ghost borrows_back = { λ _. refl };
+
+    ghost keeps_word = { λ _ _ _ _. (λ h. h, λ h. h) };
+
+    ghost keeps_len = { λ _. refl };
+
+    ghost keeps_text = { λ _. refl };
 
     ghost keeps_equality = { λ _ _. refl };
 
@@ -279,6 +337,12 @@ impl RecordData for SOA {
 
     ghost borrows_back = { λ _. refl };
 
+    ghost keeps_word = { λ _ _ _ _. (λ h. h, λ h. h) };
+
+    ghost keeps_len = { λ _. refl };
+
+    ghost keeps_text = { λ _. refl };
+
     ghost keeps_equality = { λ _ _. refl };
 
     fn try_borrow(rdata: &RData) -> Option<&SOA> {
@@ -307,6 +371,12 @@ impl RecordData for SRV {
     ghost of_rdata = { srv_in };
 
     ghost borrows_back = { λ _. refl };
+
+    ghost keeps_word = { λ _ _ _ _. (λ h. h, λ h. h) };
+
+    ghost keeps_len = { λ _. refl };
+
+    ghost keeps_text = { λ _. refl };
 
     ghost keeps_equality = { λ _ _. refl };
 
@@ -337,6 +407,12 @@ impl RecordData for TXT {
 
     ghost borrows_back = { λ _. refl };
 
+    ghost keeps_word = { λ _ _ _ _. (λ h. h, λ h. h) };
+
+    ghost keeps_len = { λ _. refl };
+
+    ghost keeps_text = { λ _. refl };
+
     ghost keeps_equality = { λ _ _. refl };
 
     fn try_borrow(rdata: &RData) -> Option<&TXT> {
@@ -365,6 +441,12 @@ impl RecordData for NULL {
     ghost of_rdata = { null_in };
 
     ghost borrows_back = { λ _. refl };
+
+    ghost keeps_word = { λ _ _ _ _. (λ h. h, λ h. h) };
+
+    ghost keeps_len = { λ _. refl };
+
+    ghost keeps_text = { λ _. refl };
 
     ghost keeps_equality = { λ _ _. refl };
 
@@ -395,6 +477,12 @@ impl RecordData for OPT {
 
     ghost borrows_back = { λ _. refl };
 
+    ghost keeps_word = { λ _ _ _ _. (λ h. h, λ h. h) };
+
+    ghost keeps_len = { λ _. refl };
+
+    ghost keeps_text = { λ _. refl };
+
     ghost keeps_equality = { λ _ _. refl };
 
     fn try_borrow(rdata: &RData) -> Option<&OPT> {
@@ -423,6 +511,12 @@ impl RecordData for TSIG {
     ghost of_rdata = { tsig_in };
 
     ghost borrows_back = { λ _. refl };
+
+    ghost keeps_word = { λ _ _ _ _. (λ h. h, λ h. h) };
+
+    ghost keeps_len = { λ _. refl };
+
+    ghost keeps_text = { λ _. refl };
 
     ghost keeps_equality = { λ _ _. refl };
 

@@ -1,5 +1,5 @@
 -- When questions are equal.
-use Rattle.std.proofs.Common.{◌≡◌, Bool, true, rules}
+use Rattle.std.proofs.Common.{◌≡◌, rules}
 use Rattle.std.specs.Prelude.{IsTrue, ◌↔◌}
 use Rattle.std.specs.Bool.{Decides}
 use Rattle.std.specs.Cmp.{booleans_Decides}

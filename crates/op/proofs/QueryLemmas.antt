@@ -1,18 +1,16 @@
 -- Questions that stand are questions that are read.
-use Rattle.std.proofs.Common.{◌≡◌, ℕ, ◌+◌, ◌%◌, ◌<◌, ◌≤◌, Bool, true, false, List, length, refl, ap, sym, ◌∙◌, subst, arith, inl, inr, Result, Ok, Err}
-use Rattle.std.specs.Prelude.{◌↔◌, ◌⊎◌, nat_le}
+use Rattle.std.proofs.Common.{◌≡◌, ℕ, ◌+◌, ◌%◌, ◌<◌, Bool, true, false, List, refl, ap, sym, ◌∙◌, subst, arith, inl, inr, Result, Ok, Err}
+use Rattle.std.specs.Prelude.{◌↔◌}
 use Rattle.std.specs.Int.{w16}
 use Rattle.std.proofs.lemmas.Bool.{le-leb, lt-leb}
 use Rattle.base.specs.DNSClass.{class_field, class_number, class_of, field_class, field_top}
-use Rattle.base.specs.Faults.{IsFaulty}
 use Rattle.base.specs.Labels.{NameValue}
 use Rattle.base.specs.Names.{name_at}
-use Rattle.base.specs.Reading.{Read, ◌>>=◌, number_at}
+use Rattle.base.specs.Reading.{Read, number_at}
 use Rattle.base.specs.RecordType.{type_number, type_of}
 use Rattle.base.specs.Spelling.{IsNameAt}
 use Rattle.base.specs.Words.{IsNumberAt, NameAt, Number, Then}
 use Rattle.base.specs.declared.error.decode_error.DecodeError.{DecodeError}
-use Rattle.base.specs.declared.error.decode_error.DecodeError.TheVariants as faults
 use Rattle.base.proofs.ReadLemmas.{bind_ok, bind_err, number_is, number_again, number_short}
 use Rattle.base.proofs.ReadingLemmas.{name_is, name_fault, name_again, fault_again}
 use Rattle.op.specs.Query.{FitsQuery, IsQueryAt, IsQueryFault, IsRawQueryAt, QueryWord, RawQuery, query_at, query_value, raw_query}

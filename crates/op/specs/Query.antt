@@ -1,5 +1,5 @@
 -- The question word (RFC 1035, 4.1.2; the top bit of the class: RFC 6762, 5.4).
-use Rattle.std.specs.Prelude.{◌≡◌, ℕ, ◌+◌, ◌<◌, ◌⊎◌, ◌≤◌, length, List, [], ◌++◌, codes, Bool, true, false, if◌then◌else◌, Ok}
+use Rattle.std.specs.Prelude.{◌≡◌, ℕ, ◌+◌, ◌<◌, ◌⊎◌, length, List, ◌++◌, codes, true, false, if◌then◌else◌, Ok}
 use Rattle.std.specs.Int.{w16}
 use Rattle.base.specs.DNSClass.{class_field, class_number, class_text, class_of, field_class, field_top}
 use Rattle.base.specs.Labels.{NameValue, plain_len}
@@ -12,10 +12,8 @@ use Rattle.base.specs.Spelling.{IsNameAt}
 use Rattle.base.specs.Words.{IsNumberAt, NameAt}
 use Rattle.base.specs.declared.error.decode_error.DecodeError.{DecodeError}
 use Rattle.base.specs.declared.error.decode_error.DecodeError.TheVariants as faults
-use Rattle.base.specs.declared.dns_class.DNSClass.{DNSClass}
 use Rattle.base.specs.declared.dns_class.DNSClass.TheVariants as classes
 use Rattle.base.specs.declared.record_type.RecordType.{RecordType}
-use Rattle.base.specs.declared.record_type.RecordType.TheVariants as types
 use Rattle.op.specs.declared.query.Query.{Query}
 
 -- the fields of a question on the wire
