@@ -10,4 +10,6 @@ pub use rdata::{
 pub use record_data::RecordData;
 
 #[cfg(test)]
+mod rdata_tests;
+#[cfg(test)]
 mod tests;
