@@ -9,6 +9,7 @@ pub mod aname;
 pub mod cname;
 mod emit;
 mod hex_text;
+pub mod laws;
 pub mod mx;
 pub mod ns;
 pub mod null;
