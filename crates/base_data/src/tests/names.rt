@@ -1,9 +1,8 @@
-use crate::{A, ANAME, CNAME, MX, NS, PTR, RData, SOA, SRV};
+use crate::{ANAME, CNAME, MX, NS, PTR, SOA, SRV};
 use base::{
     BinDecodable, BinDecoder, BinEncodable, BinEncoder, Name, ParseError, ProtoError, RecordType,
 };
 use std::alloc::Global;
-use std::net::Ipv4Addr;
 use std::test::Fail;
 
 fn name(alloc: Global, text: &str) -> Result<Name, ParseError> {
@@ -123,26 +122,5 @@ fn names_alone(rt: HostRuntime) -> Result<(), Fail> {
         aname
     );
     assert_eq!(rt; aname.to_string(rt.alloc())?.as_str(), "a.");
-    Ok(())
-}
-
-#[test]
-fn data_of_any_record_is_written_as_its_kind(rt: HostRuntime) -> Result<(), Fail> {
-    let mx = RData::MX(MX::new(10, name(rt.alloc(), "a.")?));
-    let empty = RData::Update0(RecordType::A);
-    let bytes = [0x00, 0x0A, 0x01, 0x61, 0x00];
-    assert_eq!(rt;
-        written(rt.alloc(), &mx, &empty)?.as_slice(),
-        bytes.as_slice()
-    );
-    assert_eq!(rt; mx.to_string(rt.alloc())?.as_str(), "10 a.");
-    assert_eq!(rt; empty.to_string(rt.alloc())?.as_str(), "\\# 0");
-    let address = RData::A(A::new(Ipv4Addr::new(192, 0, 2, 1)));
-    let four = [0xC0, 0x00, 0x02, 0x01];
-    assert_eq!(rt;
-        written(rt.alloc(), &address, &empty)?.as_slice(),
-        four.as_slice()
-    );
-    assert_eq!(rt; address.to_string(rt.alloc())?.as_str(), "192.0.2.1");
     Ok(())
 }
