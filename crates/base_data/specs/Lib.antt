@@ -2,6 +2,7 @@ pub mod A
 pub mod AAAA
 pub mod ANAME
 pub mod CNAME
+pub mod DataAt
 pub mod DataWord
 pub mod MX
 pub mod NS
