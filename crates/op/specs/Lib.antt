@@ -1,3 +1,5 @@
+pub mod Edns
+pub mod EdnsFlags
 pub mod Flags
 pub mod Header
 pub mod HeaderCounts
