@@ -1,9 +1,13 @@
 pub mod AddressLemmas
 pub mod BytesRead
 pub mod DataLemmas
+pub mod DataRows
 pub mod NameDataLemmas
+pub mod NameWords
 pub mod OptionLemmas
 pub mod OptionTexts
+pub mod OptionWords
 pub mod StringLemmas
 pub mod StringTexts
+pub mod Tells
 pub mod WriteLemmas

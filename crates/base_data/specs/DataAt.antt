@@ -4,7 +4,6 @@ use Rattle.base.specs.declared.record_type.RecordType.{RecordType}
 use Rattle.base.specs.declared.record_type.RecordType.TheVariants as types
 use Rattle.base_data.specs.DataWord.{DataWord}
 use Rattle.base_data.specs.RData.{type_of_data}
-use Rattle.base_data.specs.TXT.{AreShort}
 use Rattle.base_data.specs.declared.rdata.RData.{RData}
 use Rattle.base_data.specs.declared.rdata.RData.TheVariants as kinds
 
@@ -26,7 +25,8 @@ is_carried types.TSIG = false
 is_carried types.ANAME = false
 is_carried _ = true
 
--- Data that the kind of its own type reads: names are absolute, and data that has no byte is `Update0`.
+-- Data that the kind of its own type reads: names are absolute, and data that has no byte is `Update0`. A string's
+-- length is one byte, so what stands in bytes has no longer ones.
 abbrev pub IsReadable : RData → Type 0
 IsReadable (kinds.A x) = length x.octets ≡ 4
 IsReadable (kinds.AAAA x) = length x.octets ≡ 16
@@ -37,7 +37,7 @@ IsReadable (kinds.ANAME x) = x.name.absolute ≡ true
 IsReadable (kinds.MX x) = x.exchange.absolute ≡ true
 IsReadable (kinds.SOA x) = (x.mname.absolute ≡ true) × (x.rname.absolute ≡ true)
 IsReadable (kinds.SRV x) = x.target.absolute ≡ true
-IsReadable (kinds.TXT x) = (x ≢ []) × AreShort x
+IsReadable (kinds.TXT x) = x ≢ []
 IsReadable (kinds.NULL x) = x ≢ []
 IsReadable (kinds.OPT x) = x ≢ []
 IsReadable (kinds.TSIG x) = x ≢ []

@@ -20,6 +20,7 @@ pub mod soa;
 pub mod srv;
 pub mod tsig;
 pub mod txt;
+pub mod words;
 mod writing;
 
 pub use a::A;

@@ -1,0 +1,118 @@
+-- The record word (RFC 1035, 4.1.3; an OPT record: RFC 6891, 6.1.2; the top bit of the class: RFC 6762, 10.2).
+use Rattle.std.specs.Prelude.{◌≡◌, ℕ, ◌+◌, ◌-◌, ◌<◌, ◌==◌, length, List, [], ◌++◌, codes, true, false, not, ◌&&◌, Bool, if◌then◌else◌, nat_lt, Ok, Err}
+use Rattle.std.specs.Fmt.{decimal}
+use Rattle.std.specs.Int.{w16, w32}
+use Rattle.base.specs.DNSClass.{class_field, class_number, class_text, class_of, field_class, field_top, is_opt_class, opt_class}
+use Rattle.base.specs.Labels.{NameValue, plain_len}
+use Rattle.base.specs.NameText.{name_text}
+use Rattle.base.specs.Names.{name_at}
+use Rattle.base.specs.Reading.{Read, ◌>>=◌, number_at}
+use Rattle.base.specs.RecordType.{type_number, type_of, type_text}
+use Rattle.base.specs.Words.{IsNumberAt, NameAt}
+use Rattle.base.specs.declared.dns_class.DNSClass.{DNSClass}
+use Rattle.base.specs.declared.dns_class.DNSClass.TheVariants as classes
+use Rattle.base.specs.declared.error.decode_error.DecodeError.{DecodeError}
+use Rattle.base.specs.declared.error.decode_error.DecodeError.TheVariants as faults
+use Rattle.base.specs.declared.record_type.RecordType.{RecordType}
+use Rattle.base.specs.declared.record_type.RecordType.TheVariants as types
+use Rattle.base_data.specs.DataAt.{IsReadable}
+use Rattle.base_data.specs.DataWord.{DataWord, data_text, plain_data}
+use Rattle.base_data.specs.RData.{rdata_at, type_of_data}
+use Rattle.base_data.specs.declared.rdata.RData.{RData}
+use Rattle.base_data.specs.declared.rdata.RData.TheVariants as kinds
+use Rattle.rr.specs.declared.record.Record.{Record}
+
+-- the fields of a record on the wire, its data as what it stands for
+pub record RawRecord : Type 0 where
+  pub labels : List (List ℕ)
+  pub type : ℕ
+  pub class : ℕ
+  pub ttl : ℕ
+  pub rdata : RData
+
+-- These fields stand in B from i up to e, the data behind the number of its bytes.
+pub record IsRawRecordAt (B : List ℕ) (i : ℕ) (raw : RawRecord) (e : ℕ) : Type 0 where
+  pub owner_end : ℕ
+  pub owner : NameAt raw.labels B i owner_end
+  pub type_stands : IsNumberAt w16 B owner_end raw.type
+  pub class_stands : IsNumberAt w16 B (owner_end + 2) raw.class
+  pub ttl_stands : IsNumberAt w32 B (owner_end + 4) raw.ttl
+  pub len : ℕ
+  pub len_stands : IsNumberAt w16 B (owner_end + 8) len
+  pub rdata_stands : DataWord raw.rdata B (owner_end + 10) e
+  pub fills : e ≡ owner_end + 10 + len
+
+-- whether this is the type of EDNS records
+abbrev pub is_opt_type : RecordType → Bool
+is_opt_type types.OPT = true
+is_opt_type _ = false
+
+-- the class that the class field of a type is read as: the payload size of an OPT record, of 512 at least
+abbrev pub class_value : RecordType → ℕ → DNSClass
+class_value type class = if is_opt_type type then opt_class class else field_class class
+
+-- whether the class field of a type says to flush the cache; that of an OPT record never does
+abbrev pub flush_value : RecordType → ℕ → Bool
+flush_value type class = if is_opt_type type then false else field_top class
+
+-- The fields are read as this record: the owner of an OPT record is the root, and the data is read by its type.
+pub record IsRecordValue (raw : RawRecord) (r : Record RData) : Type 0 where
+  pub owner : r.name ≡ record { labels = raw.labels; absolute = true }
+  pub root : type_of raw.type ≡ types.OPT → raw.labels ≡ []
+  pub type_is : type_of_data r.rdata ≡ type_of raw.type
+  pub class : r.dns_class ≡ class_value (type_of raw.type) raw.class
+  pub flush : r.mdns_cache_flush ≡ flush_value (type_of raw.type) raw.class
+  pub ttl : r.ttl ≡ raw.ttl
+  pub rdata : r.rdata ≡ raw.rdata
+  pub readable : IsReadable r.rdata
+
+-- a record word stands in B from i up to e, and is read as this record
+pub record IsRecordAt (B : List ℕ) (i : ℕ) (r : Record RData) (e : ℕ) : Type 0 where
+  pub raw : RawRecord
+  pub word : IsRawRecordAt B i raw e
+  pub value : IsRecordValue raw r
+
+-- the fields that a record is written as
+abbrev pub raw_record : Record RData → RawRecord
+raw_record r = record {
+  labels = r.name.labels;
+  type = type_number (type_of_data r.rdata);
+  class = class_field r.mdns_cache_flush (class_number r.dns_class);
+  ttl = r.ttl;
+  rdata = r.rdata;
+}
+
+-- the word that a record is written as
+abbrev pub RecordWord : Record RData → List ℕ → ℕ → ℕ → Type 0
+RecordWord r B i e = IsRawRecordAt B i (raw_record r) e
+
+-- the bytes of a record without compression
+abbrev pub plain_record : Record RData → ℕ
+plain_record r = plain_len r.name.labels + (10 + plain_data r.rdata)
+
+-- the record with its data seen so
+abbrev pub with_data : {R N : Type 0} → (R → N) → Record R → Record N
+with_data seen r = record { name = r.name; dns_class = r.dns_class; ttl = r.ttl; rdata = seen r.rdata; mdns_cache_flush = r.mdns_cache_flush }
+
+-- The record of this owner and type whose class, TTL, length and data stand at i, in this order, or its first fault.
+unfoldable pub body_at : NameValue → RecordType → List ℕ → ℕ → Read (Record RData)
+body_at owner type bytes i = do
+  class ← number_at w16 bytes i
+  ttl ← number_at w32 bytes class.1
+  len ← number_at w16 bytes ttl.1
+  if nat_lt (length bytes) (len.1 + len.0) then Err (faults.IncorrectRDataLengthRead (length bytes - len.1) len.0) else (do
+    rdata ← rdata_at type len.0 bytes len.1
+    Ok (record { name = owner; dns_class = class_value type class.0; ttl = ttl.0; rdata = rdata.0; mdns_cache_flush = flush_value type class.0 }, rdata.1))
+
+-- The record that stands at i, or its first fault: that of its name or type, then an owner of an OPT record that isn't
+-- the root, then what comes behind.
+unfoldable pub record_at : List ℕ → ℕ → Read (Record RData)
+record_at bytes i = do
+  owner ← name_at bytes i
+  type ← number_at w16 bytes owner.1
+  if is_opt_type (type_of type.0) && not (length owner.0.labels == 0) then Err (faults.EdnsNameNotRoot owner.0) else body_at owner.0 (type_of type.0) bytes type.1
+
+-- name, TTL, class, type and data
+abbrev pub record_text : Record RData → List ℕ
+record_text r =
+    name_text r.name ++ (codes " " ++ (decimal r.ttl ++ (codes " " ++ (class_text r.dns_class ++ (codes " " ++ (type_text (type_of_data r.rdata) ++ (codes " " ++ data_text r.rdata)))))))

@@ -1,0 +1,79 @@
+//! Reads records.
+
+ghost use Rattle.std.specs.Prelude.{◌≡◌};
+ghost use Rattle.base.specs.Reading.{Reads};
+ghost use Rattle.rr.specs.Record.{body_at, class_value, flush_value, is_opt_type, record_at};
+
+use crate::record::Record;
+use base::{BinDecodable, BinDecoder, DNSClass, DecodeError, Name, RecordType};
+use base_data::RData;
+
+impl BinDecodable for Record<RData> {
+    ghost read_at = { record_at };
+
+    /// Reads a record at the decoder's place, and moves behind it. Class and cache-flush bit of an OPT record are
+    /// its payload size, of 512 at least, and false.
+    ///
+    /// Refused with the first fault: of the name; `InsufficientBytes` where the end cuts the type; `EdnsNameNotRoot`
+    /// for an OPT record of another owner than the root; `InsufficientBytes` where the end cuts class, TTL or
+    /// length; `IncorrectRDataLengthRead` where fewer bytes are left than the length says; `BadData` for data that
+    /// its type doesn't read. And for want of memory.
+    #[tactic(auto, unfolding(crate::specs::Record::record_at))]
+    fn read(decoder: &mut BinDecoder<'_>) -> Result<Record<RData>, DecodeError> {
+        let name = Name::read(decoder)?;
+        let record_type = RecordType::read(decoder)?;
+        if is_opt(record_type) && !name.is_root() {
+            return Err(DecodeError::EdnsNameNotRoot(name));
+        }
+        read_body(decoder, name, record_type)
+    }
+}
+
+/// Whether this is the type of EDNS records.
+fn is_opt(record_type: RecordType) -> bool
+    ensures { result ≡ is_opt_type record_type }
+{
+    matches!(record_type, RecordType::OPT)
+}
+
+/// The class and the cache-flush bit of a record of this type with this class field (RFC 6762, 10.2; RFC 6891,
+/// 6.1.2).
+fn class_of_field(record_type: RecordType, field: u16) -> (DNSClass, bool)
+    ensures class { result.0 ≡ class_value record_type field }
+    ensures flush { result.1 ≡ flush_value record_type field }
+{
+    if is_opt(record_type) {
+        (DNSClass::for_opt(field), false)
+    } else {
+        DNSClass::from_field(field)
+    }
+}
+
+/// Reads what comes behind the type of a record.
+#[tactic(auto, unfolding(crate::specs::Record::body_at))]
+fn read_body(
+    decoder: &mut BinDecoder<'_>,
+    name: Name,
+    record_type: RecordType,
+) -> Result<Record<RData>, DecodeError>
+    ensures read { Reads (λ x. x) decoder.old decoder.new result (body_at name record_type decoder.old.bytes decoder.old.index) }
+{
+    let (dns_class, mdns_cache_flush) = class_of_field(record_type, decoder.read_u16()?);
+    let ttl = decoder.read_u32()?;
+    let len = decoder.read_u16()?;
+    let left = decoder.len();
+    if left < usize::from(len) {
+        return Err(DecodeError::IncorrectRDataLengthRead {
+            read: left,
+            len: usize::from(len),
+        });
+    }
+    let rdata = RData::read(decoder, record_type, len)?;
+    Ok(Record {
+        name,
+        dns_class,
+        ttl,
+        rdata,
+        mdns_cache_flush,
+    })
+}
