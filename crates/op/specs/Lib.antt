@@ -4,8 +4,10 @@ pub mod Flags
 pub mod Header
 pub mod HeaderCounts
 pub mod LowerQuery
+pub mod Message
 pub mod MessageType
 pub mod Metadata
 pub mod OpCode
 pub mod Query
 pub mod ResponseCode
+pub mod Section
