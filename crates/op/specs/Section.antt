@@ -1,5 +1,5 @@
 -- The sections of a message: the tests on their records, and what becomes of them (RFC 1035, 4.1; RFC 6891, 6.1.1; RFC 8945, 5.1).
-use Rattle.std.specs.Prelude.{◌≡◌, ℕ, Bool, true, false, not, ◌&&◌, ◌||◌, ◌≤◌, ◌+◌, ◌/◌, ◌%◌, List, [], ◌∷◌, length, filter, find, Option, Some, None, IsTrue, if◌then◌else◌, zero, suc, Ok, Err, Result}
+use Rattle.std.specs.Prelude.{◌≡◌, ℕ, Bool, true, false, not, ◌&&◌, ◌||◌, ◌≤◌, ◌+◌, ◌/◌, ◌%◌, ◌++◌, List, [], ◌∷◌, length, filter, find, Option, Some, None, IsTrue, if◌then◌else◌, zero, suc, Ok, Err, Result}
 use Rattle.std.specs.Option.{option_map}
 use Rattle.base.specs.DNSClass.{class_number}
 use Rattle.base.specs.Reading.{Read, ◌>>=◌}
@@ -15,6 +15,7 @@ use Rattle.rr.specs.Record.{is_opt_type, record_at}
 use Rattle.rr.specs.declared.record.Record.{Record}
 use Rattle.op.specs.EdnsFlags.{flags_of_number}
 use Rattle.op.specs.declared.edns.Edns.{Edns}
+use Rattle.op.specs.declared.message.section.Section.{Section}
 use Rattle.op.specs.declared.op_code.OpCode.{OpCode}
 use Rattle.op.specs.declared.op_code.OpCode.TheVariants as op_codes
 
@@ -62,14 +63,17 @@ signature_in (kinds.TSIG x) = x
 signature_in _ = []
 
 -- What an OPT record says: its TTL is the high code, the version and the flags, its class the payload size (RFC 6891, 6.1.3).
-abbrev pub edns_of : Record RData → Edns
-edns_of r = record {
-  rcode_high = r.ttl / 16777216;
-  version = r.ttl / 65536 % 256;
-  flags = flags_of_number (r.ttl % 65536);
-  max_payload = class_number r.dns_class;
-  options = options_in r.rdata;
+abbrev pub edns_value : ℕ → ℕ → List OptionValue → Edns
+edns_value payload ttl options = record {
+  rcode_high = ttl / 16777216;
+  version = ttl / 65536 % 256;
+  flags = flags_of_number (ttl % 65536);
+  max_payload = payload;
+  options = options;
 }
+
+abbrev pub edns_of : Record RData → Edns
+edns_of r = edns_value (class_number r.dns_class) r.ttl (options_in r.rdata)
 
 -- a signature's record
 abbrev pub signature_of : Record RData → Record (List ℕ)
@@ -81,12 +85,28 @@ pub record SectionValue : Type 0 where
   pub edns : Option Edns
   pub signature : Option (Record (List ℕ))
 
+-- a section that is being read, as contracts see it
+abbrev pub section_value : Section → SectionValue
+section_value s = record { records = s.records.items; edns = s.edns; signature = option_map (λ b. b.value) s.signature }
+
+-- what records become: EDNS and a signature by themselves, and the other records in their order
 abbrev pub section_of : List (Record RData) → SectionValue
 section_of rs = record {
   records = filter is_ordinary rs;
   edns = option_map edns_of (find is_opt rs);
   signature = option_map signature_of (find is_signature rs);
 }
+
+-- a section without records
+abbrev pub empty_section : SectionValue
+empty_section = record { records = []; edns = None; signature = None }
+
+-- a section with one more record behind its records
+abbrev pub with_record : SectionValue → Record RData → SectionValue
+with_record s r =
+    if is_opt r then record s { edns = Some (edns_of r) }
+    else (if is_signature r then record s { signature = Some (signature_of r) }
+    else record s { records = s.records ++ r ∷ [] })
 
 -- The tests on a record that was read, in their order. Of the records before it: whether one was EDNS, and whether
 -- one was a signature.

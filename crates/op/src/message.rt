@@ -6,6 +6,8 @@ ghost use Rattle.op.specs.Message.{empty_message, message_value};
 ghost use Rattle.op.specs.Metadata.{plain_metadata};
 ghost use Rattle.op.specs.declared.header.message_type.MessageType.TheVariants as message_types;
 
+mod section;
+
 use crate::edns::Edns;
 use crate::header::{MessageType, Metadata};
 use crate::op_code::OpCode;
