@@ -5,3 +5,4 @@ pub mod HeaderReading
 pub mod Orders
 pub mod QueryEquals
 pub mod QueryLemmas
+mod SectionLemmas

@@ -45,14 +45,14 @@ abbrev pub empty_message : Metadata → MessageValue
 empty_message metadata = record { metadata = metadata; queries = []; answers = []; authorities = []; additionals = []; edns = None; signature = None }
 
 -- the code of a header with the eight bits of EDNS above it (RFC 6891, 6.1.3)
-abbrev pub with_high_code : Option Edns → Metadata → Metadata
-with_high_code None metadata = metadata
-with_high_code (Some edns) metadata = record metadata { response_code = code_from edns.rcode_high (code_low metadata.response_code) }
+abbrev pub high_code : Option Edns → Metadata → Metadata
+high_code None metadata = metadata
+high_code (Some edns) metadata = record metadata { response_code = code_from edns.rcode_high (code_low metadata.response_code) }
 
 -- the message of a header, questions, answers, authorities, and what stands among additionals
 abbrev pub message_of : Metadata → List Query → List (Record RData) → List (Record RData) → SectionValue → MessageValue
 message_of metadata queries answers authorities additionals = record {
-  metadata = with_high_code additionals.edns metadata;
+  metadata = high_code additionals.edns metadata;
   queries = queries;
   answers = answers;
   authorities = authorities;

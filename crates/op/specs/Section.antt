@@ -1,5 +1,6 @@
 -- The sections of a message: the tests on their records, and what becomes of them (RFC 1035, 4.1; RFC 6891, 6.1.1; RFC 8945, 5.1).
-use Rattle.std.specs.Prelude.{◌≡◌, ℕ, Bool, true, false, not, ◌&&◌, ◌||◌, ◌≤◌, ◌+◌, ◌/◌, ◌%◌, ◌++◌, List, [], ◌∷◌, length, filter, find, Option, Some, None, IsTrue, if◌then◌else◌, zero, suc, Ok, Err, Result}
+use Rattle.std.specs.Prelude.{◌≡◌, ℕ, Bool, true, false, not, ◌&&◌, ◌||◌, ◌≤◌, ◌+◌, ◌/◌, ◌%◌, ◌++◌, List, [], ◌∷◌, length, filter, find, Option, Some, None, IsTrue, if◌then◌else◌, is_some, zero, suc, Ok, Err, Result}
+use Rattle.std.specs.Global.{Box, Vec}
 use Rattle.std.specs.Option.{option_map}
 use Rattle.base.specs.DNSClass.{class_number}
 use Rattle.base.specs.Reading.{Read, ◌>>=◌}
@@ -89,6 +90,9 @@ pub record SectionValue : Type 0 where
 abbrev pub section_value : Section → SectionValue
 section_value s = record { records = s.records.items; edns = s.edns; signature = option_map (λ b. b.value) s.signature }
 
+abbrev pub parts_value : Vec (Record RData) × Option Edns × Option (Box (Record (List ℕ))) → SectionValue
+parts_value parts = record { records = parts.0.items; edns = parts.1; signature = option_map (λ b. b.value) parts.2 }
+
 -- what records become: EDNS and a signature by themselves, and the other records in their order
 abbrev pub section_of : List (Record RData) → SectionValue
 section_of rs = record {
@@ -108,25 +112,32 @@ with_record s r =
     else (if is_signature r then record s { signature = Some (signature_of r) }
     else record s { records = s.records ++ r ∷ [] })
 
--- The tests on a record that was read, in their order. Of the records before it: whether one was EDNS, and whether
--- one was a signature.
-abbrev pub tested : Bool → OpCode → Bool → Bool → Record RData → Result Bool DecodeError
-tested inside op opt signature r =
-    if is_empty_data r.rdata && not (is_update op || is_opt r) then Err faults.InvalidEmptyRecord
-    else (if signature then Err faults.RecordAfterSig
-    else (if not inside && is_additional r then Err (faults.RecordNotInAdditionalSection (type_of_data r.rdata))
-    else (if opt && is_opt r then Err faults.DuplicateEdns
-    else Ok (opt || is_opt r))))
+-- The first test that a record fails behind the records of a section: empty data, a place behind a signature, a place
+-- outside additionals, a second EDNS record.
+abbrev pub fault_of : Bool → OpCode → SectionValue → Record RData → Option DecodeError
+fault_of is_additional_section op s r =
+    if is_empty_data r.rdata && not (is_update op || is_opt r) then Some faults.InvalidEmptyRecord
+    else (if is_some s.signature then Some faults.RecordAfterSig
+    else (if not is_additional_section && is_additional r then Some (faults.RecordNotInAdditionalSection (type_of_data r.rdata))
+    else (if is_some s.edns && is_opt r then Some faults.DuplicateEdns
+    else None)))
 
--- as many records, each tested before the next is read, or the first fault
-unfoldable pub records_at : Bool → OpCode → Bool → Bool → ℕ → List ℕ → ℕ → Read (List (Record RData))
-records_at inside op opt signature zero bytes i = Ok ([], i)
-records_at inside op opt signature (suc n) bytes i = do
-  first ← record_at bytes i
-  seen ← tested inside op opt signature first.0
-  others ← records_at inside op seen (is_signature first.0) n bytes first.1
-  Ok (first.0 ∷ others.0, others.1)
+abbrev pub unless_fault : Option DecodeError → SectionValue → Result SectionValue DecodeError
+unless_fault None s = Ok s
+unless_fault (Some fault) s = Err fault
 
--- the records of a section, of as many at a place
-unfoldable pub section_at : Bool → OpCode → ℕ → List ℕ → ℕ → Read SectionValue
-section_at inside op count bytes i = records_at inside op false false count bytes i >>= λ rs. Ok (section_of rs.0, rs.1)
+-- a section with a record that was read behind its records, if the record may stand there
+abbrev pub tested : Bool → OpCode → SectionValue → Record RData → Result SectionValue DecodeError
+tested is_additional_section op s r = unless_fault (fault_of is_additional_section op s r) (with_record s r)
+
+-- A section with as many records more, each tested before the next is read, or the first fault.
+unfoldable pub section_from : Bool → OpCode → SectionValue → ℕ → List ℕ → ℕ → Read SectionValue
+section_from is_additional_section op s zero bytes i = Ok (s, i)
+section_from is_additional_section op s (suc n) bytes i = do
+  next ← record_at bytes i
+  more ← tested is_additional_section op s next.0
+  section_from is_additional_section op more n bytes next.1
+
+-- the section of as many records at a place
+abbrev pub section_at : Bool → OpCode → ℕ → List ℕ → ℕ → Read SectionValue
+section_at is_additional_section op count bytes i = section_from is_additional_section op empty_section count bytes i

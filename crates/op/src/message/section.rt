@@ -1,8 +1,9 @@
 //! What the records of a section are.
 
-ghost use Rattle.std.specs.Prelude.{◌≡◌, Err, IsOk, OnOk, IsOkUnless, MatchResult, is_some};
+ghost use Rattle.std.specs.Prelude.{◌≡◌, Ok, IfErr, OnOk, IsOkUnless};
 ghost use Rattle.base.specs.DNSClass.{class_number};
-ghost use Rattle.op.specs.Section.{edns_value, empty_section, is_additional_type, options_in, section_value, tested, with_record};
+ghost use Rattle.base.specs.Reading.{Fails};
+ghost use Rattle.op.specs.Section.{edns_value, empty_section, fault_of, is_additional_type, options_in, section_value, tested, with_record};
 
 use crate::edns::{Edns, EdnsFlags};
 use crate::op_code::OpCode;
@@ -31,35 +32,49 @@ impl Section {
         }
     }
 
-    /// Whether a record may stand behind those that were read, or the first test that it fails.
-    pub(crate) fn test(
-        &self,
-        next: &Record,
+    /// Takes a record that was read, if it may stand behind those that were read before.
+    ///
+    /// Refused with the first test that it fails, and for want of memory.
+    pub(crate) fn take(
+        &mut self,
+        alloc: Global,
+        next: Record,
         is_additional: bool,
         op_code: OpCode,
     ) -> Result<(), DecodeError>
-        ensures { MatchResult (tested is_additional op_code (is_some self.now.edns) (is_some self.now.signature) next.now) (λ _. IsOk result) (λ fault. result ≡ Err fault) }
+        ensures ok { OnOk result (tested is_additional op_code (section_value self.old) next ≡ Ok (section_value self.new)) }
+        ensures err { IfErr result (λ e. Fails e (tested is_additional op_code (section_value self.old) next)) }
+    {
+        match self.fault_of(&next, is_additional, op_code) {
+            Some(fault) => Err(fault),
+            None => self.add(alloc, next),
+        }
+    }
+
+    /// The first test that a record fails behind those that were read.
+    fn fault_of(&self, next: &Record, is_additional: bool, op_code: OpCode) -> Option<DecodeError>
+        ensures { result ≡ fault_of is_additional op_code (section_value self.now) next.now }
     {
         let record_type = next.record_type();
         if next.rdata.is_update() && op_code != OpCode::Update && record_type != RecordType::OPT {
-            return Err(DecodeError::InvalidEmptyRecord);
+            return Some(DecodeError::InvalidEmptyRecord);
         }
         if self.signature.is_some() {
-            return Err(DecodeError::RecordAfterSig);
+            return Some(DecodeError::RecordAfterSig);
         }
         if !is_additional && stands_among_additionals(record_type) {
-            return Err(DecodeError::RecordNotInAdditionalSection(record_type));
+            return Some(DecodeError::RecordNotInAdditionalSection(record_type));
         }
         if self.edns.is_some() && record_type == RecordType::OPT {
-            return Err(DecodeError::DuplicateEdns);
+            return Some(DecodeError::DuplicateEdns);
         }
-        Ok(())
+        None
     }
 
     /// Adds a record that was tested: EDNS and a signature by themselves, another record behind the others.
     ///
     /// Refused for want of memory.
-    pub(crate) fn add(&mut self, alloc: Global, next: Record) -> Result<(), DecodeError>
+    fn add(&mut self, alloc: Global, next: Record) -> Result<(), DecodeError>
         ensures ok { OnOk result (section_value self.new ≡ with_record (section_value self.old) next) }
         ensures only { IsOkUnless result DecodeError.Memory }
     {
