@@ -6,3 +6,4 @@ pub mod Orders
 pub mod QueryEquals
 pub mod QueryLemmas
 mod SectionLemmas
+mod SectionWords
