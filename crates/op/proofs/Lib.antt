@@ -6,4 +6,5 @@ pub mod Orders
 pub mod QueryEquals
 pub mod QueryLemmas
 mod SectionLemmas
+mod SectionStands
 mod SectionWords
