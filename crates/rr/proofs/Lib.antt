@@ -1,1 +1,4 @@
+pub mod DataInside
+pub mod ReadRecords
+pub mod RecordFaults
 pub mod RecordLemmas

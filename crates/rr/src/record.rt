@@ -8,6 +8,7 @@ ghost use Rattle.rr.specs.RecordRef.{seen};
 
 mod compare;
 mod display;
+pub mod laws;
 mod reading;
 mod writing;
 
