@@ -102,6 +102,10 @@ RecordWord r B i e = IsRawRecordAt B i (raw_record r) e
 abbrev pub plain_record : Record RData → ℕ
 plain_record r = plain_len r.name.labels + (10 + plain_data r.rdata)
 
+-- the record with as many seconds off its TTL, down to 0
+abbrev pub decremented : {R : Type 0} → ℕ → Record R → Record R
+decremented offset r = record r { ttl = r.ttl - offset }
+
 -- A record that is read as some record where it was written: its type is that of its number, an OPT record's owner is
 -- the root, and its data is read by its type.
 pub record IsReadableRecord (r : Record RData) : Type 0 where
