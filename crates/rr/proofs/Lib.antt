@@ -1,1 +1,5 @@
+pub mod DataInside
+pub mod EqualRecords
+pub mod ReadRecords
+pub mod RecordFaults
 pub mod RecordLemmas

@@ -1,13 +1,15 @@
 -- The record word (RFC 1035, 4.1.3; an OPT record: RFC 6891, 6.1.2; the top bit of the class: RFC 6762, 10.2).
-use Rattle.std.specs.Prelude.{◌≡◌, ℕ, ◌+◌, ◌-◌, ◌<◌, ◌==◌, length, List, [], ◌++◌, codes, true, false, not, ◌&&◌, Bool, if◌then◌else◌, nat_lt, Ok, Err}
+use Rattle.std.specs.Prelude.{◌≡◌, ◌≢◌, ◌≤◌, ℕ, ◌+◌, ◌-◌, ◌<◌, ◌==◌, length, List, [], ◌++◌, codes, true, false, not, ◌&&◌, Bool, if◌then◌else◌, nat_lt, Ok, Err}
 use Rattle.std.specs.Fmt.{decimal}
 use Rattle.std.specs.Int.{w16, w32}
 use Rattle.base.specs.DNSClass.{class_field, class_number, class_text, class_of, field_class, field_top, is_opt_class, opt_class}
+use Rattle.base.specs.Faults.{IsFaulty}
 use Rattle.base.specs.Labels.{NameValue, plain_len}
 use Rattle.base.specs.NameText.{name_text}
 use Rattle.base.specs.Names.{name_at}
 use Rattle.base.specs.Reading.{Read, ◌>>=◌, number_at}
 use Rattle.base.specs.RecordType.{type_number, type_of, type_text}
+use Rattle.base.specs.Spelling.{IsNameAt}
 use Rattle.base.specs.Words.{IsNumberAt, NameAt}
 use Rattle.base.specs.declared.dns_class.DNSClass.{DNSClass}
 use Rattle.base.specs.declared.dns_class.DNSClass.TheVariants as classes
@@ -15,7 +17,7 @@ use Rattle.base.specs.declared.error.decode_error.DecodeError.{DecodeError}
 use Rattle.base.specs.declared.error.decode_error.DecodeError.TheVariants as faults
 use Rattle.base.specs.declared.record_type.RecordType.{RecordType}
 use Rattle.base.specs.declared.record_type.RecordType.TheVariants as types
-use Rattle.base_data.specs.DataAt.{IsReadable}
+use Rattle.base_data.specs.DataAt.{IsDataAt, IsReadable}
 use Rattle.base_data.specs.DataWord.{DataWord, data_text, plain_data}
 use Rattle.base_data.specs.RData.{rdata_at, type_of_data}
 use Rattle.base_data.specs.declared.rdata.RData.{RData}
@@ -72,6 +74,16 @@ pub record IsRecordAt (B : List ℕ) (i : ℕ) (r : Record RData) (e : ℕ) : Ty
   pub word : IsRawRecordAt B i raw e
   pub value : IsRecordValue raw r
 
+-- the record that fields are read as
+abbrev pub record_value : RawRecord → Record RData
+record_value raw = record {
+  name = record { labels = raw.labels; absolute = true };
+  dns_class = class_value (type_of raw.type) raw.class;
+  ttl = raw.ttl;
+  rdata = raw.rdata;
+  mdns_cache_flush = flush_value (type_of raw.type) raw.class;
+}
+
 -- the fields that a record is written as
 abbrev pub raw_record : Record RData → RawRecord
 raw_record r = record {
@@ -89,6 +101,27 @@ RecordWord r B i e = IsRawRecordAt B i (raw_record r) e
 -- the bytes of a record without compression
 abbrev pub plain_record : Record RData → ℕ
 plain_record r = plain_len r.name.labels + (10 + plain_data r.rdata)
+
+-- the record with as many seconds off its TTL, down to 0
+abbrev pub decremented : {R : Type 0} → ℕ → Record R → Record R
+decremented offset r = record r { ttl = r.ttl - offset }
+
+-- A record that is read as some record where it was written: its type is that of its number, an OPT record's owner is
+-- the root, and its data is read by its type.
+pub record IsReadableRecord (r : Record RData) : Type 0 where
+  pub type_reads : type_of (type_number (type_of_data r.rdata)) ≡ type_of_data r.rdata
+  pub root : type_of_data r.rdata ≡ types.OPT → r.name.labels ≡ []
+  pub readable : IsReadable r.rdata
+
+-- A record that can stand on the wire and is read as it was: its name is absolute, and its class is that of its number
+-- and leaves the top bit free; that of an OPT record is a payload size of 512 at least, without the bit.
+pub record FitsRecord (r : Record RData) : Type 0 where
+  pub reads : IsReadableRecord r
+  pub absolute : r.name.absolute ≡ true
+  pub class_reads : is_opt_type (type_of_data r.rdata) ≡ false → class_of (class_number r.dns_class) ≡ r.dns_class
+  pub narrow : is_opt_type (type_of_data r.rdata) ≡ false → class_number r.dns_class < 32768
+  pub payload_reads : is_opt_type (type_of_data r.rdata) ≡ true → opt_class (class_number r.dns_class) ≡ r.dns_class
+  pub not_flushing : is_opt_type (type_of_data r.rdata) ≡ true → r.mdns_cache_flush ≡ false
 
 -- the record with its data seen so
 abbrev pub with_data : {R N : Type 0} → (R → N) → Record R → Record N
@@ -111,6 +144,23 @@ record_at bytes i = do
   owner ← name_at bytes i
   type ← number_at w16 bytes owner.1
   if is_opt_type (type_of type.0) && not (length owner.0.labels == 0) then Err (faults.EdnsNameNotRoot owner.0) else body_at owner.0 (type_of type.0) bytes type.1
+
+-- a name and a type stand at i, and the owner of an OPT record is the root
+pub record HasHead (B : List ℕ) (i : ℕ) (owner : NameValue) (type m : ℕ) : Type 0 where
+  pub owner_stands : IsNameAt B i owner m
+  pub type_stands : IsNumberAt w16 B m type
+  pub root : type_of type ≡ types.OPT → owner.labels ≡ []
+
+-- The first fault of a record at i: that of its name; the end of the buffer in its type; an OPT record of another owner
+-- than the root; the end of the buffer in class, TTL or length; a length of more bytes than are left; bytes that are no
+-- data of the type.
+pub data IsRecordFault (B : List ℕ) (i : ℕ) : DecodeError → Type 0 where
+  in_name : {f : DecodeError} → IsFaulty B i i 0 f → IsRecordFault B i f
+  cut_type : {owner : NameValue} {m : ℕ} → IsNameAt B i owner m → length B < m + 2 → IsRecordFault B i faults.InsufficientBytes
+  opt_owner : {owner : NameValue} {type m : ℕ} → IsNameAt B i owner m → IsNumberAt w16 B m type → type_of type ≡ types.OPT → owner.labels ≢ [] → IsRecordFault B i (faults.EdnsNameNotRoot owner)
+  cut_fields : {owner : NameValue} {type m : ℕ} → HasHead B i owner type m → length B < m + 10 → IsRecordFault B i faults.InsufficientBytes
+  long_data : {owner : NameValue} {type m len : ℕ} → HasHead B i owner type m → IsNumberAt w16 B (m + 8) len → length B < m + 10 + len → IsRecordFault B i (faults.IncorrectRDataLengthRead (length B - (m + 10)) len)
+  bad_data : {owner : NameValue} {type m len : ℕ} → HasHead B i owner type m → IsNumberAt w16 B (m + 8) len → m + 10 + len ≤ length B → ((d : RData) → ¬ IsDataAt B (m + 10) (type_of type) len d) → IsRecordFault B i (faults.BadData (type_of type))
 
 -- name, TTL, class, type and data
 abbrev pub record_text : Record RData → List ℕ

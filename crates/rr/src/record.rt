@@ -1,14 +1,17 @@
 //! Records of any data (RFC 1035, 3.2.1).
 
-ghost use Rattle.std.specs.Prelude.{◌≡◌, ◌-◌, ℕ, Option, option_map, false};
+ghost use Rattle.std.specs.Prelude.{◌≡◌, Option, option_map, false};
 ghost use Rattle.base_data.specs.RData.{type_of_data};
 ghost use Rattle.base_data.specs.declared.rdata.RData.TheVariants as kinds;
-ghost use Rattle.rr.specs.Record.{with_data};
+ghost use Rattle.rr.specs.Record.{decremented, with_data};
 ghost use Rattle.rr.specs.RecordRef.{seen};
 
 mod compare;
 mod display;
+pub mod laws;
 mod reading;
+#[cfg(test)]
+mod tests;
 mod writing;
 
 use crate::record_ref::RecordRef;
@@ -93,7 +96,7 @@ impl<R: RecordData> Record<R> {
     /// Takes seconds off the TTL, down to 0. The other fields stay.
     pub fn decrement_ttl(&mut self, offset: u32) -> &mut Record<R>
         ensures same { result.ghost_name ≡ self.entry.ghost_name }
-        ensures value { result.now ≡ record self.old { ttl = self.old.ttl - offset } }
+        ensures value { result.now ≡ decremented offset self.old }
     {
         self.ttl = self.ttl.saturating_sub(offset);
         self
