@@ -5,6 +5,7 @@ pub mod HeaderReading
 pub mod Orders
 pub mod QueryEquals
 pub mod QueryLemmas
+mod MessageStands
 mod SectionLemmas
 mod SectionStands
 mod SectionWords
