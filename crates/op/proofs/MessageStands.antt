@@ -18,9 +18,9 @@ use Rattle.rr.specs.Record.{IsRecordAt, is_opt_type, record_at}
 use Rattle.rr.specs.declared.record.Record.{Record}
 use Rattle.rr.proofs.ReadRecords.{opt_is, reads_record}
 use Rattle.op.specs.Header.{IsHeaderAt, header_at}
-use Rattle.op.specs.Message.{EndsWithSignature, IsGiven, IsMessageAt, IsPlain, MessageValue, message_at, message_of}
+use Rattle.op.specs.Message.{IsMessageAt, MessageValue, message_at, message_of}
 use Rattle.op.specs.Query.{IsQueryAt, query_at}
-use Rattle.op.specs.Section.{SectionValue, is_additional, is_additional_type, is_opt, is_ordinary, is_signature, is_signature_data, section_at, section_of}
+use Rattle.op.specs.Section.{EndsWithSignature, IsPlain, IsSectionAt, SectionValue, is_additional, is_additional_type, is_opt, is_ordinary, is_signature, is_signature_data, section_at, section_of}
 use Rattle.op.specs.declared.header.Header.{Header}
 use Rattle.op.specs.declared.op_code.OpCode.{OpCode}
 use Rattle.op.specs.declared.query.Query.{Query}
@@ -53,15 +53,15 @@ differ is = cc
 
 not_opt : (t : RecordType) → is_additional_type t ≡ false → is_opt_type t ≡ false
 not_opt t elsewhere = elim (cases_Bool (is_opt_type t)) [
-    | inl is ↦ absurd (differ (sym (ap is_additional_type (opt_is t is)) ∙ elsewhere))
-    | inr other ↦ other
-  ]
+  | inl is ↦ absurd (differ (sym (ap is_additional_type (opt_is t is)) ∙ elsewhere))
+  | inr other ↦ other
+]
 
 not_signature : (r : Record RData) → is_additional r ≡ false → is_signature r ≡ false
 not_signature r elsewhere = elim (cases_Bool (is_signature r)) [
-    | inl is ↦ absurd (differ (sym (ap is_additional_type (signature_type r.rdata is)) ∙ elsewhere))
-    | inr other ↦ other
-  ]
+  | inl is ↦ absurd (differ (sym (ap is_additional_type (signature_type r.rdata is)) ∙ elsewhere))
+  | inr other ↦ other
+]
 
 ordinary_of : (o g : Bool) → o ≡ false → g ≡ false → not (o || g) ≡ true
 ordinary_of o g no_edns unsigned = rw (no_edns, unsigned) refl
@@ -89,6 +89,29 @@ records_stand inside op B = section_is inside op B (λ i r e. (reads_record B i 
 
 records_read : (inside : Bool) (op : OpCode) (B : List ℕ) (rs : List (Record RData)) (i e : ℕ) → BackToBack (IsRecordAt B) i rs e → Stand inside op false false rs → section_at inside op (length rs) B i ≡ Ok (section_of rs, e)
 records_read inside op B = section_read inside op B (λ i r e. (reads_record B i r e).1)
+
+section_is_at : (inside : Bool) (op : OpCode) (n : ℕ) (B : List ℕ) (i : ℕ) (r : SectionValue × ℕ) → section_at inside op n B i ≡ Ok r → IsSectionAt inside op n B i r.0 r.1
+section_is_at inside op n B i r is =
+    let s = records_stand inside op B n i r is in
+    record { records = s.records; words = s.words; counted = s.counted; given = s.stand.given; placed = s.stand.placed; signature_last = s.stand.ends; one_opt = omega (arith, s.stand.one); section = s.whole }
+
+section_at_is : (inside : Bool) (op : OpCode) (n : ℕ) (B : List ℕ) (i : ℕ) (s : SectionValue) (e : ℕ) → IsSectionAt inside op n B i s e → section_at inside op n B i ≡ Ok (s, e)
+section_at_is inside op n B i s e w =
+    let read = records_read inside op B w.records i e w.words (record {
+      given = w.given;
+      placed = w.placed;
+      alone = λ has. absurd (differ (sym has));
+      ends = w.signature_last;
+      one = omega (arith, w.one_opt);
+    }) in
+    sym (ap (λ k. section_at inside op k B i) w.counted) ∙ read ∙ ap (λ (x : SectionValue). Ok (x, e)) (sym w.section)
+
+pub reads_section : (inside : Bool) (op : OpCode) (n : ℕ) (B : List ℕ) (i : ℕ) (s : SectionValue) (e : ℕ) → (section_at inside op n B i ≡ Ok (s, e)) ↔ IsSectionAt inside op n B i s e
+reads_section inside op n B i s e = (section_is_at inside op n B i (s, e), section_at_is inside op n B i s e)
+
+pub reads_questions : (n : ℕ) (B : List ℕ) (i : ℕ) (qs : List Query) (e : ℕ) → (many_at query_at n B i ≡ Ok (qs, e)) ↔ (BackToBack (IsQueryAt B) i qs e × (length qs ≡ n))
+reads_questions n B i qs e =
+    (queries_stand B n i (qs, e), λ w. sym (ap (λ k. many_at query_at k B i) w.1) ∙ many_again (IsQueryAt B) query_at B (λ j q k. (reads_question B j q k).1) i qs e w.0)
 
 -- a section outside additionals that was read
 record IsPlainSection (op : OpCode) (B : List ℕ) (n i : ℕ) (r : SectionValue × ℕ) : Type 0 where
@@ -133,7 +156,7 @@ plain_read op B rs i e words plain =
 same_ok : {A : Type 0} {x y : A} → ◌≡◌ {A = Result A DecodeError} (Ok x) (Ok y) → x ≡ y
 same_ok is = cc
 
-message_stands : (B : List ℕ) (i : ℕ) (r : MessageValue × ℕ) → message_at B i ≡ Ok r → IsMessageAt B i r.0 r.1
+pub message_stands : (B : List ℕ) (i : ℕ) (r : MessageValue × ℕ) → message_at B i ≡ Ok r → IsMessageAt B i r.0 r.1
 unfolding message_at
 message_stands B i r is =
     let header = bind_ok (header_at B i) _ r is in
@@ -173,7 +196,7 @@ message_stands B i r is =
     } in
     subst (λ (x : MessageValue × ℕ). IsMessageAt B i x.0 x.1) same word
 
-message_again : (B : List ℕ) (i : ℕ) (m : MessageValue) (e : ℕ) → IsMessageAt B i m e → message_at B i ≡ Ok (m, e)
+pub message_again : (B : List ℕ) (i : ℕ) (m : MessageValue) (e : ℕ) → IsMessageAt B i m e → message_at B i ≡ Ok (m, e)
 unfolding message_at
 message_again B i m e s =
     let h = s.header in

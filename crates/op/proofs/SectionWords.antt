@@ -13,8 +13,7 @@ use Rattle.base_data.specs.declared.rdata.RData.{RData}
 use Rattle.base_data.specs.declared.rdata.RData.TheVariants as kinds
 use Rattle.rr.specs.Record.{is_opt_type}
 use Rattle.rr.specs.declared.record.Record.{Record}
-use Rattle.op.specs.Message.{AtMostOneOpt, EndsWithSignature, IsGiven}
-use Rattle.op.specs.Section.{SectionValue, edns_of, empty_section, fault_of, is_additional, is_opt, is_ordinary, is_signature, is_signature_data, is_update, section_of, signature_of, with_record}
+use Rattle.op.specs.Section.{EndsWithSignature, IsGiven, SectionValue, edns_of, empty_section, fault_of, is_additional, is_opt, is_ordinary, is_signature, is_signature_data, is_update, section_of, signature_of, with_record}
 use Rattle.op.specs.declared.edns.Edns.{Edns}
 use Rattle.op.specs.declared.op_code.OpCode.{OpCode}
 
@@ -182,6 +181,7 @@ stand_follow inside op (r ∷ rs) s w =
   where
     no_cons : r ∷ rs ≡ [] → ⊥
     no_cons is = cc
+
     either_of : (a b : Bool) → (a || b) ≡ true → (a ≡ true) ⊎ (b ≡ true)
     either_of true b is = inl refl
     either_of false b is = inr is
@@ -223,6 +223,7 @@ folded_joined inside op (r ∷ rs) s follow =
   where
     no_cons : r ∷ rs ≡ [] → ⊥
     no_cons is = cc
+
     left_none : (e o : Bool) → (e && o) ≡ false → o ≡ true → e ≡ false
     left_none true o is has = cc
     left_none false o is has = refl

@@ -9,5 +9,6 @@ pub mod MessageType
 pub mod Metadata
 pub mod OpCode
 pub mod Query
+pub mod ReadsOrDecodes
 pub mod ResponseCode
 pub mod Section

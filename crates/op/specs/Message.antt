@@ -1,17 +1,16 @@
 -- The message word, and reading a message (RFC 1035, 4.1; RFC 6891, 6.1.3; RFC 8945, 5.1).
-use Rattle.std.specs.Prelude.{◌≡◌, ℕ, Bool, true, false, ◌||◌, ◌+◌, ◌≤◌, All, List, [], ◌∷◌, length, filter, Option, Some, None, Ok}
+use Rattle.std.specs.Prelude.{◌≡◌, ℕ, false, true, ◌+◌, All, List, [], length, Option, Some, None, Ok}
 use Rattle.std.specs.Option.{option_map}
 use Rattle.base.specs.Many.{many_at}
 use Rattle.base.specs.Reading.{Read, ◌>>=◌}
 use Rattle.base.specs.Words.{BackToBack}
-use Rattle.base_data.specs.RData.{is_empty_data}
 use Rattle.base_data.specs.declared.rdata.RData.{RData}
 use Rattle.rr.specs.Record.{IsRecordAt}
 use Rattle.rr.specs.declared.record.Record.{Record}
 use Rattle.op.specs.Header.{IsHeaderAt, header_at}
 use Rattle.op.specs.Query.{IsQueryAt, query_at}
 use Rattle.op.specs.ResponseCode.{code_from, code_low}
-use Rattle.op.specs.Section.{SectionValue, is_additional, is_opt, is_signature, is_update, section_at, section_of}
+use Rattle.op.specs.Section.{AtMostOneOpt, EndsWithSignature, IsGiven, IsPlain, SectionValue, section_at, section_of}
 use Rattle.op.specs.declared.edns.Edns.{Edns}
 use Rattle.op.specs.declared.header.Header.{Header}
 use Rattle.op.specs.declared.header.metadata.Metadata.{Metadata}
@@ -60,24 +59,6 @@ message_of metadata queries answers authorities additionals = record {
   edns = additionals.edns;
   signature = additionals.signature;
 }
-
--- empty data stands in an Update or in an OPT record (RFC 2136, 2.4)
-abbrev pub IsGiven : OpCode → Record RData → Type 0
-IsGiven op r = is_empty_data r.rdata ≡ true → (is_update op || is_opt r) ≡ true
-
--- a record that may stand among answers and authorities
-pub record IsPlain (op : OpCode) (r : Record RData) : Type 0 where
-  pub given : IsGiven op r
-  pub placed : is_additional r ≡ false
-
--- nothing stands behind a signature (RFC 8945, 5.1)
-abbrev pub EndsWithSignature : List (Record RData) → Type 0
-EndsWithSignature [] = Unit {0}
-EndsWithSignature (r ∷ rs) = (is_signature r ≡ true → rs ≡ []) × EndsWithSignature rs
-
--- at most one of the records is EDNS (RFC 6891, 6.1.1)
-abbrev pub AtMostOneOpt : List (Record RData) → Type 0
-AtMostOneOpt rs = length (filter is_opt rs) ≤ 1
 
 -- A message word of m stands in B from i up to e.
 pub record IsMessageAt (B : List ℕ) (i : ℕ) (m : MessageValue) (e : ℕ) : Type 0 where

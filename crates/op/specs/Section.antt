@@ -1,9 +1,10 @@
 -- The sections of a message: the tests on their records, and what becomes of them (RFC 1035, 4.1; RFC 6891, 6.1.1; RFC 8945, 5.1).
-use Rattle.std.specs.Prelude.{◌≡◌, ℕ, Bool, true, false, not, ◌&&◌, ◌||◌, ◌≤◌, ◌+◌, ◌/◌, ◌%◌, ◌++◌, List, [], ◌∷◌, length, filter, find, Option, Some, None, IsTrue, if◌then◌else◌, is_some, zero, suc, Ok, Err, Result}
+use Rattle.std.specs.Prelude.{◌≡◌, All, ℕ, Bool, true, false, not, ◌&&◌, ◌||◌, ◌≤◌, ◌+◌, ◌/◌, ◌%◌, ◌++◌, List, [], ◌∷◌, length, filter, find, Option, Some, None, IsTrue, if◌then◌else◌, is_some, zero, suc, Ok, Err, Result}
 use Rattle.std.specs.Global.{Box, Vec}
 use Rattle.std.specs.Option.{option_map}
 use Rattle.base.specs.DNSClass.{class_number}
 use Rattle.base.specs.Reading.{Read, ◌>>=◌}
+use Rattle.base.specs.Words.{BackToBack}
 use Rattle.base.specs.declared.error.decode_error.DecodeError.{DecodeError}
 use Rattle.base.specs.declared.error.decode_error.DecodeError.TheVariants as faults
 use Rattle.base.specs.declared.record_type.RecordType.{RecordType}
@@ -12,7 +13,7 @@ use Rattle.base_data.specs.OPT.{OptionValue}
 use Rattle.base_data.specs.RData.{is_empty_data, type_of_data}
 use Rattle.base_data.specs.declared.rdata.RData.{RData}
 use Rattle.base_data.specs.declared.rdata.RData.TheVariants as kinds
-use Rattle.rr.specs.Record.{is_opt_type, record_at}
+use Rattle.rr.specs.Record.{IsRecordAt, is_opt_type, record_at}
 use Rattle.rr.specs.declared.record.Record.{Record}
 use Rattle.op.specs.EdnsFlags.{flags_of_number}
 use Rattle.op.specs.declared.edns.Edns.{Edns}
@@ -141,3 +142,35 @@ section_from is_additional_section op s (suc n) bytes i = do
 -- the section of as many records at a place
 abbrev pub section_at : Bool → OpCode → ℕ → List ℕ → ℕ → Read SectionValue
 section_at is_additional_section op count bytes i = section_from is_additional_section op empty_section count bytes i
+
+-- ---- the word of a section
+
+-- empty data stands in an Update or in an OPT record (RFC 2136, 2.4)
+abbrev pub IsGiven : OpCode → Record RData → Type 0
+IsGiven op r = is_empty_data r.rdata ≡ true → (is_update op || is_opt r) ≡ true
+
+-- a record that may stand among answers and authorities
+pub record IsPlain (op : OpCode) (r : Record RData) : Type 0 where
+  pub given : IsGiven op r
+  pub placed : is_additional r ≡ false
+
+-- nothing stands behind a signature (RFC 8945, 5.1)
+abbrev pub EndsWithSignature : List (Record RData) → Type 0
+EndsWithSignature [] = Unit {0}
+EndsWithSignature (r ∷ rs) = (is_signature r ≡ true → rs ≡ []) × EndsWithSignature rs
+
+-- at most one of the records is EDNS (RFC 6891, 6.1.1)
+abbrev pub AtMostOneOpt : List (Record RData) → Type 0
+AtMostOneOpt rs = length (filter is_opt rs) ≤ 1
+
+-- Records back to back, as many as are counted, which stand in B from i up to e and may stand in the section, and
+-- what they are together.
+pub record IsSectionAt (is_additional_section : Bool) (op : OpCode) (count : ℕ) (B : List ℕ) (i : ℕ) (s : SectionValue) (e : ℕ) : Type 0 where
+  pub records : List (Record RData)
+  pub words : BackToBack (IsRecordAt B) i records e
+  pub counted : length records ≡ count
+  pub given : All (IsGiven op) records
+  pub placed : is_additional_section ≡ false → All (λ r. is_additional r ≡ false) records
+  pub signature_last : EndsWithSignature records
+  pub one_opt : AtMostOneOpt records
+  pub section : s ≡ section_of records

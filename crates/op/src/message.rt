@@ -6,6 +6,7 @@ ghost use Rattle.op.specs.Message.{empty_message, message_value};
 ghost use Rattle.op.specs.Metadata.{plain_metadata};
 ghost use Rattle.op.specs.declared.header.message_type.MessageType.TheVariants as message_types;
 
+pub mod laws;
 mod reading;
 mod section;
 

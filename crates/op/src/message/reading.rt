@@ -1,8 +1,11 @@
 //! Reads messages (RFC 1035, 4.1).
 
-ghost use Rattle.std.specs.Prelude.{◌≡◌};
-ghost use Rattle.base.specs.Reading.{Reads};
-ghost use Rattle.op.specs.Message.{high_code, message_at, message_value};
+ghost use Rattle.std.specs.Prelude.{◌≡◌, ℕ, IfErr, IfOk, MatchResult};
+ghost use Rattle.base.specs.Many.{many_at};
+ghost use Rattle.base.specs.Reading.{Fails, Reads};
+ghost use Rattle.op.specs.Message.{IsMessageAt, MessageValue, high_code, message_at, message_value};
+ghost use Rattle.op.specs.Query.{query_at};
+ghost use Rattle.op.specs.ReadsOrDecodes.{ReadsOrDecodes};
 ghost use Rattle.op.specs.Section.{parts_value, section_at, section_value};
 
 use crate::edns::Edns;
@@ -11,12 +14,22 @@ use crate::message::Message;
 use crate::message::section::Section;
 use crate::op_code::OpCode;
 use crate::query::Query;
-use base::{BinDecodable, BinDecoder, DecodeError, read_many};
+use base::{BinDecodable, BinDecoder, DecodeError, ProtoError, read_many};
 use base_data::TSIG;
 use rr::Record;
 use std::alloc::Global;
 
 impl Message {
+    /// Reads as many questions. Refused with the first fault, and for want of memory.
+    pub fn read_queries(
+        decoder: &mut BinDecoder<'_>,
+        count: usize,
+    ) -> Result<Vec<Query>, ProtoError>
+        ensures read { ReadsOrDecodes (λ v. v.items) decoder.old decoder.new result (many_at query_at count decoder.old.bytes decoder.old.index) }
+    {
+        Ok(read_many::<Query>(decoder, count)?)
+    }
+
     /// Reads as many records as a section has: the ordinary ones in their order, what an OPT record says, and the
     /// signature (RFC 6891, 6.1.1; RFC 8945, 5.1).
     ///
@@ -91,8 +104,13 @@ impl Message {
 
     /// Reads the message that a buffer begins with. Bytes behind it are not looked at.
     ///
-    /// Refused with the first fault, and for want of memory.
-    pub fn from_vec(alloc: Global, buffer: &[u8]) -> Result<Message, DecodeError> {
+    /// Accepts exactly the buffers that begin with a message word, and answers that word's message (RFC 1035, 4.1).
+    /// Refused with the buffer's first fault, and for want of memory.
+    pub fn from_vec(alloc: Global, buffer: &[u8]) -> Result<Message, DecodeError>
+        ensures found { IfOk result (λ m. (e : ℕ) × IsMessageAt buffer.now 0 (message_value m) e) }
+        ensures only { (m : MessageValue) (e : ℕ) → IsMessageAt buffer.now 0 m e → MatchResult result (λ read. message_value read ≡ m) (λ f. f ≡ DecodeError.Memory) }
+        ensures refused { IfErr result (λ f. Fails f (message_at buffer.now 0)) }
+    {
         Message::read(&mut BinDecoder::new(alloc, buffer))
     }
 }
