@@ -51,6 +51,11 @@ impl Name {
         }
     }
 
+    /// The allocator that the name's labels are in.
+    pub fn allocator(&self) -> Global {
+        *self.bytes.allocator()
+    }
+
     /// Whether this is the absolute name without labels.
     pub fn is_root(&self) -> bool
         ensures { IsTrue result ↔ (self.now ≡ record { labels = []; absolute = true }) }

@@ -54,6 +54,12 @@ is_additional r = is_additional_type (type_of_data r.rdata)
 abbrev pub is_ordinary : Record RData → Bool
 is_ordinary r = not (is_opt r || is_signature r)
 
+-- data that an OPT record has: options, or none (RFC 6891, 6.1.2)
+abbrev pub IsOptData : RData → Type 0
+IsOptData (kinds.OPT options) = Unit {0}
+IsOptData (kinds.Update0 type) = type ≡ types.OPT
+IsOptData _ = ⊥
+
 -- the options of the data of an OPT record
 abbrev pub options_in : RData → List OptionValue
 options_in (kinds.OPT options) = options

@@ -1,8 +1,11 @@
 //! EDNS: what an OPT record says (RFC 6891).
 
-ghost use Rattle.std.specs.Prelude.{◌≡◌, Some, max};
+ghost use Rattle.std.specs.Prelude.{◌≡◌, ◌⊎◌, MatchResult, Some, max};
 ghost use Rattle.std.specs.Option.{option_copied};
 ghost use Rattle.base_data.specs.OPT.{first_option};
+ghost use Rattle.base.specs.DNSClass.{class_number};
+ghost use Rattle.base.specs.declared.error.proto_error.ProtoError.TheVariants as refusals;
+ghost use Rattle.op.specs.Section.{IsOptData, edns_of, edns_value};
 ghost use Rattle.op.specs.Edns.{LendsFlags, LendsOptions, edns_text, new_edns};
 ghost use Rattle.std.specs.Borrow.{sem};
 
@@ -10,8 +13,10 @@ mod edns_flags;
 #[cfg(test)]
 mod tests;
 
-use base_data::{EdnsOption, OPT};
+use base::{DNSClass, ProtoError, RecordType};
+use base_data::{EdnsOption, OPT, RData};
 pub use edns_flags::{EdnsFlags, flags_are_their_number};
+use rr::Record;
 use std::alloc::{AllocError, Global};
 use std::fmt;
 
@@ -142,6 +147,25 @@ impl Edns {
     }
 }
 
+impl TryFrom<&Record> for Edns {
+    type Error = ProtoError;
+
+    ghost try_from_gives = { λ opt result. MatchResult result (λ edns. IsOptData opt.now.rdata × (edns ≡ edns_of opt.now)) (λ e. (e ≡ refusals.Memory) ⊎ ((e ≡ refusals.NotOpt) × ¬ (IsOptData opt.now.rdata))) };
+
+    /// What an OPT record says (RFC 6891, 6.1.3). Its class number is the payload size, below 512 too.
+    ///
+    /// Refused with `NotOpt` for a record without OPT data and without empty data of type OPT, and for want of
+    /// memory.
+    fn try_from(opt: &Record) -> Result<Edns, ProtoError> {
+        let options = match &opt.rdata {
+            RData::OPT(options) => options.clone()?,
+            RData::Update0(RecordType::OPT) => OPT::new(Vec::new(opt.name.allocator())),
+            _ => return Err(ProtoError::NotOpt),
+        };
+        Ok(opt_edns(opt.dns_class, opt.ttl, options))
+    }
+}
+
 impl Clone for Edns {
     ghost is_clone = { λ a b. b ≡ a };
 
@@ -171,5 +195,18 @@ impl fmt::Display for Edns {
             self.max_payload,
             self.options.as_ref().len()
         )
+    }
+}
+
+/// What an OPT record of this class, TTL and data says (RFC 6891, 6.1.3).
+pub(crate) fn opt_edns(dns_class: DNSClass, ttl: u32, options: OPT) -> Edns
+    ensures { result ≡ edns_value (class_number dns_class) ttl options }
+{
+    Edns {
+        rcode_high: (ttl / 0x100_0000) as u8,
+        version: (ttl / 0x1_0000 % 0x100) as u8,
+        flags: EdnsFlags::from((ttl % 0x1_0000) as u16),
+        max_payload: u16::from(dns_class),
+        options,
     }
 }

@@ -11,7 +11,7 @@ mod edns_option;
 
 use base::{BinDecodable, BinDecoder, BinEncodable, BinEncoder, DecodeError, ProtoError};
 pub use edns_option::EdnsOption;
-use std::alloc::AllocError;
+use std::alloc::{AllocError, Global};
 use std::marker::Model;
 
 /// The options of an EDNS message, in their order (RFC 6891, 6.1.2). Contracts see the list of them.
@@ -35,6 +35,11 @@ impl OPT {
         ensures { result ≡ options.items }
     {
         OPT { options }
+    }
+
+    /// The allocator that the list of options is in.
+    pub fn allocator(&self) -> Global {
+        *self.options.allocator()
     }
 
     /// The first option of a code.

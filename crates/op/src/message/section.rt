@@ -1,13 +1,12 @@
 //! What the records of a section are.
 
 ghost use Rattle.std.specs.Prelude.{◌≡◌, Ok, IfErr, OnOk, IsOkUnless};
-ghost use Rattle.base.specs.DNSClass.{class_number};
 ghost use Rattle.base.specs.Reading.{Fails};
-ghost use Rattle.op.specs.Section.{edns_value, empty_section, fault_of, is_additional_type, options_in, section_value, tested, with_record};
+ghost use Rattle.op.specs.Section.{empty_section, fault_of, is_additional_type, options_in, section_value, tested, with_record};
 
-use crate::edns::{Edns, EdnsFlags};
+use crate::edns::{Edns, opt_edns};
 use crate::op_code::OpCode;
-use base::{DNSClass, DecodeError, RecordType};
+use base::{DecodeError, RecordType};
 use base_data::{OPT, RData, TSIG};
 use rr::Record;
 use std::alloc::Global;
@@ -79,7 +78,7 @@ impl Section {
         ensures only { IsOkUnless result DecodeError.Memory }
     {
         if next.record_type() == RecordType::OPT {
-            self.edns = Some(edns(next.dns_class, next.ttl, options_of(alloc, next.rdata)));
+            self.edns = Some(opt_edns(next.dns_class, next.ttl, options_of(alloc, next.rdata)));
             return Ok(());
         }
         let Record {
@@ -132,18 +131,5 @@ fn options_of(alloc: Global, rdata: RData) -> OPT
     match rdata {
         RData::OPT(options) => options,
         _other => OPT::new(Vec::new(alloc)),
-    }
-}
-
-/// What an OPT record of this class, TTL and data says (RFC 6891, 6.1.3).
-pub(crate) fn edns(dns_class: DNSClass, ttl: u32, options: OPT) -> Edns
-    ensures { result ≡ edns_value (class_number dns_class) ttl options }
-{
-    Edns {
-        rcode_high: (ttl / 0x100_0000) as u8,
-        version: (ttl / 0x1_0000 % 0x100) as u8,
-        flags: EdnsFlags::from((ttl % 0x1_0000) as u16),
-        max_payload: u16::from(dns_class),
-        options,
     }
 }
