@@ -1,11 +1,13 @@
 -- What is read as data is what stands as data, by type and by kind.
-use Rattle.std.proofs.Common.{◌≡◌, ◌≢◌, ℕ, zero, suc, ◌+◌, ◌<◌, ◌≤◌, ◌∷◌, Bool, true, false, cond, List, [], length, IsTrue, refl, ap, sym, ◌∙◌, subst, arith, Ok, Err}
+use Rattle.std.proofs.Common.{◌≡◌, ◌≢◌, ℕ, zero, suc, ◌+◌, ◌-◌, ◌<◌, ◌≤◌, ◌∷◌, Bool, true, false, cond, List, [], length, IsTrue, refl, ap, sym, ◌∙◌, subst, arith, length-append, Ok, Err}
 use Rattle.std.specs.Prelude.{◌↔◌, ◌==◌}
 use Rattle.std.proofs.lemmas.Bool.{cond-false, eq-eqb, eqb-true, ne_eqb}
 use Rattle.std.proofs.lemmas.Slice.Eq.{bytes_eq-Decides}
 use Rattle.base.proofs.LabelLemmas.{labels_of-wire_of, wire_of-nil}
 use Rattle.base.specs.Labels.{labels_of, wire_of}
+use Rattle.base.specs.Laws.{Holds, Keeps, Writes}
 use Rattle.base.specs.Reading.{Read, ◌>>=◌, bytes_at}
+use Rattle.base.specs.State.{State}
 use Rattle.base.specs.Spelling.{Spelled}
 use Rattle.base.specs.Spelling.SpelledIn.{ends, label, pointer}
 use Rattle.base.specs.Words.{Bytes}
@@ -20,7 +22,7 @@ use Rattle.base_data.proofs.Tells.{Tells, Fills, same_ok, tells_ok, tells_then, 
 use Rattle.base_data.specs.A.{a_at}
 use Rattle.base_data.specs.AAAA.{aaaa_at}
 use Rattle.base_data.specs.DataAt.{IsDataAt, IsReadable, is_carried}
-use Rattle.base_data.specs.DataWord.{DataWord}
+use Rattle.base_data.specs.DataWord.{DataWord, plain_data}
 use Rattle.base_data.specs.OPT.{OptionValue, opt_at, options_word}
 use Rattle.base_data.specs.RData.{filling, kind_at, rdata_at, type_of_data}
 use Rattle.base_data.specs.TXT.{are_strings, txt_at}
@@ -280,3 +282,15 @@ refuses_data B i type len f = (
   found (Err g) read bad nothing = read ∙ ap (λ (e : DecodeError). err e) (data_bad type len B i g read ∙ sym bad) where
     err : DecodeError → Read RData
     err e = Err e
+
+-- what was written is read
+pub written_again : (old new : State) (d : RData) → Keeps old new → Writes (DataWord d) (plain_data d) [] old new → IsReadable d → (B : List ℕ) → Holds old new B
+    → rdata_at (type_of_data d) (length new.bytes - length old.bytes) B (length old.bytes) ≡ Ok (d, length new.bytes)
+written_again old new d keeps writes readable B holds =
+    let i = length old.bytes in
+    let len = length new.bytes - i in
+    let end : length new.bytes ≡ i + len = omega (arith, ap length keeps.bytes, length-append old.bytes keeps.appended) in
+    let word : DataWord d B i (i + len) = subst (λ (e : ℕ). DataWord d B i e) end (writes.word_stands B holds) in
+    data_again B i len d word readable ∙ ap (λ (e : ℕ). ok (d, e)) (sym end) where
+      ok : RData × ℕ → Read RData
+      ok z = Ok z

@@ -1,5 +1,5 @@
 -- Names whose addresses another name has too (the names of ANAME records).
-use Rattle.std.specs.Prelude.{ℕ, List, Ok}
+use Rattle.std.specs.Prelude.{ℕ, List, [], ◌∷◌, ◌++◌, Ok}
 use Rattle.std.proofs.Common.{rules}
 use Rattle.std.specs.Cmp.{IsTotalOrder}
 use Rattle.std.specs.Cmp.Rules.{comparing}
@@ -9,7 +9,7 @@ use Rattle.base.specs.NameOrder.{canonical_cmp}
 use Rattle.base.specs.Names.{name_at}
 use Rattle.base.specs.Reading.{Read, ◌>>=◌}
 use Rattle.base_data.specs.NameData.{canonical_cmp-total, flag_cmp, flag_cmp-total}
-use Rattle.base.specs.Labels.{plain_len}
+use Rattle.base.specs.Labels.{plain_len, wire_of}
 use Rattle.base.specs.NameText.{name_text}
 use Rattle.base.specs.Words.{NameAt}
 use Rattle.base_data.specs.declared.rdata.aname.ANAME.{ANAME}
@@ -31,7 +31,10 @@ aname_cmp-total = search (canonical_cmp-total, flag_cmp-total, comparing, rules)
 abbrev pub ANAMEWord : ANAME → List ℕ → ℕ → ℕ → Type 0
 ANAMEWord x = NameAt x.name.labels
 
--- the bytes of the fields, names without compression
+-- the bytes of the fields, names without compression, and how many they are
+abbrev pub aname_wire : ANAME → List ℕ
+aname_wire x = wire_of x.name.labels ++ 0 ∷ []
+
 abbrev pub plain_aname : ANAME → ℕ
 plain_aname x = plain_len x.name.labels
 

@@ -1,16 +1,16 @@
 -- Hosts that have a service (RFC 2782).
-use Rattle.std.specs.Prelude.{ℕ, List, Ok, ◌+◌, ◌++◌, codes}
+use Rattle.std.specs.Prelude.{ℕ, List, [], ◌∷◌, Ok, ◌+◌, ◌++◌, codes}
 use Rattle.std.proofs.Common.{rules}
 use Rattle.std.specs.Cmp.{IsTotalOrder}
 use Rattle.std.specs.Cmp.Rules.{comparing}
-use Rattle.std.specs.Int.{w16}
+use Rattle.std.specs.Int.{w16, to_be_bytes}
 use Rattle.std.specs.Ordering.{nat_cmp, on, then_cmp}
 use Rattle.std.specs.declared.cmp.Ordering.{Ordering}
 use Rattle.base.specs.NameOrder.{canonical_cmp}
 use Rattle.base.specs.Names.{name_at}
 use Rattle.base.specs.Reading.{Read, number_at, ◌>>=◌}
 use Rattle.base_data.specs.NameData.{canonical_cmp-total, flag_cmp, flag_cmp-total}
-use Rattle.base.specs.Labels.{plain_len}
+use Rattle.base.specs.Labels.{plain_len, wire_of}
 use Rattle.base.specs.NameText.{name_text}
 use Rattle.base.specs.Words.{NameAt, Number, Then}
 use Rattle.std.specs.Fmt.{decimal}
@@ -36,7 +36,10 @@ srv_cmp-total = search (canonical_cmp-total, flag_cmp-total, comparing, rules) d
 abbrev pub SRVWord : SRV → List ℕ → ℕ → ℕ → Type 0
 SRVWord x = Then (Number w16 x.priority) (Then (Number w16 x.weight) (Then (Number w16 x.port) (NameAt x.target.labels)))
 
--- the bytes of the fields, names without compression
+-- the bytes of the fields, names without compression, and how many they are
+abbrev pub srv_wire : SRV → List ℕ
+srv_wire x = to_be_bytes w16 x.priority ++ (to_be_bytes w16 x.weight ++ (to_be_bytes w16 x.port ++ (wire_of x.target.labels ++ 0 ∷ [])))
+
 abbrev pub plain_srv : SRV → ℕ
 plain_srv x = 2 + (2 + (2 + (plain_len x.target.labels)))
 

@@ -5,3 +5,8 @@ pub mod HeaderReading
 pub mod Orders
 pub mod QueryEquals
 pub mod QueryLemmas
+mod BufferLemmas
+mod MessageStands
+mod SectionLemmas
+mod SectionStands
+mod SectionWords

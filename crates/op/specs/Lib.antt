@@ -1,9 +1,14 @@
+pub mod Edns
+pub mod EdnsFlags
 pub mod Flags
 pub mod Header
 pub mod HeaderCounts
 pub mod LowerQuery
+pub mod Message
 pub mod MessageType
 pub mod Metadata
 pub mod OpCode
 pub mod Query
+pub mod ReadsOrDecodes
 pub mod ResponseCode
+pub mod Section

@@ -1,9 +1,12 @@
 //! Names whose addresses another name has too.
 
-ghost use Rattle.std.specs.Prelude.{◌≡◌, refl, Some, []};
+ghost use Rattle.std.specs.Prelude.{◌≡◌, refl, OnOk, Some, []};
 ghost use Rattle.std.specs.Cmp.{eq_by_cmp_equiv, partial_equiv_from_equiv, partial_order_from_total};
 ghost use Rattle.std.specs.Ordering.{as_partial_cmp, eq_by_cmp};
-ghost use Rattle.base_data.specs.ANAME.{ANAMEWord, aname_at, aname_cmp, aname_cmp-total, plain_aname, aname_text};
+ghost use Rattle.base.specs.Laws.{Keeps, Writes};
+ghost use Rattle.base.specs.State.{appended};
+ghost use Rattle.base.specs.Wire.{state_of, Refuses};
+ghost use Rattle.base_data.specs.ANAME.{ANAMEWord, aname_at, aname_cmp, aname_cmp-total, plain_aname, aname_text, aname_wire};
 
 use base::{BinDecodable, BinDecoder, BinEncodable, BinEncoder, DecodeError, Name, ProtoError};
 use std::alloc::AllocError;
@@ -105,9 +108,15 @@ impl BinEncodable for ANAME {
 
     ghost owner = { λ _. [] };
 
-    /// Writes the fields one behind the other, its name without compression (RFC 3597, 4). Refused where a byte would pass the limit,
-    /// and for want of memory.
-    fn emit(&self, encoder: &mut BinEncoder<'_>) -> Result<(), ProtoError> {
+    /// Writes the fields one behind the other, its name without compression (RFC 3597, 4).
+    /// Refused where a byte would pass the limit, and for want of memory.
+    fn emit(&self, encoder: &mut BinEncoder<'_>) -> Result<(), ProtoError>
+        ensures keeps { Keeps (state_of encoder.old) (state_of encoder.new) }
+        ensures writes { OnOk result (Writes (ANAMEWord self.now) (plain_aname self.now) []
+            (state_of encoder.old) (state_of encoder.new)) }
+        ensures refuses { Refuses (plain_aname self.now) (state_of encoder.old) result }
+        ensures names { OnOk result (state_of encoder.new ≡ appended (aname_wire self.now) (state_of encoder.old)) }
+    {
         self.name.emit_plain(encoder)
     }
 }

@@ -1,8 +1,11 @@
 //! Aliases.
 
-ghost use Rattle.std.specs.Prelude.{◌≡◌, refl, Some, []};
+ghost use Rattle.std.specs.Prelude.{◌≡◌, refl, OnOk, Some, []};
 ghost use Rattle.std.specs.Cmp.{eq_by_cmp_equiv, partial_equiv_from_equiv, partial_order_from_total};
 ghost use Rattle.std.specs.Ordering.{as_partial_cmp, eq_by_cmp};
+ghost use Rattle.base.specs.Laws.{Keeps, Writes};
+ghost use Rattle.base.specs.Wire.{state_of, Refuses};
+ghost use Rattle.base_data.specs.DataNames.{IsCompressed};
 ghost use Rattle.base_data.specs.CNAME.{CNAMEWord, cname_at, cname_cmp, cname_cmp-total, plain_cname, cname_text};
 
 use base::{BinDecodable, BinDecoder, BinEncodable, BinEncoder, DecodeError, Name, ProtoError};
@@ -107,7 +110,13 @@ impl BinEncodable for CNAME {
 
     /// Writes the fields one behind the other, names with compression. Refused where a byte would pass the limit,
     /// and for want of memory.
-    fn emit(&self, encoder: &mut BinEncoder<'_>) -> Result<(), ProtoError> {
+    fn emit(&self, encoder: &mut BinEncoder<'_>) -> Result<(), ProtoError>
+        ensures keeps { Keeps (state_of encoder.old) (state_of encoder.new) }
+        ensures writes { OnOk result (Writes (CNAMEWord self.now) (plain_cname self.now) []
+            (state_of encoder.old) (state_of encoder.new)) }
+        ensures refuses { Refuses (plain_cname self.now) (state_of encoder.old) result }
+        ensures names { OnOk result (IsCompressed self.now.name.labels (state_of encoder.old) (state_of encoder.new)) }
+    {
         self.name.emit(encoder)
     }
 }

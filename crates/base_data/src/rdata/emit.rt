@@ -1,9 +1,10 @@
 //! Writes bytes as data.
 
-ghost use Rattle.std.specs.Prelude.{OnOk, length, []};
+ghost use Rattle.std.specs.Prelude.{◌≡◌, OnOk, length, []};
+ghost use Rattle.std.specs.Int.{w16, w32, to_be_bytes};
 ghost use Rattle.base.specs.Laws.{Keeps, Writes};
+ghost use Rattle.base.specs.State.{appended};
 ghost use Rattle.base.specs.Wire.{state_of, Refuses};
-ghost use Rattle.std.specs.Int.{w32};
 ghost use Rattle.base.specs.Words.{Bytes, Number};
 
 use base::{BinEncoder, ProtoError};
@@ -20,8 +21,20 @@ pub(crate) fn emit_bytes(bytes: &[u8], encoder: &mut BinEncoder<'_>) -> Result<(
     encoder.emit_slice(bytes)
 }
 
+/// Writes a number of two bytes, the high one first.
+pub(crate) fn emit_u16(number: u16, encoder: &mut BinEncoder<'_>) -> Result<(), ProtoError>
+    ensures state { OnOk result (state_of encoder.new ≡ appended (to_be_bytes w16 number) (state_of encoder.old)) }
+    ensures keeps { Keeps (state_of encoder.old) (state_of encoder.new) }
+    ensures writes { OnOk result (Writes (Number w16 number) 2 []
+        (state_of encoder.old) (state_of encoder.new)) }
+    ensures refuses { Refuses 2 (state_of encoder.old) result }
+{
+    encoder.emit_u16(number)
+}
+
 /// Writes a number of four bytes, the highest one first.
 pub(crate) fn emit_u32(number: u32, encoder: &mut BinEncoder<'_>) -> Result<(), ProtoError>
+    ensures state { OnOk result (state_of encoder.new ≡ appended (to_be_bytes w32 number) (state_of encoder.old)) }
     ensures keeps { Keeps (state_of encoder.old) (state_of encoder.new) }
     ensures writes { OnOk result (Writes (Number w32 number) 4 []
         (state_of encoder.old) (state_of encoder.new)) }

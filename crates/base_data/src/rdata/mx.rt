@@ -1,10 +1,14 @@
 //! Hosts that take mail.
 
-ghost use Rattle.std.specs.Prelude.{◌≡◌, refl, Some, []};
+ghost use Rattle.std.specs.Prelude.{◌≡◌, refl, OnOk, Some, []};
 ghost use Rattle.std.specs.Cmp.{eq_by_cmp_equiv, partial_equiv_from_equiv, partial_order_from_total};
 ghost use Rattle.std.specs.Ordering.{as_partial_cmp, eq_by_cmp};
+ghost use Rattle.base.specs.Laws.{Keeps, Writes};
+ghost use Rattle.base.specs.Wire.{state_of, Refuses};
+ghost use Rattle.base_data.specs.DataNames.{CompressesMX};
 ghost use Rattle.base_data.specs.MX.{MXWord, mx_at, mx_cmp, mx_cmp-total, plain_mx, mx_text};
 
+use crate::rdata::emit::emit_u16;
 use base::{BinDecodable, BinDecoder, BinEncodable, BinEncoder, DecodeError, Name, ProtoError};
 use std::alloc::AllocError;
 use std::cmp::Ordering;
@@ -122,8 +126,14 @@ impl BinEncodable for MX {
 
     /// Writes the fields one behind the other, names with compression. Refused where a byte would pass the limit,
     /// and for want of memory.
-    fn emit(&self, encoder: &mut BinEncoder<'_>) -> Result<(), ProtoError> {
-        self.preference.emit(encoder)?;
+    fn emit(&self, encoder: &mut BinEncoder<'_>) -> Result<(), ProtoError>
+        ensures keeps { Keeps (state_of encoder.old) (state_of encoder.new) }
+        ensures writes { OnOk result (Writes (MXWord self.now) (plain_mx self.now) []
+            (state_of encoder.old) (state_of encoder.new)) }
+        ensures refuses { Refuses (plain_mx self.now) (state_of encoder.old) result }
+        ensures names { OnOk result (CompressesMX self.now (state_of encoder.old) (state_of encoder.new)) }
+    {
+        emit_u16(self.preference, encoder)?;
         self.exchange.emit(encoder)
     }
 }

@@ -1,8 +1,11 @@
 //! Starts of zones.
 
-ghost use Rattle.std.specs.Prelude.{◌≡◌, refl, Some, []};
+ghost use Rattle.std.specs.Prelude.{◌≡◌, refl, OnOk, Some, []};
 ghost use Rattle.std.specs.Cmp.{eq_by_cmp_equiv, partial_equiv_from_equiv, partial_order_from_total};
 ghost use Rattle.std.specs.Ordering.{as_partial_cmp, eq_by_cmp};
+ghost use Rattle.base.specs.Laws.{Keeps, Writes};
+ghost use Rattle.base.specs.Wire.{state_of, Refuses};
+ghost use Rattle.base_data.specs.DataNames.{CompressesSOA};
 ghost use Rattle.base_data.specs.SOA.{SOAWord, soa_at, soa_cmp, soa_cmp-total, plain_soa, soa_text};
 
 use crate::rdata::emit::emit_u32;
@@ -197,7 +200,13 @@ impl BinEncodable for SOA {
 
     /// Writes the fields one behind the other, names with compression. Refused where a byte would pass the limit,
     /// and for want of memory.
-    fn emit(&self, encoder: &mut BinEncoder<'_>) -> Result<(), ProtoError> {
+    fn emit(&self, encoder: &mut BinEncoder<'_>) -> Result<(), ProtoError>
+        ensures keeps { Keeps (state_of encoder.old) (state_of encoder.new) }
+        ensures writes { OnOk result (Writes (SOAWord self.now) (plain_soa self.now) []
+            (state_of encoder.old) (state_of encoder.new)) }
+        ensures refuses { Refuses (plain_soa self.now) (state_of encoder.old) result }
+        ensures names { OnOk result (CompressesSOA self.now (state_of encoder.old) (state_of encoder.new)) }
+    {
         self.mname.emit(encoder)?;
         self.rname.emit(encoder)?;
         emit_u32(self.serial, encoder)?;

@@ -1,10 +1,14 @@
 //! Hosts that have a service.
 
-ghost use Rattle.std.specs.Prelude.{◌≡◌, refl, Some, []};
+ghost use Rattle.std.specs.Prelude.{◌≡◌, refl, OnOk, Some, []};
 ghost use Rattle.std.specs.Cmp.{eq_by_cmp_equiv, partial_equiv_from_equiv, partial_order_from_total};
 ghost use Rattle.std.specs.Ordering.{as_partial_cmp, eq_by_cmp};
-ghost use Rattle.base_data.specs.SRV.{SRVWord, srv_at, srv_cmp, srv_cmp-total, plain_srv, srv_text};
+ghost use Rattle.base.specs.Laws.{Keeps, Writes};
+ghost use Rattle.base.specs.State.{appended};
+ghost use Rattle.base.specs.Wire.{state_of, Refuses};
+ghost use Rattle.base_data.specs.SRV.{SRVWord, srv_at, srv_cmp, srv_cmp-total, plain_srv, srv_text, srv_wire};
 
+use crate::rdata::emit::emit_u16;
 use base::{BinDecodable, BinDecoder, BinEncodable, BinEncoder, DecodeError, Name, ProtoError};
 use std::alloc::AllocError;
 use std::cmp::Ordering;
@@ -146,12 +150,18 @@ impl BinEncodable for SRV {
 
     ghost owner = { λ _. [] };
 
-    /// Writes the fields one behind the other, its name without compression (RFC 3597, 4). Refused where a byte would pass the limit,
-    /// and for want of memory.
-    fn emit(&self, encoder: &mut BinEncoder<'_>) -> Result<(), ProtoError> {
-        self.priority.emit(encoder)?;
-        self.weight.emit(encoder)?;
-        self.port.emit(encoder)?;
+    /// Writes the fields one behind the other, its name without compression (RFC 3597, 4).
+    /// Refused where a byte would pass the limit, and for want of memory.
+    fn emit(&self, encoder: &mut BinEncoder<'_>) -> Result<(), ProtoError>
+        ensures keeps { Keeps (state_of encoder.old) (state_of encoder.new) }
+        ensures writes { OnOk result (Writes (SRVWord self.now) (plain_srv self.now) []
+            (state_of encoder.old) (state_of encoder.new)) }
+        ensures refuses { Refuses (plain_srv self.now) (state_of encoder.old) result }
+        ensures names { OnOk result (state_of encoder.new ≡ appended (srv_wire self.now) (state_of encoder.old)) }
+    {
+        emit_u16(self.priority, encoder)?;
+        emit_u16(self.weight, encoder)?;
+        emit_u16(self.port, encoder)?;
         self.target.emit_plain(encoder)
     }
 }

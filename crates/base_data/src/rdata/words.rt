@@ -1,11 +1,13 @@
 //! Reading data is the word that data is written as.
 
-ghost use Rattle.std.specs.Prelude.{◌≡◌, ◌↔◌, ℕ, ◌+◌, List, Ok, Err};
+ghost use Rattle.std.specs.Prelude.{◌≡◌, ◌↔◌, ℕ, ◌+◌, ◌-◌, List, [], length, Ok, Err};
+ghost use Rattle.base.specs.Laws.{Holds, Keeps, Writes};
+ghost use Rattle.base.specs.State.{State};
 ghost use Rattle.base.specs.declared.error.decode_error.DecodeError.{DecodeError};
 ghost use Rattle.base.specs.declared.error.decode_error.DecodeError.TheVariants as faults;
 ghost use Rattle.base.specs.declared.record_type.RecordType.{RecordType};
 ghost use Rattle.base_data.specs.DataAt.{IsDataAt, IsReadable};
-ghost use Rattle.base_data.specs.DataWord.{DataWord};
+ghost use Rattle.base_data.specs.DataWord.{DataWord, plain_data};
 ghost use Rattle.base_data.specs.RData.{rdata_at, type_of_data};
 ghost use Rattle.base_data.specs.declared.rdata.RData.{RData};
 
@@ -16,4 +18,11 @@ pub fn reading_is_the_data_word()
     ensures word { (B : List ℕ) (i : ℕ) (type : RecordType) (len : ℕ) (d : RData) (e : ℕ) → (rdata_at type len B i ≡ Ok (d, e)) ↔ (IsDataAt B i type len d × (e ≡ i + len)) }
     ensures fault { (B : List ℕ) (i : ℕ) (type : RecordType) (len : ℕ) (f : DecodeError) → (rdata_at type len B i ≡ Err f) ↔ ((f ≡ faults.BadData type) × ((d : RData) → ¬ IsDataAt B i type len d)) }
     ensures written { (B : List ℕ) (i len : ℕ) (d : RData) → DataWord d B i (i + len) → IsReadable d → rdata_at (type_of_data d) len B i ≡ Ok (d, i + len) }
+{}
+
+/// What `emit` wrote of readable data, behind anything and under any limit, is read as the same data from every
+/// buffer that holds it (RFC 1035, 3.2.1 and 4.1.4).
+pub fn written_data_is_read()
+    ensures { (old new : State) (d : RData) → Keeps old new → Writes (DataWord d) (plain_data d) [] old new → IsReadable d → (B : List ℕ) → Holds old new B
+        → rdata_at (type_of_data d) (length new.bytes - length old.bytes) B (length old.bytes) ≡ Ok (d, length new.bytes) }
 {}

@@ -1,6 +1,9 @@
 //! Writes and prints the data of any record.
 
-ghost use Rattle.std.specs.Prelude.{Some, []};
+ghost use Rattle.std.specs.Prelude.{OnOk, Some, []};
+ghost use Rattle.base.specs.Laws.{Keeps, Writes};
+ghost use Rattle.base.specs.Wire.{state_of, Refuses};
+ghost use Rattle.base_data.specs.DataNames.{WritesNames};
 ghost use Rattle.base_data.specs.DataWord.{DataWord, data_text, plain_data};
 
 use crate::rdata::RData;
@@ -14,10 +17,17 @@ impl BinEncodable for RData {
 
     ghost owner = { λ _. [] };
 
-    /// Writes the data as its kind is written, and nothing for empty data (RFC 1035, 3.3; RFC 3597, 4).
+    /// Writes the data as its kind is written, names of NS, CNAME, PTR, MX and SOA with compression and all other
+    /// data without it, and nothing for empty data (RFC 1035, 3.3; RFC 3597, 4).
     ///
     /// Refused where a byte would pass the limit, and for want of memory.
-    fn emit(&self, encoder: &mut BinEncoder<'_>) -> Result<(), ProtoError> {
+    fn emit(&self, encoder: &mut BinEncoder<'_>) -> Result<(), ProtoError>
+        ensures keeps { Keeps (state_of encoder.old) (state_of encoder.new) }
+        ensures writes { OnOk result (Writes (DataWord self.now) (plain_data self.now) []
+            (state_of encoder.old) (state_of encoder.new)) }
+        ensures refuses { Refuses (plain_data self.now) (state_of encoder.old) result }
+        ensures names { OnOk result (WritesNames self.now (state_of encoder.old) (state_of encoder.new)) }
+    {
         match self {
             RData::A(rdata) => rdata.emit(encoder),
             RData::AAAA(rdata) => rdata.emit(encoder),

@@ -1,0 +1,5 @@
+use Rattle.base_data.proofs.WriteLemmas.{compressed}
+use Rattle.base_data.proofs.rdata.ptr.PTRBinEncodable.emit.Goals as goal
+
+pub returns-clause-names : goal.returns-clause-names
+returns-clause-names c = compressed c.emit.result _ _ _ _ _ c.emit.ensures.writes c.emit.ensures.stores

@@ -1,0 +1,34 @@
+-- What a buffer begins with.
+use Rattle.std.proofs.Common.{◌≡◌, ℕ, List, refl, ap, sym, ◌∙◌, Result, Ok, Err}
+use Rattle.std.specs.Prelude.{IfOk, MatchResult}
+use Rattle.base.specs.declared.error.decode_error.DecodeError.{DecodeError}
+use Rattle.base.specs.declared.error.decode_error.DecodeError.TheVariants as faults
+use Rattle.base.specs.Reader.{Reader}
+use Rattle.base.specs.Reading.{Fails, Reads}
+use Rattle.op.specs.Message.{IsMessageAt, MessageValue, message_at, message_value}
+use Rattle.op.specs.declared.message.Message.{Message}
+use Rattle.op.proofs.MessageStands.{message_again, message_stands}
+
+same_ok : {A : Type 0} {x y : A} → ◌≡◌ {A = Result A DecodeError} (Ok x) (Ok y) → x ≡ y
+same_ok is = cc
+
+-- a call that fails where there is a value to read was refused memory
+want_of_memory : {A : Type 0} (f : DecodeError) (r : Result A DecodeError) (x : A) → Fails f r → r ≡ Ok x → f ≡ faults.Memory
+want_of_memory faults.Memory r x fails is = refl
+want_of_memory faults.InsufficientBytes r x fails is = cc
+want_of_memory faults.BadName r x fails is = cc
+want_of_memory (faults.EdnsNameNotRoot owner) r x fails is = cc
+want_of_memory (faults.IncorrectRDataLengthRead read len) r x fails is = cc
+want_of_memory (faults.BadData type) r x fails is = cc
+want_of_memory faults.InvalidEmptyRecord r x fails is = cc
+want_of_memory faults.RecordAfterSig r x fails is = cc
+want_of_memory (faults.RecordNotInAdditionalSection type) r x fails is = cc
+want_of_memory faults.DuplicateEdns r x fails is = cc
+
+pub begins : (B : List ℕ) (old new : Reader) (r : Result Message DecodeError) → Reads message_value old new r (message_at B 0) → IfOk r (λ m. (e : ℕ) × IsMessageAt B 0 (message_value m) e)
+begins B old new (Ok m) reads = (new.index, message_stands B 0 (message_value m, new.index) reads.0)
+begins B old new (Err f) reads = tt
+
+pub begins_with : (B : List ℕ) (old new : Reader) (r : Result Message DecodeError) → Reads message_value old new r (message_at B 0) → (m : MessageValue) (e : ℕ) → IsMessageAt B 0 m e → MatchResult r (λ read. message_value read ≡ m) (λ f. f ≡ faults.Memory)
+begins_with B old new (Ok read) reads m e stands = ap (λ (x : MessageValue × ℕ). x.0) (same_ok (sym reads.0 ∙ message_again B 0 m e stands))
+begins_with B old new (Err f) reads m e stands = want_of_memory f (message_at B 0) (m, e) reads (message_again B 0 m e stands)

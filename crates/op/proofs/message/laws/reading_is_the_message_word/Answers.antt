@@ -1,0 +1,14 @@
+use Rattle.op.proofs.MessageStands.{one_message, reads_message, reads_questions, reads_section}
+use Rattle.op.proofs.message.laws.reading_is_the_message_word.Goals as goal
+
+pub returns-clause-word : goal.returns-clause-word
+returns-clause-word c = reads_message
+
+pub returns-clause-once : goal.returns-clause-once
+returns-clause-once c = one_message
+
+pub returns-clause-section : goal.returns-clause-section
+returns-clause-section c = reads_section
+
+pub returns-clause-questions : goal.returns-clause-questions
+returns-clause-questions c = reads_questions

@@ -1,0 +1,18 @@
+//! What reading means: the words of a message (RFC 1035, 4.1).
+
+ghost use Rattle.std.specs.Prelude.{◌≡◌, ◌↔◌, ℕ, Bool, List, length, Ok};
+ghost use Rattle.base.specs.Many.{many_at};
+ghost use Rattle.base.specs.Words.{BackToBack};
+ghost use Rattle.op.specs.Message.{IsMessageAt, MessageValue, message_at};
+ghost use Rattle.op.specs.Query.{IsQueryAt, query_at};
+ghost use Rattle.op.specs.Section.{IsSectionAt, SectionValue, section_at};
+ghost use Rattle.op.specs.declared.query.Query.{Query};
+
+/// Reading a message is the message word: it answers exactly the messages whose words stand there, and a place
+/// begins one at most. The same for the records of a section, and for questions back to back.
+pub fn reading_is_the_message_word()
+    ensures word { (B : List ℕ) (i : ℕ) (m : MessageValue) (e : ℕ) → (message_at B i ≡ Ok (m, e)) ↔ IsMessageAt B i m e }
+    ensures once { (B : List ℕ) (i : ℕ) (m n : MessageValue) (e f : ℕ) → IsMessageAt B i m e → IsMessageAt B i n f → (m ≡ n) × (e ≡ f) }
+    ensures section { (is_additional : Bool) (op : _) (count : ℕ) (B : List ℕ) (i : ℕ) (s : SectionValue) (e : ℕ) → (section_at is_additional op count B i ≡ Ok (s, e)) ↔ IsSectionAt is_additional op count B i s e }
+    ensures questions { (count : ℕ) (B : List ℕ) (i : ℕ) (qs : List Query) (e : ℕ) → (many_at query_at count B i ≡ Ok (qs, e)) ↔ (BackToBack (IsQueryAt B) i qs e × (length qs ≡ count)) }
+{}

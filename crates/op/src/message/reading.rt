@@ -1,0 +1,127 @@
+//! Reads messages (RFC 1035, 4.1).
+
+ghost use Rattle.std.specs.Prelude.{◌≡◌, ℕ, IfErr, IfOk, MatchResult};
+ghost use Rattle.base.specs.Many.{many_at};
+ghost use Rattle.base.specs.Reading.{Fails, Reads};
+ghost use Rattle.op.specs.Message.{IsMessageAt, MessageValue, high_code, message_at, message_value};
+ghost use Rattle.op.specs.Query.{query_at};
+ghost use Rattle.op.specs.ReadsOrDecodes.{ReadsOrDecodes};
+ghost use Rattle.op.specs.Section.{parts_value, section_at, section_value};
+
+use crate::edns::Edns;
+use crate::header::{Header, Metadata};
+use crate::message::Message;
+use crate::message::section::Section;
+use crate::op_code::OpCode;
+use crate::query::Query;
+use base::{BinDecodable, BinDecoder, DecodeError, ProtoError, read_many};
+use base_data::TSIG;
+use rr::Record;
+use std::alloc::Global;
+
+impl Message {
+    /// Reads as many questions. Refused with the first fault, and for want of memory.
+    pub fn read_queries(
+        decoder: &mut BinDecoder<'_>,
+        count: usize,
+    ) -> Result<Vec<Query>, ProtoError>
+        ensures read { ReadsOrDecodes (λ v. v.items) decoder.old decoder.new result (many_at query_at count decoder.old.bytes decoder.old.index) }
+    {
+        Ok(read_many::<Query>(decoder, count)?)
+    }
+
+    /// Reads as many records as a section has: the ordinary ones in their order, what an OPT record says, and the
+    /// signature (RFC 6891, 6.1.1; RFC 8945, 5.1).
+    ///
+    /// Each record is read and then tested before the next one. Refused, beside the faults of a record, with
+    /// `InvalidEmptyRecord` for empty data outside an Update and of another type than OPT, `RecordAfterSig` behind
+    /// a signature, `RecordNotInAdditionalSection` for OPT, SIG and TSIG elsewhere, `DuplicateEdns` for a second
+    /// OPT record, and for want of memory.
+    pub fn read_records(
+        decoder: &mut BinDecoder<'_>,
+        count: usize,
+        is_additional: bool,
+        op_code: OpCode,
+    ) -> Result<(Vec<Record>, Option<Edns>, Option<Box<Record<TSIG>>>), DecodeError>
+        ensures read { Reads parts_value decoder.old decoder.new result (section_at is_additional op_code count decoder.old.bytes decoder.old.index) }
+    {
+        let section = Message::read_section(decoder, count, is_additional, op_code)?;
+        Ok((section.records, section.edns, section.signature))
+    }
+
+    fn read_section(
+        decoder: &mut BinDecoder<'_>,
+        count: usize,
+        is_additional: bool,
+        op_code: OpCode,
+    ) -> Result<Section, DecodeError>
+        ensures read { Reads section_value decoder.old decoder.new result (section_at is_additional op_code count decoder.old.bytes decoder.old.index) }
+    {
+        let mut section = Section::new(decoder.allocator());
+        for _ in 0..count {
+            let next = Record::read(decoder)?;
+            section.take(decoder.allocator(), next, is_additional, op_code)?;
+        }
+        Ok(section)
+    }
+
+    /// Reads a message at the decoder's place, and moves behind it: the header, the questions and the three sections
+    /// as the header counts them (RFC 1035, 4.1). The code has the eight bits of EDNS above the header's four
+    /// (RFC 6891, 6.1.3).
+    ///
+    /// Refused with the first fault, and for want of memory. A decoder that refused isn't used again.
+    #[tactic(auto, unfolding(crate::specs::Message::message_at))]
+    pub fn read(decoder: &mut BinDecoder<'_>) -> Result<Message, DecodeError>
+        ensures read { Reads message_value decoder.old decoder.new result (message_at decoder.old.bytes decoder.old.index) }
+    {
+        let header = Header::read(decoder)?;
+        let op_code = header.metadata.op_code;
+        let counts = header.counts;
+        let queries = read_many::<Query>(decoder, usize::from(counts.queries))?;
+        let answers = Message::read_section(decoder, usize::from(counts.answers), false, op_code)?;
+        let authorities = Message::read_section(
+            decoder,
+            usize::from(counts.authorities),
+            false,
+            op_code,
+        )?;
+        let additionals = Message::read_section(
+            decoder,
+            usize::from(counts.additionals),
+            true,
+            op_code,
+        )?;
+        Ok(Message {
+            metadata: with_high_code(header.metadata, &additionals.edns),
+            queries,
+            answers: answers.records,
+            authorities: authorities.records,
+            additionals: additionals.records,
+            signature: additionals.signature,
+            edns: additionals.edns,
+        })
+    }
+
+    /// Reads the message that a buffer begins with. Bytes behind it are not looked at.
+    ///
+    /// Accepts exactly the buffers that begin with a message word, and answers that word's message (RFC 1035, 4.1).
+    /// Refused with the buffer's first fault, and for want of memory.
+    pub fn from_vec(alloc: Global, buffer: &[u8]) -> Result<Message, DecodeError>
+        ensures found { IfOk result (λ m. (e : ℕ) × IsMessageAt buffer.now 0 (message_value m) e) }
+        ensures only { (m : MessageValue) (e : ℕ) → IsMessageAt buffer.now 0 m e → MatchResult result (λ read. message_value read ≡ m) (λ f. f ≡ DecodeError.Memory) }
+        ensures refused { IfErr result (λ f. Fails f (message_at buffer.now 0)) }
+    {
+        Message::read(&mut BinDecoder::new(alloc, buffer))
+    }
+}
+
+/// A header with the eight high bits of EDNS above its code, if there is EDNS.
+fn with_high_code(metadata: Metadata, edns: &Option<Edns>) -> Metadata
+    ensures { result ≡ high_code edns.now metadata }
+{
+    let mut merged = metadata;
+    if let Some(edns) = edns {
+        merged.merge_response_code(edns.rcode_high);
+    }
+    merged
+}
