@@ -3,6 +3,7 @@ pub mod AAAA
 pub mod ANAME
 pub mod CNAME
 pub mod DataAt
+pub mod DataOrder
 pub mod DataWord
 pub mod MX
 pub mod NS
