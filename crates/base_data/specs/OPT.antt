@@ -1,8 +1,9 @@
 -- EDNS options: each a code, a length and as many bytes (RFC 6891, 6.1.2).
 use Rattle.std.specs.Prelude.{◌≡◌, ℕ, Bool, true, ◌+◌, ◌==◌, not, List, [], ◌∷◌, ◌++◌, zero, suc, length, filter, find, position, slice_set, nat_eq, nat_le, if◌then◌else◌, Option, Ok}
 use Rattle.std.proofs.Common.{rules, refl, subst, ◌∙◌}
-use Rattle.std.specs.Cmp.{IsEquivalence, IsPartialOrder, IsTotalOrder, both_tied, both_ways, nat_cmp_total, partial_order_from_agreeing_total, second_so, tied_itself, tied_then, unsigned_ties}
-use Rattle.std.specs.Cmp.Lexicographic.{bytes_decides, lists_ties, pointwise, slice_cmp}
+use Rattle.std.specs.Bool.{Decides}
+use Rattle.std.specs.Cmp.{IsEquivalence, IsPartialOrder, IsTotalOrder, both_tied, both_ways, first_so, nat_cmp_total, partial_order_from_agreeing_total, second_so, tied_itself, tied_then, unsigned_Decides, unsigned_ties}
+use Rattle.std.specs.Cmp.Lexicographic.{bytes_decides, lists_ties, pointwise, pointwise_decides, slice_cmp}
 use Rattle.std.specs.Cmp.Rules.{comparing}
 use Rattle.std.specs.Int.{w16, to_be_bytes}
 use Rattle.std.specs.Option.{option_map_or}
@@ -85,6 +86,21 @@ same_option-equiv = search (comparing, rules)
 
 pub same_options-equiv : IsEquivalence same_options
 same_options-equiv = search (comparing, rules) depth 9
+
+-- options are the same exactly where their codes and bytes are
+pub option_decides : (a b : OptionValue) → Decides (same_option a b) (a ≡ b)
+option_decides a b = (same_is, is_same) where
+  same_is : same_option a b ≡ true → a ≡ b
+  same_is h =
+      let code = (unsigned_Decides a.code b.code).0 (first_so (a.code == b.code) (same_bytes a.bytes b.bytes) h) in
+      let bytes = (bytes_decides a.bytes b.bytes).0 (second_so (a.code == b.code) (same_bytes a.bytes b.bytes) h) in
+      λ i. record { code = code i; bytes = bytes i }
+
+  is_same : a ≡ b → same_option a b ≡ true
+  is_same h = subst (λ (o : OptionValue). same_option a o ≡ true) h (same_option-equiv.refl a)
+
+pub options_decide : (a b : List OptionValue) → Decides (same_options a b) (a ≡ b)
+options_decide = pointwise_decides option_decides
 
 -- the order of options, that of their bytes on the wire: by code, by length, by bytes
 abbrev pub edns_cmp : OptionValue → OptionValue → Ordering
