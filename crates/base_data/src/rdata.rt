@@ -6,6 +6,7 @@ ghost use Rattle.base_data.specs.RData.{is_empty_data, type_of_data};
 pub mod a;
 pub mod aaaa;
 pub mod aname;
+mod canonical;
 pub mod cname;
 mod emit;
 mod hex_text;
