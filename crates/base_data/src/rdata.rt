@@ -15,6 +15,7 @@ pub mod mx;
 pub mod ns;
 pub mod null;
 pub mod opt;
+mod order;
 pub mod ptr;
 mod reading;
 pub mod soa;
