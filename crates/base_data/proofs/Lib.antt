@@ -4,6 +4,7 @@ pub mod DataLemmas
 pub mod NameDataLemmas
 pub mod OptionLemmas
 pub mod OptionTexts
+pub mod OrderLemmas
 pub mod StringLemmas
 pub mod StringTexts
 pub mod WriteLemmas

@@ -1,5 +1,5 @@
 -- The order of record data: by the bytes of the canonical form (RFC 4034, 6.2 and 6.3), and then by what these leave open.
-use Rattle.std.specs.Prelude.{ℕ, Bool, List, [], ◌∷◌, ◌++◌}
+use Rattle.std.specs.Prelude.{ℕ, Bool, ◌<◌, ◌^◌, All, List, [], ◌∷◌, ◌++◌}
 use Rattle.std.proofs.Common.{rules}
 use Rattle.std.specs.Cmp.{IsTotalOrder, nat_cmp_total, on_total, then_total}
 use Rattle.std.specs.Cmp.Lexicographic.{options_total, slice_cmp}
@@ -8,14 +8,14 @@ use Rattle.std.specs.Int.{w16, w32, to_be_bytes}
 use Rattle.std.specs.Option.{option_cmp}
 use Rattle.std.specs.Ordering.{bool_cmp, nat_cmp, on, then_cmp}
 use Rattle.std.specs.declared.cmp.Ordering.{Ordering}
-use Rattle.base.specs.Labels.{NameValue, wire_of}
+use Rattle.base.specs.Labels.{AreLabels, NameValue, wire_of}
 use Rattle.base.specs.NameOrder.{canonical_name}
 use Rattle.base.specs.RecordType.{type_cmp}
 use Rattle.base_data.specs.ANAME.{aname_cmp, aname_cmp-total}
 use Rattle.base_data.specs.CNAME.{cname_cmp, cname_cmp-total}
 use Rattle.base_data.specs.MX.{mx_cmp, mx_cmp-total}
 use Rattle.base_data.specs.NS.{ns_cmp, ns_cmp-total}
-use Rattle.base_data.specs.OPT.{opt_cmp, opt_cmp-total, options_wire}
+use Rattle.base_data.specs.OPT.{FitsOption, opt_cmp, opt_cmp-total, options_wire}
 use Rattle.base_data.specs.Opaque.{bytes_cmp, bytes_cmp-total}
 use Rattle.base_data.specs.PTR.{ptr_cmp, ptr_cmp-total}
 use Rattle.base_data.specs.RData.{type_of_data}
@@ -92,3 +92,29 @@ pub data_cmp-total : IsTotalOrder data_cmp
 data_cmp-total =
     then_total (on_total canonical_data bytes_cmp-total) (then_total (on_total type_of_data type_cmp-total)
     (then_total (on_total kind_rank nat_cmp_total) own_cmp-total))
+
+-- whether each name is absolute, from the left
+abbrev pub name_flags : RData → List Bool
+name_flags (kinds.NS x) = x.name.absolute ∷ []
+name_flags (kinds.CNAME x) = x.name.absolute ∷ []
+name_flags (kinds.PTR x) = x.name.absolute ∷ []
+name_flags (kinds.ANAME x) = x.name.absolute ∷ []
+name_flags (kinds.MX x) = x.exchange.absolute ∷ []
+name_flags (kinds.SOA x) = x.mname.absolute ∷ x.rname.absolute ∷ []
+name_flags (kinds.SRV x) = x.target.absolute ∷ []
+name_flags _ = []
+
+-- by the bytes of the canonical form, by type, by kind, and by the flags of names, relative first
+abbrev pub parts_cmp : RData → RData → Ordering
+parts_cmp =
+    then_cmp (on canonical_data bytes_cmp) (then_cmp (on type_of_data type_cmp) (then_cmp (on kind_rank nat_cmp) (on name_flags (slice_cmp bool_cmp))))
+
+-- what a value of the program's types is: its numbers have their widths, its labels have 1 to 63 bytes, its options up to 65,535
+abbrev pub FitsTypes : RData → Type 0
+FitsTypes (kinds.MX x) = x.preference < 2 ^ 16
+FitsTypes (kinds.SRV x) = (x.priority < 2 ^ 16) × (x.weight < 2 ^ 16) × (x.port < 2 ^ 16)
+FitsTypes (kinds.SOA x) =
+    AreLabels x.mname.labels × AreLabels x.rname.labels
+    × (x.serial < 2 ^ 32) × (x.refresh < 2 ^ 32) × (x.retry < 2 ^ 32) × (x.expire < 2 ^ 32) × (x.minimum < 2 ^ 32)
+FitsTypes (kinds.OPT x) = All FitsOption x
+FitsTypes _ = Unit {0}

@@ -37,7 +37,7 @@ then_tied p q h =
 number_tied : (a b : ℕ) → nat_cmp a b ≡ Equal → a ≡ b
 number_tied a b h = (unsigned_Decides a b).0 (unsigned_ties a b ∙ ap is_eq h)
 
-bytes_tied : (a b : List ℕ) → bytes_cmp a b ≡ Equal → a ≡ b
+pub bytes_tied : (a b : List ℕ) → bytes_cmp a b ≡ Equal → a ≡ b
 bytes_tied a b h = (bytes_decides a b).0 (same_bytes-tie a b ∙ ap is_eq h)
 
 name_tied : (a b : NameValue) → canonical_cmp a b ≡ Equal → name_octets a ≡ name_octets b

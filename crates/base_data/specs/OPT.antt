@@ -1,5 +1,5 @@
 -- EDNS options: each a code, a length and as many bytes (RFC 6891, 6.1.2).
-use Rattle.std.specs.Prelude.{◌≡◌, ℕ, Bool, true, ◌+◌, ◌==◌, not, List, [], ◌∷◌, ◌++◌, zero, suc, length, filter, find, position, slice_set, nat_eq, nat_le, if◌then◌else◌, Option, Ok}
+use Rattle.std.specs.Prelude.{◌≡◌, ℕ, Bool, true, ◌+◌, ◌^◌, ◌<◌, ◌==◌, not, List, [], ◌∷◌, ◌++◌, zero, suc, length, filter, find, position, slice_set, nat_eq, nat_le, if◌then◌else◌, Option, Ok}
 use Rattle.std.proofs.Common.{rules, refl, subst, ◌∙◌}
 use Rattle.std.specs.Bool.{Decides}
 use Rattle.std.specs.Cmp.{IsEquivalence, IsPartialOrder, IsTotalOrder, both_tied, both_ways, first_so, nat_cmp_total, partial_order_from_agreeing_total, second_so, tied_itself, tied_then, unsigned_Decides, unsigned_ties}
@@ -17,6 +17,10 @@ use Rattle.base_data.specs.Opaque.{bytes_cmp, bytes_cmp-total, same_bytes, same_
 pub record OptionValue : Type 0 where
   pub code : ℕ
   pub bytes : List ℕ
+
+-- the code and the number of bytes have their widths
+abbrev pub FitsOption : OptionValue → Type 0
+FitsOption option = (option.code < 2 ^ 16) × (length option.bytes < 2 ^ 16)
 
 -- the bytes of an option on the wire
 abbrev pub option_wire : OptionValue → List ℕ
