@@ -112,7 +112,7 @@ impl Name {
     }
 
     /// The labels from the left, each with its length before it, without a final zero byte.
-    pub(crate) fn as_wire(&self) -> &[u8]
+    pub fn as_wire(&self) -> &[u8]
         ensures value { result.now ≡ wire_of self.now.labels }
         ensures whole { wire_of (labels_of result.now) ≡ result.now }
         ensures cut { labels_of result.now ≡ self.now.labels }

@@ -7,6 +7,7 @@ pub mod NameWords
 pub mod OptionLemmas
 pub mod OptionTexts
 pub mod OptionWords
+pub mod OrderLemmas
 pub mod StringLemmas
 pub mod StringTexts
 pub mod Tells

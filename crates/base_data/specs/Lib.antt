@@ -4,6 +4,8 @@ pub mod ANAME
 pub mod CNAME
 pub mod DataAt
 pub mod DataNames
+pub mod DataOrder
+pub mod DataTies
 pub mod DataWord
 pub mod MX
 pub mod NS

@@ -1,5 +1,9 @@
+pub mod Cut
 pub mod Edns
 pub mod EdnsFlags
+pub mod EdnsRecord
+pub mod Emitted
+pub mod Fits
 pub mod Flags
 pub mod Header
 pub mod HeaderCounts

@@ -1,8 +1,8 @@
 -- Data that stands behind a place of the buffer ends inside the buffer.
-use Rattle.std.proofs.Common.{◌≡◌, ℕ, ◌+◌, ◌≤◌, List, [], ◌∷◌, length, arith, ap}
+use Rattle.std.proofs.Common.{ℕ, ◌≤◌, List, [], length, arith}
 use Rattle.base.specs.Labels.{wire_of}
-use Rattle.base.specs.Spelling.{Spelled, SpelledIn, ends, label, pointer, anywhere}
-use Rattle.base.specs.Words.{Bytes, NameAt, Stands}
+use Rattle.base.specs.Spelling.{SpelledIn, ends, label, pointer, anywhere}
+use Rattle.base.specs.Words.{Bytes, NameAt}
 use Rattle.base.specs.Words.BackToBack.{none, more}
 use Rattle.base_data.proofs.Tells.{room_behind}
 use Rattle.base_data.specs.DataWord.{DataWord}

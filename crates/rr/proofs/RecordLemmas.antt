@@ -1,5 +1,5 @@
 -- Records that stand are records that are read.
-use Rattle.std.proofs.Common.{◌≡◌, ℕ, ◌+◌, ◌==◌, Bool, true, false, List, [], ◌∷◌, length, refl, ap, sym, ◌∙◌, subst, arith, Result, Ok, Err}
+use Rattle.std.proofs.Common.{◌≡◌, ℕ, ◌+◌, ◌==◌, Bool, true, false, List, [], ◌∷◌, length, ap, subst, arith, Ok}
 use Rattle.std.specs.Prelude.{◌↔◌, IsTrue}
 use Rattle.std.proofs.lemmas.Bool.{ne_eqb}
 use Rattle.std.specs.Int.{w16, w32}
@@ -7,7 +7,6 @@ use Rattle.base.specs.DNSClass.{class_field, class_number}
 use Rattle.base.specs.Labels.{NameValue}
 use Rattle.base.specs.Names.{name_at}
 use Rattle.base.specs.RecordType.{type_number}
-use Rattle.base.specs.Spelling.{IsNameAt}
 use Rattle.base.specs.Words.{IsNumberAt, NameAt, Number, Sized, Then}
 use Rattle.base.proofs.ReadingLemmas.{name_is}
 use Rattle.base_data.specs.DataWord.{DataWord}

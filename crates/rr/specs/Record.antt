@@ -2,7 +2,7 @@
 use Rattle.std.specs.Prelude.{◌≡◌, ◌≢◌, ◌≤◌, ℕ, ◌+◌, ◌-◌, ◌<◌, ◌==◌, length, List, [], ◌++◌, codes, true, false, not, ◌&&◌, Bool, if◌then◌else◌, nat_lt, Ok, Err}
 use Rattle.std.specs.Fmt.{decimal}
 use Rattle.std.specs.Int.{w16, w32}
-use Rattle.base.specs.DNSClass.{class_field, class_number, class_text, class_of, field_class, field_top, is_opt_class, opt_class}
+use Rattle.base.specs.DNSClass.{class_field, class_number, class_text, class_of, field_class, field_top, opt_class}
 use Rattle.base.specs.Faults.{IsFaulty}
 use Rattle.base.specs.Labels.{NameValue, plain_len}
 use Rattle.base.specs.NameText.{name_text}
@@ -12,7 +12,6 @@ use Rattle.base.specs.RecordType.{type_number, type_of, type_text}
 use Rattle.base.specs.Spelling.{IsNameAt}
 use Rattle.base.specs.Words.{IsNumberAt, NameAt}
 use Rattle.base.specs.declared.dns_class.DNSClass.{DNSClass}
-use Rattle.base.specs.declared.dns_class.DNSClass.TheVariants as classes
 use Rattle.base.specs.declared.error.decode_error.DecodeError.{DecodeError}
 use Rattle.base.specs.declared.error.decode_error.DecodeError.TheVariants as faults
 use Rattle.base.specs.declared.record_type.RecordType.{RecordType}
@@ -21,7 +20,6 @@ use Rattle.base_data.specs.DataAt.{IsDataAt, IsReadable}
 use Rattle.base_data.specs.DataWord.{DataWord, data_text, plain_data}
 use Rattle.base_data.specs.RData.{rdata_at, type_of_data}
 use Rattle.base_data.specs.declared.rdata.RData.{RData}
-use Rattle.base_data.specs.declared.rdata.RData.TheVariants as kinds
 use Rattle.rr.specs.declared.record.Record.{Record}
 
 -- the fields of a record on the wire, its data as what it stands for
@@ -102,6 +100,14 @@ RecordWord r B i e = IsRawRecordAt B i (raw_record r) e
 abbrev pub plain_record : Record RData → ℕ
 plain_record r = plain_len r.name.labels + (10 + plain_data r.rdata)
 
+-- the record with its data seen so
+abbrev pub with_data : {R N : Type 0} → (R → N) → Record R → Record N
+with_data seen r = record { name = r.name; dns_class = r.dns_class; ttl = r.ttl; rdata = seen r.rdata; mdns_cache_flush = r.mdns_cache_flush }
+
+-- the record with this data in place of its own
+abbrev pub holding : {R N : Type 0} → N → Record R → Record N
+holding rdata r = with_data (λ _. rdata) r
+
 -- the record with as many seconds off its TTL, down to 0
 abbrev pub decremented : {R : Type 0} → ℕ → Record R → Record R
 decremented offset r = record r { ttl = r.ttl - offset }
@@ -122,10 +128,6 @@ pub record FitsRecord (r : Record RData) : Type 0 where
   pub narrow : is_opt_type (type_of_data r.rdata) ≡ false → class_number r.dns_class < 32768
   pub payload_reads : is_opt_type (type_of_data r.rdata) ≡ true → opt_class (class_number r.dns_class) ≡ r.dns_class
   pub not_flushing : is_opt_type (type_of_data r.rdata) ≡ true → r.mdns_cache_flush ≡ false
-
--- the record with its data seen so
-abbrev pub with_data : {R N : Type 0} → (R → N) → Record R → Record N
-with_data seen r = record { name = r.name; dns_class = r.dns_class; ttl = r.ttl; rdata = seen r.rdata; mdns_cache_flush = r.mdns_cache_flush }
 
 -- The record of this owner and type whose class, TTL, length and data stand at i, in this order, or its first fault.
 unfoldable pub body_at : NameValue → RecordType → List ℕ → ℕ → Read (Record RData)

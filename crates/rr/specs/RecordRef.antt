@@ -1,7 +1,4 @@
 -- What a borrowed record shows.
-use Rattle.std.specs.Prelude.{◌≡◌, ℕ, Option, Some, None, Result, Ok, Err}
-use Rattle.base_data.specs.declared.rdata.RData.{RData}
-use Rattle.rr.specs.Record.{with_data}
 use Rattle.rr.specs.declared.record.Record.{Record}
 use Rattle.rr.specs.declared.record_ref.RecordRef.{RecordRef}
 

@@ -3,7 +3,7 @@
 ghost use Rattle.std.specs.Prelude.{◌≡◌, Option, option_map, false};
 ghost use Rattle.base_data.specs.RData.{type_of_data};
 ghost use Rattle.base_data.specs.declared.rdata.RData.TheVariants as kinds;
-ghost use Rattle.rr.specs.Record.{decremented, with_data};
+ghost use Rattle.rr.specs.Record.{decremented, holding, with_data};
 ghost use Rattle.rr.specs.RecordRef.{seen};
 
 mod compare;
@@ -44,7 +44,7 @@ impl Record<RData> {
 
     /// The record borrowed as one whose data is of the kind `T`, if it is.
     pub fn try_borrow<'a, T: RecordData>(&'a self) -> Option<RecordRef<'a, T>>
-        ensures { option_map seen result ≡ option_map (λ rdata. with_data (λ _. rdata) self.now) (T.of_rdata self.now.rdata) }
+        ensures { option_map seen result ≡ option_map (λ rdata. holding rdata self.now) (T.of_rdata self.now.rdata) }
     {
         RecordRef::try_from(self).ok()
     }
@@ -81,7 +81,7 @@ impl<R: RecordData> Record<R> {
     /// stay.
     pub fn map<N: RecordData, F: FnOnce(R) -> Option<N>>(self, make: F) -> Option<Record<N>>
         requires { F.IsAlwaysCallable make }
-        ensures { (made : Option N) × F.post make self.rdata made × (result ≡ option_map (λ rdata. with_data (λ _. rdata) self) made) }
+        ensures { (made : Option N) × F.post make self.rdata made × (result ≡ option_map (λ rdata. holding rdata self) made) }
     {
         let rdata = make(self.rdata)?;
         Some(Record {

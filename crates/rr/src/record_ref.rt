@@ -2,7 +2,7 @@
 
 ghost use Rattle.std.specs.Prelude.{◌≡◌, Bool, ℕ, Some, None, option_map, IfOk, MatchResult};
 ghost use Rattle.base_data.specs.RData.{type_of_data};
-ghost use Rattle.rr.specs.Record.{with_data};
+ghost use Rattle.rr.specs.Record.{holding};
 ghost use Rattle.rr.specs.RecordRef.{seen};
 
 use crate::record::Record;
@@ -23,7 +23,7 @@ pub struct RecordRef<'a, R: RecordData> {
 impl<'a, R: RecordData> RecordRef<'a, R> {
     /// The record itself, with a copy of its name and data. Refused for want of memory.
     pub fn to_owned(&self) -> Result<Record<R>, AllocError>
-        ensures { IfOk result (λ r. R.is_clone (seen self.now).rdata r.rdata × (r ≡ with_data (λ _. r.rdata) (seen self.now))) }
+        ensures { IfOk result (λ r. R.is_clone (seen self.now).rdata r.rdata × (r ≡ holding r.rdata (seen self.now))) }
     {
         Ok(Record {
             name: self.name.clone()?,
@@ -93,7 +93,7 @@ impl<'a, R: RecordData> TryFrom<&'a Record<RData>> for RecordRef<'a, R> {
     type Error = &'a Record<RData>;
 
     ghost try_from_gives = { λ entry result. MatchResult result
-        (λ r. option_map (λ rdata. with_data (λ _. rdata) entry.now) (R.of_rdata entry.now.rdata) ≡ Some (seen r))
+        (λ r. option_map (λ rdata. holding rdata entry.now) (R.of_rdata entry.now.rdata) ≡ Some (seen r))
         (λ same. (same.now ≡ entry.now) × (R.of_rdata entry.now.rdata ≡ None)) };
 
     /// The record, borrowed, if its data is of the kind. Else the record itself is the error.

@@ -103,6 +103,35 @@ fn refuses_faults(rt: HostRuntime) {
     );
 }
 
+/// Twelve header bytes that announce one question, and these bytes behind them.
+fn question_of(alloc: Global, bytes: &[u8]) -> Result<Vec<u8>, Fail> {
+    let mut message = Vec::new(alloc);
+    message.extend_from_slice(&[0, 0, 0, 0, 0, 1, 0, 0, 0, 0, 0, 0])?;
+    message.extend_from_slice(bytes)?;
+    Ok(message)
+}
+
+#[test]
+fn refuses_faults_behind_a_header(rt: HostRuntime) -> Result<(), Fail> {
+    let alloc = rt.alloc();
+    let itself = question_of(alloc, &[0xC0, 0x0C, 0, 1, 0, 1])?;
+    assert_eq!(rt; refusal(alloc, &itself, 12), 5);
+    let reserved = question_of(alloc, &[0x40, 0, 1, 0, 1])?;
+    assert_eq!(rt; refusal(alloc, &reserved, 12), 5);
+    let cut = question_of(alloc, &[0x03, 0x77, 0x77])?;
+    assert_eq!(rt; refusal(alloc, &cut, 12), 4);
+    Ok(())
+}
+
+#[test]
+fn reads_through_the_header(rt: HostRuntime) -> Result<(), Fail> {
+    let message = question_of(rt.alloc(), &[0xC0, 0x04, 0, 1, 0, 1])?;
+    let (name, end) = read_at(rt.alloc(), &message, 12)?;
+    assert!(rt; name.is_root());
+    assert_eq!(rt; end, 14);
+    Ok(())
+}
+
 #[test]
 fn limits_length(rt: HostRuntime) -> Result<(), Fail> {
     let alloc = rt.alloc();

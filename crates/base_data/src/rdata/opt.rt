@@ -1,10 +1,11 @@
 //! EDNS options.
 
-ghost use Rattle.std.specs.Prelude.{◌≡◌, ◌+◌, ◌≤◌, [], OnOk, OnErr, position};
+ghost use Rattle.std.specs.Prelude.{◌≡◌, ◌+◌, ◌≤◌, [], OnOk, OnErr, position, refl};
 ghost use Rattle.std.specs.Cmp.{partial_equiv_from_equiv};
 ghost use Rattle.std.specs.Option.{option_copied};
+ghost use Rattle.std.specs.Ordering.{as_partial_cmp};
 ghost use Rattle.base.specs.Reading.{Reads};
-ghost use Rattle.base_data.specs.OPT.{first_option, has_code, opt_at, options_len, options_word, same_options, same_options-equiv, with_option, without_code};
+ghost use Rattle.base_data.specs.OPT.{first_option, has_code, opt_at, opt_cmp, opt_cmp-partial, opt_cmp-total, options_len, options_word, same_options, same_options-equiv, same_options-tie, with_option, without_code};
 
 mod display;
 mod edns_option;
@@ -12,6 +13,7 @@ mod edns_option;
 use base::{BinDecodable, BinDecoder, BinEncodable, BinEncoder, DecodeError, ProtoError};
 pub use edns_option::EdnsOption;
 use std::alloc::{AllocError, Global};
+use std::cmp::Ordering;
 use std::marker::Model;
 
 /// The options of an EDNS message, in their order (RFC 6891, 6.1.2). Contracts see the list of them.
@@ -121,6 +123,32 @@ impl PartialEq for OPT {
 
 impl Eq for OPT {
     ghost laws = { same_options-equiv };
+}
+
+impl Ord for OPT {
+    ghost cmp = { opt_cmp };
+
+    ghost total = { opt_cmp-total };
+
+    ghost matches_partial_cmp = { λ _ _. refl };
+
+    ghost matches_eq = { same_options-tie };
+
+    /// By the bytes on the wire, what is a beginning before what it begins (RFC 4034, 6.3): by the first option
+    /// that differs.
+    fn cmp(&self, other: &OPT) -> Ordering {
+        self.as_ref().cmp(other.as_ref())
+    }
+}
+
+impl PartialOrd for OPT {
+    ghost partial_cmp = { as_partial_cmp opt_cmp };
+
+    ghost laws = { opt_cmp-partial };
+
+    fn partial_cmp(&self, other: &OPT) -> Option<Ordering> {
+        Some(self.cmp(other))
+    }
 }
 
 impl BinEncodable for OPT {

@@ -54,6 +54,64 @@ fn points_to_stored_suffixes(rt: HostRuntime) -> Result<(), Fail> {
     Ok(())
 }
 
+/// What is written of a name behind twelve bytes, four bytes, and another name.
+fn asked_and_answered(alloc: Global, first: &[u8], second: &[u8]) -> Result<Vec<u8>, Fail> {
+    let first = name_of(alloc, first)?;
+    let second = name_of(alloc, second)?;
+    let mut bytes = Vec::new(alloc);
+    {
+        let mut encoder = BinEncoder::new(&mut bytes);
+        encoder.emit_slice(&[0; 12])?;
+        first.emit(&mut encoder)?;
+        encoder.emit_slice(&[0, 1, 0, 1])?;
+        second.emit(&mut encoder)?;
+    }
+    Ok(bytes)
+}
+
+#[test]
+fn points_past_a_header(rt: HostRuntime) -> Result<(), Fail> {
+    let alloc = rt.alloc();
+    let bytes = asked_and_answered(alloc, b"\x01a\x01b\0", b"\x01c\x01b\0")?;
+    expect_part(
+        &rt,
+        bytes.get(12..),
+        b"\x01a\x01b\0\0\x01\0\x01\x01c\xC0\x0E",
+    );
+    let bytes = asked_and_answered(alloc, b"\x01a\0", b"\x01A\0")?;
+    expect_part(&rt, bytes.get(12..), b"\x01a\0\0\x01\0\x01\x01A\0");
+    Ok(())
+}
+
+/// `a.` at 12, and behind filling `z.a.` twice.
+fn written_far(alloc: Global, filling: usize) -> Result<Vec<u8>, Fail> {
+    let zone = name_of(alloc, b"\x01a\0")?;
+    let owner = name_of(alloc, b"\x01z\x01a\0")?;
+    let mut bytes = Vec::new(alloc);
+    {
+        let mut encoder = BinEncoder::new(&mut bytes);
+        encoder.emit_slice(&[0; 12])?;
+        zone.emit(&mut encoder)?;
+        for _ in 0..filling {
+            encoder.emit(0)?;
+        }
+        owner.emit(&mut encoder)?;
+        owner.emit(&mut encoder)?;
+    }
+    Ok(bytes)
+}
+
+#[test]
+fn owners_are_stored_near_the_start(rt: HostRuntime) -> Result<(), Fail> {
+    // the first owner begins at 0x83
+    let bytes = written_far(rt.alloc(), 116)?;
+    expect_part(&rt, bytes.get(0x83..), b"\x01z\xC0\x0C\xC0\x83");
+    // the first owner begins at 16,384
+    let bytes = written_far(rt.alloc(), 16369)?;
+    expect_part(&rt, bytes.get(16384..), b"\x01z\xC0\x0C\x01z\xC0\x0C");
+    Ok(())
+}
+
 fn has_label(name: &Name, i: usize, wanted: &[u8]) -> bool {
     match name.label(i) {
         Some(label) => label == wanted,

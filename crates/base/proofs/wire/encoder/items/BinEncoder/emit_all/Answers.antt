@@ -1,7 +1,8 @@
 use Rattle.std.proofs.Common.{◌≡◌, ◌<◌, ◌+◌, ℕ, length, length-append, Err, refl, ap, sym, ◌∙◌, subst, arith}
 use Rattle.base.specs.declared.error.proto_error.ProtoError.{ProtoError}
+use Rattle.base.specs.declared.error.proto_error.ProtoError.TheVariants as refusals
 use Rattle.base.specs.State.{State, cut}
-use Rattle.base.specs.Items.{EachWritten}
+use Rattle.base.specs.Items.{EachWritten, EmitsAll}
 use Rattle.base.specs.Wire.{state_of, Refuses}
 use Rattle.base.proofs.LawLemmas.{Keeps-then}
 use Rattle.base.proofs.ItemLemmas.{cut-Keeps, Each-keeps, Each-push, Each-valid}
@@ -24,17 +25,18 @@ returns-in-MaxBufferSizeExceeded g c =
     let is = subst (λ (s : State). EachWritten g.E.BinEncodable.word g.E.BinEncodable.plain_len g.E.BinEncodable.owner c.loop-item.yielded (state_of c.args.self.now) s) (sym rolled) each in
     let full : c.loop-item.self.limit < length c.loop-item.self.buffer.now.items + g.E.BinEncodable.plain_len c.in-Some.item =
     subst (λ (e : ProtoError). Refuses {X = ℕ} (g.E.BinEncodable.plain_len c.in-Some.item) (state_of c.loop-item.self) (Err e)) c.in-MaxBufferSizeExceeded.is c.in-Err.ensures.refuses in
+    let stopped : EmitsAll g.E.BinEncodable.word g.E.BinEncodable.plain_len g.E.BinEncodable.owner g.I.Iterator.next_gives c.args.items.now c.next.new.self (state_of c.args.self.now) (state_of c.roll_back.new.self) (Err (refusals.NotAllRecordsWritten c.loop-item.count)) = (
+      c.loop-item.yielded,
+      c.in-Some.item,
+      (c.loop-item.items, c.loop-item.yielded_by, c.in-Some.ensures.steps),
+      is,
+      c.loop-item.invariant.counted,
+      omega (arith, full, (Each-keeps g.E.BinEncodable.word g.E.BinEncodable.plain_len g.E.BinEncodable.owner _ _ _ each).limit, ap (λ (s : State). length s.bytes) rolled),
+    ) in
     record {
       keeps = Each-keeps g.E.BinEncodable.word g.E.BinEncodable.plain_len g.E.BinEncodable.owner _ _ _ is;
       valid = Each-valid g.E.BinEncodable.word g.E.BinEncodable.plain_len g.E.BinEncodable.owner _ _ _ is;
-      emits = (
-        c.loop-item.yielded,
-        c.in-Some.item,
-        (c.loop-item.items, c.loop-item.yielded_by, c.in-Some.ensures.steps),
-        is,
-        c.loop-item.invariant.counted,
-        omega (arith, full, (Each-keeps g.E.BinEncodable.word g.E.BinEncodable.plain_len g.E.BinEncodable.owner _ _ _ each).limit, ap (λ (s : State). length s.bytes) rolled),
-      );
+      emits = stopped;
     }
 
 pub returns-in_default-error-clause-keeps : goal.returns-in_default-error-clause-keeps

@@ -1,0 +1,67 @@
+-- What writing a message leaves, in an encoder's states.
+use Rattle.std.specs.Prelude.{◌≡◌, ℕ, Bool, ◌+◌, ◌≤◌, ◌<◌, ◌||◌, List, [], ◌++◌, length, replicate, Result, Ok, Err}
+use Rattle.std.specs.Option.{option_map}
+use Rattle.base.specs.Items.{EachWritten}
+use Rattle.base.specs.State.{State, appended, overwritten}
+use Rattle.base_data.specs.declared.rdata.RData.{RData}
+use Rattle.rr.specs.Record.{RecordWord, plain_record}
+use Rattle.rr.specs.declared.record.Record.{Record}
+use Rattle.op.specs.Cut.{NoRoom, any_lost, raised}
+use Rattle.op.specs.EdnsRecord.{edns_record}
+use Rattle.op.specs.Fits.{listed, signature_record}
+use Rattle.op.specs.Header.{header_bytes, raw_header}
+use Rattle.op.specs.Message.{MessageValue}
+use Rattle.op.specs.Query.{QueryWord, plain_query}
+use Rattle.op.specs.declared.header.Header.{Header}
+use Rattle.op.specs.declared.query.Query.{Query}
+
+-- Of the values a front was written: all that come before one that had no room.
+pub record WritesFront {E : Type 0} (word : E → List ℕ → ℕ → ℕ → Type 0) (plain : E → ℕ) (owner : E → List (List ℕ)) (xs : List E) (a b : State) (n : ℕ) (is_cut : Bool) : Type 0 where
+  pub kept : List E
+  pub lost : List E
+  pub whole : xs ≡ kept ++ lost
+  pub written : EachWritten word plain owner kept a b
+  pub counted : n ≡ length kept
+  pub tells : is_cut ≡ any_lost lost
+  pub full : NoRoom plain a.limit (length b.bytes) lost
+
+abbrev pub query_owner : Query → List (List ℕ)
+query_owner q = q.name.labels
+
+abbrev pub record_owner : Record RData → List (List ℕ)
+record_owner r = r.name.labels
+
+-- a front of these records was written
+abbrev pub WritesRecords : List (Record RData) → State → State → ℕ → Bool → Type 0
+WritesRecords = WritesFront RecordWord plain_record record_owner
+
+-- Room for the header was kept, the questions were all written and of each other part a front, and then the header was
+-- filled in.
+pub record Emitted (m : MessageValue) (old new : State) (h : Header) : Type 0 where
+  pub kept : State
+  pub first : State
+  pub second : State
+  pub third : State
+  pub fourth : State
+  pub fifth : State
+  pub sixth : State
+  pub answers_cut : Bool
+  pub authorities_cut : Bool
+  pub additionals_cut : Bool
+  pub edns_cut : Bool
+  pub signature_cut : Bool
+  pub additional_count : ℕ
+  pub edns_count : ℕ
+  pub signature_count : ℕ
+  pub place : kept ≡ appended (replicate 12 0) old
+  pub room : length kept.bytes ≤ old.limit
+  pub queries : EachWritten QueryWord plain_query query_owner m.queries kept first
+  pub answers : WritesRecords m.answers first second h.counts.answers answers_cut
+  pub authorities : WritesRecords m.authorities second third h.counts.authorities authorities_cut
+  pub additionals : WritesRecords m.additionals third fourth additional_count additionals_cut
+  pub edns : WritesRecords (listed (option_map edns_record (raised m))) fourth fifth edns_count edns_cut
+  pub signature : WritesRecords (listed (option_map signature_record m.signature)) fifth sixth signature_count signature_cut
+  pub query_count : h.counts.queries ≡ length m.queries
+  pub sum : h.counts.additionals ≡ additional_count + (edns_count + signature_count)
+  pub metadata : h.metadata ≡ record m.metadata { truncation = m.metadata.truncation || (answers_cut || (authorities_cut || (additionals_cut || (edns_cut || signature_cut)))) }
+  pub header : new ≡ overwritten (length old.bytes) (header_bytes (raw_header h)) sixth

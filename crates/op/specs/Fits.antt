@@ -1,0 +1,61 @@
+-- Messages that the wire can carry (RFC 1035, 4.1; RFC 2136, 2.4 and 2.5; RFC 6891, 6.1; RFC 8945, 5.1).
+use Rattle.std.specs.Prelude.{◌≡◌, ℕ, All, ◌+◌, ◌<◌, ◌≤◌, List, [], ◌∷◌, Option, Some, None, false}
+use Rattle.base_data.specs.declared.rdata.RData.{RData}
+use Rattle.base_data.specs.declared.rdata.RData.TheVariants as kinds
+use Rattle.rr.specs.Record.{FitsRecord, with_data}
+use Rattle.rr.specs.declared.record.Record.{Record}
+use Rattle.op.specs.Message.{MessageValue}
+use Rattle.op.specs.OpCode.{op_number, op_value}
+use Rattle.op.specs.Query.{FitsQuery, plain_query}
+use Rattle.op.specs.Section.{IsGiven, is_additional, is_opt, is_signature}
+use Rattle.op.specs.declared.edns.Edns.{Edns}
+use Rattle.op.specs.declared.op_code.OpCode.{OpCode}
+use Rattle.op.specs.declared.query.Query.{Query}
+
+-- a list of one or none
+abbrev pub listed : {X : Type 0} → Option X → List X
+listed None = []
+listed (Some x) = x ∷ []
+
+-- a signature's record as any record
+abbrev pub signature_record : Record (List ℕ) → Record RData
+signature_record r = with_data kinds.TSIG r
+
+-- A record of a section that fits: empty data stands in an Update, and types that stand among additionals alone elsewhere.
+pub record FitsPlain (op : OpCode) (r : Record RData) : Type 0 where
+  pub fits : FitsRecord r
+  pub given : IsGiven op r
+  pub placed : is_additional r ≡ false
+
+-- an additional record that fits: EDNS and signatures stand by themselves
+pub record FitsAdditional (op : OpCode) (r : Record RData) : Type 0 where
+  pub fits : FitsRecord r
+  pub given : IsGiven op r
+  pub not_opt : is_opt r ≡ false
+  pub not_signature : is_signature r ≡ false
+
+-- EDNS that fits: its payload size is read as it is, and its flags have no 16th bit
+pub record FitsEdns (e : Edns) : Type 0 where
+  pub payload : 512 ≤ e.max_payload
+  pub version : e.version < 256
+  pub z : e.flags.z < 32768
+
+-- A message that can stand on the wire and is read as it was, but for its code's high bits without EDNS.
+pub record Fits (m : MessageValue) : Type 0 where
+  pub op_code : op_number m.metadata.op_code < 16
+  pub op_code_reads : op_value (op_number m.metadata.op_code) ≡ m.metadata.op_code
+  pub queries : All FitsQuery m.queries
+  pub answers : All (FitsPlain m.metadata.op_code) m.answers
+  pub authorities : All (FitsPlain m.metadata.op_code) m.authorities
+  pub additionals : All (FitsAdditional m.metadata.op_code) m.additionals
+  pub edns : All FitsEdns (listed m.edns)
+  pub signature : All (λ r. FitsRecord (signature_record r)) (listed m.signature)
+
+-- the bytes of questions without compression
+abbrev pub plain_queries : List Query → ℕ
+plain_queries [] = 0
+plain_queries (q ∷ qs) = plain_query q + plain_queries qs
+
+-- room for the header and the questions
+abbrev pub HasRoom : MessageValue → ℕ → Type 0
+HasRoom m limit = 12 + plain_queries m.queries ≤ limit
