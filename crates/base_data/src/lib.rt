@@ -10,6 +10,8 @@ pub use rdata::{
 pub use record_data::RecordData;
 
 #[cfg(test)]
+mod kinds_tests;
+#[cfg(test)]
 mod order_tests;
 #[cfg(test)]
 mod rdata_tests;
