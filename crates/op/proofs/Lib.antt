@@ -7,6 +7,7 @@ pub mod QueryEquals
 pub mod QueryLemmas
 mod BufferLemmas
 mod MessageStands
+mod OwnerLemmas
 mod SectionLemmas
 mod SectionStands
 mod SectionWords
