@@ -3,18 +3,10 @@ use Rattle.std.proofs.Common.{◌≡◌, ℕ, ◌+◌, ◌*◌, ◌/◌, ◌%◌
 use Rattle.std.specs.Int.{w16, to_be_bytes, from_bool}
 use Rattle.base.specs.Words.{Stands}
 use Rattle.base.proofs.WordLemmas.{first_stands, number16_stands, stands_byte, stands_part}
-use Rattle.op.specs.Header.{IsRawHeaderAt, HeaderWord, RawHeader, bit_of, high_byte, low_byte, header_bytes, raw_header}
+use Rattle.op.specs.Header.{IsNarrow, IsRawHeaderAt, HeaderWord, RawHeader, bit_of, high_byte, low_byte, header_bytes, raw_header}
 use Rattle.op.specs.declared.header.Header.{Header}
 use Rattle.op.specs.declared.header.header_counts.HeaderCounts.{HeaderCounts}
 use Rattle.op.proofs.BitLemmas.{weighed_is, from_bool_small}
-
--- the numbers of a header have two bytes
-pub record IsNarrow (id : ℕ) (counts : HeaderCounts) : Type 0 where
-  pub identifier : id < 2 ^ 16
-  pub queries : counts.queries < 2 ^ 16
-  pub answers : counts.answers < 2 ^ 16
-  pub authorities : counts.authorities < 2 ^ 16
-  pub additionals : counts.additionals < 2 ^ 16
 
 bit_back : (b : Bool) (n w : ℕ) → n / w % 2 ≡ from_bool b → b ≡ bit_of w n
 bit_back true n w is = rw is refl

@@ -11,3 +11,4 @@ mod OwnerLemmas
 mod SectionLemmas
 mod SectionStands
 mod SectionWords
+mod WordsBack

@@ -9,7 +9,7 @@ use Rattle.rr.specs.declared.record.Record.{Record}
 use Rattle.op.specs.Cut.{NoRoom, any_lost, raised}
 use Rattle.op.specs.EdnsRecord.{edns_record}
 use Rattle.op.specs.Fits.{listed, signature_record}
-use Rattle.op.specs.Header.{header_bytes, raw_header}
+use Rattle.op.specs.Header.{IsNarrow, header_bytes, raw_header}
 use Rattle.op.specs.Message.{MessageValue}
 use Rattle.op.specs.Query.{QueryWord, plain_query}
 use Rattle.op.specs.declared.header.Header.{Header}
@@ -53,6 +53,7 @@ pub record Emitted (m : MessageValue) (old new : State) (h : Header) : Type 0 wh
   pub additional_count : ℕ
   pub edns_count : ℕ
   pub signature_count : ℕ
+  pub narrow : IsNarrow h.metadata.id h.counts
   pub place : kept ≡ appended (replicate 12 0) old
   pub room : length kept.bytes ≤ old.limit
   pub queries : EachWritten QueryWord plain_query query_owner m.queries kept first

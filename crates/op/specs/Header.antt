@@ -1,5 +1,5 @@
 -- The header word (RFC 1035, 4.1.1; AD and CD of RFC 4035, 3.1.6).
-use Rattle.std.specs.Prelude.{◌≡◌, ℕ, ◌+◌, ◌*◌, ◌/◌, ◌%◌, Bool, true, false, ◌||◌, ◌==◌, List, [], ◌∷◌, ◌++◌, Ok}
+use Rattle.std.specs.Prelude.{◌≡◌, ℕ, ◌<◌, ◌^◌, ◌+◌, ◌*◌, ◌/◌, ◌%◌, Bool, true, false, ◌||◌, ◌==◌, List, [], ◌∷◌, ◌++◌, Ok}
 use Rattle.std.specs.Int.{w16, to_be_bytes}
 use Rattle.std.specs.Ordering.{on, then_cmp}
 use Rattle.std.specs.declared.cmp.Ordering.{Ordering}
@@ -111,6 +111,14 @@ header_bytes r =
     to_be_bytes w16 r.id
     ++ (high_byte r.response r.opcode r.authoritative r.truncation r.recursion_desired ∷ low_byte r.recursion_available r.authentic_data r.checking_disabled r.code ∷ [])
     ++ to_be_bytes w16 r.counts.queries ++ to_be_bytes w16 r.counts.answers ++ to_be_bytes w16 r.counts.authorities ++ to_be_bytes w16 r.counts.additionals
+
+-- the numbers of a header have two bytes
+pub record IsNarrow (id : ℕ) (counts : HeaderCounts) : Type 0 where
+  pub identifier : id < 2 ^ 16
+  pub queries : counts.queries < 2 ^ 16
+  pub answers : counts.answers < 2 ^ 16
+  pub authorities : counts.authorities < 2 ^ 16
+  pub additionals : counts.additionals < 2 ^ 16
 
 -- a header word stands at i
 pub record IsHeaderAt (B : List ℕ) (i : ℕ) (h : Header) : Type 0 where

@@ -1,5 +1,6 @@
 use Rattle.std.proofs.Common.{arith}
-use Rattle.op.proofs.HeaderLemmas.{IsNarrow, header_stands}
+use Rattle.op.proofs.HeaderLemmas.{header_stands}
+use Rattle.op.specs.Header.{IsNarrow}
 use Rattle.op.proofs.header.Header.to_bytes.Goals as goal
 
 pub returns-clause-word : goal.returns-clause-word
