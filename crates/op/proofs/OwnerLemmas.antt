@@ -19,6 +19,9 @@ use Rattle.op.specs.Cut.{AreShort, IsShort, Owner, owners_by}
 abbrev pub Known : List Owner → State → Type 0
 Known os s = All (λ o. o.labels ≢ [] → o.start < 16384 → Any (λ t. t.labels ≡ o.labels) s.suffixes) os
 
+pub none_known : (s : State) → Known [] s
+none_known s = All-nil (λ o. o.labels ≢ [] → o.start < 16384 → Any (λ t. t.labels ≡ o.labels) s.suffixes)
+
 -- a last owner that is short behind each before it
 pub short_last : (os : List Owner) (o : Owner) → AreShort os → All (λ earlier. IsShort earlier o) os → AreShort (os ++ o ∷ [])
 short_last [] o short all = (All-nil (IsShort o), tt)
