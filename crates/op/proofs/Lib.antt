@@ -6,6 +6,7 @@ pub mod Orders
 pub mod QueryEquals
 pub mod QueryLemmas
 mod BufferLemmas
+mod CodeLemmas
 mod CutWords
 mod MessageStands
 mod OwnerLemmas
