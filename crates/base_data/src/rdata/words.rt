@@ -16,8 +16,8 @@ ghost use Rattle.base_data.specs.declared.rdata.RData.TheVariants as kinds;
 
 /// Reading data of a type and a length answers what stands there as data of the type and fills the length
 /// exactly, and nothing else; where none does, it refuses with `BadData` of the type. Strings that stand in
-/// bytes have up to 255 bytes each. And data that is
-/// readable, wherever its word stands, is read as the same data (RFC 1035, 3.3; RFC 3597, 3 and 4).
+/// bytes have up to 255 bytes each. Data that is readable is read as the same data wherever its word stands
+/// (RFC 1035, 3.3; RFC 3597, 3 and 4).
 pub fn reading_is_the_data_word()
     ensures word { (B : List ℕ) (i : ℕ) (type : RecordType) (len : ℕ) (d : RData) (e : ℕ) → (rdata_at type len B i ≡ Ok (d, e)) ↔ (IsDataAt B i type len d × (e ≡ i + len)) }
     ensures fault { (B : List ℕ) (i : ℕ) (type : RecordType) (len : ℕ) (f : DecodeError) → (rdata_at type len B i ≡ Err f) ↔ ((f ≡ faults.BadData type) × ((d : RData) → ¬ IsDataAt B i type len d)) }
