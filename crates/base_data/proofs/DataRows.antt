@@ -1,6 +1,8 @@
 -- What is read as data is what stands as data, by type and by kind.
-use Rattle.std.proofs.Common.{◌≡◌, ◌≢◌, ℕ, zero, suc, ◌+◌, ◌-◌, ◌<◌, ◌≤◌, ◌∷◌, Bool, true, false, cond, List, [], length, IsTrue, refl, ap, sym, ◌∙◌, subst, arith, length-append, Ok, Err}
-use Rattle.std.specs.Prelude.{◌↔◌, ◌==◌}
+use Rattle.std.proofs.Common.{◌≡◌, ◌≢◌, ◌++◌, ℕ, zero, suc, ◌+◌, ◌-◌, ◌<◌, ◌≤◌, ◌∷◌, Bool, true, false, cond, List, [], length, IsTrue, refl, ap, sym, ◌∙◌, subst, arith, length-append, drop, Ok, Err}
+use Rattle.std.proofs.lemmas.List.{drop_at}
+use Rattle.std.proofs.lemmas.List.Elements.{All-nil, All-head, All-tail, All-cons, All-take, All-drop}
+use Rattle.std.specs.Prelude.{All, ◌↔◌, ◌==◌}
 use Rattle.std.proofs.lemmas.Bool.{cond-false, eq-eqb, eqb-true, ne_eqb}
 use Rattle.std.proofs.lemmas.Slice.Eq.{bytes_eq-Decides}
 use Rattle.base.proofs.LabelLemmas.{labels_of-wire_of, wire_of-nil}
@@ -25,7 +27,7 @@ use Rattle.base_data.specs.DataAt.{IsDataAt, IsReadable, is_carried}
 use Rattle.base_data.specs.DataWord.{DataWord, plain_data}
 use Rattle.base_data.specs.OPT.{OptionValue, opt_at, options_word}
 use Rattle.base_data.specs.RData.{filling, kind_at, rdata_at, type_of_data}
-use Rattle.base_data.specs.TXT.{are_strings, txt_at}
+use Rattle.base_data.specs.TXT.{AreShort, are_strings, txt_at}
 use Rattle.base_data.specs.declared.rdata.RData.{RData}
 use Rattle.base_data.specs.declared.rdata.RData.TheVariants as kinds
 use Rattle.base_data.specs.declared.rdata.a.A.{A}
@@ -294,3 +296,18 @@ written_again old new d keeps writes readable B holds =
     data_again B i len d word readable ∙ ap (λ (e : ℕ). ok (d, e)) (sym end) where
       ok : RData × ℕ → Read RData
       ok z = Ok z
+
+-- strings in bytes are short
+short_in : (strings : List (List ℕ)) → All (λ b. b < 256) (wire_of strings) → AreShort strings
+unfolding wire_of
+short_in [] small = All-nil (λ string. length string ≤ 255)
+short_in (x ∷ xs) small =
+    let P : ℕ → Type 0 = λ b. b < 256 in
+    let first = All-head P (length x) (x ++ wire_of xs) small in
+    let behind = All-drop P (length x) (x ++ wire_of xs) (All-tail P (length x) (x ++ wire_of xs) small) in
+    All-cons (λ string. length string ≤ 255) x xs (omega (arith, first)) (short_in xs (subst (All P) (drop_at x (wire_of xs) (length x) refl) behind))
+
+pub short_strings : (B : List ℕ) (i len : ℕ) (strings : List (List ℕ)) → All (λ b. b < 256) B → IsDataAt B i types.TXT len (kinds.TXT strings) → AreShort strings
+short_strings B i len strings small at =
+    let P : ℕ → Type 0 = λ b. b < 256 in
+    short_in strings (subst (All P) at.word.0.is (All-take P (length (wire_of strings)) (drop i B) (All-drop P i B small)))

@@ -1,22 +1,27 @@
 //! Reading data is the word that data is written as.
 
-ghost use Rattle.std.specs.Prelude.{◌≡◌, ◌↔◌, ℕ, ◌+◌, ◌-◌, List, [], length, Ok, Err};
+ghost use Rattle.std.specs.Prelude.{◌≡◌, ◌↔◌, ℕ, ◌+◌, ◌-◌, ◌<◌, All, List, [], length, Ok, Err};
 ghost use Rattle.base.specs.Laws.{Holds, Keeps, Writes};
 ghost use Rattle.base.specs.State.{State};
 ghost use Rattle.base.specs.declared.error.decode_error.DecodeError.{DecodeError};
 ghost use Rattle.base.specs.declared.error.decode_error.DecodeError.TheVariants as faults;
 ghost use Rattle.base.specs.declared.record_type.RecordType.{RecordType};
+ghost use Rattle.base.specs.declared.record_type.RecordType.TheVariants as types;
 ghost use Rattle.base_data.specs.DataAt.{IsDataAt, IsReadable};
 ghost use Rattle.base_data.specs.DataWord.{DataWord, plain_data};
 ghost use Rattle.base_data.specs.RData.{rdata_at, type_of_data};
+ghost use Rattle.base_data.specs.TXT.{AreShort};
 ghost use Rattle.base_data.specs.declared.rdata.RData.{RData};
+ghost use Rattle.base_data.specs.declared.rdata.RData.TheVariants as kinds;
 
 /// Reading data of a type and a length answers what stands there as data of the type and fills the length
-/// exactly, and nothing else; where none does, it refuses with `BadData` of the type. And data that is
-/// readable, wherever its word stands, is read as the same data (RFC 1035, 3.3; RFC 3597, 3 and 4).
+/// exactly, and nothing else; where none does, it refuses with `BadData` of the type. Strings that stand in
+/// bytes have up to 255 bytes each. Data that is readable is read as the same data wherever its word stands
+/// (RFC 1035, 3.3; RFC 3597, 3 and 4).
 pub fn reading_is_the_data_word()
     ensures word { (B : List ℕ) (i : ℕ) (type : RecordType) (len : ℕ) (d : RData) (e : ℕ) → (rdata_at type len B i ≡ Ok (d, e)) ↔ (IsDataAt B i type len d × (e ≡ i + len)) }
     ensures fault { (B : List ℕ) (i : ℕ) (type : RecordType) (len : ℕ) (f : DecodeError) → (rdata_at type len B i ≡ Err f) ↔ ((f ≡ faults.BadData type) × ((d : RData) → ¬ IsDataAt B i type len d)) }
+    ensures short { (B : List ℕ) (i len : ℕ) (strings : List (List ℕ)) → All (λ b. b < 256) B → IsDataAt B i types.TXT len (kinds.TXT strings) → AreShort strings }
     ensures written { (B : List ℕ) (i len : ℕ) (d : RData) → DataWord d B i (i + len) → IsReadable d → rdata_at (type_of_data d) len B i ≡ Ok (d, i + len) }
 {}
 
