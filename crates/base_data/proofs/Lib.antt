@@ -1,6 +1,7 @@
 pub mod AddressLemmas
 pub mod BytesRead
 pub mod DataLemmas
+pub mod KindOrderLemmas
 pub mod NameDataLemmas
 pub mod OptionLemmas
 pub mod OptionTexts
