@@ -1,5 +1,5 @@
 -- Comparing the bytes of the canonical form of data is comparing its fields.
-use Rattle.std.proofs.Common.{◌≡◌, ◌≤◌, ℕ, ◌+◌, ◌*◌, ◌/◌, ◌%◌, ◌<◌, ◌^◌, List, [], ◌∷◌, ◌++◌, length, refl, ap, sym, ◌∙◌, arith}
+use Rattle.std.proofs.Common.{◌≡◌, ℕ, ◌+◌, ◌*◌, ◌/◌, ◌%◌, ◌<◌, ◌^◌, List, [], ◌∷◌, ◌++◌, length, refl, ap, sym, ◌∙◌, arith}
 use Rattle.std.proofs.Math.Nat.{suc_inj}
 use Rattle.std.proofs.lemmas.List.{append_assoc}
 use Rattle.std.proofs.lemmas.List.Elements.{All-head, All-tail}
@@ -29,7 +29,7 @@ use Rattle.base_data.specs.declared.rdata.ns.NS.{NS}
 use Rattle.base_data.specs.declared.rdata.ptr.PTR.{PTR}
 use Rattle.base_data.specs.declared.rdata.soa.SOA.{SOA}
 use Rattle.base_data.specs.declared.rdata.srv.SRV.{SRV}
-use Rattle.base_data.specs.OPT.{FitsOption, OptionValue, edns_cmp, opt_cmp, options_wire}
+use Rattle.base_data.specs.OPT.{FitsOption, OptionValue, opt_cmp, options_wire}
 use Rattle.base_data.specs.Opaque.{bytes_cmp}
 use Rattle.base_data.proofs.OrderLemmas.{AreLabels-folded, joined, regrouped}
 
