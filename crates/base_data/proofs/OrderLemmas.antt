@@ -1,5 +1,5 @@
 -- What the bytes of the canonical form of data tell of its fields.
-use Rattle.std.proofs.Common.{◌≡◌, ◌≤◌, ℕ, ◌+◌, ◌<◌, ◌^◌, List, [], ◌∷◌, ◌++◌, length, take, drop, map, get_or, refl, ap, sym, subst, ◌∙◌, arith}
+use Rattle.std.proofs.Common.{◌≡◌, ◌≤◌, ℕ, ◌<◌, ◌^◌, List, [], ◌∷◌, ◌++◌, length, take, drop, get_or, refl, ap, sym, ◌∙◌, arith}
 use Rattle.std.proofs.Math.Seq.{take-append_seam}
 use Rattle.std.proofs.lemmas.Bool.{true≢false}
 use Rattle.std.proofs.lemmas.List.{append_assoc, append_cancel_left, append_cancel_right, length-map}
@@ -44,7 +44,7 @@ long_same : (m n : ℕ) → m < 2 ^ 32 → n < 2 ^ 32 → to_be_bytes w32 m ≡ 
 long_same m n p q e = sym (from_be_bytes-to_be_bytes_4 m p) ∙ ap (from_be_bytes w32) e ∙ from_be_bytes-to_be_bytes_4 n q
 
 -- labels behind which a zero byte stands
-labels_first : (xs ys : List (List ℕ)) (s t : List ℕ) → AreLabels xs → AreLabels ys → wire_of xs ++ 0 ∷ s ≡ wire_of ys ++ 0 ∷ t → (wire_of xs ≡ wire_of ys) × (s ≡ t)
+pub labels_first : (xs ys : List (List ℕ)) (s t : List ℕ) → AreLabels xs → AreLabels ys → wire_of xs ++ 0 ∷ s ≡ wire_of ys ++ 0 ∷ t → (wire_of xs ≡ wire_of ys) × (s ≡ t)
 unfolding wire_of
 labels_first [] [] s t a b e = (refl, ap (drop 1) e)
 labels_first [] (y ∷ ys) s t a b e =
@@ -64,7 +64,7 @@ labels_first (x ∷ xs) (y ∷ ys) s t a b e =
     (λ i. (long i ∷ parts.0 i) ++ others.0 i, others.1)
 
 -- labels in lower case are labels
-AreLabels-folded : (labels : List (List ℕ)) → AreLabels labels → AreLabels (folded_labels labels)
+pub AreLabels-folded : (labels : List (List ℕ)) → AreLabels labels → AreLabels (folded_labels labels)
 AreLabels-folded [] a = tt
 AreLabels-folded (label ∷ labels) a = (
   record {
@@ -106,14 +106,14 @@ options_same (x ∷ xs) (y ∷ ys) p q e =
     λ i. first i ∷ others i
 
 -- two names, and numbers behind them
-joined : (m r a b c d e : List ℕ) → m ++ r ++ a ++ b ++ c ++ d ++ e ≡ m ++ (r ++ (a ++ b ++ c ++ d ++ e))
+pub joined : (m r a b c d e : List ℕ) → m ++ r ++ a ++ b ++ c ++ d ++ e ≡ m ++ (r ++ (a ++ b ++ c ++ d ++ e))
 joined m r a b c d e =
     ap (λ (xs : List ℕ). xs ++ e) (ap (λ (xs : List ℕ). xs ++ d) (ap (λ (xs : List ℕ). xs ++ c) (append_assoc (m ++ r) a b) ∙ append_assoc (m ++ r) (a ++ b) c)
     ∙ append_assoc (m ++ r) (a ++ b ++ c) d)
     ∙ append_assoc (m ++ r) (a ++ b ++ c ++ d) e ∙ append_assoc m r (a ++ b ++ c ++ d ++ e)
 
 -- the last two of three comparisons put together
-regrouped : (p q r : Ordering) → ordering_then (ordering_then p q) r ≡ ordering_then p (ordering_then q r)
+pub regrouped : (p q r : Ordering) → ordering_then (ordering_then p q) r ≡ ordering_then p (ordering_then q r)
 regrouped Less q r = refl
 regrouped Equal q r = refl
 regrouped Greater q r = refl
@@ -126,7 +126,7 @@ single a b e = ap (λ (o : Ordering). ordering_then (ordering_then o (bool_cmp a
 mx_level : (x y : MX) → FitsTypes (kinds.MX x) → FitsTypes (kinds.MX y) → canonical_data (kinds.MX x) ≡ canonical_data (kinds.MX y)
     → own_cmp (kinds.MX x) (kinds.MX y) ≡ slice_cmp bool_cmp (name_flags (kinds.MX x)) (name_flags (kinds.MX y))
 mx_level x y p q e =
-    let preference = number_level x.preference y.preference (word_same x.preference y.preference p q (ap (take 2) e)) in
+    let preference = number_level x.preference y.preference (word_same x.preference y.preference p.0 q.0 (ap (take 2) e)) in
     let exchange = name_level x.exchange y.exchange (ap (drop 2) e) in
     λ i. ordering_then (ordering_then (ordering_then (preference i) (exchange i)) (bool_cmp x.exchange.absolute y.exchange.absolute)) Equal
 

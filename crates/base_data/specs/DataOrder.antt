@@ -109,12 +109,16 @@ abbrev pub parts_cmp : RData → RData → Ordering
 parts_cmp =
     then_cmp (on canonical_data bytes_cmp) (then_cmp (on type_of_data type_cmp) (then_cmp (on kind_rank nat_cmp) (on name_flags (slice_cmp bool_cmp))))
 
--- what a value of the program's types is: its numbers have their widths, its labels have 1 to 63 bytes, its options up to 65,535
+-- data as the program's types hold it: numbers have their widths, labels 1 to 63 bytes, options up to 65,535
 abbrev pub FitsTypes : RData → Type 0
-FitsTypes (kinds.MX x) = x.preference < 2 ^ 16
-FitsTypes (kinds.SRV x) = (x.priority < 2 ^ 16) × (x.weight < 2 ^ 16) × (x.port < 2 ^ 16)
+FitsTypes (kinds.NS x) = AreLabels x.name.labels
+FitsTypes (kinds.CNAME x) = AreLabels x.name.labels
+FitsTypes (kinds.PTR x) = AreLabels x.name.labels
+FitsTypes (kinds.ANAME x) = AreLabels x.name.labels
+FitsTypes (kinds.MX x) = (x.preference < 2 ^ 16) × AreLabels x.exchange.labels
 FitsTypes (kinds.SOA x) =
     AreLabels x.mname.labels × AreLabels x.rname.labels
     × (x.serial < 2 ^ 32) × (x.refresh < 2 ^ 32) × (x.retry < 2 ^ 32) × (x.expire < 2 ^ 32) × (x.minimum < 2 ^ 32)
+FitsTypes (kinds.SRV x) = (x.priority < 2 ^ 16) × (x.weight < 2 ^ 16) × (x.port < 2 ^ 16) × AreLabels x.target.labels
 FitsTypes (kinds.OPT x) = All FitsOption x
 FitsTypes _ = Unit {0}

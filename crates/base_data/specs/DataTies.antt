@@ -1,24 +1,23 @@
 -- The order of record data tells apart exactly the data that is not equal.
-use Rattle.std.specs.Prelude.{◌≡◌, ℕ, Bool, true, false, ◌&&◌, List, [], ◌∷◌, ◌++◌}
+use Rattle.std.specs.Prelude.{◌≡◌, ℕ, Bool, false, ◌&&◌, List, [], ◌∷◌, ◌++◌}
 use Rattle.std.proofs.Common.{refl, ap, sym, subst, ◌∙◌}
 use Rattle.std.proofs.lemmas.Bool.{true≢false}
-use Rattle.std.specs.Bool.{Decides, one_answer}
-use Rattle.std.specs.Cmp.{Equal-is, both_ways, first_so, second_so, tied_itself, tied_then, unsigned_Decides, unsigned_ties}
-use Rattle.std.specs.Cmp.Lexicographic.{bytes_decides, pointwise, pointwise_decides, texts_ties}
+use Rattle.std.specs.Cmp.{Equal-is, first_so, second_so, tied_itself, tied_then, unsigned_Decides, unsigned_ties}
+use Rattle.std.specs.Cmp.Lexicographic.{bytes_decides, texts_ties}
 use Rattle.std.specs.Int.{w16, w32, to_be_bytes}
-use Rattle.std.specs.Ordering.{eq_by_cmp, is_eq, nat_cmp, on, ordering_then}
+use Rattle.std.specs.Ordering.{is_eq, nat_cmp, ordering_then}
 use Rattle.std.specs.declared.cmp.Ordering.{Ordering}
 use Rattle.std.specs.declared.cmp.Ordering.TheVariants.{Less, Equal, Greater}
 use Rattle.base.specs.Labels.{NameValue, wire_of}
 use Rattle.base.specs.NameOrder.{canonical_cmp, canonical_name}
 use Rattle.base.specs.Keys.{keys_match}
-use Rattle.base.specs.RecordType.{same_type, type_cmp, type_number, type_rank}
+use Rattle.base.specs.RecordType.{type_cmp, type_number, type_rank}
 use Rattle.base_data.specs.DataOrder.{canonical_data, data_cmp, kind_rank, name_octets, own_cmp}
 use Rattle.base_data.specs.MX.{mx_cmp}
 use Rattle.base_data.specs.SOA.{soa_cmp}
 use Rattle.base_data.specs.SRV.{srv_cmp}
-use Rattle.base_data.specs.OPT.{options_decide, OptionValue, opt_cmp, options_wire, same_option, same_options, same_options-tie}
-use Rattle.base_data.specs.Opaque.{bytes_cmp, bytes_cmp-total, same_bytes, same_bytes-tie}
+use Rattle.base_data.specs.OPT.{options_decide, OptionValue, opt_cmp, options_wire, same_options-tie}
+use Rattle.base_data.specs.Opaque.{bytes_cmp, bytes_cmp-total, same_bytes-tie}
 use Rattle.base_data.specs.RData.{type_of_data}
 use Rattle.base_data.specs.contracts.rdata.RDataPartialEq.TheImpl.{ghosts as equality}
 use Rattle.base_data.specs.declared.rdata.RData.{RData}

@@ -3,13 +3,20 @@
 ghost use Rattle.std.specs.Prelude.{◌≡◌, ◌↔◌, ℕ, List, IsTrue};
 ghost use Rattle.base.specs.NameOrder.{same_name};
 ghost use Rattle.base_data.specs.DataOrder.{FitsTypes, parts_cmp};
+ghost use Rattle.base_data.specs.OPT.{OptionValue};
+ghost use Rattle.base_data.specs.declared.rdata.RData.TheVariants as kinds;
 ghost use Rattle.base_data.specs.declared.rdata.RData.{RData as AnyData};
+ghost use Rattle.base_data.specs.declared.rdata.a.A.{A as AddressData};
+ghost use Rattle.base_data.specs.declared.rdata.aaaa.AAAA.{AAAA as LongAddress};
 ghost use Rattle.base_data.specs.declared.rdata.aname.ANAME.{ANAME as Aname};
 ghost use Rattle.base_data.specs.declared.rdata.cname.CNAME.{CNAME as Cname};
+ghost use Rattle.base_data.specs.declared.rdata.mx.MX.{MX as Mx};
 ghost use Rattle.base_data.specs.declared.rdata.ns.NS.{NS as Ns};
 ghost use Rattle.base_data.specs.declared.rdata.ptr.PTR.{PTR as Ptr};
+ghost use Rattle.base_data.specs.declared.rdata.soa.SOA.{SOA as Soa};
+ghost use Rattle.base_data.specs.declared.rdata.srv.SRV.{SRV as Srv};
 
-use crate::rdata::{ANAME, CNAME, NS, NULL, PTR, RData, TSIG};
+use crate::rdata::{A, AAAA, ANAME, CNAME, MX, NS, NULL, OPT, PTR, RData, SOA, SRV, TSIG, TXT};
 use std::cmp::Ordering;
 
 /// Data that is a name is equal exactly where the names are (RFC 4343, 3).
@@ -31,4 +38,21 @@ pub fn bytes_are_equal_as_they_are()
 pub fn data_order()
     ensures ties { (a b : AnyData) → (⟦<RData as Ord>⟧.cmp a b ≡ Ordering.Equal) ↔ IsTrue (⟦<RData as PartialEq>⟧.eq a b) }
     ensures parts { (a b : AnyData) → FitsTypes a → FitsTypes b → ⟦<RData as Ord>⟧.cmp a b ≡ parts_cmp a b }
+{}
+
+/// The own order of each kind is that of its data as the data of any record.
+pub fn kinds_are_ordered_as_data()
+    ensures a { (a b : AddressData) → ⟦<RData as Ord>⟧.cmp (kinds.A a) (kinds.A b) ≡ ⟦<A as Ord>⟧.cmp a b }
+    ensures aaaa { (a b : LongAddress) → ⟦<RData as Ord>⟧.cmp (kinds.AAAA a) (kinds.AAAA b) ≡ ⟦<AAAA as Ord>⟧.cmp a b }
+    ensures ns { (a b : Ns) → FitsTypes (kinds.NS a) → FitsTypes (kinds.NS b) → ⟦<RData as Ord>⟧.cmp (kinds.NS a) (kinds.NS b) ≡ ⟦<NS as Ord>⟧.cmp a b }
+    ensures cname { (a b : Cname) → FitsTypes (kinds.CNAME a) → FitsTypes (kinds.CNAME b) → ⟦<RData as Ord>⟧.cmp (kinds.CNAME a) (kinds.CNAME b) ≡ ⟦<CNAME as Ord>⟧.cmp a b }
+    ensures ptr { (a b : Ptr) → FitsTypes (kinds.PTR a) → FitsTypes (kinds.PTR b) → ⟦<RData as Ord>⟧.cmp (kinds.PTR a) (kinds.PTR b) ≡ ⟦<PTR as Ord>⟧.cmp a b }
+    ensures aname { (a b : Aname) → FitsTypes (kinds.ANAME a) → FitsTypes (kinds.ANAME b) → ⟦<RData as Ord>⟧.cmp (kinds.ANAME a) (kinds.ANAME b) ≡ ⟦<ANAME as Ord>⟧.cmp a b }
+    ensures mx { (a b : Mx) → FitsTypes (kinds.MX a) → FitsTypes (kinds.MX b) → ⟦<RData as Ord>⟧.cmp (kinds.MX a) (kinds.MX b) ≡ ⟦<MX as Ord>⟧.cmp a b }
+    ensures soa { (a b : Soa) → FitsTypes (kinds.SOA a) → FitsTypes (kinds.SOA b) → ⟦<RData as Ord>⟧.cmp (kinds.SOA a) (kinds.SOA b) ≡ ⟦<SOA as Ord>⟧.cmp a b }
+    ensures srv { (a b : Srv) → FitsTypes (kinds.SRV a) → FitsTypes (kinds.SRV b) → ⟦<RData as Ord>⟧.cmp (kinds.SRV a) (kinds.SRV b) ≡ ⟦<SRV as Ord>⟧.cmp a b }
+    ensures txt { (a b : List (List ℕ)) → ⟦<RData as Ord>⟧.cmp (kinds.TXT a) (kinds.TXT b) ≡ ⟦<TXT as Ord>⟧.cmp a b }
+    ensures null { (a b : List ℕ) → ⟦<RData as Ord>⟧.cmp (kinds.NULL a) (kinds.NULL b) ≡ ⟦<NULL as Ord>⟧.cmp a b }
+    ensures opt { (a b : List OptionValue) → FitsTypes (kinds.OPT a) → FitsTypes (kinds.OPT b) → ⟦<RData as Ord>⟧.cmp (kinds.OPT a) (kinds.OPT b) ≡ ⟦<OPT as Ord>⟧.cmp a b }
+    ensures tsig { (a b : List ℕ) → ⟦<RData as Ord>⟧.cmp (kinds.TSIG a) (kinds.TSIG b) ≡ ⟦<TSIG as Ord>⟧.cmp a b }
 {}

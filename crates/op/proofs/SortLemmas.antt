@@ -1,0 +1,159 @@
+-- The additional records of a message that was written: its own, then EDNS, then the signature.
+use Rattle.std.proofs.Common.{◌≡◌, ℕ, ◌+◌, ◌<◌, ◌≤◌, Bool, true, false, cond, List, [], ◌∷◌, ◌++◌, length, refl, ap, sym, ◌∙◌, subst, arith, Option, Some, None, length-append}
+use Rattle.std.specs.Prelude.{All, ◌||◌, not, filter, find}
+use Rattle.std.specs.Option.{option_map, option_or}
+use Rattle.std.proofs.lemmas.List.{append-nil}
+use Rattle.std.proofs.lemmas.List.Elements.{All-append, All-cons, All-nil, All-tail, filter-append}
+use Rattle.std.proofs.lemmas.List.Folds.{find-append}
+use Rattle.base_data.specs.OPT.{OptionValue}
+use Rattle.base_data.specs.RData.{is_empty_data, type_of_data}
+use Rattle.base_data.specs.declared.rdata.RData.{RData}
+use Rattle.rr.specs.Record.{is_opt_type}
+use Rattle.rr.specs.declared.record.Record.{Record}
+use Rattle.op.specs.EdnsRecord.{edns_record, opt_data}
+use Rattle.op.specs.Fits.{FitsAdditional, FitsEdns, listed, signature_record}
+use Rattle.op.specs.Section.{AtMostOneOpt, EndsWithSignature, IsGiven, edns_of, is_opt, is_ordinary, is_signature, is_signature_data, is_update, section_of, signature_of}
+use Rattle.op.specs.declared.edns.Edns.{Edns}
+use Rattle.op.specs.declared.op_code.OpCode.{OpCode}
+use Rattle.op.proofs.WordsBack.{edns_back, opt_typed, signature_back}
+
+-- ---- one or none
+
+-- a front of a list of one or none, seen by a function
+pub record OneFront {X Y : Type 0} (f : X → Y) (o : Option X) (kept lost : List Y) : Type 0 where
+  pub some : Option X
+  pub rest : List X
+  pub kept_is : kept ≡ listed (option_map f some)
+  pub front : listed o ≡ listed some ++ rest
+
+pub one_front : {X Y : Type 0} (f : X → Y) (o : Option X) (kept lost : List Y) → listed (option_map f o) ≡ kept ++ lost → OneFront f o kept lost
+one_front f None [] lost whole = record { some = None; rest = []; kept_is = refl; front = refl }
+one_front f None (y ∷ kept) lost whole = cc
+one_front f (Some x) [] lost whole = record { some = None; rest = x ∷ []; kept_is = refl; front = refl }
+one_front f (Some x) (y ∷ kept) lost whole = record { some = Some x; rest = []; kept_is = ?; front = refl }
+
+-- ---- what the records are together
+
+differ : true ≡ false → ⊥
+differ is = cc
+
+filter_all : {X : Type 0} (p : X → Bool) (xs : List X) → All (λ x. p x ≡ true) xs → filter p xs ≡ xs
+filter_all p [] all = refl
+filter_all p (x ∷ xs) all = rw (all 0 x (omega arith)) (ap (λ ys. x ∷ ys) (filter_all p xs (All-tail (λ y. p y ≡ true) x xs all)))
+
+filter_none : {X : Type 0} (p : X → Bool) (xs : List X) → All (λ x. p x ≡ false) xs → filter p xs ≡ []
+filter_none p [] all = refl
+filter_none p (x ∷ xs) all = rw (all 0 x (omega arith)) (filter_none p xs (All-tail (λ y. p y ≡ false) x xs all))
+
+find_none : {X : Type 0} (p : X → Bool) (xs : List X) → All (λ x. p x ≡ false) xs → find p xs ≡ None
+find_none p [] all = refl
+find_none p (x ∷ xs) all = rw (all 0 x (omega arith)) (find_none p xs (All-tail (λ y. p y ≡ false) x xs all))
+
+unsigned_data : (os : List OptionValue) → is_signature_data (opt_data os) ≡ false
+unsigned_data [] = refl
+unsigned_data (o ∷ os) = refl
+
+opt_unsigned : (e : Edns) → is_signature (edns_record e) ≡ false
+opt_unsigned e = unsigned_data e.options
+
+opt_is_opt : (e : Edns) → is_opt (edns_record e) ≡ true
+opt_is_opt e = opt_typed e.options
+
+abbrev pub tail : Option Edns → Option (Record (List ℕ)) → List (Record RData)
+tail edns signature = listed (option_map edns_record edns) ++ listed (option_map signature_record signature)
+
+module _ (ds : List (Record RData)) (op : OpCode) (fits : All (FitsAdditional op) ds) where
+  no_opts : All (λ r. is_opt r ≡ false) ds
+  no_opts = λ k d below. (fits k d below).not_opt
+
+  no_signatures : All (λ r. is_signature r ≡ false) ds
+  no_signatures = λ k d below. (fits k d below).not_signature
+
+  ordinary : (o g : Bool) → o ≡ false → g ≡ false → not (o || g) ≡ true
+  ordinary o g is isnt = rw (is, isnt) refl
+
+  ordinaries : All (λ r. is_ordinary r ≡ true) ds
+  ordinaries = λ k d below. ordinary _ _ (fits k d below).not_opt (fits k d below).not_signature
+
+  rest_ordinary : (edns : Option Edns) (signature : Option (Record (List ℕ))) → filter is_ordinary (tail edns signature) ≡ []
+  rest_ordinary None None = refl
+  rest_ordinary None (Some s) = refl
+  rest_ordinary (Some e) None = rw (opt_is_opt e) refl
+  rest_ordinary (Some e) (Some s) = rw (opt_is_opt e) refl
+
+  rest_opt : (edns : Option Edns) (signature : Option (Record (List ℕ))) → find is_opt (tail edns signature) ≡ option_map edns_record edns
+  rest_opt None None = refl
+  rest_opt None (Some s) = refl
+  rest_opt (Some e) None = rw (opt_is_opt e) refl
+  rest_opt (Some e) (Some s) = rw (opt_is_opt e) refl
+
+  rest_signature : (edns : Option Edns) (signature : Option (Record (List ℕ))) → find is_signature (tail edns signature) ≡ option_map signature_record signature
+  rest_signature None None = refl
+  rest_signature None (Some s) = refl
+  rest_signature (Some e) None = rw (opt_unsigned e) refl
+  rest_signature (Some e) (Some s) = rw (opt_unsigned e) refl
+
+  edns_kept : (edns : Option Edns) → All FitsEdns (listed edns) → option_map edns_of (option_map edns_record edns) ≡ edns
+  edns_kept None fits_edns = refl
+  edns_kept (Some e) fits_edns = ap Some (edns_back e (fits_edns 0 e (omega arith)))
+
+  signature_kept : (signature : Option (Record (List ℕ))) → option_map signature_of (option_map signature_record signature) ≡ signature
+  signature_kept None = refl
+  signature_kept (Some s) = refl
+
+  pub sorted_records : (edns : Option Edns) (signature : Option (Record (List ℕ))) → (section_of (ds ++ tail edns signature)).records ≡ ds
+  sorted_records edns signature = filter-append is_ordinary ds (tail edns signature) ∙ ap (λ xs. filter is_ordinary ds ++ xs) (rest_ordinary edns signature) ∙ append-nil (filter is_ordinary ds) ∙ filter_all is_ordinary ds ordinaries
+
+  found : {p : Record RData → Bool} (t : List (Record RData)) → All (λ r. p r ≡ false) ds → find p (ds ++ t) ≡ find p t
+  found {p = p} t none = find-append p ds t ∙ ap (λ o. option_or o (find p t)) (find_none p ds none)
+
+  pub sorted_edns : (edns : Option Edns) (signature : Option (Record (List ℕ))) → All FitsEdns (listed edns) → (section_of (ds ++ tail edns signature)).edns ≡ edns
+  sorted_edns edns signature fits_edns = ap (option_map edns_of) (found (tail edns signature) no_opts ∙ rest_opt edns signature) ∙ edns_kept edns fits_edns
+
+  pub sorted_signature : (edns : Option Edns) (signature : Option (Record (List ℕ))) → (section_of (ds ++ tail edns signature)).signature ≡ signature
+  sorted_signature edns signature = ap (option_map signature_of) (found (tail edns signature) no_signatures ∙ rest_signature edns signature) ∙ signature_kept signature
+
+  -- ---- the tests on them
+
+  either : (b : Bool) → (b || true) ≡ true
+  either true = refl
+  either false = refl
+
+  edns_given : (e : Edns) → IsGiven op (edns_record e)
+  edns_given e empty = rw (opt_is_opt e) (either (is_update op))
+
+  signature_given : (s : Record (List ℕ)) → IsGiven op (signature_record s)
+  signature_given s empty = absurd (differ (sym empty))
+
+  rest_given : (edns : Option Edns) (signature : Option (Record (List ℕ))) → All (IsGiven op) (tail edns signature)
+  rest_given None None = All-nil (IsGiven op)
+  rest_given None (Some s) = All-cons (IsGiven op) (signature_record s) [] (signature_given s) (All-nil (IsGiven op))
+  rest_given (Some e) None = All-cons (IsGiven op) (edns_record e) [] (edns_given e) (All-nil (IsGiven op))
+  rest_given (Some e) (Some s) = All-cons (IsGiven op) (edns_record e) (signature_record s ∷ []) (edns_given e) (All-cons (IsGiven op) (signature_record s) [] (signature_given s) (All-nil (IsGiven op)))
+
+  pub all_given : (edns : Option Edns) (signature : Option (Record (List ℕ))) → All (IsGiven op) (ds ++ tail edns signature)
+  all_given edns signature = All-append (IsGiven op) ds (tail edns signature) (λ k d below. (fits k d below).given) (rest_given edns signature)
+
+  rest_ends : (edns : Option Edns) (signature : Option (Record (List ℕ))) → EndsWithSignature (tail edns signature)
+  rest_ends None None = tt
+  rest_ends None (Some s) = (λ _. refl, tt)
+  rest_ends (Some e) None = (λ _. refl, tt)
+  rest_ends (Some e) (Some s) = (λ is. absurd (differ (sym is ∙ opt_unsigned e)), (λ _. refl, tt))
+
+  ends_behind : (xs t : List (Record RData)) → All (λ r. is_signature r ≡ false) xs → EndsWithSignature t → EndsWithSignature (xs ++ t)
+  ends_behind [] t none ends = ends
+  ends_behind (x ∷ xs) t none ends = (λ is. absurd (differ (sym is ∙ none 0 x (omega arith))), ends_behind xs t (All-tail (λ r. is_signature r ≡ false) x xs none) ends)
+
+  pub all_end : (edns : Option Edns) (signature : Option (Record (List ℕ))) → EndsWithSignature (ds ++ tail edns signature)
+  all_end edns signature = ends_behind ds (tail edns signature) no_signatures (rest_ends edns signature)
+
+  rest_one : (edns : Option Edns) (signature : Option (Record (List ℕ))) → AtMostOneOpt (tail edns signature)
+  rest_one None None = omega arith
+  rest_one None (Some s) = omega arith
+  rest_one (Some e) None = rw (opt_is_opt e) (omega arith)
+  rest_one (Some e) (Some s) = rw (opt_is_opt e) (omega arith)
+
+  pub one_opt : (edns : Option Edns) (signature : Option (Record (List ℕ))) → AtMostOneOpt (ds ++ tail edns signature)
+  one_opt edns signature =
+      let same : filter is_opt (ds ++ tail edns signature) ≡ filter is_opt (tail edns signature) = filter-append is_opt ds (tail edns signature) ∙ ap (λ xs. xs ++ filter is_opt (tail edns signature)) (filter_none is_opt ds no_opts) in
+      subst (λ (xs : List (Record RData)). length xs ≤ 1) (sym same) (rest_one edns signature)
