@@ -1,15 +1,18 @@
 //! Laws of records.
 
 ghost use Rattle.std.specs.Prelude.{◌≡◌, ◌+◌, ◌↔◌, ℕ, List, Ok, Err, IsTrue};
-ghost use Rattle.std.specs.Cmp.{IsEquivalence};
+ghost use Rattle.std.specs.Cmp.{IsEquivalence, IsTotalOrder};
 ghost use Rattle.base.specs.NameOrder.{same_name};
 ghost use Rattle.base.specs.declared.error.decode_error.DecodeError.{DecodeError};
+ghost use Rattle.base_data.specs.RData.{type_of_data};
 ghost use Rattle.base_data.specs.declared.rdata.RData.{RData};
 ghost use Rattle.rr.specs.Record.{FitsRecord, IsReadableRecord, IsRecordAt, IsRecordFault, RecordWord, decremented, raw_record, record_at, record_value};
+ghost use Rattle.rr.specs.RecordOrder.{record_cmp};
 ghost use Rattle.rr.specs.declared.record.Record.{Record as Entry};
 
 use crate::record::Record;
 use base_data::{RData, RecordData};
+use std::cmp::Ordering;
 
 /// Reading a record is the record word, and refuses with its first fault (RFC 1035, 4.1.3). A readable record that was
 /// written is read as the record of its fields: the name is absolute, the class is masked, and that of an OPT record
@@ -27,6 +30,15 @@ pub fn equal_records<R: RecordData>()
     ensures equal { (a b : Entry R) → IsTrue (⟦<Record<R> as PartialEq>⟧.eq a b)
         ↔ (IsTrue (same_name a.name b.name) × (a.dns_class ≡ b.dns_class) × IsTrue (R.eq a.rdata b.rdata)) }
     ensures equivalence { IsEquivalence ⟦<Record<R> as PartialEq>⟧.eq }
+{}
+
+/// The canonical order of records is total, and ties exactly records with the same name, letters folded, type, class and
+/// TTL, and equal data.
+pub fn canonical_order()
+    ensures total { IsTotalOrder record_cmp }
+    ensures ties { (a b : Entry RData) → (record_cmp a b ≡ Ordering.Equal)
+        ↔ (IsTrue (same_name a.name b.name) × (type_of_data a.rdata ≡ type_of_data b.rdata) × (a.dns_class ≡ b.dns_class) × (a.ttl ≡ b.ttl)
+        × IsTrue (⟦<RData as PartialEq>⟧.eq a.rdata b.rdata)) }
 {}
 
 /// A copy of a record of any data is the same record.

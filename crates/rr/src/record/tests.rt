@@ -4,8 +4,9 @@ use base::{
     BinDecodable, BinDecoder, BinEncodable, BinEncoder, DNSClass, DecodeError, Name, ProtoError,
     RecordType,
 };
-use base_data::{A, MX, RData, RecordData, TSIG};
+use base_data::{A, MX, RData, RecordData, TSIG, TXT};
 use std::alloc::Global;
+use std::cmp::Ordering;
 use std::net::Ipv4Addr;
 use std::test::Fail;
 
@@ -177,5 +178,50 @@ fn empty_data_has_no_bytes(rt: HostRuntime) -> Result<(), Fail> {
     assert_eq!(rt; read, entry);
     let text = read.to_string(rt.alloc())?;
     assert_eq!(rt; text.as_str(), ". 1 IN A \\# 0");
+    Ok(())
+}
+
+/// `www.example.com.` 5 A 192.168.0.1, as a record of any data.
+fn any_www(alloc: Global) -> Result<Record<RData>, Fail> {
+    Ok(www(alloc)?.into_record_of_rdata())
+}
+
+#[test]
+fn a_later_name_or_class_stands_behind(rt: HostRuntime) -> Result<(), Fail> {
+    let entry = any_www(rt.alloc())?;
+    let mut other = any_www(rt.alloc())?;
+    other.name = Name::parse(rt.alloc(), "zzz.example.com.", None)?;
+    assert_eq!(rt; entry.canonical_cmp(&other), Ordering::Less);
+    assert_eq!(rt; other.canonical_cmp(&entry), Ordering::Greater);
+    assert!(rt; entry != other);
+    let mut other = any_www(rt.alloc())?;
+    other.dns_class = DNSClass::NONE;
+    assert_eq!(rt; entry.canonical_cmp(&other), Ordering::Less);
+    assert!(rt; entry != other);
+    Ok(())
+}
+
+#[test]
+fn a_greater_ttl_stands_behind_and_is_equal(rt: HostRuntime) -> Result<(), Fail> {
+    let entry = any_www(rt.alloc())?;
+    let mut other = any_www(rt.alloc())?;
+    assert_eq!(rt; entry.canonical_cmp(&other), Ordering::Equal);
+    other.ttl = 6;
+    assert_eq!(rt; entry.canonical_cmp(&other), Ordering::Less);
+    assert_eq!(rt; entry, other);
+    Ok(())
+}
+
+#[test]
+fn a_later_type_or_data_stands_behind(rt: HostRuntime) -> Result<(), Fail> {
+    let entry = any_www(rt.alloc())?;
+    let mut other = any_www(rt.alloc())?;
+    other.rdata = A::new(Ipv4Addr::new(192, 168, 0, 255)).into_rdata();
+    assert_eq!(rt; entry.canonical_cmp(&other), Ordering::Less);
+    assert!(rt; entry != other);
+    let mut other = any_www(rt.alloc())?;
+    other.rdata = TXT::new(rt.alloc(), &[b"x"])?.into_rdata();
+    assert_eq!(rt; entry.canonical_cmp(&other), Ordering::Less);
+    assert!(rt; entry != other);
     Ok(())
 }

@@ -1,0 +1,69 @@
+-- Which records the canonical order ties.
+use Rattle.std.proofs.Common.{◌≡◌, ℕ, Bool, refl, ap, sym, ◌∙◌, subst, rules}
+use Rattle.std.specs.Prelude.{IsTrue, ◌↔◌}
+use Rattle.std.specs.Bool.{Decides}
+use Rattle.std.specs.Cmp.{Equal-is, IsTotalOrder, nat_cmp_total, tied_itself, unsigned_Decides, unsigned_ties}
+use Rattle.std.specs.Cmp.Rules.{comparing}
+use Rattle.std.specs.Ordering.{is_eq, nat_cmp, ordering_then}
+use Rattle.std.specs.declared.cmp.Ordering.{Ordering}
+use Rattle.std.specs.declared.cmp.Ordering.TheVariants.{Less, Equal, Greater}
+use Rattle.base.specs.DNSClass.{class_cmp}
+use Rattle.base.specs.NameOrder.{folded, name_cmp, same_by-tie, same_name}
+use Rattle.base.specs.Keys.{keys_match}
+use Rattle.base.specs.RecordType.{same_type, type_cmp, type_number, type_rank}
+use Rattle.base.specs.declared.dns_class.DNSClass.{DNSClass}
+use Rattle.base.specs.declared.record_type.RecordType.{RecordType}
+use Rattle.base_data.specs.DataOrder.{data_cmp}
+use Rattle.base_data.specs.DataTies.{data_ties}
+use Rattle.base_data.specs.RData.{type_of_data}
+use Rattle.base_data.specs.contracts.rdata.RDataPartialEq.TheImpl.{ghosts as equality}
+use Rattle.base_data.specs.declared.rdata.RData.{RData}
+use Rattle.rr.specs.RecordOrder.{class_cmp-total, record_cmp, type_cmp-total}
+use Rattle.rr.specs.declared.record.Record.{Record}
+
+-- the first ties, and so does the second
+then_tied : (p q : Ordering) → (ordering_then p q ≡ Equal) ↔ ((p ≡ Equal) × (q ≡ Equal))
+then_tied Less q = (λ h. cc, λ h. h.0)
+then_tied Equal q = (λ h. (refl, h), λ h. h.1)
+then_tied Greater q = (λ h. cc, λ h. h.0)
+
+-- what is equal as the order answers, is so
+tied_as : (same : Bool) (o : Ordering) → same ≡ is_eq o → (o ≡ Equal) ↔ IsTrue same
+tied_as same o tie = (λ h. tie ∙ ap is_eq h, λ h. (Equal-is o).0 (sym tie ∙ h))
+
+-- and where the order ties only what is the same
+tied_same : {K : Type 0} {R : K → K → Ordering} → IsTotalOrder R → ((x y : K) → R x y ≡ Equal → x ≡ y) → (x y : K) → (R x y ≡ Equal) ↔ (x ≡ y)
+tied_same {R = R} total exact x y = (exact x y, λ same. subst (λ z. R x z ≡ Equal) same (tied_itself total x))
+
+types_Decide : (a b : RecordType) → Decides (same_type a b) (a ≡ b)
+types_Decide = search rules
+
+types_tied : (a b : RecordType) → type_cmp a b ≡ Equal → a ≡ b
+types_tied a b h = (types_Decide a b).0 (keys_match type_number type_rank a b ∙ ap is_eq h)
+
+classes_tied : (a b : DNSClass) → class_cmp a b ≡ Equal → a ≡ b
+classes_tied = search (comparing, rules)
+
+numbers_tied : (a b : ℕ) → nat_cmp a b ≡ Equal → a ≡ b
+numbers_tied a b h = (unsigned_Decides a b).0 (unsigned_ties a b ∙ ap is_eq h)
+
+pub records_tied : (a b : Record RData) → (record_cmp a b ≡ Equal)
+    ↔ (IsTrue (same_name a.name b.name) × (type_of_data a.rdata ≡ type_of_data b.rdata) × (a.dns_class ≡ b.dns_class) × (a.ttl ≡ b.ttl) × IsTrue (equality.eq a.rdata b.rdata))
+records_tied a b =
+    let names = tied_as (same_name a.name b.name) (name_cmp a.name b.name) (same_by-tie folded a.name b.name) in
+    let types = tied_same type_cmp-total types_tied (type_of_data a.rdata) (type_of_data b.rdata) in
+    let classes = tied_same class_cmp-total classes_tied a.dns_class b.dns_class in
+    let ttls = tied_same nat_cmp_total numbers_tied a.ttl b.ttl in
+    let datas = tied_as (equality.eq a.rdata b.rdata) (data_cmp a.rdata b.rdata) (data_ties a.rdata b.rdata) in
+    let first = then_tied (name_cmp a.name b.name) _ in
+    let second = then_tied (type_cmp (type_of_data a.rdata) (type_of_data b.rdata)) _ in
+    let third = then_tied (class_cmp a.dns_class b.dns_class) _ in
+    let fourth = then_tied (nat_cmp a.ttl b.ttl) (data_cmp a.rdata b.rdata) in (
+      λ h.
+          let p = first.0 h in
+          let q = second.0 p.1 in
+          let r = third.0 q.1 in
+          let s = fourth.0 r.1 in
+          (names.0 p.0, types.0 q.0, classes.0 r.0, ttls.0 s.0, datas.0 s.1),
+      λ f. first.1 (names.1 f.0, second.1 (types.1 f.1, third.1 (classes.1 f.2, fourth.1 (ttls.1 f.3, datas.1 f.4)))),
+    )
