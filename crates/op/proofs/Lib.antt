@@ -13,4 +13,5 @@ mod OwnerLemmas
 mod SectionLemmas
 mod SectionStands
 mod SectionWords
+mod SortLemmas
 mod WordsBack
