@@ -45,7 +45,7 @@ pub header_len : (r : RawHeader) → length (header_bytes r) ≡ 12
 header_len r = refl
 
 -- bytes from the twelfth on, behind a header
-stands_behind : (front xs : List ℕ) → length front ≡ 12 → Stands xs (front ++ xs) 12
+pub stands_behind : (front xs : List ℕ) → length front ≡ 12 → Stands xs (front ++ xs) 12
 stands_behind front xs twelve = record { is = rw (sym twelve) (ap (take (length xs)) (drop-append_seam front xs) ∙ take-length xs) }
 
 -- ---- the words

@@ -7,6 +7,7 @@ pub mod QueryEquals
 pub mod QueryLemmas
 mod BufferLemmas
 mod CodeLemmas
+mod CutOf
 mod CutWords
 mod MessageStands
 mod OwnerLemmas
