@@ -22,7 +22,7 @@ use Rattle.op.specs.Message.{IsMessageAt, MessageValue, high_code, message_of}
 use Rattle.op.specs.OpCode.{op_number, op_value}
 use Rattle.op.specs.Query.{QueryWord, plain_query}
 use Rattle.op.specs.ResponseCode.{code_number, code_value}
-use Rattle.op.specs.Section.{IsPlain, SectionValue, section_of}
+use Rattle.op.specs.Section.{IsGiven, IsPlain, SectionValue, section_of}
 use Rattle.op.specs.declared.edns.Edns.{Edns}
 use Rattle.op.specs.declared.header.Header.{Header}
 use Rattle.op.specs.declared.header.header_counts.HeaderCounts.{HeaderCounts}
@@ -55,6 +55,7 @@ raised_high high (Some y) (Some x) rest whole e is =
   where
     head : (a b : Edns) (xs ys : List Edns) → a ∷ xs ≡ b ∷ ys → a ≡ b
     head a b xs ys w = cc
+
     some_same : (a b : Edns) → Some a ≡ Some b → a ≡ b
     some_same a b w = cc
 raised_high high o None rest whole e is = cc
@@ -80,6 +81,9 @@ same_section p q r = rw (p, q, r) refl
 
 same_counts : (c : HeaderCounts) (q a n d : ℕ) → c.queries ≡ q → c.answers ≡ a → c.authorities ≡ n → c.additionals ≡ d → c ≡ record { queries = q; answers = a; authorities = n; additionals = d }
 same_counts c q a n d qs rs ns ds = rw (sym qs, sym rs, sym ns, sym ds) refl
+
+same_bits : (t : Bool) {a b c d f a' b' c' d' f' : Bool} → a ≡ a' → b ≡ b' → c ≡ c' → d ≡ d' → f ≡ f' → (t || (a || (b || (c || (d || f))))) ≡ (t || (a' || (b' || (c' || (d' || f')))))
+same_bits t p q r s u = rw (p, q, r, s, u) refl
 
 module _ (m : MessageValue) (old new : State) (h : Header) (e : Emitted m old new h) (fits : Fits m) (empty : old.bytes ≡ []) (untold : old.suffixes ≡ []) where
   -- ---- the bytes
@@ -184,8 +188,8 @@ module _ (m : MessageValue) (old new : State) (h : Header) (e : Emitted m old ne
   words : Composed new.bytes m.queries e.answers.kept e.authorities.kept (e.additionals.kept ++ tail one_edns.some one_signature.some) 12 (length e.first.bytes) (length e.second.bytes) (length e.third.bytes) (length new.bytes)
   words =
       let c = composed new.bytes m.queries e.answers.kept e.authorities.kept e.additionals.kept e.edns.kept e.signature.kept e.kept e.first e.second e.third e.fourth e.fifth e.sixth
-          fits.queries (λ k d below. (fits_answers k d below).fits) (λ k d below. (fits_authorities k d below).fits) (λ k d below. (fits_additionals k d below).fits) opts_fit signatures_fit
-          e.queries e.answers.written e.authorities.written e.additionals.written e.edns.written e.signature.written holds in
+      fits.queries (λ k d below. (fits_answers k d below).fits) (λ k d below. (fits_authorities k d below).fits) (λ k d below. (fits_additionals k d below).fits) opts_fit signatures_fit
+      e.queries e.answers.written e.authorities.written e.additionals.written e.edns.written e.signature.written holds in
       let listed_edns = subst (λ es. Composed new.bytes m.queries e.answers.kept e.authorities.kept (e.additionals.kept ++ (es ++ e.signature.kept)) (length e.kept.bytes) (length e.first.bytes) (length e.second.bytes) (length e.third.bytes) (length e.sixth.bytes)) one_edns.kept_is c in
       let listed_signature = subst (λ ss. Composed new.bytes m.queries e.answers.kept e.authorities.kept (e.additionals.kept ++ (listed (option_map edns_record one_edns.some) ++ ss)) (length e.kept.bytes) (length e.first.bytes) (length e.second.bytes) (length e.third.bytes) (length e.sixth.bytes)) one_signature.kept_is listed_edns in
       let from12 = subst (λ n. Composed new.bytes m.queries e.answers.kept e.authorities.kept (e.additionals.kept ++ tail one_edns.some one_signature.some) n (length e.first.bytes) (length e.second.bytes) (length e.third.bytes) (length e.sixth.bytes)) kept_len listed_signature in
@@ -194,8 +198,8 @@ module _ (m : MessageValue) (old new : State) (h : Header) (e : Emitted m old ne
   last : Ends new.bytes e.additionals.kept (listed (option_map edns_record one_edns.some)) (listed (option_map signature_record one_signature.some)) (length e.third.bytes) (length e.fourth.bytes) (length e.fifth.bytes) (length new.bytes)
   last =
       let c = ends new.bytes m.queries e.answers.kept e.authorities.kept e.additionals.kept e.edns.kept e.signature.kept e.kept e.first e.second e.third e.fourth e.fifth e.sixth
-          fits.queries (λ k d below. (fits_answers k d below).fits) (λ k d below. (fits_authorities k d below).fits) (λ k d below. (fits_additionals k d below).fits) opts_fit signatures_fit
-          e.queries e.answers.written e.authorities.written e.additionals.written e.edns.written e.signature.written holds in
+      fits.queries (λ k d below. (fits_answers k d below).fits) (λ k d below. (fits_authorities k d below).fits) (λ k d below. (fits_additionals k d below).fits) opts_fit signatures_fit
+      e.queries e.answers.written e.authorities.written e.additionals.written e.edns.written e.signature.written holds in
       let listed_edns = subst (λ es. Ends new.bytes e.additionals.kept es e.signature.kept (length e.third.bytes) (length e.fourth.bytes) (length e.fifth.bytes) (length e.sixth.bytes)) one_edns.kept_is c in
       let listed_signature = subst (λ ss. Ends new.bytes e.additionals.kept (listed (option_map edns_record one_edns.some)) ss (length e.third.bytes) (length e.fourth.bytes) (length e.fifth.bytes) (length e.sixth.bytes)) one_signature.kept_is listed_edns in
       subst (λ n. Ends new.bytes e.additionals.kept (listed (option_map edns_record one_edns.some)) (listed (option_map signature_record one_signature.some)) (length e.third.bytes) (length e.fourth.bytes) (length e.fifth.bytes) n) (sym new_len) listed_signature
@@ -223,8 +227,104 @@ module _ (m : MessageValue) (old new : State) (h : Header) (e : Emitted m old ne
   op_kept : op_value (op_number h.metadata.op_code % 16) ≡ m.metadata.op_code
   op_kept = ap (λ (x : Metadata). x.op_code) metadata_read
 
-  message : MessageValue
+  abbrev message : MessageValue
   message = record { metadata = high_code one_edns.some (metadata_value (raw_header h)); queries = m.queries; answers = e.answers.kept; authorities = e.authorities.kept; additionals = e.additionals.kept; edns = one_edns.some; signature = one_signature.some }
 
   plain : (rs : List (Record RData)) → All (FitsPlain m.metadata.op_code) rs → All (IsPlain (header_value (raw_header h)).metadata.op_code) rs
   plain rs fit = subst (λ o. All (IsPlain o) rs) (sym op_kept) (λ k d below. record { given = (fit k d below).given; placed = (fit k d below).placed })
+
+  sorted : section_of (e.additionals.kept ++ tail one_edns.some one_signature.some) ≡ record { records = e.additionals.kept; edns = one_edns.some; signature = one_signature.some }
+  sorted = same_section
+      (sorted_records e.additionals.kept m.metadata.op_code fits_additionals one_edns.some one_signature.some)
+      (sorted_edns e.additionals.kept m.metadata.op_code fits_additionals one_edns.some one_signature.some fits_edns)
+      (sorted_signature e.additionals.kept m.metadata.op_code fits_additionals one_edns.some one_signature.some)
+
+  all_counted : h.counts.additionals ≡ length (e.additionals.kept ++ tail one_edns.some one_signature.some)
+  all_counted =
+      let edns = ap (λ (rs : List (Record RData)). length rs) one_edns.kept_is in
+      let signature = ap (λ (rs : List (Record RData)). length rs) one_signature.kept_is in
+      omega (
+        arith,
+        e.sum,
+        e.additionals.counted,
+        e.edns.counted,
+        e.signature.counted,
+        edns,
+        signature,
+        length-append e.additionals.kept (tail one_edns.some one_signature.some),
+        length-append (listed (option_map edns_record one_edns.some)) (listed (option_map signature_record one_signature.some)),
+      )
+
+  counted : h.counts ≡ record { queries = length m.queries; answers = length e.answers.kept; authorities = length e.authorities.kept; additionals = length (e.additionals.kept ++ tail one_edns.some one_signature.some) }
+  counted = same_counts h.counts (length m.queries) (length e.answers.kept) (length e.authorities.kept) (length (e.additionals.kept ++ tail one_edns.some one_signature.some)) e.query_count e.answers.counted e.authorities.counted all_counted
+
+  abbrev message_word : IsMessageAt new.bytes 0 message (length new.bytes)
+  message_word = record {
+    header = header_value (raw_header h);
+    queries_end = length e.first.bytes;
+    answers_end = length e.second.bytes;
+    authorities_end = length e.third.bytes;
+    answers = e.answers.kept;
+    authorities = e.authorities.kept;
+    additionals = e.additionals.kept ++ tail one_edns.some one_signature.some;
+    header_stands = header_is;
+    queries_stand = words.queries;
+    answers_stand = words.answers;
+    authorities_stand = words.authorities;
+    additionals_stand = words.additionals;
+    counts = counted;
+    answers_plain = plain e.answers.kept fits_answers;
+    authorities_plain = plain e.authorities.kept fits_authorities;
+    additionals_given = subst (λ o. All (IsGiven o) (e.additionals.kept ++ tail one_edns.some one_signature.some)) (sym op_kept) (all_given e.additionals.kept m.metadata.op_code fits_additionals one_edns.some one_signature.some);
+    signature_last = all_end e.additionals.kept m.metadata.op_code fits_additionals one_edns.some one_signature.some;
+    one_opt = one_opt e.additionals.kept m.metadata.op_code fits_additionals one_edns.some one_signature.some;
+    message = ap (message_of (metadata_value (raw_header h)) m.queries e.answers.kept e.authorities.kept) (sym sorted);
+  }
+
+  -- ---- the metadata
+
+  abbrev lost_bit : Bool
+  lost_bit = m.metadata.truncation || (any_lost e.answers.lost || (any_lost e.authorities.lost || (any_lost e.additionals.lost || (any_lost one_edns.rest || any_lost one_signature.rest))))
+
+  tells : cut_bit ≡ lost_bit
+  tells = same_bits m.metadata.truncation e.answers.tells e.authorities.tells e.additionals.tells
+      (e.edns.tells ∙ ap any_lost one_edns.lost_is ∙ lost_of edns_record one_edns.rest)
+      (e.signature.tells ∙ ap any_lost one_signature.lost_is ∙ lost_of signature_record one_signature.rest)
+
+  metadata_is : high_code one_edns.some (metadata_value (raw_header h)) ≡ record m.metadata { truncation = lost_bit; response_code = code_value (code_number m.metadata.response_code % code_range one_edns.some) }
+  metadata_is =
+      high_back one_edns.some (metadata_value (raw_header h)) (code_number m.metadata.response_code) (raised_high (code_number m.metadata.response_code / 16 % 256) m.edns one_edns.some one_edns.rest one_edns.front) (ap (λ (x : Metadata). x.response_code) metadata_read)
+      ∙ ap (λ (x : Metadata). record x { response_code = code_value (code_number m.metadata.response_code % code_range one_edns.some) }) metadata_read
+      ∙ ap (λ (b : Bool). record m.metadata { truncation = b; response_code = code_value (code_number m.metadata.response_code % code_range one_edns.some) }) tells
+
+  -- ---- the cut
+
+  no_room : {rs : List (Record RData)} {a b : State} {n : ℕ} {is_cut : Bool} (w : WritesRecords rs a b n is_cut) → Keeps e.kept a → NoRoom plain_record old.limit (length b.bytes) w.lost
+  no_room {a = a} {b = b} w keeps = subst (λ l. NoRoom plain_record l (length b.bytes) w.lost) (keeps.limit ∙ limit_kept) w.full
+
+  cut_of : IsCut m old.limit new.bytes message
+  cut_of = record {
+    small = small;
+    word = message_word;
+    additionals_end = length e.fourth.bytes;
+    edns_end = length e.fifth.bytes;
+    additionals_stand = last.additionals;
+    edns_stands = last.edns;
+    signature_stands = last.signature;
+    queries = refl;
+    answers = record { lost = e.answers.lost; front = e.answers.whole; full = no_room e.answers kq };
+    authorities = record { lost = e.authorities.lost; front = e.authorities.whole; full = no_room e.authorities k1 };
+    additionals = record { lost = e.additionals.lost; front = e.additionals.whole; full = no_room e.additionals k2 };
+    edns = record { lost = one_edns.rest; front = one_edns.front; full = no_room_of edns_record old.limit (length e.fifth.bytes) one_edns.rest (subst (NoRoom plain_record old.limit (length e.fifth.bytes)) one_edns.lost_is (no_room e.edns k3)) };
+    signature = record {
+      lost = one_signature.rest;
+      front = one_signature.front;
+      full = subst (λ n. NoRoom (λ r. plain_record (signature_record r)) old.limit n one_signature.rest) (sym new_len) (no_room_of signature_record old.limit (length e.sixth.bytes) one_signature.rest (subst (NoRoom plain_record old.limit (length e.sixth.bytes)) one_signature.lost_is (no_room e.signature k4)));
+    };
+    metadata = metadata_is;
+    short = words.short;
+  }
+
+  -- what is written of a message that fits, into a new encoder, is a cut, and is read as exactly that
+  pub written_of : IsWritten m old.limit new.bytes
+  written_of = record { message = message; is_cut = cut_of; read = message_again new.bytes 0 message (length new.bytes) message_word }
