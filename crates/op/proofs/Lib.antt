@@ -11,6 +11,7 @@ mod CutOf
 mod CutWords
 mod MessageStands
 mod OwnerLemmas
+mod ReadFits
 mod SectionLemmas
 mod SectionStands
 mod SectionWords
