@@ -16,4 +16,5 @@ mod SectionLemmas
 mod SectionStands
 mod SectionWords
 mod SortLemmas
+mod UncutLemmas
 mod WordsBack

@@ -104,14 +104,14 @@ module _ (B : List ℕ) (i : ℕ) (r : Record RData) (e : ℕ) (w : IsRecordAt B
 
 -- ---- lists
 
-back_all : {A : Type 0} {Word : ℕ → A → ℕ → Type 0} (P : A → Type 0) → ((i : ℕ) (x : A) (e : ℕ) → Word i x e → P x) → {i e : ℕ} {xs : List A} → BackToBack Word i xs e → All P xs
+pub back_all : {A : Type 0} {Word : ℕ → A → ℕ → Type 0} (P : A → Type 0) → ((i : ℕ) (x : A) (e : ℕ) → Word i x e → P x) → {i e : ℕ} {xs : List A} → BackToBack Word i xs e → All P xs
 back_all P holds none = All-nil P
 back_all P holds (more {i = i} {j = j} {x = x} {xs = xs} word rest) = All-cons P x xs (holds i x j word) (back_all P holds rest)
 
 -- what passes a test, of elements that have a property
-record Found {X : Type 0} (P : X → Type 0) (p : X → Bool) (x : X) : Type 0 where
-  has : P x
-  passes : p x ≡ true
+pub record Found {X : Type 0} (P : X → Type 0) (p : X → Bool) (x : X) : Type 0 where
+  pub has : P x
+  pub passes : p x ≡ true
 
 filtered : {X : Type 0} (P : X → Type 0) (p : X → Bool) (xs : List X) → All P xs → All (Found P p) (filter p xs)
 filtered P p [] all = All-nil (Found P p)
@@ -120,14 +120,14 @@ filtered P p (x ∷ xs) all = elim (cases_Bool (p x)) [
     | inr isnt ↦ rw isnt (filtered P p xs (All-tail P x xs all))
   ]
 
-found : {X : Type 0} (P : X → Type 0) (p : X → Bool) (xs : List X) → All P xs → All (Found P p) (listed (find p xs))
+pub found : {X : Type 0} (P : X → Type 0) (p : X → Bool) (xs : List X) → All P xs → All (Found P p) (listed (find p xs))
 found P p [] all = All-nil (Found P p)
 found P p (x ∷ xs) all = elim (cases_Bool (p x)) [
     | inl is ↦ rw is (All-cons (Found P p) x [] (record { has = all 0 x (omega arith); passes = is }) (All-nil (Found P p)))
     | inr isnt ↦ rw isnt (found P p xs (All-tail P x xs all))
   ]
 
-listed_map : {X Y : Type 0} (P : X → Type 0) (Q : Y → Type 0) (f : X → Y) → ((x : X) → P x → Q (f x)) → (o : Option X) → All P (listed o) → All Q (listed (option_map f o))
+pub listed_map : {X Y : Type 0} (P : X → Type 0) (Q : Y → Type 0) (f : X → Y) → ((x : X) → P x → Q (f x)) → (o : Option X) → All P (listed o) → All Q (listed (option_map f o))
 listed_map P Q f follows None all = All-nil Q
 listed_map P Q f follows (Some x) all = All-cons Q (f x) [] (follows x (all 0 x (omega arith))) (All-nil Q)
 
