@@ -42,15 +42,15 @@ op_kept n = search (rules)
 
 payload_bound : (n : ℕ) → 512 ≤ class_number (opt_class n)
 payload_bound n = elim (cases_Bool (nat_lt n 512)) [
-    | inl below ↦ rw below (omega arith)
-    | inr above ↦ rw above (ltb-false n 512 above)
-  ]
+  | inl below ↦ rw below (omega arith)
+  | inr above ↦ rw above (ltb-false n 512 above)
+]
 
 payload_kept : (n : ℕ) → opt_class (class_number (opt_class n)) ≡ opt_class n
 payload_kept n = elim (cases_Bool (nat_lt n 512)) [
-    | inl below ↦ rw below refl
-    | inr above ↦ rw (above, above) refl
-  ]
+  | inl below ↦ rw below refl
+  | inr above ↦ rw (above, above) refl
+]
 
 -- ---- questions and records
 
@@ -116,16 +116,16 @@ pub record Found {X : Type 0} (P : X → Type 0) (p : X → Bool) (x : X) : Type
 filtered : {X : Type 0} (P : X → Type 0) (p : X → Bool) (xs : List X) → All P xs → All (Found P p) (filter p xs)
 filtered P p [] all = All-nil (Found P p)
 filtered P p (x ∷ xs) all = elim (cases_Bool (p x)) [
-    | inl is ↦ rw is (All-cons (Found P p) x (filter p xs) (record { has = all 0 x (omega arith); passes = is }) (filtered P p xs (All-tail P x xs all)))
-    | inr isnt ↦ rw isnt (filtered P p xs (All-tail P x xs all))
-  ]
+  | inl is ↦ rw is (All-cons (Found P p) x (filter p xs) (record { has = all 0 x (omega arith); passes = is }) (filtered P p xs (All-tail P x xs all)))
+  | inr isnt ↦ rw isnt (filtered P p xs (All-tail P x xs all))
+]
 
 pub found : {X : Type 0} (P : X → Type 0) (p : X → Bool) (xs : List X) → All P xs → All (Found P p) (listed (find p xs))
 found P p [] all = All-nil (Found P p)
 found P p (x ∷ xs) all = elim (cases_Bool (p x)) [
-    | inl is ↦ rw is (All-cons (Found P p) x [] (record { has = all 0 x (omega arith); passes = is }) (All-nil (Found P p)))
-    | inr isnt ↦ rw isnt (found P p xs (All-tail P x xs all))
-  ]
+  | inl is ↦ rw is (All-cons (Found P p) x [] (record { has = all 0 x (omega arith); passes = is }) (All-nil (Found P p)))
+  | inr isnt ↦ rw isnt (found P p xs (All-tail P x xs all))
+]
 
 pub listed_map : {X Y : Type 0} (P : X → Type 0) (Q : Y → Type 0) (f : X → Y) → ((x : X) → P x → Q (f x)) → (o : Option X) → All P (listed o) → All Q (listed (option_map f o))
 listed_map P Q f follows None all = All-nil Q
@@ -198,9 +198,9 @@ module _ (B : List ℕ) (i : ℕ) (m : MessageValue) (e : ℕ) (w : IsMessageAt 
   additionals_fit =
       let all = filtered (IsRead w.header.metadata.op_code) is_ordinary w.additionals additionals_read in
       λ n d below.
-        let f = all n d below in
-        let kinds_of = neither _ _ f.passes in
-        record { fits = f.has.fits; given = f.has.given; not_opt = kinds_of.0; not_signature = kinds_of.1 }
+      let f = all n d below in
+      let kinds_of = neither _ _ f.passes in
+      record { fits = f.has.fits; given = f.has.given; not_opt = kinds_of.0; not_signature = kinds_of.1 }
 
   edns_fit : All FitsEdns (listed (option_map edns_of (find is_opt w.additionals)))
   edns_fit = listed_map (Found (IsRead w.header.metadata.op_code) is_opt) FitsEdns edns_of (λ r f. f.has.edns f.passes) (find is_opt w.additionals) (found (IsRead w.header.metadata.op_code) is_opt w.additionals additionals_read)

@@ -120,7 +120,7 @@ module _ (B : List ℕ) (i : ℕ) (m : MessageValue) (e : ℕ) (w : IsMessageAt 
       let edns : c.edns ≡ m.edns = listed_same c.edns (raised m) (whole_of (listed (raised m)) (listed c.edns) k.edns.lost k.edns.front no_edns) ∙ code_merged.raised in
       let signature : c.signature ≡ m.signature = listed_same c.signature m.signature (whole_of (listed m.signature) (listed c.signature) k.signature.lost k.signature.front no_signature) in
       let truncation = same_truncation m.metadata.truncation (any_lost k.answers.lost) (any_lost k.authorities.lost) (any_lost k.additionals.lost) (any_lost k.edns.lost) (any_lost k.signature.lost)
-          (none_lost k.answers.lost no_answers) (none_lost k.authorities.lost no_authorities) (none_lost k.additionals.lost no_additionals) (none_lost k.edns.lost no_edns) (none_lost k.signature.lost no_signature) in
+      (none_lost k.answers.lost no_answers) (none_lost k.authorities.lost no_authorities) (none_lost k.additionals.lost no_additionals) (none_lost k.edns.lost no_edns) (none_lost k.signature.lost no_signature) in
       let code : code_value (code_number m.metadata.response_code % code_range c.edns) ≡ m.metadata.response_code = ap (λ o. code_value (code_number m.metadata.response_code % code_range o)) edns ∙ code_merged.kept in
       let metadata : c.metadata ≡ m.metadata = k.metadata ∙ same_metadata m.metadata truncation code in
       same_message metadata queries answers authorities additionals edns signature
