@@ -8,7 +8,7 @@ pub mod QueryLemmas
 mod BufferLemmas
 mod CodeLemmas
 mod CutWords
-mod MessageStands
+pub mod MessageStands
 mod OwnerLemmas
 mod SectionLemmas
 mod SectionStands
