@@ -10,6 +10,8 @@ ghost use Rattle.dnsmsg.specs.Words.{texts};
 pub enum Command {
     /// A header in hexadecimal: its text, and the same twelve bytes again.
     Header,
+    /// A message in hexadecimal: its text.
+    Read,
 }
 
 impl Command {
@@ -19,6 +21,7 @@ impl Command {
     {
         match words {
             [word] if word.as_str() == "header" => Some(Command::Header),
+            [word] if word.as_str() == "read" => Some(Command::Read),
             _ => None,
         }
     }

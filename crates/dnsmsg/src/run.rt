@@ -2,13 +2,17 @@
 
 ghost use Rattle.std.specs.Prelude.{◌≡◌, ◌≢◌, ◌⊎◌, ◌≤◌, IfSome, None, Some};
 ghost use Rattle.dnsmsg.specs.Answer.{IsAnswered, IsGiven, usage, refused, done, broken};
-ghost use Rattle.dnsmsg.specs.Command.{command_of};
+ghost use Rattle.std.specs.String.{string_bytes};
+ghost use Rattle.dnsmsg.specs.Answering.{Answers};
+ghost use Rattle.dnsmsg.specs.Command.{answer_of, command_of};
 ghost use Rattle.dnsmsg.specs.HeaderCommand.{header_answer};
+ghost use Rattle.dnsmsg.specs.ReadCommand.{read_answer};
 ghost use Rattle.dnsmsg.specs.Words.{texts};
 ghost use Rattle.dnsmsg.specs.declared.command.Command.TheVariants as commands;
 
 use crate::command::Command;
 use crate::header_command::header;
+use crate::read_command::read;
 use crate::refusal::Refusal;
 use std::alloc::Global;
 use std::io::{ErrorKind, Read, Write};
@@ -24,19 +28,33 @@ pub fn run<R: Read, W: Write>(alloc: Global, words: &[String], input: &mut R, ou
     ensures wrong_words { command_of (texts words.now) ≡ None → result ≢ broken → IsGiven usage result (W.contents output.old) (W.contents output.new) }
     ensures header { command_of (texts words.now) ≡ Some commands.Header → result ≢ broken → IfSome (R.remaining input.old)
         (λ text. IsAnswered (header_answer text) result (W.contents output.old) (W.contents output.new)) }
+    ensures read { command_of (texts words.now) ≡ Some commands.Read → result ≢ broken → IfSome (R.remaining input.old)
+        (λ text. IsAnswered (read_answer text) result (W.contents output.old) (W.contents output.new)) }
 {
     match Command::from_words(words) {
         None => print_usage(output),
-        Some(Command::Header) => {
+        Some(command) => {
             let mut text = Vec::new(alloc);
             match input.read_to_end(&mut text) {
-                Ok(_) => match header(alloc, &text) {
+                Ok(_) => match command.answer(alloc, &text) {
                     Ok(lines) => print_lines(&lines, output),
                     Err(refusal) => print_refusal(refusal.number(), output),
                 },
                 Err(e) if e.kind() == ErrorKind::OutOfMemory => print_refusal(3, output),
                 Err(_) => BROKEN,
             }
+        }
+    }
+}
+
+impl Command {
+    // What the command prints of a text.
+    fn answer(self, alloc: Global, text: &[u8]) -> Result<String, Refusal>
+        ensures { Answers string_bytes (answer_of self text.now) result }
+    {
+        match self {
+            Command::Header => header(alloc, text),
+            Command::Read => read(alloc, text),
         }
     }
 }

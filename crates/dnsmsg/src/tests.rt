@@ -2,6 +2,8 @@
 
 mod broken_streams;
 mod header_rows;
+mod read_refusals;
+mod read_rows;
 
 use crate::run::run;
 use std::alloc::{AllocError, Global};

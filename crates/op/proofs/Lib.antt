@@ -9,7 +9,7 @@ mod BufferLemmas
 mod CodeLemmas
 mod CutOf
 mod CutWords
-mod MessageStands
+pub mod MessageStands
 mod OwnerLemmas
 mod ReadFits
 mod SectionLemmas

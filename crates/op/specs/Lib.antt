@@ -9,6 +9,7 @@ pub mod Header
 pub mod HeaderCounts
 pub mod LowerQuery
 pub mod Message
+pub mod MessageText
 pub mod MessageType
 pub mod Metadata
 pub mod OpCode

@@ -6,6 +6,8 @@ ghost use Rattle.op.specs.Message.{empty_message, message_value};
 ghost use Rattle.op.specs.Metadata.{plain_metadata};
 ghost use Rattle.op.specs.declared.header.message_type.MessageType.TheVariants as message_types;
 
+mod copy;
+mod display;
 pub mod laws;
 mod reading;
 mod section;
@@ -23,7 +25,7 @@ use std::alloc::Global;
 /// A message: a header, questions, three sections of records, EDNS and a signature (RFC 1035, 4.1).
 ///
 /// EDNS and the signature are no records of the additional section here; on the wire they stand behind it.
-#[derive(Debug, Drop)]
+#[derive(Debug, Drop, PartialEq, Eq)]
 pub struct Message {
     /// The header without its counts.
     pub metadata: Metadata,

@@ -1,0 +1,23 @@
+//! The command `read`.
+
+ghost use Rattle.std.specs.String.{string_bytes};
+ghost use Rattle.dnsmsg.specs.Answering.{Answers};
+ghost use Rattle.dnsmsg.specs.ReadCommand.{read_answer};
+
+use crate::hex_input::decoded;
+use crate::refusal::Refusal;
+use op::Message;
+use std::alloc::Global;
+
+/// What is printed of the message whose bytes the text spells in hexadecimal (RFC 1035, 4.1). Bytes behind the
+/// message are not looked at.
+///
+/// Refused with 24 for a text that isn't hexadecimal, with the number of the first fault of bytes that begin with no
+/// message, and for want of memory.
+pub fn read(alloc: Global, text: &[u8]) -> Result<String, Refusal>
+    ensures { Answers string_bytes (read_answer text.now) result }
+{
+    let bytes = decoded(alloc, text)?;
+    let message = Message::from_vec(alloc, &bytes)?;
+    Ok(message.to_string(alloc)?)
+}
