@@ -1,4 +1,5 @@
 pub mod BitLemmas
+pub mod EdnsLemmas
 pub mod Equals
 pub mod HeaderLemmas
 pub mod HeaderReading
