@@ -1,17 +1,17 @@
 -- What is written of EDNS is the word of its OPT record.
-use Rattle.std.proofs.Common.{◌≡◌, ℕ, ◌+◌, ◌≤◌, List, [], ◌∷◌, length, refl, ap, sym, ◌∙◌, subst, arith}
+use Rattle.std.proofs.Common.{◌≡◌, ℕ, ◌+◌, List, [], ◌∷◌, refl, subst, arith}
 use Rattle.std.specs.Int.{w16, w32}
 use Rattle.base.specs.DNSClass.{class_number, opt_class}
 use Rattle.base.specs.RecordType.{type_number}
-use Rattle.base.specs.Spelling.{Spelled, ByteAt, anywhere, ends}
-use Rattle.base.specs.Words.{Bytes, NameAt, Number, Sized, Stands, Then, BackToBack, none, more}
+use Rattle.base.specs.Spelling.{ByteAt, anywhere, ends}
+use Rattle.base.specs.Words.{NameAt, Number, Sized, Stands, Then, none}
 use Rattle.base.specs.declared.record_type.RecordType.TheVariants as types
 use Rattle.base.proofs.WordLemmas.{stands_byte}
 use Rattle.base_data.specs.DataWord.{DataWord, plain_data}
 use Rattle.base_data.specs.OPT.{OptionValue, options_len, options_word}
 use Rattle.base_data.specs.RData.{type_of_data}
 use Rattle.rr.proofs.RecordLemmas.{record_word}
-use Rattle.op.specs.EdnsRecord.{EdnsWord, edns_record, opt_data, opt_ttl, plain_edns}
+use Rattle.op.specs.EdnsRecord.{EdnsWord, edns_record, opt_data, opt_ttl}
 use Rattle.op.specs.declared.edns.Edns.{Edns}
 
 -- a zero byte is the root

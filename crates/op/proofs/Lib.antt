@@ -1,8 +1,10 @@
 pub mod BitLemmas
 pub mod EdnsLemmas
+pub mod FrontLemmas
 pub mod Equals
 pub mod HeaderLemmas
 pub mod HeaderReading
+pub mod HeaderRoom
 pub mod Orders
 pub mod QueryEquals
 pub mod QueryLemmas
