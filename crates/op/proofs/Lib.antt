@@ -8,6 +8,7 @@ pub mod HeaderRoom
 pub mod Orders
 pub mod QueryEquals
 pub mod QueryLemmas
+pub mod RunLemmas
 mod BufferLemmas
 mod CodeLemmas
 mod CutWords

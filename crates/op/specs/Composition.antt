@@ -23,8 +23,11 @@ Continues stays next (Ok x) b result c = next x b result c
 Continues stays next (Err e) b result c = (result ≡ Err e) × (c ≡ b) × stays
 
 -- one run, and the next one with its value
-abbrev pub AndThen : {X Y : Type 0} → (State → Result X ProtoError → State → Type 0) → Type 0 → (X → State → Result Y ProtoError → State → Type 0) → State → Result Y ProtoError → State → Type 0
-AndThen {X} first stays next a result c = (answer : Result X ProtoError) × (b : State) × first a answer b × Continues stays next answer b result c
+pub record AndThen {X Y : Type 0} (first : State → Result X ProtoError → State → Type 0) (stays : Type 0) (next : X → State → Result Y ProtoError → State → Type 0) (old : State) (result : Result Y ProtoError) (new : State) : Type 0 where
+  pub answer : Result X ProtoError
+  pub between : State
+  pub ran : first old answer between
+  pub rest : Continues stays next answer between result new
 
 -- a test that writes nothing
 abbrev pub Tests : {X : Type 0} → (Result X ProtoError → Type 0) → State → Result X ProtoError → State → Type 0
