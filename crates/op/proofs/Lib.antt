@@ -1,5 +1,6 @@
 pub mod BitLemmas
 pub mod EdnsLemmas
+pub mod EmittedLemmas
 pub mod FrontLemmas
 pub mod Equals
 pub mod HeaderLemmas

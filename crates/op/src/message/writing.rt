@@ -1,13 +1,15 @@
 //! Writes messages (RFC 1035, 4.1).
 
-ghost use Rattle.std.specs.Prelude.{◌≡◌, ◌/◌, ◌%◌, ◌||◌};
+ghost use Rattle.std.specs.Prelude.{◌≡◌, ◌/◌, ◌%◌, ◌||◌, IfOk};
 ghost use Rattle.std.specs.Option.{option_copied, option_map};
 ghost use Rattle.base.specs.Laws.{Keeps};
 ghost use Rattle.base.specs.Wire.{state_of};
 ghost use Rattle.op.specs.Composition.{Composition, HasHeader};
 ghost use Rattle.op.specs.EdnsRecord.{edns_record};
+ghost use Rattle.op.specs.Emitted.{Emitted};
 ghost use Rattle.op.specs.Fits.{listed, signature_record};
 ghost use Rattle.op.specs.Header.{IsNarrow};
+ghost use Rattle.op.specs.Message.{message_value};
 ghost use Rattle.op.specs.ResponseCode.{code_number};
 
 mod extras;
@@ -15,6 +17,7 @@ mod parts;
 
 use crate::edns::Edns;
 use crate::header::{Header, HeaderCounts, Metadata};
+use crate::message::Message;
 use base::{BinEncoder, EmitAndCount, ProtoError};
 use base_data::TSIG;
 use extras::emit_extras;
@@ -65,6 +68,25 @@ where
     let header = header_of(metadata, query_count, sections, extras)?;
     encoder.replace(place, &header);
     Ok(header)
+}
+
+impl Message {
+    // Writes the message, and answers the header that was written.
+    fn emit_header(&self, encoder: &mut BinEncoder<'_>) -> Result<Header, ProtoError>
+        ensures keeps { Keeps (state_of encoder.old) (state_of encoder.new) }
+        ensures emitted { IfOk result (λ h. Emitted (message_value self.now) (state_of encoder.old) (state_of encoder.new) h) }
+    {
+        emit_message_parts(
+            &self.metadata,
+            &mut self.queries.iter(),
+            &mut self.answers.iter(),
+            &mut self.authorities.iter(),
+            &mut self.additionals.iter(),
+            self.edns.as_ref(),
+            self.signature.as_deref(),
+            encoder,
+        )
+    }
 }
 
 // The header of a message of which so much was written.
