@@ -1,10 +1,15 @@
 pub mod BitLemmas
+pub mod EdnsLemmas
+pub mod EmittedLemmas
+pub mod FrontLemmas
 pub mod Equals
 pub mod HeaderLemmas
 pub mod HeaderReading
+pub mod HeaderRoom
 pub mod Orders
 pub mod QueryEquals
 pub mod QueryLemmas
+pub mod RunLemmas
 mod BufferLemmas
 mod CodeLemmas
 mod CutOf
