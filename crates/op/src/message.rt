@@ -8,6 +8,7 @@ ghost use Rattle.op.specs.declared.header.message_type.MessageType.TheVariants a
 
 mod copy;
 mod display;
+mod emit;
 pub mod laws;
 mod reading;
 mod section;

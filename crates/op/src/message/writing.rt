@@ -72,7 +72,7 @@ where
 
 impl Message {
     // Writes the message, and answers the header that was written.
-    fn emit_header(&self, encoder: &mut BinEncoder<'_>) -> Result<Header, ProtoError>
+    pub(crate) fn emit_header(&self, encoder: &mut BinEncoder<'_>) -> Result<Header, ProtoError>
         ensures keeps { Keeps (state_of encoder.old) (state_of encoder.new) }
         ensures emitted { IfOk result (λ h. Emitted (message_value self.now) (state_of encoder.old) (state_of encoder.new) h) }
     {
