@@ -72,9 +72,16 @@ took_few k t n took blank within small =
 
 -- ---- bytes that questions take
 
-pub queries_take : (qs : List Query) → 5 * length qs ≤ plain_queries qs
-queries_take [] = omega arith
-queries_take (q ∷ qs) = omega (arith, queries_take qs)
+-- a question takes five bytes at least
+questions_take : {B : List ℕ} {i e : ℕ} {qs : List Query} → BackToBack (λ j q k. QueryWord q B j k) i qs e → i + 5 * length qs ≤ e
+questions_take none = omega arith
+questions_take (more word rest) = omega (arith, name_takes word.owner.0, word.end, questions_take rest)
+
+-- so under a limit of two bytes they are few
+pub queries_few : (qs : List Query) (k t : State) → EachWritten QueryWord plain_query query_owner qs k t → k.suffixes ≡ [] → length k.bytes ≤ k.limit → k.limit < 2 ^ 16 → length qs < 2 ^ 16
+queries_few qs k t each blank within small =
+    let words = Words-each QueryWord plain_query query_owner qs k t each t.bytes (Holds-new k t blank) in
+    omega (arith, questions_take words.0, (Each-keeps QueryWord plain_query query_owner qs k t each).within)
 
 pub queries_within : (qs : List Query) (a b : State) → EachWritten QueryWord plain_query query_owner qs a b → length b.bytes ≤ length a.bytes + plain_queries qs
 queries_within [] a b same = omega (arith, ap (λ (s : State). length s.bytes) same)

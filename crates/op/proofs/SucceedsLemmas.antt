@@ -1,6 +1,6 @@
 -- A message of slices, in an encoder that is empty and has room for header and questions, is refused for memory alone.
 use Rattle.std.proofs.Common.{◌≡◌, ◌⊎◌, ℕ, ◌+◌, ◌<◌, ◌≤◌, ◌^◌, List, [], ◌∷◌, ◌++◌, length, inl, inr, refl, ap, sym, ◌∙◌, subst, arith, length-append, Result, Ok, Err, Iter}
-use Rattle.std.specs.Prelude.{IsOkUnless, ⊤, replicate}
+use Rattle.std.specs.Prelude.{IfErr, IsOkUnless, ⊤, replicate}
 use Rattle.base.specs.Items.{EachWritten}
 use Rattle.base.specs.State.{State}
 use Rattle.base.specs.declared.error.proto_error.ProtoError.{ProtoError}
@@ -9,6 +9,7 @@ use Rattle.base.proofs.SliceLemmas.{Emits-front, Emits-slice}
 use Rattle.base_data.specs.declared.rdata.RData.{RData}
 use Rattle.rr.specs.Record.{RecordWord, plain_record}
 use Rattle.rr.specs.declared.record.Record.{Record}
+use Rattle.op.specs.Cut.{IsTooSmall}
 use Rattle.op.specs.Composition.{Adds, AndThen, Counts, EmitsPart, EmitsSections, FillsIn, HasHeader, KeepsRoom, Tests, WritesExtras, WritesRecordItems}
 use Rattle.op.specs.Emitted.{WritesRecords, query_owner, record_owner}
 use Rattle.op.specs.Fits.{HasRoom, plain_queries}
@@ -19,7 +20,7 @@ use Rattle.op.specs.declared.message.writing.parts.Sections.{Sections}
 use Rattle.op.specs.declared.message.writing.parts.Written.{Written}
 use Rattle.op.specs.declared.query.Query.{Query}
 use Rattle.op.proofs.EmittedLemmas.{AreOf, Composed, ThreeFronts, emits_queries, emits_records, sections_done, slice_front}
-use Rattle.op.proofs.RoomLemmas.{Took, plain-append, queries_take, queries_within, took_few, took_front, took_more, took_queries}
+use Rattle.op.proofs.RoomLemmas.{Took, plain-append, queries_few, queries_within, took_few, took_front, took_more, took_queries}
 use Rattle.op.proofs.RunLemmas.{Both, failed}
 
 -- records that no header can count were written
@@ -128,7 +129,7 @@ module _ (k : State) (blank : k.suffixes ≡ []) (within : length k.bytes ≤ k.
 -- ---- the whole
 
 module _ (m : MessageValue) (q q' : Iter Query) (a a' n n' d d' : Iter (Record RData)) (edns signature : List (Record RData)) (are : AreOf m q q' a a' n n' d d' edns signature) (old new : State)
-    (empty : old.bytes ≡ []) (blank : old.suffixes ≡ []) (has_room : HasRoom m old.limit) (small : old.limit < 2 ^ 16) (e : ProtoError) where
+    (empty : old.bytes ≡ []) (blank : old.suffixes ≡ []) (small : old.limit < 2 ^ 16) (e : ProtoError) where
   abbrev Headed : ℕ → ℕ → Sections → Written → State → Result Header ProtoError → State → Type 0
   Headed place queries sections additionals = AndThen (Tests (HasHeader m.metadata queries sections additionals)) ⊤ (FillsIn place)
 
@@ -141,9 +142,13 @@ module _ (m : MessageValue) (q q' : Iter Query) (a a' n n' d d' : Iter (Record R
   abbrev Asked : ℕ → State → Result Header ProtoError → State → Type 0
   Asked place = AndThen (λ s answer t. emits_queries q s answer q' t) ((a' ≡ a) × (n' ≡ n) × (d' ≡ d)) (Sectioned place)
 
-  room_failed : (f : ProtoError) → KeepsRoom old (Err f) new → f ≡ refusals.Memory
-  room_failed refusals.Memory run = refl
-  room_failed refusals.MaxBufferSizeExceeded run = absurd (omega (arith, run.1, ap length empty, has_room))
+  -- want of memory, or a limit without room for header and questions
+  abbrev Small : ProtoError → Type 0
+  Small f = (f ≡ refusals.Memory) ⊎ IsTooSmall m old.limit f
+
+  room_failed : (f : ProtoError) → KeepsRoom old (Err f) new → Small f
+  room_failed refusals.Memory run = inl refl
+  room_failed refusals.MaxBufferSizeExceeded run = inr (omega (arith, run.1, ap length empty))
   room_failed (refusals.NotAllRecordsWritten count) run = absurd run.1
   room_failed refusals.NotOpt run = absurd run.1
   room_failed (refusals.Message text) run = absurd run.1
@@ -166,63 +171,79 @@ module _ (m : MessageValue) (q q' : Iter Query) (a a' n n' d d' : Iter (Record R
     kept_small : kept.limit < 2 ^ 16
     kept_small = omega (arith, limit, small)
 
-    not_all : (xs rest : List Query) (x : Query) (b : State) → q.rest.now ≡ xs ++ x ∷ rest → EachWritten QueryWord plain_query query_owner xs kept b → kept.limit < length b.bytes + plain_query x → ⊥
+    not_all : (xs rest : List Query) (x : Query) (b : State) → q.rest.now ≡ xs ++ x ∷ rest → EachWritten QueryWord plain_query query_owner xs kept b → kept.limit < length b.bytes + plain_query x → (12 ≤ old.limit) × (old.limit < 12 + plain_queries m.queries)
     not_all xs rest x b whole each full =
         let sum : plain_queries m.queries ≡ plain_queries xs + (plain_query x + plain_queries rest) = ap plain_queries (sym are.queries ∙ whole) ∙ plain-append xs (x ∷ rest) in
         let wrote = queries_within xs kept b each in
-        omega (arith, full, wrote, twelve, limit, has_room, sum)
+        (omega (arith, room.2, twelve), omega (arith, full, wrote, twelve, limit, sum))
 
-    queries_failed : (f : ProtoError) → emits_queries q kept (Err f) q' new → f ≡ refusals.Memory
-    queries_failed refusals.Memory run = refl
+    queries_failed : (f : ProtoError) → emits_queries q kept (Err f) q' new → Small f
+    queries_failed refusals.Memory run = inl refl
     queries_failed (refusals.NotAllRecordsWritten count) run =
         let front = Emits-front QueryWord plain_query query_owner q q' kept new count run in
-        absurd (not_all front.0 front.2 front.1 new front.3 front.4 front.6)
+        inr (not_all front.0 front.2 front.1 new front.3 front.4 front.6)
     queries_failed refusals.MaxBufferSizeExceeded run = absurd run
     queries_failed refusals.NotOpt run = absurd run
     queries_failed (refusals.Message text) run = absurd run
     queries_failed refusals.NotAResponse run = absurd run
     queries_failed (refusals.Decode d) run = absurd run
 
-    header_failed : (queries : ℕ) (sixth : State) (sections : Sections) (total : Written) → queries ≡ length q.rest.now → AndThen (Tests (HasHeader m.metadata queries sections total)) ⊤ (FillsIn place) sixth (Err e) new → e ≡ refusals.Memory
-    header_failed queries sixth sections total count run =
-        let takes = queries_take m.queries in
+    header_failed : (queries : ℕ) (sixth : State) (sections : Sections) (total : Written) → queries < 2 ^ 16 → AndThen (Tests (HasHeader m.metadata queries sections total)) ⊤ (FillsIn place) sixth (Err e) new → e ≡ refusals.Memory
+    header_failed queries sixth sections total few run =
         elim (failed e run) [
-          | inl test ↦ absurd (omega (arith, test.0.0, count, ap length are.queries, takes, has_room, small))
+          | inl test ↦ absurd (omega (arith, test.0.0, few))
           | inr b ↦ absurd (let is = b.rest.0 in cc)
         ]
 
-    extras_next : (queries : ℕ) (first fourth : State) (sections : Sections) → queries ≡ length q.rest.now → Took kept first 0 → ThreeFronts a.rest.now n.rest.now d.rest.now first fourth sections
+    extras_next : (queries : ℕ) (first fourth : State) (sections : Sections) → queries < 2 ^ 16 → Took kept first 0 → ThreeFronts a.rest.now n.rest.now d.rest.now first fourth sections
         → AndThen (WritesExtras edns signature sections.additionals) ⊤ (Headed place queries sections) fourth (Err e) new → e ≡ refusals.Memory
-    extras_next queries first fourth sections count took three run =
+    extras_next queries first fourth sections few took three run =
         let one = took_front a.rest.now kept first three.second 0 sections.answers.count sections.answers.is_cut took three.answers in
         let two = took_front n.rest.now kept three.second three.third (0 + sections.answers.count) sections.authorities.count sections.authorities.is_cut one three.authorities in
         let all = took_front d.rest.now kept three.third fourth (0 + sections.answers.count + sections.authorities.count) sections.additionals.count sections.additionals.is_cut two three.additionals in
         elim (failed e run) [
           | inl extras ↦ extras_failed kept no_suffix kept_within kept_small e edns signature sections.additionals fourth new (0 + sections.answers.count + sections.authorities.count) all extras
-          | inr b ↦ header_failed queries b.between sections b.value count b.rest
+          | inr b ↦ header_failed queries b.between sections b.value few b.rest
         ]
 
-    sections_next : (queries : ℕ) (first : State) → queries ≡ length q.rest.now → Took kept first 0 → Sectioned place queries first (Err e) new → e ≡ refusals.Memory
-    sections_next queries first count took run =
+    sections_next : (queries : ℕ) (first : State) → queries < 2 ^ 16 → Took kept first 0 → Sectioned place queries first (Err e) new → e ≡ refusals.Memory
+    sections_next queries first few took run =
         elim (failed e run) [
           | inl sections ↦ sections_failed kept no_suffix kept_within kept_small e a a' n n' d d' first new took sections
-          | inr b ↦ extras_next queries first b.between b.value count took (sections_done a a' n n' d d' b.value first b.between b.ran) b.rest
+          | inr b ↦ extras_next queries first b.between b.value few took (sections_done a a' n n' d d' b.value first b.between b.ran) b.rest
         ]
 
-    queries_next : Asked place kept (Err e) new → e ≡ refusals.Memory
+    queries_next : Asked place kept (Err e) new → Small e
     queries_next run =
         elim (failed e run) [
           | inl queries ↦ queries_failed e queries
-          | inr b ↦ asked_next b.value b.between (Emits-slice QueryWord plain_query query_owner q q' kept b.between b.value b.ran) b.rest
+          | inr b ↦ inl (asked_next b.value b.between (Emits-slice QueryWord plain_query query_owner q q' kept b.between b.value b.ran) b.rest)
         ]
       where
         asked_next : (queries : ℕ) (first : State) → EachWritten QueryWord plain_query query_owner q.rest.now kept first × (queries ≡ length q.rest.now) → Sectioned place queries first (Err e) new → e ≡ refusals.Memory
-        asked_next queries first asked rest = sections_next queries first asked.1 (took_queries q.rest.now kept first asked.0) rest
+        asked_next queries first asked rest =
+            let few = queries_few q.rest.now kept first asked.0 no_suffix kept_within kept_small in
+            sections_next queries first (omega (arith, asked.1, few)) (took_queries q.rest.now kept first asked.0) rest
 
-  pub composed_failed : Composed m q q' a a' n n' d d' edns signature old (Err e) new → e ≡ refusals.Memory
+  pub composed_failed : Composed m q q' a a' n n' d d' edns signature old (Err e) new → Small e
   composed_failed run = elim (failed e run) [ inl room ↦ room_failed e room | inr b ↦ queries_next b.value b.between b.ran b.rest ]
 
-pub succeeds_if : (m : MessageValue) (q q' : Iter Query) (a a' n n' d d' : Iter (Record RData)) (edns signature : List (Record RData)) → AreOf m q q' a a' n n' d d' edns signature → (old new : State) (result : Result Header ProtoError)
-    → Composed m q q' a a' n n' d d' edns signature old result new → old.bytes ≡ [] → old.suffixes ≡ [] → HasRoom m old.limit → old.limit < 2 ^ 16 → IsOkUnless result refusals.Memory
-succeeds_if m q q' a a' n n' d d' edns signature are old new (Ok h) run empty blank room small = tt
-succeeds_if m q q' a a' n n' d d' edns signature are old new (Err e) run empty blank room small = composed_failed m q q' a a' n n' d d' edns signature are old new empty blank room small e run
+pub refused_if : (m : MessageValue) (q q' : Iter Query) (a a' n n' d d' : Iter (Record RData)) (edns signature : List (Record RData)) → AreOf m q q' a a' n n' d d' edns signature → (old new : State) (result : Result Header ProtoError)
+    → Composed m q q' a a' n n' d d' edns signature old result new → old.bytes ≡ [] → old.suffixes ≡ [] → old.limit < 2 ^ 16 → IfErr result (λ e. (e ≡ refusals.Memory) ⊎ IsTooSmall m old.limit e)
+refused_if m q q' a a' n n' d d' edns signature are old new (Ok h) run empty blank small = tt
+refused_if m q q' a a' n n' d d' edns signature are old new (Err e) run empty blank small = composed_failed m q q' a a' n n' d d' edns signature are old new empty blank small e run
+
+-- where there is room, nothing but memory is refused
+room_enough : (m : MessageValue) (limit : ℕ) (e : ProtoError) → HasRoom m limit → (e ≡ refusals.Memory) ⊎ IsTooSmall m limit e → e ≡ refusals.Memory
+room_enough m limit e room (inl memory) = memory
+room_enough m limit refusals.MaxBufferSizeExceeded room (inr small) = absurd (omega (arith, room, small))
+room_enough m limit (refusals.NotAllRecordsWritten count) room (inr small) = absurd (omega (arith, room, small.1))
+room_enough m limit refusals.Memory room (inr small) = refl
+room_enough m limit refusals.NotOpt room (inr small) = absurd small
+room_enough m limit (refusals.Message text) room (inr small) = absurd small
+room_enough m limit refusals.NotAResponse room (inr small) = absurd small
+room_enough m limit (refusals.Decode d) room (inr small) = absurd small
+
+pub succeeds_if : {X : Type 0} (m : MessageValue) (limit : ℕ) (result : Result X ProtoError) → IfErr result (λ e. (e ≡ refusals.Memory) ⊎ IsTooSmall m limit e) → HasRoom m limit → IsOkUnless result refusals.Memory
+succeeds_if m limit (Ok x) refused room = tt
+succeeds_if m limit (Err e) refused room = room_enough m limit e room refused

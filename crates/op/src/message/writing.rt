@@ -1,13 +1,14 @@
 //! Writes messages (RFC 1035, 4.1).
 
-ghost use Rattle.std.specs.Prelude.{◌≡◌, ◌/◌, ◌%◌, ◌||◌, ◌<◌, ◌^◌, [], IfOk, IsOkUnless, OnOk};
+ghost use Rattle.std.specs.Prelude.{◌≡◌, ◌/◌, ◌%◌, ◌||◌, ◌<◌, ◌^◌, [], IfErr, IfOk, ◌⊎◌};
 ghost use Rattle.std.specs.Option.{option_copied, option_map};
 ghost use Rattle.base.specs.Laws.{Keeps};
 ghost use Rattle.base.specs.Wire.{state_of};
 ghost use Rattle.op.specs.Composition.{Composition, HasHeader};
+ghost use Rattle.op.specs.Cut.{IsTooSmall};
 ghost use Rattle.op.specs.EdnsRecord.{edns_record};
 ghost use Rattle.op.specs.Emitted.{Emitted};
-ghost use Rattle.op.specs.Fits.{HasRoom, listed, signature_record};
+ghost use Rattle.op.specs.Fits.{listed, signature_record};
 ghost use Rattle.op.specs.Header.{IsNarrow};
 ghost use Rattle.op.specs.Message.{message_value};
 ghost use Rattle.op.specs.ResponseCode.{code_number};
@@ -72,28 +73,12 @@ where
 }
 
 impl Message {
-    /// Writes the message behind what the encoder holds: the header, the questions, and of answers, authorities,
-    /// additional records, EDNS and the signature all that has room (RFC 1035, 4.1).
-    ///
-    /// Where something had no room, TC is set (RFC 1035, 4.1.1). The high bits of EDNS are those of the response code
-    /// (RFC 6891, 6.1.3). Refused where header or questions have no room, for want of memory, and with a `Message`
-    /// where a count passes 65,535.
-    pub fn emit(&self, encoder: &mut BinEncoder<'_>) -> Result<(), ProtoError>
-        ensures keeps { Keeps (state_of encoder.old) (state_of encoder.new) }
-        ensures emitted { OnOk result ((h : Header) × Emitted (message_value self.now) (state_of encoder.old) (state_of encoder.new) h) }
-        ensures succeeds { (state_of encoder.old).bytes ≡ [] → (state_of encoder.old).suffixes ≡ [] → HasRoom (message_value self.now) (state_of encoder.old).limit
-            → IsOkUnless result ProtoError.Memory }
-    {
-        self.emit_header(encoder)?;
-        Ok(())
-    }
-
     // Writes the message, and answers the header that was written.
     pub(crate) fn emit_header(&self, encoder: &mut BinEncoder<'_>) -> Result<Header, ProtoError>
         ensures keeps { Keeps (state_of encoder.old) (state_of encoder.new) }
         ensures emitted { IfOk result (λ h. Emitted (message_value self.now) (state_of encoder.old) (state_of encoder.new) h) }
-        ensures succeeds { (state_of encoder.old).bytes ≡ [] → (state_of encoder.old).suffixes ≡ [] → HasRoom (message_value self.now) (state_of encoder.old).limit
-            → IsOkUnless result ProtoError.Memory }
+        ensures refused { (state_of encoder.old).bytes ≡ [] → (state_of encoder.old).suffixes ≡ []
+            → IfErr result (λ e. (e ≡ ProtoError.Memory) ⊎ IsTooSmall (message_value self.now) (state_of encoder.old).limit e) }
     {
         emit_message_parts(
             &self.metadata,
