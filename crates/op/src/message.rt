@@ -9,6 +9,8 @@ ghost use Rattle.op.specs.declared.header.message_type.MessageType.TheVariants a
 pub mod laws;
 mod reading;
 mod section;
+#[cfg(test)]
+mod tests;
 mod writing;
 
 use crate::edns::Edns;
