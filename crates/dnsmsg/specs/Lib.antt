@@ -3,6 +3,7 @@ pub mod Answering
 pub mod Command
 pub mod HeaderCommand
 pub mod HexInput
+pub mod Limit
 pub mod ReadCommand
 pub mod Refusal
 pub mod Words

@@ -4,6 +4,7 @@
 mod command;
 mod header_command;
 mod hex_input;
+mod limit;
 mod read_command;
 mod refusal;
 mod run;

@@ -7,6 +7,8 @@ use Rattle.base.specs.Reader.{Reader}
 use Rattle.base.specs.Reading.{Fails, Reads}
 use Rattle.op.specs.Message.{IsMessageAt, MessageValue, message_at, message_value}
 use Rattle.op.specs.declared.message.Message.{Message}
+use Rattle.op.specs.Fits.{Fits}
+use Rattle.op.proofs.ReadFits.{message_fits}
 use Rattle.op.proofs.MessageStands.{message_again, message_stands}
 
 same_ok : {A : Type 0} {x y : A} → ◌≡◌ {A = Result A DecodeError} (Ok x) (Ok y) → x ≡ y
@@ -32,3 +34,7 @@ begins B old new (Err f) reads = tt
 pub begins_with : (B : List ℕ) (old new : Reader) (r : Result Message DecodeError) → Reads message_value old new r (message_at B 0) → (m : MessageValue) (e : ℕ) → IsMessageAt B 0 m e → MatchResult r (λ read. message_value read ≡ m) (λ f. f ≡ faults.Memory)
 begins_with B old new (Ok read) reads m e stands = ap (λ (x : MessageValue × ℕ). x.0) (same_ok (sym reads.0 ∙ message_again B 0 m e stands))
 begins_with B old new (Err f) reads m e stands = want_of_memory f (message_at B 0) (m, e) reads (message_again B 0 m e stands)
+
+pub read_fits : (B : List ℕ) (old new : Reader) (r : Result Message DecodeError) → Reads message_value old new r (message_at B 0) → IfOk r (λ m. Fits (message_value m))
+read_fits B old new (Ok m) reads = message_fits B 0 (message_value m) new.index (message_stands B 0 (message_value m, new.index) reads.0)
+read_fits B old new (Err f) reads = tt

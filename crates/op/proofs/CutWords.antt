@@ -45,7 +45,7 @@ pub header_len : (r : RawHeader) → length (header_bytes r) ≡ 12
 header_len r = refl
 
 -- bytes from the twelfth on, behind a header
-stands_behind : (front xs : List ℕ) → length front ≡ 12 → Stands xs (front ++ xs) 12
+pub stands_behind : (front xs : List ℕ) → length front ≡ 12 → Stands xs (front ++ xs) 12
 stands_behind front xs twelve = record { is = rw (sym twelve) (ap (take (length xs)) (drop-append_seam front xs) ∙ take-length xs) }
 
 -- ---- the words
@@ -74,7 +74,6 @@ module _ (B : List ℕ) where
   module _ (qs : List Query) (bs ns ds es ss : List (Record RData)) (s0 s1 s2 s3 s4 s5 s6 : State) (fits_qs : All FitsQuery qs) (fits_as : All FitsRecord bs) (fits_ns : All FitsRecord ns) (fits_ds : All FitsRecord ds) (fits_es : All FitsRecord es) (fits_ss : All FitsRecord ss)
       (wq : EachWritten QueryWord plain_query query_owner qs s0 s1) (wa : EachWritten RecordWord plain_record record_owner bs s1 s2) (wn : EachWritten RecordWord plain_record record_owner ns s2 s3)
       (wd : EachWritten RecordWord plain_record record_owner ds s3 s4) (we : EachWritten RecordWord plain_record record_owner es s4 s5) (ws : EachWritten RecordWord plain_record record_owner ss s5 s6) (holds : Holds s0 s6 B) where
-
     keeps : (rs : List (Record RData)) (a b : State) → EachWritten RecordWord plain_record record_owner rs a b → Keeps a b
     keeps rs a b w = Each-keeps RecordWord plain_record record_owner rs a b w
 

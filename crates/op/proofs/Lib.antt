@@ -1,16 +1,25 @@
 pub mod BitLemmas
+pub mod EdnsLemmas
+pub mod EmittedLemmas
+pub mod FrontLemmas
 pub mod Equals
 pub mod HeaderLemmas
 pub mod HeaderReading
+pub mod HeaderRoom
 pub mod Orders
 pub mod QueryEquals
 pub mod QueryLemmas
+pub mod RunLemmas
 mod BufferLemmas
 mod CodeLemmas
+mod CutOf
 mod CutWords
 pub mod MessageStands
 mod OwnerLemmas
+mod ReadFits
 mod SectionLemmas
 mod SectionStands
 mod SectionWords
+mod SortLemmas
+mod UncutLemmas
 mod WordsBack

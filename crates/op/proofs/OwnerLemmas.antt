@@ -25,9 +25,10 @@ none_known s = All-nil (λ o. o.labels ≢ [] → o.start < 16384 → Any (λ t.
 -- a last owner that is short behind each before it
 pub short_last : (os : List Owner) (o : Owner) → AreShort os → All (λ earlier. IsShort earlier o) os → AreShort (os ++ o ∷ [])
 short_last [] o short all = (All-nil (IsShort o), tt)
-short_last (p ∷ os) o short all =
-    (All-append (IsShort p) os (o ∷ []) short.0 (All-cons (IsShort p) o [] (all 0 p (omega arith)) (All-nil (IsShort p))),
-    short_last os o short.1 (All-tail (λ earlier. IsShort earlier o) p os all))
+short_last (p ∷ os) o short all = (
+  All-append (IsShort p) os (o ∷ []) short.0 (All-cons (IsShort p) o [] (all 0 p (omega arith)) (All-nil (IsShort p))),
+  short_last os o short.1 (All-tail (λ earlier. IsShort earlier o) p os all),
+)
 
 any_weaker : (P Q : Stored → Type 0) (ts : List Stored) → ((t : Stored) → P t → Q t) → Any P ts → Any Q ts
 any_weaker P Q ts f (k, t, inside, at, holds) = (k, t, inside, at, f t holds)
@@ -37,7 +38,6 @@ no_front [] ls is = is
 no_front (x ∷ front) ls is = cc
 
 module _ {E : Type 0} (word : E → List ℕ → ℕ → ℕ → Type 0) (plain : E → ℕ) (owner : E → List (List ℕ)) (B : List ℕ) (Word : ℕ → E → ℕ → Type 0) (end : (i : ℕ) (x : E) (e : ℕ) → Word i x e → ℕ) where
-
   -- Items that were written, as they are read in B; with the owners before them theirs are short, and stored.
   pub record Section (known : List Owner) (xs : List E) (a b : State) : Type 0 where
     pub words : BackToBack Word (length a.bytes) xs (length b.bytes)
@@ -71,7 +71,7 @@ module _ {E : Type 0} (word : E → List ℕ → ℕ → ℕ → Type 0) (plain 
     known_after known stored =
         All-append (λ o. o.labels ≢ [] → o.start < 16384 → Any (λ t. t.labels ≡ o.labels) b.suffixes) known (written ∷ [])
         (All-weaker (λ o. o.labels ≢ [] → o.start < 16384 → Any (λ t. t.labels ≡ o.labels) a.suffixes) (λ o. o.labels ≢ [] → o.start < 16384 → Any (λ t. t.labels ≡ o.labels) b.suffixes)
-            (λ o is some early. any_append (λ t. t.labels ≡ o.labels) a.suffixes keeps.added b.suffixes keeps.suffixes (is some early)) known stored)
+        (λ o is some early. any_append (λ t. t.labels ≡ o.labels) a.suffixes keeps.added b.suffixes keeps.suffixes (is some early)) known stored)
         (All-cons (λ o. o.labels ≢ [] → o.start < 16384 → Any (λ t. t.labels ≡ o.labels) b.suffixes) written [] (λ some early. writes.compresses.stored some early) (All-nil (λ o. o.labels ≢ [] → o.start < 16384 → Any (λ t. t.labels ≡ o.labels) b.suffixes)))
 
     section_more : (known : List Owner) (xs : List E) (c : State) → Section (known ++ written ∷ []) xs b c → Section known (x ∷ xs) a c

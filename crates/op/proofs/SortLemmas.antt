@@ -1,6 +1,6 @@
 -- The additional records of a message that was written: its own, then EDNS, then the signature.
 use Rattle.std.proofs.Common.{◌≡◌, ℕ, ◌+◌, ◌<◌, ◌≤◌, Bool, true, false, cond, List, [], ◌∷◌, ◌++◌, length, refl, ap, sym, ◌∙◌, subst, arith, Option, Some, None, length-append}
-use Rattle.std.specs.Prelude.{All, ◌||◌, not, filter, find}
+use Rattle.std.specs.Prelude.{All, ◌||◌, not, filter, find, map}
 use Rattle.std.specs.Option.{option_map, option_or}
 use Rattle.std.proofs.lemmas.List.{append-nil}
 use Rattle.std.proofs.lemmas.List.Elements.{All-append, All-cons, All-nil, All-tail, filter-append}
@@ -25,12 +25,22 @@ pub record OneFront {X Y : Type 0} (f : X → Y) (o : Option X) (kept lost : Lis
   pub rest : List X
   pub kept_is : kept ≡ listed (option_map f some)
   pub front : listed o ≡ listed some ++ rest
+  pub lost_is : lost ≡ map f rest
+
+alone : {Y : Type 0} (x y : Y) (kept lost : List Y) → x ∷ [] ≡ y ∷ (kept ++ lost) → y ∷ kept ≡ x ∷ []
+alone x y [] lost whole = cc
+alone x y (z ∷ kept) lost whole = cc
+
+none_lost : {Y : Type 0} (x y : Y) (kept lost : List Y) → x ∷ [] ≡ y ∷ (kept ++ lost) → lost ≡ []
+none_lost x y [] [] whole = refl
+none_lost x y [] (z ∷ lost) whole = cc
+none_lost x y (z ∷ kept) lost whole = cc
 
 pub one_front : {X Y : Type 0} (f : X → Y) (o : Option X) (kept lost : List Y) → listed (option_map f o) ≡ kept ++ lost → OneFront f o kept lost
-one_front f None [] lost whole = record { some = None; rest = []; kept_is = refl; front = refl }
+one_front f None [] lost whole = record { some = None; rest = []; kept_is = refl; front = refl; lost_is = sym whole }
 one_front f None (y ∷ kept) lost whole = cc
-one_front f (Some x) [] lost whole = record { some = None; rest = x ∷ []; kept_is = refl; front = refl }
-one_front f (Some x) (y ∷ kept) lost whole = record { some = Some x; rest = []; kept_is = ?; front = refl }
+one_front f (Some x) [] lost whole = record { some = None; rest = x ∷ []; kept_is = refl; front = refl; lost_is = sym whole }
+one_front f (Some x) (y ∷ kept) lost whole = record { some = Some x; rest = []; kept_is = alone (f x) y kept lost whole; front = refl; lost_is = none_lost (f x) y kept lost whole }
 
 -- ---- what the records are together
 
@@ -104,14 +114,14 @@ module _ (ds : List (Record RData)) (op : OpCode) (fits : All (FitsAdditional op
   pub sorted_records : (edns : Option Edns) (signature : Option (Record (List ℕ))) → (section_of (ds ++ tail edns signature)).records ≡ ds
   sorted_records edns signature = filter-append is_ordinary ds (tail edns signature) ∙ ap (λ xs. filter is_ordinary ds ++ xs) (rest_ordinary edns signature) ∙ append-nil (filter is_ordinary ds) ∙ filter_all is_ordinary ds ordinaries
 
-  found : {p : Record RData → Bool} (t : List (Record RData)) → All (λ r. p r ≡ false) ds → find p (ds ++ t) ≡ find p t
-  found {p = p} t none = find-append p ds t ∙ ap (λ o. option_or o (find p t)) (find_none p ds none)
+  found : (p : Record RData → Bool) (t : List (Record RData)) → All (λ r. p r ≡ false) ds → find p (ds ++ t) ≡ find p t
+  found p t none = find-append p ds t ∙ ap (λ o. option_or o (find p t)) (find_none p ds none)
 
   pub sorted_edns : (edns : Option Edns) (signature : Option (Record (List ℕ))) → All FitsEdns (listed edns) → (section_of (ds ++ tail edns signature)).edns ≡ edns
-  sorted_edns edns signature fits_edns = ap (option_map edns_of) (found (tail edns signature) no_opts ∙ rest_opt edns signature) ∙ edns_kept edns fits_edns
+  sorted_edns edns signature fits_edns = ap (option_map edns_of) (found is_opt (tail edns signature) no_opts ∙ rest_opt edns signature) ∙ edns_kept edns fits_edns
 
   pub sorted_signature : (edns : Option Edns) (signature : Option (Record (List ℕ))) → (section_of (ds ++ tail edns signature)).signature ≡ signature
-  sorted_signature edns signature = ap (option_map signature_of) (found (tail edns signature) no_signatures ∙ rest_signature edns signature) ∙ signature_kept signature
+  sorted_signature edns signature = ap (option_map signature_of) (found is_signature (tail edns signature) no_signatures ∙ rest_signature edns signature) ∙ signature_kept signature
 
   -- ---- the tests on them
 

@@ -61,7 +61,7 @@ payload_is payload fits = rw (le-ltb payload 512 fits) refl
 payload_kept : (payload : ℕ) → 512 ≤ payload → opt_class (class_number (opt_class payload)) ≡ opt_class payload
 payload_kept payload fits = ap (λ c. opt_class (class_number c)) (payload_is payload fits)
 
-opt_typed : (os : List OptionValue) → is_opt_type (type_of_data (opt_data os)) ≡ true
+pub opt_typed : (os : List OptionValue) → is_opt_type (type_of_data (opt_data os)) ≡ true
 opt_typed os = ap is_opt_type (opt_type os)
 
 differ : true ≡ false → ⊥

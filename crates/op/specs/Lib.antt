@@ -1,3 +1,4 @@
+pub mod Composition
 pub mod Cut
 pub mod Edns
 pub mod EdnsFlags

@@ -12,6 +12,7 @@ ghost use Rattle.std.specs.Borrow.{sem};
 mod edns_flags;
 #[cfg(test)]
 mod tests;
+mod writing;
 
 use base::{DNSClass, ProtoError, RecordType};
 use base_data::{EdnsOption, OPT, RData};

@@ -8,19 +8,23 @@ ghost use Rattle.op.specs.declared.header.message_type.MessageType.TheVariants a
 
 mod copy;
 mod display;
+mod emit;
 pub mod laws;
 mod reading;
 mod section;
+mod writing;
 
 use crate::edns::Edns;
 use crate::header::{MessageType, Metadata};
 use crate::op_code::OpCode;
 use crate::query::Query;
 use crate::response_code::ResponseCode;
+pub use base::EmitAndCount;
 use base::ProtoError;
 use base_data::TSIG;
 use rr::Record;
 use std::alloc::Global;
+pub use writing::emit_message_parts;
 
 /// A message: a header, questions, three sections of records, EDNS and a signature (RFC 1035, 4.1).
 ///

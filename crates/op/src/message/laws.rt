@@ -1,8 +1,10 @@
 //! What reading means: the words of a message (RFC 1035, 4.1).
 
-ghost use Rattle.std.specs.Prelude.{◌≡◌, ◌↔◌, ℕ, Bool, List, length, Ok};
+ghost use Rattle.std.specs.Prelude.{◌≡◌, ◌<◌, ◌↔◌, ℕ, All, Bool, List, length, Ok};
 ghost use Rattle.base.specs.Many.{many_at};
 ghost use Rattle.base.specs.Words.{BackToBack};
+ghost use Rattle.op.specs.Cut.{IsCut, IsUncut};
+ghost use Rattle.op.specs.Fits.{Fits};
 ghost use Rattle.op.specs.Message.{IsMessageAt, MessageValue, message_at};
 ghost use Rattle.op.specs.Query.{IsQueryAt, query_at};
 ghost use Rattle.op.specs.Section.{IsSectionAt, SectionValue, section_at};
@@ -15,4 +17,11 @@ pub fn reading_is_the_message_word()
     ensures once { (B : List ℕ) (i : ℕ) (m n : MessageValue) (e f : ℕ) → IsMessageAt B i m e → IsMessageAt B i n f → (m ≡ n) × (e ≡ f) }
     ensures section { (is_additional : Bool) (op : _) (count : ℕ) (B : List ℕ) (i : ℕ) (s : SectionValue) (e : ℕ) → (section_at is_additional op count B i ≡ Ok (s, e)) ↔ IsSectionAt is_additional op count B i s e }
     ensures questions { (count : ℕ) (B : List ℕ) (i : ℕ) (qs : List Query) (e : ℕ) → (many_at query_at count B i ≡ Ok (qs, e)) ↔ (BackToBack (IsQueryAt B) i qs e × (length qs ≡ count)) }
+{}
+
+/// A message that was read fits, and an uncut cut of it is the same message.
+pub fn what_is_read_fits()
+    ensures fits { (B : List ℕ) (i : ℕ) (m : MessageValue) (e : ℕ) → IsMessageAt B i m e → Fits m }
+    ensures uncut { (B : List ℕ) (i : ℕ) (m : MessageValue) (e : ℕ) → IsMessageAt B i m e → All (λ b. b < 256) B
+        → (limit : ℕ) (C : List ℕ) (c : MessageValue) (k : IsCut m limit C c) → IsUncut k → c ≡ m }
 {}

@@ -3,6 +3,7 @@
 ghost use Rattle.std.specs.Prelude.{◌≡◌, ℕ, IfErr, IfOk, MatchResult};
 ghost use Rattle.base.specs.Many.{many_at};
 ghost use Rattle.base.specs.Reading.{Fails, Reads};
+ghost use Rattle.op.specs.Fits.{Fits};
 ghost use Rattle.op.specs.Message.{IsMessageAt, MessageValue, high_code, message_at, message_value};
 ghost use Rattle.op.specs.Query.{query_at};
 ghost use Rattle.op.specs.ReadsOrDecodes.{ReadsOrDecodes};
@@ -107,12 +108,13 @@ impl Message {
 
     /// Reads the message that a buffer begins with. Bytes behind it are not looked at.
     ///
-    /// Accepts exactly the buffers that begin with a message word, and answers that word's message (RFC 1035, 4.1).
-    /// Refused with the buffer's first fault, and for want of memory.
+    /// Accepts exactly the buffers that begin with a message word, and answers that word's message (RFC 1035, 4.1); that
+    /// message fits. Refused with the buffer's first fault, and for want of memory.
     pub fn from_vec(alloc: Global, buffer: &[u8]) -> Result<Message, DecodeError>
         ensures found { IfOk result (λ m. (e : ℕ) × IsMessageAt buffer.now 0 (message_value m) e) }
         ensures only { (m : MessageValue) (e : ℕ) → IsMessageAt buffer.now 0 m e → MatchResult result (λ read. message_value read ≡ m) (λ f. f ≡ DecodeError.Memory) }
         ensures refused { IfErr result (λ f. Fails f (message_at buffer.now 0)) }
+        ensures fits { IfOk result (λ m. Fits (message_value m)) }
     {
         Message::read(&mut BinDecoder::new(alloc, buffer))
     }

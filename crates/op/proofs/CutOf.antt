@@ -1,0 +1,330 @@
+-- What writing a message leaves is a cut of it, which is read as it stands.
+use Rattle.std.proofs.Common.{◌≡◌, ℕ, ◌+◌, ◌/◌, ◌%◌, ◌<◌, ◌≤◌, Bool, List, [], ◌∷◌, ◌++◌, length, take, drop, refl, ap, sym, ◌∙◌, subst, arith, length-append, length-drop, Option, Some, None}
+use Rattle.std.specs.Prelude.{All, map, replicate, ◌||◌}
+use Rattle.std.specs.Option.{option_map}
+use Rattle.std.proofs.Math.Seq.{take-length}
+use Rattle.std.proofs.lemmas.List.Elements.{All-cons, All-nil}
+use Rattle.base.specs.Laws.{Holds, IsSpelled, Keeps}
+use Rattle.base.specs.State.{State, Stored}
+use Rattle.base.specs.Words.{BackToBack, Stands}
+use Rattle.base.proofs.ItemLemmas.{Each-keeps}
+use Rattle.base.proofs.LawLemmas.{Keeps-then}
+use Rattle.base.proofs.WordLemmas.{first_stands}
+use Rattle.base_data.specs.declared.rdata.RData.{RData}
+use Rattle.rr.specs.Record.{FitsRecord, IsRecordAt, RecordWord, plain_record}
+use Rattle.rr.specs.declared.record.Record.{Record}
+use Rattle.op.specs.Cut.{IsCut, IsFront, IsWritten, NoRoom, any_lost, code_range, owners, raised}
+use Rattle.op.specs.EdnsRecord.{edns_record, plain_edns}
+use Rattle.op.specs.Emitted.{Emitted, WritesRecords, query_owner, record_owner}
+use Rattle.op.specs.Fits.{Fits, FitsAdditional, FitsEdns, FitsPlain, listed, signature_record}
+use Rattle.op.specs.Header.{HeaderWord, IsHeaderAt, header_bytes, header_value, metadata_value, raw_header}
+use Rattle.op.specs.Message.{IsMessageAt, MessageValue, high_code, message_of}
+use Rattle.op.specs.OpCode.{op_number, op_value}
+use Rattle.op.specs.Query.{QueryWord, plain_query}
+use Rattle.op.specs.ResponseCode.{code_number, code_value}
+use Rattle.op.specs.Section.{IsGiven, IsPlain, SectionValue, section_of}
+use Rattle.op.specs.declared.edns.Edns.{Edns}
+use Rattle.op.specs.declared.header.Header.{Header}
+use Rattle.op.specs.declared.header.header_counts.HeaderCounts.{HeaderCounts}
+use Rattle.op.specs.declared.header.metadata.Metadata.{Metadata}
+use Rattle.op.specs.declared.op_code.OpCode.{OpCode}
+use Rattle.op.proofs.CodeLemmas.{high_back, metadata_back}
+use Rattle.op.proofs.CutWords.{Composed, Ends, all_front, composed, ends, header_len, stands_behind}
+use Rattle.op.proofs.HeaderLemmas.{header_stands}
+use Rattle.op.proofs.MessageStands.{message_again}
+use Rattle.op.proofs.SortLemmas.{OneFront, all_end, all_given, one_front, one_opt, sorted_edns, sorted_records, sorted_signature, tail}
+use Rattle.op.proofs.WordsBack.{edns_fits}
+
+-- ---- parts of one or none
+
+abbrev raise : ℕ → Edns → Edns
+raise high e = record e { rcode_high = high }
+
+raise_fits : (high : ℕ) (o : Option Edns) → All FitsEdns (listed o) → All FitsEdns (listed (option_map (raise high) o))
+raise_fits high None fits = All-nil FitsEdns
+raise_fits high (Some e) fits =
+    let f = fits 0 e (omega arith) in
+    All-cons FitsEdns (raise high e) [] (record { payload = f.payload; version = f.version; z = f.z }) (All-nil FitsEdns)
+
+raised_high : (high : ℕ) (o some : Option Edns) (rest : List Edns) → listed (option_map (raise high) o) ≡ listed some ++ rest → (e : Edns) → some ≡ Some e → e.rcode_high ≡ high
+raised_high high None (Some x) rest whole e is = cc
+raised_high high (Some y) (Some x) rest whole e is =
+    let first : raise high y ≡ x = head (raise high y) x [] rest whole in
+    let same : x ≡ e = some_same x e is in
+    sym (ap (λ (z : Edns). z.rcode_high) (first ∙ same))
+  where
+    head : (a b : Edns) (xs ys : List Edns) → a ∷ xs ≡ b ∷ ys → a ≡ b
+    head a b xs ys w = cc
+
+    some_same : (a b : Edns) → Some a ≡ Some b → a ≡ b
+    some_same a b w = cc
+raised_high high o None rest whole e is = cc
+
+edns_fit : (o : Option Edns) → All FitsEdns (listed o) → All FitsRecord (listed (option_map edns_record o))
+edns_fit None fits = All-nil FitsRecord
+edns_fit (Some e) fits = All-cons FitsRecord (edns_record e) [] (edns_fits e (fits 0 e (omega arith))) (All-nil FitsRecord)
+
+signature_fit : (o : Option (Record (List ℕ))) → All (λ r. FitsRecord (signature_record r)) (listed o) → All FitsRecord (listed (option_map signature_record o))
+signature_fit None fits = All-nil FitsRecord
+signature_fit (Some r) fits = All-cons FitsRecord (signature_record r) [] (fits 0 r (omega arith)) (All-nil FitsRecord)
+
+no_room_of : {X : Type 0} (f : X → Record RData) (limit place : ℕ) (rest : List X) → NoRoom plain_record limit place (map f rest) → NoRoom (λ x. plain_record (f x)) limit place rest
+no_room_of f limit place [] full = tt
+no_room_of f limit place (x ∷ rest) full = full
+
+lost_of : {X : Type 0} (f : X → Record RData) (rest : List X) → any_lost (map f rest) ≡ any_lost rest
+lost_of f [] = refl
+lost_of f (x ∷ rest) = refl
+
+same_section : {a b : List (Record RData)} {e f : Option Edns} {s t : Option (Record (List ℕ))} → a ≡ b → e ≡ f → s ≡ t → ◌≡◌ {A = SectionValue} (record { records = a; edns = e; signature = s }) (record { records = b; edns = f; signature = t })
+same_section p q r = rw (p, q, r) refl
+
+same_counts : (c : HeaderCounts) (q a n d : ℕ) → c.queries ≡ q → c.answers ≡ a → c.authorities ≡ n → c.additionals ≡ d → c ≡ record { queries = q; answers = a; authorities = n; additionals = d }
+same_counts c q a n d qs rs ns ds = rw (sym qs, sym rs, sym ns, sym ds) refl
+
+same_bits : (t : Bool) {a b c d f a' b' c' d' f' : Bool} → a ≡ a' → b ≡ b' → c ≡ c' → d ≡ d' → f ≡ f' → (t || (a || (b || (c || (d || f))))) ≡ (t || (a' || (b' || (c' || (d' || f')))))
+same_bits t p q r s u = rw (p, q, r, s, u) refl
+
+module _ (m : MessageValue) (old new : State) (h : Header) (e : Emitted m old new h) (fits : Fits m) (empty : old.bytes ≡ []) (untold : old.suffixes ≡ []) where
+  -- ---- the bytes
+
+  bytes_are : new.bytes ≡ header_bytes (raw_header h) ++ drop 12 e.sixth.bytes
+  bytes_are =
+      ap (λ (s : State). s.bytes) e.header
+      ∙ ap (λ (n : ℕ). take n e.sixth.bytes ++ (header_bytes (raw_header h) ++ drop (n + 12) e.sixth.bytes)) (ap length empty)
+
+  kept_len : length e.kept.bytes ≡ 12
+  kept_len = ap (λ (s : State). length s.bytes) e.place ∙ length-append old.bytes (replicate 12 0) ∙ ap (λ (xs : List ℕ). length xs + 12) empty
+
+  kept_suffixes : e.kept.suffixes ≡ []
+  kept_suffixes = ap (λ (s : State). s.suffixes) e.place ∙ untold
+
+  holds : Holds e.kept e.sixth new.bytes
+  holds = record {
+    table = record { each = subst (λ (ts : List Stored). All (IsSpelled new.bytes (length e.kept.bytes)) ts) (sym kept_suffixes) (All-nil (IsSpelled new.bytes (length e.kept.bytes))) };
+    bytes =
+        let at12 : Stands (drop 12 e.sixth.bytes) (header_bytes (raw_header h) ++ drop 12 e.sixth.bytes) 12 = stands_behind (header_bytes (raw_header h)) (drop 12 e.sixth.bytes) refl in
+        let there : Stands (drop 12 e.sixth.bytes) new.bytes 12 = subst (λ xs. Stands (drop 12 e.sixth.bytes) xs 12) (sym bytes_are) at12 in
+        subst (λ (n : ℕ). Stands (drop n e.sixth.bytes) new.bytes n) (sym kept_len) there;
+  }
+
+  header_there : Stands (header_bytes (raw_header h)) new.bytes 0
+  header_there =
+      let whole : Stands (header_bytes (raw_header h) ++ drop 12 e.sixth.bytes) new.bytes 0 = subst (λ xs. Stands xs new.bytes 0) bytes_are (record { is = take-length new.bytes }) in
+      first_stands (header_bytes (raw_header h)) (drop 12 e.sixth.bytes) new.bytes 0 whole
+
+  -- ---- what keeps the limit
+
+  keeps_of : {rs : List (Record RData)} {a b : State} {n : ℕ} {is_cut : Bool} → (w : WritesRecords rs a b n is_cut) → Keeps a b
+  keeps_of {a = a} {b = b} w = Each-keeps RecordWord plain_record record_owner w.kept a b w.written
+
+  kq : Keeps e.kept e.first
+  kq = Each-keeps QueryWord plain_query query_owner m.queries e.kept e.first e.queries
+
+  k1 : Keeps e.kept e.second
+  k1 = Keeps-then kq (keeps_of e.answers)
+
+  k2 : Keeps e.kept e.third
+  k2 = Keeps-then k1 (keeps_of e.authorities)
+
+  k3 : Keeps e.kept e.fourth
+  k3 = Keeps-then k2 (keeps_of e.additionals)
+
+  k4 : Keeps e.kept e.fifth
+  k4 = Keeps-then k3 (keeps_of e.edns)
+
+  k5 : Keeps e.kept e.sixth
+  k5 = Keeps-then k4 (keeps_of e.signature)
+
+  limit_kept : e.kept.limit ≡ old.limit
+  limit_kept = ap (λ (s : State). s.limit) e.place
+
+  grown : length e.kept.bytes ≤ length e.sixth.bytes
+  grown = omega (arith, ap length k5.bytes, length-append e.kept.bytes k5.appended)
+
+  new_len : length new.bytes ≡ length e.sixth.bytes
+  new_len = omega (arith, ap length bytes_are, length-append (header_bytes (raw_header h)) (drop 12 e.sixth.bytes), length-drop 12 e.sixth.bytes, header_len (raw_header h), grown, kept_len)
+
+  small : length new.bytes ≤ old.limit
+  small = omega (arith, new_len, k5.within, limit_kept, e.room)
+
+  -- ---- what was kept
+
+  op : OpCode
+  op = m.metadata.op_code
+
+  fits_answers : All (FitsPlain m.metadata.op_code) e.answers.kept
+  fits_answers = all_front (FitsPlain m.metadata.op_code) m.answers e.answers.kept e.answers.lost e.answers.whole fits.answers
+
+  fits_authorities : All (FitsPlain m.metadata.op_code) e.authorities.kept
+  fits_authorities = all_front (FitsPlain m.metadata.op_code) m.authorities e.authorities.kept e.authorities.lost e.authorities.whole fits.authorities
+
+  fits_additionals : All (FitsAdditional m.metadata.op_code) e.additionals.kept
+  fits_additionals = all_front (FitsAdditional m.metadata.op_code) m.additionals e.additionals.kept e.additionals.lost e.additionals.whole fits.additionals
+
+  one_edns : OneFront edns_record (raised m) e.edns.kept e.edns.lost
+  one_edns = one_front edns_record (raised m) e.edns.kept e.edns.lost e.edns.whole
+
+  one_signature : OneFront signature_record m.signature e.signature.kept e.signature.lost
+  one_signature = one_front signature_record m.signature e.signature.kept e.signature.lost e.signature.whole
+
+  fits_edns : All FitsEdns (listed one_edns.some)
+  fits_edns = all_front FitsEdns (listed (raised m)) (listed one_edns.some) one_edns.rest one_edns.front (raise_fits (code_number m.metadata.response_code / 16 % 256) m.edns fits.edns)
+
+  fits_signature : All (λ r. FitsRecord (signature_record r)) (listed one_signature.some)
+  fits_signature = all_front (λ r. FitsRecord (signature_record r)) (listed m.signature) (listed one_signature.some) one_signature.rest one_signature.front fits.signature
+
+  opts_fit : All FitsRecord e.edns.kept
+  opts_fit = subst (All FitsRecord) (sym one_edns.kept_is) (edns_fit one_edns.some fits_edns)
+
+  signatures_fit : All FitsRecord e.signature.kept
+  signatures_fit = subst (All FitsRecord) (sym one_signature.kept_is) (signature_fit one_signature.some fits_signature)
+
+  -- ---- the words
+
+  all : List (Record RData)
+  all = e.additionals.kept ++ tail one_edns.some one_signature.some
+
+  words : Composed new.bytes m.queries e.answers.kept e.authorities.kept (e.additionals.kept ++ tail one_edns.some one_signature.some) 12 (length e.first.bytes) (length e.second.bytes) (length e.third.bytes) (length new.bytes)
+  words =
+      let c = composed new.bytes m.queries e.answers.kept e.authorities.kept e.additionals.kept e.edns.kept e.signature.kept e.kept e.first e.second e.third e.fourth e.fifth e.sixth
+      fits.queries (λ k d below. (fits_answers k d below).fits) (λ k d below. (fits_authorities k d below).fits) (λ k d below. (fits_additionals k d below).fits) opts_fit signatures_fit
+      e.queries e.answers.written e.authorities.written e.additionals.written e.edns.written e.signature.written holds in
+      let listed_edns = subst (λ es. Composed new.bytes m.queries e.answers.kept e.authorities.kept (e.additionals.kept ++ (es ++ e.signature.kept)) (length e.kept.bytes) (length e.first.bytes) (length e.second.bytes) (length e.third.bytes) (length e.sixth.bytes)) one_edns.kept_is c in
+      let listed_signature = subst (λ ss. Composed new.bytes m.queries e.answers.kept e.authorities.kept (e.additionals.kept ++ (listed (option_map edns_record one_edns.some) ++ ss)) (length e.kept.bytes) (length e.first.bytes) (length e.second.bytes) (length e.third.bytes) (length e.sixth.bytes)) one_signature.kept_is listed_edns in
+      let from12 = subst (λ n. Composed new.bytes m.queries e.answers.kept e.authorities.kept (e.additionals.kept ++ tail one_edns.some one_signature.some) n (length e.first.bytes) (length e.second.bytes) (length e.third.bytes) (length e.sixth.bytes)) kept_len listed_signature in
+      subst (λ n. Composed new.bytes m.queries e.answers.kept e.authorities.kept (e.additionals.kept ++ tail one_edns.some one_signature.some) 12 (length e.first.bytes) (length e.second.bytes) (length e.third.bytes) n) (sym new_len) from12
+
+  last : Ends new.bytes e.additionals.kept (listed (option_map edns_record one_edns.some)) (listed (option_map signature_record one_signature.some)) (length e.third.bytes) (length e.fourth.bytes) (length e.fifth.bytes) (length new.bytes)
+  last =
+      let c = ends new.bytes m.queries e.answers.kept e.authorities.kept e.additionals.kept e.edns.kept e.signature.kept e.kept e.first e.second e.third e.fourth e.fifth e.sixth
+      fits.queries (λ k d below. (fits_answers k d below).fits) (λ k d below. (fits_authorities k d below).fits) (λ k d below. (fits_additionals k d below).fits) opts_fit signatures_fit
+      e.queries e.answers.written e.authorities.written e.additionals.written e.edns.written e.signature.written holds in
+      let listed_edns = subst (λ es. Ends new.bytes e.additionals.kept es e.signature.kept (length e.third.bytes) (length e.fourth.bytes) (length e.fifth.bytes) (length e.sixth.bytes)) one_edns.kept_is c in
+      let listed_signature = subst (λ ss. Ends new.bytes e.additionals.kept (listed (option_map edns_record one_edns.some)) ss (length e.third.bytes) (length e.fourth.bytes) (length e.fifth.bytes) (length e.sixth.bytes)) one_signature.kept_is listed_edns in
+      subst (λ n. Ends new.bytes e.additionals.kept (listed (option_map edns_record one_edns.some)) (listed (option_map signature_record one_signature.some)) (length e.third.bytes) (length e.fourth.bytes) (length e.fifth.bytes) n) (sym new_len) listed_signature
+
+  -- ---- the header
+
+  small_op : op_number h.metadata.op_code < 16
+  small_op = subst (λ (o : OpCode). op_number o < 16) (sym (ap (λ (x : Metadata). x.op_code) e.metadata)) fits.op_code
+
+  op_reads : op_value (op_number h.metadata.op_code) ≡ h.metadata.op_code
+  op_reads = subst (λ (o : OpCode). op_value (op_number o) ≡ o) (sym (ap (λ (x : Metadata). x.op_code) e.metadata)) fits.op_code_reads
+
+  header_is : IsHeaderAt new.bytes 0 (header_value (raw_header h))
+  header_is = record { raw = raw_header h; word = (header_stands h new.bytes 0 e.narrow header_there).0; value = refl }
+
+  abbrev cut_bit : Bool
+  cut_bit = m.metadata.truncation || (e.answers_cut || (e.authorities_cut || (e.additionals_cut || (e.edns_cut || e.signature_cut))))
+
+  number : ℕ
+  number = code_number m.metadata.response_code
+
+  metadata_read : metadata_value (raw_header h) ≡ record m.metadata { truncation = cut_bit; response_code = code_value (code_number m.metadata.response_code % 16) }
+  metadata_read = metadata_back h small_op op_reads ∙ ap (λ (x : Metadata). record x { response_code = code_value (code_number x.response_code % 16) }) e.metadata
+
+  op_kept : op_value (op_number h.metadata.op_code % 16) ≡ m.metadata.op_code
+  op_kept = ap (λ (x : Metadata). x.op_code) metadata_read
+
+  abbrev message : MessageValue
+  message = record { metadata = high_code one_edns.some (metadata_value (raw_header h)); queries = m.queries; answers = e.answers.kept; authorities = e.authorities.kept; additionals = e.additionals.kept; edns = one_edns.some; signature = one_signature.some }
+
+  plain : (rs : List (Record RData)) → All (FitsPlain m.metadata.op_code) rs → All (IsPlain (header_value (raw_header h)).metadata.op_code) rs
+  plain rs fit = subst (λ o. All (IsPlain o) rs) (sym op_kept) (λ k d below. record { given = (fit k d below).given; placed = (fit k d below).placed })
+
+  sorted : section_of (e.additionals.kept ++ tail one_edns.some one_signature.some) ≡ record { records = e.additionals.kept; edns = one_edns.some; signature = one_signature.some }
+  sorted = same_section
+      (sorted_records e.additionals.kept m.metadata.op_code fits_additionals one_edns.some one_signature.some)
+      (sorted_edns e.additionals.kept m.metadata.op_code fits_additionals one_edns.some one_signature.some fits_edns)
+      (sorted_signature e.additionals.kept m.metadata.op_code fits_additionals one_edns.some one_signature.some)
+
+  all_counted : h.counts.additionals ≡ length (e.additionals.kept ++ tail one_edns.some one_signature.some)
+  all_counted =
+      let edns = ap (λ (rs : List (Record RData)). length rs) one_edns.kept_is in
+      let signature = ap (λ (rs : List (Record RData)). length rs) one_signature.kept_is in
+      omega (
+        arith,
+        e.sum,
+        e.additionals.counted,
+        e.edns.counted,
+        e.signature.counted,
+        edns,
+        signature,
+        length-append e.additionals.kept (tail one_edns.some one_signature.some),
+        length-append (listed (option_map edns_record one_edns.some)) (listed (option_map signature_record one_signature.some)),
+      )
+
+  counted : h.counts ≡ record { queries = length m.queries; answers = length e.answers.kept; authorities = length e.authorities.kept; additionals = length (e.additionals.kept ++ tail one_edns.some one_signature.some) }
+  counted = same_counts h.counts (length m.queries) (length e.answers.kept) (length e.authorities.kept) (length (e.additionals.kept ++ tail one_edns.some one_signature.some)) e.query_count e.answers.counted e.authorities.counted all_counted
+
+  abbrev message_word : IsMessageAt new.bytes 0 message (length new.bytes)
+  message_word = record {
+    header = header_value (raw_header h);
+    queries_end = length e.first.bytes;
+    answers_end = length e.second.bytes;
+    authorities_end = length e.third.bytes;
+    answers = e.answers.kept;
+    authorities = e.authorities.kept;
+    additionals = e.additionals.kept ++ tail one_edns.some one_signature.some;
+    header_stands = header_is;
+    queries_stand = words.queries;
+    answers_stand = words.answers;
+    authorities_stand = words.authorities;
+    additionals_stand = words.additionals;
+    counts = counted;
+    answers_plain = plain e.answers.kept fits_answers;
+    authorities_plain = plain e.authorities.kept fits_authorities;
+    additionals_given = subst (λ o. All (IsGiven o) (e.additionals.kept ++ tail one_edns.some one_signature.some)) (sym op_kept) (all_given e.additionals.kept m.metadata.op_code fits_additionals one_edns.some one_signature.some);
+    signature_last = all_end e.additionals.kept m.metadata.op_code fits_additionals one_edns.some one_signature.some;
+    one_opt = one_opt e.additionals.kept m.metadata.op_code fits_additionals one_edns.some one_signature.some;
+    message = ap (message_of (metadata_value (raw_header h)) m.queries e.answers.kept e.authorities.kept) (sym sorted);
+  }
+
+  -- ---- the metadata
+
+  abbrev lost_bit : Bool
+  lost_bit = m.metadata.truncation || (any_lost e.answers.lost || (any_lost e.authorities.lost || (any_lost e.additionals.lost || (any_lost one_edns.rest || any_lost one_signature.rest))))
+
+  tells : cut_bit ≡ lost_bit
+  tells = same_bits m.metadata.truncation e.answers.tells e.authorities.tells e.additionals.tells
+      (e.edns.tells ∙ ap any_lost one_edns.lost_is ∙ lost_of edns_record one_edns.rest)
+      (e.signature.tells ∙ ap any_lost one_signature.lost_is ∙ lost_of signature_record one_signature.rest)
+
+  metadata_is : high_code one_edns.some (metadata_value (raw_header h)) ≡ record m.metadata { truncation = lost_bit; response_code = code_value (code_number m.metadata.response_code % code_range one_edns.some) }
+  metadata_is =
+      high_back one_edns.some (metadata_value (raw_header h)) (code_number m.metadata.response_code) (raised_high (code_number m.metadata.response_code / 16 % 256) m.edns one_edns.some one_edns.rest one_edns.front) (ap (λ (x : Metadata). x.response_code) metadata_read)
+      ∙ ap (λ (x : Metadata). record x { response_code = code_value (code_number m.metadata.response_code % code_range one_edns.some) }) metadata_read
+      ∙ ap (λ (b : Bool). record m.metadata { truncation = b; response_code = code_value (code_number m.metadata.response_code % code_range one_edns.some) }) tells
+
+  -- ---- the cut
+
+  no_room : {rs : List (Record RData)} {a b : State} {n : ℕ} {is_cut : Bool} (w : WritesRecords rs a b n is_cut) → Keeps e.kept a → NoRoom plain_record old.limit (length b.bytes) w.lost
+  no_room {a = a} {b = b} w keeps = subst (λ l. NoRoom plain_record l (length b.bytes) w.lost) (keeps.limit ∙ limit_kept) w.full
+
+  cut_of : IsCut m old.limit new.bytes message
+  cut_of = record {
+    small = small;
+    word = message_word;
+    additionals_end = length e.fourth.bytes;
+    edns_end = length e.fifth.bytes;
+    additionals_stand = last.additionals;
+    edns_stands = last.edns;
+    signature_stands = last.signature;
+    queries = refl;
+    answers = record { lost = e.answers.lost; front = e.answers.whole; full = no_room e.answers kq };
+    authorities = record { lost = e.authorities.lost; front = e.authorities.whole; full = no_room e.authorities k1 };
+    additionals = record { lost = e.additionals.lost; front = e.additionals.whole; full = no_room e.additionals k2 };
+    edns = record { lost = one_edns.rest; front = one_edns.front; full = no_room_of edns_record old.limit (length e.fifth.bytes) one_edns.rest (subst (NoRoom plain_record old.limit (length e.fifth.bytes)) one_edns.lost_is (no_room e.edns k3)) };
+    signature = record {
+      lost = one_signature.rest;
+      front = one_signature.front;
+      full = subst (λ n. NoRoom (λ r. plain_record (signature_record r)) old.limit n one_signature.rest) (sym new_len) (no_room_of signature_record old.limit (length e.sixth.bytes) one_signature.rest (subst (NoRoom plain_record old.limit (length e.sixth.bytes)) one_signature.lost_is (no_room e.signature k4)));
+    };
+    metadata = metadata_is;
+    short = words.short;
+  }
+
+  -- what is written of a message that fits, into a new encoder, is a cut, and is read as exactly that
+  pub written_of : IsWritten m old.limit new.bytes
+  written_of = record { message = message; is_cut = cut_of; read = message_again new.bytes 0 message (length new.bytes) message_word }

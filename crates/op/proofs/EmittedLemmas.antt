@@ -1,0 +1,310 @@
+-- A message that was composed of slices was emitted.
+use Rattle.std.proofs.Common.{◌≡◌, ◌⊎◌, ℕ, ◌+◌, ◌<◌, ◌≤◌, ◌^◌, Bool, true, false, List, [], ◌∷◌, ◌++◌, length, inl, inr, refl, ap, sym, ◌∙◌, subst, arith, Result, Ok, Err, Bor, Iter}
+use Rattle.std.specs.Prelude.{◌||◌, ⊤, ◌/◌, ◌%◌, IfOk, IsSomeAnd, MatchOption, Option, Some, None}
+use Rattle.std.specs.Option.{option_copied, option_map}
+use Rattle.std.proofs.iter.Yields.{fronts}
+use Rattle.std.proofs.lemmas.List.{append-nil}
+use Rattle.base.specs.Items.{EachWritten, EmitsAll}
+use Rattle.base.specs.State.{State, overwritten}
+use Rattle.base.specs.declared.error.proto_error.ProtoError.{ProtoError}
+use Rattle.base.specs.declared.error.proto_error.ProtoError.TheVariants as refusals
+use Rattle.base.proofs.SliceLemmas.{Emits-front, Emits-slice}
+use Rattle.base_data.specs.declared.rdata.RData.{RData}
+use Rattle.rr.specs.Record.{RecordWord, plain_record}
+use Rattle.rr.specs.declared.record.Record.{Record}
+use Rattle.op.specs.Composition.{Adds, AndThen, Composition, Counts, EmitsPart, EmitsSections, FillsIn, HasHeader, KeepsRoom, Tests, WritesExtras, WritesRecordItems}
+use Rattle.op.specs.Cut.{raised}
+use Rattle.op.specs.EdnsRecord.{edns_record}
+use Rattle.op.specs.Emitted.{Emitted, WritesFront, WritesRecords, query_owner, record_owner}
+use Rattle.op.specs.Fits.{listed, signature_record}
+use Rattle.op.specs.Header.{IsNarrow, header_bytes, raw_header}
+use Rattle.op.specs.Message.{MessageValue}
+use Rattle.op.specs.ResponseCode.{code_number}
+use Rattle.op.specs.declared.edns.Edns.{Edns}
+use Rattle.op.specs.Query.{QueryWord, plain_query}
+use Rattle.op.specs.declared.header.Header.{Header}
+use Rattle.op.specs.declared.message.writing.parts.Sections.{Sections}
+use Rattle.op.specs.declared.message.writing.parts.Written.{Written}
+use Rattle.op.specs.declared.query.Query.{Query}
+use Rattle.op.proofs.RunLemmas.{Both, went, failed}
+
+-- ---- parts that are slices
+
+module _ {E : Type 0} (word : E → List ℕ → ℕ → ℕ → Type 0) (plain : E → ℕ) (owner : E → List (List ℕ)) where
+  -- what writing the elements of a slice leaves
+  abbrev pub slice_emits : Iter E → State → Result ℕ ProtoError → Iter E → State → Type 0
+  slice_emits s a answer t b = EmitsAll (λ (x : Bor E). word x.now) (λ x. plain x.now) (λ x. owner x.now) fronts s t a b answer
+
+  module _ (s t : Iter E) (a b : State) where
+    front_counted : (answer : Result ℕ ProtoError) (w : Written) → slice_emits s a answer t b → Counts answer (Ok w) → WritesFront word plain owner s.rest.now a b w.count w.is_cut
+    front_counted (Ok n) w emits counts =
+        let all = Emits-slice word plain owner s t a b n emits in
+        record {
+          kept = s.rest.now;
+          lost = [];
+          whole = sym (append-nil s.rest.now);
+          written = all.0;
+          counted = ap (λ v. v.count) counts.1 ∙ all.1;
+          tells = ap (λ v. v.is_cut) counts.1;
+          full = tt;
+        }
+    front_counted (Err (refusals.NotAllRecordsWritten n)) w emits counts =
+        let front = Emits-front word plain owner s t a b n emits in
+        record {
+          kept = front.0;
+          lost = front.1 ∷ front.2;
+          whole = front.3;
+          written = front.4;
+          counted = ap (λ v. v.count) counts.1 ∙ front.5;
+          tells = ap (λ v. v.is_cut) counts.1;
+          full = front.6;
+        }
+    front_counted (Err refusals.Memory) w emits counts = absurd (let is = counts in cc)
+    front_counted (Err refusals.MaxBufferSizeExceeded) w emits counts = absurd emits
+    front_counted (Err refusals.NotOpt) w emits counts = absurd emits
+    front_counted (Err (refusals.Message text)) w emits counts = absurd emits
+    front_counted (Err refusals.NotAResponse) w emits counts = absurd emits
+    front_counted (Err (refusals.Decode e)) w emits counts = absurd emits
+
+    -- a part that was counted is a front
+    pub slice_front : (w : Written) → EmitsPart slice_emits s t a (Ok w) b → WritesFront word plain owner s.rest.now a b w.count w.is_cut
+    slice_front w part = front_counted part.0 w part.1 part.2
+
+-- ---- the whole
+
+-- the sum of three counts
+three : (one two sum three total : Written) → Adds one two (Ok sum) → Adds sum three (Ok total) → total.count ≡ one.count + (two.count + three.count)
+three one two sum other total first second = omega (arith, ap (λ w. w.count) first.1, ap (λ w. w.count) second.1)
+
+assoc : (p q r : Bool) → ((p || q) || r) ≡ (p || (q || r))
+assoc true q r = refl
+assoc false q r = refl
+
+any_three : (one two sum other total : Written) → Adds one two (Ok sum) → Adds sum other (Ok total) → total.is_cut ≡ (one.is_cut || (two.is_cut || other.is_cut))
+any_three one two sum other total first second =
+    ap (λ w. w.is_cut) second.1 ∙ ap (λ w. w.is_cut || other.is_cut) first.1 ∙ assoc one.is_cut two.is_cut other.is_cut
+
+same_value : {X : Type 0} (x y : X) → ◌≡◌ {A = Result X ProtoError} (Ok x) (Ok y) → x ≡ y
+same_value x y is = cc
+
+-- the pieces of a message that was written
+assemble : (m : MessageValue) (old kept first second third fourth fifth sixth new : State) (h : Header) (place queries : ℕ) (answers authorities additionals opt sum signed total : Written)
+    → KeepsRoom old (Ok place) kept → EachWritten QueryWord plain_query query_owner m.queries kept first → queries ≡ length m.queries
+    → WritesRecords m.answers first second answers.count answers.is_cut
+    → WritesRecords m.authorities second third authorities.count authorities.is_cut
+    → WritesRecords m.additionals third fourth additionals.count additionals.is_cut
+    → WritesRecords (listed (option_map edns_record (raised m))) fourth fifth opt.count opt.is_cut
+    → Adds additionals opt (Ok sum)
+    → WritesRecords (listed (option_map signature_record m.signature)) fifth sixth signed.count signed.is_cut
+    → Adds sum signed (Ok total)
+    → HasHeader m.metadata queries (record { answers = answers; authorities = authorities; additionals = additionals }) total (Ok h)
+    → new ≡ overwritten place (header_bytes (raw_header h)) sixth
+    → Emitted m old new h
+assemble m old kept first second third fourth fifth sixth new h place queries answers authorities additionals opt sum signed total room asked asked_count wrote_answers wrote_authorities wrote_additionals wrote_opt added wrote_signature added_too header filled =
+    let fields = header.1 in
+    record {
+      kept = kept;
+      first = first;
+      second = second;
+      third = third;
+      fourth = fourth;
+      fifth = fifth;
+      sixth = sixth;
+      answers_cut = answers.is_cut;
+      authorities_cut = authorities.is_cut;
+      additionals_cut = additionals.is_cut;
+      edns_cut = opt.is_cut;
+      signature_cut = signed.is_cut;
+      additional_count = additionals.count;
+      edns_count = opt.count;
+      signature_count = signed.count;
+      narrow = header.0;
+      place = room.1;
+      room = room.2;
+      queries = asked;
+      answers = subst (λ n. WritesRecords m.answers first second n answers.is_cut) (sym (ap (λ k. k.counts.answers) fields)) wrote_answers;
+      authorities = subst (λ n. WritesRecords m.authorities second third n authorities.is_cut) (sym (ap (λ k. k.counts.authorities) fields)) wrote_authorities;
+      additionals = wrote_additionals;
+      edns = wrote_opt;
+      signature = wrote_signature;
+      query_count = ap (λ k. k.counts.queries) fields ∙ asked_count;
+      sum = ap (λ k. k.counts.additionals) fields ∙ three additionals opt sum signed total added added_too;
+      metadata = ap (λ k. k.metadata) fields ∙ ap (λ p. record m.metadata { truncation = m.metadata.truncation || (answers.is_cut || (authorities.is_cut || p)) }) (any_three additionals opt sum signed total added added_too);
+      header = filled ∙ ap (λ n. overwritten n (header_bytes (raw_header h)) sixth) room.0;
+    }
+
+abbrev pub emits_records : Iter (Record RData) → State → Result ℕ ProtoError → Iter (Record RData) → State → Type 0
+emits_records = slice_emits RecordWord plain_record record_owner
+
+abbrev emits_queries : Iter Query → State → Result ℕ ProtoError → Iter Query → State → Type 0
+emits_queries = slice_emits QueryWord plain_query query_owner
+
+-- fronts of three lists of records were written
+pub record ThreeFronts (xs ys zs : List (Record RData)) (a d : State) (sections : Sections) : Type 0 where
+  pub second : State
+  pub third : State
+  pub answers : WritesRecords xs a second sections.answers.count sections.answers.is_cut
+  pub authorities : WritesRecords ys second third sections.authorities.count sections.authorities.is_cut
+  pub additionals : WritesRecords zs third d sections.additionals.count sections.additionals.is_cut
+
+module _ (a a' n n' d d' : Iter (Record RData)) (sections : Sections) (first last : State) where
+  abbrev Third : Written → Written → Written → State → Result Sections ProtoError → State → Type 0
+  Third answers authorities additionals = Tests (λ result. result ≡ Ok (record { answers = answers; authorities = authorities; additionals = additionals }))
+
+  abbrev Second : Written → Written → State → Result Sections ProtoError → State → Type 0
+  Second answers authorities = AndThen (EmitsPart emits_records d d') ⊤ (Third answers authorities)
+
+  abbrev First : Written → State → Result Sections ProtoError → State → Type 0
+  First answers = AndThen (EmitsPart emits_records n n') (d' ≡ d) (Second answers)
+
+  third_done : (answers authorities : Written) (second third : State) → WritesRecords a.rest.now first second answers.count answers.is_cut → WritesRecords n.rest.now second third authorities.count authorities.is_cut
+      → Both (EmitsPart emits_records d d') (Third answers authorities) third (Ok sections) last → ThreeFronts a.rest.now n.rest.now d.rest.now first last sections
+  third_done answers authorities second third one two b =
+      let additionals = slice_front RecordWord plain_record record_owner d d' third b.between b.value b.ran in
+      let are : sections ≡ record { answers = answers; authorities = authorities; additionals = b.value } = same_value sections _ b.rest.0 in
+      subst (λ (s : Sections). ThreeFronts a.rest.now n.rest.now d.rest.now first last s) (sym are)
+      (record { second = second; third = third; answers = one; authorities = two; additionals = subst (λ s. WritesRecords d.rest.now third s b.value.count b.value.is_cut) (sym b.rest.1) additionals })
+
+  second_done : (answers : Written) (second : State) → WritesRecords a.rest.now first second answers.count answers.is_cut → Both (EmitsPart emits_records n n') (Second answers) second (Ok sections) last → ThreeFronts a.rest.now n.rest.now d.rest.now first last sections
+  second_done answers second one b =
+      third_done answers b.value second b.between one (slice_front RecordWord plain_record record_owner n n' second b.between b.value b.ran) (went sections b.rest)
+
+  first_done : Both (EmitsPart emits_records a a') First first (Ok sections) last → ThreeFronts a.rest.now n.rest.now d.rest.now first last sections
+  first_done b = second_done b.value b.between (slice_front RecordWord plain_record record_owner a a' first b.between b.value b.ran) (went sections b.rest)
+
+  pub sections_done : EmitsSections emits_records emits_records emits_records a a' n n' d d' first (Ok sections) last → ThreeFronts a.rest.now n.rest.now d.rest.now first last sections
+  sections_done run = first_done (went sections run)
+
+-- OPT and the signature were written, and counted with the additionals before them
+pub record TwoFronts (edns signature : List (Record RData)) (additionals : Written) (a c : State) (total : Written) : Type 0 where
+  pub fifth : State
+  pub opt : Written
+  pub sum : Written
+  pub signed : Written
+  pub opt_front : WritesRecords edns a fifth opt.count opt.is_cut
+  pub added : Adds additionals opt (Ok sum)
+  pub signature_front : WritesRecords signature fifth c signed.count signed.is_cut
+  pub added_too : Adds sum signed (Ok total)
+
+module _ (edns signature : List (Record RData)) (additionals total : Written) (fourth last : State) where
+  abbrev Fourth : Written → Written → State → Result Written ProtoError → State → Type 0
+  Fourth sum signed = Tests (Adds sum signed)
+
+  abbrev Third_extra : Written → State → Result Written ProtoError → State → Type 0
+  Third_extra sum = AndThen (WritesRecordItems signature) ⊤ (Fourth sum)
+
+  abbrev Second_extra : Written → State → Result Written ProtoError → State → Type 0
+  Second_extra opt = AndThen (Tests (Adds additionals opt)) ⊤ Third_extra
+
+  signed_done : (opt sum : Written) (fifth fifth' : State) → WritesRecords edns fourth fifth opt.count opt.is_cut → Adds additionals opt (Ok sum) → fifth' ≡ fifth → Both (WritesRecordItems signature) (Fourth sum) fifth' (Ok total) last → TwoFronts edns signature additionals fourth last total
+  signed_done opt sum fifth fifth' front added same b = record {
+    fifth = fifth;
+    opt = opt;
+    sum = sum;
+    signed = b.value;
+    opt_front = front;
+    added = added;
+    signature_front = subst (λ s. WritesRecords signature fifth s b.value.count b.value.is_cut) (sym b.rest.1) (subst (λ s. WritesRecords signature s b.between b.value.count b.value.is_cut) same b.ran);
+    added_too = b.rest.0;
+  }
+
+  sum_done : (opt : Written) (fifth : State) → WritesRecords edns fourth fifth opt.count opt.is_cut → Both (Tests (Adds additionals opt)) Third_extra fifth (Ok total) last → TwoFronts edns signature additionals fourth last total
+  sum_done opt fifth front b = signed_done opt b.value fifth b.between front b.ran.0 b.ran.1 (went total b.rest)
+
+  opt_done : Both (WritesRecordItems edns) Second_extra fourth (Ok total) last → TwoFronts edns signature additionals fourth last total
+  opt_done b = sum_done b.value b.between b.ran (went total b.rest)
+
+  pub extras_done : WritesExtras edns signature additionals fourth (Ok total) last → TwoFronts edns signature additionals fourth last total
+  extras_done run = opt_done (went total run)
+
+module _ (m : MessageValue) (q q' : Iter Query) (a a' n n' d d' : Iter (Record RData)) (edns signature : List (Record RData)) where
+  -- the composition of slices
+  abbrev pub Composed : State → Result Header ProtoError → State → Type 0
+  Composed = Composition emits_records emits_records emits_records a a' n n' d d' m.metadata emits_queries q q' edns signature
+
+  -- the slices are the message's
+  pub record AreOf : Type 0 where
+    pub queries : q.rest.now ≡ m.queries
+    pub answers : a.rest.now ≡ m.answers
+    pub authorities : n.rest.now ≡ m.authorities
+    pub additionals : d.rest.now ≡ m.additionals
+    pub edns_is : edns ≡ listed (option_map edns_record (raised m))
+    pub signature_is : signature ≡ listed (option_map signature_record m.signature)
+
+module _ (m : MessageValue) (q q' : Iter Query) (a a' n n' d d' : Iter (Record RData)) (edns signature : List (Record RData)) (are : AreOf m q q' a a' n n' d d' edns signature) (old new : State) (h : Header) where
+  abbrev Filled : ℕ → Header → State → Result Header ProtoError → State → Type 0
+  Filled place header = FillsIn place header
+
+  abbrev Headed : ℕ → ℕ → Sections → Written → State → Result Header ProtoError → State → Type 0
+  Headed place queries sections additionals = AndThen (Tests (HasHeader m.metadata queries sections additionals)) ⊤ (Filled place)
+
+  abbrev Extended : ℕ → ℕ → Sections → State → Result Header ProtoError → State → Type 0
+  Extended place queries sections = AndThen (WritesExtras edns signature sections.additionals) ⊤ (Headed place queries sections)
+
+  abbrev Sectioned : ℕ → ℕ → State → Result Header ProtoError → State → Type 0
+  Sectioned place queries = AndThen (EmitsSections emits_records emits_records emits_records a a' n n' d d') ⊤ (Extended place queries)
+
+  abbrev Asked : ℕ → State → Result Header ProtoError → State → Type 0
+  Asked place = AndThen (λ s answer t. emits_queries q s answer q' t) ((a' ≡ a) × (n' ≡ n) × (d' ≡ d)) (Sectioned place)
+
+  header_done : (place queries : ℕ) (kept first fourth sixth : State) (sections : Sections) (total : Written) → KeepsRoom old (Ok place) kept → EachWritten QueryWord plain_query query_owner q.rest.now kept first → queries ≡ length q.rest.now
+      → ThreeFronts a.rest.now n.rest.now d.rest.now first fourth sections → TwoFronts edns signature sections.additionals fourth sixth total
+      → Both (Tests (HasHeader m.metadata queries sections total)) (Filled place) sixth (Ok h) new → Emitted m old new h
+  header_done place queries kept first fourth sixth sections total room asked count three two b =
+      let same : b.value ≡ h = sym (same_value h b.value b.rest.0) in
+      assemble m old kept first three.second three.third fourth two.fifth sixth new h place queries sections.answers sections.authorities sections.additionals two.opt two.sum two.signed total
+      room
+      (subst (λ xs. EachWritten QueryWord plain_query query_owner xs kept first) are.queries asked)
+      (count ∙ ap length are.queries)
+      (subst (λ xs. WritesRecords xs first three.second sections.answers.count sections.answers.is_cut) are.answers three.answers)
+      (subst (λ xs. WritesRecords xs three.second three.third sections.authorities.count sections.authorities.is_cut) are.authorities three.authorities)
+      (subst (λ xs. WritesRecords xs three.third fourth sections.additionals.count sections.additionals.is_cut) are.additionals three.additionals)
+      (subst (λ xs. WritesRecords xs fourth two.fifth two.opt.count two.opt.is_cut) are.edns_is two.opt_front)
+      two.added
+      (subst (λ xs. WritesRecords xs two.fifth sixth two.signed.count two.signed.is_cut) are.signature_is two.signature_front)
+      two.added_too
+      (subst (λ k. HasHeader m.metadata queries sections total (Ok k)) same b.ran.0)
+      (b.rest.1 ∙ ap (λ s. overwritten place (header_bytes (raw_header b.value)) s) b.ran.1 ∙ ap (λ k. overwritten place (header_bytes (raw_header k)) sixth) same)
+
+  extras_next : (place queries : ℕ) (kept first fourth : State) (sections : Sections) → KeepsRoom old (Ok place) kept → EachWritten QueryWord plain_query query_owner q.rest.now kept first → queries ≡ length q.rest.now
+      → ThreeFronts a.rest.now n.rest.now d.rest.now first fourth sections → Both (WritesExtras edns signature sections.additionals) (Headed place queries sections) fourth (Ok h) new → Emitted m old new h
+  extras_next place queries kept first fourth sections room asked count three b =
+      header_done place queries kept first fourth b.between sections b.value room asked count three (extras_done edns signature sections.additionals b.value fourth b.between b.ran) (went h b.rest)
+
+  sections_next : (place queries : ℕ) (kept first : State) → KeepsRoom old (Ok place) kept → EachWritten QueryWord plain_query query_owner q.rest.now kept first → queries ≡ length q.rest.now
+      → Both (EmitsSections emits_records emits_records emits_records a a' n n' d d') (Extended place queries) first (Ok h) new → Emitted m old new h
+  sections_next place queries kept first room asked count b =
+      extras_next place queries kept first b.between b.value room asked count (sections_done a a' n n' d d' b.value first b.between b.ran) (went h b.rest)
+
+  queries_next : (place : ℕ) (kept : State) → KeepsRoom old (Ok place) kept → Both (λ s answer t. emits_queries q s answer q' t) (Sectioned place) kept (Ok h) new → Emitted m old new h
+  queries_next place kept room b =
+      let asked = Emits-slice QueryWord plain_query query_owner q q' kept b.between b.value b.ran in
+      sections_next place b.value kept b.between room asked.0 asked.1 (went h b.rest)
+
+  room_next : Both KeepsRoom Asked old (Ok h) new → Emitted m old new h
+  room_next b = queries_next b.value b.between b.ran (went h b.rest)
+
+  pub emitted_of : Composed m q q' a a' n n' d d' edns signature old (Ok h) new → Emitted m old new h
+  emitted_of run = room_next (went h run)
+
+-- the OPT record of EDNS with another high code
+raised_list : (f : Edns → Edns) (o : Option Edns) → listed (option_map (λ e. edns_record (f e)) o) ≡ listed (option_map edns_record (option_map f o))
+raised_list f None = refl
+raised_list f (Some e) = refl
+
+pub raised_edns : (m : MessageValue) (seen : Option Edns) → seen ≡ m.edns
+    → listed (option_map (λ e. edns_record (record e { rcode_high = code_number m.metadata.response_code / 16 % 256 })) seen) ≡ listed (option_map edns_record (raised m))
+raised_edns m seen same =
+    ap (λ o. listed (option_map (λ e. edns_record (record e { rcode_high = code_number m.metadata.response_code / 16 % 256 })) o)) same
+    ∙ raised_list (λ e. record e { rcode_high = code_number m.metadata.response_code / 16 % 256 }) m.edns
+
+pub emitted_if : (m : MessageValue) (q q' : Iter Query) (a a' n n' d d' : Iter (Record RData)) (edns signature : List (Record RData)) → AreOf m q q' a a' n n' d d' edns signature → (old new : State) (result : Result Header ProtoError)
+    → Composed m q q' a a' n n' d d' edns signature old result new → IfOk result (λ h. Emitted m old new h)
+emitted_if m q q' a a' n n' d d' edns signature are old new (Ok h) run = emitted_of m q q' a a' n n' d d' edns signature are old new h run
+emitted_if m q q' a a' n n' d d' edns signature are old new (Err e) run = tt
+
+-- what a box holds, borrowed
+pub unboxed : {X B : Type 0} (value : B → X) (o : Option B) (r : Option (Bor X)) → MatchOption o (r ≡ None) (λ x. IsSomeAnd r (λ y. y.now ≡ value x)) → option_copied r ≡ option_map value o
+unboxed value None r is = ap option_copied is
+unboxed value (Some x) (Some y) is = ap Some is
+unboxed value (Some x) None is = absurd is

@@ -1,0 +1,106 @@
+-- Items that were written, and those that had no room, are a front.
+use Rattle.std.proofs.Common.{◌≡◌, ℕ, ◌+◌, ◌<◌, Bool, true, false, List, [], ◌∷◌, ◌++◌, length, map, refl, ap, sym, ◌∙◌, subst, arith, Option, Some, None, Result, Ok, Err, Bor, ◌⊎◌, inl, inr}
+use Rattle.std.specs.Iterator.{Yields}
+use Rattle.std.specs.Iterator.Adapters.{once_item, once_steps}
+use Rattle.std.specs.declared.iter.Once.{Once}
+use Rattle.std.proofs.lemmas.List.{append-nil, length-map, map-append}
+use Rattle.base.specs.Items.{EachWritten, EmitsAll}
+use Rattle.base.specs.State.{State}
+use Rattle.base.specs.declared.error.proto_error.ProtoError.{ProtoError}
+use Rattle.base.specs.declared.error.proto_error.ProtoError.TheVariants as refusals
+use Rattle.base.proofs.ItemLemmas.{Each-map}
+use Rattle.op.specs.Composition.{Counts, Narrows, WritesItems}
+use Rattle.op.specs.Cut.{NoRoom, any_lost}
+use Rattle.op.specs.Emitted.{WritesFront}
+use Rattle.op.specs.declared.message.writing.parts.Written.{Written}
+
+-- the one item came, or is still to come
+once_yields : {A : Type 0} (s t : Once A) (x : A) (xs : List A) → once_item s ≡ Some x → Yields once_steps s xs t → ((xs ≡ []) × (once_item t ≡ Some x)) ⊎ ((xs ≡ x ∷ []) × (once_item t ≡ None))
+once_yields s t x [] item yields = inl (refl, ap (λ u. once_item u) (sym yields) ∙ item)
+once_yields s t x (y ∷ ys) item (u, step, yields) =
+    let none : once_item u ≡ None = step.1 in
+    let same : y ≡ x = some_same (step.0 ∙ item) in
+    let rest = none_yields u t ys none yields in
+    inr (ap (λ z. z ∷ ys) same ∙ ap (λ zs. x ∷ zs) rest.0, rest.1)
+  where
+    some_same : {B : Type 0} {p q : B} → ◌≡◌ {A = Option B} (Some p) (Some q) → p ≡ q
+    some_same is = cc
+
+    none_yields : {B : Type 0} (v w : Once B) (zs : List B) → once_item v ≡ None → Yields once_steps v zs w → (zs ≡ []) × (once_item w ≡ None)
+    none_yields v w [] none same = (refl, ap (λ z. once_item z) (sym same) ∙ none)
+    none_yields v w (z ∷ zs) none (m, step, others) = let is = step.0 in cc
+
+module _ {E : Type 0} (word : E → List ℕ → ℕ → ℕ → Type 0) (plain : E → ℕ) (owner : E → List (List ℕ)) where
+  -- of one item that was written, or wasn't
+  whole_item : (x : E) (a b : State) (xs : List E) (n : ℕ) (result : Result Written ProtoError) → xs ≡ x ∷ [] → EachWritten word plain owner xs a b → n ≡ length xs → Narrows n false result → WritesItems word plain owner (x ∷ []) a result b
+  whole_item x a b xs n (Ok written) all each count narrows = record {
+    kept = xs;
+    lost = [];
+    whole = sym all ∙ sym (append-nil xs);
+    written = each;
+    counted = ap (λ w. w.count) narrows.1 ∙ count;
+    tells = ap (λ w. w.is_cut) narrows.1;
+    full = tt;
+  }
+  whole_item x a b xs n (Err e) all each count narrows = let one : n ≡ 1 = count ∙ ap length all in absurd (omega (arith, one, narrows.0))
+
+  no_item : (x : E) (a b : State) (xs : List E) (n : ℕ) (result : Result Written ProtoError) → xs ≡ [] → EachWritten word plain owner xs a b → a.limit < length b.bytes + plain x → n ≡ length xs → Narrows n true result → WritesItems word plain owner (x ∷ []) a result b
+  no_item x a b xs n (Ok written) none each full count narrows = record {
+    kept = xs;
+    lost = x ∷ [];
+    whole = ap (λ ys. ys ++ x ∷ []) (sym none);
+    written = each;
+    counted = ap (λ w. w.count) narrows.1 ∙ count;
+    tells = ap (λ w. w.is_cut) narrows.1;
+    full = full;
+  }
+  no_item x a b xs n (Err e) none each full count narrows = let zero : n ≡ 0 = count ∙ ap length none in absurd (omega (arith, zero, narrows.0))
+
+  module _ (item : Bor E) (s t : Once (Bor E)) (a b : State) where
+    pub one_item : (answer : Result ℕ ProtoError) (result : Result Written ProtoError) → once_item s ≡ Some item
+        → EmitsAll (λ (x : Bor E). word x.now) (λ x. plain x.now) (λ x. owner x.now) once_steps s t a b answer → Counts answer result → WritesItems word plain owner (item.now ∷ []) a result b
+    one_item (Ok n) result first (xs, (u, yields, stop), each, count) counts =
+        elim (once_yields s u item xs first yields) [
+          | inl (none, left) ↦ absurd (let is = stop.0 in cc)
+          | inr (all, left) ↦ whole_item item.now a b (map (λ x. x.now) xs) n result (ap (map (λ x. x.now)) all) (Each-map (λ x. x.now) word plain owner xs a b each) (count ∙ sym (length-map xs (λ x. x.now))) counts
+        ]
+    one_item (Err (refusals.NotAllRecordsWritten n)) result first (xs, x, (u, yields, step), each, count, full) counts =
+        elim (once_yields s u item xs first yields) [
+          | inl (none, left) ↦ no_item item.now a b (map (λ x. x.now) xs) n result (ap (map (λ x. x.now)) none) (Each-map (λ x. x.now) word plain owner xs a b each) (let is = step.0 in let same : x ≡ item = cc in subst (λ (y : Bor E). a.limit < length b.bytes + plain y.now) same full) (count ∙ sym (length-map xs (λ x. x.now))) counts
+          | inr (all, left) ↦ absurd (let is = step.0 in cc)
+        ]
+    one_item (Err refusals.Memory) result first emits counts = rw counts refl
+    one_item (Err refusals.MaxBufferSizeExceeded) result first emits counts = absurd emits
+    one_item (Err refusals.NotOpt) result first emits counts = absurd emits
+    one_item (Err (refusals.Message text)) result first emits counts = absurd emits
+    one_item (Err refusals.NotAResponse) result first emits counts = absurd emits
+    one_item (Err (refusals.Decode e)) result first emits counts = absurd emits
+
+-- items whose words are read of a value are that value's items
+module _ {A E : Type 0} (view : A → E) (word : E → List ℕ → ℕ → ℕ → Type 0) (plain : E → ℕ) (owner : E → List (List ℕ)) where
+  lost_map : (limit place : ℕ) (xs : List A) → NoRoom (λ x. plain (view x)) limit place xs → NoRoom plain limit place (map view xs)
+  lost_map limit place [] full = full
+  lost_map limit place (x ∷ xs) full = full
+
+  any_map : (xs : List A) → any_lost xs ≡ any_lost (map view xs)
+  any_map [] = refl
+  any_map (x ∷ xs) = refl
+
+  pub front_map : (xs : List A) (a b : State) (n : ℕ) (is_cut : Bool) → WritesFront (λ x. word (view x)) (λ x. plain (view x)) (λ x. owner (view x)) xs a b n is_cut → WritesFront word plain owner (map view xs) a b n is_cut
+  front_map xs a b n is_cut front = record {
+    kept = map view front.kept;
+    lost = map view front.lost;
+    whole = ap (map view) front.whole ∙ map-append view front.kept front.lost;
+    written = Each-map view word plain owner front.kept a b front.written;
+    counted = front.counted ∙ sym (length-map front.kept view);
+    tells = front.tells ∙ any_map front.lost;
+    full = lost_map a.limit (length b.bytes) front.lost front.full;
+  }
+
+  pub items_map : (xs : List A) (a b : State) (result : Result Written ProtoError) → WritesItems (λ x. word (view x)) (λ x. plain (view x)) (λ x. owner (view x)) xs a result b → WritesItems word plain owner (map view xs) a result b
+  items_map xs a b (Ok written) front = front_map xs a b written.count written.is_cut front
+  items_map xs a b (Err e) memory = memory
+
+-- nothing to write
+pub no_items : {E : Type 0} (word : E → List ℕ → ℕ → ℕ → Type 0) (plain : E → ℕ) (owner : E → List (List ℕ)) (a : State) → WritesItems word plain owner [] a (Ok (record { count = 0; is_cut = false })) a
+no_items word plain owner a = record { kept = []; lost = []; whole = refl; written = refl; counted = refl; tells = refl; full = tt }

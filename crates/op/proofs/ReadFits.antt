@@ -1,0 +1,226 @@
+-- A message that was read fits.
+use Rattle.std.proofs.Common.{◌≡◌, ℕ, ◌+◌, ◌/◌, ◌%◌, ◌<◌, ◌≤◌, Bool, true, false, cond, List, [], ◌∷◌, length, refl, ap, sym, ◌∙◌, subst, arith, rules, Option, Some, None, inl, inr}
+use Rattle.std.specs.Prelude.{All, ◌||◌, not, filter, find, nat_lt}
+use Rattle.std.specs.Option.{option_map}
+use Rattle.std.proofs.lemmas.Bool.{cases_Bool, ltb-false}
+use Rattle.std.proofs.lemmas.List.Elements.{All-cons, All-nil, All-tail}
+use Rattle.base.specs.DNSClass.{class_number, class_of, field_class, field_top, opt_class}
+use Rattle.base.specs.declared.dns_class.DNSClass.{DNSClass}
+use Rattle.base.specs.declared.dns_class.DNSClass.TheVariants as classes
+use Rattle.base.specs.Labels.{NameValue}
+use Rattle.base.specs.RecordType.{type_number, type_of}
+use Rattle.base.specs.declared.record_type.RecordType.{RecordType}
+use Rattle.base.specs.Words.{BackToBack}
+use Rattle.base.specs.Words.BackToBack.{none, more}
+use Rattle.base_data.specs.RData.{type_of_data}
+use Rattle.base_data.specs.declared.rdata.RData.{RData}
+use Rattle.base_data.specs.declared.rdata.RData.TheVariants as kinds
+use Rattle.rr.specs.Record.{FitsRecord, IsRecordAt, class_value, flush_value, is_opt_type}
+use Rattle.rr.specs.declared.record.Record.{Record}
+use Rattle.op.specs.Fits.{Fits, FitsAdditional, FitsEdns, FitsPlain, listed, signature_record}
+use Rattle.op.specs.Header.{header_value}
+use Rattle.op.specs.Message.{IsMessageAt, MessageValue, high_code, message_of}
+use Rattle.op.specs.OpCode.{op_number, op_value}
+use Rattle.op.specs.Query.{FitsQuery, IsQueryAt, query_value}
+use Rattle.op.specs.Section.{IsGiven, IsPlain, edns_of, is_opt, is_ordinary, is_signature, is_signature_data, section_of, signature_in, signature_of}
+use Rattle.op.specs.declared.edns.Edns.{Edns}
+use Rattle.op.specs.declared.header.Header.{Header}
+use Rattle.op.specs.declared.header.metadata.Metadata.{Metadata}
+use Rattle.op.specs.declared.op_code.OpCode.{OpCode}
+use Rattle.op.specs.declared.query.Query.{Query}
+
+-- ---- tables
+
+class_kept : (n : ℕ) → class_number (class_of n) ≡ n
+class_kept n = search (rules)
+
+type_kept : (n : ℕ) → type_number (type_of n) ≡ n
+type_kept n = search (rules)
+
+op_kept : (n : ℕ) → op_number (op_value n) ≡ n
+op_kept n = search (rules)
+
+payload_bound : (n : ℕ) → 512 ≤ class_number (opt_class n)
+payload_bound n = elim (cases_Bool (nat_lt n 512)) [
+  | inl below ↦ rw below (omega arith)
+  | inr above ↦ rw above (ltb-false n 512 above)
+]
+
+payload_kept : (n : ℕ) → opt_class (class_number (opt_class n)) ≡ opt_class n
+payload_kept n = elim (cases_Bool (nat_lt n 512)) [
+  | inl below ↦ rw below refl
+  | inr above ↦ rw (above, above) refl
+]
+
+-- ---- questions and records
+
+differ : true ≡ false → ⊥
+differ is = cc
+
+query_fits : (B : List ℕ) (i : ℕ) (q : Query) (e : ℕ) → IsQueryAt B i q e → FitsQuery q
+query_fits B i q e w = subst FitsQuery (sym w.value) (record {
+  absolute = refl;
+  type_reads = ap type_of (type_kept w.raw.type);
+  class_reads = ap class_of (class_kept (w.raw.class % 32768));
+  narrow = omega (arith, class_kept (w.raw.class % 32768));
+})
+
+module _ (B : List ℕ) (i : ℕ) (r : Record RData) (e : ℕ) (w : IsRecordAt B i r e) where
+  typed : type_of_data r.rdata ≡ type_of w.raw.type
+  typed = w.value.type_is
+
+  opt_as : (b : Bool) → is_opt_type (type_of_data r.rdata) ≡ b → is_opt_type (type_of w.raw.type) ≡ b
+  opt_as b is = sym (ap is_opt_type typed) ∙ is
+
+  class_plain : is_opt_type (type_of_data r.rdata) ≡ false → r.dns_class ≡ class_of (w.raw.class % 32768)
+  class_plain is = w.value.class ∙ ap (λ b. cond b (opt_class w.raw.class) (field_class w.raw.class)) (opt_as false is)
+
+  pub class_opt : is_opt_type (type_of_data r.rdata) ≡ true → r.dns_class ≡ opt_class w.raw.class
+  class_opt is = w.value.class ∙ ap (λ b. cond b (opt_class w.raw.class) (field_class w.raw.class)) (opt_as true is)
+
+  number_plain : is_opt_type (type_of_data r.rdata) ≡ false → class_number r.dns_class ≡ w.raw.class % 32768
+  number_plain is = ap class_number (class_plain is) ∙ class_kept (w.raw.class % 32768)
+
+  pub record_fits : FitsRecord r
+  record_fits = record {
+    reads = record {
+      type_reads = ap (λ t. type_of (type_number t)) typed ∙ ap type_of (type_kept w.raw.type) ∙ sym typed;
+      root = λ is. ap (λ (n : NameValue). n.labels) w.value.owner ∙ w.value.root (sym typed ∙ is);
+      readable = w.value.readable;
+    };
+    absolute = ap (λ (n : NameValue). n.absolute) w.value.owner;
+    class_reads = λ is. ap class_of (number_plain is) ∙ sym (class_plain is);
+    narrow = λ is. omega (arith, number_plain is);
+    payload_reads = λ is. ap (λ c. opt_class (class_number c)) (class_opt is) ∙ payload_kept w.raw.class ∙ sym (class_opt is);
+    not_flushing = λ is. w.value.flush ∙ ap (λ b. cond b false (field_top w.raw.class)) (opt_as true is);
+  }
+
+  pub edns_fits_read : is_opt r ≡ true → FitsEdns (edns_of r)
+  edns_fits_read is = record {
+    payload = subst (λ c. 512 ≤ class_number c) (sym (class_opt is)) (payload_bound w.raw.class);
+    version = omega arith;
+    z = omega arith;
+  }
+
+-- ---- lists
+
+pub back_all : {A : Type 0} {Word : ℕ → A → ℕ → Type 0} (P : A → Type 0) → ((i : ℕ) (x : A) (e : ℕ) → Word i x e → P x) → {i e : ℕ} {xs : List A} → BackToBack Word i xs e → All P xs
+back_all P holds none = All-nil P
+back_all P holds (more {i = i} {j = j} {x = x} {xs = xs} word rest) = All-cons P x xs (holds i x j word) (back_all P holds rest)
+
+-- what passes a test, of elements that have a property
+pub record Found {X : Type 0} (P : X → Type 0) (p : X → Bool) (x : X) : Type 0 where
+  pub has : P x
+  pub passes : p x ≡ true
+
+filtered : {X : Type 0} (P : X → Type 0) (p : X → Bool) (xs : List X) → All P xs → All (Found P p) (filter p xs)
+filtered P p [] all = All-nil (Found P p)
+filtered P p (x ∷ xs) all = elim (cases_Bool (p x)) [
+  | inl is ↦ rw is (All-cons (Found P p) x (filter p xs) (record { has = all 0 x (omega arith); passes = is }) (filtered P p xs (All-tail P x xs all)))
+  | inr isnt ↦ rw isnt (filtered P p xs (All-tail P x xs all))
+]
+
+pub found : {X : Type 0} (P : X → Type 0) (p : X → Bool) (xs : List X) → All P xs → All (Found P p) (listed (find p xs))
+found P p [] all = All-nil (Found P p)
+found P p (x ∷ xs) all = elim (cases_Bool (p x)) [
+  | inl is ↦ rw is (All-cons (Found P p) x [] (record { has = all 0 x (omega arith); passes = is }) (All-nil (Found P p)))
+  | inr isnt ↦ rw isnt (found P p xs (All-tail P x xs all))
+]
+
+pub listed_map : {X Y : Type 0} (P : X → Type 0) (Q : Y → Type 0) (f : X → Y) → ((x : X) → P x → Q (f x)) → (o : Option X) → All P (listed o) → All Q (listed (option_map f o))
+listed_map P Q f follows None all = All-nil Q
+listed_map P Q f follows (Some x) all = All-cons Q (f x) [] (follows x (all 0 x (omega arith))) (All-nil Q)
+
+neither : (o g : Bool) → not (o || g) ≡ true → (o ≡ false) × (g ≡ false)
+neither true g is = cc
+neither false true is = cc
+neither false false is = (refl, refl)
+
+-- a signature's data
+signed : (r : Record RData) (d : RData) → r.rdata ≡ d → is_signature_data d ≡ true → signature_record (signature_of r) ≡ r
+signed r (kinds.A x) same is = cc
+signed r (kinds.AAAA x) same is = cc
+signed r (kinds.NS x) same is = cc
+signed r (kinds.CNAME x) same is = cc
+signed r (kinds.PTR x) same is = cc
+signed r (kinds.ANAME x) same is = cc
+signed r (kinds.MX x) same is = cc
+signed r (kinds.SOA x) same is = cc
+signed r (kinds.SRV x) same is = cc
+signed r (kinds.TXT x) same is = cc
+signed r (kinds.NULL x) same is = cc
+signed r (kinds.OPT x) same is = cc
+signed r (kinds.TSIG x) same is =
+    ap (λ (bytes : List ℕ). record r { rdata = kinds.TSIG bytes }) (ap signature_in same) ∙ ap (λ (d : RData). record r { rdata = d }) (sym same)
+signed r (kinds.Update0 type) same is = cc
+signed r (kinds.Unknown code x) same is = cc
+
+-- ---- the message
+
+-- a record that was read, and may stand where it stands
+record IsRead (op : OpCode) (r : Record RData) : Type 0 where
+  fits : FitsRecord r
+  given : IsGiven op r
+  edns : is_opt r ≡ true → FitsEdns (edns_of r)
+
+op_of : (edns : Option Edns) (m : Metadata) → (high_code edns m).op_code ≡ m.op_code
+op_of None m = refl
+op_of (Some e) m = refl
+
+module _ (B : List ℕ) (i : ℕ) (m : MessageValue) (e : ℕ) (w : IsMessageAt B i m e) where
+  op : OpCode
+  op = w.header.metadata.op_code
+
+  op_is : w.header.metadata.op_code ≡ op_value w.header_stands.raw.opcode
+  op_is = ap (λ (h : Header). h.metadata.op_code) w.header_stands.value
+
+  op_number_is : op_number w.header.metadata.op_code ≡ w.header_stands.raw.opcode
+  op_number_is = ap op_number op_is ∙ op_kept w.header_stands.raw.opcode
+
+  small : op_number w.header.metadata.op_code < 16
+  small = omega (arith, op_number_is, w.header_stands.word.opcode)
+
+  reads : op_value (op_number w.header.metadata.op_code) ≡ w.header.metadata.op_code
+  reads = ap op_value op_number_is ∙ sym op_is
+
+  plain_fits : (rs : List (Record RData)) (j k : ℕ) → BackToBack (IsRecordAt B) j rs k → All (IsPlain w.header.metadata.op_code) rs → All (FitsPlain w.header.metadata.op_code) rs
+  plain_fits rs j k words plain =
+      let fit = back_all FitsRecord (λ i r e word. record_fits B i r e word) words in
+      λ n d below. record { fits = fit n d below; given = (plain n d below).given; placed = (plain n d below).placed }
+
+  additionals_read : All (IsRead w.header.metadata.op_code) w.additionals
+  additionals_read =
+      let fit = back_all FitsRecord (λ i r e word. record_fits B i r e word) w.additionals_stand in
+      let edns = back_all (λ r. is_opt r ≡ true → FitsEdns (edns_of r)) (λ i r e word. edns_fits_read B i r e word) w.additionals_stand in
+      λ n d below. record { fits = fit n d below; given = w.additionals_given n d below; edns = edns n d below }
+
+  additionals_fit : All (FitsAdditional w.header.metadata.op_code) (filter is_ordinary w.additionals)
+  additionals_fit =
+      let all = filtered (IsRead w.header.metadata.op_code) is_ordinary w.additionals additionals_read in
+      λ n d below.
+      let f = all n d below in
+      let kinds_of = neither _ _ f.passes in
+      record { fits = f.has.fits; given = f.has.given; not_opt = kinds_of.0; not_signature = kinds_of.1 }
+
+  edns_fit : All FitsEdns (listed (option_map edns_of (find is_opt w.additionals)))
+  edns_fit = listed_map (Found (IsRead w.header.metadata.op_code) is_opt) FitsEdns edns_of (λ r f. f.has.edns f.passes) (find is_opt w.additionals) (found (IsRead w.header.metadata.op_code) is_opt w.additionals additionals_read)
+
+  signature_fit : All (λ r. FitsRecord (signature_record r)) (listed (option_map signature_of (find is_signature w.additionals)))
+  signature_fit = listed_map (Found (IsRead w.header.metadata.op_code) is_signature) (λ r. FitsRecord (signature_record r)) signature_of (λ r f. subst FitsRecord (sym (signed r r.rdata refl f.passes)) f.has.fits) (find is_signature w.additionals) (found (IsRead w.header.metadata.op_code) is_signature w.additionals additionals_read)
+
+  whole_fits : Fits (message_of w.header.metadata m.queries w.answers w.authorities (section_of w.additionals))
+  whole_fits =
+      let same = op_of (section_of w.additionals).edns w.header.metadata in
+      record {
+        op_code = subst (λ o. op_number o < 16) (sym same) small;
+        op_code_reads = subst (λ o. op_value (op_number o) ≡ o) (sym same) reads;
+        queries = back_all FitsQuery (λ i q e word. query_fits B i q e word) w.queries_stand;
+        answers = subst (λ o. All (FitsPlain o) w.answers) (sym same) (plain_fits w.answers w.queries_end w.answers_end w.answers_stand w.answers_plain);
+        authorities = subst (λ o. All (FitsPlain o) w.authorities) (sym same) (plain_fits w.authorities w.answers_end w.authorities_end w.authorities_stand w.authorities_plain);
+        additionals = subst (λ o. All (FitsAdditional o) (filter is_ordinary w.additionals)) (sym same) additionals_fit;
+        edns = edns_fit;
+        signature = signature_fit;
+      }
+
+  pub message_fits : Fits m
+  message_fits = subst Fits (sym w.message) whole_fits

@@ -1,0 +1,129 @@
+-- A message that was read, and of which nothing was cut, is read as the same message.
+use Rattle.std.proofs.Common.{◌≡◌, ℕ, ◌+◌, ◌*◌, ◌-◌, ◌/◌, ◌%◌, ◌<◌, ◌≤◌, ◌^◌, Bool, true, false, cond, List, [], ◌∷◌, ◌++◌, length, take, drop, refl, ap, sym, ◌∙◌, subst, arith, Option, Some, None}
+use Rattle.std.specs.Prelude.{All, ◌||◌, find, slice_index}
+use Rattle.std.specs.Option.{option_map}
+use Rattle.std.specs.Int.{w32, from_be_bytes}
+use Rattle.std.proofs.lemmas.List.{append-nil, length-drop, length-take}
+use Rattle.std.proofs.lemmas.List.Elements.{All-drop, All-take}
+use Rattle.base.specs.Words.{BackToBack, IsNumberAt}
+use Rattle.base_data.specs.declared.rdata.RData.{RData}
+use Rattle.rr.specs.Record.{IsRecordAt}
+use Rattle.rr.specs.declared.record.Record.{Record}
+use Rattle.op.specs.Cut.{IsCut, IsFront, IsUncut, any_lost, code_range, raised}
+use Rattle.op.specs.Fits.{listed}
+use Rattle.op.specs.Message.{IsMessageAt, MessageValue, high_code, message_of}
+use Rattle.op.specs.ResponseCode.{code_number, code_value}
+use Rattle.op.specs.Section.{edns_of, is_opt, section_of}
+use Rattle.op.specs.declared.edns.Edns.{Edns}
+use Rattle.op.specs.declared.header.Header.{Header}
+use Rattle.op.specs.declared.header.metadata.Metadata.{Metadata}
+use Rattle.op.specs.declared.query.Query.{Query}
+use Rattle.op.specs.declared.response_code.ResponseCode.{ResponseCode}
+use Rattle.op.proofs.CodeLemmas.{number_kept}
+use Rattle.op.proofs.ReadFits.{Found, back_all, found, listed_map}
+
+-- ---- numbers of bytes
+
+number_small : (bs : List ℕ) → length bs ≡ 4 → All (λ b. b < 256) bs → from_be_bytes w32 bs < 2 ^ 32
+number_small bs four small =
+    let first : slice_index bs 0 < 256 = small 0 0 (omega (arith, four)) in
+    let second : slice_index bs 1 < 256 = small 1 0 (omega (arith, four)) in
+    let third : slice_index bs 2 < 256 = small 2 0 (omega (arith, four)) in
+    let fourth : slice_index bs 3 < 256 = small 3 0 (omega (arith, four)) in
+    omega (arith, first, second, third, fourth)
+
+ttl_small : (B : List ℕ) (i n : ℕ) → All (λ b. b < 256) B → IsNumberAt w32 B i n → n / 16777216 < 256
+ttl_small B i n small w =
+    let bs = take 4 (drop i B) in
+    let four : length (take 4 (drop i B)) ≡ 4 = omega (arith, length-take 4 (drop i B), length-drop i B, w.inside) in
+    let all : All (λ b. b < 256) (take 4 (drop i B)) = All-take (λ b. b < 256) 4 (drop i B) (All-drop (λ b. b < 256) i B small) in
+    omega (arith, w.is, number_small (take 4 (drop i B)) four all)
+
+-- ---- fronts of which nothing is lost
+
+whole_of : {X : Type 0} (xs kept lost : List X) → xs ≡ kept ++ lost → lost ≡ [] → kept ≡ xs
+whole_of xs kept lost front none = sym (front ∙ ap (λ ys. kept ++ ys) none ∙ append-nil kept)
+
+listed_same : {X : Type 0} (o p : Option X) → listed o ≡ listed p → o ≡ p
+listed_same None None is = refl
+listed_same None (Some y) is = cc
+listed_same (Some x) None is = cc
+listed_same (Some x) (Some y) is = cc
+
+none_lost : {X : Type 0} (lost : List X) → lost ≡ [] → any_lost lost ≡ false
+none_lost lost is = ap any_lost is
+
+same_truncation : (t a b c d f : Bool) → a ≡ false → b ≡ false → c ≡ false → d ≡ false → f ≡ false → (t || (a || (b || (c || (d || f))))) ≡ t
+same_truncation true a b c d f p q r s u = refl
+same_truncation false a b c d f p q r s u = rw (p, q, r, s, u) refl
+
+-- ---- codes
+
+-- a code with the bits of EDNS above four
+code_high : (high low : ℕ) → high < 256 → low < 16 → code_number (code_value (high * 16 + low % 16)) / 16 % 256 ≡ high
+code_high high low small narrow = omega (arith, number_kept (high * 16 + low % 16))
+
+code_whole : (high low : ℕ) → high < 256 → code_value (code_number (code_value (high * 16 + low % 16)) % 4096) ≡ code_value (high * 16 + low % 16)
+code_whole high low small =
+    let n : code_number (code_value (high * 16 + low % 16)) % 4096 ≡ high * 16 + low % 16 = omega (arith, number_kept (high * 16 + low % 16)) in
+    ap code_value n
+
+code_four : (low : ℕ) → low < 16 → code_value (code_number (code_value low) % 16) ≡ code_value low
+code_four low small =
+    let n : code_number (code_value low) % 16 ≡ low = omega (arith, number_kept low) in
+    ap code_value n
+
+-- what the code and EDNS of a message that was read have in common
+record IsMerged (edns : Option Edns) (code : ResponseCode) : Type 0 where
+  raised : option_map (λ (e : Edns). record e { rcode_high = code_number code / 16 % 256 }) edns ≡ edns
+  kept : code_value (code_number code % code_range edns) ≡ code
+
+abbrev high_code_of : ℕ → ℕ → ResponseCode
+high_code_of h n = code_value (h * 16 + n % 16 % 16)
+
+merged : (edns : Option Edns) (m : Metadata) (low : ℕ) → low < 16 → m.response_code ≡ code_value low → All (λ e. e.rcode_high < 256) (listed edns) → IsMerged edns (high_code edns m).response_code
+merged None m low small is high = subst (IsMerged None) (sym is) (record { raised = refl; kept = code_four low small })
+merged (Some e) m low small is high =
+    let narrow : e.rcode_high < 256 = high 0 e (omega arith) in
+    let four : code_number m.response_code ≡ low = ap code_number is ∙ number_kept low in
+    let same : high_code_of e.rcode_high (code_number m.response_code) ≡ high_code_of e.rcode_high low = ap (high_code_of e.rcode_high) four in
+    subst (IsMerged (Some e)) (sym same) (record {
+      raised = ap (λ (h : ℕ). Some (record e { rcode_high = h })) (code_high e.rcode_high (low % 16) narrow (omega arith));
+      kept = code_whole e.rcode_high (low % 16) narrow;
+    })
+
+same_message : {a b : Metadata} {q r : List Query} {as1 as2 ns1 ns2 ds1 ds2 : List (Record RData)} {f g : Option Edns} {s t : Option (Record (List ℕ))} → a ≡ b → q ≡ r → as1 ≡ as2 → ns1 ≡ ns2 → ds1 ≡ ds2 → f ≡ g → s ≡ t
+    → ◌≡◌ {A = MessageValue} (record { metadata = a; queries = q; answers = as1; authorities = ns1; additionals = ds1; edns = f; signature = s }) (record { metadata = b; queries = r; answers = as2; authorities = ns2; additionals = ds2; edns = g; signature = t })
+same_message p q r s t u v = rw (p, q, r, s, t, u, v) refl
+
+module _ (B : List ℕ) (i : ℕ) (m : MessageValue) (e : ℕ) (w : IsMessageAt B i m e) (bytes : All (λ b. b < 256) B) where
+  high_small : All (λ x. x.rcode_high < 256) (listed (option_map edns_of (find is_opt w.additionals)))
+  high_small =
+      let all = back_all (λ r. r.ttl / 16777216 < 256) (λ j r k word. subst (λ (n : ℕ). n / 16777216 < 256) (sym word.value.ttl) (ttl_small B (word.word.owner_end + 4) word.raw.ttl bytes word.word.ttl_stands)) w.additionals_stand in
+      listed_map (Found (λ r. r.ttl / 16777216 < 256) is_opt) (λ x. x.rcode_high < 256) edns_of (λ r f. f.has) (find is_opt w.additionals) (found (λ r. r.ttl / 16777216 < 256) is_opt w.additionals all)
+
+  code_merged : IsMerged m.edns m.metadata.response_code
+  code_merged =
+      let edns : (section_of w.additionals).edns ≡ m.edns = sym (ap (λ (x : MessageValue). x.edns) w.message) in
+      let metadata : high_code (section_of w.additionals).edns w.header.metadata ≡ m.metadata = sym (ap (λ (x : MessageValue). x.metadata) w.message) in
+      let code : w.header.metadata.response_code ≡ code_value w.header_stands.raw.code = ap (λ (h : Header). h.metadata.response_code) w.header_stands.value in
+      let both = merged (section_of w.additionals).edns w.header.metadata w.header_stands.raw.code (omega (arith, w.header_stands.word.code)) code high_small in
+      subst (λ o. IsMerged o m.metadata.response_code) edns (subst (λ (x : Metadata). IsMerged (section_of w.additionals).edns x.response_code) metadata both)
+
+  -- of which nothing was cut
+  pub uncut_same : (limit : ℕ) (C : List ℕ) (c : MessageValue) (k : IsCut m limit C c) → IsUncut k → c ≡ m
+  uncut_same limit C c k (no_answers, no_authorities, no_additionals, no_edns, no_signature) =
+      let queries : c.queries ≡ m.queries = k.queries in
+      let answers : c.answers ≡ m.answers = whole_of m.answers c.answers k.answers.lost k.answers.front no_answers in
+      let authorities : c.authorities ≡ m.authorities = whole_of m.authorities c.authorities k.authorities.lost k.authorities.front no_authorities in
+      let additionals : c.additionals ≡ m.additionals = whole_of m.additionals c.additionals k.additionals.lost k.additionals.front no_additionals in
+      let edns : c.edns ≡ m.edns = listed_same c.edns (raised m) (whole_of (listed (raised m)) (listed c.edns) k.edns.lost k.edns.front no_edns) ∙ code_merged.raised in
+      let signature : c.signature ≡ m.signature = listed_same c.signature m.signature (whole_of (listed m.signature) (listed c.signature) k.signature.lost k.signature.front no_signature) in
+      let truncation = same_truncation m.metadata.truncation (any_lost k.answers.lost) (any_lost k.authorities.lost) (any_lost k.additionals.lost) (any_lost k.edns.lost) (any_lost k.signature.lost)
+      (none_lost k.answers.lost no_answers) (none_lost k.authorities.lost no_authorities) (none_lost k.additionals.lost no_additionals) (none_lost k.edns.lost no_edns) (none_lost k.signature.lost no_signature) in
+      let code : code_value (code_number m.metadata.response_code % code_range c.edns) ≡ m.metadata.response_code = ap (λ o. code_value (code_number m.metadata.response_code % code_range o)) edns ∙ code_merged.kept in
+      let metadata : c.metadata ≡ m.metadata = k.metadata ∙ same_metadata m.metadata truncation code in
+      same_message metadata queries answers authorities additionals edns signature
+    where
+      same_metadata : (x : Metadata) {t : Bool} {d : ResponseCode} → t ≡ x.truncation → d ≡ x.response_code → ◌≡◌ {A = Metadata} (record x { truncation = t; response_code = d }) x
+      same_metadata x p q = rw (p, q) refl

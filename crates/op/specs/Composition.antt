@@ -1,0 +1,117 @@
+-- How a message is put together from its parts (RFC 1035, 4.1).
+-- A run relates an encoder's state to the answer of what was done with it and to the state behind that.
+use Rattle.std.specs.Prelude.{◌≡◌, ℕ, Bool, true, false, ◌+◌, ◌<◌, ◌≤◌, ◌^◌, ◌||◌, List, codes, length, replicate, ⊤, Result, Ok, Err}
+use Rattle.base.specs.State.{State, appended, overwritten}
+use Rattle.base.specs.Wire.{Refuses}
+use Rattle.base.specs.declared.error.proto_error.ProtoError.{ProtoError}
+use Rattle.base.specs.declared.error.proto_error.ProtoError.TheVariants as refusals
+use Rattle.base_data.specs.declared.rdata.RData.{RData}
+use Rattle.rr.specs.Record.{RecordWord, plain_record}
+use Rattle.rr.specs.declared.record.Record.{Record}
+use Rattle.op.specs.Emitted.{WritesFront, record_owner}
+use Rattle.op.specs.Header.{IsNarrow, header_bytes, raw_header}
+use Rattle.op.specs.declared.header.Header.{Header}
+use Rattle.op.specs.declared.header.metadata.Metadata.{Metadata}
+use Rattle.op.specs.declared.message.writing.parts.Written.{Written}
+use Rattle.op.specs.declared.message.writing.parts.Sections.{Sections}
+
+-- ---- runs one behind the other
+
+-- behind a value comes the next run; a refusal is the answer of the whole, nothing more is written, and what is left stays as it was
+abbrev pub Continues : {X Y : Type 0} → Type 0 → (X → State → Result Y ProtoError → State → Type 0) → Result X ProtoError → State → Result Y ProtoError → State → Type 0
+Continues stays next (Ok x) b result c = next x b result c
+Continues stays next (Err e) b result c = (result ≡ Err e) × (c ≡ b) × stays
+
+-- one run, and the next one with its value
+pub record AndThen {X Y : Type 0} (first : State → Result X ProtoError → State → Type 0) (stays : Type 0) (next : X → State → Result Y ProtoError → State → Type 0) (old : State) (result : Result Y ProtoError) (new : State) : Type 0 where
+  pub answer : Result X ProtoError
+  pub between : State
+  pub ran : first old answer between
+  pub rest : Continues stays next answer between result new
+
+-- a test that writes nothing
+abbrev pub Tests : {X : Type 0} → (Result X ProtoError → Type 0) → State → Result X ProtoError → State → Type 0
+Tests holds a result b = holds result × (b ≡ a)
+
+-- ---- counts
+
+-- a refusal with this text
+abbrev pub Says : List ℕ → ProtoError → Type 0
+Says text (refusals.Message said) = said.now ≡ text
+Says text _ = ⊥
+
+-- a count as a header holds it, in two bytes
+abbrev pub Narrows : ℕ → Bool → Result Written ProtoError → Type 0
+Narrows n is_cut (Ok written) = (n < 2 ^ 16) × (written ≡ record { count = n; is_cut = is_cut })
+Narrows n is_cut (Err e) = (2 ^ 16 ≤ n) × Says (codes "too many records to fit in header count") e
+
+-- what a part's answer counts: all its items, or those before one that had no room
+abbrev pub Counts : Result ℕ ProtoError → Result Written ProtoError → Type 0
+Counts (Ok n) result = Narrows n false result
+Counts (Err (refusals.NotAllRecordsWritten n)) result = Narrows n true result
+Counts (Err e) result = result ≡ Err e
+
+-- both counts together, cut where either is
+abbrev pub Adds : Written → Written → Result Written ProtoError → Type 0
+Adds one other result = Narrows (one.count + other.count) (one.is_cut || other.is_cut) result
+
+-- ---- the parts
+
+-- room for the header is kept, of zero bytes
+abbrev pub KeepsRoom : State → Result ℕ ProtoError → State → Type 0
+KeepsRoom a (Ok place) b = (place ≡ length a.bytes) × (b ≡ appended (replicate 12 0) a) × (length b.bytes ≤ a.limit)
+KeepsRoom a (Err e) b = (b ≡ a) × Refuses {X = Header} 12 a (Err e)
+
+-- a part is written as it says, and counted
+abbrev pub EmitsPart : {P : Type 0} → (P → State → Result ℕ ProtoError → P → State → Type 0) → P → P → State → Result Written ProtoError → State → Type 0
+EmitsPart emits part end a result b = (answer : Result ℕ ProtoError) × emits part a answer end b × Counts answer result
+
+-- of items a front is written, or memory was refused
+abbrev pub WritesItems : {E : Type 0} → (E → List ℕ → ℕ → ℕ → Type 0) → (E → ℕ) → (E → List (List ℕ)) → List E → State → Result Written ProtoError → State → Type 0
+WritesItems word plain owner xs a (Ok written) b = WritesFront word plain owner xs a b written.count written.is_cut
+WritesItems word plain owner xs a (Err e) b = e ≡ refusals.Memory
+
+abbrev pub WritesRecordItems : List (Record RData) → State → Result Written ProtoError → State → Type 0
+WritesRecordItems = WritesItems RecordWord plain_record record_owner
+
+-- OPT and the signature behind the additionals, the sum of all tested behind each
+abbrev pub WritesExtras : List (Record RData) → List (Record RData) → Written → State → Result Written ProtoError → State → Type 0
+WritesExtras edns signature additionals =
+    AndThen (WritesRecordItems edns) ⊤ (λ opt.
+    AndThen (Tests (Adds additionals opt)) ⊤ (λ sum.
+    AndThen (WritesRecordItems signature) ⊤ (λ signed.
+    Tests (Adds sum signed))))
+
+-- The header of a message: TC where the message has it or a part was cut. The questions' count is tested here.
+abbrev pub HasHeader : Metadata → ℕ → Sections → Written → Result Header ProtoError → Type 0
+HasHeader metadata queries sections additionals (Ok h) =
+    IsNarrow h.metadata.id h.counts
+    × (h ≡ record {
+      metadata = record metadata { truncation = metadata.truncation || (sections.answers.is_cut || (sections.authorities.is_cut || additionals.is_cut)) };
+      counts = record { queries = queries; answers = sections.answers.count; authorities = sections.authorities.count; additionals = additionals.count };
+    })
+HasHeader metadata queries sections additionals (Err e) = (2 ^ 16 ≤ queries) × Says (codes "too many queries to fit in header count") e
+
+-- the header is written into the room that was kept for it
+abbrev pub FillsIn : ℕ → Header → State → Result Header ProtoError → State → Type 0
+FillsIn place header a result b = (result ≡ Ok header) × (b ≡ overwritten place (header_bytes (raw_header header)) a)
+
+-- the answers A, the authorities N and the additionals D, each before it was written and behind that
+module _ {A N D : Type 0} (emits_a : A → State → Result ℕ ProtoError → A → State → Type 0) (emits_n : N → State → Result ℕ ProtoError → N → State → Type 0) (emits_d : D → State → Result ℕ ProtoError → D → State → Type 0) (a a' : A) (n n' : N) (d d' : D) where
+  -- three sections, each whatever became of the one before it
+  abbrev pub EmitsSections : State → Result Sections ProtoError → State → Type 0
+  EmitsSections =
+      AndThen (EmitsPart emits_a a a') ((n' ≡ n) × (d' ≡ d)) (λ answers.
+      AndThen (EmitsPart emits_n n n') (d' ≡ d) (λ authorities.
+      AndThen (EmitsPart emits_d d d') ⊤ (λ additionals.
+      Tests (λ result. result ≡ Ok (record { answers = answers; authorities = authorities; additionals = additionals })))))
+
+  -- A message: room for the header, the questions Q, three sections, OPT and the signature, and the header into its room.
+  abbrev pub Composition : {Q : Type 0} → Metadata → (Q → State → Result ℕ ProtoError → Q → State → Type 0) → Q → Q → List (Record RData) → List (Record RData) → State → Result Header ProtoError → State → Type 0
+  Composition metadata emits_q q q' edns signature =
+      AndThen KeepsRoom ((q' ≡ q) × (a' ≡ a) × (n' ≡ n) × (d' ≡ d)) (λ place.
+      AndThen (λ s answer t. emits_q q s answer q' t) ((a' ≡ a) × (n' ≡ n) × (d' ≡ d)) (λ queries.
+      AndThen EmitsSections ⊤ (λ sections.
+      AndThen (WritesExtras edns signature sections.additionals) ⊤ (λ additionals.
+      AndThen (Tests (HasHeader metadata queries sections additionals)) ⊤ (λ header.
+      FillsIn place header)))))

@@ -1,0 +1,87 @@
+//! Writes EDNS as an OPT record (RFC 6891, 6.1.2 and 6.1.3).
+
+ghost use Rattle.std.specs.Prelude.{◌≡◌, ◌+◌, ◌*◌, [], MatchResult, OnOk};
+ghost use Rattle.std.specs.Int.{w32};
+ghost use Rattle.base.specs.Laws.{Keeps, Writes};
+ghost use Rattle.base.specs.Wire.{state_of, Refuses};
+ghost use Rattle.base.specs.Words.{NameAt, Number};
+ghost use Rattle.base.specs.declared.error.proto_error.ProtoError.TheVariants as refusals;
+ghost use Rattle.op.specs.EdnsRecord.{EdnsWord, edns_record, plain_edns};
+
+use super::Edns;
+use base::{BinEncodable, BinEncoder, DNSClass, Name, ProtoError, RecordType, emit_sized};
+use base_data::RData;
+use rr::Record;
+
+impl TryFrom<&Edns> for Record {
+    type Error = ProtoError;
+
+    ghost try_from_gives = { λ edns result. MatchResult result (λ opt. opt ≡ edns_record edns.now) (λ e. e ≡ refusals.Memory) };
+
+    /// The OPT record: its owner is the root, its class the payload size, and its TTL the high code, the version and
+    /// the flags (RFC 6891, 6.1.2 and 6.1.3). Without options its data is empty data of type OPT.
+    ///
+    /// Refused for want of memory.
+    fn try_from(edns: &Edns) -> Result<Record, ProtoError> {
+        let alloc = edns.options.allocator();
+        let rdata = if edns.options.as_ref().is_empty() {
+            RData::Update0(RecordType::OPT)
+        } else {
+            RData::OPT(edns.options.clone()?)
+        };
+        Ok(Record {
+            name: Name::root(alloc),
+            dns_class: DNSClass::for_opt(edns.max_payload),
+            ttl: ttl_of(edns.rcode_high, edns.version, u16::from(edns.flags)),
+            rdata,
+            mdns_cache_flush: false,
+        })
+    }
+}
+
+impl BinEncodable for Edns {
+    ghost word = { EdnsWord };
+
+    ghost plain_len = { plain_edns };
+
+    ghost owner = { λ _. [] };
+
+    /// Writes the OPT record: a zero byte for the root, the type, the payload size, the high code, the version and
+    /// the flags, and the options behind the number of their bytes (RFC 6891, 6.1.2 and 6.1.3).
+    ///
+    /// Refused where a byte would pass the limit, and for want of memory.
+    fn emit(&self, encoder: &mut BinEncoder<'_>) -> Result<(), ProtoError> {
+        emit_root(encoder)?;
+        RecordType::OPT.emit(encoder)?;
+        let payload = u16::from(DNSClass::for_opt(self.max_payload));
+        payload.emit(encoder)?;
+        let ttl = ttl_of(self.rcode_high, self.version, u16::from(self.flags));
+        emit_ttl(ttl, encoder)?;
+        emit_sized(&self.options, encoder)
+    }
+}
+
+// The high code, the version and the flags, from the highest byte on.
+fn ttl_of(rcode_high: u8, version: u8, flags: u16) -> u32
+    ensures { result ≡ 16777216 * rcode_high + (65536 * version + flags) }
+{
+    0x100_0000 * u32::from(rcode_high) + (0x1_0000 * u32::from(version) + u32::from(flags))
+}
+
+// Writes the name of the root.
+fn emit_root(encoder: &mut BinEncoder<'_>) -> Result<(), ProtoError>
+    ensures keeps { Keeps (state_of encoder.old) (state_of encoder.new) }
+    ensures writes { OnOk result (Writes (NameAt []) 1 [] (state_of encoder.old) (state_of encoder.new)) }
+    ensures refuses { Refuses 1 (state_of encoder.old) result }
+{
+    encoder.emit(0)
+}
+
+// Writes a TTL, the highest byte first.
+fn emit_ttl(ttl: u32, encoder: &mut BinEncoder<'_>) -> Result<(), ProtoError>
+    ensures keeps { Keeps (state_of encoder.old) (state_of encoder.new) }
+    ensures writes { OnOk result (Writes (Number w32 ttl) 4 [] (state_of encoder.old) (state_of encoder.new)) }
+    ensures refuses { Refuses 4 (state_of encoder.old) result }
+{
+    encoder.emit_u32(ttl)
+}

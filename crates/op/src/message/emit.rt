@@ -1,0 +1,47 @@
+//! Writes whole messages under a limit (RFC 1035, 4.1; RFC 2181, 9).
+
+ghost use Rattle.std.specs.Prelude.{◌≡◌, [], IfOk};
+ghost use Rattle.base.specs.Laws.{Keeps};
+ghost use Rattle.base.specs.Wire.{state_of};
+ghost use Rattle.op.specs.Cut.{IsWritten};
+ghost use Rattle.op.specs.Emitted.{Emitted};
+ghost use Rattle.op.specs.Fits.{Fits};
+ghost use Rattle.op.specs.Message.{message_value};
+ghost use Rattle.op.specs.declared.header.Header.{Header as WrittenHeader};
+
+use crate::message::Message;
+use base::{BinEncoder, ProtoError};
+
+impl Message {
+    /// Writes the message behind what the encoder holds: a header, the questions, answers, authorities and additional
+    /// records, EDNS and the signature (RFC 1035, 4.1).
+    ///
+    /// What doesn't fit the limit is cut, each part by itself and before the first item that doesn't fit, and TC says
+    /// so. Into a new encoder, of a message that fits the wire, this writes a cut of the message, which is read as
+    /// exactly that.
+    ///
+    /// Refused where the header or the questions don't fit, where a count passes 65,535, and for want of memory.
+    pub fn emit(&self, encoder: &mut BinEncoder<'_>) -> Result<(), ProtoError>
+        ensures keeps { Keeps (state_of encoder.old) (state_of encoder.new) }
+        ensures emitted { IfOk result (λ _. (h : WrittenHeader) × Emitted (message_value self.now) (state_of encoder.old) (state_of encoder.new) h) }
+        ensures written { Fits (message_value self.now) → (state_of encoder.old).bytes ≡ [] → (state_of encoder.old).suffixes ≡ []
+            → IfOk result (λ _. IsWritten (message_value self.now) (state_of encoder.old).limit (state_of encoder.new).bytes) }
+    {
+        self.emit_header(encoder)?;
+        Ok(())
+    }
+
+    /// The bytes of the message, cut at 65,535 bytes (RFC 1035, 4.2.2).
+    ///
+    /// Refused as `emit` is.
+    pub fn to_vec(&self) -> Result<Vec<u8>, ProtoError>
+        ensures written { Fits (message_value self.now) → IfOk result (λ bytes. IsWritten (message_value self.now) 65535 bytes.items) }
+    {
+        let mut buffer = Vec::new(*self.queries.allocator());
+        {
+            let mut encoder = BinEncoder::new(&mut buffer);
+            self.emit(&mut encoder)?;
+        }
+        Ok(buffer)
+    }
+}
