@@ -40,9 +40,9 @@ module _ (command : Command) (limit : ℕ) (words : Option Command) (named : Som
 
   shown_answer : IsGiven (done (string_bytes lines)) status old new
   shown_answer = elim printed [
-      | inl broke ↦ absurd (whole broke)
-      | inr shows ↦ subst (λ line. IsGiven (done line) status old new) same shows
-    ]
+    | inl broke ↦ absurd (whole broke)
+    | inr shows ↦ subst (λ line. IsGiven (done line) status old new) same shows
+  ]
 
   pub cut_given : (remaining : Option (List ℕ)) (read start : List ℕ) → IfSome remaining (λ xs. read ≡ start ++ xs) → start ≡ [] → text ≡ read → IfSome remaining (λ input. IsCutGiven limit input status old new)
   cut_given None read start holds empty taken = tt
