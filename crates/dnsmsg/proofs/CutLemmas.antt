@@ -7,7 +7,7 @@ use Rattle.base.specs.ProtoError.{proto_number}
 use Rattle.base.specs.declared.error.proto_error.ProtoError.{ProtoError}
 use Rattle.base.specs.declared.error.proto_error.ProtoError.TheVariants as refusals
 use Rattle.op.specs.Cut.{IsTooSmall, IsWritten}
-use Rattle.op.specs.Message.{IsMessageAt, MessageValue, message_at}
+use Rattle.op.specs.Message.{IsMessageAt, MessageValue}
 use Rattle.op.proofs.MessageStands.{message_again}
 use Rattle.dnsmsg.specs.Answer.{Answer, IsGiven, broken, done, refused}
 use Rattle.dnsmsg.specs.Command.{CommandAnswers}

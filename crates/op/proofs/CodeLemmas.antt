@@ -1,8 +1,7 @@
 -- The codes that are put together from a header's bits and those of EDNS.
-use Rattle.std.proofs.Common.{◌≡◌, ℕ, ◌+◌, ◌*◌, ◌/◌, ◌%◌, ◌<◌, Bool, true, false, cond, refl, ap, sym, ◌∙◌, arith, rules, Option, Some, None}
-use Rattle.std.proofs.lemmas.Bool.{cases_Bool}
-use Rattle.std.specs.Prelude.{◌==◌, ◌||◌}
-use Rattle.op.specs.Header.{bit_of, header_value, metadata_value, raw_header}
+use Rattle.std.proofs.Common.{◌≡◌, ℕ, ◌+◌, ◌*◌, ◌/◌, ◌%◌, ◌<◌, Bool, false, refl, ap, ◌∙◌, arith, rules, Option, Some, None}
+use Rattle.std.specs.Prelude.{◌||◌}
+use Rattle.op.specs.Header.{bit_of, metadata_value, raw_header}
 use Rattle.op.specs.Message.{high_code}
 use Rattle.op.specs.MessageType.{is_response, kind_value}
 use Rattle.op.specs.OpCode.{op_number, op_value}

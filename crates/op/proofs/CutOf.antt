@@ -6,18 +6,18 @@ use Rattle.std.proofs.Math.Seq.{take-length}
 use Rattle.std.proofs.lemmas.List.Elements.{All-cons, All-nil}
 use Rattle.base.specs.Laws.{Holds, IsSpelled, Keeps}
 use Rattle.base.specs.State.{State, Stored}
-use Rattle.base.specs.Words.{BackToBack, Stands}
+use Rattle.base.specs.Words.{Stands}
 use Rattle.base.proofs.ItemLemmas.{Each-keeps}
 use Rattle.base.proofs.LawLemmas.{Keeps-then}
 use Rattle.base.proofs.WordLemmas.{first_stands}
 use Rattle.base_data.specs.declared.rdata.RData.{RData}
-use Rattle.rr.specs.Record.{FitsRecord, IsRecordAt, RecordWord, plain_record}
+use Rattle.rr.specs.Record.{FitsRecord, RecordWord, plain_record}
 use Rattle.rr.specs.declared.record.Record.{Record}
-use Rattle.op.specs.Cut.{IsCut, IsFront, IsWritten, NoRoom, any_lost, code_range, owners, raised}
-use Rattle.op.specs.EdnsRecord.{edns_record, plain_edns}
+use Rattle.op.specs.Cut.{IsCut, IsWritten, NoRoom, any_lost, code_range, raised}
+use Rattle.op.specs.EdnsRecord.{edns_record}
 use Rattle.op.specs.Emitted.{Emitted, WritesRecords, query_owner, record_owner}
 use Rattle.op.specs.Fits.{Fits, FitsAdditional, FitsEdns, FitsPlain, listed, signature_record}
-use Rattle.op.specs.Header.{HeaderWord, IsHeaderAt, header_bytes, header_value, metadata_value, raw_header}
+use Rattle.op.specs.Header.{IsHeaderAt, header_bytes, header_value, metadata_value, raw_header}
 use Rattle.op.specs.Message.{IsMessageAt, MessageValue, high_code, message_of}
 use Rattle.op.specs.OpCode.{op_number, op_value}
 use Rattle.op.specs.Query.{QueryWord, plain_query}

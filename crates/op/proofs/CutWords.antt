@@ -1,26 +1,21 @@
 -- The words of a message that was written, in the bytes that stand at the end.
-use Rattle.std.proofs.Common.{◌≡◌, ℕ, ◌+◌, ◌<◌, ◌≤◌, List, [], ◌∷◌, ◌++◌, length, take, drop, refl, ap, sym, ◌∙◌, subst, arith, append_assoc, length-append}
-use Rattle.std.specs.Prelude.{All, replicate}
-use Rattle.std.specs.Option.{option_map}
-use Rattle.std.proofs.Math.Seq.{drop-append_seam, take-length, take-append_seam}
+use Rattle.std.proofs.Common.{◌≡◌, ℕ, List, [], ◌∷◌, ◌++◌, length, take, refl, ap, sym, ◌∙◌, subst, arith, append_assoc}
+use Rattle.std.specs.Prelude.{All}
+use Rattle.std.proofs.Math.Seq.{drop-append_seam, take-length}
 use Rattle.std.proofs.lemmas.List.Elements.{All-append, All-cons, All-nil, All-tail}
 use Rattle.base.specs.Items.{EachWritten}
-use Rattle.base.specs.Laws.{Holds, IsSpelled, IsValid, Keeps, Writes}
-use Rattle.base.specs.State.{State, Stored, appended}
+use Rattle.base.specs.Laws.{Holds, IsValid, Keeps}
+use Rattle.base.specs.State.{State}
 use Rattle.base.specs.Words.{BackToBack, Stands}
 use Rattle.base.proofs.ItemLemmas.{Each-keeps, Each-valid}
 use Rattle.base.proofs.LawLemmas.{Holds-first, Holds-second, Keeps-then}
 use Rattle.base_data.specs.declared.rdata.RData.{RData}
 use Rattle.rr.specs.Record.{FitsRecord, IsRecordAt, RecordWord, plain_record}
 use Rattle.rr.specs.declared.record.Record.{Record}
-use Rattle.op.specs.Cut.{AreShort, Owner, query_owners, raised, record_owners}
-use Rattle.op.specs.EdnsRecord.{edns_record}
-use Rattle.op.specs.Emitted.{Emitted, query_owner, record_owner}
-use Rattle.op.specs.Fits.{Fits, listed, signature_record}
-use Rattle.op.specs.Header.{RawHeader, header_bytes, raw_header}
-use Rattle.op.specs.Message.{MessageValue}
+use Rattle.op.specs.Cut.{AreShort, Owner, query_owners, record_owners}
+use Rattle.op.specs.Emitted.{query_owner, record_owner}
+use Rattle.op.specs.Header.{RawHeader, header_bytes}
 use Rattle.op.specs.Query.{FitsQuery, IsQueryAt, QueryWord, plain_query}
-use Rattle.op.specs.declared.header.Header.{Header}
 use Rattle.op.specs.declared.query.Query.{Query}
 use Rattle.op.proofs.OwnerLemmas.{Known, Section, none_known, section}
 use Rattle.op.proofs.WordsBack.{query_back, query_ends, record_back, record_ends}

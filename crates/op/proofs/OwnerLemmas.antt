@@ -1,10 +1,9 @@
 -- Owners that are written behind owners.
-use Rattle.std.proofs.Common.{◌≡◌, ℕ, ◌+◌, ◌<◌, ◌≤◌, List, [], ◌∷◌, ◌++◌, length, refl, ap, sym, ◌∙◌, subst, arith, append_assoc}
+use Rattle.std.proofs.Common.{◌≡◌, ℕ, ◌<◌, List, [], ◌∷◌, ◌++◌, length, ap, sym, ◌∙◌, subst, arith, append_assoc}
 use Rattle.std.specs.Prelude.{All, Any, ◌≢◌}
 use Rattle.std.proofs.lemmas.List.{append-nil}
 use Rattle.std.proofs.lemmas.List.Elements.{All-append, All-cons, All-nil, All-tail, All-weaker}
 use Rattle.base.specs.Items.{EachWritten}
-use Rattle.base.specs.Labels.{size_of}
 use Rattle.base.specs.Laws.{Holds, Keeps, Writes}
 use Rattle.base.specs.Spelling.{Spelled}
 use Rattle.base.specs.State.{State, Stored}

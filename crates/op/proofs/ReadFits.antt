@@ -1,27 +1,23 @@
 -- A message that was read fits.
-use Rattle.std.proofs.Common.{◌≡◌, ℕ, ◌+◌, ◌/◌, ◌%◌, ◌<◌, ◌≤◌, Bool, true, false, cond, List, [], ◌∷◌, length, refl, ap, sym, ◌∙◌, subst, arith, rules, Option, Some, None, inl, inr}
+use Rattle.std.proofs.Common.{◌≡◌, ℕ, ◌%◌, ◌<◌, ◌≤◌, Bool, true, false, cond, List, [], ◌∷◌, refl, ap, sym, ◌∙◌, subst, arith, rules, Option, Some, None, inl, inr}
 use Rattle.std.specs.Prelude.{All, ◌||◌, not, filter, find, nat_lt}
 use Rattle.std.specs.Option.{option_map}
 use Rattle.std.proofs.lemmas.Bool.{cases_Bool, ltb-false}
 use Rattle.std.proofs.lemmas.List.Elements.{All-cons, All-nil, All-tail}
 use Rattle.base.specs.DNSClass.{class_number, class_of, field_class, field_top, opt_class}
-use Rattle.base.specs.declared.dns_class.DNSClass.{DNSClass}
-use Rattle.base.specs.declared.dns_class.DNSClass.TheVariants as classes
 use Rattle.base.specs.Labels.{NameValue}
 use Rattle.base.specs.RecordType.{type_number, type_of}
-use Rattle.base.specs.declared.record_type.RecordType.{RecordType}
 use Rattle.base.specs.Words.{BackToBack}
 use Rattle.base.specs.Words.BackToBack.{none, more}
 use Rattle.base_data.specs.RData.{type_of_data}
 use Rattle.base_data.specs.declared.rdata.RData.{RData}
 use Rattle.base_data.specs.declared.rdata.RData.TheVariants as kinds
-use Rattle.rr.specs.Record.{FitsRecord, IsRecordAt, class_value, flush_value, is_opt_type}
+use Rattle.rr.specs.Record.{FitsRecord, IsRecordAt, is_opt_type}
 use Rattle.rr.specs.declared.record.Record.{Record}
 use Rattle.op.specs.Fits.{Fits, FitsAdditional, FitsEdns, FitsPlain, listed, signature_record}
-use Rattle.op.specs.Header.{header_value}
 use Rattle.op.specs.Message.{IsMessageAt, MessageValue, high_code, message_of}
 use Rattle.op.specs.OpCode.{op_number, op_value}
-use Rattle.op.specs.Query.{FitsQuery, IsQueryAt, query_value}
+use Rattle.op.specs.Query.{FitsQuery, IsQueryAt}
 use Rattle.op.specs.Section.{IsGiven, IsPlain, edns_of, is_opt, is_ordinary, is_signature, is_signature_data, section_of, signature_in, signature_of}
 use Rattle.op.specs.declared.edns.Edns.{Edns}
 use Rattle.op.specs.declared.header.Header.{Header}

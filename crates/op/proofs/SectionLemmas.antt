@@ -1,7 +1,7 @@
 -- Reading the records of a section, step by step.
-use Rattle.std.proofs.Common.{◌≡◌, ℕ, ◌+◌, ◌-◌, ◌<◌, ◌≤◌, Bool, List, zero, suc, refl, sym, ◌∙◌, arith, Ok, Err}
+use Rattle.std.proofs.Common.{◌≡◌, ℕ, ◌+◌, ◌-◌, ◌<◌, ◌≤◌, Bool, List, suc, refl, sym, ◌∙◌, arith, Ok, Err}
 use Rattle.base.specs.declared.error.decode_error.DecodeError.{DecodeError}
-use Rattle.base.specs.Reading.{Fails, ◌>>=◌}
+use Rattle.base.specs.Reading.{Fails}
 use Rattle.base.proofs.ReadLemmas.{Fails-through}
 use Rattle.base_data.specs.declared.rdata.RData.{RData}
 use Rattle.rr.specs.Record.{record_at}

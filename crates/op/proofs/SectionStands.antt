@@ -1,7 +1,6 @@
 -- Sections that stand are sections that are read.
-use Rattle.std.proofs.Common.{◌≡◌, ℕ, ◌+◌, Bool, false, List, [], ◌∷◌, length, zero, suc, refl, sym, ◌∙◌, subst, arith, Result, Ok, Err, Option, Some, None}
+use Rattle.std.proofs.Common.{◌≡◌, ℕ, Bool, false, List, [], ◌∷◌, length, zero, suc, refl, sym, ◌∙◌, subst, arith, Result, Ok, Option, Some, None}
 use Rattle.base.specs.declared.error.decode_error.DecodeError.{DecodeError}
-use Rattle.base.specs.Reading.{◌>>=◌}
 use Rattle.base.specs.Words.{BackToBack}
 use Rattle.base.specs.Words.BackToBack.{none, more}
 use Rattle.base.proofs.ReadLemmas.{bind_ok}

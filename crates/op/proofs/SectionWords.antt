@@ -1,5 +1,5 @@
 -- The records of a section: the tests on each, and what they are together.
-use Rattle.std.proofs.Common.{◌≡◌, ℕ, ◌+◌, ◌<◌, ◌≤◌, Bool, true, false, cond, List, [], ◌∷◌, ◌++◌, length, zero, suc, refl, ap, sym, ◌∙◌, subst, arith, append_assoc, Result, Ok, Err, Option, Some, None, inl, inr}
+use Rattle.std.proofs.Common.{◌≡◌, ◌+◌, ◌≤◌, Bool, true, false, cond, List, [], ◌∷◌, ◌++◌, length, refl, ap, sym, ◌∙◌, subst, arith, append_assoc, Option, Some, None, inl, inr}
 use Rattle.std.proofs.lemmas.Bool.{cases_Bool}
 use Rattle.std.proofs.lemmas.List.{append-nil}
 use Rattle.std.proofs.lemmas.List.Elements.{All-cons, All-nil, All-tail}
@@ -7,14 +7,12 @@ use Rattle.std.specs.Prelude.{All, ◌&&◌, ◌||◌, not, filter, find, is_som
 use Rattle.std.specs.Option.{option_map, option_or}
 use Rattle.base.specs.declared.error.decode_error.DecodeError.{DecodeError}
 use Rattle.base.specs.declared.error.decode_error.DecodeError.TheVariants as faults
-use Rattle.base.specs.declared.record_type.RecordType.{RecordType}
 use Rattle.base_data.specs.RData.{is_empty_data, type_of_data}
 use Rattle.base_data.specs.declared.rdata.RData.{RData}
 use Rattle.base_data.specs.declared.rdata.RData.TheVariants as kinds
 use Rattle.rr.specs.Record.{is_opt_type}
 use Rattle.rr.specs.declared.record.Record.{Record}
 use Rattle.op.specs.Section.{EndsWithSignature, IsGiven, SectionValue, edns_of, empty_section, fault_of, is_additional, is_opt, is_ordinary, is_signature, is_signature_data, is_update, section_of, signature_of, with_record}
-use Rattle.op.specs.declared.edns.Edns.{Edns}
 use Rattle.op.specs.declared.op_code.OpCode.{OpCode}
 
 -- each record passes the tests behind those before it

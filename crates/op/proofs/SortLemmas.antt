@@ -1,21 +1,19 @@
 -- The additional records of a message that was written: its own, then EDNS, then the signature.
-use Rattle.std.proofs.Common.{◌≡◌, ℕ, ◌+◌, ◌<◌, ◌≤◌, Bool, true, false, cond, List, [], ◌∷◌, ◌++◌, length, refl, ap, sym, ◌∙◌, subst, arith, Option, Some, None, length-append}
+use Rattle.std.proofs.Common.{◌≡◌, ℕ, ◌≤◌, Bool, true, false, List, [], ◌∷◌, ◌++◌, length, refl, ap, sym, ◌∙◌, subst, arith, Option, Some, None}
 use Rattle.std.specs.Prelude.{All, ◌||◌, not, filter, find, map}
 use Rattle.std.specs.Option.{option_map, option_or}
 use Rattle.std.proofs.lemmas.List.{append-nil}
 use Rattle.std.proofs.lemmas.List.Elements.{All-append, All-cons, All-nil, All-tail, filter-append}
 use Rattle.std.proofs.lemmas.List.Folds.{find-append}
 use Rattle.base_data.specs.OPT.{OptionValue}
-use Rattle.base_data.specs.RData.{is_empty_data, type_of_data}
 use Rattle.base_data.specs.declared.rdata.RData.{RData}
-use Rattle.rr.specs.Record.{is_opt_type}
 use Rattle.rr.specs.declared.record.Record.{Record}
 use Rattle.op.specs.EdnsRecord.{edns_record, opt_data}
 use Rattle.op.specs.Fits.{FitsAdditional, FitsEdns, listed, signature_record}
 use Rattle.op.specs.Section.{AtMostOneOpt, EndsWithSignature, IsGiven, edns_of, is_opt, is_ordinary, is_signature, is_signature_data, is_update, section_of, signature_of}
 use Rattle.op.specs.declared.edns.Edns.{Edns}
 use Rattle.op.specs.declared.op_code.OpCode.{OpCode}
-use Rattle.op.proofs.WordsBack.{edns_back, opt_typed, signature_back}
+use Rattle.op.proofs.WordsBack.{edns_back, opt_typed}
 
 -- ---- one or none
 

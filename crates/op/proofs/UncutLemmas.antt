@@ -1,17 +1,16 @@
 -- A message that was read, and of which nothing was cut, is read as the same message.
-use Rattle.std.proofs.Common.{◌≡◌, ℕ, ◌+◌, ◌*◌, ◌-◌, ◌/◌, ◌%◌, ◌<◌, ◌≤◌, ◌^◌, Bool, true, false, cond, List, [], ◌∷◌, ◌++◌, length, take, drop, refl, ap, sym, ◌∙◌, subst, arith, Option, Some, None}
+use Rattle.std.proofs.Common.{◌≡◌, ℕ, ◌+◌, ◌*◌, ◌/◌, ◌%◌, ◌<◌, ◌^◌, Bool, true, false, List, [], ◌++◌, length, take, drop, refl, ap, sym, ◌∙◌, subst, arith, Option, Some, None}
 use Rattle.std.specs.Prelude.{All, ◌||◌, find, slice_index}
 use Rattle.std.specs.Option.{option_map}
 use Rattle.std.specs.Int.{w32, from_be_bytes}
 use Rattle.std.proofs.lemmas.List.{append-nil, length-drop, length-take}
 use Rattle.std.proofs.lemmas.List.Elements.{All-drop, All-take}
-use Rattle.base.specs.Words.{BackToBack, IsNumberAt}
+use Rattle.base.specs.Words.{IsNumberAt}
 use Rattle.base_data.specs.declared.rdata.RData.{RData}
-use Rattle.rr.specs.Record.{IsRecordAt}
 use Rattle.rr.specs.declared.record.Record.{Record}
-use Rattle.op.specs.Cut.{IsCut, IsFront, IsUncut, any_lost, code_range, raised}
+use Rattle.op.specs.Cut.{IsCut, IsUncut, any_lost, code_range, raised}
 use Rattle.op.specs.Fits.{listed}
-use Rattle.op.specs.Message.{IsMessageAt, MessageValue, high_code, message_of}
+use Rattle.op.specs.Message.{IsMessageAt, MessageValue, high_code}
 use Rattle.op.specs.ResponseCode.{code_number, code_value}
 use Rattle.op.specs.Section.{edns_of, is_opt, section_of}
 use Rattle.op.specs.declared.edns.Edns.{Edns}

@@ -1,9 +1,8 @@
 -- What was written of a message that fits is read as it was.
-use Rattle.std.proofs.Common.{◌≡◌, ℕ, ◌+◌, ◌*◌, ◌/◌, ◌%◌, ◌<◌, ◌≤◌, Bool, true, false, cond, List, [], ◌∷◌, length, refl, ap, sym, ◌∙◌, subst, arith}
+use Rattle.std.proofs.Common.{◌≡◌, ℕ, ◌+◌, ◌*◌, ◌/◌, ◌%◌, ◌<◌, ◌≤◌, Bool, true, false, List, [], ◌∷◌, refl, ap, sym, ◌∙◌, subst, arith}
 use Rattle.std.proofs.lemmas.Bool.{le-leb, lt-leb, le-ltb}
-use Rattle.std.specs.Prelude.{nat_le, nat_lt}
+use Rattle.std.specs.Prelude.{nat_le}
 use Rattle.base.specs.DNSClass.{class_number, opt_class}
-use Rattle.base.specs.declared.dns_class.DNSClass.{DNSClass}
 use Rattle.base.specs.declared.dns_class.DNSClass.TheVariants as classes
 use Rattle.base.specs.Labels.{NameValue}
 use Rattle.base.specs.RecordType.{type_number, type_of}
@@ -12,7 +11,6 @@ use Rattle.base_data.specs.DataAt.{IsReadable}
 use Rattle.base_data.specs.OPT.{OptionValue}
 use Rattle.base_data.specs.RData.{type_of_data}
 use Rattle.base_data.specs.declared.rdata.RData.{RData}
-use Rattle.base_data.specs.declared.rdata.RData.TheVariants as kinds
 use Rattle.base.specs.declared.record_type.RecordType.TheVariants as types
 use Rattle.rr.specs.Record.{FitsRecord, is_opt_type, IsRecordAt, RecordWord}
 use Rattle.rr.specs.declared.record.Record.{Record}

@@ -1,5 +1,5 @@
 -- EDNS: what an OPT record says (RFC 6891, 6.1.2 and 6.1.3).
-use Rattle.std.specs.Prelude.{ℕ, Bool, List, [], ◌++◌, codes, true, false, length, if◌then◌else◌}
+use Rattle.std.specs.Prelude.{ℕ, Bool, List, [], ◌++◌, codes, false, length, if◌then◌else◌}
 use Rattle.std.specs.Borrow.{Fml, Lends, MutBor}
 use Rattle.std.specs.Fmt.{decimal}
 use Rattle.base_data.specs.OPT.{OptionValue}

@@ -1,5 +1,5 @@
 -- The OPT record of EDNS (RFC 6891, 6.1.2 and 6.1.3).
-use Rattle.std.specs.Prelude.{◌≡◌, ℕ, ◌+◌, ◌*◌, ◌<◌, ◌≤◌, List, [], ◌∷◌, false, true}
+use Rattle.std.specs.Prelude.{ℕ, ◌+◌, ◌*◌, List, [], ◌∷◌, false, true}
 use Rattle.base.specs.DNSClass.{opt_class}
 use Rattle.base.specs.declared.record_type.RecordType.TheVariants as types
 use Rattle.base_data.specs.OPT.{OptionValue}

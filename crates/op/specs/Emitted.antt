@@ -1,5 +1,5 @@
 -- What writing a message leaves, in an encoder's states.
-use Rattle.std.specs.Prelude.{◌≡◌, ℕ, Bool, ◌+◌, ◌≤◌, ◌<◌, ◌||◌, List, [], ◌++◌, length, replicate, Result, Ok, Err}
+use Rattle.std.specs.Prelude.{◌≡◌, ℕ, Bool, ◌+◌, ◌≤◌, ◌||◌, List, ◌++◌, length, replicate}
 use Rattle.std.specs.Option.{option_map}
 use Rattle.base.specs.Items.{EachWritten}
 use Rattle.base.specs.State.{State, appended, overwritten}

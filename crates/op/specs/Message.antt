@@ -15,7 +15,6 @@ use Rattle.op.specs.declared.edns.Edns.{Edns}
 use Rattle.op.specs.declared.header.Header.{Header}
 use Rattle.op.specs.declared.header.metadata.Metadata.{Metadata}
 use Rattle.op.specs.declared.message.Message.{Message}
-use Rattle.op.specs.declared.op_code.OpCode.{OpCode}
 use Rattle.op.specs.declared.query.Query.{Query}
 
 -- a message as contracts see it: its fields, lists without their memory
