@@ -1,1 +1,2 @@
+mod CutLemmas
 mod LimitLemmas

@@ -31,4 +31,4 @@ pub limit_read : {E : Type 0} (word : List ℕ) (r : Result ℕ E) → list_all 
 limit_read word r all h =
     let tells = parse_digits digits 16 word r h all in
     small_number (list_all is_ascii_digit word) (nat_lt 0 (length word)) (nat_lt (digits_value 10 word) 65536) (digits_value 10 word) (length word) (result_ok r) all refl refl
-        (answered r (digits_value 10 word) (length word) tells) (not_answered r (digits_value 10 word) (length word) tells)
+    (answered r (digits_value 10 word) (length word) tells) (not_answered r (digits_value 10 word) (length word) tells)

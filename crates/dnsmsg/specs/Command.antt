@@ -1,9 +1,15 @@
 -- The commands, as the words after the program's name name them, and what each answers.
-use Rattle.std.specs.Prelude.{ℕ, List, [], ◌∷◌, codes, if◌then◌else◌, Option, Some, None}
+use Rattle.std.specs.Prelude.{ℕ, List, [], ◌∷◌, codes, if◌then◌else◌, Option, Some, None, Result, String}
+use Rattle.std.specs.Option.{option_map}
+use Rattle.std.specs.declared.alloc.Global.{Global}
+use Rattle.std.specs.String.{string_bytes}
 use Rattle.std.specs.Str.{bytes_eq}
-use Rattle.dnsmsg.specs.Answer.{Answer}
+use Rattle.dnsmsg.specs.Answering.{Answers}
+use Rattle.dnsmsg.specs.CutCommand.{CutAnswers}
 use Rattle.dnsmsg.specs.HeaderCommand.{header_answer}
+use Rattle.dnsmsg.specs.Limit.{limit_of}
 use Rattle.dnsmsg.specs.ReadCommand.{read_answer}
+use Rattle.dnsmsg.specs.declared.refusal.Refusal.{Refusal}
 use Rattle.dnsmsg.specs.declared.command.Command.{Command}
 use Rattle.dnsmsg.specs.declared.command.Command.TheVariants as command
 
@@ -11,9 +17,11 @@ use Rattle.dnsmsg.specs.declared.command.Command.TheVariants as command
 abbrev pub command_of : List (List ℕ) → Option Command
 command_of [] = None
 command_of (word ∷ []) = if bytes_eq word (codes "header") then Some command.Header else (if bytes_eq word (codes "read") then Some command.Read else None)
-command_of (word ∷ (next ∷ others)) = None
+command_of (word ∷ (number ∷ [])) = if bytes_eq word (codes "cut") then option_map command.Cut (limit_of number) else None
+command_of (word ∷ (next ∷ (other ∷ others))) = None
 
--- the answer of a command to a text
-abbrev pub answer_of : Command → List ℕ → Answer
-answer_of command.Header text = header_answer text
-answer_of command.Read text = read_answer text
+-- What a command's call answers to a text.
+abbrev pub CommandAnswers : Command → List ℕ → Result (String Global) Refusal → Type 0
+CommandAnswers command.Header text result = Answers string_bytes (header_answer text) result
+CommandAnswers command.Read text result = Answers string_bytes (read_answer text) result
+CommandAnswers (command.Cut limit) text result = CutAnswers limit text result

@@ -5,6 +5,8 @@ ghost use Rattle.std.specs.Str.{bytes_eq};
 ghost use Rattle.dnsmsg.specs.Command.{command_of};
 ghost use Rattle.dnsmsg.specs.Words.{texts};
 
+use crate::limit::limit;
+
 /// What the program can do.
 #[derive(Clone, Copy, Debug, Drop)]
 pub enum Command {
@@ -12,6 +14,8 @@ pub enum Command {
     Header,
     /// A message in hexadecimal: its text.
     Read,
+    /// A message in hexadecimal, and how many bytes it may take: a cut of it, in hexadecimal.
+    Cut(u16),
 }
 
 impl Command {
@@ -22,6 +26,7 @@ impl Command {
         match words {
             [word] if word.as_str() == "header" => Some(Command::Header),
             [word] if word.as_str() == "read" => Some(Command::Read),
+            [word, number] if word.as_str() == "cut" => limit(number.as_str()).map(Command::Cut),
             _ => None,
         }
     }

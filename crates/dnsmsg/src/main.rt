@@ -2,6 +2,7 @@
 #![tactic(auto)]
 
 mod command;
+mod cut_command;
 mod header_command;
 mod hex_input;
 mod limit;

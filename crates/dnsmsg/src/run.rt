@@ -1,16 +1,16 @@
 //! A run of the program over any reader and writer.
 
-ghost use Rattle.std.specs.Prelude.{◌≡◌, ◌≢◌, ◌⊎◌, ◌≤◌, IfSome, None, Some};
+ghost use Rattle.std.specs.Prelude.{◌≡◌, ◌≢◌, ◌⊎◌, ◌≤◌, ℕ, IfSome, None, Some};
 ghost use Rattle.dnsmsg.specs.Answer.{IsAnswered, IsGiven, usage, refused, done, broken};
-ghost use Rattle.std.specs.String.{string_bytes};
-ghost use Rattle.dnsmsg.specs.Answering.{Answers};
-ghost use Rattle.dnsmsg.specs.Command.{answer_of, command_of};
+ghost use Rattle.dnsmsg.specs.Command.{CommandAnswers, command_of};
+ghost use Rattle.dnsmsg.specs.CutCommand.{IsCutGiven};
 ghost use Rattle.dnsmsg.specs.HeaderCommand.{header_answer};
 ghost use Rattle.dnsmsg.specs.ReadCommand.{read_answer};
 ghost use Rattle.dnsmsg.specs.Words.{texts};
 ghost use Rattle.dnsmsg.specs.declared.command.Command.TheVariants as commands;
 
 use crate::command::Command;
+use crate::cut_command::cut;
 use crate::header_command::header;
 use crate::read_command::read;
 use crate::refusal::Refusal;
@@ -30,6 +30,8 @@ pub fn run<R: Read, W: Write>(alloc: Global, words: &[String], input: &mut R, ou
         (λ text. IsAnswered (header_answer text) result (W.contents output.old) (W.contents output.new)) }
     ensures read { command_of (texts words.now) ≡ Some commands.Read → result ≢ broken → IfSome (R.remaining input.old)
         (λ text. IsAnswered (read_answer text) result (W.contents output.old) (W.contents output.new)) }
+    ensures cut { (limit : ℕ) → command_of (texts words.now) ≡ Some (commands.Cut limit) → result ≢ broken → IfSome (R.remaining input.old)
+        (λ text. IsCutGiven limit text result (W.contents output.old) (W.contents output.new)) }
 {
     match Command::from_words(words) {
         None => print_usage(output),
@@ -50,11 +52,12 @@ pub fn run<R: Read, W: Write>(alloc: Global, words: &[String], input: &mut R, ou
 impl Command {
     // What the command prints of a text.
     fn answer(self, alloc: Global, text: &[u8]) -> Result<String, Refusal>
-        ensures { Answers string_bytes (answer_of self text.now) result }
+        ensures { CommandAnswers self text.now result }
     {
         match self {
             Command::Header => header(alloc, text),
             Command::Read => read(alloc, text),
+            Command::Cut(limit) => cut(alloc, text, limit),
         }
     }
 }

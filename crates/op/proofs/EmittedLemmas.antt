@@ -1,5 +1,5 @@
 -- A message that was composed of slices was emitted.
-use Rattle.std.proofs.Common.{◌≡◌, ◌⊎◌, ℕ, ◌+◌, ◌<◌, ◌≤◌, ◌^◌, Bool, true, false, List, [], ◌∷◌, ◌++◌, length, inl, inr, refl, ap, sym, ◌∙◌, subst, arith, Result, Ok, Err, Bor, Iter}
+use Rattle.std.proofs.Common.{◌≡◌, ℕ, ◌+◌, Bool, true, false, List, [], ◌∷◌, length, refl, ap, sym, ◌∙◌, subst, arith, Result, Ok, Err, Bor, Iter}
 use Rattle.std.specs.Prelude.{◌||◌, ⊤, ◌/◌, ◌%◌, IfOk, IsSomeAnd, MatchOption, Option, Some, None}
 use Rattle.std.specs.Option.{option_copied, option_map}
 use Rattle.std.proofs.iter.Yields.{fronts}
@@ -17,7 +17,7 @@ use Rattle.op.specs.Cut.{raised}
 use Rattle.op.specs.EdnsRecord.{edns_record}
 use Rattle.op.specs.Emitted.{Emitted, WritesFront, WritesRecords, query_owner, record_owner}
 use Rattle.op.specs.Fits.{listed, signature_record}
-use Rattle.op.specs.Header.{IsNarrow, header_bytes, raw_header}
+use Rattle.op.specs.Header.{header_bytes, raw_header}
 use Rattle.op.specs.Message.{MessageValue}
 use Rattle.op.specs.ResponseCode.{code_number}
 use Rattle.op.specs.declared.edns.Edns.{Edns}
@@ -26,7 +26,7 @@ use Rattle.op.specs.declared.header.Header.{Header}
 use Rattle.op.specs.declared.message.writing.parts.Sections.{Sections}
 use Rattle.op.specs.declared.message.writing.parts.Written.{Written}
 use Rattle.op.specs.declared.query.Query.{Query}
-use Rattle.op.proofs.RunLemmas.{Both, went, failed}
+use Rattle.op.proofs.RunLemmas.{Both, went}
 
 -- ---- parts that are slices
 
@@ -136,7 +136,7 @@ assemble m old kept first second third fourth fifth sixth new h place queries an
 abbrev pub emits_records : Iter (Record RData) → State → Result ℕ ProtoError → Iter (Record RData) → State → Type 0
 emits_records = slice_emits RecordWord plain_record record_owner
 
-abbrev emits_queries : Iter Query → State → Result ℕ ProtoError → Iter Query → State → Type 0
+abbrev pub emits_queries : Iter Query → State → Result ℕ ProtoError → Iter Query → State → Type 0
 emits_queries = slice_emits QueryWord plain_query query_owner
 
 -- fronts of three lists of records were written

@@ -9,7 +9,9 @@ pub mod HeaderRoom
 pub mod Orders
 pub mod QueryEquals
 pub mod QueryLemmas
+pub mod RoomLemmas
 pub mod RunLemmas
+pub mod SucceedsLemmas
 mod BufferLemmas
 mod CodeLemmas
 mod CutOf

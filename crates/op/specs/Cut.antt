@@ -3,12 +3,14 @@ use Rattle.std.specs.Prelude.{◌≡◌, ◌≢◌, ℕ, Bool, true, false, All,
 use Rattle.std.specs.Option.{option_map}
 use Rattle.base.specs.Labels.{size_of}
 use Rattle.base.specs.Words.{BackToBack}
+use Rattle.base.specs.declared.error.proto_error.ProtoError.{ProtoError}
+use Rattle.base.specs.declared.error.proto_error.ProtoError.TheVariants as refusals
 use Rattle.base.specs.Words.BackToBack.{none, more}
 use Rattle.base_data.specs.declared.rdata.RData.{RData}
 use Rattle.rr.specs.Record.{IsRecordAt, plain_record}
 use Rattle.rr.specs.declared.record.Record.{Record}
 use Rattle.op.specs.EdnsRecord.{edns_record, plain_edns}
-use Rattle.op.specs.Fits.{listed, signature_record}
+use Rattle.op.specs.Fits.{listed, plain_queries, signature_record}
 use Rattle.op.specs.Message.{IsMessageAt, MessageValue, message_at}
 use Rattle.op.specs.Query.{IsQueryAt}
 use Rattle.op.specs.ResponseCode.{code_number, code_value}
@@ -111,3 +113,9 @@ pub record IsWritten (m : MessageValue) (limit : ℕ) (B : List ℕ) : Type 0 wh
   pub message : MessageValue
   pub is_cut : IsCut m limit B message
   pub read : message_at B 0 ≡ Ok (message, length B)
+
+-- The limit has no room for the header, or for the questions behind it: of those as many were written.
+abbrev pub IsTooSmall : MessageValue → ℕ → ProtoError → Type 0
+IsTooSmall m limit refusals.MaxBufferSizeExceeded = limit < 12
+IsTooSmall m limit (refusals.NotAllRecordsWritten count) = (12 ≤ limit) × (limit < 12 + plain_queries m.queries)
+IsTooSmall m limit _ = ⊥

@@ -12,6 +12,8 @@ mod emit;
 pub mod laws;
 mod reading;
 mod section;
+#[cfg(test)]
+mod tests;
 mod writing;
 
 use crate::edns::Edns;

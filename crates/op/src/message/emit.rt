@@ -1,11 +1,11 @@
 //! Writes whole messages under a limit (RFC 1035, 4.1; RFC 2181, 9).
 
-ghost use Rattle.std.specs.Prelude.{◌≡◌, [], IfOk};
+ghost use Rattle.std.specs.Prelude.{◌≡◌, ◌⊎◌, [], IfErr, IfOk, IsOkUnless};
 ghost use Rattle.base.specs.Laws.{Keeps};
 ghost use Rattle.base.specs.Wire.{state_of};
-ghost use Rattle.op.specs.Cut.{IsWritten};
+ghost use Rattle.op.specs.Cut.{IsTooSmall, IsWritten};
 ghost use Rattle.op.specs.Emitted.{Emitted};
-ghost use Rattle.op.specs.Fits.{Fits};
+ghost use Rattle.op.specs.Fits.{Fits, HasRoom};
 ghost use Rattle.op.specs.Message.{message_value};
 ghost use Rattle.op.specs.declared.header.Header.{Header as WrittenHeader};
 
@@ -20,12 +20,17 @@ impl Message {
     /// so. Into a new encoder, of a message that fits the wire, this writes a cut of the message, which is read as
     /// exactly that.
     ///
-    /// Refused where the header or the questions don't fit, where a count passes 65,535, and for want of memory.
+    /// Refused where the header or the questions don't fit, where a count passes 65,535, and for want of memory; into a
+    /// new encoder with room for header and questions uncompressed, for want of memory alone.
     pub fn emit(&self, encoder: &mut BinEncoder<'_>) -> Result<(), ProtoError>
         ensures keeps { Keeps (state_of encoder.old) (state_of encoder.new) }
         ensures emitted { IfOk result (λ _. (h : WrittenHeader) × Emitted (message_value self.now) (state_of encoder.old) (state_of encoder.new) h) }
         ensures written { Fits (message_value self.now) → (state_of encoder.old).bytes ≡ [] → (state_of encoder.old).suffixes ≡ []
             → IfOk result (λ _. IsWritten (message_value self.now) (state_of encoder.old).limit (state_of encoder.new).bytes) }
+        ensures succeeds { (state_of encoder.old).bytes ≡ [] → (state_of encoder.old).suffixes ≡ [] → HasRoom (message_value self.now) (state_of encoder.old).limit
+            → IsOkUnless result ProtoError.Memory }
+        ensures refused { (state_of encoder.old).bytes ≡ [] → (state_of encoder.old).suffixes ≡ []
+            → IfErr result (λ e. (e ≡ ProtoError.Memory) ⊎ IsTooSmall (message_value self.now) (state_of encoder.old).limit e) }
     {
         self.emit_header(encoder)?;
         Ok(())
@@ -35,6 +40,7 @@ impl Message {
     ///
     /// Refused as `emit` is.
     pub fn to_vec(&self) -> Result<Vec<u8>, ProtoError>
+        ensures succeeds { HasRoom (message_value self.now) 65535 → IsOkUnless result ProtoError.Memory }
         ensures written { Fits (message_value self.now) → IfOk result (λ bytes. IsWritten (message_value self.now) 65535 bytes.items) }
     {
         let mut buffer = Vec::new(*self.queries.allocator());

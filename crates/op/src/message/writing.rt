@@ -1,10 +1,11 @@
 //! Writes messages (RFC 1035, 4.1).
 
-ghost use Rattle.std.specs.Prelude.{◌≡◌, ◌/◌, ◌%◌, ◌||◌, IfOk};
+ghost use Rattle.std.specs.Prelude.{◌≡◌, ◌/◌, ◌%◌, ◌||◌, ◌<◌, ◌^◌, [], IfErr, IfOk, ◌⊎◌};
 ghost use Rattle.std.specs.Option.{option_copied, option_map};
 ghost use Rattle.base.specs.Laws.{Keeps};
 ghost use Rattle.base.specs.Wire.{state_of};
 ghost use Rattle.op.specs.Composition.{Composition, HasHeader};
+ghost use Rattle.op.specs.Cut.{IsTooSmall};
 ghost use Rattle.op.specs.EdnsRecord.{edns_record};
 ghost use Rattle.op.specs.Emitted.{Emitted};
 ghost use Rattle.op.specs.Fits.{listed, signature_record};
@@ -59,6 +60,7 @@ where
         (listed (option_map (λ e. edns_record (record e { rcode_high = code_number metadata.now.response_code / 16 % 256 })) (option_copied edns.entry)))
         (listed (option_map signature_record (option_copied signature.entry)))
         (state_of encoder.old) result (state_of encoder.new) }
+    ensures narrow { (state_of encoder.old).limit < 2 ^ 16 }
 {
     let place = encoder.place::<Header>()?;
     let query_count = queries.emit(encoder)?;
@@ -75,6 +77,8 @@ impl Message {
     pub(crate) fn emit_header(&self, encoder: &mut BinEncoder<'_>) -> Result<Header, ProtoError>
         ensures keeps { Keeps (state_of encoder.old) (state_of encoder.new) }
         ensures emitted { IfOk result (λ h. Emitted (message_value self.now) (state_of encoder.old) (state_of encoder.new) h) }
+        ensures refused { (state_of encoder.old).bytes ≡ [] → (state_of encoder.old).suffixes ≡ []
+            → IfErr result (λ e. (e ≡ ProtoError.Memory) ⊎ IsTooSmall (message_value self.now) (state_of encoder.old).limit e) }
     {
         emit_message_parts(
             &self.metadata,

@@ -1,0 +1,47 @@
+-- What the command `cut` prints.
+use Rattle.std.specs.Prelude.{◌≡◌, ◌⊎◌, ℕ, List, [], ◌∷◌, ◌++◌, Option, Result, Ok, Err, String}
+use Rattle.std.specs.declared.alloc.Global.{Global}
+use Rattle.std.specs.String.{string_bytes}
+use Rattle.hex.specs.Hex.{encode_lower}
+use Rattle.hex.specs.declared.error.FromHexError.{FromHexError}
+use Rattle.base.specs.Reading.{Read}
+use Rattle.base.specs.DecodeError.{decode_number}
+use Rattle.base.specs.ProtoError.{proto_number}
+use Rattle.base.specs.declared.error.proto_error.ProtoError.{ProtoError}
+use Rattle.op.specs.Cut.{IsTooSmall, IsWritten}
+use Rattle.op.specs.Message.{MessageValue, message_at}
+use Rattle.dnsmsg.specs.Answer.{Answer, IsGiven, done, refused}
+use Rattle.dnsmsg.specs.HexInput.{bytes_of}
+use Rattle.dnsmsg.specs.Refusal.{refusal_number}
+use Rattle.dnsmsg.specs.declared.refusal.Refusal.{Refusal}
+
+-- bytes in hexadecimal, one line
+abbrev pub hex_line : List ℕ → List ℕ
+hex_line bytes = encode_lower bytes ++ 10 ∷ []
+
+-- The answer is a cut of the message under the limit, or that the limit has no room for header and questions.
+abbrev pub CutsMessage : MessageValue → ℕ → Answer → Type 0
+CutsMessage m limit answer =
+    ((B : List ℕ) × IsWritten m limit B × (answer ≡ done (hex_line B)))
+    ⊎ ((e : ProtoError) × IsTooSmall m limit e × (answer ≡ refused (proto_number e)))
+
+abbrev pub CutsRead : ℕ → Read MessageValue → Answer → Type 0
+CutsRead limit (Ok (message, end)) answer = CutsMessage message limit answer
+CutsRead limit (Err fault) answer = answer ≡ refused (decode_number fault)
+
+abbrev pub CutsBuffer : ℕ → Result (List ℕ) FromHexError → Answer → Type 0
+CutsBuffer limit (Ok bytes) answer = CutsRead limit (message_at bytes 0) answer
+CutsBuffer limit (Err fault) answer = answer ≡ refused 24
+
+-- an answer to the bytes of a message in hexadecimal, whatever stands behind it, under a limit
+abbrev pub IsCutAnswer : ℕ → List ℕ → Answer → Type 0
+IsCutAnswer limit input answer = CutsBuffer limit (bytes_of input) answer
+
+-- What the command's call answers, against that: a text, a refusal, or that for want of memory.
+abbrev pub CutAnswers : ℕ → List ℕ → Result (String Global) Refusal → Type 0
+CutAnswers limit input (Ok text) = IsCutAnswer limit input (done (string_bytes text))
+CutAnswers limit input (Err refusal) = (refusal_number refusal ≡ 3) ⊎ IsCutAnswer limit input (refused (refusal_number refusal))
+
+-- Such an answer was given, or for want of memory the refusal for that.
+abbrev pub IsCutGiven : ℕ → List ℕ → ℕ → Option (List ℕ) → Option (List ℕ) → Type 0
+IsCutGiven limit input status old new = ((answer : Answer) × IsCutAnswer limit input answer × IsGiven answer status old new) ⊎ IsGiven (refused 3) status old new

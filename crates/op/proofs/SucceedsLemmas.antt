@@ -1,0 +1,249 @@
+-- A message of slices, in an encoder that is empty and has room for header and questions, is refused for memory alone.
+use Rattle.std.proofs.Common.{◌≡◌, ◌⊎◌, ℕ, ◌+◌, ◌<◌, ◌≤◌, ◌^◌, List, [], ◌∷◌, ◌++◌, length, inl, inr, refl, ap, sym, ◌∙◌, subst, arith, length-append, Result, Ok, Err, Iter}
+use Rattle.std.specs.Prelude.{IfErr, IsOkUnless, ⊤, replicate}
+use Rattle.base.specs.Items.{EachWritten}
+use Rattle.base.specs.State.{State}
+use Rattle.base.specs.declared.error.proto_error.ProtoError.{ProtoError}
+use Rattle.base.specs.declared.error.proto_error.ProtoError.TheVariants as refusals
+use Rattle.base.proofs.SliceLemmas.{Emits-front, Emits-slice}
+use Rattle.base_data.specs.declared.rdata.RData.{RData}
+use Rattle.rr.specs.Record.{RecordWord, plain_record}
+use Rattle.rr.specs.declared.record.Record.{Record}
+use Rattle.op.specs.Cut.{IsTooSmall}
+use Rattle.op.specs.Composition.{Adds, AndThen, Counts, EmitsPart, EmitsSections, FillsIn, HasHeader, KeepsRoom, Tests, WritesExtras, WritesRecordItems}
+use Rattle.op.specs.Emitted.{WritesRecords, query_owner, record_owner}
+use Rattle.op.specs.Fits.{HasRoom, plain_queries}
+use Rattle.op.specs.Message.{MessageValue}
+use Rattle.op.specs.Query.{QueryWord, plain_query}
+use Rattle.op.specs.declared.header.Header.{Header}
+use Rattle.op.specs.declared.message.writing.parts.Sections.{Sections}
+use Rattle.op.specs.declared.message.writing.parts.Written.{Written}
+use Rattle.op.specs.declared.query.Query.{Query}
+use Rattle.op.proofs.EmittedLemmas.{AreOf, Composed, ThreeFronts, emits_queries, emits_records, sections_done, slice_front}
+use Rattle.op.proofs.RoomLemmas.{Took, plain-append, queries_few, queries_within, took_few, took_front, took_more, took_queries}
+use Rattle.op.proofs.RunLemmas.{Both, failed}
+
+-- records that no header can count were written
+record Many (a b : State) : Type 0 where
+  kept : List (Record RData)
+  written : EachWritten RecordWord plain_record record_owner kept a b
+  many : 2 ^ 16 ≤ length kept
+
+same_err : {Y : Type 0} (e f : ProtoError) → ◌≡◌ {A = Result Y ProtoError} (Err e) (Err f) → e ≡ f
+same_err e f is = cc
+
+-- why a part that is a slice of records is refused
+part_failed : (s t : Iter (Record RData)) (a b : State) (answer : Result ℕ ProtoError) (e : ProtoError) → emits_records s a answer t b → Counts answer (Err e) → (e ≡ refusals.Memory) ⊎ Many a b
+part_failed s t a b (Ok n) e emits counts =
+    let all = Emits-slice RecordWord plain_record record_owner s t a b n emits in
+    inr (record { kept = s.rest.now; written = all.0; many = omega (arith, counts.0, all.1) })
+part_failed s t a b (Err (refusals.NotAllRecordsWritten n)) e emits counts =
+    let front = Emits-front RecordWord plain_record record_owner s t a b n emits in
+    inr (record { kept = front.0; written = front.4; many = omega (arith, counts.0, front.5) })
+part_failed s t a b (Err refusals.Memory) e emits counts = inl (same_err {Y = Written} e refusals.Memory counts)
+part_failed s t a b (Err refusals.MaxBufferSizeExceeded) e emits counts = absurd emits
+part_failed s t a b (Err refusals.NotOpt) e emits counts = absurd emits
+part_failed s t a b (Err (refusals.Message text)) e emits counts = absurd emits
+part_failed s t a b (Err refusals.NotAResponse) e emits counts = absurd emits
+part_failed s t a b (Err (refusals.Decode d)) e emits counts = absurd emits
+
+-- Behind the state k, with the room for a header, no more records stand than a header can count.
+module _ (k : State) (blank : k.suffixes ≡ []) (within : length k.bytes ≤ k.limit) (small : k.limit < 2 ^ 16) (e : ProtoError) where
+  few_written : (a b : State) (n : ℕ) → Took k a n → Many a b → e ≡ refusals.Memory
+  few_written a b n took many =
+      let few = took_few k b (n + length many.kept) (took_more many.kept k a b n took many.written) blank within small in
+      absurd (omega (arith, few, many.many))
+
+  slice_failed : (s t : Iter (Record RData)) (a b : State) (n : ℕ) → Took k a n → EmitsPart emits_records s t a (Err e) b → e ≡ refusals.Memory
+  slice_failed s t a b n took part =
+      elim (part_failed s t a b part.0 e part.1 part.2) [ inl memory ↦ memory | inr many ↦ few_written a b n took many ]
+
+  -- the sections
+  module _ (a a' n n' d d' : Iter (Record RData)) (first last : State) (took : Took k first 0) where
+    abbrev Third : Written → Written → Written → State → Result Sections ProtoError → State → Type 0
+    Third answers authorities additionals = Tests (λ result. result ≡ Ok (record { answers = answers; authorities = authorities; additionals = additionals }))
+
+    abbrev Second : Written → Written → State → Result Sections ProtoError → State → Type 0
+    Second answers authorities = AndThen (EmitsPart emits_records d d') ⊤ (Third answers authorities)
+
+    abbrev First : Written → State → Result Sections ProtoError → State → Type 0
+    First answers = AndThen (EmitsPart emits_records n n') (d' ≡ d) (Second answers)
+
+    second_failed : (answers : Written) (second : State) → WritesRecords a.rest.now first second answers.count answers.is_cut → Both (EmitsPart emits_records n n') (Second answers) second (Err e) last → e ≡ refusals.Memory
+    second_failed answers second one b =
+        let before = took_front a.rest.now k first second 0 answers.count answers.is_cut took one in
+        let next = slice_front RecordWord plain_record record_owner n n' second b.between b.value b.ran in
+        elim (failed e b.rest) [
+          | inl part ↦ slice_failed d d' b.between last _ (took_front n.rest.now k second b.between _ b.value.count b.value.is_cut before next) part
+          | inr c ↦ absurd (let is = c.rest.0 in cc)
+        ]
+
+    first_failed : Both (EmitsPart emits_records a a') First first (Err e) last → e ≡ refusals.Memory
+    first_failed b =
+        let one = slice_front RecordWord plain_record record_owner a a' first b.between b.value b.ran in
+        elim (failed e b.rest) [
+          | inl part ↦ slice_failed n n' b.between last _ (took_front a.rest.now k first b.between 0 b.value.count b.value.is_cut took one) part
+          | inr c ↦ second_failed b.value b.between one c
+        ]
+
+    sections_failed : EmitsSections emits_records emits_records emits_records a a' n n' d d' first (Err e) last → e ≡ refusals.Memory
+    sections_failed run = elim (failed e run) [ inl part ↦ slice_failed a a' first last 0 took part | inr b ↦ first_failed b ]
+
+  -- OPT and the signature
+  module _ (edns signature : List (Record RData)) (additionals : Written) (fourth last : State) (before : ℕ) (took : Took k fourth (before + additionals.count)) where
+    abbrev Fourth : Written → Written → State → Result Written ProtoError → State → Type 0
+    Fourth sum signed = Tests (Adds sum signed)
+
+    abbrev Third_extra : Written → State → Result Written ProtoError → State → Type 0
+    Third_extra sum = AndThen (WritesRecordItems signature) ⊤ (Fourth sum)
+
+    abbrev Second_extra : Written → State → Result Written ProtoError → State → Type 0
+    Second_extra opt = AndThen (Tests (Adds additionals opt)) ⊤ Third_extra
+
+    signed_failed : (opt sum : Written) (fifth : State) → WritesRecords edns fourth fifth opt.count opt.is_cut → sum.count ≡ additionals.count + opt.count → Both (WritesRecordItems signature) (Fourth sum) fifth (Err e) last → e ≡ refusals.Memory
+    signed_failed opt sum fifth front count b =
+        let second = took_front edns k fourth fifth (before + additionals.count) opt.count opt.is_cut took front in
+        let third = took_front signature k fifth b.between (before + additionals.count + opt.count) b.value.count b.value.is_cut second b.ran in
+        let few = took_few k b.between (before + additionals.count + opt.count + b.value.count) third blank within small in
+        absurd (omega (arith, few, b.rest.0.0, count))
+
+    sum_failed : (opt : Written) (fifth : State) → WritesRecords edns fourth fifth opt.count opt.is_cut → Both (Tests (Adds additionals opt)) Third_extra fifth (Err e) last → e ≡ refusals.Memory
+    sum_failed opt fifth front b =
+        let front_again = subst (λ s. WritesRecords edns fourth s opt.count opt.is_cut) (sym b.ran.1) front in
+        elim (failed e b.rest) [
+          | inl memory ↦ memory
+          | inr c ↦ signed_failed opt b.value b.between front_again (ap (λ w. w.count) b.ran.0.1) c
+        ]
+
+    opt_failed : Both (WritesRecordItems edns) Second_extra fourth (Err e) last → e ≡ refusals.Memory
+    opt_failed b =
+        let few = took_few k b.between (before + additionals.count + b.value.count) (took_front edns k fourth b.between (before + additionals.count) b.value.count b.value.is_cut took b.ran) blank within small in
+        elim (failed e b.rest) [
+          | inl test ↦ absurd (omega (arith, few, test.0.0))
+          | inr c ↦ sum_failed b.value b.between b.ran c
+        ]
+
+    extras_failed : WritesExtras edns signature additionals fourth (Err e) last → e ≡ refusals.Memory
+    extras_failed run = elim (failed e run) [ inl memory ↦ memory | inr b ↦ opt_failed b ]
+
+-- ---- the whole
+
+module _ (m : MessageValue) (q q' : Iter Query) (a a' n n' d d' : Iter (Record RData)) (edns signature : List (Record RData)) (are : AreOf m q q' a a' n n' d d' edns signature) (old new : State)
+    (empty : old.bytes ≡ []) (blank : old.suffixes ≡ []) (small : old.limit < 2 ^ 16) (e : ProtoError) where
+  abbrev Headed : ℕ → ℕ → Sections → Written → State → Result Header ProtoError → State → Type 0
+  Headed place queries sections additionals = AndThen (Tests (HasHeader m.metadata queries sections additionals)) ⊤ (FillsIn place)
+
+  abbrev Extended : ℕ → ℕ → Sections → State → Result Header ProtoError → State → Type 0
+  Extended place queries sections = AndThen (WritesExtras edns signature sections.additionals) ⊤ (Headed place queries sections)
+
+  abbrev Sectioned : ℕ → ℕ → State → Result Header ProtoError → State → Type 0
+  Sectioned place queries = AndThen (EmitsSections emits_records emits_records emits_records a a' n n' d d') ⊤ (Extended place queries)
+
+  abbrev Asked : ℕ → State → Result Header ProtoError → State → Type 0
+  Asked place = AndThen (λ s answer t. emits_queries q s answer q' t) ((a' ≡ a) × (n' ≡ n) × (d' ≡ d)) (Sectioned place)
+
+  -- want of memory, or a limit without room for header and questions
+  abbrev Small : ProtoError → Type 0
+  Small f = (f ≡ refusals.Memory) ⊎ IsTooSmall m old.limit f
+
+  room_failed : (f : ProtoError) → KeepsRoom old (Err f) new → Small f
+  room_failed refusals.Memory run = inl refl
+  room_failed refusals.MaxBufferSizeExceeded run = inr (omega (arith, run.1, ap length empty))
+  room_failed (refusals.NotAllRecordsWritten count) run = absurd run.1
+  room_failed refusals.NotOpt run = absurd run.1
+  room_failed (refusals.Message text) run = absurd run.1
+  room_failed refusals.NotAResponse run = absurd run.1
+  room_failed (refusals.Decode d) run = absurd run.1
+
+  module _ (place : ℕ) (kept : State) (room : KeepsRoom old (Ok place) kept) where
+    twelve : length kept.bytes ≡ 12
+    twelve = ap (λ (s : State). length s.bytes) room.1 ∙ length-append old.bytes (replicate 12 0) ∙ ap (λ (xs : List ℕ). length xs + 12) empty
+
+    limit : kept.limit ≡ old.limit
+    limit = ap (λ (s : State). s.limit) room.1
+
+    no_suffix : kept.suffixes ≡ []
+    no_suffix = ap (λ (s : State). s.suffixes) room.1 ∙ blank
+
+    kept_within : length kept.bytes ≤ kept.limit
+    kept_within = omega (arith, room.2, limit)
+
+    kept_small : kept.limit < 2 ^ 16
+    kept_small = omega (arith, limit, small)
+
+    not_all : (xs rest : List Query) (x : Query) (b : State) → q.rest.now ≡ xs ++ x ∷ rest → EachWritten QueryWord plain_query query_owner xs kept b → kept.limit < length b.bytes + plain_query x → (12 ≤ old.limit) × (old.limit < 12 + plain_queries m.queries)
+    not_all xs rest x b whole each full =
+        let sum : plain_queries m.queries ≡ plain_queries xs + (plain_query x + plain_queries rest) = ap plain_queries (sym are.queries ∙ whole) ∙ plain-append xs (x ∷ rest) in
+        let wrote = queries_within xs kept b each in
+        (omega (arith, room.2, twelve), omega (arith, full, wrote, twelve, limit, sum))
+
+    queries_failed : (f : ProtoError) → emits_queries q kept (Err f) q' new → Small f
+    queries_failed refusals.Memory run = inl refl
+    queries_failed (refusals.NotAllRecordsWritten count) run =
+        let front = Emits-front QueryWord plain_query query_owner q q' kept new count run in
+        inr (not_all front.0 front.2 front.1 new front.3 front.4 front.6)
+    queries_failed refusals.MaxBufferSizeExceeded run = absurd run
+    queries_failed refusals.NotOpt run = absurd run
+    queries_failed (refusals.Message text) run = absurd run
+    queries_failed refusals.NotAResponse run = absurd run
+    queries_failed (refusals.Decode d) run = absurd run
+
+    header_failed : (queries : ℕ) (sixth : State) (sections : Sections) (total : Written) → queries < 2 ^ 16 → AndThen (Tests (HasHeader m.metadata queries sections total)) ⊤ (FillsIn place) sixth (Err e) new → e ≡ refusals.Memory
+    header_failed queries sixth sections total few run =
+        elim (failed e run) [
+          | inl test ↦ absurd (omega (arith, test.0.0, few))
+          | inr b ↦ absurd (let is = b.rest.0 in cc)
+        ]
+
+    extras_next : (queries : ℕ) (first fourth : State) (sections : Sections) → queries < 2 ^ 16 → Took kept first 0 → ThreeFronts a.rest.now n.rest.now d.rest.now first fourth sections
+        → AndThen (WritesExtras edns signature sections.additionals) ⊤ (Headed place queries sections) fourth (Err e) new → e ≡ refusals.Memory
+    extras_next queries first fourth sections few took three run =
+        let one = took_front a.rest.now kept first three.second 0 sections.answers.count sections.answers.is_cut took three.answers in
+        let two = took_front n.rest.now kept three.second three.third (0 + sections.answers.count) sections.authorities.count sections.authorities.is_cut one three.authorities in
+        let all = took_front d.rest.now kept three.third fourth (0 + sections.answers.count + sections.authorities.count) sections.additionals.count sections.additionals.is_cut two three.additionals in
+        elim (failed e run) [
+          | inl extras ↦ extras_failed kept no_suffix kept_within kept_small e edns signature sections.additionals fourth new (0 + sections.answers.count + sections.authorities.count) all extras
+          | inr b ↦ header_failed queries b.between sections b.value few b.rest
+        ]
+
+    sections_next : (queries : ℕ) (first : State) → queries < 2 ^ 16 → Took kept first 0 → Sectioned place queries first (Err e) new → e ≡ refusals.Memory
+    sections_next queries first few took run =
+        elim (failed e run) [
+          | inl sections ↦ sections_failed kept no_suffix kept_within kept_small e a a' n n' d d' first new took sections
+          | inr b ↦ extras_next queries first b.between b.value few took (sections_done a a' n n' d d' b.value first b.between b.ran) b.rest
+        ]
+
+    queries_next : Asked place kept (Err e) new → Small e
+    queries_next run =
+        elim (failed e run) [
+          | inl queries ↦ queries_failed e queries
+          | inr b ↦ inl (asked_next b.value b.between (Emits-slice QueryWord plain_query query_owner q q' kept b.between b.value b.ran) b.rest)
+        ]
+      where
+        asked_next : (queries : ℕ) (first : State) → EachWritten QueryWord plain_query query_owner q.rest.now kept first × (queries ≡ length q.rest.now) → Sectioned place queries first (Err e) new → e ≡ refusals.Memory
+        asked_next queries first asked rest =
+            let few = queries_few q.rest.now kept first asked.0 no_suffix kept_within kept_small in
+            sections_next queries first (omega (arith, asked.1, few)) (took_queries q.rest.now kept first asked.0) rest
+
+  pub composed_failed : Composed m q q' a a' n n' d d' edns signature old (Err e) new → Small e
+  composed_failed run = elim (failed e run) [ inl room ↦ room_failed e room | inr b ↦ queries_next b.value b.between b.ran b.rest ]
+
+pub refused_if : (m : MessageValue) (q q' : Iter Query) (a a' n n' d d' : Iter (Record RData)) (edns signature : List (Record RData)) → AreOf m q q' a a' n n' d d' edns signature → (old new : State) (result : Result Header ProtoError)
+    → Composed m q q' a a' n n' d d' edns signature old result new → old.bytes ≡ [] → old.suffixes ≡ [] → old.limit < 2 ^ 16 → IfErr result (λ e. (e ≡ refusals.Memory) ⊎ IsTooSmall m old.limit e)
+refused_if m q q' a a' n n' d d' edns signature are old new (Ok h) run empty blank small = tt
+refused_if m q q' a a' n n' d d' edns signature are old new (Err e) run empty blank small = composed_failed m q q' a a' n n' d d' edns signature are old new empty blank small e run
+
+-- where there is room, nothing but memory is refused
+room_enough : (m : MessageValue) (limit : ℕ) (e : ProtoError) → HasRoom m limit → (e ≡ refusals.Memory) ⊎ IsTooSmall m limit e → e ≡ refusals.Memory
+room_enough m limit e room (inl memory) = memory
+room_enough m limit refusals.MaxBufferSizeExceeded room (inr small) = absurd (omega (arith, room, small))
+room_enough m limit (refusals.NotAllRecordsWritten count) room (inr small) = absurd (omega (arith, room, small.1))
+room_enough m limit refusals.Memory room (inr small) = refl
+room_enough m limit refusals.NotOpt room (inr small) = absurd small
+room_enough m limit (refusals.Message text) room (inr small) = absurd small
+room_enough m limit refusals.NotAResponse room (inr small) = absurd small
+room_enough m limit (refusals.Decode d) room (inr small) = absurd small
+
+pub succeeds_if : {X : Type 0} (m : MessageValue) (limit : ℕ) (result : Result X ProtoError) → IfErr result (λ e. (e ≡ refusals.Memory) ⊎ IsTooSmall m limit e) → HasRoom m limit → IsOkUnless result refusals.Memory
+succeeds_if m limit (Ok x) refused room = tt
+succeeds_if m limit (Err e) refused room = room_enough m limit e room refused
