@@ -1,6 +1,8 @@
 //! Rows of input and output through `run`.
 
 mod broken_streams;
+mod cut_rows;
+mod cut_tables;
 mod header_rows;
 mod read_refusals;
 mod read_rows;

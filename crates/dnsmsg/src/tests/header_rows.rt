@@ -66,7 +66,6 @@ fn wrong_words_print_the_usage_line(rt: HostRuntime) -> Result<(), Fail> {
     prints_usage(&rt, &[""])?;
     prints_usage(&rt, &["read", "x"])?;
     prints_usage(&rt, &["reads"])?;
-    prints_usage(&rt, &["cut", "512"])?;
     prints_usage(&rt, &["header", "header", "header"])?;
     Ok(())
 }

@@ -1,5 +1,7 @@
 use crate::{DEFAULT_MAX_PAYLOAD_LEN, Edns, EdnsFlags};
+use base::{BinEncodable, BinEncoder, RecordType};
 use base_data::EdnsOption;
+use rr::Record;
 use std::test::Fail;
 
 #[test]
@@ -52,5 +54,27 @@ fn options_are_put_and_found(rt: HostRuntime) -> Result<(), Fail> {
     assert!(rt; edns.option(65001).is_some());
     assert!(rt; edns.option(65002).is_none());
     assert_eq!(rt; edns.options().as_ref().len(), 1);
+    Ok(())
+}
+
+#[test]
+fn edns_is_written_as_an_opt_record(rt: HostRuntime) -> Result<(), Fail> {
+    let mut edns = Edns::new(rt.alloc());
+    edns.set_rcode_high(1).set_version(0x40).set_dnssec_ok(true);
+    edns.set_max_payload(0x8008);
+    edns.flags_mut().z = 1;
+    let mut bytes = Vec::new(rt.alloc());
+    {
+        let mut encoder = BinEncoder::new(&mut bytes);
+        edns.emit(&mut encoder)?;
+    }
+    assert_eq!(rt;
+        bytes.as_slice(),
+        b"\x00\x00\x29\x80\x08\x01\x40\x80\x01\x00\x00".as_slice()
+    );
+    let record = Record::try_from(&edns)?;
+    assert_eq!(rt; record.record_type(), RecordType::OPT);
+    assert_eq!(rt; record.ttl, 0x0140_8001);
+    assert_eq!(rt; Edns::try_from(&record)?, edns);
     Ok(())
 }

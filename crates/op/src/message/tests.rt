@@ -1,5 +1,7 @@
 ghost use Rattle.std.specs.Prelude.{◌≡◌};
 
+mod written_rows;
+
 use super::{EmitAndCount, Message, emit_message_parts};
 use crate::header::MessageType;
 use crate::{Edns, Metadata, OpCode, Query, ResponseCode};
