@@ -8,11 +8,9 @@ use Rattle.base.specs.Reading.{Fails, Reads}
 use Rattle.op.specs.Message.{IsMessageAt, MessageValue, message_at, message_value}
 use Rattle.op.specs.declared.message.Message.{Message}
 use Rattle.op.specs.Fits.{Fits}
+use Rattle.op.proofs.SectionStands.{same_ok}
 use Rattle.op.proofs.ReadFits.{message_fits}
 use Rattle.op.proofs.MessageStands.{message_again, message_stands}
-
-same_ok : {A : Type 0} {x y : A} → ◌≡◌ {A = Result A DecodeError} (Ok x) (Ok y) → x ≡ y
-same_ok is = cc
 
 -- a call that fails where there is a value to read was refused memory
 want_of_memory : {A : Type 0} (f : DecodeError) (r : Result A DecodeError) (x : A) → Fails f r → r ≡ Ok x → f ≡ faults.Memory

@@ -1,6 +1,6 @@
 -- Messages that stand are messages that are read.
 use Rattle.std.proofs.Common.{◌≡◌, ℕ, ◌+◌, Bool, true, false, cond, List, [], ◌∷◌, length, refl, ap, sym, ◌∙◌, subst, arith, Result, Ok, inl, inr}
-use Rattle.std.proofs.lemmas.Bool.{cases_Bool}
+use Rattle.std.proofs.lemmas.Bool.{cases_Bool, true≢false}
 use Rattle.std.proofs.lemmas.List.Elements.{All-tail}
 use Rattle.std.specs.Prelude.{All, ◌↔◌, ◌||◌, not, filter}
 use Rattle.base.specs.declared.error.decode_error.DecodeError.{DecodeError}
@@ -24,40 +24,20 @@ use Rattle.op.specs.declared.op_code.OpCode.{OpCode}
 use Rattle.op.specs.declared.query.Query.{Query}
 use Rattle.op.proofs.HeaderReading.{reads_word}
 use Rattle.op.proofs.QueryLemmas.{reads_question}
-use Rattle.op.proofs.SectionStands.{IsSection, section_is, section_read}
-use Rattle.op.proofs.SectionWords.{Stand}
+use Rattle.op.proofs.SectionStands.{IsSection, same_ok, section_is, section_read}
+use Rattle.op.proofs.SectionWords.{Stand, signature_type}
 
 -- ---- sections outside additionals hold ordinary records alone
 
-signature_type : (d : RData) → is_signature_data d ≡ true → type_of_data d ≡ types.TSIG
-signature_type (kinds.A x) is = cc
-signature_type (kinds.AAAA x) is = cc
-signature_type (kinds.NS x) is = cc
-signature_type (kinds.CNAME x) is = cc
-signature_type (kinds.PTR x) is = cc
-signature_type (kinds.ANAME x) is = cc
-signature_type (kinds.MX x) is = cc
-signature_type (kinds.SOA x) is = cc
-signature_type (kinds.SRV x) is = cc
-signature_type (kinds.TXT x) is = cc
-signature_type (kinds.NULL x) is = cc
-signature_type (kinds.OPT x) is = cc
-signature_type (kinds.TSIG x) is = refl
-signature_type (kinds.Update0 type) is = cc
-signature_type (kinds.Unknown code x) is = cc
-
-differ : true ≡ false → ⊥
-differ is = cc
-
 not_opt : (t : RecordType) → is_additional_type t ≡ false → is_opt_type t ≡ false
 not_opt t elsewhere = elim (cases_Bool (is_opt_type t)) [
-  | inl is ↦ absurd (differ (sym (ap is_additional_type (opt_is t is)) ∙ elsewhere))
+  | inl is ↦ absurd (true≢false (sym (ap is_additional_type (opt_is t is)) ∙ elsewhere))
   | inr other ↦ other
 ]
 
 not_signature : (r : Record RData) → is_additional r ≡ false → is_signature r ≡ false
 not_signature r elsewhere = elim (cases_Bool (is_signature r)) [
-  | inl is ↦ absurd (differ (sym (ap is_additional_type (signature_type r.rdata is)) ∙ elsewhere))
+  | inl is ↦ absurd (true≢false (sym (ap is_additional_type (signature_type r.rdata is)) ∙ elsewhere))
   | inr other ↦ other
 ]
 
@@ -98,7 +78,7 @@ section_at_is inside op n B i s e w =
     let read = records_read inside op B w.records i e w.words (record {
       given = w.given;
       placed = w.placed;
-      alone = λ has. absurd (differ (sym has));
+      alone = λ has. absurd (true≢false (sym has));
       ends = w.signature_last;
       one = omega (arith, w.one_opt);
     }) in
@@ -132,7 +112,7 @@ plain_stand op B n i r is =
 plain_ends : (rs : List (Record RData)) → All (λ r. is_additional r ≡ false) rs → EndsWithSignature rs
 plain_ends [] plain = tt
 plain_ends (r ∷ rs) plain =
-    (λ is. absurd (differ (sym is ∙ not_signature r (plain 0 r (omega arith)))), plain_ends rs (All-tail (λ x. is_additional x ≡ false) r rs plain))
+    (λ is. absurd (true≢false (sym is ∙ not_signature r (plain 0 r (omega arith)))), plain_ends rs (All-tail (λ x. is_additional x ≡ false) r rs plain))
 
 no_edns : (rs : List (Record RData)) → All (λ r. is_additional r ≡ false) rs → length (filter is_opt rs) ≡ 0
 no_edns [] plain = refl
@@ -144,15 +124,12 @@ plain_read op B rs i e words plain =
     records_read false op B rs i e words (record {
       given = λ k d below. (plain k d below).given;
       placed = λ _. placed;
-      alone = λ has. absurd (differ (sym has));
+      alone = λ has. absurd (true≢false (sym has));
       ends = plain_ends rs placed;
       one = omega (arith, no_edns rs placed);
     })
 
 -- ---- the message
-
-same_ok : {A : Type 0} {x y : A} → ◌≡◌ {A = Result A DecodeError} (Ok x) (Ok y) → x ≡ y
-same_ok is = cc
 
 pub message_stands : (B : List ℕ) (i : ℕ) (r : MessageValue × ℕ) → message_at B i ≡ Ok r → IsMessageAt B i r.0 r.1
 unfolding message_at
@@ -210,8 +187,8 @@ message_again B i m e s =
     let authorities = plain_read op B s.authorities s.answers_end s.authorities_end s.authorities_stand s.authorities_plain in
     let additionals = records_read true op B s.additionals s.authorities_end e s.additionals_stand (record {
       given = s.additionals_given;
-      placed = λ outside. absurd (differ outside);
-      alone = λ has. absurd (differ (sym has));
+      placed = λ outside. absurd (true≢false outside);
+      alone = λ has. absurd (true≢false (sym has));
       ends = s.signature_last;
       one = omega (arith, s.one_opt);
     }) in

@@ -11,7 +11,7 @@ pub record Both {X Y : Type 0} (first : State → Result X ProtoError → State 
   pub ran : first a (Ok value) between
   pub rest : next value between result c
 
-same_err : {Y : Type 0} (e f : ProtoError) → ◌≡◌ {A = Result Y ProtoError} (Err e) (Err f) → e ≡ f
+pub same_err : {Y : Type 0} (e f : ProtoError) → ◌≡◌ {A = Result Y ProtoError} (Err e) (Err f) → e ≡ f
 same_err e f is = cc
 
 module _ {X Y : Type 0} (first : State → Result X ProtoError → State → Type 0) (stays : Type 0) (next : X → State → Result Y ProtoError → State → Type 0) (a b c : State) where

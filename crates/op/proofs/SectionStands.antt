@@ -19,7 +19,7 @@ pub record Section (inside : Bool) (op : OpCode) (s : SectionValue) (B : List �
   pub follow : Follow inside op s records
   pub whole : r.0 ≡ folded s records
 
-same_ok : {A : Type 0} {x y : A} → ◌≡◌ {A = Result A DecodeError} (Ok x) (Ok y) → x ≡ y
+pub same_ok : {A : Type 0} {x y : A} → ◌≡◌ {A = Result A DecodeError} (Ok x) (Ok y) → x ≡ y
 same_ok is = cc
 
 record Taken (f : Option DecodeError) (s t : SectionValue) : Type 0 where

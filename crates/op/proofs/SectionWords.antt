@@ -1,12 +1,13 @@
 -- The records of a section: the tests on each, and what they are together.
 use Rattle.std.proofs.Common.{◌≡◌, ◌+◌, ◌≤◌, Bool, true, false, cond, List, [], ◌∷◌, ◌++◌, length, refl, ap, sym, ◌∙◌, subst, arith, append_assoc, Option, Some, None, inl, inr}
-use Rattle.std.proofs.lemmas.Bool.{cases_Bool}
+use Rattle.std.proofs.lemmas.Bool.{cases_Bool, true≢false}
 use Rattle.std.proofs.lemmas.List.{append-nil}
 use Rattle.std.proofs.lemmas.List.Elements.{All-cons, All-nil, All-tail}
 use Rattle.std.specs.Prelude.{All, ◌&&◌, ◌||◌, not, filter, find, is_some, ◌⊎◌}
 use Rattle.std.specs.Option.{option_map, option_or}
 use Rattle.base.specs.declared.error.decode_error.DecodeError.{DecodeError}
 use Rattle.base.specs.declared.error.decode_error.DecodeError.TheVariants as faults
+use Rattle.base.specs.declared.record_type.RecordType.TheVariants as types
 use Rattle.base_data.specs.RData.{is_empty_data, type_of_data}
 use Rattle.base_data.specs.declared.rdata.RData.{RData}
 use Rattle.base_data.specs.declared.rdata.RData.TheVariants as kinds
@@ -70,23 +71,27 @@ from_placed false additional h = h refl
 
 -- ---- kinds of records
 
+-- the type of a signature
+pub signature_type : (d : RData) → is_signature_data d ≡ true → type_of_data d ≡ types.TSIG
+signature_type (kinds.A x) is = cc
+signature_type (kinds.AAAA x) is = cc
+signature_type (kinds.NS x) is = cc
+signature_type (kinds.CNAME x) is = cc
+signature_type (kinds.PTR x) is = cc
+signature_type (kinds.ANAME x) is = cc
+signature_type (kinds.MX x) is = cc
+signature_type (kinds.SOA x) is = cc
+signature_type (kinds.SRV x) is = cc
+signature_type (kinds.TXT x) is = cc
+signature_type (kinds.NULL x) is = cc
+signature_type (kinds.OPT x) is = cc
+signature_type (kinds.TSIG x) is = refl
+signature_type (kinds.Update0 type) is = cc
+signature_type (kinds.Unknown code x) is = cc
+
 -- a signature is no EDNS record
 exclusive : (d : RData) → is_signature_data d ≡ true → is_opt_type (type_of_data d) ≡ false
-exclusive (kinds.A x) is = cc
-exclusive (kinds.AAAA x) is = cc
-exclusive (kinds.NS x) is = cc
-exclusive (kinds.CNAME x) is = cc
-exclusive (kinds.PTR x) is = cc
-exclusive (kinds.ANAME x) is = cc
-exclusive (kinds.MX x) is = cc
-exclusive (kinds.SOA x) is = cc
-exclusive (kinds.SRV x) is = cc
-exclusive (kinds.TXT x) is = cc
-exclusive (kinds.NULL x) is = cc
-exclusive (kinds.OPT x) is = cc
-exclusive (kinds.TSIG x) is = refl
-exclusive (kinds.Update0 type) is = cc
-exclusive (kinds.Unknown code x) is = cc
+exclusive d is = ap is_opt_type (signature_type d is)
 
 abbrev put : Bool → Bool → SectionValue → Record RData → SectionValue
 put opt signature s r =
@@ -100,10 +105,7 @@ edns_after false true s r = refl
 edns_after false false s r = refl
 
 signature_after : (o g : Bool) (s : SectionValue) (r : Record RData) → (g ≡ true → o ≡ false) → is_some (put o g s r).signature ≡ (g || is_some s.signature)
-signature_after true true s r apart = absurd (differ (apart refl))
-  where
-    differ : true ≡ false → ⊥
-    differ is = cc
+signature_after true true s r apart = absurd (true≢false (apart refl))
 signature_after true false s r apart = refl
 signature_after false true s r apart = refl
 signature_after false false s r apart = refl
@@ -197,10 +199,7 @@ none_of (Some x) is = cc
 put_joined : (o g : Bool) (s : SectionValue) (r : Record RData) (ws : List (Record RData)) (f h : Option (Record RData)) → (o ≡ true → s.edns ≡ None) → (g ≡ true → o ≡ false) → (g ≡ true → s.signature ≡ None)
     → joined (put o g s r) (record { records = ws; edns = option_map edns_of f; signature = option_map signature_of h })
     ≡ joined s (record { records = cond (not (o || g)) (r ∷ ws) ws; edns = option_map edns_of (cond o (Some r) f); signature = option_map signature_of (cond g (Some r) h) })
-put_joined true true s r ws f h no_edns apart unsigned = absurd (differ (apart refl))
-  where
-    differ : true ≡ false → ⊥
-    differ is = cc
+put_joined true true s r ws f h no_edns apart unsigned = absurd (true≢false (apart refl))
 put_joined true false s r ws f h no_edns apart unsigned = rw (no_edns refl) refl
 put_joined false true s r ws f h no_edns apart unsigned = rw (unsigned refl) refl
 put_joined false false s r ws f h no_edns apart unsigned = ap (λ xs. record { records = xs; edns = option_or s.edns (option_map edns_of f); signature = option_or s.signature (option_map signature_of h) }) (append_assoc s.records (r ∷ []) ws)

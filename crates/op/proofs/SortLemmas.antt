@@ -1,5 +1,6 @@
 -- The additional records of a message that was written: its own, then EDNS, then the signature.
 use Rattle.std.proofs.Common.{◌≡◌, ℕ, ◌≤◌, Bool, true, false, List, [], ◌∷◌, ◌++◌, length, refl, ap, sym, ◌∙◌, subst, arith, Option, Some, None}
+use Rattle.std.proofs.lemmas.Bool.{true≢false}
 use Rattle.std.specs.Prelude.{All, ◌||◌, not, filter, find, map}
 use Rattle.std.specs.Option.{option_map, option_or}
 use Rattle.std.proofs.lemmas.List.{append-nil}
@@ -41,9 +42,6 @@ one_front f (Some x) [] lost whole = record { some = None; rest = x ∷ []; kept
 one_front f (Some x) (y ∷ kept) lost whole = record { some = Some x; rest = []; kept_is = alone (f x) y kept lost whole; front = refl; lost_is = none_lost (f x) y kept lost whole }
 
 -- ---- what the records are together
-
-differ : true ≡ false → ⊥
-differ is = cc
 
 filter_all : {X : Type 0} (p : X → Bool) (xs : List X) → All (λ x. p x ≡ true) xs → filter p xs ≡ xs
 filter_all p [] all = refl
@@ -131,7 +129,7 @@ module _ (ds : List (Record RData)) (op : OpCode) (fits : All (FitsAdditional op
   edns_given e empty = rw (opt_is_opt e) (either (is_update op))
 
   signature_given : (s : Record (List ℕ)) → IsGiven op (signature_record s)
-  signature_given s empty = absurd (differ (sym empty))
+  signature_given s empty = absurd (true≢false (sym empty))
 
   rest_given : (edns : Option Edns) (signature : Option (Record (List ℕ))) → All (IsGiven op) (tail edns signature)
   rest_given None None = All-nil (IsGiven op)
@@ -146,11 +144,11 @@ module _ (ds : List (Record RData)) (op : OpCode) (fits : All (FitsAdditional op
   rest_ends None None = tt
   rest_ends None (Some s) = (λ _. refl, tt)
   rest_ends (Some e) None = (λ _. refl, tt)
-  rest_ends (Some e) (Some s) = (λ is. absurd (differ (sym is ∙ opt_unsigned e)), (λ _. refl, tt))
+  rest_ends (Some e) (Some s) = (λ is. absurd (true≢false (sym is ∙ opt_unsigned e)), (λ _. refl, tt))
 
   ends_behind : (xs t : List (Record RData)) → All (λ r. is_signature r ≡ false) xs → EndsWithSignature t → EndsWithSignature (xs ++ t)
   ends_behind [] t none ends = ends
-  ends_behind (x ∷ xs) t none ends = (λ is. absurd (differ (sym is ∙ none 0 x (omega arith))), ends_behind xs t (All-tail (λ r. is_signature r ≡ false) x xs none) ends)
+  ends_behind (x ∷ xs) t none ends = (λ is. absurd (true≢false (sym is ∙ none 0 x (omega arith))), ends_behind xs t (All-tail (λ r. is_signature r ≡ false) x xs none) ends)
 
   pub all_end : (edns : Option Edns) (signature : Option (Record (List ℕ))) → EndsWithSignature (ds ++ tail edns signature)
   all_end edns signature = ends_behind ds (tail edns signature) no_signatures (rest_ends edns signature)

@@ -21,16 +21,13 @@ use Rattle.op.specs.declared.message.writing.parts.Written.{Written}
 use Rattle.op.specs.declared.query.Query.{Query}
 use Rattle.op.proofs.EmittedLemmas.{AreOf, Composed, ThreeFronts, emits_queries, emits_records, sections_done, slice_front}
 use Rattle.op.proofs.RoomLemmas.{Took, plain-append, queries_few, queries_within, took_few, took_front, took_more, took_queries}
-use Rattle.op.proofs.RunLemmas.{Both, failed}
+use Rattle.op.proofs.RunLemmas.{Both, failed, same_err}
 
 -- records that no header can count were written
 record Many (a b : State) : Type 0 where
   kept : List (Record RData)
   written : EachWritten RecordWord plain_record record_owner kept a b
   many : 2 ^ 16 ≤ length kept
-
-same_err : {Y : Type 0} (e f : ProtoError) → ◌≡◌ {A = Result Y ProtoError} (Err e) (Err f) → e ≡ f
-same_err e f is = cc
 
 -- why a part that is a slice of records is refused
 part_failed : (s t : Iter (Record RData)) (a b : State) (answer : Result ℕ ProtoError) (e : ProtoError) → emits_records s a answer t b → Counts answer (Err e) → (e ≡ refusals.Memory) ⊎ Many a b
@@ -245,5 +242,5 @@ room_enough m limit refusals.NotAResponse room (inr small) = absurd small
 room_enough m limit (refusals.Decode d) room (inr small) = absurd small
 
 pub succeeds_if : {X : Type 0} (m : MessageValue) (limit : ℕ) (result : Result X ProtoError) → IfErr result (λ e. (e ≡ refusals.Memory) ⊎ IsTooSmall m limit e) → HasRoom m limit → IsOkUnless result refusals.Memory
-succeeds_if m limit (Ok x) refused room = tt
-succeeds_if m limit (Err e) refused room = room_enough m limit e room refused
+succeeds_if m most (Ok x) refused room = tt
+succeeds_if m most (Err e) refused room = room_enough m most e room refused

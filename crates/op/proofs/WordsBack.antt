@@ -1,6 +1,6 @@
 -- What was written of a message that fits is read as it was.
 use Rattle.std.proofs.Common.{◌≡◌, ℕ, ◌+◌, ◌*◌, ◌/◌, ◌%◌, ◌<◌, ◌≤◌, Bool, true, false, List, [], ◌∷◌, refl, ap, sym, ◌∙◌, subst, arith}
-use Rattle.std.proofs.lemmas.Bool.{le-leb, lt-leb, le-ltb}
+use Rattle.std.proofs.lemmas.Bool.{le-leb, lt-leb, le-ltb, true≢false}
 use Rattle.std.specs.Prelude.{nat_le}
 use Rattle.base.specs.DNSClass.{class_number, opt_class}
 use Rattle.base.specs.declared.dns_class.DNSClass.TheVariants as classes
@@ -62,9 +62,6 @@ payload_kept payload fits = ap (λ c. opt_class (class_number c)) (payload_is pa
 pub opt_typed : (os : List OptionValue) → is_opt_type (type_of_data (opt_data os)) ≡ true
 opt_typed os = ap is_opt_type (opt_type os)
 
-differ : true ≡ false → ⊥
-differ is = cc
-
 pub edns_fits : (e : Edns) → FitsEdns e → FitsRecord (edns_record e)
 edns_fits e fits = record {
   reads = record {
@@ -73,8 +70,8 @@ edns_fits e fits = record {
     readable = opt_readable e.options;
   };
   absolute = refl;
-  class_reads = λ is. absurd (differ (sym (opt_typed e.options) ∙ is));
-  narrow = λ is. absurd (differ (sym (opt_typed e.options) ∙ is));
+  class_reads = λ is. absurd (true≢false (sym (opt_typed e.options) ∙ is));
+  narrow = λ is. absurd (true≢false (sym (opt_typed e.options) ∙ is));
   payload_reads = λ _. payload_kept e.max_payload fits.payload;
   not_flushing = λ _. refl;
 }
