@@ -25,6 +25,37 @@ fn written<E: BinEncodable>(alloc: Global, value: &E, limit: u16) -> Result<Vec<
     Ok(bytes)
 }
 
+/// Whether the value is written as these bytes.
+fn is_written_as<E: BinEncodable>(alloc: Global, value: &E, bytes: &[u8]) -> Result<bool, Fail> {
+    Ok(written(alloc, value, 65535)?.as_slice() == bytes)
+}
+
+fn read(alloc: Global, bytes: &[u8]) -> Result<Record, DecodeError> {
+    Record::read(&mut BinDecoder::new(alloc, bytes))
+}
+
+/// Whether these bytes, all of them, are read as this record with its cache-flush bit.
+fn is_read_as(alloc: Global, bytes: &[u8], entry: &Record) -> Result<bool, Fail> {
+    let mut decoder = BinDecoder::new(alloc, bytes);
+    let read = Record::read(&mut decoder)?;
+    let flushes = read.mdns_cache_flush == entry.mdns_cache_flush;
+    Ok(decoder.index() == bytes.len() && flushes && read == *entry)
+}
+
+/// Whether the record is written as these bytes, and they are read as it.
+fn stands_as(alloc: Global, entry: &Record, bytes: &[u8]) -> Result<bool, Fail> {
+    Ok(is_written_as(alloc, entry, bytes)? && is_read_as(alloc, bytes, entry)?)
+}
+
+fn is_shown_as(alloc: Global, entry: &Record, text: &str) -> Result<bool, Fail> {
+    Ok(entry.to_string(alloc)?.as_str() == text)
+}
+
+/// Whether the record that these bytes are read as has this text.
+fn has_text(alloc: Global, bytes: &[u8], text: &str) -> Result<bool, Fail> {
+    is_shown_as(alloc, &read(alloc, bytes)?, text)
+}
+
 /// `www.example.com.` 5 A 192.168.0.1.
 fn www(alloc: Global) -> Result<Record<A>, Fail> {
     let name = Name::parse(alloc, "www.example.com.", None)?;
@@ -32,90 +63,111 @@ fn www(alloc: Global) -> Result<Record<A>, Fail> {
 }
 
 #[test]
-fn a_record_is_written_and_read_back(rt: HostRuntime) -> Result<(), Fail> {
+fn a_record_is_written(rt: HostRuntime) -> Result<(), Fail> {
     let entry = www(rt.alloc())?;
-    assert_eq!(rt; written(rt.alloc(), &entry, 31)?.as_slice(), WWW.as_slice());
+    assert!(rt; is_written_as(rt.alloc(), &entry, &WWW)?);
+    assert!(rt; written(rt.alloc(), &entry, 31).is_ok());
     let refused = written(rt.alloc(), &entry, 30);
     assert!(rt; matches!(&refused, Err(ProtoError::MaxBufferSizeExceeded)));
-    let mut decoder = BinDecoder::new(rt.alloc(), &WWW);
-    let read = Record::read(&mut decoder)?;
-    assert_eq!(rt; decoder.index(), 31);
-    assert_eq!(rt; read.record_type(), RecordType::A);
-    let text = read.to_string(rt.alloc())?;
-    assert_eq!(rt; text.as_str(), "www.example.com. 5 IN A 192.168.0.1");
-    assert_eq!(rt; read.clone()?, entry.into_record_of_rdata());
     Ok(())
+}
+
+/// Whether these bytes are read as a copy of this record.
+fn copy_is_read(alloc: Global, bytes: &[u8], entry: &Record) -> Result<bool, Fail> {
+    is_read_as(alloc, bytes, &entry.clone()?)
+}
+
+#[test]
+fn a_record_is_read_back(rt: HostRuntime) -> Result<(), Fail> {
+    assert!(rt; copy_is_read(rt.alloc(), &WWW, &any_www(rt.alloc())?)?);
+    assert!(rt; has_text(rt.alloc(), &WWW, "www.example.com. 5 IN A 192.168.0.1")?);
+    assert_eq!(rt; any_www(rt.alloc())?.record_type(), RecordType::A);
+    Ok(())
+}
+
+/// The root 0 IN A 0.0.0.0, with the cache-flush bit.
+fn flushing(alloc: Global) -> Record {
+    let rdata = A::new(Ipv4Addr::new(0, 0, 0, 0)).into_rdata();
+    let mut entry = Record::from_rdata(Name::root(alloc), 0, rdata);
+    entry.mdns_cache_flush = true;
+    entry
 }
 
 #[test]
 fn the_top_bit_flushes_the_cache(rt: HostRuntime) -> Result<(), Fail> {
     let bytes = [0, 0, 1, 0x80, 1, 0, 0, 0, 0, 0, 4, 0, 0, 0, 0];
-    let mut entry = Record::from_rdata(
-        Name::root(rt.alloc()),
-        0,
-        A::new(Ipv4Addr::new(0, 0, 0, 0)),
-    );
-    entry.mdns_cache_flush = true;
-    assert_eq!(rt;
-        written(rt.alloc(), &entry, 65535)?.as_slice(),
-        bytes.as_slice()
-    );
-    let read = Record::read(&mut BinDecoder::new(rt.alloc(), &bytes))?;
-    assert_eq!(rt; read.dns_class, DNSClass::IN);
-    assert!(rt; read.mdns_cache_flush);
-    assert_eq!(rt; read, entry.into_record_of_rdata());
+    assert!(rt; stands_as(rt.alloc(), &flushing(rt.alloc()), &bytes)?);
+    assert_eq!(rt; flushing(rt.alloc()).dns_class, DNSClass::IN);
     Ok(())
+}
+
+/// Whether these bytes are read as an empty OPT record of this payload size, which flushes no cache, and is written as
+/// `written`.
+fn is_empty_opt(alloc: Global, bytes: &[u8], payload: u16, written: &[u8]) -> Result<bool, Fail> {
+    let entry = read(alloc, bytes)?;
+    let empty = entry.rdata == RData::Update0(RecordType::OPT);
+    let sized = entry.dns_class == DNSClass::OPT(payload) && !entry.mdns_cache_flush;
+    Ok(empty && sized && is_written_as(alloc, &entry, written)?)
 }
 
 #[test]
 fn an_opt_record_has_a_payload_size(rt: HostRuntime) -> Result<(), Fail> {
-    let bytes = [0, 0, 0x29, 0, 0x64, 0, 0, 0, 0, 0, 0];
-    let read = Record::read(&mut BinDecoder::new(rt.alloc(), &bytes))?;
-    assert_eq!(rt; read.dns_class, DNSClass::OPT(512));
-    assert_eq!(rt; read.rdata, RData::Update0(RecordType::OPT));
+    let small = [0, 0, 0x29, 0, 0x64, 0, 0, 0, 0, 0, 0];
+    let least = [0, 0, 0x29, 2, 0, 0, 0, 0, 0, 0, 0];
+    assert!(rt; is_empty_opt(rt.alloc(), &small, 512, &least)?);
     let wide = [0, 0, 0x29, 0x80, 8, 0, 0, 0, 0, 0, 0];
-    let read = Record::read(&mut BinDecoder::new(rt.alloc(), &wide))?;
-    assert_eq!(rt; read.dns_class, DNSClass::OPT(0x8008));
-    assert!(rt; !read.mdns_cache_flush);
-    assert_eq!(rt;
-        written(rt.alloc(), &read, 65535)?.as_slice(),
-        wide.as_slice()
-    );
+    assert!(rt; is_empty_opt(rt.alloc(), &wide, 0x8008, &wide)?);
     Ok(())
+}
+
+/// The root 0 ANY TSIG AA.
+fn signature(alloc: Global) -> Result<Record<TSIG>, Fail> {
+    let rdata = TSIG::new(vec![in alloc; 0xAA]?);
+    let mut entry = Record::from_rdata(Name::root(alloc), 0, rdata);
+    entry.dns_class = DNSClass::ANY;
+    Ok(entry)
 }
 
 #[test]
 fn a_signature_is_written_by_its_kind(rt: HostRuntime) -> Result<(), Fail> {
     let bytes = [0, 0, 0xFA, 0, 0xFF, 0, 0, 0, 0, 0, 1, 0xAA];
-    let rdata = TSIG::new(vec![in rt.alloc(); 0xAA]?);
-    let mut entry = Record::from_rdata(Name::root(rt.alloc()), 0, rdata);
-    entry.dns_class = DNSClass::ANY;
-    assert_eq!(rt;
-        written(rt.alloc(), &entry, 65535)?.as_slice(),
-        bytes.as_slice()
-    );
-    let read = Record::read(&mut BinDecoder::new(rt.alloc(), &bytes))?;
-    assert_eq!(rt; read, entry.into_record_of_rdata());
+    assert!(rt; is_written_as(rt.alloc(), &signature(rt.alloc())?, &bytes)?);
+    let entry = signature(rt.alloc())?.into_record_of_rdata();
+    assert!(rt; is_read_as(rt.alloc(), &bytes, &entry)?);
     Ok(())
+}
+
+/// Which fault these bytes have, by its number; 0 for none.
+fn fault(alloc: Global, bytes: &[u8]) -> u8 {
+    match read(alloc, bytes) {
+        Ok(_) => 0,
+        Err(e) => e.number(),
+    }
 }
 
 #[test]
 fn faults_come_in_order(rt: HostRuntime) {
-    let owner = Record::read(&mut BinDecoder::new(rt.alloc(), &[1, 0x61, 0, 0, 0x29]));
-    assert!(rt; matches!(&owner, Err(DecodeError::EdnsNameNotRoot(_))));
-    let long = [0, 0, 1, 0, 1, 0, 0, 0, 0, 0, 5, 0x7F, 0, 0, 1];
-    let long = Record::read(&mut BinDecoder::new(rt.alloc(), &long));
+    assert_eq!(rt; fault(rt.alloc(), &[1, 0x61, 0, 0, 0x29]), 6);
+    assert_eq!(rt; fault(rt.alloc(), &[0, 0, 1, 0, 1, 0, 0]), 4);
+}
+
+#[test]
+fn data_shorter_than_its_length(rt: HostRuntime) {
+    let bytes = [0, 0, 1, 0, 1, 0, 0, 0, 0, 0, 5, 0x7F, 0, 0, 1];
+    let refused = read(rt.alloc(), &bytes);
     assert!(rt;
         matches!(
-            &long,
+            &refused,
             Err(DecodeError::IncorrectRDataLengthRead { read: 4, len: 5 })
         )
     );
-    let short = [0, 0, 1, 0, 1, 0, 0, 0, 0, 0, 3, 0x7F, 0, 0];
-    let short = Record::read(&mut BinDecoder::new(rt.alloc(), &short));
-    assert!(rt; matches!(&short, Err(DecodeError::BadData(RecordType::A))));
-    let cut = Record::read(&mut BinDecoder::new(rt.alloc(), &[0, 0, 1, 0, 1, 0, 0]));
-    assert!(rt; matches!(&cut, Err(DecodeError::InsufficientBytes)));
+}
+
+#[test]
+fn data_too_short_for_its_type(rt: HostRuntime) {
+    let bytes = [0, 0, 1, 0, 1, 0, 0, 0, 0, 0, 3, 0x7F, 0, 0];
+    let refused = read(rt.alloc(), &bytes);
+    assert!(rt; matches!(&refused, Err(DecodeError::BadData(RecordType::A))));
 }
 
 #[test]
@@ -144,84 +196,126 @@ fn a_record_is_mapped(rt: HostRuntime) -> Result<(), Fail> {
     Ok(())
 }
 
-#[test]
-fn a_record_is_borrowed_by_its_kind(rt: HostRuntime) -> Result<(), Fail> {
-    let entry = www(rt.alloc())?.into_record_of_rdata();
+/// Whether the record that is shown is `www.example.com.` 5 IN A 192.168.0.1, without a cache-flush bit.
+fn shows_www(alloc: Global, shown: RecordRef<'_, A>) -> Result<bool, Fail> {
+    let address = shown.data().address() == Ipv4Addr::new(192, 168, 0, 1);
+    let typed = shown.record_type() == RecordType::A && shown.dns_class() == DNSClass::IN;
+    let timed = shown.ttl() == 5 && !shown.mdns_cache_flush();
+    let owned = shown.to_owned()?;
+    Ok(address && typed && timed && *shown.name() == owned.name && owned == www(alloc)?)
+}
+
+/// Whether the record is borrowed by its kind, as that of the address, and by no other.
+fn is_borrowed(alloc: Global, entry: &Record) -> Result<bool, Fail> {
     let other: Option<RecordRef<'_, MX>> = entry.try_borrow();
-    assert!(rt; other.is_none());
-    let borrowed: Result<RecordRef<'_, A>, &Record<RData>> = RecordRef::try_from(&entry);
+    let borrowed: Result<RecordRef<'_, A>, &Record<RData>> = RecordRef::try_from(entry);
     match borrowed {
         Ok(borrowed) => {
             let copy = borrowed;
-            assert_eq!(rt; copy.data().address(), Ipv4Addr::new(192, 168, 0, 1));
-            assert_eq!(rt; copy.name(), &entry.name);
-            assert_eq!(rt; copy.record_type(), RecordType::A);
-            assert_eq!(rt; copy.dns_class(), DNSClass::IN);
-            assert_eq!(rt; borrowed.ttl(), 5);
-            assert!(rt; !borrowed.mdns_cache_flush());
-            assert_eq!(rt; borrowed.to_owned()?, www(rt.alloc())?);
+            Ok(other.is_none() && shows_www(alloc, copy)? && shows_www(alloc, borrowed)?)
         }
-        Err(_) => panic!(rt; "the record has an address"),
+        Err(_) => Ok(false),
     }
+}
+
+#[test]
+fn a_record_is_borrowed_by_its_kind(rt: HostRuntime) -> Result<(), Fail> {
+    assert!(rt; is_borrowed(rt.alloc(), &any_www(rt.alloc())?)?);
     Ok(())
 }
 
 #[test]
 fn empty_data_has_no_bytes(rt: HostRuntime) -> Result<(), Fail> {
-    let entry = Record::update0(Name::root(rt.alloc()), 1, RecordType::A);
     let bytes = [0, 0, 1, 0, 1, 0, 0, 0, 1, 0, 0];
-    assert_eq!(rt;
-        written(rt.alloc(), &entry, 65535)?.as_slice(),
-        bytes.as_slice()
-    );
-    let read = Record::read(&mut BinDecoder::new(rt.alloc(), &bytes))?;
-    assert_eq!(rt; read, entry);
-    let text = read.to_string(rt.alloc())?;
-    assert_eq!(rt; text.as_str(), ". 1 IN A \\# 0");
+    let entry = Record::update0(Name::root(rt.alloc()), 1, RecordType::A);
+    assert!(rt; stands_as(rt.alloc(), &entry, &bytes)?);
+    assert!(rt; has_text(rt.alloc(), &bytes, ". 1 IN A \\# 0")?);
     Ok(())
+}
+
+/// The record of this name and data, for 5 seconds.
+fn record(alloc: Global, name: &str, rdata: RData) -> Result<Record, Fail> {
+    Ok(Record::from_rdata(Name::parse(alloc, name, None)?, 5, rdata))
+}
+
+/// The data 192.168.0.1.
+fn address() -> RData {
+    A::new(Ipv4Addr::new(192, 168, 0, 1)).into_rdata()
 }
 
 /// `www.example.com.` 5 A 192.168.0.1, as a record of any data.
-fn any_www(alloc: Global) -> Result<Record<RData>, Fail> {
-    Ok(www(alloc)?.into_record_of_rdata())
+fn any_www(alloc: Global) -> Result<Record, Fail> {
+    record(alloc, "www.example.com.", address())
+}
+
+/// How that record stands to another: its order before it, and whether the two are equal.
+fn www_beside(alloc: Global, other: &Record) -> Result<(Ordering, bool), Fail> {
+    let entry = any_www(alloc)?;
+    Ok((entry.canonical_cmp(other), entry == *other))
+}
+
+/// How that record stands to itself with this class and TTL.
+fn www_beside_class(
+    alloc: Global,
+    dns_class: DNSClass,
+    ttl: u32,
+) -> Result<(Ordering, bool), Fail> {
+    let mut other = any_www(alloc)?;
+    other.dns_class = dns_class;
+    other.ttl = ttl;
+    www_beside(alloc, &other)
+}
+
+/// How that record stands to itself with this data.
+fn www_beside_data(alloc: Global, rdata: RData) -> Result<(Ordering, bool), Fail> {
+    let other = record(alloc, "www.example.com.", rdata)?;
+    www_beside(alloc, &other)
+}
+
+/// The order of another record before that one.
+fn before_www(alloc: Global, other: &Record) -> Result<Ordering, Fail> {
+    Ok(other.canonical_cmp(&any_www(alloc)?))
+}
+
+/// How that record stands to itself with this name, and the order the other way round.
+fn www_beside_name(alloc: Global, name: &str) -> Result<(Ordering, bool, Ordering), Fail> {
+    let other = record(alloc, name, address())?;
+    let (order, equal) = www_beside(alloc, &other)?;
+    Ok((order, equal, before_www(alloc, &other)?))
 }
 
 #[test]
-fn a_later_name_or_class_stands_behind(rt: HostRuntime) -> Result<(), Fail> {
-    let entry = any_www(rt.alloc())?;
-    let mut other = any_www(rt.alloc())?;
-    other.name = Name::parse(rt.alloc(), "zzz.example.com.", None)?;
-    assert_eq!(rt; entry.canonical_cmp(&other), Ordering::Less);
-    assert_eq!(rt; other.canonical_cmp(&entry), Ordering::Greater);
-    assert!(rt; entry != other);
-    let mut other = any_www(rt.alloc())?;
-    other.dns_class = DNSClass::NONE;
-    assert_eq!(rt; entry.canonical_cmp(&other), Ordering::Less);
-    assert!(rt; entry != other);
+fn a_later_name_stands_behind(rt: HostRuntime) -> Result<(), Fail> {
+    let (order, equal, turned) = www_beside_name(rt.alloc(), "zzz.example.com.")?;
+    assert_eq!(rt; order, Ordering::Less);
+    assert!(rt; !equal);
+    assert_eq!(rt; turned, Ordering::Greater);
     Ok(())
 }
 
 #[test]
-fn a_greater_ttl_stands_behind_and_is_equal(rt: HostRuntime) -> Result<(), Fail> {
-    let entry = any_www(rt.alloc())?;
-    let mut other = any_www(rt.alloc())?;
-    assert_eq!(rt; entry.canonical_cmp(&other), Ordering::Equal);
-    other.ttl = 6;
-    assert_eq!(rt; entry.canonical_cmp(&other), Ordering::Less);
-    assert_eq!(rt; entry, other);
+fn a_later_class_or_ttl_stands_behind(rt: HostRuntime) -> Result<(), Fail> {
+    for (dns_class, ttl, order, equal) in [
+        (DNSClass::IN, 5, Ordering::Equal, true),
+        (DNSClass::IN, 6, Ordering::Less, true),
+        (DNSClass::NONE, 5, Ordering::Less, false),
+    ] {
+        let beside = www_beside_class(rt.alloc(), dns_class, ttl)?;
+        assert_eq!(rt; beside.0, order);
+        assert_eq!(rt; beside.1, equal);
+    }
     Ok(())
 }
 
 #[test]
 fn a_later_type_or_data_stands_behind(rt: HostRuntime) -> Result<(), Fail> {
-    let entry = any_www(rt.alloc())?;
-    let mut other = any_www(rt.alloc())?;
-    other.rdata = A::new(Ipv4Addr::new(192, 168, 0, 255)).into_rdata();
-    assert_eq!(rt; entry.canonical_cmp(&other), Ordering::Less);
-    assert!(rt; entry != other);
-    let mut other = any_www(rt.alloc())?;
-    other.rdata = TXT::new(rt.alloc(), &[b"x"])?.into_rdata();
-    assert_eq!(rt; entry.canonical_cmp(&other), Ordering::Less);
-    assert!(rt; entry != other);
+    let later = A::new(Ipv4Addr::new(192, 168, 0, 255)).into_rdata();
+    let (order, equal) = www_beside_data(rt.alloc(), later)?;
+    assert_eq!(rt; order, Ordering::Less);
+    assert!(rt; !equal);
+    let text = TXT::new(rt.alloc(), &[b"x"])?.into_rdata();
+    let (order, equal) = www_beside_data(rt.alloc(), text)?;
+    assert_eq!(rt; order, Ordering::Less);
+    assert!(rt; !equal);
     Ok(())
 }
