@@ -8,9 +8,17 @@ const WWW: &str = "100081800001000100000000037777770765\
 const WWW_CUT: &str = "1000838000010000000000000377777707\
     6578616d706c6503636f6d0000010001";
 
+const WRONG_WORDS: &[&[&str]] = &[
+    &["cut", "65536"],
+    &["cut"],
+    &["cut", "x"],
+    &["cut", "+5"],
+    &["cut", "5", "6"],
+];
+
 #[test]
 fn a_message_under_limits(rt: HostRuntime) -> Result<(), AllocError> {
-    for (limit, line) in [
+    for &(limit, line) in &[
         ("65535", WWW),
         ("49", WWW),
         ("000049", WWW),
@@ -24,7 +32,7 @@ fn a_message_under_limits(rt: HostRuntime) -> Result<(), AllocError> {
 
 #[test]
 fn limits_without_room_are_refused(rt: HostRuntime) -> Result<(), AllocError> {
-    for (limit, number) in [("32", 2), ("11", 1)] {
+    for &(limit, number) in &[("32", 2), ("11", 1)] {
         refuses(&rt, &["cut", limit], WWW, number)?;
     }
     Ok(())
@@ -44,13 +52,7 @@ fn the_reserved_bit_and_what_stands_behind_are_not_written(
 
 #[test]
 fn wrong_words_print_the_usage_line(rt: HostRuntime) -> Result<(), AllocError> {
-    for words in [
-        ["cut", "65536"].as_slice(),
-        ["cut"].as_slice(),
-        ["cut", "x"].as_slice(),
-        ["cut", "+5"].as_slice(),
-        ["cut", "5", "6"].as_slice(),
-    ] {
+    for words in WRONG_WORDS {
         prints_usage(&rt, words, WWW)?;
     }
     Ok(())
@@ -75,7 +77,7 @@ fn a_second_owner_is_a_pointer(rt: HostRuntime) -> Result<(), AllocError> {
 
 #[test]
 fn an_update_keeps_its_empty_records(rt: HostRuntime) -> Result<(), AllocError> {
-    for message in [
+    for &message in &[
         "0001280000000001000000000000010001000000000000",
         "0001280000000000000000010000fa00ff000000000000",
     ] {
@@ -86,7 +88,7 @@ fn an_update_keeps_its_empty_records(rt: HostRuntime) -> Result<(), AllocError> 
 
 #[test]
 fn suffixes_are_pointed_at(rt: HostRuntime) -> Result<(), AllocError> {
-    for (input, line) in [
+    for &(input, line) in &[
         (
             "000080000002000000000000 016101620000010001 016301620000010001",
             "0000800000020000000000000161016200000100010163c00e00010001",

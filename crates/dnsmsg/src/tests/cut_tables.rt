@@ -18,21 +18,6 @@ const SAME_OWNER: &str = "000880000001000100000001\
     2878787878787878787878787878787878787878787878787878787878787878787878787878787878\
     c013000100010000003c0004c0000201";
 
-const SIGNED_CUTS: &[(u16, u16, usize, &str)] = &[
-    (19, 30, 19, "000782000001000000000000"),
-    (31, 34, 31, "000782000001000000000001"),
-    (35, 46, 35, "000782000001000000000001"),
-    (47, 69, 47, "000782000001000000000002"),
-    (70, 71, 70, "000782000001000000000002"),
-    (72, 83, 72, "000782000001000100000000"),
-    (84, 87, 84, "000782000001000100000001"),
-    (88, 99, 88, "000782000001000100000001"),
-    (100, 122, 100, "000782000001000100000002"),
-    (123, 134, 123, "000782000001000100000002"),
-    (135, 140, 135, "000780000001000100000003"),
-    (65535, 65535, 135, "000780000001000100000003"),
-];
-
 // The status and the output under a limit.
 fn cut(alloc: Global, input: &str, limit: u16) -> Result<(u8, Vec<u8>), AllocError> {
     let number = format!(in alloc; "{limit}")?;
@@ -74,7 +59,7 @@ fn all_begin(
 
 #[test]
 fn limits_without_room_are_refused(rt: HostRuntime) -> Result<(), AllocError> {
-    for (first, last, line) in [(0, 11, "refused 1\n"), (12, 18, "refused 2\n")] {
+    for &(first, last, line) in &[(0, 11, "refused 1\n"), (12, 18, "refused 2\n")] {
         for limit in first..=last {
             assert!(rt; is_refused(rt.alloc(), SIGNED, limit, line)?, "{limit}");
         }
@@ -84,7 +69,20 @@ fn limits_without_room_are_refused(rt: HostRuntime) -> Result<(), AllocError> {
 
 #[test]
 fn a_signed_message_under_every_limit(rt: HostRuntime) -> Result<(), AllocError> {
-    for &(first, last, len, header) in SIGNED_CUTS {
+    for &(first, last, len, header) in &[
+        (19, 30, 19, "000782000001000000000000"),
+        (31, 34, 31, "000782000001000000000001"),
+        (35, 46, 35, "000782000001000000000001"),
+        (47, 69, 47, "000782000001000000000002"),
+        (70, 71, 70, "000782000001000000000002"),
+        (72, 83, 72, "000782000001000100000000"),
+        (84, 87, 84, "000782000001000100000001"),
+        (88, 99, 88, "000782000001000100000001"),
+        (100, 122, 100, "000782000001000100000002"),
+        (123, 134, 123, "000782000001000100000002"),
+        (135, 140, 135, "000780000001000100000003"),
+        (65535, 65535, 135, "000780000001000100000003"),
+    ] {
         all_begin(&rt, SIGNED, first, last, len, header)?;
     }
     Ok(())
@@ -92,7 +90,7 @@ fn a_signed_message_under_every_limit(rt: HostRuntime) -> Result<(), AllocError>
 
 #[test]
 fn a_suffix_of_a_cut_record_is_not_pointed_at(rt: HostRuntime) -> Result<(), AllocError> {
-    for (first, last, len, header) in [
+    for &(first, last, len, header) in &[
         (19, 36, 19, "000882000001000000000000"),
         (37, 73, 37, "000882000001000000000001"),
         (74, 89, 74, "000882000001000100000000"),
@@ -130,7 +128,7 @@ fn bytes_of_cuts(rt: HostRuntime) -> Result<(), AllocError> {
 
 #[test]
 fn whole_messages(rt: HostRuntime) -> Result<(), AllocError> {
-    for (limit, message) in [("135", SIGNED), ("90", SAME_OWNER)] {
+    for &(limit, message) in &[("135", SIGNED), ("90", SAME_OWNER)] {
         prints_line(&rt, &["cut", limit], message, message)?;
     }
     Ok(())

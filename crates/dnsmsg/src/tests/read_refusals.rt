@@ -24,7 +24,7 @@ fn refuses_parts(
 
 #[test]
 fn other_text_is_refused(rt: HostRuntime) -> Result<(), AllocError> {
-    for (input, number) in [("0g", 24), ("0", 24), ("", 4)] {
+    for &(input, number) in &[("0g", 24), ("0", 24), ("", 4)] {
         refuses(&rt, &["read"], input, number)?;
     }
     Ok(())
@@ -32,7 +32,7 @@ fn other_text_is_refused(rt: HostRuntime) -> Result<(), AllocError> {
 
 #[test]
 fn an_exchange_fills_its_length(rt: HostRuntime) -> Result<(), AllocError> {
-    for (len, end, number) in [("08", "", 8), ("0A", "", 7), ("0A", "00", 8)] {
+    for &(len, end, number) in &[("08", "", 8), ("0A", "", 7), ("0A", "00", 8)] {
         let parts = [
             "00 09 81 80 00 01 00 01 00 00 00 00 07 65 78 61 6D 70 6C 65 00 00 0F 00 01 C0 0C 00 0F 00 01 00 00 01 2C 00",
             len,
@@ -58,7 +58,7 @@ fn type_zero_has_no_data(rt: HostRuntime) -> Result<(), AllocError> {
 fn records_outside_their_section_are_refused(rt: HostRuntime) -> Result<(), AllocError> {
     let answers = "00 01 00 00 00 00 00 02 00 00 00 00";
     let authorities = "00 01 00 00 00 00 00 00 00 02 00 00";
-    for (first, second) in [(OPT, A), (A, SIGN), (SIG, A)] {
+    for &(first, second) in &[(OPT, A), (A, SIGN), (SIG, A)] {
         refuses_parts(&rt, &[answers, first, second], 12)?;
         refuses_parts(&rt, &[authorities, first, second], 12)?;
     }
@@ -68,7 +68,7 @@ fn records_outside_their_section_are_refused(rt: HostRuntime) -> Result<(), Allo
 #[test]
 fn additionals_are_tested_one_by_one(rt: HostRuntime) -> Result<(), AllocError> {
     let header = "00 01 00 00 00 00 00 00 00 00 00 03";
-    for (first, second, third, number) in [
+    for &(first, second, third, number) in &[
         (OPT, A, OPT, 13),
         (A, SIGN, A, 11),
         (A, SIGN, EMPTY_A, 10),
@@ -92,7 +92,7 @@ fn empty_records_stand_in_updates(rt: HostRuntime) -> Result<(), AllocError> {
 #[test]
 fn questions_with_faulty_names_are_refused(rt: HostRuntime) -> Result<(), AllocError> {
     let header = "00 00 00 00 00 01 00 00 00 00 00 00";
-    for (question, number) in [
+    for &(question, number) in &[
         ("C0 0C 00 01 00 01", 5),
         ("40 00 01 00 01", 5),
         ("03 77 77", 4),

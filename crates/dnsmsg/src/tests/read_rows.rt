@@ -89,7 +89,7 @@ fn data_of_a_type_without_a_text_is_hexadecimal(rt: HostRuntime) -> Result<(), A
 
 #[test]
 fn the_code_has_the_bits_of_edns(rt: HostRuntime) -> Result<(), AllocError> {
-    for (input, header) in [
+    for &(input, header) in &[
         (
             "00 01 80 00 00 00 00 00 00 00 00 01 00 00 29 80 08 01 40 80 01 00 00",
             "; header 1:RESPONSE::BADSIG:QUERY\n; edns version: 64 dnssec_ok: true z_flags: 1 max_payload: 32776 opts: 0\n; query\n",
@@ -110,7 +110,7 @@ fn the_code_has_the_bits_of_edns(rt: HostRuntime) -> Result<(), AllocError> {
 
 #[test]
 fn an_update_has_empty_records(rt: HostRuntime) -> Result<(), AllocError> {
-    for (input, lines) in [
+    for &(input, lines) in &[
         (
             "00 01 28 00 00 00 00 01 00 00 00 00 00 00 01 00 01 00 00 00 00 00 00",
             "; answers 1\n. 0 IN A \\# 0\n; authorities 0\n; additionals 0\n",
