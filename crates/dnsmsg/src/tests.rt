@@ -41,13 +41,19 @@ fn gives(
     printed: &str,
 ) -> Result<(), AllocError> {
     let (ended, output) = ran(rt.alloc(), words, &mut input.as_bytes())?;
-    assert_given(rt, input, &output, printed.as_bytes());
-    assert_eq!(rt; ended, status, "{input}");
+    let given = (ended, output.as_slice());
+    assert_given(rt, words, input, given, (status, printed.as_bytes()));
     Ok(())
 }
 
-fn assert_given(rt: &impl Abort, input: &str, output: &[u8], printed: &[u8]) {
-    assert_eq!(rt; output, printed, "{input}");
+fn assert_given(
+    rt: &impl Abort,
+    words: &[&str],
+    input: &str,
+    given: (u8, &[u8]),
+    wanted: (u8, &[u8]),
+) {
+    assert_eq!(rt; given, wanted, "{words:?}: {input}");
 }
 
 // A run prints this line, and an end of the line.
