@@ -52,7 +52,10 @@ fn all_begin(
     header: &str,
 ) -> Result<(), AllocError> {
     for limit in first..=last {
-        assert!(rt; begins(rt.alloc(), input, limit, len, header)?, "{limit}");
+        assert!(rt;
+            begins(rt.alloc(), input, limit, len, header)?,
+            "under {limit} bytes"
+        );
     }
     Ok(())
 }
@@ -61,7 +64,10 @@ fn all_begin(
 fn limits_without_room_are_refused(rt: HostRuntime) -> Result<(), AllocError> {
     for &(first, last, line) in &[(0, 11, "refused 1\n"), (12, 18, "refused 2\n")] {
         for limit in first..=last {
-            assert!(rt; is_refused(rt.alloc(), SIGNED, limit, line)?, "{limit}");
+            assert!(rt;
+                is_refused(rt.alloc(), SIGNED, limit, line)?,
+                "under {limit} bytes"
+            );
         }
     }
     Ok(())
