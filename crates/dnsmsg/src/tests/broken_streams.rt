@@ -1,7 +1,7 @@
-use super::words_of;
+use super::{ran, words_of};
 use crate::run::run;
+use std::alloc::{AllocError, Global};
 use std::io::{self, ErrorKind, Read, Write};
-use std::test::Fail;
 
 const HEADER: &[u8] = b"0110AA83 88776655 44332211\n";
 
@@ -36,46 +36,39 @@ impl Write for BrokenWriter {
     }
 }
 
+// The status, and how many bytes are printed, where the reader fails behind so many bytes.
+fn cut_off(alloc: Global, words: &[&str], left: usize) -> Result<(u8, usize), AllocError> {
+    let (status, output) = ran(alloc, words, &mut BrokenReader { left })?;
+    Ok((status, output.len()))
+}
+
 #[test]
-fn a_reader_that_fails_is_status_three(rt: HostRuntime) -> Result<(), Fail> {
-    let header = words_of(rt.alloc(), &["header"])?;
-    for left in [0, 5, 24] {
-        let mut output = Vec::new(rt.alloc());
-        let status = run(rt.alloc(), &header, &mut BrokenReader { left }, &mut output);
-        assert_eq!(rt; status, 3, "after {left} bytes");
-        assert_eq!(rt; output.len(), 0, "after {left} bytes");
+fn a_reader_that_fails_is_status_three(rt: HostRuntime) -> Result<(), AllocError> {
+    for &left in &[0, 5, 24] {
+        assert!(rt;
+            cut_off(rt.alloc(), &["header"], left)? == (3, 0),
+            "after {left} bytes"
+        );
     }
     Ok(())
 }
 
+// The status where the output takes nothing.
+fn unwritten(alloc: Global, words: &[&str], mut input: &[u8]) -> Result<u8, AllocError> {
+    let texts = words_of(alloc, words)?;
+    Ok(run(alloc, &texts, &mut input, &mut BrokenWriter))
+}
+
 #[test]
-fn a_writer_that_fails_is_status_three(rt: HostRuntime) -> Result<(), Fail> {
-    let header = words_of(rt.alloc(), &["header"])?;
-    let wrong = words_of(rt.alloc(), &["header", "x"])?;
-    let good = run(rt.alloc(), &header, &mut &HEADER[..], &mut BrokenWriter);
-    assert_eq!(rt; good, 3);
-    let refused = run(
-        rt.alloc(),
-        &header,
-        &mut b"0g".as_slice(),
-        &mut BrokenWriter,
-    );
-    assert_eq!(rt; refused, 3);
-    let usage = run(rt.alloc(), &wrong, &mut &HEADER[..], &mut BrokenWriter);
-    assert_eq!(rt; usage, 3);
+fn a_writer_that_fails_is_status_three(rt: HostRuntime) -> Result<(), AllocError> {
+    assert!(rt; unwritten(rt.alloc(), &["header"], HEADER)? == 3);
+    assert!(rt; unwritten(rt.alloc(), &["header"], b"0g")? == 3);
+    assert!(rt; unwritten(rt.alloc(), &["header", "x"], HEADER)? == 3);
     Ok(())
 }
 
 #[test]
-fn wrong_words_are_judged_before_the_input_is_read(rt: HostRuntime) -> Result<(), Fail> {
-    let wrong = words_of(rt.alloc(), &["header", "x"])?;
-    let mut output = Vec::new(rt.alloc());
-    let status = run(
-        rt.alloc(),
-        &wrong,
-        &mut BrokenReader { left: 0 },
-        &mut output,
-    );
-    assert_eq!(rt; status, 2);
+fn wrong_words_are_judged_before_the_input_is_read(rt: HostRuntime) -> Result<(), AllocError> {
+    assert!(rt; cut_off(rt.alloc(), &["header", "x"], 0)?.0 == 2);
     Ok(())
 }

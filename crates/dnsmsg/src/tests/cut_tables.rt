@@ -1,6 +1,6 @@
-use super::ran;
+use super::{gives, prints_line, ran};
+use std::alloc::{AllocError, Global};
 use std::process::Abort;
-use std::test::Fail;
 
 // A response with a question, an answer of 53 bytes, an additional record of 16, EDNS of 35 and a signature of 12.
 const SIGNED: &str = "000780000001000100000003\
@@ -18,51 +18,64 @@ const SAME_OWNER: &str = "000880000001000100000001\
     2878787878787878787878787878787878787878787878787878787878787878787878787878787878\
     c013000100010000003c0004c0000201";
 
+// The status and the output under a limit.
+fn cut(alloc: Global, input: &str, limit: u16) -> Result<(u8, Vec<u8>), AllocError> {
+    let number = format!(in alloc; "{limit}")?;
+    ran(alloc, &["cut", &number], &mut input.as_bytes())
+}
+
+// Whether the limit gives a message of this many bytes that begins with this header.
+fn begins(
+    alloc: Global,
+    input: &str,
+    limit: u16,
+    len: usize,
+    header: &str,
+) -> Result<bool, AllocError> {
+    let (status, printed) = cut(alloc, input, limit)?;
+    Ok(status == 0 && printed.len() / 2 == len && printed.starts_with(header.as_bytes()))
+}
+
+// Whether the limit is refused with this line.
+fn is_refused(alloc: Global, input: &str, limit: u16, line: &str) -> Result<bool, AllocError> {
+    let (status, printed) = cut(alloc, input, limit)?;
+    Ok(status == 1 && printed.as_slice() == line.as_bytes())
+}
+
 // Each limit from `first` to `last` gives a message of this many bytes that begins with this header.
-fn gives(
+fn all_begin(
     rt: &(impl Abort + AllocGlobal),
     input: &str,
     first: u16,
     last: u16,
     len: usize,
     header: &str,
-) -> Result<(), Fail> {
+) -> Result<(), AllocError> {
     for limit in first..=last {
-        let number = format!(in rt.alloc(); "{limit}")?;
-        let (status, printed) = ran(rt.alloc(), &["cut", &number], input)?;
-        assert_eq!(rt; status, 0, "{limit}");
-        assert_eq!(rt; printed.len() / 2, len, "{limit}");
-        assert!(rt; printed.starts_with(header.as_bytes()), "{limit}");
-    }
-    Ok(())
-}
-
-// Each limit from `first` to `last` is refused with this line.
-fn refuses(
-    rt: &(impl Abort + AllocGlobal),
-    input: &str,
-    first: u16,
-    last: u16,
-    line: &str,
-) -> Result<(), Fail> {
-    for limit in first..=last {
-        let number = format!(in rt.alloc(); "{limit}")?;
-        let (status, printed) = ran(rt.alloc(), &["cut", &number], input)?;
-        assert_eq!(rt; printed.as_slice(), line.as_bytes(), "{limit}");
-        assert_eq!(rt; status, 1, "{limit}");
+        assert!(rt;
+            begins(rt.alloc(), input, limit, len, header)?,
+            "under {limit} bytes"
+        );
     }
     Ok(())
 }
 
 #[test]
-fn limits_without_room_are_refused(rt: HostRuntime) -> Result<(), Fail> {
-    refuses(&rt, SIGNED, 0, 11, "refused 1\n")?;
-    refuses(&rt, SIGNED, 12, 18, "refused 2\n")
+fn limits_without_room_are_refused(rt: HostRuntime) -> Result<(), AllocError> {
+    for &(first, last, line) in &[(0, 11, "refused 1\n"), (12, 18, "refused 2\n")] {
+        for limit in first..=last {
+            assert!(rt;
+                is_refused(rt.alloc(), SIGNED, limit, line)?,
+                "under {limit} bytes"
+            );
+        }
+    }
+    Ok(())
 }
 
 #[test]
-fn a_signed_message_under_every_limit(rt: HostRuntime) -> Result<(), Fail> {
-    for (first, last, len, header) in [
+fn a_signed_message_under_every_limit(rt: HostRuntime) -> Result<(), AllocError> {
+    for &(first, last, len, header) in &[
         (19, 30, 19, "000782000001000000000000"),
         (31, 34, 31, "000782000001000000000001"),
         (35, 46, 35, "000782000001000000000001"),
@@ -76,64 +89,53 @@ fn a_signed_message_under_every_limit(rt: HostRuntime) -> Result<(), Fail> {
         (135, 140, 135, "000780000001000100000003"),
         (65535, 65535, 135, "000780000001000100000003"),
     ] {
-        gives(&rt, SIGNED, first, last, len, header)?;
+        all_begin(&rt, SIGNED, first, last, len, header)?;
     }
     Ok(())
 }
 
 #[test]
-fn a_suffix_of_a_cut_record_is_not_pointed_at(rt: HostRuntime) -> Result<(), Fail> {
-    for (first, last, len, header) in [
+fn a_suffix_of_a_cut_record_is_not_pointed_at(rt: HostRuntime) -> Result<(), AllocError> {
+    for &(first, last, len, header) in &[
         (19, 36, 19, "000882000001000000000000"),
         (37, 73, 37, "000882000001000000000001"),
         (74, 89, 74, "000882000001000100000000"),
         (90, 95, 90, "000880000001000100000001"),
     ] {
-        gives(&rt, SAME_OWNER, first, last, len, header)?;
+        all_begin(&rt, SAME_OWNER, first, last, len, header)?;
     }
     Ok(())
 }
 
-// The line that a limit gives.
-fn prints(
-    rt: &(impl Abort + AllocGlobal),
-    limit: &str,
-    input: &str,
-    line: &str,
-) -> Result<(), Fail> {
-    let (status, printed) = ran(rt.alloc(), &["cut", limit], input)?;
-    assert_eq!(rt; printed.as_slice(), line.as_bytes(), "{limit}");
-    assert_eq!(rt; status, 0, "{limit}");
-    Ok(())
-}
-
 #[test]
-fn bytes_of_cuts(rt: HostRuntime) -> Result<(), Fail> {
-    prints(
+fn bytes_of_cuts(rt: HostRuntime) -> Result<(), AllocError> {
+    gives(
         &rt,
-        "47",
+        &["cut", "47"],
         SIGNED,
+        0,
         "00078200000100000000000201610000010001c00c000100010000003c0004c00002010000fa00ff000000000001aa\n",
     )?;
-    prints(
+    gives(
         &rt,
-        "46",
+        &["cut", "46"],
         SIGNED,
+        0,
         "00078200000100000000000101610000010001c00c000100010000003c0004c0000201\n",
     )?;
-    prints(
+    gives(
         &rt,
-        "37",
+        &["cut", "37"],
         SAME_OWNER,
+        0,
         "000882000001000000000001016100000100010178c00c000100010000003c0004c0000201\n",
     )
 }
 
 #[test]
-fn whole_messages(rt: HostRuntime) -> Result<(), Fail> {
-    for (limit, message) in [("135", SIGNED), ("90", SAME_OWNER)] {
-        let line = format!(in rt.alloc(); "{message}\n")?;
-        prints(&rt, limit, message, &line)?;
+fn whole_messages(rt: HostRuntime) -> Result<(), AllocError> {
+    for &(limit, message) in &[("135", SIGNED), ("90", SAME_OWNER)] {
+        prints_line(&rt, &["cut", limit], message, message)?;
     }
     Ok(())
 }

@@ -1,6 +1,6 @@
-use super::ran;
+use super::gives;
+use std::alloc::AllocError;
 use std::process::Abort;
-use std::test::Fail;
 
 const NO_SECTIONS: &str = "; answers 0\n; authorities 0\n; additionals 0\n";
 
@@ -14,41 +14,43 @@ www.example.com. 2 IN A 93.184.215.14
 ; additionals 0
 ";
 
+// The message is printed as these two texts, one behind the other.
 fn prints(
     rt: &(impl Abort + AllocGlobal),
     input: &str,
     header: &str,
     lines: &str,
-) -> Result<(), Fail> {
-    let (status, printed) = ran(rt.alloc(), &["read"], input)?;
-    let wanted = format!(in rt.alloc(); "{header}{lines}")?;
-    assert_eq!(rt; printed.as_slice(), wanted.as_bytes(), "{input}");
-    assert_eq!(rt; status, 0, "{input}");
-    Ok(())
+) -> Result<(), AllocError> {
+    let printed = [header, lines].concat(rt.alloc())?;
+    gives(rt, &["read"], input, 0, &printed)
 }
 
 #[test]
-fn a_response_is_printed(rt: HostRuntime) -> Result<(), Fail> {
-    prints(
+fn a_response_is_printed(rt: HostRuntime) -> Result<(), AllocError> {
+    gives(
         &rt,
+        &["read"],
         "10 00 81 80 00 01 00 01 00 00 00 00 03 77 77 77 07 65 78 61 6D 70 6C 65 03 63 6F 6D 00 00 01 00 01 C0 0C 00 01 00 01 00 00 00 02 00 04 5D B8 D7 0E\n",
-        "",
+        0,
         WWW,
     )
 }
 
 #[test]
-fn the_reserved_bit_and_what_stands_behind_are_passed_over(rt: HostRuntime) -> Result<(), Fail> {
-    prints(
+fn the_reserved_bit_and_what_stands_behind_are_passed_over(
+    rt: HostRuntime,
+) -> Result<(), AllocError> {
+    gives(
         &rt,
+        &["read"],
         "10 00 81 C0 00 01 00 01 00 00 00 00 03 77 77 77 07 65 78 61 6D 70 6C 65 03 63 6F 6D 00 00 01 00 01 C0 0C 00 01 00 01 00 00 00 02 00 04 5D B8 D7 0E FF FF",
-        "",
+        0,
         WWW,
     )
 }
 
 #[test]
-fn a_compressed_exchange_is_printed(rt: HostRuntime) -> Result<(), Fail> {
+fn a_compressed_exchange_is_printed(rt: HostRuntime) -> Result<(), AllocError> {
     prints(
         &rt,
         "00 09 81 80 00 01 00 01 00 00 00 00 07 65 78 61 6D 70 6C 65 00 00 0F 00 01 C0 0C 00 0F 00 01 00 00 01 2C 00 09 00 0A 04 6D 61 69 6C C0 0C",
@@ -65,7 +67,7 @@ example. 300 IN MX 10 mail.example.
 }
 
 #[test]
-fn data_of_a_type_without_a_text_is_hexadecimal(rt: HostRuntime) -> Result<(), Fail> {
+fn data_of_a_type_without_a_text_is_hexadecimal(rt: HostRuntime) -> Result<(), AllocError> {
     prints(
         &rt,
         "000084000000000100000001\
@@ -86,8 +88,8 @@ fn data_of_a_type_without_a_text_is_hexadecimal(rt: HostRuntime) -> Result<(), F
 }
 
 #[test]
-fn the_code_has_the_bits_of_edns(rt: HostRuntime) -> Result<(), Fail> {
-    for (input, header) in [
+fn the_code_has_the_bits_of_edns(rt: HostRuntime) -> Result<(), AllocError> {
+    for &(input, header) in &[
         (
             "00 01 80 00 00 00 00 00 00 00 00 01 00 00 29 80 08 01 40 80 01 00 00",
             "; header 1:RESPONSE::BADSIG:QUERY\n; edns version: 64 dnssec_ok: true z_flags: 1 max_payload: 32776 opts: 0\n; query\n",
@@ -107,8 +109,8 @@ fn the_code_has_the_bits_of_edns(rt: HostRuntime) -> Result<(), Fail> {
 }
 
 #[test]
-fn an_update_has_empty_records(rt: HostRuntime) -> Result<(), Fail> {
-    for (input, lines) in [
+fn an_update_has_empty_records(rt: HostRuntime) -> Result<(), AllocError> {
+    for &(input, lines) in &[
         (
             "00 01 28 00 00 00 00 01 00 00 00 00 00 00 01 00 01 00 00 00 00 00 00",
             "; answers 1\n. 0 IN A \\# 0\n; authorities 0\n; additionals 0\n",
@@ -129,7 +131,7 @@ fn an_update_has_empty_records(rt: HostRuntime) -> Result<(), Fail> {
 }
 
 #[test]
-fn a_pointer_may_read_the_header(rt: HostRuntime) -> Result<(), Fail> {
+fn a_pointer_may_read_the_header(rt: HostRuntime) -> Result<(), AllocError> {
     prints(
         &rt,
         "00 00 00 00 00 01 00 00 00 00 00 00 C0 04 00 01 00 01",
