@@ -16,6 +16,7 @@ mod BufferLemmas
 mod CodeLemmas
 mod CutOf
 mod CutWords
+pub mod MessageEquals
 pub mod MessageStands
 mod OwnerLemmas
 mod ReadFits

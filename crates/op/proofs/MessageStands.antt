@@ -1,25 +1,22 @@
 -- Messages that stand are messages that are read.
-use Rattle.std.proofs.Common.{◌≡◌, ℕ, ◌+◌, Bool, true, false, cond, List, [], ◌∷◌, length, refl, ap, sym, ◌∙◌, subst, arith, Result, Ok, inl, inr}
+use Rattle.std.proofs.Common.{◌≡◌, ℕ, ◌+◌, Bool, true, false, cond, List, [], ◌∷◌, length, refl, ap, sym, ◌∙◌, subst, arith, Ok, inl, inr}
 use Rattle.std.proofs.lemmas.Bool.{cases_Bool, true≢false}
 use Rattle.std.proofs.lemmas.List.Elements.{All-tail}
 use Rattle.std.specs.Prelude.{All, ◌↔◌, ◌||◌, not, filter}
-use Rattle.base.specs.declared.error.decode_error.DecodeError.{DecodeError}
 use Rattle.base.specs.declared.record_type.RecordType.{RecordType}
-use Rattle.base.specs.declared.record_type.RecordType.TheVariants as types
 use Rattle.base.specs.Many.{many_at}
 use Rattle.base.specs.Words.{BackToBack}
 use Rattle.base.proofs.ManyLemmas.{many_again, many_stand}
 use Rattle.base.proofs.ReadLemmas.{bind_ok}
 use Rattle.base_data.specs.RData.{type_of_data}
 use Rattle.base_data.specs.declared.rdata.RData.{RData}
-use Rattle.base_data.specs.declared.rdata.RData.TheVariants as kinds
 use Rattle.rr.specs.Record.{IsRecordAt, is_opt_type}
 use Rattle.rr.specs.declared.record.Record.{Record}
 use Rattle.rr.proofs.ReadRecords.{opt_is, reads_record}
 use Rattle.op.specs.Header.{header_at}
 use Rattle.op.specs.Message.{IsMessageAt, MessageValue, message_at, message_of}
 use Rattle.op.specs.Query.{IsQueryAt, query_at}
-use Rattle.op.specs.Section.{EndsWithSignature, IsPlain, IsSectionAt, SectionValue, is_additional, is_additional_type, is_opt, is_ordinary, is_signature, is_signature_data, section_at, section_of}
+use Rattle.op.specs.Section.{EndsWithSignature, IsPlain, IsSectionAt, SectionValue, is_additional, is_additional_type, is_opt, is_ordinary, is_signature, section_at, section_of}
 use Rattle.op.specs.declared.op_code.OpCode.{OpCode}
 use Rattle.op.specs.declared.query.Query.{Query}
 use Rattle.op.proofs.HeaderReading.{reads_word}

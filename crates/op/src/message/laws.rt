@@ -1,6 +1,9 @@
 //! What reading means: the words of a message (RFC 1035, 4.1).
 
-ghost use Rattle.std.specs.Prelude.{◌≡◌, ◌<◌, ◌↔◌, ℕ, All, Bool, List, length, Ok};
+ghost use Rattle.std.specs.Prelude.{◌≡◌, ◌<◌, ◌↔◌, ℕ, All, Bool, IsTrue, List, length, Ok};
+ghost use Rattle.std.specs.Cmp.{IsEquivalence};
+ghost use Rattle.std.specs.Cmp.Lexicographic.{pointwise};
+ghost use Rattle.std.specs.Option.{option_eq, option_map};
 ghost use Rattle.base.specs.Many.{many_at};
 ghost use Rattle.base.specs.Words.{BackToBack};
 ghost use Rattle.op.specs.Cut.{IsCut, IsUncut};
@@ -8,7 +11,14 @@ ghost use Rattle.op.specs.Fits.{Fits};
 ghost use Rattle.op.specs.Message.{IsMessageAt, MessageValue, message_at};
 ghost use Rattle.op.specs.Query.{IsQueryAt, query_at};
 ghost use Rattle.op.specs.Section.{IsSectionAt, SectionValue, section_at};
+ghost use Rattle.op.specs.declared.message.Message.{Message};
 ghost use Rattle.op.specs.declared.query.Query.{Query};
+
+use crate::edns::Edns;
+use crate::message::Message;
+use crate::query::Query;
+use base_data::{RData, TSIG};
+use rr::Record;
 
 /// Reading a message is the message word: it answers exactly the messages whose words stand there, and a place
 /// begins one at most. The same for the records of a section, and for questions back to back.
@@ -24,4 +34,18 @@ pub fn what_is_read_fits()
     ensures fits { (B : List ℕ) (i : ℕ) (m : MessageValue) (e : ℕ) → IsMessageAt B i m e → Fits m }
     ensures uncut { (B : List ℕ) (i : ℕ) (m : MessageValue) (e : ℕ) → IsMessageAt B i m e → All (λ b. b < 256) B
         → (limit : ℕ) (C : List ℕ) (c : MessageValue) (k : IsCut m limit C c) → IsUncut k → c ≡ m }
+{}
+
+/// Messages are equal where their metadata is the same, and their questions, the records of their sections, their EDNS
+/// and their signatures are equal one by one; and that is an equivalence. So letters are folded in names, and TTLs and
+/// cache-flush bits are not looked at.
+pub fn equal_messages()
+    ensures equal { (a b : Message) → IsTrue (⟦<Message as PartialEq>⟧.eq a b) ↔ ((a.metadata ≡ b.metadata)
+        × IsTrue (pointwise ⟦<Query as PartialEq>⟧.eq a.queries.items b.queries.items)
+        × IsTrue (pointwise ⟦<Record<RData> as PartialEq>⟧.eq a.answers.items b.answers.items)
+        × IsTrue (pointwise ⟦<Record<RData> as PartialEq>⟧.eq a.authorities.items b.authorities.items)
+        × IsTrue (pointwise ⟦<Record<RData> as PartialEq>⟧.eq a.additionals.items b.additionals.items)
+        × IsTrue (option_eq ⟦<Record<TSIG> as PartialEq>⟧.eq (option_map (λ s. s.value) a.signature) (option_map (λ s. s.value) b.signature))
+        × IsTrue (option_eq ⟦<Edns as PartialEq>⟧.eq a.edns b.edns)) }
+    ensures equivalence { IsEquivalence ⟦<Message as PartialEq>⟧.eq }
 {}
