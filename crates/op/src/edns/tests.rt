@@ -1,7 +1,9 @@
+use crate::tests::forms::{has_text, is_written_as};
+use crate::tests::values::edns_with_option;
 use crate::{DEFAULT_MAX_PAYLOAD_LEN, Edns, EdnsFlags};
-use base::{BinEncodable, BinEncoder, RecordType};
-use base_data::EdnsOption;
+use base::RecordType;
 use rr::Record;
+use std::alloc::Global;
 use std::test::Fail;
 
 #[test]
@@ -16,6 +18,10 @@ fn flags_are_read_and_written(rt: HostRuntime) {
         assert_eq!(rt; flags, EdnsFlags { dnssec_ok, z });
         assert_eq!(rt; u16::from(flags), number);
     }
+}
+
+#[test]
+fn flags_have_fifteen_bits_beside_dnssec_ok(rt: HostRuntime) {
     let wide = EdnsFlags {
         dnssec_ok: false,
         z: 0x8001,
@@ -23,34 +29,50 @@ fn flags_are_read_and_written(rt: HostRuntime) {
     assert_eq!(rt; u16::from(wide), 1);
 }
 
-#[test]
-fn the_text_of_edns(rt: HostRuntime) -> Result<(), Fail> {
-    let mut edns = Edns::new(rt.alloc());
+fn edns(alloc: Global) -> Edns {
+    let mut edns = Edns::new(alloc);
     edns.set_rcode_high(1).set_version(0x40).set_dnssec_ok(true);
     edns.set_max_payload(0x8008);
     edns.flags_mut().z = 1;
-    let text = edns.to_string(rt.alloc())?;
-    assert_eq!(rt;
-        text.as_str(),
-        "version: 64 dnssec_ok: true z_flags: 1 max_payload: 32776 opts: 0"
-    );
-    assert_eq!(rt; edns.rcode_high(), 1);
-    assert_eq!(rt; edns.version(), 64);
-    assert_eq!(rt; edns.flags().z, 1);
+    edns
+}
+
+#[test]
+fn the_text_of_edns(rt: HostRuntime) -> Result<(), Fail> {
+    let edns = edns(rt.alloc());
+    let text = "version: 64 dnssec_ok: true z_flags: 1 max_payload: 32776 opts: 0";
+    assert!(rt; has_text(rt.alloc(), &edns, text)?);
     assert_eq!(rt; edns.clone()?, edns);
     Ok(())
 }
 
 #[test]
+fn the_fields_of_edns(rt: HostRuntime) {
+    let edns = edns(rt.alloc());
+    assert_eq!(rt; edns.rcode_high(), 1);
+    assert_eq!(rt; edns.version(), 64);
+    assert_eq!(rt; edns.flags().z, 1);
+}
+
+// The payload of EDNS that was told these numbers, one after another.
+fn payload(alloc: Global, told: &[u16]) -> u16 {
+    let mut edns = Edns::new(alloc);
+    for number in told {
+        edns.set_max_payload(*number);
+    }
+    edns.max_payload()
+}
+
+#[test]
+fn a_payload_has_512_bytes_at_least(rt: HostRuntime) {
+    assert_eq!(rt; payload(rt.alloc(), &[]), 512);
+    assert_eq!(rt; payload(rt.alloc(), &[100]), 512);
+    assert_eq!(rt; payload(rt.alloc(), &[100, DEFAULT_MAX_PAYLOAD_LEN]), 1232);
+}
+
+#[test]
 fn options_are_put_and_found(rt: HostRuntime) -> Result<(), Fail> {
-    let mut edns = Edns::new(rt.alloc());
-    assert_eq!(rt; edns.max_payload(), 512);
-    edns.set_max_payload(100);
-    assert_eq!(rt; edns.max_payload(), 512);
-    edns.set_max_payload(DEFAULT_MAX_PAYLOAD_LEN);
-    assert_eq!(rt; edns.max_payload(), 1232);
-    let option = EdnsOption::new(65001, vec![in rt.alloc(); 1, 2]?);
-    edns.options_mut().insert(option)?;
+    let edns = edns_with_option(rt.alloc())?;
     assert!(rt; edns.option(65001).is_some());
     assert!(rt; edns.option(65002).is_none());
     assert_eq!(rt; edns.options().as_ref().len(), 1);
@@ -59,22 +81,28 @@ fn options_are_put_and_found(rt: HostRuntime) -> Result<(), Fail> {
 
 #[test]
 fn edns_is_written_as_an_opt_record(rt: HostRuntime) -> Result<(), Fail> {
-    let mut edns = Edns::new(rt.alloc());
-    edns.set_rcode_high(1).set_version(0x40).set_dnssec_ok(true);
-    edns.set_max_payload(0x8008);
-    edns.flags_mut().z = 1;
-    let mut bytes = Vec::new(rt.alloc());
-    {
-        let mut encoder = BinEncoder::new(&mut bytes);
-        edns.emit(&mut encoder)?;
-    }
-    assert_eq!(rt;
-        bytes.as_slice(),
-        b"\x00\x00\x29\x80\x08\x01\x40\x80\x01\x00\x00".as_slice()
-    );
-    let record = Record::try_from(&edns)?;
+    let edns = edns(rt.alloc());
+    let bytes = b"\x00\x00\x29\x80\x08\x01\x40\x80\x01\x00\x00";
+    assert!(rt; is_written_as(rt.alloc(), &edns, bytes.as_slice())?);
+    Ok(())
+}
+
+// Whether the same EDNS is made of a record of it.
+fn is_made_again(edns: &Edns) -> Result<bool, Fail> {
+    let again = Edns::try_from(&Record::try_from(edns)?)?;
+    Ok(again == *edns)
+}
+
+#[test]
+fn a_record_is_made_of_edns(rt: HostRuntime) -> Result<(), Fail> {
+    let record = Record::try_from(&edns(rt.alloc()))?;
     assert_eq!(rt; record.record_type(), RecordType::OPT);
     assert_eq!(rt; record.ttl, 0x0140_8001);
-    assert_eq!(rt; Edns::try_from(&record)?, edns);
+    Ok(())
+}
+
+#[test]
+fn edns_is_made_of_its_record(rt: HostRuntime) -> Result<(), Fail> {
+    assert!(rt; is_made_again(&edns(rt.alloc()))?);
     Ok(())
 }
