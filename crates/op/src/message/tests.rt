@@ -98,7 +98,7 @@ fn counts_have_two_bytes(rt: HostRuntime) {
         ([over, none, none, none], 15),
         ([cut, none, none, none], 2),
     ] {
-        assert_eq!(rt; refusal(rt.alloc(), parts, None), number);
+        assert!(rt; refusal(rt.alloc(), parts, None) == number, "{number}");
     }
 }
 
@@ -107,6 +107,6 @@ fn edns_is_counted(rt: HostRuntime) {
     let none = told(0, false);
     let parts = [none, none, none, told(65_535, false)];
     let edns = Edns::new(rt.alloc());
-    assert_eq!(rt; refusal(rt.alloc(), parts, Some(&edns)), 14);
-    assert_eq!(rt; refusal(rt.alloc(), parts, None), 0);
+    assert!(rt; refusal(rt.alloc(), parts, Some(&edns)) == 14);
+    assert!(rt; refusal(rt.alloc(), parts, None) == 0);
 }
