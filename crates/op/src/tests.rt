@@ -1,10 +1,19 @@
+pub(crate) mod forms;
+pub(crate) mod values;
+
 use crate::{Flags, Header, HeaderCounts, MessageType, Metadata, OpCode, ResponseCode};
+use forms::has_text;
+use std::alloc::Global;
 use std::cmp::Ordering;
-use std::test::Fail;
+
+// Whether this operation has this number and text.
+fn is_op_code(alloc: Global, number: u8, code: OpCode, text: &str) -> bool {
+    OpCode::from_u8(number) == code && u8::from(code) == number && has_text(alloc, &code, text)
+}
 
 // The operations: number, code and text.
 #[test]
-fn op_codes(rt: HostRuntime) -> Result<(), Fail> {
+fn op_codes(rt: HostRuntime) {
     let table = [
         (0, OpCode::Query, "QUERY"),
         (1, OpCode::Unknown(1), "Unknown opcode (1)"),
@@ -17,18 +26,30 @@ fn op_codes(rt: HostRuntime) -> Result<(), Fail> {
         (255, OpCode::Unknown(255), "Unknown opcode (255)"),
     ];
     for (number, code, text) in table {
-        assert_eq!(rt; OpCode::from_u8(number), code, "at {number}");
-        assert_eq!(rt; u8::from(code), number, "at {number}");
-        let shown = code.to_string(rt.alloc())?;
-        assert_eq!(rt; shown.as_str(), text, "at {number}");
+        assert!(rt; is_op_code(rt.alloc(), number, code, text), "at {number}");
     }
-    Ok(())
 }
 
-// The response codes that have a name: number, code, name and text.
+// Whether this response code has this name and text.
+fn is_called(alloc: Global, code: ResponseCode, name: &str, text: &str) -> bool {
+    code.name().unwrap_or("") == name && code.to_str() == text && has_text(alloc, &code, text)
+}
+
+// Whether this is the response code of this number.
+fn is_numbered(number: u16, code: ResponseCode) -> bool {
+    let read: ResponseCode = number.into();
+    read == code && u16::from(code) == number
+}
+
+// Whether this is the response code of this number, name and text.
+fn is_code(alloc: Global, number: u16, code: ResponseCode, name: &str, text: &str) -> bool {
+    is_numbered(number, code) && is_called(alloc, code, name, text)
+}
+
+// The response codes that have a name and fit a header: number, code, name and text.
 #[test]
-fn response_codes(rt: HostRuntime) -> Result<(), Fail> {
-    let table = [
+fn response_codes(rt: HostRuntime) {
+    for (number, code, name, text) in [
         (0, ResponseCode::NoError, "NoError", "No Error"),
         (1, ResponseCode::FormErr, "FormErr", "Form Error"),
         (2, ResponseCode::ServFail, "ServFail", "Server Failure"),
@@ -50,6 +71,18 @@ fn response_codes(rt: HostRuntime) -> Result<(), Fail> {
         (8, ResponseCode::NXRRSet, "NXRRSet", "RR Set does not exist"),
         (9, ResponseCode::NotAuth, "NotAuth", "Not authorized"),
         (10, ResponseCode::NotZone, "NotZone", "Name not in zone"),
+    ] {
+        assert!(rt;
+            is_code(rt.alloc(), number, code, name, text),
+            "at {number}"
+        );
+    }
+}
+
+// Those that have a name and more bits.
+#[test]
+fn wide_response_codes(rt: HostRuntime) {
+    for (number, code, name, text) in [
         (16, ResponseCode::BADSIG, "BADSIG", "TSIG Failure"),
         (17, ResponseCode::BADKEY, "BADKEY", "Key not recognized"),
         (
@@ -73,107 +106,97 @@ fn response_codes(rt: HostRuntime) -> Result<(), Fail> {
             "BADCOOKIE",
             "Bad server cookie",
         ),
-    ];
-    for (number, code, name, text) in table {
-        let read: ResponseCode = number.into();
-        assert_eq!(rt; read, code, "at {number}");
-        assert_eq!(rt; u16::from(code), number, "at {number}");
-        assert_eq!(rt; code.name().ok_or("no name")?, name, "at {number}");
-        assert_eq!(rt; code.to_str(), text, "at {number}");
-        let shown = code.to_string(rt.alloc())?;
-        assert_eq!(rt; shown.as_str(), text, "at {number}");
+    ] {
+        assert!(rt;
+            is_code(rt.alloc(), number, code, name, text),
+            "at {number}"
+        );
     }
-    Ok(())
 }
 
 // BADVERS shares its number with BADSIG, and is written only.
 #[test]
-fn bad_version(rt: HostRuntime) -> Result<(), Fail> {
-    assert_eq!(rt; u16::from(ResponseCode::BADVERS), 16);
-    assert_eq!(rt; ResponseCode::BADVERS.name().ok_or("no name")?, "BADVERS");
-    assert_eq!(rt; ResponseCode::BADVERS.to_str(), "Bad option versions");
-    assert_eq!(rt;
-        ResponseCode::BADVERS.partial_cmp(&ResponseCode::BADSIG),
-        Some(Ordering::Less)
-    );
-    Ok(())
+fn bad_version(rt: HostRuntime) {
+    let code = ResponseCode::BADVERS;
+    assert!(rt; u16::from(code) == 16);
+    assert!(rt; is_called(rt.alloc(), code, "BADVERS", "Bad option versions"));
+    assert!(rt; code.partial_cmp(&ResponseCode::BADSIG) == Some(Ordering::Less));
+}
+
+// Whether this is the number of a code without a name.
+fn is_unknown(number: u16) -> bool {
+    let code = ResponseCode::Unknown(number);
+    is_numbered(number, code) && code.name().is_none() && code.to_str() == "Unknown response code"
 }
 
 #[test]
 fn unknown_response_codes(rt: HostRuntime) {
     for number in [11, 15, 24, 4095, 4097, 65535] {
-        let code: ResponseCode = number.into();
-        assert_eq!(rt; code, ResponseCode::Unknown(number));
-        assert_eq!(rt; u16::from(code), number);
-        assert!(rt; code.name().is_none());
-        assert_eq!(rt; code.to_str(), "Unknown response code");
+        assert!(rt; is_unknown(number), "{number}");
     }
 }
 
 #[test]
-fn response_code_parts(rt: HostRuntime) {
-    assert_eq!(rt; ResponseCode::BADCOOKIE.low(), 7);
-    assert_eq!(rt; ResponseCode::BADCOOKIE.high(), 1);
-    assert_eq!(rt; ResponseCode::Unknown(0xABCD).low(), 0x0D);
-    assert_eq!(rt; ResponseCode::Unknown(0xABCD).high(), 0xBC);
-    assert_eq!(rt; ResponseCode::from_low(0xF3), ResponseCode::NXDomain);
-    assert_eq!(rt; ResponseCode::from(1, 0xF7), ResponseCode::BADCOOKIE);
-    assert_eq!(rt; ResponseCode::from(0xFF, 0x0F), ResponseCode::Unknown(4095));
-    assert_eq!(rt; ResponseCode::default(), ResponseCode::NoError);
+fn response_codes_have_two_parts(rt: HostRuntime) {
+    for (code, low, high) in [
+        (ResponseCode::BADCOOKIE, 7, 1),
+        (ResponseCode::Unknown(0xABCD), 0x0D, 0xBC),
+    ] {
+        assert!(rt; code.low() == low);
+        assert!(rt; code.high() == high);
+    }
+}
+
+#[test]
+fn response_codes_are_made_of_parts(rt: HostRuntime) {
+    assert!(rt; ResponseCode::from_low(0xF3) == ResponseCode::NXDomain);
+    assert!(rt; ResponseCode::from(1, 0xF7) == ResponseCode::BADCOOKIE);
+    assert!(rt; ResponseCode::from(0xFF, 0x0F) == ResponseCode::Unknown(4095));
+    assert!(rt; ResponseCode::default() == ResponseCode::NoError);
 }
 
 #[test]
 fn orders(rt: HostRuntime) {
-    assert_eq!(rt;
-        ResponseCode::Unknown(0).partial_cmp(&ResponseCode::BADCOOKIE),
-        Some(Ordering::Greater)
+    assert!(rt;
+        ResponseCode::Unknown(0).partial_cmp(&ResponseCode::BADCOOKIE) == Some(Ordering::Greater)
     );
-    assert_eq!(rt;
-        ResponseCode::Unknown(1).partial_cmp(&ResponseCode::Unknown(2)),
-        Some(Ordering::Less)
+    assert!(rt;
+        ResponseCode::Unknown(1).partial_cmp(&ResponseCode::Unknown(2)) == Some(Ordering::Less)
     );
-    assert_eq!(rt;
-        OpCode::Update.partial_cmp(&OpCode::Notify),
-        Some(Ordering::Greater)
-    );
-    assert_eq!(rt;
-        OpCode::Update.partial_cmp(&OpCode::Unknown(0)),
-        Some(Ordering::Less)
-    );
-    assert_eq!(rt;
-        MessageType::Query.partial_cmp(&MessageType::Response),
-        Some(Ordering::Less)
-    );
+    assert!(rt; OpCode::Update.partial_cmp(&OpCode::Notify) == Some(Ordering::Greater));
+    assert!(rt; OpCode::Update.partial_cmp(&OpCode::Unknown(0)) == Some(Ordering::Less));
+    assert!(rt; MessageType::Query.partial_cmp(&MessageType::Response) == Some(Ordering::Less));
 }
 
 #[test]
-fn metadata_texts(rt: HostRuntime) -> Result<(), Fail> {
+fn metadata_without_flags(rt: HostRuntime) {
     let plain = Metadata::new(10, MessageType::Query, OpCode::Query);
-    let shown = plain.to_string(rt.alloc())?;
-    assert_eq!(rt; shown.as_str(), "10:QUERY::NoError:QUERY");
+    assert!(rt; has_text(rt.alloc(), &plain, "10:QUERY::NoError:QUERY"));
+}
 
+#[test]
+fn metadata_with_flags(rt: HostRuntime) {
     let mut update = Metadata::new(272, MessageType::Response, OpCode::Update);
     update.truncation = true;
     update.recursion_available = true;
     update.response_code = ResponseCode::NXDomain;
-    let shown = update.to_string(rt.alloc())?;
-    assert_eq!(rt; shown.as_str(), "272:RESPONSE:TC,RA:NXDomain:UPDATE");
+    let text = "272:RESPONSE:TC,RA:NXDomain:UPDATE";
+    assert!(rt; has_text(rt.alloc(), &update, text));
+}
 
+#[test]
+fn metadata_of_unknown_codes(rt: HostRuntime) {
     let mut unknown = Metadata::new(65535, MessageType::Response, OpCode::Unknown(15));
     unknown.recursion_desired = true;
     unknown.checking_disabled = true;
     unknown.authentic_data = true;
     unknown.response_code = ResponseCode::Unknown(15);
-    let shown = unknown.to_string(rt.alloc())?;
-    assert_eq!(rt;
-        shown.as_str(),
-        "65535:RESPONSE:RD,CD,AD:Unknown(15):Unknown opcode (15)"
-    );
-    Ok(())
+    let text = "65535:RESPONSE:RD,CD,AD:Unknown(15):Unknown opcode (15)";
+    assert!(rt; has_text(rt.alloc(), &unknown, text));
 }
 
 #[test]
-fn flag_texts(rt: HostRuntime) -> Result<(), Fail> {
+fn flag_texts(rt: HostRuntime) {
     let mut flags = Flags {
         authoritative: true,
         truncation: true,
@@ -182,18 +205,15 @@ fn flag_texts(rt: HostRuntime) -> Result<(), Fail> {
         authentic_data: true,
         checking_disabled: true,
     };
-    let shown = flags.to_string(rt.alloc())?;
-    assert_eq!(rt; shown.as_str(), "RD,CD,TC,AA,RA,AD");
+    assert!(rt; has_text(rt.alloc(), &flags, "RD,CD,TC,AA,RA,AD"));
     flags.recursion_desired = false;
     flags.truncation = false;
-    let shown = flags.to_string(rt.alloc())?;
-    assert_eq!(rt; shown.as_str(), "CD,AA,RA,AD");
-    Ok(())
+    assert!(rt; has_text(rt.alloc(), &flags, "CD,AA,RA,AD"));
 }
 
 // A response takes over id, operation, RD and CD, and nothing else.
 #[test]
-fn responses(rt: HostRuntime) -> Result<(), Fail> {
+fn responses(rt: HostRuntime) {
     let mut request = Metadata::new(7, MessageType::Query, OpCode::Notify);
     request.authoritative = true;
     request.truncation = true;
@@ -203,11 +223,9 @@ fn responses(rt: HostRuntime) -> Result<(), Fail> {
     request.checking_disabled = true;
     request.response_code = ResponseCode::Refused;
     let response = Metadata::response_from_request(&request);
-    let shown = response.to_string(rt.alloc())?;
-    assert_eq!(rt; shown.as_str(), "7:RESPONSE:RD,CD:NoError:NOTIFY");
+    assert!(rt; has_text(rt.alloc(), &response, "7:RESPONSE:RD,CD:NoError:NOTIFY"));
     assert!(rt; request.flags().authoritative);
     assert!(rt; !response.flags().authoritative);
-    Ok(())
 }
 
 #[test]
@@ -215,9 +233,9 @@ fn merged_codes(rt: HostRuntime) {
     let mut metadata = Metadata::new(1, MessageType::Response, OpCode::Query);
     metadata.response_code = ResponseCode::NXDomain;
     metadata.merge_response_code(1);
-    assert_eq!(rt; metadata.response_code, ResponseCode::BADMODE);
+    assert!(rt; metadata.response_code == ResponseCode::BADMODE);
     metadata.merge_response_code(0);
-    assert_eq!(rt; metadata.response_code, ResponseCode::NXDomain);
+    assert!(rt; metadata.response_code == ResponseCode::NXDomain);
 }
 
 #[test]
@@ -236,7 +254,7 @@ fn headers(rt: HostRuntime) {
             additionals: 0,
         },
     };
-    assert_eq!(rt; header, header);
-    assert_eq!(rt; header.partial_cmp(&other), Some(Ordering::Less));
-    assert_eq!(rt; header.counts.additionals, 0);
+    assert!(rt; header == header);
+    assert!(rt; header.partial_cmp(&other) == Some(Ordering::Less));
+    assert!(rt; header.counts.additionals == 0);
 }

@@ -1,7 +1,9 @@
+use crate::tests::forms::{has_text, is_written_as};
+use crate::tests::values::edns_with_option;
 use crate::{DEFAULT_MAX_PAYLOAD_LEN, Edns, EdnsFlags};
-use base::{BinEncodable, BinEncoder, RecordType};
-use base_data::EdnsOption;
+use base::RecordType;
 use rr::Record;
+use std::alloc::Global;
 use std::test::Fail;
 
 #[test]
@@ -13,68 +15,111 @@ fn flags_are_read_and_written(rt: HostRuntime) {
         (0xFFFF, true, 0x7FFF),
     ] {
         let flags = EdnsFlags::from(number);
-        assert_eq!(rt; flags, EdnsFlags { dnssec_ok, z });
-        assert_eq!(rt; u16::from(flags), number);
+        assert!(rt; flags == EdnsFlags { dnssec_ok, z });
+        assert!(rt; u16::from(flags) == number);
     }
+}
+
+#[test]
+fn flags_have_fifteen_bits_beside_dnssec_ok(rt: HostRuntime) {
     let wide = EdnsFlags {
         dnssec_ok: false,
         z: 0x8001,
     };
-    assert_eq!(rt; u16::from(wide), 1);
+    assert!(rt; u16::from(wide) == 1);
 }
 
-#[test]
-fn the_text_of_edns(rt: HostRuntime) -> Result<(), Fail> {
-    let mut edns = Edns::new(rt.alloc());
+fn edns(alloc: Global) -> Edns {
+    let mut edns = Edns::new(alloc);
     edns.set_rcode_high(1).set_version(0x40).set_dnssec_ok(true);
     edns.set_max_payload(0x8008);
     edns.flags_mut().z = 1;
-    let text = edns.to_string(rt.alloc())?;
-    assert_eq!(rt;
-        text.as_str(),
-        "version: 64 dnssec_ok: true z_flags: 1 max_payload: 32776 opts: 0"
-    );
-    assert_eq!(rt; edns.rcode_high(), 1);
-    assert_eq!(rt; edns.version(), 64);
-    assert_eq!(rt; edns.flags().z, 1);
-    assert_eq!(rt; edns.clone()?, edns);
+    edns
+}
+
+// Whether this is that EDNS.
+fn is_edns(alloc: Global, found: &Edns) -> bool {
+    let wanted = edns(alloc);
+    *found == wanted
+}
+
+#[test]
+fn the_text_of_edns(rt: HostRuntime) {
+    let edns = edns(rt.alloc());
+    let text = "version: 64 dnssec_ok: true z_flags: 1 max_payload: 32776 opts: 0";
+    assert!(rt; has_text(rt.alloc(), &edns, text));
+}
+
+#[test]
+fn a_copy_is_the_same_edns(rt: HostRuntime) -> Result<(), Fail> {
+    let copy = edns(rt.alloc()).clone()?;
+    assert!(rt; is_edns(rt.alloc(), &copy));
     Ok(())
+}
+
+#[test]
+fn the_fields_of_edns(rt: HostRuntime) {
+    let edns = edns(rt.alloc());
+    assert!(rt; edns.rcode_high() == 1);
+    assert!(rt; edns.version() == 64);
+    assert!(rt; edns.flags().z == 1);
+}
+
+// The payload of EDNS that was told these numbers, one after another.
+fn payload(alloc: Global, told: &[u16]) -> u16 {
+    let mut edns = Edns::new(alloc);
+    for number in told {
+        edns.set_max_payload(*number);
+    }
+    edns.max_payload()
+}
+
+#[test]
+fn a_payload_has_512_bytes_at_least(rt: HostRuntime) {
+    assert!(rt; payload(rt.alloc(), &[]) == 512);
+    assert!(rt; payload(rt.alloc(), &[100]) == 512);
+    assert!(rt; payload(rt.alloc(), &[100, DEFAULT_MAX_PAYLOAD_LEN]) == 1232);
 }
 
 #[test]
 fn options_are_put_and_found(rt: HostRuntime) -> Result<(), Fail> {
-    let mut edns = Edns::new(rt.alloc());
-    assert_eq!(rt; edns.max_payload(), 512);
-    edns.set_max_payload(100);
-    assert_eq!(rt; edns.max_payload(), 512);
-    edns.set_max_payload(DEFAULT_MAX_PAYLOAD_LEN);
-    assert_eq!(rt; edns.max_payload(), 1232);
-    let option = EdnsOption::new(65001, vec![in rt.alloc(); 1, 2]?);
-    edns.options_mut().insert(option)?;
+    let edns = edns_with_option(rt.alloc())?;
     assert!(rt; edns.option(65001).is_some());
     assert!(rt; edns.option(65002).is_none());
-    assert_eq!(rt; edns.options().as_ref().len(), 1);
+    assert!(rt; edns.options().as_ref().len() == 1);
     Ok(())
 }
 
 #[test]
-fn edns_is_written_as_an_opt_record(rt: HostRuntime) -> Result<(), Fail> {
-    let mut edns = Edns::new(rt.alloc());
-    edns.set_rcode_high(1).set_version(0x40).set_dnssec_ok(true);
-    edns.set_max_payload(0x8008);
-    edns.flags_mut().z = 1;
-    let mut bytes = Vec::new(rt.alloc());
-    {
-        let mut encoder = BinEncoder::new(&mut bytes);
-        edns.emit(&mut encoder)?;
-    }
-    assert_eq!(rt;
-        bytes.as_slice(),
-        b"\x00\x00\x29\x80\x08\x01\x40\x80\x01\x00\x00".as_slice()
-    );
-    let record = Record::try_from(&edns)?;
-    assert_eq!(rt; record.record_type(), RecordType::OPT);
-    assert_eq!(rt; record.ttl, 0x0140_8001);
-    assert_eq!(rt; Edns::try_from(&record)?, edns);
+fn edns_is_written_as_an_opt_record(rt: HostRuntime) {
+    let edns = edns(rt.alloc());
+    let bytes = b"\x00\x00\x29\x80\x08\x01\x40\x80\x01\x00\x00";
+    assert!(rt; is_written_as(rt.alloc(), &edns, bytes.as_slice()));
+}
+
+// The record of that EDNS.
+fn record(alloc: Global) -> Result<Record, Fail> {
+    let edns = edns(alloc);
+    Ok(Record::try_from(&edns)?)
+}
+
+#[test]
+fn a_record_is_made_of_edns(rt: HostRuntime) -> Result<(), Fail> {
+    let record = record(rt.alloc())?;
+    assert!(rt; record.record_type() == RecordType::OPT);
+    assert!(rt; record.ttl == 0x0140_8001);
+    Ok(())
+}
+
+// What is made of that record.
+fn edns_again(alloc: Global) -> Result<Edns, Fail> {
+    let record = record(alloc)?;
+    Ok(Edns::try_from(&record)?)
+}
+
+#[test]
+fn edns_is_made_of_its_record(rt: HostRuntime) -> Result<(), Fail> {
+    let again = edns_again(rt.alloc())?;
+    assert!(rt; is_edns(rt.alloc(), &again));
     Ok(())
 }

@@ -1,10 +1,8 @@
 use super::{Header, HeaderCounts, MessageType, Metadata};
+use crate::tests::forms::{has_text, is_cut, is_read_as, is_read_to, is_written_back, read};
 use crate::{OpCode, ResponseCode};
-use base::{
-    BinDecodable, BinDecoder, BinEncodable, BinEncoder, DecodeError, EncodedSize, ProtoError,
-};
+use base::{BinEncodable, BinEncoder, DecodeError, EncodedSize, ProtoError};
 use std::alloc::Global;
-use std::process::Abort;
 use std::test::Fail;
 
 const BYTES: [u8; 12] = [
@@ -27,89 +25,103 @@ fn header() -> Header {
     }
 }
 
-fn written(alloc: Global, header: &Header) -> Result<Vec<u8>, ProtoError> {
-    let mut bytes = Vec::new(alloc);
-    {
-        let mut encoder = BinEncoder::new(&mut bytes);
-        header.emit(&mut encoder)?;
-    }
-    Ok(bytes)
-}
-
 #[test]
-fn a_header_is_read_and_written_as_the_same_bytes(rt: HostRuntime) -> Result<(), Fail> {
-    let mut decoder = BinDecoder::new(rt.alloc(), &BYTES);
-    let read = Header::read(&mut decoder)?;
-    assert_eq!(rt; read, header());
-    assert_eq!(rt; decoder.index(), 12);
-    assert_eq!(rt; written(rt.alloc(), &read)?.as_slice(), BYTES.as_slice());
-    assert_eq!(rt; header().to_bytes().as_slice(), BYTES.as_slice());
-    Ok(())
+fn a_header_is_read_and_written_as_the_same_bytes(rt: HostRuntime) {
+    assert!(rt; is_read_as(rt.alloc(), &BYTES, &header()));
+    assert!(rt; is_read_to::<Header>(rt.alloc(), &BYTES, 12));
+    assert!(rt; is_written_back::<Header>(rt.alloc(), &BYTES));
+    assert!(rt; is_filled_as(&header(), &BYTES));
 }
 
 #[test]
 fn eleven_bytes_are_no_header(rt: HostRuntime) {
     for len in 0..12usize {
-        let short = Header::read(&mut BinDecoder::new(rt.alloc(), &BYTES[..len]));
-        assert!(rt;
-            matches!(&short, Err(DecodeError::InsufficientBytes)),
-            "{len}"
-        );
+        assert!(rt; is_cut::<Header>(rt.alloc(), &BYTES[..len]), "{len}");
     }
 }
 
-// A header with these two bytes of codes and flags has this text, and is written as the same bytes.
-fn has_text(rt: &(impl Abort + AllocGlobal), high: u8, low: u8, text: &str) -> Result<(), Fail> {
+// Whether the header's bytes are these.
+fn is_filled_as(header: &Header, bytes: &[u8; 12]) -> bool {
+    header.to_bytes().as_slice() == bytes.as_slice()
+}
+
+// Whether a header with these two bytes of codes and flags has this text, and is written as the same bytes.
+fn is_shown_as(alloc: Global, high: u8, low: u8, text: &str) -> bool {
     let bytes = [0, 0, high, low, 0, 0, 0, 0, 0, 0, 0, 0];
-    let read = Header::read(&mut BinDecoder::new(rt.alloc(), &bytes))?;
-    let shown = read.metadata.to_string(rt.alloc())?;
-    assert_eq!(rt; shown.as_str(), text);
-    assert_eq!(rt; read.to_bytes().as_slice(), bytes.as_slice(), "{text}");
-    Ok(())
+    let found: Result<Header, DecodeError> = read(alloc, &bytes);
+    match &found {
+        Ok(found) => is_filled_as(found, &bytes) && has_text(alloc, &found.metadata, text),
+        Err(_) => false,
+    }
 }
 
 #[test]
-fn each_flag_has_its_bit(rt: HostRuntime) -> Result<(), Fail> {
-    has_text(&rt, 0x80, 0x00, "0:RESPONSE::NoError:QUERY")?;
-    has_text(&rt, 0x04, 0x00, "0:QUERY:AA:NoError:QUERY")?;
-    has_text(&rt, 0x02, 0x00, "0:QUERY:TC:NoError:QUERY")?;
-    has_text(&rt, 0x01, 0x00, "0:QUERY:RD:NoError:QUERY")?;
-    has_text(&rt, 0x00, 0x80, "0:QUERY:RA:NoError:QUERY")?;
-    has_text(&rt, 0x00, 0x20, "0:QUERY:AD:NoError:QUERY")?;
-    has_text(&rt, 0x00, 0x10, "0:QUERY:CD:NoError:QUERY")?;
-    has_text(&rt, 0x10, 0x00, "0:QUERY::NoError:STATUS")?;
-    has_text(&rt, 0x20, 0x00, "0:QUERY::NoError:NOTIFY")?;
-    has_text(&rt, 0x00, 0x05, "0:QUERY::Refused:QUERY")?;
-    Ok(())
+fn each_flag_has_its_bit(rt: HostRuntime) {
+    for (high, low, text) in [
+        (0x80, 0x00, "0:RESPONSE::NoError:QUERY"),
+        (0x04, 0x00, "0:QUERY:AA:NoError:QUERY"),
+        (0x02, 0x00, "0:QUERY:TC:NoError:QUERY"),
+        (0x01, 0x00, "0:QUERY:RD:NoError:QUERY"),
+        (0x00, 0x80, "0:QUERY:RA:NoError:QUERY"),
+        (0x00, 0x20, "0:QUERY:AD:NoError:QUERY"),
+        (0x00, 0x10, "0:QUERY:CD:NoError:QUERY"),
+        (0x10, 0x00, "0:QUERY::NoError:STATUS"),
+        (0x20, 0x00, "0:QUERY::NoError:NOTIFY"),
+        (0x00, 0x05, "0:QUERY::Refused:QUERY"),
+    ] {
+        assert!(rt; is_shown_as(rt.alloc(), high, low, text), "{text}");
+    }
 }
 
 #[test]
-fn the_reserved_bit_is_dropped_and_large_codes_are_cut(rt: HostRuntime) -> Result<(), Fail> {
+fn the_reserved_bit_is_dropped(rt: HostRuntime) -> Result<(), Fail> {
     let bytes = [0, 0, 0, 0x40, 0, 0, 0, 0, 0, 0, 0, 0];
-    let read = Header::read(&mut BinDecoder::new(rt.alloc(), &bytes))?;
-    assert_eq!(rt; read.to_bytes().as_slice(), [0; 12].as_slice());
-    let mut large = read;
-    large.metadata.op_code = OpCode::Unknown(16);
-    large.metadata.response_code = ResponseCode::BADVERS;
-    let written = [0, 0, 0x80, 0, 0, 0, 0, 0, 0, 0, 0, 0];
-    assert_eq!(rt; large.to_bytes().as_slice(), written.as_slice());
+    let found: Header = read(rt.alloc(), &bytes)?;
+    assert!(rt; is_filled_as(&found, &[0; 12]));
     Ok(())
+}
+
+#[test]
+fn large_codes_are_cut(rt: HostRuntime) {
+    let mut metadata = Metadata::new(0, MessageType::Query, OpCode::Unknown(16));
+    metadata.response_code = ResponseCode::BADVERS;
+    let large = Header {
+        metadata,
+        counts: HeaderCounts::default(),
+    };
+    let written = [0, 0, 0x80, 0, 0, 0, 0, 0, 0, 0, 0, 0];
+    assert!(rt; is_filled_as(&large, &written));
+}
+
+// Whether no header is written behind thirteen bytes of twenty-four, and none of its bytes.
+fn is_refused(encoder: &mut BinEncoder<'_>) -> bool {
+    encoder.set_max_size(24);
+    let past = header().emit(encoder);
+    matches!(&past, Err(ProtoError::MaxBufferSizeExceeded)) && encoder.len() == 13
+}
+
+// Writes a header into its room, behind the byte that follows it.
+fn fill_in(encoder: &mut BinEncoder<'_>) -> Result<(), Fail> {
+    let place = encoder.place::<Header>()?;
+    encoder.emit(0xFF)?;
+    encoder.replace(place, &header());
+    Ok(())
+}
+
+// Whether a header that is filled in stands in its room, and one behind it is refused.
+fn is_filled_in(alloc: Global) -> Result<bool, Fail> {
+    let mut bytes = Vec::new(alloc);
+    let is_refused = {
+        let mut encoder = BinEncoder::new(&mut bytes);
+        fill_in(&mut encoder)?;
+        is_refused(&mut encoder)
+    };
+    Ok(is_refused && bytes.starts_with(&BYTES))
 }
 
 #[test]
 fn a_header_fills_its_room_or_is_refused(rt: HostRuntime) -> Result<(), Fail> {
-    let mut bytes = Vec::new(rt.alloc());
-    {
-        let mut encoder = BinEncoder::new(&mut bytes);
-        let place = encoder.place::<Header>()?;
-        encoder.emit(0xFF)?;
-        encoder.replace(place, &header());
-        encoder.set_max_size(24);
-        let past = header().emit(&mut encoder);
-        assert!(rt; matches!(&past, Err(ProtoError::MaxBufferSizeExceeded)));
-        assert_eq!(rt; encoder.len(), 13);
-    }
-    assert_eq!(rt; &bytes[..12], BYTES.as_slice());
-    assert_eq!(rt; Header::LEN, 12);
+    assert!(rt; is_filled_in(rt.alloc())?);
+    assert!(rt; Header::LEN == 12);
     Ok(())
 }

@@ -4,34 +4,42 @@ mod written_rows;
 
 use super::{EmitAndCount, Message, emit_message_parts};
 use crate::header::MessageType;
-use crate::{Edns, Metadata, OpCode, Query, ResponseCode};
-use base::{BinEncoder, Name, ProtoError, RecordType};
+use crate::tests::values::ask;
+use crate::{Edns, Metadata, OpCode, ResponseCode};
+use base::{BinEncoder, ProtoError};
+use std::alloc::Global;
 use std::test::Fail;
 
 // A query with EDNS: id 0x1234 and RD, one question, and an OPT record behind it.
-#[test]
-fn a_query_is_written(rt: HostRuntime) -> Result<(), Fail> {
-    let alloc = rt.alloc();
+fn query(alloc: Global) -> Result<Message, Fail> {
     let mut message = Message::query(alloc, 0x1234);
     message.metadata.recursion_desired = true;
     message.metadata.response_code = ResponseCode::BADVERS;
-    let name = Name::parse(alloc, "a.b.", None)?;
-    message.add_query(Query::query(name, RecordType::A))?;
+    ask(alloc, &mut message, "a.b.")?;
     message.set_edns(Edns::new(alloc));
+    Ok(message)
+}
+
+// The bytes of that query.
+fn written(alloc: Global) -> Result<Vec<u8>, Fail> {
+    let message = query(alloc)?;
     let mut bytes = Vec::new(alloc);
-    {
-        let mut encoder = BinEncoder::new(&mut bytes);
-        message.emit(&mut encoder)?;
-    }
-    assert_eq!(rt;
-        bytes.as_slice(),
-        b"\x12\x34\x01\x00\x00\x01\x00\x00\x00\x00\x00\x01\x01a\x01b\x00\x00\x01\x00\x01\x00\x00\x29\x02\x00\x01\x00\x00\x00\x00\x00".as_slice()
+    message.emit(&mut BinEncoder::new(&mut bytes))?;
+    Ok(bytes)
+}
+
+#[test]
+fn a_query_is_written(rt: HostRuntime) -> Result<(), Fail> {
+    let bytes = written(rt.alloc())?;
+    assert!(rt;
+        bytes.as_slice()
+            == b"\x12\x34\x01\x00\x00\x01\x00\x00\x00\x00\x00\x01\x01a\x01b\x00\x00\x01\x00\x01\x00\x00\x29\x02\x00\x01\x00\x00\x00\x00\x00".as_slice()
     );
     Ok(())
 }
 
 /// A part that answers as it is told, and writes nothing.
-#[derive(Drop)]
+#[derive(Clone, Copy, Drop)]
 struct Careless {
     count: usize,
     is_cut: bool,
@@ -53,23 +61,20 @@ impl EmitAndCount for Careless {
     }
 }
 
-// The number of the refusal of a message of these parts, and of EDNS if `edns` says so; 0 for none.
-fn refusal(rt: &HostRuntime, parts: [Careless; 4], edns: bool) -> u8 {
-    let alloc = rt.alloc();
+// The number of the refusal of a message of these parts and this EDNS; 0 for none.
+fn refusal(alloc: Global, parts: [Careless; 4], edns: Option<&Edns>) -> u8 {
     let metadata = Metadata::new(1, MessageType::Query, OpCode::Query);
-    let edns = if edns { Some(Edns::new(alloc)) } else { None };
     let [mut queries, mut answers, mut authorities, mut additionals] = parts;
     let mut bytes = Vec::new(alloc);
-    let mut encoder = BinEncoder::new(&mut bytes);
     let answer = emit_message_parts(
         &metadata,
         &mut queries,
         &mut answers,
         &mut authorities,
         &mut additionals,
-        edns.as_ref(),
+        edns,
         None,
-        &mut encoder,
+        &mut BinEncoder::new(&mut bytes),
     );
     match answer {
         Ok(_) => 0,
@@ -83,22 +88,25 @@ fn told(count: usize, is_cut: bool) -> Careless {
 
 #[test]
 fn counts_have_two_bytes(rt: HostRuntime) {
-    let none = || told(0, false);
+    let none = told(0, false);
     let over = told(65_536, false);
-    assert_eq!(rt; refusal(&rt, [none(), over, none(), none()], false), 14);
-    let over = told(65_536, true);
-    assert_eq!(rt; refusal(&rt, [none(), none(), over, none()], false), 14);
-    let over = told(65_536, false);
-    assert_eq!(rt; refusal(&rt, [over, none(), none(), none()], false), 15);
+    let cut_over = told(65_536, true);
     let cut = told(7, true);
-    assert_eq!(rt; refusal(&rt, [cut, none(), none(), none()], false), 2);
+    for (parts, number) in [
+        ([none, over, none, none], 14),
+        ([none, none, cut_over, none], 14),
+        ([over, none, none, none], 15),
+        ([cut, none, none, none], 2),
+    ] {
+        assert!(rt; refusal(rt.alloc(), parts, None) == number, "{number}");
+    }
 }
 
 #[test]
 fn edns_is_counted(rt: HostRuntime) {
-    let none = || told(0, false);
-    let full = told(65_535, false);
-    assert_eq!(rt; refusal(&rt, [none(), none(), none(), full], true), 14);
-    let full = told(65_535, false);
-    assert_eq!(rt; refusal(&rt, [none(), none(), none(), full], false), 0);
+    let none = told(0, false);
+    let parts = [none, none, none, told(65_535, false)];
+    let edns = Edns::new(rt.alloc());
+    assert!(rt; refusal(rt.alloc(), parts, Some(&edns)) == 14);
+    assert!(rt; refusal(rt.alloc(), parts, None) == 0);
 }

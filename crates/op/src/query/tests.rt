@@ -1,9 +1,10 @@
 use super::Query;
 use crate::LowerQuery;
-use base::{
-    BinDecodable, BinDecoder, BinEncodable, BinEncoder, DNSClass, DecodeError, Name, ProtoError,
-    RecordType,
+use crate::tests::forms::{
+    has_text, is_cut, is_read_as, is_read_to, is_read_with_text, is_written_as, is_written_back,
+    read,
 };
+use base::{BinDecodable, BinDecoder, DNSClass, DecodeError, Name, RecordType};
 use std::alloc::Global;
 use std::test::Fail;
 
@@ -12,78 +13,102 @@ const WWW: [u8; 21] = [
     0x00, 0x00, 0x1C, 0x00, 0x01,
 ];
 
-fn written<E: BinEncodable>(alloc: Global, value: &E) -> Result<Vec<u8>, ProtoError> {
-    let mut bytes = Vec::new(alloc);
-    {
-        let mut encoder = BinEncoder::new(&mut bytes);
-        value.emit(&mut encoder)?;
-    }
-    Ok(bytes)
+fn www(alloc: Global) -> Result<Query, Fail> {
+    let name = Name::parse(alloc, "WWW.example.com.", None)?;
+    Ok(Query::query(name, RecordType::AAAA))
 }
 
 #[test]
 fn a_question_is_written_and_read_back(rt: HostRuntime) -> Result<(), Fail> {
-    let name = Name::parse(rt.alloc(), "WWW.example.com.", None)?;
-    let query = Query::query(name, RecordType::AAAA);
-    assert_eq!(rt; written(rt.alloc(), &query)?.as_slice(), WWW.as_slice());
-    let mut decoder = BinDecoder::new(rt.alloc(), &WWW);
-    let read = Query::read(&mut decoder)?;
-    assert_eq!(rt; decoder.index(), 21);
-    assert_eq!(rt; read, query);
-    let text = read.to_string(rt.alloc())?;
-    assert_eq!(rt;
-        text.as_str(),
-        "WWW.example.com. IN AAAA; mdns_unicast_response: false"
-    );
+    let query = www(rt.alloc())?;
+    assert!(rt; is_written_as(rt.alloc(), &query, &WWW));
+    assert!(rt; is_read_as(rt.alloc(), &WWW, &query));
     Ok(())
+}
+
+#[test]
+fn a_question_has_its_end_and_its_text(rt: HostRuntime) {
+    let text = "WWW.example.com. IN AAAA; mdns_unicast_response: false";
+    assert!(rt; is_read_with_text::<Query>(rt.alloc(), &WWW, text));
+    assert!(rt; is_read_to::<Query>(rt.alloc(), &WWW, 21));
+}
+
+#[test]
+fn a_lower_question_is_written_as_it_was_asked(rt: HostRuntime) {
+    let text = "name: www.example.com. type: AAAA class: IN";
+    assert!(rt; is_read_with_text::<LowerQuery>(rt.alloc(), &WWW, text));
+    assert!(rt; is_written_back::<LowerQuery>(rt.alloc(), &WWW));
+}
+
+// Whether a lower question asks for this type in this class.
+fn asks_for(question: &LowerQuery, query_type: RecordType, class: DNSClass) -> bool {
+    question.query_type() == query_type && question.query_class() == class
+}
+
+// Whether a lower question has this name, and was asked with that one.
+fn has_names(alloc: Global, question: &LowerQuery, lower: &str, asked: &str) -> bool {
+    has_text(alloc, question.name(), lower) && has_text(alloc, question.original().name(), asked)
 }
 
 #[test]
 fn a_lower_question_keeps_the_one_that_was_asked(rt: HostRuntime) -> Result<(), Fail> {
-    let read = LowerQuery::read(&mut BinDecoder::new(rt.alloc(), &WWW))?;
-    let text = read.to_string(rt.alloc())?;
-    assert_eq!(rt;
-        text.as_str(),
-        "name: www.example.com. type: AAAA class: IN"
-    );
-    assert_eq!(rt; written(rt.alloc(), &read)?.as_slice(), WWW.as_slice());
-    assert_eq!(rt; read.query_type(), RecordType::AAAA);
-    assert_eq!(rt; read.query_class(), DNSClass::IN);
-    let lower = read.name().to_string(rt.alloc())?;
-    assert_eq!(rt; lower.as_str(), "www.example.com.");
-    let asked = read.original().name().to_string(rt.alloc())?;
-    assert_eq!(rt; asked.as_str(), "WWW.example.com.");
-    let again = LowerQuery::try_from(read.original().clone()?)?;
-    assert_eq!(rt; again, read);
+    let read: LowerQuery = read(rt.alloc(), &WWW)?;
+    assert!(rt; asks_for(&read, RecordType::AAAA, DNSClass::IN));
+    assert!(rt; has_names(rt.alloc(), &read, "www.example.com.", "WWW.example.com."));
+    Ok(())
+}
+
+// What is made of that question.
+fn lowered(alloc: Global) -> Result<LowerQuery, Fail> {
+    let question: Query = read(alloc, &WWW)?;
+    Ok(LowerQuery::try_from(question)?)
+}
+
+#[test]
+fn a_lower_question_is_made_of_a_question(rt: HostRuntime) -> Result<(), Fail> {
+    let made = lowered(rt.alloc())?;
+    assert!(rt; is_read_as(rt.alloc(), &WWW, &made));
+    Ok(())
+}
+
+// Whether the two are different questions.
+fn is_other(query: &Query, other: Query) -> bool {
+    *query != other
+}
+
+const UNICAST: [u8; 5] = [0x00, 0x00, 0x01, 0x80, 0x01];
+
+#[test]
+fn the_top_bit_asks_for_unicast(rt: HostRuntime) {
+    let mut query = Query::new(rt.alloc());
+    query.set_mdns_unicast_response(true);
+    assert!(rt; is_written_as(rt.alloc(), &query, &UNICAST));
+    assert!(rt; is_read_as(rt.alloc(), &UNICAST, &query));
+}
+
+#[test]
+fn the_top_bit_is_none_of_the_class(rt: HostRuntime) -> Result<(), Fail> {
+    let read: Query = read(rt.alloc(), &UNICAST)?;
+    assert!(rt; read.query_class() == DNSClass::IN);
+    assert!(rt; read.mdns_unicast_response());
+    assert!(rt; read.name().is_root());
     Ok(())
 }
 
 #[test]
-fn the_top_bit_asks_for_unicast(rt: HostRuntime) -> Result<(), Fail> {
-    let mut query = Query::new(rt.alloc());
-    query.set_mdns_unicast_response(true);
-    let bytes = [0x00, 0x00, 0x01, 0x80, 0x01];
-    assert_eq!(rt; written(rt.alloc(), &query)?.as_slice(), bytes.as_slice());
-    let read = Query::read(&mut BinDecoder::new(rt.alloc(), &bytes))?;
-    assert_eq!(rt; read.query_class(), DNSClass::IN);
-    assert!(rt; read.mdns_unicast_response());
-    assert!(rt; read.name().is_root());
-    assert_eq!(rt; read, query);
+fn a_plain_question_has_no_top_bit(rt: HostRuntime) -> Result<(), Fail> {
     let plain = Query::new(rt.alloc());
-    assert_eq!(rt;
-        written(rt.alloc(), &plain)?.as_slice(),
-        [0, 0, 1, 0, 1].as_slice()
-    );
-    assert!(rt; read != plain);
+    assert!(rt; is_written_as(rt.alloc(), &plain, &[0, 0, 1, 0, 1]));
+    assert!(rt; is_other(&plain, read(rt.alloc(), &UNICAST)?));
     Ok(())
 }
 
 #[test]
 fn a_question_of_type_opt_is_read_as_any_other(rt: HostRuntime) -> Result<(), Fail> {
     let bytes = [0x01, 0x61, 0x00, 0x00, 0x29, 0x00, 0x64];
-    let read = Query::read(&mut BinDecoder::new(rt.alloc(), &bytes))?;
-    assert_eq!(rt; read.query_type(), RecordType::OPT);
-    assert_eq!(rt; read.query_class(), DNSClass::Unknown(100));
+    let read: Query = read(rt.alloc(), &bytes)?;
+    assert!(rt; read.query_type() == RecordType::OPT);
+    assert!(rt; read.query_class() == DNSClass::Unknown(100));
     Ok(())
 }
 
@@ -91,26 +116,47 @@ fn a_question_of_type_opt_is_read_as_any_other(rt: HostRuntime) -> Result<(), Fa
 fn faults_come_in_order(rt: HostRuntime) {
     let name = Query::read(&mut BinDecoder::new(rt.alloc(), &[0x40, 0x00]));
     assert!(rt; matches!(&name, Err(DecodeError::BadName)));
-    let owner = Query::read(&mut BinDecoder::new(rt.alloc(), &[0x03, 0x77, 0x77]));
-    assert!(rt; matches!(&owner, Err(DecodeError::InsufficientBytes)));
-    let class = Query::read(&mut BinDecoder::new(rt.alloc(), &[0x00, 0x00, 0x01, 0x00]));
-    assert!(rt; matches!(&class, Err(DecodeError::InsufficientBytes)));
+    assert!(rt; is_cut::<Query>(rt.alloc(), &[0x03, 0x77, 0x77]));
+    assert!(rt; is_cut::<Query>(rt.alloc(), &[0x00, 0x00, 0x01, 0x00]));
+}
+
+// The question that the setters make, in this class.
+fn set(alloc: Global, class: DNSClass) -> Result<Query, Fail> {
+    let name = Name::parse(alloc, "a.", None)?;
+    let mut query = Query::new(alloc);
+    query
+        .set_name(name)
+        .set_query_type(RecordType::MX)
+        .set_query_class(DNSClass::CH)
+        .set_query_class(class);
+    Ok(query)
+}
+
+// The question for `A.` in IN.
+fn other(alloc: Global) -> Result<Query, Fail> {
+    let name = Name::parse(alloc, "A.", None)?;
+    Ok(Query::query(name, RecordType::MX))
 }
 
 #[test]
 fn setters_change_their_field(rt: HostRuntime) -> Result<(), Fail> {
-    let mut query = Query::new(rt.alloc());
-    let name = Name::parse(rt.alloc(), "a.", None)?;
-    query
-        .set_name(name)
-        .set_query_type(RecordType::MX)
-        .set_query_class(DNSClass::CH);
-    let text = query.to_string(rt.alloc())?;
-    assert_eq!(rt; text.as_str(), "a. CH MX; mdns_unicast_response: false");
-    let other = Query::query(Name::parse(rt.alloc(), "A.", None)?, RecordType::MX);
-    assert!(rt; query != other);
-    query.set_query_class(DNSClass::IN);
-    assert_eq!(rt; query, other);
-    assert_eq!(rt; query.clone()?, other);
+    let query = set(rt.alloc(), DNSClass::CH)?;
+    let text = "a. CH MX; mdns_unicast_response: false";
+    assert!(rt; has_text(rt.alloc(), &query, text));
+    assert!(rt; is_other(&query, other(rt.alloc())?));
+    Ok(())
+}
+
+// Whether a question and its copy are the question for `A.` in IN.
+fn is_copied(query: &Query, other: &Query) -> Result<bool, Fail> {
+    let copy = query.clone()?;
+    Ok(*query == *other && copy == *other)
+}
+
+#[test]
+fn the_class_of_a_question_tells_it_from_others(rt: HostRuntime) -> Result<(), Fail> {
+    let query = set(rt.alloc(), DNSClass::IN)?;
+    let other = other(rt.alloc())?;
+    assert!(rt; is_copied(&query, &other)?);
     Ok(())
 }

@@ -1,9 +1,8 @@
+use crate::tests::forms::has_text;
+use crate::tests::values::{address, answer, ask, signature};
 use crate::{Edns, Message, MessageType, OpCode, Query, ResponseCode};
-use base::{BinDecodable, BinDecoder, DNSClass, DecodeError, Name, RecordType};
-use base_data::{A, TSIG};
-use rr::Record;
-use std::alloc::Global;
-use std::net::Ipv4Addr;
+use base::{BinDecoder, DecodeError, RecordType};
+use std::alloc::{AllocError, Global};
 use std::test::Fail;
 
 const WWW: [u8; 49] = [
@@ -22,66 +21,152 @@ const SIGN: [u8; 12] = [
     0x00, 0x00, 0xFA, 0x00, 0xFF, 0x00, 0x00, 0x00, 0x00, 0x00, 0x01, 0xAA,
 ];
 
-#[test]
-fn every_front_of_a_message_is_refused(rt: HostRuntime) {
-    for len in 0..49 {
-        let refused = Message::from_vec(rt.alloc(), &WWW[..len]);
-        let is_cut = matches!(&refused, Err(DecodeError::InsufficientBytes));
-        let is_short = matches!(
-            &refused,
-            Err(DecodeError::IncorrectRDataLengthRead { len: 4, .. })
-        );
-        assert_eq!(rt; is_cut, len < 45, "{len} bytes");
-        assert_eq!(rt; is_short, len >= 45, "{len} bytes");
+// Whether the bytes end within a message.
+fn is_cut(alloc: Global, bytes: &[u8]) -> bool {
+    let refused = Message::from_vec(alloc, bytes);
+    matches!(&refused, Err(DecodeError::InsufficientBytes))
+}
+
+// The bytes that are left and the length of the data, where a message is refused for that length.
+fn refused_len(alloc: Global, bytes: &[u8]) -> Option<(usize, usize)> {
+    let refused = Message::from_vec(alloc, bytes);
+    match &refused {
+        Err(DecodeError::IncorrectRDataLengthRead { read, len }) => Some((*read, *len)),
+        _ => None,
+    }
+}
+
+// Whether four bytes of data are refused for their length.
+fn is_short(alloc: Global, bytes: &[u8]) -> bool {
+    match refused_len(alloc, bytes) {
+        Some((_, len)) => len == 4,
+        None => false,
     }
 }
 
 #[test]
-fn a_message_is_read_at_its_place(rt: HostRuntime) -> Result<(), Fail> {
-    let mut decoder = BinDecoder::new(rt.alloc(), &WWW);
-    let message = Message::read(&mut decoder)?;
-    assert_eq!(rt; decoder.index(), 49);
-    assert_eq!(rt; message.answers.len(), 1);
-    assert_eq!(rt; message.clone()?, message);
-    let mut behind = BinDecoder::new(rt.alloc(), &WWW[12..]);
-    let queries = Message::read_queries(&mut behind, 1)?;
-    assert_eq!(rt; behind.index(), 21);
-    assert_eq!(rt; queries, message.queries);
+fn every_front_of_a_message_is_refused(rt: HostRuntime) {
+    for len in 0..49 {
+        assert!(rt;
+            is_cut(rt.alloc(), &WWW[..len]) == (len < 45),
+            "{len} bytes"
+        );
+        assert!(rt;
+            is_short(rt.alloc(), &WWW[..len]) == (len >= 45),
+            "{len} bytes"
+        );
+    }
+}
+
+fn www(alloc: Global) -> Result<Message, DecodeError> {
+    Message::read(&mut BinDecoder::new(alloc, &WWW))
+}
+
+// Whether a message ends there.
+fn is_read_to(alloc: Global, bytes: &[u8], end: usize) -> bool {
+    let mut decoder = BinDecoder::new(alloc, bytes);
+    let is_read = Message::read(&mut decoder).is_ok();
+    is_read && decoder.index() == end
+}
+
+// Whether a question ends there.
+fn is_asked_to(alloc: Global, bytes: &[u8], end: usize) -> bool {
+    let mut decoder = BinDecoder::new(alloc, bytes);
+    let is_read = Message::read_queries(&mut decoder, 1).is_ok();
+    is_read && decoder.index() == end
+}
+
+#[test]
+fn a_message_is_read_at_its_place(rt: HostRuntime) {
+    assert!(rt; is_read_to(rt.alloc(), &WWW, 49));
+    assert!(rt; is_asked_to(rt.alloc(), &WWW[12..], 21));
+}
+
+// Whether a copy is the same message.
+fn is_copied(message: &Message) -> Result<bool, AllocError> {
+    let copy = message.clone()?;
+    Ok(copy == *message)
+}
+
+// Whether the bytes begin with this question alone.
+fn is_asked(alloc: Global, bytes: &[u8], queries: &Vec<Query>) -> bool {
+    let found = Message::read_queries(&mut BinDecoder::new(alloc, bytes), 1);
+    match &found {
+        Ok(found) => *found == *queries,
+        Err(_) => false,
+    }
+}
+
+#[test]
+fn the_parts_of_a_message(rt: HostRuntime) -> Result<(), Fail> {
+    let message = www(rt.alloc())?;
+    assert!(rt; message.answers.len() == 1);
+    assert!(rt; is_copied(&message)?);
+    assert!(rt; is_asked(rt.alloc(), &WWW[12..], &message.queries));
     Ok(())
+}
+
+// Whether so many records are refused before the additionals, since one of this type is among them.
+fn is_misplaced(alloc: Global, bytes: &[u8], count: usize, record_type: RecordType) -> bool {
+    let mut decoder = BinDecoder::new(alloc, bytes);
+    let refused = Message::read_records(&mut decoder, count, false, OpCode::Query);
+    match &refused {
+        Err(DecodeError::RecordNotInAdditionalSection(found)) => *found == record_type,
+        _ => false,
+    }
 }
 
 #[test]
 fn records_that_stand_among_additionals_alone(rt: HostRuntime) {
-    let mut decoder = BinDecoder::new(rt.alloc(), &OPT_AND_A);
-    let opt = Message::read_records(&mut decoder, 2, false, OpCode::Query);
-    assert!(rt;
-        matches!(
-            &opt,
-            Err(DecodeError::RecordNotInAdditionalSection(RecordType::OPT))
-        )
-    );
-    let mut decoder = BinDecoder::new(rt.alloc(), &SIGN);
-    let signature = Message::read_records(&mut decoder, 1, false, OpCode::Query);
-    assert!(rt;
-        matches!(
-            &signature,
-            Err(DecodeError::RecordNotInAdditionalSection(RecordType::TSIG))
-        )
-    );
+    assert!(rt; is_misplaced(rt.alloc(), &OPT_AND_A, 2, RecordType::OPT));
+    assert!(rt; is_misplaced(rt.alloc(), &SIGN, 1, RecordType::TSIG));
+}
+
+/// What is read of additional records.
+#[derive(Drop)]
+struct Additionals {
+    records: usize,
+    edns: Option<Edns>,
+    is_signed: bool,
+}
+
+// What is read of so many additional records.
+fn read_additionals(alloc: Global, bytes: &[u8], count: usize) -> Result<Additionals, Fail> {
+    let mut decoder = BinDecoder::new(alloc, bytes);
+    let (records, edns, signature) = Message::read_records(
+        &mut decoder,
+        count,
+        true,
+        OpCode::Query,
+    )?;
+    Ok(Additionals {
+        records: records.len(),
+        edns,
+        is_signed: signature.is_some(),
+    })
+}
+
+// Whether this is EDNS that nobody has set.
+fn is_new(alloc: Global, edns: &Option<Edns>) -> bool {
+    let new = Some(Edns::new(alloc));
+    *edns == new
 }
 
 #[test]
-fn edns_and_a_signature_stand_by_themselves(rt: HostRuntime) -> Result<(), Fail> {
-    let mut decoder = BinDecoder::new(rt.alloc(), &OPT_AND_A);
-    let (records, edns, signature) = Message::read_records(&mut decoder, 2, true, OpCode::Query)?;
-    assert_eq!(rt; records.len(), 1);
-    assert_eq!(rt; edns, Some(Edns::new(rt.alloc())));
-    assert!(rt; signature.is_none());
-    let mut decoder = BinDecoder::new(rt.alloc(), &SIGN);
-    let (records, edns, signature) = Message::read_records(&mut decoder, 1, true, OpCode::Query)?;
-    assert_eq!(rt; records.len(), 0);
-    assert!(rt; edns.is_none());
-    assert!(rt; signature.is_some());
+fn edns_stands_by_itself(rt: HostRuntime) -> Result<(), Fail> {
+    let read = read_additionals(rt.alloc(), &OPT_AND_A, 2)?;
+    assert!(rt; read.records == 1);
+    assert!(rt; is_new(rt.alloc(), &read.edns));
+    assert!(rt; !read.is_signed);
+    Ok(())
+}
+
+#[test]
+fn a_signature_stands_by_itself(rt: HostRuntime) -> Result<(), Fail> {
+    let read = read_additionals(rt.alloc(), &SIGN, 1)?;
+    assert!(rt; read.records == 0);
+    assert!(rt; read.edns.is_none());
+    assert!(rt; read.is_signed);
     Ok(())
 }
 
@@ -93,64 +178,64 @@ fn an_exchange_says_what_is_left(rt: HostRuntime) {
         0x01, 0x00, 0x00, 0x01, 0x2C, 0x00, 0x0A, 0x00, 0x0A, 0x04, 0x6D, 0x61, 0x69, 0x6C, 0xC0,
         0x0C,
     ];
-    let refused = Message::from_vec(rt.alloc(), &bytes);
-    assert!(rt;
-        matches!(
-            &refused,
-            Err(DecodeError::IncorrectRDataLengthRead { read: 9, len: 10 })
-        )
-    );
+    assert!(rt; refused_len(rt.alloc(), &bytes) == Some((9, 10)));
 }
 
-// `NAME` 60 A 192.0.2.1.
-fn address(alloc: Global, name: &str) -> Result<Record, Fail> {
-    let owner = Name::parse(alloc, name, None)?;
-    let rdata = A::new(Ipv4Addr::new(192, 0, 2, 1));
-    Ok(Record::from_rdata(owner, 60, rdata).into_record_of_rdata())
+// A query with a question, an answer and EDNS.
+fn query(alloc: Global) -> Result<Message, Fail> {
+    let mut message = Message::query(alloc, 10);
+    ask(alloc, &mut message, "a.")?;
+    answer(alloc, &mut message, "b.", 60)?;
+    message.set_edns(Edns::new(alloc));
+    Ok(message)
 }
 
 #[test]
 fn a_query_is_put_together(rt: HostRuntime) -> Result<(), Fail> {
-    let mut message = Message::query(rt.alloc(), 10);
-    message.add_query(Query::query(Name::parse(rt.alloc(), "a.", None)?, RecordType::A))?;
-    message.add_answer(address(rt.alloc(), "b.")?)?;
-    message.set_edns(Edns::new(rt.alloc()));
-    let text = message.to_string(rt.alloc())?;
-    assert_eq!(rt;
-        text.as_str(),
-        "; header 10:QUERY::NoError:QUERY\n; edns version: 0 dnssec_ok: false z_flags: 0 max_payload: 512 opts: 0\n; query\n;; a. IN A; mdns_unicast_response: false\n"
-    );
+    let message = query(rt.alloc())?;
+    let text =
+        "; header 10:QUERY::NoError:QUERY\n; edns version: 0 dnssec_ok: false z_flags: 0 max_payload: 512 opts: 0\n; query\n;; a. IN A; mdns_unicast_response: false\n";
+    assert!(rt; has_text(rt.alloc(), &message, text));
     Ok(())
+}
+
+// Puts records into each section.
+fn fill(alloc: Global, message: &mut Message) -> Result<(), Fail> {
+    answer(alloc, message, "a.", 60)?;
+    answer(alloc, message, "b.", 60)?;
+    message.add_authority(address(alloc, "c.", 60)?)?;
+    Ok(message.add_additional(address(alloc, "d.", 60)?)?)
+}
+
+// A refusal with records in each of its sections.
+fn refusal(alloc: Global) -> Result<Message, Fail> {
+    let mut message = Message::error_msg(alloc, 7, OpCode::Query, ResponseCode::NXDomain);
+    fill(alloc, &mut message)?;
+    Ok(message)
+}
+
+fn is_no_empty_response(alloc: Global, message: &Message) -> bool {
+    let empty = Message::response(alloc, 7, OpCode::Query);
+    *message != empty
 }
 
 #[test]
 fn a_response_is_put_together(rt: HostRuntime) -> Result<(), Fail> {
-    let mut message = Message::error_msg(rt.alloc(), 7, OpCode::Query, ResponseCode::NXDomain);
-    message.add_answer(address(rt.alloc(), "a.")?)?;
-    message.add_answer(address(rt.alloc(), "b.")?)?;
-    message.add_authority(address(rt.alloc(), "c.")?)?;
-    message.add_additional(address(rt.alloc(), "d.")?)?;
-    let text = message.to_string(rt.alloc())?;
-    assert_eq!(rt;
-        text.as_str(),
-        "; header 7:RESPONSE::NXDomain:QUERY\n; query\n; answers 2\na. 60 IN A 192.0.2.1\nb. 60 IN A 192.0.2.1\n; authorities 1\nc. 60 IN A 192.0.2.1\n; additionals 1\nd. 60 IN A 192.0.2.1\n"
-    );
-    assert_ne!(rt; message, Message::response(rt.alloc(), 7, OpCode::Query));
+    let message = refusal(rt.alloc())?;
+    let text =
+        "; header 7:RESPONSE::NXDomain:QUERY\n; query\n; answers 2\na. 60 IN A 192.0.2.1\nb. 60 IN A 192.0.2.1\n; authorities 1\nc. 60 IN A 192.0.2.1\n; additionals 1\nd. 60 IN A 192.0.2.1\n";
+    assert!(rt; has_text(rt.alloc(), &message, text));
+    assert!(rt; is_no_empty_response(rt.alloc(), &message));
     Ok(())
 }
 
 #[test]
 fn a_signature_is_no_additional_record(rt: HostRuntime) -> Result<(), Fail> {
     let mut message = Message::new(rt.alloc(), 7, MessageType::Response, OpCode::Notify);
-    let rdata = TSIG::new(vec![in rt.alloc(); 0xAA]?);
-    let mut signature = Record::from_rdata(Name::root(rt.alloc()), 0, rdata);
-    signature.dns_class = DNSClass::ANY;
-    message.set_signature(Box::new(rt.alloc(), signature)?);
+    message.set_signature(signature(rt.alloc())?);
     assert!(rt; message.signature.is_some());
-    let text = message.to_string(rt.alloc())?;
-    assert_eq!(rt;
-        text.as_str(),
-        "; header 7:RESPONSE::NoError:NOTIFY\n; query\n; answers 0\n; authorities 0\n; additionals 0\n"
-    );
+    let text =
+        "; header 7:RESPONSE::NoError:NOTIFY\n; query\n; answers 0\n; authorities 0\n; additionals 0\n";
+    assert!(rt; has_text(rt.alloc(), &message, text));
     Ok(())
 }

@@ -1,0 +1,83 @@
+//! What the tests ask of a value: its text, its bytes, and what is read of bytes. Where memory is wanting, each question
+//! is answered by no.
+
+use base::{BinDecodable, BinDecoder, BinEncodable, BinEncoder, DecodeError, ProtoError};
+use std::alloc::Global;
+use std::fmt;
+
+/// Whether the value is shown as this text.
+pub(crate) fn has_text<T: fmt::Display>(alloc: Global, value: &T, text: &str) -> bool {
+    let shown = value.to_string(alloc);
+    match &shown {
+        Ok(shown) => shown.as_str() == text,
+        Err(_) => false,
+    }
+}
+
+fn written<T: BinEncodable>(alloc: Global, value: &T) -> Result<Vec<u8>, ProtoError> {
+    let mut bytes = Vec::new(alloc);
+    value.emit(&mut BinEncoder::new(&mut bytes))?;
+    Ok(bytes)
+}
+
+/// Whether the value is written as these bytes.
+pub(crate) fn is_written_as<T: BinEncodable>(alloc: Global, value: &T, wire: &[u8]) -> bool {
+    let bytes = written(alloc, value);
+    match &bytes {
+        Ok(bytes) => bytes.as_slice() == wire,
+        Err(_) => false,
+    }
+}
+
+/// The value that the bytes begin with.
+pub(crate) fn read<T: BinDecodable>(alloc: Global, wire: &[u8]) -> Result<T, DecodeError> {
+    T::read(&mut BinDecoder::new(alloc, wire))
+}
+
+/// Whether the value that the bytes begin with ends there.
+pub(crate) fn is_read_to<T: BinDecodable>(alloc: Global, wire: &[u8], end: usize) -> bool {
+    let mut decoder = BinDecoder::new(alloc, wire);
+    let is_read = T::read(&mut decoder).is_ok();
+    is_read && decoder.index() == end
+}
+
+/// Whether this value is read of the bytes.
+pub(crate) fn is_read_as<T: BinDecodable + PartialEq>(
+    alloc: Global,
+    wire: &[u8],
+    value: &T,
+) -> bool {
+    let found: Result<T, DecodeError> = read(alloc, wire);
+    match &found {
+        Ok(found) => *found == *value,
+        Err(_) => false,
+    }
+}
+
+/// Whether the value that the bytes begin with has this text.
+pub(crate) fn is_read_with_text<T: BinDecodable + fmt::Display>(
+    alloc: Global,
+    wire: &[u8],
+    text: &str,
+) -> bool {
+    let found: Result<T, DecodeError> = read(alloc, wire);
+    match &found {
+        Ok(found) => has_text(alloc, found, text),
+        Err(_) => false,
+    }
+}
+
+/// Whether a value is read of the bytes and written as the same bytes.
+pub(crate) fn is_written_back<T: BinDecodable + BinEncodable>(alloc: Global, wire: &[u8]) -> bool {
+    let found: Result<T, DecodeError> = read(alloc, wire);
+    match &found {
+        Ok(found) => is_written_as(alloc, found, wire),
+        Err(_) => false,
+    }
+}
+
+/// Whether the bytes end before the value does.
+pub(crate) fn is_cut<T: BinDecodable>(alloc: Global, wire: &[u8]) -> bool {
+    let found: Result<T, DecodeError> = read(alloc, wire);
+    matches!(&found, Err(DecodeError::InsufficientBytes))
+}

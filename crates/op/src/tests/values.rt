@@ -1,0 +1,49 @@
+//! Values that several tests write and read.
+
+use crate::{Edns, Message, Query};
+use base::{DNSClass, Name, RecordType};
+use base_data::{A, EdnsOption, TSIG};
+use rr::Record;
+use std::alloc::Global;
+use std::net::Ipv4Addr;
+use std::test::Fail;
+
+/// EDNS with one option, of code 65001 and two bytes.
+pub(crate) fn edns_with_option(alloc: Global) -> Result<Edns, Fail> {
+    let option = EdnsOption::new(65001, vec![in alloc; 1, 2]?);
+    let mut edns = Edns::new(alloc);
+    edns.options_mut().insert(option)?;
+    Ok(edns)
+}
+
+/// A signature of one byte.
+pub(crate) fn signature(alloc: Global) -> Result<Box<Record<TSIG>>, Fail> {
+    let rdata = TSIG::new(vec![in alloc; 0xAA]?);
+    let mut signature = Record::from_rdata(Name::root(alloc), 0, rdata);
+    signature.dns_class = DNSClass::ANY;
+    Ok(Box::new(alloc, signature)?)
+}
+
+/// `owner` `ttl` A 192.0.2.1.
+pub(crate) fn address(alloc: Global, owner: &str, ttl: u32) -> Result<Record, Fail> {
+    let owner = Name::parse(alloc, owner, None)?;
+    let rdata = A::new(Ipv4Addr::new(192, 0, 2, 1));
+    Ok(Record::from_rdata(owner, ttl, rdata).into_record_of_rdata())
+}
+
+/// Asks for the addresses of a name.
+pub(crate) fn ask(alloc: Global, message: &mut Message, name: &str) -> Result<(), Fail> {
+    let name = Name::parse(alloc, name, None)?;
+    Ok(message.add_query(Query::query(name, RecordType::A))?)
+}
+
+/// Answers `owner` `ttl` A 192.0.2.1.
+pub(crate) fn answer(
+    alloc: Global,
+    message: &mut Message,
+    owner: &str,
+    ttl: u32,
+) -> Result<(), Fail> {
+    let record = address(alloc, owner, ttl)?;
+    Ok(message.add_answer(record)?)
+}
