@@ -73,7 +73,12 @@ fn bytes_alone(rt: HostRuntime) -> Result<(), Fail> {
     let text = TXT::new(alloc, &[b"a".as_slice(), &[]])?;
     expect_kind(&rt, text, RecordType::TXT)?;
     expect_kind(&rt, NULL::new(vec![in alloc; 1]?), RecordType::NULL)?;
-    expect_kind(&rt, TSIG::new(vec![in alloc; 2]?), RecordType::TSIG)?;
+    expect_kind(&rt, TSIG::new(vec![in alloc; 2]?), RecordType::TSIG)
+}
+
+#[test]
+fn options(rt: HostRuntime) -> Result<(), Fail> {
+    let alloc = rt.alloc();
     let option = EdnsOption::new(3, vec![in alloc; 4]?);
     expect_kind(&rt, OPT::new(vec![in alloc; option]?), RecordType::OPT)
 }

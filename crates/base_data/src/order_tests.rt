@@ -1,5 +1,6 @@
 ghost use Rattle.std.specs.Prelude.{◌≤◌, length};
 
+use crate::rdata_tests::are_equal;
 use crate::{A, EdnsOption, MX, NS, NULL, OPT, RData, RecordData, TSIG, TXT};
 use base::{Name, ParseError, RecordType};
 use std::alloc::Global;
@@ -30,10 +31,6 @@ fn order_of_made(first: RData, second: Made) -> Result<Ordering, ParseError> {
     Ok(order_of(first, second?))
 }
 
-fn are_equal(first: RData, second: RData) -> bool {
-    first == second
-}
-
 /// A later type with lesser bytes.
 #[test]
 fn bytes_come_first(rt: HostRuntime) -> Result<(), Fail> {
@@ -59,8 +56,9 @@ fn signature(alloc: Global) -> Made {
 
 #[test]
 fn types_come_next(rt: HostRuntime) -> Result<(), Fail> {
+    let signed = signature(rt.alloc())?;
     let bytes = carried(rt.alloc(), RecordType::Unknown(251), &[7]);
-    let order = order_of_made(signature(rt.alloc())?, bytes)?;
+    let order = order_of_made(signed, bytes)?;
     assert_eq!(rt; order, Ordering::Less);
     Ok(())
 }
@@ -80,8 +78,9 @@ fn address_and_bytes_cmp(alloc: Global, d: u8) -> Result<Ordering, ParseError> {
 
 #[test]
 fn kinds_come_next(rt: HostRuntime) -> Result<(), Fail> {
-    assert_eq!(rt; address_and_bytes_cmp(rt.alloc(), 9)?, Ordering::Less);
-    assert_eq!(rt; address_and_bytes_cmp(rt.alloc(), 10)?, Ordering::Greater);
+    for (d, order) in [(9, Ordering::Less), (10, Ordering::Greater)] {
+        assert_eq!(rt; address_and_bytes_cmp(rt.alloc(), d)?, order, "{d}");
+    }
     Ok(())
 }
 
@@ -137,25 +136,32 @@ fn options_cmp(alloc: Global, code: u16, bytes: &[u8]) -> Result<Ordering, Parse
 
 #[test]
 fn options_go_by_code_and_length(rt: HostRuntime) -> Result<(), Fail> {
-    assert_eq!(rt; options_cmp(rt.alloc(), 3, &[0, 0])?, Ordering::Less);
-    assert_eq!(rt;
-        options_cmp(rt.alloc(), 2, &[0xFF, 0xFF])?,
-        Ordering::Greater
-    );
+    for (code, bytes, order) in [
+        (3, [0, 0], Ordering::Less),
+        (2, [0xFF, 0xFF], Ordering::Greater),
+    ] {
+        assert_eq!(rt; options_cmp(rt.alloc(), code, &bytes)?, order, "{code}");
+    }
     Ok(())
 }
 
 /// The order of an option of code 3 and two bytes, and these bytes of its type.
 fn option_and_bytes_cmp(alloc: Global, bytes: &[u8]) -> Result<Ordering, ParseError> {
-    let bytes = carried(alloc, RecordType::OPT, bytes);
-    order_of_made(option(alloc, 3, &[0, 0])?, bytes)
+    let long = option(alloc, 3, &[0, 0])?;
+    order_of_made(long, carried(alloc, RecordType::OPT, bytes))
 }
 
 #[test]
 fn options_go_by_their_bytes(rt: HostRuntime) -> Result<(), Fail> {
-    let same = [0, 3, 0, 2, 0, 0];
-    assert_eq!(rt; option_and_bytes_cmp(rt.alloc(), &same)?, Ordering::Less);
-    let less = [0, 3, 0, 1, 0xFF];
-    assert_eq!(rt; option_and_bytes_cmp(rt.alloc(), &less)?, Ordering::Greater);
+    for (bytes, order) in [
+        ([0, 3, 0, 2, 0, 0].as_slice(), Ordering::Less),
+        (&[0, 3, 0, 1, 0xFF], Ordering::Greater),
+    ] {
+        assert_eq!(rt;
+            option_and_bytes_cmp(rt.alloc(), bytes)?,
+            order,
+            "{bytes:?}"
+        );
+    }
     Ok(())
 }

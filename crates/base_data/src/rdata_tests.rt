@@ -38,9 +38,9 @@ fn read_as(
     read_behind(alloc, &message, record_type, len)
 }
 
-/// Whether the data that was read is this data.
-fn is_data(read: RData, data: RData) -> bool {
-    read == data
+/// Whether two data are equal.
+pub(crate) fn are_equal(first: RData, second: RData) -> bool {
+    first == second
 }
 
 /// Whether the bytes were refused as data of a type.
@@ -62,7 +62,7 @@ const MAIL_HOST: [u8; 7] = [0, 10, 1, b'b', 0xC0, 12, 9];
 fn data_fills_its_length(rt: HostRuntime) -> Result<(), Fail> {
     let exchange = name_of(rt.alloc(), &[1, b'B', 1, b'A', 0])?;
     let read = read_as(rt.alloc(), &MAIL_HOST, RecordType::MX, 6)?;
-    assert!(rt; is_data(read, MX::new(10, exchange).into_rdata()));
+    assert!(rt; are_equal(read, MX::new(10, exchange).into_rdata()));
     Ok(())
 }
 
@@ -86,14 +86,14 @@ const ADDRESS: [u8; 4] = [192, 0, 2, 1];
 fn the_type_tells_the_kind(rt: HostRuntime) -> Result<(), Fail> {
     let read = read_as(rt.alloc(), &ADDRESS, RecordType::A, 4)?;
     let host = A::new(Ipv4Addr::new(192, 0, 2, 1));
-    assert!(rt; is_data(read, host.into_rdata()));
+    assert!(rt; are_equal(read, host.into_rdata()));
     Ok(())
 }
 
 #[test]
 fn no_bytes_are_no_data(rt: HostRuntime) -> Result<(), Fail> {
     let read = read_as(rt.alloc(), &ADDRESS, RecordType::A, 0)?;
-    assert!(rt; is_data(read, RData::Update0(RecordType::A)));
+    assert!(rt; are_equal(read, RData::Update0(RecordType::A)));
     Ok(())
 }
 
@@ -102,7 +102,7 @@ fn other_types_are_carried(rt: HostRuntime) -> Result<(), Fail> {
     let code = RecordType::NSEC;
     let rdata = NULL::new(vec![in rt.alloc(); 192, 0]?);
     let read = read_as(rt.alloc(), &ADDRESS, code, 2)?;
-    assert!(rt; is_data(read, RData::Unknown { code, rdata }));
+    assert!(rt; are_equal(read, RData::Unknown { code, rdata }));
     Ok(())
 }
 

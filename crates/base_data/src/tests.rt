@@ -131,21 +131,21 @@ fn no_bytes_come_before_some(rt: HostRuntime) -> Result<(), Fail> {
 }
 
 /// Whether these are the next bytes, read as data of type NULL.
-fn are_next(decoder: &mut BinDecoder<'_>, bytes: &[u8]) -> Result<bool, Fail> {
+fn are_next(decoder: &mut BinDecoder<'_>, bytes: &[u8]) -> Result<bool, DecodeError> {
     Ok(NULL::read(decoder, bytes.len())?.bytes() == bytes)
 }
 
-/// Whether the next byte, read as the data of a signature, is this one.
-fn is_signed_by(decoder: &mut BinDecoder<'_>, alloc: Global, byte: u8) -> Result<bool, Fail> {
-    let signature = TSIG::new(vec![in alloc; byte]?);
-    Ok(TSIG::read(decoder, 1)? == signature)
+/// Whether the next byte is read as this signature.
+fn is_next(decoder: &mut BinDecoder<'_>, signature: &TSIG) -> Result<bool, DecodeError> {
+    Ok(TSIG::read(decoder, 1)? == *signature)
 }
 
 #[test]
 fn bytes_are_read_by_their_number(rt: HostRuntime) -> Result<(), Fail> {
+    let signature = TSIG::new(vec![in rt.alloc(); 3]?);
     let mut decoder = BinDecoder::new(rt.alloc(), &[1, 2, 3]);
     assert!(rt; are_next(&mut decoder, &[1, 2])?);
-    assert!(rt; is_signed_by(&mut decoder, rt.alloc(), 3)?);
+    assert!(rt; is_next(&mut decoder, &signature)?);
     assert!(rt; is_cut(&TSIG::read(&mut decoder, 1)));
     Ok(())
 }
@@ -219,12 +219,16 @@ fn texts_are_read(rt: HostRuntime) -> Result<(), Fail> {
     Ok(())
 }
 
-#[test]
-fn strings_of_texts(rt: HostRuntime) -> Result<(), Fail> {
-    let text = read_strings(rt.alloc())?;
+/// Checks the strings of a text.
+fn expect_strings(rt: &impl Abort, text: &TXT) {
     for (string, expected) in text.strings().zip(STRINGS.iter()) {
         assert_eq!(rt; string, *expected);
     }
+}
+
+#[test]
+fn strings_of_texts(rt: HostRuntime) -> Result<(), Fail> {
+    expect_strings(&rt, &read_strings(rt.alloc())?);
     Ok(())
 }
 
@@ -274,11 +278,18 @@ fn options(rt: HostRuntime) -> Result<(), Fail> {
     Ok(())
 }
 
+/// Whether an option of a code is found, with these bytes.
+fn is_found(options: &OPT, code: u16, bytes: &[u8]) -> bool {
+    match options.get(code) {
+        Some(option) => option.bytes() == bytes,
+        None => false,
+    }
+}
+
 #[test]
 fn options_are_found_by_their_codes(rt: HostRuntime) -> Result<(), Fail> {
     let options = two_options(rt.alloc())?;
-    let first = options.get(3).map(|option| option.bytes());
-    assert_eq!(rt; first, Some([0xBB, 0xCC].as_slice()));
+    assert!(rt; is_found(&options, 3, &[0xBB, 0xCC]));
     assert!(rt; options.get(4).is_none());
     Ok(())
 }
