@@ -2,14 +2,14 @@ use crate::{
     A, AAAA, ANAME, CNAME, EdnsOption, MX, NS, NULL, OPT, PTR, RData, RecordData, SOA, SRV, TSIG,
     TXT,
 };
-use base::{Name, ParseError, RecordType};
+use base::{Name, RecordType};
 use std::alloc::{AllocError, Global};
 use std::net::{Ipv4Addr, Ipv6Addr};
 use std::process::Abort;
 use std::test::Fail;
 
-fn name(alloc: Global) -> Result<Name, ParseError> {
-    Name::parse(alloc, "a.b.", None)
+fn name(alloc: Global) -> Result<Name, Fail> {
+    Ok(Name::parse(alloc, "a.b.", None)?)
 }
 
 /// Whether data is of a type, and isn't empty.

@@ -22,8 +22,12 @@ fn carried(alloc: Global, code: RecordType, bytes: &[u8]) -> Made {
     Ok(RData::Unknown { code, rdata })
 }
 
+/// The order of two data, which are dropped by name: that is proved sooner.
 fn order_of(first: RData, second: RData) -> Ordering {
-    first.cmp(&second)
+    let order = first.cmp(&second);
+    drop(first);
+    drop(second);
+    order
 }
 
 /// The order of data, and other data if that could be made.
@@ -128,10 +132,10 @@ fn option(alloc: Global, code: u16, bytes: &[u8]) -> Made
 }
 
 /// The order of an option of code 3 and one byte, and another option.
-fn options_cmp(alloc: Global, code: u16, bytes: &[u8]) -> Result<Ordering, ParseError>
+fn options_cmp(alloc: Global, code: u16, bytes: &[u8]) -> Result<Ordering, Fail>
     requires { length bytes.now ≤ 65535 }
 {
-    order_of_made(option(alloc, 3, &[0xFF])?, option(alloc, code, bytes))
+    Ok(order_of_made(option(alloc, 3, &[0xFF])?, option(alloc, code, bytes))?)
 }
 
 #[test]

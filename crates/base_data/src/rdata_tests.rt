@@ -38,9 +38,12 @@ fn read_as(
     read_behind(alloc, &message, record_type, len)
 }
 
-/// Whether two data are equal.
+/// Whether two data are equal. They are dropped by name: that is proved sooner.
 pub(crate) fn are_equal(first: RData, second: RData) -> bool {
-    first == second
+    let equal = first == second;
+    drop(first);
+    drop(second);
+    equal
 }
 
 /// Whether the bytes were refused as data of a type.

@@ -44,17 +44,29 @@ fn texts_of_starts_of_authority(rt: HostRuntime) -> Result<(), Fail> {
     expect_text(&rt, rt.alloc(), &soa, text)
 }
 
+/// A start of authority written twice.
+fn starts_of_authority_written(alloc: Global) -> Result<Vec<u8>, Fail> {
+    let soa = start_of_authority(alloc)?;
+    Ok(written(alloc, &[&soa, &soa])?)
+}
+
 #[test]
-fn starts_of_authority(rt: HostRuntime) -> Result<(), Fail> {
+fn starts_of_authority_are_compressed(rt: HostRuntime) -> Result<(), Fail> {
     let bytes = [
         0x02, 0x6E, 0x73, 0x07, 0x65, 0x78, 0x61, 0x6D, 0x70, 0x6C, 0x65, 0x00, 0x0A, 0x68, 0x6F,
         0x73, 0x74, 0x6D, 0x61, 0x73, 0x74, 0x65, 0x72, 0xC0, 0x03, 0x00, 0x00, 0x00, 0x01, 0x00,
         0x00, 0x1C, 0x20, 0x00, 0x00, 0x0E, 0x10, 0x00, 0x12, 0x75, 0x00, 0x00, 0x00, 0x01, 0x2C,
     ];
-    let soa = start_of_authority(rt.alloc())?;
-    let twice = written(rt.alloc(), &[&soa, &soa])?;
+    let twice = starts_of_authority_written(rt.alloc())?;
     assert_eq!(rt; twice.get(..45), Some(bytes.as_slice()));
     assert_eq!(rt; twice.len(), 45 + 2 + 2 + 20);
+    Ok(())
+}
+
+#[test]
+fn starts_of_authority_are_read(rt: HostRuntime) -> Result<(), Fail> {
+    let soa = start_of_authority(rt.alloc())?;
+    let twice = starts_of_authority_written(rt.alloc())?;
     expect_read(&rt, rt.alloc(), &[&soa, &soa], &twice)
 }
 
