@@ -206,7 +206,7 @@ fn texts(rt: HostRuntime) -> Result<(), Fail> {
     expect_form(&rt, rt.alloc(), &text, &STRINGS_ON_THE_WIRE, shown)
 }
 
-/// The strings of all bytes.
+/// The strings that all of the bytes spell.
 fn read_strings(alloc: Global) -> Result<TXT, DecodeError> {
     TXT::read(&mut BinDecoder::new(alloc, &STRINGS_ON_THE_WIRE), 16)
 }
@@ -219,7 +219,7 @@ fn texts_are_read(rt: HostRuntime) -> Result<(), Fail> {
     Ok(())
 }
 
-/// Checks the strings of a text.
+/// Checks that a text has those strings.
 fn expect_strings(rt: &impl Abort, text: &TXT) {
     for (string, expected) in text.strings().zip(STRINGS.iter()) {
         assert_eq!(rt; string, *expected);
