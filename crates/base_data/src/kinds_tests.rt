@@ -2,81 +2,100 @@ use crate::{
     A, AAAA, ANAME, CNAME, EdnsOption, MX, NS, NULL, OPT, PTR, RData, RecordData, SOA, SRV, TSIG,
     TXT,
 };
-use base::{Name, ParseError, RecordType};
-use std::alloc::Global;
+use base::{Name, RecordType};
+use std::alloc::{AllocError, Global};
 use std::net::{Ipv4Addr, Ipv6Addr};
 use std::process::Abort;
 use std::test::Fail;
 
-fn name(alloc: Global) -> Result<Name, ParseError> {
-    Name::parse(alloc, "a.b.", None)
+fn name(alloc: Global) -> Result<Name, Fail> {
+    Ok(Name::parse(alloc, "a.b.", None)?)
+}
+
+/// Whether data is of a type, and isn't empty.
+fn is_of_type<R: RecordData>(value: &R, record_type: RecordType) -> bool {
+    value.record_type() == record_type && !value.is_update()
+}
+
+/// Whether the data of any record is this data.
+fn holds<R: RecordData>(any: &RData, value: &R) -> bool {
+    match R::try_borrow(any) {
+        Some(borrowed) => borrowed == value,
+        None => false,
+    }
+}
+
+/// Whether a copy of data is data of any record, of a type, and is taken out again.
+fn is_taken_out<R: RecordData>(value: &R, record_type: RecordType) -> Result<bool, AllocError> {
+    let any = value.clone()?.into_rdata();
+    Ok(any.record_type() == record_type && holds(&any, value))
 }
 
 /// Checks that data of a type is taken out of the data of any record again, and isn't empty.
-fn is_taken_out<R: RecordData>(
+fn expect_kind<R: RecordData>(
     rt: &impl Abort,
     value: R,
     record_type: RecordType,
 ) -> Result<(), Fail> {
-    let copy = value.clone()?;
-    assert_eq!(rt; value.record_type(), record_type);
-    assert!(rt; !value.is_update());
-    let any = value.into_rdata();
-    assert_eq!(rt; any.record_type(), record_type);
-    match R::try_borrow(&any) {
-        Some(borrowed) => assert!(rt; *borrowed == copy),
-        None => assert!(rt; false, "not of its kind"),
-    }
+    assert!(rt; is_of_type(&value, record_type));
+    assert!(rt; is_taken_out(&value, record_type)?);
     Ok(())
 }
 
 #[test]
 fn addresses(rt: HostRuntime) -> Result<(), Fail> {
-    is_taken_out(&rt, A::new(Ipv4Addr::new(192, 0, 2, 1)), RecordType::A)?;
+    expect_kind(&rt, A::new(Ipv4Addr::new(192, 0, 2, 1)), RecordType::A)?;
     let long = Ipv6Addr::from_segments([0x2001, 0xDB8, 0, 0, 0, 0, 0, 1]);
-    is_taken_out(&rt, AAAA::new(long), RecordType::AAAA)
+    expect_kind(&rt, AAAA::new(long), RecordType::AAAA)
 }
 
 #[test]
 fn names_alone(rt: HostRuntime) -> Result<(), Fail> {
     let alloc = rt.alloc();
-    is_taken_out(&rt, NS::new(name(alloc)?), RecordType::NS)?;
-    is_taken_out(&rt, CNAME::new(name(alloc)?), RecordType::CNAME)?;
-    is_taken_out(&rt, PTR::new(name(alloc)?), RecordType::PTR)?;
-    is_taken_out(&rt, ANAME::new(name(alloc)?), RecordType::ANAME)
+    expect_kind(&rt, NS::new(name(alloc)?), RecordType::NS)?;
+    expect_kind(&rt, CNAME::new(name(alloc)?), RecordType::CNAME)?;
+    expect_kind(&rt, PTR::new(name(alloc)?), RecordType::PTR)?;
+    expect_kind(&rt, ANAME::new(name(alloc)?), RecordType::ANAME)
 }
 
 #[test]
 fn names_with_numbers(rt: HostRuntime) -> Result<(), Fail> {
     let alloc = rt.alloc();
-    is_taken_out(&rt, MX::new(10, name(alloc)?), RecordType::MX)?;
-    is_taken_out(&rt, SRV::new(1, 2, 3, name(alloc)?), RecordType::SRV)?;
+    expect_kind(&rt, MX::new(10, name(alloc)?), RecordType::MX)?;
+    expect_kind(&rt, SRV::new(1, 2, 3, name(alloc)?), RecordType::SRV)?;
     let zone = SOA::new(name(alloc)?, name(alloc)?, 1, 2, 3, 4, 5);
-    is_taken_out(&rt, zone, RecordType::SOA)
+    expect_kind(&rt, zone, RecordType::SOA)
 }
 
 #[test]
 fn bytes_alone(rt: HostRuntime) -> Result<(), Fail> {
     let alloc = rt.alloc();
     let text = TXT::new(alloc, &[b"a".as_slice(), &[]])?;
-    is_taken_out(&rt, text, RecordType::TXT)?;
-    is_taken_out(&rt, NULL::new(vec![in alloc; 1]?), RecordType::NULL)?;
-    is_taken_out(&rt, TSIG::new(vec![in alloc; 2]?), RecordType::TSIG)?;
+    expect_kind(&rt, text, RecordType::TXT)?;
+    expect_kind(&rt, NULL::new(vec![in alloc; 1]?), RecordType::NULL)?;
+    expect_kind(&rt, TSIG::new(vec![in alloc; 2]?), RecordType::TSIG)
+}
+
+#[test]
+fn options(rt: HostRuntime) -> Result<(), Fail> {
+    let alloc = rt.alloc();
     let option = EdnsOption::new(3, vec![in alloc; 4]?);
-    is_taken_out(&rt, OPT::new(vec![in alloc; option]?), RecordType::OPT)
+    expect_kind(&rt, OPT::new(vec![in alloc; option]?), RecordType::OPT)
 }
 
 #[test]
 fn any_data(rt: HostRuntime) -> Result<(), Fail> {
     let rdata = NULL::new(vec![in rt.alloc(); 1]?);
     let code = RecordType::NSEC;
-    is_taken_out(&rt, RData::Unknown { code, rdata }, code)
+    expect_kind(&rt, RData::Unknown { code, rdata }, code)
+}
+
+/// Whether data is empty, of the type of mail hosts, and no mail host.
+fn is_no_mail_host(none: RData) -> bool {
+    none.record_type() == RecordType::MX && none.is_update() && MX::try_borrow(&none).is_none()
 }
 
 #[test]
 fn empty_data_is_of_no_kind(rt: HostRuntime) {
-    let none = RData::Update0(RecordType::MX);
-    assert_eq!(rt; none.record_type(), RecordType::MX);
-    assert!(rt; none.is_update());
-    assert!(rt; MX::try_borrow(&none).is_none());
+    assert!(rt; is_no_mail_host(RData::Update0(RecordType::MX)));
 }
