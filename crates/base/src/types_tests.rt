@@ -1,11 +1,48 @@
 use crate::{DNSClass, RecordType};
+use std::alloc::Global;
 use std::cmp::Ordering;
+use std::fmt::Display;
 use std::hash::{DefaultHasher, Hash, Hasher};
 use std::test::Fail;
 
+/// Whether a value prints as this text.
+pub fn shows<T: Display>(alloc: Global, value: &T, text: &str) -> bool {
+    match value.to_string(alloc) {
+        Ok(shown) => shown.as_str() == text,
+        Err(_) => false,
+    }
+}
+
+/// Whether the three comparisons of two values answer by this order.
+fn compares<T: Ord>(low: &T, high: &T, order: Ordering) -> bool {
+    low.cmp(high) == order
+        && low.partial_cmp(high) == Some(order)
+        && (low == high) == (order == Ordering::Equal)
+}
+
+/// Whether every value stands where the order has it.
+fn ascends<T: Ord>(values: &[T]) -> bool {
+    for (i, low) in values.iter().enumerate() {
+        for (k, high) in values.iter().enumerate() {
+            if !compares(low, high, i.cmp(&k)) {
+                return false;
+            }
+        }
+    }
+    true
+}
+
+/// Whether a type stands for this number, and prints and reads as this text.
+fn is_type(alloc: Global, record_type: RecordType, number: u16, text: &str) -> bool {
+    u16::from(record_type) == number
+        && RecordType::from(number) == record_type
+        && RecordType::from_text(text) == Some(record_type)
+        && shows(alloc, &record_type, text)
+}
+
 #[test]
-fn record_type_table(rt: HostRuntime) -> Result<(), Fail> {
-    let table = [
+fn record_type_table(rt: HostRuntime) {
+    for &(record_type, number, text, is_dnssec) in &[
         (RecordType::ZERO, 0, "ZERO", false),
         (RecordType::A, 1, "A", false),
         (RecordType::NS, 2, "NS", false),
@@ -33,20 +70,25 @@ fn record_type_table(rt: HostRuntime) -> Result<(), Fail> {
         (RecordType::AXFR, 252, "AXFR", false),
         (RecordType::ANY, 255, "ANY", false),
         (RecordType::ANAME, 65305, "ANAME", false),
-    ];
-    for (record_type, number, text, is_dnssec) in table {
-        assert_eq!(rt; u16::from(record_type), number);
-        assert_eq!(rt; RecordType::from(number), record_type);
-        assert_eq!(rt; record_type.to_string(rt.alloc())?.as_str(), text);
-        assert_eq!(rt; RecordType::from_text(text), Some(record_type));
-        assert_eq!(rt; record_type.is_dnssec(), is_dnssec);
+    ] {
+        assert!(rt; is_type(rt.alloc(), record_type, number, text));
+        assert!(rt; record_type.is_dnssec() == is_dnssec);
     }
-    Ok(())
+}
+
+/// Whether a type of this number prints as this text, which doesn't read, and isn't of DNSSEC.
+fn is_nameless_type(alloc: Global, number: u16, text: &str) -> bool {
+    let record_type = RecordType::Unknown(number);
+    RecordType::from(number) == record_type
+        && u16::from(record_type) == number
+        && RecordType::from_text(text) == None
+        && !record_type.is_dnssec()
+        && shows(alloc, &record_type, text)
 }
 
 #[test]
-fn record_types_without_a_name(rt: HostRuntime) -> Result<(), Fail> {
-    let table = [
+fn record_types_without_a_name(rt: HostRuntime) {
+    for &(number, text) in &[
         (3, "TYPE3"),
         (11, "TYPE11"),
         (249, "TYPE249"),
@@ -54,23 +96,14 @@ fn record_types_without_a_name(rt: HostRuntime) -> Result<(), Fail> {
         (254, "TYPE254"),
         (65304, "TYPE65304"),
         (65535, "TYPE65535"),
-    ];
-    for (number, text) in table {
-        assert_eq!(rt; RecordType::from(number), RecordType::Unknown(number));
-        assert_eq!(rt; u16::from(RecordType::Unknown(number)), number);
-        assert_eq!(rt;
-            RecordType::Unknown(number).to_string(rt.alloc())?.as_str(),
-            text
-        );
-        assert_eq!(rt; RecordType::from_text(text), None);
-        assert!(rt; !RecordType::Unknown(number).is_dnssec());
+    ] {
+        assert!(rt; is_nameless_type(rt.alloc(), number, text));
     }
-    Ok(())
 }
 
 #[test]
 fn texts_that_are_no_record_type(rt: HostRuntime) {
-    for text in [
+    for &text in &[
         "",
         "a",
         "aaaa",
@@ -87,7 +120,7 @@ fn texts_that_are_no_record_type(rt: HostRuntime) {
         "IN",
         "1",
     ] {
-        assert_eq!(rt; RecordType::from_text(text), None);
+        assert!(rt; RecordType::from_text(text) == None);
     }
 }
 
@@ -109,66 +142,65 @@ fn record_type_order(rt: HostRuntime) {
         RecordType::Unknown(65305),
         RecordType::Unknown(65535),
     ];
-    for (i, low) in ascending.iter().enumerate() {
-        for (k, high) in ascending.iter().enumerate() {
-            assert_eq!(rt; low.cmp(high), i.cmp(&k));
-            assert_eq!(rt; low.partial_cmp(high), Some(i.cmp(&k)));
-            assert_eq!(rt; low == high, i == k);
-        }
-    }
+    assert!(rt; ascends(&ascending));
+}
+
+/// Whether a class stands for this number, and prints and reads as this text.
+fn is_class(alloc: Global, class: DNSClass, number: u16, text: &str) -> bool {
+    u16::from(class) == number
+        && DNSClass::from(number) == class
+        && DNSClass::from_text(text) == Some(class)
+        && shows(alloc, &class, text)
 }
 
 #[test]
-fn class_table(rt: HostRuntime) -> Result<(), Fail> {
-    let table = [
+fn class_table(rt: HostRuntime) {
+    for &(class, number, text) in &[
         (DNSClass::IN, 1, "IN"),
         (DNSClass::CH, 3, "CH"),
         (DNSClass::HS, 4, "HS"),
         (DNSClass::NONE, 254, "NONE"),
         (DNSClass::ANY, 255, "ANY"),
-    ];
-    for (class, number, text) in table {
-        assert_eq!(rt; u16::from(class), number);
-        assert_eq!(rt; DNSClass::from(number), class);
-        assert_eq!(rt; class.to_string(rt.alloc())?.as_str(), text);
-        assert_eq!(rt; DNSClass::from_text(text), Some(class));
+    ] {
+        assert!(rt; is_class(rt.alloc(), class, number, text));
     }
-    assert_eq!(rt; DNSClass::from_text("*"), Some(DNSClass::ANY));
-    Ok(())
+    assert!(rt; DNSClass::from_text("*") == Some(DNSClass::ANY));
+}
+
+/// Whether a class of this number prints as this text, which doesn't read.
+fn is_nameless_class(alloc: Global, number: u16, text: &str) -> bool {
+    let class = DNSClass::Unknown(number);
+    DNSClass::from(number) == class
+        && u16::from(class) == number
+        && DNSClass::from_text(text) == None
+        && shows(alloc, &class, text)
 }
 
 #[test]
-fn classes_without_a_name(rt: HostRuntime) -> Result<(), Fail> {
-    for (number, text) in [
+fn classes_without_a_name(rt: HostRuntime) {
+    for &(number, text) in &[
         (0, "CLASS0"),
         (2, "CLASS2"),
         (512, "CLASS512"),
         (65535, "CLASS65535"),
     ] {
-        assert_eq!(rt; DNSClass::from(number), DNSClass::Unknown(number));
-        assert_eq!(rt; u16::from(DNSClass::Unknown(number)), number);
-        assert_eq!(rt;
-            DNSClass::Unknown(number).to_string(rt.alloc())?.as_str(),
-            text
-        );
-        assert_eq!(rt; DNSClass::from_text(text), None);
+        assert!(rt; is_nameless_class(rt.alloc(), number, text));
     }
-    assert_eq!(rt; DNSClass::OPT(1232).to_string(rt.alloc())?.as_str(), "OPT");
-    Ok(())
+    assert!(rt; shows(rt.alloc(), &DNSClass::OPT(1232), "OPT"));
 }
 
 #[test]
 fn texts_that_are_no_class(rt: HostRuntime) {
-    for text in [
+    for &text in &[
         "", "in", "Any", "CS", "OPT", "**", "* ", "INN", "CLASS1", "1",
     ] {
-        assert_eq!(rt; DNSClass::from_text(text), None);
+        assert!(rt; DNSClass::from_text(text) == None);
     }
 }
 
 #[test]
 fn payload_sizes_of_512_at_least(rt: HostRuntime) {
-    for (payload, size) in [
+    for &(payload, size) in &[
         (0, 512),
         (100, 512),
         (511, 512),
@@ -177,8 +209,8 @@ fn payload_sizes_of_512_at_least(rt: HostRuntime) {
         (600, 600),
         (65535, 65535),
     ] {
-        assert_eq!(rt; DNSClass::for_opt(payload), DNSClass::OPT(size));
-        assert_eq!(rt; u16::from(DNSClass::for_opt(payload)), size);
+        assert!(rt; DNSClass::for_opt(payload) == DNSClass::OPT(size));
+        assert!(rt; u16::from(DNSClass::for_opt(payload)) == size);
     }
 }
 
@@ -199,13 +231,7 @@ fn class_order(rt: HostRuntime) {
         DNSClass::Unknown(600),
         DNSClass::OPT(601),
     ];
-    for (i, low) in ascending.iter().enumerate() {
-        for (k, high) in ascending.iter().enumerate() {
-            assert_eq!(rt; low.cmp(high), i.cmp(&k));
-            assert_eq!(rt; low.partial_cmp(high), Some(i.cmp(&k)));
-            assert_eq!(rt; low == high, i == k);
-        }
-    }
+    assert!(rt; ascends(&ascending));
 }
 
 fn hash_of<T: Hash>(value: &T) -> u64 {
@@ -214,32 +240,36 @@ fn hash_of<T: Hash>(value: &T) -> u64 {
     state.finish()
 }
 
-#[test]
-fn equal_values_hash_alike(rt: HostRuntime) {
-    assert_eq!(rt; hash_of(&RecordType::from(28)), hash_of(&RecordType::AAAA));
-    assert_ne!(rt; hash_of(&RecordType::A), hash_of(&RecordType::Unknown(1)));
-    assert_eq!(rt; hash_of(&DNSClass::from(1)), hash_of(&DNSClass::IN));
-    assert_eq!(rt;
-        hash_of(&DNSClass::for_opt(100)),
-        hash_of(&DNSClass::OPT(512))
-    );
-    assert_ne!(rt;
-        hash_of(&DNSClass::OPT(600)),
-        hash_of(&DNSClass::Unknown(600))
-    );
+/// Whether two values hash alike.
+fn hash_alike<T: Hash>(one: &T, other: &T) -> bool {
+    hash_of(one) == hash_of(other)
 }
 
 #[test]
-fn copies_and_debug_texts(rt: HostRuntime) -> Result<(), Fail> {
+fn equal_values_hash_alike(rt: HostRuntime) {
+    assert!(rt; hash_alike(&RecordType::from(28), &RecordType::AAAA));
+    assert!(rt; !hash_alike(&RecordType::A, &RecordType::Unknown(1)));
+    assert!(rt; hash_alike(&DNSClass::from(1), &DNSClass::IN));
+    assert!(rt; hash_alike(&DNSClass::for_opt(100), &DNSClass::OPT(512)));
+    assert!(rt; !hash_alike(&DNSClass::OPT(600), &DNSClass::Unknown(600)));
+}
+
+#[test]
+fn copies_are_equal(rt: HostRuntime) -> Result<(), Fail> {
     let record_type = RecordType::Unknown(7);
     let class = DNSClass::OPT(512);
-    assert_eq!(rt; record_type.clone()?, record_type);
-    assert_eq!(rt; class.clone()?, class);
-    assert_eq!(rt;
-        format!(in rt.alloc(); "{record_type:?} {class:?}")?.as_str(),
-        "Unknown(7) OPT(512)"
-    );
-    assert_eq!(rt; RecordType::MX.max(RecordType::TXT), RecordType::TXT);
-    assert_eq!(rt; DNSClass::IN.cmp(&DNSClass::ANY), Ordering::Less);
+    assert!(rt; record_type.clone()? == record_type);
+    assert!(rt; class.clone()? == class);
+    assert!(rt; RecordType::MX.max(RecordType::TXT) == RecordType::TXT);
+    assert!(rt; DNSClass::IN.cmp(&DNSClass::ANY) == Ordering::Less);
+    Ok(())
+}
+
+#[test]
+fn debug_texts_name_the_variants(rt: HostRuntime) -> Result<(), Fail> {
+    let record_type = RecordType::Unknown(7);
+    let class = DNSClass::OPT(512);
+    let text = format!(in rt.alloc(); "{record_type:?} {class:?}")?;
+    assert!(rt; text.as_str() == "Unknown(7) OPT(512)");
     Ok(())
 }

@@ -1,7 +1,6 @@
 use super::*;
 use crate::error::DecodeError;
 use crate::wire::{BinDecodable, BinDecoder};
-use std::process::Abort;
 use std::test::Fail;
 
 /// Reads a name behind as many bytes, and the place behind it.
@@ -22,13 +21,38 @@ fn refusal(alloc: Global, bytes: &[u8], at: usize) -> u8 {
     }
 }
 
-fn expect_labels(rt: &impl Abort, name: &Name, labels: &[&[u8]]) {
-    assert!(rt; name.is_fqdn());
-    assert_eq!(rt; name.label_count(), labels.len());
+/// Whether a name has these labels and no more.
+pub fn has_labels(name: &Name, labels: &[&[u8]]) -> bool {
     for (i, label) in labels.iter().enumerate() {
-        assert_eq!(rt; name.label(i), Some(*label));
+        if name.label(i) != Some(*label) {
+            return false;
+        }
     }
-    assert_eq!(rt; name.label(labels.len()), None);
+    name.label_count() == labels.len() && name.label(labels.len()) == None
+}
+
+/// Whether a complete name of these labels is read at this place, up to this end.
+fn reads_as(alloc: Global, bytes: &[u8], at: usize, labels: &[&[u8]], end: usize) -> bool {
+    match read_at(alloc, bytes, at) {
+        Ok((name, behind)) => behind == end && name.is_fqdn() && has_labels(&name, labels),
+        Err(_) => false,
+    }
+}
+
+/// Where the root ends that is read at this place.
+fn end_of_root(alloc: Global, bytes: &[u8], at: usize) -> Option<usize> {
+    match read_at(alloc, bytes, at) {
+        Ok((name, behind)) => { if name.is_root() { Some(behind) } else { None } }
+        Err(_) => None,
+    }
+}
+
+/// How many labels a name has that is read at this place, and where it ends.
+fn extent(alloc: Global, bytes: &[u8], at: usize) -> Option<(usize, usize)> {
+    match read_at(alloc, bytes, at) {
+        Ok((name, behind)) => Some((name.label_count(), behind)),
+        Err(_) => None,
+    }
 }
 
 /// Appends a label of as many bytes `a`.
@@ -52,55 +76,44 @@ fn message_of(alloc: Global, lens: &[u8]) -> Result<Vec<u8>, Fail> {
 }
 
 #[test]
-fn reads_labels(rt: HostRuntime) -> Result<(), Fail> {
+fn reads_labels(rt: HostRuntime) {
     let bytes = b"\x03WWW\x07example\x03com\0\x01a";
-    let (name, end) = read_at(rt.alloc(), bytes, 0)?;
-    expect_labels(&rt, &name, &[b"WWW", b"example", b"com"]);
-    assert_eq!(rt; end, 17);
-    Ok(())
+    assert!(rt; reads_as(rt.alloc(), bytes, 0, &[b"WWW", b"example", b"com"], 17));
 }
 
 #[test]
-fn follows_pointers(rt: HostRuntime) -> Result<(), Fail> {
+fn follows_pointers(rt: HostRuntime) {
     // a zero byte at 2; `com.` at 3, `example.com.` at 8, `www.example.com.` at 18
     let bytes = b"\x00\x01\x00\x03com\0\x07example\xC0\x03\x03www\xC0\x08\xC0\x12\xC0\x02";
-    let (name, end) = read_at(rt.alloc(), bytes, 18)?;
-    expect_labels(&rt, &name, &[b"www", b"example", b"com"]);
-    assert_eq!(rt; end, 24);
-    let (name, end) = read_at(rt.alloc(), bytes, 24)?;
-    expect_labels(&rt, &name, &[b"www", b"example", b"com"]);
-    assert_eq!(rt; end, 26);
-    let (name, end) = read_at(rt.alloc(), bytes, 26)?;
-    assert!(rt; name.is_root());
-    assert_eq!(rt; end, 28);
-    Ok(())
+    assert!(rt; reads_as(rt.alloc(), bytes, 18, &[b"www", b"example", b"com"], 24));
+    assert!(rt; reads_as(rt.alloc(), bytes, 24, &[b"www", b"example", b"com"], 26));
+    assert!(rt; end_of_root(rt.alloc(), bytes, 26) == Some(28));
 }
 
 #[test]
-fn refuses_faults(rt: HostRuntime) {
+fn refuses_what_is_cut(rt: HostRuntime) {
     let alloc = rt.alloc();
-    assert_eq!(rt; refusal(alloc, b"", 0), 4, "nothing");
-    assert_eq!(rt; refusal(alloc, b"\xC0\x00", 0), 5, "a pointer to itself");
-    assert_eq!(rt; refusal(alloc, b"\x40\x00", 0), 5, "top bits 01");
-    assert_eq!(rt; refusal(alloc, b"\x80\x00", 0), 5, "top bits 10");
-    assert_eq!(rt;
-        refusal(alloc, b"\x03\x77\x77", 0),
-        4,
-        "a label that is cut"
-    );
-    assert_eq!(rt; refusal(alloc, b"\x01\x77", 0), 4, "no zero byte");
-    assert_eq!(rt; refusal(alloc, b"\xC0\x02\x00", 0), 5, "a pointer forward");
-    assert_eq!(rt;
-        refusal(alloc, b"\x01a\xC0\x00", 0),
-        5,
-        "a pointer to its own piece"
-    );
-    assert_eq!(rt; refusal(alloc, b"\x00\xC0", 1), 4, "a pointer that is cut");
-    assert_eq!(rt;
-        refusal(alloc, b"\x00\xC0\x02\xC0\x01", 3),
-        5,
-        "a pointer to one that goes forward"
-    );
+    // nothing; inside a label; before the zero byte; inside a pointer
+    assert!(rt; refusal(alloc, b"", 0) == 4);
+    assert!(rt; refusal(alloc, b"\x03\x77\x77", 0) == 4);
+    assert!(rt; refusal(alloc, b"\x01\x77", 0) == 4);
+    assert!(rt; refusal(alloc, b"\x00\xC0", 1) == 4);
+}
+
+#[test]
+fn refuses_reserved_top_bits(rt: HostRuntime) {
+    assert!(rt; refusal(rt.alloc(), b"\x40\x00", 0) == 5);
+    assert!(rt; refusal(rt.alloc(), b"\x80\x00", 0) == 5);
+}
+
+#[test]
+fn refuses_pointers_that_go_nowhere_earlier(rt: HostRuntime) {
+    let alloc = rt.alloc();
+    // to itself; forward; to its own piece; to one that goes forward
+    assert!(rt; refusal(alloc, b"\xC0\x00", 0) == 5);
+    assert!(rt; refusal(alloc, b"\xC0\x02\x00", 0) == 5);
+    assert!(rt; refusal(alloc, b"\x01a\xC0\x00", 0) == 5);
+    assert!(rt; refusal(alloc, b"\x00\xC0\x02\xC0\x01", 3) == 5);
 }
 
 /// Twelve header bytes that announce one question, and these bytes behind them.
@@ -111,66 +124,111 @@ fn question_of(alloc: Global, bytes: &[u8]) -> Result<Vec<u8>, Fail> {
     Ok(message)
 }
 
+/// The number of the refusal of a question of these bytes; 0 where its name is read.
+fn question_refusal(alloc: Global, bytes: &[u8]) -> Result<u8, Fail> {
+    let message = question_of(alloc, bytes)?;
+    Ok(refusal(alloc, &message, 12))
+}
+
 #[test]
 fn refuses_faults_behind_a_header(rt: HostRuntime) -> Result<(), Fail> {
-    let alloc = rt.alloc();
-    let itself = question_of(alloc, &[0xC0, 0x0C, 0, 1, 0, 1])?;
-    assert_eq!(rt; refusal(alloc, &itself, 12), 5);
-    let reserved = question_of(alloc, &[0x40, 0, 1, 0, 1])?;
-    assert_eq!(rt; refusal(alloc, &reserved, 12), 5);
-    let cut = question_of(alloc, &[0x03, 0x77, 0x77])?;
-    assert_eq!(rt; refusal(alloc, &cut, 12), 4);
+    let itself = question_refusal(rt.alloc(), &[0xC0, 0x0C, 0, 1, 0, 1])?;
+    assert!(rt; itself == 5);
+    let reserved = question_refusal(rt.alloc(), &[0x40, 0, 1, 0, 1])?;
+    assert!(rt; reserved == 5);
+    let cut = question_refusal(rt.alloc(), &[0x03, 0x77, 0x77])?;
+    assert!(rt; cut == 4);
     Ok(())
 }
 
 #[test]
 fn reads_through_the_header(rt: HostRuntime) -> Result<(), Fail> {
     let message = question_of(rt.alloc(), &[0xC0, 0x04, 0, 1, 0, 1])?;
-    let (name, end) = read_at(rt.alloc(), &message, 12)?;
-    assert!(rt; name.is_root());
-    assert_eq!(rt; end, 14);
+    assert!(rt; end_of_root(rt.alloc(), &message, 12) == Some(14));
     Ok(())
 }
 
 #[test]
-fn limits_length(rt: HostRuntime) -> Result<(), Fail> {
-    let alloc = rt.alloc();
-    let message = message_of(alloc, &[63, 63, 63, 61])?;
-    let (name, end) = read_at(alloc, &message, 12)?;
-    assert_eq!(rt; name.label_count(), 4);
-    assert_eq!(rt; end, 267);
-    // of 256 bytes; but where the buffer ends inside the last label, that comes first
-    let message = message_of(alloc, &[63, 63, 63, 62])?;
-    assert_eq!(rt; refusal(alloc, &message, 12), 5);
-    assert_eq!(rt; refusal(alloc, message.get(..266).unwrap_or(&[]), 12), 4);
-    assert_eq!(rt; refusal(alloc, message.get(..267).unwrap_or(&[]), 12), 5);
-    for (len, number) in [(61, 0), (62, 5)] {
-        let mut message = message_of(alloc, &[63, 63, 63])?;
-        let second = message.len();
-        assert_eq!(rt; second, 205);
-        push_label(&mut message, len)?;
-        message.push(0xC0)?;
-        message.push(0x0C)?;
-        assert_eq!(rt; refusal(alloc, &message, second), number);
-    }
+fn reads_a_name_of_255_bytes(rt: HostRuntime) -> Result<(), Fail> {
+    let message = message_of(rt.alloc(), &[63, 63, 63, 61])?;
+    assert!(rt; extent(rt.alloc(), &message, 12) == Some((4, 267)));
+    Ok(())
+}
+
+/// The number of the refusal where as many bytes are left of a message.
+fn cut_refusal(alloc: Global, message: &[u8], len: usize) -> u8 {
+    refusal(alloc, message.get(..len).unwrap_or(&[]), 12)
+}
+
+#[test]
+fn refuses_a_name_of_256_bytes(rt: HostRuntime) -> Result<(), Fail> {
+    let message = message_of(rt.alloc(), &[63, 63, 63, 62])?;
+    assert!(rt; refusal(rt.alloc(), &message, 12) == 5);
+    // where the buffer ends inside the last label, that comes first
+    assert!(rt; cut_refusal(rt.alloc(), &message, 266) == 4);
+    assert!(rt; cut_refusal(rt.alloc(), &message, 267) == 5);
+    Ok(())
+}
+
+/// Three long labels, and behind them a name of one label of as many bytes that points at them.
+fn pointing_message(alloc: Global, len: u8) -> Result<Vec<u8>, Fail> {
+    let mut message = message_of(alloc, &[63, 63, 63])?;
+    push_label(&mut message, len)?;
+    message.push(0xC0)?;
+    message.push(0x0C)?;
+    Ok(message)
+}
+
+/// The number of the refusal of a label of as many bytes before three long ones.
+fn pointing_refusal(alloc: Global, len: u8) -> Result<u8, Fail> {
+    let message = pointing_message(alloc, len)?;
+    Ok(refusal(alloc, &message, 205))
+}
+
+#[test]
+fn limits_length_behind_a_pointer(rt: HostRuntime) -> Result<(), Fail> {
+    let first = message_of(rt.alloc(), &[63, 63, 63])?.len();
+    assert!(rt; first == 205);
+    let longest = pointing_refusal(rt.alloc(), 61)?;
+    assert!(rt; longest == 0);
+    let longer = pointing_refusal(rt.alloc(), 62)?;
+    assert!(rt; longer == 5);
     Ok(())
 }
 
 #[test]
-fn is_root_by_flag(rt: HostRuntime) -> Result<(), Fail> {
+fn the_root_has_no_label(rt: HostRuntime) {
+    let name = Name::root(rt.alloc());
+    assert!(rt; name.is_root() && has_labels(&name, &[]));
+}
+
+#[test]
+fn a_relative_name_without_labels_is_no_root(rt: HostRuntime) {
     let mut name = Name::root(rt.alloc());
-    assert!(rt; name.is_root());
-    assert_eq!(rt; name.label_count(), 0);
-    assert_eq!(rt; name.label(0), None);
     name.set_fqdn(false);
     assert!(rt; !name.is_fqdn());
     assert!(rt; !name.is_root());
-    let (mut name, _) = read_at(rt.alloc(), b"\x01*\x03com\0", 0)?;
-    assert!(rt; !name.is_root());
+}
+
+#[test]
+fn a_name_with_labels_is_no_root(rt: HostRuntime) {
+    let bytes = b"\x01*\x03com\0";
+    assert!(rt; extent(rt.alloc(), bytes, 0) == Some((2, 7)));
+    assert!(rt; end_of_root(rt.alloc(), bytes, 0) == None);
+}
+
+/// The copy of a name that is read from these bytes and made relative.
+fn relative_copy(alloc: Global, bytes: &[u8]) -> Result<Name, Fail> {
+    let (mut name, _) = read_at(alloc, bytes, 0)?;
     name.set_fqdn(false);
-    let copy = name.clone()?;
+    Ok(name.clone()?)
+}
+
+#[test]
+fn a_copy_has_the_flag_and_the_labels(rt: HostRuntime) -> Result<(), Fail> {
+    let copy = relative_copy(rt.alloc(), b"\x01*\x03com\0")?;
     assert!(rt; !copy.is_fqdn());
-    assert_eq!(rt; copy.label_count(), 2);
-    assert_eq!(rt; copy.label(0), Some(b"*".as_slice()));
+    assert!(rt; copy.label_count() == 2);
+    assert!(rt; copy.label(0) == Some(b"*".as_slice()));
     Ok(())
 }

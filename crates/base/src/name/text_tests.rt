@@ -1,11 +1,12 @@
+use super::tests::has_labels;
 use super::*;
 use crate::error::ParseError;
 use crate::lower_name::LowerName;
 use crate::record_type::RecordType;
 use crate::rr_key::RrKey;
+use crate::types_tests::shows;
 use std::cmp::Ordering;
 use std::hash::{DefaultHasher, Hash, Hasher};
-use std::process::Abort;
 use std::test::Fail;
 
 /// The number of the refusal; 0 where a name is read.
@@ -44,10 +45,17 @@ fn long_text(alloc: Global, lens: &[usize]) -> Result<String, Fail> {
     Ok(text)
 }
 
+/// Whether a text is read and prints as another.
+fn prints(alloc: Global, text: &str, origin: Option<&Name>, printed: &str) -> bool {
+    match Name::parse(alloc, text, origin) {
+        Ok(read) => shows(alloc, &read, printed),
+        Err(_) => false,
+    }
+}
+
 #[test]
-fn prints_what_it_reads(rt: HostRuntime) -> Result<(), Fail> {
-    let alloc = rt.alloc();
-    for (text, printed) in [
+fn prints_what_it_reads(rt: HostRuntime) {
+    for &(text, printed) in &[
         ("www.example.com.", "www.example.com."),
         ("WWW.Example.com", "WWW.Example.com"),
         (".", "."),
@@ -67,58 +75,72 @@ fn prints_what_it_reads(rt: HostRuntime) -> Result<(), Fail> {
         ("*._sip._tcp.", "*._sip._tcp."),
         (r"\092.\046.", r"\\.\.."),
     ] {
-        assert_eq!(rt; name(alloc, text)?.to_string(alloc)?.as_str(), printed);
+        assert!(rt; prints(rt.alloc(), text, None, printed));
     }
-    let mut nameless = Name::root(alloc);
+}
+
+#[test]
+fn a_relative_name_without_labels_prints_as_nothing(rt: HostRuntime) {
+    let mut nameless = Name::root(rt.alloc());
     nameless.set_fqdn(false);
-    assert_eq!(rt; nameless.to_string(alloc)?.as_str(), "");
-    Ok(())
+    assert!(rt; shows(rt.alloc(), &nameless, ""));
 }
 
 #[test]
 fn reads_labels_of_bytes(rt: HostRuntime) -> Result<(), Fail> {
-    let alloc = rt.alloc();
-    let read = name(alloc, r"\065b\.\255.\@.c")?;
+    let read = name(rt.alloc(), r"\065b\.\255.\@.c")?;
     assert!(rt; !read.is_fqdn());
-    assert_eq!(rt; read.label_count(), 3);
-    assert_eq!(rt; read.label(0), Some(b"Ab.\xFF".as_slice()));
-    assert_eq!(rt; read.label(1), Some(b"@".as_slice()));
-    assert_eq!(rt; read.label(2), Some(b"c".as_slice()));
-    assert!(rt; name(alloc, ".")?.is_root());
+    assert!(rt; has_labels(&read, &[b"Ab.\xFF", b"@", b"c"]));
     Ok(())
 }
 
 #[test]
-fn refuses_texts(rt: HostRuntime) -> Result<(), Fail> {
-    let alloc = rt.alloc();
-    for text in [
+fn a_dot_reads_as_the_root(rt: HostRuntime) -> Result<(), Fail> {
+    let read = name(rt.alloc(), ".")?;
+    assert!(rt; read.is_root());
+    Ok(())
+}
+
+#[test]
+fn refuses_texts(rt: HostRuntime) {
+    for &text in &[
         "", "..", "a..b", ".a", "a..", r"\25", r"\2", r"\256", r"\999", r"\2a5", r"a\", "@", "a b",
         " ", "a\tb", "\u{7F}", "\u{E9}", "\\\u{E9}", r"\1 2",
     ] {
-        assert_eq!(rt; refusal(alloc, text, None), 23, "{text}");
+        assert!(rt; refusal(rt.alloc(), text, None) == 23);
     }
-    assert_eq!(rt; refusal(alloc, &long_text(alloc, &[63])?, None), 0);
-    assert_eq!(rt; refusal(alloc, &long_text(alloc, &[64])?, None), 23);
-    assert_eq!(rt;
-        refusal(alloc, &long_text(alloc, &[63, 63, 63, 61])?, None),
-        0
-    );
-    assert_eq!(rt;
-        refusal(alloc, &long_text(alloc, &[63, 63, 63, 62])?, None),
-        23
-    );
-    assert_eq!(rt;
-        refusal(alloc, &long_text(alloc, &[63, 63, 63, 63])?, None),
-        23
-    );
+}
+
+/// The number of the refusal of labels of as many letters; 0 where they are read.
+fn length_refusal(alloc: Global, lens: &[usize]) -> Result<u8, Fail> {
+    let text = long_text(alloc, lens)?;
+    Ok(refusal(alloc, &text, None))
+}
+
+#[test]
+fn limits_the_length_of_a_label(rt: HostRuntime) -> Result<(), Fail> {
+    let longest = length_refusal(rt.alloc(), &[63])?;
+    assert!(rt; longest == 0);
+    let longer = length_refusal(rt.alloc(), &[64])?;
+    assert!(rt; longer == 23);
+    Ok(())
+}
+
+#[test]
+fn limits_the_length_of_a_name(rt: HostRuntime) -> Result<(), Fail> {
+    let longest = length_refusal(rt.alloc(), &[63, 63, 63, 61])?;
+    assert!(rt; longest == 0);
+    let longer = length_refusal(rt.alloc(), &[63, 63, 63, 62])?;
+    assert!(rt; longer == 23);
+    let of_long_labels = length_refusal(rt.alloc(), &[63, 63, 63, 63])?;
+    assert!(rt; of_long_labels == 23);
     Ok(())
 }
 
 #[test]
 fn completes_by_the_origin(rt: HostRuntime) -> Result<(), Fail> {
-    let alloc = rt.alloc();
-    let origin = name(alloc, "Example.com.")?;
-    for (text, printed) in [
+    let origin = name(rt.alloc(), "Example.com.")?;
+    for &(text, printed) in &[
         ("www", "www.Example.com."),
         ("a.b", "a.b.Example.com."),
         ("www.", "www."),
@@ -127,38 +149,67 @@ fn completes_by_the_origin(rt: HostRuntime) -> Result<(), Fail> {
         ("@.", r"\@."),
         (r"\@", r"\@.Example.com."),
     ] {
-        assert_eq!(rt;
-            Name::parse(alloc, text, Some(&origin))?
-                .to_string(alloc)?
-                .as_str(),
-            printed
-        );
+        assert!(rt; prints(rt.alloc(), text, Some(&origin), printed));
     }
-    let root = Name::root(alloc);
-    assert_eq!(rt;
-        Name::parse(alloc, "a", Some(&root))?
-            .to_string(alloc)?
-            .as_str(),
-        "a."
-    );
-    let long = name(alloc, &long_text(alloc, &[63, 63, 63])?)?;
-    let mut text = String::new(alloc);
-    push_label(&mut text, 61)?;
-    assert_eq!(rt; refusal(alloc, &text, Some(&long)), 0);
-    push_label(&mut text, 1)?;
-    assert_eq!(rt; refusal(alloc, &text, Some(&long)), 23);
-    assert_eq!(rt; refusal(alloc, "", Some(&origin)), 23);
     Ok(())
 }
 
 #[test]
+fn an_empty_text_is_refused_with_an_origin_too(rt: HostRuntime) -> Result<(), Fail> {
+    let origin = name(rt.alloc(), "Example.com.")?;
+    assert!(rt; refusal(rt.alloc(), "", Some(&origin)) == 23);
+    Ok(())
+}
+
+#[test]
+fn completes_by_the_root(rt: HostRuntime) {
+    let root = Name::root(rt.alloc());
+    assert!(rt; prints(rt.alloc(), "a", Some(&root), "a."));
+}
+
+/// The number of the refusal of a label of as many letters before an origin of three long ones.
+fn completed_refusal(alloc: Global, len: usize) -> Result<u8, Fail> {
+    let long = name(alloc, &long_text(alloc, &[63, 63, 63])?)?;
+    let mut text = String::new(alloc);
+    push_label(&mut text, len)?;
+    Ok(refusal(alloc, &text, Some(&long)))
+}
+
+#[test]
+fn limits_the_length_with_the_origin(rt: HostRuntime) -> Result<(), Fail> {
+    let longest = completed_refusal(rt.alloc(), 61)?;
+    assert!(rt; longest == 0);
+    let longer = completed_refusal(rt.alloc(), 62)?;
+    assert!(rt; longer == 23);
+    Ok(())
+}
+
+/// Whether two texts read as equal names.
+fn are_equal(alloc: Global, one: &str, other: &str) -> Result<bool, ParseError> {
+    let first = name(alloc, one)?;
+    let second = name(alloc, other)?;
+    Ok(first == second)
+}
+
+/// The hash of the name that a text reads as.
+fn text_hash(alloc: Global, text: &str) -> Result<u64, ParseError> {
+    let read = name(alloc, text)?;
+    Ok(hash_of(&read))
+}
+
+#[test]
 fn equal_in_any_case(rt: HostRuntime) -> Result<(), Fail> {
-    let alloc = rt.alloc();
-    let upper = name(alloc, "WWW.a.")?;
-    let lower = name(alloc, "www.A.")?;
-    assert_eq!(rt; upper, lower);
-    assert_eq!(rt; hash_of(&upper), hash_of(&lower));
-    for (one, other) in [
+    let is_equal = are_equal(rt.alloc(), "WWW.a.", "www.A.")?;
+    assert!(rt; is_equal);
+    let upper = text_hash(rt.alloc(), "WWW.a.")?;
+    let lower = text_hash(rt.alloc(), "www.A.")?;
+    assert!(rt; upper == lower);
+    Ok(())
+}
+
+#[test]
+fn other_names_are_unequal(rt: HostRuntime) -> Result<(), Fail> {
+    for &(one, other) in &[
         ("a.", "a"),
         ("a.", "b."),
         ("a.b.", r"a\.b."),
@@ -167,14 +218,21 @@ fn equal_in_any_case(rt: HostRuntime) -> Result<(), Fail> {
         (r"\192.", r"\224."),
         ("a.", "a.a."),
     ] {
-        assert!(rt; name(alloc, one)? != name(alloc, other)?, "{one} {other}");
+        let is_equal = are_equal(rt.alloc(), one, other)?;
+        assert!(rt; !is_equal);
     }
     Ok(())
 }
 
+/// The order of the names that two texts read as.
+fn order(alloc: Global, one: &str, other: &str) -> Result<Ordering, ParseError> {
+    let first = name(alloc, one)?;
+    let second = name(alloc, other)?;
+    Ok(first.cmp(&second))
+}
+
 #[test]
 fn orders_names(rt: HostRuntime) -> Result<(), Fail> {
-    let alloc = rt.alloc();
     // relative names first; then the example of RFC 4034, 6.1
     let texts = [
         "a",
@@ -197,21 +255,25 @@ fn orders_names(rt: HostRuntime) -> Result<(), Fail> {
     ];
     for (i, one) in texts.iter().enumerate() {
         for (j, other) in texts.iter().enumerate() {
-            let order = name(alloc, one)?.cmp(&name(alloc, other)?);
-            assert_eq!(rt; order, i.cmp(&j), "{one} {other}");
+            let answer = order(rt.alloc(), one, other)?;
+            assert!(rt; answer == i.cmp(&j));
         }
     }
-    assert_eq!(rt;
-        name(alloc, "A.b.")?.cmp(&name(alloc, "a.B.")?),
-        Ordering::Equal
-    );
+    let of_cases = order(rt.alloc(), "A.b.", "a.B.")?;
+    assert!(rt; of_cases == Ordering::Equal);
     Ok(())
+}
+
+/// Whether the zone that a text reads as holds the name that another reads as.
+fn holds(alloc: Global, zone: &str, inner: &str) -> Result<bool, ParseError> {
+    let outer = name(alloc, zone)?;
+    let owner = name(alloc, inner)?;
+    Ok(outer.zone_of(&owner))
 }
 
 #[test]
 fn zones(rt: HostRuntime) -> Result<(), Fail> {
-    let alloc = rt.alloc();
-    for (zone, inner, expected) in [
+    for &(zone, inner, expected) in &[
         ("com.", "www.example.COM.", true),
         ("Example.com.", "www.example.COM.", true),
         ("www.example.com.", "www.example.com.", true),
@@ -227,19 +289,34 @@ fn zones(rt: HostRuntime) -> Result<(), Fail> {
         ("a.com.", "b.com.", false),
         ("b.com.", r"a\.b.com.", false),
     ] {
-        let holds = name(alloc, zone)?.zone_of(&name(alloc, inner)?);
-        assert_eq!(rt; holds, expected, "{zone} {inner}");
+        let is_inside = holds(rt.alloc(), zone, inner)?;
+        assert!(rt; is_inside == expected);
     }
     Ok(())
 }
 
+/// The lowered name that a text reads as.
+fn lower(alloc: Global, text: &str) -> Result<LowerName, Fail> {
+    Ok(LowerName::new(&name(alloc, text)?)?)
+}
+
 fn key(alloc: Global, text: &str, record_type: RecordType) -> Result<RrKey, Fail> {
-    Ok(RrKey::new(LowerName::new(&name(alloc, text)?)?, record_type))
+    Ok(RrKey::new(lower(alloc, text)?, record_type))
+}
+
+/// The order of the keys of two texts and types.
+fn key_order(
+    alloc: Global,
+    one: (&str, RecordType),
+    other: (&str, RecordType),
+) -> Result<Ordering, Fail> {
+    let first = key(alloc, one.0, one.1)?;
+    let second = key(alloc, other.0, other.1)?;
+    Ok(first.cmp(&second))
 }
 
 #[test]
 fn orders_keys(rt: HostRuntime) -> Result<(), Fail> {
-    let alloc = rt.alloc();
     let rows = [
         ("z", RecordType::ANY),
         ("A.", RecordType::A),
@@ -247,25 +324,34 @@ fn orders_keys(rt: HostRuntime) -> Result<(), Fail> {
         ("B.a.", RecordType::A),
         ("b.", RecordType::A),
     ];
-    for (i, (one, one_type)) in rows.iter().enumerate() {
-        let first = key(alloc, one, *one_type)?;
-        for (j, (other, other_type)) in rows.iter().enumerate() {
-            let second = key(alloc, other, *other_type)?;
-            assert_eq!(rt; first.cmp(&second), i.cmp(&j));
+    for (i, one) in rows.iter().enumerate() {
+        for (j, other) in rows.iter().enumerate() {
+            let answer = key_order(rt.alloc(), *one, *other)?;
+            assert!(rt; answer == i.cmp(&j));
         }
     }
     Ok(())
 }
 
 #[test]
-fn lowers_names(rt: HostRuntime) -> Result<(), Fail> {
-    let alloc = rt.alloc();
-    let lower = LowerName::new(&name(alloc, "WWW.Example.Com")?)?;
-    assert_eq!(rt; lower.to_string(alloc)?.as_str(), "www.example.com");
-    let copy = lower.clone()?;
-    assert_eq!(rt; copy, lower);
-    let one = key(alloc, "A.b.", RecordType::MX)?;
-    let other = key(alloc, "a.B.", RecordType::MX)?;
-    assert_eq!(rt; one, other);
+fn keys_are_equal_in_any_case(rt: HostRuntime) -> Result<(), Fail> {
+    let one = key(rt.alloc(), "A.b.", RecordType::MX)?;
+    let other = key(rt.alloc(), "a.B.", RecordType::MX)?;
+    assert!(rt; one == other);
+    Ok(())
+}
+
+#[test]
+fn prints_a_lowered_name(rt: HostRuntime) -> Result<(), Fail> {
+    let lowered = lower(rt.alloc(), "WWW.Example.Com")?;
+    assert!(rt; shows(rt.alloc(), &lowered, "www.example.com"));
+    Ok(())
+}
+
+#[test]
+fn copies_a_lowered_name(rt: HostRuntime) -> Result<(), Fail> {
+    let lowered = lower(rt.alloc(), "WWW.Example.Com")?;
+    let copy = lowered.clone()?;
+    assert!(rt; copy == lowered);
     Ok(())
 }
