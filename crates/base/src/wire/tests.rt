@@ -1,6 +1,7 @@
 mod items;
 mod names;
 mod numbers;
+mod numbers_read;
 
 use super::*;
 use crate::dns_class::DNSClass;
@@ -8,7 +9,6 @@ use crate::error::{DecodeError, ProtoError};
 use crate::name::Name;
 use crate::record_type::RecordType;
 use std::alloc::Global;
-use std::process::Abort;
 use std::test::Fail;
 
 /// The name that these bytes spell.
@@ -16,17 +16,26 @@ fn name_of(alloc: Global, bytes: &[u8]) -> Result<Name, DecodeError> {
     Name::read(&mut BinDecoder::new(alloc, bytes))
 }
 
-fn expect_bytes(rt: &impl Abort, bytes: &[u8], wanted: &[u8]) {
-    assert_eq!(rt; bytes.len(), wanted.len());
-    for (i, byte) in wanted.iter().enumerate() {
-        assert_eq!(rt; bytes.get(i), Some(byte), "at {i}");
-    }
+/// Writes the name that these bytes spell.
+fn emit_name(alloc: Global, name: &[u8], encoder: &mut BinEncoder<'_>) -> Result<(), Fail> {
+    let name = name_of(alloc, name)?;
+    name.emit(encoder)?;
+    Ok(())
 }
 
-fn expect_part(rt: &impl Abort, bytes: Option<&[u8]>, wanted: &[u8]) {
-    match bytes {
-        Some(part) => expect_bytes(rt, part, wanted),
-        None => assert!(rt; false, "too short"),
+/// Writes these names, one after another.
+fn emit_names(alloc: Global, names: &[&[u8]], encoder: &mut BinEncoder<'_>) -> Result<(), Fail> {
+    for name in names {
+        emit_name(alloc, *name, encoder)?;
+    }
+    Ok(())
+}
+
+/// Whether there is a part, and it has these bytes.
+fn part_is(part: Option<&[u8]>, wanted: &[u8]) -> bool {
+    match part {
+        Some(part) => part == wanted,
+        None => false,
     }
 }
 
@@ -38,44 +47,66 @@ fn refusal(answer: Result<(), ProtoError>) -> u8 {
     }
 }
 
+fn write_types_and_classes(bytes: &mut Vec<u8>) -> Result<(), ProtoError> {
+    let mut encoder = BinEncoder::new(bytes);
+    RecordType::MX.emit(&mut encoder)?;
+    RecordType::ANAME.emit(&mut encoder)?;
+    RecordType::Unknown(1000).emit(&mut encoder)?;
+    DNSClass::IN.emit(&mut encoder)?;
+    DNSClass::for_opt(1232).emit(&mut encoder)
+}
+
+fn type_is_next(decoder: &mut BinDecoder<'_>, wanted: RecordType) -> bool {
+    match &RecordType::read(decoder) {
+        Ok(found) => *found == wanted,
+        Err(_) => false,
+    }
+}
+
+fn class_is_next(decoder: &mut BinDecoder<'_>, wanted: DNSClass) -> bool {
+    match &DNSClass::read(decoder) {
+        Ok(found) => *found == wanted,
+        Err(_) => false,
+    }
+}
+
 #[test]
 fn numbers_of_types_and_classes(rt: HostRuntime) -> Result<(), Fail> {
     let mut bytes = Vec::new(rt.alloc());
-    {
-        let mut encoder = BinEncoder::new(&mut bytes);
-        RecordType::MX.emit(&mut encoder)?;
-        RecordType::ANAME.emit(&mut encoder)?;
-        RecordType::Unknown(1000).emit(&mut encoder)?;
-        DNSClass::IN.emit(&mut encoder)?;
-        DNSClass::for_opt(1232).emit(&mut encoder)?;
-    }
-    expect_bytes(&rt, &bytes, b"\x00\x0F\xFF\x19\x03\xE8\x00\x01\x04\xD0");
-    let mut decoder = BinDecoder::new(rt.alloc(), &bytes);
-    assert_eq!(rt; RecordType::read(&mut decoder)?, RecordType::MX);
-    assert_eq!(rt; RecordType::read(&mut decoder)?, RecordType::ANAME);
-    assert_eq!(rt; RecordType::read(&mut decoder)?, RecordType::Unknown(1000));
-    assert_eq!(rt; DNSClass::read(&mut decoder)?, DNSClass::IN);
-    assert_eq!(rt; DNSClass::read(&mut decoder)?, DNSClass::Unknown(1232));
-    assert!(rt; DNSClass::read(&mut decoder).is_err());
+    write_types_and_classes(&mut bytes)?;
+    assert!(rt; bytes.as_slice() == b"\x00\x0F\xFF\x19\x03\xE8\x00\x01\x04\xD0".as_slice());
     Ok(())
+}
+
+#[test]
+fn types_and_classes_of_numbers(rt: HostRuntime) {
+    let bytes = b"\x00\x0F\xFF\x19\x03\xE8\x00\x01\x04\xD0";
+    let mut decoder = BinDecoder::new(rt.alloc(), bytes.as_slice());
+    assert!(rt; type_is_next(&mut decoder, RecordType::MX));
+    assert!(rt; type_is_next(&mut decoder, RecordType::ANAME));
+    assert!(rt; type_is_next(&mut decoder, RecordType::Unknown(1000)));
+    assert!(rt; class_is_next(&mut decoder, DNSClass::IN));
+    assert!(rt; class_is_next(&mut decoder, DNSClass::Unknown(1232)));
+    assert!(rt; DNSClass::read(&mut decoder).is_err());
+}
+
+/// Writes the name twice and a number, and answers the refusal of a number past the limit.
+fn write_sized(name: &Name, bytes: &mut Vec<u8>) -> Result<u8, ProtoError> {
+    let mut encoder = BinEncoder::new(bytes);
+    emit_sized(name, &mut encoder)?;
+    emit_sized(name, &mut encoder)?;
+    emit_sized(&7u16, &mut encoder)?;
+    encoder.set_max_size(18);
+    Ok(refusal(emit_sized(&7u16, &mut encoder)))
 }
 
 #[test]
 fn sized_counts_what_is_written(rt: HostRuntime) -> Result<(), Fail> {
     let name = name_of(rt.alloc(), b"\x03www\x03org\0")?;
     let mut bytes = Vec::new(rt.alloc());
-    {
-        let mut encoder = BinEncoder::new(&mut bytes);
-        emit_sized(&name, &mut encoder)?;
-        emit_sized(&name, &mut encoder)?;
-        emit_sized(&7u16, &mut encoder)?;
-        encoder.set_max_size(18);
-        assert_eq!(rt; refusal(emit_sized(&7u16, &mut encoder)), 1);
-    }
-    expect_bytes(
-        &rt,
-        &bytes,
-        b"\x00\x09\x03www\x03org\0\x00\x02\xC0\x02\x00\x02\x00\x07",
-    );
+    let past = write_sized(&name, &mut bytes)?;
+    assert!(rt; past == 1);
+    let wanted = b"\x00\x09\x03www\x03org\0\x00\x02\xC0\x02\x00\x02\x00\x07";
+    assert!(rt; bytes.as_slice() == wanted.as_slice());
     Ok(())
 }

@@ -5,110 +5,133 @@ fn written(alloc: Global, names: &[&[u8]]) -> Result<Vec<u8>, Fail> {
     let mut bytes = Vec::new(alloc);
     {
         let mut encoder = BinEncoder::new(&mut bytes);
-        for name in names {
-            name_of(alloc, *name)?.emit(&mut encoder)?;
-        }
+        emit_names(alloc, names, &mut encoder)?;
     }
     Ok(bytes)
+}
+
+/// Whether these names, one after another, are written so.
+fn are_written(alloc: Global, names: &[&[u8]], wanted: &[u8]) -> Result<bool, Fail> {
+    let bytes = written(alloc, names)?;
+    Ok(bytes.as_slice() == wanted)
 }
 
 #[test]
 fn points_to_stored_suffixes(rt: HostRuntime) -> Result<(), Fail> {
-    let alloc = rt.alloc();
-    let bytes = written(
-        alloc,
-        &[b"\x01a\x01b\0".as_slice(), b"\x01c\x01b\0".as_slice()],
-    )?;
-    expect_bytes(&rt, &bytes, b"\x01a\x01b\0\x01c\xC0\x02");
-    let bytes = written(
-        alloc,
-        &[
-            b"\x01a\x01b\0".as_slice(),
-            b"\x01a\x01b\0".as_slice(),
-            b"\x01b\0".as_slice(),
-            b"\0".as_slice(),
-            b"\x01a\0".as_slice(),
-        ],
-    )?;
-    expect_bytes(&rt, &bytes, b"\x01a\x01b\0\xC0\x00\xC0\x02\0\x01a\0");
-    let bytes = written(
-        alloc,
-        &[
-            b"\x01a\0".as_slice(),
-            b"\x01A\0".as_slice(),
-            b"\x01A\0".as_slice(),
-        ],
-    )?;
-    // letters are compared as they are
-    expect_bytes(&rt, &bytes, b"\x01a\0\x01A\0\xC0\x03");
+    let names = [b"\x01a\x01b\0".as_slice(), b"\x01c\x01b\0".as_slice()];
+    assert!(rt; are_written(rt.alloc(), &names, b"\x01a\x01b\0\x01c\xC0\x02")?);
     // c.b. is stored at 5, and spelled by a pointer from 7 on
-    let bytes = written(
-        alloc,
-        &[
-            b"\x01a\x01b\0".as_slice(),
-            b"\x01c\x01b\0".as_slice(),
-            b"\x01d\x01c\x01b\0".as_slice(),
-        ],
-    )?;
-    expect_bytes(&rt, &bytes, b"\x01a\x01b\0\x01c\xC0\x02\x01d\xC0\x05");
+    let names = [
+        b"\x01a\x01b\0".as_slice(),
+        b"\x01c\x01b\0".as_slice(),
+        b"\x01d\x01c\x01b\0".as_slice(),
+    ];
+    assert!(rt;
+        are_written(
+            rt.alloc(),
+            &names,
+            b"\x01a\x01b\0\x01c\xC0\x02\x01d\xC0\x05"
+        )?
+    );
     Ok(())
 }
 
-/// What is written of a name behind twelve bytes, four bytes, and another name.
-fn asked_and_answered(alloc: Global, first: &[u8], second: &[u8]) -> Result<Vec<u8>, Fail> {
-    let first = name_of(alloc, first)?;
-    let second = name_of(alloc, second)?;
+#[test]
+fn points_to_whole_names(rt: HostRuntime) -> Result<(), Fail> {
+    let names = [
+        b"\x01a\x01b\0".as_slice(),
+        b"\x01a\x01b\0".as_slice(),
+        b"\x01b\0".as_slice(),
+        b"\0".as_slice(),
+        b"\x01a\0".as_slice(),
+    ];
+    assert!(rt; are_written(rt.alloc(), &names, b"\x01a\x01b\0\xC0\x00\xC0\x02\0\x01a\0")?);
+    Ok(())
+}
+
+#[test]
+fn compares_letters_as_they_are(rt: HostRuntime) -> Result<(), Fail> {
+    let names = [
+        b"\x01a\0".as_slice(),
+        b"\x01A\0".as_slice(),
+        b"\x01A\0".as_slice(),
+    ];
+    assert!(rt; are_written(rt.alloc(), &names, b"\x01a\0\x01A\0\xC0\x03")?);
+    Ok(())
+}
+
+/// Writes a name behind twelve bytes, four bytes, and another name.
+fn ask_and_answer(
+    alloc: Global,
+    first: &[u8],
+    second: &[u8],
+    encoder: &mut BinEncoder<'_>,
+) -> Result<(), Fail> {
+    encoder.emit_slice(&[0; 12])?;
+    emit_name(alloc, first, encoder)?;
+    encoder.emit_slice(&[0, 1, 0, 1])?;
+    emit_name(alloc, second, encoder)
+}
+
+/// Whether what stands behind the twelve bytes is written so.
+fn is_asked_and_answered(
+    alloc: Global,
+    first: &[u8],
+    second: &[u8],
+    wanted: &[u8],
+) -> Result<bool, Fail> {
     let mut bytes = Vec::new(alloc);
     {
         let mut encoder = BinEncoder::new(&mut bytes);
-        encoder.emit_slice(&[0; 12])?;
-        first.emit(&mut encoder)?;
-        encoder.emit_slice(&[0, 1, 0, 1])?;
-        second.emit(&mut encoder)?;
+        ask_and_answer(alloc, first, second, &mut encoder)?;
     }
-    Ok(bytes)
+    Ok(part_is(bytes.get(12..), wanted))
 }
 
 #[test]
 fn points_past_a_header(rt: HostRuntime) -> Result<(), Fail> {
     let alloc = rt.alloc();
-    let bytes = asked_and_answered(alloc, b"\x01a\x01b\0", b"\x01c\x01b\0")?;
-    expect_part(
-        &rt,
-        bytes.get(12..),
-        b"\x01a\x01b\0\0\x01\0\x01\x01c\xC0\x0E",
-    );
-    let bytes = asked_and_answered(alloc, b"\x01a\0", b"\x01A\0")?;
-    expect_part(&rt, bytes.get(12..), b"\x01a\0\0\x01\0\x01\x01A\0");
+    let wanted = b"\x01a\x01b\0\0\x01\0\x01\x01c\xC0\x0E";
+    assert!(rt; is_asked_and_answered(alloc, b"\x01a\x01b\0", b"\x01c\x01b\0", wanted)?);
+    let wanted = b"\x01a\0\0\x01\0\x01\x01A\0";
+    assert!(rt; is_asked_and_answered(alloc, b"\x01a\0", b"\x01A\0", wanted)?);
     Ok(())
 }
 
-/// `a.` at 12, and behind filling `z.a.` twice.
-fn written_far(alloc: Global, filling: usize) -> Result<Vec<u8>, Fail> {
-    let zone = name_of(alloc, b"\x01a\0")?;
-    let owner = name_of(alloc, b"\x01z\x01a\0")?;
+/// Writes as many zeros.
+fn fill(filling: usize, encoder: &mut BinEncoder<'_>) -> Result<(), ProtoError> {
+    for _ in 0..filling {
+        encoder.emit(0)?;
+    }
+    Ok(())
+}
+
+/// Writes `a.` at 12, and behind filling `z.a.` twice.
+fn write_far(alloc: Global, filling: usize, encoder: &mut BinEncoder<'_>) -> Result<(), Fail> {
+    encoder.emit_slice(&[0; 12])?;
+    emit_name(alloc, b"\x01a\0", encoder)?;
+    fill(filling, encoder)?;
+    emit_name(alloc, b"\x01z\x01a\0", encoder)?;
+    emit_name(alloc, b"\x01z\x01a\0", encoder)
+}
+
+/// Whether the owners behind filling begin at a place and are written so.
+fn are_far(alloc: Global, filling: usize, start: usize, wanted: &[u8]) -> Result<bool, Fail> {
     let mut bytes = Vec::new(alloc);
     {
         let mut encoder = BinEncoder::new(&mut bytes);
-        encoder.emit_slice(&[0; 12])?;
-        zone.emit(&mut encoder)?;
-        for _ in 0..filling {
-            encoder.emit(0)?;
-        }
-        owner.emit(&mut encoder)?;
-        owner.emit(&mut encoder)?;
+        write_far(alloc, filling, &mut encoder)?;
     }
-    Ok(bytes)
+    Ok(part_is(bytes.get(start..), wanted))
 }
 
 #[test]
 fn owners_are_stored_near_the_start(rt: HostRuntime) -> Result<(), Fail> {
+    let alloc = rt.alloc();
     // the first owner begins at 0x83
-    let bytes = written_far(rt.alloc(), 116)?;
-    expect_part(&rt, bytes.get(0x83..), b"\x01z\xC0\x0C\xC0\x83");
+    assert!(rt; are_far(alloc, 116, 0x83, b"\x01z\xC0\x0C\xC0\x83")?);
     // the first owner begins at 16,384
-    let bytes = written_far(rt.alloc(), 16369)?;
-    expect_part(&rt, bytes.get(16384..), b"\x01z\xC0\x0C\x01z\xC0\x0C");
+    assert!(rt; are_far(alloc, 16369, 16384, b"\x01z\xC0\x0C\x01z\xC0\x0C")?);
     Ok(())
 }
 
@@ -119,111 +142,137 @@ fn has_label(name: &Name, i: usize, wanted: &[u8]) -> bool {
     }
 }
 
+/// Whether the name that is read next begins with a label.
+fn begins_with(decoder: &mut BinDecoder<'_>, label: &[u8]) -> Result<bool, DecodeError> {
+    let name = Name::read(decoder)?;
+    Ok(has_label(&name, 0, label))
+}
+
+/// Whether the name that is read next has two labels, these, and is fully qualified.
+fn has_labels(
+    decoder: &mut BinDecoder<'_>,
+    first: &[u8],
+    second: &[u8],
+) -> Result<bool, DecodeError> {
+    let name = Name::read(decoder)?;
+    let labels = has_label(&name, 0, first) && has_label(&name, 1, second);
+    Ok(labels && name.label_count() == 2 && name.is_fqdn())
+}
+
+/// Whether two names are read: one that begins with `a`, and `C.b.` that ends with the bytes.
+fn are_read(alloc: Global, bytes: &[u8]) -> Result<bool, DecodeError> {
+    let mut decoder = BinDecoder::new(alloc, bytes);
+    let first = begins_with(&mut decoder, b"a")?;
+    let second = has_labels(&mut decoder, b"C", b"b")?;
+    Ok(first && second && decoder.index() == bytes.len())
+}
+
 #[test]
 fn reads_what_was_written(rt: HostRuntime) -> Result<(), Fail> {
-    let alloc = rt.alloc();
-    let bytes = written(
-        alloc,
-        &[b"\x01a\x01b\0".as_slice(), b"\x01C\x01b\0".as_slice()],
-    )?;
-    let mut decoder = BinDecoder::new(alloc, &bytes);
-    let first = Name::read(&mut decoder)?;
-    let second = Name::read(&mut decoder)?;
-    assert_eq!(rt; decoder.index(), bytes.len());
-    assert!(rt; has_label(&first, 0, b"a"));
-    assert!(rt; has_label(&second, 0, b"C"));
-    assert!(rt; has_label(&second, 1, b"b"));
-    assert_eq!(rt; second.label_count(), 2);
-    assert!(rt; second.is_fqdn());
+    let names = [b"\x01a\x01b\0".as_slice(), b"\x01C\x01b\0".as_slice()];
+    let bytes = written(rt.alloc(), &names)?;
+    let read = are_read(rt.alloc(), &bytes)?;
+    assert!(rt; read);
     Ok(())
+}
+
+/// Whether these names, one after another behind filling, are written so.
+fn are_written_behind(
+    alloc: Global,
+    filling: usize,
+    names: &[&[u8]],
+    wanted: &[u8],
+) -> Result<bool, Fail> {
+    let mut bytes = Vec::new(alloc);
+    {
+        let mut encoder = BinEncoder::new(&mut bytes);
+        fill(filling, &mut encoder)?;
+        emit_names(alloc, names, &mut encoder)?;
+    }
+    Ok(part_is(bytes.get(filling..), wanted))
 }
 
 #[test]
 fn stores_what_a_pointer_reaches(rt: HostRuntime) -> Result<(), Fail> {
-    let alloc = rt.alloc();
-    let near = name_of(alloc, b"\x01a\x01b\0")?;
-    let far = name_of(alloc, b"\x01b\0")?;
-    let mut bytes = Vec::new(alloc);
-    {
-        let mut encoder = BinEncoder::new(&mut bytes);
-        for _ in 0..16382 {
-            encoder.emit(0)?;
-        }
-        // a.b. begins at 16,382 and is stored, b. begins at 16,384 and isn't
-        near.emit(&mut encoder)?;
-        near.emit(&mut encoder)?;
-        far.emit(&mut encoder)?;
-        far.emit(&mut encoder)?;
-    }
-    expect_part(
-        &rt,
-        bytes.get(16382..),
-        b"\x01a\x01b\0\xFF\xFE\x01b\0\x01b\0",
-    );
+    // a.b. begins at 16,382 and is stored, b. begins at 16,384 and isn't
+    let names = [
+        b"\x01a\x01b\0".as_slice(),
+        b"\x01a\x01b\0".as_slice(),
+        b"\x01b\0".as_slice(),
+        b"\x01b\0".as_slice(),
+    ];
+    let wanted = b"\x01a\x01b\0\xFF\xFE\x01b\0\x01b\0";
+    assert!(rt; are_written_behind(rt.alloc(), 16382, &names, wanted)?);
     Ok(())
 }
 
 #[test]
 fn stores_at_the_last_offset(rt: HostRuntime) -> Result<(), Fail> {
-    let alloc = rt.alloc();
-    let name = name_of(alloc, b"\x01a\0")?;
-    let mut bytes = Vec::new(alloc);
-    {
-        let mut encoder = BinEncoder::new(&mut bytes);
-        for _ in 0..16383 {
-            encoder.emit(0)?;
-        }
-        name.emit(&mut encoder)?;
-        name.emit(&mut encoder)?;
-    }
-    expect_part(&rt, bytes.get(16383..), b"\x01a\0\xFF\xFF");
+    let names = [b"\x01a\0".as_slice(), b"\x01a\0".as_slice()];
+    assert!(rt; are_written_behind(rt.alloc(), 16383, &names, b"\x01a\0\xFF\xFF")?);
     Ok(())
+}
+
+/// Whether a second name and a plain one are refused, where only the first fits.
+fn one_fits(first: &Name, second: &Name, bytes: &mut Vec<u8>) -> Result<bool, ProtoError> {
+    let mut encoder = BinEncoder::new(bytes);
+    encoder.set_max_size(8);
+    first.emit(&mut encoder)?;
+    let compressed = refusal(second.emit(&mut encoder));
+    let plain = refusal(first.emit_plain(&mut encoder));
+    Ok(compressed == 1 && plain == 1)
 }
 
 #[test]
 fn refuses_past_the_limit(rt: HostRuntime) -> Result<(), Fail> {
-    let alloc = rt.alloc();
-    let first = name_of(alloc, b"\x01a\x01b\0")?;
-    let second = name_of(alloc, b"\x01c\x01b\0")?;
-    let mut bytes = Vec::new(alloc);
-    {
-        let mut encoder = BinEncoder::new(&mut bytes);
-        encoder.set_max_size(8);
-        first.emit(&mut encoder)?;
-        assert_eq!(rt; refusal(second.emit(&mut encoder)), 1);
-        assert_eq!(rt; refusal(first.emit_plain(&mut encoder)), 1);
-    }
-    expect_part(&rt, bytes.get(..5), b"\x01a\x01b\0");
+    let first = name_of(rt.alloc(), b"\x01a\x01b\0")?;
+    let second = name_of(rt.alloc(), b"\x01c\x01b\0")?;
+    let mut bytes = Vec::new(rt.alloc());
+    let refused = one_fits(&first, &second, &mut bytes)?;
+    assert!(rt; refused);
+    assert!(rt; part_is(bytes.get(..5), b"\x01a\x01b\0"));
     assert!(rt; bytes.len() <= 8);
+    Ok(())
+}
+
+fn write_two(alloc: Global, limit: u16, bytes: &mut Vec<u8>) -> Result<(), Fail> {
+    let mut encoder = BinEncoder::new(bytes);
+    encoder.set_max_size(limit);
+    emit_name(alloc, b"\x01a\x01b\0", &mut encoder)?;
+    emit_name(alloc, b"\x01c\x01b\0", &mut encoder)
+}
+
+#[test]
+fn reaches_the_limit(rt: HostRuntime) -> Result<(), Fail> {
+    let mut bytes = Vec::new(rt.alloc());
+    write_two(rt.alloc(), 9, &mut bytes)?;
+    assert!(rt; bytes.len() == 9);
+    Ok(())
+}
+
+fn write_plain(name: &Name, root: &Name, encoder: &mut BinEncoder<'_>) -> Result<(), ProtoError> {
+    name.emit_plain(encoder)?;
+    name.emit(encoder)?;
+    name.emit_plain(encoder)?;
+    name.emit(encoder)?;
+    root.emit_plain(encoder)
+}
+
+/// What is written of a name, plain and compressed in turn, and of the root.
+fn plain_written(alloc: Global, name: &Name) -> Result<Vec<u8>, ProtoError> {
     let mut bytes = Vec::new(alloc);
     {
         let mut encoder = BinEncoder::new(&mut bytes);
-        encoder.set_max_size(9);
-        first.emit(&mut encoder)?;
-        // the limit itself is reached
-        second.emit(&mut encoder)?;
+        write_plain(name, &Name::root(alloc), &mut encoder)?;
     }
-    assert_eq!(rt; bytes.len(), 9);
-    Ok(())
+    Ok(bytes)
 }
 
 #[test]
 fn plain_names_stand_apart(rt: HostRuntime) -> Result<(), Fail> {
-    let alloc = rt.alloc();
-    let name = name_of(alloc, b"\x01a\x01b\0")?;
-    let mut bytes = Vec::new(alloc);
-    {
-        let mut encoder = BinEncoder::new(&mut bytes);
-        name.emit_plain(&mut encoder)?;
-        name.emit(&mut encoder)?;
-        name.emit_plain(&mut encoder)?;
-        name.emit(&mut encoder)?;
-        Name::root(alloc).emit_plain(&mut encoder)?;
-    }
-    expect_bytes(
-        &rt,
-        &bytes,
-        b"\x01a\x01b\0\x01a\x01b\0\x01a\x01b\0\xC0\x05\0",
-    );
+    let name = name_of(rt.alloc(), b"\x01a\x01b\0")?;
+    let bytes = plain_written(rt.alloc(), &name)?;
+    let wanted = b"\x01a\x01b\0\x01a\x01b\0\x01a\x01b\0\xC0\x05\0";
+    assert!(rt; bytes.as_slice() == wanted.as_slice());
     Ok(())
 }
