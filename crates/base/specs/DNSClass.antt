@@ -76,7 +76,7 @@ class_from_text text =
     if bytes_eq (codes "*") text then Some classes.ANY
     else find (λ c. bytes_eq (class_text c) text) named_classes
 
--- where a class stands among those of its number: a named one, then a payload size
+-- where a class stands among those of its number: a named one, then a payload size, then an unknown class
 abbrev pub class_rank : DNSClass → ℕ
 class_rank (classes.OPT payload) = 1
 class_rank (classes.Unknown number) = 2

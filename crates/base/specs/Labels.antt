@@ -6,12 +6,12 @@ pub record NameValue : Type 0 where
   pub labels : List (List ℕ)
   pub absolute : Bool
 
--- the bytes of the labels, each with its length before it
+-- how many bytes the labels are, each with its length before it
 abbrev pub size_of : List (List ℕ) → ℕ
 size_of [] = 0
 size_of (label ∷ labels) = 1 + length label + size_of labels
 
--- the bytes of a name without compression, its final zero byte counted
+-- how many bytes a name is without compression, its final zero byte counted
 abbrev pub plain_len : List (List ℕ) → ℕ
 plain_len labels = size_of labels + 1
 
@@ -20,6 +20,7 @@ pub record IsLabel (label : List ℕ) : Type 0 where
   pub some : 1 ≤ length label
   pub short : length label ≤ 63
 
+-- each is a label
 abbrev pub AreLabels : List (List ℕ) → Type 0
 AreLabels [] = Unit {0}
 AreLabels (label ∷ labels) = IsLabel label × AreLabels labels

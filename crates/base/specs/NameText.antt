@@ -18,6 +18,7 @@ decimal_text b = 92 ∷ (48 + b / 100) ∷ (48 + b / 10 % 10) ∷ (48 + b % 10) 
 abbrev pub byte_text : ℕ → List ℕ
 byte_text b = if nat_lt b 33 || nat_lt 126 b then decimal_text b else (if is_special b then 92 ∷ b ∷ [] else b ∷ [])
 
+-- the text of a label: that of its bytes, one behind the other
 abbrev pub label_text : List ℕ → List ℕ
 label_text label = flat_map byte_text label
 

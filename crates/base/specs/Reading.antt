@@ -5,6 +5,7 @@ use Rattle.base.specs.declared.error.decode_error.DecodeError.{DecodeError}
 use Rattle.base.specs.declared.error.decode_error.DecodeError.TheVariants as faults
 use Rattle.base.specs.Reader.{Reader}
 
+-- what reading gives: a value and the place behind it, or the first fault
 abbrev pub Read : Type 0 → Type 0
 Read A = Result (A × ℕ) DecodeError
 
@@ -23,11 +24,14 @@ abbrev pub Reads : {X Y : Type 0} → (X → Y) → Reader → Reader → Result
 Reads view old new (Ok x) read = (read ≡ Ok (view x, new.index)) × (new.bytes ≡ old.bytes)
 Reads view old new (Err e) read = Fails e read
 
+-- the byte at a place
 abbrev pub byte_at : List ℕ → ℕ → Read ℕ
 byte_at bytes i = if nat_lt i (length bytes) then Ok (slice_index bytes i, i + 1) else Err faults.InsufficientBytes
 
+-- the number at a place, of one, two or four bytes, the highest first
 abbrev pub number_at : Width → List ℕ → ℕ → Read ℕ
 number_at w bytes i = if nat_lt (length bytes) (i + byte_len w) then Err faults.InsufficientBytes else Ok (from_be_bytes w (take (byte_len w) (drop i bytes)), i + byte_len w)
 
+-- as many bytes from a place on
 abbrev pub bytes_at : ℕ → List ℕ → ℕ → Read (List ℕ)
 bytes_at len bytes i = if nat_lt (length bytes) (i + len) then Err faults.InsufficientBytes else Ok (take len (drop i bytes), i + len)

@@ -27,9 +27,11 @@ pub data SpelledIn (looks : ℕ → Type 0) (bytes : List ℕ) : ℕ → ℕ →
   pointer : {s i b c e : ℕ} {xs : List (List ℕ)} → ByteAt looks bytes i b → ByteAt looks bytes (i + 1) c → 192 ≤ b → target b c < s
       → SpelledIn looks bytes (target b c) (target b c) xs e → SpelledIn looks bytes s i xs (i + 2)
 
+-- every place is looked at
 abbrev pub anywhere : ℕ → Type 0
 anywhere i = Unit {0}
 
+-- the places that are looked at: those before a range and those behind it
 abbrev pub outside : ℕ → ℕ → ℕ → Type 0
 outside from to i = (i < from) ⊎ (to ≤ i)
 

@@ -6,9 +6,11 @@ use Rattle.base.specs.declared.error.proto_error.ProtoError.TheVariants as refus
 use Rattle.base.specs.declared.wire.encoder.BinEncoder.{BinEncoder}
 use Rattle.base.specs.State.{State, Stored}
 
+-- the encoder with the table of suffixes that it has by itself
 abbrev pub Encoder : Type 0
 Encoder = BinEncoder (Vec Stored Global)
 
+-- the bytes written so far, the limit, and the suffixes stored, with their places
 abbrev pub state_of : Encoder → State
 state_of e = record { buffer = e.buffer.ghost_name; bytes = e.buffer.now.items; limit = e.limit; suffixes = e.suffixes.items }
 

@@ -27,17 +27,18 @@ aname_cmp = then_cmp (on (λ x. x.name) canonical_cmp) (on (λ x. x.name) flag_c
 pub aname_cmp-total : IsTotalOrder aname_cmp
 aname_cmp-total = search (canonical_cmp-total, flag_cmp-total, comparing, rules) depth 6
 
--- the word that the fields are written as, one behind the other
+-- the word of the name
 abbrev pub ANAMEWord : ANAME → List ℕ → ℕ → ℕ → Type 0
 ANAMEWord x = NameAt x.name.labels
 
--- the bytes of the fields, names without compression, and how many they are
+-- the bytes of the name, without compression
 abbrev pub aname_wire : ANAME → List ℕ
 aname_wire x = wire_of x.name.labels ++ 0 ∷ []
 
+-- how many bytes the name is without compression
 abbrev pub plain_aname : ANAME → ℕ
 plain_aname x = plain_len x.name.labels
 
--- the fields, with a space between each two
+-- the text of the name
 abbrev pub aname_text : ANAME → List ℕ
 aname_text x = name_text x.name

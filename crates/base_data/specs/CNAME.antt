@@ -27,14 +27,14 @@ cname_cmp = then_cmp (on (λ x. x.name) canonical_cmp) (on (λ x. x.name) flag_c
 pub cname_cmp-total : IsTotalOrder cname_cmp
 cname_cmp-total = search (canonical_cmp-total, flag_cmp-total, comparing, rules) depth 6
 
--- the word that the fields are written as, one behind the other
+-- the word of the name
 abbrev pub CNAMEWord : CNAME → List ℕ → ℕ → ℕ → Type 0
 CNAMEWord x = NameAt x.name.labels
 
--- the bytes of the fields, names without compression
+-- how many bytes the name is without compression
 abbrev pub plain_cname : CNAME → ℕ
 plain_cname x = plain_len x.name.labels
 
--- the fields, with a space between each two
+-- the text of the name
 abbrev pub cname_text : CNAME → List ℕ
 cname_text x = name_text x.name

@@ -19,6 +19,7 @@ pub record IsCompressed (labels : List (List ℕ)) (old new : State) : Type 0 wh
 abbrev pub CompressesMX : MX → State → State → Type 0
 CompressesMX x old new = IsCompressed x.exchange.labels (appended (to_be_bytes w16 x.preference) old) new
 
+-- the five numbers of a SOA as they are written, one behind the other
 abbrev pub soa_numbers : SOA → List ℕ
 soa_numbers x = to_be_bytes w32 x.serial ++ (to_be_bytes w32 x.refresh ++ (to_be_bytes w32 x.retry ++ (to_be_bytes w32 x.expire ++ to_be_bytes w32 x.minimum)))
 

@@ -36,6 +36,7 @@ then_tied p q h =
 number_tied : (a b : ℕ) → nat_cmp a b ≡ Equal → a ≡ b
 number_tied a b h = (unsigned_Decides a b).0 (unsigned_ties a b ∙ ap is_eq h)
 
+-- bytes that the order finds equal are the same
 pub bytes_tied : (a b : List ℕ) → bytes_cmp a b ≡ Equal → a ≡ b
 bytes_tied a b h = (bytes_decides a b).0 (same_bytes-tie a b ∙ ap is_eq h)
 

@@ -35,7 +35,7 @@ DataWord (kinds.TSIG x) = Bytes x
 DataWord (kinds.Update0 type) = Bytes []
 DataWord (kinds.Unknown code x) = Bytes x
 
--- the bytes of data with names uncompressed
+-- how many bytes data is with its names uncompressed
 abbrev pub plain_data : RData → ℕ
 plain_data (kinds.A x) = 4
 plain_data (kinds.AAAA x) = 16

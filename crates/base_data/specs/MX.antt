@@ -34,7 +34,7 @@ mx_cmp-total = search (canonical_cmp-total, flag_cmp-total, comparing, rules) de
 abbrev pub MXWord : MX → List ℕ → ℕ → ℕ → Type 0
 MXWord x = Then (Number w16 x.preference) (NameAt x.exchange.labels)
 
--- the bytes of the fields, names without compression
+-- how many bytes the fields are, names without compression
 abbrev pub plain_mx : MX → ℕ
 plain_mx x = 2 + (plain_len x.exchange.labels)
 

@@ -27,14 +27,14 @@ ns_cmp = then_cmp (on (λ x. x.name) canonical_cmp) (on (λ x. x.name) flag_cmp)
 pub ns_cmp-total : IsTotalOrder ns_cmp
 ns_cmp-total = search (canonical_cmp-total, flag_cmp-total, comparing, rules) depth 6
 
--- the word that the fields are written as, one behind the other
+-- the word of the name
 abbrev pub NSWord : NS → List ℕ → ℕ → ℕ → Type 0
 NSWord x = NameAt x.name.labels
 
--- the bytes of the fields, names without compression
+-- how many bytes the name is without compression
 abbrev pub plain_ns : NS → ℕ
 plain_ns x = plain_len x.name.labels
 
--- the fields, with a space between each two
+-- the text of the name
 abbrev pub ns_text : NS → List ℕ
 ns_text x = name_text x.name

@@ -34,6 +34,7 @@ options_wire (option ∷ options) = option_wire option ++ options_wire options
 abbrev pub option_word : OptionValue → List ℕ → ℕ → ℕ → Type 0
 option_word option = Then (Number w16 option.code) (Then (Number w16 (length option.bytes)) (Bytes option.bytes))
 
+-- how many bytes an option is: its code, the number of its bytes, and those
 abbrev pub option_len : OptionValue → ℕ
 option_len option = 2 + (2 + length option.bytes)
 

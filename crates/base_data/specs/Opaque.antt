@@ -14,6 +14,7 @@ use Rattle.std.specs.declared.cmp.Ordering.{Ordering}
 abbrev pub byte_hex : ℕ → List ℕ
 byte_hex b = digit_char (b / 16) ∷ digit_char (b % 16) ∷ []
 
+-- bytes in hexadecimal digits, two for each
 abbrev pub hex_text : List ℕ → List ℕ
 hex_text bytes = flat_map byte_hex bytes
 

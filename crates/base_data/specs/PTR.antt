@@ -27,14 +27,14 @@ ptr_cmp = then_cmp (on (λ x. x.name) canonical_cmp) (on (λ x. x.name) flag_cmp
 pub ptr_cmp-total : IsTotalOrder ptr_cmp
 ptr_cmp-total = search (canonical_cmp-total, flag_cmp-total, comparing, rules) depth 6
 
--- the word that the fields are written as, one behind the other
+-- the word of the name
 abbrev pub PTRWord : PTR → List ℕ → ℕ → ℕ → Type 0
 PTRWord x = NameAt x.name.labels
 
--- the bytes of the fields, names without compression
+-- how many bytes the name is without compression
 abbrev pub plain_ptr : PTR → ℕ
 plain_ptr x = plain_len x.name.labels
 
--- the fields, with a space between each two
+-- the text of the name
 abbrev pub ptr_text : PTR → List ℕ
 ptr_text x = name_text x.name

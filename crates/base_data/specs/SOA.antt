@@ -39,7 +39,7 @@ soa_cmp-total = search (canonical_cmp-total, flag_cmp-total, comparing, rules) d
 abbrev pub SOAWord : SOA → List ℕ → ℕ → ℕ → Type 0
 SOAWord x = Then (NameAt x.mname.labels) (Then (NameAt x.rname.labels) (Then (Number w32 x.serial) (Then (Number w32 x.refresh) (Then (Number w32 x.retry) (Then (Number w32 x.expire) (Number w32 x.minimum))))))
 
--- the bytes of the fields, names without compression
+-- how many bytes the fields are, names without compression
 abbrev pub plain_soa : SOA → ℕ
 plain_soa x = plain_len x.mname.labels + (plain_len x.rname.labels + (4 + (4 + (4 + (4 + (4))))))
 

@@ -36,10 +36,11 @@ srv_cmp-total = search (canonical_cmp-total, flag_cmp-total, comparing, rules) d
 abbrev pub SRVWord : SRV → List ℕ → ℕ → ℕ → Type 0
 SRVWord x = Then (Number w16 x.priority) (Then (Number w16 x.weight) (Then (Number w16 x.port) (NameAt x.target.labels)))
 
--- the bytes of the fields, names without compression, and how many they are
+-- the bytes of the fields, the name without compression
 abbrev pub srv_wire : SRV → List ℕ
 srv_wire x = to_be_bytes w16 x.priority ++ (to_be_bytes w16 x.weight ++ (to_be_bytes w16 x.port ++ (wire_of x.target.labels ++ 0 ∷ [])))
 
+-- how many bytes the fields are, names without compression
 abbrev pub plain_srv : SRV → ℕ
 plain_srv x = 2 + (2 + (2 + (plain_len x.target.labels)))
 

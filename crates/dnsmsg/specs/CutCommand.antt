@@ -25,10 +25,12 @@ CutsMessage m limit answer =
     ((B : List ℕ) × IsWritten m limit B × (answer ≡ done (hex_line B)))
     ⊎ ((e : ProtoError) × IsTooSmall m limit e × (answer ≡ refused (proto_number e)))
 
+-- the answer to a message that was read, or the number of the fault that reading met
 abbrev pub CutsRead : ℕ → Read MessageValue → Answer → Type 0
 CutsRead limit (Ok (message, end)) answer = CutsMessage message limit answer
 CutsRead limit (Err fault) answer = answer ≡ refused (decode_number fault)
 
+-- the answer to the bytes of the input, or refusal 24 where it isn't hexadecimal
 abbrev pub CutsBuffer : ℕ → Result (List ℕ) FromHexError → Answer → Type 0
 CutsBuffer limit (Ok bytes) answer = CutsRead limit (message_at bytes 0) answer
 CutsBuffer limit (Err fault) answer = answer ≡ refused 24

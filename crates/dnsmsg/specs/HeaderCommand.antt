@@ -13,9 +13,11 @@ use Rattle.op.specs.declared.header.header_counts.HeaderCounts.{HeaderCounts}
 use Rattle.dnsmsg.specs.Answer.{Answer, done, refused}
 use Rattle.dnsmsg.specs.HexInput.{bytes_of}
 
+-- the word `counts` and the four counts, with a space between each two
 abbrev pub counts_text : HeaderCounts → List ℕ
 counts_text counts = join_with_byte 32 (codes "counts" ∷ decimal counts.queries ∷ decimal counts.answers ∷ decimal counts.authorities ∷ decimal counts.additionals ∷ [])
 
+-- three texts, each with the end of its line
 abbrev pub three_lines : List ℕ → List ℕ → List ℕ → List ℕ
 three_lines first second third = first ++ (10 ∷ second ++ (10 ∷ third ++ (10 ∷ [])))
 
@@ -23,10 +25,12 @@ three_lines first second third = first ++ (10 ∷ second ++ (10 ∷ third ++ (10
 abbrev pub header_lines : Header → List ℕ
 header_lines h = three_lines (metadata_text h.metadata) (counts_text h.counts) (encode_lower (header_bytes (raw_header h)))
 
+-- the lines of a header that was read, or the number of the fault
 abbrev pub answer_to_read : Read Header → Answer
 answer_to_read (Ok (header, end)) = done (header_lines header)
 answer_to_read (Err fault) = refused (decode_number fault)
 
+-- the answer to the bytes of the input: refusal 24 unless they are twelve
 abbrev pub answer_to_bytes : Result (List ℕ) FromHexError → Answer
 answer_to_bytes (Ok bytes) = if length bytes == 12 then answer_to_read (header_at bytes 0) else refused 24
 answer_to_bytes (Err fault) = refused 24

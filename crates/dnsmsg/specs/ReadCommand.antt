@@ -8,6 +8,7 @@ use Rattle.op.specs.MessageText.{message_text}
 use Rattle.dnsmsg.specs.Answer.{Answer, done, refused}
 use Rattle.dnsmsg.specs.HexInput.{bytes_of}
 
+-- the text of a message that was read, or the number of the fault
 abbrev pub answer_to_message : Read MessageValue → Answer
 answer_to_message (Ok (message, end)) = done (message_text message)
 answer_to_message (Err fault) = refused (decode_number fault)

@@ -108,7 +108,7 @@ pub record IsCut (m : MessageValue) (limit : ℕ) (B : List ℕ) (c : MessageVal
 abbrev pub IsUncut : {m : MessageValue} {limit : ℕ} {B : List ℕ} {c : MessageValue} → IsCut m limit B c → Type 0
 IsUncut k = (k.answers.lost ≡ []) × (k.authorities.lost ≡ []) × (k.additionals.lost ≡ []) × (k.edns.lost ≡ []) × (k.signature.lost ≡ [])
 
--- the bytes are a cut of the message, and are read as exactly it
+-- The bytes are a cut of the message, and are read, to their end, as exactly the message that the cut keeps.
 pub record IsWritten (m : MessageValue) (limit : ℕ) (B : List ℕ) : Type 0 where
   pub message : MessageValue
   pub is_cut : IsCut m limit B message

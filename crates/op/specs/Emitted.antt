@@ -25,9 +25,11 @@ pub record WritesFront {E : Type 0} (word : E → List ℕ → ℕ → ℕ → T
   pub tells : is_cut ≡ any_lost lost
   pub full : NoRoom plain a.limit (length b.bytes) lost
 
+-- the labels of a question's name
 abbrev pub query_owner : Query → List (List ℕ)
 query_owner q = q.name.labels
 
+-- the labels of a record's owner
 abbrev pub record_owner : Record RData → List (List ℕ)
 record_owner r = r.name.labels
 

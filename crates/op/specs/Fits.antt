@@ -21,7 +21,8 @@ listed (Some x) = x ∷ []
 abbrev pub signature_record : Record (List ℕ) → Record RData
 signature_record r = with_data kinds.TSIG r
 
--- A record of a section that fits: empty data stands in an Update, and types that stand among additionals alone elsewhere.
+-- A record of answers or authorities that fits. If its data is empty, the message is an Update; it is no OPT, SIG or TSIG,
+-- which stand among additionals alone.
 pub record FitsPlain (op : OpCode) (r : Record RData) : Type 0 where
   pub fits : FitsRecord r
   pub given : IsGiven op r

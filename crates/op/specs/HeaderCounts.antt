@@ -3,6 +3,7 @@ use Rattle.std.specs.Ordering.{nat_cmp, on, then_cmp}
 use Rattle.std.specs.declared.cmp.Ordering.{Ordering}
 use Rattle.op.specs.declared.header.header_counts.HeaderCounts.{HeaderCounts}
 
+-- no item in any section
 abbrev pub zero_counts : HeaderCounts
 zero_counts = record { queries = 0; answers = 0; authorities = 0; additionals = 0 }
 

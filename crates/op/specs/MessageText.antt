@@ -7,12 +7,11 @@ use Rattle.rr.specs.Record.{record_text}
 use Rattle.rr.specs.declared.record.Record.{Record}
 use Rattle.op.specs.Edns.{edns_text}
 use Rattle.op.specs.Message.{MessageValue}
+use Rattle.op.specs.MessageType.{is_response}
 use Rattle.op.specs.Metadata.{metadata_text}
 use Rattle.op.specs.Query.{query_text}
 use Rattle.op.specs.Section.{is_update}
 use Rattle.op.specs.declared.edns.Edns.{Edns}
-use Rattle.op.specs.declared.header.message_type.MessageType.{MessageType}
-use Rattle.op.specs.declared.header.message_type.MessageType.TheVariants as kind
 use Rattle.op.specs.declared.header.metadata.Metadata.{Metadata}
 use Rattle.op.specs.declared.query.Query.{Query}
 
@@ -20,9 +19,11 @@ use Rattle.op.specs.declared.query.Query.{Query}
 abbrev pub line : List ℕ → List ℕ
 line text = text ++ 10 ∷ []
 
+-- the line of the metadata
 abbrev pub header_line : Metadata → List ℕ
 header_line metadata = codes "; header " ++ line (metadata_text metadata)
 
+-- the line of EDNS, none where there is no EDNS
 abbrev pub edns_line : Option Edns → List ℕ
 edns_line None = []
 edns_line (Some edns) = codes "; edns " ++ line (edns_text edns)
@@ -46,10 +47,6 @@ section_lines name rs = codes "; " ++ (name ++ (codes " " ++ (line (decimal (len
 -- answers, authorities and additionals
 abbrev pub sections_text : MessageValue → List ℕ
 sections_text m = section_lines (codes "answers") m.answers ++ (section_lines (codes "authorities") m.authorities ++ section_lines (codes "additionals") m.additionals)
-
-abbrev pub is_response : MessageType → Bool
-is_response kind.Response = true
-is_response _ = false
 
 -- whether the sections of records are printed: of a response, and of an Update (RFC 2136, 2.2)
 abbrev pub shows_sections : Metadata → Bool

@@ -6,6 +6,7 @@ use Rattle.std.specs.declared.cmp.Ordering.{Ordering}
 use Rattle.op.specs.declared.header.message_type.MessageType.{MessageType}
 use Rattle.op.specs.declared.header.message_type.MessageType.TheVariants as kind
 
+-- the name of a type of message
 abbrev pub message_type_text : MessageType → List ℕ
 message_type_text kind.Query = codes "QUERY"
 message_type_text kind.Response = codes "RESPONSE"
@@ -15,6 +16,7 @@ abbrev pub kind_value : Bool → MessageType
 kind_value true = kind.Response
 kind_value false = kind.Query
 
+-- whether a message is a response
 abbrev pub is_response : MessageType → Bool
 is_response kind.Response = true
 is_response kind.Query = false

@@ -23,6 +23,7 @@ op_value number =
     else (if number == 5 then op.Update
     else op.Unknown number)))
 
+-- the name of an opcode, with its number where it has no name
 abbrev pub op_text : OpCode → List ℕ
 op_text op.Query = codes "QUERY"
 op_text op.Status = codes "STATUS"

@@ -97,6 +97,7 @@ pub record SectionValue : Type 0 where
 abbrev pub section_value : Section → SectionValue
 section_value s = record { records = s.records.items; edns = s.edns; signature = option_map (λ b. b.value) s.signature }
 
+-- what reading a section answers, as contracts see it
 abbrev pub parts_value : Vec (Record RData) × Option Edns × Option (Box (Record (List ℕ))) → SectionValue
 parts_value parts = record { records = parts.0.items; edns = parts.1; signature = option_map (λ b. b.value) parts.2 }
 
@@ -129,6 +130,7 @@ fault_of is_additional_section op s r =
     else (if is_some s.edns && is_opt r then Some faults.DuplicateEdns
     else None)))
 
+-- a section, unless there is a fault
 abbrev pub unless_fault : Option DecodeError → SectionValue → Result SectionValue DecodeError
 unless_fault None s = Ok s
 unless_fault (Some fault) s = Err fault
