@@ -1,8 +1,8 @@
-use crate::{
+use base::{Name, RecordType};
+use base_data::{
     A, AAAA, ANAME, CNAME, EdnsOption, MX, NS, NULL, OPT, PTR, RData, RecordData, SOA, SRV, TSIG,
     TXT,
 };
-use base::{Name, RecordType};
 use std::alloc::{AllocError, Global};
 use std::net::{Ipv4Addr, Ipv6Addr};
 use std::process::Abort;
@@ -18,7 +18,7 @@ fn is_of_type<R: RecordData>(value: &R, record_type: RecordType) -> bool {
 }
 
 /// Whether the data of any record is this data.
-fn holds<R: RecordData>(any: &RData, value: &R) -> bool {
+pub(super) fn holds<R: RecordData>(any: &RData, value: &R) -> bool {
     match R::try_borrow(any) {
         Some(borrowed) => borrowed == value,
         None => false,

@@ -1,8 +1,8 @@
 ghost use Rattle.std.specs.Prelude.{◌≤◌, length};
 
-use crate::rdata_tests::are_equal;
-use crate::{A, EdnsOption, MX, NS, NULL, OPT, RData, RecordData, TSIG, TXT};
+use super::rdata::are_equal;
 use base::{Name, ParseError, RecordType};
+use base_data::{A, EdnsOption, MX, NS, NULL, OPT, RData, RecordData, TSIG, TXT};
 use std::alloc::Global;
 use std::cmp::Ordering;
 use std::net::Ipv4Addr;

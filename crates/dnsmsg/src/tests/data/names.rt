@@ -1,6 +1,6 @@
 use super::{expect_bytes, expect_read, expect_text, expect_wire, written};
-use crate::{ANAME, CNAME, MX, NS, PTR, SOA, SRV};
 use base::{BinDecodable, BinEncodable, Name, ParseError};
+use base_data::{ANAME, CNAME, MX, NS, PTR, SOA, SRV};
 use std::alloc::Global;
 use std::fmt;
 use std::process::Abort;

@@ -1,7 +1,7 @@
 use crate::tests::forms::has_text;
-use crate::tests::values::{address, answer, ask, signature};
-use crate::{Edns, Message, MessageType, OpCode, Query, ResponseCode};
+use crate::tests::messages::values::{address, answer, ask, signature};
 use base::{BinDecoder, DecodeError, RecordType};
+use op::{Edns, Message, MessageType, OpCode, Query, ResponseCode};
 use std::alloc::{AllocError, Global};
 use std::test::Fail;
 

@@ -1,7 +1,6 @@
-use super::{Header, HeaderCounts, MessageType, Metadata};
 use crate::tests::forms::{has_text, is_cut, is_read_as, is_read_to, is_written_back, read};
-use crate::{OpCode, ResponseCode};
 use base::{BinEncodable, BinEncoder, DecodeError, EncodedSize, ProtoError};
+use op::{Header, HeaderCounts, MessageType, Metadata, OpCode, ResponseCode};
 use std::alloc::Global;
 use std::test::Fail;
 

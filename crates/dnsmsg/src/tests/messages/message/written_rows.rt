@@ -1,7 +1,7 @@
-use crate::tests::values::{answer, ask, edns_with_option, signature};
-use crate::{Edns, Message, OpCode, ResponseCode};
+use crate::tests::messages::values::{answer, ask, edns_with_option, signature};
 use base::Name;
 use base_data::NULL;
+use op::{Edns, Message, OpCode, ResponseCode};
 use rr::Record;
 use std::alloc::Global;
 use std::test::Fail;

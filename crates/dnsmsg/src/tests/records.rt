@@ -1,10 +1,10 @@
-use super::Record;
-use crate::RecordRef;
+use crate::tests::forms::{is_read_with_text, is_written_as, read};
 use base::{
     BinDecodable, BinDecoder, BinEncodable, BinEncoder, DNSClass, DecodeError, Name, ProtoError,
     RecordType,
 };
 use base_data::{A, MX, RData, RecordData, TSIG, TXT};
+use rr::{Record, RecordRef};
 use std::alloc::Global;
 use std::cmp::Ordering;
 use std::net::Ipv4Addr;
@@ -25,15 +25,6 @@ fn written<E: BinEncodable>(alloc: Global, value: &E, limit: u16) -> Result<Vec<
     Ok(bytes)
 }
 
-/// Whether the value is written as these bytes.
-fn is_written_as<E: BinEncodable>(alloc: Global, value: &E, bytes: &[u8]) -> Result<bool, Fail> {
-    Ok(written(alloc, value, 65535)?.as_slice() == bytes)
-}
-
-fn read(alloc: Global, bytes: &[u8]) -> Result<Record, DecodeError> {
-    Record::read(&mut BinDecoder::new(alloc, bytes))
-}
-
 /// Whether these bytes, all of them, are read as this record with its cache-flush bit.
 fn is_read_as(alloc: Global, bytes: &[u8], entry: &Record) -> Result<bool, Fail> {
     let mut decoder = BinDecoder::new(alloc, bytes);
@@ -44,16 +35,7 @@ fn is_read_as(alloc: Global, bytes: &[u8], entry: &Record) -> Result<bool, Fail>
 
 /// Whether the record is written as these bytes, and they are read as it.
 fn stands_as(alloc: Global, entry: &Record, bytes: &[u8]) -> Result<bool, Fail> {
-    Ok(is_written_as(alloc, entry, bytes)? && is_read_as(alloc, bytes, entry)?)
-}
-
-fn is_shown_as(alloc: Global, entry: &Record, text: &str) -> Result<bool, Fail> {
-    Ok(entry.to_string(alloc)?.as_str() == text)
-}
-
-/// Whether the record that these bytes are read as has this text.
-fn has_text(alloc: Global, bytes: &[u8], text: &str) -> Result<bool, Fail> {
-    is_shown_as(alloc, &read(alloc, bytes)?, text)
+    Ok(is_written_as(alloc, entry, bytes) && is_read_as(alloc, bytes, entry)?)
 }
 
 /// `www.example.com.` 5 A 192.168.0.1.
@@ -65,7 +47,7 @@ fn www(alloc: Global) -> Result<Record<A>, Fail> {
 #[test]
 fn a_record_is_written(rt: HostRuntime) -> Result<(), Fail> {
     let entry = www(rt.alloc())?;
-    assert!(rt; is_written_as(rt.alloc(), &entry, &WWW)?);
+    assert!(rt; is_written_as(rt.alloc(), &entry, &WWW));
     assert!(rt; written(rt.alloc(), &entry, 31).is_ok());
     let refused = written(rt.alloc(), &entry, 30);
     assert!(rt; matches!(&refused, Err(ProtoError::MaxBufferSizeExceeded)));
@@ -80,7 +62,8 @@ fn copy_is_read(alloc: Global, bytes: &[u8], entry: &Record) -> Result<bool, Fai
 #[test]
 fn a_record_is_read_back(rt: HostRuntime) -> Result<(), Fail> {
     assert!(rt; copy_is_read(rt.alloc(), &WWW, &any_www(rt.alloc())?)?);
-    assert!(rt; has_text(rt.alloc(), &WWW, "www.example.com. 5 IN A 192.168.0.1")?);
+    let text = "www.example.com. 5 IN A 192.168.0.1";
+    assert!(rt; is_read_with_text::<Record>(rt.alloc(), &WWW, text));
     assert_eq!(rt; any_www(rt.alloc())?.record_type(), RecordType::A);
     Ok(())
 }
@@ -104,10 +87,10 @@ fn the_top_bit_flushes_the_cache(rt: HostRuntime) -> Result<(), Fail> {
 /// Whether these bytes are read as an empty OPT record of this payload size, which flushes no cache, and is written as
 /// `written`.
 fn is_empty_opt(alloc: Global, bytes: &[u8], payload: u16, written: &[u8]) -> Result<bool, Fail> {
-    let entry = read(alloc, bytes)?;
+    let entry: Record = read(alloc, bytes)?;
     let empty = entry.rdata == RData::Update0(RecordType::OPT);
     let sized = entry.dns_class == DNSClass::OPT(payload) && !entry.mdns_cache_flush;
-    Ok(empty && sized && is_written_as(alloc, &entry, written)?)
+    Ok(empty && sized && is_written_as(alloc, &entry, written))
 }
 
 #[test]
@@ -131,7 +114,7 @@ fn signature(alloc: Global) -> Result<Record<TSIG>, Fail> {
 #[test]
 fn a_signature_is_written_by_its_kind(rt: HostRuntime) -> Result<(), Fail> {
     let bytes = [0, 0, 0xFA, 0, 0xFF, 0, 0, 0, 0, 0, 1, 0xAA];
-    assert!(rt; is_written_as(rt.alloc(), &signature(rt.alloc())?, &bytes)?);
+    assert!(rt; is_written_as(rt.alloc(), &signature(rt.alloc())?, &bytes));
     let entry = signature(rt.alloc())?.into_record_of_rdata();
     assert!(rt; is_read_as(rt.alloc(), &bytes, &entry)?);
     Ok(())
@@ -139,7 +122,8 @@ fn a_signature_is_written_by_its_kind(rt: HostRuntime) -> Result<(), Fail> {
 
 /// Which fault these bytes have, by its number; 0 for none.
 fn fault(alloc: Global, bytes: &[u8]) -> u8 {
-    match read(alloc, bytes) {
+    let found: Result<Record, DecodeError> = read(alloc, bytes);
+    match found {
         Ok(_) => 0,
         Err(e) => e.number(),
     }
@@ -154,7 +138,7 @@ fn faults_come_in_order(rt: HostRuntime) {
 #[test]
 fn data_shorter_than_its_length(rt: HostRuntime) {
     let bytes = [0, 0, 1, 0, 1, 0, 0, 0, 0, 0, 5, 0x7F, 0, 0, 1];
-    let refused = read(rt.alloc(), &bytes);
+    let refused: Result<Record, DecodeError> = read(rt.alloc(), &bytes);
     assert!(rt;
         matches!(
             &refused,
@@ -166,7 +150,7 @@ fn data_shorter_than_its_length(rt: HostRuntime) {
 #[test]
 fn data_too_short_for_its_type(rt: HostRuntime) {
     let bytes = [0, 0, 1, 0, 1, 0, 0, 0, 0, 0, 3, 0x7F, 0, 0];
-    let refused = read(rt.alloc(), &bytes);
+    let refused: Result<Record, DecodeError> = read(rt.alloc(), &bytes);
     assert!(rt; matches!(&refused, Err(DecodeError::BadData(RecordType::A))));
 }
 
@@ -229,7 +213,7 @@ fn empty_data_has_no_bytes(rt: HostRuntime) -> Result<(), Fail> {
     let bytes = [0, 0, 1, 0, 1, 0, 0, 0, 1, 0, 0];
     let entry = Record::update0(Name::root(rt.alloc()), 1, RecordType::A);
     assert!(rt; stands_as(rt.alloc(), &entry, &bytes)?);
-    assert!(rt; has_text(rt.alloc(), &bytes, ". 1 IN A \\# 0")?);
+    assert!(rt; is_read_with_text::<Record>(rt.alloc(), &bytes, ". 1 IN A \\# 0"));
     Ok(())
 }
 

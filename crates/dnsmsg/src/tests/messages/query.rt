@@ -1,10 +1,9 @@
-use super::Query;
-use crate::LowerQuery;
 use crate::tests::forms::{
     has_text, is_cut, is_read_as, is_read_to, is_read_with_text, is_written_as, is_written_back,
     read,
 };
 use base::{BinDecodable, BinDecoder, DNSClass, DecodeError, Name, RecordType};
+use op::{LowerQuery, Query};
 use std::alloc::Global;
 use std::test::Fail;
 

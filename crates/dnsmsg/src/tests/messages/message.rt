@@ -1,12 +1,12 @@
 ghost use Rattle.std.specs.Prelude.{◌≡◌};
 
+mod reading;
 mod written_rows;
 
-use super::{EmitAndCount, Message, emit_message_parts};
-use crate::header::MessageType;
-use crate::tests::values::ask;
-use crate::{Edns, Metadata, OpCode, ResponseCode};
+use crate::tests::messages::values::ask;
 use base::{BinEncoder, ProtoError};
+use op::message::{EmitAndCount, emit_message_parts};
+use op::{Edns, Message, MessageType, Metadata, OpCode, ResponseCode};
 use std::alloc::Global;
 use std::test::Fail;
 

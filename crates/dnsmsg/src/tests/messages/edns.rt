@@ -1,7 +1,7 @@
 use crate::tests::forms::{has_text, is_written_as};
-use crate::tests::values::edns_with_option;
-use crate::{DEFAULT_MAX_PAYLOAD_LEN, Edns, EdnsFlags};
+use crate::tests::messages::values::edns_with_option;
 use base::RecordType;
+use op::{DEFAULT_MAX_PAYLOAD_LEN, Edns, EdnsFlags};
 use rr::Record;
 use std::alloc::Global;
 use std::test::Fail;

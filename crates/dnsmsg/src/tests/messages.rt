@@ -1,8 +1,11 @@
-pub(crate) mod forms;
-pub(crate) mod values;
+mod edns;
+mod header;
+mod message;
+mod query;
+mod values;
 
-use crate::{Flags, Header, HeaderCounts, MessageType, Metadata, OpCode, ResponseCode};
-use forms::has_text;
+use super::forms::has_text;
+use op::{Flags, Header, HeaderCounts, MessageType, Metadata, OpCode, ResponseCode};
 use std::alloc::Global;
 use std::cmp::Ordering;
 
