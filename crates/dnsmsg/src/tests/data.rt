@@ -137,13 +137,27 @@ fn no_bytes_come_before_some(rt: HostRuntime) -> Result<(), Fail> {
     Ok(())
 }
 
+/// Whether data of type NULL carries these bytes.
+fn carries(any: &RData, bytes: &[u8]) -> bool {
+    match NULL::try_borrow(any) {
+        Some(carried) => carried.bytes() == bytes,
+        None => false,
+    }
+}
+
 /// Whether these are the next two bytes, read as data of type NULL.
 fn are_next(decoder: &mut BinDecoder<'_>, bytes: &[u8]) -> Result<bool, DecodeError> {
     let read = RData::read(decoder, RecordType::NULL, 2)?;
-    match NULL::try_borrow(&read) {
-        Some(carried) => Ok(carried.bytes() == bytes),
-        None => Ok(false),
-    }
+    let same = carries(&read, bytes);
+    drop(read);
+    Ok(same)
+}
+
+/// Whether data that was read is this data. It is dropped by name: that is proved sooner.
+fn is_same<R: RecordData>(read: RData, value: &R) -> bool {
+    let same = holds(&read, value);
+    drop(read);
+    same
 }
 
 /// Reads the next byte as a signature.
@@ -153,7 +167,7 @@ fn read_signature(decoder: &mut BinDecoder<'_>) -> Result<RData, DecodeError> {
 
 /// Whether the next byte is read as this signature.
 fn is_next(decoder: &mut BinDecoder<'_>, signature: &TSIG) -> Result<bool, DecodeError> {
-    Ok(holds(&read_signature(decoder)?, signature))
+    Ok(is_same(read_signature(decoder)?, signature))
 }
 
 #[test]
@@ -228,28 +242,51 @@ fn read_strings(alloc: Global, len: u16) -> Result<RData, DecodeError> {
     RData::read(&mut decoder, RecordType::TXT, len)
 }
 
+/// Whether all of the bytes are read as the text of those strings.
+fn are_read(alloc: Global) -> Result<bool, DecodeError> {
+    let text = TXT::new(alloc, &STRINGS)?;
+    let read = read_strings(alloc, 16)?;
+    Ok(is_same(read, &text))
+}
+
+/// Whether the text that all of the bytes spell is equal to its copy.
+fn are_copied(alloc: Global) -> Result<bool, DecodeError> {
+    let read = read_strings(alloc, 16)?;
+    let copied = equals_its_copy(&read);
+    drop(read);
+    Ok(copied?)
+}
+
 #[test]
 fn texts_are_read(rt: HostRuntime) -> Result<(), Fail> {
-    let read = read_strings(rt.alloc(), 16)?;
-    assert!(rt; holds(&read, &TXT::new(rt.alloc(), &STRINGS)?));
-    assert!(rt; equals_its_copy(&read)?);
+    assert!(rt; are_read(rt.alloc())?);
+    assert!(rt; are_copied(rt.alloc())?);
     Ok(())
 }
 
-/// Checks that a text has those strings.
-fn expect_strings(rt: &impl Abort, text: &TXT) {
+/// Whether a text has those strings.
+fn has_strings(text: &TXT) -> bool {
     for (string, expected) in text.strings().zip(STRINGS.iter()) {
-        assert_eq!(rt; string, *expected);
+        if string != *expected {
+            return false;
+        }
     }
+    true
+}
+
+/// Whether data is a text that has those strings.
+fn is_text(read: RData) -> bool {
+    let has_those = match TXT::try_borrow(&read) {
+        Some(text) => has_strings(text),
+        None => false,
+    };
+    drop(read);
+    has_those
 }
 
 #[test]
 fn strings_of_texts(rt: HostRuntime) -> Result<(), Fail> {
-    let read = read_strings(rt.alloc(), 16)?;
-    match TXT::try_borrow(&read) {
-        Some(text) => expect_strings(&rt, text),
-        None => panic!(rt; "the data is a text"),
-    }
+    assert!(rt; is_text(read_strings(rt.alloc(), 16)?));
     Ok(())
 }
 
@@ -331,17 +368,18 @@ fn read_options(alloc: Global, bytes: &[u8], len: u16) -> Result<RData, DecodeEr
 }
 
 /// How many options the data has.
-fn count_of(read: &RData) -> usize {
-    match OPT::try_borrow(read) {
+fn count_of(read: RData) -> usize {
+    let count = match OPT::try_borrow(&read) {
         Some(options) => options.as_ref().len(),
         None => 0,
-    }
+    };
+    drop(read);
+    count
 }
 
 #[test]
 fn options_are_read_as_they_stand(rt: HostRuntime) -> Result<(), Fail> {
-    let read = read_options(rt.alloc(), &ONE_CODE_TWICE, 9)?;
-    assert_eq!(rt; count_of(&read), 2);
+    assert!(rt; count_of(read_options(rt.alloc(), &ONE_CODE_TWICE, 9)?) == 2);
     Ok(())
 }
 

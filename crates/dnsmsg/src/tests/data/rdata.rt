@@ -48,10 +48,9 @@ pub(super) fn are_equal(first: RData, second: RData) -> bool {
 
 /// Whether the bytes were refused as data of a type.
 pub(super) fn is_bad(read: Result<RData, DecodeError>, record_type: RecordType) -> bool {
-    match read {
-        Err(DecodeError::BadData(named)) => named == record_type,
-        _ => false,
-    }
+    let bad = matches!(&read, Err(DecodeError::BadData(named)) if *named == record_type);
+    drop(read);
+    bad
 }
 
 fn name_of(alloc: Global, wire: &[u8]) -> Result<Name, DecodeError> {
