@@ -5,7 +5,7 @@ use base::{
 };
 use base_data::{A, MX, RData, RecordData, TSIG, TXT};
 use rr::{Record, RecordRef};
-use std::alloc::Global;
+use std::alloc::{AllocError, Global};
 use std::cmp::Ordering;
 use std::net::Ipv4Addr;
 use std::test::Fail;
@@ -49,13 +49,28 @@ fn www(alloc: Global) -> Result<Record<A>, Fail> {
     Ok(Record::from_rdata(name, 5, A::new(Ipv4Addr::new(192, 168, 0, 1))))
 }
 
+/// Whether the record is written under a limit.
+fn fits(alloc: Global, entry: &Record<A>, limit: u16) -> bool {
+    let bytes = written(alloc, entry, limit);
+    let fits = bytes.is_ok();
+    drop(bytes);
+    fits
+}
+
+/// Whether the record is refused for a limit.
+fn is_too_long(alloc: Global, entry: &Record<A>, limit: u16) -> bool {
+    let refused = written(alloc, entry, limit);
+    let is_too_long = matches!(&refused, Err(ProtoError::MaxBufferSizeExceeded));
+    drop(refused);
+    is_too_long
+}
+
 #[test]
 fn a_record_is_written(rt: HostRuntime) -> Result<(), Fail> {
     let entry = www(rt.alloc())?;
     assert!(rt; is_written_as(rt.alloc(), &entry, &WWW));
-    assert!(rt; written(rt.alloc(), &entry, 31).is_ok());
-    let refused = written(rt.alloc(), &entry, 30);
-    assert!(rt; matches!(&refused, Err(ProtoError::MaxBufferSizeExceeded)));
+    assert!(rt; fits(rt.alloc(), &entry, 31));
+    assert!(rt; is_too_long(rt.alloc(), &entry, 30));
     Ok(())
 }
 
@@ -218,22 +233,41 @@ fn seconds_come_off_down_to_none(rt: HostRuntime) -> Result<(), Fail> {
     Ok(())
 }
 
+/// That record, with the cache-flush bit.
+fn flushing_www(alloc: Global) -> Result<Record<A>, Fail> {
+    let mut entry = www(alloc)?;
+    entry.mdns_cache_flush = true;
+    Ok(entry)
+}
+
+/// Whether a record is mapped to itself where the closure answers its data.
+fn is_mapped(entry: Record<A>) -> Result<bool, AllocError> {
+    match entry.clone()?.map(|rdata: A| Some(rdata)) {
+        Some(same) => {
+            let flushes = same.ttl == 5 && same.mdns_cache_flush;
+            let equal = same == entry;
+            drop(same);
+            drop(entry);
+            Ok(flushes && equal)
+        }
+        None => Ok(false),
+    }
+}
+
 #[test]
 fn a_record_is_mapped(rt: HostRuntime) -> Result<(), Fail> {
-    let mut entry = www(rt.alloc())?;
-    entry.mdns_cache_flush = true;
-    let same = entry.clone()?.map(|rdata: A| Some(rdata));
-    match same {
-        Some(same) => {
-            assert_eq!(rt; same.ttl, 5);
-            assert!(rt; same.mdns_cache_flush);
-            assert_eq!(rt; same, entry);
-        }
-        None => panic!(rt; "the closure answered data"),
-    }
-    let none: Option<Record<A>> = entry.map(|_: A| None);
+    assert!(rt; is_mapped(flushing_www(rt.alloc())?)?);
+    let none: Option<Record<A>> = flushing_www(rt.alloc())?.map(|_: A| None);
     assert!(rt; none.is_none());
     Ok(())
+}
+
+fn is_www(alloc: Global, entry: Record<A>) -> Result<bool, Fail> {
+    let wanted = www(alloc)?;
+    let same = entry == wanted;
+    drop(wanted);
+    drop(entry);
+    Ok(same)
 }
 
 /// Whether the record that is shown is `www.example.com.` 5 IN A 192.168.0.1, without a cache-flush bit.
@@ -242,7 +276,8 @@ fn shows_www(alloc: Global, shown: RecordRef<'_, A>) -> Result<bool, Fail> {
     let typed = shown.record_type() == RecordType::A && shown.dns_class() == DNSClass::IN;
     let timed = shown.ttl() == 5 && !shown.mdns_cache_flush();
     let owned = shown.to_owned()?;
-    Ok(address && typed && timed && *shown.name() == owned.name && owned == www(alloc)?)
+    let named = *shown.name() == owned.name;
+    Ok(is_www(alloc, owned)? && address && typed && timed && named)
 }
 
 /// Whether the record is borrowed by its kind, as that of the address, and by no other.

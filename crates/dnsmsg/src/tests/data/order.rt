@@ -88,8 +88,8 @@ fn address_and_bytes_cmp(alloc: Global, d: u8) -> Result<Ordering, ParseError> {
 
 #[test]
 fn kinds_come_next(rt: HostRuntime) -> Result<(), Fail> {
-    for (d, order) in [(9, Ordering::Less), (10, Ordering::Greater)] {
-        assert_eq!(rt; address_and_bytes_cmp(rt.alloc(), d)?, order, "{d}");
+    for &(d, order) in &[(9, Ordering::Less), (10, Ordering::Greater)] {
+        assert!(rt; address_and_bytes_cmp(rt.alloc(), d)? == order, "{d}");
     }
     Ok(())
 }
@@ -105,15 +105,15 @@ fn mail_host(alloc: Global, text: &str) -> Made {
     Ok(MX::new(1, Name::parse(alloc, text, None)?).into_rdata())
 }
 
+/// The order of a mail host, and another of this name.
+fn mail_hosts_cmp(alloc: Global, text: &str) -> Result<Ordering, ParseError> {
+    order_of_made(mail_host(alloc, "a.B.")?, mail_host(alloc, text))
+}
+
 #[test]
 fn flags_come_last(rt: HostRuntime) -> Result<(), Fail> {
-    for (text, order) in [("A.b.", Ordering::Equal), ("a.b", Ordering::Greater)] {
-        let absolute = mail_host(rt.alloc(), "a.B.")?;
-        assert_eq!(rt;
-            order_of_made(absolute, mail_host(rt.alloc(), text))?,
-            order,
-            "{text}"
-        );
+    for &(text, order) in &[("A.b.", Ordering::Equal), ("a.b", Ordering::Greater)] {
+        assert!(rt; mail_hosts_cmp(rt.alloc(), text)? == order, "{text}");
     }
     Ok(())
 }

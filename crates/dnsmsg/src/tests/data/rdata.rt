@@ -140,7 +140,7 @@ fn names_are_ordered_by_their_bytes(rt: HostRuntime) -> Result<(), Fail> {
 fn names_are_ordered_without_regard_to_case(rt: HostRuntime) -> Result<(), Fail> {
     let lower = server(rt.alloc(), &[2, b'a', b'a', 0])?;
     let upper = server(rt.alloc(), &[2, b'A', b'A', 0])?;
-    assert_eq!(rt; lower, upper);
+    assert!(rt; lower == upper);
     Ok(())
 }
 

@@ -24,7 +24,9 @@ fn query(alloc: Global) -> Result<Message, Fail> {
 fn written(alloc: Global) -> Result<Vec<u8>, Fail> {
     let message = query(alloc)?;
     let mut bytes = Vec::new(alloc);
-    message.emit(&mut BinEncoder::new(&mut bytes))?;
+    let emitted = message.emit(&mut BinEncoder::new(&mut bytes));
+    drop(message);
+    emitted?;
     Ok(bytes)
 }
 
