@@ -8,12 +8,3 @@ pub use rdata::{
     A, AAAA, ANAME, CNAME, EdnsOption, MX, NS, NULL, OPT, PTR, RData, SOA, SRV, TSIG, TXT,
 };
 pub use record_data::RecordData;
-
-#[cfg(test)]
-mod kinds_tests;
-#[cfg(test)]
-mod order_tests;
-#[cfg(test)]
-mod rdata_tests;
-#[cfg(test)]
-mod tests;

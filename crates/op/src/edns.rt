@@ -10,8 +10,6 @@ ghost use Rattle.op.specs.Edns.{LendsFlags, LendsOptions, edns_text, new_edns};
 ghost use Rattle.std.specs.Borrow.{sem};
 
 mod edns_flags;
-#[cfg(test)]
-mod tests;
 mod writing;
 
 use base::{DNSClass, ProtoError, RecordType};

@@ -19,10 +19,6 @@ use crate::response_code::ResponseCode;
 use base::{
     BinDecodable, BinDecoder, BinEncodable, BinEncoder, DecodeError, EncodedSize, ProtoError,
 };
-
-#[cfg(test)]
-mod tests;
-
 pub use flags::Flags;
 pub use header_counts::HeaderCounts;
 pub use message_type::MessageType;

@@ -17,6 +17,3 @@ pub use message::Message;
 pub use op_code::OpCode;
 pub use query::Query;
 pub use response_code::ResponseCode;
-
-#[cfg(test)]
-mod tests;

@@ -12,8 +12,6 @@ mod emit;
 pub mod laws;
 mod reading;
 mod section;
-#[cfg(test)]
-mod tests;
 mod writing;
 
 use crate::edns::Edns;

@@ -6,9 +6,6 @@ ghost use Rattle.base.specs.NameOrder.{same_name};
 ghost use Rattle.op.specs.Query.{FitsQuery, IsQueryAt, IsQueryFault, QueryWord, plain_query, plain_question, query_at, query_text, query_value, raw_query};
 ghost use Rattle.op.specs.declared.query.Query.{Query};
 
-#[cfg(test)]
-mod tests;
-
 use base::{
     BinDecodable, BinDecoder, BinEncodable, BinEncoder, DNSClass, DecodeError, Name, ProtoError,
     RecordType,

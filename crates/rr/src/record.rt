@@ -10,8 +10,6 @@ mod compare;
 mod display;
 pub mod laws;
 mod reading;
-#[cfg(test)]
-mod tests;
 mod writing;
 
 use crate::record_ref::RecordRef;

@@ -9,9 +9,6 @@ ghost use Rattle.op.specs.Query.{query_at};
 ghost use Rattle.op.specs.ReadsOrDecodes.{ReadsOrDecodes};
 ghost use Rattle.op.specs.Section.{parts_value, section_at, section_value};
 
-#[cfg(test)]
-mod tests;
-
 use crate::edns::Edns;
 use crate::header::{Header, Metadata};
 use crate::message::Message;

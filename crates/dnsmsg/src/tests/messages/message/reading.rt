@@ -1,7 +1,7 @@
 use crate::tests::forms::has_text;
-use crate::tests::values::{address, answer, ask, signature};
-use crate::{Edns, Message, MessageType, OpCode, Query, ResponseCode};
+use crate::tests::messages::values::{address, answer, ask, signature};
 use base::{BinDecoder, DecodeError, RecordType};
+use op::{Edns, Message, MessageType, OpCode, Query, ResponseCode};
 use std::alloc::{AllocError, Global};
 use std::test::Fail;
 
@@ -24,16 +24,20 @@ const SIGN: [u8; 12] = [
 // Whether the bytes end within a message.
 fn is_cut(alloc: Global, bytes: &[u8]) -> bool {
     let refused = Message::from_vec(alloc, bytes);
-    matches!(&refused, Err(DecodeError::InsufficientBytes))
+    let is_cut = matches!(&refused, Err(DecodeError::InsufficientBytes));
+    drop(refused);
+    is_cut
 }
 
 // The bytes that are left and the length of the data, where a message is refused for that length.
 fn refused_len(alloc: Global, bytes: &[u8]) -> Option<(usize, usize)> {
     let refused = Message::from_vec(alloc, bytes);
-    match &refused {
+    let lens = match &refused {
         Err(DecodeError::IncorrectRDataLengthRead { read, len }) => Some((*read, *len)),
         _ => None,
-    }
+    };
+    drop(refused);
+    lens
 }
 
 // Whether four bytes of data are refused for their length.
@@ -97,12 +101,19 @@ fn is_asked(alloc: Global, bytes: &[u8], queries: &Vec<Query>) -> bool {
     }
 }
 
+// Whether a message asks what these bytes begin with, has one answer, and is the same as its copy. It is dropped by
+// name: that is proved sooner.
+fn has_parts(alloc: Global, message: Message, bytes: &[u8]) -> Result<bool, AllocError> {
+    let has_both = message.answers.len() == 1 && is_asked(alloc, bytes, &message.queries);
+    let copied = is_copied(&message);
+    drop(message);
+    let copied = copied?;
+    Ok(has_both && copied)
+}
+
 #[test]
 fn the_parts_of_a_message(rt: HostRuntime) -> Result<(), Fail> {
-    let message = www(rt.alloc())?;
-    assert!(rt; message.answers.len() == 1);
-    assert!(rt; is_copied(&message)?);
-    assert!(rt; is_asked(rt.alloc(), &WWW[12..], &message.queries));
+    assert!(rt; has_parts(rt.alloc(), www(rt.alloc())?, &WWW[12..])?);
     Ok(())
 }
 
@@ -110,10 +121,12 @@ fn the_parts_of_a_message(rt: HostRuntime) -> Result<(), Fail> {
 fn is_misplaced(alloc: Global, bytes: &[u8], count: usize, record_type: RecordType) -> bool {
     let mut decoder = BinDecoder::new(alloc, bytes);
     let refused = Message::read_records(&mut decoder, count, false, OpCode::Query);
-    match &refused {
+    let is_misplaced = match &refused {
         Err(DecodeError::RecordNotInAdditionalSection(found)) => *found == record_type,
         _ => false,
-    }
+    };
+    drop(refused);
+    is_misplaced
 }
 
 #[test]
@@ -219,23 +232,40 @@ fn is_no_empty_response(alloc: Global, message: &Message) -> bool {
     *message != empty
 }
 
+// Whether a message has this text, and is no empty response.
+fn is_filled_with(alloc: Global, message: Message, text: &str) -> bool {
+    let is_filled = has_text(alloc, &message, text) && is_no_empty_response(alloc, &message);
+    drop(message);
+    is_filled
+}
+
 #[test]
 fn a_response_is_put_together(rt: HostRuntime) -> Result<(), Fail> {
-    let message = refusal(rt.alloc())?;
     let text =
         "; header 7:RESPONSE::NXDomain:QUERY\n; query\n; answers 2\na. 60 IN A 192.0.2.1\nb. 60 IN A 192.0.2.1\n; authorities 1\nc. 60 IN A 192.0.2.1\n; additionals 1\nd. 60 IN A 192.0.2.1\n";
-    assert!(rt; has_text(rt.alloc(), &message, text));
-    assert!(rt; is_no_empty_response(rt.alloc(), &message));
+    assert!(rt; is_filled_with(rt.alloc(), refusal(rt.alloc())?, text));
     Ok(())
+}
+
+// A response with a signature alone.
+fn signed(alloc: Global) -> Result<Message, Fail> {
+    let signature = signature(alloc)?;
+    let mut message = Message::new(alloc, 7, MessageType::Response, OpCode::Notify);
+    message.set_signature(signature);
+    Ok(message)
+}
+
+// Whether a message is signed and has this text.
+fn is_signed_with(alloc: Global, message: Message, text: &str) -> bool {
+    let is_signed = message.signature.is_some() && has_text(alloc, &message, text);
+    drop(message);
+    is_signed
 }
 
 #[test]
 fn a_signature_is_no_additional_record(rt: HostRuntime) -> Result<(), Fail> {
-    let mut message = Message::new(rt.alloc(), 7, MessageType::Response, OpCode::Notify);
-    message.set_signature(signature(rt.alloc())?);
-    assert!(rt; message.signature.is_some());
     let text =
         "; header 7:RESPONSE::NoError:NOTIFY\n; query\n; answers 0\n; authorities 0\n; additionals 0\n";
-    assert!(rt; has_text(rt.alloc(), &message, text));
+    assert!(rt; is_signed_with(rt.alloc(), signed(rt.alloc())?, text));
     Ok(())
 }

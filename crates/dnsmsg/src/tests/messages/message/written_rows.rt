@@ -1,7 +1,7 @@
-use crate::tests::values::{answer, ask, edns_with_option, signature};
-use crate::{Edns, Message, OpCode, ResponseCode};
+use crate::tests::messages::values::{answer, ask, edns_with_option, signature};
 use base::Name;
 use base_data::NULL;
+use op::{Edns, Message, OpCode, ResponseCode};
 use rr::Record;
 use std::alloc::Global;
 use std::test::Fail;
@@ -18,22 +18,31 @@ fn response(alloc: Global, code: ResponseCode, edns: bool) -> Message {
     message
 }
 
+// The bytes of a message, which is dropped by name: that is proved sooner.
+fn bytes_of(message: Message) -> Result<Vec<u8>, Fail> {
+    let bytes = message.to_vec();
+    drop(message);
+    Ok(bytes?)
+}
+
 // The bytes of such a response.
 fn response_bytes(alloc: Global, code: ResponseCode, edns: bool) -> Result<Vec<u8>, Fail> {
-    Ok(response(alloc, code, edns).to_vec()?)
+    bytes_of(response(alloc, code, edns))
 }
 
 // The code that is read of those bytes.
 fn read_code(alloc: Global, code: ResponseCode, edns: bool) -> Result<ResponseCode, Fail> {
     let bytes = response_bytes(alloc, code, edns)?;
     let message = Message::from_vec(alloc, &bytes)?;
-    Ok(message.metadata.response_code)
+    let read = message.metadata.response_code;
+    drop(message);
+    Ok(read)
 }
 
 // The high bits of the code stand in OPT, and nowhere without it; what doesn't fit is dropped.
 #[test]
 fn codes_are_written_and_read(rt: HostRuntime) -> Result<(), Fail> {
-    for (code, edns, read) in [
+    for &(code, edns, read) in &[
         (ResponseCode::BADVERS, true, ResponseCode::BADSIG),
         (ResponseCode::BADVERS, false, ResponseCode::NoError),
         (ResponseCode::Unknown(4097), true, ResponseCode::FormErr),
@@ -55,10 +64,12 @@ fn the_high_code_is_that_of_the_response(rt: HostRuntime) -> Result<(), Fail> {
 
 // The bytes of a response with an option and a signature.
 fn signed(alloc: Global) -> Result<Vec<u8>, Fail> {
+    let edns = edns_with_option(alloc)?;
+    let signature = signature(alloc)?;
     let mut message = Message::response(alloc, 7, OpCode::Query);
-    message.set_edns(edns_with_option(alloc)?);
-    message.set_signature(signature(alloc)?);
-    Ok(message.to_vec()?)
+    message.set_edns(edns);
+    message.set_signature(signature);
+    bytes_of(message)
 }
 
 #[test]
@@ -99,7 +110,7 @@ fn exchange(alloc: Global, message: &mut Message, len: usize) -> Result<(), Fail
 fn written(alloc: Global, len: usize) -> Result<Vec<u8>, Fail> {
     let mut message = Message::response(alloc, 1, OpCode::Query);
     exchange(alloc, &mut message, len)?;
-    Ok(message.to_vec()?)
+    bytes_of(message)
 }
 
 // Whether so many bytes of data make a message of so many bytes that ends with these.

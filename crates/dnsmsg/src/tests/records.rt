@@ -1,11 +1,11 @@
-use super::Record;
-use crate::RecordRef;
+use crate::tests::forms::{is_read_with_text, is_written_as, read};
 use base::{
     BinDecodable, BinDecoder, BinEncodable, BinEncoder, DNSClass, DecodeError, Name, ProtoError,
     RecordType,
 };
 use base_data::{A, MX, RData, RecordData, TSIG, TXT};
-use std::alloc::Global;
+use rr::{Record, RecordRef};
+use std::alloc::{AllocError, Global};
 use std::cmp::Ordering;
 use std::net::Ipv4Addr;
 use std::test::Fail;
@@ -25,35 +25,22 @@ fn written<E: BinEncodable>(alloc: Global, value: &E, limit: u16) -> Result<Vec<
     Ok(bytes)
 }
 
-/// Whether the value is written as these bytes.
-fn is_written_as<E: BinEncodable>(alloc: Global, value: &E, bytes: &[u8]) -> Result<bool, Fail> {
-    Ok(written(alloc, value, 65535)?.as_slice() == bytes)
-}
-
-fn read(alloc: Global, bytes: &[u8]) -> Result<Record, DecodeError> {
-    Record::read(&mut BinDecoder::new(alloc, bytes))
-}
-
 /// Whether these bytes, all of them, are read as this record with its cache-flush bit.
 fn is_read_as(alloc: Global, bytes: &[u8], entry: &Record) -> Result<bool, Fail> {
     let mut decoder = BinDecoder::new(alloc, bytes);
     let read = Record::read(&mut decoder)?;
-    let flushes = read.mdns_cache_flush == entry.mdns_cache_flush;
-    Ok(decoder.index() == bytes.len() && flushes && read == *entry)
+    let same = read.mdns_cache_flush == entry.mdns_cache_flush && read == *entry;
+    drop(read);
+    Ok(same && decoder.index() == bytes.len())
 }
 
-/// Whether the record is written as these bytes, and they are read as it.
-fn stands_as(alloc: Global, entry: &Record, bytes: &[u8]) -> Result<bool, Fail> {
-    Ok(is_written_as(alloc, entry, bytes)? && is_read_as(alloc, bytes, entry)?)
-}
-
-fn is_shown_as(alloc: Global, entry: &Record, text: &str) -> Result<bool, Fail> {
-    Ok(entry.to_string(alloc)?.as_str() == text)
-}
-
-/// Whether the record that these bytes are read as has this text.
-fn has_text(alloc: Global, bytes: &[u8], text: &str) -> Result<bool, Fail> {
-    is_shown_as(alloc, &read(alloc, bytes)?, text)
+/// Whether the record is written as these bytes, and they are read as it. It is dropped by name: that is proved sooner.
+fn stands_as(alloc: Global, entry: Record, bytes: &[u8]) -> Result<bool, Fail> {
+    let written = is_written_as(alloc, &entry, bytes);
+    let read = is_read_as(alloc, bytes, &entry);
+    drop(entry);
+    let read = read?;
+    Ok(written && read)
 }
 
 /// `www.example.com.` 5 A 192.168.0.1.
@@ -62,26 +49,59 @@ fn www(alloc: Global) -> Result<Record<A>, Fail> {
     Ok(Record::from_rdata(name, 5, A::new(Ipv4Addr::new(192, 168, 0, 1))))
 }
 
+/// Whether the record is written under a limit.
+fn fits(alloc: Global, entry: &Record<A>, limit: u16) -> bool {
+    let bytes = written(alloc, entry, limit);
+    let fits = bytes.is_ok();
+    drop(bytes);
+    fits
+}
+
+/// Whether the record is refused for a limit.
+fn is_too_long(alloc: Global, entry: &Record<A>, limit: u16) -> bool {
+    let refused = written(alloc, entry, limit);
+    let is_too_long = matches!(&refused, Err(ProtoError::MaxBufferSizeExceeded));
+    drop(refused);
+    is_too_long
+}
+
 #[test]
 fn a_record_is_written(rt: HostRuntime) -> Result<(), Fail> {
     let entry = www(rt.alloc())?;
-    assert!(rt; is_written_as(rt.alloc(), &entry, &WWW)?);
-    assert!(rt; written(rt.alloc(), &entry, 31).is_ok());
-    let refused = written(rt.alloc(), &entry, 30);
-    assert!(rt; matches!(&refused, Err(ProtoError::MaxBufferSizeExceeded)));
+    assert!(rt; is_written_as(rt.alloc(), &entry, &WWW));
+    assert!(rt; fits(rt.alloc(), &entry, 31));
+    assert!(rt; is_too_long(rt.alloc(), &entry, 30));
     Ok(())
 }
 
 /// Whether these bytes are read as a copy of this record.
 fn copy_is_read(alloc: Global, bytes: &[u8], entry: &Record) -> Result<bool, Fail> {
-    is_read_as(alloc, bytes, &entry.clone()?)
+    let copy = entry.clone()?;
+    let read = is_read_as(alloc, bytes, &copy);
+    drop(copy);
+    read
+}
+
+/// Whether the bytes of `www.example.com.` are read as a copy of that record.
+fn www_is_read(alloc: Global) -> Result<bool, Fail> {
+    let entry = any_www(alloc)?;
+    let read = copy_is_read(alloc, &WWW, &entry);
+    drop(entry);
+    read
+}
+
+fn type_of(entry: Record) -> RecordType {
+    let record_type = entry.record_type();
+    drop(entry);
+    record_type
 }
 
 #[test]
 fn a_record_is_read_back(rt: HostRuntime) -> Result<(), Fail> {
-    assert!(rt; copy_is_read(rt.alloc(), &WWW, &any_www(rt.alloc())?)?);
-    assert!(rt; has_text(rt.alloc(), &WWW, "www.example.com. 5 IN A 192.168.0.1")?);
-    assert_eq!(rt; any_www(rt.alloc())?.record_type(), RecordType::A);
+    assert!(rt; www_is_read(rt.alloc())?);
+    let text = "www.example.com. 5 IN A 192.168.0.1";
+    assert!(rt; is_read_with_text::<Record>(rt.alloc(), &WWW, text));
+    assert!(rt; type_of(any_www(rt.alloc())?) == RecordType::A);
     Ok(())
 }
 
@@ -93,21 +113,29 @@ fn flushing(alloc: Global) -> Record {
     entry
 }
 
+fn class_of(entry: Record) -> DNSClass {
+    let dns_class = entry.dns_class;
+    drop(entry);
+    dns_class
+}
+
 #[test]
 fn the_top_bit_flushes_the_cache(rt: HostRuntime) -> Result<(), Fail> {
     let bytes = [0, 0, 1, 0x80, 1, 0, 0, 0, 0, 0, 4, 0, 0, 0, 0];
-    assert!(rt; stands_as(rt.alloc(), &flushing(rt.alloc()), &bytes)?);
-    assert_eq!(rt; flushing(rt.alloc()).dns_class, DNSClass::IN);
+    assert!(rt; stands_as(rt.alloc(), flushing(rt.alloc()), &bytes)?);
+    assert!(rt; class_of(flushing(rt.alloc())) == DNSClass::IN);
     Ok(())
 }
 
 /// Whether these bytes are read as an empty OPT record of this payload size, which flushes no cache, and is written as
 /// `written`.
 fn is_empty_opt(alloc: Global, bytes: &[u8], payload: u16, written: &[u8]) -> Result<bool, Fail> {
-    let entry = read(alloc, bytes)?;
-    let empty = entry.rdata == RData::Update0(RecordType::OPT);
+    let entry: Record = read(alloc, bytes)?;
+    let empty = matches!(&entry.rdata, RData::Update0(RecordType::OPT));
     let sized = entry.dns_class == DNSClass::OPT(payload) && !entry.mdns_cache_flush;
-    Ok(empty && sized && is_written_as(alloc, &entry, written)?)
+    let same = is_written_as(alloc, &entry, written);
+    drop(entry);
+    Ok(empty && sized && same)
 }
 
 #[test]
@@ -128,20 +156,47 @@ fn signature(alloc: Global) -> Result<Record<TSIG>, Fail> {
     Ok(entry)
 }
 
+/// Whether the signature, as a record of its kind, is written as these bytes.
+fn signature_is_written(alloc: Global, bytes: &[u8]) -> Result<bool, Fail> {
+    let entry = signature(alloc)?;
+    let written = is_written_as(alloc, &entry, bytes);
+    drop(entry);
+    Ok(written)
+}
+
+/// Whether these bytes are read as the signature, as a record of any data.
+fn signature_is_read(alloc: Global, bytes: &[u8]) -> Result<bool, Fail> {
+    let entry = signature(alloc)?.into_record_of_rdata();
+    let read = is_read_as(alloc, bytes, &entry);
+    drop(entry);
+    read
+}
+
 #[test]
 fn a_signature_is_written_by_its_kind(rt: HostRuntime) -> Result<(), Fail> {
     let bytes = [0, 0, 0xFA, 0, 0xFF, 0, 0, 0, 0, 0, 1, 0xAA];
-    assert!(rt; is_written_as(rt.alloc(), &signature(rt.alloc())?, &bytes)?);
-    let entry = signature(rt.alloc())?.into_record_of_rdata();
-    assert!(rt; is_read_as(rt.alloc(), &bytes, &entry)?);
+    assert!(rt; signature_is_written(rt.alloc(), &bytes)?);
+    assert!(rt; signature_is_read(rt.alloc(), &bytes)?);
     Ok(())
+}
+
+/// The fault of these bytes.
+fn refusal(alloc: Global, bytes: &[u8]) -> Option<DecodeError> {
+    match read(alloc, bytes) {
+        Ok(entry) => {
+            let entry: Record = entry;
+            drop(entry);
+            None
+        }
+        Err(e) => Some(e),
+    }
 }
 
 /// Which fault these bytes have, by its number; 0 for none.
 fn fault(alloc: Global, bytes: &[u8]) -> u8 {
-    match read(alloc, bytes) {
-        Ok(_) => 0,
-        Err(e) => e.number(),
+    match refusal(alloc, bytes) {
+        Some(e) => e.number(),
+        None => 0,
     }
 }
 
@@ -154,11 +209,11 @@ fn faults_come_in_order(rt: HostRuntime) {
 #[test]
 fn data_shorter_than_its_length(rt: HostRuntime) {
     let bytes = [0, 0, 1, 0, 1, 0, 0, 0, 0, 0, 5, 0x7F, 0, 0, 1];
-    let refused = read(rt.alloc(), &bytes);
+    let refused = refusal(rt.alloc(), &bytes);
     assert!(rt;
         matches!(
             &refused,
-            Err(DecodeError::IncorrectRDataLengthRead { read: 4, len: 5 })
+            Some(DecodeError::IncorrectRDataLengthRead { read: 4, len: 5 })
         )
     );
 }
@@ -166,34 +221,53 @@ fn data_shorter_than_its_length(rt: HostRuntime) {
 #[test]
 fn data_too_short_for_its_type(rt: HostRuntime) {
     let bytes = [0, 0, 1, 0, 1, 0, 0, 0, 0, 0, 3, 0x7F, 0, 0];
-    let refused = read(rt.alloc(), &bytes);
-    assert!(rt; matches!(&refused, Err(DecodeError::BadData(RecordType::A))));
+    let refused = refusal(rt.alloc(), &bytes);
+    assert!(rt; matches!(&refused, Some(DecodeError::BadData(RecordType::A))));
 }
 
 #[test]
 fn seconds_come_off_down_to_none(rt: HostRuntime) -> Result<(), Fail> {
     let mut entry = www(rt.alloc())?;
-    assert_eq!(rt; entry.decrement_ttl(7).ttl, 0);
-    assert_eq!(rt; entry.dns_class, DNSClass::IN);
+    assert!(rt; entry.decrement_ttl(7).ttl == 0);
+    assert!(rt; entry.dns_class == DNSClass::IN);
     Ok(())
+}
+
+/// That record, with the cache-flush bit.
+fn flushing_www(alloc: Global) -> Result<Record<A>, Fail> {
+    let mut entry = www(alloc)?;
+    entry.mdns_cache_flush = true;
+    Ok(entry)
+}
+
+/// Whether a record is mapped to itself where the closure answers its data.
+fn is_mapped(entry: Record<A>) -> Result<bool, AllocError> {
+    match entry.clone()?.map(|rdata: A| Some(rdata)) {
+        Some(same) => {
+            let flushes = same.ttl == 5 && same.mdns_cache_flush;
+            let equal = same == entry;
+            drop(same);
+            drop(entry);
+            Ok(flushes && equal)
+        }
+        None => Ok(false),
+    }
 }
 
 #[test]
 fn a_record_is_mapped(rt: HostRuntime) -> Result<(), Fail> {
-    let mut entry = www(rt.alloc())?;
-    entry.mdns_cache_flush = true;
-    let same = entry.clone()?.map(|rdata: A| Some(rdata));
-    match same {
-        Some(same) => {
-            assert_eq!(rt; same.ttl, 5);
-            assert!(rt; same.mdns_cache_flush);
-            assert_eq!(rt; same, entry);
-        }
-        None => panic!(rt; "the closure answered data"),
-    }
-    let none: Option<Record<A>> = entry.map(|_: A| None);
+    assert!(rt; is_mapped(flushing_www(rt.alloc())?)?);
+    let none: Option<Record<A>> = flushing_www(rt.alloc())?.map(|_: A| None);
     assert!(rt; none.is_none());
     Ok(())
+}
+
+fn is_www(alloc: Global, entry: Record<A>) -> Result<bool, Fail> {
+    let wanted = www(alloc)?;
+    let same = entry == wanted;
+    drop(wanted);
+    drop(entry);
+    Ok(same)
 }
 
 /// Whether the record that is shown is `www.example.com.` 5 IN A 192.168.0.1, without a cache-flush bit.
@@ -202,7 +276,8 @@ fn shows_www(alloc: Global, shown: RecordRef<'_, A>) -> Result<bool, Fail> {
     let typed = shown.record_type() == RecordType::A && shown.dns_class() == DNSClass::IN;
     let timed = shown.ttl() == 5 && !shown.mdns_cache_flush();
     let owned = shown.to_owned()?;
-    Ok(address && typed && timed && *shown.name() == owned.name && owned == www(alloc)?)
+    let named = *shown.name() == owned.name;
+    Ok(is_www(alloc, owned)? && address && typed && timed && named)
 }
 
 /// Whether the record is borrowed by its kind, as that of the address, and by no other.
@@ -218,9 +293,17 @@ fn is_borrowed(alloc: Global, entry: &Record) -> Result<bool, Fail> {
     }
 }
 
+/// Whether `www.example.com.` is borrowed so.
+fn www_is_borrowed(alloc: Global) -> Result<bool, Fail> {
+    let entry = any_www(alloc)?;
+    let borrowed = is_borrowed(alloc, &entry);
+    drop(entry);
+    borrowed
+}
+
 #[test]
 fn a_record_is_borrowed_by_its_kind(rt: HostRuntime) -> Result<(), Fail> {
-    assert!(rt; is_borrowed(rt.alloc(), &any_www(rt.alloc())?)?);
+    assert!(rt; www_is_borrowed(rt.alloc())?);
     Ok(())
 }
 
@@ -228,14 +311,20 @@ fn a_record_is_borrowed_by_its_kind(rt: HostRuntime) -> Result<(), Fail> {
 fn empty_data_has_no_bytes(rt: HostRuntime) -> Result<(), Fail> {
     let bytes = [0, 0, 1, 0, 1, 0, 0, 0, 1, 0, 0];
     let entry = Record::update0(Name::root(rt.alloc()), 1, RecordType::A);
-    assert!(rt; stands_as(rt.alloc(), &entry, &bytes)?);
-    assert!(rt; has_text(rt.alloc(), &bytes, ". 1 IN A \\# 0")?);
+    assert!(rt; stands_as(rt.alloc(), entry, &bytes)?);
+    assert!(rt; is_read_with_text::<Record>(rt.alloc(), &bytes, ". 1 IN A \\# 0"));
     Ok(())
 }
 
 /// The record of this name and data, for 5 seconds.
 fn record(alloc: Global, name: &str, rdata: RData) -> Result<Record, Fail> {
-    Ok(Record::from_rdata(Name::parse(alloc, name, None)?, 5, rdata))
+    match Name::parse(alloc, name, None) {
+        Ok(owner) => Ok(Record::from_rdata(owner, 5, rdata)),
+        Err(e) => {
+            drop(rdata);
+            Err(e.into())
+        }
+    }
 }
 
 /// The data 192.168.0.1.
@@ -251,7 +340,9 @@ fn any_www(alloc: Global) -> Result<Record, Fail> {
 /// How that record stands to another: its order before it, and whether the two are equal.
 fn www_beside(alloc: Global, other: &Record) -> Result<(Ordering, bool), Fail> {
     let entry = any_www(alloc)?;
-    Ok((entry.canonical_cmp(other), entry == *other))
+    let beside = (entry.canonical_cmp(other), entry == *other);
+    drop(entry);
+    Ok(beside)
 }
 
 /// How that record stands to itself with this class and TTL.
@@ -263,46 +354,56 @@ fn www_beside_class(
     let mut other = any_www(alloc)?;
     other.dns_class = dns_class;
     other.ttl = ttl;
-    www_beside(alloc, &other)
+    let beside = www_beside(alloc, &other);
+    drop(other);
+    beside
 }
 
 /// How that record stands to itself with this data.
 fn www_beside_data(alloc: Global, rdata: RData) -> Result<(Ordering, bool), Fail> {
     let other = record(alloc, "www.example.com.", rdata)?;
-    www_beside(alloc, &other)
+    let beside = www_beside(alloc, &other);
+    drop(other);
+    beside
 }
 
 /// The order of another record before that one.
 fn before_www(alloc: Global, other: &Record) -> Result<Ordering, Fail> {
-    Ok(other.canonical_cmp(&any_www(alloc)?))
+    let entry = any_www(alloc)?;
+    let order = other.canonical_cmp(&entry);
+    drop(entry);
+    Ok(order)
+}
+
+/// How that record stands to another, and the order the other way round.
+fn www_both_ways(alloc: Global, other: &Record) -> Result<(Ordering, bool, Ordering), Fail> {
+    let (order, equal) = www_beside(alloc, other)?;
+    Ok((order, equal, before_www(alloc, other)?))
 }
 
 /// How that record stands to itself with this name, and the order the other way round.
 fn www_beside_name(alloc: Global, name: &str) -> Result<(Ordering, bool, Ordering), Fail> {
     let other = record(alloc, name, address())?;
-    let (order, equal) = www_beside(alloc, &other)?;
-    Ok((order, equal, before_www(alloc, &other)?))
+    let beside = www_both_ways(alloc, &other);
+    drop(other);
+    beside
 }
 
 #[test]
 fn a_later_name_stands_behind(rt: HostRuntime) -> Result<(), Fail> {
-    let (order, equal, turned) = www_beside_name(rt.alloc(), "zzz.example.com.")?;
-    assert_eq!(rt; order, Ordering::Less);
-    assert!(rt; !equal);
-    assert_eq!(rt; turned, Ordering::Greater);
+    let beside = www_beside_name(rt.alloc(), "zzz.example.com.")?;
+    assert!(rt; beside == (Ordering::Less, false, Ordering::Greater));
     Ok(())
 }
 
 #[test]
 fn a_later_class_or_ttl_stands_behind(rt: HostRuntime) -> Result<(), Fail> {
-    for (dns_class, ttl, order, equal) in [
+    for &(dns_class, ttl, order, equal) in &[
         (DNSClass::IN, 5, Ordering::Equal, true),
         (DNSClass::IN, 6, Ordering::Less, true),
         (DNSClass::NONE, 5, Ordering::Less, false),
     ] {
-        let beside = www_beside_class(rt.alloc(), dns_class, ttl)?;
-        assert_eq!(rt; beside.0, order);
-        assert_eq!(rt; beside.1, equal);
+        assert!(rt; www_beside_class(rt.alloc(), dns_class, ttl)? == (order, equal));
     }
     Ok(())
 }
@@ -310,12 +411,8 @@ fn a_later_class_or_ttl_stands_behind(rt: HostRuntime) -> Result<(), Fail> {
 #[test]
 fn a_later_type_or_data_stands_behind(rt: HostRuntime) -> Result<(), Fail> {
     let later = A::new(Ipv4Addr::new(192, 168, 0, 255)).into_rdata();
-    let (order, equal) = www_beside_data(rt.alloc(), later)?;
-    assert_eq!(rt; order, Ordering::Less);
-    assert!(rt; !equal);
+    assert!(rt; www_beside_data(rt.alloc(), later)? == (Ordering::Less, false));
     let text = TXT::new(rt.alloc(), &[b"x"])?.into_rdata();
-    let (order, equal) = www_beside_data(rt.alloc(), text)?;
-    assert_eq!(rt; order, Ordering::Less);
-    assert!(rt; !equal);
+    assert!(rt; www_beside_data(rt.alloc(), text)? == (Ordering::Less, false));
     Ok(())
 }

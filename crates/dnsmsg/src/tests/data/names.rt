@@ -1,6 +1,6 @@
 use super::{expect_bytes, expect_read, expect_text, expect_wire, written};
-use crate::{ANAME, CNAME, MX, NS, PTR, SOA, SRV};
 use base::{BinDecodable, BinEncodable, Name, ParseError};
+use base_data::{ANAME, CNAME, MX, NS, PTR, SOA, SRV};
 use std::alloc::Global;
 use std::fmt;
 use std::process::Abort;
@@ -58,8 +58,8 @@ fn starts_of_authority_are_compressed(rt: HostRuntime) -> Result<(), Fail> {
         0x00, 0x1C, 0x20, 0x00, 0x00, 0x0E, 0x10, 0x00, 0x12, 0x75, 0x00, 0x00, 0x00, 0x01, 0x2C,
     ];
     let twice = starts_of_authority_written(rt.alloc())?;
-    assert_eq!(rt; twice.get(..45), Some(bytes.as_slice()));
-    assert_eq!(rt; twice.len(), 45 + 2 + 2 + 20);
+    assert!(rt; twice.get(..45) == Some(bytes.as_slice()));
+    assert!(rt; twice.len() == 45 + 2 + 2 + 20);
     Ok(())
 }
 

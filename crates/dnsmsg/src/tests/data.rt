@@ -1,9 +1,16 @@
 ghost use Rattle.std.specs.Prelude.{◌≤◌, length};
 
+mod kinds;
 mod names;
+mod order;
+mod rdata;
 
-use crate::{A, AAAA, EdnsOption, NULL, OPT, TSIG, TXT};
-use base::{BinDecodable, BinDecoder, BinEncodable, BinEncoder, DecodeError, ProtoError};
+use base::{
+    BinDecodable, BinDecoder, BinEncodable, BinEncoder, DecodeError, ProtoError, RecordType,
+};
+use base_data::{A, AAAA, EdnsOption, NULL, OPT, RData, RecordData, TSIG, TXT};
+use kinds::holds;
+use rdata::is_bad;
 use std::alloc::{AllocError, Global};
 use std::fmt;
 use std::net::{Ipv4Addr, Ipv6Addr};
@@ -130,14 +137,37 @@ fn no_bytes_come_before_some(rt: HostRuntime) -> Result<(), Fail> {
     Ok(())
 }
 
-/// Whether these are the next bytes, read as data of type NULL.
+/// Whether data of type NULL carries these bytes.
+fn carries(any: &RData, bytes: &[u8]) -> bool {
+    match NULL::try_borrow(any) {
+        Some(carried) => carried.bytes() == bytes,
+        None => false,
+    }
+}
+
+/// Whether these are the next two bytes, read as data of type NULL.
 fn are_next(decoder: &mut BinDecoder<'_>, bytes: &[u8]) -> Result<bool, DecodeError> {
-    Ok(NULL::read(decoder, bytes.len())?.bytes() == bytes)
+    let read = RData::read(decoder, RecordType::NULL, 2)?;
+    let same = carries(&read, bytes);
+    drop(read);
+    Ok(same)
+}
+
+/// Whether data that was read is this data. It is dropped by name: that is proved sooner.
+fn is_same<R: RecordData>(read: RData, value: &R) -> bool {
+    let same = holds(&read, value);
+    drop(read);
+    same
+}
+
+/// Reads the next byte as a signature.
+fn read_signature(decoder: &mut BinDecoder<'_>) -> Result<RData, DecodeError> {
+    RData::read(decoder, RecordType::TSIG, 1)
 }
 
 /// Whether the next byte is read as this signature.
 fn is_next(decoder: &mut BinDecoder<'_>, signature: &TSIG) -> Result<bool, DecodeError> {
-    Ok(TSIG::read(decoder, 1)? == *signature)
+    Ok(is_same(read_signature(decoder)?, signature))
 }
 
 #[test]
@@ -146,7 +176,7 @@ fn bytes_are_read_by_their_number(rt: HostRuntime) -> Result<(), Fail> {
     let mut decoder = BinDecoder::new(rt.alloc(), &[1, 2, 3]);
     assert!(rt; are_next(&mut decoder, &[1, 2])?);
     assert!(rt; is_next(&mut decoder, &signature)?);
-    assert!(rt; is_cut(&TSIG::read(&mut decoder, 1)));
+    assert!(rt; is_bad(read_signature(&mut decoder), RecordType::TSIG));
     Ok(())
 }
 
@@ -206,36 +236,63 @@ fn texts(rt: HostRuntime) -> Result<(), Fail> {
     expect_form(&rt, rt.alloc(), &text, &STRINGS_ON_THE_WIRE, shown)
 }
 
-/// The strings that all of the bytes spell.
-fn read_strings(alloc: Global) -> Result<TXT, DecodeError> {
-    TXT::read(&mut BinDecoder::new(alloc, &STRINGS_ON_THE_WIRE), 16)
+/// The text that so many of the bytes spell.
+fn read_strings(alloc: Global, len: u16) -> Result<RData, DecodeError> {
+    let mut decoder = BinDecoder::new(alloc, &STRINGS_ON_THE_WIRE);
+    RData::read(&mut decoder, RecordType::TXT, len)
+}
+
+/// Whether all of the bytes are read as the text of those strings.
+fn are_read(alloc: Global) -> Result<bool, DecodeError> {
+    let text = TXT::new(alloc, &STRINGS)?;
+    let read = read_strings(alloc, 16)?;
+    Ok(is_same(read, &text))
+}
+
+/// Whether the text that all of the bytes spell is equal to its copy.
+fn are_copied(alloc: Global) -> Result<bool, DecodeError> {
+    let read = read_strings(alloc, 16)?;
+    let copied = equals_its_copy(&read);
+    drop(read);
+    Ok(copied?)
 }
 
 #[test]
 fn texts_are_read(rt: HostRuntime) -> Result<(), Fail> {
-    let text = read_strings(rt.alloc())?;
-    assert!(rt; TXT::new(rt.alloc(), &STRINGS)? == text);
-    assert!(rt; equals_its_copy(&text)?);
+    assert!(rt; are_read(rt.alloc())?);
+    assert!(rt; are_copied(rt.alloc())?);
     Ok(())
 }
 
-/// Checks that a text has those strings.
-fn expect_strings(rt: &impl Abort, text: &TXT) {
+/// Whether a text has those strings.
+fn has_strings(text: &TXT) -> bool {
     for (string, expected) in text.strings().zip(STRINGS.iter()) {
-        assert_eq!(rt; string, *expected);
+        if string != *expected {
+            return false;
+        }
     }
+    true
+}
+
+/// Whether data is a text that has those strings.
+fn is_text(read: RData) -> bool {
+    let has_those = match TXT::try_borrow(&read) {
+        Some(text) => has_strings(text),
+        None => false,
+    };
+    drop(read);
+    has_those
 }
 
 #[test]
 fn strings_of_texts(rt: HostRuntime) -> Result<(), Fail> {
-    expect_strings(&rt, &read_strings(rt.alloc())?);
+    assert!(rt; is_text(read_strings(rt.alloc(), 16)?));
     Ok(())
 }
 
 #[test]
 fn texts_end_where_their_bytes_end(rt: HostRuntime) {
-    let mut decoder = BinDecoder::new(rt.alloc(), &STRINGS_ON_THE_WIRE);
-    assert!(rt; is_cut(&TXT::read(&mut decoder, 15)));
+    assert!(rt; is_bad(read_strings(rt.alloc(), 15), RecordType::TXT));
 }
 
 #[test]
@@ -305,15 +362,29 @@ fn options_are_removed(rt: HostRuntime) -> Result<(), Fail> {
 /// Two options of one code.
 const ONE_CODE_TWICE: [u8; 9] = [0, 3, 0, 0, 0, 3, 0, 1, 7];
 
+/// The options that all of the bytes spell.
+fn read_options(alloc: Global, bytes: &[u8], len: u16) -> Result<RData, DecodeError> {
+    RData::read(&mut BinDecoder::new(alloc, bytes), RecordType::OPT, len)
+}
+
+/// How many options the data has.
+fn count_of(read: RData) -> usize {
+    let count = match OPT::try_borrow(&read) {
+        Some(options) => options.as_ref().len(),
+        None => 0,
+    };
+    drop(read);
+    count
+}
+
 #[test]
 fn options_are_read_as_they_stand(rt: HostRuntime) -> Result<(), Fail> {
-    let options = OPT::read(&mut BinDecoder::new(rt.alloc(), &ONE_CODE_TWICE), 9)?;
-    assert_eq!(rt; options.as_ref().len(), 2);
+    assert!(rt; count_of(read_options(rt.alloc(), &ONE_CODE_TWICE, 9)?) == 2);
     Ok(())
 }
 
 #[test]
 fn options_end_where_their_bytes_end(rt: HostRuntime) {
-    let mut decoder = BinDecoder::new(rt.alloc(), &ONE_CODE_TWICE[..8]);
-    assert!(rt; is_cut(&OPT::read(&mut decoder, 8)));
+    let read = read_options(rt.alloc(), &ONE_CODE_TWICE[..8], 8);
+    assert!(rt; is_bad(read, RecordType::OPT));
 }

@@ -1,8 +1,11 @@
-pub(crate) mod forms;
-pub(crate) mod values;
+mod edns;
+mod header;
+mod message;
+mod query;
+mod values;
 
-use crate::{Flags, Header, HeaderCounts, MessageType, Metadata, OpCode, ResponseCode};
-use forms::has_text;
+use super::forms::has_text;
+use op::{Flags, Header, HeaderCounts, MessageType, Metadata, OpCode, ResponseCode};
 use std::alloc::Global;
 use std::cmp::Ordering;
 
@@ -14,7 +17,7 @@ fn is_op_code(alloc: Global, number: u8, code: OpCode, text: &str) -> bool {
 // The operations: number, code and text.
 #[test]
 fn op_codes(rt: HostRuntime) {
-    let table = [
+    for &(number, code, text) in &[
         (0, OpCode::Query, "QUERY"),
         (1, OpCode::Unknown(1), "Unknown opcode (1)"),
         (2, OpCode::Status, "STATUS"),
@@ -24,8 +27,7 @@ fn op_codes(rt: HostRuntime) {
         (6, OpCode::Unknown(6), "Unknown opcode (6)"),
         (15, OpCode::Unknown(15), "Unknown opcode (15)"),
         (255, OpCode::Unknown(255), "Unknown opcode (255)"),
-    ];
-    for (number, code, text) in table {
+    ] {
         assert!(rt; is_op_code(rt.alloc(), number, code, text), "at {number}");
     }
 }
@@ -49,7 +51,7 @@ fn is_code(alloc: Global, number: u16, code: ResponseCode, name: &str, text: &st
 // The response codes that have a name and fit a header: number, code, name and text.
 #[test]
 fn response_codes(rt: HostRuntime) {
-    for (number, code, name, text) in [
+    for &(number, code, name, text) in &[
         (0, ResponseCode::NoError, "NoError", "No Error"),
         (1, ResponseCode::FormErr, "FormErr", "Form Error"),
         (2, ResponseCode::ServFail, "ServFail", "Server Failure"),
@@ -82,7 +84,7 @@ fn response_codes(rt: HostRuntime) {
 // Those that have a name and more bits.
 #[test]
 fn wide_response_codes(rt: HostRuntime) {
-    for (number, code, name, text) in [
+    for &(number, code, name, text) in &[
         (16, ResponseCode::BADSIG, "BADSIG", "TSIG Failure"),
         (17, ResponseCode::BADKEY, "BADKEY", "Key not recognized"),
         (

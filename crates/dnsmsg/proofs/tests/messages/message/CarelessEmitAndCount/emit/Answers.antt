@@ -1,6 +1,6 @@
 use Rattle.std.proofs.Common.{refl}
 use Rattle.base.proofs.LawLemmas.{Keeps-same}
-use Rattle.op.proofs.message.tests.CarelessEmitAndCount.emit.Goals as goal
+use Rattle.dnsmsg.proofs.tests.messages.message.CarelessEmitAndCount.emit.Goals as goal
 
 pub returns-then-self-clause-keeps : goal.returns-then-self-clause-keeps
 returns-then-self-clause-keeps c = Keeps-same _ _ refl

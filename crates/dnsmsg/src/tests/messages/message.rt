@@ -1,12 +1,12 @@
 ghost use Rattle.std.specs.Prelude.{◌≡◌};
 
+mod reading;
 mod written_rows;
 
-use super::{EmitAndCount, Message, emit_message_parts};
-use crate::header::MessageType;
-use crate::tests::values::ask;
-use crate::{Edns, Metadata, OpCode, ResponseCode};
+use crate::tests::messages::values::ask;
 use base::{BinEncoder, ProtoError};
+use op::message::{EmitAndCount, emit_message_parts};
+use op::{Edns, Message, MessageType, Metadata, OpCode, ResponseCode};
 use std::alloc::Global;
 use std::test::Fail;
 
@@ -24,7 +24,9 @@ fn query(alloc: Global) -> Result<Message, Fail> {
 fn written(alloc: Global) -> Result<Vec<u8>, Fail> {
     let message = query(alloc)?;
     let mut bytes = Vec::new(alloc);
-    message.emit(&mut BinEncoder::new(&mut bytes))?;
+    let emitted = message.emit(&mut BinEncoder::new(&mut bytes));
+    drop(message);
+    emitted?;
     Ok(bytes)
 }
 

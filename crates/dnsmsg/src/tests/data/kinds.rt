@@ -1,8 +1,8 @@
-use crate::{
+use base::{Name, RecordType};
+use base_data::{
     A, AAAA, ANAME, CNAME, EdnsOption, MX, NS, NULL, OPT, PTR, RData, RecordData, SOA, SRV, TSIG,
     TXT,
 };
-use base::{Name, RecordType};
 use std::alloc::{AllocError, Global};
 use std::net::{Ipv4Addr, Ipv6Addr};
 use std::process::Abort;
@@ -18,7 +18,7 @@ fn is_of_type<R: RecordData>(value: &R, record_type: RecordType) -> bool {
 }
 
 /// Whether the data of any record is this data.
-fn holds<R: RecordData>(any: &RData, value: &R) -> bool {
+pub(super) fn holds<R: RecordData>(any: &RData, value: &R) -> bool {
     match R::try_borrow(any) {
         Some(borrowed) => borrowed == value,
         None => false,
@@ -28,7 +28,9 @@ fn holds<R: RecordData>(any: &RData, value: &R) -> bool {
 /// Whether a copy of data is data of any record, of a type, and is taken out again.
 fn is_taken_out<R: RecordData>(value: &R, record_type: RecordType) -> Result<bool, AllocError> {
     let any = value.clone()?.into_rdata();
-    Ok(any.record_type() == record_type && holds(&any, value))
+    let taken = any.record_type() == record_type && holds(&any, value);
+    drop(any);
+    Ok(taken)
 }
 
 /// Checks that data of a type is taken out of the data of any record again, and isn't empty.
@@ -92,7 +94,10 @@ fn any_data(rt: HostRuntime) -> Result<(), Fail> {
 
 /// Whether data is empty, of the type of mail hosts, and no mail host.
 fn is_no_mail_host(none: RData) -> bool {
-    none.record_type() == RecordType::MX && none.is_update() && MX::try_borrow(&none).is_none()
+    let is_empty = none.record_type() == RecordType::MX && none.is_update();
+    let is_other = MX::try_borrow(&none).is_none();
+    drop(none);
+    is_empty && is_other
 }
 
 #[test]

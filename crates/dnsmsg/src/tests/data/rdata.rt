@@ -1,5 +1,5 @@
-use crate::{A, MX, NS, NULL, RData, RecordData, SRV};
 use base::{BinDecodable, BinDecoder, DecodeError, Name, RecordType};
+use base_data::{A, MX, NS, NULL, RData, RecordData, SRV};
 use std::alloc::{AllocError, Global};
 use std::net::Ipv4Addr;
 use std::test::Fail;
@@ -39,7 +39,7 @@ fn read_as(
 }
 
 /// Whether two data are equal. They are dropped by name: that is proved sooner.
-pub(crate) fn are_equal(first: RData, second: RData) -> bool {
+pub(super) fn are_equal(first: RData, second: RData) -> bool {
     let equal = first == second;
     drop(first);
     drop(second);
@@ -47,11 +47,10 @@ pub(crate) fn are_equal(first: RData, second: RData) -> bool {
 }
 
 /// Whether the bytes were refused as data of a type.
-fn is_bad(read: Result<RData, DecodeError>, record_type: RecordType) -> bool {
-    match read {
-        Err(DecodeError::BadData(named)) => named == record_type,
-        _ => false,
-    }
+pub(super) fn is_bad(read: Result<RData, DecodeError>, record_type: RecordType) -> bool {
+    let bad = matches!(&read, Err(DecodeError::BadData(named)) if *named == record_type);
+    drop(read);
+    bad
 }
 
 fn name_of(alloc: Global, wire: &[u8]) -> Result<Name, DecodeError> {
@@ -141,7 +140,7 @@ fn names_are_ordered_by_their_bytes(rt: HostRuntime) -> Result<(), Fail> {
 fn names_are_ordered_without_regard_to_case(rt: HostRuntime) -> Result<(), Fail> {
     let lower = server(rt.alloc(), &[2, b'a', b'a', 0])?;
     let upper = server(rt.alloc(), &[2, b'A', b'A', 0])?;
-    assert_eq!(rt; lower, upper);
+    assert!(rt; lower == upper);
     Ok(())
 }
 

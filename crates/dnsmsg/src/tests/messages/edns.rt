@@ -1,7 +1,7 @@
 use crate::tests::forms::{has_text, is_written_as};
-use crate::tests::values::edns_with_option;
-use crate::{DEFAULT_MAX_PAYLOAD_LEN, Edns, EdnsFlags};
+use crate::tests::messages::values::edns_with_option;
 use base::RecordType;
+use op::{DEFAULT_MAX_PAYLOAD_LEN, Edns, EdnsFlags};
 use rr::Record;
 use std::alloc::Global;
 use std::test::Fail;
@@ -103,18 +103,25 @@ fn record(alloc: Global) -> Result<Record, Fail> {
     Ok(Record::try_from(&edns)?)
 }
 
+// Whether this is an OPT record of this TTL.
+fn is_opt(record: Record, ttl: u32) -> bool {
+    let is_opt = record.record_type() == RecordType::OPT && record.ttl == ttl;
+    drop(record);
+    is_opt
+}
+
 #[test]
 fn a_record_is_made_of_edns(rt: HostRuntime) -> Result<(), Fail> {
-    let record = record(rt.alloc())?;
-    assert!(rt; record.record_type() == RecordType::OPT);
-    assert!(rt; record.ttl == 0x0140_8001);
+    assert!(rt; is_opt(record(rt.alloc())?, 0x0140_8001));
     Ok(())
 }
 
 // What is made of that record.
 fn edns_again(alloc: Global) -> Result<Edns, Fail> {
     let record = record(alloc)?;
-    Ok(Edns::try_from(&record)?)
+    let again = Edns::try_from(&record);
+    drop(record);
+    Ok(again?)
 }
 
 #[test]

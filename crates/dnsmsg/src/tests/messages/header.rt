@@ -1,7 +1,6 @@
-use super::{Header, HeaderCounts, MessageType, Metadata};
 use crate::tests::forms::{has_text, is_cut, is_read_as, is_read_to, is_written_back, read};
-use crate::{OpCode, ResponseCode};
 use base::{BinEncodable, BinEncoder, DecodeError, EncodedSize, ProtoError};
+use op::{Header, HeaderCounts, MessageType, Metadata, OpCode, ResponseCode};
 use std::alloc::Global;
 use std::test::Fail;
 
@@ -57,7 +56,7 @@ fn is_shown_as(alloc: Global, high: u8, low: u8, text: &str) -> bool {
 
 #[test]
 fn each_flag_has_its_bit(rt: HostRuntime) {
-    for (high, low, text) in [
+    for &(high, low, text) in &[
         (0x80, 0x00, "0:RESPONSE::NoError:QUERY"),
         (0x04, 0x00, "0:QUERY:AA:NoError:QUERY"),
         (0x02, 0x00, "0:QUERY:TC:NoError:QUERY"),

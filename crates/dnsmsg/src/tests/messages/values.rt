@@ -1,8 +1,8 @@
 //! Values that several tests write and read.
 
-use crate::{Edns, Message, Query};
 use base::{DNSClass, Name, RecordType};
 use base_data::{A, EdnsOption, TSIG};
+use op::{Edns, Message, Query};
 use rr::Record;
 use std::alloc::Global;
 use std::net::Ipv4Addr;
