@@ -1,5 +1,4 @@
-use crate::wire::{BinDecoder, read_many};
-use crate::{BinDecodable, DecodeError};
+use base::{BinDecodable, BinDecoder, DecodeError, read_many};
 use std::alloc::Global;
 use std::test::Fail;
 

@@ -1,10 +1,7 @@
-use super::tests::has_labels;
-use super::*;
-use crate::error::ParseError;
-use crate::lower_name::LowerName;
-use crate::record_type::RecordType;
-use crate::rr_key::RrKey;
-use crate::types_tests::shows;
+use super::has_labels;
+use crate::tests::forms::has_text;
+use base::{LowerName, Name, ParseError, RecordType, RrKey};
+use std::alloc::Global;
 use std::cmp::Ordering;
 use std::hash::{DefaultHasher, Hash, Hasher};
 use std::test::Fail;
@@ -48,7 +45,7 @@ fn long_text(alloc: Global, lens: &[usize]) -> Result<String, Fail> {
 /// Whether a text is read and prints as another.
 fn prints(alloc: Global, text: &str, origin: Option<&Name>, printed: &str) -> bool {
     match Name::parse(alloc, text, origin) {
-        Ok(read) => shows(alloc, &read, printed),
+        Ok(read) => has_text(alloc, &read, printed),
         Err(_) => false,
     }
 }
@@ -83,7 +80,7 @@ fn prints_what_it_reads(rt: HostRuntime) {
 fn a_relative_name_without_labels_prints_as_nothing(rt: HostRuntime) {
     let mut nameless = Name::root(rt.alloc());
     nameless.set_fqdn(false);
-    assert!(rt; shows(rt.alloc(), &nameless, ""));
+    assert!(rt; has_text(rt.alloc(), &nameless, ""));
 }
 
 #[test]
@@ -344,7 +341,7 @@ fn keys_are_equal_in_any_case(rt: HostRuntime) -> Result<(), Fail> {
 #[test]
 fn prints_a_lowered_name(rt: HostRuntime) -> Result<(), Fail> {
     let lowered = lower(rt.alloc(), "WWW.Example.Com")?;
-    assert!(rt; shows(rt.alloc(), &lowered, "www.example.com"));
+    assert!(rt; has_text(rt.alloc(), &lowered, "www.example.com"));
     Ok(())
 }
 
