@@ -3,8 +3,6 @@
 pub mod decode_error;
 pub mod parse_error;
 pub mod proto_error;
-#[cfg(test)]
-mod tests;
 
 pub use decode_error::DecodeError;
 pub use parse_error::ParseError;

@@ -19,6 +19,3 @@ pub use wire::{
     BinDecodable, BinDecoder, BinEncodable, BinEncoder, EmitAndCount, EncodedSize, Place,
     emit_sized, read_many,
 };
-
-#[cfg(test)]
-mod types_tests;

@@ -10,10 +10,6 @@ pub mod laws;
 pub mod parse;
 mod reading;
 pub mod round_trip;
-#[cfg(test)]
-mod tests;
-#[cfg(test)]
-mod text_tests;
 mod writing;
 
 use std::alloc::{AllocError, Global};

@@ -19,6 +19,3 @@ pub use encoder::BinEncoder;
 pub use many::read_many;
 pub use place::Place;
 pub use sized::emit_sized;
-
-#[cfg(test)]
-mod tests;

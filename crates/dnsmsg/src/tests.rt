@@ -1,5 +1,5 @@
-//! Rows of input and output through `run`, and the tests of `base_data`, `rr` and `op`, which stand above those crates
-//! so that each of them is proved once.
+//! Rows of input and output through `run`, and the tests of `base`, `base_data`, `rr` and `op`, which stand above those
+//! crates so that each of them is proved once.
 //!
 //! Each test is proved, which costs most where a function lets go of several values: so the runs are made in small
 //! functions, and a test goes over plain rows.
@@ -8,12 +8,16 @@ mod broken_streams;
 mod cut_rows;
 mod cut_tables;
 mod data;
+mod errors;
 mod forms;
 mod header_rows;
 mod messages;
+mod names;
 mod read_refusals;
 mod read_rows;
 mod records;
+mod types;
+mod wire;
 
 use crate::run::run;
 use std::alloc::{AllocError, Global};

@@ -1,6 +1,9 @@
 ghost use Rattle.std.specs.Prelude.{◌≡◌, Ok};
 
-use super::*;
+use super::{emit_names, name_of};
+use base::{BinEncoder, EmitAndCount, Name, ProtoError};
+use std::alloc::Global;
+use std::test::Fail;
 
 /// A part that answers a number and writes nothing.
 #[derive(Drop)]

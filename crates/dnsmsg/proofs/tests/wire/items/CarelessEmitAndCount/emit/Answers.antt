@@ -1,6 +1,6 @@
 use Rattle.std.proofs.Common.{refl}
 use Rattle.base.proofs.LawLemmas.{Keeps-same}
-use Rattle.base.proofs.wire.tests.items.CarelessEmitAndCount.emit.Goals as goal
+use Rattle.dnsmsg.proofs.tests.wire.items.CarelessEmitAndCount.emit.Goals as goal
 
 pub returns-clause-keeps : goal.returns-clause-keeps
 returns-clause-keeps c = Keeps-same _ _ refl

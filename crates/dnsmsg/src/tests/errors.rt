@@ -1,6 +1,5 @@
-use super::{DecodeError, ParseError, ProtoError};
-use crate::types_tests::shows;
-use crate::{Name, RecordType};
+use super::forms::has_text;
+use base::{DecodeError, Name, ParseError, ProtoError, RecordType};
 use std::alloc::Global;
 use std::test::Fail;
 
@@ -45,7 +44,7 @@ fn refusals_of_records_have_their_numbers(rt: HostRuntime) {
 
 /// Whether a refusal of reading prints as this text.
 fn reading_shows(alloc: Global, refusal: DecodeError, text: &str) -> bool {
-    let is_shown = shows(alloc, &refusal, text);
+    let is_shown = has_text(alloc, &refusal, text);
     drop(refusal);
     is_shown
 }
@@ -98,7 +97,7 @@ fn refusals_of_what_a_zone_names_have_their_numbers(rt: HostRuntime) -> Result<(
 #[test]
 fn the_refusal_of_a_type_names_it(rt: HostRuntime) -> Result<(), Fail> {
     let refusal = unknown_type(rt.alloc(), "TYPE11")?;
-    assert!(rt; shows(rt.alloc(), &refusal, "unknown record type: TYPE11"));
+    assert!(rt; has_text(rt.alloc(), &refusal, "unknown record type: TYPE11"));
     Ok(())
 }
 

@@ -1,5 +1,4 @@
-use crate::wire::BinEncoder;
-use crate::{BinEncodable, ProtoError};
+use base::{BinEncodable, BinEncoder, ProtoError};
 use std::test::Fail;
 
 /// Whether the limit refused.

@@ -1,5 +1,4 @@
-use crate::wire::{BinDecoder, read_many};
-use crate::{BinDecodable, DecodeError};
+use base::{BinDecodable, BinDecoder, DecodeError, read_many};
 use std::alloc::Global;
 use std::test::Fail;
 
@@ -16,10 +15,11 @@ fn read_each(decoder: &mut BinDecoder<'_>) -> Result<(u8, u16, u32), DecodeError
     Ok((one, two, four))
 }
 
+const NUMBERS: [u8; 9] = [1, 2, 3, 4, 5, 6, 7, 8, 9];
+
 #[test]
 fn numbers_are_read_high_byte_first(rt: HostRuntime) -> Result<(), Fail> {
-    let buffer = [1, 2, 3, 4, 5, 6, 7, 8, 9];
-    let mut decoder = BinDecoder::new(rt.alloc(), &buffer);
+    let mut decoder = BinDecoder::new(rt.alloc(), &NUMBERS);
     assert!(rt; decoder.len() == 9);
     let (one, two, four) = read_each(&mut decoder)?;
     assert!(rt; one == 1 && two == 0x0203 && four == 0x0405_0607);

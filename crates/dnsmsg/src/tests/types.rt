@@ -1,17 +1,9 @@
-use crate::{DNSClass, RecordType};
+use super::forms::has_text;
+use base::{DNSClass, RecordType};
 use std::alloc::Global;
 use std::cmp::Ordering;
-use std::fmt::Display;
 use std::hash::{DefaultHasher, Hash, Hasher};
 use std::test::Fail;
-
-/// Whether a value prints as this text.
-pub fn shows<T: Display>(alloc: Global, value: &T, text: &str) -> bool {
-    match value.to_string(alloc) {
-        Ok(shown) => shown.as_str() == text,
-        Err(_) => false,
-    }
-}
 
 /// Whether the three comparisons of two values answer by this order.
 fn compares<T: Ord>(low: &T, high: &T, order: Ordering) -> bool {
@@ -37,7 +29,7 @@ fn is_type(alloc: Global, record_type: RecordType, number: u16, text: &str) -> b
     u16::from(record_type) == number
         && RecordType::from(number) == record_type
         && RecordType::from_text(text) == Some(record_type)
-        && shows(alloc, &record_type, text)
+        && has_text(alloc, &record_type, text)
 }
 
 #[test]
@@ -83,7 +75,7 @@ fn is_nameless_type(alloc: Global, number: u16, text: &str) -> bool {
         && u16::from(record_type) == number
         && RecordType::from_text(text) == None
         && !record_type.is_dnssec()
-        && shows(alloc, &record_type, text)
+        && has_text(alloc, &record_type, text)
 }
 
 #[test]
@@ -150,7 +142,7 @@ fn is_class(alloc: Global, class: DNSClass, number: u16, text: &str) -> bool {
     u16::from(class) == number
         && DNSClass::from(number) == class
         && DNSClass::from_text(text) == Some(class)
-        && shows(alloc, &class, text)
+        && has_text(alloc, &class, text)
 }
 
 #[test]
@@ -173,7 +165,7 @@ fn is_nameless_class(alloc: Global, number: u16, text: &str) -> bool {
     DNSClass::from(number) == class
         && u16::from(class) == number
         && DNSClass::from_text(text) == None
-        && shows(alloc, &class, text)
+        && has_text(alloc, &class, text)
 }
 
 #[test]
@@ -186,7 +178,7 @@ fn classes_without_a_name(rt: HostRuntime) {
     ] {
         assert!(rt; is_nameless_class(rt.alloc(), number, text));
     }
-    assert!(rt; shows(rt.alloc(), &DNSClass::OPT(1232), "OPT"));
+    assert!(rt; has_text(rt.alloc(), &DNSClass::OPT(1232), "OPT"));
 }
 
 #[test]

@@ -3,11 +3,10 @@ mod names;
 mod numbers;
 mod numbers_read;
 
-use super::*;
-use crate::dns_class::DNSClass;
-use crate::error::{DecodeError, ProtoError};
-use crate::name::Name;
-use crate::record_type::RecordType;
+use base::{
+    BinDecodable, BinDecoder, BinEncodable, BinEncoder, DNSClass, DecodeError, Name, ProtoError,
+    RecordType, emit_sized,
+};
 use std::alloc::Global;
 use std::test::Fail;
 

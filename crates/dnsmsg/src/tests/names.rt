@@ -1,6 +1,7 @@
-use super::*;
-use crate::error::DecodeError;
-use crate::wire::{BinDecodable, BinDecoder};
+mod text;
+
+use base::{BinDecodable, BinDecoder, DecodeError, Name};
+use std::alloc::Global;
 use std::test::Fail;
 
 /// Reads a name behind as many bytes, and the place behind it.
@@ -22,7 +23,7 @@ fn refusal(alloc: Global, bytes: &[u8], at: usize) -> u8 {
 }
 
 /// Whether a name has these labels and no more.
-pub fn has_labels(name: &Name, labels: &[&[u8]]) -> bool {
+fn has_labels(name: &Name, labels: &[&[u8]]) -> bool {
     for (i, label) in labels.iter().enumerate() {
         if name.label(i) != Some(*label) {
             return false;

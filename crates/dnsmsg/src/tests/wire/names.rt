@@ -1,4 +1,7 @@
-use super::*;
+use super::{emit_name, emit_names, name_of, part_is, refusal};
+use base::{BinDecodable, BinDecoder, BinEncodable, BinEncoder, DecodeError, Name, ProtoError};
+use std::alloc::Global;
+use std::test::Fail;
 
 /// What is written of these names, one after another.
 fn written(alloc: Global, names: &[&[u8]]) -> Result<Vec<u8>, Fail> {

@@ -1,10 +1,7 @@
-use super::tests::has_labels;
-use super::*;
-use crate::error::ParseError;
-use crate::lower_name::LowerName;
-use crate::record_type::RecordType;
-use crate::rr_key::RrKey;
-use crate::types_tests::shows;
+use super::has_labels;
+use crate::tests::forms::has_text;
+use base::{LowerName, Name, ParseError, RecordType, RrKey};
+use std::alloc::Global;
 use std::cmp::Ordering;
 use std::hash::{DefaultHasher, Hash, Hasher};
 use std::test::Fail;
@@ -48,7 +45,7 @@ fn long_text(alloc: Global, lens: &[usize]) -> Result<String, Fail> {
 /// Whether a text is read and prints as another.
 fn prints(alloc: Global, text: &str, origin: Option<&Name>, printed: &str) -> bool {
     match Name::parse(alloc, text, origin) {
-        Ok(read) => shows(alloc, &read, printed),
+        Ok(read) => has_text(alloc, &read, printed),
         Err(_) => false,
     }
 }
@@ -83,7 +80,7 @@ fn prints_what_it_reads(rt: HostRuntime) {
 fn a_relative_name_without_labels_prints_as_nothing(rt: HostRuntime) {
     let mut nameless = Name::root(rt.alloc());
     nameless.set_fqdn(false);
-    assert!(rt; shows(rt.alloc(), &nameless, ""));
+    assert!(rt; has_text(rt.alloc(), &nameless, ""));
 }
 
 #[test]
@@ -231,37 +228,52 @@ fn order(alloc: Global, one: &str, other: &str) -> Result<Ordering, ParseError> 
     Ok(first.cmp(&second))
 }
 
-#[test]
-fn orders_names(rt: HostRuntime) -> Result<(), Fail> {
-    // relative names first; then the example of RFC 4034, 6.1
-    let texts = [
-        "a",
-        "z.a",
-        "b",
-        ".",
-        "a.",
-        "ab.",
-        "A.b.",
-        "b.b.",
-        "example.",
-        "a.example.",
-        "yljkjljk.a.example.",
-        "Z.a.example.",
-        "zABC.a.EXAMPLE.",
-        "z.example.",
-        r"\001.z.example.",
-        "*.z.example.",
-        r"\200.z.example.",
-    ];
+/// Whether the names that two texts read as have this order.
+fn are_ordered(alloc: Global, one: &str, other: &str, wanted: Ordering) -> bool {
+    let found = order(alloc, one, other);
+    match &found {
+        Ok(found) => *found == wanted,
+        Err(_) => false,
+    }
+}
+
+/// Whether the names that the texts read as ascend.
+fn names_ascend(alloc: Global, texts: &[&str]) -> bool {
     for (i, one) in texts.iter().enumerate() {
         for (j, other) in texts.iter().enumerate() {
-            let answer = order(rt.alloc(), one, other)?;
-            assert!(rt; answer == i.cmp(&j));
+            if !are_ordered(alloc, one, other, i.cmp(&j)) {
+                return false;
+            }
         }
     }
-    let of_cases = order(rt.alloc(), "A.b.", "a.B.")?;
-    assert!(rt; of_cases == Ordering::Equal);
-    Ok(())
+    true
+}
+
+/// Relative names first; then the example of RFC 4034, 6.1.
+const ASCENDING: [&str; 17] = [
+    "a",
+    "z.a",
+    "b",
+    ".",
+    "a.",
+    "ab.",
+    "A.b.",
+    "b.b.",
+    "example.",
+    "a.example.",
+    "yljkjljk.a.example.",
+    "Z.a.example.",
+    "zABC.a.EXAMPLE.",
+    "z.example.",
+    r"\001.z.example.",
+    "*.z.example.",
+    r"\200.z.example.",
+];
+
+#[test]
+fn orders_names(rt: HostRuntime) {
+    assert!(rt; are_ordered(rt.alloc(), "A.b.", "a.B.", Ordering::Equal));
+    assert!(rt; names_ascend(rt.alloc(), &ASCENDING));
 }
 
 /// Whether the zone that a text reads as holds the name that another reads as.
@@ -315,17 +327,19 @@ fn key_order(
     Ok(first.cmp(&second))
 }
 
+/// Keys in their order.
+const ASCENDING_KEYS: [(&str, RecordType); 5] = [
+    ("z", RecordType::ANY),
+    ("A.", RecordType::A),
+    ("a.", RecordType::NS),
+    ("B.a.", RecordType::A),
+    ("b.", RecordType::A),
+];
+
 #[test]
 fn orders_keys(rt: HostRuntime) -> Result<(), Fail> {
-    let rows = [
-        ("z", RecordType::ANY),
-        ("A.", RecordType::A),
-        ("a.", RecordType::NS),
-        ("B.a.", RecordType::A),
-        ("b.", RecordType::A),
-    ];
-    for (i, one) in rows.iter().enumerate() {
-        for (j, other) in rows.iter().enumerate() {
+    for (i, one) in ASCENDING_KEYS.iter().enumerate() {
+        for (j, other) in ASCENDING_KEYS.iter().enumerate() {
             let answer = key_order(rt.alloc(), *one, *other)?;
             assert!(rt; answer == i.cmp(&j));
         }
@@ -344,7 +358,7 @@ fn keys_are_equal_in_any_case(rt: HostRuntime) -> Result<(), Fail> {
 #[test]
 fn prints_a_lowered_name(rt: HostRuntime) -> Result<(), Fail> {
     let lowered = lower(rt.alloc(), "WWW.Example.Com")?;
-    assert!(rt; shows(rt.alloc(), &lowered, "www.example.com"));
+    assert!(rt; has_text(rt.alloc(), &lowered, "www.example.com"));
     Ok(())
 }
 
