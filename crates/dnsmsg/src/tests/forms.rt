@@ -35,6 +35,13 @@ pub(crate) fn is_written_as<T: BinEncodable>(alloc: Global, value: &T, wire: &[u
     same
 }
 
+/// Whether the bytes are these.
+pub(crate) fn are_bytes(bytes: Vec<u8>, wanted: &[u8]) -> bool {
+    let same = bytes.as_slice() == wanted;
+    drop(bytes);
+    same
+}
+
 /// The value that the bytes begin with.
 pub(crate) fn read<T: BinDecodable>(alloc: Global, wire: &[u8]) -> Result<T, DecodeError> {
     T::read(&mut BinDecoder::new(alloc, wire))

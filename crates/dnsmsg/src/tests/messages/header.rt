@@ -48,10 +48,12 @@ fn is_filled_as(header: &Header, bytes: &[u8; 12]) -> bool {
 fn is_shown_as(alloc: Global, high: u8, low: u8, text: &str) -> bool {
     let bytes = [0, 0, high, low, 0, 0, 0, 0, 0, 0, 0, 0];
     let found: Result<Header, DecodeError> = read(alloc, &bytes);
-    match &found {
+    let is_shown = match &found {
         Ok(found) => is_filled_as(found, &bytes) && has_text(alloc, &found.metadata, text),
         Err(_) => false,
-    }
+    };
+    drop(found);
+    is_shown
 }
 
 #[test]
@@ -96,11 +98,13 @@ fn large_codes_are_cut(rt: HostRuntime) {
 fn is_refused(encoder: &mut BinEncoder<'_>) -> bool {
     encoder.set_max_size(24);
     let past = header().emit(encoder);
-    matches!(&past, Err(ProtoError::MaxBufferSizeExceeded)) && encoder.len() == 13
+    let is_full = matches!(&past, Err(ProtoError::MaxBufferSizeExceeded));
+    drop(past);
+    is_full && encoder.len() == 13
 }
 
 // Writes a header into its room, behind the byte that follows it.
-fn fill_in(encoder: &mut BinEncoder<'_>) -> Result<(), Fail> {
+fn fill_in(encoder: &mut BinEncoder<'_>) -> Result<(), ProtoError> {
     let place = encoder.place::<Header>()?;
     encoder.emit(0xFF)?;
     encoder.replace(place, &header());
@@ -108,14 +112,16 @@ fn fill_in(encoder: &mut BinEncoder<'_>) -> Result<(), Fail> {
 }
 
 // Whether a header that is filled in stands in its room, and one behind it is refused.
-fn is_filled_in(alloc: Global) -> Result<bool, Fail> {
+fn is_filled_in(alloc: Global) -> Result<bool, ProtoError> {
     let mut bytes = Vec::new(alloc);
-    let is_refused = {
-        let mut encoder = BinEncoder::new(&mut bytes);
-        fill_in(&mut encoder)?;
-        is_refused(&mut encoder)
-    };
-    Ok(is_refused && bytes.starts_with(&BYTES))
+    let mut encoder = BinEncoder::new(&mut bytes);
+    let filled = fill_in(&mut encoder);
+    let is_refused = is_refused(&mut encoder);
+    drop(encoder);
+    let is_first = bytes.starts_with(&BYTES);
+    drop(bytes);
+    filled?;
+    Ok(is_refused && is_first)
 }
 
 #[test]

@@ -2,9 +2,9 @@ use crate::tests::forms::{
     has_text, is_cut, is_read_as, is_read_to, is_read_with_text, is_written_as, is_written_back,
     read,
 };
-use base::{BinDecodable, BinDecoder, DNSClass, DecodeError, Name, RecordType};
+use base::{DNSClass, DecodeError, Name, RecordType};
 use op::{LowerQuery, Query};
-use std::alloc::Global;
+use std::alloc::{AllocError, Global};
 use std::test::Fail;
 
 const WWW: [u8; 21] = [
@@ -17,11 +17,16 @@ fn www(alloc: Global) -> Result<Query, Fail> {
     Ok(Query::query(name, RecordType::AAAA))
 }
 
+// Whether a question is written as these bytes, and read from them. It is dropped by name: that is proved sooner.
+fn stands_as(alloc: Global, query: Query, wire: &[u8]) -> bool {
+    let stands = is_written_as(alloc, &query, wire) && is_read_as(alloc, wire, &query);
+    drop(query);
+    stands
+}
+
 #[test]
 fn a_question_is_written_and_read_back(rt: HostRuntime) -> Result<(), Fail> {
-    let query = www(rt.alloc())?;
-    assert!(rt; is_written_as(rt.alloc(), &query, &WWW));
-    assert!(rt; is_read_as(rt.alloc(), &WWW, &query));
+    assert!(rt; stands_as(rt.alloc(), www(rt.alloc())?, &WWW));
     Ok(())
 }
 
@@ -49,11 +54,18 @@ fn has_names(alloc: Global, question: &LowerQuery, lower: &str, asked: &str) -> 
     has_text(alloc, question.name(), lower) && has_text(alloc, question.original().name(), asked)
 }
 
+// Whether a lower question asks for this name, and was asked with that one.
+fn keeps(alloc: Global, question: LowerQuery, lower: &str, asked: &str) -> bool {
+    let asks = asks_for(&question, RecordType::AAAA, DNSClass::IN);
+    let has_names = has_names(alloc, &question, lower, asked);
+    drop(question);
+    asks && has_names
+}
+
 #[test]
 fn a_lower_question_keeps_the_one_that_was_asked(rt: HostRuntime) -> Result<(), Fail> {
     let read: LowerQuery = read(rt.alloc(), &WWW)?;
-    assert!(rt; asks_for(&read, RecordType::AAAA, DNSClass::IN));
-    assert!(rt; has_names(rt.alloc(), &read, "www.example.com.", "WWW.example.com."));
+    assert!(rt; keeps(rt.alloc(), read, "www.example.com.", "WWW.example.com."));
     Ok(())
 }
 
@@ -67,12 +79,16 @@ fn lowered(alloc: Global) -> Result<LowerQuery, Fail> {
 fn a_lower_question_is_made_of_a_question(rt: HostRuntime) -> Result<(), Fail> {
     let made = lowered(rt.alloc())?;
     assert!(rt; is_read_as(rt.alloc(), &WWW, &made));
+    drop(made);
     Ok(())
 }
 
 // Whether the two are different questions.
-fn is_other(query: &Query, other: Query) -> bool {
-    *query != other
+fn are_different(query: Query, other: Query) -> bool {
+    let are_different = query != other;
+    drop(query);
+    drop(other);
+    are_different
 }
 
 const UNICAST: [u8; 5] = [0x00, 0x00, 0x01, 0x80, 0x01];
@@ -81,40 +97,66 @@ const UNICAST: [u8; 5] = [0x00, 0x00, 0x01, 0x80, 0x01];
 fn the_top_bit_asks_for_unicast(rt: HostRuntime) {
     let mut query = Query::new(rt.alloc());
     query.set_mdns_unicast_response(true);
-    assert!(rt; is_written_as(rt.alloc(), &query, &UNICAST));
-    assert!(rt; is_read_as(rt.alloc(), &UNICAST, &query));
+    assert!(rt; stands_as(rt.alloc(), query, &UNICAST));
+}
+
+// Whether a question for the root asks for unicast, in this class.
+fn asks_for_unicast(query: Query, class: DNSClass) -> bool {
+    let is_of_root = query.name().is_root() && query.query_class() == class;
+    let asks = query.mdns_unicast_response();
+    drop(query);
+    is_of_root && asks
 }
 
 #[test]
 fn the_top_bit_is_none_of_the_class(rt: HostRuntime) -> Result<(), Fail> {
     let read: Query = read(rt.alloc(), &UNICAST)?;
-    assert!(rt; read.query_class() == DNSClass::IN);
-    assert!(rt; read.mdns_unicast_response());
-    assert!(rt; read.name().is_root());
+    assert!(rt; asks_for_unicast(read, DNSClass::IN));
     Ok(())
+}
+
+// Whether a plain question is written as these bytes.
+fn is_plain(alloc: Global, wire: &[u8]) -> bool {
+    let plain = Query::new(alloc);
+    let is_plain = is_written_as(alloc, &plain, wire);
+    drop(plain);
+    is_plain
 }
 
 #[test]
 fn a_plain_question_has_no_top_bit(rt: HostRuntime) -> Result<(), Fail> {
-    let plain = Query::new(rt.alloc());
-    assert!(rt; is_written_as(rt.alloc(), &plain, &[0, 0, 1, 0, 1]));
-    assert!(rt; is_other(&plain, read(rt.alloc(), &UNICAST)?));
+    assert!(rt; is_plain(rt.alloc(), &[0, 0, 1, 0, 1]));
+    let unicast: Query = read(rt.alloc(), &UNICAST)?;
+    assert!(rt; are_different(Query::new(rt.alloc()), unicast));
     Ok(())
+}
+
+// Whether a question is of this type and class.
+fn is_of(query: Query, query_type: RecordType, class: DNSClass) -> bool {
+    let is_of = query.query_type() == query_type && query.query_class() == class;
+    drop(query);
+    is_of
 }
 
 #[test]
 fn a_question_of_type_opt_is_read_as_any_other(rt: HostRuntime) -> Result<(), Fail> {
     let bytes = [0x01, 0x61, 0x00, 0x00, 0x29, 0x00, 0x64];
     let read: Query = read(rt.alloc(), &bytes)?;
-    assert!(rt; read.query_type() == RecordType::OPT);
-    assert!(rt; read.query_class() == DNSClass::Unknown(100));
+    assert!(rt; is_of(read, RecordType::OPT, DNSClass::Unknown(100)));
     Ok(())
+}
+
+// Whether the bytes begin with no name.
+fn is_bad_name(alloc: Global, bytes: &[u8]) -> bool {
+    let refused: Result<Query, DecodeError> = read(alloc, bytes);
+    let is_bad = matches!(&refused, Err(DecodeError::BadName));
+    drop(refused);
+    is_bad
 }
 
 #[test]
 fn faults_come_in_order(rt: HostRuntime) {
-    let name = Query::read(&mut BinDecoder::new(rt.alloc(), &[0x40, 0x00]));
-    assert!(rt; matches!(&name, Err(DecodeError::BadName)));
+    assert!(rt; is_bad_name(rt.alloc(), &[0x40, 0x00]));
     assert!(rt; is_cut::<Query>(rt.alloc(), &[0x03, 0x77, 0x77]));
     assert!(rt; is_cut::<Query>(rt.alloc(), &[0x00, 0x00, 0x01, 0x00]));
 }
@@ -142,27 +184,26 @@ fn setters_change_their_field(rt: HostRuntime) -> Result<(), Fail> {
     let query = set(rt.alloc(), DNSClass::CH)?;
     let text = "a. CH MX; mdns_unicast_response: false";
     assert!(rt; has_text(rt.alloc(), &query, text));
-    assert!(rt; is_other(&query, other(rt.alloc())?));
+    assert!(rt; are_different(query, other(rt.alloc())?));
     Ok(())
 }
 
-// Whether a question and its copy are the question for `A.` in IN.
-fn is_copied(query: &Query, other: &Query) -> Result<bool, Fail> {
-    let copy = query.clone()?;
-    let same = *query == *other && copy == *other;
-    drop(copy);
-    Ok(same)
-}
-
-// Whether the question that the setters make is that question.
-fn is_set(alloc: Global) -> Result<bool, Fail> {
-    let query = set(alloc, DNSClass::IN)?;
-    let other = other(alloc)?;
-    is_copied(&query, &other)
+// Whether a question and its copy are the other question.
+fn are_copies(query: Query, other: Query) -> bool {
+    let copied: Result<Query, AllocError> = query.clone();
+    let same = match &copied {
+        Ok(copy) => query == other && *copy == other,
+        Err(_) => false,
+    };
+    drop(copied);
+    drop(query);
+    drop(other);
+    same
 }
 
 #[test]
 fn the_class_of_a_question_tells_it_from_others(rt: HostRuntime) -> Result<(), Fail> {
-    assert!(rt; is_set(rt.alloc())?);
+    let query = set(rt.alloc(), DNSClass::IN)?;
+    assert!(rt; are_copies(query, other(rt.alloc())?));
     Ok(())
 }

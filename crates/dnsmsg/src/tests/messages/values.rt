@@ -12,8 +12,13 @@ use std::test::Fail;
 pub(crate) fn edns_with_option(alloc: Global) -> Result<Edns, Fail> {
     let option = EdnsOption::new(65001, vec![in alloc; 1, 2]?);
     let mut edns = Edns::new(alloc);
-    edns.options_mut().insert(option)?;
-    Ok(edns)
+    match edns.options_mut().insert(option) {
+        Ok(()) => Ok(edns),
+        Err(e) => {
+            drop(edns);
+            Err(e.into())
+        }
+    }
 }
 
 /// A signature of one byte.
@@ -29,6 +34,17 @@ pub(crate) fn address(alloc: Global, owner: &str, ttl: u32) -> Result<Record, Fa
     let owner = Name::parse(alloc, owner, None)?;
     let rdata = A::new(Ipv4Addr::new(192, 0, 2, 1));
     Ok(Record::from_rdata(owner, ttl, rdata).into_record_of_rdata())
+}
+
+/// The message, if it was filled. Otherwise it is dropped by name: that is proved sooner.
+pub(crate) fn if_filled(message: Message, filled: Result<(), Fail>) -> Result<Message, Fail> {
+    match filled {
+        Ok(()) => Ok(message),
+        Err(e) => {
+            drop(message);
+            Err(e)
+        }
+    }
 }
 
 /// Asks for the addresses of a name.
