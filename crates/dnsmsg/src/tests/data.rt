@@ -54,12 +54,15 @@ fn are_written_as<T: BinEncodable>(alloc: Global, values: &[&T], wire: &[u8]) ->
 /// Whether a value is written as these bytes, and has this text. It is dropped by name: that is proved sooner.
 fn has_form<T: BinEncodable + fmt::Display + Drop>(
     alloc: Global,
-    value: T,
+    made: Result<T, AllocError>,
     wire: &[u8],
     text: &str,
 ) -> bool {
-    let has_both = is_written_as(alloc, &value, wire) && has_text(alloc, &value, text);
-    drop(value);
+    let has_both = match &made {
+        Ok(value) => is_written_as(alloc, value, wire) && has_text(alloc, value, text),
+        Err(_) => false,
+    };
+    drop(made);
     has_both
 }
 
@@ -86,7 +89,7 @@ fn fill<T: BinDecodable + PartialEq>(alloc: Global, values: &[&T], wire: &[u8]) 
 }
 
 /// Whether a value is equal to its copy.
-fn equals_its_copy<T: Clone + PartialEq + Drop>(value: T) -> bool {
+fn is_copied<T: Clone + PartialEq + Drop>(value: T) -> bool {
     let copied: Result<T, AllocError> = value.clone();
     let same = match &copied {
         Ok(copy) => *copy == value,
@@ -97,10 +100,18 @@ fn equals_its_copy<T: Clone + PartialEq + Drop>(value: T) -> bool {
     same
 }
 
+/// Whether a value could be made, and is equal to its copy.
+fn equals_its_copy<T: Clone + PartialEq + Drop, E: Drop>(made: Result<T, E>) -> bool {
+    match made {
+        Ok(value) => is_copied(value),
+        Err(_) => false,
+    }
+}
+
 #[test]
 fn no_bytes_are_carried(rt: HostRuntime) {
     let none = NULL::new(Vec::new(rt.alloc()));
-    assert!(rt; has_form(rt.alloc(), none, &[], "\\# 0"));
+    assert!(rt; has_form(rt.alloc(), Ok(none), &[], "\\# 0"));
 }
 
 fn three_bytes(alloc: Global) -> Result<NULL, AllocError> {
@@ -108,26 +119,38 @@ fn three_bytes(alloc: Global) -> Result<NULL, AllocError> {
 }
 
 #[test]
-fn bytes_are_carried(rt: HostRuntime) -> Result<(), Fail> {
-    let wire = [0xAB, 0x0C, 0xFF];
-    assert!(rt; has_form(rt.alloc(), three_bytes(rt.alloc())?, &wire, "\\# 3 ab0cff"));
-    assert!(rt; equals_its_copy(three_bytes(rt.alloc())?));
-    Ok(())
+fn bytes_are_carried(rt: HostRuntime) {
+    let some = three_bytes(rt.alloc());
+    assert!(rt; has_form(rt.alloc(), some, &[0xAB, 0x0C, 0xFF], "\\# 3 ab0cff"));
+    assert!(rt; equals_its_copy(three_bytes(rt.alloc())));
 }
 
-/// Whether data comes before other data.
-fn comes_first<T: PartialOrd + Drop>(first: T, second: T) -> bool {
-    let comes_first = first < second;
+/// Whether two values could be made, and the first comes before the second.
+fn comes_first<T: PartialOrd + Drop, E: Drop>(first: Result<T, E>, second: Result<T, E>) -> bool {
+    let comes_first = match (&first, &second) {
+        (Ok(first), Ok(second)) => *first < *second,
+        _ => false,
+    };
     drop(first);
     drop(second);
     comes_first
 }
 
+/// Whether two values could be made, and are equal.
+fn are_same<T: PartialEq + Drop, E: Drop>(first: Result<T, E>, second: Result<T, E>) -> bool {
+    let are_same = match (&first, &second) {
+        (Ok(first), Ok(second)) => *first == *second,
+        _ => false,
+    };
+    drop(first);
+    drop(second);
+    are_same
+}
+
 #[test]
-fn no_bytes_come_before_some(rt: HostRuntime) -> Result<(), Fail> {
+fn no_bytes_come_before_some(rt: HostRuntime) {
     let none = NULL::new(Vec::new(rt.alloc()));
-    assert!(rt; comes_first(none, three_bytes(rt.alloc())?));
-    Ok(())
+    assert!(rt; comes_first(Ok(none), three_bytes(rt.alloc())));
 }
 
 /// Whether data of type NULL carries these bytes.
@@ -139,21 +162,24 @@ fn carries(any: &RData, bytes: &[u8]) -> bool {
 }
 
 /// Whether these are the next two bytes, read as data of type NULL.
-fn are_next(decoder: &mut BinDecoder<'_>, bytes: &[u8]) -> Result<bool, DecodeError> {
-    let read = RData::read(decoder, RecordType::NULL, 2)?;
-    let same = carries(&read, bytes);
-    drop(read);
-    Ok(same)
-}
-
-/// Whether this data was read.
-fn is_same<R: RecordData>(read: Result<RData, DecodeError>, value: R) -> bool {
+fn are_next(decoder: &mut BinDecoder<'_>, bytes: &[u8]) -> bool {
+    let read = RData::read(decoder, RecordType::NULL, 2);
     let same = match &read {
-        Ok(read) => holds(read, &value),
+        Ok(read) => carries(read, bytes),
         Err(_) => false,
     };
     drop(read);
-    drop(value);
+    same
+}
+
+/// Whether this data was read.
+fn is_same<R: RecordData>(read: Result<RData, DecodeError>, made: Result<R, AllocError>) -> bool {
+    let same = match (&read, &made) {
+        (Ok(read), Ok(value)) => holds(read, value),
+        _ => false,
+    };
+    drop(read);
+    drop(made);
     same
 }
 
@@ -167,25 +193,17 @@ fn signature(alloc: Global, byte: u8) -> Result<TSIG, AllocError> {
     Ok(TSIG::new(vec![in alloc; byte]?))
 }
 
-/// Whether the next byte is read as a signature of this byte.
-fn is_next(alloc: Global, decoder: &mut BinDecoder<'_>, byte: u8) -> Result<bool, DecodeError> {
-    let signature = signature(alloc, byte)?;
-    Ok(is_same(read_signature(decoder), signature))
-}
-
 #[test]
-fn bytes_are_read_by_their_number(rt: HostRuntime) -> Result<(), Fail> {
+fn bytes_are_read_by_their_number(rt: HostRuntime) {
     let mut decoder = BinDecoder::new(rt.alloc(), &[1, 2, 3]);
-    assert!(rt; are_next(&mut decoder, &[1, 2])?);
-    assert!(rt; is_next(rt.alloc(), &mut decoder, 3)?);
+    assert!(rt; are_next(&mut decoder, &[1, 2]));
+    assert!(rt; is_same(read_signature(&mut decoder), signature(rt.alloc(), 3)));
     assert!(rt; is_bad(read_signature(&mut decoder), RecordType::TSIG));
-    Ok(())
 }
 
 #[test]
-fn signatures_are_carried(rt: HostRuntime) -> Result<(), Fail> {
-    assert!(rt; has_form(rt.alloc(), signature(rt.alloc(), 9)?, &[9], "\\# 1 09"));
-    Ok(())
+fn signatures_are_carried(rt: HostRuntime) {
+    assert!(rt; has_form(rt.alloc(), signature(rt.alloc(), 9), &[9], "\\# 1 09"));
 }
 
 /// Whether no address stands at the decoder's place.
@@ -202,7 +220,7 @@ fn short_addresses(rt: HostRuntime) {
     let mut decoder = BinDecoder::new(rt.alloc(), &[192, 0, 2, 10, 1, 2, 3]);
     assert!(rt; stands_next(&mut decoder, &host));
     assert!(rt; is_cut(&mut decoder));
-    assert!(rt; has_form(rt.alloc(), host, &[192, 0, 2, 10], "192.0.2.10"));
+    assert!(rt; has_form(rt.alloc(), Ok(host), &[192, 0, 2, 10], "192.0.2.10"));
 }
 
 /// Whether a long address is the one that is made of its number.
@@ -215,7 +233,7 @@ fn long_addresses(rt: HostRuntime) -> Result<(), Fail> {
     let long = [0x20, 1, 0x0D, 0xB8, 0, 0, 0, 0, 0, 1, 0, 0, 0, 0, 0, 1];
     let host: AAAA = read(rt.alloc(), &long)?;
     assert!(rt; is_made_again(&host));
-    assert!(rt; has_form(rt.alloc(), host, &long, "2001:db8::1:0:0:1"));
+    assert!(rt; has_form(rt.alloc(), Ok(host), &long, "2001:db8::1:0:0:1"));
     Ok(())
 }
 
@@ -241,11 +259,10 @@ const STRINGS_ON_THE_WIRE: [u8; 16] = [
 ];
 
 #[test]
-fn texts(rt: HostRuntime) -> Result<(), Fail> {
-    let text = TXT::new(rt.alloc(), &STRINGS)?;
+fn texts(rt: HostRuntime) {
+    let text = TXT::new(rt.alloc(), &STRINGS);
     let shown = "\"say \\\"a\\\\b\\\"\" \"\" \"\\031~\\127\\255\"";
     assert!(rt; has_form(rt.alloc(), text, &STRINGS_ON_THE_WIRE, shown));
-    Ok(())
 }
 
 /// The text that so many of the bytes spell.
@@ -255,11 +272,10 @@ fn read_strings(alloc: Global, len: u16) -> Result<RData, DecodeError> {
 }
 
 #[test]
-fn texts_are_read(rt: HostRuntime) -> Result<(), Fail> {
-    let text = TXT::new(rt.alloc(), &STRINGS)?;
+fn texts_are_read(rt: HostRuntime) {
+    let text = TXT::new(rt.alloc(), &STRINGS);
     assert!(rt; is_same(read_strings(rt.alloc(), 16), text));
-    assert!(rt; equals_its_copy(read_strings(rt.alloc(), 16)?));
-    Ok(())
+    assert!(rt; equals_its_copy(read_strings(rt.alloc(), 16)));
 }
 
 /// Whether a text has those strings.
@@ -273,19 +289,26 @@ fn has_strings(text: &TXT) -> bool {
 }
 
 /// Whether data is a text that has those strings.
-fn is_text(read: RData) -> bool {
-    let has_those = match TXT::try_borrow(&read) {
+fn is_text(data: &RData) -> bool {
+    match TXT::try_borrow(data) {
         Some(text) => has_strings(text),
         None => false,
+    }
+}
+
+/// Whether such a text was read.
+fn is_text_read(read: Result<RData, DecodeError>) -> bool {
+    let is_text = match &read {
+        Ok(read) => is_text(read),
+        Err(_) => false,
     };
     drop(read);
-    has_those
+    is_text
 }
 
 #[test]
-fn strings_of_texts(rt: HostRuntime) -> Result<(), Fail> {
-    assert!(rt; is_text(read_strings(rt.alloc(), 16)?));
-    Ok(())
+fn strings_of_texts(rt: HostRuntime) {
+    assert!(rt; is_text_read(read_strings(rt.alloc(), 16)));
 }
 
 #[test]
@@ -301,15 +324,14 @@ fn text_of(alloc: Global, string: &[u8]) -> Result<TXT, AllocError>
 }
 
 #[test]
-fn texts_go_by_their_lengths(rt: HostRuntime) -> Result<(), Fail> {
-    assert!(rt; comes_first(text_of(rt.alloc(), b"b")?, text_of(rt.alloc(), b"aa")?));
-    Ok(())
+fn texts_go_by_their_lengths(rt: HostRuntime) {
+    assert!(rt; comes_first(text_of(rt.alloc(), b"b"), text_of(rt.alloc(), b"aa")));
 }
 
 #[test]
 fn no_options(rt: HostRuntime) {
     let none = OPT::new(Vec::new(rt.alloc()));
-    assert!(rt; has_form(rt.alloc(), none, &[], "\\# 0"));
+    assert!(rt; has_form(rt.alloc(), Ok(none), &[], "\\# 0"));
 }
 
 /// Inserts an option of a code and of bytes.
@@ -330,12 +352,11 @@ fn two_options(alloc: Global) -> Result<OPT, AllocError> {
 }
 
 #[test]
-fn options(rt: HostRuntime) -> Result<(), Fail> {
+fn options(rt: HostRuntime) {
     let wire = [0, 3, 0, 2, 0xBB, 0xCC, 0, 10, 0, 0];
     let shown = "\\# 10 00030002bbcc000a0000";
-    assert!(rt; has_form(rt.alloc(), two_options(rt.alloc())?, &wire, shown));
-    assert!(rt; equals_its_copy(two_options(rt.alloc())?));
-    Ok(())
+    assert!(rt; has_form(rt.alloc(), two_options(rt.alloc()), &wire, shown));
+    assert!(rt; equals_its_copy(two_options(rt.alloc())));
 }
 
 /// Whether an option of a code is found, with these bytes.
@@ -347,15 +368,15 @@ fn is_found(options: &OPT, code: u16, bytes: &[u8]) -> bool {
 }
 
 /// Whether an option of code 3 has these bytes, and there is none of code 4.
-fn are_found(options: OPT, bytes: &[u8]) -> bool {
-    let are_found = is_found(&options, 3, bytes) && options.get(4).is_none();
-    drop(options);
-    are_found
+fn are_found(options: &OPT, bytes: &[u8]) -> bool {
+    is_found(options, 3, bytes) && options.get(4).is_none()
 }
 
 #[test]
 fn options_are_found_by_their_codes(rt: HostRuntime) -> Result<(), Fail> {
-    assert!(rt; are_found(two_options(rt.alloc())?, &[0xBB, 0xCC]));
+    let options = two_options(rt.alloc())?;
+    assert!(rt; are_found(&options, &[0xBB, 0xCC]));
+    drop(options);
     Ok(())
 }
 
@@ -382,19 +403,26 @@ fn read_options(alloc: Global, bytes: &[u8], len: u16) -> Result<RData, DecodeEr
 }
 
 /// How many options the data has.
-fn count_of(read: RData) -> usize {
-    let count = match OPT::try_borrow(&read) {
+fn count_of(read: &RData) -> usize {
+    match OPT::try_borrow(read) {
         Some(options) => options.as_ref().len(),
         None => 0,
+    }
+}
+
+/// Whether so many options were read.
+fn are_options(read: Result<RData, DecodeError>, count: usize) -> bool {
+    let are_options = match &read {
+        Ok(read) => count_of(read) == count,
+        Err(_) => false,
     };
     drop(read);
-    count
+    are_options
 }
 
 #[test]
-fn options_are_read_as_they_stand(rt: HostRuntime) -> Result<(), Fail> {
-    assert!(rt; count_of(read_options(rt.alloc(), &ONE_CODE_TWICE, 9)?) == 2);
-    Ok(())
+fn options_are_read_as_they_stand(rt: HostRuntime) {
+    assert!(rt; are_options(read_options(rt.alloc(), &ONE_CODE_TWICE, 9), 2));
 }
 
 #[test]
