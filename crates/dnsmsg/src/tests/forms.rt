@@ -1,7 +1,7 @@
 //! What the tests ask of a value: its text, its bytes, and what is read of bytes. Where memory is wanting, each question
 //! is answered by no.
 
-use base::{BinDecodable, BinDecoder, BinEncodable, BinEncoder, DecodeError};
+use base::{BinDecodable, BinDecoder, BinEncodable, BinEncoder, DecodeError, ProtoError};
 use std::alloc::Global;
 use std::fmt;
 
@@ -35,10 +35,13 @@ pub(crate) fn is_written_as<T: BinEncodable>(alloc: Global, value: &T, wire: &[u
     same
 }
 
-/// Whether the bytes are these.
-pub(crate) fn are_bytes(bytes: Vec<u8>, wanted: &[u8]) -> bool {
-    let same = bytes.as_slice() == wanted;
-    drop(bytes);
+/// Whether these bytes were written.
+pub(crate) fn are_bytes(written: Result<Vec<u8>, ProtoError>, wanted: &[u8]) -> bool {
+    let same = match &written {
+        Ok(bytes) => bytes.as_slice() == wanted,
+        Err(_) => false,
+    };
+    drop(written);
     same
 }
 

@@ -42,7 +42,8 @@ fn written(alloc: Global) -> Result<Vec<u8>, Fail> {
 fn a_query_is_written(rt: HostRuntime) -> Result<(), Fail> {
     let wanted =
         b"\x12\x34\x01\x00\x00\x01\x00\x00\x00\x00\x00\x01\x01a\x01b\x00\x00\x01\x00\x01\x00\x00\x29\x02\x00\x01\x00\x00\x00\x00\x00";
-    assert!(rt; are_bytes(written(rt.alloc())?, wanted.as_slice()));
+    let bytes = written(rt.alloc())?;
+    assert!(rt; are_bytes(Ok(bytes), wanted.as_slice()));
     Ok(())
 }
 

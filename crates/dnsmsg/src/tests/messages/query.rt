@@ -2,32 +2,37 @@ use crate::tests::forms::{
     has_text, is_cut, is_read_as, is_read_to, is_read_with_text, is_written_as, is_written_back,
     read,
 };
-use base::{DNSClass, DecodeError, Name, RecordType};
+use base::{DNSClass, DecodeError, Name, ParseError, RecordType};
 use op::{LowerQuery, Query};
 use std::alloc::{AllocError, Global};
 use std::test::Fail;
+
+// A question, if it could be made.
+type Made = Result<Query, ParseError>;
 
 const WWW: [u8; 21] = [
     0x03, 0x57, 0x57, 0x57, 0x07, 0x65, 0x78, 0x61, 0x6D, 0x70, 0x6C, 0x65, 0x03, 0x63, 0x6F, 0x6D,
     0x00, 0x00, 0x1C, 0x00, 0x01,
 ];
 
-fn www(alloc: Global) -> Result<Query, Fail> {
+fn www(alloc: Global) -> Made {
     let name = Name::parse(alloc, "WWW.example.com.", None)?;
     Ok(Query::query(name, RecordType::AAAA))
 }
 
 // Whether a question is written as these bytes, and read from them. It is dropped by name: that is proved sooner.
-fn stands_as(alloc: Global, query: Query, wire: &[u8]) -> bool {
-    let stands = is_written_as(alloc, &query, wire) && is_read_as(alloc, wire, &query);
-    drop(query);
+fn stands_as(alloc: Global, made: Made, wire: &[u8]) -> bool {
+    let stands = match &made {
+        Ok(query) => is_written_as(alloc, query, wire) && is_read_as(alloc, wire, query),
+        Err(_) => false,
+    };
+    drop(made);
     stands
 }
 
 #[test]
-fn a_question_is_written_and_read_back(rt: HostRuntime) -> Result<(), Fail> {
-    assert!(rt; stands_as(rt.alloc(), www(rt.alloc())?, &WWW));
-    Ok(())
+fn a_question_is_written_and_read_back(rt: HostRuntime) {
+    assert!(rt; stands_as(rt.alloc(), www(rt.alloc()), &WWW));
 }
 
 #[test]
@@ -84,8 +89,11 @@ fn a_lower_question_is_made_of_a_question(rt: HostRuntime) -> Result<(), Fail> {
 }
 
 // Whether the two are different questions.
-fn are_different(query: Query, other: Query) -> bool {
-    let are_different = query != other;
+fn are_different<E: Drop>(query: Made, other: Result<Query, E>) -> bool {
+    let are_different = match (&query, &other) {
+        (Ok(query), Ok(other)) => *query != *other,
+        _ => false,
+    };
     drop(query);
     drop(other);
     are_different
@@ -97,21 +105,19 @@ const UNICAST: [u8; 5] = [0x00, 0x00, 0x01, 0x80, 0x01];
 fn the_top_bit_asks_for_unicast(rt: HostRuntime) {
     let mut query = Query::new(rt.alloc());
     query.set_mdns_unicast_response(true);
-    assert!(rt; stands_as(rt.alloc(), query, &UNICAST));
+    assert!(rt; stands_as(rt.alloc(), Ok(query), &UNICAST));
 }
 
 // Whether a question for the root asks for unicast, in this class.
-fn asks_for_unicast(query: Query, class: DNSClass) -> bool {
-    let is_of_root = query.name().is_root() && query.query_class() == class;
-    let asks = query.mdns_unicast_response();
-    drop(query);
-    is_of_root && asks
+fn asks_for_unicast(query: &Query, class: DNSClass) -> bool {
+    query.name().is_root() && query.query_class() == class && query.mdns_unicast_response()
 }
 
 #[test]
 fn the_top_bit_is_none_of_the_class(rt: HostRuntime) -> Result<(), Fail> {
     let read: Query = read(rt.alloc(), &UNICAST)?;
-    assert!(rt; asks_for_unicast(read, DNSClass::IN));
+    assert!(rt; asks_for_unicast(&read, DNSClass::IN));
+    drop(read);
     Ok(())
 }
 
@@ -124,11 +130,10 @@ fn is_plain(alloc: Global, wire: &[u8]) -> bool {
 }
 
 #[test]
-fn a_plain_question_has_no_top_bit(rt: HostRuntime) -> Result<(), Fail> {
+fn a_plain_question_has_no_top_bit(rt: HostRuntime) {
     assert!(rt; is_plain(rt.alloc(), &[0, 0, 1, 0, 1]));
-    let unicast: Query = read(rt.alloc(), &UNICAST)?;
-    assert!(rt; are_different(Query::new(rt.alloc()), unicast));
-    Ok(())
+    let unicast: Result<Query, DecodeError> = read(rt.alloc(), &UNICAST);
+    assert!(rt; are_different(Ok(Query::new(rt.alloc())), unicast));
 }
 
 // Whether a question is of this type and class.
@@ -162,7 +167,7 @@ fn faults_come_in_order(rt: HostRuntime) {
 }
 
 // The question that the setters make, in this class.
-fn set(alloc: Global, class: DNSClass) -> Result<Query, Fail> {
+fn set(alloc: Global, class: DNSClass) -> Made {
     let name = Name::parse(alloc, "a.", None)?;
     let mut query = Query::new(alloc);
     query
@@ -174,36 +179,52 @@ fn set(alloc: Global, class: DNSClass) -> Result<Query, Fail> {
 }
 
 // The question for `A.` in IN.
-fn other(alloc: Global) -> Result<Query, Fail> {
+fn other(alloc: Global) -> Made {
     let name = Name::parse(alloc, "A.", None)?;
     Ok(Query::query(name, RecordType::MX))
 }
 
+// Whether a question has this text.
+fn is_shown_as(alloc: Global, made: Made, text: &str) -> bool {
+    let is_shown = match &made {
+        Ok(query) => has_text(alloc, query, text),
+        Err(_) => false,
+    };
+    drop(made);
+    is_shown
+}
+
 #[test]
-fn setters_change_their_field(rt: HostRuntime) -> Result<(), Fail> {
-    let query = set(rt.alloc(), DNSClass::CH)?;
+fn setters_change_their_field(rt: HostRuntime) {
     let text = "a. CH MX; mdns_unicast_response: false";
-    assert!(rt; has_text(rt.alloc(), &query, text));
-    assert!(rt; are_different(query, other(rt.alloc())?));
-    Ok(())
+    assert!(rt; is_shown_as(rt.alloc(), set(rt.alloc(), DNSClass::CH), text));
+    assert!(rt; are_different(set(rt.alloc(), DNSClass::CH), other(rt.alloc())));
 }
 
 // Whether a question and its copy are the other question.
-fn are_copies(query: Query, other: Query) -> bool {
+fn is_copied(query: &Query, other: &Query) -> bool {
     let copied: Result<Query, AllocError> = query.clone();
     let same = match &copied {
-        Ok(copy) => query == other && *copy == other,
+        Ok(copy) => *query == *other && *copy == *other,
         Err(_) => false,
     };
     drop(copied);
+    same
+}
+
+// Whether both could be made, and the first and its copy are the second.
+fn are_copies(query: Made, other: Made) -> bool {
+    let same = match (&query, &other) {
+        (Ok(query), Ok(other)) => is_copied(query, other),
+        _ => false,
+    };
     drop(query);
     drop(other);
     same
 }
 
 #[test]
-fn the_class_of_a_question_tells_it_from_others(rt: HostRuntime) -> Result<(), Fail> {
-    let query = set(rt.alloc(), DNSClass::IN)?;
-    assert!(rt; are_copies(query, other(rt.alloc())?));
-    Ok(())
+fn the_class_of_a_question_tells_it_from_others(rt: HostRuntime) {
+    let query = set(rt.alloc(), DNSClass::IN);
+    assert!(rt; are_copies(query, other(rt.alloc())));
 }
