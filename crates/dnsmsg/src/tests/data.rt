@@ -5,6 +5,7 @@ mod names;
 mod order;
 mod rdata;
 
+use crate::tests::forms::{has_text, is_written_as, read};
 use base::{
     BinDecodable, BinDecoder, BinEncodable, BinEncoder, DecodeError, ProtoError, RecordType,
 };
@@ -14,108 +15,103 @@ use rdata::is_bad;
 use std::alloc::{AllocError, Global};
 use std::fmt;
 use std::net::{Ipv4Addr, Ipv6Addr};
-use std::process::Abort;
 use std::test::Fail;
+
+/// Writes values, one behind the other.
+fn emit<T: BinEncodable>(encoder: &mut BinEncoder<'_>, values: &[&T]) -> Result<(), ProtoError> {
+    for value in values {
+        value.emit(encoder)?;
+    }
+    Ok(())
+}
 
 /// What is written of values, one behind the other.
 fn written<T: BinEncodable>(alloc: Global, values: &[&T]) -> Result<Vec<u8>, ProtoError> {
     let mut bytes = Vec::new(alloc);
-    {
-        let mut encoder = BinEncoder::new(&mut bytes);
-        for value in values {
-            value.emit(&mut encoder)?;
+    let mut encoder = BinEncoder::new(&mut bytes);
+    let emitted = emit(&mut encoder, values);
+    drop(encoder);
+    match emitted {
+        Ok(()) => Ok(bytes),
+        Err(e) => {
+            drop(bytes);
+            Err(e)
         }
     }
-    Ok(bytes)
 }
 
-/// Checks what is written of values, one behind the other.
-fn expect_bytes<T: BinEncodable>(
-    rt: &impl Abort,
-    alloc: Global,
-    values: &[&T],
-    wire: &[u8],
-) -> Result<(), Fail> {
-    let bytes = written(alloc, values)?;
-    assert_eq!(rt; bytes.as_slice(), wire);
-    Ok(())
+/// Whether values are written as these bytes, one behind the other.
+fn are_written_as<T: BinEncodable>(alloc: Global, values: &[&T], wire: &[u8]) -> bool {
+    let bytes = written(alloc, values);
+    let same = match &bytes {
+        Ok(bytes) => bytes.as_slice() == wire,
+        Err(_) => false,
+    };
+    drop(bytes);
+    same
 }
 
-/// Checks the text of a value.
-fn expect_text<T: fmt::Display>(
-    rt: &impl Abort,
+/// Whether a value is written as these bytes, and has this text. It is dropped by name: that is proved sooner.
+fn has_form<T: BinEncodable + fmt::Display + Drop>(
     alloc: Global,
-    value: &T,
-    text: &str,
-) -> Result<(), Fail> {
-    let shown = value.to_string(alloc)?;
-    assert_eq!(rt; shown.as_str(), text);
-    Ok(())
-}
-
-/// Checks what is written of a value, and its text.
-fn expect_form<T: BinEncodable + fmt::Display>(
-    rt: &impl Abort,
-    alloc: Global,
-    value: &T,
+    made: Result<T, AllocError>,
     wire: &[u8],
     text: &str,
-) -> Result<(), Fail> {
-    expect_bytes(rt, alloc, &[value], wire)?;
-    expect_text(rt, alloc, value, text)
+) -> bool {
+    let has_both = match &made {
+        Ok(value) => is_written_as(alloc, value, wire) && has_text(alloc, value, text),
+        Err(_) => false,
+    };
+    drop(made);
+    has_both
 }
 
-/// Checks that a value stands at the decoder's place.
-fn expect_next<T: BinDecodable + PartialEq + fmt::Debug>(
-    rt: &impl Abort,
-    decoder: &mut BinDecoder<'_>,
-    value: &T,
-) -> Result<(), Fail> {
-    let read = T::read(decoder)?;
-    assert_eq!(rt; &read, value);
-    Ok(())
+/// Whether a value stands at the decoder's place.
+fn stands_next<T: BinDecodable + PartialEq>(decoder: &mut BinDecoder<'_>, value: &T) -> bool {
+    let read = T::read(decoder);
+    let same = match &read {
+        Ok(read) => *read == *value,
+        Err(_) => false,
+    };
+    drop(read);
+    same
 }
 
-/// Checks that values fill these bytes, one behind the other.
-fn expect_read<T: BinDecodable + PartialEq + fmt::Debug>(
-    rt: &impl Abort,
-    alloc: Global,
-    values: &[&T],
-    wire: &[u8],
-) -> Result<(), Fail> {
+/// Whether values fill these bytes, one behind the other.
+fn fill<T: BinDecodable + PartialEq>(alloc: Global, values: &[&T], wire: &[u8]) -> bool {
     let mut decoder = BinDecoder::new(alloc, wire);
     for value in values {
-        expect_next(rt, &mut decoder, *value)?;
+        if !stands_next(&mut decoder, *value) {
+            return false;
+        }
     }
-    assert_eq!(rt; decoder.index(), wire.len());
-    Ok(())
+    decoder.index() == wire.len()
 }
 
-/// Checks what is written of values, one behind the other, and that they are read from it.
-fn expect_wire<T: BinEncodable + BinDecodable + PartialEq + fmt::Debug>(
-    rt: &impl Abort,
-    alloc: Global,
-    values: &[&T],
-    wire: &[u8],
-) -> Result<(), Fail> {
-    expect_bytes(rt, alloc, values, wire)?;
-    expect_read(rt, alloc, values, wire)
+/// Whether a value is equal to its copy.
+fn is_copied<T: Clone + PartialEq + Drop>(value: T) -> bool {
+    let copied: Result<T, AllocError> = value.clone();
+    let same = match &copied {
+        Ok(copy) => *copy == value,
+        Err(_) => false,
+    };
+    drop(copied);
+    drop(value);
+    same
 }
 
-/// Whether the bytes ended inside a value.
-fn is_cut<T>(read: &Result<T, DecodeError>) -> bool {
-    matches!(read, Err(DecodeError::InsufficientBytes))
-}
-
-/// Whether a copy of a value is equal to it.
-fn equals_its_copy<T: Clone + PartialEq + Drop>(value: &T) -> Result<bool, AllocError> {
-    Ok(value.clone()? == *value)
+/// Whether a value could be made, and is equal to its copy.
+fn equals_its_copy<T: Clone + PartialEq + Drop, E: Drop>(made: Result<T, E>) -> bool {
+    match made {
+        Ok(value) => is_copied(value),
+        Err(_) => false,
+    }
 }
 
 #[test]
-fn no_bytes_are_carried(rt: HostRuntime) -> Result<(), Fail> {
+fn no_bytes_are_carried(rt: HostRuntime) {
     let none = NULL::new(Vec::new(rt.alloc()));
-    expect_form(&rt, rt.alloc(), &none, &[], "\\# 0")
+    assert!(rt; has_form(rt.alloc(), Ok(none), &[], "\\# 0"));
 }
 
 fn three_bytes(alloc: Global) -> Result<NULL, AllocError> {
@@ -123,18 +119,38 @@ fn three_bytes(alloc: Global) -> Result<NULL, AllocError> {
 }
 
 #[test]
-fn bytes_are_carried(rt: HostRuntime) -> Result<(), Fail> {
-    let some = three_bytes(rt.alloc())?;
-    expect_form(&rt, rt.alloc(), &some, &[0xAB, 0x0C, 0xFF], "\\# 3 ab0cff")?;
-    assert!(rt; equals_its_copy(&some)?);
-    Ok(())
+fn bytes_are_carried(rt: HostRuntime) {
+    let some = three_bytes(rt.alloc());
+    assert!(rt; has_form(rt.alloc(), some, &[0xAB, 0x0C, 0xFF], "\\# 3 ab0cff"));
+    assert!(rt; equals_its_copy(three_bytes(rt.alloc())));
+}
+
+/// Whether two values could be made, and the first comes before the second.
+fn comes_first<T: PartialOrd + Drop, E: Drop>(first: Result<T, E>, second: Result<T, E>) -> bool {
+    let comes_first = match (&first, &second) {
+        (Ok(first), Ok(second)) => *first < *second,
+        _ => false,
+    };
+    drop(first);
+    drop(second);
+    comes_first
+}
+
+/// Whether two values could be made, and are equal.
+fn are_same<T: PartialEq + Drop, E: Drop>(first: Result<T, E>, second: Result<T, E>) -> bool {
+    let are_same = match (&first, &second) {
+        (Ok(first), Ok(second)) => *first == *second,
+        _ => false,
+    };
+    drop(first);
+    drop(second);
+    are_same
 }
 
 #[test]
-fn no_bytes_come_before_some(rt: HostRuntime) -> Result<(), Fail> {
-    let some = three_bytes(rt.alloc())?;
-    assert!(rt; NULL::new(Vec::new(rt.alloc())) < some);
-    Ok(())
+fn no_bytes_come_before_some(rt: HostRuntime) {
+    let none = NULL::new(Vec::new(rt.alloc()));
+    assert!(rt; comes_first(Ok(none), three_bytes(rt.alloc())));
 }
 
 /// Whether data of type NULL carries these bytes.
@@ -146,17 +162,24 @@ fn carries(any: &RData, bytes: &[u8]) -> bool {
 }
 
 /// Whether these are the next two bytes, read as data of type NULL.
-fn are_next(decoder: &mut BinDecoder<'_>, bytes: &[u8]) -> Result<bool, DecodeError> {
-    let read = RData::read(decoder, RecordType::NULL, 2)?;
-    let same = carries(&read, bytes);
+fn are_next(decoder: &mut BinDecoder<'_>, bytes: &[u8]) -> bool {
+    let read = RData::read(decoder, RecordType::NULL, 2);
+    let same = match &read {
+        Ok(read) => carries(read, bytes),
+        Err(_) => false,
+    };
     drop(read);
-    Ok(same)
+    same
 }
 
-/// Whether data that was read is this data. It is dropped by name: that is proved sooner.
-fn is_same<R: RecordData>(read: RData, value: &R) -> bool {
-    let same = holds(&read, value);
+/// Whether this data was read.
+fn is_same<R: RecordData>(read: Result<RData, DecodeError>, made: Result<R, AllocError>) -> bool {
+    let same = match (&read, &made) {
+        (Ok(read), Ok(value)) => holds(read, value),
+        _ => false,
+    };
     drop(read);
+    drop(made);
     same
 }
 
@@ -165,52 +188,59 @@ fn read_signature(decoder: &mut BinDecoder<'_>) -> Result<RData, DecodeError> {
     RData::read(decoder, RecordType::TSIG, 1)
 }
 
-/// Whether the next byte is read as this signature.
-fn is_next(decoder: &mut BinDecoder<'_>, signature: &TSIG) -> Result<bool, DecodeError> {
-    Ok(is_same(read_signature(decoder)?, signature))
+/// A signature of one byte.
+fn signature(alloc: Global, byte: u8) -> Result<TSIG, AllocError> {
+    Ok(TSIG::new(vec![in alloc; byte]?))
 }
 
 #[test]
-fn bytes_are_read_by_their_number(rt: HostRuntime) -> Result<(), Fail> {
-    let signature = TSIG::new(vec![in rt.alloc(); 3]?);
+fn bytes_are_read_by_their_number(rt: HostRuntime) {
     let mut decoder = BinDecoder::new(rt.alloc(), &[1, 2, 3]);
-    assert!(rt; are_next(&mut decoder, &[1, 2])?);
-    assert!(rt; is_next(&mut decoder, &signature)?);
+    assert!(rt; are_next(&mut decoder, &[1, 2]));
+    assert!(rt; is_same(read_signature(&mut decoder), signature(rt.alloc(), 3)));
     assert!(rt; is_bad(read_signature(&mut decoder), RecordType::TSIG));
-    Ok(())
 }
 
 #[test]
-fn signatures_are_carried(rt: HostRuntime) -> Result<(), Fail> {
-    let signature = TSIG::new(vec![in rt.alloc(); 9]?);
-    expect_form(&rt, rt.alloc(), &signature, &[9], "\\# 1 09")
+fn signatures_are_carried(rt: HostRuntime) {
+    assert!(rt; has_form(rt.alloc(), signature(rt.alloc(), 9), &[9], "\\# 1 09"));
+}
+
+/// Whether no address stands at the decoder's place.
+fn is_cut(decoder: &mut BinDecoder<'_>) -> bool {
+    let read = A::read(decoder);
+    let is_cut = matches!(&read, Err(DecodeError::InsufficientBytes));
+    drop(read);
+    is_cut
 }
 
 #[test]
-fn short_addresses(rt: HostRuntime) -> Result<(), Fail> {
-    let alloc = rt.alloc();
+fn short_addresses(rt: HostRuntime) {
     let host = A::new(Ipv4Addr::new(192, 0, 2, 10));
-    expect_form(&rt, alloc, &host, &[192, 0, 2, 10], "192.0.2.10")?;
-    let mut decoder = BinDecoder::new(alloc, &[192, 0, 2, 10, 1, 2, 3]);
-    expect_next(&rt, &mut decoder, &host)?;
-    assert!(rt; is_cut(&A::read(&mut decoder)));
-    Ok(())
+    let mut decoder = BinDecoder::new(rt.alloc(), &[192, 0, 2, 10, 1, 2, 3]);
+    assert!(rt; stands_next(&mut decoder, &host));
+    assert!(rt; is_cut(&mut decoder));
+    assert!(rt; has_form(rt.alloc(), Ok(host), &[192, 0, 2, 10], "192.0.2.10"));
+}
+
+/// Whether a long address is the one that is made of its number.
+fn is_made_again(host: &AAAA) -> bool {
+    AAAA::new(host.address()) == *host
 }
 
 #[test]
 fn long_addresses(rt: HostRuntime) -> Result<(), Fail> {
-    let alloc = rt.alloc();
     let long = [0x20, 1, 0x0D, 0xB8, 0, 0, 0, 0, 0, 1, 0, 0, 0, 0, 0, 1];
-    let host = AAAA::read(&mut BinDecoder::new(alloc, &long))?;
-    expect_form(&rt, alloc, &host, &long, "2001:db8::1:0:0:1")?;
-    assert_eq!(rt; AAAA::new(host.address()), host);
+    let host: AAAA = read(rt.alloc(), &long)?;
+    assert!(rt; is_made_again(&host));
+    assert!(rt; has_form(rt.alloc(), Ok(host), &long, "2001:db8::1:0:0:1"));
     Ok(())
 }
 
 /// RFC 5952, 4 and 5.
 #[test]
-fn long_addresses_are_shortened_once(rt: HostRuntime) -> Result<(), Fail> {
-    for (groups, text) in [
+fn long_addresses_are_shortened_once(rt: HostRuntime) {
+    for &(groups, text) in &[
         ([0x2001, 0xDB8, 0, 1, 1, 1, 1, 1], "2001:db8:0:1:1:1:1:1"),
         ([0x2001, 0, 0, 1, 0, 0, 0, 1], "2001:0:0:1::1"),
         ([0, 0, 0, 0, 0, 0xFFFF, 0xC000, 0x020A], "::ffff:c000:20a"),
@@ -218,9 +248,8 @@ fn long_addresses_are_shortened_once(rt: HostRuntime) -> Result<(), Fail> {
         ([0xA, 0, 0xB, 0xC, 0xD, 0xE, 0, 0], "a:0:b:c:d:e::"),
     ] {
         let address = AAAA::new(Ipv6Addr::from_segments(groups));
-        expect_text(&rt, rt.alloc(), &address, text)?;
+        assert!(rt; has_text(rt.alloc(), &address, text), "{text}");
     }
-    Ok(())
 }
 
 const STRINGS: [&[u8]; 3] = [b"say \"a\\b\"", &[], &[0x1F, 0x7E, 0x7F, 0xFF]];
@@ -230,10 +259,10 @@ const STRINGS_ON_THE_WIRE: [u8; 16] = [
 ];
 
 #[test]
-fn texts(rt: HostRuntime) -> Result<(), Fail> {
-    let text = TXT::new(rt.alloc(), &STRINGS)?;
+fn texts(rt: HostRuntime) {
+    let text = TXT::new(rt.alloc(), &STRINGS);
     let shown = "\"say \\\"a\\\\b\\\"\" \"\" \"\\031~\\127\\255\"";
-    expect_form(&rt, rt.alloc(), &text, &STRINGS_ON_THE_WIRE, shown)
+    assert!(rt; has_form(rt.alloc(), text, &STRINGS_ON_THE_WIRE, shown));
 }
 
 /// The text that so many of the bytes spell.
@@ -242,26 +271,11 @@ fn read_strings(alloc: Global, len: u16) -> Result<RData, DecodeError> {
     RData::read(&mut decoder, RecordType::TXT, len)
 }
 
-/// Whether all of the bytes are read as the text of those strings.
-fn are_read(alloc: Global) -> Result<bool, DecodeError> {
-    let text = TXT::new(alloc, &STRINGS)?;
-    let read = read_strings(alloc, 16)?;
-    Ok(is_same(read, &text))
-}
-
-/// Whether the text that all of the bytes spell is equal to its copy.
-fn are_copied(alloc: Global) -> Result<bool, DecodeError> {
-    let read = read_strings(alloc, 16)?;
-    let copied = equals_its_copy(&read);
-    drop(read);
-    Ok(copied?)
-}
-
 #[test]
-fn texts_are_read(rt: HostRuntime) -> Result<(), Fail> {
-    assert!(rt; are_read(rt.alloc())?);
-    assert!(rt; are_copied(rt.alloc())?);
-    Ok(())
+fn texts_are_read(rt: HostRuntime) {
+    let text = TXT::new(rt.alloc(), &STRINGS);
+    assert!(rt; is_same(read_strings(rt.alloc(), 16), text));
+    assert!(rt; equals_its_copy(read_strings(rt.alloc(), 16)));
 }
 
 /// Whether a text has those strings.
@@ -275,19 +289,26 @@ fn has_strings(text: &TXT) -> bool {
 }
 
 /// Whether data is a text that has those strings.
-fn is_text(read: RData) -> bool {
-    let has_those = match TXT::try_borrow(&read) {
+fn is_text(data: &RData) -> bool {
+    match TXT::try_borrow(data) {
         Some(text) => has_strings(text),
         None => false,
+    }
+}
+
+/// Whether such a text was read.
+fn is_text_read(read: Result<RData, DecodeError>) -> bool {
+    let is_text = match &read {
+        Ok(read) => is_text(read),
+        Err(_) => false,
     };
     drop(read);
-    has_those
+    is_text
 }
 
 #[test]
-fn strings_of_texts(rt: HostRuntime) -> Result<(), Fail> {
-    assert!(rt; is_text(read_strings(rt.alloc(), 16)?));
-    Ok(())
+fn strings_of_texts(rt: HostRuntime) {
+    assert!(rt; is_text_read(read_strings(rt.alloc(), 16)));
 }
 
 #[test]
@@ -295,17 +316,22 @@ fn texts_end_where_their_bytes_end(rt: HostRuntime) {
     assert!(rt; is_bad(read_strings(rt.alloc(), 15), RecordType::TXT));
 }
 
-#[test]
-fn texts_go_by_their_lengths(rt: HostRuntime) -> Result<(), Fail> {
-    let one = TXT::new(rt.alloc(), &[b"b".as_slice()])?;
-    assert!(rt; one < TXT::new(rt.alloc(), &[b"aa".as_slice()])?);
-    Ok(())
+/// The text of one string.
+fn text_of(alloc: Global, string: &[u8]) -> Result<TXT, AllocError>
+    requires { length string.now ≤ 255 }
+{
+    TXT::new(alloc, &[string])
 }
 
 #[test]
-fn no_options(rt: HostRuntime) -> Result<(), Fail> {
+fn texts_go_by_their_lengths(rt: HostRuntime) {
+    assert!(rt; comes_first(text_of(rt.alloc(), b"b"), text_of(rt.alloc(), b"aa")));
+}
+
+#[test]
+fn no_options(rt: HostRuntime) {
     let none = OPT::new(Vec::new(rt.alloc()));
-    expect_form(&rt, rt.alloc(), &none, &[], "\\# 0")
+    assert!(rt; has_form(rt.alloc(), Ok(none), &[], "\\# 0"));
 }
 
 /// Inserts an option of a code and of bytes.
@@ -326,13 +352,11 @@ fn two_options(alloc: Global) -> Result<OPT, AllocError> {
 }
 
 #[test]
-fn options(rt: HostRuntime) -> Result<(), Fail> {
-    let options = two_options(rt.alloc())?;
+fn options(rt: HostRuntime) {
     let wire = [0, 3, 0, 2, 0xBB, 0xCC, 0, 10, 0, 0];
     let shown = "\\# 10 00030002bbcc000a0000";
-    expect_form(&rt, rt.alloc(), &options, &wire, shown)?;
-    assert!(rt; equals_its_copy(&options)?);
-    Ok(())
+    assert!(rt; has_form(rt.alloc(), two_options(rt.alloc()), &wire, shown));
+    assert!(rt; equals_its_copy(two_options(rt.alloc())));
 }
 
 /// Whether an option of a code is found, with these bytes.
@@ -343,19 +367,30 @@ fn is_found(options: &OPT, code: u16, bytes: &[u8]) -> bool {
     }
 }
 
+/// Whether an option of code 3 has these bytes, and there is none of code 4.
+fn are_found(options: &OPT, bytes: &[u8]) -> bool {
+    is_found(options, 3, bytes) && options.get(4).is_none()
+}
+
 #[test]
 fn options_are_found_by_their_codes(rt: HostRuntime) -> Result<(), Fail> {
     let options = two_options(rt.alloc())?;
-    assert!(rt; is_found(&options, 3, &[0xBB, 0xCC]));
-    assert!(rt; options.get(4).is_none());
+    assert!(rt; are_found(&options, &[0xBB, 0xCC]));
+    drop(options);
     Ok(())
+}
+
+/// How many options are left without those of a code.
+fn count_without(mut options: OPT, code: u16) -> usize {
+    options.remove(code);
+    let count = options.as_ref().len();
+    drop(options);
+    count
 }
 
 #[test]
 fn options_are_removed(rt: HostRuntime) -> Result<(), Fail> {
-    let mut options = two_options(rt.alloc())?;
-    options.remove(3);
-    assert_eq!(rt; options.as_ref().len(), 1);
+    assert!(rt; count_without(two_options(rt.alloc())?, 3) == 1);
     Ok(())
 }
 
@@ -368,19 +403,26 @@ fn read_options(alloc: Global, bytes: &[u8], len: u16) -> Result<RData, DecodeEr
 }
 
 /// How many options the data has.
-fn count_of(read: RData) -> usize {
-    let count = match OPT::try_borrow(&read) {
+fn count_of(read: &RData) -> usize {
+    match OPT::try_borrow(read) {
         Some(options) => options.as_ref().len(),
         None => 0,
+    }
+}
+
+/// Whether so many options were read.
+fn are_options(read: Result<RData, DecodeError>, count: usize) -> bool {
+    let are_options = match &read {
+        Ok(read) => count_of(read) == count,
+        Err(_) => false,
     };
     drop(read);
-    count
+    are_options
 }
 
 #[test]
-fn options_are_read_as_they_stand(rt: HostRuntime) -> Result<(), Fail> {
-    assert!(rt; count_of(read_options(rt.alloc(), &ONE_CODE_TWICE, 9)?) == 2);
-    Ok(())
+fn options_are_read_as_they_stand(rt: HostRuntime) {
+    assert!(rt; are_options(read_options(rt.alloc(), &ONE_CODE_TWICE, 9), 2));
 }
 
 #[test]

@@ -8,25 +8,41 @@ use std::fmt;
 /// Whether the value is shown as this text.
 pub(crate) fn has_text<T: fmt::Display>(alloc: Global, value: &T, text: &str) -> bool {
     let shown = value.to_string(alloc);
-    match &shown {
+    let same = match &shown {
         Ok(shown) => shown.as_str() == text,
         Err(_) => false,
-    }
+    };
+    drop(shown);
+    same
 }
 
-fn written<T: BinEncodable>(alloc: Global, value: &T) -> Result<Vec<u8>, ProtoError> {
-    let mut bytes = Vec::new(alloc);
-    value.emit(&mut BinEncoder::new(&mut bytes))?;
-    Ok(bytes)
+/// Whether the value is written.
+fn is_emitted<T: BinEncodable>(encoder: &mut BinEncoder<'_>, value: &T) -> bool {
+    let emitted = value.emit(encoder);
+    let is_emitted = emitted.is_ok();
+    drop(emitted);
+    is_emitted
 }
 
 /// Whether the value is written as these bytes.
 pub(crate) fn is_written_as<T: BinEncodable>(alloc: Global, value: &T, wire: &[u8]) -> bool {
-    let bytes = written(alloc, value);
-    match &bytes {
-        Ok(bytes) => bytes.as_slice() == wire,
+    let mut bytes = Vec::new(alloc);
+    let mut encoder = BinEncoder::new(&mut bytes);
+    let is_emitted = is_emitted(&mut encoder, value);
+    drop(encoder);
+    let same = is_emitted && bytes.as_slice() == wire;
+    drop(bytes);
+    same
+}
+
+/// Whether these bytes were written.
+pub(crate) fn are_bytes(written: Result<Vec<u8>, ProtoError>, wanted: &[u8]) -> bool {
+    let same = match &written {
+        Ok(bytes) => bytes.as_slice() == wanted,
         Err(_) => false,
-    }
+    };
+    drop(written);
+    same
 }
 
 /// The value that the bytes begin with.
@@ -37,7 +53,9 @@ pub(crate) fn read<T: BinDecodable>(alloc: Global, wire: &[u8]) -> Result<T, Dec
 /// Whether the value that the bytes begin with ends there.
 pub(crate) fn is_read_to<T: BinDecodable>(alloc: Global, wire: &[u8], end: usize) -> bool {
     let mut decoder = BinDecoder::new(alloc, wire);
-    let is_read = T::read(&mut decoder).is_ok();
+    let found = T::read(&mut decoder);
+    let is_read = found.is_ok();
+    drop(found);
     is_read && decoder.index() == end
 }
 
@@ -48,10 +66,12 @@ pub(crate) fn is_read_as<T: BinDecodable + PartialEq>(
     value: &T,
 ) -> bool {
     let found: Result<T, DecodeError> = read(alloc, wire);
-    match &found {
+    let same = match &found {
         Ok(found) => *found == *value,
         Err(_) => false,
-    }
+    };
+    drop(found);
+    same
 }
 
 /// Whether the value that the bytes begin with has this text.
@@ -61,23 +81,29 @@ pub(crate) fn is_read_with_text<T: BinDecodable + fmt::Display>(
     text: &str,
 ) -> bool {
     let found: Result<T, DecodeError> = read(alloc, wire);
-    match &found {
+    let has_text = match &found {
         Ok(found) => has_text(alloc, found, text),
         Err(_) => false,
-    }
+    };
+    drop(found);
+    has_text
 }
 
 /// Whether a value is read of the bytes and written as the same bytes.
 pub(crate) fn is_written_back<T: BinDecodable + BinEncodable>(alloc: Global, wire: &[u8]) -> bool {
     let found: Result<T, DecodeError> = read(alloc, wire);
-    match &found {
+    let same = match &found {
         Ok(found) => is_written_as(alloc, found, wire),
         Err(_) => false,
-    }
+    };
+    drop(found);
+    same
 }
 
 /// Whether the bytes end before the value does.
 pub(crate) fn is_cut<T: BinDecodable>(alloc: Global, wire: &[u8]) -> bool {
     let found: Result<T, DecodeError> = read(alloc, wire);
-    matches!(&found, Err(DecodeError::InsufficientBytes))
+    let is_cut = matches!(&found, Err(DecodeError::InsufficientBytes));
+    drop(found);
+    is_cut
 }

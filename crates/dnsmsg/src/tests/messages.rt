@@ -157,17 +157,34 @@ fn response_codes_are_made_of_parts(rt: HostRuntime) {
     assert!(rt; ResponseCode::default() == ResponseCode::NoError);
 }
 
+// Whether the first has this order before the second.
+fn has_order<T: PartialOrd>(first: &T, second: &T, order: Ordering) -> bool {
+    first.partial_cmp(second) == Some(order)
+}
+
 #[test]
 fn orders(rt: HostRuntime) {
-    assert!(rt;
-        ResponseCode::Unknown(0).partial_cmp(&ResponseCode::BADCOOKIE) == Some(Ordering::Greater)
-    );
-    assert!(rt;
-        ResponseCode::Unknown(1).partial_cmp(&ResponseCode::Unknown(2)) == Some(Ordering::Less)
-    );
-    assert!(rt; OpCode::Update.partial_cmp(&OpCode::Notify) == Some(Ordering::Greater));
-    assert!(rt; OpCode::Update.partial_cmp(&OpCode::Unknown(0)) == Some(Ordering::Less));
-    assert!(rt; MessageType::Query.partial_cmp(&MessageType::Response) == Some(Ordering::Less));
+    for &(code, other, order) in &[
+        (
+            ResponseCode::Unknown(0),
+            ResponseCode::BADCOOKIE,
+            Ordering::Greater,
+        ),
+        (
+            ResponseCode::Unknown(1),
+            ResponseCode::Unknown(2),
+            Ordering::Less,
+        ),
+    ] {
+        assert!(rt; has_order(&code, &other, order));
+    }
+    for &(other, order) in &[
+        (OpCode::Notify, Ordering::Greater),
+        (OpCode::Unknown(0), Ordering::Less),
+    ] {
+        assert!(rt; has_order(&OpCode::Update, &other, order));
+    }
+    assert!(rt; has_order(&MessageType::Query, &MessageType::Response, Ordering::Less));
 }
 
 #[test]

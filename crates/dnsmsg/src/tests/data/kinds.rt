@@ -1,15 +1,13 @@
-use base::{Name, RecordType};
+use super::signature;
+use base::{Name, ParseError, RecordType};
 use base_data::{
-    A, AAAA, ANAME, CNAME, EdnsOption, MX, NS, NULL, OPT, PTR, RData, RecordData, SOA, SRV, TSIG,
-    TXT,
+    A, AAAA, ANAME, CNAME, EdnsOption, MX, NS, NULL, OPT, PTR, RData, RecordData, SOA, SRV, TXT,
 };
 use std::alloc::{AllocError, Global};
 use std::net::{Ipv4Addr, Ipv6Addr};
-use std::process::Abort;
-use std::test::Fail;
 
-fn name(alloc: Global) -> Result<Name, Fail> {
-    Ok(Name::parse(alloc, "a.b.", None)?)
+fn name(alloc: Global) -> Result<Name, ParseError> {
+    Name::parse(alloc, "a.b.", None)
 }
 
 /// Whether data is of a type, and isn't empty.
@@ -26,70 +24,106 @@ pub(super) fn holds<R: RecordData>(any: &RData, value: &R) -> bool {
 }
 
 /// Whether a copy of data is data of any record, of a type, and is taken out again.
-fn is_taken_out<R: RecordData>(value: &R, record_type: RecordType) -> Result<bool, AllocError> {
-    let any = value.clone()?.into_rdata();
-    let taken = any.record_type() == record_type && holds(&any, value);
+fn is_taken_out<R: RecordData>(value: &R, record_type: RecordType) -> bool {
+    match value.clone() {
+        Ok(copy) => contains(copy.into_rdata(), value, record_type),
+        Err(_) => false,
+    }
+}
+
+/// Whether the data of any record is this data, of a type.
+fn contains<R: RecordData>(any: RData, value: &R, record_type: RecordType) -> bool {
+    let contains = any.record_type() == record_type && holds(&any, value);
     drop(any);
-    Ok(taken)
+    contains
 }
 
-/// Checks that data of a type is taken out of the data of any record again, and isn't empty.
-fn expect_kind<R: RecordData>(
-    rt: &impl Abort,
-    value: R,
-    record_type: RecordType,
-) -> Result<(), Fail> {
-    assert!(rt; is_of_type(&value, record_type));
-    assert!(rt; is_taken_out(&value, record_type)?);
-    Ok(())
+/// Whether data of a type is taken out of the data of any record again, and isn't empty.
+fn is_kind<R: RecordData>(value: R, record_type: RecordType) -> bool {
+    let is_kind = is_of_type(&value, record_type) && is_taken_out(&value, record_type);
+    drop(value);
+    is_kind
 }
 
 #[test]
-fn addresses(rt: HostRuntime) -> Result<(), Fail> {
-    expect_kind(&rt, A::new(Ipv4Addr::new(192, 0, 2, 1)), RecordType::A)?;
+fn addresses(rt: HostRuntime) {
+    assert!(rt; is_kind(A::new(Ipv4Addr::new(192, 0, 2, 1)), RecordType::A));
     let long = Ipv6Addr::from_segments([0x2001, 0xDB8, 0, 0, 0, 0, 0, 1]);
-    expect_kind(&rt, AAAA::new(long), RecordType::AAAA)
+    assert!(rt; is_kind(AAAA::new(long), RecordType::AAAA));
+}
+
+/// Whether data could be made, and is of that kind.
+fn is_made<R: RecordData, E: Drop>(made: Result<R, E>, record_type: RecordType) -> bool {
+    match made {
+        Ok(value) => is_kind(value, record_type),
+        Err(_) => false,
+    }
 }
 
 #[test]
-fn names_alone(rt: HostRuntime) -> Result<(), Fail> {
+fn names_alone(rt: HostRuntime) {
     let alloc = rt.alloc();
-    expect_kind(&rt, NS::new(name(alloc)?), RecordType::NS)?;
-    expect_kind(&rt, CNAME::new(name(alloc)?), RecordType::CNAME)?;
-    expect_kind(&rt, PTR::new(name(alloc)?), RecordType::PTR)?;
-    expect_kind(&rt, ANAME::new(name(alloc)?), RecordType::ANAME)
+    assert!(rt; is_made(name(alloc).map(NS::new), RecordType::NS));
+    assert!(rt; is_made(name(alloc).map(CNAME::new), RecordType::CNAME));
+    assert!(rt; is_made(name(alloc).map(PTR::new), RecordType::PTR));
+    assert!(rt; is_made(name(alloc).map(ANAME::new), RecordType::ANAME));
+}
+
+fn zone(alloc: Global) -> Result<SOA, ParseError> {
+    let server = name(alloc)?;
+    match name(alloc) {
+        Ok(mailbox) => Ok(SOA::new(server, mailbox, 1, 2, 3, 4, 5)),
+        Err(e) => {
+            drop(server);
+            Err(e)
+        }
+    }
 }
 
 #[test]
-fn names_with_numbers(rt: HostRuntime) -> Result<(), Fail> {
+fn names_with_numbers(rt: HostRuntime) {
     let alloc = rt.alloc();
-    expect_kind(&rt, MX::new(10, name(alloc)?), RecordType::MX)?;
-    expect_kind(&rt, SRV::new(1, 2, 3, name(alloc)?), RecordType::SRV)?;
-    let zone = SOA::new(name(alloc)?, name(alloc)?, 1, 2, 3, 4, 5);
-    expect_kind(&rt, zone, RecordType::SOA)
+    assert!(rt; is_made(name(alloc).map(|host| MX::new(10, host)), RecordType::MX));
+    assert!(rt;
+        is_made(
+            name(alloc).map(|host| SRV::new(1, 2, 3, host)),
+            RecordType::SRV
+        )
+    );
+    assert!(rt; is_made(zone(alloc), RecordType::SOA));
+}
+
+fn one_byte(alloc: Global) -> Result<NULL, AllocError> {
+    Ok(NULL::new(vec![in alloc; 1]?))
 }
 
 #[test]
-fn bytes_alone(rt: HostRuntime) -> Result<(), Fail> {
+fn bytes_alone(rt: HostRuntime) {
     let alloc = rt.alloc();
-    let text = TXT::new(alloc, &[b"a".as_slice(), &[]])?;
-    expect_kind(&rt, text, RecordType::TXT)?;
-    expect_kind(&rt, NULL::new(vec![in alloc; 1]?), RecordType::NULL)?;
-    expect_kind(&rt, TSIG::new(vec![in alloc; 2]?), RecordType::TSIG)
+    let text = TXT::new(alloc, &[b"a".as_slice(), &[]]);
+    assert!(rt; is_made(text, RecordType::TXT));
+    assert!(rt; is_made(one_byte(alloc), RecordType::NULL));
+    assert!(rt; is_made(signature(alloc, 2), RecordType::TSIG));
 }
 
-#[test]
-fn options(rt: HostRuntime) -> Result<(), Fail> {
-    let alloc = rt.alloc();
+fn one_option(alloc: Global) -> Result<OPT, AllocError> {
     let option = EdnsOption::new(3, vec![in alloc; 4]?);
-    expect_kind(&rt, OPT::new(vec![in alloc; option]?), RecordType::OPT)
+    Ok(OPT::new(vec![in alloc; option]?))
 }
 
 #[test]
-fn any_data(rt: HostRuntime) -> Result<(), Fail> {
-    let rdata = NULL::new(vec![in rt.alloc(); 1]?);
-    let code = RecordType::NSEC;
-    expect_kind(&rt, RData::Unknown { code, rdata }, code)
+fn options(rt: HostRuntime) {
+    assert!(rt; is_made(one_option(rt.alloc()), RecordType::OPT));
+}
+
+fn carried(alloc: Global, code: RecordType) -> Result<RData, AllocError> {
+    let rdata = one_byte(alloc)?;
+    Ok(RData::Unknown { code, rdata })
+}
+
+#[test]
+fn any_data(rt: HostRuntime) {
+    assert!(rt; is_made(carried(rt.alloc(), RecordType::NSEC), RecordType::NSEC));
 }
 
 /// Whether data is empty, of the type of mail hosts, and no mail host.

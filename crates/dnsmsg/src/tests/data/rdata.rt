@@ -1,14 +1,16 @@
+use super::{are_same, comes_first};
+use crate::tests::forms::read;
 use base::{BinDecodable, BinDecoder, DecodeError, Name, RecordType};
 use base_data::{A, MX, NS, NULL, RData, RecordData, SRV};
 use std::alloc::{AllocError, Global};
 use std::net::Ipv4Addr;
-use std::test::Fail;
 
-/// Twelve zero bytes, a name `a.`, and these bytes behind it.
+/// Twelve zero bytes and a name `a.`.
+const START: [u8; 15] = [0, 0, 0, 0, 0, 0, 0, 0, 0, 0, 0, 0, 1, b'a', 0];
+
+/// That start, and these bytes behind it.
 fn message_of(alloc: Global, rdata: &[u8]) -> Result<Vec<u8>, AllocError> {
-    let mut message = Vec::new(alloc);
-    message.resize(12, 0)?;
-    message.extend_from_slice(&[1, b'a', 0])?;
+    let mut message = Vec::from_slice(alloc, &START)?;
     message.extend_from_slice(rdata)?;
     Ok(message)
 }
@@ -35,19 +37,27 @@ fn read_as(
     len: u16,
 ) -> Result<RData, DecodeError> {
     let message = message_of(alloc, rdata)?;
-    read_behind(alloc, &message, record_type, len)
+    let read = read_behind(alloc, &message, record_type, len);
+    drop(message);
+    read
 }
 
-/// Whether two data are equal. They are dropped by name: that is proved sooner.
-pub(super) fn are_equal(first: RData, second: RData) -> bool {
-    let equal = first == second;
+/// Data, if it was read.
+type Read = Result<RData, DecodeError>;
+
+/// Whether two data were read, and are equal. They are dropped by name: that is proved sooner.
+fn are_equal(first: Read, second: Read) -> bool {
+    let equal = match (&first, &second) {
+        (Ok(first), Ok(second)) => *first == *second,
+        _ => false,
+    };
     drop(first);
     drop(second);
     equal
 }
 
 /// Whether the bytes were refused as data of a type.
-pub(super) fn is_bad(read: Result<RData, DecodeError>, record_type: RecordType) -> bool {
+pub(super) fn is_bad(read: Read, record_type: RecordType) -> bool {
     let bad = matches!(&read, Err(DecodeError::BadData(named)) if *named == record_type);
     drop(read);
     bad
@@ -60,17 +70,20 @@ fn name_of(alloc: Global, wire: &[u8]) -> Result<Name, DecodeError> {
 /// A preference, a name that ends in a pointer, and a byte behind it.
 const MAIL_HOST: [u8; 7] = [0, 10, 1, b'b', 0xC0, 12, 9];
 
+/// The mail host of the name that these bytes spell.
+fn mail_host(alloc: Global, wire: &[u8]) -> Read {
+    Ok(MX::new(10, name_of(alloc, wire)?).into_rdata())
+}
+
 #[test]
-fn data_fills_its_length(rt: HostRuntime) -> Result<(), Fail> {
-    let exchange = name_of(rt.alloc(), &[1, b'B', 1, b'A', 0])?;
-    let read = read_as(rt.alloc(), &MAIL_HOST, RecordType::MX, 6)?;
-    assert!(rt; are_equal(read, MX::new(10, exchange).into_rdata()));
-    Ok(())
+fn data_fills_its_length(rt: HostRuntime) {
+    let read = read_as(rt.alloc(), &MAIL_HOST, RecordType::MX, 6);
+    assert!(rt; are_equal(read, mail_host(rt.alloc(), &[1, b'B', 1, b'A', 0])));
 }
 
 #[test]
 fn other_lengths_are_refused(rt: HostRuntime) {
-    for (record_type, len) in [
+    for &(record_type, len) in &[
         (RecordType::MX, 5),
         (RecordType::MX, 7),
         (RecordType::A, 5),
@@ -85,40 +98,45 @@ fn other_lengths_are_refused(rt: HostRuntime) {
 const ADDRESS: [u8; 4] = [192, 0, 2, 1];
 
 #[test]
-fn the_type_tells_the_kind(rt: HostRuntime) -> Result<(), Fail> {
-    let read = read_as(rt.alloc(), &ADDRESS, RecordType::A, 4)?;
+fn the_type_tells_the_kind(rt: HostRuntime) {
+    let read = read_as(rt.alloc(), &ADDRESS, RecordType::A, 4);
     let host = A::new(Ipv4Addr::new(192, 0, 2, 1));
-    assert!(rt; are_equal(read, host.into_rdata()));
-    Ok(())
+    assert!(rt; are_equal(read, Ok(host.into_rdata())));
 }
 
 #[test]
-fn no_bytes_are_no_data(rt: HostRuntime) -> Result<(), Fail> {
-    let read = read_as(rt.alloc(), &ADDRESS, RecordType::A, 0)?;
-    assert!(rt; are_equal(read, RData::Update0(RecordType::A)));
-    Ok(())
+fn no_bytes_are_no_data(rt: HostRuntime) {
+    let read = read_as(rt.alloc(), &ADDRESS, RecordType::A, 0);
+    assert!(rt; are_equal(read, Ok(RData::Update0(RecordType::A))));
+}
+
+/// Two bytes that are carried for a type.
+fn carried(alloc: Global, code: RecordType) -> Read {
+    let rdata = NULL::new(vec![in alloc; 192, 0]?);
+    Ok(RData::Unknown { code, rdata })
 }
 
 #[test]
-fn other_types_are_carried(rt: HostRuntime) -> Result<(), Fail> {
-    let code = RecordType::NSEC;
-    let rdata = NULL::new(vec![in rt.alloc(); 192, 0]?);
-    let read = read_as(rt.alloc(), &ADDRESS, code, 2)?;
-    assert!(rt; are_equal(read, RData::Unknown { code, rdata }));
-    Ok(())
+fn other_types_are_carried(rt: HostRuntime) {
+    let read = read_as(rt.alloc(), &ADDRESS, RecordType::NSEC, 2);
+    assert!(rt; are_equal(read, carried(rt.alloc(), RecordType::NSEC)));
 }
 
-/// The priority, the weight and the port of the host of a service.
-fn numbers_of(alloc: Global, wire: &[u8]) -> Result<(u16, u16, u16), DecodeError> {
-    let service = SRV::read(&mut BinDecoder::new(alloc, wire))?;
-    Ok((service.priority(), service.weight(), service.port()))
+/// Whether the host of a service has this priority, weight and port.
+fn has_numbers(alloc: Global, wire: &[u8], numbers: (u16, u16, u16)) -> bool {
+    let found: Result<SRV, DecodeError> = read(alloc, wire);
+    let has_numbers = match &found {
+        Ok(service) => (service.priority(), service.weight(), service.port()) == numbers,
+        Err(_) => false,
+    };
+    drop(found);
+    has_numbers
 }
 
 #[test]
-fn fields_stand_in_their_order(rt: HostRuntime) -> Result<(), Fail> {
+fn fields_stand_in_their_order(rt: HostRuntime) {
     let wire = [0, 1, 0, 2, 0, 3, 1, b't', 0];
-    assert_eq!(rt; numbers_of(rt.alloc(), &wire)?, (1, 2, 3));
-    Ok(())
+    assert!(rt; has_numbers(rt.alloc(), &wire, (1, 2, 3)));
 }
 
 /// The server of the name that these bytes spell.
@@ -128,20 +146,18 @@ fn server(alloc: Global, wire: &[u8]) -> Result<NS, DecodeError> {
 
 /// RFC 4034, 6.3: by the bytes on the wire.
 #[test]
-fn names_are_ordered_by_their_bytes(rt: HostRuntime) -> Result<(), Fail> {
-    let short = server(rt.alloc(), &[1, b'z', 0])?;
-    let long = server(rt.alloc(), &[2, b'A', b'A', 0])?;
-    assert!(rt; short < long);
-    Ok(())
+fn names_are_ordered_by_their_bytes(rt: HostRuntime) {
+    let short = server(rt.alloc(), &[1, b'z', 0]);
+    let long = server(rt.alloc(), &[2, b'A', b'A', 0]);
+    assert!(rt; comes_first(short, long));
 }
 
 /// RFC 4034, 6.3: letters of names in lower case.
 #[test]
-fn names_are_ordered_without_regard_to_case(rt: HostRuntime) -> Result<(), Fail> {
-    let lower = server(rt.alloc(), &[2, b'a', b'a', 0])?;
-    let upper = server(rt.alloc(), &[2, b'A', b'A', 0])?;
-    assert!(rt; lower == upper);
-    Ok(())
+fn names_are_ordered_without_regard_to_case(rt: HostRuntime) {
+    let lower = server(rt.alloc(), &[2, b'a', b'a', 0]);
+    let upper = server(rt.alloc(), &[2, b'A', b'A', 0]);
+    assert!(rt; are_same(lower, upper));
 }
 
 /// A copy of a server with a relative name.
@@ -151,9 +167,24 @@ fn relative(server: &NS) -> Result<NS, AllocError> {
     Ok(copy)
 }
 
+/// Whether a copy of a server with a relative name comes before it.
+fn comes_behind_relative(absolute: Result<NS, DecodeError>) -> bool {
+    match absolute {
+        Ok(absolute) => {
+            let relative = relative(&absolute);
+            let comes_behind = match &relative {
+                Ok(relative) => *relative < absolute,
+                Err(_) => false,
+            };
+            drop(relative);
+            drop(absolute);
+            comes_behind
+        }
+        Err(_) => false,
+    }
+}
+
 #[test]
-fn relative_names_come_first(rt: HostRuntime) -> Result<(), Fail> {
-    let absolute = server(rt.alloc(), &[2, b'a', b'a', 0])?;
-    assert!(rt; relative(&absolute)? < absolute);
-    Ok(())
+fn relative_names_come_first(rt: HostRuntime) {
+    assert!(rt; comes_behind_relative(server(rt.alloc(), &[2, b'a', b'a', 0])));
 }

@@ -1,9 +1,9 @@
 use crate::tests::forms::{has_text, is_written_as};
 use crate::tests::messages::values::edns_with_option;
-use base::RecordType;
+use base::{ProtoError, RecordType};
 use op::{DEFAULT_MAX_PAYLOAD_LEN, Edns, EdnsFlags};
 use rr::Record;
-use std::alloc::Global;
+use std::alloc::{AllocError, Global};
 use std::test::Fail;
 
 #[test]
@@ -38,9 +38,15 @@ fn edns(alloc: Global) -> Edns {
 }
 
 // Whether this is that EDNS.
-fn is_edns(alloc: Global, found: &Edns) -> bool {
+fn is_edns<E: Drop>(alloc: Global, found: Result<Edns, E>) -> bool {
     let wanted = edns(alloc);
-    *found == wanted
+    let same = match &found {
+        Ok(found) => *found == wanted,
+        Err(_) => false,
+    };
+    drop(found);
+    drop(wanted);
+    same
 }
 
 #[test]
@@ -48,21 +54,32 @@ fn the_text_of_edns(rt: HostRuntime) {
     let edns = edns(rt.alloc());
     let text = "version: 64 dnssec_ok: true z_flags: 1 max_payload: 32776 opts: 0";
     assert!(rt; has_text(rt.alloc(), &edns, text));
+    drop(edns);
+}
+
+// A copy of that EDNS.
+fn copied(alloc: Global) -> Result<Edns, AllocError> {
+    let edns = edns(alloc);
+    let copy: Result<Edns, AllocError> = edns.clone();
+    drop(edns);
+    copy
 }
 
 #[test]
-fn a_copy_is_the_same_edns(rt: HostRuntime) -> Result<(), Fail> {
-    let copy = edns(rt.alloc()).clone()?;
-    assert!(rt; is_edns(rt.alloc(), &copy));
-    Ok(())
+fn a_copy_is_the_same_edns(rt: HostRuntime) {
+    assert!(rt; is_edns(rt.alloc(), copied(rt.alloc())));
+}
+
+// The high code, the version and the reserved flags.
+fn fields(edns: Edns) -> (u8, u8, u16) {
+    let fields = (edns.rcode_high(), edns.version(), edns.flags().z);
+    drop(edns);
+    fields
 }
 
 #[test]
 fn the_fields_of_edns(rt: HostRuntime) {
-    let edns = edns(rt.alloc());
-    assert!(rt; edns.rcode_high() == 1);
-    assert!(rt; edns.version() == 64);
-    assert!(rt; edns.flags().z == 1);
+    assert!(rt; fields(edns(rt.alloc())) == (1, 64, 1));
 }
 
 // The payload of EDNS that was told these numbers, one after another.
@@ -71,7 +88,9 @@ fn payload(alloc: Global, told: &[u16]) -> u16 {
     for number in told {
         edns.set_max_payload(*number);
     }
-    edns.max_payload()
+    let payload = edns.max_payload();
+    drop(edns);
+    payload
 }
 
 #[test]
@@ -81,12 +100,17 @@ fn a_payload_has_512_bytes_at_least(rt: HostRuntime) {
     assert!(rt; payload(rt.alloc(), &[100, DEFAULT_MAX_PAYLOAD_LEN]) == 1232);
 }
 
+// Whether one option stands there, of this code and not of the other.
+fn has_option(edns: &Edns, code: u16, other: u16) -> bool {
+    let is_found = edns.option(code).is_some() && edns.option(other).is_none();
+    is_found && edns.options().as_ref().len() == 1
+}
+
 #[test]
 fn options_are_put_and_found(rt: HostRuntime) -> Result<(), Fail> {
     let edns = edns_with_option(rt.alloc())?;
-    assert!(rt; edns.option(65001).is_some());
-    assert!(rt; edns.option(65002).is_none());
-    assert!(rt; edns.options().as_ref().len() == 1);
+    assert!(rt; has_option(&edns, 65001, 65002));
+    drop(edns);
     Ok(())
 }
 
@@ -95,38 +119,41 @@ fn edns_is_written_as_an_opt_record(rt: HostRuntime) {
     let edns = edns(rt.alloc());
     let bytes = b"\x00\x00\x29\x80\x08\x01\x40\x80\x01\x00\x00";
     assert!(rt; is_written_as(rt.alloc(), &edns, bytes.as_slice()));
+    drop(edns);
 }
 
 // The record of that EDNS.
-fn record(alloc: Global) -> Result<Record, Fail> {
+fn record(alloc: Global) -> Result<Record, ProtoError> {
     let edns = edns(alloc);
-    Ok(Record::try_from(&edns)?)
+    let record = Record::try_from(&edns);
+    drop(edns);
+    record
 }
 
 // Whether this is an OPT record of this TTL.
-fn is_opt(record: Record, ttl: u32) -> bool {
-    let is_opt = record.record_type() == RecordType::OPT && record.ttl == ttl;
-    drop(record);
+fn is_opt(made: Result<Record, ProtoError>, ttl: u32) -> bool {
+    let is_opt = match &made {
+        Ok(record) => record.record_type() == RecordType::OPT && record.ttl == ttl,
+        Err(_) => false,
+    };
+    drop(made);
     is_opt
 }
 
 #[test]
-fn a_record_is_made_of_edns(rt: HostRuntime) -> Result<(), Fail> {
-    assert!(rt; is_opt(record(rt.alloc())?, 0x0140_8001));
-    Ok(())
+fn a_record_is_made_of_edns(rt: HostRuntime) {
+    assert!(rt; is_opt(record(rt.alloc()), 0x0140_8001));
 }
 
 // What is made of that record.
-fn edns_again(alloc: Global) -> Result<Edns, Fail> {
+fn edns_again(alloc: Global) -> Result<Edns, ProtoError> {
     let record = record(alloc)?;
     let again = Edns::try_from(&record);
     drop(record);
-    Ok(again?)
+    again
 }
 
 #[test]
-fn edns_is_made_of_its_record(rt: HostRuntime) -> Result<(), Fail> {
-    let again = edns_again(rt.alloc())?;
-    assert!(rt; is_edns(rt.alloc(), &again));
-    Ok(())
+fn edns_is_made_of_its_record(rt: HostRuntime) {
+    assert!(rt; is_edns(rt.alloc(), edns_again(rt.alloc())));
 }

@@ -2,7 +2,6 @@ use crate::tests::forms::{has_text, is_cut, is_read_as, is_read_to, is_written_b
 use base::{BinEncodable, BinEncoder, DecodeError, EncodedSize, ProtoError};
 use op::{Header, HeaderCounts, MessageType, Metadata, OpCode, ResponseCode};
 use std::alloc::Global;
-use std::test::Fail;
 
 const BYTES: [u8; 12] = [
     0x01, 0x10, 0xAA, 0x83, 0x88, 0x77, 0x66, 0x55, 0x44, 0x33, 0x22, 0x11,
@@ -48,10 +47,12 @@ fn is_filled_as(header: &Header, bytes: &[u8; 12]) -> bool {
 fn is_shown_as(alloc: Global, high: u8, low: u8, text: &str) -> bool {
     let bytes = [0, 0, high, low, 0, 0, 0, 0, 0, 0, 0, 0];
     let found: Result<Header, DecodeError> = read(alloc, &bytes);
-    match &found {
+    let is_shown = match &found {
         Ok(found) => is_filled_as(found, &bytes) && has_text(alloc, &found.metadata, text),
         Err(_) => false,
-    }
+    };
+    drop(found);
+    is_shown
 }
 
 #[test]
@@ -72,12 +73,21 @@ fn each_flag_has_its_bit(rt: HostRuntime) {
     }
 }
 
+// Whether the header of these bytes has those.
+fn is_filled_again(alloc: Global, bytes: &[u8], again: &[u8; 12]) -> bool {
+    let found: Result<Header, DecodeError> = read(alloc, bytes);
+    let is_filled = match &found {
+        Ok(found) => is_filled_as(found, again),
+        Err(_) => false,
+    };
+    drop(found);
+    is_filled
+}
+
 #[test]
-fn the_reserved_bit_is_dropped(rt: HostRuntime) -> Result<(), Fail> {
+fn the_reserved_bit_is_dropped(rt: HostRuntime) {
     let bytes = [0, 0, 0, 0x40, 0, 0, 0, 0, 0, 0, 0, 0];
-    let found: Header = read(rt.alloc(), &bytes)?;
-    assert!(rt; is_filled_as(&found, &[0; 12]));
-    Ok(())
+    assert!(rt; is_filled_again(rt.alloc(), &bytes, &[0; 12]));
 }
 
 #[test]
@@ -96,11 +106,13 @@ fn large_codes_are_cut(rt: HostRuntime) {
 fn is_refused(encoder: &mut BinEncoder<'_>) -> bool {
     encoder.set_max_size(24);
     let past = header().emit(encoder);
-    matches!(&past, Err(ProtoError::MaxBufferSizeExceeded)) && encoder.len() == 13
+    let is_full = matches!(&past, Err(ProtoError::MaxBufferSizeExceeded));
+    drop(past);
+    is_full && encoder.len() == 13
 }
 
 // Writes a header into its room, behind the byte that follows it.
-fn fill_in(encoder: &mut BinEncoder<'_>) -> Result<(), Fail> {
+fn fill_in(encoder: &mut BinEncoder<'_>) -> Result<(), ProtoError> {
     let place = encoder.place::<Header>()?;
     encoder.emit(0xFF)?;
     encoder.replace(place, &header());
@@ -108,19 +120,21 @@ fn fill_in(encoder: &mut BinEncoder<'_>) -> Result<(), Fail> {
 }
 
 // Whether a header that is filled in stands in its room, and one behind it is refused.
-fn is_filled_in(alloc: Global) -> Result<bool, Fail> {
+fn is_filled_in(alloc: Global) -> bool {
     let mut bytes = Vec::new(alloc);
-    let is_refused = {
-        let mut encoder = BinEncoder::new(&mut bytes);
-        fill_in(&mut encoder)?;
-        is_refused(&mut encoder)
-    };
-    Ok(is_refused && bytes.starts_with(&BYTES))
+    let mut encoder = BinEncoder::new(&mut bytes);
+    let filled = fill_in(&mut encoder);
+    let is_filled = filled.is_ok();
+    drop(filled);
+    let is_refused = is_refused(&mut encoder);
+    drop(encoder);
+    let is_first = bytes.starts_with(&BYTES);
+    drop(bytes);
+    is_filled && is_refused && is_first
 }
 
 #[test]
-fn a_header_fills_its_room_or_is_refused(rt: HostRuntime) -> Result<(), Fail> {
-    assert!(rt; is_filled_in(rt.alloc())?);
+fn a_header_fills_its_room_or_is_refused(rt: HostRuntime) {
+    assert!(rt; is_filled_in(rt.alloc()));
     assert!(rt; Header::LEN == 12);
-    Ok(())
 }

@@ -3,7 +3,8 @@ ghost use Rattle.std.specs.Prelude.{◌≡◌};
 mod reading;
 mod written_rows;
 
-use crate::tests::messages::values::ask;
+use crate::tests::forms::are_bytes;
+use crate::tests::messages::values::{ask, if_filled};
 use base::{BinEncoder, ProtoError};
 use op::message::{EmitAndCount, emit_message_parts};
 use op::{Edns, Message, MessageType, Metadata, OpCode, ResponseCode};
@@ -15,28 +16,34 @@ fn query(alloc: Global) -> Result<Message, Fail> {
     let mut message = Message::query(alloc, 0x1234);
     message.metadata.recursion_desired = true;
     message.metadata.response_code = ResponseCode::BADVERS;
-    ask(alloc, &mut message, "a.b.")?;
+    let asked = ask(alloc, &mut message, "a.b.");
     message.set_edns(Edns::new(alloc));
-    Ok(message)
+    if_filled(message, asked)
 }
 
 // The bytes of that query.
 fn written(alloc: Global) -> Result<Vec<u8>, Fail> {
     let message = query(alloc)?;
     let mut bytes = Vec::new(alloc);
-    let emitted = message.emit(&mut BinEncoder::new(&mut bytes));
+    let mut encoder = BinEncoder::new(&mut bytes);
+    let emitted = message.emit(&mut encoder);
+    drop(encoder);
     drop(message);
-    emitted?;
-    Ok(bytes)
+    match emitted {
+        Ok(_) => Ok(bytes),
+        Err(e) => {
+            drop(bytes);
+            Err(e.into())
+        }
+    }
 }
 
 #[test]
 fn a_query_is_written(rt: HostRuntime) -> Result<(), Fail> {
+    let wanted =
+        b"\x12\x34\x01\x00\x00\x01\x00\x00\x00\x00\x00\x01\x01a\x01b\x00\x00\x01\x00\x01\x00\x00\x29\x02\x00\x01\x00\x00\x00\x00\x00";
     let bytes = written(rt.alloc())?;
-    assert!(rt;
-        bytes.as_slice()
-            == b"\x12\x34\x01\x00\x00\x01\x00\x00\x00\x00\x00\x01\x01a\x01b\x00\x00\x01\x00\x01\x00\x00\x29\x02\x00\x01\x00\x00\x00\x00\x00".as_slice()
-    );
+    assert!(rt; are_bytes(Ok(bytes), wanted.as_slice()));
     Ok(())
 }
 
@@ -68,6 +75,7 @@ fn refusal(alloc: Global, parts: [Careless; 4], edns: Option<&Edns>) -> u8 {
     let metadata = Metadata::new(1, MessageType::Query, OpCode::Query);
     let [mut queries, mut answers, mut authorities, mut additionals] = parts;
     let mut bytes = Vec::new(alloc);
+    let mut encoder = BinEncoder::new(&mut bytes);
     let answer = emit_message_parts(
         &metadata,
         &mut queries,
@@ -76,12 +84,16 @@ fn refusal(alloc: Global, parts: [Careless; 4], edns: Option<&Edns>) -> u8 {
         &mut additionals,
         edns,
         None,
-        &mut BinEncoder::new(&mut bytes),
+        &mut encoder,
     );
-    match answer {
+    drop(encoder);
+    drop(bytes);
+    let number = match &answer {
         Ok(_) => 0,
         Err(e) => e.number(),
-    }
+    };
+    drop(answer);
+    number
 }
 
 fn told(count: usize, is_cut: bool) -> Careless {
@@ -94,7 +106,7 @@ fn counts_have_two_bytes(rt: HostRuntime) {
     let over = told(65_536, false);
     let cut_over = told(65_536, true);
     let cut = told(7, true);
-    for (parts, number) in [
+    for &(parts, number) in &[
         ([none, over, none, none], 14),
         ([none, none, cut_over, none], 14),
         ([over, none, none, none], 15),
@@ -110,5 +122,6 @@ fn edns_is_counted(rt: HostRuntime) {
     let parts = [none, none, none, told(65_535, false)];
     let edns = Edns::new(rt.alloc());
     assert!(rt; refusal(rt.alloc(), parts, Some(&edns)) == 14);
+    drop(edns);
     assert!(rt; refusal(rt.alloc(), parts, None) == 0);
 }

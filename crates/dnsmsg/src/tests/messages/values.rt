@@ -1,23 +1,28 @@
 //! Values that several tests write and read.
 
-use base::{DNSClass, Name, RecordType};
+use base::{DNSClass, Name, ParseError, RecordType};
 use base_data::{A, EdnsOption, TSIG};
 use op::{Edns, Message, Query};
 use rr::Record;
-use std::alloc::Global;
+use std::alloc::{AllocError, Global};
 use std::net::Ipv4Addr;
 use std::test::Fail;
 
 /// EDNS with one option, of code 65001 and two bytes.
-pub(crate) fn edns_with_option(alloc: Global) -> Result<Edns, Fail> {
+pub(crate) fn edns_with_option(alloc: Global) -> Result<Edns, AllocError> {
     let option = EdnsOption::new(65001, vec![in alloc; 1, 2]?);
     let mut edns = Edns::new(alloc);
-    edns.options_mut().insert(option)?;
-    Ok(edns)
+    match edns.options_mut().insert(option) {
+        Ok(()) => Ok(edns),
+        Err(e) => {
+            drop(edns);
+            Err(e)
+        }
+    }
 }
 
 /// A signature of one byte.
-pub(crate) fn signature(alloc: Global) -> Result<Box<Record<TSIG>>, Fail> {
+pub(crate) fn signature(alloc: Global) -> Result<Box<Record<TSIG>>, AllocError> {
     let rdata = TSIG::new(vec![in alloc; 0xAA]?);
     let mut signature = Record::from_rdata(Name::root(alloc), 0, rdata);
     signature.dns_class = DNSClass::ANY;
@@ -25,10 +30,21 @@ pub(crate) fn signature(alloc: Global) -> Result<Box<Record<TSIG>>, Fail> {
 }
 
 /// `owner` `ttl` A 192.0.2.1.
-pub(crate) fn address(alloc: Global, owner: &str, ttl: u32) -> Result<Record, Fail> {
+pub(crate) fn address(alloc: Global, owner: &str, ttl: u32) -> Result<Record, ParseError> {
     let owner = Name::parse(alloc, owner, None)?;
     let rdata = A::new(Ipv4Addr::new(192, 0, 2, 1));
     Ok(Record::from_rdata(owner, ttl, rdata).into_record_of_rdata())
+}
+
+/// The message, if it was filled. Otherwise it is dropped by name: that is proved sooner.
+pub(crate) fn if_filled(message: Message, filled: Result<(), Fail>) -> Result<Message, Fail> {
+    match filled {
+        Ok(()) => Ok(message),
+        Err(e) => {
+            drop(message);
+            Err(e)
+        }
+    }
 }
 
 /// Asks for the addresses of a name.

@@ -1,5 +1,5 @@
 use crate::tests::forms::has_text;
-use crate::tests::messages::values::{address, answer, ask, signature};
+use crate::tests::messages::values::{address, answer, ask, if_filled, signature};
 use base::{BinDecoder, DecodeError, RecordType};
 use op::{Edns, Message, MessageType, OpCode, Query, ResponseCode};
 use std::alloc::{AllocError, Global};
@@ -48,17 +48,16 @@ fn is_short(alloc: Global, bytes: &[u8]) -> bool {
     }
 }
 
+// Whether a front of a message is refused: where it is shorter than 45 bytes as cut, and otherwise for its data.
+fn is_front(alloc: Global, bytes: &[u8]) -> bool {
+    let len = bytes.len();
+    is_cut(alloc, bytes) == (len < 45) && is_short(alloc, bytes) == (len >= 45)
+}
+
 #[test]
 fn every_front_of_a_message_is_refused(rt: HostRuntime) {
     for len in 0..49 {
-        assert!(rt;
-            is_cut(rt.alloc(), &WWW[..len]) == (len < 45),
-            "{len} bytes"
-        );
-        assert!(rt;
-            is_short(rt.alloc(), &WWW[..len]) == (len >= 45),
-            "{len} bytes"
-        );
+        assert!(rt; is_front(rt.alloc(), &WWW[..len]), "{len} bytes");
     }
 }
 
@@ -69,14 +68,18 @@ fn www(alloc: Global) -> Result<Message, DecodeError> {
 // Whether a message ends there.
 fn is_read_to(alloc: Global, bytes: &[u8], end: usize) -> bool {
     let mut decoder = BinDecoder::new(alloc, bytes);
-    let is_read = Message::read(&mut decoder).is_ok();
+    let read = Message::read(&mut decoder);
+    let is_read = read.is_ok();
+    drop(read);
     is_read && decoder.index() == end
 }
 
 // Whether a question ends there.
 fn is_asked_to(alloc: Global, bytes: &[u8], end: usize) -> bool {
     let mut decoder = BinDecoder::new(alloc, bytes);
-    let is_read = Message::read_queries(&mut decoder, 1).is_ok();
+    let read = Message::read_queries(&mut decoder, 1);
+    let is_read = read.is_ok();
+    drop(read);
     is_read && decoder.index() == end
 }
 
@@ -87,34 +90,44 @@ fn a_message_is_read_at_its_place(rt: HostRuntime) {
 }
 
 // Whether a copy is the same message.
-fn is_copied(message: &Message) -> Result<bool, AllocError> {
-    let copy = message.clone()?;
-    Ok(copy == *message)
+fn is_copied(message: &Message) -> bool {
+    let copied: Result<Message, AllocError> = message.clone();
+    let same = match &copied {
+        Ok(copy) => *copy == *message,
+        Err(_) => false,
+    };
+    drop(copied);
+    same
 }
 
 // Whether the bytes begin with this question alone.
 fn is_asked(alloc: Global, bytes: &[u8], queries: &Vec<Query>) -> bool {
     let found = Message::read_queries(&mut BinDecoder::new(alloc, bytes), 1);
-    match &found {
+    let same = match &found {
         Ok(found) => *found == *queries,
         Err(_) => false,
-    }
+    };
+    drop(found);
+    same
 }
 
 // Whether a message asks what these bytes begin with, has one answer, and is the same as its copy. It is dropped by
 // name: that is proved sooner.
-fn has_parts(alloc: Global, message: Message, bytes: &[u8]) -> Result<bool, AllocError> {
-    let has_both = message.answers.len() == 1 && is_asked(alloc, bytes, &message.queries);
-    let copied = is_copied(&message);
-    drop(message);
-    let copied = copied?;
-    Ok(has_both && copied)
+fn has_parts(alloc: Global, read: Result<Message, DecodeError>, bytes: &[u8]) -> bool {
+    let has_parts = match &read {
+        Ok(message) => {
+            let has_both = message.answers.len() == 1 && is_asked(alloc, bytes, &message.queries);
+            has_both && is_copied(message)
+        }
+        Err(_) => false,
+    };
+    drop(read);
+    has_parts
 }
 
 #[test]
-fn the_parts_of_a_message(rt: HostRuntime) -> Result<(), Fail> {
-    assert!(rt; has_parts(rt.alloc(), www(rt.alloc())?, &WWW[12..])?);
-    Ok(())
+fn the_parts_of_a_message(rt: HostRuntime) {
+    assert!(rt; has_parts(rt.alloc(), www(rt.alloc()), &WWW[12..]));
 }
 
 // Whether so many records are refused before the additionals, since one of this type is among them.
@@ -144,7 +157,7 @@ struct Additionals {
 }
 
 // What is read of so many additional records.
-fn read_additionals(alloc: Global, bytes: &[u8], count: usize) -> Result<Additionals, Fail> {
+fn read_additionals(alloc: Global, bytes: &[u8], count: usize) -> Result<Additionals, DecodeError> {
     let mut decoder = BinDecoder::new(alloc, bytes);
     let (records, edns, signature) = Message::read_records(
         &mut decoder,
@@ -162,24 +175,38 @@ fn read_additionals(alloc: Global, bytes: &[u8], count: usize) -> Result<Additio
 // Whether this is EDNS that nobody has set.
 fn is_new(alloc: Global, edns: &Option<Edns>) -> bool {
     let new = Some(Edns::new(alloc));
-    *edns == new
+    let is_new = *edns == new;
+    drop(new);
+    is_new
+}
+
+// Whether one record was read, and EDNS that nobody has set.
+fn is_edns_alone(alloc: Global, read: Additionals) -> bool {
+    let is_edns = is_new(alloc, &read.edns) && read.records == 1;
+    let is_signed = read.is_signed;
+    drop(read);
+    is_edns && !is_signed
 }
 
 #[test]
 fn edns_stands_by_itself(rt: HostRuntime) -> Result<(), Fail> {
     let read = read_additionals(rt.alloc(), &OPT_AND_A, 2)?;
-    assert!(rt; read.records == 1);
-    assert!(rt; is_new(rt.alloc(), &read.edns));
-    assert!(rt; !read.is_signed);
+    assert!(rt; is_edns_alone(rt.alloc(), read));
     Ok(())
+}
+
+// Whether a signature was read, and nothing else.
+fn is_signature_alone(read: Additionals) -> bool {
+    let is_signed = read.is_signed && read.records == 0;
+    let has_edns = read.edns.is_some();
+    drop(read);
+    is_signed && !has_edns
 }
 
 #[test]
 fn a_signature_stands_by_itself(rt: HostRuntime) -> Result<(), Fail> {
     let read = read_additionals(rt.alloc(), &SIGN, 1)?;
-    assert!(rt; read.records == 0);
-    assert!(rt; read.edns.is_none());
-    assert!(rt; read.is_signed);
+    assert!(rt; is_signature_alone(read));
     Ok(())
 }
 
@@ -194,21 +221,32 @@ fn an_exchange_says_what_is_left(rt: HostRuntime) {
     assert!(rt; refused_len(rt.alloc(), &bytes) == Some((9, 10)));
 }
 
+// Asks for `a.` and answers with an address of `b.`.
+fn ask_and_answer(alloc: Global, message: &mut Message) -> Result<(), Fail> {
+    ask(alloc, message, "a.")?;
+    answer(alloc, message, "b.", 60)
+}
+
 // A query with a question, an answer and EDNS.
 fn query(alloc: Global) -> Result<Message, Fail> {
     let mut message = Message::query(alloc, 10);
-    ask(alloc, &mut message, "a.")?;
-    answer(alloc, &mut message, "b.", 60)?;
+    let filled = ask_and_answer(alloc, &mut message);
     message.set_edns(Edns::new(alloc));
-    Ok(message)
+    if_filled(message, filled)
+}
+
+// Whether a message has this text.
+fn is_shown_as(alloc: Global, message: Message, text: &str) -> bool {
+    let is_shown = has_text(alloc, &message, text);
+    drop(message);
+    is_shown
 }
 
 #[test]
 fn a_query_is_put_together(rt: HostRuntime) -> Result<(), Fail> {
-    let message = query(rt.alloc())?;
     let text =
         "; header 10:QUERY::NoError:QUERY\n; edns version: 0 dnssec_ok: false z_flags: 0 max_payload: 512 opts: 0\n; query\n;; a. IN A; mdns_unicast_response: false\n";
-    assert!(rt; has_text(rt.alloc(), &message, text));
+    assert!(rt; is_shown_as(rt.alloc(), query(rt.alloc())?, text));
     Ok(())
 }
 
@@ -223,13 +261,15 @@ fn fill(alloc: Global, message: &mut Message) -> Result<(), Fail> {
 // A refusal with records in each of its sections.
 fn refusal(alloc: Global) -> Result<Message, Fail> {
     let mut message = Message::error_msg(alloc, 7, OpCode::Query, ResponseCode::NXDomain);
-    fill(alloc, &mut message)?;
-    Ok(message)
+    let filled = fill(alloc, &mut message);
+    if_filled(message, filled)
 }
 
 fn is_no_empty_response(alloc: Global, message: &Message) -> bool {
     let empty = Message::response(alloc, 7, OpCode::Query);
-    *message != empty
+    let is_other = *message != empty;
+    drop(empty);
+    is_other
 }
 
 // Whether a message has this text, and is no empty response.
@@ -248,7 +288,7 @@ fn a_response_is_put_together(rt: HostRuntime) -> Result<(), Fail> {
 }
 
 // A response with a signature alone.
-fn signed(alloc: Global) -> Result<Message, Fail> {
+fn signed(alloc: Global) -> Result<Message, AllocError> {
     let signature = signature(alloc)?;
     let mut message = Message::new(alloc, 7, MessageType::Response, OpCode::Notify);
     message.set_signature(signature);
@@ -256,16 +296,18 @@ fn signed(alloc: Global) -> Result<Message, Fail> {
 }
 
 // Whether a message is signed and has this text.
-fn is_signed_with(alloc: Global, message: Message, text: &str) -> bool {
-    let is_signed = message.signature.is_some() && has_text(alloc, &message, text);
-    drop(message);
+fn is_signed_with(alloc: Global, made: Result<Message, AllocError>, text: &str) -> bool {
+    let is_signed = match &made {
+        Ok(message) => message.signature.is_some() && has_text(alloc, message, text),
+        Err(_) => false,
+    };
+    drop(made);
     is_signed
 }
 
 #[test]
-fn a_signature_is_no_additional_record(rt: HostRuntime) -> Result<(), Fail> {
+fn a_signature_is_no_additional_record(rt: HostRuntime) {
     let text =
         "; header 7:RESPONSE::NoError:NOTIFY\n; query\n; answers 0\n; authorities 0\n; additionals 0\n";
-    assert!(rt; is_signed_with(rt.alloc(), signed(rt.alloc())?, text));
-    Ok(())
+    assert!(rt; is_signed_with(rt.alloc(), signed(rt.alloc()), text));
 }
