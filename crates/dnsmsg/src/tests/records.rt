@@ -71,6 +71,7 @@ fn a_record_is_written(rt: HostRuntime) -> Result<(), Fail> {
     assert!(rt; is_written_as(rt.alloc(), &entry, &WWW));
     assert!(rt; fits(rt.alloc(), &entry, 31));
     assert!(rt; is_too_long(rt.alloc(), &entry, 30));
+    drop(entry);
     Ok(())
 }
 
@@ -216,6 +217,7 @@ fn data_shorter_than_its_length(rt: HostRuntime) {
             Some(DecodeError::IncorrectRDataLengthRead { read: 4, len: 5 })
         )
     );
+    drop(refused);
 }
 
 #[test]
@@ -223,6 +225,7 @@ fn data_too_short_for_its_type(rt: HostRuntime) {
     let bytes = [0, 0, 1, 0, 1, 0, 0, 0, 0, 0, 3, 0x7F, 0, 0];
     let refused = refusal(rt.alloc(), &bytes);
     assert!(rt; matches!(&refused, Some(DecodeError::BadData(RecordType::A))));
+    drop(refused);
 }
 
 #[test]
@@ -230,6 +233,7 @@ fn seconds_come_off_down_to_none(rt: HostRuntime) -> Result<(), Fail> {
     let mut entry = www(rt.alloc())?;
     assert!(rt; entry.decrement_ttl(7).ttl == 0);
     assert!(rt; entry.dns_class == DNSClass::IN);
+    drop(entry);
     Ok(())
 }
 
