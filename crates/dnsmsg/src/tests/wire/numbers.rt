@@ -3,7 +3,9 @@ use std::test::Fail;
 
 /// Whether the limit refused.
 fn is_full<T: Drop>(answer: Result<T, ProtoError>) -> bool {
-    matches!(&answer, Err(ProtoError::MaxBufferSizeExceeded))
+    let is_full = matches!(&answer, Err(ProtoError::MaxBufferSizeExceeded));
+    drop(answer);
+    is_full
 }
 
 fn emit_each(encoder: &mut BinEncoder<'_>) -> Result<(), ProtoError> {
