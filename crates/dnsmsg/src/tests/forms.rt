@@ -109,7 +109,7 @@ pub(crate) fn is_cut<T: BinDecodable>(alloc: Global, wire: &[u8]) -> bool {
 }
 
 /// Whether a value is equal to its copy.
-fn is_copied<T: Clone + PartialEq + Drop>(value: T) -> bool {
+pub(crate) fn is_copied<T: Clone + PartialEq + Drop>(value: T) -> bool {
     let copied: Result<T, AllocError> = value.clone();
     let same = match &copied {
         Ok(copy) => *copy == value,
