@@ -5,7 +5,7 @@ mod names;
 mod order;
 mod rdata;
 
-use crate::tests::forms::{has_text, is_written_as, read};
+use crate::tests::forms::{equals_its_copy, has_text, is_written_as, read};
 use base::{
     BinDecodable, BinDecoder, BinEncodable, BinEncoder, DecodeError, ProtoError, RecordType,
 };
@@ -86,26 +86,6 @@ fn fill<T: BinDecodable + PartialEq>(alloc: Global, values: &[&T], wire: &[u8]) 
         }
     }
     decoder.index() == wire.len()
-}
-
-/// Whether a value is equal to its copy.
-fn is_copied<T: Clone + PartialEq + Drop>(value: T) -> bool {
-    let copied: Result<T, AllocError> = value.clone();
-    let same = match &copied {
-        Ok(copy) => *copy == value,
-        Err(_) => false,
-    };
-    drop(copied);
-    drop(value);
-    same
-}
-
-/// Whether a value could be made, and is equal to its copy.
-fn equals_its_copy<T: Clone + PartialEq + Drop, E: Drop>(made: Result<T, E>) -> bool {
-    match made {
-        Ok(value) => is_copied(value),
-        Err(_) => false,
-    }
 }
 
 #[test]

@@ -1,6 +1,6 @@
 use super::forms::has_text;
 use base::{DecodeError, Name, ParseError, ProtoError, RecordType};
-use std::alloc::Global;
+use std::alloc::{AllocError, Global};
 use std::test::Fail;
 
 /// The number of a refusal of reading.
@@ -82,7 +82,7 @@ fn refusals_of_zone_text_have_their_numbers(rt: HostRuntime) {
 }
 
 /// The refusal of a type that has no such name.
-fn unknown_type(alloc: Global, name: &str) -> Result<ParseError, Fail> {
+fn unknown_type(alloc: Global, name: &str) -> Result<ParseError, AllocError> {
     Ok(ParseError::UnknownRecordType(String::from_str(alloc, name)?))
 }
 
@@ -98,6 +98,7 @@ fn refusals_of_what_a_zone_names_have_their_numbers(rt: HostRuntime) -> Result<(
 fn the_refusal_of_a_type_names_it(rt: HostRuntime) -> Result<(), Fail> {
     let refusal = unknown_type(rt.alloc(), "TYPE11")?;
     assert!(rt; has_text(rt.alloc(), &refusal, "unknown record type: TYPE11"));
+    drop(refusal);
     Ok(())
 }
 

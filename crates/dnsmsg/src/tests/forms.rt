@@ -2,7 +2,7 @@
 //! is answered by no.
 
 use base::{BinDecodable, BinDecoder, BinEncodable, BinEncoder, DecodeError, ProtoError};
-use std::alloc::Global;
+use std::alloc::{AllocError, Global};
 use std::fmt;
 
 /// Whether the value is shown as this text.
@@ -17,7 +17,7 @@ pub(crate) fn has_text<T: fmt::Display>(alloc: Global, value: &T, text: &str) ->
 }
 
 /// Whether the value is written.
-fn is_emitted<T: BinEncodable>(encoder: &mut BinEncoder<'_>, value: &T) -> bool {
+pub(crate) fn is_emitted<T: BinEncodable>(encoder: &mut BinEncoder<'_>, value: &T) -> bool {
     let emitted = value.emit(encoder);
     let is_emitted = emitted.is_ok();
     drop(emitted);
@@ -106,4 +106,24 @@ pub(crate) fn is_cut<T: BinDecodable>(alloc: Global, wire: &[u8]) -> bool {
     let is_cut = matches!(&found, Err(DecodeError::InsufficientBytes));
     drop(found);
     is_cut
+}
+
+/// Whether a value is equal to its copy.
+pub(crate) fn is_copied<T: Clone + PartialEq + Drop>(value: T) -> bool {
+    let copied: Result<T, AllocError> = value.clone();
+    let same = match &copied {
+        Ok(copy) => *copy == value,
+        Err(_) => false,
+    };
+    drop(copied);
+    drop(value);
+    same
+}
+
+/// Whether a value could be made, and is equal to its copy.
+pub(crate) fn equals_its_copy<T: Clone + PartialEq + Drop, E: Drop>(made: Result<T, E>) -> bool {
+    match made {
+        Ok(value) => is_copied(value),
+        Err(_) => false,
+    }
 }

@@ -1,7 +1,7 @@
 mod text;
 
 use base::{BinDecodable, BinDecoder, DecodeError, Name};
-use std::alloc::Global;
+use std::alloc::{AllocError, Global};
 use std::test::Fail;
 
 /// Reads a name behind as many bytes, and the place behind it.
@@ -16,10 +16,13 @@ fn read_at(alloc: Global, bytes: &[u8], at: usize) -> Result<(Name, usize), Deco
 
 /// The number of the refusal; 0 where a name is read.
 fn refusal(alloc: Global, bytes: &[u8], at: usize) -> u8 {
-    match read_at(alloc, bytes, at) {
+    let found = read_at(alloc, bytes, at);
+    let number = match &found {
         Ok(_) => 0,
         Err(e) => e.number(),
-    }
+    };
+    drop(found);
+    number
 }
 
 /// Whether a name has these labels and no more.
@@ -34,30 +37,39 @@ fn has_labels(name: &Name, labels: &[&[u8]]) -> bool {
 
 /// Whether a complete name of these labels is read at this place, up to this end.
 fn reads_as(alloc: Global, bytes: &[u8], at: usize, labels: &[&[u8]], end: usize) -> bool {
-    match read_at(alloc, bytes, at) {
-        Ok((name, behind)) => behind == end && name.is_fqdn() && has_labels(&name, labels),
+    let found = read_at(alloc, bytes, at);
+    let is_read = match &found {
+        Ok((name, behind)) => *behind == end && name.is_fqdn() && has_labels(name, labels),
         Err(_) => false,
-    }
+    };
+    drop(found);
+    is_read
 }
 
 /// Where the root ends that is read at this place.
 fn end_of_root(alloc: Global, bytes: &[u8], at: usize) -> Option<usize> {
-    match read_at(alloc, bytes, at) {
-        Ok((name, behind)) => { if name.is_root() { Some(behind) } else { None } }
+    let found = read_at(alloc, bytes, at);
+    let end = match &found {
+        Ok((name, behind)) => { if name.is_root() { Some(*behind) } else { None } }
         Err(_) => None,
-    }
+    };
+    drop(found);
+    end
 }
 
 /// How many labels a name has that is read at this place, and where it ends.
 fn extent(alloc: Global, bytes: &[u8], at: usize) -> Option<(usize, usize)> {
-    match read_at(alloc, bytes, at) {
-        Ok((name, behind)) => Some((name.label_count(), behind)),
+    let found = read_at(alloc, bytes, at);
+    let extent = match &found {
+        Ok((name, behind)) => Some((name.label_count(), *behind)),
         Err(_) => None,
-    }
+    };
+    drop(found);
+    extent
 }
 
 /// Appends a label of as many bytes `a`.
-fn push_label(message: &mut Vec<u8>, len: u8) -> Result<(), Fail> {
+fn push_label(message: &mut Vec<u8>, len: u8) -> Result<(), AllocError> {
     message.push(len)?;
     for _ in 0..len {
         message.push(b'a')?;
@@ -65,14 +77,14 @@ fn push_label(message: &mut Vec<u8>, len: u8) -> Result<(), Fail> {
     Ok(())
 }
 
-/// Twelve zero bytes, and behind them a name of labels of as many bytes.
-fn message_of(alloc: Global, lens: &[u8]) -> Result<Vec<u8>, Fail> {
+/// Twelve zero bytes, behind them labels of as many bytes, and then these bytes.
+fn message_of(alloc: Global, lens: &[u8], end: &[u8]) -> Result<Vec<u8>, AllocError> {
     let mut message = Vec::new(alloc);
     message.resize(12, 0)?;
     for len in lens {
         push_label(&mut message, *len)?;
     }
-    message.push(0)?;
+    message.extend_from_slice(end)?;
     Ok(message)
 }
 
@@ -117,42 +129,32 @@ fn refuses_pointers_that_go_nowhere_earlier(rt: HostRuntime) {
     assert!(rt; refusal(alloc, b"\x00\xC0\x02\xC0\x01", 3) == 5);
 }
 
-/// Twelve header bytes that announce one question, and these bytes behind them.
-fn question_of(alloc: Global, bytes: &[u8]) -> Result<Vec<u8>, Fail> {
-    let mut message = Vec::new(alloc);
-    message.extend_from_slice(&[0, 0, 0, 0, 0, 1, 0, 0, 0, 0, 0, 0])?;
-    message.extend_from_slice(bytes)?;
-    Ok(message)
-}
+// Questions behind a header that announces one.
+const OF_ITSELF: [u8; 18] = [0, 0, 0, 0, 0, 1, 0, 0, 0, 0, 0, 0, 0xC0, 0x0C, 0, 1, 0, 1];
 
-/// The number of the refusal of a question of these bytes; 0 where its name is read.
-fn question_refusal(alloc: Global, bytes: &[u8]) -> Result<u8, Fail> {
-    let message = question_of(alloc, bytes)?;
-    Ok(refusal(alloc, &message, 12))
+const OF_RESERVED_BITS: [u8; 17] = [0, 0, 0, 0, 0, 1, 0, 0, 0, 0, 0, 0, 0x40, 0, 1, 0, 1];
+
+const CUT: [u8; 15] = [0, 0, 0, 0, 0, 1, 0, 0, 0, 0, 0, 0, 0x03, 0x77, 0x77];
+
+const OF_THE_HEADER: [u8; 18] = [0, 0, 0, 0, 0, 1, 0, 0, 0, 0, 0, 0, 0xC0, 0x04, 0, 1, 0, 1];
+
+#[test]
+fn refuses_faults_behind_a_header(rt: HostRuntime) {
+    assert!(rt; refusal(rt.alloc(), &OF_ITSELF, 12) == 5);
+    assert!(rt; refusal(rt.alloc(), &OF_RESERVED_BITS, 12) == 5);
+    assert!(rt; refusal(rt.alloc(), &CUT, 12) == 4);
 }
 
 #[test]
-fn refuses_faults_behind_a_header(rt: HostRuntime) -> Result<(), Fail> {
-    let itself = question_refusal(rt.alloc(), &[0xC0, 0x0C, 0, 1, 0, 1])?;
-    assert!(rt; itself == 5);
-    let reserved = question_refusal(rt.alloc(), &[0x40, 0, 1, 0, 1])?;
-    assert!(rt; reserved == 5);
-    let cut = question_refusal(rt.alloc(), &[0x03, 0x77, 0x77])?;
-    assert!(rt; cut == 4);
-    Ok(())
-}
-
-#[test]
-fn reads_through_the_header(rt: HostRuntime) -> Result<(), Fail> {
-    let message = question_of(rt.alloc(), &[0xC0, 0x04, 0, 1, 0, 1])?;
-    assert!(rt; end_of_root(rt.alloc(), &message, 12) == Some(14));
-    Ok(())
+fn reads_through_the_header(rt: HostRuntime) {
+    assert!(rt; end_of_root(rt.alloc(), &OF_THE_HEADER, 12) == Some(14));
 }
 
 #[test]
 fn reads_a_name_of_255_bytes(rt: HostRuntime) -> Result<(), Fail> {
-    let message = message_of(rt.alloc(), &[63, 63, 63, 61])?;
+    let message = message_of(rt.alloc(), &[63, 63, 63, 61], &[0])?;
     assert!(rt; extent(rt.alloc(), &message, 12) == Some((4, 267)));
+    drop(message);
     Ok(())
 }
 
@@ -163,38 +165,35 @@ fn cut_refusal(alloc: Global, message: &[u8], len: usize) -> u8 {
 
 #[test]
 fn refuses_a_name_of_256_bytes(rt: HostRuntime) -> Result<(), Fail> {
-    let message = message_of(rt.alloc(), &[63, 63, 63, 62])?;
+    let message = message_of(rt.alloc(), &[63, 63, 63, 62], &[0])?;
     assert!(rt; refusal(rt.alloc(), &message, 12) == 5);
     // where the buffer ends inside the last label, that comes first
     assert!(rt; cut_refusal(rt.alloc(), &message, 266) == 4);
     assert!(rt; cut_refusal(rt.alloc(), &message, 267) == 5);
+    drop(message);
     Ok(())
 }
 
-/// Three long labels, and behind them a name of one label of as many bytes that points at them.
-fn pointing_message(alloc: Global, len: u8) -> Result<Vec<u8>, Fail> {
-    let mut message = message_of(alloc, &[63, 63, 63])?;
-    push_label(&mut message, len)?;
-    message.push(0xC0)?;
-    message.push(0x0C)?;
-    Ok(message)
-}
-
-/// The number of the refusal of a label of as many bytes before three long ones.
-fn pointing_refusal(alloc: Global, len: u8) -> Result<u8, Fail> {
-    let message = pointing_message(alloc, len)?;
-    Ok(refusal(alloc, &message, 205))
+/// Whether a name of three long labels ends at 205, and a name there of a label of as many bytes that points at them is
+/// refused by this number, 0 being none.
+fn is_refused_behind(alloc: Global, len: u8, number: u8) -> bool {
+    // the root behind the three labels is a label of no bytes
+    let message = message_of(alloc, &[63, 63, 63, 0, len], &[0xC0, 0x0C]);
+    let is_refused = match &message {
+        Ok(message) => {
+            let name_end = extent(alloc, message, 12);
+            name_end == Some((3, 205)) && refusal(alloc, message, 205) == number
+        }
+        Err(_) => false,
+    };
+    drop(message);
+    is_refused
 }
 
 #[test]
-fn limits_length_behind_a_pointer(rt: HostRuntime) -> Result<(), Fail> {
-    let first = message_of(rt.alloc(), &[63, 63, 63])?.len();
-    assert!(rt; first == 205);
-    let longest = pointing_refusal(rt.alloc(), 61)?;
-    assert!(rt; longest == 0);
-    let longer = pointing_refusal(rt.alloc(), 62)?;
-    assert!(rt; longer == 5);
-    Ok(())
+fn limits_length_behind_a_pointer(rt: HostRuntime) {
+    assert!(rt; is_refused_behind(rt.alloc(), 61, 0));
+    assert!(rt; is_refused_behind(rt.alloc(), 62, 5));
 }
 
 #[test]
@@ -219,10 +218,12 @@ fn a_name_with_labels_is_no_root(rt: HostRuntime) {
 }
 
 /// The copy of a name that is read from these bytes and made relative.
-fn relative_copy(alloc: Global, bytes: &[u8]) -> Result<Name, Fail> {
+fn relative_copy(alloc: Global, bytes: &[u8]) -> Result<Name, DecodeError> {
     let (mut name, _) = read_at(alloc, bytes, 0)?;
     name.set_fqdn(false);
-    Ok(name.clone()?)
+    let copied: Result<Name, AllocError> = name.clone();
+    drop(name);
+    Ok(copied?)
 }
 
 #[test]
@@ -231,5 +232,6 @@ fn a_copy_has_the_flag_and_the_labels(rt: HostRuntime) -> Result<(), Fail> {
     assert!(rt; !copy.is_fqdn());
     assert!(rt; copy.label_count() == 2);
     assert!(rt; copy.label(0) == Some(b"*".as_slice()));
+    drop(copy);
     Ok(())
 }

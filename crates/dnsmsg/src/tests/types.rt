@@ -1,9 +1,8 @@
-use super::forms::has_text;
+use super::forms::{has_text, is_copied};
 use base::{DNSClass, RecordType};
 use std::alloc::Global;
 use std::cmp::Ordering;
 use std::hash::{DefaultHasher, Hash, Hasher};
-use std::test::Fail;
 
 /// Whether the three comparisons of two values answer by this order.
 fn compares<T: Ord>(low: &T, high: &T, order: Ordering) -> bool {
@@ -247,21 +246,27 @@ fn equal_values_hash_alike(rt: HostRuntime) {
 }
 
 #[test]
-fn copies_are_equal(rt: HostRuntime) -> Result<(), Fail> {
-    let record_type = RecordType::Unknown(7);
-    let class = DNSClass::OPT(512);
-    assert!(rt; record_type.clone()? == record_type);
-    assert!(rt; class.clone()? == class);
+fn copies_are_equal(rt: HostRuntime) {
+    assert!(rt; is_copied(RecordType::Unknown(7)));
+    assert!(rt; is_copied(DNSClass::OPT(512)));
     assert!(rt; RecordType::MX.max(RecordType::TXT) == RecordType::TXT);
     assert!(rt; DNSClass::IN.cmp(&DNSClass::ANY) == Ordering::Less);
-    Ok(())
+}
+
+/// Whether a type and a class have this text of their variants.
+fn are_named(alloc: Global, record_type: RecordType, class: DNSClass, text: &str) -> bool {
+    let shown = format!(in alloc; "{record_type:?} {class:?}");
+    let same = match &shown {
+        Ok(shown) => shown.as_str() == text,
+        Err(_) => false,
+    };
+    drop(shown);
+    same
 }
 
 #[test]
-fn debug_texts_name_the_variants(rt: HostRuntime) -> Result<(), Fail> {
+fn debug_texts_name_the_variants(rt: HostRuntime) {
     let record_type = RecordType::Unknown(7);
     let class = DNSClass::OPT(512);
-    let text = format!(in rt.alloc(); "{record_type:?} {class:?}")?;
-    assert!(rt; text.as_str() == "Unknown(7) OPT(512)");
-    Ok(())
+    assert!(rt; are_named(rt.alloc(), record_type, class, "Unknown(7) OPT(512)"));
 }

@@ -1,9 +1,8 @@
 ghost use Rattle.std.specs.Prelude.{◌≡◌, Ok};
 
-use super::{emit_names, name_of};
-use base::{BinEncoder, EmitAndCount, Name, ProtoError};
+use super::{emit_names, name_of, refusal};
+use base::{BinEncoder, DecodeError, EmitAndCount, Name, ProtoError};
 use std::alloc::Global;
-use std::test::Fail;
 
 /// A part that answers a number and writes nothing.
 #[derive(Drop)]
@@ -32,36 +31,54 @@ fn counted<P: EmitAndCount>(part: &mut P, encoder: &mut BinEncoder<'_>) -> Resul
 
 /// How many items stand where one didn't fit; 100 otherwise.
 fn count_before(answer: Result<usize, ProtoError>) -> usize {
-    match answer {
-        Err(ProtoError::NotAllRecordsWritten { count }) => count,
+    let count = match &answer {
+        Err(ProtoError::NotAllRecordsWritten { count }) => *count,
         _ => 100,
-    }
+    };
+    drop(answer);
+    count
+}
+
+/// How many items are written; 100 where one is refused.
+fn count_of(answer: Result<usize, ProtoError>) -> usize {
+    let count = match &answer {
+        Ok(count) => *count,
+        Err(_) => 100,
+    };
+    drop(answer);
+    count
 }
 
 /// Writes parts that fit, and answers whether they count right.
-fn whole_parts_count(encoder: &mut BinEncoder<'_>) -> Result<bool, ProtoError> {
-    let careless = counted(&mut Careless { number: 7 }, encoder)?;
+fn whole_parts_count(encoder: &mut BinEncoder<'_>) -> bool {
+    let careless = count_of(counted(&mut Careless { number: 7 }, encoder));
     let before = encoder.len();
-    let all = counted(&mut [1u16, 2, 3].iter(), encoder)?;
-    Ok(careless == 7 && before == 0 && all == 3)
+    let all = count_of(counted(&mut [1u16, 2, 3].iter(), encoder));
+    careless == 7 && before == 0 && all == 3
 }
 
 /// Writes parts that fit and one that is cut, and answers whether they count right.
-fn write_parts(bytes: &mut Vec<u8>) -> Result<bool, ProtoError> {
-    let mut encoder = BinEncoder::new(bytes);
-    let whole = whole_parts_count(&mut encoder)?;
+fn parts_are_counted(encoder: &mut BinEncoder<'_>) -> bool {
+    let whole = whole_parts_count(encoder);
     encoder.set_max_size(9);
-    let cut = count_before(counted(&mut [4u16, 5, 6].iter(), &mut encoder));
-    Ok(whole && cut == 1)
+    let cut = count_before(counted(&mut [4u16, 5, 6].iter(), encoder));
+    whole && cut == 1
+}
+
+/// Whether parts count right and are written so.
+fn parts_are_written(alloc: Global, wanted: &[u8]) -> bool {
+    let mut bytes = Vec::new(alloc);
+    let mut encoder = BinEncoder::new(&mut bytes);
+    let are_counted = parts_are_counted(&mut encoder);
+    drop(encoder);
+    let same = are_counted && bytes.as_slice() == wanted;
+    drop(bytes);
+    same
 }
 
 #[test]
-fn parts_count(rt: HostRuntime) -> Result<(), Fail> {
-    let mut bytes = Vec::new(rt.alloc());
-    let count = write_parts(&mut bytes)?;
-    assert!(rt; count);
-    assert!(rt; bytes.as_slice() == b"\x00\x01\x00\x02\x00\x03\x00\x04".as_slice());
-    Ok(())
+fn parts_count(rt: HostRuntime) {
+    assert!(rt; parts_are_written(rt.alloc(), b"\x00\x01\x00\x02\x00\x03\x00\x04"));
 }
 
 /// Whether two numbers fit and the third, which doesn't, is taken.
@@ -73,27 +90,28 @@ fn two_fit(numbers: &[u16], encoder: &mut BinEncoder<'_>) -> bool {
 }
 
 /// Whether none of no numbers are written, and none where no byte fits.
-fn none_fit(numbers: &[u16], encoder: &mut BinEncoder<'_>) -> Result<bool, ProtoError> {
-    let none = encoder.emit_all(&mut [].iter() as &mut std::slice::Iter<'_, u16>)?;
+fn none_fit(numbers: &[u16], encoder: &mut BinEncoder<'_>) -> bool {
+    let none = count_of(encoder.emit_all(&mut [].iter() as &mut std::slice::Iter<'_, u16>));
     encoder.set_max_size(0);
     let before = count_before(encoder.emit_all(&mut numbers.iter()));
-    Ok(none == 0 && before == 0)
+    none == 0 && before == 0
 }
 
-fn write_what_fits(numbers: &[u16], bytes: &mut Vec<u8>) -> Result<bool, ProtoError> {
-    let mut encoder = BinEncoder::new(bytes);
+/// Whether what fits of the numbers is written so.
+fn fitting_are_written(alloc: Global, numbers: &[u16], wanted: &[u8]) -> bool {
+    let mut bytes = Vec::new(alloc);
+    let mut encoder = BinEncoder::new(&mut bytes);
     let two = two_fit(numbers, &mut encoder);
-    let none = none_fit(numbers, &mut encoder)?;
-    Ok(two && none)
+    let none = none_fit(numbers, &mut encoder);
+    drop(encoder);
+    let same = two && none && bytes.as_slice() == wanted;
+    drop(bytes);
+    same
 }
 
 #[test]
-fn numbers_that_fit(rt: HostRuntime) -> Result<(), Fail> {
-    let mut bytes = Vec::new(rt.alloc());
-    let fit = write_what_fits(&[1, 2, 3], &mut bytes)?;
-    assert!(rt; fit);
-    assert!(rt; bytes.as_slice() == b"\x00\x01\x00\x02".as_slice());
-    Ok(())
+fn numbers_that_fit(rt: HostRuntime) {
+    assert!(rt; fitting_are_written(rt.alloc(), &[1, 2, 3], b"\x00\x01\x00\x02"));
 }
 
 /// Whether the first two names fit, and the bytes of the third are taken back.
@@ -103,13 +121,12 @@ fn two_names_fit(names: &[Name], encoder: &mut BinEncoder<'_>) -> bool {
     before == 2 && encoder.len() == 9
 }
 
-/// Writes what fits of the names, and then some of them again.
-fn write_again(alloc: Global, names: &[Name], bytes: &mut Vec<u8>) -> Result<bool, Fail> {
-    let mut encoder = BinEncoder::new(bytes);
-    let fit = two_names_fit(names, &mut encoder);
+/// Whether what fits of the names is written, and then some of them again.
+fn write_again(alloc: Global, names: &[Name], encoder: &mut BinEncoder<'_>) -> bool {
+    let fit = two_names_fit(names, encoder);
     encoder.set_max_size(100);
     // d.e. was stored at 9, and was taken back
-    emit_names(
+    let again = emit_names(
         alloc,
         &[
             b"\x01d\x01e\0".as_slice(),
@@ -117,12 +134,12 @@ fn write_again(alloc: Global, names: &[Name], bytes: &mut Vec<u8>) -> Result<boo
             b"\x01c\x01b\0".as_slice(),
             b"\x01e\0".as_slice(),
         ],
-        &mut encoder,
-    )?;
-    Ok(fit)
+        encoder,
+    );
+    fit && refusal(again) == 0
 }
 
-fn three_names(alloc: Global) -> Result<Vec<Name>, Fail> {
+fn three_names(alloc: Global) -> Result<Vec<Name>, DecodeError> {
     let mut names = Vec::new(alloc);
     for name in &[
         b"\x01a\x01b\0".as_slice(),
@@ -134,13 +151,24 @@ fn three_names(alloc: Global) -> Result<Vec<Name>, Fail> {
     Ok(names)
 }
 
+/// Whether the names could be made and are written so.
+fn are_written_again(alloc: Global, names: Result<Vec<Name>, DecodeError>, wanted: &[u8]) -> bool {
+    let mut bytes = Vec::new(alloc);
+    let mut encoder = BinEncoder::new(&mut bytes);
+    let are_written = match &names {
+        Ok(names) => write_again(alloc, names, &mut encoder),
+        Err(_) => false,
+    };
+    drop(encoder);
+    drop(names);
+    let same = are_written && bytes.as_slice() == wanted;
+    drop(bytes);
+    same
+}
+
 #[test]
-fn suffixes_go_with_their_bytes(rt: HostRuntime) -> Result<(), Fail> {
-    let names = three_names(rt.alloc())?;
-    let mut bytes = Vec::new(rt.alloc());
-    let fit = write_again(rt.alloc(), &names, &mut bytes)?;
-    assert!(rt; fit);
+fn suffixes_go_with_their_bytes(rt: HostRuntime) {
     let wanted = b"\x01a\x01b\0\x01c\xC0\x02\x01d\x01e\0\xC0\x09\xC0\x05\xC0\x0B";
-    assert!(rt; bytes.as_slice() == wanted.as_slice());
-    Ok(())
+    let names = three_names(rt.alloc());
+    assert!(rt; are_written_again(rt.alloc(), names, wanted.as_slice()));
 }

@@ -1,34 +1,42 @@
 use base::{BinDecodable, BinDecoder, DecodeError, read_many};
 use std::alloc::Global;
-use std::test::Fail;
 
 /// Whether too few bytes were left.
 fn is_cut<T: Drop>(answer: Result<T, DecodeError>) -> bool {
-    matches!(&answer, Err(DecodeError::InsufficientBytes))
+    let is_cut = matches!(&answer, Err(DecodeError::InsufficientBytes));
+    drop(answer);
+    is_cut
 }
 
-/// A number of one byte, of two and of four, in this order.
-fn read_each(decoder: &mut BinDecoder<'_>) -> Result<(u8, u16, u32), DecodeError> {
-    let one = decoder.pop()?;
-    let two = decoder.read_u16()?;
-    let four = decoder.read_u32()?;
-    Ok((one, two, four))
+/// Whether a number was read, and is this.
+fn is_number<T: PartialEq + Drop>(read: Result<T, DecodeError>, wanted: &T) -> bool {
+    let same = match &read {
+        Ok(number) => *number == *wanted,
+        Err(_) => false,
+    };
+    drop(read);
+    same
+}
+
+/// Whether a number of one byte, of two and of four are read, in this order.
+fn each_is_read(decoder: &mut BinDecoder<'_>) -> bool {
+    let one = is_number(decoder.pop(), &1);
+    let two = is_number(decoder.read_u16(), &0x0203);
+    let four = is_number(decoder.read_u32(), &0x0405_0607);
+    one && two && four
 }
 
 const NUMBERS: [u8; 9] = [1, 2, 3, 4, 5, 6, 7, 8, 9];
 
 #[test]
-fn numbers_are_read_high_byte_first(rt: HostRuntime) -> Result<(), Fail> {
+fn numbers_are_read_high_byte_first(rt: HostRuntime) {
     let mut decoder = BinDecoder::new(rt.alloc(), &NUMBERS);
     assert!(rt; decoder.len() == 9);
-    let (one, two, four) = read_each(&mut decoder)?;
-    assert!(rt; one == 1 && two == 0x0203 && four == 0x0405_0607);
+    assert!(rt; each_is_read(&mut decoder));
     assert!(rt; decoder.index() == 7);
-    let last = u16::read(&mut decoder)?;
-    assert!(rt; last == 0x0809);
+    assert!(rt; is_number(u16::read(&mut decoder), &0x0809));
     assert!(rt; decoder.is_empty());
     assert!(rt; is_cut(decoder.pop()));
-    Ok(())
 }
 
 fn two_are_cut(alloc: Global, bytes: &[u8]) -> bool {
@@ -52,10 +60,13 @@ fn a_number_that_the_end_cuts_is_refused(rt: HostRuntime) {
 
 /// Whether as many numbers as these are read, and are these.
 fn are_next(decoder: &mut BinDecoder<'_>, wanted: &[u16]) -> bool {
-    match &read_many::<u16>(decoder, wanted.len()) {
+    let found = read_many::<u16>(decoder, wanted.len());
+    let are_next = match &found {
         Ok(numbers) => numbers.as_slice() == wanted,
         Err(_) => false,
-    }
+    };
+    drop(found);
+    are_next
 }
 
 #[test]
