@@ -60,21 +60,28 @@ fn all_begin(
     Ok(())
 }
 
-#[test]
-fn limits_without_room_are_refused(rt: HostRuntime) -> Result<(), AllocError> {
-    for &(first, last, line) in &[(0, 11, "refused 1\n"), (12, 18, "refused 2\n")] {
-        for limit in first..=last {
-            assert!(rt;
-                is_refused(rt.alloc(), SIGNED, limit, line)?,
-                "under {limit} bytes"
-            );
-        }
+// Each limit from `first` to `last` is refused with this line.
+fn all_are_refused(
+    rt: &(impl Abort + AllocGlobal),
+    input: &str,
+    first: u16,
+    last: u16,
+    line: &str,
+) -> Result<(), AllocError> {
+    for limit in first..=last {
+        assert!(rt;
+            is_refused(rt.alloc(), input, limit, line)?,
+            "under {limit} bytes"
+        );
     }
     Ok(())
 }
 
 #[test]
 fn a_signed_message_under_every_limit(rt: HostRuntime) -> Result<(), AllocError> {
+    for &(first, last, line) in &[(0, 11, "refused 1\n"), (12, 18, "refused 2\n")] {
+        all_are_refused(&rt, SIGNED, first, last, line)?;
+    }
     for &(first, last, len, header) in &[
         (19, 30, 19, "000782000001000000000000"),
         (31, 34, 31, "000782000001000000000001"),
