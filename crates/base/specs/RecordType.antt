@@ -1,5 +1,5 @@
 -- Record types: their numbers, texts and order (RFC 1035, 3.2.2 and 3.2.3; RFC 6895, 3.1).
-use Rattle.std.specs.Prelude.{ℕ, Bool, true, false, Option, List, [], ◌∷◌, ◌++◌, ◌==◌, codes, if◌then◌else◌, nat_eq}
+use Rattle.std.specs.Prelude.{ℕ, Bool, true, false, Option, Some, None, unwrap_or, List, [], ◌∷◌, ◌++◌, ◌==◌, codes, if◌then◌else◌, nat_eq}
 use Rattle.std.specs.declared.cmp.Ordering.{Ordering}
 use Rattle.std.specs.Fmt.{decimal}
 use Rattle.std.specs.List.{find}
@@ -84,36 +84,40 @@ abbrev pub is_named_type : RecordType → Bool
 is_named_type (types.Unknown number) = false
 is_named_type _ = true
 
--- the text in zone files: the mnemonic (RFC 1035, 3.2.2 and 3.2.3), or TYPE and the number (RFC 3597, 5)
+-- the mnemonic of a type that has one (RFC 1035, 3.2.2 and 3.2.3)
+abbrev pub type_name : RecordType → Option (List ℕ)
+type_name types.ZERO = Some (codes "ZERO")
+type_name types.A = Some (codes "A")
+type_name types.NS = Some (codes "NS")
+type_name types.CNAME = Some (codes "CNAME")
+type_name types.SOA = Some (codes "SOA")
+type_name types.NULL = Some (codes "NULL")
+type_name types.PTR = Some (codes "PTR")
+type_name types.MX = Some (codes "MX")
+type_name types.TXT = Some (codes "TXT")
+type_name types.SIG = Some (codes "SIG")
+type_name types.KEY = Some (codes "KEY")
+type_name types.AAAA = Some (codes "AAAA")
+type_name types.SRV = Some (codes "SRV")
+type_name types.OPT = Some (codes "OPT")
+type_name types.DS = Some (codes "DS")
+type_name types.RRSIG = Some (codes "RRSIG")
+type_name types.NSEC = Some (codes "NSEC")
+type_name types.DNSKEY = Some (codes "DNSKEY")
+type_name types.NSEC3 = Some (codes "NSEC3")
+type_name types.NSEC3PARAM = Some (codes "NSEC3PARAM")
+type_name types.CDS = Some (codes "CDS")
+type_name types.CDNSKEY = Some (codes "CDNSKEY")
+type_name types.TSIG = Some (codes "TSIG")
+type_name types.IXFR = Some (codes "IXFR")
+type_name types.AXFR = Some (codes "AXFR")
+type_name types.ANY = Some (codes "ANY")
+type_name types.ANAME = Some (codes "ANAME")
+type_name (types.Unknown number) = None
+
+-- the text in zone files: the mnemonic, or TYPE and the number (RFC 3597, 5)
 abbrev pub type_text : RecordType → List ℕ
-type_text types.ZERO = codes "ZERO"
-type_text types.A = codes "A"
-type_text types.NS = codes "NS"
-type_text types.CNAME = codes "CNAME"
-type_text types.SOA = codes "SOA"
-type_text types.NULL = codes "NULL"
-type_text types.PTR = codes "PTR"
-type_text types.MX = codes "MX"
-type_text types.TXT = codes "TXT"
-type_text types.SIG = codes "SIG"
-type_text types.KEY = codes "KEY"
-type_text types.AAAA = codes "AAAA"
-type_text types.SRV = codes "SRV"
-type_text types.OPT = codes "OPT"
-type_text types.DS = codes "DS"
-type_text types.RRSIG = codes "RRSIG"
-type_text types.NSEC = codes "NSEC"
-type_text types.DNSKEY = codes "DNSKEY"
-type_text types.NSEC3 = codes "NSEC3"
-type_text types.NSEC3PARAM = codes "NSEC3PARAM"
-type_text types.CDS = codes "CDS"
-type_text types.CDNSKEY = codes "CDNSKEY"
-type_text types.TSIG = codes "TSIG"
-type_text types.IXFR = codes "IXFR"
-type_text types.AXFR = codes "AXFR"
-type_text types.ANY = codes "ANY"
-type_text types.ANAME = codes "ANAME"
-type_text (types.Unknown number) = codes "TYPE" ++ decimal number
+type_text t = unwrap_or (type_name t) (codes "TYPE" ++ decimal (type_number t))
 
 -- the named type of this text, if there is one; TYPEn is not read
 abbrev pub type_from_text : List ℕ → Option RecordType

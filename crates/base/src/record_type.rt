@@ -1,17 +1,18 @@
 //! The record types (RFC 1035, 3.2.2 and 3.2.3; RFC 6895, 3.1).
 
-ghost use Rattle.std.specs.Prelude.{◌≡◌, ◌++◌, ◌^◌, ◌<◌, ℕ, List, IsTrue, Some, None, false};
+ghost use Rattle.std.specs.Prelude.{◌≡◌, ◌++◌, ◌^◌, ◌<◌, ℕ, List, IsTrue, Some, None, false, option_map};
 ghost use Rattle.std.proofs.Common.{rules};
+ghost use Rattle.std.specs.Array.Iter.{array_into_iter_items};
 ghost use Rattle.std.specs.Cmp.{partial_order_from_own_ties};
 ghost use Rattle.std.specs.Cmp.Rules.{comparing, hashing};
 ghost use Rattle.std.specs.Hash as fed;
 ghost use Rattle.std.specs.Ordering.{as_partial_cmp};
 ghost use Rattle.base.specs.Keys.{keys_match};
-ghost use Rattle.base.specs.RecordType.{is_dnssec_type, is_named_type, same_type, type_cmp, type_from_text, type_number, type_of, type_rank, type_text};
+ghost use Rattle.base.specs.RecordType.{is_dnssec_type, is_named_type, named_types, same_type, type_cmp, type_from_text, type_name, type_number, type_of, type_rank, type_text};
 
 use std::cmp::Ordering;
-use std::fmt;
 use std::hash::{Hash, Hasher};
+use std::{array, fmt};
 
 /// A record type, or what a question asks for in place of one (RFC 1035, 3.2.2 and 3.2.3; RFC 6895, 3.1).
 ///
@@ -82,35 +83,83 @@ impl RecordType {
     pub fn from_text(text: &str) -> Option<RecordType>
         ensures { result ≡ type_from_text text.now }
     {
-        match text {
-            "ZERO" => Some(RecordType::ZERO),
-            "A" => Some(RecordType::A),
-            "NS" => Some(RecordType::NS),
-            "CNAME" => Some(RecordType::CNAME),
-            "SOA" => Some(RecordType::SOA),
-            "NULL" => Some(RecordType::NULL),
-            "PTR" => Some(RecordType::PTR),
-            "MX" => Some(RecordType::MX),
-            "TXT" => Some(RecordType::TXT),
-            "SIG" => Some(RecordType::SIG),
-            "KEY" => Some(RecordType::KEY),
-            "AAAA" => Some(RecordType::AAAA),
-            "SRV" => Some(RecordType::SRV),
-            "OPT" => Some(RecordType::OPT),
-            "DS" => Some(RecordType::DS),
-            "RRSIG" => Some(RecordType::RRSIG),
-            "NSEC" => Some(RecordType::NSEC),
-            "DNSKEY" => Some(RecordType::DNSKEY),
-            "NSEC3" => Some(RecordType::NSEC3),
-            "NSEC3PARAM" => Some(RecordType::NSEC3PARAM),
-            "CDS" => Some(RecordType::CDS),
-            "CDNSKEY" => Some(RecordType::CDNSKEY),
-            "TSIG" => Some(RecordType::TSIG),
-            "IXFR" => Some(RecordType::IXFR),
-            "AXFR" => Some(RecordType::AXFR),
-            "ANY" => Some(RecordType::ANY),
-            "ANAME" => Some(RecordType::ANAME),
-            _ => None,
+        for named in RecordType::named() {
+            if named.name() == Some(text) {
+                return Some(named);
+            }
+        }
+        None
+    }
+
+    /// The types that have a name (RFC 1035, 3.2.2 and 3.2.3; RFC 6895, 3.1).
+    fn named() -> array::IntoIter<RecordType, 27>
+        ensures { array_into_iter_items result ≡ named_types }
+    {
+        [
+            RecordType::ZERO,
+            RecordType::A,
+            RecordType::NS,
+            RecordType::CNAME,
+            RecordType::SOA,
+            RecordType::NULL,
+            RecordType::PTR,
+            RecordType::MX,
+            RecordType::TXT,
+            RecordType::SIG,
+            RecordType::KEY,
+            RecordType::AAAA,
+            RecordType::SRV,
+            RecordType::OPT,
+            RecordType::DS,
+            RecordType::RRSIG,
+            RecordType::NSEC,
+            RecordType::DNSKEY,
+            RecordType::NSEC3,
+            RecordType::NSEC3PARAM,
+            RecordType::CDS,
+            RecordType::CDNSKEY,
+            RecordType::TSIG,
+            RecordType::IXFR,
+            RecordType::AXFR,
+            RecordType::ANY,
+            RecordType::ANAME,
+        ]
+        .into_iter()
+    }
+
+    /// The name of a named type (RFC 1035, 3.2.2 and 3.2.3).
+    fn name(self) -> Option<&'static str>
+        ensures { option_map (λ name. name.now) result ≡ type_name self }
+    {
+        match self {
+            RecordType::ZERO => Some("ZERO"),
+            RecordType::A => Some("A"),
+            RecordType::NS => Some("NS"),
+            RecordType::CNAME => Some("CNAME"),
+            RecordType::SOA => Some("SOA"),
+            RecordType::NULL => Some("NULL"),
+            RecordType::PTR => Some("PTR"),
+            RecordType::MX => Some("MX"),
+            RecordType::TXT => Some("TXT"),
+            RecordType::SIG => Some("SIG"),
+            RecordType::KEY => Some("KEY"),
+            RecordType::AAAA => Some("AAAA"),
+            RecordType::SRV => Some("SRV"),
+            RecordType::OPT => Some("OPT"),
+            RecordType::DS => Some("DS"),
+            RecordType::RRSIG => Some("RRSIG"),
+            RecordType::NSEC => Some("NSEC"),
+            RecordType::DNSKEY => Some("DNSKEY"),
+            RecordType::NSEC3 => Some("NSEC3"),
+            RecordType::NSEC3PARAM => Some("NSEC3PARAM"),
+            RecordType::CDS => Some("CDS"),
+            RecordType::CDNSKEY => Some("CDNSKEY"),
+            RecordType::TSIG => Some("TSIG"),
+            RecordType::IXFR => Some("IXFR"),
+            RecordType::AXFR => Some("AXFR"),
+            RecordType::ANY => Some("ANY"),
+            RecordType::ANAME => Some("ANAME"),
+            RecordType::Unknown(_) => None,
         }
     }
 
@@ -225,35 +274,9 @@ impl fmt::Display for RecordType {
 
     /// The name in upper case, or `TYPEn` for `Unknown(n)` (RFC 3597, 5).
     fn fmt<W: fmt::Write>(&self, f: &mut fmt::Formatter<W>) -> fmt::Result {
-        match self {
-            RecordType::ZERO => write!(f, "ZERO"),
-            RecordType::A => write!(f, "A"),
-            RecordType::NS => write!(f, "NS"),
-            RecordType::CNAME => write!(f, "CNAME"),
-            RecordType::SOA => write!(f, "SOA"),
-            RecordType::NULL => write!(f, "NULL"),
-            RecordType::PTR => write!(f, "PTR"),
-            RecordType::MX => write!(f, "MX"),
-            RecordType::TXT => write!(f, "TXT"),
-            RecordType::SIG => write!(f, "SIG"),
-            RecordType::KEY => write!(f, "KEY"),
-            RecordType::AAAA => write!(f, "AAAA"),
-            RecordType::SRV => write!(f, "SRV"),
-            RecordType::OPT => write!(f, "OPT"),
-            RecordType::DS => write!(f, "DS"),
-            RecordType::RRSIG => write!(f, "RRSIG"),
-            RecordType::NSEC => write!(f, "NSEC"),
-            RecordType::DNSKEY => write!(f, "DNSKEY"),
-            RecordType::NSEC3 => write!(f, "NSEC3"),
-            RecordType::NSEC3PARAM => write!(f, "NSEC3PARAM"),
-            RecordType::CDS => write!(f, "CDS"),
-            RecordType::CDNSKEY => write!(f, "CDNSKEY"),
-            RecordType::TSIG => write!(f, "TSIG"),
-            RecordType::IXFR => write!(f, "IXFR"),
-            RecordType::AXFR => write!(f, "AXFR"),
-            RecordType::ANY => write!(f, "ANY"),
-            RecordType::ANAME => write!(f, "ANAME"),
-            RecordType::Unknown(number) => write!(f, "TYPE{number}"),
+        match self.name() {
+            Some(name) => f.write_str(name),
+            None => write!(f, "TYPE{}", u16::from(*self)),
         }
     }
 }
