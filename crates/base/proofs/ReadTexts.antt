@@ -1,16 +1,6 @@
 -- Texts that are read by a table.
-use Rattle.std.proofs.Common.{◌≡◌, ℕ, Bool, true, false, cond, ◌&&◌, Option, Some, None, List, [], ◌∷◌, refl, sym, ◌∙◌, ap, rules}
+use Rattle.std.proofs.Common.{◌≡◌, Bool, true, false, cond, ◌&&◌, Some, List, [], ◌∷◌, refl, sym, ◌∙◌, ap}
 use Rattle.std.specs.List.{find, list_all}
-use Rattle.std.specs.Str.{bytes_eq}
-use Rattle.std.proofs.lemmas.Slice.Eq.{bytes_eq-Decides}
-
--- a text that differs is not taken for a
-pub bytes_eq-differs : (a text : List ℕ) → (text ≡ a → ⊥) → bytes_eq a text ≡ false
-bytes_eq-differs a text differs = search (rules, bytes_eq-Decides)
-
--- a row of another text is passed
-pub past_row : {X : Type 0} (a text : List ℕ) (x : X) (rest : Option X) → (text ≡ a → ⊥) → None ≡ rest → None ≡ cond (bytes_eq a text) (Some x) rest
-past_row a text x rest differs none = none ∙ sym (ap (λ b. cond b (Some x) rest) (bytes_eq-differs a text differs))
 
 both_true : (a b : Bool) → (a && b) ≡ true → (a ≡ true) × (b ≡ true)
 both_true true b both = (refl, both)
