@@ -1,4 +1,4 @@
-//! Names, types, classes, the encoder and the decoder: what the messages, records and zones above stand on.
+//! Names, types, classes, the encoder and the decoder: what the messages and records above stand on.
 #![tactic(auto)]
 
 pub mod dns_class;

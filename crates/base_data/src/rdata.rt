@@ -82,7 +82,7 @@ pub enum RData {
 }
 
 impl RData {
-    /// The type of the data.
+    /// The type of the data (RFC 1035, 3.2.2).
     pub fn record_type(&self) -> RecordType
         ensures { result ≡ type_of_data self.now }
     {
@@ -105,7 +105,7 @@ impl RData {
         }
     }
 
-    /// Whether the data is empty, as in updates.
+    /// Whether the data is empty, as updates have it (RFC 2136, 2.4).
     pub fn is_update(&self) -> bool
         ensures { result ≡ is_empty_data self.now }
     {

@@ -1,4 +1,4 @@
-//! `dnsmsg`: DNS messages and zones on the command line.
+//! `dnsmsg`: DNS messages on the command line.
 #![tactic(auto)]
 
 mod command;

@@ -19,7 +19,8 @@ use rr::Record;
 use std::alloc::{AllocError, Global};
 use std::fmt;
 
-/// The payload size that is asked for by default: what passes most networks unfragmented, in bytes.
+/// The payload size that is asked for by default: what passes most networks unfragmented, in bytes (RFC 6891, 6.2.3 and
+/// 6.2.5).
 pub const DEFAULT_MAX_PAYLOAD_LEN: u16 = 1232;
 
 /// What the OPT record of a message says (RFC 6891, 6.1.2 and 6.1.3).
@@ -51,28 +52,28 @@ impl Edns {
         }
     }
 
-    /// The high 8 bits of the response code.
+    /// The high 8 bits of the response code (RFC 6891, 6.1.3).
     pub fn rcode_high(&self) -> u8
         ensures { result ≡ self.now.rcode_high }
     {
         self.rcode_high
     }
 
-    /// The version of EDNS.
+    /// The version of EDNS (RFC 6891, 6.1.3).
     pub fn version(&self) -> u8
         ensures { result ≡ self.now.version }
     {
         self.version
     }
 
-    /// The flags.
+    /// The flags (RFC 6891, 6.1.4).
     pub fn flags(&self) -> &EdnsFlags
         ensures { result.now ≡ self.now.flags }
     {
         &self.flags
     }
 
-    /// The flags, to be changed.
+    /// The flags, to be changed (RFC 6891, 6.1.4).
     pub fn flags_mut(&mut self) -> &mut EdnsFlags
         ensures* writes_back { sem 𝓛 (LendsFlags self.entry result) }
         ensures value { result.now ≡ self.old.flags }
@@ -80,28 +81,28 @@ impl Edns {
         &mut self.flags
     }
 
-    /// The bytes of the largest answer that the sender takes.
+    /// The payload size: how many bytes the sender takes in one answer (RFC 6891, 6.2.3).
     pub fn max_payload(&self) -> u16
         ensures { result ≡ self.now.max_payload }
     {
         self.max_payload
     }
 
-    /// The first option of a code.
+    /// The first option of a code, if there is one (RFC 6891, 6.1.2).
     pub fn option(&self, code: u16) -> Option<&EdnsOption>
         ensures { option_copied result ≡ first_option code self.now.options }
     {
         self.options.get(code)
     }
 
-    /// The options.
+    /// The options, in their order (RFC 6891, 6.1.2).
     pub fn options(&self) -> &OPT
         ensures { result.now ≡ self.now.options }
     {
         &self.options
     }
 
-    /// The options, to be changed.
+    /// The options, to be changed (RFC 6891, 6.1.2).
     pub fn options_mut(&mut self) -> &mut OPT
         ensures* writes_back { sem 𝓛 (LendsOptions self.entry result) }
         ensures value { result.now ≡ self.old.options }
@@ -109,7 +110,7 @@ impl Edns {
         &mut self.options
     }
 
-    /// Sets the high 8 bits of the response code. What a message writes there is its own code's.
+    /// Sets the high 8 bits of the response code (RFC 6891, 6.1.3). What a message writes there is its own code's.
     pub fn set_rcode_high(&mut self, rcode_high: u8) -> &mut Edns
         ensures same { result.ghost_name ≡ self.entry.ghost_name }
         ensures value { result.now ≡ record self.old { rcode_high = rcode_high } }
@@ -118,7 +119,7 @@ impl Edns {
         self
     }
 
-    /// Sets the version.
+    /// Sets the version (RFC 6891, 6.1.3).
     pub fn set_version(&mut self, version: u8) -> &mut Edns
         ensures same { result.ghost_name ≡ self.entry.ghost_name }
         ensures value { result.now ≡ record self.old { version = version } }
@@ -153,8 +154,8 @@ impl TryFrom<&Record> for Edns {
 
     /// What an OPT record says (RFC 6891, 6.1.3). Its class number is the payload size, below 512 too.
     ///
-    /// Refused with `NotOpt` for a record without OPT data and without empty data of type OPT, and for want of
-    /// memory.
+    /// Refused with `NotOpt` for a record without OPT data and without empty data of type OPT, and with `Memory` for
+    /// want of it.
     fn try_from(opt: &Record) -> Result<Edns, ProtoError> {
         let options = match &opt.rdata {
             RData::OPT(options) => options.clone()?,

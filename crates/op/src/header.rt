@@ -1,3 +1,5 @@
+//! The header of a message (RFC 1035, 4.1.1).
+
 ghost use Rattle.std.specs.Prelude.{◌≡◌, ◌↔◌, ◌<◌, ◌+◌, ◌*◌, ◌/◌, ◌%◌, ◌||◌, ◌^◌, ℕ, List, [], length, Ok, Err, IfOk, OnOk, OnErr, IsOkUnless, IsErrOf};
 ghost use Rattle.base.specs.Reading.{Reads};
 ghost use Rattle.base.specs.State.{appended};
@@ -34,8 +36,8 @@ pub struct Header {
 }
 
 impl Header {
-    /// The twelve bytes of the header. Bit 0x40 of the fourth is clear, and an opcode whose number has
-    /// more than four bits spills into QR.
+    /// The twelve bytes of the header (RFC 1035, 4.1.1). Bit 0x40 of the fourth is clear, and an opcode whose number
+    /// has more than four bits spills into QR.
     pub fn to_bytes(&self) -> [u8; 12]
         ensures bytes { result ≡ header_bytes (raw_header self.now) }
         ensures word { (B : List ℕ) (i : ℕ) → Stands (header_bytes (raw_header self.now)) B i → HeaderWord self.now B i (i + 12) }
@@ -101,6 +103,10 @@ impl BinEncodable for Header {
 
     ghost owner = { λ _. [] };
 
+    /// Writes the twelve bytes of the header, as `to_bytes` has them (RFC 1035, 4.1.1).
+    ///
+    /// Refused, with nothing written, with `MaxBufferSizeExceeded` where a byte would pass the limit, and with `Memory`
+    /// for want of it.
     fn emit(&self, encoder: &mut BinEncoder<'_>) -> Result<(), ProtoError>
         ensures keeps { Keeps (state_of encoder.old) (state_of encoder.new) }
         ensures writes { OnOk result (Writes (HeaderWord self.now) 12 [] (state_of encoder.old) (state_of encoder.new)) }
@@ -128,7 +134,10 @@ impl EncodedSize for Header {
 impl BinDecodable for Header {
     ghost read_at = { header_at };
 
-    // Takes no memory.
+    /// Reads the twelve bytes of a header at the decoder's place, and moves behind them (RFC 1035, 4.1.1). Bit 0x40 of
+    /// the fourth is not looked at. Takes no memory.
+    ///
+    /// Refused with `InsufficientBytes` where fewer than twelve bytes are left.
     #[tactic(auto, unfolding(crate::specs::Header::header_at))]
     fn read(decoder: &mut BinDecoder<'_>) -> Result<Header, DecodeError>
         ensures read { Reads (λ x. x) decoder.old decoder.new result (header_at decoder.old.bytes decoder.old.index) }

@@ -82,6 +82,8 @@ impl TryFrom<Query> for LowerQuery {
 
     ghost try_from_gives = { λ query result. MatchResult result (λ lower. lower ≡ query) (λ e. e ≡ refusals.Memory) };
 
+    /// The question with its name in lower case beside it (RFC 4343, 3), as `query` answers it. Refused with `Memory`
+    /// for want of it.
     fn try_from(query: Query) -> Result<LowerQuery, ProtoError> {
         LowerQuery::query(query)
     }
@@ -120,7 +122,9 @@ impl BinEncodable for LowerQuery {
 
     ghost owner = { λ q. q.name.labels };
 
-    /// Writes the question as it was asked.
+    /// Writes the question as it was asked (RFC 1035, 4.1.2).
+    ///
+    /// Refused with `MaxBufferSizeExceeded` where a byte would pass the limit, and with `Memory` for want of it.
     fn emit(&self, encoder: &mut BinEncoder<'_>) -> Result<(), ProtoError> {
         self.original.emit(encoder)
     }
@@ -129,7 +133,9 @@ impl BinEncodable for LowerQuery {
 impl BinDecodable for LowerQuery {
     ghost read_at = { query_at };
 
-    /// Reads a question. Refused as `Query::read` is, and for want of memory.
+    /// Reads a question at the decoder's place, and moves behind it (RFC 1035, 4.1.2).
+    ///
+    /// Refused as `Query::read` is, with `Memory` also where there is none for the name in lower case.
     fn read(decoder: &mut BinDecoder<'_>) -> Result<LowerQuery, DecodeError> {
         let original = Query::read(decoder)?;
         let name = LowerName::new(&original.name)?;

@@ -127,7 +127,7 @@ impl Message {
         Ok(self.additionals.push(additional)?)
     }
 
-    /// Sets what the OPT record says. All else stays.
+    /// Sets what the OPT record says (RFC 6891, 6.1). All else stays.
     pub fn set_edns(&mut self, edns: Edns) -> &mut Message
         ensures same { result.ghost_name ≡ self.entry.ghost_name }
         ensures value { result.now ≡ record self.old { edns = Some edns } }

@@ -1,3 +1,5 @@
+//! Operation codes (RFC 1035, 4.1.1).
+
 ghost use Rattle.std.specs.Prelude.{◌≡◌, Some};
 ghost use Rattle.op.specs.OpCode.{op_number, op_value, op_text};
 
@@ -38,6 +40,7 @@ impl OpCode {
 impl From<OpCode> for u8 {
     ghost from_gives = { λ code number. number ≡ op_number code };
 
+    /// The number of the operation (RFC 1035, 4.1.1; RFC 6895, 2.2).
     fn from(code: OpCode) -> u8 {
         match code {
             OpCode::Query => 0,

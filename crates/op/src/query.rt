@@ -135,6 +135,10 @@ impl BinEncodable for Query {
 
     ghost owner = { λ q. q.name.labels };
 
+    /// Writes the name, compressed where it can be, the type and the class, whose top bit is set where an answer by
+    /// unicast is asked for (RFC 1035, 4.1.2 and 4.1.4; RFC 6762, 5.4).
+    ///
+    /// Refused with `MaxBufferSizeExceeded` where a byte would pass the limit, and with `Memory` for want of it.
     fn emit(&self, encoder: &mut BinEncoder<'_>) -> Result<(), ProtoError> {
         self.name.emit(encoder)?;
         self.query_type.emit(encoder)?;
@@ -146,8 +150,11 @@ impl BinEncodable for Query {
 impl BinDecodable for Query {
     ghost read_at = { query_at };
 
-    /// Reads a question at the decoder's place, and moves behind it. Refused with the first fault of its
-    /// name, or with `InsufficientBytes` where the end cuts type or class.
+    /// Reads a question at the decoder's place, and moves behind it. The top bit of the class field is the unicast bit
+    /// (RFC 1035, 4.1.2; RFC 6762, 5.4).
+    ///
+    /// Refused with the first fault of its name, `InsufficientBytes` or `BadName`; with `InsufficientBytes` where the
+    /// end cuts type or class; and with `Memory` where there is none for the name.
     #[tactic(auto, unfolding(crate::specs::Query::query_at))]
     fn read(decoder: &mut BinDecoder<'_>) -> Result<Query, DecodeError> {
         let name = Name::read(decoder)?;

@@ -1,3 +1,5 @@
+//! Response codes (RFC 1035, 4.1.1; RFC 6891, 6.1.3).
+
 ghost use Rattle.std.specs.Prelude.{◌≡◌, ◌%◌, Some};
 ghost use Rattle.std.specs.Option.{option_map};
 ghost use Rattle.op.specs.ResponseCode.{code_number, code_value, code_low, code_high, code_from, code_name, code_text};
@@ -160,6 +162,8 @@ impl fmt::Display for ResponseCode {
 impl From<u16> for ResponseCode {
     ghost from_gives = { λ number code. code ≡ code_value number };
 
+    /// The code of a number: `BADSIG` for 16, never `BADVERS`; `Unknown` for a number without a name (RFC 1035, 4.1.1;
+    /// RFC 2136, 2.2; RFC 6895, 2.3).
     fn from(number: u16) -> ResponseCode {
         match number {
             0 => ResponseCode::NoError,
@@ -189,6 +193,7 @@ impl From<u16> for ResponseCode {
 impl From<ResponseCode> for u16 {
     ghost from_gives = { λ code number. number ≡ code_number code };
 
+    /// The number of the code: 16 for both `BADVERS` and `BADSIG` (RFC 1035, 4.1.1; RFC 2136, 2.2; RFC 6895, 2.3).
     fn from(code: ResponseCode) -> u16 {
         match code {
             ResponseCode::NoError => 0,

@@ -1,3 +1,5 @@
+//! The refusals of reading.
+
 ghost use Rattle.std.specs.Prelude.{◌≡◌};
 ghost use Rattle.base.specs.DecodeError.{decode_number};
 ghost use Rattle.base.specs.declared.error.decode_error.DecodeError.TheVariants as faults;
@@ -22,7 +24,7 @@ pub enum DecodeError {
     /// An OPT record whose owner isn't the root (RFC 6891, 6.1.2).
     #[error("an OPT record of the owner {0}")]
     EdnsNameNotRoot(Name),
-    /// RDLENGTH says more bytes than are left.
+    /// RDLENGTH says more bytes than are left (RFC 1035, 3.2.1).
     #[error("record data of {len} bytes, with {read} bytes left")]
     IncorrectRDataLengthRead {
         /// The bytes that are left.
@@ -30,7 +32,7 @@ pub enum DecodeError {
         /// What RDLENGTH says.
         len: usize,
     },
-    /// Data that its type doesn't read, or that doesn't fill its length.
+    /// Data that its type doesn't read, or that doesn't fill its length (RFC 1035, 3.2.1 and 3.3).
     #[error("data that type {0} doesn't have")]
     BadData(RecordType),
     /// Empty data outside Update and outside type OPT (RFC 2136, 2.4).
@@ -39,7 +41,8 @@ pub enum DecodeError {
     /// A record behind a nonempty TSIG (RFC 8945, 5.1).
     #[error("record after TSIG or SIG(0)")]
     RecordAfterSig,
-    /// A record of a type that stands among additionals alone: OPT, SIG or TSIG.
+    /// A record outside additionals of a type that stands there alone: OPT, SIG or TSIG (RFC 6891, 6.1.1;
+    /// RFC 2931, 3.1; RFC 8945, 5.1).
     #[error("record type {0} only allowed in additional")]
     RecordNotInAdditionalSection(RecordType),
     /// A second OPT record (RFC 6891, 6.1.1).
@@ -70,6 +73,7 @@ impl DecodeError {
 impl From<AllocError> for DecodeError {
     ghost from_gives = { λ _ e. e ≡ faults.Memory };
 
+    /// A growth that was refused is `Memory`.
     fn from(_e: AllocError) -> DecodeError {
         DecodeError::Memory
     }
@@ -78,6 +82,7 @@ impl From<AllocError> for DecodeError {
 impl<T: Drop> From<AllocFailed<T>> for DecodeError {
     ghost from_gives = { λ _ e. e ≡ faults.Memory };
 
+    /// A growth that was refused is `Memory`. The value that it was for is dropped.
     fn from(_e: AllocFailed<T>) -> DecodeError {
         DecodeError::Memory
     }

@@ -1,3 +1,5 @@
+//! The refusals of zone text and of the text of names.
+
 ghost use Rattle.std.specs.Prelude.{◌≡◌};
 ghost use Rattle.base.specs.ParseError.{parse_number};
 ghost use Rattle.base.specs.declared.error.parse_error.ParseError.TheVariants as refusals;
@@ -60,6 +62,7 @@ impl ParseError {
 impl From<AllocError> for ParseError {
     ghost from_gives = { λ _ e. e ≡ refusals.Memory };
 
+    /// A growth that was refused is `Memory`.
     fn from(_e: AllocError) -> ParseError {
         ParseError::Memory
     }
@@ -68,6 +71,7 @@ impl From<AllocError> for ParseError {
 impl<T: Drop> From<AllocFailed<T>> for ParseError {
     ghost from_gives = { λ _ e. e ≡ refusals.Memory };
 
+    /// A growth that was refused is `Memory`. The value that it was for is dropped.
     fn from(_e: AllocFailed<T>) -> ParseError {
         ParseError::Memory
     }

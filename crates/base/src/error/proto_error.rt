@@ -1,3 +1,5 @@
+//! The refusals of writing, and of calls on messages and records.
+
 ghost use Rattle.std.specs.Prelude.{◌≡◌};
 ghost use Rattle.base.specs.ProtoError.{proto_number};
 ghost use Rattle.base.specs.declared.error.proto_error.ProtoError.TheVariants as refusals;
@@ -63,6 +65,7 @@ impl ProtoError {
 impl From<DecodeError> for ProtoError {
     ghost from_gives = { λ d e. e ≡ refusals.Decode d };
 
+    /// A refusal of reading is wrapped in `Decode`.
     fn from(e: DecodeError) -> ProtoError {
         ProtoError::Decode(e)
     }
@@ -71,6 +74,7 @@ impl From<DecodeError> for ProtoError {
 impl From<AllocError> for ProtoError {
     ghost from_gives = { λ _ e. e ≡ refusals.Memory };
 
+    /// A growth that was refused is `Memory`.
     fn from(_e: AllocError) -> ProtoError {
         ProtoError::Memory
     }
@@ -79,6 +83,7 @@ impl From<AllocError> for ProtoError {
 impl<T: Drop> From<AllocFailed<T>> for ProtoError {
     ghost from_gives = { λ _ e. e ≡ refusals.Memory };
 
+    /// A growth that was refused is `Memory`. The value that it was for is dropped.
     fn from(_e: AllocFailed<T>) -> ProtoError {
         ProtoError::Memory
     }

@@ -27,8 +27,8 @@ impl BinEncodable for Name {
     /// byte for byte. Each suffix before that is stored, if it begins below the offset 16,384
     /// (RFC 1035, 4.1.4).
     ///
-    /// Refused where a byte would pass the limit, and for want of memory. What stood before stays, and
-    /// labels that were written before the refusal stand behind it.
+    /// Refused with `MaxBufferSizeExceeded` where a byte would pass the limit, and with `Memory` for want of it. What
+    /// stood before stays, and labels that were written before the refusal stand behind it.
     fn emit(&self, encoder: &mut BinEncoder<'_>) -> Result<(), ProtoError>
         ensures keeps { Keeps (state_of encoder.old) (state_of encoder.new) }
         ensures writes { OnOk result (Writes (NameAt self.now.labels) (plain_len self.now.labels) self.now.labels
@@ -54,8 +54,8 @@ impl Name {
     /// Writes the name without compression, letters as they are; whether it is absolute isn't written.
     /// Neither looks suffixes up nor stores them.
     ///
-    /// Refused where a byte would pass the limit, and for want of memory. What stood before stays, and
-    /// labels that were written before the refusal stand behind it.
+    /// Refused with `MaxBufferSizeExceeded` where a byte would pass the limit, and with `Memory` for want of it. What
+    /// stood before stays, and labels that were written before the refusal stand behind it.
     pub fn emit_plain(&self, encoder: &mut BinEncoder<'_>) -> Result<(), ProtoError>
         ensures state { OnOk result (state_of encoder.new ≡ appended (wire_of self.now.labels ++ 0 ∷ []) (state_of encoder.old)) }
         ensures keeps { Keeps (state_of encoder.old) (state_of encoder.new) }

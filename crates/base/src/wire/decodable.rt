@@ -1,3 +1,5 @@
+//! Values that can be read.
+
 ghost use Rattle.std.specs.Int.{w16};
 ghost use Rattle.base.specs.Reading.{number_at};
 
@@ -15,7 +17,7 @@ pub trait BinDecodable: Drop {
 
     /// Reads the value at the decoder's place, and moves behind it.
     ///
-    /// Refused with the first fault, and for want of memory. A decoder that refused isn't used again.
+    /// Refused with the first fault, and with `Memory` for want of it. A decoder that refused isn't used again.
     fn read(decoder: &mut BinDecoder<'_>) -> Result<Self, DecodeError>
         ensures read { Reads (λ x. x) decoder.old decoder.new result (read_at decoder.old.bytes decoder.old.index) };
 }

@@ -83,7 +83,7 @@ impl<'a> BinDecoder<'a> {
         self.index = index;
     }
 
-    /// Reads one byte. Refused where none is left.
+    /// Reads one byte. Refused with `InsufficientBytes` where none is left.
     pub fn pop(&mut self) -> Result<u8, DecodeError>
         ensures only { IsOkUnless result DecodeError.InsufficientBytes }
         ensures read { Reads (λ b. b) self.old self.new result (byte_at self.old.bytes self.old.index) }
@@ -97,7 +97,8 @@ impl<'a> BinDecoder<'a> {
         }
     }
 
-    /// Reads a number of two bytes, the high one first (RFC 1035, 2.3.2). Refused where fewer are left.
+    /// Reads a number of two bytes, the high one first (RFC 1035, 2.3.2). Refused with `InsufficientBytes` where fewer
+    /// are left.
     pub fn read_u16(&mut self) -> Result<u16, DecodeError>
         ensures only { IsOkUnless result DecodeError.InsufficientBytes }
         ensures read { Reads (λ n. n) self.old self.new result (number_at w16 self.old.bytes self.old.index) }
@@ -111,7 +112,8 @@ impl<'a> BinDecoder<'a> {
         }
     }
 
-    /// Reads a number of four bytes, the highest one first (RFC 1035, 2.3.2). Refused where fewer are left.
+    /// Reads a number of four bytes, the highest one first (RFC 1035, 2.3.2). Refused with `InsufficientBytes` where
+    /// fewer are left.
     pub fn read_u32(&mut self) -> Result<u32, DecodeError>
         ensures only { IsOkUnless result DecodeError.InsufficientBytes }
         ensures read { Reads (λ n. n) self.old self.new result (number_at w32 self.old.bytes self.old.index) }
@@ -125,7 +127,7 @@ impl<'a> BinDecoder<'a> {
         }
     }
 
-    /// Reads as many bytes as they are. Refused where fewer are left.
+    /// Reads `len` bytes, just as they stand. Refused with `InsufficientBytes` where fewer are left.
     pub fn read_slice(&mut self, len: usize) -> Result<&'a [u8], DecodeError>
         ensures only { IsOkUnless result DecodeError.InsufficientBytes }
         ensures read { Reads (λ bytes. bytes.now) self.old self.new result (bytes_at len self.old.bytes self.old.index) }

@@ -1,3 +1,5 @@
+//! Parts of a message that are written and counted.
+
 ghost use Rattle.base.specs.Items.{IsCountable, EmitsAll};
 
 use crate::error::ProtoError;

@@ -1,3 +1,5 @@
+//! Values that can be written.
+
 ghost use Rattle.std.specs.Prelude.{◌≡◌, []};
 ghost use Rattle.std.specs.Int.{w16, to_be_bytes};
 ghost use Rattle.base.specs.Words.{Number};
@@ -23,7 +25,8 @@ pub trait BinEncodable {
 
     /// Writes the value behind what the encoder holds (RFC 1035, 4.1).
     ///
-    /// Refused where a byte would pass the limit, and for want of memory. What stood before stays.
+    /// Refused with `MaxBufferSizeExceeded` where a byte would pass the limit, and with `Memory` for want of it. What
+    /// stood before stays.
     fn emit(&self, encoder: &mut BinEncoder<'_>) -> Result<(), ProtoError>
         ensures keeps { Keeps (state_of encoder.old) (state_of encoder.new) }
         ensures writes { OnOk result (Writes (word self.now) (plain_len self.now) (owner self.now)

@@ -50,7 +50,7 @@ impl<'a> BinEncoder<'a> {
         }
     }
 
-    /// Sets the limit: no byte is written past as many bytes from now on. What stands past it stays.
+    /// Sets the limit, in bytes: none is written past it from now on. What stands past it stays.
     pub fn set_max_size(&mut self, limit: u16)
         ensures { state_of self.new ≡ record (state_of self.old) { limit = limit } }
     {
@@ -59,7 +59,8 @@ impl<'a> BinEncoder<'a> {
 
     /// Appends one byte.
     ///
-    /// Refused, with nothing written, where the byte would pass the limit, and for want of memory.
+    /// Refused, with nothing written, with `MaxBufferSizeExceeded` where the byte would pass the limit, and with
+    /// `Memory` for want of it.
     pub fn emit(&mut self, byte: u8) -> Result<(), ProtoError>
         ensures ok { OnOk result (state_of self.new ≡ appended (byte ∷ []) (state_of self.old)) }
         ensures err { OnErr result (state_of self.new ≡ state_of self.old) }
@@ -72,7 +73,8 @@ impl<'a> BinEncoder<'a> {
 
     /// Appends a number in two bytes, the high one first (RFC 1035, 2.3.2).
     ///
-    /// Refused, with nothing written, where a byte would pass the limit, and for want of memory.
+    /// Refused, with nothing written, with `MaxBufferSizeExceeded` where a byte would pass the limit, and with `Memory`
+    /// for want of it.
     pub fn emit_u16(&mut self, number: u16) -> Result<(), ProtoError>
         ensures ok { OnOk result (state_of self.new ≡ appended (to_be_bytes w16 number) (state_of self.old)) }
         ensures err { OnErr result (state_of self.new ≡ state_of self.old) }
@@ -85,7 +87,8 @@ impl<'a> BinEncoder<'a> {
 
     /// Appends a number in four bytes, the highest one first (RFC 1035, 2.3.2).
     ///
-    /// Refused, with nothing written, where a byte would pass the limit, and for want of memory.
+    /// Refused, with nothing written, with `MaxBufferSizeExceeded` where a byte would pass the limit, and with `Memory`
+    /// for want of it.
     pub fn emit_u32(&mut self, number: u32) -> Result<(), ProtoError>
         ensures ok { OnOk result (state_of self.new ≡ appended (to_be_bytes w32 number) (state_of self.old)) }
         ensures err { OnErr result (state_of self.new ≡ state_of self.old) }
@@ -98,7 +101,8 @@ impl<'a> BinEncoder<'a> {
 
     /// Appends bytes as they are.
     ///
-    /// Refused, with nothing written, where a byte would pass the limit, and for want of memory.
+    /// Refused, with nothing written, with `MaxBufferSizeExceeded` where a byte would pass the limit, and with `Memory`
+    /// for want of it.
     pub fn emit_slice(&mut self, bytes: &[u8]) -> Result<(), ProtoError>
         ensures ok { OnOk result (state_of self.new ≡ appended bytes.now (state_of self.old)) }
         ensures err { OnErr result (state_of self.new ≡ state_of self.old) }
@@ -130,7 +134,8 @@ impl<'a> BinEncoder<'a> {
 
     /// Keeps room for a value that comes later: appends as many zero bytes as it takes.
     ///
-    /// Refused, with nothing written, where a byte would pass the limit, and for want of memory.
+    /// Refused, with nothing written, with `MaxBufferSizeExceeded` where a byte would pass the limit, and with `Memory`
+    /// for want of it.
     pub fn place<T: EncodedSize>(&mut self) -> Result<Place<T>, ProtoError>
         ensures ok { IfOk result (λ place. (state_of self.new ≡ appended (replicate T.LEN 0) (state_of self.old))
             × (place ≡ length (state_of self.old).bytes)) }

@@ -1,3 +1,5 @@
+//! Reads values one behind the other.
+
 ghost use Rattle.std.specs.Prelude.{◌≡◌, length, IfOk};
 ghost use Rattle.base.specs.Many.{many_at};
 ghost use Rattle.base.specs.Reading.{Reads};
@@ -6,9 +8,9 @@ use crate::error::DecodeError;
 use crate::wire::decodable::BinDecodable;
 use crate::wire::decoder::BinDecoder;
 
-/// Reads as many values, one behind the other.
+/// Reads `count` values, one behind the other.
 ///
-/// Refused with the first fault, and for want of memory. A decoder that refused isn't used again.
+/// Refused with the first fault, and with `Memory` for want of it. A decoder that refused isn't used again.
 pub fn read_many<T: BinDecodable>(
     decoder: &mut BinDecoder<'_>,
     count: usize,

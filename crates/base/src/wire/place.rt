@@ -1,3 +1,5 @@
+//! Room that an encoder keeps.
+
 ghost use Rattle.std.specs.Prelude.{ℕ};
 
 use std::marker::{Model, PhantomData};

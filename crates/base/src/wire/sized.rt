@@ -1,3 +1,5 @@
+//! Writes values behind their length.
+
 ghost use Rattle.std.specs.Prelude.{◌+◌, [], OnOk};
 ghost use Rattle.base.specs.Laws.{Keeps, Writes};
 ghost use Rattle.base.specs.Wire.{state_of, Refuses};
@@ -9,7 +11,8 @@ use crate::wire::encoder::BinEncoder;
 
 /// Writes a value behind the number of its bytes, a `u16` (RDLENGTH, RFC 1035, 3.2.1).
 ///
-/// Refused where a byte would pass the limit, and for want of memory. What stood before stays.
+/// Refused with `MaxBufferSizeExceeded` where a byte would pass the limit, and with `Memory` for want of it. What stood
+/// before stays.
 pub fn emit_sized<R: BinEncodable>(
     value: &R,
     encoder: &mut BinEncoder<'_>,

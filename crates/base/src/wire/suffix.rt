@@ -1,3 +1,5 @@
+//! Suffixes of names that were written.
+
 ghost use Rattle.std.specs.Prelude.{◌≡◌, ◌<◌, ◌↔◌, IfOk, IsTrue};
 ghost use Rattle.base.specs.Labels.{wire_of, labels_of, IsWire};
 

@@ -52,7 +52,9 @@ impl BinEncodable for A {
 
     ghost owner = { λ _. [] };
 
-    /// Writes the four bytes.
+    /// Writes the four bytes (RFC 1035, 3.4.1).
+    ///
+    /// Refused with `MaxBufferSizeExceeded` where a byte would pass the limit, and with `Memory` for want of it.
     fn emit(&self, encoder: &mut BinEncoder<'_>) -> Result<(), ProtoError> {
         emit_bytes(&self.octets, encoder)
     }

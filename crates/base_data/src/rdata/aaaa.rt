@@ -54,7 +54,9 @@ impl BinEncodable for AAAA {
 
     ghost owner = { λ _. [] };
 
-    /// Writes the sixteen bytes.
+    /// Writes the sixteen bytes (RFC 3596, 2.2).
+    ///
+    /// Refused with `MaxBufferSizeExceeded` where a byte would pass the limit, and with `Memory` for want of it.
     fn emit(&self, encoder: &mut BinEncoder<'_>) -> Result<(), ProtoError> {
         emit_bytes(&self.octets, encoder)
     }

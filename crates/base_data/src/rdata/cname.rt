@@ -21,7 +21,7 @@ pub struct CNAME {
 }
 
 impl CNAME {
-    /// The data of these fields.
+    /// The data of this name.
     pub fn new(name: Name) -> CNAME
         ensures { result ≡ record { name = name } }
     {
@@ -51,7 +51,7 @@ impl PartialEq for CNAME {
 
     ghost laws = { partial_equiv_from_equiv (eq_by_cmp_equiv cname_cmp-total) };
 
-    /// The same fields, letters of names in either case.
+    /// The same name, letters in either case (RFC 4343, 3).
     fn eq(&self, other: &CNAME) -> bool {
         self.cmp(other).is_eq()
     }
@@ -91,8 +91,9 @@ impl PartialOrd for CNAME {
 impl BinDecodable for CNAME {
     ghost read_at = { cname_at };
 
-    /// Reads the fields one behind the other, names with their pointers followed. Refused with the first fault,
-    /// and for want of memory.
+    /// Reads the name, its pointers followed (RFC 1035, 3.3.1 and 4.1.4).
+    ///
+    /// Refused with the first fault of the name, `InsufficientBytes` or `BadName`, and with `Memory` for want of it.
     #[tactic(auto, unfolding(crate::specs::CNAME::cname_at))]
     fn read(decoder: &mut BinDecoder<'_>) -> Result<CNAME, DecodeError> {
         Ok(CNAME {
@@ -108,8 +109,9 @@ impl BinEncodable for CNAME {
 
     ghost owner = { λ _. [] };
 
-    /// Writes the fields one behind the other, names with compression. Refused where a byte would pass the limit,
-    /// and for want of memory.
+    /// Writes the name with compression (RFC 1035, 3.3.1 and 4.1.4).
+    ///
+    /// Refused with `MaxBufferSizeExceeded` where a byte would pass the limit, and with `Memory` for want of it.
     fn emit(&self, encoder: &mut BinEncoder<'_>) -> Result<(), ProtoError>
         ensures keeps { Keeps (state_of encoder.old) (state_of encoder.new) }
         ensures writes { OnOk result (Writes (CNAMEWord self.now) (plain_cname self.now) []
@@ -124,7 +126,7 @@ impl BinEncodable for CNAME {
 impl fmt::Display for CNAME {
     ghost output = { λ x. Some (cname_text x) };
 
-    /// The fields as in zone files, with a space between each two (RFC 1035, 5.1).
+    /// The name, as in zone files (RFC 1035, 5.1).
     fn fmt<W: fmt::Write>(&self, f: &mut fmt::Formatter<W>) -> fmt::Result {
         write!(f, "{}", self.name)
     }

@@ -11,7 +11,8 @@ use base::{BinEncoder, ProtoError};
 
 /// Writes bytes as they are.
 ///
-/// Refused where a byte would pass the limit, and for want of memory. What stood before stays.
+/// Refused with `MaxBufferSizeExceeded` where a byte would pass the limit, and with `Memory` for want of it. What stood
+/// before stays.
 pub(crate) fn emit_bytes(bytes: &[u8], encoder: &mut BinEncoder<'_>) -> Result<(), ProtoError>
     ensures keeps { Keeps (state_of encoder.old) (state_of encoder.new) }
     ensures writes { OnOk result (Writes (Bytes bytes.now) (length bytes.now) []

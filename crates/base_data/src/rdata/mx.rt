@@ -17,7 +17,7 @@ use std::fmt;
 /// A host that takes mail (RFC 1035, 3.3.9).
 #[derive(Debug, Drop)]
 pub struct MX {
-    /// Lower ones come first.
+    /// The preference: hosts with a lower one are tried first.
     pub preference: u16,
     /// The name of the host.
     pub exchange: Name,
@@ -34,7 +34,7 @@ impl MX {
         }
     }
 
-    /// Lower ones come first.
+    /// The preference: hosts with a lower one are tried first (RFC 1035, 3.3.9).
     pub fn preference(&self) -> u16
         ensures { result ≡ self.now.preference }
     {
@@ -106,8 +106,9 @@ impl PartialOrd for MX {
 impl BinDecodable for MX {
     ghost read_at = { mx_at };
 
-    /// Reads the fields one behind the other, names with their pointers followed. Refused with the first fault,
-    /// and for want of memory.
+    /// Reads the fields one behind the other, names with their pointers followed (RFC 1035, 3.3.9 and 4.1.4).
+    ///
+    /// Refused with the first fault, `InsufficientBytes` or `BadName`, and with `Memory` for want of it.
     #[tactic(auto, unfolding(crate::specs::MX::mx_at))]
     fn read(decoder: &mut BinDecoder<'_>) -> Result<MX, DecodeError> {
         Ok(MX {
@@ -124,8 +125,9 @@ impl BinEncodable for MX {
 
     ghost owner = { λ _. [] };
 
-    /// Writes the fields one behind the other, names with compression. Refused where a byte would pass the limit,
-    /// and for want of memory.
+    /// Writes the fields one behind the other, names with compression (RFC 1035, 3.3.9 and 4.1.4).
+    ///
+    /// Refused with `MaxBufferSizeExceeded` where a byte would pass the limit, and with `Memory` for want of it.
     fn emit(&self, encoder: &mut BinEncoder<'_>) -> Result<(), ProtoError>
         ensures keeps { Keeps (state_of encoder.old) (state_of encoder.new) }
         ensures writes { OnOk result (Writes (MXWord self.now) (plain_mx self.now) []

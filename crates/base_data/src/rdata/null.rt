@@ -47,8 +47,8 @@ impl NULL {
 }
 
 impl NULL {
-    /// Reads data of as many bytes. Refused with `InsufficientBytes` where fewer are left, and for
-    /// want of memory.
+    /// Reads data of `len` bytes. Refused with `InsufficientBytes` where fewer are left, and with `Memory` for want of
+    /// it.
     pub(crate) fn read(decoder: &mut BinDecoder<'_>, len: usize) -> Result<NULL, DecodeError>
         ensures read { Reads (λ x. x) decoder.old decoder.new result (bytes_at len decoder.old.bytes decoder.old.index) }
     {
@@ -122,7 +122,9 @@ impl BinEncodable for NULL {
 
     ghost owner = { λ _. [] };
 
-    /// Writes the bytes as they are.
+    /// Writes the bytes as they are (RFC 1035, 3.3.10; RFC 3597, 3).
+    ///
+    /// Refused with `MaxBufferSizeExceeded` where a byte would pass the limit, and with `Memory` for want of it.
     fn emit(&self, encoder: &mut BinEncoder<'_>) -> Result<(), ProtoError> {
         emit_bytes(self.bytes(), encoder)
     }

@@ -86,9 +86,9 @@ impl OPT {
         &self.options
     }
 
-    /// Reads options as long as they begin within as many bytes. Options of one code are all kept.
+    /// Reads options as long as they begin within `len` bytes (RFC 6891, 6.1.2). Options of one code are all kept.
     ///
-    /// Refused with `InsufficientBytes` where the buffer ends inside one, and for want of memory.
+    /// Refused with `InsufficientBytes` where the buffer ends inside one, and with `Memory` for want of it.
     pub(crate) fn read(decoder: &mut BinDecoder<'_>, len: u16) -> Result<OPT, DecodeError>
         ensures read { Reads (λ x. x) decoder.old decoder.new result (opt_at len decoder.old.bytes decoder.old.index) }
     {
@@ -158,7 +158,9 @@ impl BinEncodable for OPT {
 
     ghost owner = { λ _. [] };
 
-    /// Writes each option: its code, the number of its bytes, and its bytes.
+    /// Writes each option: its code, the number of its bytes, and its bytes (RFC 6891, 6.1.2).
+    ///
+    /// Refused with `MaxBufferSizeExceeded` where a byte would pass the limit, and with `Memory` for want of it.
     fn emit(&self, encoder: &mut BinEncoder<'_>) -> Result<(), ProtoError> {
         for option in &self.options {
             option.emit(encoder)?;

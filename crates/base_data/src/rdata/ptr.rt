@@ -21,7 +21,7 @@ pub struct PTR {
 }
 
 impl PTR {
-    /// The data of these fields.
+    /// The data of this name.
     pub fn new(name: Name) -> PTR
         ensures { result ≡ record { name = name } }
     {
@@ -51,7 +51,7 @@ impl PartialEq for PTR {
 
     ghost laws = { partial_equiv_from_equiv (eq_by_cmp_equiv ptr_cmp-total) };
 
-    /// The same fields, letters of names in either case.
+    /// The same name, letters in either case (RFC 4343, 3).
     fn eq(&self, other: &PTR) -> bool {
         self.cmp(other).is_eq()
     }
@@ -91,8 +91,9 @@ impl PartialOrd for PTR {
 impl BinDecodable for PTR {
     ghost read_at = { ptr_at };
 
-    /// Reads the fields one behind the other, names with their pointers followed. Refused with the first fault,
-    /// and for want of memory.
+    /// Reads the name, its pointers followed (RFC 1035, 3.3.12 and 4.1.4).
+    ///
+    /// Refused with the first fault of the name, `InsufficientBytes` or `BadName`, and with `Memory` for want of it.
     #[tactic(auto, unfolding(crate::specs::PTR::ptr_at))]
     fn read(decoder: &mut BinDecoder<'_>) -> Result<PTR, DecodeError> {
         Ok(PTR {
@@ -108,8 +109,9 @@ impl BinEncodable for PTR {
 
     ghost owner = { λ _. [] };
 
-    /// Writes the fields one behind the other, names with compression. Refused where a byte would pass the limit,
-    /// and for want of memory.
+    /// Writes the name with compression (RFC 1035, 3.3.12 and 4.1.4).
+    ///
+    /// Refused with `MaxBufferSizeExceeded` where a byte would pass the limit, and with `Memory` for want of it.
     fn emit(&self, encoder: &mut BinEncoder<'_>) -> Result<(), ProtoError>
         ensures keeps { Keeps (state_of encoder.old) (state_of encoder.new) }
         ensures writes { OnOk result (Writes (PTRWord self.now) (plain_ptr self.now) []
@@ -124,7 +126,7 @@ impl BinEncodable for PTR {
 impl fmt::Display for PTR {
     ghost output = { λ x. Some (ptr_text x) };
 
-    /// The fields as in zone files, with a space between each two (RFC 1035, 5.1).
+    /// The name, as in zone files (RFC 1035, 5.1).
     fn fmt<W: fmt::Write>(&self, f: &mut fmt::Formatter<W>) -> fmt::Result {
         write!(f, "{}", self.name)
     }

@@ -29,7 +29,7 @@ pub struct SOA {
     pub retry: u32,
     /// Seconds after which the zone is no longer held.
     pub expire: u32,
-    /// The least time to live.
+    /// For how many seconds at most a negative answer may be kept (RFC 2308, 4).
     pub minimum: u32,
 }
 
@@ -99,7 +99,7 @@ impl SOA {
         self.expire
     }
 
-    /// The least time to live.
+    /// For how many seconds at most a negative answer may be kept (RFC 2308, 4).
     pub fn minimum(&self) -> u32
         ensures { result ≡ self.now.minimum }
     {
@@ -175,8 +175,9 @@ impl PartialOrd for SOA {
 impl BinDecodable for SOA {
     ghost read_at = { soa_at };
 
-    /// Reads the fields one behind the other, names with their pointers followed. Refused with the first fault,
-    /// and for want of memory.
+    /// Reads the fields one behind the other, names with their pointers followed (RFC 1035, 3.3.13 and 4.1.4).
+    ///
+    /// Refused with the first fault, `InsufficientBytes` or `BadName`, and with `Memory` for want of it.
     #[tactic(auto, unfolding(crate::specs::SOA::soa_at))]
     fn read(decoder: &mut BinDecoder<'_>) -> Result<SOA, DecodeError> {
         Ok(SOA {
@@ -198,8 +199,9 @@ impl BinEncodable for SOA {
 
     ghost owner = { λ _. [] };
 
-    /// Writes the fields one behind the other, names with compression. Refused where a byte would pass the limit,
-    /// and for want of memory.
+    /// Writes the fields one behind the other, names with compression (RFC 1035, 3.3.13 and 4.1.4).
+    ///
+    /// Refused with `MaxBufferSizeExceeded` where a byte would pass the limit, and with `Memory` for want of it.
     fn emit(&self, encoder: &mut BinEncoder<'_>) -> Result<(), ProtoError>
         ensures keeps { Keeps (state_of encoder.old) (state_of encoder.new) }
         ensures writes { OnOk result (Writes (SOAWord self.now) (plain_soa self.now) []

@@ -17,7 +17,7 @@ use std::fmt;
 /// A host that has a service (RFC 2782).
 #[derive(Debug, Drop)]
 pub struct SRV {
-    /// Lower ones come first.
+    /// The priority: hosts with a lower one are tried first.
     pub priority: u16,
     /// The share among hosts of one priority.
     pub weight: u16,
@@ -40,7 +40,7 @@ impl SRV {
         }
     }
 
-    /// Lower ones come first.
+    /// The priority: hosts with a lower one are tried first (RFC 2782).
     pub fn priority(&self) -> u16
         ensures { result ≡ self.now.priority }
     {
@@ -130,8 +130,9 @@ impl PartialOrd for SRV {
 impl BinDecodable for SRV {
     ghost read_at = { srv_at };
 
-    /// Reads the fields one behind the other, names with their pointers followed. Refused with the first fault,
-    /// and for want of memory.
+    /// Reads the fields one behind the other, names with their pointers followed (RFC 2782; RFC 1035, 4.1.4).
+    ///
+    /// Refused with the first fault, `InsufficientBytes` or `BadName`, and with `Memory` for want of it.
     #[tactic(auto, unfolding(crate::specs::SRV::srv_at))]
     fn read(decoder: &mut BinDecoder<'_>) -> Result<SRV, DecodeError> {
         Ok(SRV {
@@ -150,8 +151,9 @@ impl BinEncodable for SRV {
 
     ghost owner = { λ _. [] };
 
-    /// Writes the fields one behind the other, its name without compression (RFC 3597, 4).
-    /// Refused where a byte would pass the limit, and for want of memory.
+    /// Writes the fields one behind the other, the name without compression (RFC 2782; RFC 3597, 4).
+    ///
+    /// Refused with `MaxBufferSizeExceeded` where a byte would pass the limit, and with `Memory` for want of it.
     fn emit(&self, encoder: &mut BinEncoder<'_>) -> Result<(), ProtoError>
         ensures keeps { Keeps (state_of encoder.old) (state_of encoder.new) }
         ensures writes { OnOk result (Writes (SRVWord self.now) (plain_srv self.now) []

@@ -50,8 +50,8 @@ impl TSIG {
 }
 
 impl TSIG {
-    /// Reads data of as many bytes, one at least. Refused with `InsufficientBytes` where fewer are left, and for
-    /// want of memory.
+    /// Reads data of `len` bytes, one at least. Refused with `InsufficientBytes` where fewer are left, and with
+    /// `Memory` for want of it.
     pub(crate) fn read(decoder: &mut BinDecoder<'_>, len: usize) -> Result<TSIG, DecodeError>
         requires { 0 < len }
         ensures read { Reads (λ x. x) decoder.old decoder.new result (bytes_at len decoder.old.bytes decoder.old.index) }
@@ -113,7 +113,7 @@ impl PartialOrd for TSIG {
 impl fmt::Display for TSIG {
     ghost output = { λ n. Some (opaque_text n) };
 
-    /// `\#`, the number of bytes, and the bytes in hexadecimal in lower case, if there are any (RFC 3597, 5).
+    /// `\#`, the number of bytes, and the bytes in hexadecimal in lower case (RFC 3597, 5).
     fn fmt<W: fmt::Write>(&self, f: &mut fmt::Formatter<W>) -> fmt::Result {
         write!(f, "{}", OpaqueText(self.bytes()))
     }
@@ -126,7 +126,9 @@ impl BinEncodable for TSIG {
 
     ghost owner = { λ _. [] };
 
-    /// Writes the bytes as they are.
+    /// Writes the bytes as they are (RFC 8945, 4.2).
+    ///
+    /// Refused with `MaxBufferSizeExceeded` where a byte would pass the limit, and with `Memory` for want of it.
     fn emit(&self, encoder: &mut BinEncoder<'_>) -> Result<(), ProtoError> {
         emit_bytes(self.bytes(), encoder)
     }

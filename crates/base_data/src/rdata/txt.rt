@@ -69,7 +69,10 @@ impl TXT {
         &self.bytes
     }
 
-    /// Reads strings that fill as many bytes exactly. Refused where they don't, and for want of memory.
+    /// Reads strings that fill `len` bytes exactly (RFC 1035, 3.3 and 3.3.14).
+    ///
+    /// Refused with `InsufficientBytes` where fewer are left or the last string doesn't end with them, and with
+    /// `Memory` for want of it.
     pub(crate) fn read(decoder: &mut BinDecoder<'_>, len: usize) -> Result<TXT, DecodeError>
         requires { 0 < len }
         ensures read { Reads (λ x. x) decoder.old decoder.new result (txt_at len decoder.old.bytes decoder.old.index) }
@@ -165,7 +168,9 @@ impl BinEncodable for TXT {
 
     ghost owner = { λ _. [] };
 
-    /// Writes each string behind its length.
+    /// Writes each string behind its length (RFC 1035, 3.3 and 3.3.14).
+    ///
+    /// Refused with `MaxBufferSizeExceeded` where a byte would pass the limit, and with `Memory` for want of it.
     fn emit(&self, encoder: &mut BinEncoder<'_>) -> Result<(), ProtoError> {
         emit_bytes(self.as_wire(), encoder)
     }

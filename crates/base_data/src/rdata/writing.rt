@@ -20,7 +20,7 @@ impl BinEncodable for RData {
     /// Writes the data as its kind is written, names of NS, CNAME, PTR, MX and SOA with compression and all other
     /// data without it, and nothing for empty data (RFC 1035, 3.3; RFC 3597, 4).
     ///
-    /// Refused where a byte would pass the limit, and for want of memory.
+    /// Refused with `MaxBufferSizeExceeded` where a byte would pass the limit, and with `Memory` for want of it.
     fn emit(&self, encoder: &mut BinEncoder<'_>) -> Result<(), ProtoError>
         ensures keeps { Keeps (state_of encoder.old) (state_of encoder.new) }
         ensures writes { OnOk result (Writes (DataWord self.now) (plain_data self.now) []

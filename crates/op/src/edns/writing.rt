@@ -49,7 +49,7 @@ impl BinEncodable for Edns {
     /// Writes the OPT record: a zero byte for the root, the type, the payload size, the high code, the version and
     /// the flags, and the options behind the number of their bytes (RFC 6891, 6.1.2 and 6.1.3).
     ///
-    /// Refused where a byte would pass the limit, and for want of memory.
+    /// Refused with `MaxBufferSizeExceeded` where a byte would pass the limit, and with `Memory` for want of it.
     fn emit(&self, encoder: &mut BinEncoder<'_>) -> Result<(), ProtoError> {
         emit_root(encoder)?;
         RecordType::OPT.emit(encoder)?;

@@ -1,3 +1,5 @@
+//! The flags of a header (RFC 1035, 4.1.1; RFC 4035, 3.1.6).
+
 ghost use Rattle.std.specs.Prelude.{Some};
 ghost use Rattle.op.specs.Flags.{flags_text, item_text};
 

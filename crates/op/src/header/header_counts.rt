@@ -1,3 +1,5 @@
+//! The counts of a header (RFC 1035, 4.1.1).
+
 /// How many items each section of a message holds (RFC 1035, 4.1.1).
 #[derive(Clone, Copy, Debug, Default, Drop, PartialEq, Eq, PartialOrd, Hash)]
 pub struct HeaderCounts {

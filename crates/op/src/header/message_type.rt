@@ -1,3 +1,5 @@
+//! Queries and responses (RFC 1035, 4.1.1).
+
 ghost use Rattle.std.specs.Prelude.{◌≡◌, Some};
 ghost use Rattle.op.specs.MessageType.{is_response, kind_value, message_type_text};
 

@@ -1,3 +1,5 @@
+//! A header without its counts (RFC 1035, 4.1.1).
+
 ghost use Rattle.std.specs.Prelude.{◌≡◌, Some};
 ghost use Rattle.op.specs.Metadata.{plain_metadata, response_metadata, metadata_flags, metadata_text};
 ghost use Rattle.op.specs.ResponseCode.{code_low, code_from, code_label};
@@ -51,8 +53,8 @@ impl Metadata {
         }
     }
 
-    /// The metadata that a response to the request begins with: its id, operation, RD and CD, without any other flag and
-    /// without an error (RFC 1035, 4.1.1; RFC 6895, 2).
+    /// The metadata that a response to the request begins with: its id, operation, RD and CD, without any other flag
+    /// and without an error (RFC 1035, 4.1.1; RFC 6895, 2).
     pub fn response_from_request(request: &Metadata) -> Metadata
         ensures { result ≡ response_metadata request.now }
     {

@@ -20,8 +20,9 @@ impl Message {
     /// so. Into a new encoder, of a message that fits the wire, this writes a cut of the message, which is read as
     /// exactly that.
     ///
-    /// Refused where the header or the questions don't fit, where a count passes 65,535, and for want of memory; into a
-    /// new encoder with room for header and questions uncompressed, for want of memory alone.
+    /// Refused with `MaxBufferSizeExceeded` where the header doesn't fit, with `NotAllRecordsWritten` where the
+    /// questions don't, with a `Message` where a count passes 65,535, and with `Memory` for want of it; into a new
+    /// encoder with room for header and questions uncompressed, with `Memory` alone.
     pub fn emit(&self, encoder: &mut BinEncoder<'_>) -> Result<(), ProtoError>
         ensures keeps { Keeps (state_of encoder.old) (state_of encoder.new) }
         ensures emitted { IfOk result (λ _. (h : WrittenHeader) × Emitted (message_value self.now) (state_of encoder.old) (state_of encoder.new) h) }

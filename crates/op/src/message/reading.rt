@@ -21,7 +21,9 @@ use rr::Record;
 use std::alloc::Global;
 
 impl Message {
-    /// Reads as many questions. Refused with the first fault, and for want of memory.
+    /// Reads `count` questions, one behind the other (RFC 1035, 4.1.2).
+    ///
+    /// Refused with `Decode` of what reading a question is refused with: the first fault, or `Memory` for want of it.
     pub fn read_queries(
         decoder: &mut BinDecoder<'_>,
         count: usize,
@@ -31,13 +33,14 @@ impl Message {
         Ok(read_many::<Query>(decoder, count)?)
     }
 
-    /// Reads as many records as a section has: the ordinary ones in their order, what an OPT record says, and the
-    /// signature (RFC 6891, 6.1.1; RFC 8945, 5.1).
+    /// Reads a section of `count` records: the ordinary ones in their order, what an OPT record says, and the signature
+    /// (RFC 1035, 4.1.3; RFC 6891, 6.1.1; RFC 8945, 5.1). `is_additional` tells whether it is the additional section,
+    /// and `op_code` is the operation of the message's header: by these two it is tested which records may stand.
     ///
     /// Each record is read and then tested before the next one. Refused, beside the faults of a record, with
-    /// `InvalidEmptyRecord` for empty data outside an Update and of another type than OPT, `RecordAfterSig` behind
-    /// a signature, `RecordNotInAdditionalSection` for OPT, SIG and TSIG elsewhere, `DuplicateEdns` for a second
-    /// OPT record, and for want of memory.
+    /// `InvalidEmptyRecord` for empty data outside an Update and of another type than OPT, `RecordAfterSig` behind a
+    /// signature, `RecordNotInAdditionalSection` for OPT, SIG and TSIG outside the additional section, `DuplicateEdns`
+    /// for a second OPT record, and `Memory` for want of it.
     pub fn read_records(
         decoder: &mut BinDecoder<'_>,
         count: usize,
@@ -70,7 +73,7 @@ impl Message {
     /// as the header counts them (RFC 1035, 4.1). The code has the eight bits of EDNS above the header's four
     /// (RFC 6891, 6.1.3).
     ///
-    /// Refused with the first fault, and for want of memory. A decoder that refused isn't used again.
+    /// Refused with the first fault, and with `Memory` for want of it. A decoder that refused isn't used again.
     #[tactic(auto, unfolding(crate::specs::Message::message_at))]
     pub fn read(decoder: &mut BinDecoder<'_>) -> Result<Message, DecodeError>
         ensures read { Reads message_value decoder.old decoder.new result (message_at decoder.old.bytes decoder.old.index) }
@@ -105,8 +108,8 @@ impl Message {
 
     /// Reads the message that a buffer begins with. Bytes behind it are not looked at.
     ///
-    /// Accepts exactly the buffers that begin with a message word, and answers that word's message (RFC 1035, 4.1); that
-    /// message fits. Refused with the buffer's first fault, and for want of memory.
+    /// Accepts exactly the buffers that begin with a message word, and answers that word's message (RFC 1035, 4.1);
+    /// that message fits. Refused with the buffer's first fault, and with `Memory` for want of it.
     pub fn from_vec(alloc: Global, buffer: &[u8]) -> Result<Message, DecodeError>
         ensures found { IfOk result (λ m. (e : ℕ) × IsMessageAt buffer.now 0 (message_value m) e) }
         ensures only { (m : MessageValue) (e : ℕ) → IsMessageAt buffer.now 0 m e → MatchResult result (λ read. message_value read ≡ m) (λ f. f ≡ DecodeError.Memory) }

@@ -32,9 +32,10 @@ use rr::Record;
 /// that something was cut, or what `metadata` says (RFC 1035, 4.1.1). The high bits of EDNS are those of the response
 /// code (RFC 6891, 6.1.3). The count of the additional records includes EDNS and the signature.
 ///
-/// Refused where a part is refused otherwise, where header or questions don't fit, for want of memory, and with a
-/// `Message` where a count passes 65,535: for a section as soon as it is written, for EDNS and the signature with the
-/// additional records before them, and for the questions at the end.
+/// Refused with `MaxBufferSizeExceeded` where the header doesn't fit, with what the questions are refused with, which
+/// is `NotAllRecordsWritten` where they don't fit, with any other refusal of a part, with `Memory` for want of it, and
+/// with a `Message` where a count passes 65,535: for a section as soon as it is written, for EDNS and the signature
+/// with the additional records before them, and for the questions at the end.
 pub fn emit_message_parts<Q, A, N, D>(
     metadata: &Metadata,
     queries: &mut Q,

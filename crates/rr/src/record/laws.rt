@@ -32,8 +32,8 @@ pub fn equal_records<R: RecordData>()
     ensures equivalence { IsEquivalence ⟦<Record<R> as PartialEq>⟧.eq }
 {}
 
-/// The canonical order of records is total, and ties exactly records with the same name, letters folded, type, class and
-/// TTL, and equal data.
+/// The canonical order of records is total, and ties exactly records with the same name, letters folded, type, class
+/// and TTL, and equal data.
 pub fn canonical_order()
     ensures total { IsTotalOrder record_cmp }
     ensures ties { (a b : Entry RData) → (record_cmp a b ≡ Ordering.Equal)

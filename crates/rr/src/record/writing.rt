@@ -21,7 +21,7 @@ impl<R: RecordData> BinEncodable for Record<R> {
     /// Writes name, type, class with the cache-flush bit, TTL, and the data behind the number of its bytes
     /// (RFC 1035, 4.1.3; RFC 6762, 10.2).
     ///
-    /// Refused where a byte would pass the limit, and for want of memory.
+    /// Refused with `MaxBufferSizeExceeded` where a byte would pass the limit, and with `Memory` for want of it.
     fn emit(&self, encoder: &mut BinEncoder<'_>) -> Result<(), ProtoError> {
         self.name.emit(encoder)?;
         self.record_type().emit(encoder)?;

@@ -13,7 +13,7 @@ impl<'a> BinEncoder<'a> {
     ///
     /// Where an item doesn't fit the limit, refused with `NotAllRecordsWritten`, the number of the items
     /// before it, and bytes and suffixes as they were behind those; the iterator stands behind that item.
-    /// Refused for want of memory, too.
+    /// Refused with `Memory` for want of it, too.
     pub fn emit_all<E: BinEncodable + Drop, I: Iterator<Item = E>>(
         &mut self,
         items: &mut I,

@@ -114,7 +114,9 @@ impl BinEncodable for EdnsOption {
 
     ghost owner = { λ _. [] };
 
-    /// Writes the code, the number of the bytes, and the bytes.
+    /// Writes the code, the number of the bytes, and the bytes (RFC 6891, 6.1.2).
+    ///
+    /// Refused with `MaxBufferSizeExceeded` where a byte would pass the limit, and with `Memory` for want of it.
     fn emit(&self, encoder: &mut BinEncoder<'_>) -> Result<(), ProtoError> {
         let bytes = self.bytes();
         self.code().emit(encoder)?;
@@ -126,8 +128,8 @@ impl BinEncodable for EdnsOption {
 impl BinDecodable for EdnsOption {
     ghost read_at = { option_at };
 
-    /// Reads a code, a number, and as many bytes. Refused with `InsufficientBytes` where the buffer ends
-    /// before, and for want of memory.
+    /// Reads a code, a number, and as many bytes (RFC 6891, 6.1.2). Refused with `InsufficientBytes` where the buffer
+    /// ends before, and with `Memory` for want of it.
     fn read(decoder: &mut BinDecoder<'_>) -> Result<EdnsOption, DecodeError> {
         let code = decoder.read_u16()?;
         let len = decoder.read_u16()?;
