@@ -8,11 +8,11 @@ use crate::rdata::{A, AAAA, ANAME, CNAME, MX, NS, NULL, OPT, PTR, RData, SOA, SR
 use base::{BinDecodable, BinDecoder, DecodeError, RecordType};
 
 impl RData {
-    /// Reads the data of a type, of as many bytes (RFC 1035, 3.2.1): data of length 0 is `Update0`, and data of a
-    /// type that has no kind of its own is `Unknown`. Pointers of names are followed.
+    /// Reads the data of a type, of `len` bytes (RFC 1035, 3.2.1): data of length 0 is `Update0`, and data of a type
+    /// that has no kind of its own is `Unknown`. Pointers of names are followed.
     ///
     /// Refused with `BadData` where the bytes are no data of the type, where the data doesn't fill its length
-    /// exactly, and for data of type 0 that has a byte; and for want of memory.
+    /// exactly, and for data of type 0 that has a byte; and with `Memory` for want of it.
     #[tactic(auto, unfolding(crate::specs::RData::rdata_at))]
     pub fn read(
         decoder: &mut BinDecoder<'_>,
