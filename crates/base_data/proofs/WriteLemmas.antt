@@ -6,7 +6,7 @@ use Rattle.base.proofs.LawLemmas.{Keeps-then, Writes-then}
 use Rattle.base.specs.Laws.{Keeps, StoresSuffixes, Writes}
 use Rattle.base.specs.State.{State, appended}
 use Rattle.base.specs.Words.{Bytes, Number}
-use Rattle.base_data.specs.DataNames.{CompressesMX, CompressesSOA, IsCompressed}
+use Rattle.base_data.specs.DataNames.{soa_numbers, CompressesMX, CompressesSOA, IsCompressed}
 use Rattle.base_data.specs.SRV.{srv_wire}
 use Rattle.base_data.specs.declared.rdata.mx.MX.{MX}
 use Rattle.base_data.specs.declared.rdata.srv.SRV.{SRV}
@@ -44,17 +44,22 @@ compressed (Err e) word n labels a b writes stores = writes
 pub compressed_mx : (x : MX) (a b c : State) → b ≡ appended (to_be_bytes w16 x.preference) a → IsCompressed x.exchange.labels b c → CompressesMX x a c
 compressed_mx x a b c is name = subst (λ (s : State). IsCompressed x.exchange.labels s c) is name
 
+-- numbers, one behind the other
+pub numbers_written : (x : SOA) (c d e f g h : State) → d ≡ appended (to_be_bytes w32 x.serial) c → e ≡ appended (to_be_bytes w32 x.refresh) d → f ≡ appended (to_be_bytes w32 x.retry) e → g ≡ appended (to_be_bytes w32 x.expire) f → h ≡ appended (to_be_bytes w32 x.minimum) g → h ≡ appended (soa_numbers x) c
+numbers_written x c d e f g h serial refresh retry expire minimum =
+    appended_both c d h (to_be_bytes w32 x.serial) ((to_be_bytes w32 x.refresh) ++ ((to_be_bytes w32 x.retry) ++ ((to_be_bytes w32 x.expire) ++ (to_be_bytes w32 x.minimum)))) serial (appended_both d e h (to_be_bytes w32 x.refresh) ((to_be_bytes w32 x.retry) ++ ((to_be_bytes w32 x.expire) ++ (to_be_bytes w32 x.minimum))) refresh (appended_both e f h (to_be_bytes w32 x.retry) ((to_be_bytes w32 x.expire) ++ (to_be_bytes w32 x.minimum)) retry (appended_both f g h (to_be_bytes w32 x.expire) (to_be_bytes w32 x.minimum) expire minimum)))
+
 -- two names, and numbers behind them
-pub compressed_soa : {v w : List ℕ → ℕ → ℕ → Type 0} {m n : ℕ} (x : SOA) (a b c d e f g h : State) → Keeps a b → Writes v m x.mname.labels a b → StoresSuffixes x.mname.labels a b → Keeps b c → Writes w n x.rname.labels b c → StoresSuffixes x.rname.labels b c
-    → d ≡ appended (to_be_bytes w32 x.serial) c → e ≡ appended (to_be_bytes w32 x.refresh) d → f ≡ appended (to_be_bytes w32 x.retry) e → g ≡ appended (to_be_bytes w32 x.expire) f → h ≡ appended (to_be_bytes w32 x.minimum) g → CompressesSOA x a h
-compressed_soa x a b c d e f g h k first stores_first l second stores_second serial refresh retry expire minimum = record {
+pub compressed_soa : {v w : List ℕ → ℕ → ℕ → Type 0} {m n : ℕ} (x : SOA) (a b c h : State) → Keeps a b → Writes v m x.mname.labels a b → StoresSuffixes x.mname.labels a b → Keeps b c → Writes w n x.rname.labels b c → StoresSuffixes x.rname.labels b c
+    → h ≡ appended (soa_numbers x) c → CompressesSOA x a h
+compressed_soa x a b c h k first stores_first l second stores_second numbers = record {
   behind_first = b;
   behind_second = c;
   keeps_first = k;
   first = record { points = first.compresses; stores = stores_first };
   keeps_second = l;
   second = record { points = second.compresses; stores = stores_second };
-  numbers = appended_both c d h (to_be_bytes w32 x.serial) ((to_be_bytes w32 x.refresh) ++ ((to_be_bytes w32 x.retry) ++ ((to_be_bytes w32 x.expire) ++ (to_be_bytes w32 x.minimum)))) serial (appended_both d e h (to_be_bytes w32 x.refresh) ((to_be_bytes w32 x.retry) ++ ((to_be_bytes w32 x.expire) ++ (to_be_bytes w32 x.minimum))) refresh (appended_both e f h (to_be_bytes w32 x.retry) ((to_be_bytes w32 x.expire) ++ (to_be_bytes w32 x.minimum)) retry (appended_both f g h (to_be_bytes w32 x.expire) (to_be_bytes w32 x.minimum) expire minimum)));
+  numbers = numbers;
 }
 
 -- numbers, and a name without compression behind them

@@ -52,23 +52,27 @@ abbrev pub filling : RecordType → ℕ → Read RData → Read RData
 filling type end (Ok r) = if r.1 == end then Ok r else Err (faults.BadData type)
 filling type end (Err e) = Err (in_data type e)
 
+-- what was read of one kind, as data of any record
+abbrev pub as_any : {X : Type 0} → (X → RData) → Read X → Read RData
+as_any kind read = read >>= λ r. Ok (kind r.0, r.1)
+
 -- the data of a type that begins at a place; a type without a kind of its own is only carried, and type 0 has no data
 unfoldable pub kind_at : RecordType → ℕ → List ℕ → ℕ → Read RData
-kind_at types.A len bytes i = a_at bytes i >>= λ r. Ok (kinds.A r.0, r.1)
-kind_at types.AAAA len bytes i = aaaa_at bytes i >>= λ r. Ok (kinds.AAAA r.0, r.1)
-kind_at types.NS len bytes i = ns_at bytes i >>= λ r. Ok (kinds.NS r.0, r.1)
-kind_at types.CNAME len bytes i = cname_at bytes i >>= λ r. Ok (kinds.CNAME r.0, r.1)
-kind_at types.PTR len bytes i = ptr_at bytes i >>= λ r. Ok (kinds.PTR r.0, r.1)
-kind_at types.ANAME len bytes i = aname_at bytes i >>= λ r. Ok (kinds.ANAME r.0, r.1)
-kind_at types.MX len bytes i = mx_at bytes i >>= λ r. Ok (kinds.MX r.0, r.1)
-kind_at types.SOA len bytes i = soa_at bytes i >>= λ r. Ok (kinds.SOA r.0, r.1)
-kind_at types.SRV len bytes i = srv_at bytes i >>= λ r. Ok (kinds.SRV r.0, r.1)
-kind_at types.TXT len bytes i = txt_at len bytes i >>= λ r. Ok (kinds.TXT r.0, r.1)
-kind_at types.NULL len bytes i = bytes_at len bytes i >>= λ r. Ok (kinds.NULL r.0, r.1)
-kind_at types.OPT len bytes i = opt_at len bytes i >>= λ r. Ok (kinds.OPT r.0, r.1)
-kind_at types.TSIG len bytes i = bytes_at len bytes i >>= λ r. Ok (kinds.TSIG r.0, r.1)
+kind_at types.A len bytes i = as_any kinds.A (a_at bytes i)
+kind_at types.AAAA len bytes i = as_any kinds.AAAA (aaaa_at bytes i)
+kind_at types.NS len bytes i = as_any kinds.NS (ns_at bytes i)
+kind_at types.CNAME len bytes i = as_any kinds.CNAME (cname_at bytes i)
+kind_at types.PTR len bytes i = as_any kinds.PTR (ptr_at bytes i)
+kind_at types.ANAME len bytes i = as_any kinds.ANAME (aname_at bytes i)
+kind_at types.MX len bytes i = as_any kinds.MX (mx_at bytes i)
+kind_at types.SOA len bytes i = as_any kinds.SOA (soa_at bytes i)
+kind_at types.SRV len bytes i = as_any kinds.SRV (srv_at bytes i)
+kind_at types.TXT len bytes i = as_any kinds.TXT (txt_at len bytes i)
+kind_at types.NULL len bytes i = as_any kinds.NULL (bytes_at len bytes i)
+kind_at types.OPT len bytes i = as_any kinds.OPT (opt_at len bytes i)
+kind_at types.TSIG len bytes i = as_any kinds.TSIG (bytes_at len bytes i)
 kind_at types.ZERO len bytes i = Err (faults.BadData types.ZERO)
-kind_at type len bytes i = bytes_at len bytes i >>= λ r. Ok (kinds.Unknown type r.0, r.1)
+kind_at type len bytes i = as_any (kinds.Unknown type) (bytes_at len bytes i)
 
 -- The data of a type and a length: none where the length is 0, and else what fills the length exactly.
 unfoldable pub rdata_at : RecordType → ℕ → List ℕ → ℕ → Read RData

@@ -35,13 +35,17 @@ soa_cmp = then_cmp (then_cmp (then_cmp (then_cmp (then_cmp (then_cmp (then_cmp (
 pub soa_cmp-total : IsTotalOrder soa_cmp
 soa_cmp-total = search (canonical_cmp-total, flag_cmp-total, comparing, rules) depth 13
 
+-- the version and the times, one behind the other
+abbrev pub SOANumbers : SOA → List ℕ → ℕ → ℕ → Type 0
+SOANumbers x = Then (Number w32 x.serial) (Then (Number w32 x.refresh) (Then (Number w32 x.retry) (Then (Number w32 x.expire) (Number w32 x.minimum))))
+
 -- the word that the fields are written as, one behind the other
 abbrev pub SOAWord : SOA → List ℕ → ℕ → ℕ → Type 0
-SOAWord x = Then (NameAt x.mname.labels) (Then (NameAt x.rname.labels) (Then (Number w32 x.serial) (Then (Number w32 x.refresh) (Then (Number w32 x.retry) (Then (Number w32 x.expire) (Number w32 x.minimum))))))
+SOAWord x = Then (NameAt x.mname.labels) (Then (NameAt x.rname.labels) (SOANumbers x))
 
 -- how many bytes the fields are, names without compression
 abbrev pub plain_soa : SOA → ℕ
-plain_soa x = plain_len x.mname.labels + (plain_len x.rname.labels + (4 + (4 + (4 + (4 + (4))))))
+plain_soa x = plain_len x.mname.labels + (plain_len x.rname.labels + 20)
 
 -- the fields, with a space between each two
 abbrev pub soa_text : SOA → List ℕ

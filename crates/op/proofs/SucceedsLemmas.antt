@@ -1,17 +1,17 @@
--- A message of slices, in an encoder that is empty and has room for header and questions, is refused for memory alone.
-use Rattle.std.proofs.Common.{◌≡◌, ◌⊎◌, ℕ, ◌+◌, ◌<◌, ◌≤◌, ◌^◌, List, [], ◌∷◌, ◌++◌, length, inl, inr, refl, ap, sym, ◌∙◌, subst, arith, length-append, Result, Ok, Err, Iter}
+-- A message of slices, in an encoder that is empty, is refused for memory, or where header or questions have no room.
+use Rattle.std.proofs.Common.{◌≡◌, ◌⊎◌, ℕ, Bool, true, ◌+◌, ◌<◌, ◌≤◌, ◌^◌, List, [], ◌∷◌, ◌++◌, length, inl, inr, refl, ap, sym, ◌∙◌, subst, arith, length-append, Result, Ok, Err, Iter}
 use Rattle.std.specs.Prelude.{IfErr, IsOkUnless, ⊤, replicate}
 use Rattle.base.specs.Items.{EachWritten}
-use Rattle.base.specs.State.{State}
+use Rattle.base.specs.State.{State, appended}
 use Rattle.base.specs.declared.error.proto_error.ProtoError.{ProtoError}
 use Rattle.base.specs.declared.error.proto_error.ProtoError.TheVariants as refusals
 use Rattle.base.proofs.SliceLemmas.{Emits-front, Emits-slice}
 use Rattle.base_data.specs.declared.rdata.RData.{RData}
 use Rattle.rr.specs.Record.{RecordWord, plain_record}
 use Rattle.rr.specs.declared.record.Record.{Record}
-use Rattle.op.specs.Cut.{IsTooSmall}
+use Rattle.op.specs.Cut.{IsTooSmall, NoRoom, any_lost}
 use Rattle.op.specs.Composition.{Adds, AndThen, Counts, EmitsPart, EmitsSections, FillsIn, HasHeader, KeepsRoom, Tests, WritesExtras, WritesRecordItems}
-use Rattle.op.specs.Emitted.{WritesRecords, query_owner, record_owner}
+use Rattle.op.specs.Emitted.{Leaves, WritesFront, WritesRecords, query_owner, record_owner}
 use Rattle.op.specs.Fits.{HasRoom, plain_queries}
 use Rattle.op.specs.Message.{MessageValue}
 use Rattle.op.specs.Query.{QueryWord, plain_query}
@@ -139,13 +139,13 @@ module _ (m : MessageValue) (q q' : Iter Query) (a a' n n' d d' : Iter (Record R
   abbrev Asked : ℕ → State → Result Header ProtoError → State → Type 0
   Asked place = AndThen (λ s answer t. emits_queries q s answer q' t) ((a' ≡ a) × (n' ≡ n) × (d' ≡ d)) (Sectioned place)
 
-  -- want of memory, or a limit without room for header and questions
-  abbrev Small : ProtoError → Type 0
-  Small f = (f ≡ refusals.Memory) ⊎ IsTooSmall m old.limit f
+  -- want of memory, or no room for header or questions
+  abbrev Left : ProtoError → Type 0
+  Left f = (f ≡ refusals.Memory) ⊎ Leaves m old f new
 
-  room_failed : (f : ProtoError) → KeepsRoom old (Err f) new → Small f
+  room_failed : (f : ProtoError) → KeepsRoom old (Err f) new → Left f
   room_failed refusals.Memory run = inl refl
-  room_failed refusals.MaxBufferSizeExceeded run = inr (omega (arith, run.1, ap length empty))
+  room_failed refusals.MaxBufferSizeExceeded run = inr (run.1, run.0)
   room_failed (refusals.NotAllRecordsWritten count) run = absurd run.1
   room_failed refusals.NotOpt run = absurd run.1
   room_failed (refusals.Message text) run = absurd run.1
@@ -153,9 +153,6 @@ module _ (m : MessageValue) (q q' : Iter Query) (a a' n n' d d' : Iter (Record R
   room_failed (refusals.Decode d) run = absurd run.1
 
   module _ (place : ℕ) (kept : State) (room : KeepsRoom old (Ok place) kept) where
-    twelve : length kept.bytes ≡ 12
-    twelve = ap (λ (s : State). length s.bytes) room.1 ∙ length-append old.bytes (replicate 12 0) ∙ ap (λ (xs : List ℕ). length xs + 12) empty
-
     limit : kept.limit ≡ old.limit
     limit = ap (λ (s : State). s.limit) room.1
 
@@ -168,17 +165,26 @@ module _ (m : MessageValue) (q q' : Iter Query) (a a' n n' d d' : Iter (Record R
     kept_small : kept.limit < 2 ^ 16
     kept_small = omega (arith, limit, small)
 
-    not_all : (xs rest : List Query) (x : Query) (b : State) → q.rest.now ≡ xs ++ x ∷ rest → EachWritten QueryWord plain_query query_owner xs kept b → kept.limit < length b.bytes + plain_query x → (12 ≤ old.limit) × (old.limit < 12 + plain_queries m.queries)
-    not_all xs rest x b whole each full =
-        let sum : plain_queries m.queries ≡ plain_queries xs + (plain_query x + plain_queries rest) = ap plain_queries (sym are.queries ∙ whole) ∙ plain-append xs (x ∷ rest) in
-        let wrote = queries_within xs kept b each in
-        (omega (arith, room.2, twelve), omega (arith, full, wrote, twelve, limit, sum))
+    -- the questions before one that had no room
+    not_all : (xs rest : List Query) (x : Query) (count : ℕ) → q.rest.now ≡ xs ++ x ∷ rest → EachWritten QueryWord plain_query query_owner xs kept new → count ≡ length xs → kept.limit < length new.bytes + plain_query x
+        → Leaves m old (refusals.NotAllRecordsWritten count) new
+    not_all xs rest x count whole each counted full =
+        let front : WritesFront QueryWord plain_query query_owner m.queries kept new count true = record {
+          kept = xs;
+          lost = x ∷ rest;
+          whole = sym are.queries ∙ whole;
+          written = each;
+          counted = counted;
+          tells = refl;
+          full = full;
+        } in
+        (omega (arith, room.2, room.1, ap (λ (s : State). length s.bytes) room.1 ∙ length-append old.bytes (replicate 12 0)), subst (λ s. WritesFront QueryWord plain_query query_owner m.queries s new count true) room.1 front)
 
-    queries_failed : (f : ProtoError) → emits_queries q kept (Err f) q' new → Small f
+    queries_failed : (f : ProtoError) → emits_queries q kept (Err f) q' new → Left f
     queries_failed refusals.Memory run = inl refl
     queries_failed (refusals.NotAllRecordsWritten count) run =
         let front = Emits-front QueryWord plain_query query_owner q q' kept new count run in
-        inr (not_all front.0 front.2 front.1 new front.3 front.4 front.6)
+        inr (not_all front.0 front.2 front.1 count front.3 front.4 front.5 front.6)
     queries_failed refusals.MaxBufferSizeExceeded run = absurd run
     queries_failed refusals.NotOpt run = absurd run
     queries_failed (refusals.Message text) run = absurd run
@@ -210,7 +216,7 @@ module _ (m : MessageValue) (q q' : Iter Query) (a a' n n' d d' : Iter (Record R
           | inr b ↦ extras_next queries first b.between b.value few took (sections_done a a' n n' d d' b.value first b.between b.ran) b.rest
         ]
 
-    queries_next : Asked place kept (Err e) new → Small e
+    queries_next : Asked place kept (Err e) new → Left e
     queries_next run =
         elim (failed e run) [
           | inl queries ↦ queries_failed e queries
@@ -222,13 +228,43 @@ module _ (m : MessageValue) (q q' : Iter Query) (a a' n n' d d' : Iter (Record R
             let few = queries_few q.rest.now kept first asked.0 no_suffix kept_within kept_small in
             sections_next queries first (omega (arith, asked.1, few)) (took_queries q.rest.now kept first asked.0) rest
 
-  pub composed_failed : Composed m q q' a a' n n' d d' edns signature old (Err e) new → Small e
+  pub composed_failed : Composed m q q' a a' n n' d d' edns signature old (Err e) new → Left e
   composed_failed run = elim (failed e run) [ inl room ↦ room_failed e room | inr b ↦ queries_next b.value b.between b.ran b.rest ]
 
-pub refused_if : (m : MessageValue) (q q' : Iter Query) (a a' n n' d d' : Iter (Record RData)) (edns signature : List (Record RData)) → AreOf m q q' a a' n n' d d' edns signature → (old new : State) (result : Result Header ProtoError)
-    → Composed m q q' a a' n n' d d' edns signature old result new → old.bytes ≡ [] → old.suffixes ≡ [] → old.limit < 2 ^ 16 → IfErr result (λ e. (e ≡ refusals.Memory) ⊎ IsTooSmall m old.limit e)
-refused_if m q q' a a' n n' d d' edns signature are old new (Ok h) run empty blank small = tt
-refused_if m q q' a a' n n' d d' edns signature are old new (Err e) run empty blank small = composed_failed m q q' a a' n n' d d' edns signature are old new empty blank small e run
+pub left_if : (m : MessageValue) (q q' : Iter Query) (a a' n n' d d' : Iter (Record RData)) (edns signature : List (Record RData)) → AreOf m q q' a a' n n' d d' edns signature → (old new : State) (result : Result Header ProtoError)
+    → Composed m q q' a a' n n' d d' edns signature old result new → old.bytes ≡ [] → old.suffixes ≡ [] → old.limit < 2 ^ 16 → IfErr result (λ e. (e ≡ refusals.Memory) ⊎ Leaves m old e new)
+left_if m q q' a a' n n' d d' edns signature are old new (Ok h) run empty blank small = tt
+left_if m q q' a a' n n' d d' edns signature are old new (Err e) run empty blank small = composed_failed m q q' a a' n n' d d' edns signature are old new empty blank small e run
+
+-- ---- what follows of the limit
+
+lost_some : (limit place : ℕ) (lost : List Query) → true ≡ any_lost lost → NoRoom plain_query limit place lost → limit < place + plain_queries lost
+lost_some limit place [] tells full = absurd (let is = tells in cc)
+lost_some limit place (x ∷ xs) tells full = omega (arith, full)
+
+-- a question without room is one of those for which there is none
+front_full : (qs : List Query) (a b : State) (count : ℕ) → WritesFront QueryWord plain_query query_owner qs a b count true → a.limit < length a.bytes + plain_queries qs
+front_full qs a b count front =
+    let lost = lost_some a.limit (length b.bytes) front.lost front.tells front.full in
+    let sum : plain_queries qs ≡ plain_queries front.kept + plain_queries front.lost = ap plain_queries front.whole ∙ plain-append front.kept front.lost in
+    omega (arith, lost, queries_within front.kept a b front.written, sum)
+
+too_small : (m : MessageValue) (old new : State) (e : ProtoError) → old.bytes ≡ [] → (e ≡ refusals.Memory) ⊎ Leaves m old e new → (e ≡ refusals.Memory) ⊎ IsTooSmall m old.limit e
+too_small m old new e empty (inl memory) = inl memory
+too_small m old new refusals.MaxBufferSizeExceeded empty (inr left) = inr (omega (arith, left.0, ap length empty))
+too_small m old new (refusals.NotAllRecordsWritten count) empty (inr left) =
+    let blank = length-append old.bytes (replicate 12 0) in
+    let full = front_full m.queries (appended (replicate 12 0) old) new count left.1 in
+    inr (omega (arith, left.0, ap length empty), omega (arith, full, blank, ap length empty))
+too_small m old new refusals.Memory empty (inr left) = absurd left
+too_small m old new refusals.NotOpt empty (inr left) = absurd left
+too_small m old new (refusals.Message text) empty (inr left) = absurd left
+too_small m old new refusals.NotAResponse empty (inr left) = absurd left
+too_small m old new (refusals.Decode d) empty (inr left) = absurd left
+
+pub refused_if : (m : MessageValue) (old new : State) (result : Result Header ProtoError) → old.bytes ≡ [] → IfErr result (λ e. (e ≡ refusals.Memory) ⊎ Leaves m old e new) → IfErr result (λ e. (e ≡ refusals.Memory) ⊎ IsTooSmall m old.limit e)
+refused_if m old new (Ok h) empty left = tt
+refused_if m old new (Err e) empty left = too_small m old new e empty left
 
 -- where there is room, nothing but memory is refused
 room_enough : (m : MessageValue) (limit : ℕ) (e : ProtoError) → HasRoom m limit → (e ≡ refusals.Memory) ⊎ IsTooSmall m limit e → e ≡ refusals.Memory

@@ -1,8 +1,10 @@
 -- What writing a message leaves, in an encoder's states.
-use Rattle.std.specs.Prelude.{◌≡◌, ℕ, Bool, ◌+◌, ◌≤◌, ◌||◌, List, ◌++◌, length, replicate}
+use Rattle.std.specs.Prelude.{◌≡◌, ℕ, Bool, true, ◌+◌, ◌<◌, ◌≤◌, ◌||◌, List, ◌++◌, length, replicate}
 use Rattle.std.specs.Option.{option_map}
 use Rattle.base.specs.Items.{EachWritten}
 use Rattle.base.specs.State.{State, appended, overwritten}
+use Rattle.base.specs.declared.error.proto_error.ProtoError.{ProtoError}
+use Rattle.base.specs.declared.error.proto_error.ProtoError.TheVariants as refusals
 use Rattle.base_data.specs.declared.rdata.RData.{RData}
 use Rattle.rr.specs.Record.{RecordWord, plain_record}
 use Rattle.rr.specs.declared.record.Record.{Record}
@@ -68,3 +70,11 @@ pub record Emitted (m : MessageValue) (old new : State) (h : Header) : Type 0 wh
   pub sum : h.counts.additionals ≡ additional_count + (edns_count + signature_count)
   pub metadata : h.metadata ≡ record m.metadata { truncation = m.metadata.truncation || (answers_cut || (authorities_cut || (additionals_cut || (edns_cut || signature_cut)))) }
   pub header : new ≡ overwritten (length old.bytes) (header_bytes (raw_header h)) sixth
+
+-- What a refusal but for memory leaves: nothing was written where the header had no room; else room for the header, and as
+-- many questions as the refusal says, which are all before one that had no room.
+abbrev pub Leaves : MessageValue → State → ProtoError → State → Type 0
+Leaves m old refusals.MaxBufferSizeExceeded new = (old.limit < length old.bytes + 12) × (new ≡ old)
+Leaves m old (refusals.NotAllRecordsWritten count) new =
+    (length old.bytes + 12 ≤ old.limit) × WritesFront QueryWord plain_query query_owner m.queries (appended (replicate 12 0) old) new count true
+Leaves m old _ new = ⊥

@@ -2,9 +2,10 @@
 
 ghost use Rattle.std.specs.Prelude.{◌≡◌, ◌<◌};
 ghost use Rattle.base.specs.Reading.{Reads};
-ghost use Rattle.base_data.specs.RData.{in_data, kind_at, rdata_at};
+ghost use Rattle.base_data.specs.RData.{as_any, in_data, kind_at, rdata_at};
 
 use crate::rdata::{A, AAAA, ANAME, CNAME, MX, NS, NULL, OPT, PTR, RData, SOA, SRV, TSIG, TXT};
+use crate::record_data::RecordData;
 use base::{BinDecodable, BinDecoder, DecodeError, RecordType};
 
 impl RData {
@@ -59,24 +60,33 @@ fn read_kind(
     requires { 0 < len }
     ensures read { Reads (λ x. x) decoder.old decoder.new result (kind_at record_type len decoder.old.bytes decoder.old.index) }
 {
-    Ok(match record_type {
-        RecordType::A => RData::A(A::read(decoder)?),
-        RecordType::AAAA => RData::AAAA(AAAA::read(decoder)?),
-        RecordType::NS => RData::NS(NS::read(decoder)?),
-        RecordType::CNAME => RData::CNAME(CNAME::read(decoder)?),
-        RecordType::PTR => RData::PTR(PTR::read(decoder)?),
-        RecordType::ANAME => RData::ANAME(ANAME::read(decoder)?),
-        RecordType::MX => RData::MX(MX::read(decoder)?),
-        RecordType::SOA => RData::SOA(SOA::read(decoder)?),
-        RecordType::SRV => RData::SRV(SRV::read(decoder)?),
-        RecordType::TXT => RData::TXT(TXT::read(decoder, usize::from(len))?),
-        RecordType::NULL => RData::NULL(NULL::read(decoder, usize::from(len))?),
-        RecordType::OPT => RData::OPT(OPT::read(decoder, len)?),
-        RecordType::TSIG => RData::TSIG(TSIG::read(decoder, usize::from(len))?),
-        RecordType::ZERO => return Err(DecodeError::BadData(RecordType::ZERO)),
-        code => RData::Unknown {
-            code,
-            rdata: NULL::read(decoder, usize::from(len))?,
-        },
-    })
+    match record_type {
+        RecordType::A => read_as::<A>(decoder),
+        RecordType::AAAA => read_as::<AAAA>(decoder),
+        RecordType::NS => read_as::<NS>(decoder),
+        RecordType::CNAME => read_as::<CNAME>(decoder),
+        RecordType::PTR => read_as::<PTR>(decoder),
+        RecordType::ANAME => read_as::<ANAME>(decoder),
+        RecordType::MX => read_as::<MX>(decoder),
+        RecordType::SOA => read_as::<SOA>(decoder),
+        RecordType::SRV => read_as::<SRV>(decoder),
+        RecordType::TXT => Ok(RData::TXT(TXT::read(decoder, usize::from(len))?)),
+        RecordType::NULL => Ok(RData::NULL(NULL::read(decoder, usize::from(len))?)),
+        RecordType::OPT => Ok(RData::OPT(OPT::read(decoder, len)?)),
+        RecordType::TSIG => Ok(RData::TSIG(TSIG::read(decoder, usize::from(len))?)),
+        RecordType::ZERO => Err(DecodeError::BadData(RecordType::ZERO)),
+        code => {
+            let rdata = NULL::read(decoder, usize::from(len))?;
+            Ok(RData::Unknown { code, rdata })
+        }
+    }
+}
+
+/// Reads the data of a kind that ends by itself.
+fn read_as<R: BinDecodable + RecordData>(
+    decoder: &mut BinDecoder<'_>,
+) -> Result<RData, DecodeError>
+    ensures read { Reads (λ x. x) decoder.old decoder.new result (as_any R.as_rdata (R.read_at decoder.old.bytes decoder.old.index)) }
+{
+    Ok(R::read(decoder)?.into_rdata())
 }

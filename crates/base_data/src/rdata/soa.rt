@@ -4,9 +4,10 @@ ghost use Rattle.std.specs.Prelude.{◌≡◌, refl, OnOk, Some, []};
 ghost use Rattle.std.specs.Cmp.{eq_by_cmp_equiv, partial_equiv_from_equiv, partial_order_from_total};
 ghost use Rattle.std.specs.Ordering.{as_partial_cmp, eq_by_cmp};
 ghost use Rattle.base.specs.Laws.{Keeps, Writes};
+ghost use Rattle.base.specs.State.{appended};
 ghost use Rattle.base.specs.Wire.{state_of, Refuses};
-ghost use Rattle.base_data.specs.DataNames.{CompressesSOA};
-ghost use Rattle.base_data.specs.SOA.{SOAWord, soa_at, soa_cmp, soa_cmp-total, plain_soa, soa_text};
+ghost use Rattle.base_data.specs.DataNames.{CompressesSOA, soa_numbers};
+ghost use Rattle.base_data.specs.SOA.{SOANumbers, SOAWord, soa_at, soa_cmp, soa_cmp-total, plain_soa, soa_text};
 
 use crate::rdata::emit::emit_u32;
 use base::{BinDecodable, BinDecoder, BinEncodable, BinEncoder, DecodeError, Name, ProtoError};
@@ -211,6 +212,18 @@ impl BinEncodable for SOA {
     {
         self.mname.emit(encoder)?;
         self.rname.emit(encoder)?;
+        self.emit_numbers(encoder)
+    }
+}
+
+impl SOA {
+    // Writes the version and the times.
+    fn emit_numbers(&self, encoder: &mut BinEncoder<'_>) -> Result<(), ProtoError>
+        ensures state { OnOk result (state_of encoder.new ≡ appended (soa_numbers self.now) (state_of encoder.old)) }
+        ensures keeps { Keeps (state_of encoder.old) (state_of encoder.new) }
+        ensures writes { OnOk result (Writes (SOANumbers self.now) 20 [] (state_of encoder.old) (state_of encoder.new)) }
+        ensures refuses { Refuses 20 (state_of encoder.old) result }
+    {
         emit_u32(self.serial, encoder)?;
         emit_u32(self.refresh, encoder)?;
         emit_u32(self.retry, encoder)?;

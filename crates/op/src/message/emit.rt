@@ -4,7 +4,7 @@ ghost use Rattle.std.specs.Prelude.{◌≡◌, ◌⊎◌, [], IfErr, IfOk, IsOkU
 ghost use Rattle.base.specs.Laws.{Keeps};
 ghost use Rattle.base.specs.Wire.{state_of};
 ghost use Rattle.op.specs.Cut.{IsTooSmall, IsWritten};
-ghost use Rattle.op.specs.Emitted.{Emitted};
+ghost use Rattle.op.specs.Emitted.{Emitted, Leaves};
 ghost use Rattle.op.specs.Fits.{Fits, HasRoom};
 ghost use Rattle.op.specs.Message.{message_value};
 ghost use Rattle.op.specs.declared.header.Header.{Header as WrittenHeader};
@@ -20,9 +20,10 @@ impl Message {
     /// so. Into a new encoder, of a message that fits the wire, this writes a cut of the message, which is read as
     /// exactly that.
     ///
-    /// Refused with `MaxBufferSizeExceeded` where the header doesn't fit, with `NotAllRecordsWritten` where the
-    /// questions don't, with a `Message` where a count passes 65,535, and with `Memory` for want of it; into a new
-    /// encoder with room for header and questions uncompressed, with `Memory` alone.
+    /// Refused with `MaxBufferSizeExceeded` where the header doesn't fit, and then nothing is written; with
+    /// `NotAllRecordsWritten` where the questions don't, behind so many that are written; with a `Message` where a count
+    /// passes 65,535; and for want of memory. Into a new encoder no count passes that, and with room for header and
+    /// questions uncompressed it is refused for want of memory alone.
     pub fn emit(&self, encoder: &mut BinEncoder<'_>) -> Result<(), ProtoError>
         ensures keeps { Keeps (state_of encoder.old) (state_of encoder.new) }
         ensures emitted { IfOk result (λ _. (h : WrittenHeader) × Emitted (message_value self.now) (state_of encoder.old) (state_of encoder.new) h) }
@@ -32,6 +33,8 @@ impl Message {
             → IsOkUnless result ProtoError.Memory }
         ensures refused { (state_of encoder.old).bytes ≡ [] → (state_of encoder.old).suffixes ≡ []
             → IfErr result (λ e. (e ≡ ProtoError.Memory) ⊎ IsTooSmall (message_value self.now) (state_of encoder.old).limit e) }
+        ensures left { (state_of encoder.old).bytes ≡ [] → (state_of encoder.old).suffixes ≡ []
+            → IfErr result (λ e. (e ≡ ProtoError.Memory) ⊎ Leaves (message_value self.now) (state_of encoder.old) e (state_of encoder.new)) }
     {
         self.emit_header(encoder)?;
         Ok(())
@@ -39,10 +42,11 @@ impl Message {
 
     /// The bytes of the message, cut at 65,535 bytes (RFC 1035, 4.2.2).
     ///
-    /// Refused as `emit` is.
+    /// Refused with `NotAllRecordsWritten` where the questions don't fit, and for want of memory.
     pub fn to_vec(&self) -> Result<Vec<u8>, ProtoError>
         ensures succeeds { HasRoom (message_value self.now) 65535 → IsOkUnless result ProtoError.Memory }
         ensures written { Fits (message_value self.now) → IfOk result (λ bytes. IsWritten (message_value self.now) 65535 bytes.items) }
+        ensures refused { IfErr result (λ e. (e ≡ ProtoError.Memory) ⊎ IsTooSmall (message_value self.now) 65535 e) }
     {
         let mut buffer = Vec::new(*self.queries.allocator());
         {

@@ -7,7 +7,7 @@ ghost use Rattle.base.specs.Wire.{state_of};
 ghost use Rattle.op.specs.Composition.{Composition, HasHeader};
 ghost use Rattle.op.specs.Cut.{IsTooSmall};
 ghost use Rattle.op.specs.EdnsRecord.{edns_record};
-ghost use Rattle.op.specs.Emitted.{Emitted};
+ghost use Rattle.op.specs.Emitted.{Emitted, Leaves};
 ghost use Rattle.op.specs.Fits.{listed, signature_record};
 ghost use Rattle.op.specs.Header.{IsNarrow};
 ghost use Rattle.op.specs.Message.{message_value};
@@ -80,6 +80,8 @@ impl Message {
         ensures emitted { IfOk result (λ h. Emitted (message_value self.now) (state_of encoder.old) (state_of encoder.new) h) }
         ensures refused { (state_of encoder.old).bytes ≡ [] → (state_of encoder.old).suffixes ≡ []
             → IfErr result (λ e. (e ≡ ProtoError.Memory) ⊎ IsTooSmall (message_value self.now) (state_of encoder.old).limit e) }
+        ensures left { (state_of encoder.old).bytes ≡ [] → (state_of encoder.old).suffixes ≡ []
+            → IfErr result (λ e. (e ≡ ProtoError.Memory) ⊎ Leaves (message_value self.now) (state_of encoder.old) e (state_of encoder.new)) }
     {
         emit_message_parts(
             &self.metadata,

@@ -1,7 +1,7 @@
 use Rattle.std.proofs.Common.{◌/◌, ◌%◌, ap, ◌∙◌}
 use Rattle.std.specs.Option.{option_copied, option_map}
 use Rattle.op.proofs.EmittedLemmas.{AreOf, emitted_if, raised_edns, unboxed}
-use Rattle.op.proofs.SucceedsLemmas.{refused_if}
+use Rattle.op.proofs.SucceedsLemmas.{left_if, refused_if}
 use Rattle.op.specs.Fits.{listed, signature_record}
 use Rattle.op.specs.EdnsRecord.{edns_record}
 use Rattle.op.specs.ResponseCode.{code_number}
@@ -26,7 +26,11 @@ returns-clause-emitted c =
     let parts = c.emit_message_parts.new in
     emitted_if (message_value c.args.self.now) c.iter.result parts.queries c.iter-2.result parts.answers c.iter-3.result parts.authorities c.iter-4.result parts.additionals _ _ (parts_of c) _ _ c.emit_message_parts.result c.emit_message_parts.ensures.run
 
+pub returns-clause-left : goal.returns-clause-left
+returns-clause-left c = λ empty blank.
+    let parts = c.emit_message_parts.new in
+    left_if (message_value c.args.self.now) c.iter.result parts.queries c.iter-2.result parts.answers c.iter-3.result parts.authorities c.iter-4.result parts.additionals _ _ (parts_of c) _ _ c.emit_message_parts.result c.emit_message_parts.ensures.run empty blank c.emit_message_parts.ensures.narrow
+
 pub returns-clause-refused : goal.returns-clause-refused
 returns-clause-refused c = λ empty blank.
-    let parts = c.emit_message_parts.new in
-    refused_if (message_value c.args.self.now) c.iter.result parts.queries c.iter-2.result parts.answers c.iter-3.result parts.authorities c.iter-4.result parts.additionals _ _ (parts_of c) _ _ c.emit_message_parts.result c.emit_message_parts.ensures.run empty blank c.emit_message_parts.ensures.narrow
+    refused_if (message_value c.args.self.now) _ _ c.emit_message_parts.result empty (returns-clause-left c empty blank)
