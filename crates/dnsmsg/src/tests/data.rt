@@ -245,6 +245,14 @@ fn texts(rt: HostRuntime) {
     assert!(rt; has_form(rt.alloc(), text, &STRINGS_ON_THE_WIRE, shown));
 }
 
+const MARKS: [&[u8]; 2] = [b"x;y", b"z\"q"];
+
+#[test]
+fn quotes_are_escaped_and_semicolons_are_not(rt: HostRuntime) {
+    let text = TXT::new(rt.alloc(), &MARKS);
+    assert!(rt; has_form(rt.alloc(), text, b"\x03x;y\x03z\"q", "\"x;y\" \"z\\\"q\""));
+}
+
 /// The text that so many of the bytes spell.
 fn read_strings(alloc: Global, len: u16) -> Result<RData, DecodeError> {
     let mut decoder = BinDecoder::new(alloc, &STRINGS_ON_THE_WIRE);
@@ -258,14 +266,16 @@ fn texts_are_read(rt: HostRuntime) {
     assert!(rt; equals_its_copy(read_strings(rt.alloc(), 16)));
 }
 
-/// Whether a text has those strings.
+/// Whether a text has those strings, and no more.
 fn has_strings(text: &TXT) -> bool {
-    for (string, expected) in text.strings().zip(STRINGS.iter()) {
-        if string != *expected {
-            return false;
+    let mut expected = STRINGS.iter();
+    for string in text.strings() {
+        match expected.next() {
+            Some(next) if string == *next => {}
+            _ => return false,
         }
     }
-    true
+    expected.next().is_none()
 }
 
 /// Whether data is a text that has those strings.
@@ -382,19 +392,11 @@ fn read_options(alloc: Global, bytes: &[u8], len: u16) -> Result<RData, DecodeEr
     RData::read(&mut BinDecoder::new(alloc, bytes), RecordType::OPT, len)
 }
 
-/// How many options the data has.
-fn count_of(read: &RData) -> usize {
-    match OPT::try_borrow(read) {
-        Some(options) => options.as_ref().len(),
-        None => 0,
-    }
-}
-
-/// Whether so many options were read.
-fn are_options(read: Result<RData, DecodeError>, count: usize) -> bool {
+/// Whether options were read, and are written as these bytes.
+fn are_options(alloc: Global, read: Result<RData, DecodeError>, wire: &[u8]) -> bool {
     let are_options = match &read {
-        Ok(read) => count_of(read) == count,
-        Err(_) => false,
+        Ok(RData::OPT(options)) => is_written_as(alloc, options, wire),
+        _ => false,
     };
     drop(read);
     are_options
@@ -402,7 +404,36 @@ fn are_options(read: Result<RData, DecodeError>, count: usize) -> bool {
 
 #[test]
 fn options_are_read_as_they_stand(rt: HostRuntime) {
-    assert!(rt; are_options(read_options(rt.alloc(), &ONE_CODE_TWICE, 9), 2));
+    let read = read_options(rt.alloc(), &ONE_CODE_TWICE, 9);
+    assert!(rt; are_options(rt.alloc(), read, &ONE_CODE_TWICE));
+}
+
+/// Whether of two options of code 3 the first is found, one more takes its place, and both are removed.
+fn go_by_the_first(alloc: Global, mut options: OPT) -> bool {
+    let found = is_found(&options, 3, &[]);
+    let inserted = insert(&mut options, 3, &[9]).is_ok();
+    let replaced = is_written_as(alloc, &options, &[0, 3, 0, 1, 9, 0, 3, 0, 1, 7]);
+    options.remove(3);
+    let removed = options.as_ref().is_empty();
+    drop(options);
+    found && inserted && replaced && removed
+}
+
+/// Whether options were read that do so.
+fn read_options_go_by_the_first(alloc: Global, read: Result<RData, DecodeError>) -> bool {
+    match read {
+        Ok(RData::OPT(options)) => go_by_the_first(alloc, options),
+        other => {
+            drop(other);
+            false
+        }
+    }
+}
+
+#[test]
+fn options_of_one_code(rt: HostRuntime) {
+    let read = read_options(rt.alloc(), &ONE_CODE_TWICE, 9);
+    assert!(rt; read_options_go_by_the_first(rt.alloc(), read));
 }
 
 #[test]

@@ -4,10 +4,12 @@ mod reading;
 mod written_rows;
 
 use crate::tests::forms::are_bytes;
-use crate::tests::messages::values::{ask, if_filled};
+use crate::tests::messages::values::{ask, if_filled, signature};
 use base::{BinEncoder, ProtoError};
+use base_data::TSIG;
 use op::message::{EmitAndCount, emit_message_parts};
-use op::{Edns, Message, MessageType, Metadata, OpCode, ResponseCode};
+use op::{Edns, Header, Message, MessageType, Metadata, OpCode, ResponseCode};
+use rr::Record;
 use std::alloc::Global;
 use std::test::Fail;
 
@@ -70,34 +72,54 @@ impl EmitAndCount for Careless {
     }
 }
 
-// The number of the refusal of a message of these parts and this EDNS; 0 for none.
-fn refusal(alloc: Global, parts: [Careless; 4], edns: Option<&Edns>) -> u8 {
+/// Writes a message of these parts, with this EDNS and this signature.
+fn emitted(
+    bytes: &mut Vec<u8>,
+    parts: [Careless; 4],
+    edns: Option<&Edns>,
+    signature: Option<&Record<TSIG>>,
+) -> Result<Header, ProtoError> {
     let metadata = Metadata::new(1, MessageType::Query, OpCode::Query);
     let [mut queries, mut answers, mut authorities, mut additionals] = parts;
-    let mut bytes = Vec::new(alloc);
-    let mut encoder = BinEncoder::new(&mut bytes);
-    let answer = emit_message_parts(
+    let mut encoder = BinEncoder::new(bytes);
+    emit_message_parts(
         &metadata,
         &mut queries,
         &mut answers,
         &mut authorities,
         &mut additionals,
         edns,
-        None,
+        signature,
         &mut encoder,
-    );
-    drop(encoder);
+    )
+}
+
+/// The number of the refusal of such a message, or 0 and the counts of answers and of additional records.
+fn outcome(
+    alloc: Global,
+    parts: [Careless; 4],
+    edns: Option<&Edns>,
+    signature: Option<&Record<TSIG>>,
+) -> (u8, u16, u16) {
+    let mut bytes = Vec::new(alloc);
+    let answer = emitted(&mut bytes, parts, edns, signature);
     drop(bytes);
-    let number = match &answer {
-        Ok(_) => 0,
-        Err(e) => e.number(),
+    let outcome = match &answer {
+        Ok(header) => (0, header.counts.answers, header.counts.additionals),
+        Err(e) => (e.number(), 0, 0),
     };
     drop(answer);
-    number
+    outcome
 }
 
 fn told(count: usize, is_cut: bool) -> Careless {
     Careless { count, is_cut }
+}
+
+/// Parts of which only the additional records answer a count.
+fn additionals(count: usize) -> [Careless; 4] {
+    let none = told(0, false);
+    [none, none, none, told(count, false)]
 }
 
 #[test]
@@ -105,23 +127,80 @@ fn counts_have_two_bytes(rt: HostRuntime) {
     let none = told(0, false);
     let over = told(65_536, false);
     let cut_over = told(65_536, true);
-    let cut = told(7, true);
     for &(parts, number) in &[
         ([none, over, none, none], 14),
+        ([over, over, none, none], 14),
         ([none, none, cut_over, none], 14),
         ([over, none, none, none], 15),
-        ([cut, none, none, none], 2),
     ] {
-        assert!(rt; refusal(rt.alloc(), parts, None) == number, "{number}");
+        assert!(rt; outcome(rt.alloc(), parts, None, None) == (number, 0, 0), "{number}");
     }
 }
 
 #[test]
 fn edns_is_counted(rt: HostRuntime) {
-    let none = told(0, false);
-    let parts = [none, none, none, told(65_535, false)];
+    let parts = additionals(65_535);
     let edns = Edns::new(rt.alloc());
-    assert!(rt; refusal(rt.alloc(), parts, Some(&edns)) == 14);
+    assert!(rt; outcome(rt.alloc(), parts, Some(&edns), None) == (14, 0, 0));
     drop(edns);
-    assert!(rt; refusal(rt.alloc(), parts, None) == 0);
+    assert!(rt; outcome(rt.alloc(), parts, None, None) == (0, 0, 65_535));
+}
+
+/// Whether the signature is counted too: beside EDNS 65,533 additional records are the most.
+fn are_both_counted(alloc: Global, edns: &Edns, signature: &Record<TSIG>) -> bool {
+    let most = outcome(alloc, additionals(65_533), Some(edns), Some(signature));
+    let more = outcome(alloc, additionals(65_534), Some(edns), Some(signature));
+    most == (0, 0, 65_535) && more == (14, 0, 0)
+}
+
+#[test]
+fn edns_and_the_signature_are_counted(rt: HostRuntime) -> Result<(), Fail> {
+    let signature = signature(rt.alloc())?;
+    let edns = Edns::new(rt.alloc());
+    assert!(rt; are_both_counted(rt.alloc(), &edns, &signature));
+    drop(edns);
+    drop(signature);
+    Ok(())
+}
+
+/// Whether the answer is that so many items were written, and one had no room.
+fn is_left_at(answer: Result<Header, ProtoError>, items: usize) -> bool {
+    let is_left_at = match &answer {
+        Err(ProtoError::NotAllRecordsWritten { count }) => *count == items,
+        _ => false,
+    };
+    drop(answer);
+    is_left_at
+}
+
+#[test]
+fn questions_without_room_are_refused_as_they_say(rt: HostRuntime) {
+    let none = told(0, false);
+    let mut bytes = Vec::new(rt.alloc());
+    let answer = emitted(&mut bytes, [told(7, true), none, none, none], None, None);
+    drop(bytes);
+    assert!(rt; is_left_at(answer, 7));
+}
+
+/// The number of the refusal of what was written of a message of these parts; 0 where it is read.
+fn refusal_of_its_bytes(alloc: Global, parts: [Careless; 4]) -> u8 {
+    let mut bytes = Vec::new(alloc);
+    let answer = emitted(&mut bytes, parts, None, None);
+    drop(answer);
+    let read = Message::from_vec(alloc, &bytes);
+    drop(bytes);
+    let number = match &read {
+        Ok(_) => 0,
+        Err(e) => e.number(),
+    };
+    drop(read);
+    number
+}
+
+#[test]
+fn what_was_not_written_is_not_read(rt: HostRuntime) {
+    let none = told(0, false);
+    let parts = [none, told(7, false), none, none];
+    assert!(rt; outcome(rt.alloc(), parts, None, None) == (0, 7, 0));
+    assert!(rt; refusal_of_its_bytes(rt.alloc(), parts) == 4);
 }
