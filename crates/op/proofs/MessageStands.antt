@@ -16,7 +16,7 @@ use Rattle.rr.proofs.ReadRecords.{opt_is, reads_record}
 use Rattle.op.specs.Header.{header_at}
 use Rattle.op.specs.Message.{IsMessageAt, MessageValue, message_at, message_of}
 use Rattle.op.specs.Query.{IsQueryAt, query_at}
-use Rattle.op.specs.Section.{EndsWithSignature, IsPlain, IsSectionAt, SectionValue, is_additional, is_additional_type, is_opt, is_ordinary, is_signature, section_at, section_of}
+use Rattle.op.specs.Section.{EndsWithSignature, IsPlain, IsSectionAt, SectionValue, is_additional, is_additional_type, is_opt, is_ordinary, is_signature, section_at, sections_at, section_of, SectionsValue}
 use Rattle.op.specs.declared.op_code.OpCode.{OpCode}
 use Rattle.op.specs.declared.query.Query.{Query}
 use Rattle.op.proofs.HeaderReading.{reads_word}
@@ -135,16 +135,20 @@ message_stands B i r is =
     let h = header.value.0 in
     let op = h.metadata.op_code in
     let queries = bind_ok (many_at query_at h.counts.queries B header.value.1) _ r header.second in
-    let answers = bind_ok (section_at false op h.counts.answers B queries.value.1) _ r queries.second in
-    let authorities = bind_ok (section_at false op h.counts.authorities B answers.value.1) _ r answers.second in
-    let additionals = bind_ok (section_at true op h.counts.additionals B authorities.value.1) _ r authorities.second in
+    let sections = bind_ok (sections_at op h.counts B queries.value.1) _ r queries.second in
+    let all = sections.value in
+    let answers = bind_ok (section_at false op h.counts.answers B queries.value.1) _ all sections.first in
+    let authorities = bind_ok (section_at false op h.counts.authorities B answers.value.1) _ all answers.second in
+    let additionals = bind_ok (section_at true op h.counts.additionals B authorities.value.1) _ all authorities.second in
+    let three : (record { answers = answers.value.0; authorities = authorities.value.0; additionals = additionals.value.0 }, additionals.value.1) ≡ all = same_ok additionals.second in
     let stands = (reads_word B i h header.value.1).0 header.first in
     let qs = queries_stand B h.counts.queries header.value.1 queries.value queries.first in
     let first = plain_stand op B h.counts.answers queries.value.1 answers.value answers.first in
     let second = plain_stand op B h.counts.authorities answers.value.1 authorities.value authorities.first in
     let third = records_stand true op B h.counts.additionals authorities.value.1 additionals.value additionals.first in
     let m : MessageValue = message_of h.metadata queries.value.0 answers.value.0.records authorities.value.0.records additionals.value.0 in
-    let same : (m, additionals.value.1) ≡ r = same_ok additionals.second in
+    let made : SectionsValue × ℕ → MessageValue × ℕ = λ s. (message_of h.metadata queries.value.0 s.0.answers.records s.0.authorities.records s.0.additionals, s.1) in
+    let same : (m, additionals.value.1) ≡ r = ap made three ∙ same_ok sections.second in
     let word : IsMessageAt B i m additionals.value.1 = record {
       header = h;
       queries_end = queries.value.1;

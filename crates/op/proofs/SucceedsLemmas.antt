@@ -1,5 +1,5 @@
 -- A message of slices, in an encoder that is empty, is refused for memory, or where header or questions have no room.
-use Rattle.std.proofs.Common.{◌≡◌, ◌⊎◌, ℕ, Bool, true, ◌+◌, ◌<◌, ◌≤◌, ◌^◌, List, [], ◌∷◌, ◌++◌, length, inl, inr, refl, ap, sym, ◌∙◌, subst, arith, length-append, Result, Ok, Err, Iter}
+use Rattle.std.proofs.Common.{◌≡◌, ◌⊎◌, ℕ, true, ◌+◌, ◌<◌, ◌≤◌, ◌^◌, List, [], ◌∷◌, ◌++◌, length, inl, inr, refl, ap, sym, ◌∙◌, subst, arith, length-append, Result, Ok, Err, Iter}
 use Rattle.std.specs.Prelude.{IfErr, IsOkUnless, ⊤, replicate}
 use Rattle.base.specs.Items.{EachWritten}
 use Rattle.base.specs.State.{State, appended}
@@ -178,7 +178,7 @@ module _ (m : MessageValue) (q q' : Iter Query) (a a' n n' d d' : Iter (Record R
           tells = refl;
           full = full;
         } in
-        (omega (arith, room.2, room.1, ap (λ (s : State). length s.bytes) room.1 ∙ length-append old.bytes (replicate 12 0)), subst (λ s. WritesFront QueryWord plain_query query_owner m.queries s new count true) room.1 front)
+        (omega (arith, room.2, ap (λ (s : State). length s.bytes) room.1 ∙ length-append old.bytes (replicate 12 0)), subst (λ s. WritesFront QueryWord plain_query query_owner m.queries s new count true) room.1 front)
 
     queries_failed : (f : ProtoError) → emits_queries q kept (Err f) q' new → Left f
     queries_failed refusals.Memory run = inl refl

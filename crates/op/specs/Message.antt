@@ -10,7 +10,7 @@ use Rattle.rr.specs.declared.record.Record.{Record}
 use Rattle.op.specs.Header.{IsHeaderAt, header_at}
 use Rattle.op.specs.Query.{IsQueryAt, query_at}
 use Rattle.op.specs.ResponseCode.{code_from, code_low}
-use Rattle.op.specs.Section.{AtMostOneOpt, EndsWithSignature, IsGiven, IsPlain, SectionValue, section_at, section_of}
+use Rattle.op.specs.Section.{AtMostOneOpt, EndsWithSignature, IsGiven, IsPlain, SectionValue, sections_at, section_of}
 use Rattle.op.specs.declared.edns.Edns.{Edns}
 use Rattle.op.specs.declared.header.Header.{Header}
 use Rattle.op.specs.declared.header.metadata.Metadata.{Metadata}
@@ -90,7 +90,5 @@ unfoldable pub message_at : List ℕ → ℕ → Read MessageValue
 message_at bytes i = do
   header ← header_at bytes i
   queries ← many_at query_at header.0.counts.queries bytes header.1
-  answers ← section_at false header.0.metadata.op_code header.0.counts.answers bytes queries.1
-  authorities ← section_at false header.0.metadata.op_code header.0.counts.authorities bytes answers.1
-  additionals ← section_at true header.0.metadata.op_code header.0.counts.additionals bytes authorities.1
-  Ok (message_of header.0.metadata queries.0 answers.0.records authorities.0.records additionals.0, additionals.1)
+  sections ← sections_at header.0.metadata.op_code header.0.counts bytes queries.1
+  Ok (message_of header.0.metadata queries.0 sections.0.answers.records sections.0.authorities.records sections.0.additionals, sections.1)

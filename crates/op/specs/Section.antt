@@ -17,7 +17,9 @@ use Rattle.rr.specs.Record.{IsRecordAt, is_opt_type, record_at}
 use Rattle.rr.specs.declared.record.Record.{Record}
 use Rattle.op.specs.EdnsFlags.{flags_of_number}
 use Rattle.op.specs.declared.edns.Edns.{Edns}
+use Rattle.op.specs.declared.header.header_counts.HeaderCounts.{HeaderCounts}
 use Rattle.op.specs.declared.message.section.Section.{Section}
+use Rattle.op.specs.declared.message.section.Sections.{Sections}
 use Rattle.op.specs.declared.op_code.OpCode.{OpCode}
 use Rattle.op.specs.declared.op_code.OpCode.TheVariants as op_codes
 
@@ -150,6 +152,24 @@ section_from is_additional_section op s (suc n) bytes i = do
 -- the section of as many records at a place
 abbrev pub section_at : Bool → OpCode → ℕ → List ℕ → ℕ → Read SectionValue
 section_at is_additional_section op count bytes i = section_from is_additional_section op empty_section count bytes i
+
+-- what the three sections of a message are
+pub record SectionsValue : Type 0 where
+  pub answers : SectionValue
+  pub authorities : SectionValue
+  pub additionals : SectionValue
+
+-- the sections of a message that is being read, as contracts see them
+abbrev pub sections_value : Sections → SectionsValue
+sections_value s = record { answers = section_value s.answers; authorities = section_value s.authorities; additionals = section_value s.additionals }
+
+-- the three sections at a place, one behind the other
+abbrev pub sections_at : OpCode → HeaderCounts → List ℕ → ℕ → Read SectionsValue
+sections_at op counts bytes i = do
+  answers ← section_at false op counts.answers bytes i
+  authorities ← section_at false op counts.authorities bytes answers.1
+  additionals ← section_at true op counts.additionals bytes authorities.1
+  Ok (record { answers = answers.0; authorities = authorities.0; additionals = additionals.0 }, additionals.1)
 
 -- ---- the word of a section
 

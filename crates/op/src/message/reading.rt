@@ -7,12 +7,12 @@ ghost use Rattle.op.specs.Fits.{Fits};
 ghost use Rattle.op.specs.Message.{IsMessageAt, MessageValue, high_code, message_at, message_value};
 ghost use Rattle.op.specs.Query.{query_at};
 ghost use Rattle.op.specs.ReadsOrDecodes.{ReadsOrDecodes};
-ghost use Rattle.op.specs.Section.{parts_value, section_at, section_value};
+ghost use Rattle.op.specs.Section.{parts_value, section_at, section_value, sections_at, sections_value};
 
 use crate::edns::Edns;
-use crate::header::{Header, Metadata};
+use crate::header::{Header, HeaderCounts, Metadata};
 use crate::message::Message;
-use crate::message::section::Section;
+use crate::message::section::{Section, Sections};
 use crate::op_code::OpCode;
 use crate::query::Query;
 use base::{BinDecodable, BinDecoder, DecodeError, ProtoError, read_many};
@@ -69,19 +69,14 @@ impl Message {
         Ok(section)
     }
 
-    /// Reads a message at the decoder's place, and moves behind it: the header, the questions and the three sections
-    /// as the header counts them (RFC 1035, 4.1). The code has the eight bits of EDNS above the header's four
-    /// (RFC 6891, 6.1.3).
-    ///
-    /// Refused with the first fault, and with `Memory` for want of it. A decoder that refused isn't used again.
-    #[tactic(auto, unfolding(crate::specs::Message::message_at))]
-    pub fn read(decoder: &mut BinDecoder<'_>) -> Result<Message, DecodeError>
-        ensures read { Reads message_value decoder.old decoder.new result (message_at decoder.old.bytes decoder.old.index) }
+    // Reads the sections of as many records as the header counts.
+    fn read_sections(
+        decoder: &mut BinDecoder<'_>,
+        counts: HeaderCounts,
+        op_code: OpCode,
+    ) -> Result<Sections, DecodeError>
+        ensures read { Reads sections_value decoder.old decoder.new result (sections_at op_code counts decoder.old.bytes decoder.old.index) }
     {
-        let header = Header::read(decoder)?;
-        let op_code = header.metadata.op_code;
-        let counts = header.counts;
-        let queries = read_many::<Query>(decoder, usize::from(counts.queries))?;
         let answers = Message::read_section(decoder, usize::from(counts.answers), false, op_code)?;
         let authorities = Message::read_section(
             decoder,
@@ -95,6 +90,29 @@ impl Message {
             true,
             op_code,
         )?;
+        Ok(Sections {
+            answers,
+            authorities,
+            additionals,
+        })
+    }
+
+    /// Reads a message at the decoder's place, and moves behind it: the header, the questions and the three sections
+    /// as the header counts them (RFC 1035, 4.1). The code has the eight bits of EDNS above the header's four
+    /// (RFC 6891, 6.1.3).
+    ///
+    /// Refused with the first fault, and with `Memory` for want of it. A decoder that refused isn't used again.
+    #[tactic(auto, unfolding(crate::specs::Message::message_at))]
+    pub fn read(decoder: &mut BinDecoder<'_>) -> Result<Message, DecodeError>
+        ensures read { Reads message_value decoder.old decoder.new result (message_at decoder.old.bytes decoder.old.index) }
+    {
+        let header = Header::read(decoder)?;
+        let queries = read_many::<Query>(decoder, usize::from(header.counts.queries))?;
+        let Sections {
+            answers,
+            authorities,
+            additionals,
+        } = Message::read_sections(decoder, header.counts, header.metadata.op_code)?;
         Ok(Message {
             metadata: with_high_code(header.metadata, &additionals.edns),
             queries,

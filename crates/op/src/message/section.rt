@@ -19,6 +19,14 @@ pub(crate) struct Section {
     pub(crate) signature: Option<Box<Record<TSIG>>>,
 }
 
+/// The three sections of a message that was read.
+#[derive(Drop)]
+pub(crate) struct Sections {
+    pub(crate) answers: Section,
+    pub(crate) authorities: Section,
+    pub(crate) additionals: Section,
+}
+
 impl Section {
     /// A section without records.
     pub(crate) fn new(alloc: Global) -> Section
