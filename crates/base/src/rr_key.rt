@@ -1,6 +1,6 @@
 //! The key under which the records of one name and one type stand together.
 
-ghost use Rattle.std.specs.Prelude.{◌≡◌};
+ghost use Rattle.std.specs.Prelude.{◌≡◌, IsTrue};
 ghost use Rattle.std.specs.Ordering.{ordering_then};
 
 use crate::lower_name::LowerName;
@@ -28,9 +28,11 @@ impl RrKey {
     }
 }
 
-/// Keys are ordered by name, then by type, and no two of them tie: they serve as the keys of maps.
+/// Keys are ordered by name, then by type; no two of them tie, and only the same ones are equal: they serve as the keys
+/// of maps.
 pub fn rr_key_order()
     ensures by_name_and_type { (a b : RrKey) → ⟦<RrKey as Ord>⟧.cmp a b
         ≡ ordering_then (⟦<LowerName as Ord>⟧.cmp a.name b.name) (⟦<RecordType as Ord>⟧.cmp a.record_type b.record_type) }
     ensures exact { (a b : RrKey) → ⟦<RrKey as Ord>⟧.cmp a b ≡ Ordering.Equal → a ≡ b }
+    ensures same { (a b : RrKey) → IsTrue (⟦<RrKey as PartialEq>⟧.eq a b) → a ≡ b }
 {}

@@ -195,9 +195,10 @@ fn cmp_labels(left: &[u8], right: &[u8]) -> Ordering
 }
 
 /// Names are equal, and tie in the order, exactly where they have the same flag and the same labels in
-/// whatever case (RFC 4343, 3); every relative name comes before every absolute one.
+/// whatever case (RFC 4343, 3), and then they hash alike; every relative name comes before every absolute one.
 pub fn name_order()
     ensures equal { (a b : NameValue) → IsTrue (⟦<Name as PartialEq>⟧.eq a b) ↔ ((a.absolute ≡ b.absolute) × (folded a ≡ folded b)) }
     ensures ties { (a b : NameValue) → (⟦<Name as Ord>⟧.cmp a b ≡ Ordering.Equal) ↔ ((a.absolute ≡ b.absolute) × (folded a ≡ folded b)) }
+    ensures hashed { (a b : NameValue) → IsTrue (⟦<Name as PartialEq>⟧.eq a b) → ⟦<Name as Hash>⟧.hash_input a ≡ ⟦<Name as Hash>⟧.hash_input b }
     ensures relative_first { (a b : NameValue) → a.absolute ≡ false → b.absolute ≡ true → ⟦<Name as Ord>⟧.cmp a b ≡ Ordering.Less }
 {}

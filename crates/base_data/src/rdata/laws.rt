@@ -27,6 +27,15 @@ pub fn name_data_is_equal_as_its_name()
     ensures aname { (a b : Aname) → IsTrue (⟦<ANAME as PartialEq>⟧.eq a b) ↔ IsTrue (same_name a.name b.name) }
 {}
 
+/// Data of several fields is equal exactly where the numbers are the same and the names are equal as names are
+/// (RFC 4343, 3).
+pub fn data_is_equal_field_by_field()
+    ensures mx { (a b : Mx) → IsTrue (⟦<MX as PartialEq>⟧.eq a b) ↔ ((a.preference ≡ b.preference) × IsTrue (same_name a.exchange b.exchange)) }
+    ensures soa { (a b : Soa) → IsTrue (⟦<SOA as PartialEq>⟧.eq a b) ↔ (IsTrue (same_name a.mname b.mname) × IsTrue (same_name a.rname b.rname)
+        × (a.serial ≡ b.serial) × (a.refresh ≡ b.refresh) × (a.retry ≡ b.retry) × (a.expire ≡ b.expire) × (a.minimum ≡ b.minimum)) }
+    ensures srv { (a b : Srv) → IsTrue (⟦<SRV as PartialEq>⟧.eq a b) ↔ ((a.priority ≡ b.priority) × (a.weight ≡ b.weight) × (a.port ≡ b.port) × IsTrue (same_name a.target b.target)) }
+{}
+
 /// Data that is bytes is equal exactly where the bytes are the same.
 pub fn bytes_are_equal_as_they_are()
     ensures null { (a b : List ℕ) → IsTrue (⟦<NULL as PartialEq>⟧.eq a b) ↔ (a ≡ b) }

@@ -83,9 +83,7 @@ fn read_kind(
 }
 
 /// Reads the data of a kind that ends by itself.
-fn read_as<R: BinDecodable + RecordData>(
-    decoder: &mut BinDecoder<'_>,
-) -> Result<RData, DecodeError>
+fn read_as<R: BinDecodable + RecordData>(decoder: &mut BinDecoder<'_>) -> Result<RData, DecodeError>
     ensures read { Reads (λ x. x) decoder.old decoder.new result (as_any R.as_rdata (R.read_at decoder.old.bytes decoder.old.index)) }
 {
     Ok(R::read(decoder)?.into_rdata())
