@@ -133,7 +133,10 @@ fn counts_have_two_bytes(rt: HostRuntime) {
         ([none, none, cut_over, none], 14),
         ([over, none, none, none], 15),
     ] {
-        assert!(rt; outcome(rt.alloc(), parts, None, None) == (number, 0, 0), "{number}");
+        assert!(rt;
+            outcome(rt.alloc(), parts, None, None) == (number, 0, 0),
+            "{number}"
+        );
     }
 }
 
