@@ -1,7 +1,6 @@
 //! What the words after the program's name ask for.
 
-ghost use Rattle.std.specs.Prelude.{◌≡◌, List, ℕ};
-ghost use Rattle.std.specs.Str.{bytes_eq};
+ghost use Rattle.std.specs.Prelude.{◌≡◌};
 ghost use Rattle.dnsmsg.specs.Command.{command_of};
 ghost use Rattle.dnsmsg.specs.Words.{texts};
 

@@ -1,6 +1,6 @@
 //! The command `cut`.
 
-ghost use Rattle.std.specs.Prelude.{◌≡◌, [], ◌⊎◌, IfErr, IfOk};
+ghost use Rattle.std.specs.Prelude.{◌≡◌, ◌⊎◌, IfErr, IfOk};
 ghost use Rattle.std.specs.String.{string_bytes};
 ghost use Rattle.base.specs.declared.error.proto_error.ProtoError.TheVariants as refusals;
 ghost use Rattle.op.specs.Cut.{IsTooSmall, IsWritten};

@@ -1,5 +1,5 @@
 -- The message word, and reading a message (RFC 1035, 4.1; RFC 6891, 6.1.3; RFC 8945, 5.1).
-use Rattle.std.specs.Prelude.{◌≡◌, ℕ, false, true, ◌+◌, All, List, [], length, Option, Some, None, Ok}
+use Rattle.std.specs.Prelude.{◌≡◌, ℕ, ◌+◌, All, List, [], length, Option, Some, None, Ok}
 use Rattle.std.specs.Option.{option_map}
 use Rattle.base.specs.Many.{many_at}
 use Rattle.base.specs.Reading.{Read, ◌>>=◌}

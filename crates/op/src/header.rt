@@ -1,6 +1,6 @@
 //! The header of a message (RFC 1035, 4.1.1).
 
-ghost use Rattle.std.specs.Prelude.{◌≡◌, ◌↔◌, ◌<◌, ◌+◌, ◌*◌, ◌/◌, ◌%◌, ◌||◌, ◌^◌, ℕ, List, [], length, Ok, Err, IfOk, OnOk, OnErr, IsOkUnless, IsErrOf};
+ghost use Rattle.std.specs.Prelude.{◌≡◌, ◌↔◌, ◌<◌, ◌+◌, ◌%◌, ◌||◌, ◌^◌, ℕ, List, [], length, Ok, Err, IfOk, OnOk, OnErr, IsOkUnless, IsErrOf};
 ghost use Rattle.base.specs.Reading.{Reads};
 ghost use Rattle.base.specs.State.{appended};
 ghost use Rattle.base.specs.Laws.{Keeps, Writes};

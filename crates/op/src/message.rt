@@ -1,7 +1,6 @@
 //! Messages (RFC 1035, 4.1).
 
-ghost use Rattle.std.specs.Prelude.{◌≡◌, ◌+◌, ◌++◌, ◌∷◌, [], max, OnOk, OnErr, IsOkUnless, Some};
-ghost use Rattle.std.specs.Option.{option_copied, option_map, option_map_or};
+ghost use Rattle.std.specs.Prelude.{◌≡◌, ◌+◌, ◌++◌, ◌∷◌, [], OnOk, OnErr, IsOkUnless, Some};
 ghost use Rattle.op.specs.Message.{empty_message, message_value};
 ghost use Rattle.op.specs.Metadata.{plain_metadata};
 ghost use Rattle.op.specs.declared.header.message_type.MessageType.TheVariants as message_types;

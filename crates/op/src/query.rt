@@ -1,7 +1,6 @@
 //! Questions (RFC 1035, 4.1.2).
 
 ghost use Rattle.std.specs.Prelude.{◌≡◌, ◌↔◌, ℕ, List, Ok, Err, Some, IsTrue, [], true};
-ghost use Rattle.base.specs.Labels.{NameValue};
 ghost use Rattle.base.specs.NameOrder.{same_name};
 ghost use Rattle.op.specs.Query.{FitsQuery, IsQueryAt, IsQueryFault, QueryWord, plain_query, plain_question, query_at, query_text, query_value, raw_query};
 ghost use Rattle.op.specs.declared.query.Query.{Query};

@@ -1,6 +1,6 @@
 //! Records whose data is known to be of a kind, borrowed.
 
-ghost use Rattle.std.specs.Prelude.{◌≡◌, Bool, ℕ, Some, None, option_map, IfOk, MatchResult};
+ghost use Rattle.std.specs.Prelude.{◌≡◌, Some, None, option_map, IfOk, MatchResult};
 ghost use Rattle.base_data.specs.RData.{type_of_data};
 ghost use Rattle.rr.specs.Record.{holding};
 ghost use Rattle.rr.specs.RecordRef.{seen};

@@ -1,7 +1,6 @@
 //! What is written of a name is read as that name.
 
 ghost use Rattle.std.specs.Prelude.{◌≡◌, ℕ, List, length, true};
-ghost use Rattle.base.specs.Labels.{NameValue};
 ghost use Rattle.base.specs.Laws.{IsValid, Writes};
 ghost use Rattle.base.specs.Names.{name_at};
 ghost use Rattle.base.specs.State.{State};

@@ -1,6 +1,5 @@
 //! Reads values one behind the other.
 
-ghost use Rattle.std.specs.Prelude.{◌≡◌, length, IfOk};
 ghost use Rattle.base.specs.Many.{many_at};
 ghost use Rattle.base.specs.Reading.{Reads};
 

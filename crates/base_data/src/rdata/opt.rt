@@ -1,6 +1,6 @@
 //! EDNS options.
 
-ghost use Rattle.std.specs.Prelude.{◌≡◌, ◌+◌, ◌≤◌, [], OnOk, OnErr, position, refl};
+ghost use Rattle.std.specs.Prelude.{◌≡◌, [], OnOk, OnErr, position, refl};
 ghost use Rattle.std.specs.Cmp.{partial_equiv_from_equiv};
 ghost use Rattle.std.specs.Option.{option_copied};
 ghost use Rattle.std.specs.Ordering.{as_partial_cmp};

@@ -1,6 +1,6 @@
 //! What stands behind the additional records: OPT and the signature.
 
-ghost use Rattle.std.specs.Prelude.{◌≡◌, ◌/◌, ◌%◌, ⊤};
+ghost use Rattle.std.specs.Prelude.{◌/◌, ◌%◌};
 ghost use Rattle.std.specs.Option.{option_copied, option_map};
 ghost use Rattle.base.specs.Laws.{Keeps};
 ghost use Rattle.base.specs.Wire.{state_of};

@@ -1,6 +1,6 @@
 //! Parts of a message: written, and counted as a header counts them.
 
-ghost use Rattle.std.specs.Prelude.{◌≡◌, ◌∷◌, [], ⊤};
+ghost use Rattle.std.specs.Prelude.{◌∷◌, []};
 ghost use Rattle.base.specs.Laws.{Keeps};
 ghost use Rattle.base.specs.Wire.{state_of};
 ghost use Rattle.op.specs.Composition.{Adds, Counts, EmitsPart, EmitsSections, Narrows, WritesItems};
