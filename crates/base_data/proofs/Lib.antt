@@ -3,6 +3,7 @@ pub mod BytesRead
 pub mod DataLemmas
 pub mod DataRows
 pub mod FieldLemmas
+pub mod FillLemmas
 pub mod KindOrderLemmas
 pub mod NameDataLemmas
 pub mod NameWords
