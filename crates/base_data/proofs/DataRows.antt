@@ -3,7 +3,7 @@ use Rattle.std.proofs.Common.{◌≡◌, ◌≢◌, ◌++◌, ℕ, zero, suc, �
 use Rattle.std.proofs.lemmas.List.{drop_at}
 use Rattle.std.proofs.lemmas.List.Elements.{All-nil, All-head, All-tail, All-cons, All-take, All-drop}
 use Rattle.std.specs.Prelude.{All, ◌↔◌, ◌==◌}
-use Rattle.std.proofs.lemmas.Bool.{cond-false, eq-eqb, eqb-true, ne_eqb}
+use Rattle.std.proofs.lemmas.Bool.{eq-eqb, eqb-true}
 use Rattle.std.proofs.lemmas.Slice.Eq.{bytes_eq-Decides}
 use Rattle.base.proofs.LabelLemmas.{labels_of-wire_of, wire_of-nil}
 use Rattle.base.specs.Labels.{labels_of, wire_of}
@@ -18,6 +18,7 @@ use Rattle.base.specs.declared.error.decode_error.DecodeError.{DecodeError}
 use Rattle.base.specs.declared.error.decode_error.DecodeError.TheVariants as faults
 use Rattle.base.specs.declared.record_type.RecordType.{RecordType}
 use Rattle.base.specs.declared.record_type.RecordType.TheVariants as types
+use Rattle.base_data.proofs.FillLemmas.{filling_of}
 use Rattle.base_data.proofs.NameWords.{tells_ns, tells_cname, tells_ptr, tells_aname, tells_mx, tells_soa, tells_srv}
 use Rattle.base_data.proofs.OptionWords.{fills_opt, options_moves}
 use Rattle.base_data.proofs.Tells.{Tells, Fills, same_ok, tells_ok, tells_then, tells_bytes, fills_from, fills_same, fills_bytes, room_for}
@@ -241,8 +242,7 @@ none_again (kinds.Unknown code x) B i word readable = absurd (omega (arith, word
 -- ---- data
 
 some_data : (type : RecordType) (n : ℕ) (B : List ℕ) (i : ℕ) → rdata_at type (suc n) B i ≡ filling type (i + suc n) (kind_at type (suc n) B i)
-unfolding rdata_at
-some_data type n B i = cond-false (suc n == 0) _ _ (ne_eqb (suc n) 0 (λ is. absurd (omega arith)))
+some_data type n B i = filling_of type (suc n) B i (λ is. absurd (omega arith))
 
 pub data_says : (type : RecordType) (len : ℕ) (B : List ℕ) (i : ℕ) (r : RData × ℕ) → rdata_at type len B i ≡ Ok r → IsDataAt B i type len r.0 × (r.1 ≡ i + len)
 unfolding rdata_at
