@@ -19,6 +19,7 @@ pub mod RefusalLemmas
 pub mod SliceLemmas
 pub mod SpellingLemmas
 pub mod TextLawLemmas
+pub mod EscapeLemmas
 pub mod TextLemmas
 pub mod TypeTexts
 pub mod WalkLemmas

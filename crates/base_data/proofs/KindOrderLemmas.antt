@@ -176,10 +176,10 @@ srv_bytes : (x y : SRV) → FitsTypes (kinds.SRV x) → FitsTypes (kinds.SRV y)
     → bytes_cmp (canonical_data (kinds.SRV x)) (canonical_data (kinds.SRV y))
     ≡ ordering_then (ordering_then (ordering_then (nat_cmp x.priority y.priority) (nat_cmp x.weight y.weight)) (nat_cmp x.port y.port)) (canonical_cmp x.target y.target)
 srv_bytes x y p q =
-    let priority = word_cmp x.priority y.priority p.0 q.0 in
-    let weight = word_cmp x.weight y.weight p.1 q.1 in
-    let port = word_cmp x.port y.port p.2 q.2 in
-    let target = one_name x.target y.target p.3 q.3 in
+    let priority = word_cmp x.priority y.priority p.0.priority q.0.priority in
+    let weight = word_cmp x.weight y.weight p.0.weight q.0.weight in
+    let port = word_cmp x.port y.port p.0.port q.0.port in
+    let target = one_name x.target y.target p.1 q.1 in
     let ports = heads (to_be_bytes w16 x.port) (to_be_bytes w16 y.port) (name_octets x.target) (name_octets y.target) refl in
     let weights = heads (to_be_bytes w16 x.weight) (to_be_bytes w16 y.weight) (to_be_bytes w16 x.port ++ name_octets x.target) (to_be_bytes w16 y.port ++ name_octets y.target) refl in
     heads (to_be_bytes w16 x.priority) (to_be_bytes w16 y.priority) (to_be_bytes w16 x.weight ++ (to_be_bytes w16 x.port ++ name_octets x.target)) (to_be_bytes w16 y.weight ++ (to_be_bytes w16 y.port ++ name_octets y.target)) refl
@@ -203,10 +203,10 @@ soa_bytes : (x y : SOA) → FitsTypes (kinds.SOA x) → FitsTypes (kinds.SOA y)
     ≡ ordering_then (ordering_then (ordering_then (ordering_then (ordering_then (ordering_then (canonical_cmp x.mname y.mname) (canonical_cmp x.rname y.rname)) (nat_cmp x.serial y.serial))
     (nat_cmp x.refresh y.refresh)) (nat_cmp x.retry y.retry)) (nat_cmp x.expire y.expire)) (nat_cmp x.minimum y.minimum)
 soa_bytes x y p q =
-    let expires = longs_cmp x.expire y.expire (to_be_bytes w32 x.minimum) (to_be_bytes w32 y.minimum) p.5 q.5 ∙ ap (ordering_then _) (long_cmp x.minimum y.minimum p.6 q.6) in
-    let retries = longs_cmp x.retry y.retry (to_be_bytes w32 x.expire ++ to_be_bytes w32 x.minimum) (to_be_bytes w32 y.expire ++ to_be_bytes w32 y.minimum) p.4 q.4 ∙ ap (ordering_then _) expires in
-    let refreshes = longs_cmp x.refresh y.refresh (to_be_bytes w32 x.retry ++ (to_be_bytes w32 x.expire ++ to_be_bytes w32 x.minimum)) (to_be_bytes w32 y.retry ++ (to_be_bytes w32 y.expire ++ to_be_bytes w32 y.minimum)) p.3 q.3 ∙ ap (ordering_then _) retries in
-    let serials = longs_cmp x.serial y.serial (soa_tail x) (soa_tail y) p.2 q.2 ∙ ap (ordering_then _) refreshes in
+    let expires = longs_cmp x.expire y.expire (to_be_bytes w32 x.minimum) (to_be_bytes w32 y.minimum) p.2.expire q.2.expire ∙ ap (ordering_then _) (long_cmp x.minimum y.minimum p.2.minimum q.2.minimum) in
+    let retries = longs_cmp x.retry y.retry (to_be_bytes w32 x.expire ++ to_be_bytes w32 x.minimum) (to_be_bytes w32 y.expire ++ to_be_bytes w32 y.minimum) p.2.retry q.2.retry ∙ ap (ordering_then _) expires in
+    let refreshes = longs_cmp x.refresh y.refresh (to_be_bytes w32 x.retry ++ (to_be_bytes w32 x.expire ++ to_be_bytes w32 x.minimum)) (to_be_bytes w32 y.retry ++ (to_be_bytes w32 y.expire ++ to_be_bytes w32 y.minimum)) p.2.refresh q.2.refresh ∙ ap (ordering_then _) retries in
+    let serials = longs_cmp x.serial y.serial (soa_tail x) (soa_tail y) p.2.serial q.2.serial ∙ ap (ordering_then _) refreshes in
     let rnames = name_cmp x.rname y.rname (to_be_bytes w32 x.serial ++ soa_tail x) (to_be_bytes w32 y.serial ++ soa_tail y) p.1 q.1 ∙ ap (ordering_then _) serials in
     let mnames = name_cmp x.mname y.mname _ _ p.0 q.0 ∙ ap (ordering_then _) rnames in
     (λ i. bytes_cmp (joined (name_octets x.mname) (name_octets x.rname) (to_be_bytes w32 x.serial) (to_be_bytes w32 x.refresh) (to_be_bytes w32 x.retry) (to_be_bytes w32 x.expire) (to_be_bytes w32 x.minimum) i)

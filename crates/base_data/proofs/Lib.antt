@@ -7,6 +7,7 @@ pub mod FillLemmas
 pub mod KindOrderLemmas
 pub mod NameDataLemmas
 pub mod NameWords
+pub mod NumberLemmas
 pub mod OptionLemmas
 pub mod OptionTexts
 pub mod OptionWords

@@ -133,9 +133,9 @@ mx_level x y p q e =
 srv_level : (x y : SRV) → FitsTypes (kinds.SRV x) → FitsTypes (kinds.SRV y) → canonical_data (kinds.SRV x) ≡ canonical_data (kinds.SRV y)
     → own_cmp (kinds.SRV x) (kinds.SRV y) ≡ slice_cmp bool_cmp (name_flags (kinds.SRV x)) (name_flags (kinds.SRV y))
 srv_level x y p q e =
-    let priority = number_level x.priority y.priority (word_same x.priority y.priority p.0 q.0 (ap (take 2) e)) in
-    let weight = number_level x.weight y.weight (word_same x.weight y.weight p.1 q.1 (ap (λ (l : List ℕ). take 2 (drop 2 l)) e)) in
-    let port = number_level x.port y.port (word_same x.port y.port p.2 q.2 (ap (λ (l : List ℕ). take 2 (drop 4 l)) e)) in
+    let priority = number_level x.priority y.priority (word_same x.priority y.priority p.0.priority q.0.priority (ap (take 2) e)) in
+    let weight = number_level x.weight y.weight (word_same x.weight y.weight p.0.weight q.0.weight (ap (λ (l : List ℕ). take 2 (drop 2 l)) e)) in
+    let port = number_level x.port y.port (word_same x.port y.port p.0.port q.0.port (ap (λ (l : List ℕ). take 2 (drop 4 l)) e)) in
     let target = name_level x.target y.target (ap (drop 6) e) in
     λ i. ordering_then (ordering_then (ordering_then (ordering_then (ordering_then (priority i) (weight i)) (port i)) (target i)) (bool_cmp x.target.absolute y.target.absolute)) Equal
 
@@ -148,11 +148,11 @@ soa_level x y p q e =
     let digits = second.1 in
     let mname = bytes_level (canonical_name x.mname) (canonical_name y.mname) first.0 in
     let rname = bytes_level (canonical_name x.rname) (canonical_name y.rname) second.0 in
-    let serial = number_level x.serial y.serial (long_same x.serial y.serial p.2 q.2 (ap (take 4) digits)) in
-    let refresh = number_level x.refresh y.refresh (long_same x.refresh y.refresh p.3 q.3 (ap (λ (l : List ℕ). take 4 (drop 4 l)) digits)) in
-    let retry = number_level x.retry y.retry (long_same x.retry y.retry p.4 q.4 (ap (λ (l : List ℕ). take 4 (drop 8 l)) digits)) in
-    let expire = number_level x.expire y.expire (long_same x.expire y.expire p.5 q.5 (ap (λ (l : List ℕ). take 4 (drop 12 l)) digits)) in
-    let minimum = number_level x.minimum y.minimum (long_same x.minimum y.minimum p.6 q.6 (ap (λ (l : List ℕ). take 4 (drop 16 l)) digits)) in
+    let serial = number_level x.serial y.serial (long_same x.serial y.serial p.2.serial q.2.serial (ap (take 4) digits)) in
+    let refresh = number_level x.refresh y.refresh (long_same x.refresh y.refresh p.2.refresh q.2.refresh (ap (λ (l : List ℕ). take 4 (drop 4 l)) digits)) in
+    let retry = number_level x.retry y.retry (long_same x.retry y.retry p.2.retry q.2.retry (ap (λ (l : List ℕ). take 4 (drop 8 l)) digits)) in
+    let expire = number_level x.expire y.expire (long_same x.expire y.expire p.2.expire q.2.expire (ap (λ (l : List ℕ). take 4 (drop 12 l)) digits)) in
+    let minimum = number_level x.minimum y.minimum (long_same x.minimum y.minimum p.2.minimum q.2.minimum (ap (λ (l : List ℕ). take 4 (drop 16 l)) digits)) in
     let mflag = bool_cmp x.mname.absolute y.mname.absolute in
     let rflag = bool_cmp x.rname.absolute y.rname.absolute in
     let fields : ordering_then (soa_cmp x y) Equal ≡ ordering_then (ordering_then mflag rflag) Equal =

@@ -1,13 +1,14 @@
 -- Writing in parts.
 use Rattle.std.proofs.Common.{◌≡◌, ℕ, List, [], ◌++◌, ◌∷◌, length, ap, ◌∙◌, append_assoc, subst, Result, Ok, Err}
-use Rattle.std.specs.Int.{w16, w32, to_be_bytes}
+use Rattle.std.specs.Int.{w16, to_be_bytes}
 use Rattle.std.specs.Prelude.{OnOk}
 use Rattle.base.proofs.LawLemmas.{Keeps-then, Writes-then}
 use Rattle.base.specs.Laws.{Keeps, StoresSuffixes, Writes}
 use Rattle.base.specs.State.{State, appended}
 use Rattle.base.specs.Words.{Bytes, Number}
-use Rattle.base_data.specs.DataNames.{soa_numbers, CompressesMX, CompressesSOA, IsCompressed}
-use Rattle.base_data.specs.SRV.{srv_wire}
+use Rattle.base_data.specs.DataNames.{CompressesMX, CompressesSOA, IsCompressed}
+use Rattle.base_data.specs.SOA.{soa_numbers}
+use Rattle.base_data.specs.SRV.{srv_numbers, srv_wire}
 use Rattle.base_data.specs.declared.rdata.mx.MX.{MX}
 use Rattle.base_data.specs.declared.rdata.srv.SRV.{SRV}
 use Rattle.base.specs.Labels.{wire_of}
@@ -44,11 +45,6 @@ compressed (Err e) word n labels a b writes stores = writes
 pub compressed_mx : (x : MX) (a b c : State) → b ≡ appended (to_be_bytes w16 x.preference) a → IsCompressed x.exchange.labels b c → CompressesMX x a c
 compressed_mx x a b c is name = subst (λ (s : State). IsCompressed x.exchange.labels s c) is name
 
--- numbers, one behind the other
-pub numbers_written : (x : SOA) (c d e f g h : State) → d ≡ appended (to_be_bytes w32 x.serial) c → e ≡ appended (to_be_bytes w32 x.refresh) d → f ≡ appended (to_be_bytes w32 x.retry) e → g ≡ appended (to_be_bytes w32 x.expire) f → h ≡ appended (to_be_bytes w32 x.minimum) g → h ≡ appended (soa_numbers x) c
-numbers_written x c d e f g h serial refresh retry expire minimum =
-    appended_both c d h (to_be_bytes w32 x.serial) ((to_be_bytes w32 x.refresh) ++ ((to_be_bytes w32 x.retry) ++ ((to_be_bytes w32 x.expire) ++ (to_be_bytes w32 x.minimum)))) serial (appended_both d e h (to_be_bytes w32 x.refresh) ((to_be_bytes w32 x.retry) ++ ((to_be_bytes w32 x.expire) ++ (to_be_bytes w32 x.minimum))) refresh (appended_both e f h (to_be_bytes w32 x.retry) ((to_be_bytes w32 x.expire) ++ (to_be_bytes w32 x.minimum)) retry (appended_both f g h (to_be_bytes w32 x.expire) (to_be_bytes w32 x.minimum) expire minimum)))
-
 -- two names, and numbers behind them
 pub compressed_soa : {v w : List ℕ → ℕ → ℕ → Type 0} {m n : ℕ} (x : SOA) (a b c h : State) → Keeps a b → Writes v m x.mname.labels a b → StoresSuffixes x.mname.labels a b → Keeps b c → Writes w n x.rname.labels b c → StoresSuffixes x.rname.labels b c
     → h ≡ appended (soa_numbers x) c → CompressesSOA x a h
@@ -63,5 +59,5 @@ compressed_soa x a b c h k first stores_first l second stores_second numbers = r
 }
 
 -- numbers, and a name without compression behind them
-pub plain_srv_written : (x : SRV) (a b c d e : State) → b ≡ appended (to_be_bytes w16 x.priority) a → c ≡ appended (to_be_bytes w16 x.weight) b → d ≡ appended (to_be_bytes w16 x.port) c → e ≡ appended (wire_of x.target.labels ++ 0 ∷ []) d → e ≡ appended (srv_wire x) a
-plain_srv_written x a b c d e priority weight port target = appended_both a b e (to_be_bytes w16 x.priority) ((to_be_bytes w16 x.weight) ++ ((to_be_bytes w16 x.port) ++ (wire_of x.target.labels ++ 0 ∷ []))) priority (appended_both b c e (to_be_bytes w16 x.weight) ((to_be_bytes w16 x.port) ++ (wire_of x.target.labels ++ 0 ∷ [])) weight (appended_both c d e (to_be_bytes w16 x.port) (wire_of x.target.labels ++ 0 ∷ []) port target))
+pub plain_srv_written : (x : SRV) (octets : List ℕ) (a b c : State) → octets ≡ srv_numbers x → b ≡ appended octets a → c ≡ appended (wire_of x.target.labels ++ 0 ∷ []) b → c ≡ appended (srv_wire x) a
+plain_srv_written x octets a b c are numbers target = appended_both a b c (srv_numbers x) (wire_of x.target.labels ++ 0 ∷ []) (numbers ∙ ap (λ (xs : List ℕ). appended xs a) are) target

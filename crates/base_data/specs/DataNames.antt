@@ -1,9 +1,10 @@
 -- How the names of data are written: with compression in data of RFC 1035, and without it in all other data (RFC 3597, 4).
-use Rattle.std.specs.Prelude.{◌≡◌, ℕ, ◌++◌, List}
-use Rattle.std.specs.Int.{w16, w32, to_be_bytes}
+use Rattle.std.specs.Prelude.{◌≡◌, ℕ, List}
+use Rattle.std.specs.Int.{w16, to_be_bytes}
 use Rattle.base.specs.Laws.{Compresses, Keeps, StoresSuffixes}
 use Rattle.base.specs.State.{State, appended}
 use Rattle.base_data.specs.ANAME.{aname_wire}
+use Rattle.base_data.specs.SOA.{soa_numbers}
 use Rattle.base_data.specs.SRV.{srv_wire}
 use Rattle.base_data.specs.declared.rdata.RData.{RData}
 use Rattle.base_data.specs.declared.rdata.RData.TheVariants as kinds
@@ -18,10 +19,6 @@ pub record IsCompressed (labels : List (List ℕ)) (old new : State) : Type 0 wh
 -- a preference, and a name with compression
 abbrev pub CompressesMX : MX → State → State → Type 0
 CompressesMX x old new = IsCompressed x.exchange.labels (appended (to_be_bytes w16 x.preference) old) new
-
--- the five numbers of a SOA as they are written, one behind the other
-abbrev pub soa_numbers : SOA → List ℕ
-soa_numbers x = to_be_bytes w32 x.serial ++ (to_be_bytes w32 x.refresh ++ (to_be_bytes w32 x.retry ++ (to_be_bytes w32 x.expire ++ to_be_bytes w32 x.minimum)))
 
 -- two names with compression, one behind the other, and numbers
 pub record CompressesSOA (x : SOA) (old new : State) : Type 0 where

@@ -20,8 +20,8 @@ use Rattle.base_data.specs.Opaque.{bytes_cmp, bytes_cmp-total}
 use Rattle.base_data.specs.PTR.{ptr_cmp, ptr_cmp-total}
 use Rattle.base_data.specs.RData.{type_of_data}
 use Rattle.base_data.specs.RecordData.{aname_in, cname_in, mx_in, ns_in, opt_in, ptr_in, soa_in, srv_in}
-use Rattle.base_data.specs.SOA.{soa_cmp, soa_cmp-total}
-use Rattle.base_data.specs.SRV.{srv_cmp, srv_cmp-total}
+use Rattle.base_data.specs.SOA.{SOAFits, soa_cmp, soa_cmp-total}
+use Rattle.base_data.specs.SRV.{SRVFits, srv_cmp, srv_cmp-total}
 use Rattle.base_data.specs.declared.rdata.RData.{RData}
 use Rattle.base_data.specs.declared.rdata.RData.TheVariants as kinds
 
@@ -116,9 +116,7 @@ FitsTypes (kinds.CNAME x) = AreLabels x.name.labels
 FitsTypes (kinds.PTR x) = AreLabels x.name.labels
 FitsTypes (kinds.ANAME x) = AreLabels x.name.labels
 FitsTypes (kinds.MX x) = (x.preference < 2 ^ 16) × AreLabels x.exchange.labels
-FitsTypes (kinds.SOA x) =
-    AreLabels x.mname.labels × AreLabels x.rname.labels
-    × (x.serial < 2 ^ 32) × (x.refresh < 2 ^ 32) × (x.retry < 2 ^ 32) × (x.expire < 2 ^ 32) × (x.minimum < 2 ^ 32)
-FitsTypes (kinds.SRV x) = (x.priority < 2 ^ 16) × (x.weight < 2 ^ 16) × (x.port < 2 ^ 16) × AreLabels x.target.labels
+FitsTypes (kinds.SOA x) = AreLabels x.mname.labels × AreLabels x.rname.labels × SOAFits x
+FitsTypes (kinds.SRV x) = SRVFits x × AreLabels x.target.labels
 FitsTypes (kinds.OPT x) = All FitsOption x
 FitsTypes _ = Unit {0}

@@ -1,9 +1,9 @@
 -- Starts of zones (RFC 1035, 3.3.13).
-use Rattle.std.specs.Prelude.{ℕ, List, Ok, ◌+◌, ◌++◌, codes}
+use Rattle.std.specs.Prelude.{ℕ, List, Ok, ◌+◌, ◌^◌, ◌<◌, ◌++◌, codes}
 use Rattle.std.proofs.Common.{rules}
 use Rattle.std.specs.Cmp.{IsTotalOrder}
 use Rattle.std.specs.Cmp.Rules.{comparing}
-use Rattle.std.specs.Int.{w32}
+use Rattle.std.specs.Int.{w32, to_be_bytes}
 use Rattle.std.specs.Ordering.{nat_cmp, on, then_cmp}
 use Rattle.std.specs.declared.cmp.Ordering.{Ordering}
 use Rattle.base.specs.NameOrder.{canonical_cmp}
@@ -35,7 +35,19 @@ soa_cmp = then_cmp (then_cmp (then_cmp (then_cmp (then_cmp (then_cmp (then_cmp (
 pub soa_cmp-total : IsTotalOrder soa_cmp
 soa_cmp-total = search (canonical_cmp-total, flag_cmp-total, comparing, rules) depth 13
 
--- the version and the times, one behind the other
+-- each number takes four bytes
+pub record SOAFits (x : SOA) : Type 0 where
+  pub serial : x.serial < 2 ^ 32
+  pub refresh : x.refresh < 2 ^ 32
+  pub retry : x.retry < 2 ^ 32
+  pub expire : x.expire < 2 ^ 32
+  pub minimum : x.minimum < 2 ^ 32
+
+-- the version and the times as they are written, one behind the other
+abbrev pub soa_numbers : SOA → List ℕ
+soa_numbers x = to_be_bytes w32 x.serial ++ (to_be_bytes w32 x.refresh ++ (to_be_bytes w32 x.retry ++ (to_be_bytes w32 x.expire ++ to_be_bytes w32 x.minimum)))
+
+-- the word that they are
 abbrev pub SOANumbers : SOA → List ℕ → ℕ → ℕ → Type 0
 SOANumbers x = Then (Number w32 x.serial) (Then (Number w32 x.refresh) (Then (Number w32 x.retry) (Then (Number w32 x.expire) (Number w32 x.minimum))))
 

@@ -1,5 +1,5 @@
 -- Hosts that have a service (RFC 2782).
-use Rattle.std.specs.Prelude.{ℕ, List, [], ◌∷◌, Ok, ◌+◌, ◌++◌, codes}
+use Rattle.std.specs.Prelude.{ℕ, List, [], ◌∷◌, Ok, ◌+◌, ◌^◌, ◌<◌, ◌++◌, codes}
 use Rattle.std.proofs.Common.{rules}
 use Rattle.std.specs.Cmp.{IsTotalOrder}
 use Rattle.std.specs.Cmp.Rules.{comparing}
@@ -35,6 +35,16 @@ srv_cmp-total = search (canonical_cmp-total, flag_cmp-total, comparing, rules) d
 -- the word that the fields are written as, one behind the other
 abbrev pub SRVWord : SRV → List ℕ → ℕ → ℕ → Type 0
 SRVWord x = Then (Number w16 x.priority) (Then (Number w16 x.weight) (Then (Number w16 x.port) (NameAt x.target.labels)))
+
+-- each number takes two bytes
+pub record SRVFits (x : SRV) : Type 0 where
+  pub priority : x.priority < 2 ^ 16
+  pub weight : x.weight < 2 ^ 16
+  pub port : x.port < 2 ^ 16
+
+-- the three numbers as they are written, one behind the other
+abbrev pub srv_numbers : SRV → List ℕ
+srv_numbers x = to_be_bytes w16 x.priority ++ (to_be_bytes w16 x.weight ++ to_be_bytes w16 x.port)
 
 -- the bytes of the fields, the name without compression
 abbrev pub srv_wire : SRV → List ℕ

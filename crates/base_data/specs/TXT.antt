@@ -1,5 +1,5 @@
 -- Texts: character strings, each a byte for its length and as many bytes (RFC 1035, 3.3 and 3.3.14).
-use Rattle.std.specs.Prelude.{◌≡◌, ◌≢◌, ℕ, Bool, All, ◌+◌, ◌/◌, ◌%◌, ◌≤◌, ◌||◌, ◌==◌, List, [], ◌∷◌, ◌++◌, length, map, nat_lt, if◌then◌else◌, Ok, Err}
+use Rattle.std.specs.Prelude.{◌≡◌, ◌≢◌, ℕ, Bool, All, ◌≤◌, ◌||◌, ◌==◌, List, [], ◌∷◌, ◌++◌, length, map, nat_lt, if◌then◌else◌, Ok, Err}
 use Rattle.std.proofs.Common.{rules, refl}
 use Rattle.std.specs.Cmp.{IsEquivalence, IsPartialOrder, IsTotalOrder, partial_order_from_agreeing_total}
 use Rattle.std.specs.Cmp.Rules.{comparing}
@@ -8,6 +8,7 @@ use Rattle.std.specs.Ordering.{as_partial_cmp, is_eq, on}
 use Rattle.std.specs.Str.{bytes_eq}
 use Rattle.std.specs.declared.cmp.Ordering.{Ordering}
 use Rattle.base.specs.Labels.{wire_of, labels_of}
+use Rattle.base.specs.NameText.{decimal_text}
 use Rattle.base.specs.Reading.{Read, bytes_at, ◌>>=◌}
 use Rattle.base.specs.declared.error.decode_error.DecodeError.TheVariants as faults
 use Rattle.base_data.specs.Opaque.{bytes_cmp, same_bytes, same_bytes-tie}
@@ -30,13 +31,9 @@ are_strings bytes = bytes_eq (wire_of (labels_of bytes)) bytes
 abbrev pub txt_at : ℕ → List ℕ → ℕ → Read (List (List ℕ))
 txt_at len bytes i = bytes_at len bytes i >>= λ r. if are_strings r.0 then Ok (labels_of r.0, r.1) else Err faults.InsufficientBytes
 
--- a backslash and three decimal digits
-abbrev pub decimal_escape : ℕ → List ℕ
-decimal_escape b = 92 ∷ (48 + b / 100) ∷ (48 + b / 10 % 10) ∷ (48 + b % 10) ∷ []
-
 -- the text of a byte: itself if it is printable or a space, with a backslash before a quote and a backslash
 abbrev pub string_byte : ℕ → List ℕ
-string_byte b = if nat_lt b 32 || nat_lt 126 b then decimal_escape b else (if b == 34 || b == 92 then 92 ∷ b ∷ [] else b ∷ [])
+string_byte b = if nat_lt b 32 || nat_lt 126 b then decimal_text b else (if b == 34 || b == 92 then 92 ∷ b ∷ [] else b ∷ [])
 
 -- a string in quotes
 abbrev pub string_text : List ℕ → List ℕ

@@ -1,7 +1,7 @@
 //! The text of names (RFC 1035, 5.1).
 
 ghost use Rattle.std.specs.Prelude.{◌≡◌, ◌++◌, [], ◌∷◌, Some, if◌then◌else◌};
-ghost use Rattle.base.specs.NameText.{byte_text, label_text, name_text};
+ghost use Rattle.base.specs.NameText.{byte_text, is_special, label_text, name_text};
 
 use crate::name::{Name, first_label};
 use std::fmt;
@@ -14,20 +14,25 @@ impl fmt::Display for ByteText {
     ghost output = { λ b. Some (byte_text b.0) };
 
     fn fmt<W: fmt::Write>(&self, f: &mut fmt::Formatter<W>) -> fmt::Result {
-        match self.0 {
-            b'.' | b'\\' | b'"' | b'(' | b')' | b';' | b'@' | b'$' => {
-                write!(f, "\\{}", self.0 as char)
-            }
-            b'!'..=b'~' => write!(f, "{}", self.0 as char),
-            b => write!(
-                f,
-                "\\{}{}{}",
-                (b'0' + b / 100) as char,
-                (b'0' + b / 10 % 10) as char,
-                (b'0' + b % 10) as char
-            ),
+        let b = self.0;
+        if !b.is_ascii_graphic() {
+            write!(f, "\\{b:03}")
+        } else if is_special(b) {
+            write!(f, "\\{}", b as char)
+        } else {
+            write!(f, "{}", b as char)
         }
     }
+}
+
+/// Whether a byte stands for something else than itself in the text of a name.
+fn is_special(b: u8) -> bool
+    ensures { result ≡ is_special b }
+{
+    matches!(
+        b,
+        b'.' | b'\\' | b'"' | b'(' | b')' | b';' | b'@' | b'$'
+    )
 }
 
 /// A dot, or nothing.

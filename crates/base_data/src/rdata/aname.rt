@@ -128,6 +128,6 @@ impl fmt::Display for ANAME {
 
     /// The name, as in zone files (RFC 1035, 5.1).
     fn fmt<W: fmt::Write>(&self, f: &mut fmt::Formatter<W>) -> fmt::Result {
-        write!(f, "{}", self.name)
+        fmt::Display::fmt(&self.name, f)
     }
 }

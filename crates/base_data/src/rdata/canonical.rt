@@ -2,12 +2,11 @@
 
 ghost use Rattle.std.specs.Prelude.{◌≡◌, ◌≤◌, [], ◌++◌, length};
 ghost use Rattle.std.specs.Iterator.{YieldsFirst, item_count};
-ghost use Rattle.std.specs.Int.{w32, to_be_bytes};
 ghost use Rattle.base_data.specs.DataOrder.{canonical_data, name_octets};
 ghost use Rattle.base_data.specs.OPT.{options_wire};
 ghost use Rattle.base_data.specs.Opaque.{bytes_cmp};
 
-use crate::rdata::{EdnsOption, RData, SOA};
+use crate::rdata::{EdnsOption, RData};
 use base::Name;
 use std::cmp::Ordering;
 use std::marker::Model;
@@ -246,19 +245,6 @@ impl<'a> Iterator for CanonicalOctets<'a> {
     }
 }
 
-/// The numbers of an SOA.
-fn soa_digits(rdata: &SOA) -> [u8; MOST_DIGITS]
-    ensures { result ≡ to_be_bytes w32 rdata.now.serial ++ to_be_bytes w32 rdata.now.refresh ++ to_be_bytes w32 rdata.now.retry
-        ++ to_be_bytes w32 rdata.now.expire ++ to_be_bytes w32 rdata.now.minimum }
-{
-    let [a, b, c, d] = rdata.serial.to_be_bytes();
-    let [e, f, g, h] = rdata.refresh.to_be_bytes();
-    let [i, j, k, l] = rdata.retry.to_be_bytes();
-    let [m, n, o, p] = rdata.expire.to_be_bytes();
-    let [q, r, s, t] = rdata.minimum.to_be_bytes();
-    [a, b, c, d, e, f, g, h, i, j, k, l, m, n, o, p, q, r, s, t]
-}
-
 impl RData {
     /// The bytes of the canonical form.
     fn canonical_octets(&self) -> CanonicalOctets<'_>
@@ -275,13 +261,10 @@ impl RData {
                 CanonicalOctets::of_name(&rdata.preference.to_be_bytes(), &rdata.exchange)
             }
             RData::SOA(rdata) => {
-                CanonicalOctets::of_names(&rdata.mname, &rdata.rname, &soa_digits(rdata))
+                CanonicalOctets::of_names(&rdata.mname, &rdata.rname, &rdata.number_octets())
             }
             RData::SRV(rdata) => {
-                let [a, b] = rdata.priority.to_be_bytes();
-                let [c, d] = rdata.weight.to_be_bytes();
-                let [e, f] = rdata.port.to_be_bytes();
-                CanonicalOctets::of_name(&[a, b, c, d, e, f], &rdata.target)
+                CanonicalOctets::of_name(&rdata.number_octets(), &rdata.target)
             }
             RData::TXT(rdata) => CanonicalOctets::of_bytes(rdata.as_wire()),
             RData::NULL(rdata) => CanonicalOctets::of_bytes(rdata.bytes()),

@@ -1,7 +1,7 @@
 //! Writes bytes as data.
 
 ghost use Rattle.std.specs.Prelude.{◌≡◌, OnOk, length, []};
-ghost use Rattle.std.specs.Int.{w16, w32, to_be_bytes};
+ghost use Rattle.std.specs.Int.{w16, to_be_bytes};
 ghost use Rattle.base.specs.Laws.{Keeps, Writes};
 ghost use Rattle.base.specs.State.{appended};
 ghost use Rattle.base.specs.Wire.{state_of, Refuses};
@@ -14,6 +14,7 @@ use base::{BinEncoder, ProtoError};
 /// Refused with `MaxBufferSizeExceeded` where a byte would pass the limit, and with `Memory` for want of it. What stood
 /// before stays.
 pub(crate) fn emit_bytes(bytes: &[u8], encoder: &mut BinEncoder<'_>) -> Result<(), ProtoError>
+    ensures state { OnOk result (state_of encoder.new ≡ appended bytes.now (state_of encoder.old)) }
     ensures keeps { Keeps (state_of encoder.old) (state_of encoder.new) }
     ensures writes { OnOk result (Writes (Bytes bytes.now) (length bytes.now) []
         (state_of encoder.old) (state_of encoder.new)) }
@@ -31,15 +32,4 @@ pub(crate) fn emit_u16(number: u16, encoder: &mut BinEncoder<'_>) -> Result<(), 
     ensures refuses { Refuses 2 (state_of encoder.old) result }
 {
     encoder.emit_u16(number)
-}
-
-/// Writes a number of four bytes, the highest one first.
-pub(crate) fn emit_u32(number: u32, encoder: &mut BinEncoder<'_>) -> Result<(), ProtoError>
-    ensures state { OnOk result (state_of encoder.new ≡ appended (to_be_bytes w32 number) (state_of encoder.old)) }
-    ensures keeps { Keeps (state_of encoder.old) (state_of encoder.new) }
-    ensures writes { OnOk result (Writes (Number w32 number) 4 []
-        (state_of encoder.old) (state_of encoder.new)) }
-    ensures refuses { Refuses 4 (state_of encoder.old) result }
-{
-    encoder.emit_u32(number)
 }

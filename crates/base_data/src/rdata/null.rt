@@ -111,7 +111,7 @@ impl fmt::Display for NULL {
 
     /// `\#`, the number of bytes, and the bytes in hexadecimal in lower case, if there are any (RFC 3597, 5).
     fn fmt<W: fmt::Write>(&self, f: &mut fmt::Formatter<W>) -> fmt::Result {
-        write!(f, "{}", OpaqueText(self.bytes()))
+        fmt::Display::fmt(&OpaqueText(self.bytes()), f)
     }
 }
 

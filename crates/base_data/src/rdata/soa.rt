@@ -4,12 +4,11 @@ ghost use Rattle.std.specs.Prelude.{◌≡◌, refl, OnOk, Some, []};
 ghost use Rattle.std.specs.Cmp.{eq_by_cmp_equiv, partial_equiv_from_equiv, partial_order_from_total};
 ghost use Rattle.std.specs.Ordering.{as_partial_cmp, eq_by_cmp};
 ghost use Rattle.base.specs.Laws.{Keeps, Writes};
-ghost use Rattle.base.specs.State.{appended};
 ghost use Rattle.base.specs.Wire.{state_of, Refuses};
-ghost use Rattle.base_data.specs.DataNames.{CompressesSOA, soa_numbers};
-ghost use Rattle.base_data.specs.SOA.{SOANumbers, SOAWord, soa_at, soa_cmp, soa_cmp-total, plain_soa, soa_text};
+ghost use Rattle.base_data.specs.DataNames.{CompressesSOA};
+ghost use Rattle.base_data.specs.SOA.{SOAFits, SOAWord, soa_at, soa_cmp, soa_cmp-total, plain_soa, soa_numbers, soa_text};
 
-use crate::rdata::emit::emit_u32;
+use crate::rdata::emit::emit_bytes;
 use base::{BinDecodable, BinDecoder, BinEncodable, BinEncoder, DecodeError, Name, ProtoError};
 use std::alloc::AllocError;
 use std::cmp::Ordering;
@@ -212,23 +211,30 @@ impl BinEncodable for SOA {
     {
         self.mname.emit(encoder)?;
         self.rname.emit(encoder)?;
-        self.emit_numbers(encoder)
+        emit_bytes(&self.number_octets(), encoder)
     }
 }
 
 impl SOA {
-    // Writes the version and the times.
-    fn emit_numbers(&self, encoder: &mut BinEncoder<'_>) -> Result<(), ProtoError>
-        ensures state { OnOk result (state_of encoder.new ≡ appended (soa_numbers self.now) (state_of encoder.old)) }
-        ensures keeps { Keeps (state_of encoder.old) (state_of encoder.new) }
-        ensures writes { OnOk result (Writes (SOANumbers self.now) 20 [] (state_of encoder.old) (state_of encoder.new)) }
-        ensures refuses { Refuses 20 (state_of encoder.old) result }
+    /// The version and the times as they are written, the highest byte of each first.
+    pub(crate) fn number_octets(&self) -> [u8; 20]
+        ensures bytes { result ≡ soa_numbers self.now }
+        ensures fits { SOAFits self.now }
     {
-        emit_u32(self.serial, encoder)?;
-        emit_u32(self.refresh, encoder)?;
-        emit_u32(self.retry, encoder)?;
-        emit_u32(self.expire, encoder)?;
-        emit_u32(self.minimum, encoder)
+        let &SOA {
+            serial,
+            refresh,
+            retry,
+            expire,
+            minimum,
+            ..
+        } = self;
+        let [a, b, c, d] = serial.to_be_bytes();
+        let [e, f, g, h] = refresh.to_be_bytes();
+        let [i, j, k, l] = retry.to_be_bytes();
+        let [m, n, o, p] = expire.to_be_bytes();
+        let [q, r, s, t] = minimum.to_be_bytes();
+        [a, b, c, d, e, f, g, h, i, j, k, l, m, n, o, p, q, r, s, t]
     }
 }
 

@@ -6,9 +6,9 @@ ghost use Rattle.std.specs.Ordering.{as_partial_cmp, eq_by_cmp};
 ghost use Rattle.base.specs.Laws.{Keeps, Writes};
 ghost use Rattle.base.specs.State.{appended};
 ghost use Rattle.base.specs.Wire.{state_of, Refuses};
-ghost use Rattle.base_data.specs.SRV.{SRVWord, srv_at, srv_cmp, srv_cmp-total, plain_srv, srv_text, srv_wire};
+ghost use Rattle.base_data.specs.SRV.{SRVFits, SRVWord, srv_at, srv_cmp, srv_cmp-total, plain_srv, srv_numbers, srv_text, srv_wire};
 
-use crate::rdata::emit::emit_u16;
+use crate::rdata::emit::emit_bytes;
 use base::{BinDecodable, BinDecoder, BinEncodable, BinEncoder, DecodeError, Name, ProtoError};
 use std::alloc::AllocError;
 use std::cmp::Ordering;
@@ -161,10 +161,27 @@ impl BinEncodable for SRV {
         ensures refuses { Refuses (plain_srv self.now) (state_of encoder.old) result }
         ensures names { OnOk result (state_of encoder.new ≡ appended (srv_wire self.now) (state_of encoder.old)) }
     {
-        emit_u16(self.priority, encoder)?;
-        emit_u16(self.weight, encoder)?;
-        emit_u16(self.port, encoder)?;
+        emit_bytes(&self.number_octets(), encoder)?;
         self.target.emit_plain(encoder)
+    }
+}
+
+impl SRV {
+    /// The numbers as they are written, the high byte of each first.
+    pub(crate) fn number_octets(&self) -> [u8; 6]
+        ensures bytes { result ≡ srv_numbers self.now }
+        ensures fits { SRVFits self.now }
+    {
+        let &SRV {
+            priority,
+            weight,
+            port,
+            ..
+        } = self;
+        let [a, b] = priority.to_be_bytes();
+        let [c, d] = weight.to_be_bytes();
+        let [e, f] = port.to_be_bytes();
+        [a, b, c, d, e, f]
     }
 }
 

@@ -115,7 +115,7 @@ impl fmt::Display for TSIG {
 
     /// `\#`, the number of bytes, and the bytes in hexadecimal in lower case (RFC 3597, 5).
     fn fmt<W: fmt::Write>(&self, f: &mut fmt::Formatter<W>) -> fmt::Result {
-        write!(f, "{}", OpaqueText(self.bytes()))
+        fmt::Display::fmt(&OpaqueText(self.bytes()), f)
     }
 }
 

@@ -54,21 +54,21 @@ impl fmt::Display for RData {
     /// The text of its kind; `\# 0` for empty data (RFC 3597, 5).
     fn fmt<W: fmt::Write>(&self, f: &mut fmt::Formatter<W>) -> fmt::Result {
         match self {
-            RData::A(rdata) => write!(f, "{rdata}"),
-            RData::AAAA(rdata) => write!(f, "{rdata}"),
-            RData::NS(rdata) => write!(f, "{rdata}"),
-            RData::CNAME(rdata) => write!(f, "{rdata}"),
-            RData::PTR(rdata) => write!(f, "{rdata}"),
-            RData::ANAME(rdata) => write!(f, "{rdata}"),
-            RData::MX(rdata) => write!(f, "{rdata}"),
-            RData::SOA(rdata) => write!(f, "{rdata}"),
-            RData::SRV(rdata) => write!(f, "{rdata}"),
-            RData::TXT(rdata) => write!(f, "{rdata}"),
-            RData::NULL(rdata) => write!(f, "{rdata}"),
-            RData::OPT(rdata) => write!(f, "{rdata}"),
-            RData::TSIG(rdata) => write!(f, "{rdata}"),
+            RData::A(rdata) => fmt::Display::fmt(rdata, f),
+            RData::AAAA(rdata) => fmt::Display::fmt(rdata, f),
+            RData::NS(rdata) => fmt::Display::fmt(rdata, f),
+            RData::CNAME(rdata) => fmt::Display::fmt(rdata, f),
+            RData::PTR(rdata) => fmt::Display::fmt(rdata, f),
+            RData::ANAME(rdata) => fmt::Display::fmt(rdata, f),
+            RData::MX(rdata) => fmt::Display::fmt(rdata, f),
+            RData::SOA(rdata) => fmt::Display::fmt(rdata, f),
+            RData::SRV(rdata) => fmt::Display::fmt(rdata, f),
+            RData::TXT(rdata) => fmt::Display::fmt(rdata, f),
+            RData::NULL(rdata) => fmt::Display::fmt(rdata, f),
+            RData::OPT(rdata) => fmt::Display::fmt(rdata, f),
+            RData::TSIG(rdata) => fmt::Display::fmt(rdata, f),
             RData::Update0(_) => write!(f, "\\# 0"),
-            RData::Unknown { rdata, .. } => write!(f, "{rdata}"),
+            RData::Unknown { rdata, .. } => fmt::Display::fmt(rdata, f),
         }
     }
 }

@@ -18,13 +18,7 @@ impl fmt::Display for ByteText {
         match self.0 {
             b'\\' | b'"' => write!(f, "\\{}", self.0 as char),
             b' '..=b'~' => write!(f, "{}", self.0 as char),
-            b => write!(
-                f,
-                "\\{}{}{}",
-                (b'0' + b / 100) as char,
-                (b'0' + b / 10 % 10) as char,
-                (b'0' + b % 10) as char
-            ),
+            b => write!(f, "\\{b:03}"),
         }
     }
 }

@@ -12,6 +12,6 @@ joined m a b c d e =
 
 pub returns-in-SOA : goal.returns-in-SOA
 returns-in-SOA c =
-    c.of_names.ensures ∙ ap (λ (xs : List ℕ). name_octets c.in-SOA.rdata.mname ++ name_octets c.in-SOA.rdata.rname ++ xs) c.soa_digits.ensures
+    c.of_names.ensures ∙ ap (λ (xs : List ℕ). name_octets c.in-SOA.rdata.mname ++ name_octets c.in-SOA.rdata.rname ++ xs) c.number_octets.ensures.bytes
     ∙ joined (name_octets c.in-SOA.rdata.mname ++ name_octets c.in-SOA.rdata.rname) _ _ _ _ _
     ∙ sym (ap canonical_data c.in-SOA.is)

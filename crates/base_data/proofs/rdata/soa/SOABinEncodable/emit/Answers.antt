@@ -1,6 +1,7 @@
 use Rattle.std.proofs.lemmas.Result.{on_ok_weaker}
 use Rattle.base.proofs.LawLemmas.{Keeps-then, Writes-then, Writes-unowned}
 use Rattle.base.specs.Wire.{state_of}
+use Rattle.base_data.proofs.NumberLemmas.{soa_numbers_written, written_as}
 use Rattle.base_data.proofs.WriteLemmas.{compressed_soa}
 use Rattle.base_data.proofs.rdata.soa.SOABinEncodable.emit.Goals as goal
 
@@ -8,14 +9,14 @@ pub returns-in_err-emit-2-clause-keeps : goal.returns-in_err-emit-2-clause-keeps
 returns-in_err-emit-2-clause-keeps c = Keeps-then c.emit.ensures.keeps c.emit-2.ensures.keeps
 
 pub returns-clause-keeps : goal.returns-clause-keeps
-returns-clause-keeps c = Keeps-then c.emit.ensures.keeps (Keeps-then c.emit-2.ensures.keeps c.emit_numbers.ensures.keeps)
+returns-clause-keeps c = Keeps-then c.emit.ensures.keeps (Keeps-then c.emit-2.ensures.keeps c.emit_bytes.ensures.keeps)
 
 pub returns-clause-writes : goal.returns-clause-writes
 returns-clause-writes c =
-    let keeps = Keeps-then c.emit-2.ensures.keeps c.emit_numbers.ensures.keeps in
-    on_ok_weaker c.emit_numbers.result (λ w. Writes-then c.emit.ensures.keeps keeps (Writes-unowned c.in_ok-emit.ensures.writes) (Writes-then c.emit-2.ensures.keeps c.emit_numbers.ensures.keeps (Writes-unowned c.in_ok-emit-2.ensures.writes) w)) c.emit_numbers.ensures.writes
+    let keeps = Keeps-then c.emit-2.ensures.keeps c.emit_bytes.ensures.keeps in
+    on_ok_weaker c.emit_bytes.result (λ w. Writes-then c.emit.ensures.keeps keeps (Writes-unowned c.in_ok-emit.ensures.writes) (Writes-then c.emit-2.ensures.keeps c.emit_bytes.ensures.keeps (Writes-unowned c.in_ok-emit-2.ensures.writes) w)) (soa_numbers_written c.emit_bytes.result c.args.self.now _ _ c.number_octets.ensures.fits (written_as c.emit_bytes.result _ _ _ _ c.number_octets.ensures.bytes c.emit_bytes.ensures.state))
 
 pub returns-clause-names : goal.returns-clause-names
 returns-clause-names c =
-    on_ok_weaker c.emit_numbers.result (λ numbers.
-    compressed_soa c.args.self.now (state_of c.args.encoder.now) _ _ _ c.emit.ensures.keeps c.in_ok-emit.ensures.writes c.in_ok-emit.ensures.stores c.emit-2.ensures.keeps c.in_ok-emit-2.ensures.writes c.in_ok-emit-2.ensures.stores numbers) c.emit_numbers.ensures.state
+    on_ok_weaker c.emit_bytes.result (λ numbers.
+    compressed_soa c.args.self.now (state_of c.args.encoder.now) _ _ _ c.emit.ensures.keeps c.in_ok-emit.ensures.writes c.in_ok-emit.ensures.stores c.emit-2.ensures.keeps c.in_ok-emit-2.ensures.writes c.in_ok-emit-2.ensures.stores numbers) (written_as c.emit_bytes.result _ _ _ _ c.number_octets.ensures.bytes c.emit_bytes.ensures.state)
