@@ -4,6 +4,7 @@ pub mod DataLemmas
 pub mod DataRows
 pub mod FieldLemmas
 pub mod FillLemmas
+pub mod HexTexts
 pub mod KindOrderLemmas
 pub mod NameDataLemmas
 pub mod NameWords

@@ -30,12 +30,23 @@ soa_numbers_stand x B i fits s =
     let behind_a = stands_last a (b ++ (c ++ (d ++ e))) B i s in
     let behind_b = stands_last b (c ++ (d ++ e)) B (i + 4) behind_a in
     let behind_c = stands_last c (d ++ e) B (i + 4 + 4) behind_b in
-    let behind_d = stands_last d e B (i + 4 + 4 + 4) behind_c in
-    (_, (number32_stands x.serial B i fits.serial (first_stands a (b ++ (c ++ (d ++ e))) B i s), refl),
-    (_, (number32_stands x.refresh B (i + 4) fits.refresh (first_stands b (c ++ (d ++ e)) B (i + 4) behind_a), refl),
-    (_, (number32_stands x.retry B (i + 4 + 4) fits.retry (first_stands c (d ++ e) B (i + 4 + 4) behind_b), refl),
-    (_, (number32_stands x.expire B (i + 4 + 4 + 4) fits.expire (first_stands d e B (i + 4 + 4 + 4) behind_c), refl),
-    (number32_stands x.minimum B (i + 4 + 4 + 4 + 4) fits.minimum behind_d, omega arith)))))
+    let behind_d = stands_last d e B (i + 4 + 4 + 4) behind_c in (
+      _,
+      (number32_stands x.serial B i fits.serial (first_stands a (b ++ (c ++ (d ++ e))) B i s), refl),
+      (
+        _,
+        (number32_stands x.refresh B (i + 4) fits.refresh (first_stands b (c ++ (d ++ e)) B (i + 4) behind_a), refl),
+        (
+          _,
+          (number32_stands x.retry B (i + 4 + 4) fits.retry (first_stands c (d ++ e) B (i + 4 + 4) behind_b), refl),
+          (
+            _,
+            (number32_stands x.expire B (i + 4 + 4 + 4) fits.expire (first_stands d e B (i + 4 + 4 + 4) behind_c), refl),
+            (number32_stands x.minimum B (i + 4 + 4 + 4 + 4) fits.minimum behind_d, omega arith),
+          ),
+        ),
+      ),
+    )
 
 -- the numbers of an SOA were written as their bytes
 pub soa_numbers_written : {X : Type 0} (r : Result X ProtoError) (x : SOA) (a b : State) → SOAFits x → OnOk r (b ≡ appended (soa_numbers x) a) → OnOk r (Writes (SOANumbers x) 20 [] a b)
@@ -55,10 +66,15 @@ srv_numbers_stand x B i fits s =
     let b = to_be_bytes w16 x.weight in
     let c = to_be_bytes w16 x.port in
     let behind_a = stands_last a (b ++ c) B i s in
-    let behind_b = stands_last b c B (i + 2) behind_a in
-    (_, (number16_stands x.priority B i fits.priority (first_stands a (b ++ c) B i s), refl),
-    (_, (number16_stands x.weight B (i + 2) fits.weight (first_stands b c B (i + 2) behind_a), refl),
-    (number16_stands x.port B (i + 2 + 2) fits.port behind_b, omega arith)))
+    let behind_b = stands_last b c B (i + 2) behind_a in (
+      _,
+      (number16_stands x.priority B i fits.priority (first_stands a (b ++ c) B i s), refl),
+      (
+        _,
+        (number16_stands x.weight B (i + 2) fits.weight (first_stands b c B (i + 2) behind_a), refl),
+        (number16_stands x.port B (i + 2 + 2) fits.port behind_b, omega arith),
+      ),
+    )
 
 -- the numbers of an SRV were written as their bytes, and the name behind them
 pub srv_written : (x : SRV) (octets : List ℕ) (a b c : State) → SRVFits x → octets ≡ srv_numbers x → Keeps a b → Keeps b c → b ≡ appended octets a → Writes (NameAt x.target.labels) (plain_len x.target.labels) [] b c → Writes (SRVWord x) (plain_srv x) [] a c

@@ -29,10 +29,7 @@ impl fmt::Display for ByteText {
 fn is_special(b: u8) -> bool
     ensures { result ≡ is_special b }
 {
-    matches!(
-        b,
-        b'.' | b'\\' | b'"' | b'(' | b')' | b';' | b'@' | b'$'
-    )
+    matches!(b, b'.' | b'\\' | b'"' | b'(' | b')' | b';' | b'@' | b'$')
 }
 
 /// A dot, or nothing.

@@ -263,9 +263,7 @@ impl RData {
             RData::SOA(rdata) => {
                 CanonicalOctets::of_names(&rdata.mname, &rdata.rname, &rdata.number_octets())
             }
-            RData::SRV(rdata) => {
-                CanonicalOctets::of_name(&rdata.number_octets(), &rdata.target)
-            }
+            RData::SRV(rdata) => { CanonicalOctets::of_name(&rdata.number_octets(), &rdata.target) }
             RData::TXT(rdata) => CanonicalOctets::of_bytes(rdata.as_wire()),
             RData::NULL(rdata) => CanonicalOctets::of_bytes(rdata.bytes()),
             RData::OPT(rdata) => CanonicalOctets::of_options(rdata.as_ref()),

@@ -67,7 +67,7 @@ impl fmt::Display for RData {
             RData::NULL(rdata) => fmt::Display::fmt(rdata, f),
             RData::OPT(rdata) => fmt::Display::fmt(rdata, f),
             RData::TSIG(rdata) => fmt::Display::fmt(rdata, f),
-            RData::Update0(_) => write!(f, "\\# 0"),
+            RData::Update0(_) => f.write_str("\\# 0"),
             RData::Unknown { rdata, .. } => fmt::Display::fmt(rdata, f),
         }
     }

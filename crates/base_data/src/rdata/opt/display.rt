@@ -32,7 +32,7 @@ impl fmt::Display for OptionsHex<'_> {
 
     fn fmt<W: fmt::Write>(&self, f: &mut fmt::Formatter<W>) -> fmt::Result {
         for option in self.0 {
-            write!(f, "{}", OptionHex(option))?;
+            fmt::Display::fmt(&OptionHex(option), f)?;
         }
         Ok(())
     }
@@ -58,7 +58,7 @@ impl fmt::Display for OPT {
         let options = self.as_ref();
         let len = wire_len(options);
         if len == 0 {
-            return write!(f, "\\# 0");
+            return f.write_str("\\# 0");
         }
         write!(f, "\\# {len} {}", OptionsHex(options))
     }

@@ -41,9 +41,9 @@ impl<'a> fmt::Display for StringText<'a> {
     ghost output = { λ t. Some (string_text t.string.now ++ (if t.is_last then [] else 32 ∷ [])) };
 
     fn fmt<W: fmt::Write>(&self, f: &mut fmt::Formatter<W>) -> fmt::Result {
-        write!(f, "\"")?;
+        f.write_str("\"")?;
         for b in self.string {
-            write!(f, "{}", ByteText(*b))?;
+            fmt::Display::fmt(&ByteText(*b), f)?;
         }
         write!(f, "\"{}", space_if(!self.is_last))
     }
@@ -57,14 +57,8 @@ impl fmt::Display for TXT {
     fn fmt<W: fmt::Write>(&self, f: &mut fmt::Formatter<W>) -> fmt::Result {
         let mut rest = self.as_wire();
         while let Some((string, tail)) = first_string(rest) {
-            write!(
-                f,
-                "{}",
-                StringText {
-                    string,
-                    is_last: tail.is_empty()
-                }
-            )?;
+            let is_last = tail.is_empty();
+            fmt::Display::fmt(&StringText { string, is_last }, f)?;
             rest = tail;
         }
         Ok(())
