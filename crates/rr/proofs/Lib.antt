@@ -2,5 +2,7 @@ pub mod DataInside
 pub mod EqualRecords
 pub mod OrderRecords
 pub mod ReadRecords
+pub mod ReadSteps
 pub mod RecordFaults
 pub mod RecordLemmas
+pub mod WriteSteps

@@ -1,19 +1,66 @@
-use Rattle.std.proofs.Common.{ℕ, List, ap, arith}
-use Rattle.std.proofs.lemmas.Result.{on_ok_weaker}
+use Rattle.std.proofs.Common.{ℕ, List, Err, ap}
+use Rattle.std.proofs.lemmas.Result.{err_from_is_err_and, on_ok_weaker}
 use Rattle.base.proofs.LawLemmas.{Keeps-then, Writes-then, Writes-weaker}
+use Rattle.base.specs.Labels.{plain_len}
 use Rattle.base.specs.RecordType.{type_number}
+use Rattle.base.specs.Wire.{state_of}
+use Rattle.base_data.specs.DataWord.{plain_data}
 use Rattle.rr.specs.Record.{with_data}
 use Rattle.rr.proofs.RecordLemmas.{record_word}
+use Rattle.rr.proofs.WriteSteps.{class_refused, data_refused, name_refused, ttl_refused, type_refused, whole_record}
 use Rattle.rr.proofs.record.writing.RecordBinEncodable.emit.Goals as goal
+
+pub returns-in_err-emit-clause-keeps : goal.returns-in_err-emit-clause-keeps
+returns-in_err-emit-clause-keeps g c = c.emit.ensures.keeps
+
+pub returns-in_err-emit-clause-writes : goal.returns-in_err-emit-clause-writes
+returns-in_err-emit-clause-writes g c = let p = err_from_is_err_and c.from_residual.result c.from_residual.ensures.1 in rw p.1 tt
+
+pub returns-in_err-emit-clause-refuses : goal.returns-in_err-emit-clause-refuses
+returns-in_err-emit-clause-refuses g c =
+    let p = err_from_is_err_and c.from_residual.result c.from_residual.ensures.1 in
+    let r = c.args.self.now in
+    rw (p.1, p.2) (name_refused {X = Unit {0}} (plain_len r.name.labels) (plain_data (g.R.RecordData.as_rdata r.rdata)) (state_of c.args.encoder.now) (Err c.in_err-emit.field-0.0) c.in_err-emit.ensures.refuses)
 
 pub returns-in_err-emit-2-clause-keeps : goal.returns-in_err-emit-2-clause-keeps
 returns-in_err-emit-2-clause-keeps g c = Keeps-then c.emit.ensures.keeps c.emit-2.ensures.keeps
 
+pub returns-in_err-emit-2-clause-writes : goal.returns-in_err-emit-2-clause-writes
+returns-in_err-emit-2-clause-writes g c = let p = err_from_is_err_and c.from_residual-in_err-emit-2.result c.from_residual-in_err-emit-2.ensures.1 in rw p.1 tt
+
+pub returns-in_err-emit-2-clause-refuses : goal.returns-in_err-emit-2-clause-refuses
+returns-in_err-emit-2-clause-refuses g c =
+    let p = err_from_is_err_and c.from_residual-in_err-emit-2.result c.from_residual-in_err-emit-2.ensures.1 in
+    let r = c.args.self.now in
+    rw (p.1, p.2) (type_refused (plain_len r.name.labels) (plain_data (g.R.RecordData.as_rdata r.rdata)) (state_of c.args.encoder.now) (state_of c.emit.new.encoder) c.emit.ensures.keeps.limit c.in_ok-emit.ensures.writes.at_most
+    {X = Unit {0}} (Err c.in_err-emit-2.field-0.0) c.in_err-emit-2.ensures.refuses)
+
 pub returns-in_err-emit-3-clause-keeps : goal.returns-in_err-emit-3-clause-keeps
 returns-in_err-emit-3-clause-keeps g c = Keeps-then c.emit.ensures.keeps (Keeps-then c.emit-2.ensures.keeps c.emit-3.ensures.keeps)
 
+pub returns-in_err-emit-3-clause-writes : goal.returns-in_err-emit-3-clause-writes
+returns-in_err-emit-3-clause-writes g c = let p = err_from_is_err_and c.from_residual-in_err-emit-3.result c.from_residual-in_err-emit-3.ensures.1 in rw p.1 tt
+
+pub returns-in_err-emit-3-clause-refuses : goal.returns-in_err-emit-3-clause-refuses
+returns-in_err-emit-3-clause-refuses g c =
+    let p = err_from_is_err_and c.from_residual-in_err-emit-3.result c.from_residual-in_err-emit-3.ensures.1 in
+    let r = c.args.self.now in
+    rw (p.1, p.2) (class_refused (plain_len r.name.labels) (plain_data (g.R.RecordData.as_rdata r.rdata)) (state_of c.args.encoder.now) (state_of c.emit.new.encoder) c.emit.ensures.keeps.limit c.in_ok-emit.ensures.writes.at_most
+    (state_of c.emit-2.new.encoder) c.emit-2.ensures.keeps.limit c.in_ok-emit-2.ensures.writes.at_most {X = Unit {0}} (Err c.in_err-emit-3.field-0.0) c.in_err-emit-3.ensures.refuses)
+
 pub returns-in_err-emit_ttl-clause-keeps : goal.returns-in_err-emit_ttl-clause-keeps
 returns-in_err-emit_ttl-clause-keeps g c = Keeps-then c.emit.ensures.keeps (Keeps-then c.emit-2.ensures.keeps (Keeps-then c.emit-3.ensures.keeps c.emit_ttl.ensures.keeps))
+
+pub returns-in_err-emit_ttl-clause-writes : goal.returns-in_err-emit_ttl-clause-writes
+returns-in_err-emit_ttl-clause-writes g c = let p = err_from_is_err_and c.from_residual-in_err-emit_ttl.result c.from_residual-in_err-emit_ttl.ensures.1 in rw p.1 tt
+
+pub returns-in_err-emit_ttl-clause-refuses : goal.returns-in_err-emit_ttl-clause-refuses
+returns-in_err-emit_ttl-clause-refuses g c =
+    let p = err_from_is_err_and c.from_residual-in_err-emit_ttl.result c.from_residual-in_err-emit_ttl.ensures.1 in
+    let r = c.args.self.now in
+    rw (p.1, p.2) (ttl_refused (plain_len r.name.labels) (plain_data (g.R.RecordData.as_rdata r.rdata)) (state_of c.args.encoder.now) (state_of c.emit.new.encoder) c.emit.ensures.keeps.limit c.in_ok-emit.ensures.writes.at_most
+    (state_of c.emit-2.new.encoder) c.emit-2.ensures.keeps.limit c.in_ok-emit-2.ensures.writes.at_most (state_of c.emit-3.new.encoder) c.emit-3.ensures.keeps.limit c.in_ok-emit-3.ensures.writes.at_most
+    {X = Unit {0}} (Err c.in_err-emit_ttl.field-0.0) c.in_err-emit_ttl.ensures.refuses)
 
 pub returns-clause-keeps : goal.returns-clause-keeps
 returns-clause-keeps g c = Keeps-then c.emit.ensures.keeps (Keeps-then c.emit-2.ensures.keeps (Keeps-then c.emit-3.ensures.keeps (Keeps-then c.emit_ttl.ensures.keeps c.emit_sized.ensures.keeps)))
@@ -27,9 +74,16 @@ returns-clause-writes g c =
     let keeps_2 = Keeps-then c.emit-3.ensures.keeps keeps_3 in
     let keeps_1 = Keeps-then c.emit-2.ensures.keeps keeps_2 in
     let as_data = λ (B : List ℕ) (i e : ℕ). (law.keeps_word r.rdata B i e).1 in
-    let len = law.keeps_len r.rdata in
-    on_ok_weaker c.emit_sized.result (λ w. Writes-weaker (record_word (with_data g.R.RecordData.as_rdata r) _ _ (ap type_number c.record_type.ensures) c.to_field-class.ensures (g.R.BinEncodable.word r.rdata) as_data) (omega (arith, len))
+    let fits = whole_record (plain_len r.name.labels) _ _ (law.keeps_len r.rdata) in
+    on_ok_weaker c.emit_sized.result (λ w. Writes-weaker (record_word (with_data g.R.RecordData.as_rdata r) _ _ (ap type_number c.record_type.ensures) c.to_field-class.ensures (g.R.BinEncodable.word r.rdata) as_data) fits
     (Writes-then c.emit.ensures.keeps keeps_1 c.in_ok-emit.ensures.writes
     (Writes-then c.emit-2.ensures.keeps keeps_2 c.in_ok-emit-2.ensures.writes
     (Writes-then c.emit-3.ensures.keeps keeps_3 c.in_ok-emit-3.ensures.writes
     (Writes-then c.emit_ttl.ensures.keeps keeps_4 c.in_ok-emit_ttl.ensures.writes w))))) c.emit_sized.ensures.writes
+
+pub returns-clause-refuses : goal.returns-clause-refuses
+returns-clause-refuses g c =
+    let r = c.args.self.now in
+    data_refused (plain_len r.name.labels) (plain_data (g.R.RecordData.as_rdata r.rdata)) (state_of c.args.encoder.now) (state_of c.emit.new.encoder) c.emit.ensures.keeps.limit c.in_ok-emit.ensures.writes.at_most
+    (state_of c.emit-2.new.encoder) c.emit-2.ensures.keeps.limit c.in_ok-emit-2.ensures.writes.at_most (state_of c.emit-3.new.encoder) c.emit-3.ensures.keeps.limit c.in_ok-emit-3.ensures.writes.at_most
+    (state_of c.emit_ttl.new.encoder) c.emit_ttl.ensures.keeps.limit c.in_ok-emit_ttl.ensures.writes.at_most (g.R.BinEncodable.plain_len r.rdata) (g.met.R.RecordData.keeps_len r.rdata) c.emit_sized.result c.emit_sized.ensures.refuses

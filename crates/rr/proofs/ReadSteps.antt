@@ -1,0 +1,152 @@
+-- Reading a record, step by step.
+use Rattle.std.proofs.Common.{◌≡◌, ℕ, ◌+◌, ◌-◌, ◌<◌, ◌≤◌, ◌==◌, Bool, true, false, cond, not, ◌&&◌, List, [], length, refl, ap, sym, ◌∙◌, subst, arith, Result, Ok, Err}
+use Rattle.std.proofs.lemmas.Bool.{eq-eqb, le-ltb, lt-ltb}
+use Rattle.std.specs.Prelude.{nat_lt, if◌then◌else◌}
+use Rattle.std.specs.Int.{Width, w16, w32}
+use Rattle.base.specs.Labels.{NameValue}
+use Rattle.base.specs.Names.{name_at}
+use Rattle.base.specs.Reading.{Fails, Read, Reads, ◌>>=◌, number_at}
+use Rattle.base.specs.Reader.{Reader}
+use Rattle.base.specs.RecordType.{type_of}
+use Rattle.base.specs.declared.dns_class.DNSClass.{DNSClass}
+use Rattle.base.specs.declared.error.decode_error.DecodeError.{DecodeError}
+use Rattle.base.specs.declared.error.decode_error.DecodeError.TheVariants as faults
+use Rattle.base.specs.declared.record_type.RecordType.{RecordType}
+use Rattle.base.proofs.ReadLemmas.{Fails-through, number_is}
+use Rattle.base_data.proofs.Tells.{same_ok}
+use Rattle.base_data.specs.RData.{rdata_at}
+use Rattle.base_data.specs.declared.rdata.RData.{RData}
+use Rattle.rr.specs.Record.{body_at, class_value, flush_value, is_opt_type, record_at}
+use Rattle.rr.specs.declared.record.Record.{Record}
+
+-- what is read over the same bytes
+number_same : (w : Width) (again B : List ℕ) (i : ℕ) (r : Read ℕ) → again ≡ B → number_at w again i ≡ r → number_at w B i ≡ r
+number_same w again B i r same is = subst (λ (bytes : List ℕ). number_at w bytes i ≡ r) same is
+
+-- ---- what comes behind the type, field by field
+
+pub class_fails : (owner : NameValue) (type : RecordType) (B : List ℕ) (i : ℕ) (f : DecodeError) → Fails f (number_at w16 B i) → Fails f (body_at owner type B i)
+unfolding body_at
+class_fails owner type B i f fails = Fails-through f (number_at w16 B i) (body_at owner type B i) (λ no. rw no refl) fails
+
+module _ (owner : NameValue) (type : RecordType) (B : List ℕ) (i class ttl_at : ℕ) (class_is : number_at w16 B i ≡ Ok (class, ttl_at)) (second : List ℕ) (same : second ≡ B) where
+  pub ttl_fails : (f : DecodeError) → Fails f (number_at w32 second ttl_at) → Fails f (body_at owner type B i)
+  unfolding body_at
+  ttl_fails f fails = Fails-through f (number_at w32 second ttl_at) (body_at owner type B i) (λ no. rw (class_is, number_same w32 second B ttl_at (Err f) same no) refl) fails
+
+  module _ (ttl len_at : ℕ) (ttl_is : number_at w32 second ttl_at ≡ Ok (ttl, len_at)) (third : List ℕ) (same_again : third ≡ second) where
+    pub len_fails : (f : DecodeError) → Fails f (number_at w16 third len_at) → Fails f (body_at owner type B i)
+    unfolding body_at
+    len_fails f fails =
+        Fails-through f (number_at w16 third len_at) (body_at owner type B i) (λ no. rw (
+          class_is,
+          number_same w32 second B ttl_at (Ok (ttl, len_at)) same ttl_is,
+          number_same w16 third B len_at (Err f) (same_again ∙ same) no,
+        ) refl) fails
+
+    module _ (len data_at : ℕ) (len_is : number_at w16 third len_at ≡ Ok (len, data_at)) (last : List ℕ) (same_last : last ≡ third) (left asked : ℕ) (left_is : left ≡ length last - data_at) (asked_is : asked ≡ len) where
+      same_bytes : last ≡ B
+      same_bytes = same_last ∙ (same_again ∙ same)
+
+      pub data_cut : left < asked → body_at owner type B i ≡ Err (faults.IncorrectRDataLengthRead left asked)
+      unfolding body_at
+      data_cut short =
+          let left_in : left ≡ length B - data_at = left_is ∙ ap (λ (bytes : List ℕ). length bytes - data_at) same_bytes in
+          let test : nat_lt (length B) (data_at + len) ≡ true = lt-ltb (length B) (data_at + len) (omega (arith, short, left_in, asked_is)) in
+          rw (
+            class_is,
+            number_same w32 second B ttl_at (Ok (ttl, len_at)) same ttl_is,
+            number_same w16 third B len_at (Ok (len, data_at)) (same_again ∙ same) len_is,
+            test,
+            left_in,
+            asked_is,
+          ) refl
+
+      room : asked ≤ left → nat_lt (length B) (data_at + len) ≡ false
+      room fits =
+          let left_in : left ≡ length B - data_at = left_is ∙ ap (λ (bytes : List ℕ). length bytes - data_at) same_bytes in
+          let counted = number_is w16 third len_at (len, data_at) len_is in
+          let inside : data_at ≤ length B = omega (arith, counted.behind, counted.stands.inside, ap length (same_again ∙ same)) in
+          le-ltb (length B) (data_at + len) (omega (arith, fits, left_in, asked_is, inside))
+
+      pub data_fails : asked ≤ left → (f : DecodeError) → Fails f (rdata_at type len last data_at) → Fails f (body_at owner type B i)
+      unfolding body_at
+      data_fails fits f fails =
+          Fails-through f (rdata_at type len last data_at) (body_at owner type B i) (λ no. rw (
+            class_is,
+            number_same w32 second B ttl_at (Ok (ttl, len_at)) same ttl_is,
+            number_same w16 third B len_at (Ok (len, data_at)) (same_again ∙ same) len_is,
+            room fits,
+            subst (λ (bytes : List ℕ). rdata_at type len bytes data_at ≡ Err f) same_bytes no,
+          ) refl) fails
+
+      pub body_read : asked ≤ left → (rdata : RData) (end : ℕ) → rdata_at type len last data_at ≡ Ok (rdata, end) → (dns_class : DNSClass) (flush : Bool) → dns_class ≡ class_value type class → flush ≡ flush_value type class
+          → body_at owner type B i ≡ Ok (record { name = owner; dns_class = dns_class; ttl = ttl; rdata = rdata; mdns_cache_flush = flush }, end)
+      unfolding body_at
+      body_read fits rdata end rdata_is dns_class flush dns_class_is flush_is = rw (
+        class_is,
+        number_same w32 second B ttl_at (Ok (ttl, len_at)) same ttl_is,
+        number_same w16 third B len_at (Ok (len, data_at)) (same_again ∙ same) len_is,
+        room fits,
+        subst (λ (bytes : List ℕ). rdata_at type len bytes data_at ≡ Ok (rdata, end)) same_bytes rdata_is,
+        dns_class_is,
+        flush_is,
+      ) refl
+
+-- ---- the record
+
+-- a number as a type
+abbrev typed : ℕ × ℕ → Read RecordType
+typed n = Ok (type_of n.0, n.1)
+
+-- the type at a place
+abbrev type_at : List ℕ → ℕ → Read RecordType
+type_at bytes i = number_at w16 bytes i >>= typed
+
+-- what goes on with the type that was read, or fails with it
+type_then : {X : Type 0} (r : Read ℕ) (g : RecordType → ℕ → Result X DecodeError) (type : RecordType) (e : ℕ) → (r >>= typed) ≡ Ok (type, e) → (r >>= λ n. g (type_of n.0) n.1) ≡ g type e
+type_then (Ok n) g type e is = ap (λ (x : RecordType × ℕ). g x.0 x.1) (same_ok (type_of n.0, n.1) (type, e) is)
+type_then (Err f) g type e is = cc
+
+type_err : {X : Type 0} (r : Read ℕ) (g : ℕ × ℕ → Result X DecodeError) (f : DecodeError) → (r >>= typed) ≡ Err f → (r >>= g) ≡ Err f
+type_err (Ok n) g f is = cc
+type_err (Err e) g f is = cc
+
+type_same : (again B : List ℕ) (i : ℕ) (r : Read RecordType) → again ≡ B → type_at again i ≡ r → type_at B i ≡ r
+type_same again B i r same is = subst (λ (bytes : List ℕ). type_at bytes i ≡ r) same is
+
+-- what follows owner and type
+abbrev behind_type : List ℕ → NameValue → RecordType → ℕ → Read (Record RData)
+behind_type B owner type e = if is_opt_type type && not (length owner.labels == 0) then Err (faults.EdnsNameNotRoot owner) else body_at owner type B e
+
+pub name_fails : (B : List ℕ) (i : ℕ) (f : DecodeError) → Fails f (name_at B i) → Fails f (record_at B i)
+unfolding record_at
+name_fails B i f fails = Fails-through f (name_at B i) (record_at B i) (λ no. rw no refl) fails
+
+module _ (B : List ℕ) (i : ℕ) (owner : NameValue) (type_place : ℕ) (owner_is : name_at B i ≡ Ok (owner, type_place)) (second : List ℕ) (same : second ≡ B) where
+  pub type_fails : (f : DecodeError) → Fails f (type_at second type_place) → Fails f (record_at B i)
+  unfolding record_at
+  type_fails f fails =
+      Fails-through f (type_at second type_place) (record_at B i) (λ no. rw owner_is (type_err (number_at w16 B type_place) (λ n. behind_type B owner (type_of n.0) n.1) f (type_same second B type_place (Err f) same no))) fails
+
+  module _ (type : RecordType) (e : ℕ) (type_is : type_at second type_place ≡ Ok (type, e)) where
+    head_is : record_at B i ≡ behind_type B owner type e
+    unfolding record_at
+    head_is = rw owner_is (type_then (number_at w16 B type_place) (behind_type B owner) type e (type_same second B type_place (Ok (type, e)) same type_is))
+
+    pub wrong_owner : is_opt_type type ≡ true → (length owner.labels == 0) ≡ false → record_at B i ≡ Err (faults.EdnsNameNotRoot owner)
+    wrong_owner opt labelled = head_is ∙ rw (opt, labelled) refl
+
+    pub other_type : is_opt_type type ≡ false → body_at owner type B e ≡ record_at B i
+    other_type other = sym (head_is ∙ rw other refl)
+
+    pub root_owner : owner ≡ record { labels = []; absolute = true } → body_at owner type B e ≡ record_at B i
+    root_owner root = sym (head_is ∙ goes (is_opt_type type) (length owner.labels == 0) (eq-eqb (length owner.labels) 0 (ap (λ (name : NameValue). length name.labels) root))) where
+      goes : (opt none : Bool) → none ≡ true → cond (opt && not none) (Err (faults.EdnsNameNotRoot owner)) (body_at owner type B e) ≡ body_at owner type B e
+      goes true true is = refl
+      goes false true is = refl
+      goes opt false is = cc
+
+    pub record_read : (old mid new : Reader) (r : Result (Record RData) DecodeError) → mid.bytes ≡ old.bytes → Reads (λ x. x) mid new r (body_at owner type B e) → body_at owner type B e ≡ record_at B i → Reads (λ x. x) old new r (record_at B i)
+    record_read old mid new (Ok x) over read is = (sym is ∙ read.0, read.1 ∙ over)
+    record_read old mid new (Err f) over read is = subst (Fails f) is read
