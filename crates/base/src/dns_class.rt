@@ -127,12 +127,12 @@ impl fmt::Display for DNSClass {
     /// The name in upper case, `CLASSn` for `Unknown(n)` (RFC 3597, 5), or `OPT`.
     fn fmt<W: fmt::Write>(&self, f: &mut fmt::Formatter<W>) -> fmt::Result {
         match self {
-            DNSClass::IN => write!(f, "IN"),
-            DNSClass::CH => write!(f, "CH"),
-            DNSClass::HS => write!(f, "HS"),
-            DNSClass::NONE => write!(f, "NONE"),
-            DNSClass::ANY => write!(f, "ANY"),
-            DNSClass::OPT(_) => write!(f, "OPT"),
+            DNSClass::IN => f.write_str("IN"),
+            DNSClass::CH => f.write_str("CH"),
+            DNSClass::HS => f.write_str("HS"),
+            DNSClass::NONE => f.write_str("NONE"),
+            DNSClass::ANY => f.write_str("ANY"),
+            DNSClass::OPT(_) => f.write_str("OPT"),
             DNSClass::Unknown(number) => write!(f, "CLASS{number}"),
         }
     }

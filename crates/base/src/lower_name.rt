@@ -61,7 +61,7 @@ impl fmt::Display for LowerName {
 
     /// As names are (RFC 1035, 5.1).
     fn fmt<W: fmt::Write>(&self, f: &mut fmt::Formatter<W>) -> fmt::Result {
-        write!(f, "{}", self.name)
+        fmt::Display::fmt(&self.name, f)
     }
 }
 

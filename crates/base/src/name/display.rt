@@ -51,7 +51,7 @@ impl<'a> fmt::Display for LabelText<'a> {
 
     fn fmt<W: fmt::Write>(&self, f: &mut fmt::Formatter<W>) -> fmt::Result {
         for b in self.label {
-            write!(f, "{}", ByteText(*b))?;
+            fmt::Display::fmt(&ByteText(*b), f)?;
         }
         f.write_str(dot_if(!self.is_last))
     }
@@ -67,14 +67,8 @@ impl fmt::Display for Name {
     fn fmt<W: fmt::Write>(&self, f: &mut fmt::Formatter<W>) -> fmt::Result {
         let mut rest = self.as_wire();
         while let Some((label, tail)) = first_label(rest) {
-            write!(
-                f,
-                "{}",
-                LabelText {
-                    label,
-                    is_last: tail.is_empty()
-                }
-            )?;
+            let is_last = tail.is_empty();
+            fmt::Display::fmt(&LabelText { label, is_last }, f)?;
             rest = tail;
         }
         f.write_str(dot_if(self.is_fqdn()))
