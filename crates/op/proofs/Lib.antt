@@ -26,4 +26,5 @@ mod SectionStands
 mod SectionWords
 mod SortLemmas
 mod UncutLemmas
+mod VariantLemmas
 mod WordsBack
