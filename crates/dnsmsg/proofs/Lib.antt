@@ -1,2 +1,4 @@
 mod CutLemmas
 mod LimitLemmas
+mod RunLemmas
+mod WordLemmas

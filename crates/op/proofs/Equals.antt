@@ -1,5 +1,6 @@
 -- What the derived `==` answers.
-use Rattle.std.proofs.Common.{◌≡◌, Bool, true, false, ◌&&◌, ap, rules}
+use Rattle.std.proofs.Common.{◌≡◌, ℕ, Bool, true, false, ◌&&◌, refl, ap, rules}
+use Rattle.std.specs.Prelude.{◌==◌}
 use Rattle.std.specs.Bool.{Decides}
 use Rattle.std.specs.Cmp.{booleans_Decides, unsigned_Decides, first_so, second_so}
 use Rattle.op.specs.contracts.header.HeaderPartialEq.TheImpl as header_eq
@@ -9,6 +10,9 @@ use Rattle.op.specs.contracts.header.message_type.MessageTypePartialEq.TheImpl a
 use Rattle.op.specs.contracts.header.metadata.MetadataPartialEq.TheImpl as metadata_eq
 use Rattle.op.specs.contracts.op_code.OpCodePartialEq.TheImpl as op_eq
 use Rattle.op.specs.contracts.response_code.ResponseCodePartialEq.TheImpl as code_eq
+use Rattle.op.proofs.VariantLemmas.{five, variants_Decide}
+use Rattle.op.specs.contracts.op_code.OpCode as op_codes
+use Rattle.op.specs.contracts.response_code.ResponseCode as response_codes
 use Rattle.op.specs.declared.header.Header.{Header}
 use Rattle.op.specs.declared.header.flags.Flags.{Flags}
 use Rattle.op.specs.declared.header.header_counts.HeaderCounts.{HeaderCounts}
@@ -25,11 +29,24 @@ both_so false t h g = h
 pub both_Decides : {P Q : Type 0} → (s t : Bool) → Decides s P → Decides t Q → Decides (s && t) (P × Q)
 both_Decides s t p q = (λ h. (p.0 (first_so s t h), q.0 (second_so s t h)), λ f. both_so s t (p.1 f.0) (q.1 f.1))
 
+-- two values of a variant without fields, and two of one with a number
+abbrev same : Unit {0} → Unit {0} → Bool
+same x y = true
+
+abbrev by_number : ℕ × Unit {0} → ℕ × Unit {0} → Bool
+by_number x y = x.0 == y.0
+
+same_Decides : (x y : Unit {0}) → Decides (same x y) (x ≡ y)
+same_Decides x y = (λ h. refl, λ e. refl)
+
+numbers_Decide : (x y : ℕ × Unit {0}) → Decides (by_number x y) (x ≡ y)
+numbers_Decide x y = (λ h. ap (λ (n : ℕ). (n, tt)) ((unsigned_Decides x.0 y.0).0 h), λ e. (unsigned_Decides x.0 y.0).1 (ap (λ (z : ℕ × Unit {0}). z.0) e))
+
 pub op_codes_Decide : (a b : OpCode) → Decides ((op_eq.ghosts).eq a b) (a ≡ b)
-op_codes_Decide = search rules
+op_codes_Decide = variants_Decide op_codes.enum (same, (same, (same, (same, (by_number, tt))))) (same_Decides, (same_Decides, (same_Decides, (same_Decides, (numbers_Decide, tt)))))
 
 pub response_codes_Decide : (a b : ResponseCode) → Decides ((code_eq.ghosts).eq a b) (a ≡ b)
-response_codes_Decide = search rules
+response_codes_Decide = variants_Decide response_codes.enum (five same (five same (five same (five same (by_number, tt))))) (five same_Decides (five same_Decides (five same_Decides (five same_Decides (numbers_Decide, tt)))))
 
 pub message_types_Decide : (a b : MessageType) → Decides ((message_type_eq.ghosts).eq a b) (a ≡ b)
 message_types_Decide = search rules

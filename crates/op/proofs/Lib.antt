@@ -14,6 +14,7 @@ pub mod RunLemmas
 pub mod SucceedsLemmas
 mod BufferLemmas
 mod CodeLemmas
+mod ComposedLemmas
 mod CutOf
 mod CutWords
 pub mod MessageEquals
@@ -25,4 +26,5 @@ mod SectionStands
 mod SectionWords
 mod SortLemmas
 mod UncutLemmas
+mod VariantLemmas
 mod WordsBack

@@ -1,29 +1,33 @@
-use Rattle.std.proofs.Common.{refl, ap, ◌∙◌, Err, replicate}
+use Rattle.std.proofs.Common.{◌/◌, ◌%◌, refl, ap, ◌∙◌, Ok, Err, replicate}
 use Rattle.std.proofs.lemmas.Result.{err_from_is_err_and}
 use Rattle.base.proofs.LawLemmas.{Keeps-same, Keeps-appended, Keeps-then}
 use Rattle.base.specs.State.{overwritten}
 use Rattle.base.specs.Wire.{state_of}
 use Rattle.op.proofs.HeaderRoom.{room_filled}
-use Rattle.op.proofs.RunLemmas.{goes, stops}
+use Rattle.op.proofs.ComposedLemmas.{without_room, without_questions, without_sections, without_extras, without_header, whole}
+use Rattle.op.specs.EdnsRecord.{edns_record}
+use Rattle.op.specs.Fits.{listed, signature_record}
+use Rattle.op.specs.ResponseCode.{code_number}
+use Rattle.std.specs.Option.{option_copied, option_map}
 use Rattle.op.specs.Header.{header_bytes, raw_header}
 use Rattle.op.proofs.message.writing.emit_message_parts.Goals as goal
 
 pub returns-in_err-place-clause-keeps : goal.returns-in_err-place-clause-keeps
-returns-in_err-place-clause-keeps g c = Keeps-same _ _ c.in_err-place.ensures.err
+returns-in_err-place-clause-keeps g c = Keeps-same (state_of c.args.encoder.now) (state_of c.place.new.self) c.in_err-place.ensures.err
 
 pub returns-in_err-sections-clause-keeps : goal.returns-in_err-sections-clause-keeps
 returns-in_err-sections-clause-keeps g c =
-    let room = Keeps-appended (replicate 12 0) _ _ c.in_ok-place.ensures.ok.0 c.in_ok-place.ensures.within in
+    let room = Keeps-appended (replicate 12 0) (state_of c.args.encoder.now) (state_of c.place.new.self) c.in_ok-place.ensures.ok.0 c.in_ok-place.ensures.within in
     Keeps-then room (Keeps-then c.emit.ensures.keeps c.emit_sections.ensures.keeps)
 
 pub returns-in_err-extras-clause-keeps : goal.returns-in_err-extras-clause-keeps
 returns-in_err-extras-clause-keeps g c =
-    let room = Keeps-appended (replicate 12 0) _ _ c.in_ok-place.ensures.ok.0 c.in_ok-place.ensures.within in
+    let room = Keeps-appended (replicate 12 0) (state_of c.args.encoder.now) (state_of c.place.new.self) c.in_ok-place.ensures.ok.0 c.in_ok-place.ensures.within in
     Keeps-then room (Keeps-then c.emit.ensures.keeps (Keeps-then c.emit_sections.ensures.keeps c.emit_extras.ensures.keeps))
 
 pub returns-in_err-header-clause-keeps : goal.returns-in_err-header-clause-keeps
 returns-in_err-header-clause-keeps g c =
-    let room = Keeps-appended (replicate 12 0) _ _ c.in_ok-place.ensures.ok.0 c.in_ok-place.ensures.within in
+    let room = Keeps-appended (replicate 12 0) (state_of c.args.encoder.now) (state_of c.place.new.self) c.in_ok-place.ensures.ok.0 c.in_ok-place.ensures.within in
     Keeps-then room (Keeps-then c.emit.ensures.keeps (Keeps-then c.emit_sections.ensures.keeps c.emit_extras.ensures.keeps))
 
 pub returns-clause-keeps : goal.returns-clause-keeps
@@ -33,30 +37,86 @@ returns-clause-keeps g c =
     let filled = c.replace.ensures.state ∙ ap (λ at. overwritten at (header_bytes (raw_header header)) (state_of c.emit_extras.new.encoder)) kept.1 in
     room_filled header _ _ _ _ kept.0 c.in_ok-place.ensures.within (Keeps-then c.emit.ensures.keeps (Keeps-then c.emit_sections.ensures.keeps c.emit_extras.ensures.keeps)) filled
 
+pub returns-in_err-place-clause-run : goal.returns-in_err-place-clause-run
+returns-in_err-place-clause-run g c =
+    let is = err_from_is_err_and c.from_residual.result c.from_residual.ensures.1 in
+    without_room g.Q.EmitAndCount.emits g.A.EmitAndCount.emits g.N.EmitAndCount.emits g.D.EmitAndCount.emits c.args.queries.now c.args.queries.now c.args.answers.now c.args.answers.now c.args.authorities.now c.args.authorities.now c.args.additionals.now c.args.additionals.now c.args.metadata.now
+    (listed (option_map (λ e. edns_record (record e { rcode_high = code_number c.args.metadata.now.response_code / 16 % 256 })) (option_copied c.args.edns))) (listed (option_map signature_record (option_copied c.args.signature)))
+    (state_of c.args.encoder.now) c.from_residual.result
+    c.in_err-place.field-0.0 (state_of c.place.new.self) (c.in_err-place.ensures.err, c.in_err-place.ensures.refuses) (is.1 ∙ ap (λ e. Err e) is.2) (refl, refl, refl, refl)
+
+pub returns-in_err-query_count-clause-run : goal.returns-in_err-query_count-clause-run
+returns-in_err-query_count-clause-run g c =
+    let is = err_from_is_err_and c.from_residual-in_err-query_count.result c.from_residual-in_err-query_count.ensures.1 in
+    without_questions g.Q.EmitAndCount.emits g.A.EmitAndCount.emits g.N.EmitAndCount.emits g.D.EmitAndCount.emits c.args.queries.now c.emit.new.self c.args.answers.now c.args.answers.now c.args.authorities.now c.args.authorities.now c.args.additionals.now c.args.additionals.now c.args.metadata.now
+    (listed (option_map (λ e. edns_record (record e { rcode_high = code_number c.args.metadata.now.response_code / 16 % 256 })) (option_copied c.args.edns))) (listed (option_map signature_record (option_copied c.args.signature)))
+    (state_of c.args.encoder.now) c.from_residual-in_err-query_count.result
+    c.in_ok-place.place (state_of c.place.new.self) (c.in_ok-place.ensures.ok.1, c.in_ok-place.ensures.ok.0, c.in_ok-place.ensures.within)
+    c.in_err-query_count.field-0.0 (state_of c.emit.new.encoder) c.in_err-query_count.ensures.emits (is.1 ∙ ap (λ e. Err e) is.2) (refl, refl, refl)
+
+pub returns-in_err-sections-clause-run : goal.returns-in_err-sections-clause-run
+returns-in_err-sections-clause-run g c =
+    let is = err_from_is_err_and c.from_residual-in_err-sections.result c.from_residual-in_err-sections.ensures.1 in
+    without_sections g.Q.EmitAndCount.emits g.A.EmitAndCount.emits g.N.EmitAndCount.emits g.D.EmitAndCount.emits c.args.queries.now c.emit.new.self c.args.answers.now c.emit_sections.new.answers c.args.authorities.now c.emit_sections.new.authorities c.args.additionals.now c.emit_sections.new.additionals c.args.metadata.now
+    (listed (option_map (λ e. edns_record (record e { rcode_high = code_number c.args.metadata.now.response_code / 16 % 256 })) (option_copied c.args.edns))) (listed (option_map signature_record (option_copied c.args.signature)))
+    (state_of c.args.encoder.now) c.from_residual-in_err-sections.result
+    c.in_ok-place.place (state_of c.place.new.self) (c.in_ok-place.ensures.ok.1, c.in_ok-place.ensures.ok.0, c.in_ok-place.ensures.within)
+    c.in_ok-query_count.query_count (state_of c.emit.new.encoder) c.in_ok-query_count.ensures.emits
+    c.in_err-sections.field-0.0 (state_of c.emit_sections.new.encoder) c.in_err-sections.ensures.run (is.1 ∙ ap (λ e. Err e) is.2)
+
 pub returns-in_err-extras-clause-run : goal.returns-in_err-extras-clause-run
 returns-in_err-extras-clause-run g c =
     let is = err_from_is_err_and c.from_residual-in_err-extras.result c.from_residual-in_err-extras.ensures.1 in
-    let kept = c.in_ok-place.ensures.ok in
-    goes c.in_ok-place.place _ (kept.1, kept.0, c.in_ok-place.ensures.within)
-    (goes c.in_ok-query_count.query_count _ c.in_ok-query_count.ensures.emits
-    (goes c.in_ok-sections.sections _ c.in_ok-sections.ensures.run
-    (stops _ c.in_err-extras.ensures.run (is.1 ∙ ap (λ e. Err e) is.2) tt)))
+    without_extras g.Q.EmitAndCount.emits g.A.EmitAndCount.emits g.N.EmitAndCount.emits g.D.EmitAndCount.emits c.args.queries.now c.emit.new.self c.args.answers.now c.emit_sections.new.answers c.args.authorities.now c.emit_sections.new.authorities c.args.additionals.now c.emit_sections.new.additionals c.args.metadata.now
+    (listed (option_map (λ e. edns_record (record e { rcode_high = code_number c.args.metadata.now.response_code / 16 % 256 })) (option_copied c.args.edns))) (listed (option_map signature_record (option_copied c.args.signature)))
+    (state_of c.args.encoder.now) c.from_residual-in_err-extras.result
+    c.in_ok-place.place (state_of c.place.new.self) (c.in_ok-place.ensures.ok.1, c.in_ok-place.ensures.ok.0, c.in_ok-place.ensures.within)
+    c.in_ok-query_count.query_count (state_of c.emit.new.encoder) c.in_ok-query_count.ensures.emits
+    c.in_ok-sections.sections (state_of c.emit_sections.new.encoder) c.in_ok-sections.ensures.run
+    c.in_err-extras.field-0.0 (state_of c.emit_extras.new.encoder) c.in_err-extras.ensures.run (is.1 ∙ ap (λ e. Err e) is.2)
 
 pub returns-in_err-header-clause-run : goal.returns-in_err-header-clause-run
 returns-in_err-header-clause-run g c =
     let is = err_from_is_err_and c.from_residual-in_err-header.result c.from_residual-in_err-header.ensures.1 in
-    let kept = c.in_ok-place.ensures.ok in
-    goes c.in_ok-place.place _ (kept.1, kept.0, c.in_ok-place.ensures.within)
-    (goes c.in_ok-query_count.query_count _ c.in_ok-query_count.ensures.emits
-    (goes c.in_ok-sections.sections _ c.in_ok-sections.ensures.run
-    (goes c.in_ok-extras.extras _ c.in_ok-extras.ensures.run
-    (stops _ (c.in_err-header.ensures, refl) (is.1 ∙ ap (λ e. Err e) is.2) tt))))
+    without_header g.Q.EmitAndCount.emits g.A.EmitAndCount.emits g.N.EmitAndCount.emits g.D.EmitAndCount.emits c.args.queries.now c.emit.new.self c.args.answers.now c.emit_sections.new.answers c.args.authorities.now c.emit_sections.new.authorities c.args.additionals.now c.emit_sections.new.additionals c.args.metadata.now
+    (listed (option_map (λ e. edns_record (record e { rcode_high = code_number c.args.metadata.now.response_code / 16 % 256 })) (option_copied c.args.edns))) (listed (option_map signature_record (option_copied c.args.signature)))
+    (state_of c.args.encoder.now) c.from_residual-in_err-header.result
+    c.in_ok-place.place (state_of c.place.new.self) (c.in_ok-place.ensures.ok.1, c.in_ok-place.ensures.ok.0, c.in_ok-place.ensures.within)
+    c.in_ok-query_count.query_count (state_of c.emit.new.encoder) c.in_ok-query_count.ensures.emits
+    c.in_ok-sections.sections (state_of c.emit_sections.new.encoder) c.in_ok-sections.ensures.run
+    c.in_ok-extras.extras (state_of c.emit_extras.new.encoder) c.in_ok-extras.ensures.run
+    c.in_err-header.field-0.0 c.in_err-header.ensures (is.1 ∙ ap (λ e. Err e) is.2)
 
 pub returns-clause-run : goal.returns-clause-run
 returns-clause-run g c =
-    let kept = c.in_ok-place.ensures.ok in
-    goes c.in_ok-place.place _ (kept.1, kept.0, c.in_ok-place.ensures.within)
-    (goes c.in_ok-query_count.query_count _ c.in_ok-query_count.ensures.emits
-    (goes c.in_ok-sections.sections _ c.in_ok-sections.ensures.run
-    (goes c.in_ok-extras.extras _ c.in_ok-extras.ensures.run
-    (goes c.in_ok-header.header _ (c.in_ok-header.ensures, refl) (refl, c.replace.ensures.state)))))
+    whole g.Q.EmitAndCount.emits g.A.EmitAndCount.emits g.N.EmitAndCount.emits g.D.EmitAndCount.emits c.args.queries.now c.emit.new.self c.args.answers.now c.emit_sections.new.answers c.args.authorities.now c.emit_sections.new.authorities c.args.additionals.now c.emit_sections.new.additionals c.args.metadata.now
+    (listed (option_map (λ e. edns_record (record e { rcode_high = code_number c.args.metadata.now.response_code / 16 % 256 })) (option_copied c.args.edns))) (listed (option_map signature_record (option_copied c.args.signature)))
+    (state_of c.args.encoder.now) (Ok c.in_ok-header.header)
+    c.in_ok-place.place (state_of c.place.new.self) (c.in_ok-place.ensures.ok.1, c.in_ok-place.ensures.ok.0, c.in_ok-place.ensures.within)
+    c.in_ok-query_count.query_count (state_of c.emit.new.encoder) c.in_ok-query_count.ensures.emits
+    c.in_ok-sections.sections (state_of c.emit_sections.new.encoder) c.in_ok-sections.ensures.run
+    c.in_ok-extras.extras (state_of c.emit_extras.new.encoder) c.in_ok-extras.ensures.run
+    c.in_ok-header.header (state_of c.replace.new.self) c.in_ok-header.ensures (refl, c.replace.ensures.state)
+
+pub returns-in_err-query_count-clause-keeps : goal.returns-in_err-query_count-clause-keeps
+returns-in_err-query_count-clause-keeps g c =
+    let room = Keeps-appended (replicate 12 0) (state_of c.args.encoder.now) (state_of c.place.new.self) c.in_ok-place.ensures.ok.0 c.in_ok-place.ensures.within in
+    Keeps-then room c.emit.ensures.keeps
+
+pub returns-in_err-place-clause-narrow : goal.returns-in_err-place-clause-narrow
+returns-in_err-place-clause-narrow g c = c.place.ensures.narrow
+
+pub returns-in_err-query_count-clause-narrow : goal.returns-in_err-query_count-clause-narrow
+returns-in_err-query_count-clause-narrow g c = c.place.ensures.narrow
+
+pub returns-in_err-sections-clause-narrow : goal.returns-in_err-sections-clause-narrow
+returns-in_err-sections-clause-narrow g c = c.place.ensures.narrow
+
+pub returns-in_err-extras-clause-narrow : goal.returns-in_err-extras-clause-narrow
+returns-in_err-extras-clause-narrow g c = c.place.ensures.narrow
+
+pub returns-in_err-header-clause-narrow : goal.returns-in_err-header-clause-narrow
+returns-in_err-header-clause-narrow g c = c.place.ensures.narrow
+
+pub returns-clause-narrow : goal.returns-clause-narrow
+returns-clause-narrow g c = c.place.ensures.narrow
