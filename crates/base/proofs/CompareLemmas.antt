@@ -3,15 +3,16 @@ use Rattle.std.proofs.Common.{◌≡◌, ℕ, zero, suc, ◌+◌, ◌-◌, ◌<�
 use Rattle.std.proofs.lemmas.Bool.Decides.{nat_tests}
 use Rattle.std.specs.declared.cmp.Ordering.{Ordering}
 use Rattle.std.specs.declared.cmp.Ordering.TheVariants.{Less, Equal, Greater}
-use Rattle.std.specs.Cmp.Lexicographic.{slice_cmp}
+use Rattle.std.specs.Cmp.Lexicographic.{bytes_decides, slice_cmp}
 use Rattle.std.specs.Ordering.{bool_cmp, nat_cmp, ordering_then}
 use Rattle.std.specs.Prelude.{IsTrue, ◌↔◌, nat_lt}
 use Rattle.std.specs.Bool.{Decides, one_answer}
 use Rattle.std.specs.Char.{to_ascii_lowercase}
 use Rattle.std.proofs.lemmas.Bool.{cond-true, lt-ltb}
+use Rattle.std.proofs.lemmas.Slice.Eq.{ends_is}
 use Rattle.std.proofs.lemmas.List.{map-append, drop-map, length-map, length-reverse, length-take-le, reverse-append, take-append-drop, drop_at, drop_all, drop-drop}
 use Rattle.base.specs.Labels.{NameValue, AreLabels, IsWire, wire_of, labels_of}
-use Rattle.base.specs.NameOrder.{folded, folded_labels, lowered, same_labels, labels_cmp, labels_decide, name_cmp}
+use Rattle.base.specs.NameOrder.{folded, folded_labels, is_zone_of, lowered, same_labels, labels_cmp, labels_decide, name_cmp}
 use Rattle.base.proofs.LabelLemmas.{IsWire-wire_of, labels_of-wire_of, labels_of_is, length-wire_of}
 
 -- no length of a label is an ASCII letter
@@ -243,3 +244,9 @@ pub lowered_is : (bytes lower : List ℕ) (flag : Bool) (n : NameValue) → labe
 lowered_is bytes lower flag n labels is =
     let named : List (List ℕ) → NameValue = λ l. record { labels = l; absolute = flag } in
     ap named labels ∙ ap lowered is
+
+-- an answer to whether labels are the last ones of a name is the test of it
+pub zone_test : (a b : NameValue) (r : Bool) → IsTrue r ↔ ((front : List (List ℕ)) × (folded b ≡ front ++ folded a)) → r ≡ is_zone_of a b
+zone_test a b r is =
+    let ends = ends_is bytes_decides (folded b) (folded a) (is_zone_of a b) refl in
+    one_answer r (is_zone_of a b) is (λ h. (take (length (folded b) - length (folded a)) (folded b), ends.0 h), λ f. ends.1 f.0 f.1)

@@ -2,7 +2,7 @@
 use Rattle.std.proofs.Common.{◌≡◌, ℕ, ◌+◌, ◌-◌, ◌<◌, ◌≤◌, inl, inr, List, ◌++◌, length, get_or, take, drop, refl, ap, sym, ◌∙◌, subst, arith, length-append, length-take, length-drop, get_or-take, get_or-drop}
 use Rattle.std.proofs.lemmas.List.{get_or_append_left, get_or-append_right, get_or-take, get_or-drop}
 use Rattle.std.proofs.lemmas.Grind.{same_number_lists}
-use Rattle.base.specs.Spelling.{ByteAt, BytesAt, SpelledIn, ends, label, pointer, outside, target}
+use Rattle.base.specs.Spelling.{ByteAt, BytesAt, SpelledIn, Spelled, KeepsSeen, ends, label, pointer, anywhere, outside, target}
 
 -- two runs of as many bytes at one place are the same
 bytes_once : (looks looks' : ℕ → Type 0) (bytes : List ℕ) (i : ℕ) (x y : List ℕ) → BytesAt looks bytes i x → BytesAt looks' bytes i y → length x ≡ length y → x ≡ y
@@ -26,38 +26,33 @@ spelled_once {looks} {looks'} {bytes} (pointer {b = b} {c = c} {e = e} h next hi
     let others = spelled_once rest (subst (λ (t : ℕ). SpelledIn looks' bytes t t ys f) (sym same) rest') in
     (others.0, refl)
 
--- each place that is looked at and lies in the old bytes lies in the new ones, with the same byte
-pub record Agree (looks : ℕ → Type 0) (old new : List ℕ) : Type 0 where
-  pub inside : (i : ℕ) → looks i → i < length old → i < length new
-  pub same : (i : ℕ) → looks i → i < length old → get_or new i 0 ≡ get_or old i 0
-
-byte_kept : {looks : ℕ → Type 0} {old new : List ℕ} {i b : ℕ} → Agree looks old new → ByteAt looks old i b → ByteAt looks new i b
-byte_kept {i = i} agree h = record {
-  inside = agree.inside i h.seen h.inside;
-  is = agree.same i h.seen h.inside ∙ h.is;
+byte_kept : {looks : ℕ → Type 0} {old new : List ℕ} {i b : ℕ} → KeepsSeen looks old new → ByteAt looks old i b → ByteAt looks new i b
+byte_kept {i = i} kept h = record {
+  inside = kept.inside i h.seen h.inside;
+  is = kept.same i h.seen h.inside ∙ h.is;
   seen = h.seen;
 }
 
-bytes_kept : {looks : ℕ → Type 0} {old new : List ℕ} {i : ℕ} {x : List ℕ} → Agree looks old new → 1 ≤ length x → BytesAt looks old i x → BytesAt looks new i x
-bytes_kept {i = i} {x = x} agree some h = record {
-  inside = let last = agree.inside (i + (length x - 1)) (h.seen (length x - 1) (omega arith)) (omega (arith, h.inside)) in omega arith;
-  is = λ k below. agree.same (i + k) (h.seen k below) (omega (arith, h.inside)) ∙ h.is k below;
+bytes_kept : {looks : ℕ → Type 0} {old new : List ℕ} {i : ℕ} {x : List ℕ} → KeepsSeen looks old new → 1 ≤ length x → BytesAt looks old i x → BytesAt looks new i x
+bytes_kept {i = i} {x = x} kept some h = record {
+  inside = let last = kept.inside (i + (length x - 1)) (h.seen (length x - 1) (omega arith)) (omega (arith, h.inside)) in omega arith;
+  is = λ k below. kept.same (i + k) (h.seen k below) (omega (arith, h.inside)) ∙ h.is k below;
   seen = h.seen;
 }
 
-pub spelled_kept : {looks : ℕ → Type 0} {old new : List ℕ} {s i e : ℕ} {xs : List (List ℕ)} → Agree looks old new → SpelledIn looks old s i xs e → SpelledIn looks new s i xs e
-spelled_kept agree (ends h) = ends (byte_kept agree h)
-spelled_kept agree (label h some small at rest) = label (byte_kept agree h) some small (bytes_kept agree some at) (spelled_kept agree rest)
-spelled_kept agree (pointer h next high below rest) = pointer (byte_kept agree h) (byte_kept agree next) high below (spelled_kept agree rest)
+pub spelled_kept : {looks : ℕ → Type 0} {old new : List ℕ} {s i e : ℕ} {xs : List (List ℕ)} → KeepsSeen looks old new → SpelledIn looks old s i xs e → SpelledIn looks new s i xs e
+spelled_kept kept (ends h) = ends (byte_kept kept h)
+spelled_kept kept (label h some small at rest) = label (byte_kept kept h) some small (bytes_kept kept some at) (spelled_kept kept rest)
+spelled_kept kept (pointer h next high below rest) = pointer (byte_kept kept h) (byte_kept kept next) high below (spelled_kept kept rest)
 
-agree_longer : (looks : ℕ → Type 0) (bytes more : List ℕ) → Agree looks bytes (bytes ++ more)
-agree_longer looks bytes more = record {
+seen_longer : (looks : ℕ → Type 0) (bytes more : List ℕ) → KeepsSeen looks bytes (bytes ++ more)
+seen_longer looks bytes more = record {
   inside = λ i seen below. omega (arith, length-append bytes more);
   same = λ i seen below. get_or_append_left bytes more 0 i below;
 }
 
 pub spelled_longer : {looks : ℕ → Type 0} {bytes : List ℕ} {s i e : ℕ} {xs : List (List ℕ)} (more : List ℕ) → SpelledIn looks bytes s i xs e → SpelledIn looks (bytes ++ more) s i xs e
-spelled_longer {looks} {bytes} more spelled = spelled_kept (agree_longer looks bytes more) spelled
+spelled_longer {looks} {bytes} more spelled = spelled_kept (seen_longer looks bytes more) spelled
 
 patch_below : (from to i : ℕ) (bytes patch : List ℕ) → i < from → to ≤ length bytes → from ≤ to → get_or (take from bytes ++ (patch ++ drop to bytes)) i 0 ≡ get_or bytes i 0
 patch_below from to i bytes patch below fits order =
@@ -72,12 +67,23 @@ patch_above from to i bytes patch is fits above =
     ∙ get_or-drop to bytes (i - from - length patch) 0
     ∙ ap (λ (k : ℕ). get_or bytes k 0) (omega arith)
 
-agree_patched : (from to : ℕ) (bytes patch : List ℕ) → from + length patch ≡ to → to ≤ length bytes → Agree (outside from to) bytes (take from bytes ++ (patch ++ drop to bytes))
-agree_patched from to bytes patch is fits = record {
+seen_patched : (from to : ℕ) (bytes patch : List ℕ) → from + length patch ≡ to → to ≤ length bytes → KeepsSeen (outside from to) bytes (take from bytes ++ (patch ++ drop to bytes))
+seen_patched from to bytes patch is fits = record {
   inside = λ i seen below. omega (arith, length-append (take from bytes) (patch ++ drop to bytes), length-append patch (drop to bytes), length-take from bytes, length-drop to bytes);
   same = λ i seen below. elim seen [ inl before ↦ patch_below from to i bytes patch before fits (omega arith) | inr after ↦ patch_above from to i bytes patch is fits after ];
 }
 
 pub spelled_patched : (from to : ℕ) (bytes patch : List ℕ) {s i e : ℕ} {xs : List (List ℕ)} → from + length patch ≡ to → to ≤ length bytes
     → SpelledIn (outside from to) bytes s i xs e → SpelledIn (outside from to) (take from bytes ++ (patch ++ drop to bytes)) s i xs e
-spelled_patched from to bytes patch is fits spelled = spelled_kept (agree_patched from to bytes patch is fits) spelled
+spelled_patched from to bytes patch is fits spelled = spelled_kept (seen_patched from to bytes patch is fits) spelled
+
+byte_anywhere : {looks : ℕ → Type 0} {bytes : List ℕ} {i b : ℕ} → ByteAt looks bytes i b → ByteAt anywhere bytes i b
+byte_anywhere h = record { inside = h.inside; is = h.is; seen = tt }
+
+bytes_anywhere : {looks : ℕ → Type 0} {bytes : List ℕ} {i : ℕ} {x : List ℕ} → BytesAt looks bytes i x → BytesAt anywhere bytes i x
+bytes_anywhere h = record { inside = h.inside; is = h.is; seen = λ k below. tt }
+
+pub spelled_anywhere : {looks : ℕ → Type 0} {bytes : List ℕ} {s i e : ℕ} {xs : List (List ℕ)} → SpelledIn looks bytes s i xs e → Spelled bytes xs s i e
+spelled_anywhere (ends h) = ends (byte_anywhere h)
+spelled_anywhere (label h some small at rest) = label (byte_anywhere h) some small (bytes_anywhere at) (spelled_anywhere rest)
+spelled_anywhere (pointer h next high below rest) = pointer (byte_anywhere h) (byte_anywhere next) high below (spelled_anywhere rest)

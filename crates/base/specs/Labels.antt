@@ -39,8 +39,12 @@ cut_labels (suc n) (len ∷ bytes) = take len bytes ∷ cut_labels n (drop len b
 unfoldable pub labels_of : List ℕ → List (List ℕ)
 labels_of bytes = cut_labels (length bytes) bytes
 
+-- bytes that are labels, each with its length before it, and nothing else
+abbrev pub IsLabelRun : List ℕ → Type 0
+IsLabelRun bytes = wire_of (labels_of bytes) ≡ bytes
+
 -- bytes that are labels with their lengths before them, of a name of at most 255 bytes
 pub record IsWire (bytes : List ℕ) : Type 0 where
-  pub whole : wire_of (labels_of bytes) ≡ bytes
+  pub whole : IsLabelRun bytes
   pub labels : AreLabels (labels_of bytes)
   pub short : length bytes ≤ 254

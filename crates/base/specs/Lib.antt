@@ -14,6 +14,7 @@ pub mod ProtoError
 pub mod Reader
 pub mod Reading
 pub mod RecordType
+pub mod RrKey
 pub mod Spelling
 pub mod State
 pub mod Wire

@@ -8,6 +8,7 @@ use Rattle.std.specs.Cmp.{IsEquivalence, IsPartialOrder, IsTotalOrder, Equal-is,
 use Rattle.std.specs.Cmp.Lexicographic.{bytes_decides, lists_ties, pointwise, pointwise_decides, slice_cmp}
 use Rattle.std.specs.Cmp.Rules.{comparing}
 use Rattle.std.specs.Hash as fed
+use Rattle.std.specs.List.{ends_with}
 use Rattle.std.specs.Ordering.{as_partial_cmp, bool_cmp, eq_of_both, is_eq, nat_cmp, on, then_cmp}
 use Rattle.std.specs.declared.cmp.Ordering.{Ordering}
 use Rattle.std.specs.declared.cmp.Ordering.TheVariants.{Equal}
@@ -33,6 +34,10 @@ same_labels = pointwise (pointwise nat_eq)
 -- it begins; then the fewer labels first.
 abbrev pub labels_cmp : List (List ℕ) → List (List ℕ) → Ordering
 labels_cmp = on reverse (slice_cmp (slice_cmp nat_cmp))
+
+-- whether the labels of a are the last labels of b, in whatever case (RFC 4343, 3); the flags are not looked at
+abbrev pub is_zone_of : NameValue → NameValue → Bool
+is_zone_of a b = ends_with (pointwise nat_eq) (folded b) (folded a)
 
 -- whether names have the same flag, and the same labels as they are shown
 abbrev pub same_by : (NameValue → List (List ℕ)) → NameValue → NameValue → Bool

@@ -1,5 +1,5 @@
 -- How a name is spelled in a message (RFC 1035, 4.1.4).
-use Rattle.std.specs.Prelude.{◌≡◌, ℕ, ◌+◌, ◌-◌, ◌*◌, ◌<◌, ◌≤◌, ◌⊎◌, List, [], ◌∷◌, length, slice_index, true}
+use Rattle.std.specs.Prelude.{◌≡◌, ℕ, ◌+◌, ◌-◌, ◌*◌, ◌<◌, ◌≤◌, ◌⊎◌, Bool, IsTrue, List, [], ◌∷◌, length, slice_index, true}
 use Rattle.base.specs.Labels.{NameValue, plain_len}
 
 -- The byte at i is b. The places that may be looked at are those of which looks holds.
@@ -26,6 +26,15 @@ pub data SpelledIn (looks : ℕ → Type 0) (bytes : List ℕ) : ℕ → ℕ →
       → SpelledIn looks bytes s (i + 1 + length x) xs e → SpelledIn looks bytes s i (x ∷ xs) e
   pointer : {s i b c e : ℕ} {xs : List (List ℕ)} → ByteAt looks bytes i b → ByteAt looks bytes (i + 1) c → 192 ≤ b → target b c < s
       → SpelledIn looks bytes (target b c) (target b c) xs e → SpelledIn looks bytes s i xs (i + 2)
+
+-- every place that is looked at and lies in the old bytes lies in the new ones, with the same byte
+pub record KeepsSeen (looks : ℕ → Type 0) (old new : List ℕ) : Type 0 where
+  pub inside : (i : ℕ) → looks i → i < length old → i < length new
+  pub same : (i : ℕ) → looks i → i < length old → slice_index new i ≡ slice_index old i
+
+-- the places that are looked at, by a test
+abbrev pub among : (ℕ → Bool) → ℕ → Type 0
+among looks i = IsTrue (looks i)
 
 -- every place is looked at
 abbrev pub anywhere : ℕ → Type 0

@@ -2,7 +2,7 @@
 
 ghost use Rattle.std.specs.Prelude.{◌≡◌, ◌+◌, ◌<◌, ◌≤◌, ◌↔◌, [], ◌∷◌, ◌++◌, true, length, IsTrue, IfSome, MatchOption, slice_get};
 ghost use Rattle.std.specs.Option.{option_copied};
-ghost use Rattle.base.specs.Labels.{AreLabels, plain_len, wire_of, labels_of};
+ghost use Rattle.base.specs.Labels.{AreLabels, IsLabelRun, plain_len, wire_of, labels_of};
 
 pub mod compare;
 pub mod display;
@@ -110,7 +110,7 @@ impl Name {
     /// The labels from the left, each with its length before it, without a final zero byte.
     pub fn as_wire(&self) -> &[u8]
         ensures value { result.now ≡ wire_of self.now.labels }
-        ensures whole { wire_of (labels_of result.now) ≡ result.now }
+        ensures whole { IsLabelRun result.now }
         ensures cut { labels_of result.now ≡ self.now.labels }
         ensures labels { AreLabels self.now.labels }
         ensures short { length result.now ≤ 254 }
@@ -133,10 +133,10 @@ impl Clone for Name {
 
 /// The first of the labels, and the others, each with its length before it; none where there is no label.
 pub(crate) fn first_label(wire: &[u8]) -> Option<(&[u8], &[u8])>
-    requires { wire_of (labels_of wire.now) ≡ wire.now }
+    requires { IsLabelRun wire.now }
     ensures labels { MatchOption result (labels_of wire.now ≡ []) (λ r. labels_of wire.now ≡ r.0.now ∷ labels_of r.1.now) }
     ensures bytes { MatchOption result (wire.now ≡ []) (λ r. wire.now ≡ (length r.0.now ∷ r.0.now) ++ r.1.now) }
-    ensures others { IfSome result (λ r. wire_of (labels_of r.1.now) ≡ r.1.now) }
+    ensures others { IfSome result (λ r. IsLabelRun r.1.now) }
     ensures shorter { IfSome result (λ r. length r.1.now < length wire.now) }
 {
     if wire.is_empty() {

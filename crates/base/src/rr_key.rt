@@ -1,7 +1,8 @@
 //! The key under which the records of one name and one type stand together.
 
 ghost use Rattle.std.specs.Prelude.{◌≡◌, IsTrue};
-ghost use Rattle.std.specs.Ordering.{ordering_then};
+ghost use Rattle.std.specs.Cmp.{IsTotalOrder};
+ghost use Rattle.base.specs.RrKey.{key_cmp};
 
 use crate::lower_name::LowerName;
 use crate::record_type::RecordType;
@@ -10,7 +11,7 @@ use std::cmp::Ordering;
 /// A name in lower case and a record type: the key of a set of records (RFC 2181, 5).
 ///
 /// Keys are ordered by name, then by type.
-#[derive(Debug, Drop, Eq, Ord, PartialEq, PartialOrd)]
+#[derive(Clone, Debug, Drop, Eq, Ord, PartialEq, PartialOrd)]
 pub struct RrKey {
     /// The owner of the records, its ASCII letters in lower case.
     pub name: LowerName,
@@ -31,8 +32,8 @@ impl RrKey {
 /// Keys are ordered by name, then by type; no two of them tie, and only the same ones are equal: they serve as the keys
 /// of maps.
 pub fn rr_key_order()
-    ensures by_name_and_type { (a b : RrKey) → ⟦<RrKey as Ord>⟧.cmp a b
-        ≡ ordering_then (⟦<LowerName as Ord>⟧.cmp a.name b.name) (⟦<RecordType as Ord>⟧.cmp a.record_type b.record_type) }
+    ensures by_name_and_type { (a b : RrKey) → ⟦<RrKey as Ord>⟧.cmp a b ≡ key_cmp a b }
+    ensures total { IsTotalOrder key_cmp }
     ensures exact { (a b : RrKey) → ⟦<RrKey as Ord>⟧.cmp a b ≡ Ordering.Equal → a ≡ b }
     ensures same { (a b : RrKey) → IsTrue (⟦<RrKey as PartialEq>⟧.eq a b) → a ≡ b }
 {}

@@ -5,8 +5,8 @@ ghost use Rattle.std.specs.Char.{to_ascii_lowercase};
 ghost use Rattle.std.specs.Cmp.{partial_equiv_from_equiv};
 ghost use Rattle.std.specs.Cmp.Lexicographic.{slice_cmp};
 ghost use Rattle.std.specs.Ordering.{as_partial_cmp, nat_cmp};
-ghost use Rattle.base.specs.Labels.{NameValue, AreLabels, wire_of, labels_of};
-ghost use Rattle.base.specs.NameOrder.{canonical_cmp, folded, folded_labels, lowered, labels_cmp, same_labels, same_name, name_cmp, name_fed, same_by-equiv, same_by-tie, cmp_by-total, cmp_by-partial, fed_by-same};
+ghost use Rattle.base.specs.Labels.{NameValue, AreLabels, IsLabelRun, labels_of};
+ghost use Rattle.base.specs.NameOrder.{canonical_cmp, is_zone_of, folded, folded_labels, lowered, labels_cmp, same_labels, same_name, name_cmp, name_fed, same_by-equiv, same_by-tie, cmp_by-total, cmp_by-partial, fed_by-same};
 
 use crate::name::{Name, first_label};
 use std::alloc::AllocError;
@@ -20,7 +20,8 @@ impl Name {
     /// Whether `other` lies in the zone of this name, or is this name: the labels of this name are the
     /// last labels of `other`, in whatever case. Whether the names are absolute is not looked at.
     pub fn zone_of(&self, other: &Name) -> bool
-        ensures { IsTrue result ↔ ((front : List (List ℕ)) × (folded other.now ≡ front ++ folded self.now)) }
+        ensures last_labels { IsTrue result ↔ ((front : List (List ℕ)) × (folded other.now ≡ front ++ folded self.now)) }
+        ensures test { result ≡ is_zone_of self.now other.now }
     {
         let (count, others) = (self.label_count(), other.label_count());
         count <= others
@@ -111,9 +112,9 @@ impl PartialOrd for Name {
 
 /// Whether labels are the same in whatever case.
 fn same_in_any_case(left: &[u8], right: &[u8]) -> bool
-    requires left { wire_of (labels_of left.now) ≡ left.now }
+    requires left { IsLabelRun left.now }
     requires left_labels { AreLabels (labels_of left.now) }
-    requires right { wire_of (labels_of right.now) ≡ right.now }
+    requires right { IsLabelRun right.now }
     requires right_labels { AreLabels (labels_of right.now) }
     ensures { result ≡ same_labels (folded_labels (labels_of left.now)) (folded_labels (labels_of right.now)) }
 {
@@ -139,9 +140,9 @@ fn lower_into(wire: &[u8], room: &mut [u8; ROOM])
 
 /// What is behind as many labels.
 fn past_labels(wire: &[u8], count: usize) -> &[u8]
-    requires { wire_of (labels_of wire.now) ≡ wire.now }
+    requires { IsLabelRun wire.now }
     ensures labels { labels_of result.now ≡ drop count (labels_of wire.now) }
-    ensures whole { wire_of (labels_of result.now) ≡ result.now }
+    ensures whole { IsLabelRun result.now }
 {
     let mut rest = wire;
     for _ in 0..count {
@@ -175,8 +176,8 @@ fn cmp_label(left: &[u8], right: &[u8]) -> Ordering
 
 /// The order of as many labels from the last on, their ASCII letters in lower case.
 fn cmp_labels(left: &[u8], right: &[u8]) -> Ordering
-    requires left { wire_of (labels_of left.now) ≡ left.now }
-    requires right { wire_of (labels_of right.now) ≡ right.now }
+    requires left { IsLabelRun left.now }
+    requires right { IsLabelRun right.now }
     requires same_count { length (labels_of left.now) ≡ length (labels_of right.now) }
     ensures { result ≡ labels_cmp (folded_labels (labels_of left.now)) (folded_labels (labels_of right.now)) }
 {

@@ -1,11 +1,11 @@
 //! Laws of the definitions that names are read by.
 
-ghost use Rattle.std.specs.Prelude.{◌≡◌, ◌≢◌, ◌↔◌, ℕ, ◌+◌, ◌<◌, ◌≤◌, List, [], ◌++◌, length, take, drop, All, Option, false};
+ghost use Rattle.std.specs.Prelude.{◌≡◌, ◌≢◌, ◌↔◌, ℕ, ◌+◌, ◌<◌, ◌≤◌, List, [], ◌++◌, length, take, drop, All, Bool, Option, false};
 ghost use Rattle.base.specs.Faults.{IsFaulty};
 ghost use Rattle.base.specs.Labels.{NameValue, AreLabels, plain_len};
 ghost use Rattle.base.specs.NameText.{IsNameText, name_text};
 ghost use Rattle.base.specs.Names.{name_at};
-ghost use Rattle.base.specs.Spelling.{Spelled, SpelledIn, IsNameAt, outside};
+ghost use Rattle.base.specs.Spelling.{Spelled, SpelledIn, KeepsSeen, IsNameAt, among, outside};
 
 /// What `name_at` answers is what the bytes spell: the name that stands there, or the first fault.
 pub fn reading_is_spelling()
@@ -13,10 +13,14 @@ pub fn reading_is_spelling()
     ensures faulty { (bytes : List ℕ) (i : ℕ) (f : _) → (name_at bytes i ≡ Err f) ↔ IsFaulty bytes i i 0 f }
 {}
 
-/// A spelling has one list of labels and one end. It stays where bytes are added behind it, and where
-/// bytes that it doesn't look at are replaced by as many others.
+/// A spelling has one list of labels and one end. It stays where no byte that its pieces look at changes, whatever
+/// becomes of the others: so where bytes are added behind it, and where a range that it doesn't look at is replaced by
+/// as many other bytes. What is spelled by looking at some places is spelled (RFC 1035, 4.1.4).
 pub fn spellings_stay()
     ensures once { (bytes : List ℕ) (s i e f : ℕ) (xs ys : List (List ℕ)) → Spelled bytes xs s i e → Spelled bytes ys s i f → (xs ≡ ys) × (e ≡ f) }
+    ensures kept { (looks : ℕ → Bool) (old new : List ℕ) (s i e : ℕ) (xs : List (List ℕ)) → KeepsSeen (among looks) old new
+        → SpelledIn (among looks) old s i xs e → SpelledIn (among looks) new s i xs e }
+    ensures anywhere { (looks : ℕ → Bool) (bytes : List ℕ) (s i e : ℕ) (xs : List (List ℕ)) → SpelledIn (among looks) bytes s i xs e → Spelled bytes xs s i e }
     ensures longer { (from to : ℕ) (bytes more : List ℕ) (s i e : ℕ) (xs : List (List ℕ))
         → SpelledIn (outside from to) bytes s i xs e → SpelledIn (outside from to) (bytes ++ more) s i xs e }
     ensures patched { (from to : ℕ) (bytes patch : List ℕ) (s i e : ℕ) (xs : List (List ℕ)) → from + length patch ≡ to → to ≤ length bytes

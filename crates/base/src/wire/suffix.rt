@@ -1,7 +1,7 @@
 //! Suffixes of names that were written.
 
 ghost use Rattle.std.specs.Prelude.{◌≡◌, ◌<◌, ◌↔◌, IfOk, IsTrue};
-ghost use Rattle.base.specs.Labels.{wire_of, labels_of, IsWire};
+ghost use Rattle.base.specs.Labels.{IsLabelRun, labels_of, IsWire};
 
 use std::alloc::{AllocError, Global};
 use std::marker::Model;
@@ -41,7 +41,7 @@ impl Suffix {
 
     /// Whether the suffix has these labels, each with its length before it, byte for byte.
     pub(crate) fn is(&self, wire: &[u8]) -> bool
-        requires { wire_of (labels_of wire.now) ≡ wire.now }
+        requires { IsLabelRun wire.now }
         ensures { IsTrue result ↔ (self.now.labels ≡ labels_of wire.now) }
     {
         self.labels.as_slice() == wire
