@@ -6,7 +6,7 @@ use Rattle.std.specs.Cmp.{first_so, second_so}
 use Rattle.std.proofs.lemmas.Bool.{eqb-true, eqb-false}
 use Rattle.std.proofs.lemmas.Bool.Decides.{nat_tests}
 use Rattle.base.specs.declared.name.parse.TextChar.{TextChar}
-use Rattle.base.specs.NameText.{Reads, more, IsCharText, is_dot, is_printable, is_escaped, is_number, decimal_char, escaped_char, first_char}
+use Rattle.base.specs.NameText.{AreCharsOf, more, IsCharText, is_dot, is_printable, is_escaped, is_number, decimal_char, escaped_char, first_char}
 
 -- the parts of one first character
 pub same_first : {c d : TextChar} {r r' : List ℕ} → ◌≡◌ {A = Option (TextChar × List ℕ)} (Some (c, r)) (Some (d, r')) → (c ≡ d) × (r ≡ r')
@@ -94,5 +94,5 @@ piece_of_first (b ∷ text) c rest h = go (b == 92) (b == 46) (nat_le 33 b && na
   go false false false is is_it printable = absurd (no_char (rw (is, is_it, printable) at h))
 
 -- one character more before those of the rest
-pub reads_more : {text rest : List ℕ} {c : TextChar} {cs : List TextChar} → first_char text ≡ Some (c, rest) → Reads rest cs → Reads text (c ∷ cs)
+pub reads_more : {text rest : List ℕ} {c : TextChar} {cs : List TextChar} → first_char text ≡ Some (c, rest) → AreCharsOf rest cs → AreCharsOf text (c ∷ cs)
 reads_more {text} {rest} {c} first reads = let p = piece_of_first text c rest first in more p.1 p.2 reads

@@ -163,12 +163,6 @@ are_last b xs ys n count test = (forward, back) where
       let len : length h.0 ≡ n = omega (arith, sym (length-map ys low) ∙ ap length h.1, length-append h.0 (folded_labels xs), length-map xs low) in
       test ∙ decide.1 (sym (drop-map low n ys) ∙ ap (drop n) h.1 ∙ drop_at h.0 (folded_labels xs) n len)
 
--- more labels are never the last ones of fewer
-pub not_last : (xs ys front : List (List ℕ)) → length ys < length xs → folded_labels ys ≡ front ++ folded_labels xs → ⊥
-not_last xs ys front fewer is =
-    let low : List ℕ → List ℕ = map to_ascii_lowercase in
-    omega (arith, length-map ys low, length-map xs low, ap length is, length-append front (folded_labels xs))
-
 -- bytes of which one list has ended
 pub ended_folded : (xs ys : List ℕ) → length xs ≡ 0 ⊎ length ys ≡ 0 → slice_cmp nat_cmp (map to_ascii_lowercase xs) (map to_ascii_lowercase ys) ≡ nat_cmp (length xs) (length ys)
 ended_folded xs ys one =

@@ -171,10 +171,5 @@ Holds-own a b table = record { table = table; bytes = record { is = take-length 
 pub Holds-new : (a b : State) → a.suffixes ≡ [] → Holds a b b.bytes
 Holds-new a b none = Holds-own a b (record { each = subst (λ (ts : List Stored). All (IsSpelled b.bytes (length a.bytes)) ts) (sym none) (All-nil (IsSpelled b.bytes (length a.bytes))) })
 
--- so the word of what a new encoder wrote stands in its bytes
-pub Writes-new : {word : List ℕ → ℕ → ℕ → Type 0} {n : ℕ} {owner : List (List ℕ)} {a b : State} → a.bytes ≡ [] → a.suffixes ≡ [] → Writes word n owner a b → word b.bytes 0 (length b.bytes)
-Writes-new {word} {a = a} {b = b} empty none w =
-    subst (λ (i : ℕ). word b.bytes i (length b.bytes)) (ap length empty) (w.word_stands b.bytes (Holds-new a b none))
-
 -- what `search` composes writings by
 pub ruleset writing = (Keeps-same, Keeps-then)

@@ -6,7 +6,7 @@ use Rattle.std.proofs.Math.Seq.{take-append-add}
 use Rattle.base.specs.declared.name.parse.TextChar.{TextChar}
 use Rattle.base.specs.declared.name.parse.TextChar.TheVariants.{Dot, Byte}
 use Rattle.base.specs.Labels.{AreLabels, IsWire, labels_of, plain_len, size_of}
-use Rattle.base.specs.NameText.{Reads, none, more, IsLabelsText, dotted, first_char}
+use Rattle.base.specs.NameText.{AreCharsOf, none, more, IsLabelsText, dotted, first_char}
 use Rattle.base.proofs.CharLemmas.{first_of_piece, reads_more, same_first}
 use Rattle.base.proofs.LabelLemmas.{AreLabels-append, IsWire-nil, IsWire-push, labels_of-nil, labels_of-push, size_of-labels_of}
 
@@ -15,13 +15,13 @@ unfolding first_char
 nothing_first h = cc
 
 -- a text has one list of characters
-pub reads_once : {text : List ℕ} {cs ds : List TextChar} → Reads text cs → Reads text ds → cs ≡ ds
+pub reads_once : {text : List ℕ} {cs ds : List TextChar} → AreCharsOf text cs → AreCharsOf text ds → cs ≡ ds
 reads_once none none = refl
 reads_once none (more spells is rest) = absurd (nothing_first (first_of_piece spells is))
 reads_once (more spells is rest) none = absurd (nothing_first (first_of_piece spells is))
 reads_once (more {rest = r} {c = c} spells is rest) (more {rest = r'} {c = d} {cs = ds} spells' is' rest') =
     let same = same_first (sym (first_of_piece spells is) ∙ first_of_piece spells' is') in
-    cc (same.0, reads_once rest (subst (λ (t : List ℕ). Reads t ds) (sym same.1) rest'))
+    cc (same.0, reads_once rest (subst (λ (t : List ℕ). AreCharsOf t ds) (sym same.1) rest'))
 
 -- labels with a dot behind each
 abbrev pub ended : List (List ℕ) → List TextChar
@@ -150,10 +150,10 @@ Fits-labels xs absolute are short = record {
 }
 
 -- the pieces of the characters of a name's text
-pub text_pieces : {text : List ℕ} {labels : List (List ℕ)} {absolute : Bool} {cs : List TextChar} → IsLabelsText text labels absolute → Reads text cs → pieces cs ≡ labels ++ last_piece absolute
+pub text_pieces : {text : List ℕ} {labels : List (List ℕ)} {absolute : Bool} {cs : List TextChar} → IsLabelsText text labels absolute → AreCharsOf text cs → pieces cs ≡ labels ++ last_piece absolute
 text_pieces {labels = labels} {absolute = absolute} is reads = ap pieces (reads_once reads is.reads) ∙ pieces-text labels absolute is.some
 
-text_fits : {text : List ℕ} {labels : List (List ℕ)} {absolute : Bool} {cs : List TextChar} → IsLabelsText text labels absolute → Reads text cs → Fits (pieces cs)
+text_fits : {text : List ℕ} {labels : List (List ℕ)} {absolute : Bool} {cs : List TextChar} → IsLabelsText text labels absolute → AreCharsOf text cs → Fits (pieces cs)
 text_fits {labels = labels} {absolute = absolute} is reads = subst Fits (sym (text_pieces is reads)) (Fits-labels labels absolute is.each is.short)
 
 short_at : (xs : List (List ℕ)) (y : List ℕ) (ys : List (List ℕ)) → AllShort (xs ++ y ∷ ys) → length y ≤ 63
@@ -167,20 +167,20 @@ not_inner (x ∷ z ∷ zs) y ys inner = not_inner (z ∷ zs) y ys inner.1
 
 -- What was gathered of a text before the rest: labels that have ended, and the bytes of one that goes on.
 pub record Gathered (text rest : List ℕ) (done : List (List ℕ)) (current : List ℕ) : Type 0 where
-  pub goes_on : (cs : List TextChar) → Reads rest cs → Reads text (ended done ++ (map Byte current ++ cs))
-  pub comes_from : (cs : List TextChar) → Reads text cs → (ds : List TextChar) × Reads rest ds × (cs ≡ ended done ++ (map Byte current ++ ds))
+  pub goes_on : (cs : List TextChar) → AreCharsOf rest cs → AreCharsOf text (ended done ++ (map Byte current ++ cs))
+  pub comes_from : (cs : List TextChar) → AreCharsOf text cs → (ds : List TextChar) × AreCharsOf rest ds × (cs ≡ ended done ++ (map Byte current ++ ds))
 
 pub gathered_none : (text : List ℕ) → Gathered text text [] []
 gathered_none text = record { goes_on = λ cs reads. reads; comes_from = λ cs reads. (cs, reads, refl) }
 
 -- the characters from a place on
-reads_on : {text rest : List ℕ} {c : TextChar} {cs : List TextChar} → Reads text cs → first_char text ≡ Some (c, rest) → (ds : List TextChar) × Reads rest ds × (cs ≡ c ∷ ds)
+reads_on : {text rest : List ℕ} {c : TextChar} {cs : List TextChar} → AreCharsOf text cs → first_char text ≡ Some (c, rest) → (ds : List TextChar) × AreCharsOf rest ds × (cs ≡ c ∷ ds)
 reads_on none is = absurd (nothing_first is)
 reads_on {rest = rest} {c = c} (more {rest = r} {c = d} {cs = ds} spells whole reads) is =
     let same = same_first (sym (first_of_piece spells whole) ∙ is) in
-    (ds, subst (λ (t : List ℕ). Reads t ds) same.1 reads, ap (λ (e : TextChar). e ∷ ds) same.0)
+    (ds, subst (λ (t : List ℕ). AreCharsOf t ds) same.1 reads, ap (λ (e : TextChar). e ∷ ds) same.0)
 
-stuck : {rest : List ℕ} {ds : List TextChar} → Reads rest ds → first_char rest ≡ None → rest ≢ [] → ⊥
+stuck : {rest : List ℕ} {ds : List TextChar} → AreCharsOf rest ds → first_char rest ≡ None → rest ≢ [] → ⊥
 stuck none nothing some = some refl
 stuck (more spells is reads) nothing some = absurd (none_some (sym nothing ∙ first_of_piece spells is)) where
   none_some : {r : TextChar × List ℕ} → None ≡ Some r → ⊥
@@ -189,7 +189,7 @@ stuck (more spells is reads) nothing some = absurd (none_some (sym nothing ∙ f
 module _ {text rest : List ℕ} {done : List (List ℕ)} {current : List ℕ} (gathered : Gathered text rest done current) where
   pub gathered_byte : {b : ℕ} {tail : List ℕ} → first_char rest ≡ Some (Byte b, tail) → Gathered text tail done (current ++ b ∷ [])
   gathered_byte {b} {tail} is = record {
-    goes_on = λ cs reads. subst (Reads text) (one_more cs) (gathered.goes_on (Byte b ∷ cs) (reads_more is reads));
+    goes_on = λ cs reads. subst (AreCharsOf text) (one_more cs) (gathered.goes_on (Byte b ∷ cs) (reads_more is reads));
     comes_from = λ cs reads.
         let earlier = gathered.comes_from cs reads in
         let on = reads_on earlier.1 is in
@@ -200,7 +200,7 @@ module _ {text rest : List ℕ} {done : List (List ℕ)} {current : List ℕ} (g
 
   pub gathered_dot : {tail : List ℕ} → first_char rest ≡ Some (Dot, tail) → Gathered text tail (done ++ current ∷ []) []
   gathered_dot {tail} is = record {
-    goes_on = λ cs reads. subst (Reads text) (one_more cs) (gathered.goes_on (Dot ∷ cs) (reads_more is reads));
+    goes_on = λ cs reads. subst (AreCharsOf text) (one_more cs) (gathered.goes_on (Dot ∷ cs) (reads_more is reads));
     comes_from = λ cs reads.
         let earlier = gathered.comes_from cs reads in
         let on = reads_on earlier.1 is in
@@ -212,7 +212,7 @@ module _ {text rest : List ℕ} {done : List (List ℕ)} {current : List ℕ} (g
         ∙ ap (λ (ds : List TextChar). ds ++ cs) (sym (ended-append done (current ∷ [])))
 
   -- the pieces, where the rest reads as these characters
-  rest_pieces : {labels : List (List ℕ)} {absolute : Bool} → IsLabelsText text labels absolute → (ds : List TextChar) × Reads rest ds × Fits (done ++ pieces (map Byte current ++ ds))
+  rest_pieces : {labels : List (List ℕ)} {absolute : Bool} → IsLabelsText text labels absolute → (ds : List TextChar) × AreCharsOf rest ds × Fits (done ++ pieces (map Byte current ++ ds))
   rest_pieces is =
       let earlier = gathered.comes_from _ is.reads in
       (earlier.0, earlier.1, subst Fits (ap pieces earlier.2 ∙ pieces-ended done (map Byte current ++ earlier.0)) (text_fits is is.reads))
@@ -261,7 +261,7 @@ size_of-append (x ∷ xs) ys = omega (arith, size_of-append xs ys)
 pub ends_relative : {text : List ℕ} {done : List (List ℕ)} {current : List ℕ} → Gathered text [] done current → 1 ≤ length current → length current ≤ 63 → AreLabels done → size_of done + 1 + length current ≤ 254
     → IsLabelsText text (done ++ current ∷ []) false
 ends_relative {text} {done} {current} gathered some small are short = record {
-  reads = subst (Reads text) (sym (append_assoc (ended done) (map Byte current) []) ∙ ap (λ (cs : List TextChar). cs ++ []) (sym (dotted-last done current))) (gathered.goes_on [] none);
+  reads = subst (AreCharsOf text) (sym (append_assoc (ended done) (map Byte current) []) ∙ ap (λ (cs : List TextChar). cs ++ []) (sym (dotted-last done current))) (gathered.goes_on [] none);
   some = not_nil done current;
   each = AreLabels-append done (current ∷ []) are (record { some = some; short = small }, tt);
   short = omega (arith, size_of-append done (current ∷ []));
@@ -270,13 +270,13 @@ ends_relative {text} {done} {current} gathered some small are short = record {
 -- the text has ended behind a dot
 pub ends_absolute : {text : List ℕ} {done : List (List ℕ)} → Gathered text [] done [] → done ≢ [] → AreLabels done → size_of done ≤ 254 → IsLabelsText text done true
 ends_absolute {text} {done} gathered some are short = record {
-  reads = subst (Reads text) (append-nil (ended done) ∙ sym (dotted-dot done some)) (gathered.goes_on [] none);
+  reads = subst (AreCharsOf text) (append-nil (ended done) ∙ sym (dotted-dot done some)) (gathered.goes_on [] none);
   some = some;
   each = are;
   short = omega arith;
 }
 
-reads_nil : {ds : List TextChar} → Reads [] ds → ds ≡ []
+reads_nil : {ds : List TextChar} → AreCharsOf [] ds → ds ≡ []
 reads_nil none = refl
 reads_nil (more spells is reads) = absurd (nothing_first (first_of_piece spells is))
 

@@ -7,16 +7,13 @@ use Rattle.std.proofs.lemmas.List.{append-nil}
 use Rattle.base.specs.declared.name.parse.TextChar.{TextChar}
 use Rattle.base.specs.declared.name.parse.TextChar.TheVariants.{Dot, Byte}
 use Rattle.base.specs.Labels.{NameValue, AreLabels, plain_len}
-use Rattle.base.specs.NameText.{Reads, none, IsLabelsText, IsNameText, is_root, is_origin, is_absolute, is_relative, is_completed, byte_text, decimal_char, decimal_text, dotted, escaped_char, first_char, is_special, label_text, labels_text, name_text}
+use Rattle.base.specs.NameText.{AreCharsOf, none, IsLabelsText, IsNameText, is_root, is_origin, is_absolute, is_relative, is_completed, byte_text, decimal_char, decimal_text, dotted, escaped_char, first_char, is_special, label_text, labels_text, name_text}
 use Rattle.base.proofs.CharLemmas.{reads_more}
 use Rattle.base.proofs.NamedLemmas.{at_dot, labels_once, not_absolute_at, not_dot, reads_at, some_once, some_none}
 use Rattle.base.proofs.ParseLemmas.{text_pieces}
 
 digit_code : (n : ℕ) → n ≤ 9 → is_ascii_digit (48 + n) ≡ true
 digit_code n low = grind (arith, nat_tests)
-
-digit_number : (n : ℕ) → 48 + n - 48 ≡ n
-digit_number n = omega arith
 
 -- a backslash and three digits are the byte of that number
 first_decimal : (b : ℕ) (rest : List ℕ) → b < 256 → first_char (decimal_text b ++ rest) ≡ Some (Byte b, rest)
@@ -59,26 +56,26 @@ All-others : {X : Type 0} (P : X → Type 0) (x : X) (xs : List X) → All P (x 
 All-others P x xs all = λ k d below. all (suc k) d (omega arith)
 
 -- the text of labels reads as their characters, with others behind them
-label_reads : (x rest : List ℕ) (cs : List TextChar) → All (λ b. b < 256) x → Reads rest cs → Reads (label_text x ++ rest) (map Byte x ++ cs)
+label_reads : (x rest : List ℕ) (cs : List TextChar) → All (λ b. b < 256) x → AreCharsOf rest cs → AreCharsOf (label_text x ++ rest) (map Byte x ++ cs)
 label_reads [] rest cs bytes reads = reads
 label_reads (b ∷ x) rest cs bytes reads =
-    subst (λ (text : List ℕ). Reads text (Byte b ∷ (map Byte x ++ cs))) (sym (append_assoc (byte_text b) (label_text x) rest))
+    subst (λ (text : List ℕ). AreCharsOf text (Byte b ∷ (map Byte x ++ cs))) (sym (append_assoc (byte_text b) (label_text x) rest))
     (reads_more (first_byte_text b (label_text x ++ rest) (All-first (λ (c : ℕ). c < 256) b x bytes)) (label_reads x rest cs (All-others (λ (c : ℕ). c < 256) b x bytes) reads))
 
 first_dot : (rest : List ℕ) → first_char (46 ∷ rest) ≡ Some (Dot, rest)
 unfolding first_char
 first_dot rest = refl
 
-labels_read : (xs : List (List ℕ)) (rest : List ℕ) (cs : List TextChar) → All (All (λ b. b < 256)) xs → Reads rest cs → Reads (labels_text xs ++ rest) (dotted xs ++ cs)
+labels_read : (xs : List (List ℕ)) (rest : List ℕ) (cs : List TextChar) → All (All (λ b. b < 256)) xs → AreCharsOf rest cs → AreCharsOf (labels_text xs ++ rest) (dotted xs ++ cs)
 labels_read [] rest cs bytes reads = reads
 labels_read (x ∷ []) rest cs bytes reads = label_reads x rest cs (All-first (All (λ (c : ℕ). c < 256)) x [] bytes) reads
 labels_read (x ∷ y ∷ ys) rest cs bytes reads =
     let behind = reads_more (first_dot (labels_text (y ∷ ys) ++ rest)) (labels_read (y ∷ ys) rest cs (All-others (All (λ (c : ℕ). c < 256)) x (y ∷ ys) bytes) reads) in
     let here = label_reads x (46 ∷ (labels_text (y ∷ ys) ++ rest)) (Dot ∷ (dotted (y ∷ ys) ++ cs)) (All-first (All (λ (c : ℕ). c < 256)) x (y ∷ ys) bytes) behind in
-    subst (λ (text : List ℕ). Reads text (dotted (x ∷ y ∷ ys) ++ cs)) (sym (append_assoc (label_text x) (46 ∷ labels_text (y ∷ ys)) rest))
-    (subst (Reads (label_text x ++ (46 ∷ (labels_text (y ∷ ys) ++ rest)))) (sym (append_assoc (map Byte x) (Dot ∷ dotted (y ∷ ys)) cs)) here)
+    subst (λ (text : List ℕ). AreCharsOf text (dotted (x ∷ y ∷ ys) ++ cs)) (sym (append_assoc (label_text x) (46 ∷ labels_text (y ∷ ys)) rest))
+    (subst (AreCharsOf (label_text x ++ (46 ∷ (labels_text (y ∷ ys) ++ rest)))) (sym (append_assoc (map Byte x) (Dot ∷ dotted (y ∷ ys)) cs)) here)
 
-dot_reads : Reads (46 ∷ []) (Dot ∷ [])
+dot_reads : AreCharsOf (46 ∷ []) (Dot ∷ [])
 dot_reads = reads_more (first_dot []) none
 
 -- the text of labels is those labels
@@ -89,7 +86,7 @@ labels_text_is labels false bytes are short some = record { reads = labels_read 
 -- the label @ has a backslash in its text
 not_at : (labels : List (List ℕ)) → IsLabelsText (name_text (record { labels = labels; absolute = false })) labels false → name_text (record { labels = labels; absolute = false }) ≢ 64 ∷ []
 not_at labels is at =
-    let one : ◌≡◌ {A = List (List ℕ)} ((64 ∷ []) ∷ []) labels = text_pieces is (subst (λ (text : List ℕ). Reads text (Byte 64 ∷ [])) (sym at) reads_at) ∙ append-nil labels in
+    let one : ◌≡◌ {A = List (List ℕ)} ((64 ∷ []) ∷ []) labels = text_pieces is (subst (λ (text : List ℕ). AreCharsOf text (Byte 64 ∷ [])) (sym at) reads_at) ∙ append-nil labels in
     let text : ◌≡◌ {A = List ℕ} (92 ∷ 64 ∷ []) (64 ∷ []) = ap (λ (ls : List (List ℕ)). name_text (record { labels = ls; absolute = false })) one ∙ at in
     omega (arith, ap length text)
 

@@ -70,9 +70,9 @@ first_char (c ∷ rest) =
     else (if nat_le 33 c && nat_le c 126 then Some (Byte c, rest) else None))
 
 -- the text is these characters, one behind the other
-pub data Reads : List ℕ → List TextChar → Type 0 where
-  none : Reads [] []
-  more : {text piece rest : List ℕ} {c : TextChar} {cs : List TextChar} → IsCharText piece c → text ≡ piece ++ rest → Reads rest cs → Reads text (c ∷ cs)
+pub data AreCharsOf : List ℕ → List TextChar → Type 0 where
+  none : AreCharsOf [] []
+  more : {text piece rest : List ℕ} {c : TextChar} {cs : List TextChar} → IsCharText piece c → text ≡ piece ++ rest → AreCharsOf rest cs → AreCharsOf text (c ∷ cs)
 
 -- the characters of labels with dots between them
 abbrev pub dotted : List (List ℕ) → List TextChar
@@ -82,7 +82,7 @@ dotted (x ∷ y ∷ ys) = map Byte x ++ (Dot ∷ dotted (y ∷ ys))
 
 -- The text is one or more labels with dots between them, and with a dot at the end if the name is absolute.
 pub record IsLabelsText (text : List ℕ) (labels : List (List ℕ)) (absolute : Bool) : Type 0 where
-  pub reads : Reads text (dotted labels ++ (if absolute then Dot ∷ [] else []))
+  pub reads : AreCharsOf text (dotted labels ++ (if absolute then Dot ∷ [] else []))
   pub some : labels ≢ []
   pub each : AreLabels labels
   pub short : plain_len labels ≤ 255

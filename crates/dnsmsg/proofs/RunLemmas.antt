@@ -3,7 +3,7 @@ use Rattle.std.proofs.Common.{◌≡◌, ◌⊎◌, ℕ, ◌≤◌, List, ap, sy
 use Rattle.std.specs.Prelude.{IfSome, String, ◌≢◌}
 use Rattle.std.specs.String.{string_bytes}
 use Rattle.std.specs.declared.alloc.Global.{Global}
-use Rattle.dnsmsg.specs.Answer.{Answer, IsAnswered, IsGiven, broken, done, refused, usage}
+use Rattle.dnsmsg.specs.Answer.{Answer, IsAnswered, IsPrinted, broken, done, refused, usage}
 use Rattle.dnsmsg.specs.Command.{CommandAnswers}
 use Rattle.dnsmsg.specs.CutCommand.{IsCutAnswer, IsCutGiven}
 use Rattle.dnsmsg.specs.HeaderCommand.{header_answer}
@@ -34,25 +34,25 @@ of_any P None every = tt
 of_any P (Some xs) every = every xs
 
 module _ (status : ℕ) (old new : Option (List ℕ)) where
-  pub given : (answer : Answer) → (status ≡ 3) ⊎ IsGiven answer status old new → status ≢ broken → IsGiven answer status old new
+  pub given : (answer : Answer) → (status ≡ 3) ⊎ IsPrinted answer status old new → status ≢ broken → IsPrinted answer status old new
   given answer (inl broke) whole = absurd (whole broke)
   given answer (inr shown) whole = shown
 
-  status_within : (answer : Answer) → answer.status ≤ 3 → (status ≡ 3) ⊎ IsGiven answer status old new → status ≤ 3
+  status_within : (answer : Answer) → answer.status ≤ 3 → (status ≡ 3) ⊎ IsPrinted answer status old new → status ≤ 3
   status_within answer small (inl broke) = omega arith
   status_within answer small (inr shown) = omega (arith, shown.is_status)
 
-  pub usage_within : (status ≡ 3) ⊎ IsGiven usage status old new → status ≤ 3
+  pub usage_within : (status ≡ 3) ⊎ IsPrinted usage status old new → status ≤ 3
   usage_within = status_within usage (omega arith)
 
-  pub done_within : (text : List ℕ) → (status ≡ 3) ⊎ IsGiven (done text) status old new → status ≤ 3
+  pub done_within : (text : List ℕ) → (status ≡ 3) ⊎ IsPrinted (done text) status old new → status ≤ 3
   done_within text = status_within (done text) (omega arith)
 
-  pub refused_within : (number : ℕ) → (status ≡ 3) ⊎ IsGiven (refused number) status old new → status ≤ 3
+  pub refused_within : (number : ℕ) → (status ≡ 3) ⊎ IsPrinted (refused number) status old new → status ≤ 3
   refused_within number = status_within (refused number) (omega arith)
 
   -- the refusal for want of memory answers any text
-  module _ (remaining : Option (List ℕ)) (printed : (status ≡ 3) ⊎ IsGiven (refused 3) status old new) (whole : status ≢ broken) where
+  module _ (remaining : Option (List ℕ)) (printed : (status ≡ 3) ⊎ IsPrinted (refused 3) status old new) (whole : status ≢ broken) where
     pub memory_given : (answer_of : List ℕ → Answer) → IfSome remaining (λ input. IsAnswered (answer_of input) status old new)
     memory_given answer_of = of_any (λ input. IsAnswered (answer_of input) status old new) remaining (λ input. inr (given (refused 3) printed whole))
 
@@ -64,20 +64,20 @@ broken_within = omega arith
 
 -- what was printed of a text by the command that the words name
 module _ (status : ℕ) (old new remaining : Option (List ℕ)) (command : Command) (words : Option Command) (text : List ℕ) (named : Some command ≡ words) (all : IfSome remaining (λ input. text ≡ input)) where
-  lines_answered : (answer_of : List ℕ → Answer) (answer : Answer) → answer_of text ≡ answer → IsGiven answer status old new → IfSome remaining (λ input. IsAnswered (answer_of input) status old new)
-  lines_answered answer_of answer is shown = of_all (λ input. IsAnswered (answer_of input) status old new) remaining text all (inl (subst (λ a. IsGiven a status old new) (sym is) shown))
+  lines_answered : (answer_of : List ℕ → Answer) (answer : Answer) → answer_of text ≡ answer → IsPrinted answer status old new → IfSome remaining (λ input. IsAnswered (answer_of input) status old new)
+  lines_answered answer_of answer is shown = of_all (λ input. IsAnswered (answer_of input) status old new) remaining text all (inl (subst (λ a. IsPrinted a status old new) (sym is) shown))
 
-  refusal_answered : (answer_of : List ℕ → Answer) (number : ℕ) → (number ≡ 3) ⊎ (answer_of text ≡ refused number) → IsGiven (refused number) status old new → IfSome remaining (λ input. IsAnswered (answer_of input) status old new)
-  refusal_answered answer_of number (inl memory) shown = of_any (λ input. IsAnswered (answer_of input) status old new) remaining (λ input. inr (subst (λ n. IsGiven (refused n) status old new) memory shown))
+  refusal_answered : (answer_of : List ℕ → Answer) (number : ℕ) → (number ≡ 3) ⊎ (answer_of text ≡ refused number) → IsPrinted (refused number) status old new → IfSome remaining (λ input. IsAnswered (answer_of input) status old new)
+  refusal_answered answer_of number (inl memory) shown = of_any (λ input. IsAnswered (answer_of input) status old new) remaining (λ input. inr (subst (λ n. IsPrinted (refused n) status old new) memory shown))
   refusal_answered answer_of number (inr is) shown = lines_answered answer_of (refused number) is shown
 
-  refusal_cut : (limit number : ℕ) → (number ≡ 3) ⊎ IsCutAnswer limit text (refused number) → IsGiven (refused number) status old new → IfSome remaining (λ input. IsCutGiven limit input status old new)
-  refusal_cut limit number (inl memory) shown = of_any (λ input. IsCutGiven limit input status old new) remaining (λ input. inr (subst (λ n. IsGiven (refused n) status old new) memory shown))
+  refusal_cut : (limit number : ℕ) → (number ≡ 3) ⊎ IsCutAnswer limit text (refused number) → IsPrinted (refused number) status old new → IfSome remaining (λ input. IsCutGiven limit input status old new)
+  refusal_cut limit number (inl memory) shown = of_any (λ input. IsCutGiven limit input status old new) remaining (λ input. inr (subst (λ n. IsPrinted (refused n) status old new) memory shown))
   refusal_cut limit number (inr answers) shown = of_all (λ input. IsCutGiven limit input status old new) remaining text all (inl (refused number, answers, shown))
 
-  module _ (lines : String Global) (shown : List ℕ) (says : CommandAnswers command text (Ok lines)) (same : shown ≡ string_bytes lines) (printed : (status ≡ 3) ⊎ IsGiven (done shown) status old new) where
-    lines_shown : status ≢ broken → IsGiven (done (string_bytes lines)) status old new
-    lines_shown whole = subst (λ line. IsGiven (done line) status old new) same (given status old new (done shown) printed whole)
+  module _ (lines : String Global) (shown : List ℕ) (says : CommandAnswers command text (Ok lines)) (same : shown ≡ string_bytes lines) (printed : (status ≡ 3) ⊎ IsPrinted (done shown) status old new) where
+    lines_shown : status ≢ broken → IsPrinted (done (string_bytes lines)) status old new
+    lines_shown whole = subst (λ line. IsPrinted (done line) status old new) same (given status old new (done shown) printed whole)
 
     says_of : (other : Command) → words ≡ Some other → CommandAnswers other text (Ok lines)
     says_of other is = subst (λ x. CommandAnswers x text (Ok lines)) (same_command command other (named ∙ is)) says
@@ -91,9 +91,9 @@ module _ (status : ℕ) (old new remaining : Option (List ℕ)) (command : Comma
     pub cut_lines_given : (limit : ℕ) → words ≡ Some (commands.Cut limit) → status ≢ broken → IfSome remaining (λ input. IsCutGiven limit input status old new)
     cut_lines_given limit is whole = of_all (λ input. IsCutGiven limit input status old new) remaining text all (inl (done (string_bytes lines), says_of (commands.Cut limit) is, lines_shown whole))
 
-  module _ (refusal : Refusal) (number : ℕ) (says : CommandAnswers command text (Err refusal)) (same : number ≡ refusal_number refusal) (printed : (status ≡ 3) ⊎ IsGiven (refused number) status old new) where
-    refusal_shown : status ≢ broken → IsGiven (refused (refusal_number refusal)) status old new
-    refusal_shown whole = subst (λ n. IsGiven (refused n) status old new) same (given status old new (refused number) printed whole)
+  module _ (refusal : Refusal) (number : ℕ) (says : CommandAnswers command text (Err refusal)) (same : number ≡ refusal_number refusal) (printed : (status ≡ 3) ⊎ IsPrinted (refused number) status old new) where
+    refusal_shown : status ≢ broken → IsPrinted (refused (refusal_number refusal)) status old new
+    refusal_shown whole = subst (λ n. IsPrinted (refused n) status old new) same (given status old new (refused number) printed whole)
 
     refuses_of : (other : Command) → words ≡ Some other → CommandAnswers other text (Err refusal)
     refuses_of other is = subst (λ x. CommandAnswers x text (Err refusal)) (same_command command other (named ∙ is)) says

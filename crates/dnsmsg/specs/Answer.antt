@@ -25,10 +25,10 @@ abbrev pub broken : ℕ
 broken = 3
 
 -- The answer was printed behind what stood, and is the status.
-pub record IsGiven (answer : Answer) (status : ℕ) (old new : Option (List ℕ)) : Type 0 where
+pub record IsPrinted (answer : Answer) (status : ℕ) (old new : Option (List ℕ)) : Type 0 where
   pub is_status : status ≡ answer.status
   pub printed : Appends old new answer.text
 
 -- The answer was given, or for want of memory the refusal for that.
 abbrev pub IsAnswered : Answer → ℕ → Option (List ℕ) → Option (List ℕ) → Type 0
-IsAnswered answer status old new = IsGiven answer status old new ⊎ IsGiven (refused 3) status old new
+IsAnswered answer status old new = IsPrinted answer status old new ⊎ IsPrinted (refused 3) status old new

@@ -10,7 +10,7 @@ use Rattle.base.specs.ProtoError.{proto_number}
 use Rattle.base.specs.declared.error.proto_error.ProtoError.{ProtoError}
 use Rattle.op.specs.Cut.{IsTooSmall, IsWritten}
 use Rattle.op.specs.Message.{MessageValue, message_at}
-use Rattle.dnsmsg.specs.Answer.{Answer, IsGiven, done, refused}
+use Rattle.dnsmsg.specs.Answer.{Answer, IsPrinted, done, refused}
 use Rattle.dnsmsg.specs.HexInput.{bytes_of}
 use Rattle.dnsmsg.specs.Refusal.{refusal_number}
 use Rattle.dnsmsg.specs.declared.refusal.Refusal.{Refusal}
@@ -46,4 +46,4 @@ CutAnswers limit input (Err refusal) = (refusal_number refusal ≡ 3) ⊎ IsCutA
 
 -- Such an answer was given, or for want of memory the refusal for that.
 abbrev pub IsCutGiven : ℕ → List ℕ → ℕ → Option (List ℕ) → Option (List ℕ) → Type 0
-IsCutGiven limit input status old new = ((answer : Answer) × IsCutAnswer limit input answer × IsGiven answer status old new) ⊎ IsGiven (refused 3) status old new
+IsCutGiven limit input status old new = ((answer : Answer) × IsCutAnswer limit input answer × IsPrinted answer status old new) ⊎ IsPrinted (refused 3) status old new

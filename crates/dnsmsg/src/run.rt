@@ -1,7 +1,7 @@
 //! A run of the program over any reader and writer.
 
 ghost use Rattle.std.specs.Prelude.{◌≡◌, ◌≢◌, ◌⊎◌, ◌≤◌, ℕ, IfSome, None, Some};
-ghost use Rattle.dnsmsg.specs.Answer.{IsAnswered, IsGiven, usage, refused, done, broken};
+ghost use Rattle.dnsmsg.specs.Answer.{IsAnswered, IsPrinted, usage, refused, done, broken};
 ghost use Rattle.dnsmsg.specs.Command.{CommandAnswers, command_of};
 ghost use Rattle.dnsmsg.specs.CutCommand.{IsCutGiven};
 ghost use Rattle.dnsmsg.specs.HeaderCommand.{header_answer};
@@ -22,10 +22,12 @@ const BROKEN: u8 = 3;
 /// Does what the words ask for: reads the input to its end, and writes to the output and nowhere else.
 ///
 /// Answers the exit status: 0; 1 with the line `refused N`, N the number of the refusal; 2 with the usage line for
-/// words that name no command, which are judged before anything is read; 3 where a read or a write failed.
+/// words that name no command, which are judged before anything is read; 3 where a read or a write failed, with no line of
+/// a refusal beside it.
 pub fn run<R: Read, W: Write>(alloc: Global, words: &[String], input: &mut R, output: &mut W) -> u8
     ensures statuses { result ≤ 3 }
-    ensures wrong_words { command_of (texts words.now) ≡ None → result ≢ broken → IsGiven usage result (W.contents output.old) (W.contents output.new) }
+    ensures unread { command_of (texts words.now) ≡ None → input.new ≡ input.old }
+    ensures wrong_words { command_of (texts words.now) ≡ None → result ≢ broken → IsPrinted usage result (W.contents output.old) (W.contents output.new) }
     ensures header { command_of (texts words.now) ≡ Some commands.Header → result ≢ broken → IfSome (R.remaining input.old)
         (λ text. IsAnswered (header_answer text) result (W.contents output.old) (W.contents output.new)) }
     ensures read { command_of (texts words.now) ≡ Some commands.Read → result ≢ broken → IfSome (R.remaining input.old)
@@ -63,7 +65,7 @@ impl Command {
 }
 
 fn print_lines<W: Write>(lines: &str, output: &mut W) -> u8
-    ensures { (result ≡ 3) ⊎ IsGiven (done lines.now) result (W.contents output.old) (W.contents output.new) }
+    ensures { (result ≡ 3) ⊎ IsPrinted (done lines.now) result (W.contents output.old) (W.contents output.new) }
 {
     match output.write_all(lines.as_bytes()) {
         Ok(()) => 0,
@@ -72,7 +74,7 @@ fn print_lines<W: Write>(lines: &str, output: &mut W) -> u8
 }
 
 fn print_refusal<W: Write>(number: u8, output: &mut W) -> u8
-    ensures { (result ≡ 3) ⊎ IsGiven (refused number) result (W.contents output.old) (W.contents output.new) }
+    ensures { (result ≡ 3) ⊎ IsPrinted (refused number) result (W.contents output.old) (W.contents output.new) }
 {
     match writeln!(output, "refused {number}") {
         Ok(()) => 1,
@@ -81,7 +83,7 @@ fn print_refusal<W: Write>(number: u8, output: &mut W) -> u8
 }
 
 fn print_usage<W: Write>(output: &mut W) -> u8
-    ensures { (result ≡ 3) ⊎ IsGiven usage result (W.contents output.old) (W.contents output.new) }
+    ensures { (result ≡ 3) ⊎ IsPrinted usage result (W.contents output.old) (W.contents output.new) }
 {
     match output.write_all(b"usage: dnsmsg COMMAND [WORDS]\n") {
         Ok(()) => 2,

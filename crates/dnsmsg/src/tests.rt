@@ -10,12 +10,14 @@ mod cut_tables;
 mod data;
 mod errors;
 mod forms;
+mod hashes;
 mod header_rows;
 mod messages;
 mod names;
 mod read_refusals;
 mod read_rows;
 mod records;
+mod texts;
 mod types;
 mod wire;
 

@@ -96,7 +96,7 @@ impl<'a> BinEncoder<'a> {
         ensures refuses { Refuses 4 (state_of self.old) result }
         ensures full { (state_of self.old).limit < length (state_of self.old).bytes + 4 → IsErrOf result ProtoError.MaxBufferSizeExceeded }
     {
-        self.emit_slice(&u32::to_be_bytes(number))
+        self.emit_slice(&number.to_be_bytes())
     }
 
     /// Appends bytes as they are.

@@ -16,11 +16,11 @@ use crate::wire::encodable::BinEncodable;
 use crate::wire::encoder::BinEncoder;
 
 impl BinEncodable for RecordType {
+    ghost word = { λ t. Number w16 (type_number t) };
+
     ghost plain_len = { λ _. 2 };
 
     ghost owner = { λ _. [] };
-
-    ghost word = { λ t. Number w16 (type_number t) };
 
     fn emit(&self, encoder: &mut BinEncoder<'_>) -> Result<(), ProtoError> {
         u16::from(*self).emit(encoder)
@@ -38,11 +38,11 @@ impl BinDecodable for RecordType {
 }
 
 impl BinEncodable for DNSClass {
+    ghost word = { λ c. Number w16 (class_number c) };
+
     ghost plain_len = { λ _. 2 };
 
     ghost owner = { λ _. [] };
-
-    ghost word = { λ c. Number w16 (class_number c) };
 
     fn emit(&self, encoder: &mut BinEncoder<'_>) -> Result<(), ProtoError> {
         u16::from(*self).emit(encoder)

@@ -67,8 +67,107 @@ fn a_writer_that_fails_is_status_three(rt: HostRuntime) -> Result<(), AllocError
     Ok(())
 }
 
+// Counts how often it is read, and has nothing to give.
+#[derive(Drop)]
+struct CountingReader {
+    calls: u32,
+}
+
+impl Read for CountingReader {
+    fn read(&mut self, _buf: &mut [u8]) -> io::Result<usize> {
+        self.calls = self.calls.saturating_add(1);
+        Ok(0)
+    }
+}
+
+// The status, and how often the input was read.
+fn read_so_often(alloc: Global, words: &[&str]) -> Result<(u8, u32), AllocError> {
+    let mut input = CountingReader { calls: 0 };
+    let (status, _output) = ran(alloc, words, &mut input)?;
+    Ok((status, input.calls))
+}
+
 #[test]
 fn wrong_words_are_judged_before_the_input_is_read(rt: HostRuntime) -> Result<(), AllocError> {
-    assert!(rt; cut_off(rt.alloc(), &["header", "x"], 0)?.0 == 2);
+    for &words in &[
+        &["header", "x"] as &[&str],
+        &[],
+        &["cut"],
+        &["cut", "65536"],
+        &["zones"],
+    ] {
+        assert!(rt; read_so_often(rt.alloc(), words)? == (2, 0), "{words:?}");
+    }
+    assert!(rt; read_so_often(rt.alloc(), &["header"])?.1 > 0);
+    Ok(())
+}
+
+// Takes as many bytes as it has room for, one at a time, and then fails.
+#[derive(Drop)]
+struct NarrowWriter {
+    room: usize,
+    taken: Vec<u8>,
+}
+
+impl Write for NarrowWriter {
+    fn write(&mut self, buf: &[u8]) -> io::Result<usize> {
+        let [first, ..] = buf else {
+            return Ok(0);
+        };
+        if self.taken.len() >= self.room {
+            return Err(io::Error::from(ErrorKind::BrokenPipe));
+        }
+        self.taken.push(*first)?;
+        Ok(1)
+    }
+
+    fn flush(&mut self) -> io::Result<()> {
+        Ok(())
+    }
+}
+
+// The status where the output takes so many bytes, and whether those begin the line that is wanted.
+fn written_before_it_fails(
+    alloc: Global,
+    words: &[&str],
+    mut input: &[u8],
+    room: usize,
+    wanted: &str,
+) -> Result<(u8, bool), AllocError> {
+    let texts = words_of(alloc, words)?;
+    let taken = Vec::new(alloc);
+    let mut output = NarrowWriter { room, taken };
+    let status = run(alloc, &texts, &mut input, &mut output);
+    let begins = output.taken.len() == room && wanted.as_bytes().starts_with(&output.taken);
+    Ok((status, begins))
+}
+
+#[test]
+fn a_write_that_fails_later_leaves_a_front_of_the_answer(
+    rt: HostRuntime,
+) -> Result<(), AllocError> {
+    let usage = "usage: dnsmsg COMMAND [WORDS]\n";
+    for room in 0..11 {
+        assert!(rt;
+            written_before_it_fails(
+                rt.alloc(),
+                &["header"],
+                HEADER,
+                room,
+                "272:RESPONSE:TC,RA:NXDomain:UPDATE\n"
+            )? == (3, true),
+            "{room}"
+        );
+        assert!(rt;
+            written_before_it_fails(rt.alloc(), &["header"], b"0g", room, "refused 24\n")?
+                == (3, true),
+            "{room}"
+        );
+        assert!(rt;
+            written_before_it_fails(rt.alloc(), &["header", "x"], HEADER, room, usage)?
+                == (3, true),
+            "{room}"
+        );
+    }
     Ok(())
 }

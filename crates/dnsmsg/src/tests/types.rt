@@ -2,7 +2,6 @@ use super::forms::{has_text, is_copied};
 use base::{DNSClass, RecordType};
 use std::alloc::Global;
 use std::cmp::Ordering;
-use std::hash::{DefaultHasher, Hash, Hasher};
 
 /// Whether the three comparisons of two values answer by this order.
 fn compares<T: Ord>(low: &T, high: &T, order: Ordering) -> bool {
@@ -223,26 +222,6 @@ fn class_order(rt: HostRuntime) {
         DNSClass::OPT(601),
     ];
     assert!(rt; ascends(&ascending));
-}
-
-fn hash_of<T: Hash>(value: &T) -> u64 {
-    let mut state = DefaultHasher::new();
-    value.hash(&mut state);
-    state.finish()
-}
-
-/// Whether two values hash alike.
-fn hash_alike<T: Hash>(one: &T, other: &T) -> bool {
-    hash_of(one) == hash_of(other)
-}
-
-#[test]
-fn equal_values_hash_alike(rt: HostRuntime) {
-    assert!(rt; hash_alike(&RecordType::from(28), &RecordType::AAAA));
-    assert!(rt; !hash_alike(&RecordType::A, &RecordType::Unknown(1)));
-    assert!(rt; hash_alike(&DNSClass::from(1), &DNSClass::IN));
-    assert!(rt; hash_alike(&DNSClass::for_opt(100), &DNSClass::OPT(512)));
-    assert!(rt; !hash_alike(&DNSClass::OPT(600), &DNSClass::Unknown(600)));
 }
 
 #[test]

@@ -26,6 +26,9 @@ returns-in-None-clause-cut g c limit is whole = some_and_none (commands.Cut limi
 pub returns-in-Ok-answer-clause-statuses : goal.returns-in-Ok-answer-clause-statuses
 returns-in-Ok-answer-clause-statuses g c = done_within c.print_lines.result (g.W.Write.contents c.args.output.now) (g.W.Write.contents c.print_lines.new.output) c.deref-in-Ok-answer.result.now c.print_lines.ensures
 
+pub returns-in-Ok-answer-clause-unread : goal.returns-in-Ok-answer-clause-unread
+returns-in-Ok-answer-clause-unread g c is = some_and_none c.in-Some.command (command_of (texts c.args.words.now)) c.in-Some.ensures is
+
 pub returns-in-Ok-answer-clause-wrong_words : goal.returns-in-Ok-answer-clause-wrong_words
 returns-in-Ok-answer-clause-wrong_words g c is whole = some_and_none c.in-Some.command (command_of (texts c.args.words.now)) c.in-Some.ensures is
 
@@ -49,6 +52,9 @@ returns-in-Ok-answer-clause-cut g c =
 
 pub returns-in-Ok-clause-statuses : goal.returns-in-Ok-clause-statuses
 returns-in-Ok-clause-statuses g c = refused_within c.print_refusal.result (g.W.Write.contents c.args.output.now) (g.W.Write.contents c.print_refusal.new.output) c.number.result c.print_refusal.ensures
+
+pub returns-in-Ok-clause-unread : goal.returns-in-Ok-clause-unread
+returns-in-Ok-clause-unread g c is = some_and_none c.in-Some.command (command_of (texts c.args.words.now)) c.in-Some.ensures is
 
 pub returns-in-Ok-clause-wrong_words : goal.returns-in-Ok-clause-wrong_words
 returns-in-Ok-clause-wrong_words g c is whole = some_and_none c.in-Some.command (command_of (texts c.args.words.now)) c.in-Some.ensures is
@@ -74,6 +80,9 @@ returns-in-Ok-clause-cut g c =
 pub returns-in-Err-clause-statuses : goal.returns-in-Err-clause-statuses
 returns-in-Err-clause-statuses g c = refused_within c.print_refusal-in-Err.result (g.W.Write.contents c.args.output.now) (g.W.Write.contents c.print_refusal-in-Err.new.output) 3 c.print_refusal-in-Err.ensures
 
+pub returns-in-Err-clause-unread : goal.returns-in-Err-clause-unread
+returns-in-Err-clause-unread g c is = some_and_none c.in-Some.command (command_of (texts c.args.words.now)) c.in-Some.ensures is
+
 pub returns-in-Err-clause-wrong_words : goal.returns-in-Err-clause-wrong_words
 returns-in-Err-clause-wrong_words g c is whole = some_and_none c.in-Some.command (command_of (texts c.args.words.now)) c.in-Some.ensures is
 
@@ -88,6 +97,9 @@ returns-in-Err-clause-cut g c limit is whole = memory_cut c.print_refusal-in-Err
 
 pub returns-clause-statuses : goal.returns-clause-statuses
 returns-clause-statuses g c = broken_within
+
+pub returns-clause-unread : goal.returns-clause-unread
+returns-clause-unread g c is = some_and_none c.in-Some.command (command_of (texts c.args.words.now)) c.in-Some.ensures is
 
 pub returns-clause-wrong_words : goal.returns-clause-wrong_words
 returns-clause-wrong_words g c is whole = absurd (whole refl)

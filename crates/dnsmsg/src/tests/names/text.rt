@@ -1,9 +1,9 @@
 use super::has_labels;
 use crate::tests::forms::{equals_its_copy, has_text};
+use crate::tests::hashes::hash_of;
 use base::{LowerName, Name, ParseError, RecordType, RrKey};
 use std::alloc::{AllocError, Global};
 use std::cmp::Ordering;
-use std::hash::{DefaultHasher, Hash, Hasher};
 use std::test::Fail;
 
 /// The number of the refusal; 0 where a name is read.
@@ -19,12 +19,6 @@ fn refusal(alloc: Global, text: &str, origin: Option<&Name>) -> u8 {
 
 fn name(alloc: Global, text: &str) -> Result<Name, ParseError> {
     Name::parse(alloc, text, None)
-}
-
-fn hash_of(name: &Name) -> u64 {
-    let mut state = DefaultHasher::new();
-    name.hash(&mut state);
-    state.finish()
 }
 
 /// Appends a label of as many letters.
