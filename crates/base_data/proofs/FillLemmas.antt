@@ -4,7 +4,8 @@ use Rattle.std.proofs.lemmas.Bool.{cond-false, eq-eqb, ne_eqb}
 use Rattle.std.specs.Prelude.{◌==◌}
 use Rattle.base.specs.declared.error.decode_error.DecodeError.TheVariants as faults
 use Rattle.base.specs.declared.record_type.RecordType.{RecordType}
-use Rattle.base_data.specs.RData.{filling, kind_at, rdata_at}
+use Rattle.base_data.specs.Kinds.{kind_at}
+use Rattle.base_data.specs.RData.{filling, rdata_at}
 use Rattle.base_data.specs.declared.rdata.RData.{RData}
 use Rattle.base_data.specs.declared.rdata.RData.TheVariants as kinds
 

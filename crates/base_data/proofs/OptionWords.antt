@@ -1,16 +1,23 @@
--- Options, read where their words stand.
-use Rattle.std.proofs.Common.{◌≡◌, ℕ, zero, suc, ◌+◌, ◌<◌, ◌≤◌, Bool, true, false, cond, List, [], ◌∷◌, length, refl, sym, subst, arith, inl, inr, Result, Ok, Err}
-use Rattle.std.specs.Prelude.{◌⊎◌, nat_le}
+-- Options: read where their words stand, written, and what their bytes tell.
+use Rattle.std.proofs.Common.{Bool, Err, List, Ok, Result, [], ap, arith, cond, drop, false, inl, inr, length, refl, subst, suc, sym, take, true, zero, ℕ, ◌+◌, ◌<◌, ◌∷◌, ◌≡◌, ◌≢◌, ◌≤◌}
 use Rattle.std.proofs.lemmas.Bool.{le-leb, lt-leb}
+use Rattle.std.proofs.lemmas.List.Elements.{All-head, All-tail}
 use Rattle.std.specs.Int.{w16}
-use Rattle.base.proofs.ReadLemmas.{bind_ok, bind_err}
-use Rattle.base.specs.Words.{Number, Stands}
-use Rattle.base.specs.Words.BackToBack.{none, more}
-use Rattle.base.specs.declared.error.decode_error.DecodeError.{DecodeError}
+use Rattle.std.specs.Prelude.{All, OnOk, nat_le, ◌⊎◌}
+use Rattle.base.proofs.LawLemmas.{Keeps-then, Writes-then}
+use Rattle.base.proofs.ReadLemmas.{bind_err, bind_ok}
+use Rattle.base.specs.Laws.{Keeps, Writes}
+use Rattle.base.specs.State.{State}
+use Rattle.base.specs.Words.BackToBack.{more, none}
+use Rattle.base.specs.Words.{Bytes, Number, Stands}
 use Rattle.base.specs.declared.error.decode_error.DecodeError.TheVariants as faults
+use Rattle.base.specs.declared.error.decode_error.DecodeError.{DecodeError}
+use Rattle.base.specs.declared.error.proto_error.ProtoError.{ProtoError}
+use Rattle.base_data.proofs.ByteWords.{bytes_inside}
+use Rattle.base_data.proofs.FieldLemmas.{on_ok, split, word_same}
 use Rattle.base_data.proofs.OptionLemmas.{option_moves}
-use Rattle.base_data.proofs.Tells.{Tells, AreBytesAt, Fills, same_ok, room_behind, tells_ok, tells_then, tells_same, tells_number, tells_bytes}
-use Rattle.base_data.specs.OPT.{OptionValue, opt_at, option_at, option_word, options_to, options_word}
+use Rattle.base_data.proofs.Tells.{AreBytesAt, Fills, Tells, fills_same, room_behind, same_ok, tells_bytes, tells_number, tells_ok, tells_same, tells_then}
+use Rattle.base_data.specs.OPT.{FitsOption, OptionValue, opt_at, option_at, option_len, option_word, options_to, options_wire, options_word}
 
 pub tells_option : (B : List ℕ) (i : ℕ) → Tells (option_at B i) (λ r. option_word r.0 B i r.1)
 tells_option B i = tells_same (tells_then (tells_number w16 B i) (λ code. tells_then (tells_number w16 B code.1) (λ len. tells_then (tells_bytes len.0 B len.1) (λ text. tells_ok (record { code = code.0; bytes = text.0 }, text.1)))))
@@ -74,7 +81,7 @@ options_fault (suc n) end B i is =
     bind_err (options_to n end B first.1) _ faults.Memory ⊥ behind (options_fault n end B first.1) (λ others _ last. cc))
 
 -- options fill as many bytes
-pub fills_opt : (len : ℕ) (B : List ℕ) (i : ℕ) → Fills (opt_at len B i) (i + len) (λ x. options_word x B i (i + len))
+fills_opt : (len : ℕ) (B : List ℕ) (i : ℕ) → Fills (opt_at len B i) (i + len) (λ x. options_word x B i (i + len))
 unfolding opt_at
 fills_opt len B i = record {
   says = λ x is. options_say len (i + len) B i (x, i + len) is;
@@ -82,5 +89,50 @@ fills_opt len B i = record {
   fault = options_fault len (i + len) B i;
 }
 
-pub options_moves : {B : List ℕ} {i e : ℕ} {x : OptionValue} {xs : List OptionValue} → options_word (x ∷ xs) B i e → i < e
+options_moves : {B : List ℕ} {i e : ℕ} {x : OptionValue} {xs : List OptionValue} → options_word (x ∷ xs) B i e → i < e
 options_moves {B} {i} {e} {x} (more {j = j} word words) = let first = option_longer B i j x word in let others = options_longer words in omega arith
+
+-- options, one at least, fill as many bytes, and at least one
+pub fills_options : (len : ℕ) (B : List ℕ) (i : ℕ) → 1 ≤ len → Fills (opt_at len B i) (i + len) (λ x. options_word x B i (i + len) × (x ≢ []))
+fills_options len B i some = fills_same (fills_opt len B i)
+    (λ x word. (word, λ empty. nothing (subst (λ (xs : List OptionValue). options_word xs B i (i + len)) empty word) refl))
+    (λ x is. is.0) where
+      nothing : {e : ℕ} → options_word [] B i e → e ≡ i + len → ⊥
+      nothing none is = absurd (omega (arith, is, some))
+
+pub options_some : (xs : List OptionValue) (B : List ℕ) (i e : ℕ) → options_word xs B i e → 1 ≤ length xs → i < e
+options_some [] B i e word some = absurd (omega arith)
+options_some (x ∷ xs) B i e words some = options_moves words
+
+-- options end inside the buffer
+pub options_inside : {B : List ℕ} {i e : ℕ} {xs : List OptionValue} → i ≤ length B → options_word xs B i e → e ≤ length B
+options_inside inside none = inside
+options_inside {B} {i} {e} inside (more {j = j} {x = x} word words) =
+    let len = word.2.1 in
+    let ends_at : j ≤ length B = bytes_inside x.bytes B word.2.0 j (omega (arith, len.0.inside, len.1)) word.2.2 in
+    options_inside ends_at words
+
+-- an option was written: its code, the number of its bytes, and its bytes
+pub option_written : {X : Type 0} (r : Result X ProtoError) (option : OptionValue) (code len : ℕ) (bytes : List ℕ) (a b s t : State) → code ≡ option.code → len ≡ length bytes → bytes ≡ option.bytes → Keeps a b → Keeps b s → Keeps s t
+    → Writes (Number w16 code) 2 [] a b → Writes (Number w16 len) 2 [] b s → OnOk r (Writes (Bytes bytes) (length bytes) [] s t) → OnOk r (Writes (option_word option) (option_len option) [] a t)
+option_written r option code len bytes a b s t code_is len_is bytes_is k l m v w =
+    let made : ◌≡◌ {A = OptionValue} (record { code = code; bytes = bytes }) option = λ i. record { code = code_is i; bytes = bytes_is i } in
+    on_ok r (λ (x : Writes (Bytes bytes) (length bytes) [] s t).
+    let sized : Writes (Number w16 (length bytes)) 2 [] b s = subst (λ (n : ℕ). Writes (Number w16 n) 2 [] b s) len_is w in
+    let whole : Writes (option_word (record { code = code; bytes = bytes })) (option_len (record { code = code; bytes = bytes })) [] a t = Writes-then k (Keeps-then l m) v (Writes-then l m sized x) in
+    subst (λ (o : OptionValue). Writes (option_word o) (option_len o) [] a t) made whole)
+
+-- options of the same bytes
+pub options_same : (xs ys : List OptionValue) → All FitsOption xs → All FitsOption ys → options_wire xs ≡ options_wire ys → xs ≡ ys
+options_same [] [] p q e = refl
+options_same [] (y ∷ ys) p q e = absurd (omega (arith, ap length e))
+options_same (x ∷ xs) [] p q e = absurd (omega (arith, ap length e))
+options_same (x ∷ xs) (y ∷ ys) p q e =
+    let one = All-head FitsOption x xs p in
+    let other = All-head FitsOption y ys q in
+    let code = word_same x.code y.code one.0 other.0 (ap (take 2) e) in
+    let long = word_same (length x.bytes) (length y.bytes) one.1 other.1 (ap (λ (l : List ℕ). take 2 (drop 2 l)) e) in
+    let parts = split x.bytes y.bytes (options_wire xs) (options_wire ys) long (ap (drop 4) e) in
+    let others = options_same xs ys (All-tail FitsOption x xs p) (All-tail FitsOption y ys q) parts.1 in
+    let first : x ≡ y = λ i. record { code = code i; bytes = parts.0 i } in
+    λ i. first i ∷ others i

@@ -4,14 +4,11 @@ use Rattle.std.proofs.lemmas.List.{append-nil, drop_at, take-append-drop, length
 use Rattle.std.proofs.lemmas.List.Elements.{All-nil, All-push, All-map}
 use Rattle.std.proofs.lemmas.Slice.Eq.{bytes_eq-Decides}
 use Rattle.std.specs.Borrow.{Bor}
-use Rattle.std.specs.Cmp.{Equal-is}
 use Rattle.std.specs.Cmp.Lexicographic.{bytes_decides}
-use Rattle.std.specs.Ordering.{is_eq}
 use Rattle.std.specs.Prelude.{◌↔◌, All}
-use Rattle.std.specs.declared.cmp.Ordering.TheVariants.{Equal}
 use Rattle.base.specs.Labels.{wire_of, labels_of}
 use Rattle.base.proofs.LabelLemmas.{labels_of-wire_of, labels_of_is, wire_of-append, wire_of-nil}
-use Rattle.base_data.specs.TXT.{AreShort, IsText, are_strings, same_txt, same_txt-tie, txt_cmp}
+use Rattle.base_data.specs.TXT.{AreShort, IsText, are_strings, same_txt}
 
 -- the bytes of strings are a text
 pub IsText-wire_of : (bytes : List ℕ) (strings : List (List ℕ)) → bytes ≡ wire_of strings → strings ≢ [] → AreShort strings → IsText bytes
@@ -123,11 +120,6 @@ wire_of-exact a b is = sym (labels_of-wire_of a) ∙ ap labels_of is ∙ labels_
 
 pub same_txt-is : (a b : List (List ℕ)) → IsTrue (same_txt a b) ↔ (a ≡ b)
 same_txt-is a b = let d = bytes_decides (wire_of a) (wire_of b) in (λ yes. wire_of-exact a b (d.0 yes), λ is. d.1 (ap wire_of is))
-
-pub txt_cmp-ties : (a b : List (List ℕ)) → (txt_cmp a b ≡ Equal) ↔ (a ≡ b)
-txt_cmp-ties a b =
-    let tie = same_txt-tie a b in
-    (λ (h : txt_cmp a b ≡ Equal). (same_txt-is a b).0 (tie ∙ ap is_eq h), λ (is : a ≡ b). (Equal-is (txt_cmp a b)).0 (sym tie ∙ (same_txt-is a b).1 is))
 
 -- the strings that borrows show
 abbrev pub shown : List (Bor (List ℕ)) → List (List ℕ)

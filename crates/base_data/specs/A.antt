@@ -1,8 +1,25 @@
 -- Addresses of four bytes (RFC 1035, 3.4.1).
-use Rattle.std.specs.Prelude.{ℕ, List, Ok}
+use Rattle.std.specs.Prelude.{ℕ, List, Ok, [], length, ◌≡◌}
 use Rattle.base.specs.Reading.{Read, bytes_at, ◌>>=◌}
 use Rattle.base_data.specs.declared.rdata.a.A.{A}
+use Rattle.base_data.specs.Kind.{AnyNames, Kind}
+use Rattle.std.specs.Net.Text.{ipv4_text}
+use Rattle.base.specs.Words.{Bytes}
 
 -- the address at a place
 abbrev pub a_at : List ℕ → ℕ → Read A
 a_at bytes i = bytes_at 4 bytes i >>= λ r. Ok (record { octets = r.0 }, r.1)
+
+-- what is known of the data
+abbrev pub a_kind : A → Kind
+a_kind x = record {
+  rank = 0;
+  word = Bytes x.octets;
+  plain = 4;
+  names = AnyNames;
+  readable = length x.octets ≡ 4;
+  text = ipv4_text x.octets;
+  canonical = x.octets;
+  flags = [];
+  fits = Unit {0};
+}

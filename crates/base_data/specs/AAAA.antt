@@ -1,9 +1,11 @@
 -- Addresses of sixteen bytes (RFC 3596, 2.2), and their text (RFC 5952, 4).
-use Rattle.std.specs.Prelude.{◌≡◌, ℕ, ◌+◌, ◌≤◌, List, length, take, drop, replicate, Ok}
+use Rattle.std.specs.Prelude.{◌≡◌, ℕ, ◌+◌, ◌≤◌, List, length, take, drop, replicate, Ok, []}
 use Rattle.std.specs.Net.Addr.{segments_of}
 use Rattle.std.specs.Net.Text.{hex_groups_text}
 use Rattle.base.specs.Reading.{Read, bytes_at, ◌>>=◌}
 use Rattle.base_data.specs.declared.rdata.aaaa.AAAA.{AAAA}
+use Rattle.base_data.specs.Kind.{AnyNames, Kind}
+use Rattle.base.specs.Words.{Bytes}
 
 -- the address at a place
 abbrev pub aaaa_at : List ℕ → ℕ → Read AAAA
@@ -23,3 +25,17 @@ pub record IsFirstLongest (groups : List ℕ) (start len : ℕ) : Type 0 where
   pub run : AreZeros groups start len
   pub longest : (s n : ℕ) → AreZeros groups s n → n ≤ len
   pub first : (s : ℕ) → AreZeros groups s len → start ≤ s
+
+-- what is known of the data
+abbrev pub aaaa_kind : AAAA → Kind
+aaaa_kind x = record {
+  rank = 1;
+  word = Bytes x.octets;
+  plain = 16;
+  names = AnyNames;
+  readable = length x.octets ≡ 16;
+  text = aaaa_text x.octets;
+  canonical = x.octets;
+  flags = [];
+  fits = Unit {0};
+}

@@ -1,40 +1,15 @@
 -- Authoritative servers (RFC 1035, 3.3.11).
-use Rattle.std.specs.Prelude.{ℕ, List, Ok}
-use Rattle.std.proofs.Common.{rules}
-use Rattle.std.specs.Cmp.{IsTotalOrder}
-use Rattle.std.specs.Cmp.Rules.{comparing}
-use Rattle.std.specs.Ordering.{on, then_cmp}
-use Rattle.std.specs.declared.cmp.Ordering.{Ordering}
-use Rattle.base.specs.NameOrder.{canonical_cmp}
-use Rattle.base.specs.Names.{name_at}
-use Rattle.base.specs.Reading.{Read, ◌>>=◌}
-use Rattle.base_data.specs.NameData.{canonical_cmp-total, flag_cmp, flag_cmp-total}
-use Rattle.base.specs.Labels.{plain_len}
-use Rattle.base.specs.NameText.{name_text}
-use Rattle.base.specs.Words.{NameAt}
+use Rattle.std.specs.Prelude.{ℕ, List}
+use Rattle.base.specs.Reading.{Read}
+use Rattle.base_data.specs.Kind.{Kind}
+use Rattle.base_data.specs.NameData.{IsCompressed}
+use Rattle.base_data.specs.OneName.{name_kind, one_name_at}
 use Rattle.base_data.specs.declared.rdata.ns.NS.{NS}
 
 -- the data at a place
 unfoldable pub ns_at : List ℕ → ℕ → Read NS
-ns_at bytes i = do
-  name ← name_at bytes i
-  Ok (record { name = name.0 }, name.1)
+ns_at = one_name_at (λ name. record { name = name })
 
--- the order: by the bytes of the canonical form (RFC 4034, 6.3), then relative names first
-abbrev pub ns_cmp : NS → NS → Ordering
-ns_cmp = then_cmp (on (λ x. x.name) canonical_cmp) (on (λ x. x.name) flag_cmp)
-
-pub ns_cmp-total : IsTotalOrder ns_cmp
-ns_cmp-total = search (canonical_cmp-total, flag_cmp-total, comparing, rules) depth 6
-
--- the word of the name
-abbrev pub NSWord : NS → List ℕ → ℕ → ℕ → Type 0
-NSWord x = NameAt x.name.labels
-
--- how many bytes the name is without compression
-abbrev pub plain_ns : NS → ℕ
-plain_ns x = plain_len x.name.labels
-
--- the text of the name
-abbrev pub ns_text : NS → List ℕ
-ns_text x = name_text x.name
+-- what is known of the data
+abbrev pub ns_kind : NS → Kind
+ns_kind x = name_kind 2 x.name (IsCompressed x.name.labels)

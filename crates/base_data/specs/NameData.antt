@@ -1,22 +1,15 @@
--- Comparing data that has names (RFC 4034, 6.3).
-use Rattle.std.proofs.Common.{rules}
-use Rattle.std.specs.Cmp.{IsTotalOrder}
-use Rattle.std.specs.Cmp.Rules.{comparing}
-use Rattle.std.specs.Ordering.{bool_cmp, on, then_cmp}
-use Rattle.std.specs.declared.cmp.Ordering.{Ordering}
+-- Names in data: their canonical form, and how they are compressed (RFC 4034, 6.2; RFC 1035, 4.1.4).
+use Rattle.std.specs.Prelude.{ℕ, List, [], ◌∷◌, ◌++◌}
 use Rattle.base.specs.Labels.{NameValue}
-use Rattle.base.specs.NameOrder.{canonical_cmp}
+use Rattle.base.specs.Laws.{Compresses, StoresSuffixes}
+use Rattle.base.specs.NameOrder.{canonical_name}
+use Rattle.base.specs.State.{State}
 
--- relative names before absolute ones
-abbrev pub flag_cmp : NameValue → NameValue → Ordering
-flag_cmp = on (λ n. n.absolute) bool_cmp
+-- the bytes of a name in canonical form: without compression, letters in lower case, the final zero byte at the end
+abbrev pub name_octets : NameValue → List ℕ
+name_octets name = canonical_name name ++ 0 ∷ []
 
--- the order of the canonical forms of names; of names that have the same, relative ones first
-abbrev pub name_data_cmp : NameValue → NameValue → Ordering
-name_data_cmp = then_cmp canonical_cmp flag_cmp
-
-pub canonical_cmp-total : IsTotalOrder canonical_cmp
-canonical_cmp-total = search (comparing, rules)
-
-pub flag_cmp-total : IsTotalOrder flag_cmp
-flag_cmp-total = search (comparing, rules)
+-- a name was written with compression: it points to a stored suffix that it ends in, and its own are stored
+pub record IsCompressed (labels : List (List ℕ)) (old new : State) : Type 0 where
+  pub points : Compresses labels old new
+  pub stores : StoresSuffixes labels old new

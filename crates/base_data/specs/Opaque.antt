@@ -1,14 +1,13 @@
 -- Bytes that are only carried, and their text (RFC 3597, 5).
-use Rattle.std.specs.Prelude.{◌≡◌, ℕ, Bool, ◌/◌, ◌%◌, ◌==◌, List, [], ◌∷◌, ◌++◌, length, codes, nat_eq, if◌then◌else◌}
-use Rattle.std.proofs.Common.{rules, refl}
+use Rattle.std.specs.Prelude.{ℕ, Bool, ◌/◌, ◌%◌, ◌==◌, List, [], ◌∷◌, ◌++◌, length, codes, nat_eq, if◌then◌else◌}
 use Rattle.std.specs.Char.{digit_char}
-use Rattle.std.specs.Cmp.{IsEquivalence, IsPartialOrder, IsTotalOrder, partial_order_from_agreeing_total, unsigned_ties}
-use Rattle.std.specs.Cmp.Lexicographic.{lists_ties, pointwise, slice_cmp}
-use Rattle.std.specs.Cmp.Rules.{comparing}
+use Rattle.std.specs.Cmp.Lexicographic.{pointwise, slice_cmp}
 use Rattle.std.specs.Fmt.{decimal}
 use Rattle.std.specs.List.{flat_map}
-use Rattle.std.specs.Ordering.{as_partial_cmp, is_eq, nat_cmp}
+use Rattle.std.specs.Ordering.{nat_cmp}
 use Rattle.std.specs.declared.cmp.Ordering.{Ordering}
+use Rattle.base_data.specs.Kind.{AnyNames, Kind}
+use Rattle.base.specs.Words.{Bytes}
 
 -- a byte in two hexadecimal digits, in lower case
 abbrev pub byte_hex : ℕ → List ℕ
@@ -30,15 +29,16 @@ same_bytes = pointwise nat_eq
 abbrev pub bytes_cmp : List ℕ → List ℕ → Ordering
 bytes_cmp = slice_cmp nat_cmp
 
-pub same_bytes-equiv : IsEquivalence same_bytes
-same_bytes-equiv = search (comparing, rules)
-
-pub bytes_cmp-total : IsTotalOrder bytes_cmp
-bytes_cmp-total = search (comparing, rules)
-
--- bytes are the same exactly where the order does not tell them apart
-pub same_bytes-tie : (a b : List ℕ) → same_bytes a b ≡ is_eq (bytes_cmp a b)
-same_bytes-tie = lists_ties nat_cmp unsigned_ties
-
-pub bytes_cmp-partial : IsPartialOrder same_bytes (as_partial_cmp bytes_cmp)
-bytes_cmp-partial = partial_order_from_agreeing_total bytes_cmp bytes_cmp-total (λ _ _. refl) same_bytes-tie
+-- what is known of bytes that are only carried
+abbrev pub bytes_kind : ℕ → Type 0 → List ℕ → Kind
+bytes_kind rank readable x = record {
+  rank = rank;
+  word = Bytes x;
+  plain = length x;
+  names = AnyNames;
+  readable = readable;
+  text = opaque_text x;
+  canonical = x;
+  flags = [];
+  fits = Unit {0};
+}

@@ -1,20 +1,17 @@
 -- Starts of zones (RFC 1035, 3.3.13).
-use Rattle.std.specs.Prelude.{ℕ, List, Ok, ◌+◌, ◌^◌, ◌<◌, ◌++◌, codes}
-use Rattle.std.proofs.Common.{rules}
-use Rattle.std.specs.Cmp.{IsTotalOrder}
-use Rattle.std.specs.Cmp.Rules.{comparing}
+use Rattle.std.specs.Prelude.{ℕ, List, Ok, ◌+◌, ◌^◌, ◌<◌, ◌++◌, codes, [], ◌∷◌, ◌≡◌, true}
 use Rattle.std.specs.Int.{w32, to_be_bytes}
-use Rattle.std.specs.Ordering.{nat_cmp, on, then_cmp}
-use Rattle.std.specs.declared.cmp.Ordering.{Ordering}
-use Rattle.base.specs.NameOrder.{canonical_cmp}
 use Rattle.base.specs.Names.{name_at}
 use Rattle.base.specs.Reading.{Read, number_at, ◌>>=◌}
-use Rattle.base_data.specs.NameData.{canonical_cmp-total, flag_cmp, flag_cmp-total}
-use Rattle.base.specs.Labels.{plain_len}
+use Rattle.base.specs.Labels.{AreLabels, plain_len}
 use Rattle.base.specs.NameText.{name_text}
 use Rattle.base.specs.Words.{NameAt, Number, Then}
 use Rattle.std.specs.Fmt.{decimal}
 use Rattle.base_data.specs.declared.rdata.soa.SOA.{SOA}
+use Rattle.base_data.specs.Kind.{Kind}
+use Rattle.base.specs.Laws.{Keeps}
+use Rattle.base.specs.State.{State, appended}
+use Rattle.base_data.specs.NameData.{IsCompressed, name_octets}
 
 -- the data at a place
 unfoldable pub soa_at : List ℕ → ℕ → Read SOA
@@ -27,13 +24,6 @@ soa_at bytes i = do
   expire ← number_at w32 bytes retry.1
   minimum ← number_at w32 bytes expire.1
   Ok (record { mname = mname.0; rname = rname.0; serial = serial.0; refresh = refresh.0; retry = retry.0; expire = expire.0; minimum = minimum.0 }, minimum.1)
-
--- the order: by the bytes of the canonical form (RFC 4034, 6.3), then relative names first
-abbrev pub soa_cmp : SOA → SOA → Ordering
-soa_cmp = then_cmp (then_cmp (then_cmp (then_cmp (then_cmp (then_cmp (then_cmp (then_cmp (on (λ x. x.mname) canonical_cmp) (on (λ x. x.rname) canonical_cmp)) (on (λ x. x.serial) nat_cmp)) (on (λ x. x.refresh) nat_cmp)) (on (λ x. x.retry) nat_cmp)) (on (λ x. x.expire) nat_cmp)) (on (λ x. x.minimum) nat_cmp)) (on (λ x. x.mname) flag_cmp)) (on (λ x. x.rname) flag_cmp)
-
-pub soa_cmp-total : IsTotalOrder soa_cmp
-soa_cmp-total = search (canonical_cmp-total, flag_cmp-total, comparing, rules) depth 13
 
 -- each number takes four bytes
 pub record SOAFits (x : SOA) : Type 0 where
@@ -62,3 +52,28 @@ plain_soa x = plain_len x.mname.labels + (plain_len x.rname.labels + 20)
 -- the fields, with a space between each two
 abbrev pub soa_text : SOA → List ℕ
 soa_text x = name_text x.mname ++ (codes " " ++ (name_text x.rname ++ (codes " " ++ (decimal x.serial ++ (codes " " ++ (decimal x.refresh ++ (codes " " ++ (decimal x.retry ++ (codes " " ++ (decimal x.expire ++ (codes " " ++ (decimal x.minimum))))))))))))
+
+-- two names with compression, one behind the other, and numbers
+pub record CompressesSOA (x : SOA) (old new : State) : Type 0 where
+  pub behind_first : State
+  pub behind_second : State
+  pub keeps_first : Keeps old behind_first
+  pub first : IsCompressed x.mname.labels old behind_first
+  pub keeps_second : Keeps behind_first behind_second
+  pub second : IsCompressed x.rname.labels behind_first behind_second
+  pub numbers : new ≡ appended (soa_numbers x) behind_second
+
+-- what is known of the data
+abbrev pub soa_kind : SOA → Kind
+soa_kind x = record {
+  rank = 7;
+  word = SOAWord x;
+  plain = plain_soa x;
+  names = CompressesSOA x;
+  readable = (x.mname.absolute ≡ true) × (x.rname.absolute ≡ true);
+  text = soa_text x;
+  canonical = name_octets x.mname ++ name_octets x.rname ++ to_be_bytes w32 x.serial ++ to_be_bytes w32 x.refresh ++ to_be_bytes w32 x.retry
+      ++ to_be_bytes w32 x.expire ++ to_be_bytes w32 x.minimum;
+  flags = x.mname.absolute ∷ x.rname.absolute ∷ [];
+  fits = AreLabels x.mname.labels × AreLabels x.rname.labels × SOAFits x;
+}

@@ -1,20 +1,16 @@
 -- Hosts that have a service (RFC 2782).
-use Rattle.std.specs.Prelude.{ℕ, List, [], ◌∷◌, Ok, ◌+◌, ◌^◌, ◌<◌, ◌++◌, codes}
-use Rattle.std.proofs.Common.{rules}
-use Rattle.std.specs.Cmp.{IsTotalOrder}
-use Rattle.std.specs.Cmp.Rules.{comparing}
+use Rattle.std.specs.Prelude.{ℕ, List, [], ◌∷◌, Ok, ◌+◌, ◌^◌, ◌<◌, ◌++◌, codes, ◌≡◌, true}
 use Rattle.std.specs.Int.{w16, to_be_bytes}
-use Rattle.std.specs.Ordering.{nat_cmp, on, then_cmp}
-use Rattle.std.specs.declared.cmp.Ordering.{Ordering}
-use Rattle.base.specs.NameOrder.{canonical_cmp}
 use Rattle.base.specs.Names.{name_at}
 use Rattle.base.specs.Reading.{Read, number_at, ◌>>=◌}
-use Rattle.base_data.specs.NameData.{canonical_cmp-total, flag_cmp, flag_cmp-total}
-use Rattle.base.specs.Labels.{plain_len, wire_of}
+use Rattle.base.specs.Labels.{AreLabels, plain_len, wire_of}
 use Rattle.base.specs.NameText.{name_text}
 use Rattle.base.specs.Words.{NameAt, Number, Then}
 use Rattle.std.specs.Fmt.{decimal}
 use Rattle.base_data.specs.declared.rdata.srv.SRV.{SRV}
+use Rattle.base_data.specs.Kind.{Kind}
+use Rattle.base.specs.State.{appended}
+use Rattle.base_data.specs.NameData.{name_octets}
 
 -- the data at a place
 unfoldable pub srv_at : List ℕ → ℕ → Read SRV
@@ -24,13 +20,6 @@ srv_at bytes i = do
   port ← number_at w16 bytes weight.1
   target ← name_at bytes port.1
   Ok (record { priority = priority.0; weight = weight.0; port = port.0; target = target.0 }, target.1)
-
--- the order: by the bytes of the canonical form (RFC 4034, 6.3), then relative names first
-abbrev pub srv_cmp : SRV → SRV → Ordering
-srv_cmp = then_cmp (then_cmp (then_cmp (then_cmp (on (λ x. x.priority) nat_cmp) (on (λ x. x.weight) nat_cmp)) (on (λ x. x.port) nat_cmp)) (on (λ x. x.target) canonical_cmp)) (on (λ x. x.target) flag_cmp)
-
-pub srv_cmp-total : IsTotalOrder srv_cmp
-srv_cmp-total = search (canonical_cmp-total, flag_cmp-total, comparing, rules) depth 9
 
 -- the word that the fields are written as, one behind the other
 abbrev pub SRVWord : SRV → List ℕ → ℕ → ℕ → Type 0
@@ -57,3 +46,17 @@ plain_srv x = 2 + (2 + (2 + (plain_len x.target.labels)))
 -- the fields, with a space between each two
 abbrev pub srv_text : SRV → List ℕ
 srv_text x = decimal x.priority ++ (codes " " ++ (decimal x.weight ++ (codes " " ++ (decimal x.port ++ (codes " " ++ (name_text x.target))))))
+
+-- what is known of the data
+abbrev pub srv_kind : SRV → Kind
+srv_kind x = record {
+  rank = 8;
+  word = SRVWord x;
+  plain = plain_srv x;
+  names = λ old new. new ≡ appended (srv_wire x) old;
+  readable = x.target.absolute ≡ true;
+  text = srv_text x;
+  canonical = to_be_bytes w16 x.priority ++ to_be_bytes w16 x.weight ++ to_be_bytes w16 x.port ++ name_octets x.target;
+  flags = x.target.absolute ∷ [];
+  fits = SRVFits x × AreLabels x.target.labels;
+}

@@ -1,17 +1,15 @@
 -- Texts: character strings, each a byte for its length and as many bytes (RFC 1035, 3.3 and 3.3.14).
 use Rattle.std.specs.Prelude.{◌≡◌, ◌≢◌, ℕ, Bool, All, ◌≤◌, ◌||◌, ◌==◌, List, [], ◌∷◌, ◌++◌, length, map, nat_lt, if◌then◌else◌, Ok, Err}
-use Rattle.std.proofs.Common.{rules, refl}
-use Rattle.std.specs.Cmp.{IsEquivalence, IsPartialOrder, IsTotalOrder, partial_order_from_agreeing_total}
-use Rattle.std.specs.Cmp.Rules.{comparing}
 use Rattle.std.specs.List.{flat_map, join_with_byte}
-use Rattle.std.specs.Ordering.{as_partial_cmp, is_eq, on}
+use Rattle.std.specs.Ordering.{on}
 use Rattle.std.specs.Str.{bytes_eq}
-use Rattle.std.specs.declared.cmp.Ordering.{Ordering}
 use Rattle.base.specs.Labels.{wire_of, labels_of}
 use Rattle.base.specs.NameText.{decimal_text}
 use Rattle.base.specs.Reading.{Read, bytes_at, ◌>>=◌}
 use Rattle.base.specs.declared.error.decode_error.DecodeError.TheVariants as faults
-use Rattle.base_data.specs.Opaque.{bytes_cmp, same_bytes, same_bytes-tie}
+use Rattle.base_data.specs.Opaque.{same_bytes}
+use Rattle.base_data.specs.Kind.{AnyNames, Kind}
+use Rattle.base.specs.Words.{Bytes}
 
 -- each string has up to 255 bytes
 abbrev pub AreShort : List (List ℕ) → Type 0
@@ -43,21 +41,20 @@ string_text string = 34 ∷ flat_map string_byte string ++ 34 ∷ []
 abbrev pub txt_text : List (List ℕ) → List ℕ
 txt_text strings = join_with_byte 32 (map string_text strings)
 
--- the same strings, and their order: by their bytes on the wire
+-- the same strings: by their bytes on the wire
 abbrev pub same_txt : List (List ℕ) → List (List ℕ) → Bool
 same_txt = on wire_of same_bytes
 
-abbrev pub txt_cmp : List (List ℕ) → List (List ℕ) → Ordering
-txt_cmp = on wire_of bytes_cmp
-
-pub same_txt-equiv : IsEquivalence same_txt
-same_txt-equiv = search (comparing, rules)
-
-pub txt_cmp-total : IsTotalOrder txt_cmp
-txt_cmp-total = search (comparing, rules)
-
-pub same_txt-tie : (a b : List (List ℕ)) → same_txt a b ≡ is_eq (txt_cmp a b)
-same_txt-tie a b = same_bytes-tie (wire_of a) (wire_of b)
-
-pub txt_cmp-partial : IsPartialOrder same_txt (as_partial_cmp txt_cmp)
-txt_cmp-partial = partial_order_from_agreeing_total txt_cmp txt_cmp-total (λ _ _. refl) same_txt-tie
+-- what is known of the data
+abbrev pub txt_kind : List (List ℕ) → Kind
+txt_kind x = record {
+  rank = 9;
+  word = Bytes (wire_of x);
+  plain = length (wire_of x);
+  names = AnyNames;
+  readable = x ≢ [];
+  text = txt_text x;
+  canonical = wire_of x;
+  flags = [];
+  fits = Unit {0};
+}

@@ -1,7 +1,12 @@
-//! The kinds of record data, each in a file of its own, and the data of any record.
+//! The kinds of record data, each in a file of its own, and the data of any record: what goes through all kinds
+//! stands here.
 
-ghost use Rattle.std.specs.Prelude.{◌≡◌};
-ghost use Rattle.base_data.specs.RData.{is_empty_data, type_of_data};
+ghost use Rattle.std.specs.Prelude.{◌≡◌, ◌<◌, ◌≤◌, [], OnOk, Some, take};
+ghost use Rattle.base.specs.Laws.{Keeps, Writes};
+ghost use Rattle.base.specs.Reading.{Reads};
+ghost use Rattle.base.specs.Wire.{state_of, Refuses};
+ghost use Rattle.base_data.specs.Kinds.{DataWord, WritesNames, canonical_data, data_text, kind_at, kind_rank, name_flags, plain_data, type_of_data};
+ghost use Rattle.base_data.specs.RData.{is_empty_data};
 
 pub mod a;
 pub mod aaaa;
@@ -23,21 +28,23 @@ pub mod srv;
 pub mod tsig;
 pub mod txt;
 pub mod words;
-mod writing;
 
 pub use a::A;
 pub use aaaa::AAAA;
 pub use aname::ANAME;
-use base::RecordType;
+use base::{BinDecoder, BinEncodable, BinEncoder, DecodeError, ProtoError, RecordType};
+use canonical::CanonicalOctets;
 pub use cname::CNAME;
 pub use mx::MX;
 pub use ns::NS;
 pub use null::NULL;
 pub use opt::{EdnsOption, OPT};
 pub use ptr::PTR;
+use reading::read_as;
 pub use soa::SOA;
 pub use srv::SRV;
 use std::alloc::AllocError;
+use std::fmt;
 pub use tsig::TSIG;
 pub use txt::TXT;
 
@@ -111,6 +118,113 @@ impl RData {
     {
         matches!(self, RData::Update0(_))
     }
+
+    /// Reads the data of a type that begins at the decoder's place, and has a byte at least. Where it ends is not
+    /// looked at.
+    #[tactic(auto, unfolding(crate::specs::Kinds::kind_at))]
+    fn read_kind(
+        decoder: &mut BinDecoder<'_>,
+        record_type: RecordType,
+        len: u16,
+    ) -> Result<RData, DecodeError>
+        requires { 0 < len }
+        ensures read { Reads (λ x. x) decoder.old decoder.new result (kind_at record_type len decoder.old.bytes decoder.old.index) }
+    {
+        match record_type {
+            RecordType::A => read_as::<A>(decoder),
+            RecordType::AAAA => read_as::<AAAA>(decoder),
+            RecordType::NS => read_as::<NS>(decoder),
+            RecordType::CNAME => read_as::<CNAME>(decoder),
+            RecordType::PTR => read_as::<PTR>(decoder),
+            RecordType::ANAME => read_as::<ANAME>(decoder),
+            RecordType::MX => read_as::<MX>(decoder),
+            RecordType::SOA => read_as::<SOA>(decoder),
+            RecordType::SRV => read_as::<SRV>(decoder),
+            RecordType::TXT => Ok(RData::TXT(TXT::read(decoder, usize::from(len))?)),
+            RecordType::NULL => Ok(RData::NULL(NULL::read(decoder, usize::from(len))?)),
+            RecordType::OPT => Ok(RData::OPT(OPT::read(decoder, len)?)),
+            RecordType::TSIG => Ok(RData::TSIG(TSIG::read(decoder, usize::from(len))?)),
+            RecordType::ZERO => Err(DecodeError::BadData(RecordType::ZERO)),
+            code => {
+                let rdata = NULL::read(decoder, usize::from(len))?;
+                Ok(RData::Unknown { code, rdata })
+            }
+        }
+    }
+
+    /// The bytes of the canonical form (RFC 4034, 6.2).
+    fn canonical_octets(&self) -> CanonicalOctets<'_>
+        ensures { result ≡ canonical_data self.now }
+    {
+        match self {
+            RData::A(rdata) => CanonicalOctets::of_bytes(&rdata.octets),
+            RData::AAAA(rdata) => CanonicalOctets::of_bytes(&rdata.octets),
+            RData::NS(rdata) => CanonicalOctets::of_name(&[], &rdata.name),
+            RData::CNAME(rdata) => CanonicalOctets::of_name(&[], &rdata.name),
+            RData::PTR(rdata) => CanonicalOctets::of_name(&[], &rdata.name),
+            RData::ANAME(rdata) => CanonicalOctets::of_name(&[], &rdata.name),
+            RData::MX(rdata) => {
+                CanonicalOctets::of_name(&rdata.preference.to_be_bytes(), &rdata.exchange)
+            }
+            RData::SOA(rdata) => {
+                CanonicalOctets::of_names(&rdata.mname, &rdata.rname, &rdata.number_octets())
+            }
+            RData::SRV(rdata) => { CanonicalOctets::of_name(&rdata.number_octets(), &rdata.target) }
+            RData::TXT(rdata) => CanonicalOctets::of_bytes(rdata.as_wire()),
+            RData::NULL(rdata) => CanonicalOctets::of_bytes(rdata.bytes()),
+            RData::OPT(rdata) => CanonicalOctets::of_options(rdata.as_ref()),
+            RData::TSIG(rdata) => CanonicalOctets::of_bytes(rdata.bytes()),
+            RData::Update0(_) => CanonicalOctets::of_bytes(&[]),
+            RData::Unknown { rdata, .. } => CanonicalOctets::of_bytes(rdata.bytes()),
+        }
+    }
+
+    /// Whether each name is absolute, from the left, and how many there are.
+    fn name_flags(&self) -> ([bool; 2], usize)
+        ensures count { result.1 ≤ 2 }
+        ensures flags { take result.1 result.0 ≡ name_flags self.now }
+    {
+        match self {
+            RData::NS(rdata) => ([rdata.name.is_fqdn(), false], 1),
+            RData::CNAME(rdata) => ([rdata.name.is_fqdn(), false], 1),
+            RData::PTR(rdata) => ([rdata.name.is_fqdn(), false], 1),
+            RData::ANAME(rdata) => ([rdata.name.is_fqdn(), false], 1),
+            RData::MX(rdata) => ([rdata.exchange.is_fqdn(), false], 1),
+            RData::SOA(rdata) => ([rdata.mname.is_fqdn(), rdata.rname.is_fqdn()], 2),
+            RData::SRV(rdata) => ([rdata.target.is_fqdn(), false], 1),
+            RData::A(_)
+            | RData::AAAA(_)
+            | RData::TXT(_)
+            | RData::NULL(_)
+            | RData::OPT(_)
+            | RData::TSIG(_)
+            | RData::Update0(_)
+            | RData::Unknown { .. } => ([false; 2], 0),
+        }
+    }
+
+    /// The place of the kind in the order of kinds, that of the variants.
+    fn kind_rank(&self) -> u8
+        ensures { result ≡ kind_rank self.now }
+    {
+        match self {
+            RData::A(_) => 0,
+            RData::AAAA(_) => 1,
+            RData::NS(_) => 2,
+            RData::CNAME(_) => 3,
+            RData::PTR(_) => 4,
+            RData::ANAME(_) => 5,
+            RData::MX(_) => 6,
+            RData::SOA(_) => 7,
+            RData::SRV(_) => 8,
+            RData::TXT(_) => 9,
+            RData::NULL(_) => 10,
+            RData::OPT(_) => 11,
+            RData::TSIG(_) => 12,
+            RData::Update0(_) => 13,
+            RData::Unknown { .. } => 14,
+        }
+    }
 }
 
 impl Clone for RData {
@@ -137,5 +251,68 @@ impl Clone for RData {
                 rdata: rdata.clone()?,
             },
         })
+    }
+}
+
+impl BinEncodable for RData {
+    ghost word = { DataWord };
+
+    ghost plain_len = { plain_data };
+
+    ghost owner = { λ _. [] };
+
+    /// Writes the data as its kind is written, names of NS, CNAME, PTR, MX and SOA with compression and all other
+    /// data without it, and nothing for empty data (RFC 1035, 3.3; RFC 3597, 4).
+    ///
+    /// Refused with `MaxBufferSizeExceeded` where a byte would pass the limit, and with `Memory` for want of it.
+    fn emit(&self, encoder: &mut BinEncoder<'_>) -> Result<(), ProtoError>
+        ensures keeps { Keeps (state_of encoder.old) (state_of encoder.new) }
+        ensures writes { OnOk result (Writes (DataWord self.now) (plain_data self.now) []
+            (state_of encoder.old) (state_of encoder.new)) }
+        ensures refuses { Refuses (plain_data self.now) (state_of encoder.old) result }
+        ensures names { OnOk result (WritesNames self.now (state_of encoder.old) (state_of encoder.new)) }
+    {
+        match self {
+            RData::A(rdata) => rdata.emit(encoder),
+            RData::AAAA(rdata) => rdata.emit(encoder),
+            RData::NS(rdata) => rdata.emit(encoder),
+            RData::CNAME(rdata) => rdata.emit(encoder),
+            RData::PTR(rdata) => rdata.emit(encoder),
+            RData::ANAME(rdata) => rdata.emit(encoder),
+            RData::MX(rdata) => rdata.emit(encoder),
+            RData::SOA(rdata) => rdata.emit(encoder),
+            RData::SRV(rdata) => rdata.emit(encoder),
+            RData::TXT(rdata) => rdata.emit(encoder),
+            RData::NULL(rdata) => rdata.emit(encoder),
+            RData::OPT(rdata) => rdata.emit(encoder),
+            RData::TSIG(rdata) => rdata.emit(encoder),
+            RData::Update0(_) => Ok(()),
+            RData::Unknown { rdata, .. } => rdata.emit(encoder),
+        }
+    }
+}
+
+impl fmt::Display for RData {
+    ghost output = { λ r. Some (data_text r) };
+
+    /// The text of its kind; `\# 0` for empty data (RFC 3597, 5).
+    fn fmt<W: fmt::Write>(&self, f: &mut fmt::Formatter<W>) -> fmt::Result {
+        match self {
+            RData::A(rdata) => fmt::Display::fmt(rdata, f),
+            RData::AAAA(rdata) => fmt::Display::fmt(rdata, f),
+            RData::NS(rdata) => fmt::Display::fmt(rdata, f),
+            RData::CNAME(rdata) => fmt::Display::fmt(rdata, f),
+            RData::PTR(rdata) => fmt::Display::fmt(rdata, f),
+            RData::ANAME(rdata) => fmt::Display::fmt(rdata, f),
+            RData::MX(rdata) => fmt::Display::fmt(rdata, f),
+            RData::SOA(rdata) => fmt::Display::fmt(rdata, f),
+            RData::SRV(rdata) => fmt::Display::fmt(rdata, f),
+            RData::TXT(rdata) => fmt::Display::fmt(rdata, f),
+            RData::NULL(rdata) => fmt::Display::fmt(rdata, f),
+            RData::OPT(rdata) => fmt::Display::fmt(rdata, f),
+            RData::TSIG(rdata) => fmt::Display::fmt(rdata, f),
+            RData::Update0(_) => f.write_str("\\# 0"),
+            RData::Unknown { rdata, .. } => fmt::Display::fmt(rdata, f),
+        }
     }
 }

@@ -7,9 +7,8 @@ use Rattle.base.specs.Spelling.{ByteAt, anywhere, ends}
 use Rattle.base.specs.Words.{NameAt, Number, Sized, Stands, Then, none}
 use Rattle.base.specs.declared.record_type.RecordType.TheVariants as types
 use Rattle.base.proofs.WordLemmas.{stands_byte}
-use Rattle.base_data.specs.DataWord.{DataWord, plain_data}
+use Rattle.base_data.specs.Kinds.{DataWord, plain_data, type_of_data}
 use Rattle.base_data.specs.OPT.{OptionValue, options_len, options_word}
-use Rattle.base_data.specs.RData.{type_of_data}
 use Rattle.rr.proofs.RecordLemmas.{record_word}
 use Rattle.op.specs.EdnsRecord.{EdnsWord, edns_record, opt_data, opt_ttl}
 use Rattle.op.specs.declared.edns.Edns.{Edns}

@@ -8,7 +8,8 @@ use Rattle.base.specs.Many.{many_at}
 use Rattle.base.specs.Words.{BackToBack}
 use Rattle.base.proofs.ManyLemmas.{many_again, many_stand}
 use Rattle.base.proofs.ReadLemmas.{bind_ok}
-use Rattle.base_data.specs.RData.{type_of_data}
+use Rattle.base_data.proofs.EachKind.{signature_type}
+use Rattle.base_data.specs.Kinds.{type_of_data}
 use Rattle.base_data.specs.declared.rdata.RData.{RData}
 use Rattle.rr.specs.Record.{IsRecordAt, is_opt_type}
 use Rattle.rr.specs.declared.record.Record.{Record}
@@ -22,7 +23,7 @@ use Rattle.op.specs.declared.query.Query.{Query}
 use Rattle.op.proofs.HeaderReading.{reads_word}
 use Rattle.op.proofs.QueryLemmas.{reads_question}
 use Rattle.op.proofs.SectionStands.{IsSection, same_ok, section_is, section_read}
-use Rattle.op.proofs.SectionWords.{Stand, signature_type}
+use Rattle.op.proofs.SectionWords.{Stand}
 
 -- ---- sections outside additionals hold ordinary records alone
 

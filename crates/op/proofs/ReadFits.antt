@@ -9,7 +9,8 @@ use Rattle.base.specs.Labels.{NameValue}
 use Rattle.base.specs.RecordType.{type_number, type_of}
 use Rattle.base.specs.Words.{BackToBack}
 use Rattle.base.specs.Words.BackToBack.{none, more}
-use Rattle.base_data.specs.RData.{type_of_data}
+use Rattle.base_data.proofs.EachKind.{signature_is}
+use Rattle.base_data.specs.Kinds.{type_of_data}
 use Rattle.base_data.specs.declared.rdata.RData.{RData}
 use Rattle.base_data.specs.declared.rdata.RData.TheVariants as kinds
 use Rattle.rr.specs.Record.{FitsRecord, IsRecordAt, is_opt_type}
@@ -18,7 +19,8 @@ use Rattle.op.specs.Fits.{Fits, FitsAdditional, FitsEdns, FitsPlain, listed, sig
 use Rattle.op.specs.Message.{IsMessageAt, MessageValue, high_code, message_of}
 use Rattle.op.specs.OpCode.{op_number, op_value}
 use Rattle.op.specs.Query.{FitsQuery, IsQueryAt}
-use Rattle.op.specs.Section.{IsGiven, IsPlain, edns_of, is_opt, is_ordinary, is_signature, is_signature_data, section_of, signature_in, signature_of}
+use Rattle.base_data.specs.RData.{is_signature_data, signature_in}
+use Rattle.op.specs.Section.{IsGiven, IsPlain, edns_of, is_opt, is_ordinary, is_signature, section_of, signature_of}
 use Rattle.op.specs.declared.edns.Edns.{Edns}
 use Rattle.op.specs.declared.header.Header.{Header}
 use Rattle.op.specs.declared.header.metadata.Metadata.{Metadata}
@@ -129,24 +131,9 @@ neither true g is = cc
 neither false true is = cc
 neither false false is = (refl, refl)
 
--- a signature's data
-signed : (r : Record RData) (d : RData) → r.rdata ≡ d → is_signature_data d ≡ true → signature_record (signature_of r) ≡ r
-signed r (kinds.A x) same is = cc
-signed r (kinds.AAAA x) same is = cc
-signed r (kinds.NS x) same is = cc
-signed r (kinds.CNAME x) same is = cc
-signed r (kinds.PTR x) same is = cc
-signed r (kinds.ANAME x) same is = cc
-signed r (kinds.MX x) same is = cc
-signed r (kinds.SOA x) same is = cc
-signed r (kinds.SRV x) same is = cc
-signed r (kinds.TXT x) same is = cc
-signed r (kinds.NULL x) same is = cc
-signed r (kinds.OPT x) same is = cc
-signed r (kinds.TSIG x) same is =
-    ap (λ (bytes : List ℕ). record r { rdata = kinds.TSIG bytes }) (ap signature_in same) ∙ ap (λ (d : RData). record r { rdata = d }) (sym same)
-signed r (kinds.Update0 type) same is = cc
-signed r (kinds.Unknown code x) same is = cc
+-- a record whose data is a signature is the record of that signature
+signed : (r : Record RData) → is_signature_data r.rdata ≡ true → signature_record (signature_of r) ≡ r
+signed r is = ap (λ (d : RData). record r { rdata = d }) (sym (signature_is r.rdata is))
 
 -- ---- the message
 
@@ -199,7 +186,7 @@ module _ (B : List ℕ) (i : ℕ) (m : MessageValue) (e : ℕ) (w : IsMessageAt 
   edns_fit = listed_map (Found (IsRead w.header.metadata.op_code) is_opt) FitsEdns edns_of (λ r f. f.has.edns f.passes) (find is_opt w.additionals) (found (IsRead w.header.metadata.op_code) is_opt w.additionals additionals_read)
 
   signature_fit : All (λ r. FitsRecord (signature_record r)) (listed (option_map signature_of (find is_signature w.additionals)))
-  signature_fit = listed_map (Found (IsRead w.header.metadata.op_code) is_signature) (λ r. FitsRecord (signature_record r)) signature_of (λ r f. subst FitsRecord (sym (signed r r.rdata refl f.passes)) f.has.fits) (find is_signature w.additionals) (found (IsRead w.header.metadata.op_code) is_signature w.additionals additionals_read)
+  signature_fit = listed_map (Found (IsRead w.header.metadata.op_code) is_signature) (λ r. FitsRecord (signature_record r)) signature_of (λ r f. subst FitsRecord (sym (signed r f.passes)) f.has.fits) (find is_signature w.additionals) (found (IsRead w.header.metadata.op_code) is_signature w.additionals additionals_read)
 
   whole_fits : Fits (message_of w.header.metadata m.queries w.answers w.authorities (section_of w.additionals))
   whole_fits =

@@ -7,13 +7,13 @@ use Rattle.std.specs.Prelude.{All, ◌&&◌, ◌||◌, not, filter, find, is_som
 use Rattle.std.specs.Option.{option_map, option_or}
 use Rattle.base.specs.declared.error.decode_error.DecodeError.{DecodeError}
 use Rattle.base.specs.declared.error.decode_error.DecodeError.TheVariants as faults
-use Rattle.base.specs.declared.record_type.RecordType.TheVariants as types
-use Rattle.base_data.specs.RData.{is_empty_data, type_of_data}
+use Rattle.base_data.proofs.EachKind.{signature_type}
+use Rattle.base_data.specs.Kinds.{type_of_data}
+use Rattle.base_data.specs.RData.{is_empty_data, is_signature_data}
 use Rattle.base_data.specs.declared.rdata.RData.{RData}
-use Rattle.base_data.specs.declared.rdata.RData.TheVariants as kinds
 use Rattle.rr.specs.Record.{is_opt_type}
 use Rattle.rr.specs.declared.record.Record.{Record}
-use Rattle.op.specs.Section.{EndsWithSignature, IsGiven, SectionValue, edns_of, empty_section, fault_of, is_additional, is_opt, is_ordinary, is_signature, is_signature_data, is_update, section_of, signature_of, with_record}
+use Rattle.op.specs.Section.{EndsWithSignature, IsGiven, SectionValue, edns_of, empty_section, fault_of, is_additional, is_opt, is_ordinary, is_signature, is_update, section_of, signature_of, with_record}
 use Rattle.op.specs.declared.op_code.OpCode.{OpCode}
 
 -- each record passes the tests behind those before it
@@ -70,24 +70,6 @@ from_placed true additional h = refl
 from_placed false additional h = h refl
 
 -- ---- kinds of records
-
--- the type of a signature
-pub signature_type : (d : RData) → is_signature_data d ≡ true → type_of_data d ≡ types.TSIG
-signature_type (kinds.A x) is = cc
-signature_type (kinds.AAAA x) is = cc
-signature_type (kinds.NS x) is = cc
-signature_type (kinds.CNAME x) is = cc
-signature_type (kinds.PTR x) is = cc
-signature_type (kinds.ANAME x) is = cc
-signature_type (kinds.MX x) is = cc
-signature_type (kinds.SOA x) is = cc
-signature_type (kinds.SRV x) is = cc
-signature_type (kinds.TXT x) is = cc
-signature_type (kinds.NULL x) is = cc
-signature_type (kinds.OPT x) is = cc
-signature_type (kinds.TSIG x) is = refl
-signature_type (kinds.Update0 type) is = cc
-signature_type (kinds.Unknown code x) is = cc
 
 -- a signature is no EDNS record
 exclusive : (d : RData) → is_signature_data d ≡ true → is_opt_type (type_of_data d) ≡ false

@@ -11,7 +11,8 @@ use Rattle.base_data.specs.declared.rdata.RData.{RData}
 use Rattle.rr.specs.declared.record.Record.{Record}
 use Rattle.op.specs.EdnsRecord.{edns_record, opt_data}
 use Rattle.op.specs.Fits.{FitsAdditional, FitsEdns, listed, signature_record}
-use Rattle.op.specs.Section.{AtMostOneOpt, EndsWithSignature, IsGiven, edns_of, is_opt, is_ordinary, is_signature, is_signature_data, is_update, section_of, signature_of}
+use Rattle.base_data.specs.RData.{is_signature_data}
+use Rattle.op.specs.Section.{AtMostOneOpt, EndsWithSignature, IsGiven, edns_of, is_opt, is_ordinary, is_signature, is_update, section_of, signature_of}
 use Rattle.op.specs.declared.edns.Edns.{Edns}
 use Rattle.op.specs.declared.op_code.OpCode.{OpCode}
 use Rattle.op.proofs.WordsBack.{edns_back, opt_typed}

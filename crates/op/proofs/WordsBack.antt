@@ -7,9 +7,8 @@ use Rattle.base.specs.declared.dns_class.DNSClass.TheVariants as classes
 use Rattle.base.specs.Labels.{NameValue}
 use Rattle.base.specs.RecordType.{type_number, type_of}
 use Rattle.base.specs.Spelling.{Spelled}
-use Rattle.base_data.specs.DataAt.{IsReadable}
+use Rattle.base_data.specs.Kinds.{IsReadable, type_of_data}
 use Rattle.base_data.specs.OPT.{OptionValue}
-use Rattle.base_data.specs.RData.{type_of_data}
 use Rattle.base_data.specs.declared.rdata.RData.{RData}
 use Rattle.base.specs.declared.record_type.RecordType.TheVariants as types
 use Rattle.rr.specs.Record.{FitsRecord, is_opt_type, IsRecordAt, RecordWord}

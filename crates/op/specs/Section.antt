@@ -9,8 +9,9 @@ use Rattle.base.specs.declared.error.decode_error.DecodeError.{DecodeError}
 use Rattle.base.specs.declared.error.decode_error.DecodeError.TheVariants as faults
 use Rattle.base.specs.declared.record_type.RecordType.{RecordType}
 use Rattle.base.specs.declared.record_type.RecordType.TheVariants as types
+use Rattle.base_data.specs.Kinds.{type_of_data}
 use Rattle.base_data.specs.OPT.{OptionValue}
-use Rattle.base_data.specs.RData.{is_empty_data, type_of_data}
+use Rattle.base_data.specs.RData.{is_empty_data, is_signature_data, signature_in}
 use Rattle.base_data.specs.declared.rdata.RData.{RData}
 use Rattle.base_data.specs.declared.rdata.RData.TheVariants as kinds
 use Rattle.rr.specs.Record.{IsRecordAt, is_opt_type, record_at}
@@ -34,11 +35,6 @@ is_additional_type types.OPT = true
 is_additional_type types.SIG = true
 is_additional_type types.TSIG = true
 is_additional_type _ = false
-
--- whether data is a transaction signature
-abbrev pub is_signature_data : RData → Bool
-is_signature_data (kinds.TSIG x) = true
-is_signature_data _ = false
 
 -- a record of EDNS, with options or empty
 abbrev pub is_opt : Record RData → Bool
@@ -66,11 +62,6 @@ IsOptData _ = ⊥
 abbrev pub options_in : RData → List OptionValue
 options_in (kinds.OPT options) = options
 options_in _ = []
-
--- the bytes of a signature
-abbrev pub signature_in : RData → List ℕ
-signature_in (kinds.TSIG x) = x
-signature_in _ = []
 
 -- What an OPT record says: its TTL is the high code, the version and the flags, its class the payload size (RFC 6891, 6.1.3).
 abbrev pub edns_value : ℕ → ℕ → List OptionValue → Edns

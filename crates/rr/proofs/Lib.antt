@@ -1,4 +1,3 @@
-pub mod DataInside
 pub mod EqualRecords
 pub mod OrderRecords
 pub mod ReadRecords

@@ -16,14 +16,14 @@ use Rattle.base.specs.declared.record_type.RecordType.TheVariants as types
 use Rattle.base.proofs.ReadLemmas.{bind_ok, number_is, number_again}
 use Rattle.base.proofs.ReadingLemmas.{name_is, name_again}
 use Rattle.base_data.proofs.DataRows.{data_says, reads_data}
+use Rattle.base_data.proofs.EachKind.{data_inside}
 use Rattle.base_data.proofs.Tells.{same_ok}
+use Rattle.base_data.specs.Kinds.{type_of_data, DataWord}
 use Rattle.base_data.specs.DataAt.{IsDataAt}
-use Rattle.base_data.specs.RData.{rdata_at, type_of_data}
+use Rattle.base_data.specs.RData.{rdata_at}
 use Rattle.base_data.specs.declared.rdata.RData.{RData}
-use Rattle.base_data.specs.DataWord.{DataWord}
 use Rattle.rr.specs.Record.{FitsRecord, IsRawRecordAt, IsReadableRecord, IsRecordAt, IsRecordValue, RawRecord, RecordWord, body_at, class_value, flush_value, is_opt_type, raw_record, record_at, record_value}
 use Rattle.rr.specs.declared.record.Record.{Record}
-use Rattle.rr.proofs.DataInside.{data_inside}
 
 pub opt_is : (type : RecordType) → is_opt_type type ≡ true → type ≡ types.OPT
 opt_is type is = grind arith

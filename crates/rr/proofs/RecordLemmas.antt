@@ -9,8 +9,7 @@ use Rattle.base.specs.Names.{name_at}
 use Rattle.base.specs.RecordType.{type_number}
 use Rattle.base.specs.Words.{IsNumberAt, NameAt, Number, Sized, Then}
 use Rattle.base.proofs.ReadingLemmas.{name_is}
-use Rattle.base_data.specs.DataWord.{DataWord}
-use Rattle.base_data.specs.RData.{type_of_data}
+use Rattle.base_data.specs.Kinds.{DataWord, type_of_data}
 use Rattle.base_data.specs.declared.rdata.RData.{RData}
 use Rattle.rr.specs.Record.{RecordWord}
 use Rattle.rr.specs.declared.record.Record.{Record}

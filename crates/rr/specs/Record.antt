@@ -16,9 +16,9 @@ use Rattle.base.specs.declared.error.decode_error.DecodeError.{DecodeError}
 use Rattle.base.specs.declared.error.decode_error.DecodeError.TheVariants as faults
 use Rattle.base.specs.declared.record_type.RecordType.{RecordType}
 use Rattle.base.specs.declared.record_type.RecordType.TheVariants as types
-use Rattle.base_data.specs.DataAt.{IsDataAt, IsReadable}
-use Rattle.base_data.specs.DataWord.{DataWord, data_text, plain_data}
-use Rattle.base_data.specs.RData.{rdata_at, type_of_data}
+use Rattle.base_data.specs.Kinds.{IsReadable, DataWord, data_text, plain_data, type_of_data}
+use Rattle.base_data.specs.DataAt.{IsDataAt}
+use Rattle.base_data.specs.RData.{rdata_at}
 use Rattle.base_data.specs.declared.rdata.RData.{RData}
 use Rattle.rr.specs.declared.record.Record.{Record}
 

@@ -11,9 +11,10 @@ use Rattle.base.specs.RecordType.{type_cmp}
 use Rattle.base.specs.contracts.dns_class.DNSClassPartialEq.TheImpl as class_eq
 use Rattle.base.specs.contracts.dns_class.DNSClassEq.TheImpl.Laws.{laws-law as class_laws}
 use Rattle.base.specs.declared.dns_class.DNSClass.{DNSClass}
-use Rattle.base_data.specs.DataOrder.{data_cmp, data_cmp-total}
-use Rattle.base_data.specs.RData.{type_of_data}
+use Rattle.base_data.specs.Kinds.{type_of_data}
+use Rattle.base_data.specs.DataOrder.{data_cmp}
 use Rattle.base_data.specs.declared.rdata.RData.{RData}
+use Rattle.base_data.proofs.Comparing.{data_cmp-total}
 use Rattle.rr.specs.declared.record.Record.{Record}
 
 -- whether classes are the same

@@ -1,7 +1,7 @@
 //! Records of any data (RFC 1035, 3.2.1).
 
 ghost use Rattle.std.specs.Prelude.{◌≡◌, Option, option_map, false};
-ghost use Rattle.base_data.specs.RData.{type_of_data};
+ghost use Rattle.base_data.specs.Kinds.{type_of_data};
 ghost use Rattle.base_data.specs.declared.rdata.RData.TheVariants as kinds;
 ghost use Rattle.rr.specs.Record.{decremented, holding, with_data};
 ghost use Rattle.rr.specs.RecordRef.{seen};

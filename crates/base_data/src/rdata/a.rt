@@ -1,18 +1,24 @@
 //! Addresses of four bytes.
 
-ghost use Rattle.std.specs.Prelude.{◌≡◌, [], Some};
+ghost use Rattle.std.specs.Prelude.{◌≡◌, [], Some, refl};
 ghost use Rattle.std.specs.Net.Addr.{ipv4_octets};
 ghost use Rattle.std.specs.Net.Text.{ipv4_text};
 ghost use Rattle.base.specs.Words.{Bytes};
 ghost use Rattle.base_data.specs.A.{a_at};
+ghost use Rattle.base_data.specs.Kinds.{a_in};
+ghost use Rattle.base_data.specs.declared.rdata.RData.TheVariants as kinds;
 
+use crate::rdata::RData;
 use crate::rdata::emit::emit_bytes;
-use base::{BinDecodable, BinDecoder, BinEncodable, BinEncoder, DecodeError, ProtoError};
+use crate::record_data::RecordData;
+use base::{
+    BinDecodable, BinDecoder, BinEncodable, BinEncoder, DecodeError, ProtoError, RecordType,
+};
 use std::fmt;
 use std::net::Ipv4Addr;
 
-/// An address of a host: four bytes (RFC 1035, 3.4.1). Ordered by its bytes.
-#[derive(Clone, Copy, Debug, PartialEq, Eq, PartialOrd, Ord)]
+/// An address of a host: four bytes (RFC 1035, 3.4.1).
+#[derive(Clone, Copy, Debug, PartialEq, Eq)]
 pub struct A {
     /// The bytes of the address, in the order of the wire.
     pub octets: [u8; 4],
@@ -71,5 +77,40 @@ impl BinDecodable for A {
             }),
             _ => Err(DecodeError::InsufficientBytes),
         }
+    }
+}
+
+impl RecordData for A {
+    ghost as_rdata = { kinds.A };
+
+    ghost of_rdata = { a_in };
+
+    ghost borrows_back = { λ _. refl };
+
+    ghost keeps_word = { λ _ _ _ _. (λ h. h, λ h. h) };
+
+    ghost keeps_len = { λ _. refl };
+
+    ghost keeps_text = { λ _. refl };
+
+    ghost keeps_equality = { λ _ _. refl };
+
+    fn try_borrow(rdata: &RData) -> Option<&A> {
+        match rdata {
+            RData::A(rdata) => Some(rdata),
+            _ => None,
+        }
+    }
+
+    fn into_rdata(self) -> RData {
+        RData::A(self)
+    }
+
+    fn record_type(&self) -> RecordType {
+        RecordType::A
+    }
+
+    fn is_update(&self) -> bool {
+        false
     }
 }

@@ -1,18 +1,24 @@
 //! Addresses of sixteen bytes.
 
-ghost use Rattle.std.specs.Prelude.{◌≡◌, ◌+◌, ◌++◌, ◌≤◌, ℕ, List, [], Some, codes, take, drop};
+ghost use Rattle.std.specs.Prelude.{◌≡◌, ◌+◌, ◌++◌, ◌≤◌, ℕ, List, [], Some, codes, take, drop, refl};
 ghost use Rattle.std.specs.Net.Addr.{ipv6_octets, ipv6_segments, segments_of};
 ghost use Rattle.std.specs.Net.Text.{groups_text};
 ghost use Rattle.base.specs.Words.{Bytes};
 ghost use Rattle.base_data.specs.AAAA.{AreZeros, IsFirstLongest, aaaa_at, aaaa_text};
+ghost use Rattle.base_data.specs.Kinds.{aaaa_in};
+ghost use Rattle.base_data.specs.declared.rdata.RData.TheVariants as kinds;
 
+use crate::rdata::RData;
 use crate::rdata::emit::emit_bytes;
-use base::{BinDecodable, BinDecoder, BinEncodable, BinEncoder, DecodeError, ProtoError};
+use crate::record_data::RecordData;
+use base::{
+    BinDecodable, BinDecoder, BinEncodable, BinEncoder, DecodeError, ProtoError, RecordType,
+};
 use std::fmt;
 use std::net::Ipv6Addr;
 
-/// An address of a host: sixteen bytes (RFC 3596, 2.2). Ordered by its bytes.
-#[derive(Clone, Copy, Debug, PartialEq, Eq, PartialOrd, Ord)]
+/// An address of a host: sixteen bytes (RFC 3596, 2.2).
+#[derive(Clone, Copy, Debug, PartialEq, Eq)]
 pub struct AAAA {
     /// The bytes of the address, in the order of the wire.
     pub octets: [u8; 16],
@@ -81,3 +87,38 @@ pub fn address_text()
     ensures whole { (octets : List ℕ) → ((start : ℕ) → ¬ AreZeros (segments_of octets) start 2)
         → aaaa_text octets ≡ groups_text (segments_of octets) }
 {}
+
+impl RecordData for AAAA {
+    ghost as_rdata = { kinds.AAAA };
+
+    ghost of_rdata = { aaaa_in };
+
+    ghost borrows_back = { λ _. refl };
+
+    ghost keeps_word = { λ _ _ _ _. (λ h. h, λ h. h) };
+
+    ghost keeps_len = { λ _. refl };
+
+    ghost keeps_text = { λ _. refl };
+
+    ghost keeps_equality = { λ _ _. refl };
+
+    fn try_borrow(rdata: &RData) -> Option<&AAAA> {
+        match rdata {
+            RData::AAAA(rdata) => Some(rdata),
+            _ => None,
+        }
+    }
+
+    fn into_rdata(self) -> RData {
+        RData::AAAA(self)
+    }
+
+    fn record_type(&self) -> RecordType {
+        RecordType::AAAA
+    }
+
+    fn is_update(&self) -> bool {
+        false
+    }
+}

@@ -1,20 +1,23 @@
 //! Names whose addresses another name has too.
 
-ghost use Rattle.std.specs.Prelude.{◌≡◌, refl, OnOk, Some, []};
-ghost use Rattle.std.specs.Cmp.{eq_by_cmp_equiv, partial_equiv_from_equiv, partial_order_from_total};
-ghost use Rattle.std.specs.Ordering.{as_partial_cmp, eq_by_cmp};
+ghost use Rattle.std.specs.Prelude.{◌≡◌, OnOk, Some, [], refl};
 ghost use Rattle.base.specs.Laws.{Keeps, Writes};
 ghost use Rattle.base.specs.State.{appended};
 ghost use Rattle.base.specs.Wire.{state_of, Refuses};
-ghost use Rattle.base_data.specs.ANAME.{ANAMEWord, aname_at, aname_cmp, aname_cmp-total, plain_aname, aname_text, aname_wire};
+ghost use Rattle.base_data.specs.ANAME.{aname_at, aname_kind, aname_wire};
+ghost use Rattle.base_data.specs.Kinds.{aname_in};
+ghost use Rattle.base_data.specs.declared.rdata.RData.TheVariants as kinds;
 
-use base::{BinDecodable, BinDecoder, BinEncodable, BinEncoder, DecodeError, Name, ProtoError};
+use crate::rdata::RData;
+use crate::record_data::RecordData;
+use base::{
+    BinDecodable, BinDecoder, BinEncodable, BinEncoder, DecodeError, Name, ProtoError, RecordType,
+};
 use std::alloc::AllocError;
-use std::cmp::Ordering;
 use std::fmt;
 
 /// The name whose addresses a name has too.
-#[derive(Debug, Drop)]
+#[derive(Debug, Drop, PartialEq, Eq)]
 pub struct ANAME {
     /// The name that has the addresses.
     pub name: Name,
@@ -46,48 +49,6 @@ impl Clone for ANAME {
     }
 }
 
-impl PartialEq for ANAME {
-    ghost eq = { eq_by_cmp aname_cmp };
-
-    ghost laws = { partial_equiv_from_equiv (eq_by_cmp_equiv aname_cmp-total) };
-
-    /// The same name, letters in either case (RFC 4343, 3).
-    fn eq(&self, other: &ANAME) -> bool {
-        self.cmp(other).is_eq()
-    }
-}
-
-impl Eq for ANAME {
-    ghost laws = { eq_by_cmp_equiv aname_cmp-total };
-}
-
-impl Ord for ANAME {
-    ghost cmp = { aname_cmp };
-
-    ghost total = { aname_cmp-total };
-
-    ghost matches_partial_cmp = { λ _ _. refl };
-
-    ghost matches_eq = { λ _ _. refl };
-
-    /// By the bytes of the canonical form (RFC 4034, 6.3), then relative names first.
-    fn cmp(&self, other: &ANAME) -> Ordering {
-        self.name
-            .canonical_cmp(&other.name)
-            .then(self.name.is_fqdn().cmp(&other.name.is_fqdn()))
-    }
-}
-
-impl PartialOrd for ANAME {
-    ghost partial_cmp = { as_partial_cmp aname_cmp };
-
-    ghost laws = { partial_order_from_total aname_cmp-total };
-
-    fn partial_cmp(&self, other: &ANAME) -> Option<Ordering> {
-        Some(self.cmp(other))
-    }
-}
-
 impl BinDecodable for ANAME {
     ghost read_at = { aname_at };
 
@@ -103,9 +64,9 @@ impl BinDecodable for ANAME {
 }
 
 impl BinEncodable for ANAME {
-    ghost word = { ANAMEWord };
+    ghost word = { λ x. (aname_kind x).word };
 
-    ghost plain_len = { plain_aname };
+    ghost plain_len = { λ x. (aname_kind x).plain };
 
     ghost owner = { λ _. [] };
 
@@ -114,9 +75,9 @@ impl BinEncodable for ANAME {
     /// Refused with `MaxBufferSizeExceeded` where a byte would pass the limit, and with `Memory` for want of it.
     fn emit(&self, encoder: &mut BinEncoder<'_>) -> Result<(), ProtoError>
         ensures keeps { Keeps (state_of encoder.old) (state_of encoder.new) }
-        ensures writes { OnOk result (Writes (ANAMEWord self.now) (plain_aname self.now) []
+        ensures writes { OnOk result (Writes (aname_kind self.now).word (aname_kind self.now).plain []
             (state_of encoder.old) (state_of encoder.new)) }
-        ensures refuses { Refuses (plain_aname self.now) (state_of encoder.old) result }
+        ensures refuses { Refuses (aname_kind self.now).plain (state_of encoder.old) result }
         ensures names { OnOk result (state_of encoder.new ≡ appended (aname_wire self.now) (state_of encoder.old)) }
     {
         self.name.emit_plain(encoder)
@@ -124,10 +85,45 @@ impl BinEncodable for ANAME {
 }
 
 impl fmt::Display for ANAME {
-    ghost output = { λ x. Some (aname_text x) };
+    ghost output = { λ x. Some (aname_kind x).text };
 
     /// The name, as in zone files (RFC 1035, 5.1).
     fn fmt<W: fmt::Write>(&self, f: &mut fmt::Formatter<W>) -> fmt::Result {
         fmt::Display::fmt(&self.name, f)
+    }
+}
+
+impl RecordData for ANAME {
+    ghost as_rdata = { kinds.ANAME };
+
+    ghost of_rdata = { aname_in };
+
+    ghost borrows_back = { λ _. refl };
+
+    ghost keeps_word = { λ _ _ _ _. (λ h. h, λ h. h) };
+
+    ghost keeps_len = { λ _. refl };
+
+    ghost keeps_text = { λ _. refl };
+
+    ghost keeps_equality = { λ _ _. refl };
+
+    fn try_borrow(rdata: &RData) -> Option<&ANAME> {
+        match rdata {
+            RData::ANAME(rdata) => Some(rdata),
+            _ => None,
+        }
+    }
+
+    fn into_rdata(self) -> RData {
+        RData::ANAME(self)
+    }
+
+    fn record_type(&self) -> RecordType {
+        RecordType::ANAME
+    }
+
+    fn is_update(&self) -> bool {
+        false
     }
 }

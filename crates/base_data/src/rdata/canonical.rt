@@ -2,7 +2,8 @@
 
 ghost use Rattle.std.specs.Prelude.{◌≡◌, ◌≤◌, [], ◌++◌, length};
 ghost use Rattle.std.specs.Iterator.{YieldsFirst, item_count};
-ghost use Rattle.base_data.specs.DataOrder.{canonical_data, name_octets};
+ghost use Rattle.base_data.specs.Kinds.{canonical_data};
+ghost use Rattle.base_data.specs.NameData.{name_octets};
 ghost use Rattle.base_data.specs.OPT.{options_wire};
 ghost use Rattle.base_data.specs.Opaque.{bytes_cmp};
 
@@ -150,7 +151,7 @@ impl<'a> Model for CanonicalOctets<'a> {
 
 impl<'a> CanonicalOctets<'a> {
     /// Bytes as they are.
-    fn of_bytes(bytes: &'a [u8]) -> CanonicalOctets<'a>
+    pub(crate) fn of_bytes(bytes: &'a [u8]) -> CanonicalOctets<'a>
         ensures { result ≡ bytes.now }
     {
         CanonicalOctets {
@@ -164,7 +165,7 @@ impl<'a> CanonicalOctets<'a> {
     }
 
     /// Numbers, and a name behind them.
-    fn of_name(digits: &[u8], name: &'a Name) -> CanonicalOctets<'a>
+    pub(crate) fn of_name(digits: &[u8], name: &'a Name) -> CanonicalOctets<'a>
         requires { length digits.now ≤ 20 }
         ensures { result ≡ digits.now ++ name_octets name.now }
     {
@@ -179,7 +180,7 @@ impl<'a> CanonicalOctets<'a> {
     }
 
     /// Two names, and numbers behind them.
-    fn of_names(first: &'a Name, second: &'a Name, digits: &[u8]) -> CanonicalOctets<'a>
+    pub(crate) fn of_names(first: &'a Name, second: &'a Name, digits: &[u8]) -> CanonicalOctets<'a>
         requires { length digits.now ≤ 20 }
         ensures { result ≡ name_octets first.now ++ name_octets second.now ++ digits.now }
     {
@@ -194,7 +195,7 @@ impl<'a> CanonicalOctets<'a> {
     }
 
     /// Options.
-    fn of_options(options: &'a [EdnsOption]) -> CanonicalOctets<'a>
+    pub(crate) fn of_options(options: &'a [EdnsOption]) -> CanonicalOctets<'a>
         ensures { result ≡ options_wire options.now }
     {
         CanonicalOctets {
@@ -246,33 +247,6 @@ impl<'a> Iterator for CanonicalOctets<'a> {
 }
 
 impl RData {
-    /// The bytes of the canonical form.
-    fn canonical_octets(&self) -> CanonicalOctets<'_>
-        ensures { result ≡ canonical_data self.now }
-    {
-        match self {
-            RData::A(rdata) => CanonicalOctets::of_bytes(&rdata.octets),
-            RData::AAAA(rdata) => CanonicalOctets::of_bytes(&rdata.octets),
-            RData::NS(rdata) => CanonicalOctets::of_name(&[], &rdata.name),
-            RData::CNAME(rdata) => CanonicalOctets::of_name(&[], &rdata.name),
-            RData::PTR(rdata) => CanonicalOctets::of_name(&[], &rdata.name),
-            RData::ANAME(rdata) => CanonicalOctets::of_name(&[], &rdata.name),
-            RData::MX(rdata) => {
-                CanonicalOctets::of_name(&rdata.preference.to_be_bytes(), &rdata.exchange)
-            }
-            RData::SOA(rdata) => {
-                CanonicalOctets::of_names(&rdata.mname, &rdata.rname, &rdata.number_octets())
-            }
-            RData::SRV(rdata) => { CanonicalOctets::of_name(&rdata.number_octets(), &rdata.target) }
-            RData::TXT(rdata) => CanonicalOctets::of_bytes(rdata.as_wire()),
-            RData::NULL(rdata) => CanonicalOctets::of_bytes(rdata.bytes()),
-            RData::OPT(rdata) => CanonicalOctets::of_options(rdata.as_ref()),
-            RData::TSIG(rdata) => CanonicalOctets::of_bytes(rdata.bytes()),
-            RData::Update0(_) => CanonicalOctets::of_bytes(&[]),
-            RData::Unknown { rdata, .. } => CanonicalOctets::of_bytes(rdata.bytes()),
-        }
-    }
-
     /// The order of the canonical forms, by the first byte that differs, what is a beginning before what it begins.
     pub(crate) fn cmp_octets(&self, other: &RData) -> Ordering
         ensures { result ≡ bytes_cmp (canonical_data self.now) (canonical_data other.now) }

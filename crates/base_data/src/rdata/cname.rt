@@ -1,20 +1,23 @@
 //! Aliases.
 
-ghost use Rattle.std.specs.Prelude.{◌≡◌, refl, OnOk, Some, []};
-ghost use Rattle.std.specs.Cmp.{eq_by_cmp_equiv, partial_equiv_from_equiv, partial_order_from_total};
-ghost use Rattle.std.specs.Ordering.{as_partial_cmp, eq_by_cmp};
+ghost use Rattle.std.specs.Prelude.{◌≡◌, OnOk, Some, [], refl};
 ghost use Rattle.base.specs.Laws.{Keeps, Writes};
 ghost use Rattle.base.specs.Wire.{state_of, Refuses};
-ghost use Rattle.base_data.specs.DataNames.{IsCompressed};
-ghost use Rattle.base_data.specs.CNAME.{CNAMEWord, cname_at, cname_cmp, cname_cmp-total, plain_cname, cname_text};
+ghost use Rattle.base_data.specs.NameData.{IsCompressed};
+ghost use Rattle.base_data.specs.CNAME.{cname_at, cname_kind};
+ghost use Rattle.base_data.specs.Kinds.{cname_in};
+ghost use Rattle.base_data.specs.declared.rdata.RData.TheVariants as kinds;
 
-use base::{BinDecodable, BinDecoder, BinEncodable, BinEncoder, DecodeError, Name, ProtoError};
+use crate::rdata::RData;
+use crate::record_data::RecordData;
+use base::{
+    BinDecodable, BinDecoder, BinEncodable, BinEncoder, DecodeError, Name, ProtoError, RecordType,
+};
 use std::alloc::AllocError;
-use std::cmp::Ordering;
 use std::fmt;
 
 /// The name that an alias stands for (RFC 1035, 3.3.1).
-#[derive(Debug, Drop)]
+#[derive(Debug, Drop, PartialEq, Eq)]
 pub struct CNAME {
     /// The name that the alias stands for.
     pub name: Name,
@@ -46,48 +49,6 @@ impl Clone for CNAME {
     }
 }
 
-impl PartialEq for CNAME {
-    ghost eq = { eq_by_cmp cname_cmp };
-
-    ghost laws = { partial_equiv_from_equiv (eq_by_cmp_equiv cname_cmp-total) };
-
-    /// The same name, letters in either case (RFC 4343, 3).
-    fn eq(&self, other: &CNAME) -> bool {
-        self.cmp(other).is_eq()
-    }
-}
-
-impl Eq for CNAME {
-    ghost laws = { eq_by_cmp_equiv cname_cmp-total };
-}
-
-impl Ord for CNAME {
-    ghost cmp = { cname_cmp };
-
-    ghost total = { cname_cmp-total };
-
-    ghost matches_partial_cmp = { λ _ _. refl };
-
-    ghost matches_eq = { λ _ _. refl };
-
-    /// By the bytes of the canonical form (RFC 4034, 6.3), then relative names first.
-    fn cmp(&self, other: &CNAME) -> Ordering {
-        self.name
-            .canonical_cmp(&other.name)
-            .then(self.name.is_fqdn().cmp(&other.name.is_fqdn()))
-    }
-}
-
-impl PartialOrd for CNAME {
-    ghost partial_cmp = { as_partial_cmp cname_cmp };
-
-    ghost laws = { partial_order_from_total cname_cmp-total };
-
-    fn partial_cmp(&self, other: &CNAME) -> Option<Ordering> {
-        Some(self.cmp(other))
-    }
-}
-
 impl BinDecodable for CNAME {
     ghost read_at = { cname_at };
 
@@ -103,9 +64,9 @@ impl BinDecodable for CNAME {
 }
 
 impl BinEncodable for CNAME {
-    ghost word = { CNAMEWord };
+    ghost word = { λ x. (cname_kind x).word };
 
-    ghost plain_len = { plain_cname };
+    ghost plain_len = { λ x. (cname_kind x).plain };
 
     ghost owner = { λ _. [] };
 
@@ -114,9 +75,9 @@ impl BinEncodable for CNAME {
     /// Refused with `MaxBufferSizeExceeded` where a byte would pass the limit, and with `Memory` for want of it.
     fn emit(&self, encoder: &mut BinEncoder<'_>) -> Result<(), ProtoError>
         ensures keeps { Keeps (state_of encoder.old) (state_of encoder.new) }
-        ensures writes { OnOk result (Writes (CNAMEWord self.now) (plain_cname self.now) []
+        ensures writes { OnOk result (Writes (cname_kind self.now).word (cname_kind self.now).plain []
             (state_of encoder.old) (state_of encoder.new)) }
-        ensures refuses { Refuses (plain_cname self.now) (state_of encoder.old) result }
+        ensures refuses { Refuses (cname_kind self.now).plain (state_of encoder.old) result }
         ensures names { OnOk result (IsCompressed self.now.name.labels (state_of encoder.old) (state_of encoder.new)) }
     {
         self.name.emit(encoder)
@@ -124,10 +85,45 @@ impl BinEncodable for CNAME {
 }
 
 impl fmt::Display for CNAME {
-    ghost output = { λ x. Some (cname_text x) };
+    ghost output = { λ x. Some (cname_kind x).text };
 
     /// The name, as in zone files (RFC 1035, 5.1).
     fn fmt<W: fmt::Write>(&self, f: &mut fmt::Formatter<W>) -> fmt::Result {
         fmt::Display::fmt(&self.name, f)
+    }
+}
+
+impl RecordData for CNAME {
+    ghost as_rdata = { kinds.CNAME };
+
+    ghost of_rdata = { cname_in };
+
+    ghost borrows_back = { λ _. refl };
+
+    ghost keeps_word = { λ _ _ _ _. (λ h. h, λ h. h) };
+
+    ghost keeps_len = { λ _. refl };
+
+    ghost keeps_text = { λ _. refl };
+
+    ghost keeps_equality = { λ _ _. refl };
+
+    fn try_borrow(rdata: &RData) -> Option<&CNAME> {
+        match rdata {
+            RData::CNAME(rdata) => Some(rdata),
+            _ => None,
+        }
+    }
+
+    fn into_rdata(self) -> RData {
+        RData::CNAME(self)
+    }
+
+    fn record_type(&self) -> RecordType {
+        RecordType::CNAME
+    }
+
+    fn is_update(&self) -> bool {
+        false
     }
 }

@@ -1,13 +1,14 @@
-//! Laws of comparing data.
+//! Laws of data: when it is equal, its order, and what holds of each kind.
 
-ghost use Rattle.std.specs.Prelude.{◌≡◌, ◌↔◌, ℕ, List, IsTrue};
+ghost use Rattle.std.specs.Prelude.{◌≡◌, ◌≤◌, ◌↔◌, ℕ, List, IsTrue, length};
+ghost use Rattle.std.specs.Cmp.{IsTotalOrder};
 ghost use Rattle.base.specs.NameOrder.{same_name};
-ghost use Rattle.base_data.specs.DataOrder.{FitsTypes, parts_cmp};
-ghost use Rattle.base_data.specs.OPT.{OptionValue};
-ghost use Rattle.base_data.specs.declared.rdata.RData.TheVariants as kinds;
+ghost use Rattle.base.specs.declared.record_type.RecordType.TheVariants as types;
+ghost use Rattle.base_data.specs.Kinds.{DataWord, FitsTypes, type_of_data};
+ghost use Rattle.base_data.specs.DataOrder.{data_cmp};
+ghost use Rattle.base_data.specs.RData.{is_signature_data, signature_in};
 ghost use Rattle.base_data.specs.declared.rdata.RData.{RData as AnyData};
-ghost use Rattle.base_data.specs.declared.rdata.a.A.{A as AddressData};
-ghost use Rattle.base_data.specs.declared.rdata.aaaa.AAAA.{AAAA as LongAddress};
+ghost use Rattle.base_data.specs.declared.rdata.RData.TheVariants as kinds;
 ghost use Rattle.base_data.specs.declared.rdata.aname.ANAME.{ANAME as Aname};
 ghost use Rattle.base_data.specs.declared.rdata.cname.CNAME.{CNAME as Cname};
 ghost use Rattle.base_data.specs.declared.rdata.mx.MX.{MX as Mx};
@@ -16,7 +17,7 @@ ghost use Rattle.base_data.specs.declared.rdata.ptr.PTR.{PTR as Ptr};
 ghost use Rattle.base_data.specs.declared.rdata.soa.SOA.{SOA as Soa};
 ghost use Rattle.base_data.specs.declared.rdata.srv.SRV.{SRV as Srv};
 
-use crate::rdata::{A, AAAA, ANAME, CNAME, MX, NS, NULL, OPT, PTR, RData, SOA, SRV, TSIG, TXT};
+use crate::rdata::{ANAME, CNAME, MX, NS, NULL, PTR, RData, SOA, SRV, TSIG};
 use std::cmp::Ordering;
 
 /// Data that is a name is equal exactly where the names are (RFC 4343, 3).
@@ -42,26 +43,17 @@ pub fn bytes_are_equal_as_they_are()
     ensures tsig { (a b : List ℕ) → IsTrue (⟦<TSIG as PartialEq>⟧.eq a b) ↔ (a ≡ b) }
 {}
 
-/// The order of data ties exactly equal data. It goes by the bytes of the canonical form, by type, by kind, and by
-/// the flags of names from the left, relative first (RFC 4034, 6.2 and 6.3).
+/// The order of data is total, and ties exactly equal data (RFC 4034, 6.2 and 6.3).
 pub fn data_order()
-    ensures ties { (a b : AnyData) → (⟦<RData as Ord>⟧.cmp a b ≡ Ordering.Equal) ↔ IsTrue (⟦<RData as PartialEq>⟧.eq a b) }
-    ensures parts { (a b : AnyData) → FitsTypes a → FitsTypes b → ⟦<RData as Ord>⟧.cmp a b ≡ parts_cmp a b }
+    ensures total { IsTotalOrder data_cmp }
+    ensures ties { (a b : AnyData) → FitsTypes a → FitsTypes b → (data_cmp a b ≡ Ordering.Equal) ↔ IsTrue (⟦<RData as PartialEq>⟧.eq a b) }
 {}
 
-/// The own order of each kind is that of its data as the data of any record.
-pub fn kinds_are_ordered_as_data()
-    ensures a { (a b : AddressData) → ⟦<RData as Ord>⟧.cmp (kinds.A a) (kinds.A b) ≡ ⟦<A as Ord>⟧.cmp a b }
-    ensures aaaa { (a b : LongAddress) → ⟦<RData as Ord>⟧.cmp (kinds.AAAA a) (kinds.AAAA b) ≡ ⟦<AAAA as Ord>⟧.cmp a b }
-    ensures ns { (a b : Ns) → FitsTypes (kinds.NS a) → FitsTypes (kinds.NS b) → ⟦<RData as Ord>⟧.cmp (kinds.NS a) (kinds.NS b) ≡ ⟦<NS as Ord>⟧.cmp a b }
-    ensures cname { (a b : Cname) → FitsTypes (kinds.CNAME a) → FitsTypes (kinds.CNAME b) → ⟦<RData as Ord>⟧.cmp (kinds.CNAME a) (kinds.CNAME b) ≡ ⟦<CNAME as Ord>⟧.cmp a b }
-    ensures ptr { (a b : Ptr) → FitsTypes (kinds.PTR a) → FitsTypes (kinds.PTR b) → ⟦<RData as Ord>⟧.cmp (kinds.PTR a) (kinds.PTR b) ≡ ⟦<PTR as Ord>⟧.cmp a b }
-    ensures aname { (a b : Aname) → FitsTypes (kinds.ANAME a) → FitsTypes (kinds.ANAME b) → ⟦<RData as Ord>⟧.cmp (kinds.ANAME a) (kinds.ANAME b) ≡ ⟦<ANAME as Ord>⟧.cmp a b }
-    ensures mx { (a b : Mx) → FitsTypes (kinds.MX a) → FitsTypes (kinds.MX b) → ⟦<RData as Ord>⟧.cmp (kinds.MX a) (kinds.MX b) ≡ ⟦<MX as Ord>⟧.cmp a b }
-    ensures soa { (a b : Soa) → FitsTypes (kinds.SOA a) → FitsTypes (kinds.SOA b) → ⟦<RData as Ord>⟧.cmp (kinds.SOA a) (kinds.SOA b) ≡ ⟦<SOA as Ord>⟧.cmp a b }
-    ensures srv { (a b : Srv) → FitsTypes (kinds.SRV a) → FitsTypes (kinds.SRV b) → ⟦<RData as Ord>⟧.cmp (kinds.SRV a) (kinds.SRV b) ≡ ⟦<SRV as Ord>⟧.cmp a b }
-    ensures txt { (a b : List (List ℕ)) → ⟦<RData as Ord>⟧.cmp (kinds.TXT a) (kinds.TXT b) ≡ ⟦<TXT as Ord>⟧.cmp a b }
-    ensures null { (a b : List ℕ) → ⟦<RData as Ord>⟧.cmp (kinds.NULL a) (kinds.NULL b) ≡ ⟦<NULL as Ord>⟧.cmp a b }
-    ensures opt { (a b : List OptionValue) → FitsTypes (kinds.OPT a) → FitsTypes (kinds.OPT b) → ⟦<RData as Ord>⟧.cmp (kinds.OPT a) (kinds.OPT b) ≡ ⟦<OPT as Ord>⟧.cmp a b }
-    ensures tsig { (a b : List ℕ) → ⟦<RData as Ord>⟧.cmp (kinds.TSIG a) (kinds.TSIG b) ≡ ⟦<TSIG as Ord>⟧.cmp a b }
+/// What holds of data of each kind, so that no layer above goes through the kinds. Data that begins inside a buffer
+/// ends inside it (RFC 1035, 3.2.1). A transaction signature has the type TSIG, and its data is its bytes (RFC 8945,
+/// 4.2).
+pub fn data_of_each_kind()
+    ensures inside { (d : AnyData) (B : List ℕ) (i e : ℕ) → i ≤ length B → DataWord d B i e → e ≤ length B }
+    ensures signature_type { (d : AnyData) → IsTrue (is_signature_data d) → type_of_data d ≡ types.TSIG }
+    ensures signature { (d : AnyData) → IsTrue (is_signature_data d) → d ≡ kinds.TSIG (signature_in d) }
 {}

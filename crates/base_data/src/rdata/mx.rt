@@ -1,21 +1,23 @@
 //! Hosts that take mail.
 
-ghost use Rattle.std.specs.Prelude.{◌≡◌, refl, OnOk, Some, []};
-ghost use Rattle.std.specs.Cmp.{eq_by_cmp_equiv, partial_equiv_from_equiv, partial_order_from_total};
-ghost use Rattle.std.specs.Ordering.{as_partial_cmp, eq_by_cmp};
+ghost use Rattle.std.specs.Prelude.{◌≡◌, OnOk, Some, [], refl};
 ghost use Rattle.base.specs.Laws.{Keeps, Writes};
 ghost use Rattle.base.specs.Wire.{state_of, Refuses};
-ghost use Rattle.base_data.specs.DataNames.{CompressesMX};
-ghost use Rattle.base_data.specs.MX.{MXWord, mx_at, mx_cmp, mx_cmp-total, plain_mx, mx_text};
+ghost use Rattle.base_data.specs.MX.{MXWord, mx_at, plain_mx, mx_text, CompressesMX};
+ghost use Rattle.base_data.specs.Kinds.{mx_in};
+ghost use Rattle.base_data.specs.declared.rdata.RData.TheVariants as kinds;
 
+use crate::rdata::RData;
 use crate::rdata::emit::emit_u16;
-use base::{BinDecodable, BinDecoder, BinEncodable, BinEncoder, DecodeError, Name, ProtoError};
+use crate::record_data::RecordData;
+use base::{
+    BinDecodable, BinDecoder, BinEncodable, BinEncoder, DecodeError, Name, ProtoError, RecordType,
+};
 use std::alloc::AllocError;
-use std::cmp::Ordering;
 use std::fmt;
 
 /// A host that takes mail (RFC 1035, 3.3.9).
-#[derive(Debug, Drop)]
+#[derive(Debug, Drop, PartialEq, Eq)]
 pub struct MX {
     /// The preference: hosts with a lower one are tried first.
     pub preference: u16,
@@ -57,49 +59,6 @@ impl Clone for MX {
             preference: self.preference,
             exchange: self.exchange.clone()?,
         })
-    }
-}
-
-impl PartialEq for MX {
-    ghost eq = { eq_by_cmp mx_cmp };
-
-    ghost laws = { partial_equiv_from_equiv (eq_by_cmp_equiv mx_cmp-total) };
-
-    /// The same fields, letters of names in either case.
-    fn eq(&self, other: &MX) -> bool {
-        self.cmp(other).is_eq()
-    }
-}
-
-impl Eq for MX {
-    ghost laws = { eq_by_cmp_equiv mx_cmp-total };
-}
-
-impl Ord for MX {
-    ghost cmp = { mx_cmp };
-
-    ghost total = { mx_cmp-total };
-
-    ghost matches_partial_cmp = { λ _ _. refl };
-
-    ghost matches_eq = { λ _ _. refl };
-
-    /// By the bytes of the canonical form (RFC 4034, 6.3), then relative names first.
-    fn cmp(&self, other: &MX) -> Ordering {
-        self.preference
-            .cmp(&other.preference)
-            .then(self.exchange.canonical_cmp(&other.exchange))
-            .then(self.exchange.is_fqdn().cmp(&other.exchange.is_fqdn()))
-    }
-}
-
-impl PartialOrd for MX {
-    ghost partial_cmp = { as_partial_cmp mx_cmp };
-
-    ghost laws = { partial_order_from_total mx_cmp-total };
-
-    fn partial_cmp(&self, other: &MX) -> Option<Ordering> {
-        Some(self.cmp(other))
     }
 }
 
@@ -146,5 +105,40 @@ impl fmt::Display for MX {
     /// The fields as in zone files, with a space between each two (RFC 1035, 5.1).
     fn fmt<W: fmt::Write>(&self, f: &mut fmt::Formatter<W>) -> fmt::Result {
         write!(f, "{} {}", self.preference, self.exchange)
+    }
+}
+
+impl RecordData for MX {
+    ghost as_rdata = { kinds.MX };
+
+    ghost of_rdata = { mx_in };
+
+    ghost borrows_back = { λ _. refl };
+
+    ghost keeps_word = { λ _ _ _ _. (λ h. h, λ h. h) };
+
+    ghost keeps_len = { λ _. refl };
+
+    ghost keeps_text = { λ _. refl };
+
+    ghost keeps_equality = { λ _ _. refl };
+
+    fn try_borrow(rdata: &RData) -> Option<&MX> {
+        match rdata {
+            RData::MX(rdata) => Some(rdata),
+            _ => None,
+        }
+    }
+
+    fn into_rdata(self) -> RData {
+        RData::MX(self)
+    }
+
+    fn record_type(&self) -> RecordType {
+        RecordType::MX
+    }
+
+    fn is_update(&self) -> bool {
+        false
     }
 }

@@ -1,19 +1,24 @@
 //! EDNS options.
 
-ghost use Rattle.std.specs.Prelude.{◌≡◌, [], OnOk, OnErr, position, refl};
+ghost use Rattle.std.specs.Prelude.{◌≡◌, [], OnOk, OnErr, position, refl, Some};
 ghost use Rattle.std.specs.Cmp.{partial_equiv_from_equiv};
 ghost use Rattle.std.specs.Option.{option_copied};
-ghost use Rattle.std.specs.Ordering.{as_partial_cmp};
 ghost use Rattle.base.specs.Reading.{Reads};
-ghost use Rattle.base_data.specs.OPT.{first_option, has_code, opt_at, opt_cmp, opt_cmp-partial, opt_cmp-total, options_len, options_word, same_options, same_options-equiv, same_options-tie, with_option, without_code};
+ghost use Rattle.base_data.specs.OPT.{first_option, has_code, opt_at, options_len, options_word, same_options, with_option, without_code};
+ghost use Rattle.base_data.specs.Kinds.{opt_in};
+ghost use Rattle.base_data.specs.Equality.{same_options-equiv};
+ghost use Rattle.base_data.specs.declared.rdata.RData.TheVariants as kinds;
 
 mod display;
 mod edns_option;
 
-use base::{BinDecodable, BinDecoder, BinEncodable, BinEncoder, DecodeError, ProtoError};
+use crate::rdata::RData;
+use crate::record_data::RecordData;
+use base::{
+    BinDecodable, BinDecoder, BinEncodable, BinEncoder, DecodeError, ProtoError, RecordType,
+};
 pub use edns_option::EdnsOption;
 use std::alloc::{AllocError, Global};
-use std::cmp::Ordering;
 use std::marker::Model;
 
 /// The options of an EDNS message, in their order (RFC 6891, 6.1.2). Contracts see the list of them.
@@ -125,32 +130,6 @@ impl Eq for OPT {
     ghost laws = { same_options-equiv };
 }
 
-impl Ord for OPT {
-    ghost cmp = { opt_cmp };
-
-    ghost total = { opt_cmp-total };
-
-    ghost matches_partial_cmp = { λ _ _. refl };
-
-    ghost matches_eq = { same_options-tie };
-
-    /// By the bytes on the wire, what is a beginning before what it begins (RFC 4034, 6.3): by the first option
-    /// that differs.
-    fn cmp(&self, other: &OPT) -> Ordering {
-        self.as_ref().cmp(other.as_ref())
-    }
-}
-
-impl PartialOrd for OPT {
-    ghost partial_cmp = { as_partial_cmp opt_cmp };
-
-    ghost laws = { opt_cmp-partial };
-
-    fn partial_cmp(&self, other: &OPT) -> Option<Ordering> {
-        Some(self.cmp(other))
-    }
-}
-
 impl BinEncodable for OPT {
     ghost word = { options_word };
 
@@ -166,5 +145,40 @@ impl BinEncodable for OPT {
             option.emit(encoder)?;
         }
         Ok(())
+    }
+}
+
+impl RecordData for OPT {
+    ghost as_rdata = { kinds.OPT };
+
+    ghost of_rdata = { opt_in };
+
+    ghost borrows_back = { λ _. refl };
+
+    ghost keeps_word = { λ _ _ _ _. (λ h. h, λ h. h) };
+
+    ghost keeps_len = { λ _. refl };
+
+    ghost keeps_text = { λ _. refl };
+
+    ghost keeps_equality = { λ _ _. refl };
+
+    fn try_borrow(rdata: &RData) -> Option<&OPT> {
+        match rdata {
+            RData::OPT(rdata) => Some(rdata),
+            _ => None,
+        }
+    }
+
+    fn into_rdata(self) -> RData {
+        RData::OPT(self)
+    }
+
+    fn record_type(&self) -> RecordType {
+        RecordType::OPT
+    }
+
+    fn is_update(&self) -> bool {
+        false
     }
 }

@@ -1,20 +1,23 @@
 //! Pointers to names.
 
-ghost use Rattle.std.specs.Prelude.{◌≡◌, refl, OnOk, Some, []};
-ghost use Rattle.std.specs.Cmp.{eq_by_cmp_equiv, partial_equiv_from_equiv, partial_order_from_total};
-ghost use Rattle.std.specs.Ordering.{as_partial_cmp, eq_by_cmp};
+ghost use Rattle.std.specs.Prelude.{◌≡◌, OnOk, Some, [], refl};
 ghost use Rattle.base.specs.Laws.{Keeps, Writes};
 ghost use Rattle.base.specs.Wire.{state_of, Refuses};
-ghost use Rattle.base_data.specs.DataNames.{IsCompressed};
-ghost use Rattle.base_data.specs.PTR.{PTRWord, ptr_at, ptr_cmp, ptr_cmp-total, plain_ptr, ptr_text};
+ghost use Rattle.base_data.specs.NameData.{IsCompressed};
+ghost use Rattle.base_data.specs.PTR.{ptr_at, ptr_kind};
+ghost use Rattle.base_data.specs.Kinds.{ptr_in};
+ghost use Rattle.base_data.specs.declared.rdata.RData.TheVariants as kinds;
 
-use base::{BinDecodable, BinDecoder, BinEncodable, BinEncoder, DecodeError, Name, ProtoError};
+use crate::rdata::RData;
+use crate::record_data::RecordData;
+use base::{
+    BinDecodable, BinDecoder, BinEncodable, BinEncoder, DecodeError, Name, ProtoError, RecordType,
+};
 use std::alloc::AllocError;
-use std::cmp::Ordering;
 use std::fmt;
 
 /// A name that another one points to (RFC 1035, 3.3.12).
-#[derive(Debug, Drop)]
+#[derive(Debug, Drop, PartialEq, Eq)]
 pub struct PTR {
     /// The name that is pointed to.
     pub name: Name,
@@ -46,48 +49,6 @@ impl Clone for PTR {
     }
 }
 
-impl PartialEq for PTR {
-    ghost eq = { eq_by_cmp ptr_cmp };
-
-    ghost laws = { partial_equiv_from_equiv (eq_by_cmp_equiv ptr_cmp-total) };
-
-    /// The same name, letters in either case (RFC 4343, 3).
-    fn eq(&self, other: &PTR) -> bool {
-        self.cmp(other).is_eq()
-    }
-}
-
-impl Eq for PTR {
-    ghost laws = { eq_by_cmp_equiv ptr_cmp-total };
-}
-
-impl Ord for PTR {
-    ghost cmp = { ptr_cmp };
-
-    ghost total = { ptr_cmp-total };
-
-    ghost matches_partial_cmp = { λ _ _. refl };
-
-    ghost matches_eq = { λ _ _. refl };
-
-    /// By the bytes of the canonical form (RFC 4034, 6.3), then relative names first.
-    fn cmp(&self, other: &PTR) -> Ordering {
-        self.name
-            .canonical_cmp(&other.name)
-            .then(self.name.is_fqdn().cmp(&other.name.is_fqdn()))
-    }
-}
-
-impl PartialOrd for PTR {
-    ghost partial_cmp = { as_partial_cmp ptr_cmp };
-
-    ghost laws = { partial_order_from_total ptr_cmp-total };
-
-    fn partial_cmp(&self, other: &PTR) -> Option<Ordering> {
-        Some(self.cmp(other))
-    }
-}
-
 impl BinDecodable for PTR {
     ghost read_at = { ptr_at };
 
@@ -103,9 +64,9 @@ impl BinDecodable for PTR {
 }
 
 impl BinEncodable for PTR {
-    ghost word = { PTRWord };
+    ghost word = { λ x. (ptr_kind x).word };
 
-    ghost plain_len = { plain_ptr };
+    ghost plain_len = { λ x. (ptr_kind x).plain };
 
     ghost owner = { λ _. [] };
 
@@ -114,9 +75,9 @@ impl BinEncodable for PTR {
     /// Refused with `MaxBufferSizeExceeded` where a byte would pass the limit, and with `Memory` for want of it.
     fn emit(&self, encoder: &mut BinEncoder<'_>) -> Result<(), ProtoError>
         ensures keeps { Keeps (state_of encoder.old) (state_of encoder.new) }
-        ensures writes { OnOk result (Writes (PTRWord self.now) (plain_ptr self.now) []
+        ensures writes { OnOk result (Writes (ptr_kind self.now).word (ptr_kind self.now).plain []
             (state_of encoder.old) (state_of encoder.new)) }
-        ensures refuses { Refuses (plain_ptr self.now) (state_of encoder.old) result }
+        ensures refuses { Refuses (ptr_kind self.now).plain (state_of encoder.old) result }
         ensures names { OnOk result (IsCompressed self.now.name.labels (state_of encoder.old) (state_of encoder.new)) }
     {
         self.name.emit(encoder)
@@ -124,10 +85,45 @@ impl BinEncodable for PTR {
 }
 
 impl fmt::Display for PTR {
-    ghost output = { λ x. Some (ptr_text x) };
+    ghost output = { λ x. Some (ptr_kind x).text };
 
     /// The name, as in zone files (RFC 1035, 5.1).
     fn fmt<W: fmt::Write>(&self, f: &mut fmt::Formatter<W>) -> fmt::Result {
         fmt::Display::fmt(&self.name, f)
+    }
+}
+
+impl RecordData for PTR {
+    ghost as_rdata = { kinds.PTR };
+
+    ghost of_rdata = { ptr_in };
+
+    ghost borrows_back = { λ _. refl };
+
+    ghost keeps_word = { λ _ _ _ _. (λ h. h, λ h. h) };
+
+    ghost keeps_len = { λ _. refl };
+
+    ghost keeps_text = { λ _. refl };
+
+    ghost keeps_equality = { λ _ _. refl };
+
+    fn try_borrow(rdata: &RData) -> Option<&PTR> {
+        match rdata {
+            RData::PTR(rdata) => Some(rdata),
+            _ => None,
+        }
+    }
+
+    fn into_rdata(self) -> RData {
+        RData::PTR(self)
+    }
+
+    fn record_type(&self) -> RecordType {
+        RecordType::PTR
+    }
+
+    fn is_update(&self) -> bool {
+        false
     }
 }

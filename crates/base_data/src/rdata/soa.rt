@@ -1,21 +1,23 @@
 //! Starts of zones.
 
-ghost use Rattle.std.specs.Prelude.{◌≡◌, refl, OnOk, Some, []};
-ghost use Rattle.std.specs.Cmp.{eq_by_cmp_equiv, partial_equiv_from_equiv, partial_order_from_total};
-ghost use Rattle.std.specs.Ordering.{as_partial_cmp, eq_by_cmp};
+ghost use Rattle.std.specs.Prelude.{◌≡◌, OnOk, Some, [], refl};
 ghost use Rattle.base.specs.Laws.{Keeps, Writes};
 ghost use Rattle.base.specs.Wire.{state_of, Refuses};
-ghost use Rattle.base_data.specs.DataNames.{CompressesSOA};
-ghost use Rattle.base_data.specs.SOA.{SOAFits, SOAWord, soa_at, soa_cmp, soa_cmp-total, plain_soa, soa_numbers, soa_text};
+ghost use Rattle.base_data.specs.SOA.{SOAFits, SOAWord, soa_at, plain_soa, soa_numbers, soa_text, CompressesSOA};
+ghost use Rattle.base_data.specs.Kinds.{soa_in};
+ghost use Rattle.base_data.specs.declared.rdata.RData.TheVariants as kinds;
 
+use crate::rdata::RData;
 use crate::rdata::emit::emit_bytes;
-use base::{BinDecodable, BinDecoder, BinEncodable, BinEncoder, DecodeError, Name, ProtoError};
+use crate::record_data::RecordData;
+use base::{
+    BinDecodable, BinDecoder, BinEncodable, BinEncoder, DecodeError, Name, ProtoError, RecordType,
+};
 use std::alloc::AllocError;
-use std::cmp::Ordering;
 use std::fmt;
 
 /// The start of a zone (RFC 1035, 3.3.13).
-#[derive(Debug, Drop)]
+#[derive(Debug, Drop, PartialEq, Eq)]
 pub struct SOA {
     /// The server that has the zone first.
     pub mname: Name,
@@ -123,55 +125,6 @@ impl Clone for SOA {
     }
 }
 
-impl PartialEq for SOA {
-    ghost eq = { eq_by_cmp soa_cmp };
-
-    ghost laws = { partial_equiv_from_equiv (eq_by_cmp_equiv soa_cmp-total) };
-
-    /// The same fields, letters of names in either case.
-    fn eq(&self, other: &SOA) -> bool {
-        self.cmp(other).is_eq()
-    }
-}
-
-impl Eq for SOA {
-    ghost laws = { eq_by_cmp_equiv soa_cmp-total };
-}
-
-impl Ord for SOA {
-    ghost cmp = { soa_cmp };
-
-    ghost total = { soa_cmp-total };
-
-    ghost matches_partial_cmp = { λ _ _. refl };
-
-    ghost matches_eq = { λ _ _. refl };
-
-    /// By the bytes of the canonical form (RFC 4034, 6.3), then relative names first.
-    fn cmp(&self, other: &SOA) -> Ordering {
-        self.mname
-            .canonical_cmp(&other.mname)
-            .then(self.rname.canonical_cmp(&other.rname))
-            .then(self.serial.cmp(&other.serial))
-            .then(self.refresh.cmp(&other.refresh))
-            .then(self.retry.cmp(&other.retry))
-            .then(self.expire.cmp(&other.expire))
-            .then(self.minimum.cmp(&other.minimum))
-            .then(self.mname.is_fqdn().cmp(&other.mname.is_fqdn()))
-            .then(self.rname.is_fqdn().cmp(&other.rname.is_fqdn()))
-    }
-}
-
-impl PartialOrd for SOA {
-    ghost partial_cmp = { as_partial_cmp soa_cmp };
-
-    ghost laws = { partial_order_from_total soa_cmp-total };
-
-    fn partial_cmp(&self, other: &SOA) -> Option<Ordering> {
-        Some(self.cmp(other))
-    }
-}
-
 impl BinDecodable for SOA {
     ghost read_at = { soa_at };
 
@@ -248,5 +201,40 @@ impl fmt::Display for SOA {
             "{} {} {} {} {} {} {}",
             self.mname, self.rname, self.serial, self.refresh, self.retry, self.expire, self.minimum
         )
+    }
+}
+
+impl RecordData for SOA {
+    ghost as_rdata = { kinds.SOA };
+
+    ghost of_rdata = { soa_in };
+
+    ghost borrows_back = { λ _. refl };
+
+    ghost keeps_word = { λ _ _ _ _. (λ h. h, λ h. h) };
+
+    ghost keeps_len = { λ _. refl };
+
+    ghost keeps_text = { λ _. refl };
+
+    ghost keeps_equality = { λ _ _. refl };
+
+    fn try_borrow(rdata: &RData) -> Option<&SOA> {
+        match rdata {
+            RData::SOA(rdata) => Some(rdata),
+            _ => None,
+        }
+    }
+
+    fn into_rdata(self) -> RData {
+        RData::SOA(self)
+    }
+
+    fn record_type(&self) -> RecordType {
+        RecordType::SOA
+    }
+
+    fn is_update(&self) -> bool {
+        false
     }
 }

@@ -1,21 +1,24 @@
 //! Hosts that have a service.
 
-ghost use Rattle.std.specs.Prelude.{◌≡◌, refl, OnOk, Some, []};
-ghost use Rattle.std.specs.Cmp.{eq_by_cmp_equiv, partial_equiv_from_equiv, partial_order_from_total};
-ghost use Rattle.std.specs.Ordering.{as_partial_cmp, eq_by_cmp};
+ghost use Rattle.std.specs.Prelude.{◌≡◌, OnOk, Some, [], refl};
 ghost use Rattle.base.specs.Laws.{Keeps, Writes};
 ghost use Rattle.base.specs.State.{appended};
 ghost use Rattle.base.specs.Wire.{state_of, Refuses};
-ghost use Rattle.base_data.specs.SRV.{SRVFits, SRVWord, srv_at, srv_cmp, srv_cmp-total, plain_srv, srv_numbers, srv_text, srv_wire};
+ghost use Rattle.base_data.specs.SRV.{SRVFits, SRVWord, srv_at, plain_srv, srv_numbers, srv_text, srv_wire};
+ghost use Rattle.base_data.specs.Kinds.{srv_in};
+ghost use Rattle.base_data.specs.declared.rdata.RData.TheVariants as kinds;
 
+use crate::rdata::RData;
 use crate::rdata::emit::emit_bytes;
-use base::{BinDecodable, BinDecoder, BinEncodable, BinEncoder, DecodeError, Name, ProtoError};
+use crate::record_data::RecordData;
+use base::{
+    BinDecodable, BinDecoder, BinEncodable, BinEncoder, DecodeError, Name, ProtoError, RecordType,
+};
 use std::alloc::AllocError;
-use std::cmp::Ordering;
 use std::fmt;
 
 /// A host that has a service (RFC 2782).
-#[derive(Debug, Drop)]
+#[derive(Debug, Drop, PartialEq, Eq)]
 pub struct SRV {
     /// The priority: hosts with a lower one are tried first.
     pub priority: u16,
@@ -79,51 +82,6 @@ impl Clone for SRV {
             port: self.port,
             target: self.target.clone()?,
         })
-    }
-}
-
-impl PartialEq for SRV {
-    ghost eq = { eq_by_cmp srv_cmp };
-
-    ghost laws = { partial_equiv_from_equiv (eq_by_cmp_equiv srv_cmp-total) };
-
-    /// The same fields, letters of names in either case.
-    fn eq(&self, other: &SRV) -> bool {
-        self.cmp(other).is_eq()
-    }
-}
-
-impl Eq for SRV {
-    ghost laws = { eq_by_cmp_equiv srv_cmp-total };
-}
-
-impl Ord for SRV {
-    ghost cmp = { srv_cmp };
-
-    ghost total = { srv_cmp-total };
-
-    ghost matches_partial_cmp = { λ _ _. refl };
-
-    ghost matches_eq = { λ _ _. refl };
-
-    /// By the bytes of the canonical form (RFC 4034, 6.3), then relative names first.
-    fn cmp(&self, other: &SRV) -> Ordering {
-        self.priority
-            .cmp(&other.priority)
-            .then(self.weight.cmp(&other.weight))
-            .then(self.port.cmp(&other.port))
-            .then(self.target.canonical_cmp(&other.target))
-            .then(self.target.is_fqdn().cmp(&other.target.is_fqdn()))
-    }
-}
-
-impl PartialOrd for SRV {
-    ghost partial_cmp = { as_partial_cmp srv_cmp };
-
-    ghost laws = { partial_order_from_total srv_cmp-total };
-
-    fn partial_cmp(&self, other: &SRV) -> Option<Ordering> {
-        Some(self.cmp(other))
     }
 }
 
@@ -195,5 +153,40 @@ impl fmt::Display for SRV {
             "{} {} {} {}",
             self.priority, self.weight, self.port, self.target
         )
+    }
+}
+
+impl RecordData for SRV {
+    ghost as_rdata = { kinds.SRV };
+
+    ghost of_rdata = { srv_in };
+
+    ghost borrows_back = { λ _. refl };
+
+    ghost keeps_word = { λ _ _ _ _. (λ h. h, λ h. h) };
+
+    ghost keeps_len = { λ _. refl };
+
+    ghost keeps_text = { λ _. refl };
+
+    ghost keeps_equality = { λ _ _. refl };
+
+    fn try_borrow(rdata: &RData) -> Option<&SRV> {
+        match rdata {
+            RData::SRV(rdata) => Some(rdata),
+            _ => None,
+        }
+    }
+
+    fn into_rdata(self) -> RData {
+        RData::SRV(self)
+    }
+
+    fn record_type(&self) -> RecordType {
+        RecordType::SRV
+    }
+
+    fn is_update(&self) -> bool {
+        false
     }
 }

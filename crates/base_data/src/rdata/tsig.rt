@@ -2,16 +2,19 @@
 
 ghost use Rattle.std.specs.Prelude.{◌≡◌, ◌≢◌, ◌<◌, [], Some, length, refl};
 ghost use Rattle.std.specs.Cmp.{partial_equiv_from_equiv};
-ghost use Rattle.std.specs.Ordering.{as_partial_cmp};
 ghost use Rattle.base.specs.Reading.{Reads, bytes_at};
 ghost use Rattle.base.specs.Words.{Bytes};
-ghost use Rattle.base_data.specs.Opaque.{bytes_cmp, bytes_cmp-partial, bytes_cmp-total, opaque_text, same_bytes, same_bytes-equiv, same_bytes-tie};
+ghost use Rattle.base_data.specs.Opaque.{opaque_text, same_bytes};
+ghost use Rattle.base_data.specs.Kinds.{tsig_in};
+ghost use Rattle.base_data.specs.Equality.{same_bytes-equiv};
+ghost use Rattle.base_data.specs.declared.rdata.RData.TheVariants as kinds;
 
+use crate::rdata::RData;
 use crate::rdata::emit::emit_bytes;
 use crate::rdata::hex_text::OpaqueText;
-use base::{BinDecoder, BinEncodable, BinEncoder, DecodeError, ProtoError};
+use crate::record_data::RecordData;
+use base::{BinDecoder, BinEncodable, BinEncoder, DecodeError, ProtoError, RecordType};
 use std::alloc::AllocError;
-use std::cmp::Ordering;
 use std::fmt;
 use std::marker::Model;
 
@@ -85,31 +88,6 @@ impl Eq for TSIG {
     ghost laws = { same_bytes-equiv };
 }
 
-impl Ord for TSIG {
-    ghost cmp = { bytes_cmp };
-
-    ghost total = { bytes_cmp-total };
-
-    ghost matches_partial_cmp = { λ _ _. refl };
-
-    ghost matches_eq = { same_bytes-tie };
-
-    /// By the bytes, what is a beginning before what it begins (RFC 4034, 6.3).
-    fn cmp(&self, other: &TSIG) -> Ordering {
-        self.bytes().cmp(other.bytes())
-    }
-}
-
-impl PartialOrd for TSIG {
-    ghost partial_cmp = { as_partial_cmp bytes_cmp };
-
-    ghost laws = { bytes_cmp-partial };
-
-    fn partial_cmp(&self, other: &TSIG) -> Option<Ordering> {
-        Some(self.cmp(other))
-    }
-}
-
 impl fmt::Display for TSIG {
     ghost output = { λ n. Some (opaque_text n) };
 
@@ -131,5 +109,40 @@ impl BinEncodable for TSIG {
     /// Refused with `MaxBufferSizeExceeded` where a byte would pass the limit, and with `Memory` for want of it.
     fn emit(&self, encoder: &mut BinEncoder<'_>) -> Result<(), ProtoError> {
         emit_bytes(self.bytes(), encoder)
+    }
+}
+
+impl RecordData for TSIG {
+    ghost as_rdata = { kinds.TSIG };
+
+    ghost of_rdata = { tsig_in };
+
+    ghost borrows_back = { λ _. refl };
+
+    ghost keeps_word = { λ _ _ _ _. (λ h. h, λ h. h) };
+
+    ghost keeps_len = { λ _. refl };
+
+    ghost keeps_text = { λ _. refl };
+
+    ghost keeps_equality = { λ _ _. refl };
+
+    fn try_borrow(rdata: &RData) -> Option<&TSIG> {
+        match rdata {
+            RData::TSIG(rdata) => Some(rdata),
+            _ => None,
+        }
+    }
+
+    fn into_rdata(self) -> RData {
+        RData::TSIG(self)
+    }
+
+    fn record_type(&self) -> RecordType {
+        RecordType::TSIG
+    }
+
+    fn is_update(&self) -> bool {
+        false
     }
 }

@@ -1,20 +1,23 @@
 //! Texts.
 
-ghost use Rattle.std.specs.Prelude.{◌≡◌, ◌≢◌, ◌<◌, ◌≤◌, ◌↔◌, ℕ, List, [], ◌∷◌, ◌++◌, All, IfOk, IsTrue, OnOk, length, map, refl};
+ghost use Rattle.std.specs.Prelude.{◌≡◌, ◌≢◌, ◌<◌, ◌≤◌, ◌↔◌, ℕ, List, [], ◌∷◌, ◌++◌, All, IfOk, IsTrue, OnOk, length, map, refl, Some};
 ghost use Rattle.std.specs.Cmp.{partial_equiv_from_equiv};
-ghost use Rattle.std.specs.Ordering.{as_partial_cmp};
 ghost use Rattle.base.specs.Labels.{wire_of, labels_of};
 ghost use Rattle.base.specs.Reading.{Reads};
 ghost use Rattle.base.specs.Words.{Bytes};
-ghost use Rattle.base_data.specs.TXT.{AreShort, are_strings, same_txt, same_txt-equiv, same_txt-tie, txt_at, txt_cmp, txt_cmp-partial, txt_cmp-total};
+ghost use Rattle.base_data.specs.TXT.{AreShort, are_strings, same_txt, txt_at};
+ghost use Rattle.base_data.specs.Kinds.{txt_in};
+ghost use Rattle.base_data.specs.Equality.{same_txt-equiv};
+ghost use Rattle.base_data.specs.declared.rdata.RData.TheVariants as kinds;
 
 mod display;
 mod strings;
 
+use crate::rdata::RData;
 use crate::rdata::emit::emit_bytes;
-use base::{BinDecoder, BinEncodable, BinEncoder, DecodeError, ProtoError};
+use crate::record_data::RecordData;
+use base::{BinDecoder, BinEncodable, BinEncoder, DecodeError, ProtoError, RecordType};
 use std::alloc::{AllocError, Global};
-use std::cmp::Ordering;
 use std::marker::Model;
 pub use strings::Strings;
 
@@ -136,31 +139,6 @@ impl Eq for TXT {
     ghost laws = { same_txt-equiv };
 }
 
-impl Ord for TXT {
-    ghost cmp = { txt_cmp };
-
-    ghost total = { txt_cmp-total };
-
-    ghost matches_partial_cmp = { λ _ _. refl };
-
-    ghost matches_eq = { same_txt-tie };
-
-    /// By the bytes on the wire, what is a beginning before what it begins (RFC 4034, 6.3).
-    fn cmp(&self, other: &TXT) -> Ordering {
-        self.as_wire().cmp(other.as_wire())
-    }
-}
-
-impl PartialOrd for TXT {
-    ghost partial_cmp = { as_partial_cmp txt_cmp };
-
-    ghost laws = { txt_cmp-partial };
-
-    fn partial_cmp(&self, other: &TXT) -> Option<Ordering> {
-        Some(self.cmp(other))
-    }
-}
-
 impl BinEncodable for TXT {
     ghost word = { λ t. Bytes (wire_of t) };
 
@@ -176,8 +154,42 @@ impl BinEncodable for TXT {
     }
 }
 
-/// Texts are equal, and tie in the order, exactly where they have the same strings.
+/// Texts are equal exactly where they have the same strings.
 pub fn text_order()
     ensures equal { (a b : List (List ℕ)) → IsTrue (⟦<TXT as PartialEq>⟧.eq a b) ↔ (a ≡ b) }
-    ensures ties { (a b : List (List ℕ)) → (⟦<TXT as Ord>⟧.cmp a b ≡ Ordering.Equal) ↔ (a ≡ b) }
 {}
+
+impl RecordData for TXT {
+    ghost as_rdata = { kinds.TXT };
+
+    ghost of_rdata = { txt_in };
+
+    ghost borrows_back = { λ _. refl };
+
+    ghost keeps_word = { λ _ _ _ _. (λ h. h, λ h. h) };
+
+    ghost keeps_len = { λ _. refl };
+
+    ghost keeps_text = { λ _. refl };
+
+    ghost keeps_equality = { λ _ _. refl };
+
+    fn try_borrow(rdata: &RData) -> Option<&TXT> {
+        match rdata {
+            RData::TXT(rdata) => Some(rdata),
+            _ => None,
+        }
+    }
+
+    fn into_rdata(self) -> RData {
+        RData::TXT(self)
+    }
+
+    fn record_type(&self) -> RecordType {
+        RecordType::TXT
+    }
+
+    fn is_update(&self) -> bool {
+        false
+    }
+}

@@ -7,9 +7,9 @@ ghost use Rattle.base.specs.declared.error.decode_error.DecodeError.{DecodeError
 ghost use Rattle.base.specs.declared.error.decode_error.DecodeError.TheVariants as faults;
 ghost use Rattle.base.specs.declared.record_type.RecordType.{RecordType};
 ghost use Rattle.base.specs.declared.record_type.RecordType.TheVariants as types;
-ghost use Rattle.base_data.specs.DataAt.{IsDataAt, IsReadable};
-ghost use Rattle.base_data.specs.DataWord.{DataWord, plain_data};
-ghost use Rattle.base_data.specs.RData.{rdata_at, type_of_data};
+ghost use Rattle.base_data.specs.Kinds.{IsReadable, DataWord, plain_data, type_of_data};
+ghost use Rattle.base_data.specs.DataAt.{IsDataAt};
+ghost use Rattle.base_data.specs.RData.{rdata_at};
 ghost use Rattle.base_data.specs.TXT.{AreShort};
 ghost use Rattle.base_data.specs.declared.rdata.RData.{RData};
 ghost use Rattle.base_data.specs.declared.rdata.RData.TheVariants as kinds;

@@ -105,15 +105,19 @@ fn bytes_are_carried(rt: HostRuntime) {
     assert!(rt; equals_its_copy(three_bytes(rt.alloc())));
 }
 
-/// Whether two values could be made, and the first comes before the second.
-fn comes_first<T: PartialOrd + Drop, E: Drop>(first: Result<T, E>, second: Result<T, E>) -> bool {
-    let comes_first = match (&first, &second) {
-        (Ok(first), Ok(second)) => *first < *second,
+/// Whether two data could be made, and the first comes before the second.
+fn comes_first<R: RecordData, E: Drop>(first: Result<R, E>, second: Result<R, E>) -> bool {
+    match (first, second) {
+        (Ok(first), Ok(second)) => {
+            let first = first.into_rdata();
+            let second = second.into_rdata();
+            let comes_first = first.canonical_cmp(&second).is_lt();
+            drop(first);
+            drop(second);
+            comes_first
+        }
         _ => false,
-    };
-    drop(first);
-    drop(second);
-    comes_first
+    }
 }
 
 /// Whether two values could be made, and are equal.

@@ -34,6 +34,6 @@ impl Record<RData> {
             .then_with(|| self.record_type().cmp(&other.record_type()))
             .then_with(|| self.dns_class.cmp(&other.dns_class))
             .then_with(|| self.ttl.cmp(&other.ttl))
-            .then_with(|| self.rdata.cmp(&other.rdata))
+            .then_with(|| self.rdata.canonical_cmp(&other.rdata))
     }
 }

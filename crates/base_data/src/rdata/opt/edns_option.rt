@@ -2,13 +2,12 @@
 
 ghost use Rattle.std.specs.Prelude.{◌≡◌, ◌≤◌, [], length, refl};
 ghost use Rattle.std.specs.Cmp.{partial_equiv_from_equiv};
-ghost use Rattle.std.specs.Ordering.{as_partial_cmp};
-ghost use Rattle.base_data.specs.OPT.{edns_cmp, edns_cmp-partial, edns_cmp-total, option_at, option_len, option_word, same_option, same_option-equiv, same_option-tie};
+ghost use Rattle.base_data.specs.Equality.{same_option-equiv};
+ghost use Rattle.base_data.specs.OPT.{option_at, option_len, option_word, same_option};
 
 use crate::rdata::emit::emit_bytes;
 use base::{BinDecodable, BinDecoder, BinEncodable, BinEncoder, DecodeError, ProtoError};
 use std::alloc::AllocError;
-use std::cmp::Ordering;
 use std::marker::Model;
 
 /// An EDNS option: a code, and up to 65,535 bytes (RFC 6891, 6.1.2).
@@ -77,34 +76,6 @@ impl PartialEq for EdnsOption {
 
 impl Eq for EdnsOption {
     ghost laws = { same_option-equiv };
-}
-
-impl Ord for EdnsOption {
-    ghost cmp = { edns_cmp };
-
-    ghost total = { edns_cmp-total };
-
-    ghost matches_partial_cmp = { λ _ _. refl };
-
-    ghost matches_eq = { same_option-tie };
-
-    /// By the bytes on the wire (RFC 6891, 6.1.2): by the code, then by the number of bytes, then by the bytes.
-    fn cmp(&self, other: &EdnsOption) -> Ordering {
-        self.code()
-            .cmp(&other.code())
-            .then(self.bytes().len().cmp(&other.bytes().len()))
-            .then(self.bytes().cmp(other.bytes()))
-    }
-}
-
-impl PartialOrd for EdnsOption {
-    ghost partial_cmp = { as_partial_cmp edns_cmp };
-
-    ghost laws = { edns_cmp-partial };
-
-    fn partial_cmp(&self, other: &EdnsOption) -> Option<Ordering> {
-        Some(self.cmp(other))
-    }
 }
 
 impl BinEncodable for EdnsOption {

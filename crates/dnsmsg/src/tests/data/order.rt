@@ -23,7 +23,7 @@ fn carried(alloc: Global, code: RecordType, bytes: &[u8]) -> Made {
 /// Whether two data could be made, and have this order. They are dropped by name: that is proved sooner.
 fn have_order(first: Made, second: Made, order: Ordering) -> bool {
     let have_order = match (&first, &second) {
-        (Ok(first), Ok(second)) => first.cmp(second) == order,
+        (Ok(first), Ok(second)) => first.canonical_cmp(second) == order,
         _ => false,
     };
     drop(first);

@@ -1,6 +1,7 @@
 use Rattle.std.proofs.Common.{◌≡◌, ℕ, List, ◌++◌, ap, sym, ◌∙◌}
 use Rattle.std.proofs.lemmas.List.{append_assoc}
-use Rattle.base_data.specs.DataOrder.{canonical_data, name_octets}
+use Rattle.base_data.specs.Kinds.{canonical_data}
+use Rattle.base_data.specs.NameData.{name_octets}
 use Rattle.base_data.proofs.rdata.RData.canonical_octets.Goals as goal
 
 -- lists one behind the other, the last five put together first

@@ -1,5 +1,5 @@
 use Rattle.std.proofs.Common.{◌≡◌}
-use Rattle.base_data.specs.DataOrder.{canonical_data}
+use Rattle.base_data.specs.Kinds.{canonical_data}
 use Rattle.base_data.specs.Opaque.{bytes_cmp}
 use Rattle.base_data.proofs.rdata.RData.cmp_octets.Given as goal
 

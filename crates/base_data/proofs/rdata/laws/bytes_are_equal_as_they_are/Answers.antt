@@ -1,4 +1,4 @@
-use Rattle.base_data.proofs.DataLemmas.{bytes_same}
+use Rattle.base_data.proofs.ByteWords.{bytes_same}
 use Rattle.base_data.proofs.rdata.laws.bytes_are_equal_as_they_are.Goals as goal
 
 pub returns-clause-null : goal.returns-clause-null

@@ -1,4 +1,5 @@
-use Rattle.base_data.proofs.DataRows.{reads_data, refuses_data, data_again, short_strings}
+use Rattle.base_data.proofs.DataRows.{reads_data, refuses_data, data_again}
+use Rattle.base_data.proofs.TextWords.{short_strings}
 use Rattle.base_data.proofs.rdata.words.reading_is_the_data_word.Goals as goal
 
 pub returns-clause-word : goal.returns-clause-word

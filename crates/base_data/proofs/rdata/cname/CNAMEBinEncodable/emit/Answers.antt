@@ -1,4 +1,4 @@
-use Rattle.base_data.proofs.WriteLemmas.{compressed}
+use Rattle.base_data.proofs.NameWords.{compressed}
 use Rattle.base_data.proofs.rdata.cname.CNAMEBinEncodable.emit.Goals as goal
 
 pub returns-clause-names : goal.returns-clause-names

@@ -1,7 +1,8 @@
 use Rattle.std.proofs.lemmas.Result.{on_ok_weaker}
 use Rattle.base.proofs.LawLemmas.{Keeps-then, Writes-then, Writes-unowned}
 use Rattle.base.specs.Wire.{state_of}
-use Rattle.base_data.proofs.WriteLemmas.{compressed, compressed_mx}
+use Rattle.base_data.proofs.NameWords.{compressed}
+use Rattle.base_data.proofs.MXLemmas.{compressed_mx}
 use Rattle.base_data.proofs.rdata.mx.MXBinEncodable.emit.Goals as goal
 
 pub returns-clause-keeps : goal.returns-clause-keeps

@@ -1,8 +1,8 @@
 use Rattle.std.proofs.lemmas.Result.{on_ok_weaker}
 use Rattle.base.proofs.LawLemmas.{Keeps-then, Writes-then, Writes-unowned}
 use Rattle.base.specs.Wire.{state_of}
-use Rattle.base_data.proofs.NumberLemmas.{soa_numbers_written, written_as}
-use Rattle.base_data.proofs.WriteLemmas.{compressed_soa}
+use Rattle.base_data.proofs.SOALemmas.{compressed_soa, soa_numbers_written}
+use Rattle.base_data.proofs.FieldLemmas.{written_as}
 use Rattle.base_data.proofs.rdata.soa.SOABinEncodable.emit.Goals as goal
 
 pub returns-in_err-emit-2-clause-keeps : goal.returns-in_err-emit-2-clause-keeps

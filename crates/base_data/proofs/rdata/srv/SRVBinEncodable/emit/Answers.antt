@@ -1,7 +1,6 @@
 use Rattle.std.proofs.lemmas.Result.{on_ok_weaker}
 use Rattle.base.proofs.LawLemmas.{Keeps-then}
-use Rattle.base_data.proofs.NumberLemmas.{srv_written}
-use Rattle.base_data.proofs.WriteLemmas.{plain_srv_written}
+use Rattle.base_data.proofs.SRVLemmas.{plain_srv_written, srv_written}
 use Rattle.base_data.proofs.rdata.srv.SRVBinEncodable.emit.Goals as goal
 
 pub returns-clause-keeps : goal.returns-clause-keeps

@@ -4,7 +4,7 @@ use Rattle.base.proofs.LawLemmas.{Keeps-then, Writes-then, Writes-weaker}
 use Rattle.base.specs.Labels.{plain_len}
 use Rattle.base.specs.RecordType.{type_number}
 use Rattle.base.specs.Wire.{state_of}
-use Rattle.base_data.specs.DataWord.{plain_data}
+use Rattle.base_data.specs.Kinds.{plain_data}
 use Rattle.rr.specs.Record.{with_data}
 use Rattle.rr.proofs.RecordLemmas.{record_word}
 use Rattle.rr.proofs.WriteSteps.{class_refused, data_refused, name_refused, ttl_refused, type_refused, whole_record}

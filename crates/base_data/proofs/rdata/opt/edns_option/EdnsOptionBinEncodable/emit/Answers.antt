@@ -1,6 +1,6 @@
 use Rattle.std.proofs.Common.{refl}
 use Rattle.base.proofs.LawLemmas.{Keeps-then}
-use Rattle.base_data.proofs.WriteLemmas.{option_written}
+use Rattle.base_data.proofs.OptionWords.{option_written}
 use Rattle.base_data.proofs.rdata.opt.edns_option.EdnsOptionBinEncodable.emit.Goals as goal
 
 pub returns-in_err-emit-2-clause-keeps : goal.returns-in_err-emit-2-clause-keeps

@@ -1,6 +1,6 @@
 use Rattle.std.proofs.Common.{refl}
 use Rattle.base.proofs.LawLemmas.{Keeps-same}
-use Rattle.base_data.proofs.rdata.writing.RDataBinEncodable.emit.Goals as goal
+use Rattle.base_data.proofs.rdata.RDataBinEncodable.emit.Goals as goal
 
 pub returns-in-Update0-clause-keeps : goal.returns-in-Update0-clause-keeps
 returns-in-Update0-clause-keeps c = Keeps-same _ _ refl
@@ -16,3 +16,6 @@ returns-in-PTR-clause-names c = rw c.in-PTR.is c.emit-in-PTR.ensures.names
 
 pub returns-in-SOA-clause-names : goal.returns-in-SOA-clause-names
 returns-in-SOA-clause-names c = rw c.in-SOA.is c.emit-in-SOA.ensures.names
+
+pub returns-in-SOA-clause-writes : goal.returns-in-SOA-clause-writes
+returns-in-SOA-clause-writes c = rw c.in-SOA.is c.emit-in-SOA.ensures.writes

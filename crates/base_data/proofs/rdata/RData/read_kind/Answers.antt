@@ -4,11 +4,11 @@ use Rattle.base.proofs.ReadLemmas.{Fails-through}
 use Rattle.base.specs.Reading.{Fails, Read, bytes_at}
 use Rattle.base.specs.declared.error.decode_error.DecodeError.{DecodeError}
 use Rattle.base_data.specs.OPT.{opt_at}
-use Rattle.base_data.specs.RData.{as_any, kind_at}
+use Rattle.base_data.specs.Kinds.{as_any, kind_at}
 use Rattle.base_data.specs.TXT.{txt_at}
 use Rattle.base_data.specs.declared.rdata.RData.{RData}
 use Rattle.base_data.specs.declared.rdata.RData.TheVariants as kinds
-use Rattle.base_data.proofs.rdata.reading.read_kind.Goals as goal
+use Rattle.base_data.proofs.rdata.RData.read_kind.Goals as goal
 
 -- what is read of a length that is asked for, as data of any record
 any_fails : {X : Type 0} (kind : X → RData) (read : ℕ → Read X) (asked len : ℕ) → asked ≡ len → (f : DecodeError) → Fails f (read asked) → Fails f (as_any kind (read len))
