@@ -1,4 +1,5 @@
 pub mod BitLemmas
+pub mod EdnsEquals
 pub mod EdnsLemmas
 pub mod EmittedLemmas
 pub mod FrontLemmas
@@ -17,6 +18,8 @@ mod CodeLemmas
 mod ComposedLemmas
 mod CutOf
 mod CutWords
+mod MessageFaults
+mod SectionFaults
 pub mod MessageEquals
 pub mod MessageStands
 mod OwnerLemmas
