@@ -10,6 +10,7 @@ pub mod HeaderRoom
 pub mod Orders
 pub mod QueryEquals
 pub mod QueryLemmas
+pub mod RefusalLemmas
 pub mod RoomLemmas
 pub mod RunLemmas
 pub mod SucceedsLemmas

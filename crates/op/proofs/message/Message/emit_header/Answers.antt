@@ -1,6 +1,7 @@
 use Rattle.std.proofs.Common.{ap, ◌∙◌}
 use Rattle.std.specs.Option.{option_copied}
 use Rattle.op.proofs.EmittedLemmas.{AreOf, emitted_if, raised_edns, unboxed}
+use Rattle.op.proofs.RefusalLemmas.{only_if}
 use Rattle.op.proofs.SucceedsLemmas.{left_if, refused_if}
 use Rattle.op.specs.Fits.{opt_records, signature_records}
 use Rattle.op.specs.Message.{message_value}
@@ -32,3 +33,8 @@ returns-clause-left c = λ empty blank.
 pub returns-clause-refused : goal.returns-clause-refused
 returns-clause-refused c = λ empty blank.
     refused_if (message_value c.args.self.now) _ _ c.emit_message_parts.result empty (returns-clause-left c empty blank)
+
+pub returns-clause-only : goal.returns-clause-only
+returns-clause-only c =
+    let parts = c.emit_message_parts.new in
+    only_if (message_value c.args.self.now) c.iter.result parts.queries c.iter-2.result parts.answers c.iter-3.result parts.authorities c.iter-4.result parts.additionals _ _ (parts_of c) _ _ c.emit_message_parts.result c.emit_message_parts.ensures.run
