@@ -1,13 +1,15 @@
 -- What a buffer begins with.
-use Rattle.std.proofs.Common.{◌≡◌, ℕ, List, refl, ap, sym, ◌∙◌, Result, Ok, Err}
-use Rattle.std.specs.Prelude.{IfOk, MatchResult}
+use Rattle.std.proofs.Common.{◌≡◌, ◌⊎◌, inl, inr, ℕ, List, refl, ap, sym, ◌∙◌, Result, Ok, Err}
+use Rattle.std.specs.Prelude.{IfErr, IfOk, MatchResult}
 use Rattle.base.specs.declared.error.decode_error.DecodeError.{DecodeError}
 use Rattle.base.specs.declared.error.decode_error.DecodeError.TheVariants as faults
 use Rattle.base.specs.Reader.{Reader}
 use Rattle.base.specs.Reading.{Fails, Reads}
 use Rattle.op.specs.Message.{IsMessageAt, MessageValue, message_at, message_value}
 use Rattle.op.specs.declared.message.Message.{Message}
+use Rattle.op.specs.Fault.{IsMessageFault}
 use Rattle.op.specs.Fits.{Fits}
+use Rattle.op.proofs.MessageFaults.{refuses_message}
 use Rattle.op.proofs.SectionStands.{same_ok}
 use Rattle.op.proofs.ReadFits.{message_fits}
 use Rattle.op.proofs.MessageStands.{message_again, message_stands}
@@ -32,6 +34,23 @@ begins B old new (Err f) reads = tt
 pub begins_with : (B : List ℕ) (old new : Reader) (r : Result Message DecodeError) → Reads message_value old new r (message_at B 0) → (m : MessageValue) (e : ℕ) → IsMessageAt B 0 m e → MatchResult r (λ read. message_value read ≡ m) (λ f. f ≡ faults.Memory)
 begins_with B old new (Ok read) reads m e stands = ap (λ (x : MessageValue × ℕ). x.0) (same_ok (sym reads.0 ∙ message_again B 0 m e stands))
 begins_with B old new (Err f) reads m e stands = want_of_memory f (message_at B 0) (m, e) reads (message_again B 0 m e stands)
+
+-- a call that fails was refused memory, or with the fault that reading meets
+refused_or : {A : Type 0} (f : DecodeError) (r : Result A DecodeError) → Fails f r → (f ≡ faults.Memory) ⊎ (r ≡ Err f)
+refused_or faults.Memory r fails = inl refl
+refused_or faults.InsufficientBytes r fails = inr fails
+refused_or faults.BadName r fails = inr fails
+refused_or (faults.EdnsNameNotRoot owner) r fails = inr fails
+refused_or (faults.IncorrectRDataLengthRead read len) r fails = inr fails
+refused_or (faults.BadData type) r fails = inr fails
+refused_or faults.InvalidEmptyRecord r fails = inr fails
+refused_or faults.RecordAfterSig r fails = inr fails
+refused_or (faults.RecordNotInAdditionalSection type) r fails = inr fails
+refused_or faults.DuplicateEdns r fails = inr fails
+
+pub first_fault : (B : List ℕ) (old new : Reader) (r : Result Message DecodeError) → Reads message_value old new r (message_at B 0) → IfErr r (λ f. (f ≡ faults.Memory) ⊎ IsMessageFault B 0 f)
+first_fault B old new (Ok m) reads = tt
+first_fault B old new (Err f) reads = elim (refused_or f (message_at B 0) reads) [ inl memory ↦ inl memory | inr is ↦ inr ((refuses_message B 0 f).0 is) ]
 
 pub read_fits : (B : List ℕ) (old new : Reader) (r : Result Message DecodeError) → Reads message_value old new r (message_at B 0) → IfOk r (λ m. Fits (message_value m))
 read_fits B old new (Ok m) reads = message_fits B 0 (message_value m) new.index (message_stands B 0 (message_value m, new.index) reads.0)

@@ -1,6 +1,6 @@
 -- A message that was composed of slices was emitted.
 use Rattle.std.proofs.Common.{◌≡◌, ℕ, ◌+◌, Bool, true, false, List, [], ◌∷◌, length, refl, ap, sym, ◌∙◌, subst, arith, Result, Ok, Err, Bor, Iter}
-use Rattle.std.specs.Prelude.{◌||◌, ⊤, ◌/◌, ◌%◌, IfOk, IsSomeAnd, MatchOption, Option, Some, None}
+use Rattle.std.specs.Prelude.{◌||◌, ⊤, IfOk, IsSomeAnd, MatchOption, Option, Some, None}
 use Rattle.std.specs.Option.{option_copied, option_map}
 use Rattle.std.proofs.iter.Yields.{fronts}
 use Rattle.std.proofs.lemmas.List.{append-nil}
@@ -16,10 +16,9 @@ use Rattle.op.specs.Composition.{Adds, AndThen, Composition, Counts, EmitsPart, 
 use Rattle.op.specs.Cut.{raised}
 use Rattle.op.specs.EdnsRecord.{edns_record}
 use Rattle.op.specs.Emitted.{Emitted, WritesFront, WritesRecords, query_owner, record_owner}
-use Rattle.op.specs.Fits.{listed, signature_record}
+use Rattle.op.specs.Fits.{listed, opt_records, signature_record, with_high_bits}
 use Rattle.op.specs.Header.{header_bytes, raw_header}
 use Rattle.op.specs.Message.{MessageValue}
-use Rattle.op.specs.ResponseCode.{code_number}
 use Rattle.op.specs.declared.edns.Edns.{Edns}
 use Rattle.op.specs.Query.{QueryWord, plain_query}
 use Rattle.op.specs.declared.header.Header.{Header}
@@ -292,11 +291,8 @@ raised_list : (f : Edns → Edns) (o : Option Edns) → listed (option_map (λ e
 raised_list f None = refl
 raised_list f (Some e) = refl
 
-pub raised_edns : (m : MessageValue) (seen : Option Edns) → seen ≡ m.edns
-    → listed (option_map (λ e. edns_record (record e { rcode_high = code_number m.metadata.response_code / 16 % 256 })) seen) ≡ listed (option_map edns_record (raised m))
-raised_edns m seen same =
-    ap (λ o. listed (option_map (λ e. edns_record (record e { rcode_high = code_number m.metadata.response_code / 16 % 256 })) o)) same
-    ∙ raised_list (λ e. record e { rcode_high = code_number m.metadata.response_code / 16 % 256 }) m.edns
+pub raised_edns : (m : MessageValue) (seen : Option Edns) → seen ≡ m.edns → opt_records m.metadata.response_code seen ≡ listed (option_map edns_record (raised m))
+raised_edns m seen same = ap (opt_records m.metadata.response_code) same ∙ raised_list (with_high_bits m.metadata.response_code) m.edns
 
 pub emitted_if : (m : MessageValue) (q q' : Iter Query) (a a' n n' d d' : Iter (Record RData)) (edns signature : List (Record RData)) → AreOf m q q' a a' n n' d d' edns signature → (old new : State) (result : Result Header ProtoError)
     → Composed m q q' a a' n n' d d' edns signature old result new → IfOk result (λ h. Emitted m old new h)

@@ -1,4 +1,5 @@
 pub mod BitLemmas
+pub mod EdnsEquals
 pub mod EdnsLemmas
 pub mod EmittedLemmas
 pub mod FrontLemmas
@@ -9,6 +10,7 @@ pub mod HeaderRoom
 pub mod Orders
 pub mod QueryEquals
 pub mod QueryLemmas
+pub mod RefusalLemmas
 pub mod RoomLemmas
 pub mod RunLemmas
 pub mod SucceedsLemmas
@@ -17,6 +19,8 @@ mod CodeLemmas
 mod ComposedLemmas
 mod CutOf
 mod CutWords
+mod MessageFaults
+mod SectionFaults
 pub mod MessageEquals
 pub mod MessageStands
 mod OwnerLemmas

@@ -22,11 +22,11 @@ pub record Section (inside : Bool) (op : OpCode) (s : SectionValue) (B : List �
 pub same_ok : {A : Type 0} {x y : A} → ◌≡◌ {A = Result A DecodeError} (Ok x) (Ok y) → x ≡ y
 same_ok is = cc
 
-record Taken (f : Option DecodeError) (s t : SectionValue) : Type 0 where
-  passes : f ≡ None
-  same : s ≡ t
+pub record Taken (f : Option DecodeError) (s t : SectionValue) : Type 0 where
+  pub passes : f ≡ None
+  pub same : s ≡ t
 
-unless_ok : (f : Option DecodeError) (s t : SectionValue) → unless_fault f s ≡ Ok t → Taken f s t
+pub unless_ok : (f : Option DecodeError) (s t : SectionValue) → unless_fault f s ≡ Ok t → Taken f s t
 unless_ok None s t is = record { passes = refl; same = same_ok is }
 unless_ok (Some f) s t is = cc
 

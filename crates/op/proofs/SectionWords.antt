@@ -52,20 +52,20 @@ no_fault false false false false e f g h is = record { first = refl; second = re
 passes : (a b c d : Bool) (e f g h : DecodeError) → NoFault a b c d → cond a (Some e) (cond b (Some f) (cond c (Some g) (cond d (Some h) None))) ≡ None
 passes a b c d e f g h n = rw (n.first, n.second, n.third, n.fourth) refl
 
-given_from : (a b : Bool) → (a && not b) ≡ false → a ≡ true → b ≡ true
+pub given_from : (a b : Bool) → (a && not b) ≡ false → a ≡ true → b ≡ true
 given_from true true is a = refl
 given_from true false is a = cc
 given_from false b is a = cc
 
-from_given : (a b : Bool) → (a ≡ true → b ≡ true) → (a && not b) ≡ false
+pub from_given : (a b : Bool) → (a ≡ true → b ≡ true) → (a && not b) ≡ false
 from_given true b h = rw (h refl) refl
 from_given false b h = refl
 
-placed_from : (inside additional : Bool) → (not inside && additional) ≡ false → inside ≡ false → additional ≡ false
+pub placed_from : (inside additional : Bool) → (not inside && additional) ≡ false → inside ≡ false → additional ≡ false
 placed_from true additional is outside = cc
 placed_from false additional is outside = is
 
-from_placed : (inside additional : Bool) → (inside ≡ false → additional ≡ false) → (not inside && additional) ≡ false
+pub from_placed : (inside additional : Bool) → (inside ≡ false → additional ≡ false) → (not inside && additional) ≡ false
 from_placed true additional h = refl
 from_placed false additional h = h refl
 

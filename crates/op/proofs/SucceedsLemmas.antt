@@ -1,5 +1,5 @@
 -- A message of slices, in an encoder that is empty, is refused for memory, or where header or questions have no room.
-use Rattle.std.proofs.Common.{◌≡◌, ◌⊎◌, ℕ, true, ◌+◌, ◌<◌, ◌≤◌, ◌^◌, List, [], ◌∷◌, ◌++◌, length, inl, inr, refl, ap, sym, ◌∙◌, subst, arith, length-append, Result, Ok, Err, Iter}
+use Rattle.std.proofs.Common.{◌≡◌, ◌⊎◌, ℕ, true, ◌+◌, ◌<◌, ◌≤◌, ◌^◌, List, [], ◌∷◌, length, inl, inr, refl, ap, sym, ◌∙◌, subst, arith, length-append, Result, Ok, Err, Iter}
 use Rattle.std.specs.Prelude.{IfErr, IsOkUnless, ⊤, replicate}
 use Rattle.base.specs.Items.{EachWritten}
 use Rattle.base.specs.State.{State, appended}
@@ -20,6 +20,7 @@ use Rattle.op.specs.declared.message.writing.parts.Sections.{Sections}
 use Rattle.op.specs.declared.message.writing.parts.Written.{Written}
 use Rattle.op.specs.declared.query.Query.{Query}
 use Rattle.op.proofs.EmittedLemmas.{AreOf, Composed, ThreeFronts, emits_queries, emits_records, sections_done, slice_front}
+use Rattle.op.proofs.RefusalLemmas.{Left, queries_failed, room_failed}
 use Rattle.op.proofs.RoomLemmas.{Took, plain-append, queries_few, queries_within, took_few, took_front, took_more, took_queries}
 use Rattle.op.proofs.RunLemmas.{Both, failed, same_err}
 
@@ -139,19 +140,6 @@ module _ (m : MessageValue) (q q' : Iter Query) (a a' n n' d d' : Iter (Record R
   abbrev Asked : ℕ → State → Result Header ProtoError → State → Type 0
   Asked place = AndThen (λ s answer t. emits_queries q s answer q' t) ((a' ≡ a) × (n' ≡ n) × (d' ≡ d)) (Sectioned place)
 
-  -- want of memory, or no room for header or questions
-  abbrev Left : ProtoError → Type 0
-  Left f = (f ≡ refusals.Memory) ⊎ Leaves m old f new
-
-  room_failed : (f : ProtoError) → KeepsRoom old (Err f) new → Left f
-  room_failed refusals.Memory run = inl refl
-  room_failed refusals.MaxBufferSizeExceeded run = inr (run.1, run.0)
-  room_failed (refusals.NotAllRecordsWritten count) run = absurd run.1
-  room_failed refusals.NotOpt run = absurd run.1
-  room_failed (refusals.Message text) run = absurd run.1
-  room_failed refusals.NotAResponse run = absurd run.1
-  room_failed (refusals.Decode d) run = absurd run.1
-
   module _ (place : ℕ) (kept : State) (room : KeepsRoom old (Ok place) kept) where
     limit : kept.limit ≡ old.limit
     limit = ap (λ (s : State). s.limit) room.1
@@ -164,32 +152,6 @@ module _ (m : MessageValue) (q q' : Iter Query) (a a' n n' d d' : Iter (Record R
 
     kept_small : kept.limit < 2 ^ 16
     kept_small = omega (arith, limit, small)
-
-    -- the questions before one that had no room
-    not_all : (xs rest : List Query) (x : Query) (count : ℕ) → q.rest.now ≡ xs ++ x ∷ rest → EachWritten QueryWord plain_query query_owner xs kept new → count ≡ length xs → kept.limit < length new.bytes + plain_query x
-        → Leaves m old (refusals.NotAllRecordsWritten count) new
-    not_all xs rest x count whole each counted full =
-        let front : WritesFront QueryWord plain_query query_owner m.queries kept new count true = record {
-          kept = xs;
-          lost = x ∷ rest;
-          whole = sym are.queries ∙ whole;
-          written = each;
-          counted = counted;
-          tells = refl;
-          full = full;
-        } in
-        (omega (arith, room.2, ap (λ (s : State). length s.bytes) room.1 ∙ length-append old.bytes (replicate 12 0)), subst (λ s. WritesFront QueryWord plain_query query_owner m.queries s new count true) room.1 front)
-
-    queries_failed : (f : ProtoError) → emits_queries q kept (Err f) q' new → Left f
-    queries_failed refusals.Memory run = inl refl
-    queries_failed (refusals.NotAllRecordsWritten count) run =
-        let front = Emits-front QueryWord plain_query query_owner q q' kept new count run in
-        inr (not_all front.0 front.2 front.1 count front.3 front.4 front.5 front.6)
-    queries_failed refusals.MaxBufferSizeExceeded run = absurd run
-    queries_failed refusals.NotOpt run = absurd run
-    queries_failed (refusals.Message text) run = absurd run
-    queries_failed refusals.NotAResponse run = absurd run
-    queries_failed (refusals.Decode d) run = absurd run
 
     header_failed : (queries : ℕ) (sixth : State) (sections : Sections) (total : Written) → queries < 2 ^ 16 → AndThen (Tests (HasHeader m.metadata queries sections total)) ⊤ (FillsIn place) sixth (Err e) new → e ≡ refusals.Memory
     header_failed queries sixth sections total few run =
@@ -216,10 +178,10 @@ module _ (m : MessageValue) (q q' : Iter Query) (a a' n n' d d' : Iter (Record R
           | inr b ↦ extras_next queries first b.between b.value few took (sections_done a a' n n' d d' b.value first b.between b.ran) b.rest
         ]
 
-    queries_next : Asked place kept (Err e) new → Left e
+    queries_next : Asked place kept (Err e) new → Left m old new e
     queries_next run =
         elim (failed e run) [
-          | inl queries ↦ queries_failed e queries
+          | inl queries ↦ queries_failed m q q' a a' n n' d d' edns signature are old new place kept room e queries
           | inr b ↦ inl (asked_next b.value b.between (Emits-slice QueryWord plain_query query_owner q q' kept b.between b.value b.ran) b.rest)
         ]
       where
@@ -228,8 +190,8 @@ module _ (m : MessageValue) (q q' : Iter Query) (a a' n n' d d' : Iter (Record R
             let few = queries_few q.rest.now kept first asked.0 no_suffix kept_within kept_small in
             sections_next queries first (omega (arith, asked.1, few)) (took_queries q.rest.now kept first asked.0) rest
 
-  pub composed_failed : Composed m q q' a a' n n' d d' edns signature old (Err e) new → Left e
-  composed_failed run = elim (failed e run) [ inl room ↦ room_failed e room | inr b ↦ queries_next b.value b.between b.ran b.rest ]
+  pub composed_failed : Composed m q q' a a' n n' d d' edns signature old (Err e) new → Left m old new e
+  composed_failed run = elim (failed e run) [ inl room ↦ room_failed m old new e room | inr b ↦ queries_next b.value b.between b.ran b.rest ]
 
 pub left_if : (m : MessageValue) (q q' : Iter Query) (a a' n n' d d' : Iter (Record RData)) (edns signature : List (Record RData)) → AreOf m q q' a a' n n' d d' edns signature → (old new : State) (result : Result Header ProtoError)
     → Composed m q q' a a' n n' d d' edns signature old result new → old.bytes ≡ [] → old.suffixes ≡ [] → old.limit < 2 ^ 16 → IfErr result (λ e. (e ≡ refusals.Memory) ⊎ Leaves m old e new)

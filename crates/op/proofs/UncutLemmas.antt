@@ -8,8 +8,8 @@ use Rattle.std.proofs.lemmas.List.Elements.{All-drop, All-take}
 use Rattle.base.specs.Words.{IsNumberAt}
 use Rattle.base_data.specs.declared.rdata.RData.{RData}
 use Rattle.rr.specs.declared.record.Record.{Record}
-use Rattle.op.specs.Cut.{IsCut, IsUncut, any_lost, code_range, raised}
-use Rattle.op.specs.Fits.{listed}
+use Rattle.op.specs.Cut.{IsCut, IsUncut, any_lost, as_written, code_range, raised}
+use Rattle.op.specs.Fits.{listed, with_high_bits}
 use Rattle.op.specs.Message.{IsMessageAt, MessageValue, high_code}
 use Rattle.op.specs.ResponseCode.{code_number, code_value}
 use Rattle.op.specs.Section.{edns_of, is_opt, section_of}
@@ -74,7 +74,7 @@ code_four low small =
 
 -- what the code and EDNS of a message that was read have in common
 record IsMerged (edns : Option Edns) (code : ResponseCode) : Type 0 where
-  raised : option_map (λ (e : Edns). record e { rcode_high = code_number code / 16 % 256 }) edns ≡ edns
+  raised : option_map (with_high_bits code) edns ≡ edns
   kept : code_value (code_number code % code_range edns) ≡ code
 
 abbrev high_code_of : ℕ → ℕ → ResponseCode
@@ -95,6 +95,34 @@ same_message : {a b : Metadata} {q r : List Query} {as1 as2 ns1 ns2 ds1 ds2 : Li
     → ◌≡◌ {A = MessageValue} (record { metadata = a; queries = q; answers = as1; authorities = ns1; additionals = ds1; edns = f; signature = s }) (record { metadata = b; queries = r; answers = as2; authorities = ns2; additionals = ds2; edns = g; signature = t })
 same_message p q r s t u v = rw (p, q, r, s, t, u, v) refl
 
+-- ---- any message
+
+range_raised : (f : Edns → Edns) (o : Option Edns) → code_range (option_map f o) ≡ code_range o
+range_raised f None = refl
+range_raised f (Some e) = refl
+
+same_metadata : (x : Metadata) {t : Bool} {d : ResponseCode} → t ≡ x.truncation → ◌≡◌ {A = Metadata} (record x { truncation = t; response_code = d }) (record x { response_code = d })
+same_metadata x is = rw is refl
+
+-- a message of which nothing was cut is read as it is written
+pub uncut_written : (m : MessageValue) (limit : ℕ) (C : List ℕ) (c : MessageValue) (k : IsCut m limit C c) → IsUncut k → c ≡ as_written m
+uncut_written m limit C c k (no_answers, no_authorities, no_additionals, no_edns, no_signature) =
+    let queries : c.queries ≡ m.queries = k.queries in
+    let answers : c.answers ≡ m.answers = whole_of m.answers c.answers k.answers.lost k.answers.front no_answers in
+    let authorities : c.authorities ≡ m.authorities = whole_of m.authorities c.authorities k.authorities.lost k.authorities.front no_authorities in
+    let additionals : c.additionals ≡ m.additionals = whole_of m.additionals c.additionals k.additionals.lost k.additionals.front no_additionals in
+    let edns : c.edns ≡ raised m = listed_same c.edns (raised m) (whole_of (listed (raised m)) (listed c.edns) k.edns.lost k.edns.front no_edns) in
+    let signature : c.signature ≡ m.signature = listed_same c.signature m.signature (whole_of (listed m.signature) (listed c.signature) k.signature.lost k.signature.front no_signature) in
+    let truncation = same_truncation m.metadata.truncation (any_lost k.answers.lost) (any_lost k.authorities.lost) (any_lost k.additionals.lost) (any_lost k.edns.lost) (any_lost k.signature.lost)
+    (none_lost k.answers.lost no_answers) (none_lost k.authorities.lost no_authorities) (none_lost k.additionals.lost no_additionals)
+    (none_lost k.edns.lost no_edns) (none_lost k.signature.lost no_signature) in
+    let range : code_range c.edns ≡ code_range m.edns = ap code_range edns ∙ range_raised (with_high_bits m.metadata.response_code) m.edns in
+    let metadata : c.metadata ≡ (as_written m).metadata =
+    k.metadata ∙ same_metadata m.metadata truncation ∙ ap (λ (n : ℕ). record m.metadata { response_code = code_value (code_number m.metadata.response_code % n) }) range in
+    same_message metadata queries answers authorities additionals edns signature
+
+-- ---- a message that was read
+
 module _ (B : List ℕ) (i : ℕ) (m : MessageValue) (e : ℕ) (w : IsMessageAt B i m e) (bytes : All (λ b. b < 256) B) where
   high_small : All (λ x. x.rcode_high < 256) (listed (option_map edns_of (find is_opt w.additionals)))
   high_small =
@@ -111,18 +139,6 @@ module _ (B : List ℕ) (i : ℕ) (m : MessageValue) (e : ℕ) (w : IsMessageAt 
 
   -- of which nothing was cut
   pub uncut_same : (limit : ℕ) (C : List ℕ) (c : MessageValue) (k : IsCut m limit C c) → IsUncut k → c ≡ m
-  uncut_same limit C c k (no_answers, no_authorities, no_additionals, no_edns, no_signature) =
-      let queries : c.queries ≡ m.queries = k.queries in
-      let answers : c.answers ≡ m.answers = whole_of m.answers c.answers k.answers.lost k.answers.front no_answers in
-      let authorities : c.authorities ≡ m.authorities = whole_of m.authorities c.authorities k.authorities.lost k.authorities.front no_authorities in
-      let additionals : c.additionals ≡ m.additionals = whole_of m.additionals c.additionals k.additionals.lost k.additionals.front no_additionals in
-      let edns : c.edns ≡ m.edns = listed_same c.edns (raised m) (whole_of (listed (raised m)) (listed c.edns) k.edns.lost k.edns.front no_edns) ∙ code_merged.raised in
-      let signature : c.signature ≡ m.signature = listed_same c.signature m.signature (whole_of (listed m.signature) (listed c.signature) k.signature.lost k.signature.front no_signature) in
-      let truncation = same_truncation m.metadata.truncation (any_lost k.answers.lost) (any_lost k.authorities.lost) (any_lost k.additionals.lost) (any_lost k.edns.lost) (any_lost k.signature.lost)
-      (none_lost k.answers.lost no_answers) (none_lost k.authorities.lost no_authorities) (none_lost k.additionals.lost no_additionals) (none_lost k.edns.lost no_edns) (none_lost k.signature.lost no_signature) in
-      let code : code_value (code_number m.metadata.response_code % code_range c.edns) ≡ m.metadata.response_code = ap (λ o. code_value (code_number m.metadata.response_code % code_range o)) edns ∙ code_merged.kept in
-      let metadata : c.metadata ≡ m.metadata = k.metadata ∙ same_metadata m.metadata truncation code in
-      same_message metadata queries answers authorities additionals edns signature
-    where
-      same_metadata : (x : Metadata) {t : Bool} {d : ResponseCode} → t ≡ x.truncation → d ≡ x.response_code → ◌≡◌ {A = Metadata} (record x { truncation = t; response_code = d }) x
-      same_metadata x p q = rw (p, q) refl
+  uncut_same limit C c k uncut =
+      let metadata : (as_written m).metadata ≡ m.metadata = ap (λ (d : ResponseCode). record m.metadata { response_code = d }) code_merged.kept in
+      uncut_written m limit C c k uncut ∙ same_message metadata refl refl refl refl code_merged.raised refl

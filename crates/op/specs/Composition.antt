@@ -1,6 +1,6 @@
 -- How a message is put together from its parts (RFC 1035, 4.1).
 -- A run relates an encoder's state to the answer of what was done with it and to the state behind that.
-use Rattle.std.specs.Prelude.{◌≡◌, ℕ, Bool, true, false, ◌+◌, ◌<◌, ◌≤◌, ◌^◌, ◌||◌, List, codes, length, replicate, ⊤, Result, Ok, Err}
+use Rattle.std.specs.Prelude.{◌≡◌, ◌⊎◌, ℕ, Bool, true, false, ◌+◌, ◌<◌, ◌≤◌, ◌^◌, ◌||◌, List, codes, length, replicate, ⊤, Result, Ok, Err}
 use Rattle.base.specs.State.{State, appended, overwritten}
 use Rattle.base.specs.Wire.{Refuses}
 use Rattle.base.specs.declared.error.proto_error.ProtoError.{ProtoError}
@@ -39,6 +39,10 @@ Tests holds a result b = holds result × (b ≡ a)
 abbrev pub Says : List ℕ → ProtoError → Type 0
 Says text (refusals.Message said) = said.now ≡ text
 Says text _ = ⊥
+
+-- the refusal of a count that two bytes don't hold
+abbrev pub IsTooMany : ProtoError → Type 0
+IsTooMany e = Says (codes "too many records to fit in header count") e ⊎ Says (codes "too many queries to fit in header count") e
 
 -- a count as a header holds it, in two bytes
 abbrev pub Narrows : ℕ → Bool → Result Written ProtoError → Type 0

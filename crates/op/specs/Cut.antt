@@ -1,5 +1,5 @@
 -- What stands of a message that was written under a limit (RFC 1035, 4.1.1; RFC 2181, 9; RFC 6891, 6.1.3).
-use Rattle.std.specs.Prelude.{◌≡◌, ◌≢◌, ℕ, Bool, true, false, All, ◌+◌, ◌/◌, ◌%◌, ◌<◌, ◌≤◌, ◌||◌, List, [], ◌∷◌, ◌++◌, length, Option, Some, None, Ok}
+use Rattle.std.specs.Prelude.{◌≡◌, ◌≢◌, ℕ, Bool, true, false, All, ◌+◌, ◌%◌, ◌<◌, ◌≤◌, ◌||◌, List, [], ◌∷◌, ◌++◌, length, Option, Some, None, Ok}
 use Rattle.std.specs.Option.{option_map}
 use Rattle.base.specs.Labels.{size_of}
 use Rattle.base.specs.Words.{BackToBack}
@@ -10,7 +10,7 @@ use Rattle.base_data.specs.declared.rdata.RData.{RData}
 use Rattle.rr.specs.Record.{IsRecordAt, plain_record}
 use Rattle.rr.specs.declared.record.Record.{Record}
 use Rattle.op.specs.EdnsRecord.{edns_record, plain_edns}
-use Rattle.op.specs.Fits.{listed, plain_queries, signature_record}
+use Rattle.op.specs.Fits.{listed, plain_queries, signature_record, with_high_bits}
 use Rattle.op.specs.Message.{IsMessageAt, MessageValue, message_at}
 use Rattle.op.specs.Query.{IsQueryAt}
 use Rattle.op.specs.ResponseCode.{code_number, code_value}
@@ -71,12 +71,19 @@ owners w = query_owners w.queries_stand ++ (record_owners w.answers_stand ++ (re
 
 -- the message's EDNS, with the high bits of its code
 abbrev pub raised : MessageValue → Option Edns
-raised m = option_map (λ (e : Edns). record e { rcode_high = code_number m.metadata.response_code / 16 % 256 }) m.edns
+raised m = option_map (with_high_bits m.metadata.response_code) m.edns
 
 -- how many codes can be told apart: by four bits, and with EDNS by twelve
 abbrev pub code_range : Option Edns → ℕ
 code_range None = 16
 code_range (Some e) = 4096
+
+-- the message as the wire has it: its code as far as it is written, and the raised EDNS
+abbrev pub as_written : MessageValue → MessageValue
+as_written m = record m {
+  metadata = record m.metadata { response_code = code_value (code_number m.metadata.response_code % code_range m.edns) };
+  edns = raised m;
+}
 
 -- B is a cut of m under the limit, read as c.
 pub record IsCut (m : MessageValue) (limit : ℕ) (B : List ℕ) (c : MessageValue) : Type 0 where

@@ -1,5 +1,5 @@
 -- What writing a message leaves, in an encoder's states.
-use Rattle.std.specs.Prelude.{◌≡◌, ℕ, Bool, true, ◌+◌, ◌<◌, ◌≤◌, ◌||◌, List, ◌++◌, length, replicate}
+use Rattle.std.specs.Prelude.{◌≡◌, ℕ, Bool, true, ◌+◌, ◌<◌, ◌≤◌, ◌||◌, List, [], ◌++◌, length, replicate}
 use Rattle.std.specs.Option.{option_map}
 use Rattle.base.specs.Items.{EachWritten}
 use Rattle.base.specs.State.{State, appended, overwritten}
@@ -78,3 +78,27 @@ Leaves m old refusals.MaxBufferSizeExceeded new = (old.limit < length old.bytes 
 Leaves m old (refusals.NotAllRecordsWritten count) new =
     (length old.bytes + 12 ≤ old.limit) × WritesFront QueryWord plain_query query_owner m.queries (appended (replicate 12 0) old) new count true
 Leaves m old _ new = ⊥
+
+-- ---- by a new encoder
+
+-- an encoder that is new, but for its limit: it holds nothing
+pub record IsNew (limit : ℕ) (s : State) : Type 0 where
+  pub bytes : s.bytes ≡ []
+  pub within : s.limit ≡ limit
+  pub suffixes : s.suffixes ≡ []
+
+-- the bytes are what writing the message leaves in an encoder that was new
+pub record EmittedNew (m : MessageValue) (limit : ℕ) (bytes : List ℕ) : Type 0 where
+  pub old : State
+  pub new : State
+  pub header : Header
+  pub begun : IsNew limit old
+  pub emitted : Emitted m old new header
+  pub all : bytes ≡ new.bytes
+
+-- a refusal but for memory of writing the message by an encoder that was new, and what it leaves there
+pub record LeavesNew (m : MessageValue) (limit : ℕ) (e : ProtoError) : Type 0 where
+  pub old : State
+  pub new : State
+  pub begun : IsNew limit old
+  pub left : Leaves m old e new

@@ -1,16 +1,20 @@
 -- Messages that the wire can carry (RFC 1035, 4.1; RFC 2136, 2.4 and 2.5; RFC 6891, 6.1; RFC 8945, 5.1).
-use Rattle.std.specs.Prelude.{◌≡◌, ℕ, All, ◌+◌, ◌<◌, ◌≤◌, List, [], ◌∷◌, Option, Some, None, false}
+use Rattle.std.specs.Prelude.{◌≡◌, ℕ, All, ◌+◌, ◌/◌, ◌%◌, ◌<◌, ◌≤◌, List, [], ◌∷◌, Option, Some, None, false}
+use Rattle.std.specs.Option.{option_map}
 use Rattle.base_data.specs.declared.rdata.RData.{RData}
 use Rattle.base_data.specs.declared.rdata.RData.TheVariants as kinds
 use Rattle.rr.specs.Record.{FitsRecord, with_data}
 use Rattle.rr.specs.declared.record.Record.{Record}
+use Rattle.op.specs.EdnsRecord.{edns_record}
 use Rattle.op.specs.Message.{MessageValue}
 use Rattle.op.specs.OpCode.{op_number, op_value}
 use Rattle.op.specs.Query.{FitsQuery, plain_query}
+use Rattle.op.specs.ResponseCode.{code_number}
 use Rattle.op.specs.Section.{IsGiven, is_additional, is_opt, is_signature}
 use Rattle.op.specs.declared.edns.Edns.{Edns}
 use Rattle.op.specs.declared.op_code.OpCode.{OpCode}
 use Rattle.op.specs.declared.query.Query.{Query}
+use Rattle.op.specs.declared.response_code.ResponseCode.{ResponseCode}
 
 -- a list of one or none
 abbrev pub listed : {X : Type 0} → Option X → List X
@@ -20,6 +24,18 @@ listed (Some x) = x ∷ []
 -- a signature's record as any record
 abbrev pub signature_record : Record (List ℕ) → Record RData
 signature_record r = with_data kinds.TSIG r
+
+-- the record of a signature, if there is one
+abbrev pub signature_records : Option (Record (List ℕ)) → List (Record RData)
+signature_records signature = listed (option_map signature_record signature)
+
+-- EDNS with the high bits of a code in place of its own (RFC 6891, 6.1.3)
+abbrev pub with_high_bits : ResponseCode → Edns → Edns
+with_high_bits code e = record e { rcode_high = code_number code / 16 % 256 }
+
+-- the OPT record that is written of EDNS, if there is EDNS: it has the high bits of the message's code
+abbrev pub opt_records : ResponseCode → Option Edns → List (Record RData)
+opt_records code edns = listed (option_map (λ e. edns_record (with_high_bits code e)) edns)
 
 -- A record of answers or authorities that fits. If its data is empty, the message is an Update; it is no OPT, SIG or TSIG,
 -- which stand among additionals alone.

@@ -4,6 +4,7 @@ pub mod Edns
 pub mod EdnsFlags
 pub mod EdnsRecord
 pub mod Emitted
+pub mod Fault
 pub mod Fits
 pub mod Flags
 pub mod Header

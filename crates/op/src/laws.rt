@@ -1,11 +1,13 @@
 //! Laws of the codes and of the types of the header. Each is the contract of an empty function.
-ghost use Rattle.std.specs.Prelude.{◌≡◌, ◌↔◌, ◌%◌, ◌<◌, ◌^◌, ℕ, Some, IsTrue};
+ghost use Rattle.std.specs.Prelude.{◌≡◌, ◌↔◌, ◌%◌, ◌<◌, ◌^◌, ℕ, Some, IsTrue, false};
 ghost use Rattle.op.specs.MessageType.{message_type_cmp};
 ghost use Rattle.op.specs.Metadata.{metadata_cmp};
 ghost use Rattle.op.specs.OpCode.{op_number, op_value, op_cmp};
 ghost use Rattle.op.specs.ResponseCode.{code_number, code_value, code_low, code_high, code_from, code_cmp};
 ghost use Rattle.op.specs.Header.{header_cmp};
 ghost use Rattle.op.specs.HeaderCounts.{zero_counts, counts_cmp};
+ghost use Rattle.op.specs.declared.edns.Edns.{Edns};
+ghost use Rattle.op.specs.declared.edns.edns_flags.EdnsFlags.{EdnsFlags};
 ghost use Rattle.op.specs.declared.header.Header.{Header};
 ghost use Rattle.op.specs.declared.header.flags.Flags.{Flags};
 ghost use Rattle.op.specs.declared.header.header_counts.HeaderCounts.{HeaderCounts};
@@ -15,6 +17,7 @@ ghost use Rattle.op.specs.declared.op_code.OpCode.{OpCode};
 ghost use Rattle.op.specs.declared.response_code.ResponseCode.{ResponseCode};
 ghost use Rattle.op.specs.declared.response_code.ResponseCode.TheVariants as response_codes;
 
+use crate::edns::{Edns, EdnsFlags};
 use crate::header::{Flags, Header, HeaderCounts, MessageType, Metadata};
 use crate::op_code::OpCode;
 use crate::response_code::ResponseCode;
@@ -42,6 +45,11 @@ pub fn default_is_no_error()
 /// The default counts are zeros.
 pub fn default_counts_are_zero()
     ensures { (counts : HeaderCounts) → ⟦<HeaderCounts as Default>⟧.is_default counts → counts ≡ zero_counts }
+{}
+
+/// The default flags of EDNS are all clear.
+pub fn default_edns_flags_are_clear()
+    ensures { (flags : EdnsFlags) → ⟦<EdnsFlags as Default>⟧.is_default flags → flags ≡ record { dnssec_ok = false; z = 0 } }
 {}
 
 /// Operations are ordered as they are listed, and two unknown ones by number.
@@ -107,4 +115,14 @@ pub fn equal_counts_are_the_same()
 /// Two headers are `==` exactly where they are the same.
 pub fn equal_headers_are_the_same()
     ensures { (a b : Header) → IsTrue (⟦<Header as PartialEq>⟧.eq a b) ↔ (a ≡ b) }
+{}
+
+/// Two values of the flags of EDNS are `==` exactly where they are the same.
+pub fn equal_edns_flags_are_the_same()
+    ensures { (a b : EdnsFlags) → IsTrue (⟦<EdnsFlags as PartialEq>⟧.eq a b) ↔ (a ≡ b) }
+{}
+
+/// Two values of EDNS are `==` exactly where they are the same, options and all.
+pub fn equal_edns_is_the_same()
+    ensures { (a b : Edns) → IsTrue (⟦<Edns as PartialEq>⟧.eq a b) ↔ (a ≡ b) }
 {}

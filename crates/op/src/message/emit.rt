@@ -3,8 +3,9 @@
 ghost use Rattle.std.specs.Prelude.{◌≡◌, ◌⊎◌, [], IfErr, IfOk, IsOkUnless};
 ghost use Rattle.base.specs.Laws.{Keeps};
 ghost use Rattle.base.specs.Wire.{state_of};
+ghost use Rattle.op.specs.Composition.{IsTooMany};
 ghost use Rattle.op.specs.Cut.{IsTooSmall, IsWritten};
-ghost use Rattle.op.specs.Emitted.{Emitted, Leaves};
+ghost use Rattle.op.specs.Emitted.{Emitted, EmittedNew, Leaves, LeavesNew};
 ghost use Rattle.op.specs.Fits.{Fits, HasRoom};
 ghost use Rattle.op.specs.Message.{message_value};
 ghost use Rattle.op.specs.declared.header.Header.{Header as WrittenHeader};
@@ -20,15 +21,17 @@ impl Message {
     /// so. Into a new encoder, of a message that fits the wire, this writes a cut of the message, which is read as
     /// exactly that.
     ///
-    /// Refused with `MaxBufferSizeExceeded` where the header doesn't fit, and then nothing is written; with
-    /// `NotAllRecordsWritten` where the questions don't, behind so many that are written; with a `Message` where a count
-    /// passes 65,535; and for want of memory. Into a new encoder no count passes that, and with room for header and
-    /// questions uncompressed it is refused for want of memory alone.
+    /// Refused, whatever the encoder holds, with `MaxBufferSizeExceeded` where the header doesn't fit, and then nothing is
+    /// written; with `NotAllRecordsWritten` where the questions don't, behind so many that are written, which are all
+    /// before the first that doesn't fit; with a `Message` where a count passes 65,535; and for want of memory. Into a
+    /// new encoder no count passes that, and with room for header and questions uncompressed it is refused for want of
+    /// memory alone.
     pub fn emit(&self, encoder: &mut BinEncoder<'_>) -> Result<(), ProtoError>
         ensures keeps { Keeps (state_of encoder.old) (state_of encoder.new) }
         ensures emitted { IfOk result (λ _. (h : WrittenHeader) × Emitted (message_value self.now) (state_of encoder.old) (state_of encoder.new) h) }
         ensures written { Fits (message_value self.now) → (state_of encoder.old).bytes ≡ [] → (state_of encoder.old).suffixes ≡ []
             → IfOk result (λ _. IsWritten (message_value self.now) (state_of encoder.old).limit (state_of encoder.new).bytes) }
+        ensures only { IfErr result (λ e. (e ≡ ProtoError.Memory) ⊎ (Leaves (message_value self.now) (state_of encoder.old) e (state_of encoder.new) ⊎ IsTooMany e)) }
         ensures succeeds { (state_of encoder.old).bytes ≡ [] → (state_of encoder.old).suffixes ≡ [] → HasRoom (message_value self.now) (state_of encoder.old).limit
             → IsOkUnless result ProtoError.Memory }
         ensures refused { (state_of encoder.old).bytes ≡ [] → (state_of encoder.old).suffixes ≡ []
@@ -40,13 +43,16 @@ impl Message {
         Ok(())
     }
 
-    /// The bytes of the message, cut at 65,535 bytes (RFC 1035, 4.2.2).
+    /// The bytes of the message, cut at 65,535 bytes (RFC 1035, 4.2.2): what `emit` leaves in a new encoder.
     ///
-    /// Refused with `NotAllRecordsWritten` where the questions don't fit, and for want of memory.
+    /// Refused with `NotAllRecordsWritten` where the questions don't fit, with the number of those before the first that
+    /// doesn't; and for want of memory.
     pub fn to_vec(&self) -> Result<Vec<u8>, ProtoError>
         ensures succeeds { HasRoom (message_value self.now) 65535 → IsOkUnless result ProtoError.Memory }
         ensures written { Fits (message_value self.now) → IfOk result (λ bytes. IsWritten (message_value self.now) 65535 bytes.items) }
         ensures refused { IfErr result (λ e. (e ≡ ProtoError.Memory) ⊎ IsTooSmall (message_value self.now) 65535 e) }
+        ensures emitted { IfOk result (λ bytes. EmittedNew (message_value self.now) 65535 bytes.items) }
+        ensures left { IfErr result (λ e. (e ≡ ProtoError.Memory) ⊎ LeavesNew (message_value self.now) 65535 e) }
     {
         let mut buffer = Vec::new(*self.queries.allocator());
         {

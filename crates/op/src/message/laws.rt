@@ -1,12 +1,13 @@
 //! What reading means: the words of a message (RFC 1035, 4.1).
 
-ghost use Rattle.std.specs.Prelude.{◌≡◌, ◌<◌, ◌↔◌, ℕ, All, Bool, IsTrue, List, length, Ok};
+ghost use Rattle.std.specs.Prelude.{◌≡◌, ◌<◌, ◌↔◌, ℕ, All, Bool, IsTrue, List, length, Ok, Err};
 ghost use Rattle.std.specs.Cmp.{IsEquivalence};
 ghost use Rattle.std.specs.Cmp.Lexicographic.{pointwise};
 ghost use Rattle.std.specs.Option.{option_eq, option_map};
 ghost use Rattle.base.specs.Many.{many_at};
 ghost use Rattle.base.specs.Words.{BackToBack};
-ghost use Rattle.op.specs.Cut.{IsCut, IsUncut};
+ghost use Rattle.op.specs.Cut.{IsCut, IsUncut, as_written};
+ghost use Rattle.op.specs.Fault.{IsMessageFault, IsQueriesFault, IsSectionFault};
 ghost use Rattle.op.specs.Fits.{Fits};
 ghost use Rattle.op.specs.Message.{IsMessageAt, MessageValue, message_at};
 ghost use Rattle.op.specs.Query.{IsQueryAt, query_at};
@@ -17,16 +18,21 @@ ghost use Rattle.op.specs.declared.query.Query.{Query};
 use crate::edns::Edns;
 use crate::message::Message;
 use crate::query::Query;
+use base::DecodeError;
 use base_data::{RData, TSIG};
 use rr::Record;
 
 /// Reading a message is the message word: it answers exactly the messages whose words stand there, and a place
-/// begins one at most. The same for the records of a section, and for questions back to back.
+/// begins one at most; and it refuses with the first fault of what stands there. The same for the records of a
+/// section, and for questions back to back (RFC 1035, 4.1).
 pub fn reading_is_the_message_word()
     ensures word { (B : List ℕ) (i : ℕ) (m : MessageValue) (e : ℕ) → (message_at B i ≡ Ok (m, e)) ↔ IsMessageAt B i m e }
     ensures once { (B : List ℕ) (i : ℕ) (m n : MessageValue) (e f : ℕ) → IsMessageAt B i m e → IsMessageAt B i n f → (m ≡ n) × (e ≡ f) }
     ensures section { (is_additional : Bool) (op : _) (count : ℕ) (B : List ℕ) (i : ℕ) (s : SectionValue) (e : ℕ) → (section_at is_additional op count B i ≡ Ok (s, e)) ↔ IsSectionAt is_additional op count B i s e }
     ensures questions { (count : ℕ) (B : List ℕ) (i : ℕ) (qs : List Query) (e : ℕ) → (many_at query_at count B i ≡ Ok (qs, e)) ↔ (BackToBack (IsQueryAt B) i qs e × (length qs ≡ count)) }
+    ensures fault { (B : List ℕ) (i : ℕ) (f : DecodeError) → (message_at B i ≡ Err f) ↔ IsMessageFault B i f }
+    ensures section_fault { (is_additional : Bool) (op : _) (count : ℕ) (B : List ℕ) (i : ℕ) (f : DecodeError) → (section_at is_additional op count B i ≡ Err f) ↔ IsSectionFault is_additional op count B i f }
+    ensures questions_fault { (count : ℕ) (B : List ℕ) (i : ℕ) (f : DecodeError) → (many_at query_at count B i ≡ Err f) ↔ IsQueriesFault count B i f }
 {}
 
 /// A message that was read fits, and an uncut cut of it is the same message.
@@ -34,6 +40,13 @@ pub fn what_is_read_fits()
     ensures fits { (B : List ℕ) (i : ℕ) (m : MessageValue) (e : ℕ) → IsMessageAt B i m e → Fits m }
     ensures uncut { (B : List ℕ) (i : ℕ) (m : MessageValue) (e : ℕ) → IsMessageAt B i m e → All (λ b. b < 256) B
         → (limit : ℕ) (C : List ℕ) (c : MessageValue) (k : IsCut m limit C c) → IsUncut k → c ≡ m }
+{}
+
+/// An uncut cut of a message is that message, whatever it holds, but for what the wire can't have: the code as far as it
+/// is written, in four bits or with EDNS in twelve, and the high bits of EDNS, which are the code's (RFC 1035, 4.1.1;
+/// RFC 6891, 6.1.3).
+pub fn uncut_is_the_message()
+    ensures { (m : MessageValue) (limit : ℕ) (C : List ℕ) (c : MessageValue) (k : IsCut m limit C c) → IsUncut k → c ≡ as_written m }
 {}
 
 /// Messages are equal where their metadata is the same, and their questions, the records of their sections, their EDNS

@@ -1,8 +1,9 @@
 //! Reads messages (RFC 1035, 4.1).
 
-ghost use Rattle.std.specs.Prelude.{◌≡◌, ℕ, IfErr, IfOk, MatchResult};
+ghost use Rattle.std.specs.Prelude.{◌≡◌, ◌⊎◌, ℕ, IfErr, IfOk, MatchResult};
 ghost use Rattle.base.specs.Many.{many_at};
 ghost use Rattle.base.specs.Reading.{Fails, Reads};
+ghost use Rattle.op.specs.Fault.{IsMessageFault};
 ghost use Rattle.op.specs.Fits.{Fits};
 ghost use Rattle.op.specs.Message.{IsMessageAt, MessageValue, high_code, message_at, message_value};
 ghost use Rattle.op.specs.Query.{query_at};
@@ -132,6 +133,7 @@ impl Message {
         ensures found { IfOk result (λ m. (e : ℕ) × IsMessageAt buffer.now 0 (message_value m) e) }
         ensures only { (m : MessageValue) (e : ℕ) → IsMessageAt buffer.now 0 m e → MatchResult result (λ read. message_value read ≡ m) (λ f. f ≡ DecodeError.Memory) }
         ensures refused { IfErr result (λ f. Fails f (message_at buffer.now 0)) }
+        ensures fault { IfErr result (λ f. (f ≡ DecodeError.Memory) ⊎ IsMessageFault buffer.now 0 f) }
         ensures fits { IfOk result (λ m. Fits (message_value m)) }
     {
         Message::read(&mut BinDecoder::new(alloc, buffer))

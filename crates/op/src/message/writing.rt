@@ -1,17 +1,15 @@
 //! Writes messages (RFC 1035, 4.1).
 
-ghost use Rattle.std.specs.Prelude.{◌≡◌, ◌/◌, ◌%◌, ◌||◌, ◌<◌, ◌^◌, [], IfErr, IfOk, ◌⊎◌};
-ghost use Rattle.std.specs.Option.{option_copied, option_map};
+ghost use Rattle.std.specs.Prelude.{◌≡◌, ◌||◌, ◌<◌, ◌^◌, [], IfErr, IfOk, ◌⊎◌};
+ghost use Rattle.std.specs.Option.{option_copied};
 ghost use Rattle.base.specs.Laws.{Keeps};
 ghost use Rattle.base.specs.Wire.{state_of};
-ghost use Rattle.op.specs.Composition.{Composition, HasHeader};
+ghost use Rattle.op.specs.Composition.{Composition, HasHeader, IsTooMany};
 ghost use Rattle.op.specs.Cut.{IsTooSmall};
-ghost use Rattle.op.specs.EdnsRecord.{edns_record};
 ghost use Rattle.op.specs.Emitted.{Emitted, Leaves};
-ghost use Rattle.op.specs.Fits.{listed, signature_record};
+ghost use Rattle.op.specs.Fits.{opt_records, signature_records};
 ghost use Rattle.op.specs.Header.{IsNarrow};
 ghost use Rattle.op.specs.Message.{message_value};
-ghost use Rattle.op.specs.ResponseCode.{code_number};
 
 mod extras;
 mod parts;
@@ -58,8 +56,7 @@ where
     ensures keeps { Keeps (state_of encoder.old) (state_of encoder.new) }
     ensures run { Composition A.emits N.emits D.emits answers.old answers.new authorities.old authorities.new additionals.old additionals.new
         metadata.now Q.emits queries.old queries.new
-        (listed (option_map (λ e. edns_record (record e { rcode_high = code_number metadata.now.response_code / 16 % 256 })) (option_copied edns.entry)))
-        (listed (option_map signature_record (option_copied signature.entry)))
+        (opt_records metadata.now.response_code (option_copied edns.entry)) (signature_records (option_copied signature.entry))
         (state_of encoder.old) result (state_of encoder.new) }
     ensures narrow { (state_of encoder.old).limit < 2 ^ 16 }
 {
@@ -78,6 +75,7 @@ impl Message {
     pub(crate) fn emit_header(&self, encoder: &mut BinEncoder<'_>) -> Result<Header, ProtoError>
         ensures keeps { Keeps (state_of encoder.old) (state_of encoder.new) }
         ensures emitted { IfOk result (λ h. Emitted (message_value self.now) (state_of encoder.old) (state_of encoder.new) h) }
+        ensures only { IfErr result (λ e. (e ≡ ProtoError.Memory) ⊎ (Leaves (message_value self.now) (state_of encoder.old) e (state_of encoder.new) ⊎ IsTooMany e)) }
         ensures refused { (state_of encoder.old).bytes ≡ [] → (state_of encoder.old).suffixes ≡ []
             → IfErr result (λ e. (e ≡ ProtoError.Memory) ⊎ IsTooSmall (message_value self.now) (state_of encoder.old).limit e) }
         ensures left { (state_of encoder.old).bytes ≡ [] → (state_of encoder.old).suffixes ≡ []

@@ -1,13 +1,10 @@
 //! What stands behind the additional records: OPT and the signature.
 
-ghost use Rattle.std.specs.Prelude.{◌/◌, ◌%◌};
-ghost use Rattle.std.specs.Option.{option_copied, option_map};
+ghost use Rattle.std.specs.Option.{option_copied};
 ghost use Rattle.base.specs.Laws.{Keeps};
 ghost use Rattle.base.specs.Wire.{state_of};
 ghost use Rattle.op.specs.Composition.{WritesExtras, WritesRecordItems};
-ghost use Rattle.op.specs.EdnsRecord.{edns_record};
-ghost use Rattle.op.specs.Fits.{listed, signature_record};
-ghost use Rattle.op.specs.ResponseCode.{code_number};
+ghost use Rattle.op.specs.Fits.{opt_records, signature_records};
 
 use super::parts::{Written, added, emit_item};
 use crate::edns::Edns;
@@ -25,8 +22,8 @@ pub(crate) fn emit_extras(
     encoder: &mut BinEncoder<'_>,
 ) -> Result<Written, ProtoError>
     ensures keeps { Keeps (state_of encoder.old) (state_of encoder.new) }
-    ensures run { WritesExtras (listed (option_map (λ e. edns_record (record e { rcode_high = code_number response_code / 16 % 256 })) (option_copied edns.entry)))
-        (listed (option_map signature_record (option_copied signature.entry))) additionals (state_of encoder.old) result (state_of encoder.new) }
+    ensures run { WritesExtras (opt_records response_code (option_copied edns.entry)) (signature_records (option_copied signature.entry)) additionals
+        (state_of encoder.old) result (state_of encoder.new) }
 {
     let opt = emit_edns(edns, response_code, encoder)?;
     let sum = added(additionals, opt)?;
@@ -41,8 +38,7 @@ fn emit_edns(
     encoder: &mut BinEncoder<'_>,
 ) -> Result<Written, ProtoError>
     ensures keeps { Keeps (state_of encoder.old) (state_of encoder.new) }
-    ensures run { WritesRecordItems (listed (option_map (λ e. edns_record (record e { rcode_high = code_number response_code / 16 % 256 })) (option_copied edns.entry)))
-        (state_of encoder.old) result (state_of encoder.new) }
+    ensures run { WritesRecordItems (opt_records response_code (option_copied edns.entry)) (state_of encoder.old) result (state_of encoder.new) }
 {
     let Some(edns) = edns else {
         return Ok(NOTHING);
@@ -58,7 +54,7 @@ fn emit_signature(
     encoder: &mut BinEncoder<'_>,
 ) -> Result<Written, ProtoError>
     ensures keeps { Keeps (state_of encoder.old) (state_of encoder.new) }
-    ensures run { WritesRecordItems (listed (option_map signature_record (option_copied signature.entry))) (state_of encoder.old) result (state_of encoder.new) }
+    ensures run { WritesRecordItems (signature_records (option_copied signature.entry)) (state_of encoder.old) result (state_of encoder.new) }
 {
     match signature {
         Some(signature) => emit_item(signature, encoder),

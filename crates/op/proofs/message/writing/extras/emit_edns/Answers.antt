@@ -1,10 +1,10 @@
-use Rattle.std.proofs.Common.{◌≡◌, ◌/◌, ◌%◌, refl, ap, ◌∙◌, subst, [], ◌∷◌}
+use Rattle.std.proofs.Common.{◌≡◌, refl, ap, ◌∙◌, subst, [], ◌∷◌}
 use Rattle.base.proofs.LawLemmas.{Keeps-same}
 use Rattle.rr.specs.Record.{RecordWord, plain_record}
 use Rattle.op.specs.EdnsRecord.{edns_record}
 use Rattle.op.specs.Emitted.{record_owner}
 use Rattle.op.specs.Composition.{WritesRecordItems}
-use Rattle.op.specs.ResponseCode.{code_number}
+use Rattle.op.specs.Fits.{with_high_bits}
 use Rattle.op.specs.declared.edns.Edns.{Edns}
 use Rattle.base.specs.Wire.{state_of}
 use Rattle.op.proofs.FrontLemmas.{items_map}
@@ -19,6 +19,6 @@ returns-in_err-raised-clause-keeps c = Keeps-same _ _ refl
 pub returns-clause-run : goal.returns-clause-run
 returns-clause-run c =
     let run = items_map edns_record RecordWord plain_record record_owner _ _ _ c.emit_item.result c.emit_item.ensures.run in
-    let raised : ◌≡◌ {A = Edns} (record c.in_ok-raised.raised { rcode_high = c.high.result }) (record c.in-Some.edns.now { rcode_high = code_number c.args.response_code / 16 % 256 }) =
-    ap (λ k. record c.in_ok-raised.raised { rcode_high = k }) c.high.ensures ∙ ap (λ (e : Edns). record e { rcode_high = code_number c.args.response_code / 16 % 256 }) c.in_ok-raised.ensures.cases in
+    let raised : ◌≡◌ {A = Edns} (record c.in_ok-raised.raised { rcode_high = c.high.result }) (with_high_bits c.args.response_code c.in-Some.edns.now) =
+    ap (λ k. record c.in_ok-raised.raised { rcode_high = k }) c.high.ensures ∙ ap (with_high_bits c.args.response_code) c.in_ok-raised.ensures.cases in
     rw c.in-Some.is (subst (λ (e : Edns). WritesRecordItems (edns_record e ∷ []) (state_of c.args.encoder.now) c.emit_item.result (state_of c.emit_item.new.encoder)) raised run)

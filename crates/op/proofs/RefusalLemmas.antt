@@ -1,0 +1,183 @@
+-- What writing a message of slices is refused with, whatever the encoder holds.
+use Rattle.std.proofs.Common.{◌≡◌, ◌⊎◌, ℕ, ◌+◌, ◌<◌, List, ◌∷◌, ◌++◌, length, inl, inr, refl, ap, sym, ◌∙◌, subst, arith, length-append, Result, Ok, Err, Iter}
+use Rattle.std.specs.Prelude.{IfErr, ⊤, replicate, true}
+use Rattle.base.specs.Items.{EachWritten}
+use Rattle.base.specs.State.{State}
+use Rattle.base.specs.declared.error.proto_error.ProtoError.{ProtoError}
+use Rattle.base.specs.declared.error.proto_error.ProtoError.TheVariants as refusals
+use Rattle.base.proofs.SliceLemmas.{Emits-front}
+use Rattle.base_data.specs.declared.rdata.RData.{RData}
+use Rattle.rr.specs.declared.record.Record.{Record}
+use Rattle.op.specs.Composition.{Adds, AndThen, Counts, EmitsPart, EmitsSections, FillsIn, HasHeader, IsTooMany, KeepsRoom, Tests, WritesExtras, WritesRecordItems}
+use Rattle.op.specs.Emitted.{Leaves, WritesFront, query_owner}
+use Rattle.op.specs.Message.{MessageValue}
+use Rattle.op.specs.Query.{QueryWord, plain_query}
+use Rattle.op.specs.declared.header.Header.{Header}
+use Rattle.op.specs.declared.message.writing.parts.Sections.{Sections}
+use Rattle.op.specs.declared.message.writing.parts.Written.{Written}
+use Rattle.op.specs.declared.query.Query.{Query}
+use Rattle.op.proofs.EmittedLemmas.{AreOf, Composed, emits_queries, emits_records}
+use Rattle.op.proofs.RunLemmas.{Both, failed, same_err}
+
+-- ---- no room
+
+-- want of memory, or no room for header or questions
+abbrev pub Left : MessageValue → State → State → ProtoError → Type 0
+Left m old new f = (f ≡ refusals.Memory) ⊎ Leaves m old f new
+
+pub room_failed : (m : MessageValue) (old new : State) (f : ProtoError) → KeepsRoom old (Err f) new → Left m old new f
+room_failed m old new refusals.Memory run = inl refl
+room_failed m old new refusals.MaxBufferSizeExceeded run = inr (run.1, run.0)
+room_failed m old new (refusals.NotAllRecordsWritten count) run = absurd run.1
+room_failed m old new refusals.NotOpt run = absurd run.1
+room_failed m old new (refusals.Message text) run = absurd run.1
+room_failed m old new refusals.NotAResponse run = absurd run.1
+room_failed m old new (refusals.Decode d) run = absurd run.1
+
+module _ (m : MessageValue) (q q' : Iter Query) (a a' n n' d d' : Iter (Record RData)) (edns signature : List (Record RData)) (are : AreOf m q q' a a' n n' d d' edns signature) (old new : State)
+    (place : ℕ) (kept : State) (room : KeepsRoom old (Ok place) kept) where
+  -- the questions before one that had no room
+  not_all : (xs rest : List Query) (x : Query) (count : ℕ) → q.rest.now ≡ xs ++ x ∷ rest → EachWritten QueryWord plain_query query_owner xs kept new → count ≡ length xs → kept.limit < length new.bytes + plain_query x
+      → Leaves m old (refusals.NotAllRecordsWritten count) new
+  not_all xs rest x count whole each counted full =
+      let front : WritesFront QueryWord plain_query query_owner m.queries kept new count true = record {
+        kept = xs;
+        lost = x ∷ rest;
+        whole = sym are.queries ∙ whole;
+        written = each;
+        counted = counted;
+        tells = refl;
+        full = full;
+      } in
+      let fits = ap (λ (s : State). length s.bytes) room.1 ∙ length-append old.bytes (replicate 12 0) in
+      (omega (arith, room.2, fits), subst (λ s. WritesFront QueryWord plain_query query_owner m.queries s new count true) room.1 front)
+
+  pub queries_failed : (f : ProtoError) → emits_queries q kept (Err f) q' new → Left m old new f
+  queries_failed refusals.Memory run = inl refl
+  queries_failed (refusals.NotAllRecordsWritten count) run =
+      let front = Emits-front QueryWord plain_query query_owner q q' kept new count run in
+      inr (not_all front.0 front.2 front.1 count front.3 front.4 front.5 front.6)
+  queries_failed refusals.MaxBufferSizeExceeded run = absurd run
+  queries_failed refusals.NotOpt run = absurd run
+  queries_failed (refusals.Message text) run = absurd run
+  queries_failed refusals.NotAResponse run = absurd run
+  queries_failed (refusals.Decode d) run = absurd run
+
+-- ---- counts
+
+-- want of memory, or a count that two bytes don't hold
+abbrev OrTooMany : ProtoError → Type 0
+OrTooMany e = (e ≡ refusals.Memory) ⊎ IsTooMany e
+
+part_counted : (s t : Iter (Record RData)) (a b : State) (answer : Result ℕ ProtoError) (e : ProtoError) → emits_records s a answer t b → Counts answer (Err e) → OrTooMany e
+part_counted s t a b (Ok n) e emits counts = inr (inl counts.1)
+part_counted s t a b (Err (refusals.NotAllRecordsWritten n)) e emits counts = inr (inl counts.1)
+part_counted s t a b (Err refusals.Memory) e emits counts = inl (same_err {Y = Written} e refusals.Memory counts)
+part_counted s t a b (Err refusals.MaxBufferSizeExceeded) e emits counts = absurd emits
+part_counted s t a b (Err refusals.NotOpt) e emits counts = absurd emits
+part_counted s t a b (Err (refusals.Message text)) e emits counts = absurd emits
+part_counted s t a b (Err refusals.NotAResponse) e emits counts = absurd emits
+part_counted s t a b (Err (refusals.Decode d)) e emits counts = absurd emits
+
+module _ (e : ProtoError) where
+  part_refused : (s t : Iter (Record RData)) (a b : State) → EmitsPart emits_records s t a (Err e) b → OrTooMany e
+  part_refused s t a b part = part_counted s t a b part.0 e part.1 part.2
+
+  -- the sections
+  module _ (a a' n n' d d' : Iter (Record RData)) (first last : State) where
+    abbrev Third : Written → Written → Written → State → Result Sections ProtoError → State → Type 0
+    Third answers authorities additionals = Tests (λ result. result ≡ Ok (record { answers = answers; authorities = authorities; additionals = additionals }))
+
+    abbrev Second : Written → Written → State → Result Sections ProtoError → State → Type 0
+    Second answers authorities = AndThen (EmitsPart emits_records d d') ⊤ (Third answers authorities)
+
+    abbrev First : Written → State → Result Sections ProtoError → State → Type 0
+    First answers = AndThen (EmitsPart emits_records n n') (d' ≡ d) (Second answers)
+
+    second_refused : (answers : Written) (second : State) → Both (EmitsPart emits_records n n') (Second answers) second (Err e) last → OrTooMany e
+    second_refused answers second b = elim (failed e b.rest) [ inl part ↦ part_refused d d' b.between last part | inr c ↦ absurd (let is = c.rest.0 in cc) ]
+
+    first_refused : Both (EmitsPart emits_records a a') First first (Err e) last → OrTooMany e
+    first_refused b = elim (failed e b.rest) [ inl part ↦ part_refused n n' b.between last part | inr c ↦ second_refused b.value b.between c ]
+
+    sections_refused : EmitsSections emits_records emits_records emits_records a a' n n' d d' first (Err e) last → OrTooMany e
+    sections_refused run = elim (failed e run) [ inl part ↦ part_refused a a' first last part | inr b ↦ first_refused b ]
+
+  -- OPT and the signature
+  module _ (edns signature : List (Record RData)) (additionals : Written) (fourth last : State) where
+    abbrev Fourth : Written → Written → State → Result Written ProtoError → State → Type 0
+    Fourth sum signed = Tests (Adds sum signed)
+
+    abbrev Third_extra : Written → State → Result Written ProtoError → State → Type 0
+    Third_extra sum = AndThen (WritesRecordItems signature) ⊤ (Fourth sum)
+
+    abbrev Second_extra : Written → State → Result Written ProtoError → State → Type 0
+    Second_extra opt = AndThen (Tests (Adds additionals opt)) ⊤ Third_extra
+
+    sum_refused : (opt : Written) (fifth : State) → Both (Tests (Adds additionals opt)) Third_extra fifth (Err e) last → OrTooMany e
+    sum_refused opt fifth b = elim (failed e b.rest) [ inl memory ↦ inl memory | inr c ↦ inr (inl c.rest.0.1) ]
+
+    opt_refused : Both (WritesRecordItems edns) Second_extra fourth (Err e) last → OrTooMany e
+    opt_refused b = elim (failed e b.rest) [ inl test ↦ inr (inl test.0.1) | inr c ↦ sum_refused b.value b.between c ]
+
+    extras_refused : WritesExtras edns signature additionals fourth (Err e) last → OrTooMany e
+    extras_refused run = elim (failed e run) [ inl memory ↦ inl memory | inr b ↦ opt_refused b ]
+
+-- ---- the whole
+
+module _ (m : MessageValue) (q q' : Iter Query) (a a' n n' d d' : Iter (Record RData)) (edns signature : List (Record RData)) (are : AreOf m q q' a a' n n' d d' edns signature) (old new : State) (e : ProtoError) where
+  abbrev Headed : ℕ → ℕ → Sections → Written → State → Result Header ProtoError → State → Type 0
+  Headed place queries sections additionals = AndThen (Tests (HasHeader m.metadata queries sections additionals)) ⊤ (FillsIn place)
+
+  abbrev Extended : ℕ → ℕ → Sections → State → Result Header ProtoError → State → Type 0
+  Extended place queries sections = AndThen (WritesExtras edns signature sections.additionals) ⊤ (Headed place queries sections)
+
+  abbrev Sectioned : ℕ → ℕ → State → Result Header ProtoError → State → Type 0
+  Sectioned place queries = AndThen (EmitsSections emits_records emits_records emits_records a a' n n' d d') ⊤ (Extended place queries)
+
+  abbrev Asked : ℕ → State → Result Header ProtoError → State → Type 0
+  Asked place = AndThen (λ s answer t. emits_queries q s answer q' t) ((a' ≡ a) × (n' ≡ n) × (d' ≡ d)) (Sectioned place)
+
+  header_refused : (place queries : ℕ) (sixth : State) (sections : Sections) (total : Written) → Headed place queries sections total sixth (Err e) new → OrTooMany e
+  header_refused place queries sixth sections total run = elim (failed e run) [ inl test ↦ inr (inr test.0.1) | inr b ↦ absurd (let is = b.rest.0 in cc) ]
+
+  extras_next : (place queries : ℕ) (sections : Sections) (fourth : State) → Extended place queries sections fourth (Err e) new → OrTooMany e
+  extras_next place queries sections fourth run =
+      elim (failed e run) [
+        | inl extras ↦ extras_refused e edns signature sections.additionals fourth new extras
+        | inr b ↦ header_refused place queries b.between sections b.value b.rest
+      ]
+
+  sections_next : (place queries : ℕ) (first : State) → Sectioned place queries first (Err e) new → OrTooMany e
+  sections_next place queries first run =
+      elim (failed e run) [
+        | inl sections ↦ sections_refused e a a' n n' d d' first new sections
+        | inr b ↦ extras_next place queries b.value b.between b.rest
+      ]
+
+  -- what is left where there is no room, or a count that two bytes don't hold
+  abbrev Refused : Type 0
+  Refused = (e ≡ refusals.Memory) ⊎ (Leaves m old e new ⊎ IsTooMany e)
+
+  left_so : Left m old new e → Refused
+  left_so (inl memory) = inl memory
+  left_so (inr left) = inr (inl left)
+
+  counted_so : OrTooMany e → Refused
+  counted_so (inl memory) = inl memory
+  counted_so (inr many) = inr (inr many)
+
+  queries_next : (place : ℕ) (kept : State) → KeepsRoom old (Ok place) kept → Asked place kept (Err e) new → Refused
+  queries_next place kept room run =
+      elim (failed e run) [
+        | inl queries ↦ left_so (queries_failed m q q' a a' n n' d d' edns signature are old new place kept room e queries)
+        | inr b ↦ counted_so (sections_next place b.value b.between b.rest)
+      ]
+
+  refused_of : Composed m q q' a a' n n' d d' edns signature old (Err e) new → Refused
+  refused_of run = elim (failed e run) [ inl room ↦ left_so (room_failed m old new e room) | inr b ↦ queries_next b.value b.between b.ran b.rest ]
+
+pub only_if : (m : MessageValue) (q q' : Iter Query) (a a' n n' d d' : Iter (Record RData)) (edns signature : List (Record RData)) → AreOf m q q' a a' n n' d d' edns signature → (old new : State) (result : Result Header ProtoError)
+    → Composed m q q' a a' n n' d d' edns signature old result new → IfErr result (λ e. (e ≡ refusals.Memory) ⊎ (Leaves m old e new ⊎ IsTooMany e))
+only_if m q q' a a' n n' d d' edns signature are old new (Ok h) run = tt
+only_if m q q' a a' n n' d d' edns signature are old new (Err e) run = refused_of m q q' a a' n n' d d' edns signature are old new e run

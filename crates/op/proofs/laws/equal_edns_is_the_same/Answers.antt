@@ -1,0 +1,5 @@
+use Rattle.op.proofs.EdnsEquals.{edns_Decide}
+use Rattle.op.proofs.laws.equal_edns_is_the_same.Goals as goal
+
+pub returns : goal.returns
+returns c = edns_Decide
