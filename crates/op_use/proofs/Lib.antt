@@ -1,0 +1,6 @@
+mod BuiltLemmas
+mod Changes
+mod Given
+mod Meaning
+mod MergeSteps
+mod ZoneSteps

@@ -1,0 +1,9 @@
+pub mod DnsResponse
+pub mod NamedChanges
+pub mod Responses
+pub mod SerialMessage
+pub mod Server
+pub mod SoundSet
+pub mod UpdateMeaning
+pub mod UpdateMessage
+pub mod Zone

@@ -1,0 +1,11 @@
+//! What stands on messages: updates and what they mean (RFC 2136), responses and what they say (RFC 2308, 5), and
+//! messages with the address that they came from.
+#![tactic(auto)]
+
+pub mod dns_response;
+pub mod serial_message;
+pub mod update_message;
+
+pub use dns_response::DnsResponse;
+pub use serial_message::SerialMessage;
+pub use update_message::UpdateMessage;
