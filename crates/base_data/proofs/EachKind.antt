@@ -15,13 +15,13 @@ use Rattle.base_data.proofs.MXLemmas.{mx_inside, mx_is, mx_longer, tells_mx}
 use Rattle.base_data.proofs.NameWords.{name_inside, name_longer}
 use Rattle.base_data.proofs.OneNameLemmas.{tells_aname, tells_cname, tells_ns, tells_ptr}
 use Rattle.base_data.proofs.OptionWords.{fills_options, options_inside, options_same, options_some}
-use Rattle.base_data.proofs.ReadRows.{IsRow, again_of, no_row, row_of, seen_as}
+use Rattle.base_data.proofs.ReadRows.{IsRow, again_of, no_row, row_of}
 use Rattle.base_data.proofs.SOALemmas.{soa_inside, soa_is, soa_longer, tells_soa}
 use Rattle.base_data.proofs.SRVLemmas.{srv_inside, srv_is, srv_longer, tells_srv}
 use Rattle.base_data.proofs.SameData.{IsSame, apart, as_bytes, as_name, flag_of, types_Decide}
 use Rattle.base_data.proofs.Tells.{fills_bytes, fills_from}
 use Rattle.base_data.proofs.TextWords.{fills_txt, some_strings}
-use Rattle.base_data.specs.Kinds.{DataWord, FitsTypes, IsReadable, is_carried, kind_at, type_of_data}
+use Rattle.base_data.specs.Kinds.{DataWord, FitsTypes, IsReadable, as_any, is_carried, kind_at, type_of_data}
 use Rattle.base_data.specs.OPT.{options_wire}
 use Rattle.base_data.specs.RData.{filling, is_signature_data, signature_in}
 use Rattle.base_data.specs.contracts.rdata.RDataPartialEq.TheImpl.{ghosts as equality}
@@ -32,7 +32,7 @@ use Rattle.base_data.specs.declared.rdata.RData.{RData}
 -- ---- reading, by type
 
 -- bytes that are carried
-carried_row : (type : RecordType) (len : ℕ) (B : List ℕ) (i : ℕ) → 1 ≤ len → is_carried type ≡ true → IsRow type len B i (seen_as (λ x. kinds.Unknown type x) (bytes_at len B i))
+carried_row : (type : RecordType) (len : ℕ) (B : List ℕ) (i : ℕ) → 1 ≤ len → is_carried type ≡ true → IsRow type len B i (as_any (λ x. kinds.Unknown type x) (bytes_at len B i))
 carried_row type len B i some carried = row_of type len B i (λ x. kinds.Unknown type x) (bytes_at len B i) (fills_bytes len B i some) (λ x is. record { type_is = refl; word = is.0; readable = (carried, is.1) })
 
 pub kind_row : (type : RecordType) (len : ℕ) (B : List ℕ) (i : ℕ) → 1 ≤ len → IsRow type len B i (kind_at type len B i)
@@ -53,7 +53,7 @@ kind_row types.TSIG len B i some = row_of types.TSIG len B i (λ x. kinds.TSIG x
 kind_row types.ZERO len B i some = no_row len B i
 kind_row type len B i some = carried_row type len B i some refl
 
-carried_at : (code : RecordType) (len : ℕ) (B : List ℕ) (i : ℕ) → IsTrue (is_carried code) → kind_at code len B i ≡ seen_as (λ x. kinds.Unknown code x) (bytes_at len B i)
+carried_at : (code : RecordType) (len : ℕ) (B : List ℕ) (i : ℕ) → IsTrue (is_carried code) → kind_at code len B i ≡ as_any (λ x. kinds.Unknown code x) (bytes_at len B i)
 unfolding kind_at
 carried_at types.ZERO len B i carried = cc
 carried_at types.A len B i carried = cc

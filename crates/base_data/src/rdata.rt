@@ -40,7 +40,7 @@ pub use ns::NS;
 pub use null::NULL;
 pub use opt::{EdnsOption, OPT};
 pub use ptr::PTR;
-use reading::read_as;
+use reading::{read_as, read_carried, read_sized};
 pub use soa::SOA;
 pub use srv::SRV;
 use std::alloc::AllocError;
@@ -140,15 +140,12 @@ impl RData {
             RecordType::MX => read_as::<MX>(decoder),
             RecordType::SOA => read_as::<SOA>(decoder),
             RecordType::SRV => read_as::<SRV>(decoder),
-            RecordType::TXT => Ok(RData::TXT(TXT::read(decoder, usize::from(len))?)),
-            RecordType::NULL => Ok(RData::NULL(NULL::read(decoder, usize::from(len))?)),
-            RecordType::OPT => Ok(RData::OPT(OPT::read(decoder, len)?)),
-            RecordType::TSIG => Ok(RData::TSIG(TSIG::read(decoder, usize::from(len))?)),
+            RecordType::TXT => read_sized::<TXT>(decoder, len),
+            RecordType::NULL => read_sized::<NULL>(decoder, len),
+            RecordType::OPT => read_sized::<OPT>(decoder, len),
+            RecordType::TSIG => read_sized::<TSIG>(decoder, len),
             RecordType::ZERO => Err(DecodeError::BadData(RecordType::ZERO)),
-            code => {
-                let rdata = NULL::read(decoder, usize::from(len))?;
-                Ok(RData::Unknown { code, rdata })
-            }
+            code => read_carried(decoder, code, len),
         }
     }
 

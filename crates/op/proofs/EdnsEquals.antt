@@ -2,7 +2,7 @@
 use Rattle.std.proofs.Common.{◌≡◌, ap}
 use Rattle.std.specs.Bool.{Decides}
 use Rattle.std.specs.Cmp.{booleans_Decides, unsigned_Decides}
-use Rattle.base_data.specs.OPT.{options_decide}
+use Rattle.base_data.proofs.Comparing.{options_decide}
 use Rattle.op.specs.contracts.edns.EdnsPartialEq.TheImpl as edns_eq
 use Rattle.op.specs.contracts.edns.edns_flags.EdnsFlagsPartialEq.TheImpl as edns_flags_eq
 use Rattle.op.specs.declared.edns.Edns.{Edns}

@@ -3,7 +3,8 @@ use Rattle.std.specs.Prelude.{◌≡◌, ◌≢◌, ◌⊎◌, ℕ, Bool, true, 
 use Rattle.base.specs.Words.{BackToBack}
 use Rattle.base.specs.declared.error.decode_error.DecodeError.{DecodeError}
 use Rattle.base.specs.declared.error.decode_error.DecodeError.TheVariants as faults
-use Rattle.base_data.specs.RData.{is_empty_data, type_of_data}
+use Rattle.base_data.specs.Kinds.{type_of_data}
+use Rattle.base_data.specs.RData.{is_empty_data}
 use Rattle.base_data.specs.declared.rdata.RData.{RData}
 use Rattle.rr.specs.Record.{IsRecordAt, IsRecordFault}
 use Rattle.rr.specs.declared.record.Record.{Record}

@@ -13,6 +13,7 @@ mod display;
 mod edns_option;
 
 use crate::rdata::RData;
+use crate::rdata::reading::SizedData;
 use crate::record_data::RecordData;
 use base::{
     BinDecodable, BinDecoder, BinEncodable, BinEncoder, DecodeError, ProtoError, RecordType,
@@ -90,13 +91,15 @@ impl OPT {
     {
         &self.options
     }
+}
 
-    /// Reads options as long as they begin within `len` bytes (RFC 6891, 6.1.2). Options of one code are all kept.
+impl SizedData for OPT {
+    ghost sized_at = { opt_at };
+
+    /// Reads options as long as they begin within the bytes (RFC 6891, 6.1.2). Options of one code are all kept.
     ///
     /// Refused with `InsufficientBytes` where the buffer ends inside one, and with `Memory` for want of it.
-    pub(crate) fn read(decoder: &mut BinDecoder<'_>, len: u16) -> Result<OPT, DecodeError>
-        ensures read { Reads (λ x. x) decoder.old decoder.new result (opt_at len decoder.old.bytes decoder.old.index) }
-    {
+    fn read(decoder: &mut BinDecoder<'_>, len: u16) -> Result<OPT, DecodeError> {
         let end = decoder.index() + usize::from(len);
         let mut options = Vec::new(decoder.allocator());
         'options: while decoder.index() < end {

@@ -1,11 +1,12 @@
 //! Reads data by type and length.
 
-ghost use Rattle.std.specs.Prelude.{◌≡◌};
-ghost use Rattle.base.specs.Reading.{Reads};
+ghost use Rattle.std.specs.Prelude.{◌≡◌, ◌<◌};
+ghost use Rattle.base.specs.Reading.{Reads, bytes_at};
 ghost use Rattle.base_data.specs.Kinds.{as_any};
 ghost use Rattle.base_data.specs.RData.{in_data, rdata_at};
+ghost use Rattle.base_data.specs.declared.rdata.RData.TheVariants as kinds;
 
-use crate::rdata::RData;
+use crate::rdata::{NULL, RData};
 use crate::record_data::RecordData;
 use base::{BinDecodable, BinDecoder, DecodeError, RecordType};
 
@@ -50,6 +51,21 @@ fn inside(record_type: RecordType, fault: DecodeError) -> DecodeError
     }
 }
 
+/// Data whose end is told by its length alone.
+pub(crate) trait SizedData: RecordData {
+    ghost use Rattle.std.specs.Prelude.{◌<◌, ℕ, List};
+    ghost use Rattle.base.specs.Reading.{Read, Reads};
+
+    ghost sized_at: { ℕ → List ℕ → ℕ → Read Self };
+
+    /// Reads the data of `len` bytes, one at least, and moves behind it.
+    ///
+    /// Refused with the first fault, and with `Memory` for want of it. A decoder that refused isn't used again.
+    fn read(decoder: &mut BinDecoder<'_>, len: u16) -> Result<Self, DecodeError>
+        requires { 0 < len }
+        ensures read { Reads (λ x. x) decoder.old decoder.new result (sized_at len decoder.old.bytes decoder.old.index) };
+}
+
 /// Reads the data of a kind that ends by itself.
 pub(crate) fn read_as<R: BinDecodable + RecordData>(
     decoder: &mut BinDecoder<'_>,
@@ -57,4 +73,28 @@ pub(crate) fn read_as<R: BinDecodable + RecordData>(
     ensures read { Reads (λ x. x) decoder.old decoder.new result (as_any R.as_rdata (R.read_at decoder.old.bytes decoder.old.index)) }
 {
     Ok(R::read(decoder)?.into_rdata())
+}
+
+/// Reads the data of a kind whose end is told by its length.
+pub(crate) fn read_sized<R: SizedData>(
+    decoder: &mut BinDecoder<'_>,
+    len: u16,
+) -> Result<RData, DecodeError>
+    requires { 0 < len }
+    ensures read { Reads (λ x. x) decoder.old decoder.new result (as_any R.as_rdata (R.sized_at len decoder.old.bytes decoder.old.index)) }
+{
+    Ok(R::read(decoder, len)?.into_rdata())
+}
+
+/// Reads the bytes of a type that has no kind of its own (RFC 3597, 3).
+pub(crate) fn read_carried(
+    decoder: &mut BinDecoder<'_>,
+    code: RecordType,
+    len: u16,
+) -> Result<RData, DecodeError>
+    requires { 0 < len }
+    ensures read { Reads (λ x. x) decoder.old decoder.new result (as_any (kinds.Unknown code) (bytes_at len decoder.old.bytes decoder.old.index)) }
+{
+    let rdata = NULL::read(decoder, len)?;
+    Ok(RData::Unknown { code, rdata })
 }

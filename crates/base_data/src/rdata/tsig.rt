@@ -10,6 +10,7 @@ ghost use Rattle.base_data.specs.Equality.{same_bytes-equiv};
 ghost use Rattle.base_data.specs.declared.rdata.RData.TheVariants as kinds;
 
 use crate::rdata::RData;
+use crate::rdata::reading::SizedData;
 use crate::rdata::emit::emit_bytes;
 use crate::rdata::hex_text::OpaqueText;
 use crate::record_data::RecordData;
@@ -52,14 +53,12 @@ impl TSIG {
     }
 }
 
-impl TSIG {
-    /// Reads data of `len` bytes, one at least. Refused with `InsufficientBytes` where fewer are left, and with
-    /// `Memory` for want of it.
-    pub(crate) fn read(decoder: &mut BinDecoder<'_>, len: usize) -> Result<TSIG, DecodeError>
-        requires { 0 < len }
-        ensures read { Reads (λ x. x) decoder.old decoder.new result (bytes_at len decoder.old.bytes decoder.old.index) }
-    {
-        let bytes = decoder.read_slice(len)?;
+impl SizedData for TSIG {
+    ghost sized_at = { bytes_at };
+
+    /// Reads the bytes. Refused with `InsufficientBytes` where fewer are left, and with `Memory` for want of it.
+    fn read(decoder: &mut BinDecoder<'_>, len: u16) -> Result<TSIG, DecodeError> {
+        let bytes = decoder.read_slice(usize::from(len))?;
         Ok(TSIG::new(Vec::from_slice(decoder.allocator(), bytes)?))
     }
 }

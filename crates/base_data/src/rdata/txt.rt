@@ -14,6 +14,7 @@ mod display;
 mod strings;
 
 use crate::rdata::RData;
+use crate::rdata::reading::SizedData;
 use crate::rdata::emit::emit_bytes;
 use crate::record_data::RecordData;
 use base::{BinDecoder, BinEncodable, BinEncoder, DecodeError, ProtoError, RecordType};
@@ -71,23 +72,6 @@ impl TXT {
     {
         &self.bytes
     }
-
-    /// Reads strings that fill `len` bytes exactly (RFC 1035, 3.3 and 3.3.14).
-    ///
-    /// Refused with `InsufficientBytes` where fewer are left or the last string doesn't end with them, and with
-    /// `Memory` for want of it.
-    pub(crate) fn read(decoder: &mut BinDecoder<'_>, len: usize) -> Result<TXT, DecodeError>
-        requires { 0 < len }
-        ensures read { Reads (λ x. x) decoder.old decoder.new result (txt_at len decoder.old.bytes decoder.old.index) }
-    {
-        let bytes = decoder.read_slice(len)?;
-        if !are_strings(bytes) {
-            return Err(DecodeError::InsufficientBytes);
-        }
-        Ok(TXT {
-            bytes: Vec::from_slice(decoder.allocator(), bytes)?,
-        })
-    }
 }
 
 /// Puts a string behind those before it, with its length.
@@ -113,6 +97,24 @@ fn are_strings(bytes: &[u8]) -> bool
         rest = &rest[end..];
     }
     true
+}
+
+impl SizedData for TXT {
+    ghost sized_at = { txt_at };
+
+    /// Reads strings that fill the bytes exactly (RFC 1035, 3.3 and 3.3.14).
+    ///
+    /// Refused with `InsufficientBytes` where fewer are left or the last string doesn't end with them, and with
+    /// `Memory` for want of it.
+    fn read(decoder: &mut BinDecoder<'_>, len: u16) -> Result<TXT, DecodeError> {
+        let bytes = decoder.read_slice(usize::from(len))?;
+        if !are_strings(bytes) {
+            return Err(DecodeError::InsufficientBytes);
+        }
+        Ok(TXT {
+            bytes: Vec::from_slice(decoder.allocator(), bytes)?,
+        })
+    }
 }
 
 impl Clone for TXT {

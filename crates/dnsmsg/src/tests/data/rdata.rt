@@ -160,31 +160,16 @@ fn names_are_ordered_without_regard_to_case(rt: HostRuntime) {
     assert!(rt; are_same(lower, upper));
 }
 
-/// A copy of a server with a relative name.
-fn relative(server: &NS) -> Result<NS, AllocError> {
-    let mut copy = server.clone()?;
-    copy.name.set_fqdn(false);
-    Ok(copy)
-}
-
-/// Whether a copy of a server with a relative name comes before it.
-fn comes_behind_relative(absolute: Result<NS, DecodeError>) -> bool {
-    match absolute {
-        Ok(absolute) => {
-            let relative = relative(&absolute);
-            let comes_behind = match &relative {
-                Ok(relative) => *relative < absolute,
-                Err(_) => false,
-            };
-            drop(relative);
-            drop(absolute);
-            comes_behind
-        }
-        Err(_) => false,
-    }
+/// The server of the name that these bytes spell, taken as a relative one.
+fn relative_server(alloc: Global, wire: &[u8]) -> Result<NS, DecodeError> {
+    let mut name = name_of(alloc, wire)?;
+    name.set_fqdn(false);
+    Ok(NS::new(name))
 }
 
 #[test]
 fn relative_names_come_first(rt: HostRuntime) {
-    assert!(rt; comes_behind_relative(server(rt.alloc(), &[2, b'a', b'a', 0])));
+    let relative = relative_server(rt.alloc(), &[2, b'a', b'a', 0]);
+    let absolute = server(rt.alloc(), &[2, b'a', b'a', 0]);
+    assert!(rt; comes_first(relative, absolute));
 }

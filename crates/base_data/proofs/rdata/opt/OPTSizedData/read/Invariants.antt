@@ -1,6 +1,6 @@
 use Rattle.std.proofs.Common.{◌-◌}
 use Rattle.base_data.proofs.OptionLemmas.{AreGathered}
-use Rattle.base_data.proofs.rdata.opt.OPT.read.Given as goal
+use Rattle.base_data.proofs.rdata.opt.OPTSizedData.read.Given as goal
 
 abbrev pub invariant-options : goal.invariant-options
 invariant-options l = AreGathered l.len l.end l.fn.decoder.bytes l.decoder.bytes l.fn.decoder.index l.decoder.index l.options.items

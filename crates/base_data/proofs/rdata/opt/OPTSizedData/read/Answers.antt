@@ -1,7 +1,7 @@
 use Rattle.std.proofs.Common.{◌≡◌, ◌+◌, ◌∙◌, arith}
 use Rattle.std.proofs.lemmas.Result.{err_from_is_err_and}
 use Rattle.base_data.proofs.OptionLemmas.{gathered_more, gathered_fault, gathered_all, opt_at-to}
-use Rattle.base_data.proofs.rdata.opt.OPT.read.Goals as goal
+use Rattle.base_data.proofs.rdata.opt.OPTSizedData.read.Goals as goal
 
 pub returns-in_err-read : goal.returns-in_err-read
 returns-in_err-read c =
