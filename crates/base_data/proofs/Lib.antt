@@ -2,6 +2,7 @@ pub mod AddressLemmas
 pub mod BytesRead
 pub mod DataLemmas
 pub mod DataRows
+pub mod EqualData
 pub mod FieldLemmas
 pub mod FillLemmas
 pub mod HexTexts

@@ -1,9 +1,11 @@
 //! Laws of comparing data.
 
-ghost use Rattle.std.specs.Prelude.{◌≡◌, ◌↔◌, ℕ, List, IsTrue};
+ghost use Rattle.std.specs.Prelude.{◌≡◌, ◌↔◌, ℕ, List, IsTrue, true};
 ghost use Rattle.base.specs.NameOrder.{same_name};
 ghost use Rattle.base_data.specs.DataOrder.{FitsTypes, parts_cmp};
 ghost use Rattle.base_data.specs.OPT.{OptionValue};
+ghost use Rattle.base_data.specs.RData.{type_of_data};
+ghost use Rattle.base_data.specs.SameData.{same_data};
 ghost use Rattle.base_data.specs.declared.rdata.RData.TheVariants as kinds;
 ghost use Rattle.base_data.specs.declared.rdata.RData.{RData as AnyData};
 ghost use Rattle.base_data.specs.declared.rdata.a.A.{A as AddressData};
@@ -40,6 +42,11 @@ pub fn data_is_equal_field_by_field()
 pub fn bytes_are_equal_as_they_are()
     ensures null { (a b : List ℕ) → IsTrue (⟦<NULL as PartialEq>⟧.eq a b) ↔ (a ≡ b) }
     ensures tsig { (a b : List ℕ) → IsTrue (⟦<TSIG as PartialEq>⟧.eq a b) ↔ (a ≡ b) }
+{}
+
+/// Equal data has one type.
+pub fn equal_data_has_one_type()
+    ensures { (a b : AnyData) → same_data a b ≡ true → type_of_data a ≡ type_of_data b }
 {}
 
 /// The order of data ties exactly equal data. It goes by the bytes of the canonical form, by type, by kind, and by
