@@ -6,6 +6,7 @@ pub mod Comparing
 pub mod DataRows
 pub mod DataTies
 pub mod EachKind
+pub mod EqualData
 pub mod FieldLemmas
 pub mod FillLemmas
 pub mod HexTexts

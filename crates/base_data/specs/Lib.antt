@@ -17,4 +17,5 @@ pub mod PTR
 pub mod RData
 pub mod SOA
 pub mod SRV
+pub mod SameData
 pub mod TXT

@@ -4,4 +4,5 @@ pub mod ReadRecords
 pub mod ReadSteps
 pub mod RecordFaults
 pub mod RecordLemmas
+pub mod SetSteps
 pub mod WriteSteps

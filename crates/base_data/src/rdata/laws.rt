@@ -1,12 +1,13 @@
 //! Laws of data: when it is equal, its order, and what holds of each kind.
 
-ghost use Rattle.std.specs.Prelude.{◌≡◌, ◌≤◌, ◌↔◌, ℕ, List, IsTrue, length};
+ghost use Rattle.std.specs.Prelude.{◌≡◌, ◌≤◌, ◌↔◌, ℕ, List, IsTrue, length, true};
 ghost use Rattle.std.specs.Cmp.{IsTotalOrder};
 ghost use Rattle.base.specs.NameOrder.{same_name};
 ghost use Rattle.base.specs.declared.record_type.RecordType.TheVariants as types;
 ghost use Rattle.base_data.specs.Kinds.{DataWord, FitsTypes, type_of_data};
 ghost use Rattle.base_data.specs.DataOrder.{data_cmp};
 ghost use Rattle.base_data.specs.RData.{is_signature_data, signature_in};
+ghost use Rattle.base_data.specs.SameData.{same_data};
 ghost use Rattle.base_data.specs.declared.rdata.RData.{RData as AnyData};
 ghost use Rattle.base_data.specs.declared.rdata.RData.TheVariants as kinds;
 ghost use Rattle.base_data.specs.declared.rdata.aname.ANAME.{ANAME as Aname};
@@ -41,6 +42,11 @@ pub fn data_is_equal_field_by_field()
 pub fn bytes_are_equal_as_they_are()
     ensures null { (a b : List ℕ) → IsTrue (⟦<NULL as PartialEq>⟧.eq a b) ↔ (a ≡ b) }
     ensures tsig { (a b : List ℕ) → IsTrue (⟦<TSIG as PartialEq>⟧.eq a b) ↔ (a ≡ b) }
+{}
+
+/// Equal data has one type.
+pub fn equal_data_has_one_type()
+    ensures { (a b : AnyData) → same_data a b ≡ true → type_of_data a ≡ type_of_data b }
 {}
 
 /// The order of data is total, and ties exactly equal data (RFC 4034, 6.2 and 6.3).

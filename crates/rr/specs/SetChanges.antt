@@ -1,0 +1,128 @@
+-- What goes into a record set, and what comes out (RFC 2136, 1.1.5, 3.4.2.2 and 3.4.2.4).
+use Rattle.std.specs.Prelude.{ℕ, Bool, true, false, not, List, [], ◌∷◌, ◌++◌, ◌≡◌, ◌≤◌, ◌&&◌, ◌||◌, ◌⊎◌, nat_le, nat_lt, length, set, if◌then◌else◌, Option}
+use Rattle.std.specs.List.{filter, find, list_any}
+use Rattle.base.specs.NameOrder.{same_name}
+use Rattle.base.specs.declared.dns_class.DNSClass.TheVariants as classes
+use Rattle.base.specs.declared.record_type.RecordType.{RecordType}
+use Rattle.base.specs.declared.record_type.RecordType.TheVariants as types
+use Rattle.base_data.specs.Kinds.{type_of_data}
+use Rattle.base_data.specs.SameData.{same_data}
+use Rattle.base_data.specs.declared.rdata.RData.{RData}
+use Rattle.base_data.specs.declared.rdata.RData.TheVariants as kinds
+use Rattle.rr.specs.RecordSet.{SetValue, is_ns, is_soa, same_entry}
+use Rattle.rr.specs.declared.record.Record.{Record}
+
+-- the types of which a set holds one record
+abbrev pub holds_one : RecordType → Bool
+holds_one types.SOA = true
+holds_one types.CNAME = true
+holds_one types.ANAME = true
+holds_one _ = false
+
+-- what a caller of `insert` owes: the set's owner and type, and at most one record where only one may stand
+pub record MayEnter (set : SetValue) (r : Record RData) : Type 0 where
+  pub owner : same_name set.name r.name ≡ true
+  pub own_type : type_of_data r.rdata ≡ set.record_type
+  pub single : holds_one set.record_type ≡ true → length set.records ≤ 1
+
+-- what a caller of `add_rdata` and `new_record` owes
+pub record MayAdd (set : SetValue) (rdata : RData) : Type 0 where
+  pub own_type : type_of_data rdata ≡ set.record_type
+  pub single : holds_one set.record_type ≡ true → length set.records ≤ 1
+
+-- what a caller of `remove` owes: the set's owner, and its type or ANY
+pub record MayLeave (set : SetValue) (r : Record RData) : Type 0 where
+  pub owner : same_name set.name r.name ≡ true
+  pub own_type : (type_of_data r.rdata ≡ set.record_type) ⊎ (type_of_data r.rdata ≡ types.ANY)
+
+-- whether a serial is greater than an old one, as plain numbers
+abbrev pub is_greater : ℕ → ℕ → Bool
+is_greater old new = nat_lt old new
+
+-- whether both are SOA data, the new one of a greater serial
+abbrev pub is_later : RData → RData → Bool
+is_later (kinds.SOA old) (kinds.SOA new) = is_greater old.serial new.serial
+is_later _ _ = false
+
+-- whether the first of these records stays in spite of a new SOA
+abbrev pub stays : List (Record RData) → RData → Bool
+stays [] new = false
+stays (x ∷ xs) new = not (is_later x.rdata new)
+
+-- whether a record has the data of r
+abbrev pub has_data_of : Record RData → Record RData → Bool
+has_data_of r x = same_data x.rdata r.rdata
+
+-- r in the place of each record of equal data
+abbrev pub replaced : Record RData → List (Record RData) → List (Record RData)
+replaced r [] = []
+replaced r (x ∷ xs) = (if has_data_of r x then r else x) ∷ replaced r xs
+
+-- the records before the first one equal to r
+abbrev pub before : Record RData → List (Record RData) → List (Record RData)
+before r [] = []
+before r (x ∷ xs) = if same_entry x r then [] else x ∷ before r xs
+
+-- the records from the first one equal to r on
+abbrev pub from : Record RData → List (Record RData) → List (Record RData)
+from r [] = []
+from r (x ∷ xs) = if same_entry x r then x ∷ xs else from r xs
+
+-- where a new record went: the records then, whether one was replaced or pushed, and whether the record is new
+pub record Placed : Type 0 where
+  pub records : List (Record RData)
+  pub is_changed : Bool
+  pub is_new : Bool
+
+-- How a record goes among others, whatever the times to live are: before the first equal record it replaces those of
+-- equal data; it is new where there is no equal record, and then pushed unless it replaced one.
+abbrev pub placed : Record RData → List (Record RData) → Placed
+placed r xs =
+    let found = list_any (λ x. same_entry x r) xs in
+    let replaces = list_any (has_data_of r) (before r xs) in
+    record {
+      records = replaced r (before r xs) ++ from r xs ++ (if found || replaces then [] else r ∷ []);
+      is_changed = replaces || not found;
+      is_new = not found;
+    }
+
+-- what placing changed, what it answered, and the records then
+abbrev pub IsPlaced : Placed → Bool → Bool → List (Record RData) → Type 0
+IsPlaced p is_changed is_new records = (is_changed ≡ p.is_changed) × (is_new ≡ p.is_new) × (records ≡ p.records)
+
+-- The answer of `insert` and the set then. An SOA stays where the new one isn't later. Where one record may stand, the
+-- new one stands alone. A change takes over the record's time to live, and the serial.
+abbrev pub insert : SetValue → Record RData → ℕ → Bool × SetValue
+insert set r serial =
+    if is_soa set.record_type && stays set.records r.rdata then (false, set)
+    else (
+    let p = placed r (if holds_one set.record_type then [] else set.records) in
+    (p.is_new, if p.is_changed then record set { records = p.records; ttl = r.ttl; serial = serial } else set)
+    )
+
+-- the record that a set makes of data: its name and its time to live, in the class IN
+abbrev pub own_record : SetValue → RData → Record RData
+own_record set rdata = record { name = set.name; dns_class = classes.IN; ttl = set.ttl; rdata = rdata; mdns_cache_flush = false }
+
+-- the answer of `add_rdata` and the set then
+abbrev pub add_data : SetValue → RData → Bool × SetValue
+add_data set rdata = insert set (own_record set rdata) 0
+
+-- the first record of equal data
+abbrev pub first_of : RData → List (Record RData) → Option (Record RData)
+first_of rdata xs = find (λ x. same_data x.rdata rdata) xs
+
+-- whether `remove` leaves the records of a type: an SOA, and the last name server
+abbrev pub is_kept : SetValue → RecordType → Bool
+is_kept set type = is_soa type || (is_ns type && nat_le (length set.records) 1)
+
+-- the answer of `remove` and the set then
+abbrev pub remove : SetValue → Record RData → ℕ → Bool × SetValue
+remove set r serial =
+    if is_kept set (type_of_data r.rdata) || not (list_any (has_data_of r) set.records) then (false, set)
+    else (true, record set { records = filter (λ x. not (has_data_of r x)) set.records; serial = serial })
+
+-- records with others set at their places, one after the other
+abbrev pub renewed : List (ℕ × Record RData) → List (Record RData) → List (Record RData)
+renewed [] xs = xs
+renewed (p ∷ ps) xs = renewed ps (set xs p.0 p.1)

@@ -1,0 +1,59 @@
+-- Laws of record sets.
+use Rattle.std.specs.Prelude.{ℕ, true, false, [], ◌∷◌, ◌≡◌, ◌≢◌}
+use Rattle.base.specs.Labels.{NameValue}
+use Rattle.base.specs.declared.record_type.RecordType.{RecordType}
+use Rattle.base.specs.declared.record_type.RecordType.TheVariants as types
+use Rattle.base_data.specs.declared.rdata.RData.{RData}
+use Rattle.base_data.specs.declared.rdata.RData.TheVariants as kinds
+use Rattle.base_data.specs.declared.rdata.soa.SOA.{SOA}
+use Rattle.rr.specs.RecordSet.{IsTidy, SetValue, empty_set, is_ns, set_of}
+use Rattle.rr.specs.SetChanges.{MayAdd, MayEnter, add_data, insert, is_greater, remove}
+use Rattle.rr.specs.declared.record.Record.{Record}
+
+-- no equal data comes into a tidy set, and nothing else that isn't tidy
+abbrev pub InsertKeepsTidy : Type 0
+InsertKeepsTidy = (set : SetValue) (r : Record RData) (serial : ℕ) → MayEnter set r → IsTidy set → IsTidy (insert set r serial).1
+
+-- the same of data that a set makes a record of
+abbrev pub AddKeepsTidy : Type 0
+AddKeepsTidy = (set : SetValue) (rdata : RData) → MayAdd set rdata → IsTidy set → IsTidy (add_data set rdata).1
+
+-- what is left of a tidy set is tidy
+abbrev pub RemoveKeepsTidy : Type 0
+RemoveKeepsTidy = (set : SetValue) (r : Record RData) (serial : ℕ) → IsTidy set → IsTidy (remove set r serial).1
+
+-- a set without records is tidy
+abbrev pub EmptyIsTidy : Type 0
+EmptyIsTidy = (name : NameValue) (type : RecordType) (ttl serial : ℕ) → IsTidy (empty_set name type ttl serial)
+
+-- the set of one record is tidy
+abbrev pub OneIsTidy : Type 0
+OneIsTidy = (r : Record RData) → IsTidy (set_of r)
+
+-- an `insert` into a tidy set that answers false changes nothing
+abbrev pub FalseKeeps : Type 0
+FalseKeeps = (set : SetValue) (r : Record RData) (serial : ℕ) → IsTidy set → (insert set r serial).0 ≡ false → (insert set r serial).1 ≡ set
+
+-- a tidy set of name servers with a record does not become empty
+abbrev pub LastServerStays : Type 0
+LastServerStays = (set : SetValue) (r : Record RData) (serial : ℕ) → IsTidy set → is_ns set.record_type ≡ true → set.records ≢ [] → (remove set r serial).1.records ≢ []
+
+-- nothing is removed from a tidy set of an SOA
+abbrev pub StartStays : Type 0
+StartStays = (set : SetValue) (r : Record RData) (serial : ℕ) → IsTidy set → set.record_type ≡ types.SOA → remove set r serial ≡ (false, set)
+
+-- The SOA of x gives way to that of r: both have SOA data, and the serial of r is greater.
+pub record IsRaised (x r : Record RData) : Type 0 where
+  pub old : SOA
+  pub new : SOA
+  pub old_data : x.rdata ≡ kinds.SOA old
+  pub new_data : r.rdata ≡ kinds.SOA new
+  pub raised : is_greater old.serial new.serial ≡ true
+
+-- an `insert` into a set of one SOA that answers true leaves the new one alone, of a greater serial
+abbrev pub SerialRises : Type 0
+SerialRises = (set : SetValue) (x r : Record RData) (serial : ℕ) → set.record_type ≡ types.SOA → set.records ≡ x ∷ [] → (insert set r serial).0 ≡ true → IsRaised x r × ((insert set r serial).1.records ≡ r ∷ [])
+
+-- one that answers false leaves the old one alone
+abbrev pub SerialStays : Type 0
+SerialStays = (set : SetValue) (x r : Record RData) (serial : ℕ) → set.record_type ≡ types.SOA → set.records ≡ x ∷ [] → (insert set r serial).0 ≡ false → (insert set r serial).1 ≡ set

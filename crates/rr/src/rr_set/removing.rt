@@ -1,0 +1,57 @@
+//! Takes records out of a set (RFC 2136, 3.4.2.4).
+
+ghost use Rattle.std.specs.Prelude.{◌≡◌, filter, not};
+ghost use Rattle.std.specs.List.{list_any};
+ghost use Rattle.rr.specs.SetChanges.{MayLeave, has_data_of, is_kept, remove};
+
+use crate::record::Record;
+use crate::rr_set::RecordSet;
+use base::RecordType;
+
+impl RecordSet {
+    /// Takes out every record with the data of this one, and takes over the serial. The answer is whether any went:
+    /// none goes for a record of type SOA, or of type NS where the set has no more than one. Takes no memory.
+    ///
+    /// The record has the set's owner, and its type or ANY.
+    pub fn remove(&mut self, entry: &Record, serial: u32) -> bool
+        requires { MayLeave self.old entry.now }
+        ensures { (result, self.new) ≡ remove self.old entry.now serial }
+    {
+        if self.keeps(entry.record_type()) || !has_data(&self.records, entry) {
+            return false;
+        }
+        take_data(&mut self.records, entry);
+        self.serial = serial;
+        true
+    }
+
+    /// Whether records of this type are left where they are.
+    fn keeps(&self, record_type: RecordType) -> bool
+        ensures { result ≡ is_kept self.now record_type }
+    {
+        match record_type {
+            RecordType::SOA => true,
+            RecordType::NS => self.records.len() <= 1,
+            _ => false,
+        }
+    }
+}
+
+/// Whether a record has the data of this one.
+fn has_data(records: &[Record], entry: &Record) -> bool
+    ensures { result ≡ list_any (has_data_of entry.now) records.now }
+{
+    for known in records {
+        if known.rdata == entry.rdata {
+            return true;
+        }
+    }
+    false
+}
+
+/// Takes out the records with the data of this one.
+fn take_data(records: &mut Vec<Record>, entry: &Record)
+    ensures { records.new.items ≡ filter (λ x. not (has_data_of entry.now x)) records.old.items }
+{
+    records.retain(|known| known.rdata != entry.rdata);
+}
