@@ -2,6 +2,7 @@
 use Rattle.std.proofs.Common.{◌≡◌, Bool, true, false, cond, List, [], ◌∷◌, refl, ap, sym, ◌∙◌, Some, inl, inr}
 use Rattle.std.specs.Prelude.{filter, slice_get}
 use Rattle.std.proofs.lemmas.Bool.{cases_Bool}
+use Rattle.base.specs.declared.record_type.RecordType.{RecordType}
 use Rattle.base_data.specs.declared.rdata.RData.{RData}
 use Rattle.rr.specs.declared.record.Record.{Record}
 use Rattle.op.specs.Message.{MessageValue}
@@ -53,3 +54,12 @@ strip_twice false m = ap (λ qs. stripped_by qs (stripped_by m.queries m)) (quer
 pub strip_none : (takes : Bool) (m : MessageValue) → m.queries ≡ [] → stripped takes m ≡ m
 strip_none true m is = refl
 strip_none false m is = none_asks m.queries m is
+
+-- a message whose sections were stripped by the first question's type
+pub strips : (m : MessageValue) (takes : Bool) (q : Query) (asked : RecordType) (a b c : List (Record RData)) → takes ≡ false → slice_get m.queries 0 ≡ Some q → asked ≡ q.query_type
+    → a ≡ filter (is_for_all asked) m.answers → b ≡ filter (is_for_all asked) m.authorities → c ≡ filter (is_for_all asked) m.additionals
+    → ◌≡◌ {A = MessageValue} (record m { answers = a; authorities = b; additionals = c }) (stripped takes m)
+strips m takes q asked a b c is first same answers authorities additionals =
+    let by : (rs : List (Record RData)) → filter (is_for_all asked) rs ≡ filter (is_for_all q.query_type) rs = λ rs. ap (λ (t : RecordType). filter (is_for_all t) rs) same in
+    let kept = same_sections m (answers ∙ by m.answers) (authorities ∙ by m.authorities) (additionals ∙ by m.additionals) in
+    kept ∙ sym (first_asks m.queries q m first) ∙ ap (λ (f : Bool). stripped f m) (sym is)
