@@ -7,7 +7,7 @@ use Rattle.rr.specs.declared.record.Record.{Record}
 use Rattle.op.specs.Composition.{Composition, EmitsSections, FillsIn, HasHeader, KeepsRoom, WritesExtras}
 use Rattle.op.specs.declared.header.Header.{Header}
 use Rattle.op.specs.declared.header.metadata.Metadata.{Metadata}
-use Rattle.op.specs.declared.message.writing.parts.Sections.{Sections}
+use Rattle.op.specs.declared.message.writing.parts.WrittenSections.{WrittenSections}
 use Rattle.op.specs.declared.message.writing.parts.Written.{Written}
 use Rattle.op.proofs.RunLemmas.{goes, stops}
 
@@ -29,7 +29,7 @@ module _ {Q A N D : Type 0} (emits_q : Q → State → Result ℕ ProtoError →
       pub without_sections : (e : ProtoError) (new : State) → EmitsSections emits_a emits_n emits_d a a' n n' d d' asked (Err e) new → result ≡ Err e → Composed new
       without_sections e new refused is = goes place room kept (goes queries asked emitted (stops e refused is tt))
 
-      module _ (sections : Sections) (behind : State) (ran : EmitsSections emits_a emits_n emits_d a a' n n' d d' asked (Ok sections) behind) where
+      module _ (sections : WrittenSections) (behind : State) (ran : EmitsSections emits_a emits_n emits_d a a' n n' d d' asked (Ok sections) behind) where
         pub without_extras : (e : ProtoError) (new : State) → WritesExtras edns signature sections.additionals behind (Err e) new → result ≡ Err e → Composed new
         without_extras e new refused is = goes place room kept (goes queries asked emitted (goes sections behind ran (stops e refused is tt)))
 

@@ -22,7 +22,7 @@ use Rattle.op.specs.Message.{IsMessageAt, MessageValue, high_code, message_of}
 use Rattle.op.specs.OpCode.{op_number, op_value}
 use Rattle.op.specs.Query.{QueryWord, plain_query}
 use Rattle.op.specs.ResponseCode.{code_number, code_value}
-use Rattle.op.specs.Section.{IsGiven, IsPlain, SectionValue, section_of}
+use Rattle.op.specs.Section.{HasNeededData, IsPlain, SectionValue, section_of}
 use Rattle.op.specs.declared.edns.Edns.{Edns}
 use Rattle.op.specs.declared.header.Header.{Header}
 use Rattle.op.specs.declared.header.header_counts.HeaderCounts.{HeaderCounts}
@@ -275,7 +275,7 @@ module _ (m : MessageValue) (old new : State) (h : Header) (e : Emitted m old ne
     counts = counted;
     answers_plain = plain e.answers.kept fits_answers;
     authorities_plain = plain e.authorities.kept fits_authorities;
-    additionals_given = subst (λ o. All (IsGiven o) (e.additionals.kept ++ tail one_edns.some one_signature.some)) (sym op_kept) (all_given e.additionals.kept m.metadata.op_code fits_additionals one_edns.some one_signature.some);
+    additionals_given = subst (λ o. All (HasNeededData o) (e.additionals.kept ++ tail one_edns.some one_signature.some)) (sym op_kept) (all_given e.additionals.kept m.metadata.op_code fits_additionals one_edns.some one_signature.some);
     signature_last = all_end e.additionals.kept m.metadata.op_code fits_additionals one_edns.some one_signature.some;
     one_opt = one_opt e.additionals.kept m.metadata.op_code fits_additionals one_edns.some one_signature.some;
     message = ap (message_of (metadata_value (raw_header h)) m.queries e.answers.kept e.authorities.kept) (sym sorted);

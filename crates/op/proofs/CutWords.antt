@@ -12,7 +12,7 @@ use Rattle.base.proofs.LawLemmas.{Holds-first, Holds-second, Keeps-then}
 use Rattle.base_data.specs.declared.rdata.RData.{RData}
 use Rattle.rr.specs.Record.{FitsRecord, IsRecordAt, RecordWord, plain_record}
 use Rattle.rr.specs.declared.record.Record.{Record}
-use Rattle.op.specs.Cut.{AreShort, Owner, query_owners, record_owners}
+use Rattle.op.specs.Cut.{AreCompressed, Owner, query_owners, record_owners}
 use Rattle.op.specs.Emitted.{query_owner, record_owner}
 use Rattle.op.specs.Header.{RawHeader, header_bytes}
 use Rattle.op.specs.Query.{FitsQuery, IsQueryAt, QueryWord, plain_query}
@@ -51,7 +51,7 @@ pub record Composed (B : List ℕ) (qs : List Query) (bs ns all : List (Record R
   pub answers : BackToBack (IsRecordAt B) i bs j
   pub authorities : BackToBack (IsRecordAt B) j ns k
   pub additionals : BackToBack (IsRecordAt B) k all e
-  pub short : AreShort (query_owners queries ++ (record_owners answers ++ (record_owners authorities ++ record_owners additionals)))
+  pub short : AreCompressed (query_owners queries ++ (record_owners answers ++ (record_owners authorities ++ record_owners additionals)))
 
 -- the additional records by themselves, EDNS and the signature
 pub record Ends (B : List ℕ) (ds es ss : List (Record RData)) (k l m e : ℕ) : Type 0 where
@@ -60,7 +60,7 @@ pub record Ends (B : List ℕ) (ds es ss : List (Record RData)) (k l m e : ℕ) 
   pub signature : BackToBack (IsRecordAt B) m ss e
 
 module _ (B : List ℕ) where
-  section_of_records : (rs : List (Record RData)) (a b : State) (known : List Owner) → All FitsRecord rs → EachWritten RecordWord plain_record record_owner rs a b → Holds a b B → Known known a → AreShort known → Section RecordWord plain_record record_owner B (IsRecordAt B) (λ i r e w. w.word.owner_end) known rs a b
+  section_of_records : (rs : List (Record RData)) (a b : State) (known : List Owner) → All FitsRecord rs → EachWritten RecordWord plain_record record_owner rs a b → Holds a b B → Known known a → AreCompressed known → Section RecordWord plain_record record_owner B (IsRecordAt B) (λ i r e w. w.word.owner_end) known rs a b
   section_of_records rs a b known fits written holds stored short = section RecordWord plain_record record_owner B (IsRecordAt B) (λ i r e w. w.word.owner_end) FitsRecord (record_back B) (record_ends B) rs a b known fits written holds stored short
 
   words_of : (rs : List (Record RData)) (a b : State) → All FitsRecord rs → EachWritten RecordWord plain_record record_owner rs a b → Holds a b B → BackToBack (IsRecordAt B) (length a.bytes) rs (length b.bytes)
@@ -146,5 +146,5 @@ module _ (B : List ℕ) where
           answers = sa.words;
           authorities = sn.words;
           additionals = sd.words;
-          short = subst AreShort (append_assoc (query_owners sq.words ++ record_owners sa.words) (record_owners sn.words) (record_owners sd.words) ∙ append_assoc (query_owners sq.words) (record_owners sa.words) (record_owners sn.words ++ record_owners sd.words)) sd.short;
+          short = subst AreCompressed (append_assoc (query_owners sq.words ++ record_owners sa.words) (record_owners sn.words) (record_owners sd.words) ∙ append_assoc (query_owners sq.words) (record_owners sa.words) (record_owners sn.words ++ record_owners sd.words)) sd.short;
         }

@@ -22,7 +22,7 @@ use Rattle.op.specs.Message.{MessageValue}
 use Rattle.op.specs.declared.edns.Edns.{Edns}
 use Rattle.op.specs.Query.{QueryWord, plain_query}
 use Rattle.op.specs.declared.header.Header.{Header}
-use Rattle.op.specs.declared.message.writing.parts.Sections.{Sections}
+use Rattle.op.specs.declared.message.writing.parts.WrittenSections.{WrittenSections}
 use Rattle.op.specs.declared.message.writing.parts.Written.{Written}
 use Rattle.op.specs.declared.query.Query.{Query}
 use Rattle.op.proofs.RunLemmas.{Both, went}
@@ -139,21 +139,21 @@ abbrev pub emits_queries : Iter Query → State → Result ℕ ProtoError → It
 emits_queries = slice_emits QueryWord plain_query query_owner
 
 -- fronts of three lists of records were written
-pub record ThreeFronts (xs ys zs : List (Record RData)) (a d : State) (sections : Sections) : Type 0 where
+pub record ThreeFronts (xs ys zs : List (Record RData)) (a d : State) (sections : WrittenSections) : Type 0 where
   pub second : State
   pub third : State
   pub answers : WritesRecords xs a second sections.answers.count sections.answers.is_cut
   pub authorities : WritesRecords ys second third sections.authorities.count sections.authorities.is_cut
   pub additionals : WritesRecords zs third d sections.additionals.count sections.additionals.is_cut
 
-module _ (a a' n n' d d' : Iter (Record RData)) (sections : Sections) (first last : State) where
-  abbrev Third : Written → Written → Written → State → Result Sections ProtoError → State → Type 0
+module _ (a a' n n' d d' : Iter (Record RData)) (sections : WrittenSections) (first last : State) where
+  abbrev Third : Written → Written → Written → State → Result WrittenSections ProtoError → State → Type 0
   Third answers authorities additionals = Tests (λ result. result ≡ Ok (record { answers = answers; authorities = authorities; additionals = additionals }))
 
-  abbrev Second : Written → Written → State → Result Sections ProtoError → State → Type 0
+  abbrev Second : Written → Written → State → Result WrittenSections ProtoError → State → Type 0
   Second answers authorities = AndThen (EmitsPart emits_records d d') ⊤ (Third answers authorities)
 
-  abbrev First : Written → State → Result Sections ProtoError → State → Type 0
+  abbrev First : Written → State → Result WrittenSections ProtoError → State → Type 0
   First answers = AndThen (EmitsPart emits_records n n') (d' ≡ d) (Second answers)
 
   third_done : (answers authorities : Written) (second third : State) → WritesRecords a.rest.now first second answers.count answers.is_cut → WritesRecords n.rest.now second third authorities.count authorities.is_cut
@@ -161,7 +161,7 @@ module _ (a a' n n' d d' : Iter (Record RData)) (sections : Sections) (first las
   third_done answers authorities second third one two b =
       let additionals = slice_front RecordWord plain_record record_owner d d' third b.between b.value b.ran in
       let are : sections ≡ record { answers = answers; authorities = authorities; additionals = b.value } = same_value sections _ b.rest.0 in
-      subst (λ (s : Sections). ThreeFronts a.rest.now n.rest.now d.rest.now first last s) (sym are)
+      subst (λ (s : WrittenSections). ThreeFronts a.rest.now n.rest.now d.rest.now first last s) (sym are)
       (record { second = second; third = third; answers = one; authorities = two; additionals = subst (λ s. WritesRecords d.rest.now third s b.value.count b.value.is_cut) (sym b.rest.1) additionals })
 
   second_done : (answers : Written) (second : State) → WritesRecords a.rest.now first second answers.count answers.is_cut → Both (EmitsPart emits_records n n') (Second answers) second (Ok sections) last → ThreeFronts a.rest.now n.rest.now d.rest.now first last sections
@@ -234,10 +234,10 @@ module _ (m : MessageValue) (q q' : Iter Query) (a a' n n' d d' : Iter (Record R
   abbrev Filled : ℕ → Header → State → Result Header ProtoError → State → Type 0
   Filled place header = FillsIn place header
 
-  abbrev Headed : ℕ → ℕ → Sections → Written → State → Result Header ProtoError → State → Type 0
+  abbrev Headed : ℕ → ℕ → WrittenSections → Written → State → Result Header ProtoError → State → Type 0
   Headed place queries sections additionals = AndThen (Tests (HasHeader m.metadata queries sections additionals)) ⊤ (Filled place)
 
-  abbrev Extended : ℕ → ℕ → Sections → State → Result Header ProtoError → State → Type 0
+  abbrev Extended : ℕ → ℕ → WrittenSections → State → Result Header ProtoError → State → Type 0
   Extended place queries sections = AndThen (WritesExtras edns signature sections.additionals) ⊤ (Headed place queries sections)
 
   abbrev Sectioned : ℕ → ℕ → State → Result Header ProtoError → State → Type 0
@@ -246,7 +246,7 @@ module _ (m : MessageValue) (q q' : Iter Query) (a a' n n' d d' : Iter (Record R
   abbrev Asked : ℕ → State → Result Header ProtoError → State → Type 0
   Asked place = AndThen (λ s answer t. emits_queries q s answer q' t) ((a' ≡ a) × (n' ≡ n) × (d' ≡ d)) (Sectioned place)
 
-  header_done : (place queries : ℕ) (kept first fourth sixth : State) (sections : Sections) (total : Written) → KeepsRoom old (Ok place) kept → EachWritten QueryWord plain_query query_owner q.rest.now kept first → queries ≡ length q.rest.now
+  header_done : (place queries : ℕ) (kept first fourth sixth : State) (sections : WrittenSections) (total : Written) → KeepsRoom old (Ok place) kept → EachWritten QueryWord plain_query query_owner q.rest.now kept first → queries ≡ length q.rest.now
       → ThreeFronts a.rest.now n.rest.now d.rest.now first fourth sections → TwoFronts edns signature sections.additionals fourth sixth total
       → Both (Tests (HasHeader m.metadata queries sections total)) (Filled place) sixth (Ok h) new → Emitted m old new h
   header_done place queries kept first fourth sixth sections total room asked count three two b =
@@ -265,7 +265,7 @@ module _ (m : MessageValue) (q q' : Iter Query) (a a' n n' d d' : Iter (Record R
       (subst (λ k. HasHeader m.metadata queries sections total (Ok k)) same b.ran.0)
       (b.rest.1 ∙ ap (λ s. overwritten place (header_bytes (raw_header b.value)) s) b.ran.1 ∙ ap (λ k. overwritten place (header_bytes (raw_header k)) sixth) same)
 
-  extras_next : (place queries : ℕ) (kept first fourth : State) (sections : Sections) → KeepsRoom old (Ok place) kept → EachWritten QueryWord plain_query query_owner q.rest.now kept first → queries ≡ length q.rest.now
+  extras_next : (place queries : ℕ) (kept first fourth : State) (sections : WrittenSections) → KeepsRoom old (Ok place) kept → EachWritten QueryWord plain_query query_owner q.rest.now kept first → queries ≡ length q.rest.now
       → ThreeFronts a.rest.now n.rest.now d.rest.now first fourth sections → Both (WritesExtras edns signature sections.additionals) (Headed place queries sections) fourth (Ok h) new → Emitted m old new h
   extras_next place queries kept first fourth sections room asked count three b =
       header_done place queries kept first fourth b.between sections b.value room asked count three (extras_done edns signature sections.additionals b.value fourth b.between b.ran) (went h b.rest)

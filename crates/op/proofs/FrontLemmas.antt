@@ -100,7 +100,3 @@ module _ {A E : Type 0} (view : A → E) (word : E → List ℕ → ℕ → ℕ 
   pub items_map : (xs : List A) (a b : State) (result : Result Written ProtoError) → WritesItems (λ x. word (view x)) (λ x. plain (view x)) (λ x. owner (view x)) xs a result b → WritesItems word plain owner (map view xs) a result b
   items_map xs a b (Ok written) front = front_map xs a b written.count written.is_cut front
   items_map xs a b (Err e) memory = memory
-
--- nothing to write
-pub no_items : {E : Type 0} (word : E → List ℕ → ℕ → ℕ → Type 0) (plain : E → ℕ) (owner : E → List (List ℕ)) (a : State) → WritesItems word plain owner [] a (Ok (record { count = 0; is_cut = false })) a
-no_items word plain owner a = record { kept = []; lost = []; whole = refl; written = refl; counted = refl; tells = refl; full = tt }

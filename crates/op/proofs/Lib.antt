@@ -29,6 +29,7 @@ mod SectionLemmas
 mod SectionStands
 mod SectionWords
 mod SortLemmas
+mod StripLemmas
 mod UncutLemmas
 mod VariantLemmas
 mod WordsBack

@@ -12,7 +12,7 @@ use Rattle.base.specs.Words.BackToBack.{none, more}
 use Rattle.base.proofs.ItemLemmas.{Each-keeps}
 use Rattle.base.proofs.LawLemmas.{Holds-first, Holds-second, any_append}
 use Rattle.base.proofs.SpellingLemmas.{spelled_once}
-use Rattle.op.specs.Cut.{AreShort, IsShort, Owner, owners_by}
+use Rattle.op.specs.Cut.{AreCompressed, IsCompressed, Owner, owners_by}
 
 -- every owner that a pointer can point to is stored
 abbrev pub Known : List Owner → State → Type 0
@@ -22,11 +22,11 @@ pub none_known : (s : State) → Known [] s
 none_known s = All-nil (λ o. o.labels ≢ [] → o.start < 16384 → Any (λ t. t.labels ≡ o.labels) s.suffixes)
 
 -- a last owner that is short behind each before it
-pub short_last : (os : List Owner) (o : Owner) → AreShort os → All (λ earlier. IsShort earlier o) os → AreShort (os ++ o ∷ [])
-short_last [] o short all = (All-nil (IsShort o), tt)
+pub short_last : (os : List Owner) (o : Owner) → AreCompressed os → All (λ earlier. IsCompressed earlier o) os → AreCompressed (os ++ o ∷ [])
+short_last [] o short all = (All-nil (IsCompressed o), tt)
 short_last (p ∷ os) o short all = (
-  All-append (IsShort p) os (o ∷ []) short.0 (All-cons (IsShort p) o [] (all 0 p (omega arith)) (All-nil (IsShort p))),
-  short_last os o short.1 (All-tail (λ earlier. IsShort earlier o) p os all),
+  All-append (IsCompressed p) os (o ∷ []) short.0 (All-cons (IsCompressed p) o [] (all 0 p (omega arith)) (All-nil (IsCompressed p))),
+  short_last os o short.1 (All-tail (λ earlier. IsCompressed earlier o) p os all),
 )
 
 any_weaker : (P Q : Stored → Type 0) (ts : List Stored) → ((t : Stored) → P t → Q t) → Any P ts → Any Q ts
@@ -40,14 +40,14 @@ module _ {E : Type 0} (word : E → List ℕ → ℕ → ℕ → Type 0) (plain 
   -- Items that were written, as they are read in B; with the owners before them theirs are short, and stored.
   pub record Section (known : List Owner) (xs : List E) (a b : State) : Type 0 where
     pub words : BackToBack Word (length a.bytes) xs (length b.bytes)
-    pub short : AreShort (known ++ owners_by owner end words)
+    pub short : AreCompressed (known ++ owners_by owner end words)
     pub stored : Known (known ++ owners_by owner end words) b
 
-  section_none : (known : List Owner) (a : State) → Known known a → AreShort known → Section known [] a a
+  section_none : (known : List Owner) (a : State) → Known known a → AreCompressed known → Section known [] a a
   unfolding owners_by
   section_none known a stored short = record {
     words = none;
-    short = subst AreShort (sym (append-nil known)) short;
+    short = subst AreCompressed (sym (append-nil known)) short;
     stored = subst (λ os. Known os a) (sym (append-nil known)) stored;
   }
 
@@ -56,7 +56,7 @@ module _ {E : Type 0} (word : E → List ℕ → ℕ → ℕ → Type 0) (plain 
     written = record { start = length a.bytes; labels = owner x; end = end (length a.bytes) x (length b.bytes) w }
 
     -- the owner is short behind one that is stored
-    one_short : (earlier : Owner) → (earlier.labels ≢ [] → earlier.start < 16384 → Any (λ t. t.labels ≡ earlier.labels) a.suffixes) → IsShort earlier written
+    one_short : (earlier : Owner) → (earlier.labels ≢ [] → earlier.start < 16384 → Any (λ t. t.labels ≡ earlier.labels) a.suffixes) → IsCompressed earlier written
     unfolding written
     one_short earlier known some early front same =
         let owned : owner x ≢ [] = λ empty. some (no_front front earlier.labels (sym same ∙ empty)) in
@@ -77,12 +77,12 @@ module _ {E : Type 0} (word : E → List ℕ → ℕ → ℕ → Type 0) (plain 
     unfolding owners_by written
     section_more known xs c rest = record {
       words = more w rest.words;
-      short = subst AreShort (append_assoc known (written ∷ []) (owners_by owner end rest.words)) rest.short;
+      short = subst AreCompressed (append_assoc known (written ∷ []) (owners_by owner end rest.words)) rest.short;
       stored = subst (λ os. Known os c) (append_assoc known (written ∷ []) (owners_by owner end rest.words)) rest.stored;
     }
 
   module _ (P : E → Type 0) (read : (x : E) → P x → (i e : ℕ) → word x B i e → Word i x e) (ends : (i : ℕ) (x : E) (e : ℕ) (w : Word i x e) → Spelled B (owner x) i i (end i x e w)) where
-    pub section : (xs : List E) (a b : State) (known : List Owner) → All P xs → EachWritten word plain owner xs a b → Holds a b B → Known known a → AreShort known → Section known xs a b
+    pub section : (xs : List E) (a b : State) (known : List Owner) → All P xs → EachWritten word plain owner xs a b → Holds a b B → Known known a → AreCompressed known → Section known xs a b
     section [] a b known fits same h stored short = subst (λ s. Section known [] a s) (sym same) (section_none known a stored short)
     section (x ∷ xs) a c known fits (b, keeps, writes, others) h stored short =
         let later = Each-keeps word plain owner xs b c others in
@@ -91,6 +91,6 @@ module _ {E : Type 0} (word : E → List ℕ → ℕ → ℕ → Type 0) (plain 
         let w = read x (fits 0 x (omega arith)) (length a.bytes) (length b.bytes) (writes.word_stands B first) in
         let spelled = ends (length a.bytes) x (length b.bytes) w in
         let o = written x a b keeps writes first w spelled in
-        let shorts = All-weaker (λ (earlier : Owner). earlier.labels ≢ [] → earlier.start < 16384 → Any (λ t. t.labels ≡ earlier.labels) a.suffixes) (λ earlier. IsShort earlier o) (one_short x a b keeps writes first w spelled) known stored in
+        let shorts = All-weaker (λ (earlier : Owner). earlier.labels ≢ [] → earlier.start < 16384 → Any (λ t. t.labels ≡ earlier.labels) a.suffixes) (λ earlier. IsCompressed earlier o) (one_short x a b keeps writes first w spelled) known stored in
         section_more x a b keeps writes first w spelled known xs c
         (section xs b c (known ++ o ∷ []) (All-tail P x xs fits) others second (known_after x a b keeps writes first w spelled known stored) (short_last known o short shorts))

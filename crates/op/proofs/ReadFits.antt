@@ -20,7 +20,7 @@ use Rattle.op.specs.Message.{IsMessageAt, MessageValue, high_code, message_of}
 use Rattle.op.specs.OpCode.{op_number, op_value}
 use Rattle.op.specs.Query.{FitsQuery, IsQueryAt}
 use Rattle.base_data.specs.RData.{is_signature_data, signature_in}
-use Rattle.op.specs.Section.{IsGiven, IsPlain, edns_of, is_opt, is_ordinary, is_signature, section_of, signature_of}
+use Rattle.op.specs.Section.{HasNeededData, IsPlain, edns_of, is_opt, is_ordinary, is_signature, section_of, signature_of}
 use Rattle.op.specs.declared.edns.Edns.{Edns}
 use Rattle.op.specs.declared.header.Header.{Header}
 use Rattle.op.specs.declared.header.metadata.Metadata.{Metadata}
@@ -140,7 +140,7 @@ signed r is = ap (λ (d : RData). record r { rdata = d }) (sym (signature_is r.r
 -- a record that was read, and may stand where it stands
 record IsRead (op : OpCode) (r : Record RData) : Type 0 where
   fits : FitsRecord r
-  given : IsGiven op r
+  given : HasNeededData op r
   edns : is_opt r ≡ true → FitsEdns (edns_of r)
 
 op_of : (edns : Option Edns) (m : Metadata) → (high_code edns m).op_code ≡ m.op_code

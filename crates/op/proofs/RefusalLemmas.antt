@@ -13,7 +13,7 @@ use Rattle.op.specs.Emitted.{Leaves, WritesFront, query_owner}
 use Rattle.op.specs.Message.{MessageValue}
 use Rattle.op.specs.Query.{QueryWord, plain_query}
 use Rattle.op.specs.declared.header.Header.{Header}
-use Rattle.op.specs.declared.message.writing.parts.Sections.{Sections}
+use Rattle.op.specs.declared.message.writing.parts.WrittenSections.{WrittenSections}
 use Rattle.op.specs.declared.message.writing.parts.Written.{Written}
 use Rattle.op.specs.declared.query.Query.{Query}
 use Rattle.op.proofs.EmittedLemmas.{AreOf, Composed, emits_queries, emits_records}
@@ -85,13 +85,13 @@ module _ (e : ProtoError) where
 
   -- the sections
   module _ (a a' n n' d d' : Iter (Record RData)) (first last : State) where
-    abbrev Third : Written → Written → Written → State → Result Sections ProtoError → State → Type 0
+    abbrev Third : Written → Written → Written → State → Result WrittenSections ProtoError → State → Type 0
     Third answers authorities additionals = Tests (λ result. result ≡ Ok (record { answers = answers; authorities = authorities; additionals = additionals }))
 
-    abbrev Second : Written → Written → State → Result Sections ProtoError → State → Type 0
+    abbrev Second : Written → Written → State → Result WrittenSections ProtoError → State → Type 0
     Second answers authorities = AndThen (EmitsPart emits_records d d') ⊤ (Third answers authorities)
 
-    abbrev First : Written → State → Result Sections ProtoError → State → Type 0
+    abbrev First : Written → State → Result WrittenSections ProtoError → State → Type 0
     First answers = AndThen (EmitsPart emits_records n n') (d' ≡ d) (Second answers)
 
     second_refused : (answers : Written) (second : State) → Both (EmitsPart emits_records n n') (Second answers) second (Err e) last → OrTooMany e
@@ -126,10 +126,10 @@ module _ (e : ProtoError) where
 -- ---- the whole
 
 module _ (m : MessageValue) (q q' : Iter Query) (a a' n n' d d' : Iter (Record RData)) (edns signature : List (Record RData)) (are : AreOf m q q' a a' n n' d d' edns signature) (old new : State) (e : ProtoError) where
-  abbrev Headed : ℕ → ℕ → Sections → Written → State → Result Header ProtoError → State → Type 0
+  abbrev Headed : ℕ → ℕ → WrittenSections → Written → State → Result Header ProtoError → State → Type 0
   Headed place queries sections additionals = AndThen (Tests (HasHeader m.metadata queries sections additionals)) ⊤ (FillsIn place)
 
-  abbrev Extended : ℕ → ℕ → Sections → State → Result Header ProtoError → State → Type 0
+  abbrev Extended : ℕ → ℕ → WrittenSections → State → Result Header ProtoError → State → Type 0
   Extended place queries sections = AndThen (WritesExtras edns signature sections.additionals) ⊤ (Headed place queries sections)
 
   abbrev Sectioned : ℕ → ℕ → State → Result Header ProtoError → State → Type 0
@@ -138,10 +138,10 @@ module _ (m : MessageValue) (q q' : Iter Query) (a a' n n' d d' : Iter (Record R
   abbrev Asked : ℕ → State → Result Header ProtoError → State → Type 0
   Asked place = AndThen (λ s answer t. emits_queries q s answer q' t) ((a' ≡ a) × (n' ≡ n) × (d' ≡ d)) (Sectioned place)
 
-  header_refused : (place queries : ℕ) (sixth : State) (sections : Sections) (total : Written) → Headed place queries sections total sixth (Err e) new → OrTooMany e
+  header_refused : (place queries : ℕ) (sixth : State) (sections : WrittenSections) (total : Written) → Headed place queries sections total sixth (Err e) new → OrTooMany e
   header_refused place queries sixth sections total run = elim (failed e run) [ inl test ↦ inr (inr test.0.1) | inr b ↦ absurd (let is = b.rest.0 in cc) ]
 
-  extras_next : (place queries : ℕ) (sections : Sections) (fourth : State) → Extended place queries sections fourth (Err e) new → OrTooMany e
+  extras_next : (place queries : ℕ) (sections : WrittenSections) (fourth : State) → Extended place queries sections fourth (Err e) new → OrTooMany e
   extras_next place queries sections fourth run =
       elim (failed e run) [
         | inl extras ↦ extras_refused e edns signature sections.additionals fourth new extras

@@ -14,7 +14,7 @@ use Rattle.rr.proofs.ReadRecords.{reads_record}
 use Rattle.rr.proofs.RecordFaults.{refuses_record}
 use Rattle.op.specs.Fault.{IsMisplaced, IsSectionFault}
 use Rattle.op.specs.Fault.IsMisplaced.{behind_signature, elsewhere, empty, second_edns}
-use Rattle.op.specs.Section.{IsGiven, SectionValue, empty_section, fault_of, is_additional, is_opt, is_update, section_at, section_from, section_of, tested, unless_fault, with_record}
+use Rattle.op.specs.Section.{HasNeededData, SectionValue, empty_section, fault_of, is_additional, is_opt, is_update, section_at, section_from, section_of, tested, unless_fault, with_record}
 use Rattle.op.specs.declared.op_code.OpCode.{OpCode}
 use Rattle.op.proofs.SectionStands.{unless_ok}
 use Rattle.op.proofs.SectionWords.{Follow, Stand, folded, folded_section, follow_stand, from_given, from_placed, given_from, placed_from, stand_follow}
@@ -83,7 +83,7 @@ module _ (inside : Bool) (op : OpCode) (s : SectionValue) (r : Record RData) whe
       pick (is_empty_data r.rdata && not (is_update op || is_opt r)) _ f _ (IsMisplaced inside op s r f) is
       (λ test same. let b = bare (is_empty_data r.rdata) (is_update op) (is_opt r) test in subst (IsMisplaced inside op s r) (sym same) (empty b.empty b.update b.opt))
       (λ test1 is1.
-      let given : IsGiven op r = given_from (is_empty_data r.rdata) (is_update op || is_opt r) test1 in
+      let given : HasNeededData op r = given_from (is_empty_data r.rdata) (is_update op || is_opt r) test1 in
       pick (is_some s.signature) _ f _ (IsMisplaced inside op s r f) is1
       (λ test same. subst (IsMisplaced inside op s r) (sym same) (behind_signature given (there s.signature test)))
       (λ test2 is2.
@@ -96,7 +96,7 @@ module _ (inside : Bool) (op : OpCode) (s : SectionValue) (r : Record RData) whe
       subst (IsMisplaced inside op s r) (sym same) (second_edns given unsigned (placed_from inside (is_additional r) test3) (there s.edns p.0) p.1))
       (λ test4 is4. cc))))
 
-  not_bare : IsGiven op r → (is_empty_data r.rdata && not (is_update op || is_opt r)) ≡ false
+  not_bare : HasNeededData op r → (is_empty_data r.rdata && not (is_update op || is_opt r)) ≡ false
   not_bare given = from_given (is_empty_data r.rdata) (is_update op || is_opt r) given
 
   refused : (f : DecodeError) → IsMisplaced inside op s r f → fault_of inside op s r ≡ Some f

@@ -41,11 +41,6 @@ end : (inside : Bool) (op : OpCode) (bytes : List ℕ) (i : ℕ) (s : SectionVal
 unfolding section_from
 end inside op bytes i s = refl
 
-pub takes_none : (inside : Bool) (op : OpCode) (count : ℕ) (bytes : List ℕ) (i : ℕ) → Takes inside op count 0 bytes bytes i i empty_section
-takes_none inside op count bytes i =
-    let all : count - 0 ≡ count = omega arith in
-    record { whole = rw all refl; same = refl; below = omega arith }
-
 pub takes_more : (inside : Bool) (op : OpCode) (n c : ℕ) (first bytes : List ℕ) (start i e : ℕ) (s t : SectionValue) (r : Record RData) → c < n → record_at bytes i ≡ Ok (r, e) → tested inside op s r ≡ Ok t → Takes inside op n c first bytes start i s → Takes inside op n (c + 1) first bytes start e t
 takes_more inside op n c first bytes start i e s t r below is passes w = record { whole = sym (step inside op n c bytes i e s t r below is passes) ∙ w.whole; same = w.same; below = omega arith }
 

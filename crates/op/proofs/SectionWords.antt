@@ -13,7 +13,7 @@ use Rattle.base_data.specs.RData.{is_empty_data, is_signature_data}
 use Rattle.base_data.specs.declared.rdata.RData.{RData}
 use Rattle.rr.specs.Record.{is_opt_type}
 use Rattle.rr.specs.declared.record.Record.{Record}
-use Rattle.op.specs.Section.{EndsWithSignature, IsGiven, SectionValue, edns_of, empty_section, fault_of, is_additional, is_opt, is_ordinary, is_signature, is_update, section_of, signature_of, with_record}
+use Rattle.op.specs.Section.{EndsWithSignature, HasNeededData, SectionValue, edns_of, empty_section, fault_of, is_additional, is_opt, is_ordinary, is_signature, is_update, section_of, signature_of, with_record}
 use Rattle.op.specs.declared.op_code.OpCode.{OpCode}
 
 -- each record passes the tests behind those before it
@@ -27,7 +27,7 @@ folded s (r ∷ rs) = folded (with_record s r) rs
 
 -- What the tests say of records behind others, of which one was EDNS or not, and one a signature or not.
 pub record Stand (inside : Bool) (op : OpCode) (edns signature : Bool) (rs : List (Record RData)) : Type 0 where
-  pub given : All (IsGiven op) rs
+  pub given : All (HasNeededData op) rs
   pub placed : inside ≡ false → All (λ r. is_additional r ≡ false) rs
   pub alone : signature ≡ true → rs ≡ []
   pub ends : EndsWithSignature rs
@@ -113,7 +113,7 @@ apart_of false false r fs h = refl
 -- ---- from the tests to what they say, and back
 
 pub follow_stand : (inside : Bool) (op : OpCode) (rs : List (Record RData)) (s : SectionValue) → Follow inside op s rs → Stand inside op (is_some s.edns) (is_some s.signature) rs
-follow_stand inside op [] s follow = record { given = All-nil (IsGiven op); placed = λ _. All-nil (λ r. is_additional r ≡ false); alone = λ _. refl; ends = tt; one = bounded (is_some s.edns) }
+follow_stand inside op [] s follow = record { given = All-nil (HasNeededData op); placed = λ _. All-nil (λ r. is_additional r ≡ false); alone = λ _. refl; ends = tt; one = bounded (is_some s.edns) }
   where
     bounded : (b : Bool) → 0 + cond b 1 0 ≤ 1
     bounded true = omega arith
@@ -126,7 +126,7 @@ follow_stand inside op (r ∷ rs) s follow =
     let signature = signature_after (is_opt r) (is_signature r) s r apart in
     let rest : Stand inside op (is_opt r || is_some s.edns) (is_signature r || is_some s.signature) rs = subst (λ e. Stand inside op e (is_signature r || is_some s.signature) rs) edns (subst (λ g. Stand inside op (is_some (with_record s r).edns) g rs) signature before) in
     record {
-      given = All-cons (IsGiven op) r rs (given_from (is_empty_data r.rdata) (is_update op || is_opt r) t.first) rest.given;
+      given = All-cons (HasNeededData op) r rs (given_from (is_empty_data r.rdata) (is_update op || is_opt r) t.first) rest.given;
       placed = λ outside. All-cons (λ x. is_additional x ≡ false) r rs (placed_from inside (is_additional r) t.third outside) (rest.placed outside);
       alone = λ has. absurd (both (is_some s.signature) has t.second);
       ends = (λ is. rest.alone (rw is refl), rest.ends);
@@ -140,7 +140,7 @@ pub stand_follow : (inside : Bool) (op : OpCode) (rs : List (Record RData)) (s :
 stand_follow inside op [] s w = tt
 stand_follow inside op (r ∷ rs) s w =
     let apart : is_signature r ≡ true → is_opt r ≡ false = exclusive r.rdata in
-    let given : IsGiven op r = w.given 0 r (omega arith) in
+    let given : HasNeededData op r = w.given 0 r (omega arith) in
     let unsigned : is_some s.signature ≡ false = elim (cases_Bool (is_some s.signature)) [ inl has ↦ absurd (no_cons (w.alone has)) | inr none ↦ none ] in
     let t : NoFault (is_empty_data r.rdata && not (is_update op || is_opt r)) (is_some s.signature) (not inside && is_additional r) (is_some s.edns && is_opt r) = record {
       first = from_given (is_empty_data r.rdata) (is_update op || is_opt r) given;
@@ -152,7 +152,7 @@ stand_follow inside op (r ∷ rs) s w =
     let edns = edns_after (is_opt r) (is_signature r) s r in
     let signature = signature_after (is_opt r) (is_signature r) s r apart in
     let rest : Stand inside op (is_opt r || is_some s.edns) (is_signature r || is_some s.signature) rs = record {
-      given = All-tail (IsGiven op) r rs w.given;
+      given = All-tail (HasNeededData op) r rs w.given;
       placed = λ outside. All-tail (λ x. is_additional x ≡ false) r rs (w.placed outside);
       alone = λ either. elim (either_of (is_signature r) (is_some s.signature) either) [ inl is ↦ w.ends.0 is | inr has ↦ absurd (no_cons (w.alone has)) ];
       ends = w.ends.1;

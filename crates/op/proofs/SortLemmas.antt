@@ -12,7 +12,7 @@ use Rattle.rr.specs.declared.record.Record.{Record}
 use Rattle.op.specs.EdnsRecord.{edns_record, opt_data}
 use Rattle.op.specs.Fits.{FitsAdditional, FitsEdns, listed, signature_record}
 use Rattle.base_data.specs.RData.{is_signature_data}
-use Rattle.op.specs.Section.{AtMostOneOpt, EndsWithSignature, IsGiven, edns_of, is_opt, is_ordinary, is_signature, is_update, section_of, signature_of}
+use Rattle.op.specs.Section.{AtMostOneOpt, EndsWithSignature, HasNeededData, edns_of, is_opt, is_ordinary, is_signature, is_update, section_of, signature_of}
 use Rattle.op.specs.declared.edns.Edns.{Edns}
 use Rattle.op.specs.declared.op_code.OpCode.{OpCode}
 use Rattle.op.proofs.WordsBack.{edns_back, opt_typed}
@@ -126,20 +126,20 @@ module _ (ds : List (Record RData)) (op : OpCode) (fits : All (FitsAdditional op
   either true = refl
   either false = refl
 
-  edns_given : (e : Edns) → IsGiven op (edns_record e)
+  edns_given : (e : Edns) → HasNeededData op (edns_record e)
   edns_given e empty = rw (opt_is_opt e) (either (is_update op))
 
-  signature_given : (s : Record (List ℕ)) → IsGiven op (signature_record s)
+  signature_given : (s : Record (List ℕ)) → HasNeededData op (signature_record s)
   signature_given s empty = absurd (true≢false (sym empty))
 
-  rest_given : (edns : Option Edns) (signature : Option (Record (List ℕ))) → All (IsGiven op) (tail edns signature)
-  rest_given None None = All-nil (IsGiven op)
-  rest_given None (Some s) = All-cons (IsGiven op) (signature_record s) [] (signature_given s) (All-nil (IsGiven op))
-  rest_given (Some e) None = All-cons (IsGiven op) (edns_record e) [] (edns_given e) (All-nil (IsGiven op))
-  rest_given (Some e) (Some s) = All-cons (IsGiven op) (edns_record e) (signature_record s ∷ []) (edns_given e) (All-cons (IsGiven op) (signature_record s) [] (signature_given s) (All-nil (IsGiven op)))
+  rest_given : (edns : Option Edns) (signature : Option (Record (List ℕ))) → All (HasNeededData op) (tail edns signature)
+  rest_given None None = All-nil (HasNeededData op)
+  rest_given None (Some s) = All-cons (HasNeededData op) (signature_record s) [] (signature_given s) (All-nil (HasNeededData op))
+  rest_given (Some e) None = All-cons (HasNeededData op) (edns_record e) [] (edns_given e) (All-nil (HasNeededData op))
+  rest_given (Some e) (Some s) = All-cons (HasNeededData op) (edns_record e) (signature_record s ∷ []) (edns_given e) (All-cons (HasNeededData op) (signature_record s) [] (signature_given s) (All-nil (HasNeededData op)))
 
-  pub all_given : (edns : Option Edns) (signature : Option (Record (List ℕ))) → All (IsGiven op) (ds ++ tail edns signature)
-  all_given edns signature = All-append (IsGiven op) ds (tail edns signature) (λ k d below. (fits k d below).given) (rest_given edns signature)
+  pub all_given : (edns : Option Edns) (signature : Option (Record (List ℕ))) → All (HasNeededData op) (ds ++ tail edns signature)
+  all_given edns signature = All-append (HasNeededData op) ds (tail edns signature) (λ k d below. (fits k d below).given) (rest_given edns signature)
 
   rest_ends : (edns : Option Edns) (signature : Option (Record (List ℕ))) → EndsWithSignature (tail edns signature)
   rest_ends None None = tt

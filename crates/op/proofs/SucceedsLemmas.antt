@@ -16,7 +16,7 @@ use Rattle.op.specs.Fits.{HasRoom, plain_queries}
 use Rattle.op.specs.Message.{MessageValue}
 use Rattle.op.specs.Query.{QueryWord, plain_query}
 use Rattle.op.specs.declared.header.Header.{Header}
-use Rattle.op.specs.declared.message.writing.parts.Sections.{Sections}
+use Rattle.op.specs.declared.message.writing.parts.WrittenSections.{WrittenSections}
 use Rattle.op.specs.declared.message.writing.parts.Written.{Written}
 use Rattle.op.specs.declared.query.Query.{Query}
 use Rattle.op.proofs.EmittedLemmas.{AreOf, Composed, ThreeFronts, emits_queries, emits_records, sections_done, slice_front}
@@ -58,13 +58,13 @@ module _ (k : State) (blank : k.suffixes ≡ []) (within : length k.bytes ≤ k.
 
   -- the sections
   module _ (a a' n n' d d' : Iter (Record RData)) (first last : State) (took : Took k first 0) where
-    abbrev Third : Written → Written → Written → State → Result Sections ProtoError → State → Type 0
+    abbrev Third : Written → Written → Written → State → Result WrittenSections ProtoError → State → Type 0
     Third answers authorities additionals = Tests (λ result. result ≡ Ok (record { answers = answers; authorities = authorities; additionals = additionals }))
 
-    abbrev Second : Written → Written → State → Result Sections ProtoError → State → Type 0
+    abbrev Second : Written → Written → State → Result WrittenSections ProtoError → State → Type 0
     Second answers authorities = AndThen (EmitsPart emits_records d d') ⊤ (Third answers authorities)
 
-    abbrev First : Written → State → Result Sections ProtoError → State → Type 0
+    abbrev First : Written → State → Result WrittenSections ProtoError → State → Type 0
     First answers = AndThen (EmitsPart emits_records n n') (d' ≡ d) (Second answers)
 
     second_failed : (answers : Written) (second : State) → WritesRecords a.rest.now first second answers.count answers.is_cut → Both (EmitsPart emits_records n n') (Second answers) second (Err e) last → e ≡ refusals.Memory
@@ -128,10 +128,10 @@ module _ (k : State) (blank : k.suffixes ≡ []) (within : length k.bytes ≤ k.
 
 module _ (m : MessageValue) (q q' : Iter Query) (a a' n n' d d' : Iter (Record RData)) (edns signature : List (Record RData)) (are : AreOf m q q' a a' n n' d d' edns signature) (old new : State)
     (empty : old.bytes ≡ []) (blank : old.suffixes ≡ []) (small : old.limit < 2 ^ 16) (e : ProtoError) where
-  abbrev Headed : ℕ → ℕ → Sections → Written → State → Result Header ProtoError → State → Type 0
+  abbrev Headed : ℕ → ℕ → WrittenSections → Written → State → Result Header ProtoError → State → Type 0
   Headed place queries sections additionals = AndThen (Tests (HasHeader m.metadata queries sections additionals)) ⊤ (FillsIn place)
 
-  abbrev Extended : ℕ → ℕ → Sections → State → Result Header ProtoError → State → Type 0
+  abbrev Extended : ℕ → ℕ → WrittenSections → State → Result Header ProtoError → State → Type 0
   Extended place queries sections = AndThen (WritesExtras edns signature sections.additionals) ⊤ (Headed place queries sections)
 
   abbrev Sectioned : ℕ → ℕ → State → Result Header ProtoError → State → Type 0
@@ -153,14 +153,14 @@ module _ (m : MessageValue) (q q' : Iter Query) (a a' n n' d d' : Iter (Record R
     kept_small : kept.limit < 2 ^ 16
     kept_small = omega (arith, limit, small)
 
-    header_failed : (queries : ℕ) (sixth : State) (sections : Sections) (total : Written) → queries < 2 ^ 16 → AndThen (Tests (HasHeader m.metadata queries sections total)) ⊤ (FillsIn place) sixth (Err e) new → e ≡ refusals.Memory
+    header_failed : (queries : ℕ) (sixth : State) (sections : WrittenSections) (total : Written) → queries < 2 ^ 16 → AndThen (Tests (HasHeader m.metadata queries sections total)) ⊤ (FillsIn place) sixth (Err e) new → e ≡ refusals.Memory
     header_failed queries sixth sections total few run =
         elim (failed e run) [
           | inl test ↦ absurd (omega (arith, test.0.0, few))
           | inr b ↦ absurd (let is = b.rest.0 in cc)
         ]
 
-    extras_next : (queries : ℕ) (first fourth : State) (sections : Sections) → queries < 2 ^ 16 → Took kept first 0 → ThreeFronts a.rest.now n.rest.now d.rest.now first fourth sections
+    extras_next : (queries : ℕ) (first fourth : State) (sections : WrittenSections) → queries < 2 ^ 16 → Took kept first 0 → ThreeFronts a.rest.now n.rest.now d.rest.now first fourth sections
         → AndThen (WritesExtras edns signature sections.additionals) ⊤ (Headed place queries sections) fourth (Err e) new → e ≡ refusals.Memory
     extras_next queries first fourth sections few took three run =
         let one = took_front a.rest.now kept first three.second 0 sections.answers.count sections.answers.is_cut took three.answers in
@@ -227,18 +227,3 @@ too_small m old new (refusals.Decode d) empty (inr left) = absurd left
 pub refused_if : (m : MessageValue) (old new : State) (result : Result Header ProtoError) → old.bytes ≡ [] → IfErr result (λ e. (e ≡ refusals.Memory) ⊎ Leaves m old e new) → IfErr result (λ e. (e ≡ refusals.Memory) ⊎ IsTooSmall m old.limit e)
 refused_if m old new (Ok h) empty left = tt
 refused_if m old new (Err e) empty left = too_small m old new e empty left
-
--- where there is room, nothing but memory is refused
-room_enough : (m : MessageValue) (limit : ℕ) (e : ProtoError) → HasRoom m limit → (e ≡ refusals.Memory) ⊎ IsTooSmall m limit e → e ≡ refusals.Memory
-room_enough m limit e room (inl memory) = memory
-room_enough m limit refusals.MaxBufferSizeExceeded room (inr small) = absurd (omega (arith, room, small))
-room_enough m limit (refusals.NotAllRecordsWritten count) room (inr small) = absurd (omega (arith, room, small.1))
-room_enough m limit refusals.Memory room (inr small) = refl
-room_enough m limit refusals.NotOpt room (inr small) = absurd small
-room_enough m limit (refusals.Message text) room (inr small) = absurd small
-room_enough m limit refusals.NotAResponse room (inr small) = absurd small
-room_enough m limit (refusals.Decode d) room (inr small) = absurd small
-
-pub succeeds_if : {X : Type 0} (m : MessageValue) (limit : ℕ) (result : Result X ProtoError) → IfErr result (λ e. (e ≡ refusals.Memory) ⊎ IsTooSmall m limit e) → HasRoom m limit → IsOkUnless result refusals.Memory
-succeeds_if m most (Ok x) refused room = tt
-succeeds_if m most (Err e) refused room = room_enough m most e room refused

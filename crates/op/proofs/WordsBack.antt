@@ -112,6 +112,3 @@ pub edns_back : (e : Edns) → FitsEdns e → edns_of (edns_record e) ≡ e
 edns_back e fits =
     let p = parts e.rcode_high e.version (flags_number e.flags) (opt_ttl e) fits.version (flags_small e.flags.dnssec_ok e.flags.z) refl in
     same_edns p.high p.version (flags_back e.flags.dnssec_ok e.flags.z (opt_ttl e % 65536) fits.z p.flags) (ap class_number (payload_is e.max_payload fits.payload)) (options_back e.options)
-
-pub signature_back : (r : Record (List ℕ)) → signature_of (signature_record r) ≡ r
-signature_back r = refl

@@ -13,7 +13,7 @@ use Rattle.op.specs.Header.{IsNarrow, header_bytes, raw_header}
 use Rattle.op.specs.declared.header.Header.{Header}
 use Rattle.op.specs.declared.header.metadata.Metadata.{Metadata}
 use Rattle.op.specs.declared.message.writing.parts.Written.{Written}
-use Rattle.op.specs.declared.message.writing.parts.Sections.{Sections}
+use Rattle.op.specs.declared.message.writing.parts.WrittenSections.{WrittenSections}
 
 -- ---- runs one behind the other
 
@@ -87,7 +87,7 @@ WritesExtras edns signature additionals =
     Tests (Adds sum signed))))
 
 -- The header of a message: TC where the message has it or a part was cut. The questions' count is tested here.
-abbrev pub HasHeader : Metadata → ℕ → Sections → Written → Result Header ProtoError → Type 0
+abbrev pub HasHeader : Metadata → ℕ → WrittenSections → Written → Result Header ProtoError → Type 0
 HasHeader metadata queries sections additionals (Ok h) =
     IsNarrow h.metadata.id h.counts
     × (h ≡ record {
@@ -103,7 +103,7 @@ FillsIn place header a result b = (result ≡ Ok header) × (b ≡ overwritten p
 -- the answers A, the authorities N and the additionals D, each before it was written and behind that
 module _ {A N D : Type 0} (emits_a : A → State → Result ℕ ProtoError → A → State → Type 0) (emits_n : N → State → Result ℕ ProtoError → N → State → Type 0) (emits_d : D → State → Result ℕ ProtoError → D → State → Type 0) (a a' : A) (n n' : N) (d d' : D) where
   -- three sections, each whatever became of the one before it
-  abbrev pub EmitsSections : State → Result Sections ProtoError → State → Type 0
+  abbrev pub EmitsSections : State → Result WrittenSections ProtoError → State → Type 0
   EmitsSections =
       AndThen (EmitsPart emits_a a a') ((n' ≡ n) × (d' ≡ d)) (λ answers.
       AndThen (EmitsPart emits_n n n') (d' ≡ d) (λ authorities.

@@ -44,13 +44,13 @@ pub record Owner : Type 0 where
   pub end : ℕ
 
 -- A later owner that ends in all labels of an earlier one, to which a pointer can point, has a pointer there.
-abbrev pub IsShort : Owner → Owner → Type 0
-IsShort earlier later = earlier.labels ≢ [] → earlier.start < 16384 → (front : List (List ℕ)) → later.labels ≡ front ++ earlier.labels → later.end ≤ later.start + (size_of front + 2)
+abbrev pub IsCompressed : Owner → Owner → Type 0
+IsCompressed earlier later = earlier.labels ≢ [] → earlier.start < 16384 → (front : List (List ℕ)) → later.labels ≡ front ++ earlier.labels → later.end ≤ later.start + (size_of front + 2)
 
 -- so has each owner for each before it
-abbrev pub AreShort : List Owner → Type 0
-AreShort [] = Unit {0}
-AreShort (o ∷ os) = All (IsShort o) os × AreShort os
+abbrev pub AreCompressed : List Owner → Type 0
+AreCompressed [] = Unit {0}
+AreCompressed (o ∷ os) = All (IsCompressed o) os × AreCompressed os
 
 -- the owners of words that stand back to back
 unfoldable pub owners_by : {A : Type 0} {Word : ℕ → A → ℕ → Type 0} (labels : A → List (List ℕ)) (end : (i : ℕ) (x : A) (e : ℕ) → Word i x e → ℕ) {i e : ℕ} {xs : List A} → BackToBack Word i xs e → List Owner
@@ -109,7 +109,7 @@ pub record IsCut (m : MessageValue) (limit : ℕ) (B : List ℕ) (c : MessageVal
     response_code = code_value (code_number m.metadata.response_code % code_range c.edns);
   }
   -- owners that end in an earlier owner point to it
-  pub short : AreShort (owners word)
+  pub short : AreCompressed (owners word)
 
 -- nothing was lost
 abbrev pub IsUncut : {m : MessageValue} {limit : ℕ} {B : List ℕ} {c : MessageValue} → IsCut m limit B c → Type 0

@@ -10,7 +10,7 @@ use Rattle.rr.specs.Record.{IsRecordAt, IsRecordFault}
 use Rattle.rr.specs.declared.record.Record.{Record}
 use Rattle.op.specs.Header.{IsHeaderAt}
 use Rattle.op.specs.Query.{IsQueryAt, IsQueryFault}
-use Rattle.op.specs.Section.{IsGiven, IsSectionAt, SectionValue, is_additional, is_opt, is_update}
+use Rattle.op.specs.Section.{HasNeededData, IsSectionAt, SectionValue, is_additional, is_opt, is_update}
 use Rattle.op.specs.declared.header.Header.{Header}
 use Rattle.op.specs.declared.op_code.OpCode.{OpCode}
 use Rattle.op.specs.declared.query.Query.{Query}
@@ -28,10 +28,10 @@ pub record IsQueriesFault (count : ℕ) (B : List ℕ) (i : ℕ) (f : DecodeErro
 -- RFC 8945, 5.1); it is a second OPT record (RFC 6891, 6.1.1).
 pub data IsMisplaced (is_additional_section : Bool) (op : OpCode) (before : SectionValue) (r : Record RData) : DecodeError → Type 0 where
   empty : is_empty_data r.rdata ≡ true → is_update op ≡ false → is_opt r ≡ false → IsMisplaced is_additional_section op before r faults.InvalidEmptyRecord
-  behind_signature : IsGiven op r → before.signature ≢ None → IsMisplaced is_additional_section op before r faults.RecordAfterSig
-  elsewhere : IsGiven op r → before.signature ≡ None → is_additional_section ≡ false → is_additional r ≡ true
+  behind_signature : HasNeededData op r → before.signature ≢ None → IsMisplaced is_additional_section op before r faults.RecordAfterSig
+  elsewhere : HasNeededData op r → before.signature ≡ None → is_additional_section ≡ false → is_additional r ≡ true
       → IsMisplaced is_additional_section op before r (faults.RecordNotInAdditionalSection (type_of_data r.rdata))
-  second_edns : IsGiven op r → before.signature ≡ None → (is_additional_section ≡ false → is_additional r ≡ false) → before.edns ≢ None → is_opt r ≡ true
+  second_edns : HasNeededData op r → before.signature ≡ None → (is_additional_section ≡ false → is_additional r ≡ false) → before.edns ≢ None → is_opt r ≡ true
       → IsMisplaced is_additional_section op before r faults.DuplicateEdns
 
 -- A section of fewer records stands than are counted, and what stands behind it is no record, or one that may not stand there.

@@ -10,7 +10,7 @@ use Rattle.op.specs.Message.{MessageValue}
 use Rattle.op.specs.OpCode.{op_number, op_value}
 use Rattle.op.specs.Query.{FitsQuery, plain_query}
 use Rattle.op.specs.ResponseCode.{code_number}
-use Rattle.op.specs.Section.{IsGiven, is_additional, is_opt, is_signature}
+use Rattle.op.specs.Section.{HasNeededData, is_additional, is_opt, is_signature}
 use Rattle.op.specs.declared.edns.Edns.{Edns}
 use Rattle.op.specs.declared.op_code.OpCode.{OpCode}
 use Rattle.op.specs.declared.query.Query.{Query}
@@ -41,13 +41,13 @@ opt_records code edns = listed (option_map (λ e. edns_record (with_high_bits co
 -- which stand among additionals alone.
 pub record FitsPlain (op : OpCode) (r : Record RData) : Type 0 where
   pub fits : FitsRecord r
-  pub given : IsGiven op r
+  pub given : HasNeededData op r
   pub placed : is_additional r ≡ false
 
 -- an additional record that fits: EDNS and signatures stand by themselves
 pub record FitsAdditional (op : OpCode) (r : Record RData) : Type 0 where
   pub fits : FitsRecord r
-  pub given : IsGiven op r
+  pub given : HasNeededData op r
   pub not_opt : is_opt r ≡ false
   pub not_signature : is_signature r ≡ false
 

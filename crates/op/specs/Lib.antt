@@ -15,6 +15,7 @@ pub mod MessageText
 pub mod MessageType
 pub mod Metadata
 pub mod OpCode
+pub mod Parts
 pub mod Query
 pub mod ReadsOrDecodes
 pub mod ResponseCode

@@ -10,7 +10,7 @@ use Rattle.rr.specs.declared.record.Record.{Record}
 use Rattle.op.specs.Header.{IsHeaderAt, header_at}
 use Rattle.op.specs.Query.{IsQueryAt, query_at}
 use Rattle.op.specs.ResponseCode.{code_from, code_low}
-use Rattle.op.specs.Section.{AtMostOneOpt, EndsWithSignature, IsGiven, IsPlain, SectionValue, sections_at, section_of}
+use Rattle.op.specs.Section.{AtMostOneOpt, EndsWithSignature, HasNeededData, IsPlain, SectionValue, sections_at, section_of}
 use Rattle.op.specs.declared.edns.Edns.{Edns}
 use Rattle.op.specs.declared.header.Header.{Header}
 use Rattle.op.specs.declared.header.metadata.Metadata.{Metadata}
@@ -79,7 +79,7 @@ pub record IsMessageAt (B : List ℕ) (i : ℕ) (m : MessageValue) (e : ℕ) : T
   -- empty data, and the places of OPT, SIG and TSIG
   pub answers_plain : All (IsPlain header.metadata.op_code) answers
   pub authorities_plain : All (IsPlain header.metadata.op_code) authorities
-  pub additionals_given : All (IsGiven header.metadata.op_code) additionals
+  pub additionals_given : All (HasNeededData header.metadata.op_code) additionals
   pub signature_last : EndsWithSignature additionals
   pub one_opt : AtMostOneOpt additionals
   -- the message

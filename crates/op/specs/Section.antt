@@ -165,12 +165,12 @@ sections_at op counts bytes i = do
 -- ---- the word of a section
 
 -- empty data stands in an Update or in an OPT record (RFC 2136, 2.4)
-abbrev pub IsGiven : OpCode → Record RData → Type 0
-IsGiven op r = is_empty_data r.rdata ≡ true → (is_update op || is_opt r) ≡ true
+abbrev pub HasNeededData : OpCode → Record RData → Type 0
+HasNeededData op r = is_empty_data r.rdata ≡ true → (is_update op || is_opt r) ≡ true
 
 -- a record that may stand among answers and authorities
 pub record IsPlain (op : OpCode) (r : Record RData) : Type 0 where
-  pub given : IsGiven op r
+  pub given : HasNeededData op r
   pub placed : is_additional r ≡ false
 
 -- nothing stands behind a signature (RFC 8945, 5.1)
@@ -188,7 +188,7 @@ pub record IsSectionAt (is_additional_section : Bool) (op : OpCode) (count : ℕ
   pub records : List (Record RData)
   pub words : BackToBack (IsRecordAt B) i records e
   pub counted : length records ≡ count
-  pub given : All (IsGiven op) records
+  pub given : All (HasNeededData op) records
   pub placed : is_additional_section ≡ false → All (λ r. is_additional r ≡ false) records
   pub signature_last : EndsWithSignature records
   pub one_opt : AtMostOneOpt records

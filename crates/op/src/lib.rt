@@ -13,7 +13,7 @@ pub mod response_code;
 pub use edns::{DEFAULT_MAX_PAYLOAD_LEN, Edns, EdnsFlags};
 pub use header::{Flags, Header, HeaderCounts, MessageType, Metadata};
 pub use lower_query::LowerQuery;
-pub use message::Message;
+pub use message::{AllSections, Message, TakeAllSections};
 pub use op_code::OpCode;
 pub use query::Query;
 pub use response_code::ResponseCode;

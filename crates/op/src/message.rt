@@ -5,12 +5,16 @@ ghost use Rattle.op.specs.Message.{empty_message, message_value};
 ghost use Rattle.op.specs.Metadata.{plain_metadata};
 ghost use Rattle.op.specs.declared.header.message_type.MessageType.TheVariants as message_types;
 
+mod adding;
 mod copy;
 mod display;
 mod emit;
 pub mod laws;
+pub mod part_laws;
+mod parts;
 mod reading;
 mod section;
+mod sections;
 mod writing;
 
 use crate::edns::Edns;
@@ -22,6 +26,7 @@ pub use base::EmitAndCount;
 use base::ProtoError;
 use base_data::TSIG;
 use rr::Record;
+pub use sections::{AllSections, TakeAllSections};
 use std::alloc::Global;
 pub use writing::emit_message_parts;
 

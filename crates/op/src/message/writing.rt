@@ -20,7 +20,7 @@ use crate::message::Message;
 use base::{BinEncoder, EmitAndCount, ProtoError};
 use base_data::TSIG;
 use extras::emit_extras;
-use parts::{Sections, Written, emit_sections};
+use parts::{WrittenSections, Written, emit_sections};
 use rr::Record;
 
 /// Writes a message of its parts: a header, the questions, answers, authorities and additional records, EDNS and the
@@ -98,7 +98,7 @@ impl Message {
 fn header_of(
     metadata: &Metadata,
     query_count: usize,
-    sections: Sections,
+    sections: WrittenSections,
     additionals: Written,
 ) -> Result<Header, ProtoError>
     ensures { HasHeader metadata.now query_count sections additionals result }
@@ -147,7 +147,7 @@ fn numbered(
 }
 
 // TC of a message of which so much was written.
-fn is_cut(metadata: &Metadata, sections: Sections, additionals: Written) -> bool
+fn is_cut(metadata: &Metadata, sections: WrittenSections, additionals: Written) -> bool
     ensures { result ≡ (metadata.now.truncation || (sections.answers.is_cut || (sections.authorities.is_cut || additionals.is_cut))) }
 {
     metadata.truncation

@@ -19,7 +19,7 @@ pub(crate) struct Written {
 
 /// What was written of the sections of records.
 #[derive(Clone, Copy, Drop)]
-pub(crate) struct Sections {
+pub(crate) struct WrittenSections {
     pub answers: Written,
     pub authorities: Written,
     pub additionals: Written,
@@ -31,7 +31,7 @@ pub(crate) fn emit_sections<A: EmitAndCount, N: EmitAndCount, D: EmitAndCount>(
     authorities: &mut N,
     additionals: &mut D,
     encoder: &mut BinEncoder<'_>,
-) -> Result<Sections, ProtoError>
+) -> Result<WrittenSections, ProtoError>
     requires answers { A.can_emit answers.old }
     requires authorities { N.can_emit authorities.old }
     requires additionals { D.can_emit additionals.old }
@@ -42,7 +42,7 @@ pub(crate) fn emit_sections<A: EmitAndCount, N: EmitAndCount, D: EmitAndCount>(
     let answers = emit_part(answers, encoder)?;
     let authorities = emit_part(authorities, encoder)?;
     let additionals = emit_part(additionals, encoder)?;
-    Ok(Sections {
+    Ok(WrittenSections {
         answers,
         authorities,
         additionals,
