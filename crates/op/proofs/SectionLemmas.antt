@@ -6,7 +6,7 @@ use Rattle.base.proofs.ReadLemmas.{Fails-through}
 use Rattle.base_data.specs.declared.rdata.RData.{RData}
 use Rattle.rr.specs.Record.{record_at}
 use Rattle.rr.specs.declared.record.Record.{Record}
-use Rattle.op.specs.Section.{SectionValue, empty_section, section_at, section_from, sections_at, tested}
+use Rattle.op.specs.Section.{SectionValue, section_at, section_from, sections_at, tested}
 use Rattle.op.specs.declared.header.header_counts.HeaderCounts.{HeaderCounts}
 use Rattle.op.specs.declared.op_code.OpCode.{OpCode}
 

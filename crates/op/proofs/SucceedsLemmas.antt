@@ -1,6 +1,6 @@
 -- A message of slices, in an encoder that is empty, is refused for memory, or where header or questions have no room.
-use Rattle.std.proofs.Common.{◌≡◌, ◌⊎◌, ℕ, true, ◌+◌, ◌<◌, ◌≤◌, ◌^◌, List, [], ◌∷◌, length, inl, inr, refl, ap, sym, ◌∙◌, subst, arith, length-append, Result, Ok, Err, Iter}
-use Rattle.std.specs.Prelude.{IfErr, IsOkUnless, ⊤, replicate}
+use Rattle.std.proofs.Common.{◌≡◌, ◌⊎◌, ℕ, true, ◌+◌, ◌<◌, ◌≤◌, ◌^◌, List, [], ◌∷◌, length, inl, inr, ap, sym, ◌∙◌, subst, arith, length-append, Result, Ok, Err, Iter}
+use Rattle.std.specs.Prelude.{IfErr, ⊤, replicate}
 use Rattle.base.specs.Items.{EachWritten}
 use Rattle.base.specs.State.{State, appended}
 use Rattle.base.specs.declared.error.proto_error.ProtoError.{ProtoError}
@@ -12,7 +12,7 @@ use Rattle.rr.specs.declared.record.Record.{Record}
 use Rattle.op.specs.Cut.{IsTooSmall, NoRoom, any_lost}
 use Rattle.op.specs.Composition.{Adds, AndThen, Counts, EmitsPart, EmitsSections, FillsIn, HasHeader, KeepsRoom, Tests, WritesExtras, WritesRecordItems}
 use Rattle.op.specs.Emitted.{Leaves, WritesFront, WritesRecords, query_owner, record_owner}
-use Rattle.op.specs.Fits.{HasRoom, plain_queries}
+use Rattle.op.specs.Fits.{plain_queries}
 use Rattle.op.specs.Message.{MessageValue}
 use Rattle.op.specs.Query.{QueryWord, plain_query}
 use Rattle.op.specs.declared.header.Header.{Header}

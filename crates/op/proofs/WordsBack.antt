@@ -16,9 +16,9 @@ use Rattle.rr.specs.declared.record.Record.{Record}
 use Rattle.rr.proofs.ReadRecords.{record_same, value_stands}
 use Rattle.op.specs.EdnsFlags.{flags_number, flags_of_number}
 use Rattle.op.specs.EdnsRecord.{edns_record, opt_data, opt_ttl}
-use Rattle.op.specs.Fits.{FitsEdns, signature_record}
+use Rattle.op.specs.Fits.{FitsEdns}
 use Rattle.op.specs.Query.{FitsQuery, IsQueryAt, QueryWord, raw_query}
-use Rattle.op.specs.Section.{edns_of, options_in, signature_of}
+use Rattle.op.specs.Section.{edns_of, options_in}
 use Rattle.op.specs.declared.edns.Edns.{Edns}
 use Rattle.op.specs.declared.edns.edns_flags.EdnsFlags.{EdnsFlags}
 use Rattle.op.specs.declared.query.Query.{Query}

@@ -14,7 +14,10 @@ use std::alloc::AllocError;
 impl Message {
     /// Adds what the iterator gives, to its end, behind the questions. Refused for want of memory; the questions then
     /// stand that came before the one for which there was none.
-    pub fn add_queries<I: Iterator<Item = Query> + Drop>(&mut self, queries: I) -> Result<(), ProtoError>
+    pub fn add_queries<I: Iterator<Item = Query> + Drop>(
+        &mut self,
+        queries: I,
+    ) -> Result<(), ProtoError>
         requires can { I.can_next queries }
         requires countable { IsCountable (I.remaining queries) }
         ensures added { AddsGiven I.next_gives queries (message_value self.old).queries (message_value self.new).queries result }
@@ -26,7 +29,10 @@ impl Message {
 
     /// Adds what the iterator gives, to its end, behind the answers. Refused for want of memory; the answers then stand
     /// that came before the one for which there was none.
-    pub fn add_answers<I: Iterator<Item = Record> + Drop>(&mut self, records: I) -> Result<(), ProtoError>
+    pub fn add_answers<I: Iterator<Item = Record> + Drop>(
+        &mut self,
+        records: I,
+    ) -> Result<(), ProtoError>
         requires can { I.can_next records }
         requires countable { IsCountable (I.remaining records) }
         ensures added { AddsGiven I.next_gives records (message_value self.old).answers (message_value self.new).answers result }
@@ -38,7 +44,10 @@ impl Message {
 
     /// Adds what the iterator gives, to its end, behind the authorities. Refused for want of memory; the authorities
     /// then stand that came before the one for which there was none.
-    pub fn add_authorities<I: Iterator<Item = Record> + Drop>(&mut self, records: I) -> Result<(), ProtoError>
+    pub fn add_authorities<I: Iterator<Item = Record> + Drop>(
+        &mut self,
+        records: I,
+    ) -> Result<(), ProtoError>
         requires can { I.can_next records }
         requires countable { IsCountable (I.remaining records) }
         ensures added { AddsGiven I.next_gives records (message_value self.old).authorities (message_value self.new).authorities result }
@@ -50,7 +59,10 @@ impl Message {
 
     /// Adds what the iterator gives, to its end, behind the additional records. Refused for want of memory; the
     /// additional records then stand that came before the one for which there was none.
-    pub fn add_additionals<I: Iterator<Item = Record> + Drop>(&mut self, records: I) -> Result<(), ProtoError>
+    pub fn add_additionals<I: Iterator<Item = Record> + Drop>(
+        &mut self,
+        records: I,
+    ) -> Result<(), ProtoError>
         requires can { I.can_next records }
         requires countable { IsCountable (I.remaining records) }
         ensures added { AddsGiven I.next_gives records (message_value self.old).additionals (message_value self.new).additionals result }
@@ -86,7 +98,10 @@ impl Message {
 }
 
 /// Puts what an iterator gives behind a list, as long as there is memory.
-fn append<T: Drop, I: Iterator<Item = T> + Drop>(list: &mut Vec<T>, items: I) -> Result<(), AllocError>
+fn append<T: Drop, I: Iterator<Item = T> + Drop>(
+    list: &mut Vec<T>,
+    items: I,
+) -> Result<(), AllocError>
     requires can { I.can_next items }
     requires countable { IsCountable (I.remaining items) }
     ensures { AddsGiven I.next_gives items list.old.items list.new.items result }

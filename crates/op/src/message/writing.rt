@@ -20,7 +20,7 @@ use crate::message::Message;
 use base::{BinEncoder, EmitAndCount, ProtoError};
 use base_data::TSIG;
 use extras::emit_extras;
-use parts::{WrittenSections, Written, emit_sections};
+use parts::{Written, WrittenSections, emit_sections};
 use rr::Record;
 
 /// Writes a message of its parts: a header, the questions, answers, authorities and additional records, EDNS and the
