@@ -17,8 +17,10 @@ mod names;
 mod read_refusals;
 mod read_rows;
 mod records;
+mod responses;
 mod texts;
 mod types;
+mod updates;
 mod wire;
 
 use crate::run::run;

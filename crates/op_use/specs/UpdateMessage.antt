@@ -65,7 +65,6 @@ delete_rrset r origin = sections origin r.dns_class [] (empty_record r.name (typ
 abbrev pub delete_all : NameValue → NameValue → DNSClass → Sections
 delete_all owner origin class = sections origin class [] (empty_record owner types.ANY classes.ANY ∷ [])
 
-
 -- EDNS of an update: 1232 bytes are taken
 abbrev pub update_edns : Bool → Option Edns
 update_edns use_edns = if use_edns then Some (record new_edns { max_payload = 1232 }) else None

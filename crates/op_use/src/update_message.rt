@@ -44,7 +44,10 @@ pub trait UpdateMessage: Debug {
 
     /// Adds the prerequisites that the iterator gives, behind the others; where this is refused, those stand that came
     /// before the one for which there was no memory.
-    fn add_pre_requisites<I: Iterator<Item = Record> + Drop>(&mut self, prerequisites: I) -> Result<(), ProtoError>
+    fn add_pre_requisites<I: Iterator<Item = Record> + Drop>(
+        &mut self,
+        prerequisites: I,
+    ) -> Result<(), ProtoError>
         requires can { I.can_next prerequisites }
         requires countable { IsCountable (I.remaining prerequisites) }
         ensures added { AddsGiven I.next_gives prerequisites (message self.old).answers (message self.new).answers result }
@@ -59,7 +62,10 @@ pub trait UpdateMessage: Debug {
 
     /// Adds the updates that the iterator gives, behind the others; where this is refused, those stand that came before
     /// the one for which there was no memory.
-    fn add_updates<I: Iterator<Item = Record> + Drop>(&mut self, updates: I) -> Result<(), ProtoError>
+    fn add_updates<I: Iterator<Item = Record> + Drop>(
+        &mut self,
+        updates: I,
+    ) -> Result<(), ProtoError>
         requires can { I.can_next updates }
         requires countable { IsCountable (I.remaining updates) }
         ensures added { AddsGiven I.next_gives updates (message self.old).authorities (message self.new).authorities result }
@@ -108,7 +114,10 @@ impl UpdateMessage for Message {
         self.add_answer(prerequisite)
     }
 
-    fn add_pre_requisites<I: Iterator<Item = Record> + Drop>(&mut self, prerequisites: I) -> Result<(), ProtoError> {
+    fn add_pre_requisites<I: Iterator<Item = Record> + Drop>(
+        &mut self,
+        prerequisites: I,
+    ) -> Result<(), ProtoError> {
         self.add_answers(prerequisites)
     }
 
@@ -116,7 +125,10 @@ impl UpdateMessage for Message {
         self.add_authority(update)
     }
 
-    fn add_updates<I: Iterator<Item = Record> + Drop>(&mut self, updates: I) -> Result<(), ProtoError> {
+    fn add_updates<I: Iterator<Item = Record> + Drop>(
+        &mut self,
+        updates: I,
+    ) -> Result<(), ProtoError> {
         self.add_authorities(updates)
     }
 

@@ -37,7 +37,15 @@ pub fn create(
     let parts = rrset.into_parts();
     let absent = empty_record(parts.name, parts.record_type, DNSClass::NONE);
     let prerequisites = vec![in alloc; absent]?;
-    update(alloc, id, origin, parts.dns_class, prerequisites, parts.records, use_edns)
+    update(
+        alloc,
+        id,
+        origin,
+        parts.dns_class,
+        prerequisites,
+        parts.records,
+        use_edns,
+    )
 }
 
 /// The update that adds the records of a set to a zone; with `must_exist` its prerequisite is that the zone has a set of
@@ -63,7 +71,15 @@ pub fn append(
     if must_exist {
         prerequisites.push(empty_record(parts.name, parts.record_type, DNSClass::ANY))?;
     }
-    update(alloc, id, origin, parts.dns_class, prerequisites, parts.records, use_edns)
+    update(
+        alloc,
+        id,
+        origin,
+        parts.dns_class,
+        prerequisites,
+        parts.records,
+        use_edns,
+    )
 }
 
 /// The update that puts a set in the place of another: its prerequisites are the data of the current set (RFC 2136,
@@ -90,7 +106,15 @@ pub fn compare_and_swap(
     let mut parts = new.into_parts();
     updates.append(&mut parts.records)?;
     let prerequisites = untimed(current.into_parts().records);
-    update(alloc, id, origin, parts.dns_class, prerequisites, updates, use_edns)
+    update(
+        alloc,
+        id,
+        origin,
+        parts.dns_class,
+        prerequisites,
+        updates,
+        use_edns,
+    )
 }
 
 /// The update that takes the data of a set out of a zone (RFC 2136, 2.5.4). With `use_edns` it takes answers of up to
@@ -112,7 +136,15 @@ pub fn delete_by_rdata(
 {
     let parts = rrset.into_parts();
     let updates = in_no_class(parts.records);
-    update(alloc, id, origin, parts.dns_class, Vec::new(alloc), updates, use_edns)
+    update(
+        alloc,
+        id,
+        origin,
+        parts.dns_class,
+        Vec::new(alloc),
+        updates,
+        use_edns,
+    )
 }
 
 /// The update that takes the set of a record's owner and type out of a zone of the record's class (RFC 2136, 2.5.2). With
@@ -122,21 +154,29 @@ pub fn delete_by_rdata(
 pub fn delete_rrset(
     alloc: Global,
     id: u16,
-    record: Record,
+    entry: Record,
     origin: Name,
     use_edns: bool,
 ) -> Result<Message, ProtoError>
-    requires within { is_zone_of origin record.name ≡ true }
-    ensures built { IfOk result (λ m. message_value m ≡ update_message id use_edns (delete_set_sections record origin)) }
-    ensures fits { IfOk result (λ m. IsSendableKey origin record.name (type_of_data record.rdata) record.dns_class → Fits (message_value m)) }
-    ensures means { IfOk result (λ m. DeletesSet record origin (message_value m)) }
+    requires within { is_zone_of origin entry.name ≡ true }
+    ensures built { IfOk result (λ m. message_value m ≡ update_message id use_edns (delete_set_sections entry origin)) }
+    ensures fits { IfOk result (λ m. IsSendableKey origin entry.name (type_of_data entry.rdata) entry.dns_class → Fits (message_value m)) }
+    ensures means { IfOk result (λ m. DeletesSet entry origin (message_value m)) }
     ensures only { IsOkUnless result ProtoError.Memory }
 {
-    let record_type = record.record_type();
-    let dns_class = record.dns_class;
-    let gone = empty_record(record.name, record_type, DNSClass::ANY);
+    let record_type = entry.record_type();
+    let dns_class = entry.dns_class;
+    let gone = empty_record(entry.name, record_type, DNSClass::ANY);
     let updates = vec![in alloc; gone]?;
-    update(alloc, id, origin, dns_class, Vec::new(alloc), updates, use_edns)
+    update(
+        alloc,
+        id,
+        origin,
+        dns_class,
+        Vec::new(alloc),
+        updates,
+        use_edns,
+    )
 }
 
 /// The update that takes all sets of an owner out of a zone of a class; at the origin SOA and NS stay (RFC 2136, 2.5.3
@@ -159,7 +199,15 @@ pub fn delete_all(
 {
     let gone = empty_record(name, RecordType::ANY, DNSClass::ANY);
     let updates = vec![in alloc; gone]?;
-    update(alloc, id, origin, dns_class, Vec::new(alloc), updates, use_edns)
+    update(
+        alloc,
+        id,
+        origin,
+        dns_class,
+        Vec::new(alloc),
+        updates,
+        use_edns,
+    )
 }
 
 /// The question for a zone: for all of it (RFC 5936, 2.1), or, with an SOA, for what changed since (RFC 1995, 3); the SOA
