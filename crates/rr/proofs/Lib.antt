@@ -4,5 +4,7 @@ pub mod ReadRecords
 pub mod ReadSteps
 pub mod RecordFaults
 pub mod RecordLemmas
+pub mod SetLaws
 pub mod SetSteps
+pub mod SetTidy
 pub mod WriteSteps

@@ -1,5 +1,5 @@
 -- Laws of record sets.
-use Rattle.std.specs.Prelude.{ℕ, true, false, [], ◌∷◌, ◌≡◌, ◌≢◌}
+use Rattle.std.specs.Prelude.{ℕ, Bool, true, false, [], ◌∷◌, ◌≡◌, ◌≢◌}
 use Rattle.base.specs.Labels.{NameValue}
 use Rattle.base.specs.declared.record_type.RecordType.{RecordType}
 use Rattle.base.specs.declared.record_type.RecordType.TheVariants as types
@@ -40,19 +40,19 @@ LastServerStays = (set : SetValue) (r : Record RData) (serial : ℕ) → IsTidy 
 
 -- nothing is removed from a tidy set of an SOA
 abbrev pub StartStays : Type 0
-StartStays = (set : SetValue) (r : Record RData) (serial : ℕ) → IsTidy set → set.record_type ≡ types.SOA → remove set r serial ≡ (false, set)
+StartStays = (set : SetValue) (r : Record RData) (serial : ℕ) → IsTidy set → set.record_type ≡ types.SOA → ◌≡◌ {A = Bool × SetValue} (remove set r serial) (false, set)
 
--- The SOA of x gives way to that of r: both have SOA data, and the serial of r is greater.
-pub record IsRaised (x r : Record RData) : Type 0 where
+-- Both are SOA data, the new one of a greater serial.
+pub record IsRaised (old_data new_data : RData) : Type 0 where
   pub old : SOA
   pub new : SOA
-  pub old_data : x.rdata ≡ kinds.SOA old
-  pub new_data : r.rdata ≡ kinds.SOA new
+  pub is_old : old_data ≡ kinds.SOA old
+  pub is_new : new_data ≡ kinds.SOA new
   pub raised : is_greater old.serial new.serial ≡ true
 
 -- an `insert` into a set of one SOA that answers true leaves the new one alone, of a greater serial
 abbrev pub SerialRises : Type 0
-SerialRises = (set : SetValue) (x r : Record RData) (serial : ℕ) → set.record_type ≡ types.SOA → set.records ≡ x ∷ [] → (insert set r serial).0 ≡ true → IsRaised x r × ((insert set r serial).1.records ≡ r ∷ [])
+SerialRises = (set : SetValue) (x r : Record RData) (serial : ℕ) → set.record_type ≡ types.SOA → set.records ≡ x ∷ [] → (insert set r serial).0 ≡ true → IsRaised x.rdata r.rdata × ((insert set r serial).1.records ≡ r ∷ [])
 
 -- one that answers false leaves the old one alone
 abbrev pub SerialStays : Type 0

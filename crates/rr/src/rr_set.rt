@@ -6,6 +6,7 @@ ghost use Rattle.rr.specs.RecordSet.{SetValue, empty_set, set_of};
 
 mod compare;
 mod inserting;
+pub mod laws;
 mod parts;
 mod placing;
 mod records;
@@ -14,11 +15,10 @@ mod setting;
 
 use crate::record::Record;
 use base::{DNSClass, Name, ProtoError, RecordType};
-use std::alloc::{AllocError, Global};
-use std::marker::Model;
-
 pub use parts::RecordSetParts;
 pub use records::RrsetRecords;
+use std::alloc::{AllocError, Global};
+use std::marker::Model;
 
 /// The records of one owner and type, in order.
 ///

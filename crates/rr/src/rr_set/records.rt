@@ -12,8 +12,7 @@ ghost use Rattle.base_data.specs.declared.rdata.RData.{RData};
 
 use crate::record::Record;
 use crate::rr_set::RecordSet;
-use std::slice;
-use std::vec;
+use std::{slice, vec};
 
 /// The records of a set that are left.
 #[derive(Debug, Drop)]

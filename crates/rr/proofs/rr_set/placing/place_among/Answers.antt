@@ -1,4 +1,4 @@
-use Rattle.std.proofs.Common.{◌≡◌, refl, ap, arith, subst, sym, ◌∙◌, length, take, true, false, nat_eq, Bool}
+use Rattle.std.proofs.Common.{◌≡◌, refl, ap, arith, subst, sym, ◌∙◌, length, take, true, nat_eq}
 use Rattle.std.specs.List.{list_any}
 use Rattle.std.proofs.lemmas.Bool.{eq-eqb, ne_eqb}
 use Rattle.rr.specs.SetChanges.{IsPlaced, before, has_data_of, placed}
