@@ -5,7 +5,7 @@ use Rattle.std.specs.Ordering.{on}
 use Rattle.std.specs.Cmp.{IsEquivalence, second_so}
 use Rattle.std.proofs.lemmas.Bool.{cond-true, cond-false, or_parts, or_from, not-false, leb-false}
 use Rattle.base.specs.NameOrder.{same_name}
-use Rattle.base_data.specs.RData.{type_of_data}
+use Rattle.base_data.specs.Kinds.{type_of_data}
 use Rattle.base_data.specs.declared.rdata.RData.{RData}
 use Rattle.base_data.specs.SameData.{same_data}
 use Rattle.base_data.specs.contracts.rdata.RDataEq.TheImpl.Laws.{laws-law as data_laws}

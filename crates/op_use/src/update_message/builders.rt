@@ -69,7 +69,8 @@ pub fn append(
     let parts = rrset.into_parts();
     let mut prerequisites = Vec::new(alloc);
     if must_exist {
-        prerequisites.push(empty_record(parts.name, parts.record_type, DNSClass::ANY))?;
+        let owner = parts.name.clone()?;
+        prerequisites.push(empty_record(owner, parts.record_type, DNSClass::ANY))?;
     }
     update(
         alloc,
