@@ -16,6 +16,7 @@ mod names;
 mod read_refusals;
 mod read_rows;
 mod records;
+mod sets;
 mod types;
 mod wire;
 
