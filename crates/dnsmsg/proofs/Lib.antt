@@ -2,3 +2,4 @@ mod CutLemmas
 mod LimitLemmas
 mod RunLemmas
 mod WordLemmas
+pub mod SetCalls

@@ -18,6 +18,7 @@ mod read_refusals;
 mod read_rows;
 mod records;
 mod responses;
+mod sets;
 mod texts;
 mod types;
 mod updates;
