@@ -10,9 +10,9 @@ ghost use Rattle.base_data.specs.Equality.{same_bytes-equiv};
 ghost use Rattle.base_data.specs.declared.rdata.RData.TheVariants as kinds;
 
 use crate::rdata::RData;
-use crate::rdata::reading::SizedData;
 use crate::rdata::emit::emit_bytes;
 use crate::rdata::hex_text::OpaqueText;
+use crate::rdata::reading::SizedData;
 use crate::record_data::RecordData;
 use base::{BinDecoder, BinEncodable, BinEncoder, DecodeError, ProtoError, RecordType};
 use std::alloc::AllocError;

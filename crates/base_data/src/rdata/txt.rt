@@ -14,8 +14,8 @@ mod display;
 mod strings;
 
 use crate::rdata::RData;
-use crate::rdata::reading::SizedData;
 use crate::rdata::emit::emit_bytes;
+use crate::rdata::reading::SizedData;
 use crate::record_data::RecordData;
 use base::{BinDecoder, BinEncodable, BinEncoder, DecodeError, ProtoError, RecordType};
 use std::alloc::{AllocError, Global};
