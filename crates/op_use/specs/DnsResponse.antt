@@ -1,12 +1,8 @@
 -- Responses: a message, and the bytes that it was read from or is written as.
 use Rattle.std.specs.Prelude.{ℕ, List, ◌≡◌, Err}
-use Rattle.std.specs.Borrow.{Fml, Lends, MutBor}
 use Rattle.base.specs.declared.error.proto_error.ProtoError.{ProtoError}
 use Rattle.base.specs.declared.error.proto_error.ProtoError.TheVariants as refusals
-use Rattle.op.specs.Message.{IsMessageAt, MessageValue, message_at, message_value}
-use Rattle.op.specs.contracts.message.Message.{the_row as message_row}
-use Rattle.op.specs.declared.message.Message.{Message}
-use Rattle.op_use.specs.contracts.dns_response.DnsResponse.{the_row as response_row}
+use Rattle.op.specs.Message.{IsMessageAt, MessageValue, message_at}
 use Rattle.op.specs.declared.header.message_type.MessageType.TheVariants as message_types
 
 -- the message, and its bytes
@@ -29,7 +25,3 @@ IsRefusedResponse bytes refusals.NotAResponse = (m : MessageValue) × (e : ℕ) 
 IsRefusedResponse bytes (refusals.Decode fault) = message_at bytes 0 ≡ Err fault
 IsRefusedResponse bytes refusals.Memory = Unit {0}
 IsRefusedResponse bytes _ = ⊥
-
--- the response ends with the message that is left behind the reference, and the bytes that it had
-abbrev pub LendsMessage : MutBor ResponseValue → MutBor Message → Fml
-LendsMessage response message = Lends response_row message_row response message (λ (w : Message). record response.now { message = message_value w })

@@ -1,4 +1,5 @@
 pub mod DnsResponse
+pub mod Lending
 pub mod NamedChanges
 pub mod Responses
 pub mod SerialMessage

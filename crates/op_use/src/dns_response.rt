@@ -11,7 +11,8 @@ ghost use Rattle.op.specs.Emitted.{EmittedNew};
 ghost use Rattle.op.specs.Fits.{Fits, HasRoom};
 ghost use Rattle.op.specs.Message.{IsMessageAt, MessageValue, message_value};
 ghost use Rattle.op.specs.Parts.{all_records};
-ghost use Rattle.op_use.specs.DnsResponse.{IsQuery, IsRefusedResponse, IsResponse, LendsMessage};
+ghost use Rattle.op_use.specs.DnsResponse.{IsQuery, IsRefusedResponse, IsResponse};
+ghost use Rattle.op_use.specs.Lending.{LendsMessage};
 ghost use Rattle.op_use.specs.Responses.{answers_by, contains_answer, first_soa, is_of, negative_ttl, soa};
 ghost use Rattle.rr.specs.RecordRef.{seen};
 

@@ -1,0 +1,20 @@
+use Rattle.std.proofs.Common.{◌≡◌, IfOk, arith}
+use Rattle.std.proofs.lemmas.Grind.{common_steps}
+use Rattle.base_data.specs.Kinds.{type_of_data}
+use Rattle.op.specs.Fits.{Fits}
+use Rattle.op.specs.Message.{message_value}
+use Rattle.op_use.specs.SoundSet.{IsSendable, IsSendableKey, IsSendableOwner}
+use Rattle.op_use.specs.UpdateMeaning.{AppendsToSet, CreatesSet, DeletesData, DeletesName, DeletesSet, SwapsSets}
+use Rattle.op_use.specs.UpdateMessage.{create, update_message}
+use Rattle.op_use.proofs.BuiltLemmas.{create_fits, creates_set, of_built}
+use Rattle.op_use.proofs.update_message.builders.create.Goals as goal
+
+pub returns-clause-fits : goal.returns-clause-fits
+returns-clause-fits c =
+    let built : IfOk c.update.result (λ m. message_value m ≡ update_message c.args.id c.args.use_edns (create c.args.rrset c.args.origin)) = grind (arith, common_steps) in
+    of_built (λ m. IsSendable c.args.origin c.args.rrset → Fits m) _ c.update.result built (create_fits c.args.id c.args.rrset c.args.origin c.args.use_edns)
+
+pub returns-clause-means : goal.returns-clause-means
+returns-clause-means c =
+    let built : IfOk c.update.result (λ m. message_value m ≡ update_message c.args.id c.args.use_edns (create c.args.rrset c.args.origin)) = grind (arith, common_steps) in
+    of_built (λ m. CreatesSet c.args.rrset c.args.origin m) _ c.update.result built (creates_set c.args.id c.args.rrset c.args.origin c.args.use_edns)

@@ -1,0 +1,13 @@
+use Rattle.std.proofs.Common.{◌≡◌, ap, sym, ◌∙◌, arith, set}
+use Rattle.std.proofs.lemmas.List.Edits.{map_over_more}
+use Rattle.base_data.specs.declared.rdata.RData.{RData}
+use Rattle.rr.specs.declared.record.Record.{Record}
+use Rattle.op_use.specs.UpdateMessage.{without_ttl}
+use Rattle.op_use.proofs.update_message.builders.untimed.Goals as goal
+
+pub loop-record-preserved : goal.loop-record-preserved
+loop-record-preserved c =
+    let ys = c.loop-record.record-items in
+    let i = c.loop-record.record-index in
+    ap (λ (x : Record RData). set ys i (record x { ttl = 0 })) (sym c.record-item.is)
+    ∙ map_over_more (without_ttl) _ _ i c.record-item.result (search arith) c.loop-record.invariant c.record-item.is
