@@ -43,7 +43,8 @@ top_of p n =
     rw (qr, op) (or_top p (bit_of 16 n) (8 * (n % 16)) (omega arith))
 
 -- byte 2
-pub high_of : (p a t d : Bool) (n : ℕ) → bit_or (bit_or (bit_or (bit_or (from_bool p * 128 % 256) (n * 8 % 256)) (from_bool a * 4 % 256)) (from_bool t * 2 % 256)) (from_bool d) ≡ high_byte (p || bit_of 16 n) (n % 16) a t d
+pub high_of : (p a t d : Bool) (n : ℕ)
+    → bit_or (bit_or (bit_or (bit_or (from_bool p * 128 % 256) (n * 8 % 256)) (from_bool a * 4 % 256)) (from_bool t * 2 % 256)) (from_bool d) ≡ high_byte (p || bit_of 16 n) (n % 16) a t d
 high_of p a t d n =
     let x = bit_or (from_bool p * 128 % 256) (n * 8 % 256) in
     let top : x ≡ from_bool (p || bit_of 16 n) * 128 + 8 * (n % 16) = top_of p n in

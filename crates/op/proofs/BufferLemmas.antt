@@ -31,7 +31,8 @@ pub begins : (B : List ℕ) (old new : Reader) (r : Result Message DecodeError) 
 begins B old new (Ok m) reads = (new.index, message_stands B 0 (message_value m, new.index) reads.0)
 begins B old new (Err f) reads = tt
 
-pub begins_with : (B : List ℕ) (old new : Reader) (r : Result Message DecodeError) → Reads message_value old new r (message_at B 0) → (m : MessageValue) (e : ℕ) → IsMessageAt B 0 m e → MatchResult r (λ read. message_value read ≡ m) (λ f. f ≡ faults.Memory)
+pub begins_with : (B : List ℕ) (old new : Reader) (r : Result Message DecodeError) → Reads message_value old new r (message_at B 0) → (m : MessageValue) (e : ℕ) → IsMessageAt B 0 m e
+    → MatchResult r (λ read. message_value read ≡ m) (λ f. f ≡ faults.Memory)
 begins_with B old new (Ok read) reads m e stands = ap (λ (x : MessageValue × ℕ). x.0) (same_ok (sym reads.0 ∙ message_again B 0 m e stands))
 begins_with B old new (Err f) reads m e stands = want_of_memory f (message_at B 0) (m, e) reads (message_again B 0 m e stands)
 

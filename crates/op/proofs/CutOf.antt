@@ -76,7 +76,8 @@ lost_of : {X : Type 0} (f : X → Record RData) (rest : List X) → any_lost (ma
 lost_of f [] = refl
 lost_of f (x ∷ rest) = refl
 
-same_section : {a b : List (Record RData)} {e f : Option Edns} {s t : Option (Record (List ℕ))} → a ≡ b → e ≡ f → s ≡ t → ◌≡◌ {A = SectionValue} (record { records = a; edns = e; signature = s }) (record { records = b; edns = f; signature = t })
+same_section : {a b : List (Record RData)} {e f : Option Edns} {s t : Option (Record (List ℕ))} → a ≡ b → e ≡ f → s ≡ t
+    → ◌≡◌ {A = SectionValue} (record { records = a; edns = e; signature = s }) (record { records = b; edns = f; signature = t })
 same_section p q r = rw (p, q, r) refl
 
 same_counts : (c : HeaderCounts) (q a n d : ℕ) → c.queries ≡ q → c.answers ≡ a → c.authorities ≡ n → c.additionals ≡ d → c ≡ record { queries = q; answers = a; authorities = n; additionals = d }
@@ -185,7 +186,8 @@ module _ (m : MessageValue) (old new : State) (h : Header) (e : Emitted m old ne
   all : List (Record RData)
   all = e.additionals.kept ++ tail one_edns.some one_signature.some
 
-  words : Composed new.bytes m.queries e.answers.kept e.authorities.kept (e.additionals.kept ++ tail one_edns.some one_signature.some) 12 (length e.first.bytes) (length e.second.bytes) (length e.third.bytes) (length new.bytes)
+  words : Composed new.bytes m.queries e.answers.kept e.authorities.kept (e.additionals.kept ++ tail one_edns.some one_signature.some) 12 (length e.first.bytes) (length e.second.bytes)
+      (length e.third.bytes) (length new.bytes)
   words =
       let c = composed new.bytes m.queries e.answers.kept e.authorities.kept e.additionals.kept e.edns.kept e.signature.kept e.kept e.first e.second e.third e.fourth e.fifth e.sixth
       fits.queries (λ k d below. (fits_answers k d below).fits) (λ k d below. (fits_authorities k d below).fits) (λ k d below. (fits_additionals k d below).fits) opts_fit signatures_fit
@@ -195,7 +197,8 @@ module _ (m : MessageValue) (old new : State) (h : Header) (e : Emitted m old ne
       let from12 = subst (λ n. Composed new.bytes m.queries e.answers.kept e.authorities.kept (e.additionals.kept ++ tail one_edns.some one_signature.some) n (length e.first.bytes) (length e.second.bytes) (length e.third.bytes) (length e.sixth.bytes)) kept_len listed_signature in
       subst (λ n. Composed new.bytes m.queries e.answers.kept e.authorities.kept (e.additionals.kept ++ tail one_edns.some one_signature.some) 12 (length e.first.bytes) (length e.second.bytes) (length e.third.bytes) n) (sym new_len) from12
 
-  last : Ends new.bytes e.additionals.kept (listed (option_map edns_record one_edns.some)) (listed (option_map signature_record one_signature.some)) (length e.third.bytes) (length e.fourth.bytes) (length e.fifth.bytes) (length new.bytes)
+  last : Ends new.bytes e.additionals.kept (listed (option_map edns_record one_edns.some)) (listed (option_map signature_record one_signature.some)) (length e.third.bytes)
+      (length e.fourth.bytes) (length e.fifth.bytes) (length new.bytes)
   last =
       let c = ends new.bytes m.queries e.answers.kept e.authorities.kept e.additionals.kept e.edns.kept e.signature.kept e.kept e.first e.second e.third e.fourth e.fifth e.sixth
       fits.queries (λ k d below. (fits_answers k d below).fits) (λ k d below. (fits_authorities k d below).fits) (λ k d below. (fits_additionals k d below).fits) opts_fit signatures_fit
@@ -228,7 +231,8 @@ module _ (m : MessageValue) (old new : State) (h : Header) (e : Emitted m old ne
   op_kept = ap (λ (x : Metadata). x.op_code) metadata_read
 
   abbrev message : MessageValue
-  message = record { metadata = high_code one_edns.some (metadata_value (raw_header h)); queries = m.queries; answers = e.answers.kept; authorities = e.authorities.kept; additionals = e.additionals.kept; edns = one_edns.some; signature = one_signature.some }
+  message =
+      record { metadata = high_code one_edns.some (metadata_value (raw_header h)); queries = m.queries; answers = e.answers.kept; authorities = e.authorities.kept; additionals = e.additionals.kept; edns = one_edns.some; signature = one_signature.some }
 
   plain : (rs : List (Record RData)) → All (FitsPlain m.metadata.op_code) rs → All (IsPlain (header_value (raw_header h)).metadata.op_code) rs
   plain rs fit = subst (λ o. All (IsPlain o) rs) (sym op_kept) (λ k d below. record { given = (fit k d below).given; placed = (fit k d below).placed })
@@ -256,7 +260,8 @@ module _ (m : MessageValue) (old new : State) (h : Header) (e : Emitted m old ne
       )
 
   counted : h.counts ≡ record { queries = length m.queries; answers = length e.answers.kept; authorities = length e.authorities.kept; additionals = length (e.additionals.kept ++ tail one_edns.some one_signature.some) }
-  counted = same_counts h.counts (length m.queries) (length e.answers.kept) (length e.authorities.kept) (length (e.additionals.kept ++ tail one_edns.some one_signature.some)) e.query_count e.answers.counted e.authorities.counted all_counted
+  counted =
+      same_counts h.counts (length m.queries) (length e.answers.kept) (length e.authorities.kept) (length (e.additionals.kept ++ tail one_edns.some one_signature.some)) e.query_count e.answers.counted e.authorities.counted all_counted
 
   abbrev message_word : IsMessageAt new.bytes 0 message (length new.bytes)
   message_word = record {
@@ -275,7 +280,8 @@ module _ (m : MessageValue) (old new : State) (h : Header) (e : Emitted m old ne
     counts = counted;
     answers_plain = plain e.answers.kept fits_answers;
     authorities_plain = plain e.authorities.kept fits_authorities;
-    additionals_given = subst (λ o. All (HasNeededData o) (e.additionals.kept ++ tail one_edns.some one_signature.some)) (sym op_kept) (all_given e.additionals.kept m.metadata.op_code fits_additionals one_edns.some one_signature.some);
+    additionals_given =
+        subst (λ o. All (HasNeededData o) (e.additionals.kept ++ tail one_edns.some one_signature.some)) (sym op_kept) (all_given e.additionals.kept m.metadata.op_code fits_additionals one_edns.some one_signature.some);
     signature_last = all_end e.additionals.kept m.metadata.op_code fits_additionals one_edns.some one_signature.some;
     one_opt = one_opt e.additionals.kept m.metadata.op_code fits_additionals one_edns.some one_signature.some;
     message = ap (message_of (metadata_value (raw_header h)) m.queries e.answers.kept e.authorities.kept) (sym sorted);
@@ -291,7 +297,8 @@ module _ (m : MessageValue) (old new : State) (h : Header) (e : Emitted m old ne
       (e.edns.tells ∙ ap any_lost one_edns.lost_is ∙ lost_of edns_record one_edns.rest)
       (e.signature.tells ∙ ap any_lost one_signature.lost_is ∙ lost_of signature_record one_signature.rest)
 
-  metadata_is : high_code one_edns.some (metadata_value (raw_header h)) ≡ record m.metadata { truncation = lost_bit; response_code = code_value (code_number m.metadata.response_code % code_range one_edns.some) }
+  metadata_is : high_code one_edns.some (metadata_value (raw_header h))
+      ≡ record m.metadata { truncation = lost_bit; response_code = code_value (code_number m.metadata.response_code % code_range one_edns.some) }
   metadata_is =
       high_back one_edns.some (metadata_value (raw_header h)) (code_number m.metadata.response_code) (raised_high (code_number m.metadata.response_code / 16 % 256) m.edns one_edns.some one_edns.rest one_edns.front) (ap (λ (x : Metadata). x.response_code) metadata_read)
       ∙ ap (λ (x : Metadata). record x { response_code = code_value (code_number m.metadata.response_code % code_range one_edns.some) }) metadata_read
@@ -315,11 +322,13 @@ module _ (m : MessageValue) (old new : State) (h : Header) (e : Emitted m old ne
     answers = record { lost = e.answers.lost; front = e.answers.whole; full = no_room e.answers kq };
     authorities = record { lost = e.authorities.lost; front = e.authorities.whole; full = no_room e.authorities k1 };
     additionals = record { lost = e.additionals.lost; front = e.additionals.whole; full = no_room e.additionals k2 };
-    edns = record { lost = one_edns.rest; front = one_edns.front; full = no_room_of edns_record old.limit (length e.fifth.bytes) one_edns.rest (subst (NoRoom plain_record old.limit (length e.fifth.bytes)) one_edns.lost_is (no_room e.edns k3)) };
+    edns =
+        record { lost = one_edns.rest; front = one_edns.front; full = no_room_of edns_record old.limit (length e.fifth.bytes) one_edns.rest (subst (NoRoom plain_record old.limit (length e.fifth.bytes)) one_edns.lost_is (no_room e.edns k3)) };
     signature = record {
       lost = one_signature.rest;
       front = one_signature.front;
-      full = subst (λ n. NoRoom (λ r. plain_record (signature_record r)) old.limit n one_signature.rest) (sym new_len) (no_room_of signature_record old.limit (length e.sixth.bytes) one_signature.rest (subst (NoRoom plain_record old.limit (length e.sixth.bytes)) one_signature.lost_is (no_room e.signature k4)));
+      full =
+          subst (λ n. NoRoom (λ r. plain_record (signature_record r)) old.limit n one_signature.rest) (sym new_len) (no_room_of signature_record old.limit (length e.sixth.bytes) one_signature.rest (subst (NoRoom plain_record old.limit (length e.sixth.bytes)) one_signature.lost_is (no_room e.signature k4)));
     };
     metadata = metadata_is;
     short = words.short;

@@ -60,13 +60,17 @@ pub record Ends (B : List ℕ) (ds es ss : List (Record RData)) (k l m e : ℕ) 
   pub signature : BackToBack (IsRecordAt B) m ss e
 
 module _ (B : List ℕ) where
-  section_of_records : (rs : List (Record RData)) (a b : State) (known : List Owner) → All FitsRecord rs → EachWritten RecordWord plain_record record_owner rs a b → Holds a b B → Known known a → AreCompressed known → Section RecordWord plain_record record_owner B (IsRecordAt B) (λ i r e w. w.word.owner_end) known rs a b
-  section_of_records rs a b known fits written holds stored short = section RecordWord plain_record record_owner B (IsRecordAt B) (λ i r e w. w.word.owner_end) FitsRecord (record_back B) (record_ends B) rs a b known fits written holds stored short
+  section_of_records : (rs : List (Record RData)) (a b : State) (known : List Owner) → All FitsRecord rs → EachWritten RecordWord plain_record record_owner rs a b → Holds a b B
+      → Known known a → AreCompressed known → Section RecordWord plain_record record_owner B (IsRecordAt B) (λ i r e w. w.word.owner_end) known rs a b
+  section_of_records rs a b known fits written holds stored short =
+      section RecordWord plain_record record_owner B (IsRecordAt B) (λ i r e w. w.word.owner_end) FitsRecord (record_back B) (record_ends B) rs a b known fits written holds stored short
 
-  words_of : (rs : List (Record RData)) (a b : State) → All FitsRecord rs → EachWritten RecordWord plain_record record_owner rs a b → Holds a b B → BackToBack (IsRecordAt B) (length a.bytes) rs (length b.bytes)
+  words_of : (rs : List (Record RData)) (a b : State) → All FitsRecord rs → EachWritten RecordWord plain_record record_owner rs a b → Holds a b B
+      → BackToBack (IsRecordAt B) (length a.bytes) rs (length b.bytes)
   words_of rs a b fits written holds = (section_of_records rs a b [] fits written holds (none_known a) tt).words
 
-  module _ (qs : List Query) (bs ns ds es ss : List (Record RData)) (s0 s1 s2 s3 s4 s5 s6 : State) (fits_qs : All FitsQuery qs) (fits_as : All FitsRecord bs) (fits_ns : All FitsRecord ns) (fits_ds : All FitsRecord ds) (fits_es : All FitsRecord es) (fits_ss : All FitsRecord ss)
+  module _ (qs : List Query) (bs ns ds es ss : List (Record RData)) (s0 s1 s2 s3 s4 s5 s6 : State) (fits_qs : All FitsQuery qs) (fits_as : All FitsRecord bs) (fits_ns : All FitsRecord ns)
+      (fits_ds : All FitsRecord ds) (fits_es : All FitsRecord es) (fits_ss : All FitsRecord ss)
       (wq : EachWritten QueryWord plain_query query_owner qs s0 s1) (wa : EachWritten RecordWord plain_record record_owner bs s1 s2) (wn : EachWritten RecordWord plain_record record_owner ns s2 s3)
       (wd : EachWritten RecordWord plain_record record_owner ds s3 s4) (we : EachWritten RecordWord plain_record record_owner es s4 s5) (ws : EachWritten RecordWord plain_record record_owner ss s5 s6) (holds : Holds s0 s6 B) where
     keeps : (rs : List (Record RData)) (a b : State) → EachWritten RecordWord plain_record record_owner rs a b → Keeps a b
@@ -146,5 +150,6 @@ module _ (B : List ℕ) where
           answers = sa.words;
           authorities = sn.words;
           additionals = sd.words;
-          short = subst AreCompressed (append_assoc (query_owners sq.words ++ record_owners sa.words) (record_owners sn.words) (record_owners sd.words) ∙ append_assoc (query_owners sq.words) (record_owners sa.words) (record_owners sn.words ++ record_owners sd.words)) sd.short;
+          short =
+              subst AreCompressed (append_assoc (query_owners sq.words ++ record_owners sa.words) (record_owners sn.words) (record_owners sd.words) ∙ append_assoc (query_owners sq.words) (record_owners sa.words) (record_owners sn.words ++ record_owners sd.words)) sd.short;
         }

@@ -128,7 +128,8 @@ assemble m old kept first second third fourth fifth sixth new h place queries an
       signature = wrote_signature;
       query_count = ap (λ k. k.counts.queries) fields ∙ asked_count;
       sum = ap (λ k. k.counts.additionals) fields ∙ three additionals opt sum signed total added added_too;
-      metadata = ap (λ k. k.metadata) fields ∙ ap (λ p. record m.metadata { truncation = m.metadata.truncation || (answers.is_cut || (authorities.is_cut || p)) }) (any_three additionals opt sum signed total added added_too);
+      metadata =
+          ap (λ k. k.metadata) fields ∙ ap (λ p. record m.metadata { truncation = m.metadata.truncation || (answers.is_cut || (authorities.is_cut || p)) }) (any_three additionals opt sum signed total added added_too);
       header = filled ∙ ap (λ n. overwritten n (header_bytes (raw_header h)) sixth) room.0;
     }
 
@@ -156,7 +157,8 @@ module _ (a a' n n' d d' : Iter (Record RData)) (sections : WrittenSections) (fi
   abbrev First : Written → State → Result WrittenSections ProtoError → State → Type 0
   First answers = AndThen (EmitsPart emits_records n n') (d' ≡ d) (Second answers)
 
-  third_done : (answers authorities : Written) (second third : State) → WritesRecords a.rest.now first second answers.count answers.is_cut → WritesRecords n.rest.now second third authorities.count authorities.is_cut
+  third_done : (answers authorities : Written) (second third : State) → WritesRecords a.rest.now first second answers.count answers.is_cut
+      → WritesRecords n.rest.now second third authorities.count authorities.is_cut
       → Both (EmitsPart emits_records d d') (Third answers authorities) third (Ok sections) last → ThreeFronts a.rest.now n.rest.now d.rest.now first last sections
   third_done answers authorities second third one two b =
       let additionals = slice_front RecordWord plain_record record_owner d d' third b.between b.value b.ran in
@@ -164,7 +166,8 @@ module _ (a a' n n' d d' : Iter (Record RData)) (sections : WrittenSections) (fi
       subst (λ (s : WrittenSections). ThreeFronts a.rest.now n.rest.now d.rest.now first last s) (sym are)
       (record { second = second; third = third; answers = one; authorities = two; additionals = subst (λ s. WritesRecords d.rest.now third s b.value.count b.value.is_cut) (sym b.rest.1) additionals })
 
-  second_done : (answers : Written) (second : State) → WritesRecords a.rest.now first second answers.count answers.is_cut → Both (EmitsPart emits_records n n') (Second answers) second (Ok sections) last → ThreeFronts a.rest.now n.rest.now d.rest.now first last sections
+  second_done : (answers : Written) (second : State) → WritesRecords a.rest.now first second answers.count answers.is_cut
+      → Both (EmitsPart emits_records n n') (Second answers) second (Ok sections) last → ThreeFronts a.rest.now n.rest.now d.rest.now first last sections
   second_done answers second one b =
       third_done answers b.value second b.between one (slice_front RecordWord plain_record record_owner n n' second b.between b.value b.ran) (went sections b.rest)
 
@@ -195,7 +198,8 @@ module _ (edns signature : List (Record RData)) (additionals total : Written) (f
   abbrev Second_extra : Written → State → Result Written ProtoError → State → Type 0
   Second_extra opt = AndThen (Tests (Adds additionals opt)) ⊤ Third_extra
 
-  signed_done : (opt sum : Written) (fifth fifth' : State) → WritesRecords edns fourth fifth opt.count opt.is_cut → Adds additionals opt (Ok sum) → fifth' ≡ fifth → Both (WritesRecordItems signature) (Fourth sum) fifth' (Ok total) last → TwoFronts edns signature additionals fourth last total
+  signed_done : (opt sum : Written) (fifth fifth' : State) → WritesRecords edns fourth fifth opt.count opt.is_cut → Adds additionals opt (Ok sum) → fifth' ≡ fifth
+      → Both (WritesRecordItems signature) (Fourth sum) fifth' (Ok total) last → TwoFronts edns signature additionals fourth last total
   signed_done opt sum fifth fifth' front added same b = record {
     fifth = fifth;
     opt = opt;
@@ -203,11 +207,13 @@ module _ (edns signature : List (Record RData)) (additionals total : Written) (f
     signed = b.value;
     opt_front = front;
     added = added;
-    signature_front = subst (λ s. WritesRecords signature fifth s b.value.count b.value.is_cut) (sym b.rest.1) (subst (λ s. WritesRecords signature s b.between b.value.count b.value.is_cut) same b.ran);
+    signature_front =
+        subst (λ s. WritesRecords signature fifth s b.value.count b.value.is_cut) (sym b.rest.1) (subst (λ s. WritesRecords signature s b.between b.value.count b.value.is_cut) same b.ran);
     added_too = b.rest.0;
   }
 
-  sum_done : (opt : Written) (fifth : State) → WritesRecords edns fourth fifth opt.count opt.is_cut → Both (Tests (Adds additionals opt)) Third_extra fifth (Ok total) last → TwoFronts edns signature additionals fourth last total
+  sum_done : (opt : Written) (fifth : State) → WritesRecords edns fourth fifth opt.count opt.is_cut → Both (Tests (Adds additionals opt)) Third_extra fifth (Ok total) last
+      → TwoFronts edns signature additionals fourth last total
   sum_done opt fifth front b = signed_done opt b.value fifth b.between front b.ran.0 b.ran.1 (went total b.rest)
 
   opt_done : Both (WritesRecordItems edns) Second_extra fourth (Ok total) last → TwoFronts edns signature additionals fourth last total
@@ -230,7 +236,8 @@ module _ (m : MessageValue) (q q' : Iter Query) (a a' n n' d d' : Iter (Record R
     pub edns_is : edns ≡ listed (option_map edns_record (raised m))
     pub signature_is : signature ≡ listed (option_map signature_record m.signature)
 
-module _ (m : MessageValue) (q q' : Iter Query) (a a' n n' d d' : Iter (Record RData)) (edns signature : List (Record RData)) (are : AreOf m q q' a a' n n' d d' edns signature) (old new : State) (h : Header) where
+module _ (m : MessageValue) (q q' : Iter Query) (a a' n n' d d' : Iter (Record RData)) (edns signature : List (Record RData)) (are : AreOf m q q' a a' n n' d d' edns signature)
+    (old new : State) (h : Header) where
   abbrev Filled : ℕ → Header → State → Result Header ProtoError → State → Type 0
   Filled place header = FillsIn place header
 
@@ -246,7 +253,8 @@ module _ (m : MessageValue) (q q' : Iter Query) (a a' n n' d d' : Iter (Record R
   abbrev Asked : ℕ → State → Result Header ProtoError → State → Type 0
   Asked place = AndThen (λ s answer t. emits_queries q s answer q' t) ((a' ≡ a) × (n' ≡ n) × (d' ≡ d)) (Sectioned place)
 
-  header_done : (place queries : ℕ) (kept first fourth sixth : State) (sections : WrittenSections) (total : Written) → KeepsRoom old (Ok place) kept → EachWritten QueryWord plain_query query_owner q.rest.now kept first → queries ≡ length q.rest.now
+  header_done : (place queries : ℕ) (kept first fourth sixth : State) (sections : WrittenSections) (total : Written) → KeepsRoom old (Ok place) kept
+      → EachWritten QueryWord plain_query query_owner q.rest.now kept first → queries ≡ length q.rest.now
       → ThreeFronts a.rest.now n.rest.now d.rest.now first fourth sections → TwoFronts edns signature sections.additionals fourth sixth total
       → Both (Tests (HasHeader m.metadata queries sections total)) (Filled place) sixth (Ok h) new → Emitted m old new h
   header_done place queries kept first fourth sixth sections total room asked count three two b =
@@ -265,8 +273,10 @@ module _ (m : MessageValue) (q q' : Iter Query) (a a' n n' d d' : Iter (Record R
       (subst (λ k. HasHeader m.metadata queries sections total (Ok k)) same b.ran.0)
       (b.rest.1 ∙ ap (λ s. overwritten place (header_bytes (raw_header b.value)) s) b.ran.1 ∙ ap (λ k. overwritten place (header_bytes (raw_header k)) sixth) same)
 
-  extras_next : (place queries : ℕ) (kept first fourth : State) (sections : WrittenSections) → KeepsRoom old (Ok place) kept → EachWritten QueryWord plain_query query_owner q.rest.now kept first → queries ≡ length q.rest.now
-      → ThreeFronts a.rest.now n.rest.now d.rest.now first fourth sections → Both (WritesExtras edns signature sections.additionals) (Headed place queries sections) fourth (Ok h) new → Emitted m old new h
+  extras_next : (place queries : ℕ) (kept first fourth : State) (sections : WrittenSections) → KeepsRoom old (Ok place) kept
+      → EachWritten QueryWord plain_query query_owner q.rest.now kept first → queries ≡ length q.rest.now
+      → ThreeFronts a.rest.now n.rest.now d.rest.now first fourth sections → Both (WritesExtras edns signature sections.additionals) (Headed place queries sections) fourth (Ok h) new
+      → Emitted m old new h
   extras_next place queries kept first fourth sections room asked count three b =
       header_done place queries kept first fourth b.between sections b.value room asked count three (extras_done edns signature sections.additionals b.value fourth b.between b.ran) (went h b.rest)
 
@@ -294,7 +304,8 @@ raised_list f (Some e) = refl
 pub raised_edns : (m : MessageValue) (seen : Option Edns) → seen ≡ m.edns → opt_records m.metadata.response_code seen ≡ listed (option_map edns_record (raised m))
 raised_edns m seen same = ap (opt_records m.metadata.response_code) same ∙ raised_list (with_high_bits m.metadata.response_code) m.edns
 
-pub emitted_if : (m : MessageValue) (q q' : Iter Query) (a a' n n' d d' : Iter (Record RData)) (edns signature : List (Record RData)) → AreOf m q q' a a' n n' d d' edns signature → (old new : State) (result : Result Header ProtoError)
+pub emitted_if : (m : MessageValue) (q q' : Iter Query) (a a' n n' d d' : Iter (Record RData)) (edns signature : List (Record RData)) → AreOf m q q' a a' n n' d d' edns signature
+    → (old new : State) (result : Result Header ProtoError)
     → Composed m q q' a a' n n' d d' edns signature old result new → IfOk result (λ h. Emitted m old new h)
 emitted_if m q q' a a' n n' d d' edns signature are old new (Ok h) run = emitted_of m q q' a a' n n' d d' edns signature are old new h run
 emitted_if m q q' a a' n n' d d' edns signature are old new (Err e) run = tt

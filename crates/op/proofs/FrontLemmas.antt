@@ -32,7 +32,8 @@ once_yields s t x (y ∷ ys) item (u, step, yields) =
 
 module _ {E : Type 0} (word : E → List ℕ → ℕ → ℕ → Type 0) (plain : E → ℕ) (owner : E → List (List ℕ)) where
   -- of one item that was written, or wasn't
-  whole_item : (x : E) (a b : State) (xs : List E) (n : ℕ) (result : Result Written ProtoError) → xs ≡ x ∷ [] → EachWritten word plain owner xs a b → n ≡ length xs → Narrows n false result → WritesItems word plain owner (x ∷ []) a result b
+  whole_item : (x : E) (a b : State) (xs : List E) (n : ℕ) (result : Result Written ProtoError) → xs ≡ x ∷ [] → EachWritten word plain owner xs a b → n ≡ length xs → Narrows n false result
+      → WritesItems word plain owner (x ∷ []) a result b
   whole_item x a b xs n (Ok written) all each count narrows = record {
     kept = xs;
     lost = [];
@@ -44,7 +45,8 @@ module _ {E : Type 0} (word : E → List ℕ → ℕ → ℕ → Type 0) (plain 
   }
   whole_item x a b xs n (Err e) all each count narrows = let one : n ≡ 1 = count ∙ ap length all in absurd (omega (arith, one, narrows.0))
 
-  no_item : (x : E) (a b : State) (xs : List E) (n : ℕ) (result : Result Written ProtoError) → xs ≡ [] → EachWritten word plain owner xs a b → a.limit < length b.bytes + plain x → n ≡ length xs → Narrows n true result → WritesItems word plain owner (x ∷ []) a result b
+  no_item : (x : E) (a b : State) (xs : List E) (n : ℕ) (result : Result Written ProtoError) → xs ≡ [] → EachWritten word plain owner xs a b → a.limit < length b.bytes + plain x
+      → n ≡ length xs → Narrows n true result → WritesItems word plain owner (x ∷ []) a result b
   no_item x a b xs n (Ok written) none each full count narrows = record {
     kept = xs;
     lost = x ∷ [];
@@ -86,7 +88,8 @@ module _ {A E : Type 0} (view : A → E) (word : E → List ℕ → ℕ → ℕ 
   any_map [] = refl
   any_map (x ∷ xs) = refl
 
-  pub front_map : (xs : List A) (a b : State) (n : ℕ) (is_cut : Bool) → WritesFront (λ x. word (view x)) (λ x. plain (view x)) (λ x. owner (view x)) xs a b n is_cut → WritesFront word plain owner (map view xs) a b n is_cut
+  pub front_map : (xs : List A) (a b : State) (n : ℕ) (is_cut : Bool) → WritesFront (λ x. word (view x)) (λ x. plain (view x)) (λ x. owner (view x)) xs a b n is_cut
+      → WritesFront word plain owner (map view xs) a b n is_cut
   front_map xs a b n is_cut front = record {
     kept = map view front.kept;
     lost = map view front.lost;
@@ -97,6 +100,7 @@ module _ {A E : Type 0} (view : A → E) (word : E → List ℕ → ℕ → ℕ 
     full = lost_map a.limit (length b.bytes) front.lost front.full;
   }
 
-  pub items_map : (xs : List A) (a b : State) (result : Result Written ProtoError) → WritesItems (λ x. word (view x)) (λ x. plain (view x)) (λ x. owner (view x)) xs a result b → WritesItems word plain owner (map view xs) a result b
+  pub items_map : (xs : List A) (a b : State) (result : Result Written ProtoError) → WritesItems (λ x. word (view x)) (λ x. plain (view x)) (λ x. owner (view x)) xs a result b
+      → WritesItems word plain owner (map view xs) a result b
   items_map xs a b (Ok written) front = front_map xs a b written.count written.is_cut front
   items_map xs a b (Err e) memory = memory

@@ -63,7 +63,8 @@ queries_stand B n i r is =
 records_stand : (inside : Bool) (op : OpCode) (B : List ℕ) (n i : ℕ) (r : SectionValue × ℕ) → section_at inside op n B i ≡ Ok r → IsSection inside op B n i r
 records_stand inside op B = section_is inside op B (λ i r e. (reads_record B i r e).0)
 
-records_read : (inside : Bool) (op : OpCode) (B : List ℕ) (rs : List (Record RData)) (i e : ℕ) → BackToBack (IsRecordAt B) i rs e → Stand inside op false false rs → section_at inside op (length rs) B i ≡ Ok (section_of rs, e)
+records_read : (inside : Bool) (op : OpCode) (B : List ℕ) (rs : List (Record RData)) (i e : ℕ) → BackToBack (IsRecordAt B) i rs e → Stand inside op false false rs
+    → section_at inside op (length rs) B i ≡ Ok (section_of rs, e)
 records_read inside op B = section_read inside op B (λ i r e. (reads_record B i r e).1)
 
 section_is_at : (inside : Bool) (op : OpCode) (n : ℕ) (B : List ℕ) (i : ℕ) (r : SectionValue × ℕ) → section_at inside op n B i ≡ Ok r → IsSectionAt inside op n B i r.0 r.1

@@ -51,7 +51,8 @@ module _ {E : Type 0} (word : E → List ℕ → ℕ → ℕ → Type 0) (plain 
     stored = subst (λ os. Known os a) (sym (append-nil known)) stored;
   }
 
-  module _ (x : E) (a b : State) (keeps : Keeps a b) (writes : Writes (word x) (plain x) (owner x) a b) (first : Holds a b B) (w : Word (length a.bytes) x (length b.bytes)) (spelled : Spelled B (owner x) (length a.bytes) (length a.bytes) (end (length a.bytes) x (length b.bytes) w)) where
+  module _ (x : E) (a b : State) (keeps : Keeps a b) (writes : Writes (word x) (plain x) (owner x) a b) (first : Holds a b B) (w : Word (length a.bytes) x (length b.bytes))
+      (spelled : Spelled B (owner x) (length a.bytes) (length a.bytes) (end (length a.bytes) x (length b.bytes) w)) where
     written : Owner
     written = record { start = length a.bytes; labels = owner x; end = end (length a.bytes) x (length b.bytes) w }
 

@@ -18,7 +18,8 @@ classes_Decide = search rules
 types_Decide : (a b : RecordType) → Decides ((type_eq.ghosts).eq a b) (a ≡ b)
 types_Decide = search rules
 
-pub equal_is : (a b : Query) → IsTrue ((query_eq.ghosts).eq a b) ↔ (IsTrue (same_name a.name b.name) × (a.query_type ≡ b.query_type) × (a.query_class ≡ b.query_class) × (a.mdns_unicast_response ≡ b.mdns_unicast_response))
+pub equal_is : (a b : Query)
+    → IsTrue ((query_eq.ghosts).eq a b) ↔ (IsTrue (same_name a.name b.name) × (a.query_type ≡ b.query_type) × (a.query_class ≡ b.query_class) × (a.mdns_unicast_response ≡ b.mdns_unicast_response))
 equal_is a b =
     let names : Decides (same_name a.name b.name) (IsTrue (same_name a.name b.name)) = (λ h. h, λ h. h) in
     let parts = both_Decides _ _ names (both_Decides _ _ (types_Decide a.query_type b.query_type) (both_Decides _ _ (classes_Decide a.query_class b.query_class) (booleans_Decides a.mdns_unicast_response b.mdns_unicast_response))) in

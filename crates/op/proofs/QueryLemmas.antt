@@ -17,7 +17,8 @@ use Rattle.op.specs.Query.{FitsQuery, IsQueryAt, IsQueryFault, IsRawQueryAt, Que
 use Rattle.op.specs.declared.query.Query.{Query}
 
 -- name, type and class one behind the other are the fields of a question
-pub question_word : (q : Query) (field : ℕ) → field ≡ class_field q.mdns_unicast_response (class_number q.query_class) → (B : List ℕ) (i e : ℕ) → Then (NameAt q.name.labels) (Then (Number w16 (type_number q.query_type)) (Number w16 field)) B i e → QueryWord q B i e
+pub question_word : (q : Query) (field : ℕ) → field ≡ class_field q.mdns_unicast_response (class_number q.query_class) → (B : List ℕ) (i e : ℕ)
+    → Then (NameAt q.name.labels) (Then (Number w16 (type_number q.query_type)) (Number w16 field)) B i e → QueryWord q B i e
 question_word q field is B i e h = record {
   owner_end = h.0;
   owner = h.1;

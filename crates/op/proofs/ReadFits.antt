@@ -183,10 +183,12 @@ module _ (B : List ℕ) (i : ℕ) (m : MessageValue) (e : ℕ) (w : IsMessageAt 
       record { fits = f.has.fits; given = f.has.given; not_opt = kinds_of.0; not_signature = kinds_of.1 }
 
   edns_fit : All FitsEdns (listed (option_map edns_of (find is_opt w.additionals)))
-  edns_fit = listed_map (Found (IsRead w.header.metadata.op_code) is_opt) FitsEdns edns_of (λ r f. f.has.edns f.passes) (find is_opt w.additionals) (found (IsRead w.header.metadata.op_code) is_opt w.additionals additionals_read)
+  edns_fit =
+      listed_map (Found (IsRead w.header.metadata.op_code) is_opt) FitsEdns edns_of (λ r f. f.has.edns f.passes) (find is_opt w.additionals) (found (IsRead w.header.metadata.op_code) is_opt w.additionals additionals_read)
 
   signature_fit : All (λ r. FitsRecord (signature_record r)) (listed (option_map signature_of (find is_signature w.additionals)))
-  signature_fit = listed_map (Found (IsRead w.header.metadata.op_code) is_signature) (λ r. FitsRecord (signature_record r)) signature_of (λ r f. subst FitsRecord (sym (signed r f.passes)) f.has.fits) (find is_signature w.additionals) (found (IsRead w.header.metadata.op_code) is_signature w.additionals additionals_read)
+  signature_fit =
+      listed_map (Found (IsRead w.header.metadata.op_code) is_signature) (λ r. FitsRecord (signature_record r)) signature_of (λ r f. subst FitsRecord (sym (signed r f.passes)) f.has.fits) (find is_signature w.additionals) (found (IsRead w.header.metadata.op_code) is_signature w.additionals additionals_read)
 
   whole_fits : Fits (message_of w.header.metadata m.queries w.answers w.authorities (section_of w.additionals))
   whole_fits =

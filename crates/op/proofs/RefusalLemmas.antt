@@ -37,7 +37,8 @@ room_failed m old new (refusals.Decode d) run = absurd run.1
 module _ (m : MessageValue) (q q' : Iter Query) (a a' n n' d d' : Iter (Record RData)) (edns signature : List (Record RData)) (are : AreOf m q q' a a' n n' d d' edns signature) (old new : State)
     (place : ℕ) (kept : State) (room : KeepsRoom old (Ok place) kept) where
   -- the questions before one that had no room
-  not_all : (xs rest : List Query) (x : Query) (count : ℕ) → q.rest.now ≡ xs ++ x ∷ rest → EachWritten QueryWord plain_query query_owner xs kept new → count ≡ length xs → kept.limit < length new.bytes + plain_query x
+  not_all : (xs rest : List Query) (x : Query) (count : ℕ) → q.rest.now ≡ xs ++ x ∷ rest → EachWritten QueryWord plain_query query_owner xs kept new → count ≡ length xs
+      → kept.limit < length new.bytes + plain_query x
       → Leaves m old (refusals.NotAllRecordsWritten count) new
   not_all xs rest x count whole each counted full =
       let front : WritesFront QueryWord plain_query query_owner m.queries kept new count true = record {
@@ -125,7 +126,8 @@ module _ (e : ProtoError) where
 
 -- ---- the whole
 
-module _ (m : MessageValue) (q q' : Iter Query) (a a' n n' d d' : Iter (Record RData)) (edns signature : List (Record RData)) (are : AreOf m q q' a a' n n' d d' edns signature) (old new : State) (e : ProtoError) where
+module _ (m : MessageValue) (q q' : Iter Query) (a a' n n' d d' : Iter (Record RData)) (edns signature : List (Record RData)) (are : AreOf m q q' a a' n n' d d' edns signature)
+    (old new : State) (e : ProtoError) where
   abbrev Headed : ℕ → ℕ → WrittenSections → Written → State → Result Header ProtoError → State → Type 0
   Headed place queries sections additionals = AndThen (Tests (HasHeader m.metadata queries sections additionals)) ⊤ (FillsIn place)
 
@@ -177,7 +179,8 @@ module _ (m : MessageValue) (q q' : Iter Query) (a a' n n' d d' : Iter (Record R
   refused_of : Composed m q q' a a' n n' d d' edns signature old (Err e) new → Refused
   refused_of run = elim (failed e run) [ inl room ↦ left_so (room_failed m old new e room) | inr b ↦ queries_next b.value b.between b.ran b.rest ]
 
-pub only_if : (m : MessageValue) (q q' : Iter Query) (a a' n n' d d' : Iter (Record RData)) (edns signature : List (Record RData)) → AreOf m q q' a a' n n' d d' edns signature → (old new : State) (result : Result Header ProtoError)
+pub only_if : (m : MessageValue) (q q' : Iter Query) (a a' n n' d d' : Iter (Record RData)) (edns signature : List (Record RData)) → AreOf m q q' a a' n n' d d' edns signature
+    → (old new : State) (result : Result Header ProtoError)
     → Composed m q q' a a' n n' d d' edns signature old result new → IfErr result (λ e. (e ≡ refusals.Memory) ⊎ (Leaves m old e new ⊎ IsTooMany e))
 only_if m q q' a a' n n' d d' edns signature are old new (Ok h) run = tt
 only_if m q q' a a' n n' d d' edns signature are old new (Err e) run = refused_of m q q' a a' n n' d d' edns signature are old new e run

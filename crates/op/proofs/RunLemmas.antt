@@ -5,7 +5,8 @@ use Rattle.base.specs.declared.error.proto_error.ProtoError.{ProtoError}
 use Rattle.op.specs.Composition.{AndThen, Continues}
 
 -- a run answered a value, and the next one an answer
-pub record Both {X Y : Type 0} (first : State → Result X ProtoError → State → Type 0) (next : X → State → Result Y ProtoError → State → Type 0) (a : State) (result : Result Y ProtoError) (c : State) : Type 0 where
+pub record Both {X Y : Type 0} (first : State → Result X ProtoError → State → Type 0) (next : X → State → Result Y ProtoError → State → Type 0) (a : State) (result : Result Y ProtoError)
+    (c : State) : Type 0 where
   pub value : X
   pub between : State
   pub ran : first a (Ok value) between

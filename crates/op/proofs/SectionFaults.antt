@@ -144,7 +144,8 @@ module _ (inside : Bool) (op : OpCode) (B : List ℕ) where
       let after : Before inside op (with_record s next.0) B n next.1 f = subst (λ t. Before inside op t B n next.1 f) (sym passes.same) rest in
       record { records = next.0 ∷ after.records; place = after.place; words = more word after.words; fewer = omega (arith, after.fewer); follow = (passes.passes, after.follow); fault = after.fault }))
 
-  stops : (rs : List (Record RData)) (n i place : ℕ) (s : SectionValue) (f : DecodeError) → BackToBack (IsRecordAt B) i rs place → length rs < n → Follow inside op s rs → Stops inside op (folded s rs) B place f
+  stops : (rs : List (Record RData)) (n i place : ℕ) (s : SectionValue) (f : DecodeError) → BackToBack (IsRecordAt B) i rs place → length rs < n → Follow inside op s rs
+      → Stops inside op (folded s rs) B place f
       → section_from inside op s n B i ≡ Err f
   unfolding section_from
   stops [] zero i place s f words fewer follow fault = absurd (omega (arith, fewer))
@@ -167,7 +168,8 @@ module _ (inside : Bool) (op : OpCode) (B : List ℕ) where
         number = length b.records;
         before = section_of b.records;
         place = b.place;
-        stands = record { records = b.records; words = b.words; counted = refl; given = stand.given; placed = stand.placed; signature_last = stand.ends; one_opt = omega (arith, stand.one); section = refl };
+        stands =
+            record { records = b.records; words = b.words; counted = refl; given = stand.given; placed = stand.placed; signature_last = stand.ends; one_opt = omega (arith, stand.one); section = refl };
         fewer = b.fewer;
         fault = told (section_of b.records) b.place fault;
       }

@@ -30,7 +30,8 @@ unread inside op n c bytes i s f below is =
     let next : n - c ≡ suc (n - (c + 1)) = omega arith in
     rw (next, is) refl
 
-failed : (inside : Bool) (op : OpCode) (n c : ℕ) (bytes : List ℕ) (i e : ℕ) (s : SectionValue) (r : Record RData) (f : DecodeError) → c < n → record_at bytes i ≡ Ok (r, e) → tested inside op s r ≡ Err f
+failed : (inside : Bool) (op : OpCode) (n c : ℕ) (bytes : List ℕ) (i e : ℕ) (s : SectionValue) (r : Record RData) (f : DecodeError) → c < n → record_at bytes i ≡ Ok (r, e)
+    → tested inside op s r ≡ Err f
     → section_from inside op s (n - c) bytes i ≡ Err f
 unfolding section_from
 failed inside op n c bytes i e s r f below is fails =
@@ -41,28 +42,34 @@ end : (inside : Bool) (op : OpCode) (bytes : List ℕ) (i : ℕ) (s : SectionVal
 unfolding section_from
 end inside op bytes i s = refl
 
-pub takes_more : (inside : Bool) (op : OpCode) (n c : ℕ) (first bytes : List ℕ) (start i e : ℕ) (s t : SectionValue) (r : Record RData) → c < n → record_at bytes i ≡ Ok (r, e) → tested inside op s r ≡ Ok t → Takes inside op n c first bytes start i s → Takes inside op n (c + 1) first bytes start e t
+pub takes_more : (inside : Bool) (op : OpCode) (n c : ℕ) (first bytes : List ℕ) (start i e : ℕ) (s t : SectionValue) (r : Record RData) → c < n → record_at bytes i ≡ Ok (r, e)
+    → tested inside op s r ≡ Ok t → Takes inside op n c first bytes start i s → Takes inside op n (c + 1) first bytes start e t
 takes_more inside op n c first bytes start i e s t r below is passes w = record { whole = sym (step inside op n c bytes i e s t r below is passes) ∙ w.whole; same = w.same; below = omega arith }
 
-pub takes_all : (inside : Bool) (op : OpCode) (n c : ℕ) (first bytes : List ℕ) (start i : ℕ) (s : SectionValue) → n ≤ c → Takes inside op n c first bytes start i s → section_at inside op n first start ≡ Ok (s, i)
+pub takes_all : (inside : Bool) (op : OpCode) (n c : ℕ) (first bytes : List ℕ) (start i : ℕ) (s : SectionValue) → n ≤ c → Takes inside op n c first bytes start i s
+    → section_at inside op n first start ≡ Ok (s, i)
 takes_all inside op n c first bytes start i s done w =
     let none : n - c ≡ 0 = omega arith in
     sym w.whole ∙ rw none (end inside op bytes i s)
 
-pub takes_unread : (inside : Bool) (op : OpCode) (n c : ℕ) (first bytes : List ℕ) (start i : ℕ) (s : SectionValue) (f : DecodeError) → c < n → Fails f (record_at bytes i) → Takes inside op n c first bytes start i s → Fails f (section_at inside op n first start)
+pub takes_unread : (inside : Bool) (op : OpCode) (n c : ℕ) (first bytes : List ℕ) (start i : ℕ) (s : SectionValue) (f : DecodeError) → c < n → Fails f (record_at bytes i)
+    → Takes inside op n c first bytes start i s → Fails f (section_at inside op n first start)
 takes_unread inside op n c first bytes start i s f below fails w =
     Fails-through f (record_at bytes i) (section_at inside op n first start) (λ is. sym w.whole ∙ unread inside op n c bytes i s f below is) fails
 
-pub takes_failed : (inside : Bool) (op : OpCode) (n c : ℕ) (first bytes : List ℕ) (start i e : ℕ) (s : SectionValue) (r : Record RData) (f : DecodeError) → c < n → record_at bytes i ≡ Ok (r, e) → Fails f (tested inside op s r) → Takes inside op n c first bytes start i s → Fails f (section_at inside op n first start)
+pub takes_failed : (inside : Bool) (op : OpCode) (n c : ℕ) (first bytes : List ℕ) (start i e : ℕ) (s : SectionValue) (r : Record RData) (f : DecodeError) → c < n
+    → record_at bytes i ≡ Ok (r, e) → Fails f (tested inside op s r) → Takes inside op n c first bytes start i s → Fails f (section_at inside op n first start)
 takes_failed inside op n c first bytes start i e s r f below is fails w =
     Fails-through f (tested inside op s r) (section_at inside op n first start) (λ no. sym w.whole ∙ failed inside op n c bytes i e s r f below is no) fails
 
 -- a section that was read, over the same buffer and with the count that the header has
-section_of_counts : (inside : Bool) (op : OpCode) (n count : ℕ) (bytes first : List ℕ) (i : ℕ) (r : Read SectionValue) → n ≡ count → bytes ≡ first → section_at inside op n bytes i ≡ r → section_at inside op count first i ≡ r
+section_of_counts : (inside : Bool) (op : OpCode) (n count : ℕ) (bytes first : List ℕ) (i : ℕ) (r : Read SectionValue) → n ≡ count → bytes ≡ first → section_at inside op n bytes i ≡ r
+    → section_at inside op count first i ≡ r
 section_of_counts inside op n count bytes first i r counted same is = subst (λ k. section_at inside op k first i ≡ r) counted (subst (λ B. section_at inside op n B i ≡ r) same is)
 
 -- The sections fail as the first of them that fails.
-pub answers_fail : (op : OpCode) (counts : HeaderCounts) (bytes : List ℕ) (i n : ℕ) (f : DecodeError) → n ≡ counts.answers → Fails f (section_at false op n bytes i) → Fails f (sections_at op counts bytes i)
+pub answers_fail : (op : OpCode) (counts : HeaderCounts) (bytes : List ℕ) (i n : ℕ) (f : DecodeError) → n ≡ counts.answers → Fails f (section_at false op n bytes i)
+    → Fails f (sections_at op counts bytes i)
 answers_fail op counts bytes i n f counted fails =
     Fails-through f (section_at false op n bytes i) (sections_at op counts bytes i) (λ is. rw (section_of_counts false op n counts.answers bytes bytes i (Err f) counted refl is) refl) fails
 

@@ -30,7 +30,8 @@ pub unless_ok : (f : Option DecodeError) (s t : SectionValue) → unless_fault f
 unless_ok None s t is = record { passes = refl; same = same_ok is }
 unless_ok (Some f) s t is = cc
 
-section_stands : (inside : Bool) (op : OpCode) (B : List ℕ) → ((i : ℕ) (r : Record RData) (e : ℕ) → record_at B i ≡ Ok (r, e) → IsRecordAt B i r e) → (n i : ℕ) (s : SectionValue) (r : SectionValue × ℕ) → section_from inside op s n B i ≡ Ok r → Section inside op s B n i r
+section_stands : (inside : Bool) (op : OpCode) (B : List ℕ) → ((i : ℕ) (r : Record RData) (e : ℕ) → record_at B i ≡ Ok (r, e) → IsRecordAt B i r e)
+    → (n i : ℕ) (s : SectionValue) (r : SectionValue × ℕ) → section_from inside op s n B i ≡ Ok r → Section inside op s B n i r
 unfolding section_from
 section_stands inside op B stands zero i s r is =
     let same : (s, i) ≡ r = same_ok is in
@@ -49,7 +50,8 @@ section_stands inside op B stands (suc n) i s r is =
       whole = after.whole;
     }
 
-section_again : (inside : Bool) (op : OpCode) (B : List ℕ) → ((i : ℕ) (r : Record RData) (e : ℕ) → IsRecordAt B i r e → record_at B i ≡ Ok (r, e)) → (rs : List (Record RData)) (i e : ℕ) (s : SectionValue) → BackToBack (IsRecordAt B) i rs e → Follow inside op s rs → section_from inside op s (length rs) B i ≡ Ok (folded s rs, e)
+section_again : (inside : Bool) (op : OpCode) (B : List ℕ) → ((i : ℕ) (r : Record RData) (e : ℕ) → IsRecordAt B i r e → record_at B i ≡ Ok (r, e))
+    → (rs : List (Record RData)) (i e : ℕ) (s : SectionValue) → BackToBack (IsRecordAt B) i rs e → Follow inside op s rs → section_from inside op s (length rs) B i ≡ Ok (folded s rs, e)
 unfolding section_from
 section_again inside op B again [] i e s none follow = refl
 section_again inside op B again (r ∷ rs) i e s (more {j = j} word rest) follow =
@@ -65,12 +67,14 @@ pub record IsSection (inside : Bool) (op : OpCode) (B : List ℕ) (n i : ℕ) (r
   pub stand : Stand inside op false false records
   pub whole : r.0 ≡ section_of records
 
-pub section_is : (inside : Bool) (op : OpCode) (B : List ℕ) → ((i : ℕ) (r : Record RData) (e : ℕ) → record_at B i ≡ Ok (r, e) → IsRecordAt B i r e) → (n i : ℕ) (r : SectionValue × ℕ) → section_at inside op n B i ≡ Ok r → IsSection inside op B n i r
+pub section_is : (inside : Bool) (op : OpCode) (B : List ℕ) → ((i : ℕ) (r : Record RData) (e : ℕ) → record_at B i ≡ Ok (r, e) → IsRecordAt B i r e) → (n i : ℕ) (r : SectionValue × ℕ)
+    → section_at inside op n B i ≡ Ok r → IsSection inside op B n i r
 section_is inside op B stands n i r is =
     let s = section_stands inside op B stands n i empty_section r is in
     record { records = s.records; words = s.words; counted = s.counted; stand = follow_stand inside op s.records empty_section s.follow; whole = s.whole ∙ folded_section inside op s.records s.follow }
 
-pub section_read : (inside : Bool) (op : OpCode) (B : List ℕ) → ((i : ℕ) (r : Record RData) (e : ℕ) → IsRecordAt B i r e → record_at B i ≡ Ok (r, e)) → (rs : List (Record RData)) (i e : ℕ) → BackToBack (IsRecordAt B) i rs e → Stand inside op false false rs → section_at inside op (length rs) B i ≡ Ok (section_of rs, e)
+pub section_read : (inside : Bool) (op : OpCode) (B : List ℕ) → ((i : ℕ) (r : Record RData) (e : ℕ) → IsRecordAt B i r e → record_at B i ≡ Ok (r, e)) → (rs : List (Record RData)) (i e : ℕ)
+    → BackToBack (IsRecordAt B) i rs e → Stand inside op false false rs → section_at inside op (length rs) B i ≡ Ok (section_of rs, e)
 section_read inside op B again rs i e words stand =
     let follow = stand_follow inside op rs empty_section stand in
     section_again inside op B again rs i e empty_section words follow ∙ rw (folded_section inside op rs follow) refl

@@ -178,13 +178,15 @@ none_of : {X : Type 0} (o : Option X) → is_some o ≡ false → o ≡ None
 none_of None is = refl
 none_of (Some x) is = cc
 
-put_joined : (o g : Bool) (s : SectionValue) (r : Record RData) (ws : List (Record RData)) (f h : Option (Record RData)) → (o ≡ true → s.edns ≡ None) → (g ≡ true → o ≡ false) → (g ≡ true → s.signature ≡ None)
+put_joined : (o g : Bool) (s : SectionValue) (r : Record RData) (ws : List (Record RData)) (f h : Option (Record RData)) → (o ≡ true → s.edns ≡ None) → (g ≡ true → o ≡ false)
+    → (g ≡ true → s.signature ≡ None)
     → joined (put o g s r) (record { records = ws; edns = option_map edns_of f; signature = option_map signature_of h })
     ≡ joined s (record { records = cond (not (o || g)) (r ∷ ws) ws; edns = option_map edns_of (cond o (Some r) f); signature = option_map signature_of (cond g (Some r) h) })
 put_joined true true s r ws f h no_edns apart unsigned = absurd (true≢false (apart refl))
 put_joined true false s r ws f h no_edns apart unsigned = rw (no_edns refl) refl
 put_joined false true s r ws f h no_edns apart unsigned = rw (unsigned refl) refl
-put_joined false false s r ws f h no_edns apart unsigned = ap (λ xs. record { records = xs; edns = option_or s.edns (option_map edns_of f); signature = option_or s.signature (option_map signature_of h) }) (append_assoc s.records (r ∷ []) ws)
+put_joined false false s r ws f h no_edns apart unsigned =
+    ap (λ xs. record { records = xs; edns = option_or s.edns (option_map edns_of f); signature = option_or s.signature (option_map signature_of h) }) (append_assoc s.records (r ∷ []) ws)
 
 folded_joined : (inside : Bool) (op : OpCode) (rs : List (Record RData)) (s : SectionValue) → Follow inside op s rs → folded s rs ≡ joined s (section_of rs)
 folded_joined inside op [] s follow = rw (append-nil s.records, or_none s.edns, or_none s.signature) refl

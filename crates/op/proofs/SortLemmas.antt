@@ -109,7 +109,9 @@ module _ (ds : List (Record RData)) (op : OpCode) (fits : All (FitsAdditional op
   signature_kept (Some s) = refl
 
   pub sorted_records : (edns : Option Edns) (signature : Option (Record (List ℕ))) → (section_of (ds ++ tail edns signature)).records ≡ ds
-  sorted_records edns signature = filter-append is_ordinary ds (tail edns signature) ∙ ap (λ xs. filter is_ordinary ds ++ xs) (rest_ordinary edns signature) ∙ append-nil (filter is_ordinary ds) ∙ filter_all is_ordinary ds ordinaries
+  sorted_records edns signature =
+      filter-append is_ordinary ds (tail edns signature) ∙ ap (λ xs. filter is_ordinary ds ++ xs) (rest_ordinary edns signature) ∙ append-nil (filter is_ordinary ds)
+      ∙ filter_all is_ordinary ds ordinaries
 
   found : (p : Record RData → Bool) (t : List (Record RData)) → All (λ r. p r ≡ false) ds → find p (ds ++ t) ≡ find p t
   found p t none = find-append p ds t ∙ ap (λ o. option_or o (find p t)) (find_none p ds none)
@@ -136,7 +138,8 @@ module _ (ds : List (Record RData)) (op : OpCode) (fits : All (FitsAdditional op
   rest_given None None = All-nil (HasNeededData op)
   rest_given None (Some s) = All-cons (HasNeededData op) (signature_record s) [] (signature_given s) (All-nil (HasNeededData op))
   rest_given (Some e) None = All-cons (HasNeededData op) (edns_record e) [] (edns_given e) (All-nil (HasNeededData op))
-  rest_given (Some e) (Some s) = All-cons (HasNeededData op) (edns_record e) (signature_record s ∷ []) (edns_given e) (All-cons (HasNeededData op) (signature_record s) [] (signature_given s) (All-nil (HasNeededData op)))
+  rest_given (Some e) (Some s) =
+      All-cons (HasNeededData op) (edns_record e) (signature_record s ∷ []) (edns_given e) (All-cons (HasNeededData op) (signature_record s) [] (signature_given s) (All-nil (HasNeededData op)))
 
   pub all_given : (edns : Option Edns) (signature : Option (Record (List ℕ))) → All (HasNeededData op) (ds ++ tail edns signature)
   all_given edns signature = All-append (HasNeededData op) ds (tail edns signature) (λ k d below. (fits k d below).given) (rest_given edns signature)

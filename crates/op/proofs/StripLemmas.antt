@@ -34,7 +34,8 @@ filter_twice p (x ∷ xs) = elim (cases_Bool (p x)) [
   | inr isnt ↦ rw isnt (filter_twice p xs)
 ]
 
-same_sections : (m : MessageValue) {b c a' b' c' a : List (Record RData)} → a ≡ a' → b ≡ b' → c ≡ c' → ◌≡◌ {A = MessageValue} (record m { answers = a; authorities = b; additionals = c }) (record m { answers = a'; authorities = b'; additionals = c' })
+same_sections : (m : MessageValue) {b c a' b' c' a : List (Record RData)} → a ≡ a' → b ≡ b' → c ≡ c'
+    → ◌≡◌ {A = MessageValue} (record m { answers = a; authorities = b; additionals = c }) (record m { answers = a'; authorities = b'; additionals = c' })
 same_sections m p q r = rw (p, q, r) refl
 
 by_twice : (qs : List Query) (m : MessageValue) → stripped_by qs (stripped_by qs m) ≡ stripped_by qs m

@@ -67,7 +67,8 @@ module _ (k : State) (blank : k.suffixes ≡ []) (within : length k.bytes ≤ k.
     abbrev First : Written → State → Result WrittenSections ProtoError → State → Type 0
     First answers = AndThen (EmitsPart emits_records n n') (d' ≡ d) (Second answers)
 
-    second_failed : (answers : Written) (second : State) → WritesRecords a.rest.now first second answers.count answers.is_cut → Both (EmitsPart emits_records n n') (Second answers) second (Err e) last → e ≡ refusals.Memory
+    second_failed : (answers : Written) (second : State) → WritesRecords a.rest.now first second answers.count answers.is_cut
+        → Both (EmitsPart emits_records n n') (Second answers) second (Err e) last → e ≡ refusals.Memory
     second_failed answers second one b =
         let before = took_front a.rest.now k first second 0 answers.count answers.is_cut took one in
         let next = slice_front RecordWord plain_record record_owner n n' second b.between b.value b.ran in
@@ -98,7 +99,8 @@ module _ (k : State) (blank : k.suffixes ≡ []) (within : length k.bytes ≤ k.
     abbrev Second_extra : Written → State → Result Written ProtoError → State → Type 0
     Second_extra opt = AndThen (Tests (Adds additionals opt)) ⊤ Third_extra
 
-    signed_failed : (opt sum : Written) (fifth : State) → WritesRecords edns fourth fifth opt.count opt.is_cut → sum.count ≡ additionals.count + opt.count → Both (WritesRecordItems signature) (Fourth sum) fifth (Err e) last → e ≡ refusals.Memory
+    signed_failed : (opt sum : Written) (fifth : State) → WritesRecords edns fourth fifth opt.count opt.is_cut → sum.count ≡ additionals.count + opt.count
+        → Both (WritesRecordItems signature) (Fourth sum) fifth (Err e) last → e ≡ refusals.Memory
     signed_failed opt sum fifth front count b =
         let second = took_front edns k fourth fifth (before + additionals.count) opt.count opt.is_cut took front in
         let third = took_front signature k fifth b.between (before + additionals.count + opt.count) b.value.count b.value.is_cut second b.ran in
@@ -153,7 +155,8 @@ module _ (m : MessageValue) (q q' : Iter Query) (a a' n n' d d' : Iter (Record R
     kept_small : kept.limit < 2 ^ 16
     kept_small = omega (arith, limit, small)
 
-    header_failed : (queries : ℕ) (sixth : State) (sections : WrittenSections) (total : Written) → queries < 2 ^ 16 → AndThen (Tests (HasHeader m.metadata queries sections total)) ⊤ (FillsIn place) sixth (Err e) new → e ≡ refusals.Memory
+    header_failed : (queries : ℕ) (sixth : State) (sections : WrittenSections) (total : Written) → queries < 2 ^ 16
+        → AndThen (Tests (HasHeader m.metadata queries sections total)) ⊤ (FillsIn place) sixth (Err e) new → e ≡ refusals.Memory
     header_failed queries sixth sections total few run =
         elim (failed e run) [
           | inl test ↦ absurd (omega (arith, test.0.0, few))
@@ -185,7 +188,8 @@ module _ (m : MessageValue) (q q' : Iter Query) (a a' n n' d d' : Iter (Record R
           | inr b ↦ inl (asked_next b.value b.between (Emits-slice QueryWord plain_query query_owner q q' kept b.between b.value b.ran) b.rest)
         ]
       where
-        asked_next : (queries : ℕ) (first : State) → EachWritten QueryWord plain_query query_owner q.rest.now kept first × (queries ≡ length q.rest.now) → Sectioned place queries first (Err e) new → e ≡ refusals.Memory
+        asked_next : (queries : ℕ) (first : State) → EachWritten QueryWord plain_query query_owner q.rest.now kept first × (queries ≡ length q.rest.now)
+            → Sectioned place queries first (Err e) new → e ≡ refusals.Memory
         asked_next queries first asked rest =
             let few = queries_few q.rest.now kept first asked.0 no_suffix kept_within kept_small in
             sections_next queries first (omega (arith, asked.1, few)) (took_queries q.rest.now kept first asked.0) rest
@@ -193,7 +197,8 @@ module _ (m : MessageValue) (q q' : Iter Query) (a a' n n' d d' : Iter (Record R
   pub composed_failed : Composed m q q' a a' n n' d d' edns signature old (Err e) new → Left m old new e
   composed_failed run = elim (failed e run) [ inl room ↦ room_failed m old new e room | inr b ↦ queries_next b.value b.between b.ran b.rest ]
 
-pub left_if : (m : MessageValue) (q q' : Iter Query) (a a' n n' d d' : Iter (Record RData)) (edns signature : List (Record RData)) → AreOf m q q' a a' n n' d d' edns signature → (old new : State) (result : Result Header ProtoError)
+pub left_if : (m : MessageValue) (q q' : Iter Query) (a a' n n' d d' : Iter (Record RData)) (edns signature : List (Record RData)) → AreOf m q q' a a' n n' d d' edns signature
+    → (old new : State) (result : Result Header ProtoError)
     → Composed m q q' a a' n n' d d' edns signature old result new → old.bytes ≡ [] → old.suffixes ≡ [] → old.limit < 2 ^ 16 → IfErr result (λ e. (e ≡ refusals.Memory) ⊎ Leaves m old e new)
 left_if m q q' a a' n n' d d' edns signature are old new (Ok h) run empty blank small = tt
 left_if m q q' a a' n n' d d' edns signature are old new (Err e) run empty blank small = composed_failed m q q' a a' n n' d d' edns signature are old new empty blank small e run
@@ -224,6 +229,7 @@ too_small m old new (refusals.Message text) empty (inr left) = absurd left
 too_small m old new refusals.NotAResponse empty (inr left) = absurd left
 too_small m old new (refusals.Decode d) empty (inr left) = absurd left
 
-pub refused_if : (m : MessageValue) (old new : State) (result : Result Header ProtoError) → old.bytes ≡ [] → IfErr result (λ e. (e ≡ refusals.Memory) ⊎ Leaves m old e new) → IfErr result (λ e. (e ≡ refusals.Memory) ⊎ IsTooSmall m old.limit e)
+pub refused_if : (m : MessageValue) (old new : State) (result : Result Header ProtoError) → old.bytes ≡ [] → IfErr result (λ e. (e ≡ refusals.Memory) ⊎ Leaves m old e new)
+    → IfErr result (λ e. (e ≡ refusals.Memory) ⊎ IsTooSmall m old.limit e)
 refused_if m old new (Ok h) empty left = tt
 refused_if m old new (Err e) empty left = too_small m old new e empty left

@@ -91,7 +91,8 @@ merged (Some e) m low small is high =
       kept = code_whole e.rcode_high (low % 16) narrow;
     })
 
-same_message : {a b : Metadata} {q r : List Query} {as1 as2 ns1 ns2 ds1 ds2 : List (Record RData)} {f g : Option Edns} {s t : Option (Record (List ℕ))} → a ≡ b → q ≡ r → as1 ≡ as2 → ns1 ≡ ns2 → ds1 ≡ ds2 → f ≡ g → s ≡ t
+same_message : {a b : Metadata} {q r : List Query} {as1 as2 ns1 ns2 ds1 ds2 : List (Record RData)} {f g : Option Edns} {s t : Option (Record (List ℕ))} → a ≡ b → q ≡ r → as1 ≡ as2
+    → ns1 ≡ ns2 → ds1 ≡ ds2 → f ≡ g → s ≡ t
     → ◌≡◌ {A = MessageValue} (record { metadata = a; queries = q; answers = as1; authorities = ns1; additionals = ds1; edns = f; signature = s }) (record { metadata = b; queries = r; answers = as2; authorities = ns2; additionals = ds2; edns = g; signature = t })
 same_message p q r s t u v = rw (p, q, r, s, t, u, v) refl
 

@@ -23,7 +23,8 @@ Continues stays next (Ok x) b result c = next x b result c
 Continues stays next (Err e) b result c = (result ≡ Err e) × (c ≡ b) × stays
 
 -- one run, and the next one with its value
-pub record AndThen {X Y : Type 0} (first : State → Result X ProtoError → State → Type 0) (stays : Type 0) (next : X → State → Result Y ProtoError → State → Type 0) (old : State) (result : Result Y ProtoError) (new : State) : Type 0 where
+pub record AndThen {X Y : Type 0} (first : State → Result X ProtoError → State → Type 0) (stays : Type 0) (next : X → State → Result Y ProtoError → State → Type 0) (old : State)
+    (result : Result Y ProtoError) (new : State) : Type 0 where
   pub answer : Result X ProtoError
   pub between : State
   pub ran : first old answer between
@@ -101,7 +102,8 @@ abbrev pub FillsIn : ℕ → Header → State → Result Header ProtoError → S
 FillsIn place header a result b = (result ≡ Ok header) × (b ≡ overwritten place (header_bytes (raw_header header)) a)
 
 -- the answers A, the authorities N and the additionals D, each before it was written and behind that
-module _ {A N D : Type 0} (emits_a : A → State → Result ℕ ProtoError → A → State → Type 0) (emits_n : N → State → Result ℕ ProtoError → N → State → Type 0) (emits_d : D → State → Result ℕ ProtoError → D → State → Type 0) (a a' : A) (n n' : N) (d d' : D) where
+module _ {A N D : Type 0} (emits_a : A → State → Result ℕ ProtoError → A → State → Type 0) (emits_n : N → State → Result ℕ ProtoError → N → State → Type 0)
+    (emits_d : D → State → Result ℕ ProtoError → D → State → Type 0) (a a' : A) (n n' : N) (d d' : D) where
   -- three sections, each whatever became of the one before it
   abbrev pub EmitsSections : State → Result WrittenSections ProtoError → State → Type 0
   EmitsSections =
@@ -111,7 +113,8 @@ module _ {A N D : Type 0} (emits_a : A → State → Result ℕ ProtoError → A
       Tests (λ result. result ≡ Ok (record { answers = answers; authorities = authorities; additionals = additionals })))))
 
   -- A message: room for the header, the questions Q, three sections, OPT and the signature, and the header into its room.
-  abbrev pub Composition : {Q : Type 0} → Metadata → (Q → State → Result ℕ ProtoError → Q → State → Type 0) → Q → Q → List (Record RData) → List (Record RData) → State → Result Header ProtoError → State → Type 0
+  abbrev pub Composition : {Q : Type 0} → Metadata → (Q → State → Result ℕ ProtoError → Q → State → Type 0) → Q → Q → List (Record RData) → List (Record RData) → State
+      → Result Header ProtoError → State → Type 0
   Composition metadata emits_q q q' edns signature =
       AndThen KeepsRoom ((q' ≡ q) × (a' ≡ a) × (n' ≡ n) × (d' ≡ d)) (λ place.
       AndThen (λ s answer t. emits_q q s answer q' t) ((a' ≡ a) × (n' ≡ n) × (d' ≡ d)) (λ queries.

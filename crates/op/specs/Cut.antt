@@ -53,7 +53,8 @@ AreCompressed [] = Unit {0}
 AreCompressed (o ∷ os) = All (IsCompressed o) os × AreCompressed os
 
 -- the owners of words that stand back to back
-unfoldable pub owners_by : {A : Type 0} {Word : ℕ → A → ℕ → Type 0} (labels : A → List (List ℕ)) (end : (i : ℕ) (x : A) (e : ℕ) → Word i x e → ℕ) {i e : ℕ} {xs : List A} → BackToBack Word i xs e → List Owner
+unfoldable pub owners_by : {A : Type 0} {Word : ℕ → A → ℕ → Type 0} (labels : A → List (List ℕ)) (end : (i : ℕ) (x : A) (e : ℕ) → Word i x e → ℕ) {i e : ℕ} {xs : List A}
+    → BackToBack Word i xs e → List Owner
 owners_by labels end none = []
 owners_by labels end (more {i = i} {j = j} {x = x} word rest) = record { start = i; labels = labels x; end = end i x j word } ∷ owners_by labels end rest
 

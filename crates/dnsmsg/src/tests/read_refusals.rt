@@ -101,3 +101,37 @@ fn questions_with_faulty_names_are_refused(rt: HostRuntime) -> Result<(), AllocE
     }
     Ok(())
 }
+
+#[test]
+fn the_first_fault_is_answered(rt: HostRuntime) -> Result<(), AllocError> {
+    let asked = "00 01 00 00 00 01 00 01 00 00 00 00";
+    let answered = "00 01 00 00 00 00 00 01 00 01 00 00";
+    let extended = "00 01 00 00 00 00 00 01 00 00 00 02";
+    for &(header, first, second, third, number) in &[
+        ("00 01 00 00 00 01 00 00 00 00", "00", "", "", 4),
+        (asked, "40 00 01 00 01", OPT, "", 5),
+        (answered, A, "40", "", 5),
+        (answered, OPT, "40", "", 12),
+        (answered, A, OPT, "", 12),
+        (answered, A, "00 00 01 00", "", 4),
+        (extended, A, OPT, OPT, 13),
+        (extended, A, SIGN, EMPTY_A, 10),
+        (extended, A, "01 61 00 00 29", "", 6),
+        (extended, A, "01 61 00 00 01", "", 4),
+    ] {
+        refuses_parts(&rt, &[header, first, second, third], number)?;
+    }
+    Ok(())
+}
+
+#[test]
+fn an_empty_signature_is_empty_first(rt: HostRuntime) -> Result<(), AllocError> {
+    let empty_sig = "00 00 18 00 FF 00 00 00 00 00 00";
+    for &(header, number) in &[
+        ("00 01 00 00 00 00 00 01 00 00 00 00", 10),
+        ("00 01 28 00 00 00 00 01 00 00 00 00", 12),
+    ] {
+        refuses_parts(&rt, &[header, empty_sig], number)?;
+    }
+    Ok(())
+}

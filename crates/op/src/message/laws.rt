@@ -28,10 +28,12 @@ use rr::Record;
 pub fn reading_is_the_message_word()
     ensures word { (B : List ℕ) (i : ℕ) (m : MessageValue) (e : ℕ) → (message_at B i ≡ Ok (m, e)) ↔ IsMessageAt B i m e }
     ensures once { (B : List ℕ) (i : ℕ) (m n : MessageValue) (e f : ℕ) → IsMessageAt B i m e → IsMessageAt B i n f → (m ≡ n) × (e ≡ f) }
-    ensures section { (is_additional : Bool) (op : _) (count : ℕ) (B : List ℕ) (i : ℕ) (s : SectionValue) (e : ℕ) → (section_at is_additional op count B i ≡ Ok (s, e)) ↔ IsSectionAt is_additional op count B i s e }
+    ensures section { (is_additional : Bool) (op : _) (count : ℕ) (B : List ℕ) (i : ℕ) (s : SectionValue) (e : ℕ)
+        → (section_at is_additional op count B i ≡ Ok (s, e)) ↔ IsSectionAt is_additional op count B i s e }
     ensures questions { (count : ℕ) (B : List ℕ) (i : ℕ) (qs : List Query) (e : ℕ) → (many_at query_at count B i ≡ Ok (qs, e)) ↔ (BackToBack (IsQueryAt B) i qs e × (length qs ≡ count)) }
     ensures fault { (B : List ℕ) (i : ℕ) (f : DecodeError) → (message_at B i ≡ Err f) ↔ IsMessageFault B i f }
-    ensures section_fault { (is_additional : Bool) (op : _) (count : ℕ) (B : List ℕ) (i : ℕ) (f : DecodeError) → (section_at is_additional op count B i ≡ Err f) ↔ IsSectionFault is_additional op count B i f }
+    ensures section_fault { (is_additional : Bool) (op : _) (count : ℕ) (B : List ℕ) (i : ℕ) (f : DecodeError)
+        → (section_at is_additional op count B i ≡ Err f) ↔ IsSectionFault is_additional op count B i f }
     ensures questions_fault { (count : ℕ) (B : List ℕ) (i : ℕ) (f : DecodeError) → (many_at query_at count B i ≡ Err f) ↔ IsQueriesFault count B i f }
 {}
 

@@ -8,7 +8,8 @@ use Rattle.op.specs.Message.{message_value}
 use Rattle.op.proofs.message.Message.emit_header.Goals as goal
 
 -- the iterators run over the message's parts
-parts_of : (c : goal.After-emit_message_parts) → AreOf (message_value c.args.self.now) c.iter.result c.emit_message_parts.new.queries c.iter-2.result c.emit_message_parts.new.answers c.iter-3.result c.emit_message_parts.new.authorities c.iter-4.result c.emit_message_parts.new.additionals
+parts_of : (c : goal.After-emit_message_parts)
+    → AreOf (message_value c.args.self.now) c.iter.result c.emit_message_parts.new.queries c.iter-2.result c.emit_message_parts.new.answers c.iter-3.result c.emit_message_parts.new.authorities c.iter-4.result c.emit_message_parts.new.additionals
     (opt_records c.args.self.now.metadata.response_code (option_copied c.as_ref.result))
     (signature_records (option_copied c.as_deref.result))
 parts_of c = record {

@@ -11,9 +11,11 @@ use Rattle.op.proofs.message.copy.MessageClone.clone.Goals as goal
 records_same : (xs ys : List (Record RData)) → AllZip (λ (a b : Record RData). (b.rdata ≡ a.rdata) × (b ≡ record a { rdata = b.rdata })) xs ys → ys ≡ xs
 records_same xs ys copies = same_from_all_zip _ xs ys copies (λ a b copy. copy.1 ∙ ap (λ (d : RData). record a { rdata = d }) copy.0)
 
-values_same : (a b : Message) → b.metadata ≡ a.metadata → b.queries.items ≡ a.queries.items → b.answers.items ≡ a.answers.items → b.authorities.items ≡ a.authorities.items → b.additionals.items ≡ a.additionals.items
+values_same : (a b : Message) → b.metadata ≡ a.metadata → b.queries.items ≡ a.queries.items → b.answers.items ≡ a.answers.items → b.authorities.items ≡ a.authorities.items
+    → b.additionals.items ≡ a.additionals.items
     → b.edns ≡ a.edns → option_map (λ s. s.value) b.signature ≡ option_map (λ s. s.value) a.signature → message_value b ≡ message_value a
-values_same a b metadata queries answers authorities additionals edns signature = λ i. record { metadata = metadata i; queries = queries i; answers = answers i; authorities = authorities i; additionals = additionals i; edns = edns i; signature = signature i }
+values_same a b metadata queries answers authorities additionals edns signature =
+    λ i. record { metadata = metadata i; queries = queries i; answers = answers i; authorities = authorities i; additionals = additionals i; edns = edns i; signature = signature i }
 
 pub returns : goal.returns
 returns c =
