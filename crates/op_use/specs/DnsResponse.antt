@@ -1,5 +1,6 @@
 -- Responses: a message, and the bytes that it was read from or is written as.
-use Rattle.std.specs.Prelude.{ℕ, List, ◌≡◌, Err}
+use Rattle.std.specs.Prelude.{ℕ, List, ◌≡◌}
+use Rattle.base.specs.Reading.{Fails}
 use Rattle.base.specs.declared.error.proto_error.ProtoError.{ProtoError}
 use Rattle.base.specs.declared.error.proto_error.ProtoError.TheVariants as refusals
 use Rattle.op.specs.Message.{IsMessageAt, MessageValue, message_at}
@@ -18,10 +19,9 @@ IsResponse m = m.metadata.message_type ≡ message_types.Response
 abbrev pub IsQuery : MessageValue → Type 0
 IsQuery m = m.metadata.message_type ≡ message_types.Query
 
--- Why bytes are no response: a message that is a query begins them; or the first fault of bytes that begin with no
--- message; or want of memory, of which nothing is said.
+-- Why bytes are no response: a message that is a query begins them; or what reading met, the first fault of bytes that
+-- begin with no message, or want of memory.
 abbrev pub IsRefusedResponse : List ℕ → ProtoError → Type 0
 IsRefusedResponse bytes refusals.NotAResponse = (m : MessageValue) × (e : ℕ) × IsMessageAt bytes 0 m e × IsQuery m
-IsRefusedResponse bytes (refusals.Decode fault) = message_at bytes 0 ≡ Err fault
-IsRefusedResponse bytes refusals.Memory = Unit {0}
+IsRefusedResponse bytes (refusals.Decode fault) = Fails fault (message_at bytes 0)
 IsRefusedResponse bytes _ = ⊥

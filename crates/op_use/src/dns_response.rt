@@ -16,7 +16,7 @@ ghost use Rattle.op_use.specs.Lending.{LendsMessage};
 ghost use Rattle.op_use.specs.Responses.{answers_by, contains_answer, first_soa, is_of, negative_ttl, soa};
 ghost use Rattle.rr.specs.RecordRef.{seen};
 
-use base::{BinEncoder, Name, ProtoError, RecordType};
+use base::{BinEncoder, DecodeError, Name, ProtoError, RecordType};
 use base_data::SOA;
 use op::{Message, MessageType, Query};
 use rr::{Record, RecordRef};
@@ -65,12 +65,12 @@ impl DnsResponse {
 
     /// The response that bytes begin with, as `Message::from_vec` reads it, with all of these bytes (RFC 1035, 4.1).
     ///
-    /// Refused with the first fault of bytes that begin with no message; with `NotAResponse` for a query; and with
-    /// `Memory` for want of it.
+    /// Refused with `Decode` of the first fault of bytes that begin with no message, or of `Memory` for want of it; and
+    /// with `NotAResponse` for a query.
     pub fn from_buffer(alloc: Global, buffer: Vec<u8>) -> Result<DnsResponse, ProtoError>
         ensures found { IfOk result (λ r. ((e : ℕ) × IsMessageAt buffer.items 0 r.message e) × IsResponse r.message × (r.buffer ≡ buffer.items)) }
         ensures only { (m : MessageValue) (e : ℕ) → IsMessageAt buffer.items 0 m e
-            → MatchResult result (λ r. r.message ≡ m) (λ f. (f ≡ ProtoError.Memory) ⊎ ((f ≡ ProtoError.NotAResponse) × IsQuery m)) }
+            → MatchResult result (λ r. r.message ≡ m) (λ f. (f ≡ ProtoError.Decode DecodeError.Memory) ⊎ ((f ≡ ProtoError.NotAResponse) × IsQuery m)) }
         ensures refused { IfErr result (λ f. IsRefusedResponse buffer.items f) }
         ensures fits { IfOk result (λ r. Fits r.message) }
     {
