@@ -1,5 +1,5 @@
 -- Updates that are built fit the wire, and uncut bytes of them are read as the same sections.
-use Rattle.std.proofs.Common.{◌≡◌, ◌≢◌, ℕ, Bool, true, false, List, [], ◌∷◌, ◌++◌, refl, ap, sym, ◌∙◌, subst, arith, Some, None, Result, Ok, Err, map}
+use Rattle.std.proofs.Common.{◌≡◌, ◌≢◌, ℕ, Bool, true, false, List, [], ◌∷◌, ◌++◌, refl, ap, sym, ◌∙◌, subst, arith, Result, Ok, Err, map}
 use Rattle.std.specs.Prelude.{All, IfOk}
 use Rattle.std.specs.List.{AllByRecursion}
 use Rattle.std.proofs.lemmas.Bool.{true≢false}
@@ -18,10 +18,9 @@ use Rattle.rr.specs.RecordSet.{SetValue}
 use Rattle.rr.specs.declared.record.Record.{Record}
 use Rattle.op.specs.Cut.{IsCut, IsUncut}
 use Rattle.op.specs.Fits.{Fits, FitsEdns, FitsPlain, listed}
-use Rattle.op.specs.Message.{IsMessageAt, MessageValue}
+use Rattle.op.specs.Message.{MessageValue}
 use Rattle.op.specs.Query.{FitsQuery}
 use Rattle.op.specs.Section.{is_additional_type}
-use Rattle.op.specs.declared.edns.Edns.{Edns}
 use Rattle.op.specs.declared.op_code.OpCode.TheVariants as op_codes
 use Rattle.op.specs.declared.response_code.ResponseCode.{ResponseCode}
 use Rattle.op.proofs.MessageStands.{one_message}

@@ -1,16 +1,15 @@
 -- what holds of each record of an update
-use Rattle.std.specs.Prelude.{Bool, List, None, Option, Some, [], cond, false, if◌then◌else◌, is_some, map, nat_eq, nat_le, not, true, ℕ, ◌&&◌, ◌++◌, ◌==◌, ◌||◌, ◌∷◌, ◌≡◌, ◌≢◌}
-use Rattle.std.proofs.Common.{refl, sym, ap, ◌∙◌, subst, arith}
-use Rattle.std.specs.List.{filter, list_any, list_all, fold, AllByRecursion, ends_with}
+use Rattle.std.specs.Prelude.{Bool, List, None, [], false, is_some, nat_eq, not, true, ◌&&◌, ◌==◌, ◌||◌, ◌∷◌, ◌≡◌}
+use Rattle.std.proofs.Common.{refl, sym, ap, ◌∙◌, arith}
+use Rattle.std.specs.List.{fold, AllByRecursion, ends_with}
 use Rattle.std.specs.Cmp.Lexicographic.{pointwise}
 use Rattle.std.specs.Bool.{beq}
 use Rattle.std.specs.Cmp.{booleans_Decides, first_so, second_so}
 use Rattle.std.specs.Ordering.{eq_by_cmp}
-use Rattle.std.proofs.lemmas.Bool.{cond-true, cond-false, or_parts, not-true, false_from_ne_true, true≢false}
+use Rattle.std.proofs.lemmas.Bool.{cond-true, cond-false, false_from_ne_true, true≢false}
 use Rattle.base.specs.Labels.{NameValue}
 use Rattle.base.specs.NameOrder.{folded, is_zone_of, labels_decide, lowered, same_name}
 use Rattle.base_data.specs.Kinds.{type_of_data}
-use Rattle.base_data.specs.RData.{is_empty_data}
 use Rattle.base_data.specs.declared.rdata.RData.{RData}
 use Rattle.base.specs.RecordType.{type_number}
 use Rattle.base.specs.declared.record_type.RecordType.{RecordType}
@@ -24,12 +23,11 @@ use Rattle.base.specs.declared.rr_key.RrKey.{RrKey}
 use Rattle.base.specs.RrKey.{key_cmp, key_of}
 use Rattle.rr.specs.RecordSet.{SetValue, is_ns, is_soa}
 use Rattle.rr.specs.RecordOrder.{same_class}
-use Rattle.op_use.specs.Zone.{Datum, IsZone, Zone, at, has_set, is_guarded, put}
-use Rattle.op_use.specs.NamedChanges.{less_key, less_name, set_key}
-use Rattle.op_use.specs.Server
-use Rattle.op_use.specs.Server.{is_any, is_cname, is_meta, type_of_record, record_key, use_of, OfAny, OfNone, OfZone, OfNothing, first_fault, prescan_fault, update, added, removed, Fault, and_then, unless, zone_fault, prescan_by, update_by}
-use Rattle.op_use.specs.SoundSet.{IsFor, IsGiven, IsSound, is_ordinary, is_plain_class}
-use Rattle.op_use.proofs.ZoneSteps.{at_put, put_put, put_same, at_put_other, same_key}
+use Rattle.op_use.specs.Zone.{Datum, Zone, at, has_set, put}
+use Rattle.op_use.specs.NamedChanges.{set_key}
+use Rattle.op_use.specs.Server.{is_any, is_cname, is_meta, type_of_record, record_key, use_of, OfZone, first_fault, prescan_fault, update, added, and_then, unless, zone_fault, prescan_by, update_by}
+use Rattle.op_use.specs.SoundSet.{IsFor, IsGiven, is_ordinary, is_plain_class}
+use Rattle.op_use.proofs.ZoneSteps.{at_put, put_put, at_put_other, same_key}
 
 pub same_folded : (a b : NameValue) → same_name a b ≡ true → folded a ≡ folded b
 same_folded a b h = (labels_decide (folded a) (folded b)).0 (second_so (beq a.absolute b.absolute) _ h)

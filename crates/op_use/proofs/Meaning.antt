@@ -1,10 +1,10 @@
 -- what the builders' updates make of a zone
-use Rattle.std.specs.Prelude.{ℕ, Bool, true, false, not, List, [], ◌∷◌, ◌++◌, ◌≡◌, ◌≢◌, ◌&&◌, ◌||◌, ◌==◌, cond, map, length, nat_le, if◌then◌else◌, Option, Some, None, unwrap_or, is_some}
+use Rattle.std.specs.Prelude.{Bool, true, false, not, List, [], ◌∷◌, ◌++◌, ◌≡◌, ◌≢◌, ◌&&◌, ◌||◌, cond, map, length, nat_le, Option, Some, None, unwrap_or, is_some}
 use Rattle.std.proofs.Common.{refl, sym, ap, ◌∙◌, subst, ◌⊎◌, inl, inr}
-use Rattle.std.specs.List.{filter, list_any, list_all, fold, AllByRecursion, IsDistinct}
+use Rattle.std.specs.List.{list_any, list_all, fold, AllByRecursion, IsDistinct}
 use Rattle.std.specs.FinMap as fin
 use Rattle.std.specs.Ordering.{on, eq_by_cmp}
-use Rattle.std.proofs.lemmas.Bool.{cond-true, cond-false, and_parts, true≢false}
+use Rattle.std.proofs.lemmas.Bool.{cond-true, cond-false, and_parts}
 use Rattle.base.specs.Labels.{NameValue}
 use Rattle.base.specs.NameOrder.{folded, is_zone_of, same_by-equiv, same_name}
 use Rattle.base_data.specs.Kinds.{type_of_data}
@@ -21,14 +21,14 @@ use Rattle.base.specs.RrKey.{key_cmp, key_of}
 use Rattle.rr.specs.RecordSet.{SetValue, is_ns, is_soa}
 use Rattle.base_data.specs.SameData.{same_data}
 use Rattle.op_use.specs.Zone.{Datum, IsZone, Zone, at, has_set, is_guarded, put}
-use Rattle.op_use.specs.NamedChanges.{datum_of, has_data_of_set, is_data_of, less_data, less_key, less_name, merged, set_key}
-use Rattle.op_use.specs.Server.{Sections, Fault, and_then, unless, first_fault, prescan_fault, prescan_by, prerequisite_fault, prerequisite_by, prerequisites_fault, collected, is_met, is_same_key, is_of_zone, use_of, OfZone, is_any, is_cname, is_meta, type_of_record, record_key, update, update_by, added, removed, fault, answer, serve, zone_fault}
-use Rattle.op_use.specs.SoundSet.{IsFor, IsGiven, NoCname, is_ordinary, is_plain_class}
+use Rattle.op_use.specs.NamedChanges.{has_data_of_set, is_data_of, less_data, less_key, merged, set_key}
+use Rattle.op_use.specs.Server.{Sections, Fault, and_then, unless, first_fault, prescan_fault, prescan_by, prerequisite_fault, prerequisite_by, prerequisites_fault, collected, is_met, is_same_key, is_of_zone, use_of, is_any, is_meta, type_of_record, record_key, update, removed, answer, serve, zone_fault}
+use Rattle.op_use.specs.SoundSet.{IsFor, IsGiven, NoCname, is_ordinary}
 use Rattle.op_use.specs.UpdateMessage.{append, compare_and_swap, create, delete_all, delete_by_rdata, delete_rrset, empty_record, in_class, without_ttl}
 use Rattle.op_use.proofs.Changes.{AppendChanges, CompareAndSwapChanges, CreateChanges, DeleteAllChanges, DeleteByRdataChanges, DeleteRrsetChanges}
 use Rattle.op_use.proofs.ZoneSteps.{at_put, put_put, put_same, tied, get_with_set}
 use Rattle.op_use.proofs.MergeSteps.{all_added, all_removed, none_left}
-use Rattle.op_use.proofs.Given.{IsAt, given_at, at_after, zone_passes, scan_passes, updates_put, zone_spelled, cname_key, no_soa, no_ns, no_cname, no_any, no_meta}
+use Rattle.op_use.proofs.Given.{IsAt, given_at, at_after, zone_passes, scan_passes, updates_put, zone_spelled, no_soa, no_ns, no_cname, no_any, no_meta}
 
 and_then_none : (p : Fault) → and_then p None ≡ p
 and_then_none (Some code) = refl

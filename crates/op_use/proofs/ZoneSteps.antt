@@ -1,6 +1,6 @@
 -- sets put into zones
-use Rattle.std.specs.Prelude.{ℕ, Bool, true, false, not, List, [], ◌∷◌, ◌++◌, ◌≡◌, ◌≢◌, ◌&&◌, ◌||◌, cond, map, if◌then◌else◌, Option, Some, None, unwrap_or, is_some}
-use Rattle.std.proofs.Common.{refl, sym, ap, subst, ◌∙◌, arith, rules}
+use Rattle.std.specs.Prelude.{Bool, true, false, List, [], ◌∷◌, ◌≡◌, ◌≢◌, cond, Option, Some, None, unwrap_or}
+use Rattle.std.proofs.Common.{refl, sym, ap, ◌∙◌}
 use Rattle.std.specs.Ordering.{eq_by_cmp, is_eq}
 use Rattle.std.specs.Cmp.{eq_by_cmp_equiv}
 use Rattle.std.specs.declared.cmp.Ordering.{Ordering}
@@ -10,7 +10,7 @@ use Rattle.std.specs.FinMap.{FinMap}
 use Rattle.base.specs.declared.rr_key.RrKey.{RrKey}
 use Rattle.base.specs.RrKey.{key_cmp}
 use Rattle.base.proofs.KeyLemmas.{key_cmp-exact, key_cmp-total}
-use Rattle.op_use.specs.Zone.{Datum, IsZone, Zone, at, has_set, put, with_set}
+use Rattle.op_use.specs.Zone.{Datum, IsZone, Zone, at, put, with_set}
 
 -- what stands in a map for a list
 abbrev pub kept : List Datum → Option (List Datum)

@@ -1,5 +1,5 @@
 -- What updates make of a zone: data of a set merged into it, and data, sets and names taken out of it.
-use Rattle.std.specs.Prelude.{Bool, not, List, [], ◌∷◌, ◌++◌, ◌&&◌, ◌||◌, ℕ, map, if◌then◌else◌}
+use Rattle.std.specs.Prelude.{Bool, not, List, [], ◌∷◌, ◌++◌, ◌&&◌, ◌||◌, map, if◌then◌else◌}
 use Rattle.std.specs.List.{filter, list_all, list_any}
 use Rattle.std.specs.FinMap as fin
 use Rattle.base.specs.Labels.{NameValue}

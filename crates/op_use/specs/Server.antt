@@ -1,7 +1,6 @@
 -- what a server does with an update
-use Rattle.std.specs.Prelude.{ℕ, Bool, true, false, not, List, [], ◌∷◌, ◌++◌, ◌≡◌, ◌&&◌, ◌||◌, ◌==◌, nat_le, map, length, if◌then◌else◌, Option, Some, None}
+use Rattle.std.specs.Prelude.{Bool, true, false, not, List, [], ◌∷◌, ◌++◌, ◌&&◌, ◌||◌, ◌==◌, nat_le, map, length, if◌then◌else◌, Option, Some, None}
 use Rattle.std.specs.List.{filter, list_any, list_all, fold}
-use Rattle.base.specs.Labels.{NameValue}
 use Rattle.base.specs.NameOrder.{is_zone_of, same_name}
 use Rattle.base_data.specs.Kinds.{type_of_data}
 use Rattle.base_data.specs.RData.{is_empty_data}
@@ -17,7 +16,7 @@ use Rattle.rr.specs.declared.record.Record.{Record}
 use Rattle.base.specs.declared.rr_key.RrKey.{RrKey}
 use Rattle.base.specs.RrKey.{key_cmp, key_of}
 use Rattle.std.specs.Ordering.{eq_by_cmp}
-use Rattle.rr.specs.RecordSet.{is_ns, is_soa}
+use Rattle.rr.specs.RecordSet.{is_soa}
 use Rattle.rr.specs.RecordOrder.{same_class}
 use Rattle.op.specs.Message.{MessageValue}
 use Rattle.op.specs.declared.query.Query.{Query}

@@ -1,7 +1,6 @@
 -- What the updates of the builders mean: what a server makes of a zone by what it reads from their bytes (RFC 2136, 3).
 use Rattle.std.specs.Prelude.{Bool, List, [], not, true, ℕ, ◌&&◌, ◌≡◌, ◌≢◌, if◌then◌else◌}
 use Rattle.base.specs.Labels.{NameValue}
-use Rattle.base.specs.RecordType.{type_number, type_of}
 use Rattle.base.specs.RrKey.{key_of}
 use Rattle.base.specs.declared.dns_class.DNSClass.{DNSClass}
 use Rattle.base_data.specs.Kinds.{type_of_data}

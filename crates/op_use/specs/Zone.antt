@@ -1,5 +1,5 @@
 -- A zone, as a primary server holds it (RFC 1034, 4.2; RFC 2136, 1.1).
-use Rattle.std.specs.Prelude.{Bool, List, [], ◌∷◌, ◌≡◌, ◌≢◌, ◌&&◌, ◌||◌, ℕ, Some, unwrap_or}
+use Rattle.std.specs.Prelude.{Bool, List, [], ◌∷◌, ◌≢◌, ◌&&◌, ◌||◌, ℕ, Some, unwrap_or}
 use Rattle.std.specs.List.{IsDistinct, list_any}
 use Rattle.std.specs.Ordering.{on}
 use Rattle.std.specs.FinMap as fin

@@ -135,7 +135,8 @@ fn a_query_is_no_response(rt: HostRuntime) -> Result<(), Fail> {
     Ok(())
 }
 
-const RESPONSE: &[u8] = b"\x00\x01\x80\x00\x00\x01\x00\x00\x00\x00\x00\x00\x01b\x00\x00\x01\x00\x01";
+const RESPONSE: &[u8] =
+    b"\x00\x01\x80\x00\x00\x01\x00\x00\x00\x00\x00\x00\x01b\x00\x00\x01\x00\x01";
 
 // Whether the bytes of a response to `b.` A are these, as they are written and as they were read with a byte behind.
 fn has_bytes(alloc: Global) -> Result<(bool, bool), Fail> {

@@ -48,12 +48,7 @@ fn records(alloc: Global, rows: &[Row]) -> Result<Vec<Record>, Fail> {
 
 /// The set of `example.` of this type without records.
 fn empty(alloc: Global, record_type: RecordType) -> Result<RecordSet, Fail> {
-    Ok(RecordSet::new(
-        alloc,
-        Name::parse(alloc, "example.", None)?,
-        record_type,
-        0,
-    ))
+    Ok(RecordSet::new(alloc, Name::parse(alloc, "example.", None)?, record_type, 0))
 }
 
 /// Whether a record of this type may be put into the set.

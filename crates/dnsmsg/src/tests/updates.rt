@@ -99,14 +99,3 @@ fn is_read_as(alloc: Global, wire: &[u8], message: &Message) -> bool {
     drop(read);
     same
 }
-
-// Whether the message could be built, and is sent so.
-fn is_built_as(alloc: Global, built: Result<Message, Fail>, wire: &[u8]) -> bool {
-    match built {
-        Ok(message) => is_sent_as(alloc, message, wire),
-        Err(e) => {
-            drop(e);
-            false
-        }
-    }
-}

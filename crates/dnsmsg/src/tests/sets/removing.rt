@@ -94,7 +94,12 @@ fn start(alloc: Global, name: &str) -> Result<RData, Fail> {
 /// Whether neither the start itself nor any data of its name is removed.
 fn start_stays(alloc: Global) -> Result<bool, Fail> {
     let mut set = empty(alloc, RecordType::SOA)?;
-    let put = answers(&mut set, record(alloc, DNSClass::IN, 5, start(alloc, "a.")?)?, 1, true)?;
+    let put = answers(
+        &mut set,
+        record(alloc, DNSClass::IN, 5, start(alloc, "a.")?)?,
+        1,
+        true,
+    )?;
     let same = record(alloc, DNSClass::IN, 5, start(alloc, "a.")?)?;
     let any = record(alloc, DNSClass::IN, 0, RData::Update0(RecordType::ANY))?;
     let stays = is_taken(&mut set, &same, 7, false) && is_taken(&mut set, &any, 7, false);

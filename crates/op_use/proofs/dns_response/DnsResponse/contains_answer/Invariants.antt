@@ -1,6 +1,5 @@
 use Rattle.std.proofs.Common.{◌≡◌, false, take}
 use Rattle.std.specs.List.{list_any}
-use Rattle.op.specs.Message.{message_value}
 use Rattle.op_use.specs.Responses.{answers_by}
 use Rattle.op_use.proofs.dns_response.DnsResponse.contains_answer.Given as goal
 

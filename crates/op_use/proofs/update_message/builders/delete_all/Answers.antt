@@ -1,10 +1,9 @@
 use Rattle.std.proofs.Common.{◌≡◌, IfOk, arith}
 use Rattle.std.proofs.lemmas.Grind.{common_steps}
-use Rattle.base_data.specs.Kinds.{type_of_data}
 use Rattle.op.specs.Fits.{Fits}
 use Rattle.op.specs.Message.{message_value}
-use Rattle.op_use.specs.SoundSet.{IsSendable, IsSendableKey, IsSendableOwner}
-use Rattle.op_use.specs.UpdateMeaning.{AppendsToSet, CreatesSet, DeletesData, DeletesName, DeletesSet, SwapsSets}
+use Rattle.op_use.specs.SoundSet.{IsSendableOwner}
+use Rattle.op_use.specs.UpdateMeaning.{DeletesName}
 use Rattle.op_use.specs.UpdateMessage.{delete_all, update_message}
 use Rattle.op_use.proofs.BuiltLemmas.{delete_all_fits, deletes_name, of_built}
 use Rattle.op_use.proofs.update_message.builders.delete_all.Goals as goal

@@ -3,8 +3,8 @@ use Rattle.std.proofs.lemmas.Grind.{common_steps}
 use Rattle.base_data.specs.Kinds.{type_of_data}
 use Rattle.op.specs.Fits.{Fits}
 use Rattle.op.specs.Message.{message_value}
-use Rattle.op_use.specs.SoundSet.{IsSendable, IsSendableKey, IsSendableOwner}
-use Rattle.op_use.specs.UpdateMeaning.{AppendsToSet, CreatesSet, DeletesData, DeletesName, DeletesSet, SwapsSets}
+use Rattle.op_use.specs.SoundSet.{IsSendableKey}
+use Rattle.op_use.specs.UpdateMeaning.{DeletesSet}
 use Rattle.op_use.specs.UpdateMessage.{delete_rrset, update_message}
 use Rattle.op_use.proofs.BuiltLemmas.{delete_rrset_fits, deletes_set, of_built}
 use Rattle.op_use.proofs.update_message.builders.delete_rrset.Goals as goal

@@ -1,4 +1,4 @@
-use Rattle.std.proofs.Common.{◌≡◌, ap, sym, ◌∙◌, arith, set}
+use Rattle.std.proofs.Common.{ap, sym, ◌∙◌, arith, set}
 use Rattle.std.proofs.lemmas.List.Edits.{map_over_more}
 use Rattle.base_data.specs.declared.rdata.RData.{RData}
 use Rattle.rr.specs.declared.record.Record.{Record}
