@@ -1,5 +1,6 @@
 ghost use Rattle.std.specs.Prelude.{◌≡◌};
 
+mod parts;
 mod reading;
 mod written_rows;
 
