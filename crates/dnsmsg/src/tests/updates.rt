@@ -11,7 +11,7 @@ use base::{Name, ParseError, ProtoError, RecordType};
 use base_data::{A, RData};
 use op::Message;
 use rr::{Record, RecordSet};
-use std::alloc::{AllocError, Global};
+use std::alloc::Global;
 use std::net::Ipv4Addr;
 use std::test::Fail;
 
@@ -25,35 +25,27 @@ fn address(last: u8) -> RData {
     RData::A(A::new(Ipv4Addr::new(192, 0, 2, last)))
 }
 
-// `www.example.` with this TTL and 192.0.2.1.
-fn host(alloc: Global, ttl: u32) -> Result<Record, ParseError> {
-    Ok(Record::from_rdata(name(alloc, "www.example.")?, ttl, address(1)))
+// `www.example.` with this TTL and 192.0.2.`last`.
+fn host(alloc: Global, ttl: u32, last: u8) -> Result<Record, ParseError> {
+    Ok(Record::from_rdata(name(alloc, "www.example.")?, ttl, address(last)))
 }
 
-// The addresses 192.0.2.1, and so on up to as many, of `www.example.`, with a TTL.
-fn addresses(alloc: Global, ttl: u32, count: u8) -> Result<RecordSet, Fail> {
-    let mut set = RecordSet::with_ttl(alloc, name(alloc, "www.example.")?, RecordType::A, ttl);
+// The addresses 192.0.2.1, and so on up to as many, with a TTL.
+fn hosts(alloc: Global, ttl: u32, count: u8) -> Result<Vec<Record>, Fail> {
+    let mut records = Vec::new(alloc);
     for last in 0..count {
-        match with_address(set, last.saturating_add(1)) {
-            Ok(more) => set = more,
-            Err(e) => return Err(e.into()),
-        }
+        records.push(host(alloc, ttl, last.saturating_add(1))?)?;
     }
-    Ok(set)
+    Ok(records)
 }
 
-// The set with one more address, if it is one of addresses.
-fn with_address(mut set: RecordSet, last: u8) -> Result<RecordSet, AllocError> {
-    if set.record_type() != RecordType::A {
-        return Ok(set);
-    }
-    match set.add_rdata(address(last)) {
-        Ok(_) => Ok(set),
-        Err(e) => {
-            drop(set);
-            Err(e)
-        }
-    }
+// The set of as many addresses of `www.example.`, with a TTL.
+fn addresses(alloc: Global, ttl: u32, count: u8) -> Result<RecordSet, Fail> {
+    let owner = name(alloc, "www.example.")?;
+    let records = hosts(alloc, ttl, count)?;
+    let mut set = RecordSet::with_ttl(alloc, owner, RecordType::A, ttl);
+    set.set_records(records);
+    Ok(set)
 }
 
 // The zone's origin and the set, if the set's owner lies in the zone.

@@ -93,11 +93,11 @@ fn foreign_records_are_given(alloc: Global) -> Result<bool, Fail> {
     set.set_records(records(alloc, &rows)?);
     let counted = set.records_count() == 2;
     let mut right = counted;
-    let mut place = 0;
+    let mut place: usize = 0;
     for entry in set {
         right = place < 2 && is_row(&entry, &rows[place]) && right;
         drop(entry);
-        place += 1;
+        place = place.saturating_add(1);
     }
     Ok(right && place == 2)
 }

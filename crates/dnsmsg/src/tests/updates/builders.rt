@@ -73,7 +73,7 @@ fn data_is_deleted(rt: HostRuntime) -> Result<(), Fail> {
 }
 
 fn without_set(alloc: Global) -> Result<Message, Fail> {
-    let gone = host(alloc, 60)?;
+    let gone = host(alloc, 60, 1)?;
     let origin = name(alloc, "example.")?;
     if origin.zone_of(&gone.name) {
         return Ok(delete_rrset(alloc, 5, gone, origin, false)?);
