@@ -104,7 +104,7 @@ fn types_and_classes_print(alloc: Global) -> bool {
 
 // Whether the data that the bytes are, of a type, is shown as the text.
 fn data_prints(alloc: Global, record_type: RecordType, wire: &[u8], text: &str) -> bool {
-    let len = wire.len() as u16;
+    let len = wire.len().min(65_535) as u16;
     match RData::read(&mut BinDecoder::new(alloc, wire), record_type, len) {
         Ok(data) => {
             let is_shown = super::forms::has_text(alloc, &data, text);
