@@ -7,6 +7,7 @@ use Rattle.base.specs.declared.name.parse.TextChar.{TextChar}
 use Rattle.base.specs.declared.name.parse.TextChar.TheVariants.{Dot, Byte}
 use Rattle.base.specs.Labels.{AreLabels, IsWire, labels_of, plain_len, size_of}
 use Rattle.base.specs.NameText.{AreCharsOf, none, more, IsLabelsText, dotted, first_char}
+use Rattle.base.specs.NameOf.{onto_first, pieces}
 use Rattle.base.proofs.CharLemmas.{first_of_piece, reads_more, same_first}
 use Rattle.base.proofs.LabelLemmas.{AreLabels-append, IsWire-nil, IsWire-push, labels_of-nil, labels_of-push, size_of-labels_of}
 
@@ -32,25 +33,15 @@ ended-append : (xs ys : List (List ℕ)) → ended (xs ++ ys) ≡ ended xs ++ en
 ended-append [] ys = refl
 ended-append (x ∷ xs) ys = ap (λ (cs : List TextChar). map Byte x ++ (Dot ∷ cs)) (ended-append xs ys) ∙ sym (append_assoc (map Byte x) (Dot ∷ ended xs) (ended ys))
 
-dotted-last : (xs : List (List ℕ)) (x : List ℕ) → dotted (xs ++ x ∷ []) ≡ ended xs ++ map Byte x
+pub dotted-last : (xs : List (List ℕ)) (x : List ℕ) → dotted (xs ++ x ∷ []) ≡ ended xs ++ map Byte x
 dotted-last [] x = refl
 dotted-last (y ∷ []) x = sym (append_assoc (map Byte y) (Dot ∷ []) (map Byte x))
 dotted-last (y ∷ z ∷ zs) x = ap (λ (cs : List TextChar). map Byte y ++ (Dot ∷ cs)) (dotted-last (z ∷ zs) x) ∙ sym (append_assoc (map Byte y) (Dot ∷ ended (z ∷ zs)) (map Byte x))
 
-dotted-dot : (xs : List (List ℕ)) → xs ≢ [] → dotted xs ++ Dot ∷ [] ≡ ended xs
+pub dotted-dot : (xs : List (List ℕ)) → xs ≢ [] → dotted xs ++ Dot ∷ [] ≡ ended xs
 dotted-dot [] some = absurd (some refl)
 dotted-dot (x ∷ []) some = refl
 dotted-dot (x ∷ y ∷ ys) some = append_assoc (map Byte x) (Dot ∷ dotted (y ∷ ys)) (Dot ∷ []) ∙ ap (λ (cs : List TextChar). map Byte x ++ (Dot ∷ cs)) (dotted-dot (y ∷ ys) (λ e. absurd cc))
-
--- what stands between the dots
-abbrev onto_first : ℕ → List (List ℕ) → List (List ℕ)
-onto_first b [] = (b ∷ []) ∷ []
-onto_first b (x ∷ xs) = (b ∷ x) ∷ xs
-
-abbrev pieces : List TextChar → List (List ℕ)
-pieces [] = [] ∷ []
-pieces (Dot ∷ cs) = [] ∷ pieces cs
-pieces (Byte b ∷ cs) = onto_first b (pieces cs)
 
 pieces-label : (x : List ℕ) (cs : List TextChar) → pieces (map Byte x ++ (Dot ∷ cs)) ≡ x ∷ pieces cs
 pieces-label [] cs = refl
@@ -71,12 +62,12 @@ pieces-front [] cs h t is = is
 pieces-front (b ∷ x) cs h t is = ap (onto_first b) (pieces-front x cs h t is)
 
 -- there is always one
-record First (cs : List TextChar) : Type 0 where
-  head : List ℕ
-  tail : List (List ℕ)
-  is : pieces cs ≡ head ∷ tail
+pub record First (cs : List TextChar) : Type 0 where
+  pub head : List ℕ
+  pub tail : List (List ℕ)
+  pub is : pieces cs ≡ head ∷ tail
 
-first_of : (cs : List TextChar) → First cs
+pub first_of : (cs : List TextChar) → First cs
 first_of [] = record { head = []; tail = []; is = refl }
 first_of (Dot ∷ cs) = record { head = []; tail = pieces cs; is = refl }
 first_of (Byte b ∷ cs) = let r = first_of cs in record { head = b ∷ r.head; tail = r.tail; is = ap (onto_first b) r.is }

@@ -1,3 +1,4 @@
+pub mod Cuts
 pub mod DNSClass
 pub mod DecodeError
 pub mod Faults
@@ -6,6 +7,7 @@ pub mod Keys
 pub mod Labels
 pub mod Laws
 pub mod Many
+pub mod NameOf
 pub mod NameOrder
 pub mod NameText
 pub mod Names
@@ -17,5 +19,9 @@ pub mod RecordType
 pub mod RrKey
 pub mod Spelling
 pub mod State
+pub mod TextFaults
+pub mod TokenList
+pub mod Tokens
+pub mod Ttl
 pub mod Wire
 pub mod Words

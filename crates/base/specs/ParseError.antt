@@ -5,6 +5,7 @@ use Rattle.base.specs.declared.error.parse_error.ParseError.TheVariants as refus
 
 abbrev pub parse_number : ParseError → ℕ
 parse_number refusals.Memory = 3
+parse_number (refusals.UnexpectedToken token) = 17
 parse_number refusals.Lexer = 18
 parse_number (refusals.Message text) = 19
 parse_number (refusals.IncludeNotFound name) = 20

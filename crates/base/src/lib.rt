@@ -7,6 +7,7 @@ pub mod lower_name;
 pub mod name;
 pub mod record_type;
 pub mod rr_key;
+pub mod text;
 pub mod wire;
 
 pub use dns_class::DNSClass;
@@ -15,6 +16,7 @@ pub use lower_name::LowerName;
 pub use name::Name;
 pub use record_type::RecordType;
 pub use rr_key::RrKey;
+pub use text::{Lexer, Token, parse_ttl};
 pub use wire::{
     BinDecodable, BinDecoder, BinEncodable, BinEncoder, EmitAndCount, EncodedSize, Place,
     emit_sized, read_many,

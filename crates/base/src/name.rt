@@ -7,6 +7,7 @@ ghost use Rattle.base.specs.Labels.{AreLabels, IsLabelRun, plain_len, wire_of, l
 pub mod compare;
 pub mod display;
 pub mod laws;
+pub mod name_of;
 pub mod parse;
 mod reading;
 pub mod round_trip;

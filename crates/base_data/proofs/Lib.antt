@@ -8,8 +8,11 @@ pub mod DataTies
 pub mod EachKind
 pub mod EqualData
 pub mod FieldLemmas
+pub mod FieldTexts
+pub mod FieldsRead
 pub mod FillLemmas
 pub mod HexTexts
+pub mod ItemsRead
 pub mod MXLemmas
 pub mod NameWords
 pub mod OneNameLemmas
@@ -20,7 +23,11 @@ pub mod ReadRows
 pub mod SOALemmas
 pub mod SRVLemmas
 pub mod SameData
+pub mod StringGrammar
+pub mod StringItemLemmas
 pub mod StringLemmas
 pub mod StringTexts
+pub mod StringsRead
 pub mod Tells
+pub mod TextItems
 pub mod TextWords

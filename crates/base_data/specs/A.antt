@@ -1,14 +1,20 @@
 -- Addresses of four bytes (RFC 1035, 3.4.1).
-use Rattle.std.specs.Prelude.{ℕ, List, Ok, [], length, ◌≡◌}
+use Rattle.std.specs.Prelude.{◌≡◌, ℕ, List, [], ◌∷◌, length, Ok, Option, Some, None, option_map}
 use Rattle.base.specs.Reading.{Read, bytes_at, ◌>>=◌}
 use Rattle.base_data.specs.declared.rdata.a.A.{A}
-use Rattle.base_data.specs.Kind.{AnyNames, Kind}
+use Rattle.base_data.specs.Fields.{ipv4_item}
+use Rattle.base_data.specs.Kind.{AnyNames, AreOctets, Kind, bare}
 use Rattle.std.specs.Net.Text.{ipv4_text}
 use Rattle.base.specs.Words.{Bytes}
 
 -- the address at a place
 abbrev pub a_at : List ℕ → ℕ → Read A
 a_at bytes i = bytes_at 4 bytes i >>= λ r. Ok (record { octets = r.0 }, r.1)
+
+-- the address that one item says
+unfoldable pub a_of : List (List ℕ) → Option A
+a_of (address ∷ []) = option_map (λ octets. record { octets = octets }) (ipv4_item address)
+a_of _ = None
 
 -- what is known of the data
 abbrev pub a_kind : A → Kind
@@ -22,4 +28,7 @@ a_kind x = record {
   canonical = x.octets;
   flags = [];
   fits = Unit {0};
+  items = Some (ipv4_text x.octets ∷ []);
+  shown = bare;
+  spelled = AreOctets 4 x.octets;
 }

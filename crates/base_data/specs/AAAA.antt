@@ -1,15 +1,21 @@
 -- Addresses of sixteen bytes (RFC 3596, 2.2), and their text (RFC 5952, 4).
-use Rattle.std.specs.Prelude.{◌≡◌, ℕ, ◌+◌, ◌≤◌, List, length, take, drop, replicate, Ok, []}
+use Rattle.std.specs.Prelude.{◌≡◌, ℕ, ◌+◌, ◌≤◌, List, [], ◌∷◌, length, take, drop, replicate, Ok, Option, Some, None, option_map}
 use Rattle.std.specs.Net.Addr.{segments_of}
 use Rattle.std.specs.Net.Text.{hex_groups_text}
 use Rattle.base.specs.Reading.{Read, bytes_at, ◌>>=◌}
 use Rattle.base_data.specs.declared.rdata.aaaa.AAAA.{AAAA}
-use Rattle.base_data.specs.Kind.{AnyNames, Kind}
+use Rattle.base_data.specs.Fields.{ipv6_item}
+use Rattle.base_data.specs.Kind.{AnyNames, AreOctets, Kind, bare}
 use Rattle.base.specs.Words.{Bytes}
 
 -- the address at a place
 abbrev pub aaaa_at : List ℕ → ℕ → Read AAAA
 aaaa_at bytes i = bytes_at 16 bytes i >>= λ r. Ok (record { octets = r.0 }, r.1)
+
+-- the address that one item says
+unfoldable pub aaaa_of : List (List ℕ) → Option AAAA
+aaaa_of (address ∷ []) = option_map (λ octets. record { octets = octets }) (ipv6_item address)
+aaaa_of _ = None
 
 -- the text of sixteen bytes: eight groups of two bytes each
 abbrev pub aaaa_text : List ℕ → List ℕ
@@ -38,4 +44,7 @@ aaaa_kind x = record {
   canonical = x.octets;
   flags = [];
   fits = Unit {0};
+  items = Some (aaaa_text x.octets ∷ []);
+  shown = bare;
+  spelled = AreOctets 16 x.octets;
 }

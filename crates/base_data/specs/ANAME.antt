@@ -1,15 +1,19 @@
 -- Names whose addresses another name has too (the names of ANAME records).
-use Rattle.std.specs.Prelude.{◌≡◌, ℕ, List, [], ◌∷◌, ◌++◌}
-use Rattle.base.specs.Labels.{wire_of}
+use Rattle.std.specs.Prelude.{◌≡◌, ℕ, List, [], ◌∷◌, ◌++◌, Option}
+use Rattle.base.specs.Labels.{NameValue, wire_of}
 use Rattle.base.specs.Reading.{Read}
 use Rattle.base.specs.State.{appended}
 use Rattle.base_data.specs.Kind.{Kind}
-use Rattle.base_data.specs.OneName.{name_kind, one_name_at}
+use Rattle.base_data.specs.OneName.{name_kind, one_name_at, one_name_of}
 use Rattle.base_data.specs.declared.rdata.aname.ANAME.{ANAME}
 
 -- the data at a place
 unfoldable pub aname_at : List ℕ → ℕ → Read ANAME
 aname_at = one_name_at (λ name. record { name = name })
+
+-- the data that one item names
+unfoldable pub aname_of : List (List ℕ) → Option NameValue → Option ANAME
+aname_of = one_name_of (λ name. record { name = name })
 
 -- the bytes of the name, without compression
 abbrev pub aname_wire : ANAME → List ℕ

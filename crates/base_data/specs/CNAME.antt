@@ -1,14 +1,19 @@
 -- Aliases (RFC 1035, 3.3.1).
-use Rattle.std.specs.Prelude.{ℕ, List}
+use Rattle.std.specs.Prelude.{ℕ, List, Option}
+use Rattle.base.specs.Labels.{NameValue}
 use Rattle.base.specs.Reading.{Read}
 use Rattle.base_data.specs.Kind.{Kind}
 use Rattle.base_data.specs.NameData.{IsCompressed}
-use Rattle.base_data.specs.OneName.{name_kind, one_name_at}
+use Rattle.base_data.specs.OneName.{name_kind, one_name_at, one_name_of}
 use Rattle.base_data.specs.declared.rdata.cname.CNAME.{CNAME}
 
 -- the data at a place
 unfoldable pub cname_at : List ℕ → ℕ → Read CNAME
 cname_at = one_name_at (λ name. record { name = name })
+
+-- the data that one item names
+unfoldable pub cname_of : List (List ℕ) → Option NameValue → Option CNAME
+cname_of = one_name_of (λ name. record { name = name })
 
 -- what is known of the data
 abbrev pub cname_kind : CNAME → Kind

@@ -1,5 +1,6 @@
 -- What is known of data of one kind: one value for each kind, in the kind's own file.
-use Rattle.std.specs.Prelude.{ℕ, Bool, List}
+use Rattle.std.specs.Prelude.{◌≡◌, ◌≢◌, ℕ, ◌<◌, ◌≤◌, Bool, false, All, List, [], length, Option}
+use Rattle.base.specs.Labels.{AreLabels, NameValue, plain_len}
 use Rattle.base.specs.State.{State}
 
 -- What is known of data, as a value of its kind.
@@ -22,7 +23,30 @@ pub record Kind : Type 1 where
   pub flags : List Bool
   -- whether its fields are such as the program's types hold
   pub fits : Type 0
+  -- the items of its text, a string without its quotes (RFC 1035, 5.1); none of a kind without a text form
+  pub items : Option (List (List ℕ))
+  -- how each item stands in the text: as it is, or in quotes
+  pub shown : List ℕ → List ℕ
+  -- Whether its items name it: fields have their widths, and names have texts. Never of a kind without a text form.
+  pub spelled : Type 0
 
 -- data without names: its names are written by any change
 abbrev pub AnyNames : State → State → Type 0
 AnyNames old new = Unit {0}
+
+-- an item that stands as it is
+abbrev pub bare : List ℕ → List ℕ
+bare item = item
+
+-- A name as names are held, that its text names without an origin: not the relative one without labels, whose text is
+-- empty.
+pub record HasText (name : NameValue) : Type 0 where
+  pub some : name.absolute ≡ false → name.labels ≢ []
+  pub bytes : All (All (λ b. b < 256)) name.labels
+  pub labels : AreLabels name.labels
+  pub short : plain_len name.labels ≤ 255
+
+-- as many bytes
+pub record AreOctets (n : ℕ) (octets : List ℕ) : Type 0 where
+  pub count : length octets ≡ n
+  pub bytes : All (λ b. b < 256) octets

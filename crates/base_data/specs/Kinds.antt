@@ -1,23 +1,26 @@
 -- The kinds of record data, and what is known of each: every table of kinds is a part of this one.
-use Rattle.std.specs.Prelude.{◌≢◌, ℕ, Bool, true, false, List, [], IsTrue, Option, Some, None, Ok, Err}
+use Rattle.std.specs.Prelude.{◌≢◌, ℕ, Bool, true, false, List, [], IsTrue, Option, Some, None, Result, Ok, Err, option_map}
+use Rattle.std.specs.Option.{ok_or}
+use Rattle.base.specs.Labels.{NameValue}
 use Rattle.base.specs.Reading.{Read, bytes_at, ◌>>=◌}
 use Rattle.base.specs.State.{State}
+use Rattle.base.specs.TextFaults.{Fault, bad_data, unsupported_type}
 use Rattle.base.specs.declared.error.decode_error.DecodeError.TheVariants as faults
 use Rattle.base.specs.declared.record_type.RecordType.{RecordType}
 use Rattle.base.specs.declared.record_type.RecordType.TheVariants as types
-use Rattle.base_data.specs.A.{a_at, a_kind}
-use Rattle.base_data.specs.AAAA.{aaaa_at, aaaa_kind}
-use Rattle.base_data.specs.ANAME.{aname_at, aname_kind}
-use Rattle.base_data.specs.CNAME.{cname_at, cname_kind}
+use Rattle.base_data.specs.A.{a_at, a_kind, a_of}
+use Rattle.base_data.specs.AAAA.{aaaa_at, aaaa_kind, aaaa_of}
+use Rattle.base_data.specs.ANAME.{aname_at, aname_kind, aname_of}
+use Rattle.base_data.specs.CNAME.{cname_at, cname_kind, cname_of}
 use Rattle.base_data.specs.Kind.{Kind}
-use Rattle.base_data.specs.MX.{mx_at, mx_kind}
-use Rattle.base_data.specs.NS.{ns_at, ns_kind}
+use Rattle.base_data.specs.MX.{mx_at, mx_kind, mx_of}
+use Rattle.base_data.specs.NS.{ns_at, ns_kind, ns_of}
 use Rattle.base_data.specs.OPT.{opt_at, opt_kind}
 use Rattle.base_data.specs.Opaque.{bytes_kind}
-use Rattle.base_data.specs.PTR.{ptr_at, ptr_kind}
-use Rattle.base_data.specs.SOA.{soa_at, soa_kind}
-use Rattle.base_data.specs.SRV.{srv_at, srv_kind}
-use Rattle.base_data.specs.TXT.{txt_at, txt_kind}
+use Rattle.base_data.specs.PTR.{ptr_at, ptr_kind, ptr_of}
+use Rattle.base_data.specs.SOA.{soa_at, soa_kind, soa_of}
+use Rattle.base_data.specs.SRV.{srv_at, srv_kind, srv_of}
+use Rattle.base_data.specs.TXT.{txt_at, txt_kind, txt_of}
 use Rattle.base_data.specs.declared.rdata.RData.{RData}
 use Rattle.base_data.specs.declared.rdata.RData.TheVariants as kinds
 use Rattle.base_data.specs.declared.rdata.a.A.{A}
@@ -112,6 +115,26 @@ kind_at types.TSIG len bytes i = as_any kinds.TSIG (bytes_at len bytes i)
 kind_at types.ZERO len bytes i = Err (faults.BadData types.ZERO)
 kind_at type len bytes i = as_any (kinds.Unknown type) (bytes_at len bytes i)
 
+-- ---- reading its text, by type
+
+-- data of one kind as that of any record, or the fault of a type whose items name no data
+abbrev pub any_of : {X : Type 0} → (X → RData) → RecordType → Option X → Result RData Fault
+any_of kind type made = ok_or (option_map kind made) (bad_data type)
+
+-- The data of a type that the items of a text name under an origin. A type that isn't here has no text form.
+unfoldable pub data_of : RecordType → List (List ℕ) → Option NameValue → Result RData Fault
+data_of types.A items origin = any_of kinds.A types.A (a_of items)
+data_of types.AAAA items origin = any_of kinds.AAAA types.AAAA (aaaa_of items)
+data_of types.NS items origin = any_of kinds.NS types.NS (ns_of items origin)
+data_of types.CNAME items origin = any_of kinds.CNAME types.CNAME (cname_of items origin)
+data_of types.PTR items origin = any_of kinds.PTR types.PTR (ptr_of items origin)
+data_of types.ANAME items origin = any_of kinds.ANAME types.ANAME (aname_of items origin)
+data_of types.MX items origin = any_of kinds.MX types.MX (mx_of items origin)
+data_of types.SOA items origin = any_of kinds.SOA types.SOA (soa_of items origin)
+data_of types.SRV items origin = any_of kinds.SRV types.SRV (srv_of items origin)
+data_of types.TXT items origin = any_of kinds.TXT types.TXT (txt_of items)
+data_of type items origin = Err (unsupported_type type)
+
 -- ---- what is known of data of any kind
 
 -- the word that data is written as, that of its kind; empty data has no bytes
@@ -151,6 +174,18 @@ name_flags d = (kind_of d).flags
 -- data as the program's types hold it: numbers have their widths, labels 1 to 63 bytes, options up to 65,535
 abbrev pub FitsTypes : RData → Type 0
 FitsTypes d = (kind_of d).fits
+
+-- the items of its text, a string without its quotes; none of a kind without a text form
+abbrev pub items_of : RData → Option (List (List ℕ))
+items_of d = (kind_of d).items
+
+-- how an item stands in the text of data: a string in its quotes
+abbrev pub shown_item : RData → List ℕ → List ℕ
+shown_item d = (kind_of d).shown
+
+-- data of a kind with a text form, as the program's types hold it, its names with texts
+abbrev pub IsSpelled : RData → Type 0
+IsSpelled d = (kind_of d).spelled
 
 -- ---- the data of one kind, if data is of that kind
 

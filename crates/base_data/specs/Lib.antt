@@ -5,6 +5,7 @@ pub mod CNAME
 pub mod DataAt
 pub mod DataOrder
 pub mod Equality
+pub mod Fields
 pub mod Kind
 pub mod Kinds
 pub mod MX
@@ -18,4 +19,5 @@ pub mod RData
 pub mod SOA
 pub mod SRV
 pub mod SameData
+pub mod StringItems
 pub mod TXT

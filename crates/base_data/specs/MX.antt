@@ -1,14 +1,15 @@
 -- Hosts that take mail (RFC 1035, 3.3.9).
-use Rattle.std.specs.Prelude.{ℕ, List, Ok, ◌+◌, ◌++◌, codes, [], ◌∷◌, ◌≡◌, true, ◌<◌, ◌^◌}
+use Rattle.std.specs.Prelude.{ℕ, List, Ok, ◌+◌, ◌++◌, codes, [], ◌∷◌, ◌≡◌, true, ◌<◌, ◌^◌, Option, Some, None}
 use Rattle.std.specs.Int.{w16, to_be_bytes}
 use Rattle.base.specs.Names.{name_at}
 use Rattle.base.specs.Reading.{Read, number_at, ◌>>=◌}
-use Rattle.base.specs.Labels.{AreLabels, plain_len}
+use Rattle.base.specs.Labels.{AreLabels, NameValue, plain_len}
 use Rattle.base.specs.NameText.{name_text}
 use Rattle.base.specs.Words.{NameAt, Number, Then}
 use Rattle.std.specs.Fmt.{decimal}
 use Rattle.base_data.specs.declared.rdata.mx.MX.{MX}
-use Rattle.base_data.specs.Kind.{Kind}
+use Rattle.base_data.specs.Fields.{number_item, name_item, ◌>>?◌}
+use Rattle.base_data.specs.Kind.{HasText, Kind, bare}
 use Rattle.base.specs.State.{State, appended}
 use Rattle.base_data.specs.NameData.{IsCompressed, name_octets}
 
@@ -18,6 +19,13 @@ mx_at bytes i = do
   preference ← number_at w16 bytes i
   exchange ← name_at bytes preference.1
   Ok (record { preference = preference.0; exchange = exchange.0 }, exchange.1)
+
+-- the data that two items name
+unfoldable pub mx_of : List (List ℕ) → Option NameValue → Option MX
+mx_of (preference ∷ exchange ∷ []) origin =
+    number_item 16 preference >>? λ p. name_item exchange origin >>? λ e.
+    Some (record { preference = p; exchange = e })
+mx_of _ origin = None
 
 -- the word that the fields are written as, one behind the other
 abbrev pub MXWord : MX → List ℕ → ℕ → ℕ → Type 0
@@ -47,4 +55,7 @@ mx_kind x = record {
   canonical = to_be_bytes w16 x.preference ++ name_octets x.exchange;
   flags = x.exchange.absolute ∷ [];
   fits = (x.preference < 2 ^ 16) × AreLabels x.exchange.labels;
+  items = Some (decimal x.preference ∷ name_text x.exchange ∷ []);
+  shown = bare;
+  spelled = (x.preference < 2 ^ 16) × HasText x.exchange;
 }

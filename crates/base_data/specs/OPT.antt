@@ -1,5 +1,5 @@
 -- EDNS options: each a code, a length and as many bytes (RFC 6891, 6.1.2).
-use Rattle.std.specs.Prelude.{ℕ, Bool, ◌+◌, ◌^◌, ◌<◌, ◌==◌, not, List, [], ◌∷◌, ◌++◌, zero, suc, length, filter, find, position, slice_set, nat_eq, nat_le, if◌then◌else◌, Option, Ok, ◌≢◌, All}
+use Rattle.std.specs.Prelude.{ℕ, Bool, ◌+◌, ◌^◌, ◌<◌, ◌==◌, not, List, [], ◌∷◌, ◌++◌, zero, suc, length, filter, find, position, slice_set, nat_eq, nat_le, if◌then◌else◌, Option, None, Ok, ◌≢◌, All}
 use Rattle.std.specs.Cmp.Lexicographic.{pointwise}
 use Rattle.std.specs.Int.{w16, to_be_bytes}
 use Rattle.std.specs.Option.{option_map_or}
@@ -7,7 +7,7 @@ use Rattle.std.specs.Ordering.{eq_of_both, on}
 use Rattle.base.specs.Reading.{Read, bytes_at, number_at, ◌>>=◌}
 use Rattle.base.specs.Words.{BackToBack, Bytes, Number, Then}
 use Rattle.base_data.specs.Opaque.{opaque_text, same_bytes}
-use Rattle.base_data.specs.Kind.{AnyNames, Kind}
+use Rattle.base_data.specs.Kind.{AnyNames, Kind, bare}
 
 -- an option's code and bytes
 pub record OptionValue : Type 0 where
@@ -94,4 +94,7 @@ opt_kind x = record {
   canonical = options_wire x;
   flags = [];
   fits = All FitsOption x;
+  items = None;
+  shown = bare;
+  spelled = ⊥;
 }

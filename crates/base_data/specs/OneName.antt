@@ -1,17 +1,23 @@
 -- Data that is one name: what NS, CNAME, PTR and ANAME share.
-use Rattle.std.specs.Prelude.{◌≡◌, ℕ, true, List, [], ◌∷◌, Ok}
+use Rattle.std.specs.Prelude.{◌≡◌, ℕ, true, List, [], ◌∷◌, Ok, Option, Some, None, option_map}
 use Rattle.base.specs.Labels.{AreLabels, NameValue, plain_len}
 use Rattle.base.specs.NameText.{name_text}
 use Rattle.base.specs.Names.{name_at}
 use Rattle.base.specs.Reading.{Read, ◌>>=◌}
 use Rattle.base.specs.State.{State}
 use Rattle.base.specs.Words.{NameAt}
-use Rattle.base_data.specs.Kind.{Kind}
+use Rattle.base_data.specs.Fields.{name_item}
+use Rattle.base_data.specs.Kind.{HasText, Kind, bare}
 use Rattle.base_data.specs.NameData.{name_octets}
 
 -- the data at a place, made of the name that is read there
 abbrev pub one_name_at : {X : Type 0} → (NameValue → X) → List ℕ → ℕ → Read X
 one_name_at of bytes i = name_at bytes i >>= λ name. Ok (of name.0, name.1)
+
+-- the data of one item, made of the name that it names under an origin
+abbrev pub one_name_of : {X : Type 0} → (NameValue → X) → List (List ℕ) → Option NameValue → Option X
+one_name_of of (name ∷ []) origin = option_map of (name_item name origin)
+one_name_of of _ origin = None
 
 -- what is known of data that is a name; how the name is written is its kind's
 abbrev pub name_kind : ℕ → NameValue → (State → State → Type 0) → Kind
@@ -25,4 +31,7 @@ name_kind rank name names = record {
   canonical = name_octets name;
   flags = name.absolute ∷ [];
   fits = AreLabels name.labels;
+  items = Some (name_text name ∷ []);
+  shown = bare;
+  spelled = HasText name;
 }

@@ -1,12 +1,12 @@
 -- Bytes that are only carried, and their text (RFC 3597, 5).
-use Rattle.std.specs.Prelude.{ℕ, Bool, ◌/◌, ◌%◌, ◌==◌, List, [], ◌∷◌, ◌++◌, length, codes, nat_eq, if◌then◌else◌}
+use Rattle.std.specs.Prelude.{ℕ, Bool, ◌/◌, ◌%◌, ◌==◌, List, [], ◌∷◌, ◌++◌, length, codes, nat_eq, if◌then◌else◌, None}
 use Rattle.std.specs.Char.{digit_char}
 use Rattle.std.specs.Cmp.Lexicographic.{pointwise, slice_cmp}
 use Rattle.std.specs.Fmt.{decimal}
 use Rattle.std.specs.List.{flat_map}
 use Rattle.std.specs.Ordering.{nat_cmp}
 use Rattle.std.specs.declared.cmp.Ordering.{Ordering}
-use Rattle.base_data.specs.Kind.{AnyNames, Kind}
+use Rattle.base_data.specs.Kind.{AnyNames, Kind, bare}
 use Rattle.base.specs.Words.{Bytes}
 
 -- a byte in two hexadecimal digits, in lower case
@@ -41,4 +41,7 @@ bytes_kind rank readable x = record {
   canonical = x;
   flags = [];
   fits = Unit {0};
+  items = None;
+  shown = bare;
+  spelled = ⊥;
 }

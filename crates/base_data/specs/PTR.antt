@@ -1,14 +1,19 @@
 -- Pointers to names (RFC 1035, 3.3.12).
-use Rattle.std.specs.Prelude.{ℕ, List}
+use Rattle.std.specs.Prelude.{ℕ, List, Option}
+use Rattle.base.specs.Labels.{NameValue}
 use Rattle.base.specs.Reading.{Read}
 use Rattle.base_data.specs.Kind.{Kind}
 use Rattle.base_data.specs.NameData.{IsCompressed}
-use Rattle.base_data.specs.OneName.{name_kind, one_name_at}
+use Rattle.base_data.specs.OneName.{name_kind, one_name_at, one_name_of}
 use Rattle.base_data.specs.declared.rdata.ptr.PTR.{PTR}
 
 -- the data at a place
 unfoldable pub ptr_at : List ℕ → ℕ → Read PTR
 ptr_at = one_name_at (λ name. record { name = name })
+
+-- the data that one item names
+unfoldable pub ptr_of : List (List ℕ) → Option NameValue → Option PTR
+ptr_of = one_name_of (λ name. record { name = name })
 
 -- what is known of the data
 abbrev pub ptr_kind : PTR → Kind

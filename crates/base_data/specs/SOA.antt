@@ -1,14 +1,16 @@
 -- Starts of zones (RFC 1035, 3.3.13).
-use Rattle.std.specs.Prelude.{ℕ, List, Ok, ◌+◌, ◌^◌, ◌<◌, ◌++◌, codes, [], ◌∷◌, ◌≡◌, true}
+use Rattle.std.specs.Prelude.{ℕ, List, Ok, ◌+◌, ◌^◌, ◌<◌, ◌++◌, codes, [], ◌∷◌, ◌≡◌, true, Option, Some, None}
 use Rattle.std.specs.Int.{w32, to_be_bytes}
 use Rattle.base.specs.Names.{name_at}
 use Rattle.base.specs.Reading.{Read, number_at, ◌>>=◌}
-use Rattle.base.specs.Labels.{AreLabels, plain_len}
+use Rattle.base.specs.Labels.{AreLabels, NameValue, plain_len}
 use Rattle.base.specs.NameText.{name_text}
 use Rattle.base.specs.Words.{NameAt, Number, Then}
 use Rattle.std.specs.Fmt.{decimal}
 use Rattle.base_data.specs.declared.rdata.soa.SOA.{SOA}
-use Rattle.base_data.specs.Kind.{Kind}
+use Rattle.base.specs.Ttl.{ttl_of}
+use Rattle.base_data.specs.Fields.{number_item, name_item, ◌>>?◌}
+use Rattle.base_data.specs.Kind.{HasText, Kind, bare}
 use Rattle.base.specs.Laws.{Keeps}
 use Rattle.base.specs.State.{State, appended}
 use Rattle.base_data.specs.NameData.{IsCompressed, name_octets}
@@ -24,6 +26,14 @@ soa_at bytes i = do
   expire ← number_at w32 bytes retry.1
   minimum ← number_at w32 bytes expire.1
   Ok (record { mname = mname.0; rname = rname.0; serial = serial.0; refresh = refresh.0; retry = retry.0; expire = expire.0; minimum = minimum.0 }, minimum.1)
+
+-- the data that seven items name: two names, a decimal version and four times, which may have units
+unfoldable pub soa_of : List (List ℕ) → Option NameValue → Option SOA
+soa_of (mname ∷ rname ∷ serial ∷ refresh ∷ retry ∷ expire ∷ minimum ∷ []) origin =
+    name_item mname origin >>? λ m. name_item rname origin >>? λ r.
+    number_item 32 serial >>? λ s. ttl_of refresh >>? λ f. ttl_of retry >>? λ t. ttl_of expire >>? λ e. ttl_of minimum >>? λ n.
+    Some (record { mname = m; rname = r; serial = s; refresh = f; retry = t; expire = e; minimum = n })
+soa_of _ origin = None
 
 -- each number takes four bytes
 pub record SOAFits (x : SOA) : Type 0 where
@@ -76,4 +86,8 @@ soa_kind x = record {
       ++ to_be_bytes w32 x.expire ++ to_be_bytes w32 x.minimum;
   flags = x.mname.absolute ∷ x.rname.absolute ∷ [];
   fits = AreLabels x.mname.labels × AreLabels x.rname.labels × SOAFits x;
+  items = Some (name_text x.mname ∷ name_text x.rname ∷ decimal x.serial ∷ decimal x.refresh ∷ decimal x.retry
+      ∷ decimal x.expire ∷ decimal x.minimum ∷ []);
+  shown = bare;
+  spelled = HasText x.mname × HasText x.rname × SOAFits x;
 }

@@ -1,14 +1,15 @@
 -- Hosts that have a service (RFC 2782).
-use Rattle.std.specs.Prelude.{ℕ, List, [], ◌∷◌, Ok, ◌+◌, ◌^◌, ◌<◌, ◌++◌, codes, ◌≡◌, true}
+use Rattle.std.specs.Prelude.{ℕ, List, [], ◌∷◌, Ok, ◌+◌, ◌^◌, ◌<◌, ◌++◌, codes, ◌≡◌, true, Option, Some, None}
 use Rattle.std.specs.Int.{w16, to_be_bytes}
 use Rattle.base.specs.Names.{name_at}
 use Rattle.base.specs.Reading.{Read, number_at, ◌>>=◌}
-use Rattle.base.specs.Labels.{AreLabels, plain_len, wire_of}
+use Rattle.base.specs.Labels.{AreLabels, NameValue, plain_len, wire_of}
 use Rattle.base.specs.NameText.{name_text}
 use Rattle.base.specs.Words.{NameAt, Number, Then}
 use Rattle.std.specs.Fmt.{decimal}
 use Rattle.base_data.specs.declared.rdata.srv.SRV.{SRV}
-use Rattle.base_data.specs.Kind.{Kind}
+use Rattle.base_data.specs.Fields.{number_item, name_item, ◌>>?◌}
+use Rattle.base_data.specs.Kind.{HasText, Kind, bare}
 use Rattle.base.specs.State.{appended}
 use Rattle.base_data.specs.NameData.{name_octets}
 
@@ -20,6 +21,14 @@ srv_at bytes i = do
   port ← number_at w16 bytes weight.1
   target ← name_at bytes port.1
   Ok (record { priority = priority.0; weight = weight.0; port = port.0; target = target.0 }, target.1)
+
+-- the data that four items name
+unfoldable pub srv_of : List (List ℕ) → Option NameValue → Option SRV
+srv_of (priority ∷ weight ∷ port ∷ target ∷ []) origin =
+    number_item 16 priority >>? λ p. number_item 16 weight >>? λ w.
+    number_item 16 port >>? λ q. name_item target origin >>? λ t.
+    Some (record { priority = p; weight = w; port = q; target = t })
+srv_of _ origin = None
 
 -- the word that the fields are written as, one behind the other
 abbrev pub SRVWord : SRV → List ℕ → ℕ → ℕ → Type 0
@@ -59,4 +68,7 @@ srv_kind x = record {
   canonical = to_be_bytes w16 x.priority ++ to_be_bytes w16 x.weight ++ to_be_bytes w16 x.port ++ name_octets x.target;
   flags = x.target.absolute ∷ [];
   fits = SRVFits x × AreLabels x.target.labels;
+  items = Some (decimal x.priority ∷ decimal x.weight ∷ decimal x.port ∷ name_text x.target ∷ []);
+  shown = bare;
+  spelled = SRVFits x × HasText x.target;
 }

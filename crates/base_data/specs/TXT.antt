@@ -1,5 +1,5 @@
 -- Texts: character strings, each a byte for its length and as many bytes (RFC 1035, 3.3 and 3.3.14).
-use Rattle.std.specs.Prelude.{◌≡◌, ◌≢◌, ℕ, Bool, All, ◌≤◌, ◌||◌, ◌==◌, List, [], ◌∷◌, ◌++◌, length, map, nat_lt, if◌then◌else◌, Ok, Err}
+use Rattle.std.specs.Prelude.{◌≡◌, ◌≢◌, ℕ, Bool, All, ◌<◌, ◌≤◌, ◌||◌, ◌==◌, List, [], ◌∷◌, ◌++◌, length, map, nat_lt, if◌then◌else◌, Ok, Err, Option, Some, None}
 use Rattle.std.specs.List.{flat_map, join_with_byte}
 use Rattle.std.specs.Ordering.{on}
 use Rattle.std.specs.Str.{bytes_eq}
@@ -9,6 +9,7 @@ use Rattle.base.specs.Reading.{Read, bytes_at, ◌>>=◌}
 use Rattle.base.specs.declared.error.decode_error.DecodeError.TheVariants as faults
 use Rattle.base_data.specs.Opaque.{same_bytes}
 use Rattle.base_data.specs.Kind.{AnyNames, Kind}
+use Rattle.base_data.specs.StringItems.{string_items}
 use Rattle.base.specs.Words.{Bytes}
 
 -- each string has up to 255 bytes
@@ -29,13 +30,22 @@ are_strings bytes = bytes_eq (wire_of (labels_of bytes)) bytes
 abbrev pub txt_at : ℕ → List ℕ → ℕ → Read (List (List ℕ))
 txt_at len bytes i = bytes_at len bytes i >>= λ r. if are_strings r.0 then Ok (labels_of r.0, r.1) else Err faults.InsufficientBytes
 
+-- the strings of one item or more
+unfoldable pub txt_of : List (List ℕ) → Option (List (List ℕ))
+txt_of [] = None
+txt_of items = string_items items
+
 -- the text of a byte: itself if it is printable or a space, with a backslash before a quote and a backslash
 abbrev pub string_byte : ℕ → List ℕ
 string_byte b = if nat_lt b 32 || nat_lt 126 b then decimal_text b else (if b == 34 || b == 92 then 92 ∷ b ∷ [] else b ∷ [])
 
+-- an item in quotes
+abbrev pub quoted : List ℕ → List ℕ
+quoted item = 34 ∷ item ++ 34 ∷ []
+
 -- a string in quotes
 abbrev pub string_text : List ℕ → List ℕ
-string_text string = 34 ∷ flat_map string_byte string ++ 34 ∷ []
+string_text string = quoted (flat_map string_byte string)
 
 -- the strings with a space between them
 abbrev pub txt_text : List (List ℕ) → List ℕ
@@ -44,6 +54,12 @@ txt_text strings = join_with_byte 32 (map string_text strings)
 -- the same strings: by their bytes on the wire
 abbrev pub same_txt : List (List ℕ) → List (List ℕ) → Bool
 same_txt = on wire_of same_bytes
+
+-- strings as texts hold them: one at least, of bytes, each of up to 255
+pub record AreStrings (strings : List (List ℕ)) : Type 0 where
+  pub some : strings ≢ []
+  pub bytes : All (All (λ b. b < 256)) strings
+  pub short : AreShort strings
 
 -- what is known of the data
 abbrev pub txt_kind : List (List ℕ) → Kind
@@ -57,4 +73,7 @@ txt_kind x = record {
   canonical = wire_of x;
   flags = [];
   fits = Unit {0};
+  items = Some (map (flat_map string_byte) x);
+  shown = quoted;
+  spelled = AreStrings x;
 }

@@ -3,3 +3,4 @@ mod LimitLemmas
 mod RunLemmas
 mod WordLemmas
 pub mod SetCalls
+pub mod ZoneLemmas

@@ -4,20 +4,25 @@ use Rattle.std.specs.Prelude.{IfSome, String, ◌≢◌}
 use Rattle.std.specs.String.{string_bytes}
 use Rattle.std.specs.declared.alloc.Global.{Global}
 use Rattle.dnsmsg.specs.Answer.{Answer, IsAnswered, IsPrinted, broken, done, refused, usage}
-use Rattle.dnsmsg.specs.Command.{CommandAnswers}
+use Rattle.dnsmsg.specs.Command.{CommandAnswers, IsGiven}
 use Rattle.dnsmsg.specs.CutCommand.{IsCutAnswer, IsCutGiven}
 use Rattle.dnsmsg.specs.HeaderCommand.{header_answer}
 use Rattle.dnsmsg.specs.ReadCommand.{read_answer}
 use Rattle.dnsmsg.specs.Refusal.{refusal_number}
+use Rattle.dnsmsg.specs.ZoneCommand.{zone_answer}
+use Rattle.dnsmsg.specs.ZoneWords.{behind_origin}
 use Rattle.dnsmsg.specs.declared.command.Command.{Command}
 use Rattle.dnsmsg.specs.declared.command.Command.TheVariants as commands
+use Rattle.dnsmsg.specs.declared.command.MessageCommand.TheVariants as messages
 use Rattle.dnsmsg.specs.declared.refusal.Refusal.{Refusal}
-
-same_command : (a b : Command) → Some a ≡ Some b → a ≡ b
-same_command a b h = cc
 
 pub some_and_none : {Y : Type 0} (command : Command) (words : Option Command) → Some command ≡ words → words ≡ None → Y
 some_and_none command words named is = absurd (let both : Some command ≡ None = named ∙ is in cc)
+
+pub same_command : (a b : Command) (words : Option Command) → Some a ≡ words → words ≡ Some b → a ≡ b
+same_command a b words named is = some_once (named ∙ is) where
+  some_once : Some a ≡ Some b → a ≡ b
+  some_once h = cc
 
 -- the text that was read is all that remained
 pub read_is_all : (remaining : Option (List ℕ)) (text read start : List ℕ) → IfSome remaining (λ xs. read ≡ start ++ xs) → start ≡ [] → text ≡ read → IfSome remaining (λ input. text ≡ input)
@@ -51,58 +56,55 @@ module _ (status : ℕ) (old new : Option (List ℕ)) where
   pub refused_within : (number : ℕ) → (status ≡ 3) ⊎ IsPrinted (refused number) status old new → status ≤ 3
   refused_within number = status_within (refused number) (omega arith)
 
-  -- the refusal for want of memory answers any text
-  module _ (remaining : Option (List ℕ)) (printed : (status ≡ 3) ⊎ IsPrinted (refused 3) status old new) (whole : status ≢ broken) where
-    pub memory_given : (answer_of : List ℕ → Answer) → IfSome remaining (λ input. IsAnswered (answer_of input) status old new)
-    memory_given answer_of = of_any (λ input. IsAnswered (answer_of input) status old new) remaining (λ input. inr (given (refused 3) printed whole))
-
-    pub memory_cut : (limit : ℕ) → IfSome remaining (λ input. IsCutGiven limit input status old new)
-    memory_cut limit = of_any (λ input. IsCutGiven limit input status old new) remaining (λ input. inr (given (refused 3) printed whole))
-
 pub broken_within : broken ≤ 3
 broken_within = omega arith
 
--- what was printed of a text by the command that the words name
-module _ (status : ℕ) (old new remaining : Option (List ℕ)) (command : Command) (words : Option Command) (text : List ℕ) (named : Some command ≡ words) (all : IfSome remaining (λ input. text ≡ input)) where
-  lines_answered : (answer_of : List ℕ → Answer) (answer : Answer) → answer_of text ≡ answer → IsPrinted answer status old new → IfSome remaining (λ input. IsAnswered (answer_of input) status old new)
-  lines_answered answer_of answer is shown = of_all (λ input. IsAnswered (answer_of input) status old new) remaining text all (inl (subst (λ a. IsPrinted a status old new) (sym is) shown))
+-- what is printed for a command, of a text
+module _ (status : ℕ) (old new : Option (List ℕ)) (words : List (List ℕ)) (text : List ℕ) where
+  answered : (answer_of : List ℕ → Answer) (answer : Answer) → answer_of text ≡ answer → IsPrinted answer status old new → IsAnswered (answer_of text) status old new
+  answered answer_of answer is shown = inl (subst (λ a. IsPrinted a status old new) (sym is) shown)
 
-  refusal_answered : (answer_of : List ℕ → Answer) (number : ℕ) → (number ≡ 3) ⊎ (answer_of text ≡ refused number) → IsPrinted (refused number) status old new → IfSome remaining (λ input. IsAnswered (answer_of input) status old new)
-  refusal_answered answer_of number (inl memory) shown = of_any (λ input. IsAnswered (answer_of input) status old new) remaining (λ input. inr (subst (λ n. IsPrinted (refused n) status old new) memory shown))
-  refusal_answered answer_of number (inr is) shown = lines_answered answer_of (refused number) is shown
+  -- the refusal for want of memory answers any text
+  pub memory_answers : (command : Command) → IsPrinted (refused 3) status old new → IsGiven command words text status old new
+  memory_answers (commands.OnMessage messages.Header) shown = inr shown
+  memory_answers (commands.OnMessage messages.Read) shown = inr shown
+  memory_answers (commands.OnMessage (messages.Cut limit)) shown = inr shown
+  memory_answers (commands.Zone origin) shown = inr shown
 
-  refusal_cut : (limit number : ℕ) → (number ≡ 3) ⊎ IsCutAnswer limit text (refused number) → IsPrinted (refused number) status old new → IfSome remaining (λ input. IsCutGiven limit input status old new)
-  refusal_cut limit number (inl memory) shown = of_any (λ input. IsCutGiven limit input status old new) remaining (λ input. inr (subst (λ n. IsPrinted (refused n) status old new) memory shown))
-  refusal_cut limit number (inr answers) shown = of_all (λ input. IsCutGiven limit input status old new) remaining text all (inl (refused number, answers, shown))
+  pub lines_answer : (command : Command) (lines : String Global) → CommandAnswers command words text (Ok lines) → IsPrinted (done (string_bytes lines)) status old new → IsGiven command words text status old new
+  lines_answer (commands.OnMessage messages.Header) lines says shown = answered header_answer (done (string_bytes lines)) says shown
+  lines_answer (commands.OnMessage messages.Read) lines says shown = answered read_answer (done (string_bytes lines)) says shown
+  lines_answer (commands.OnMessage (messages.Cut limit)) lines says shown = inl (done (string_bytes lines), says, shown)
+  lines_answer (commands.Zone origin) lines says shown = answered (zone_answer origin (behind_origin words)) (done (string_bytes lines)) says shown
 
-  module _ (lines : String Global) (shown : List ℕ) (says : CommandAnswers command text (Ok lines)) (same : shown ≡ string_bytes lines) (printed : (status ≡ 3) ⊎ IsPrinted (done shown) status old new) where
-    lines_shown : status ≢ broken → IsPrinted (done (string_bytes lines)) status old new
-    lines_shown whole = subst (λ line. IsPrinted (done line) status old new) same (given status old new (done shown) printed whole)
+  refused_with : (answer_of : List ℕ → Answer) (number : ℕ) → (number ≡ 3) ⊎ (answer_of text ≡ refused number) → IsPrinted (refused number) status old new → IsAnswered (answer_of text) status old new
+  refused_with answer_of number (inl memory) shown = inr (subst (λ n. IsPrinted (refused n) status old new) memory shown)
+  refused_with answer_of number (inr is) shown = answered answer_of (refused number) is shown
 
-    says_of : (other : Command) → words ≡ Some other → CommandAnswers other text (Ok lines)
-    says_of other is = subst (λ x. CommandAnswers x text (Ok lines)) (same_command command other (named ∙ is)) says
+  refused_cut : (limit number : ℕ) → (number ≡ 3) ⊎ IsCutAnswer limit text (refused number) → IsPrinted (refused number) status old new → IsCutGiven limit text status old new
+  refused_cut limit number (inl memory) shown = inr (subst (λ n. IsPrinted (refused n) status old new) memory shown)
+  refused_cut limit number (inr answers) shown = inl (refused number, answers, shown)
 
-    pub header_lines_given : words ≡ Some commands.Header → status ≢ broken → IfSome remaining (λ input. IsAnswered (header_answer input) status old new)
-    header_lines_given is whole = lines_answered header_answer (done (string_bytes lines)) (says_of commands.Header is) (lines_shown whole)
+  pub refusal_answers : (command : Command) (refusal : Refusal) → CommandAnswers command words text (Err refusal) → IsPrinted (refused (refusal_number refusal)) status old new → IsGiven command words text status old new
+  refusal_answers (commands.OnMessage messages.Header) refusal says shown = refused_with header_answer (refusal_number refusal) says shown
+  refusal_answers (commands.OnMessage messages.Read) refusal says shown = refused_with read_answer (refusal_number refusal) says shown
+  refusal_answers (commands.OnMessage (messages.Cut limit)) refusal says shown = refused_cut limit (refusal_number refusal) says shown
+  refusal_answers (commands.Zone origin) refusal says shown = refused_with (zone_answer origin (behind_origin words)) (refusal_number refusal) says shown
 
-    pub read_lines_given : words ≡ Some commands.Read → status ≢ broken → IfSome remaining (λ input. IsAnswered (read_answer input) status old new)
-    read_lines_given is whole = lines_answered read_answer (done (string_bytes lines)) (says_of commands.Read is) (lines_shown whole)
+-- what was printed answers what remained of the input
+module _ (status : ℕ) (old new remaining : Option (List ℕ)) (words : List (List ℕ)) (command : Command) where
+  pub memory_given : (status ≡ 3) ⊎ IsPrinted (refused 3) status old new → status ≢ broken → IfSome remaining (λ input. IsGiven command words input status old new)
+  memory_given printed whole = of_any (λ input. IsGiven command words input status old new) remaining (λ input. memory_answers status old new words input command (given status old new (refused 3) printed whole))
 
-    pub cut_lines_given : (limit : ℕ) → words ≡ Some (commands.Cut limit) → status ≢ broken → IfSome remaining (λ input. IsCutGiven limit input status old new)
-    cut_lines_given limit is whole = of_all (λ input. IsCutGiven limit input status old new) remaining text all (inl (done (string_bytes lines), says_of (commands.Cut limit) is, lines_shown whole))
+  module _ (text : List ℕ) (all : IfSome remaining (λ input. text ≡ input)) where
+    pub lines_given : (lines : String Global) (shown : List ℕ) → CommandAnswers command words text (Ok lines) → shown ≡ string_bytes lines
+        → (status ≡ 3) ⊎ IsPrinted (done shown) status old new → status ≢ broken → IfSome remaining (λ input. IsGiven command words input status old new)
+    lines_given lines shown says same printed whole =
+        of_all (λ input. IsGiven command words input status old new) remaining text all
+        (lines_answer status old new words text command lines says (subst (λ line. IsPrinted (done line) status old new) same (given status old new (done shown) printed whole)))
 
-  module _ (refusal : Refusal) (number : ℕ) (says : CommandAnswers command text (Err refusal)) (same : number ≡ refusal_number refusal) (printed : (status ≡ 3) ⊎ IsPrinted (refused number) status old new) where
-    refusal_shown : status ≢ broken → IsPrinted (refused (refusal_number refusal)) status old new
-    refusal_shown whole = subst (λ n. IsPrinted (refused n) status old new) same (given status old new (refused number) printed whole)
-
-    refuses_of : (other : Command) → words ≡ Some other → CommandAnswers other text (Err refusal)
-    refuses_of other is = subst (λ x. CommandAnswers x text (Err refusal)) (same_command command other (named ∙ is)) says
-
-    pub header_refusal_given : words ≡ Some commands.Header → status ≢ broken → IfSome remaining (λ input. IsAnswered (header_answer input) status old new)
-    header_refusal_given is whole = refusal_answered header_answer (refusal_number refusal) (refuses_of commands.Header is) (refusal_shown whole)
-
-    pub read_refusal_given : words ≡ Some commands.Read → status ≢ broken → IfSome remaining (λ input. IsAnswered (read_answer input) status old new)
-    read_refusal_given is whole = refusal_answered read_answer (refusal_number refusal) (refuses_of commands.Read is) (refusal_shown whole)
-
-    pub cut_refusal_given : (limit : ℕ) → words ≡ Some (commands.Cut limit) → status ≢ broken → IfSome remaining (λ input. IsCutGiven limit input status old new)
-    cut_refusal_given limit is whole = refusal_cut limit (refusal_number refusal) (refuses_of (commands.Cut limit) is) (refusal_shown whole)
+    pub refusal_given : (refusal : Refusal) (number : ℕ) → CommandAnswers command words text (Err refusal) → number ≡ refusal_number refusal
+        → (status ≡ 3) ⊎ IsPrinted (refused number) status old new → status ≢ broken → IfSome remaining (λ input. IsGiven command words input status old new)
+    refusal_given refusal number says same printed whole =
+        of_all (λ input. IsGiven command words input status old new) remaining text all
+        (refusal_answers status old new words text command refusal says (subst (λ n. IsPrinted (refused n) status old new) same (given status old new (refused number) printed whole)))

@@ -8,3 +8,5 @@ pub mod Limit
 pub mod ReadCommand
 pub mod Refusal
 pub mod Words
+pub mod ZoneCommand
+pub mod ZoneWords

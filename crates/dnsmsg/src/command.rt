@@ -1,32 +1,99 @@
 //! What the words after the program's name ask for.
 
-ghost use Rattle.std.specs.Prelude.{◌≡◌};
-ghost use Rattle.dnsmsg.specs.Command.{command_of};
+ghost use Rattle.std.specs.Prelude.{◌≡◌, IfErr, IfOk, codes, true};
+ghost use Rattle.std.specs.List.{list_any};
+ghost use Rattle.dnsmsg.specs.Command.{command_of, message_command};
 ghost use Rattle.dnsmsg.specs.Words.{texts};
+ghost use Rattle.dnsmsg.specs.ZoneCommand.{are_texts, is_equals};
+ghost use Rattle.dnsmsg.specs.ZoneWords.{begins_with, zone_named};
 
 use crate::limit::limit;
+use base::{Name, ParseError};
+use std::alloc::{AllocError, Global};
 
 /// What the program can do.
-#[derive(Clone, Copy, Debug, Drop)]
+#[derive(Debug, Drop)]
 pub enum Command {
-    /// A header in hexadecimal: its text, and the same twelve bytes again.
+    /// What it can do with a message in hexadecimal.
+    OnMessage(MessageCommand),
+    /// Zone text under an origin, if one is given: the origin at its end, and its records.
+    Zone(Option<Name>),
+}
+
+/// What the program can do with a message, or a part of one, in hexadecimal.
+#[derive(Clone, Copy, Debug, Drop)]
+pub enum MessageCommand {
+    /// A header: its text, and the same twelve bytes again.
     Header,
-    /// A message in hexadecimal: its text.
+    /// A message: its text.
     Read,
-    /// A message in hexadecimal, and how many bytes it may take: a cut of it, in hexadecimal.
+    /// A message, and how many bytes it may take: a cut of it.
     Cut(u16),
 }
 
-impl Command {
-    /// The command that the words name, if they name one.
-    pub fn from_words(words: &[String]) -> Option<Command>
-        ensures { result ≡ command_of (texts words.now) }
+impl MessageCommand {
+    /// The command that one or two words name, if they name one.
+    pub fn from_words(words: &[String]) -> Option<MessageCommand>
+        ensures { result ≡ message_command (texts words.now) }
     {
         match words {
-            [word] if word.as_str() == "header" => Some(Command::Header),
-            [word] if word.as_str() == "read" => Some(Command::Read),
-            [word, number] if word.as_str() == "cut" => limit(number.as_str()).map(Command::Cut),
+            [word] if word.as_str() == "header" => Some(MessageCommand::Header),
+            [word] if word.as_str() == "read" => Some(MessageCommand::Read),
+            [word, number] if word.as_str() == "cut" => {
+                limit(number.as_str()).map(MessageCommand::Cut)
+            }
             _ => None,
         }
     }
+}
+
+impl Command {
+    /// The command that the words name, if they name one. Refused for want of memory where they begin with `zone`.
+    pub fn from_words(alloc: Global, words: &[String]) -> Result<Option<Command>, AllocError>
+        ensures value { IfOk result (λ command. command ≡ command_of (texts words.now)) }
+        ensures memory { IfErr result (λ _. begins_with (codes "zone") (texts words.now) ≡ true) }
+    {
+        if let [word, origin, included @ ..] = words {
+            if word.as_str() == "zone" {
+                return zone(alloc, origin.as_str(), included);
+            }
+        }
+        Ok(MessageCommand::from_words(words).map(Command::OnMessage))
+    }
+}
+
+// The command of an origin and of included texts, NAME=TEXT each.
+#[tactic(auto, unfolding(crate::specs::ZoneWords::zone_named))]
+fn zone(alloc: Global, origin: &str, included: &[String]) -> Result<Option<Command>, AllocError>
+    ensures { IfOk result (λ command. command ≡ zone_named origin.now (texts included.now)) }
+{
+    if !are_texts(included) {
+        return Ok(None);
+    }
+    if origin == "-" {
+        return Ok(Some(Command::Zone(None)));
+    }
+    match Name::parse(alloc, origin, None) {
+        Ok(name) => Ok(Some(Command::Zone(Some(name)))),
+        Err(ParseError::BadName) => Ok(None),
+        Err(_) => Err(AllocError),
+    }
+}
+
+// Whether each word has a name before an equals sign.
+fn are_texts(words: &[String]) -> bool
+    ensures { result ≡ are_texts (texts words.now) }
+{
+    for word in words {
+        if !has_equals(word.as_str()) {
+            return false;
+        }
+    }
+    true
+}
+
+fn has_equals(word: &str) -> bool
+    ensures { result ≡ list_any is_equals word.now }
+{
+    word.bytes().any(|byte| byte == b'=')
 }

@@ -11,6 +11,7 @@ mod refusal;
 mod run;
 #[cfg(test)]
 mod tests;
+mod zone_command;
 
 use run::run;
 use std::io;

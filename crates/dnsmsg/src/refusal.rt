@@ -2,7 +2,7 @@ ghost use Rattle.std.specs.Prelude.{◌≡◌};
 ghost use Rattle.dnsmsg.specs.Refusal.{refusal_number};
 ghost use Rattle.dnsmsg.specs.declared.refusal.Refusal.TheVariants as refusals;
 
-use base::{DecodeError, ProtoError};
+use base::{DecodeError, ParseError, ProtoError};
 use std::alloc::AllocError;
 
 /// Why a command printed nothing of its own.
@@ -14,6 +14,8 @@ pub enum Refusal {
     Decode(DecodeError),
     /// A call of the library was refused.
     Proto(ProtoError),
+    /// The text is no zone's.
+    Parse(ParseError),
 }
 
 impl Refusal {
@@ -25,6 +27,7 @@ impl Refusal {
             Refusal::Input => 24,
             Refusal::Decode(e) => e.number(),
             Refusal::Proto(e) => e.number(),
+            Refusal::Parse(e) => e.number(),
         }
     }
 }
@@ -50,5 +53,13 @@ impl From<ProtoError> for Refusal {
 
     fn from(e: ProtoError) -> Refusal {
         Refusal::Proto(e)
+    }
+}
+
+impl From<ParseError> for Refusal {
+    ghost from_gives = { λ p e. e ≡ refusals.Parse p };
+
+    fn from(e: ParseError) -> Refusal {
+        Refusal::Parse(e)
     }
 }

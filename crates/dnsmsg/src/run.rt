@@ -1,19 +1,18 @@
 //! A run of the program over any reader and writer.
 
-ghost use Rattle.std.specs.Prelude.{◌≡◌, ◌≢◌, ◌⊎◌, ◌≤◌, ℕ, IfSome, None, Some};
-ghost use Rattle.dnsmsg.specs.Answer.{IsAnswered, IsPrinted, usage, refused, done, broken};
-ghost use Rattle.dnsmsg.specs.Command.{CommandAnswers, command_of};
-ghost use Rattle.dnsmsg.specs.CutCommand.{IsCutGiven};
-ghost use Rattle.dnsmsg.specs.HeaderCommand.{header_answer};
-ghost use Rattle.dnsmsg.specs.ReadCommand.{read_answer};
+ghost use Rattle.std.specs.Prelude.{◌≡◌, ◌≢◌, ◌⊎◌, ◌≤◌, IfSome, None, Some};
+ghost use Rattle.dnsmsg.specs.Answer.{IsPrinted, usage, refused, done, broken};
+ghost use Rattle.dnsmsg.specs.Command.{CommandAnswers, IsGiven, IsTurnedAway, command_of};
 ghost use Rattle.dnsmsg.specs.Words.{texts};
-ghost use Rattle.dnsmsg.specs.declared.command.Command.TheVariants as commands;
+ghost use Rattle.dnsmsg.specs.ZoneWords.{behind_origin};
+ghost use Rattle.dnsmsg.specs.declared.command.Command.{Command as Asked};
 
-use crate::command::Command;
+use crate::command::{Command, MessageCommand};
 use crate::cut_command::cut;
 use crate::header_command::header;
 use crate::read_command::read;
 use crate::refusal::Refusal;
+use crate::zone_command::zone;
 use std::alloc::Global;
 use std::io::{ErrorKind, Read, Write};
 
@@ -27,40 +26,61 @@ const BROKEN: u8 = 3;
 pub fn run<R: Read, W: Write>(alloc: Global, words: &[String], input: &mut R, output: &mut W) -> u8
     ensures statuses { result ≤ 3 }
     ensures unread { command_of (texts words.now) ≡ None → input.new ≡ input.old }
-    ensures wrong_words { command_of (texts words.now) ≡ None → result ≢ broken → IsPrinted usage result (W.contents output.old) (W.contents output.new) }
-    ensures header { command_of (texts words.now) ≡ Some commands.Header → result ≢ broken → IfSome (R.remaining input.old)
-        (λ text. IsAnswered (header_answer text) result (W.contents output.old) (W.contents output.new)) }
-    ensures read { command_of (texts words.now) ≡ Some commands.Read → result ≢ broken → IfSome (R.remaining input.old)
-        (λ text. IsAnswered (read_answer text) result (W.contents output.old) (W.contents output.new)) }
-    ensures cut { (limit : ℕ) → command_of (texts words.now) ≡ Some (commands.Cut limit) → result ≢ broken → IfSome (R.remaining input.old)
-        (λ text. IsCutGiven limit text result (W.contents output.old) (W.contents output.new)) }
+    ensures wrong_words { command_of (texts words.now) ≡ None → result ≢ broken → IsTurnedAway (texts words.now) result (W.contents output.old) (W.contents output.new) }
+    ensures answered { (command : Asked) → command_of (texts words.now) ≡ Some command → result ≢ broken → IfSome (R.remaining input.old)
+        (λ text. IsGiven command (texts words.now) text result (W.contents output.old) (W.contents output.new)) }
 {
-    match Command::from_words(words) {
-        None => print_usage(output),
-        Some(command) => {
-            let mut text = Vec::new(alloc);
-            match input.read_to_end(&mut text) {
-                Ok(_) => match command.answer(alloc, &text) {
-                    Ok(lines) => print_lines(&lines, output),
-                    Err(refusal) => print_refusal(refusal.number(), output),
-                },
-                Err(e) if e.kind() == ErrorKind::OutOfMemory => print_refusal(3, output),
-                Err(_) => BROKEN,
-            }
-        }
+    match Command::from_words(alloc, words) {
+        Ok(None) => print_usage(output),
+        Ok(Some(command)) => answer_input(alloc, command, words, input, output),
+        Err(_) => print_refusal(3, output),
+    }
+}
+
+// Reads the input to its end, and prints what the command makes of it.
+fn answer_input<R: Read, W: Write>(
+    alloc: Global,
+    command: Command,
+    words: &[String],
+    input: &mut R,
+    output: &mut W,
+) -> u8
+    ensures statuses { result ≤ 3 }
+    ensures answered { result ≢ broken → IfSome (R.remaining input.old)
+        (λ text. IsGiven command (texts words.now) text result (W.contents output.old) (W.contents output.new)) }
+{
+    let mut text = Vec::new(alloc);
+    match input.read_to_end(&mut text) {
+        Ok(_) => match command.answer(alloc, words, &text) {
+            Ok(lines) => print_lines(&lines, output),
+            Err(refusal) => print_refusal(refusal.number(), output),
+        },
+        Err(e) if e.kind() == ErrorKind::OutOfMemory => print_refusal(3, output),
+        Err(_) => BROKEN,
     }
 }
 
 impl Command {
-    // What the command prints of a text.
-    fn answer(self, alloc: Global, text: &[u8]) -> Result<String, Refusal>
-        ensures { CommandAnswers self text.now result }
+    // What the command prints of a text, where these are all words.
+    fn answer(self, alloc: Global, words: &[String], text: &[u8]) -> Result<String, Refusal>
+        ensures { CommandAnswers self (texts words.now) text.now result }
     {
         match self {
-            Command::Header => header(alloc, text),
-            Command::Read => read(alloc, text),
-            Command::Cut(limit) => cut(alloc, text, limit),
+            Command::OnMessage(MessageCommand::Header) => header(alloc, text),
+            Command::OnMessage(MessageCommand::Read) => read(alloc, text),
+            Command::OnMessage(MessageCommand::Cut(limit)) => cut(alloc, text, limit),
+            Command::Zone(origin) => zone(alloc, origin, behind_origin(words), text),
         }
+    }
+}
+
+// The words behind the command and the origin.
+fn behind_origin(words: &[String]) -> &[String]
+    ensures { texts result.now ≡ behind_origin (texts words.now) }
+{
+    match words {
+        [_, _, included @ ..] => included,
+        _ => &[],
     }
 }
 

@@ -56,7 +56,8 @@ high_of p a t d n =
     let small_d = from_bool_small d in
     let first : bit_or x y ≡ x + y = or_below x y 3 (q * 16 + n % 16) (omega arith) (omega arith) in
     let second : bit_or (x + y) z ≡ (x + y) + z = or_below (x + y) z 2 ((q * 16 + n % 16) * 2 + from_bool a) (omega arith) (omega arith) in
-    let third : bit_or ((x + y) + z) (from_bool d) ≡ ((x + y) + z) + from_bool d = or_below ((x + y) + z) (from_bool d) 1 (((q * 16 + n % 16) * 2 + from_bool a) * 2 + from_bool t) (omega arith) (omega arith) in
+    let third : bit_or ((x + y) + z) (from_bool d) ≡ ((x + y) + z) + from_bool d =
+    or_below ((x + y) + z) (from_bool d) 1 (((q * 16 + n % 16) * 2 + from_bool a) * 2 + from_bool t) (omega arith) (omega arith) in
     rw (first, second, third, weighed_is, weighed_is, weighed_is, weighed_is) (omega arith)
 
 -- byte 3

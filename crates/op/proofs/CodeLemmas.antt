@@ -34,7 +34,8 @@ metadata_back h small reads =
     same (kind_kept h.metadata.message_type (bit_of 16 (op_number h.metadata.op_code)) (no_high_bit (op_number h.metadata.op_code) small)) (ap op_value low ∙ reads)
   where
     same : {t u : MessageType} {o p : OpCode} → t ≡ u → o ≡ p
-        → ◌≡◌ {A = Metadata} (record h.metadata { message_type = t; op_code = o; response_code = code_value (code_number h.metadata.response_code % 16) }) (record h.metadata { message_type = u; op_code = p; response_code = code_value (code_number h.metadata.response_code % 16) })
+        → ◌≡◌ {A = Metadata} (record h.metadata { message_type = t; op_code = o; response_code = code_value (code_number h.metadata.response_code % 16) })
+        (record h.metadata { message_type = u; op_code = p; response_code = code_value (code_number h.metadata.response_code % 16) })
     same p q = rw (p, q) refl
 
 -- the code with the bits above it

@@ -192,10 +192,14 @@ module _ (m : MessageValue) (old new : State) (h : Header) (e : Emitted m old ne
       let c = composed new.bytes m.queries e.answers.kept e.authorities.kept e.additionals.kept e.edns.kept e.signature.kept e.kept e.first e.second e.third e.fourth e.fifth e.sixth
       fits.queries (λ k d below. (fits_answers k d below).fits) (λ k d below. (fits_authorities k d below).fits) (λ k d below. (fits_additionals k d below).fits) opts_fit signatures_fit
       e.queries e.answers.written e.authorities.written e.additionals.written e.edns.written e.signature.written holds in
-      let listed_edns = subst (λ es. Composed new.bytes m.queries e.answers.kept e.authorities.kept (e.additionals.kept ++ (es ++ e.signature.kept)) (length e.kept.bytes) (length e.first.bytes) (length e.second.bytes) (length e.third.bytes) (length e.sixth.bytes)) one_edns.kept_is c in
-      let listed_signature = subst (λ ss. Composed new.bytes m.queries e.answers.kept e.authorities.kept (e.additionals.kept ++ (listed (option_map edns_record one_edns.some) ++ ss)) (length e.kept.bytes) (length e.first.bytes) (length e.second.bytes) (length e.third.bytes) (length e.sixth.bytes)) one_signature.kept_is listed_edns in
-      let from12 = subst (λ n. Composed new.bytes m.queries e.answers.kept e.authorities.kept (e.additionals.kept ++ tail one_edns.some one_signature.some) n (length e.first.bytes) (length e.second.bytes) (length e.third.bytes) (length e.sixth.bytes)) kept_len listed_signature in
-      subst (λ n. Composed new.bytes m.queries e.answers.kept e.authorities.kept (e.additionals.kept ++ tail one_edns.some one_signature.some) 12 (length e.first.bytes) (length e.second.bytes) (length e.third.bytes) n) (sym new_len) from12
+      let listed_edns = subst (λ es. Composed new.bytes m.queries e.answers.kept e.authorities.kept (e.additionals.kept ++ (es ++ e.signature.kept))
+      (length e.kept.bytes) (length e.first.bytes) (length e.second.bytes) (length e.third.bytes) (length e.sixth.bytes)) one_edns.kept_is c in
+      let listed_signature = subst (λ ss. Composed new.bytes m.queries e.answers.kept e.authorities.kept (e.additionals.kept ++ (listed (option_map edns_record one_edns.some) ++ ss))
+      (length e.kept.bytes) (length e.first.bytes) (length e.second.bytes) (length e.third.bytes) (length e.sixth.bytes)) one_signature.kept_is listed_edns in
+      let from12 = subst (λ n. Composed new.bytes m.queries e.answers.kept e.authorities.kept (e.additionals.kept ++ tail one_edns.some one_signature.some)
+      n (length e.first.bytes) (length e.second.bytes) (length e.third.bytes) (length e.sixth.bytes)) kept_len listed_signature in
+      subst (λ n. Composed new.bytes m.queries e.answers.kept e.authorities.kept (e.additionals.kept ++ tail one_edns.some one_signature.some)
+      12 (length e.first.bytes) (length e.second.bytes) (length e.third.bytes) n) (sym new_len) from12
 
   last : Ends new.bytes e.additionals.kept (listed (option_map edns_record one_edns.some)) (listed (option_map signature_record one_signature.some)) (length e.third.bytes)
       (length e.fourth.bytes) (length e.fifth.bytes) (length new.bytes)
@@ -203,9 +207,12 @@ module _ (m : MessageValue) (old new : State) (h : Header) (e : Emitted m old ne
       let c = ends new.bytes m.queries e.answers.kept e.authorities.kept e.additionals.kept e.edns.kept e.signature.kept e.kept e.first e.second e.third e.fourth e.fifth e.sixth
       fits.queries (λ k d below. (fits_answers k d below).fits) (λ k d below. (fits_authorities k d below).fits) (λ k d below. (fits_additionals k d below).fits) opts_fit signatures_fit
       e.queries e.answers.written e.authorities.written e.additionals.written e.edns.written e.signature.written holds in
-      let listed_edns = subst (λ es. Ends new.bytes e.additionals.kept es e.signature.kept (length e.third.bytes) (length e.fourth.bytes) (length e.fifth.bytes) (length e.sixth.bytes)) one_edns.kept_is c in
-      let listed_signature = subst (λ ss. Ends new.bytes e.additionals.kept (listed (option_map edns_record one_edns.some)) ss (length e.third.bytes) (length e.fourth.bytes) (length e.fifth.bytes) (length e.sixth.bytes)) one_signature.kept_is listed_edns in
-      subst (λ n. Ends new.bytes e.additionals.kept (listed (option_map edns_record one_edns.some)) (listed (option_map signature_record one_signature.some)) (length e.third.bytes) (length e.fourth.bytes) (length e.fifth.bytes) n) (sym new_len) listed_signature
+      let listed_edns = subst (λ es. Ends new.bytes e.additionals.kept es e.signature.kept (length e.third.bytes) (length e.fourth.bytes) (length e.fifth.bytes) (length e.sixth.bytes))
+      one_edns.kept_is c in
+      let listed_signature = subst (λ ss. Ends new.bytes e.additionals.kept (listed (option_map edns_record one_edns.some)) ss
+      (length e.third.bytes) (length e.fourth.bytes) (length e.fifth.bytes) (length e.sixth.bytes)) one_signature.kept_is listed_edns in
+      subst (λ n. Ends new.bytes e.additionals.kept (listed (option_map edns_record one_edns.some)) (listed (option_map signature_record one_signature.some))
+      (length e.third.bytes) (length e.fourth.bytes) (length e.fifth.bytes) n) (sym new_len) listed_signature
 
   -- ---- the header
 
@@ -232,7 +239,15 @@ module _ (m : MessageValue) (old new : State) (h : Header) (e : Emitted m old ne
 
   abbrev message : MessageValue
   message =
-      record { metadata = high_code one_edns.some (metadata_value (raw_header h)); queries = m.queries; answers = e.answers.kept; authorities = e.authorities.kept; additionals = e.additionals.kept; edns = one_edns.some; signature = one_signature.some }
+      record {
+        metadata = high_code one_edns.some (metadata_value (raw_header h));
+        queries = m.queries;
+        answers = e.answers.kept;
+        authorities = e.authorities.kept;
+        additionals = e.additionals.kept;
+        edns = one_edns.some;
+        signature = one_signature.some;
+      }
 
   plain : (rs : List (Record RData)) → All (FitsPlain m.metadata.op_code) rs → All (IsPlain (header_value (raw_header h)).metadata.op_code) rs
   plain rs fit = subst (λ o. All (IsPlain o) rs) (sym op_kept) (λ k d below. record { given = (fit k d below).given; placed = (fit k d below).placed })
@@ -259,9 +274,15 @@ module _ (m : MessageValue) (old new : State) (h : Header) (e : Emitted m old ne
         length-append (listed (option_map edns_record one_edns.some)) (listed (option_map signature_record one_signature.some)),
       )
 
-  counted : h.counts ≡ record { queries = length m.queries; answers = length e.answers.kept; authorities = length e.authorities.kept; additionals = length (e.additionals.kept ++ tail one_edns.some one_signature.some) }
+  counted : h.counts ≡ record {
+    queries = length m.queries;
+    answers = length e.answers.kept;
+    authorities = length e.authorities.kept;
+    additionals = length (e.additionals.kept ++ tail one_edns.some one_signature.some);
+  }
   counted =
-      same_counts h.counts (length m.queries) (length e.answers.kept) (length e.authorities.kept) (length (e.additionals.kept ++ tail one_edns.some one_signature.some)) e.query_count e.answers.counted e.authorities.counted all_counted
+      same_counts h.counts (length m.queries) (length e.answers.kept) (length e.authorities.kept)
+      (length (e.additionals.kept ++ tail one_edns.some one_signature.some)) e.query_count e.answers.counted e.authorities.counted all_counted
 
   abbrev message_word : IsMessageAt new.bytes 0 message (length new.bytes)
   message_word = record {
@@ -281,7 +302,8 @@ module _ (m : MessageValue) (old new : State) (h : Header) (e : Emitted m old ne
     answers_plain = plain e.answers.kept fits_answers;
     authorities_plain = plain e.authorities.kept fits_authorities;
     additionals_given =
-        subst (λ o. All (HasNeededData o) (e.additionals.kept ++ tail one_edns.some one_signature.some)) (sym op_kept) (all_given e.additionals.kept m.metadata.op_code fits_additionals one_edns.some one_signature.some);
+        subst (λ o. All (HasNeededData o) (e.additionals.kept ++ tail one_edns.some one_signature.some))
+        (sym op_kept) (all_given e.additionals.kept m.metadata.op_code fits_additionals one_edns.some one_signature.some);
     signature_last = all_end e.additionals.kept m.metadata.op_code fits_additionals one_edns.some one_signature.some;
     one_opt = one_opt e.additionals.kept m.metadata.op_code fits_additionals one_edns.some one_signature.some;
     message = ap (message_of (metadata_value (raw_header h)) m.queries e.answers.kept e.authorities.kept) (sym sorted);
@@ -300,7 +322,8 @@ module _ (m : MessageValue) (old new : State) (h : Header) (e : Emitted m old ne
   metadata_is : high_code one_edns.some (metadata_value (raw_header h))
       ≡ record m.metadata { truncation = lost_bit; response_code = code_value (code_number m.metadata.response_code % code_range one_edns.some) }
   metadata_is =
-      high_back one_edns.some (metadata_value (raw_header h)) (code_number m.metadata.response_code) (raised_high (code_number m.metadata.response_code / 16 % 256) m.edns one_edns.some one_edns.rest one_edns.front) (ap (λ (x : Metadata). x.response_code) metadata_read)
+      high_back one_edns.some (metadata_value (raw_header h)) (code_number m.metadata.response_code)
+      (raised_high (code_number m.metadata.response_code / 16 % 256) m.edns one_edns.some one_edns.rest one_edns.front) (ap (λ (x : Metadata). x.response_code) metadata_read)
       ∙ ap (λ (x : Metadata). record x { response_code = code_value (code_number m.metadata.response_code % code_range one_edns.some) }) metadata_read
       ∙ ap (λ (b : Bool). record m.metadata { truncation = b; response_code = code_value (code_number m.metadata.response_code % code_range one_edns.some) }) tells
 
@@ -323,12 +346,18 @@ module _ (m : MessageValue) (old new : State) (h : Header) (e : Emitted m old ne
     authorities = record { lost = e.authorities.lost; front = e.authorities.whole; full = no_room e.authorities k1 };
     additionals = record { lost = e.additionals.lost; front = e.additionals.whole; full = no_room e.additionals k2 };
     edns =
-        record { lost = one_edns.rest; front = one_edns.front; full = no_room_of edns_record old.limit (length e.fifth.bytes) one_edns.rest (subst (NoRoom plain_record old.limit (length e.fifth.bytes)) one_edns.lost_is (no_room e.edns k3)) };
+        record {
+          lost = one_edns.rest;
+          front = one_edns.front;
+          full = no_room_of edns_record old.limit (length e.fifth.bytes) one_edns.rest (subst (NoRoom plain_record old.limit (length e.fifth.bytes)) one_edns.lost_is (no_room e.edns k3));
+        };
     signature = record {
       lost = one_signature.rest;
       front = one_signature.front;
       full =
-          subst (λ n. NoRoom (λ r. plain_record (signature_record r)) old.limit n one_signature.rest) (sym new_len) (no_room_of signature_record old.limit (length e.sixth.bytes) one_signature.rest (subst (NoRoom plain_record old.limit (length e.sixth.bytes)) one_signature.lost_is (no_room e.signature k4)));
+          subst (λ n. NoRoom (λ r. plain_record (signature_record r)) old.limit n one_signature.rest) (sym new_len)
+          (no_room_of signature_record old.limit (length e.sixth.bytes) one_signature.rest
+          (subst (NoRoom plain_record old.limit (length e.sixth.bytes)) one_signature.lost_is (no_room e.signature k4)));
     };
     metadata = metadata_is;
     short = words.short;

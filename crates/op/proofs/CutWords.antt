@@ -72,7 +72,8 @@ module _ (B : List ℕ) where
   module _ (qs : List Query) (bs ns ds es ss : List (Record RData)) (s0 s1 s2 s3 s4 s5 s6 : State) (fits_qs : All FitsQuery qs) (fits_as : All FitsRecord bs) (fits_ns : All FitsRecord ns)
       (fits_ds : All FitsRecord ds) (fits_es : All FitsRecord es) (fits_ss : All FitsRecord ss)
       (wq : EachWritten QueryWord plain_query query_owner qs s0 s1) (wa : EachWritten RecordWord plain_record record_owner bs s1 s2) (wn : EachWritten RecordWord plain_record record_owner ns s2 s3)
-      (wd : EachWritten RecordWord plain_record record_owner ds s3 s4) (we : EachWritten RecordWord plain_record record_owner es s4 s5) (ws : EachWritten RecordWord plain_record record_owner ss s5 s6) (holds : Holds s0 s6 B) where
+      (wd : EachWritten RecordWord plain_record record_owner ds s3 s4) (we : EachWritten RecordWord plain_record record_owner es s4 s5)
+      (ws : EachWritten RecordWord plain_record record_owner ss s5 s6) (holds : Holds s0 s6 B) where
     keeps : (rs : List (Record RData)) (a b : State) → EachWritten RecordWord plain_record record_owner rs a b → Keeps a b
     keeps rs a b w = Each-keeps RecordWord plain_record record_owner rs a b w
 
@@ -151,5 +152,6 @@ module _ (B : List ℕ) where
           authorities = sn.words;
           additionals = sd.words;
           short =
-              subst AreCompressed (append_assoc (query_owners sq.words ++ record_owners sa.words) (record_owners sn.words) (record_owners sd.words) ∙ append_assoc (query_owners sq.words) (record_owners sa.words) (record_owners sn.words ++ record_owners sd.words)) sd.short;
+              subst AreCompressed (append_assoc (query_owners sq.words ++ record_owners sa.words) (record_owners sn.words) (record_owners sd.words)
+              ∙ append_assoc (query_owners sq.words) (record_owners sa.words) (record_owners sn.words ++ record_owners sd.words)) sd.short;
         }

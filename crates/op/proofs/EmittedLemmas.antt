@@ -99,7 +99,8 @@ assemble : (m : MessageValue) (old kept first second third fourth fifth sixth ne
     → HasHeader m.metadata queries (record { answers = answers; authorities = authorities; additionals = additionals }) total (Ok h)
     → new ≡ overwritten place (header_bytes (raw_header h)) sixth
     → Emitted m old new h
-assemble m old kept first second third fourth fifth sixth new h place queries answers authorities additionals opt sum signed total room asked asked_count wrote_answers wrote_authorities wrote_additionals wrote_opt added wrote_signature added_too header filled =
+assemble m old kept first second third fourth fifth sixth new h place queries answers authorities additionals opt sum signed total
+    room asked asked_count wrote_answers wrote_authorities wrote_additionals wrote_opt added wrote_signature added_too header filled =
     let fields = header.1 in
     record {
       kept = kept;
@@ -129,7 +130,8 @@ assemble m old kept first second third fourth fifth sixth new h place queries an
       query_count = ap (λ k. k.counts.queries) fields ∙ asked_count;
       sum = ap (λ k. k.counts.additionals) fields ∙ three additionals opt sum signed total added added_too;
       metadata =
-          ap (λ k. k.metadata) fields ∙ ap (λ p. record m.metadata { truncation = m.metadata.truncation || (answers.is_cut || (authorities.is_cut || p)) }) (any_three additionals opt sum signed total added added_too);
+          ap (λ k. k.metadata) fields ∙ ap (λ p. record m.metadata { truncation = m.metadata.truncation || (answers.is_cut || (authorities.is_cut || p)) })
+          (any_three additionals opt sum signed total added added_too);
       header = filled ∙ ap (λ n. overwritten n (header_bytes (raw_header h)) sixth) room.0;
     }
 

@@ -47,7 +47,8 @@ op_codes_Decide = variants_Decide op_codes.enum (same, (same, (same, (same, (by_
 
 pub response_codes_Decide : (a b : ResponseCode) → Decides ((code_eq.ghosts).eq a b) (a ≡ b)
 response_codes_Decide =
-    variants_Decide response_codes.enum (five same (five same (five same (five same (by_number, tt))))) (five same_Decides (five same_Decides (five same_Decides (five same_Decides (numbers_Decide, tt)))))
+    variants_Decide response_codes.enum (five same (five same (five same (five same (by_number, tt)))))
+    (five same_Decides (five same_Decides (five same_Decides (five same_Decides (numbers_Decide, tt)))))
 
 pub message_types_Decide : (a b : MessageType) → Decides ((message_type_eq.ghosts).eq a b) (a ≡ b)
 message_types_Decide = search rules

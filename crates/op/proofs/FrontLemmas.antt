@@ -64,11 +64,13 @@ module _ {E : Type 0} (word : E → List ℕ → ℕ → ℕ → Type 0) (plain 
     one_item (Ok n) result first (xs, (u, yields, stop), each, count) counts =
         elim (once_yields s u item xs first yields) [
           | inl (none, left) ↦ absurd (let is = stop.0 in cc)
-          | inr (all, left) ↦ whole_item item.now a b (map (λ x. x.now) xs) n result (ap (map (λ x. x.now)) all) (Each-map (λ x. x.now) word plain owner xs a b each) (count ∙ sym (length-map xs (λ x. x.now))) counts
+          | inr (all, left) ↦ whole_item item.now a b (map (λ x. x.now) xs) n result (ap (map (λ x. x.now)) all)
+              (Each-map (λ x. x.now) word plain owner xs a b each) (count ∙ sym (length-map xs (λ x. x.now))) counts
         ]
     one_item (Err (refusals.NotAllRecordsWritten n)) result first (xs, x, (u, yields, step), each, count, full) counts =
         elim (once_yields s u item xs first yields) [
-          | inl (none, left) ↦ no_item item.now a b (map (λ x. x.now) xs) n result (ap (map (λ x. x.now)) none) (Each-map (λ x. x.now) word plain owner xs a b each) (let is = step.0 in let same : x ≡ item = cc in subst (λ (y : Bor E). a.limit < length b.bytes + plain y.now) same full) (count ∙ sym (length-map xs (λ x. x.now))) counts
+          | inl (none, left) ↦ no_item item.now a b (map (λ x. x.now) xs) n result (ap (map (λ x. x.now)) none) (Each-map (λ x. x.now) word plain owner xs a b each)
+              (let is = step.0 in let same : x ≡ item = cc in subst (λ (y : Bor E). a.limit < length b.bytes + plain y.now) same full) (count ∙ sym (length-map xs (λ x. x.now))) counts
           | inr (all, left) ↦ absurd (let is = step.0 in cc)
         ]
     one_item (Err refusals.Memory) result first emits counts = rw counts refl

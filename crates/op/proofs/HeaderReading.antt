@@ -109,14 +109,17 @@ header_short B i f is =
     let high_is = byte_is B id.1 high high_read in
     bind_err (byte_at B high.1) _ f (IsShort B (i + 12) f) is2 (λ e. later B (high.1 + 1) (i + 12) f (omega (arith, id_is.behind, high_is.behind)) (byte_short B high.1 f e)) (λ low low_read is3.
     let low_is = byte_is B high.1 low low_read in
-    bind_err (number_at w16 B low.1) _ f (IsShort B (i + 12) f) is3 (λ e. later B (low.1 + 2) (i + 12) f (omega (arith, id_is.behind, high_is.behind, low_is.behind)) (number_short w16 B low.1 f e)) (λ queries queries_read is4.
+    bind_err (number_at w16 B low.1) _ f (IsShort B (i + 12) f) is3
+    (λ e. later B (low.1 + 2) (i + 12) f (omega (arith, id_is.behind, high_is.behind, low_is.behind)) (number_short w16 B low.1 f e)) (λ queries queries_read is4.
     let queries_is = number_is w16 B low.1 queries queries_read in
     let p3 : queries.1 ≡ i + 6 = omega (arith, id_is.behind, high_is.behind, low_is.behind, queries_is.behind) in
     bind_err (number_at w16 B queries.1) _ f (IsShort B (i + 12) f) is4 (λ e. later B (queries.1 + 2) (i + 12) f (omega (arith, p3)) (number_short w16 B queries.1 f e)) (λ answers answers_read is5.
     let p4 : answers.1 ≡ queries.1 + 2 = (number_is w16 B queries.1 answers answers_read).behind in
-    bind_err (number_at w16 B answers.1) _ f (IsShort B (i + 12) f) is5 (λ e. later B (answers.1 + 2) (i + 12) f (omega (arith, p3, p4)) (number_short w16 B answers.1 f e)) (λ authorities authorities_read is6.
+    bind_err (number_at w16 B answers.1) _ f (IsShort B (i + 12) f) is5
+    (λ e. later B (answers.1 + 2) (i + 12) f (omega (arith, p3, p4)) (number_short w16 B answers.1 f e)) (λ authorities authorities_read is6.
     let p5 : authorities.1 ≡ answers.1 + 2 = (number_is w16 B answers.1 authorities authorities_read).behind in
-    bind_err (number_at w16 B authorities.1) _ f (IsShort B (i + 12) f) is6 (λ e. later B (authorities.1 + 2) (i + 12) f (omega (arith, p3, p4, p5)) (number_short w16 B authorities.1 f e)) (λ additionals additionals_read is7. cc)))))))
+    bind_err (number_at w16 B authorities.1) _ f (IsShort B (i + 12) f) is6
+    (λ e. later B (authorities.1 + 2) (i + 12) f (omega (arith, p3, p4, p5)) (number_short w16 B authorities.1 f e)) (λ additionals additionals_read is7. cc)))))))
 
 -- reading at a place that is reckoned otherwise
 number_next : (B : List ℕ) (i j n e : ℕ) → i ≡ j → e ≡ j + 2 → IsNumberAt w16 B j n → number_at w16 B i ≡ Ok (n, e)

@@ -12,5 +12,6 @@ use Rattle.op.specs.declared.header.Header.{Header}
 pub room_filled : (h : Header) (a b c d : State) → b ≡ appended (replicate 12 0) a → length b.bytes ≤ a.limit → Keeps b c → d ≡ overwritten (length a.bytes) (header_bytes (raw_header h)) c → Keeps a d
 room_filled h a b c d kept within keeps filled =
     let xs = header_bytes (raw_header h) in
-    let first : Keeps a (appended xs a) = Keeps-appended xs a (appended xs a) refl (omega (arith, within, ap (λ (s : State). length s.bytes) kept, length-append a.bytes (replicate 12 0), length-append a.bytes xs)) in
+    let first : Keeps a (appended xs a) = Keeps-appended xs a (appended xs a) refl
+    (omega (arith, within, ap (λ (s : State). length s.bytes) kept, length-append a.bytes (replicate 12 0), length-append a.bytes xs)) in
     Keeps-then first (Keeps-filled (replicate 12 0) xs a b c d refl kept keeps filled)

@@ -31,7 +31,13 @@ module _ (B : List ℕ) where
       (λ first first_read is1.
       bind_err (many_at query_at n B first.1) _ f (IsQueriesFault (suc n) B i f) is1
       (λ e. let rest = queries_fault n first.1 f e in
-      record { queries = first.0 ∷ rest.queries; place = rest.place; words = more ((reads_question B i first.0 first.1).0 first_read) rest.words; fewer = omega (arith, rest.fewer); fault = rest.fault })
+      record {
+        queries = first.0 ∷ rest.queries;
+        place = rest.place;
+        words = more ((reads_question B i first.0 first.1).0 first_read) rest.words;
+        fewer = omega (arith, rest.fewer);
+        fault = rest.fault;
+      })
       (λ others others_read is2. cc))
 
   queries_fail : (qs : List Query) (n i place : ℕ) (f : DecodeError) → BackToBack (IsQueryAt B) i qs place → length qs < n → IsQueryFault B place f → many_at query_at n B i ≡ Err f
@@ -74,7 +80,12 @@ module _ (B : List ℕ) where
         (λ e. in_queries stands.0 (subst (λ k. IsQueriesFault h.counts.queries B k f) stands.1 (queries_fault h.counts.queries header.1 f e)))
         (λ queries queries_read is2.
         let words = (reads_questions h.counts.queries B header.1 queries.0 queries.1).0 queries_read in
-        let asked : HasQuestions B i h queries.1 = record { header_stands = stands.0; queries = queries.0; queries_stand = subst (λ k. BackToBack (IsQueryAt B) k queries.0 queries.1) stands.1 words.0; counted = words.1 } in
+        let asked : HasQuestions B i h queries.1 = record {
+          header_stands = stands.0;
+          queries = queries.0;
+          queries_stand = subst (λ k. BackToBack (IsQueryAt B) k queries.0 queries.1) stands.1 words.0;
+          counted = words.1;
+        } in
         bind_err (sections_at h.metadata.op_code h.counts B queries.1) _ f (IsMessageFault B i f) is2
         (λ e. sections_fault h queries.1 f asked e)
         (λ sections sections_read is3. cc)))

@@ -17,7 +17,8 @@ use Rattle.rr.proofs.ReadRecords.{opt_is, reads_record}
 use Rattle.op.specs.Header.{header_at}
 use Rattle.op.specs.Message.{IsMessageAt, MessageValue, message_at, message_of}
 use Rattle.op.specs.Query.{IsQueryAt, query_at}
-use Rattle.op.specs.Section.{EndsWithSignature, IsPlain, IsSectionAt, SectionValue, is_additional, is_additional_type, is_opt, is_ordinary, is_signature, section_at, sections_at, section_of, SectionsValue}
+use Rattle.op.specs.Section.{EndsWithSignature, IsPlain, IsSectionAt, SectionValue, is_additional, is_additional_type, is_opt, is_ordinary, is_signature, section_at}
+use Rattle.op.specs.Section.{sections_at, section_of, SectionsValue}
 use Rattle.op.specs.declared.op_code.OpCode.{OpCode}
 use Rattle.op.specs.declared.query.Query.{Query}
 use Rattle.op.proofs.HeaderReading.{reads_word}
@@ -70,7 +71,16 @@ records_read inside op B = section_read inside op B (λ i r e. (reads_record B i
 section_is_at : (inside : Bool) (op : OpCode) (n : ℕ) (B : List ℕ) (i : ℕ) (r : SectionValue × ℕ) → section_at inside op n B i ≡ Ok r → IsSectionAt inside op n B i r.0 r.1
 section_is_at inside op n B i r is =
     let s = records_stand inside op B n i r is in
-    record { records = s.records; words = s.words; counted = s.counted; given = s.stand.given; placed = s.stand.placed; signature_last = s.stand.ends; one_opt = omega (arith, s.stand.one); section = s.whole }
+    record {
+      records = s.records;
+      words = s.words;
+      counted = s.counted;
+      given = s.stand.given;
+      placed = s.stand.placed;
+      signature_last = s.stand.ends;
+      one_opt = omega (arith, s.stand.one);
+      section = s.whole;
+    }
 
 section_at_is : (inside : Bool) (op : OpCode) (n : ℕ) (B : List ℕ) (i : ℕ) (s : SectionValue) (e : ℕ) → IsSectionAt inside op n B i s e → section_at inside op n B i ≡ Ok (s, e)
 section_at_is inside op n B i s e w =
@@ -185,7 +195,8 @@ message_again B i m e s =
     let answer_count : h.counts.answers ≡ length s.answers = ap (λ c. c.answers) as_many in
     let authority_count : h.counts.authorities ≡ length s.authorities = ap (λ c. c.authorities) as_many in
     let additional_count : h.counts.additionals ≡ length s.additionals = ap (λ c. c.additionals) as_many in
-    let queries : many_at query_at (length m.queries) B (i + 12) ≡ Ok (m.queries, s.queries_end) = many_again (IsQueryAt B) query_at B (λ j q k. (reads_question B j q k).1) (i + 12) m.queries s.queries_end s.queries_stand in
+    let queries : many_at query_at (length m.queries) B (i + 12) ≡ Ok (m.queries, s.queries_end) =
+    many_again (IsQueryAt B) query_at B (λ j q k. (reads_question B j q k).1) (i + 12) m.queries s.queries_end s.queries_stand in
     let answers = plain_read op B s.answers s.queries_end s.answers_end s.answers_stand s.answers_plain in
     let authorities = plain_read op B s.authorities s.answers_end s.authorities_end s.authorities_stand s.authorities_plain in
     let additionals = records_read true op B s.additionals s.authorities_end e s.additionals_stand (record {

@@ -72,7 +72,8 @@ module _ {E : Type 0} (word : E → List ℕ → ℕ → ℕ → Type 0) (plain 
         All-append (λ o. o.labels ≢ [] → o.start < 16384 → Any (λ t. t.labels ≡ o.labels) b.suffixes) known (written ∷ [])
         (All-weaker (λ o. o.labels ≢ [] → o.start < 16384 → Any (λ t. t.labels ≡ o.labels) a.suffixes) (λ o. o.labels ≢ [] → o.start < 16384 → Any (λ t. t.labels ≡ o.labels) b.suffixes)
         (λ o is some early. any_append (λ t. t.labels ≡ o.labels) a.suffixes keeps.added b.suffixes keeps.suffixes (is some early)) known stored)
-        (All-cons (λ o. o.labels ≢ [] → o.start < 16384 → Any (λ t. t.labels ≡ o.labels) b.suffixes) written [] (λ some early. writes.compresses.stored some early) (All-nil (λ o. o.labels ≢ [] → o.start < 16384 → Any (λ t. t.labels ≡ o.labels) b.suffixes)))
+        (All-cons (λ o. o.labels ≢ [] → o.start < 16384 → Any (λ t. t.labels ≡ o.labels) b.suffixes) written []
+        (λ some early. writes.compresses.stored some early) (All-nil (λ o. o.labels ≢ [] → o.start < 16384 → Any (λ t. t.labels ≡ o.labels) b.suffixes)))
 
     section_more : (known : List Owner) (xs : List E) (c : State) → Section (known ++ written ∷ []) xs b c → Section known (x ∷ xs) a c
     unfolding owners_by written
@@ -92,6 +93,7 @@ module _ {E : Type 0} (word : E → List ℕ → ℕ → ℕ → Type 0) (plain 
         let w = read x (fits 0 x (omega arith)) (length a.bytes) (length b.bytes) (writes.word_stands B first) in
         let spelled = ends (length a.bytes) x (length b.bytes) w in
         let o = written x a b keeps writes first w spelled in
-        let shorts = All-weaker (λ (earlier : Owner). earlier.labels ≢ [] → earlier.start < 16384 → Any (λ t. t.labels ≡ earlier.labels) a.suffixes) (λ earlier. IsCompressed earlier o) (one_short x a b keeps writes first w spelled) known stored in
+        let shorts = All-weaker (λ (earlier : Owner). earlier.labels ≢ [] → earlier.start < 16384
+        → Any (λ t. t.labels ≡ earlier.labels) a.suffixes) (λ earlier. IsCompressed earlier o) (one_short x a b keeps writes first w spelled) known stored in
         section_more x a b keeps writes first w spelled known xs c
         (section xs b c (known ++ o ∷ []) (All-tail P x xs fits) others second (known_after x a b keeps writes first w spelled known stored) (short_last known o short shorts))

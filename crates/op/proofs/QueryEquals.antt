@@ -22,5 +22,6 @@ pub equal_is : (a b : Query)
     → IsTrue ((query_eq.ghosts).eq a b) ↔ (IsTrue (same_name a.name b.name) × (a.query_type ≡ b.query_type) × (a.query_class ≡ b.query_class) × (a.mdns_unicast_response ≡ b.mdns_unicast_response))
 equal_is a b =
     let names : Decides (same_name a.name b.name) (IsTrue (same_name a.name b.name)) = (λ h. h, λ h. h) in
-    let parts = both_Decides _ _ names (both_Decides _ _ (types_Decide a.query_type b.query_type) (both_Decides _ _ (classes_Decide a.query_class b.query_class) (booleans_Decides a.mdns_unicast_response b.mdns_unicast_response))) in
+    let parts = both_Decides _ _ names (both_Decides _ _ (types_Decide a.query_type b.query_type)
+    (both_Decides _ _ (classes_Decide a.query_class b.query_class) (booleans_Decides a.mdns_unicast_response b.mdns_unicast_response))) in
     (λ h. let p = parts.0 h in (p.0, p.1.0, p.1.1.0, p.1.1.1), λ f. parts.1 (f.0, (f.1, (f.2, f.3))))

@@ -83,9 +83,11 @@ unfolding query_at
 query_fault B i f is =
     bind_err (name_at B i) _ f (IsQueryFault B i f) is (λ e. inl (name_fault B i f e)) (λ owner owner_read is1.
     let stands : IsNameAt B i owner.0 owner.1 = name_is B i owner.0 owner.1 owner_read in
-    bind_err (number_at w16 B owner.1) _ f (IsQueryFault B i f) is1 (λ e. let s = number_short w16 B owner.1 f e in inr (owner.0, owner.1, stands, omega (arith, s.short), s.fault)) (λ type type_read is2.
+    bind_err (number_at w16 B owner.1) _ f (IsQueryFault B i f) is1
+    (λ e. let s = number_short w16 B owner.1 f e in inr (owner.0, owner.1, stands, omega (arith, s.short), s.fault)) (λ type type_read is2.
     let type_is = number_is w16 B owner.1 type type_read in
-    bind_err (number_at w16 B type.1) _ f (IsQueryFault B i f) is2 (λ e. let s = number_short w16 B type.1 f e in inr (owner.0, owner.1, stands, omega (arith, s.short, type_is.behind), s.fault)) (λ class class_read is3. cc)))
+    bind_err (number_at w16 B type.1) _ f (IsQueryFault B i f) is2
+    (λ e. let s = number_short w16 B type.1 f e in inr (owner.0, owner.1, stands, omega (arith, s.short, type_is.behind), s.fault)) (λ class class_read is3. cc)))
 
 one_answer : {A : Type 0} (r : Result A DecodeError) (x : A) (f : DecodeError) → r ≡ Ok x → r ≡ Err f → ⊥
 one_answer r x f ok err = cc

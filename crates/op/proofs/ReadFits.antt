@@ -12,14 +12,13 @@ use Rattle.base.specs.Words.BackToBack.{none, more}
 use Rattle.base_data.proofs.EachKind.{signature_is}
 use Rattle.base_data.specs.Kinds.{type_of_data}
 use Rattle.base_data.specs.declared.rdata.RData.{RData}
-use Rattle.base_data.specs.declared.rdata.RData.TheVariants as kinds
 use Rattle.rr.specs.Record.{FitsRecord, IsRecordAt, is_opt_type}
 use Rattle.rr.specs.declared.record.Record.{Record}
 use Rattle.op.specs.Fits.{Fits, FitsAdditional, FitsEdns, FitsPlain, listed, signature_record}
 use Rattle.op.specs.Message.{IsMessageAt, MessageValue, high_code, message_of}
 use Rattle.op.specs.OpCode.{op_number, op_value}
 use Rattle.op.specs.Query.{FitsQuery, IsQueryAt}
-use Rattle.base_data.specs.RData.{is_signature_data, signature_in}
+use Rattle.base_data.specs.RData.{is_signature_data}
 use Rattle.op.specs.Section.{HasNeededData, IsPlain, edns_of, is_opt, is_ordinary, is_signature, section_of, signature_of}
 use Rattle.op.specs.declared.edns.Edns.{Edns}
 use Rattle.op.specs.declared.header.Header.{Header}
@@ -184,11 +183,13 @@ module _ (B : List ℕ) (i : ℕ) (m : MessageValue) (e : ℕ) (w : IsMessageAt 
 
   edns_fit : All FitsEdns (listed (option_map edns_of (find is_opt w.additionals)))
   edns_fit =
-      listed_map (Found (IsRead w.header.metadata.op_code) is_opt) FitsEdns edns_of (λ r f. f.has.edns f.passes) (find is_opt w.additionals) (found (IsRead w.header.metadata.op_code) is_opt w.additionals additionals_read)
+      listed_map (Found (IsRead w.header.metadata.op_code) is_opt) FitsEdns edns_of (λ r f. f.has.edns f.passes)
+      (find is_opt w.additionals) (found (IsRead w.header.metadata.op_code) is_opt w.additionals additionals_read)
 
   signature_fit : All (λ r. FitsRecord (signature_record r)) (listed (option_map signature_of (find is_signature w.additionals)))
   signature_fit =
-      listed_map (Found (IsRead w.header.metadata.op_code) is_signature) (λ r. FitsRecord (signature_record r)) signature_of (λ r f. subst FitsRecord (sym (signed r f.passes)) f.has.fits) (find is_signature w.additionals) (found (IsRead w.header.metadata.op_code) is_signature w.additionals additionals_read)
+      listed_map (Found (IsRead w.header.metadata.op_code) is_signature) (λ r. FitsRecord (signature_record r)) signature_of
+      (λ r f. subst FitsRecord (sym (signed r f.passes)) f.has.fits) (find is_signature w.additionals) (found (IsRead w.header.metadata.op_code) is_signature w.additionals additionals_read)
 
   whole_fits : Fits (message_of w.header.metadata m.queries w.answers w.authorities (section_of w.additionals))
   whole_fits =

@@ -169,7 +169,16 @@ module _ (inside : Bool) (op : OpCode) (B : List ℕ) where
         before = section_of b.records;
         place = b.place;
         stands =
-            record { records = b.records; words = b.words; counted = refl; given = stand.given; placed = stand.placed; signature_last = stand.ends; one_opt = omega (arith, stand.one); section = refl };
+            record {
+              records = b.records;
+              words = b.words;
+              counted = refl;
+              given = stand.given;
+              placed = stand.placed;
+              signature_last = stand.ends;
+              one_opt = omega (arith, stand.one);
+              section = refl;
+            };
         fewer = b.fewer;
         fault = told (section_of b.records) b.place fault;
       }
@@ -181,7 +190,13 @@ module _ (inside : Bool) (op : OpCode) (B : List ℕ) where
   section_fails : (n i : ℕ) (f : DecodeError) → IsSectionFault inside op n B i f → section_at inside op n B i ≡ Err f
   section_fails n i f w =
       let s = w.stands in
-      let stand : Stand inside op false false s.records = record { given = s.given; placed = s.placed; alone = λ has. absurd (true≢false (sym has)); ends = s.signature_last; one = omega (arith, s.one_opt) } in
+      let stand : Stand inside op false false s.records = record {
+        given = s.given;
+        placed = s.placed;
+        alone = λ has. absurd (true≢false (sym has));
+        ends = s.signature_last;
+        one = omega (arith, s.one_opt);
+      } in
       let follow = stand_follow inside op s.records empty_section stand in
       let same : w.before ≡ folded empty_section s.records = s.section ∙ sym (folded_section inside op s.records follow) in
       stops s.records n i w.place empty_section f s.words (omega (arith, s.counted, w.fewer)) follow (subst (λ t. Stops inside op t B w.place f) same (told w.before w.place w.fault))

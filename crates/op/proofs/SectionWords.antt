@@ -13,7 +13,8 @@ use Rattle.base_data.specs.RData.{is_empty_data, is_signature_data}
 use Rattle.base_data.specs.declared.rdata.RData.{RData}
 use Rattle.rr.specs.Record.{is_opt_type}
 use Rattle.rr.specs.declared.record.Record.{Record}
-use Rattle.op.specs.Section.{EndsWithSignature, HasNeededData, SectionValue, edns_of, empty_section, fault_of, is_additional, is_opt, is_ordinary, is_signature, is_update, section_of, signature_of, with_record}
+use Rattle.op.specs.Section.{EndsWithSignature, HasNeededData, SectionValue, edns_of, empty_section, fault_of, is_additional, is_opt, is_ordinary, is_signature}
+use Rattle.op.specs.Section.{is_update, section_of, signature_of, with_record}
 use Rattle.op.specs.declared.op_code.OpCode.{OpCode}
 
 -- each record passes the tests behind those before it
@@ -119,12 +120,14 @@ follow_stand inside op [] s follow = record { given = All-nil (HasNeededData op)
     bounded true = omega arith
     bounded false = omega arith
 follow_stand inside op (r ∷ rs) s follow =
-    let t = no_fault (is_empty_data r.rdata && not (is_update op || is_opt r)) (is_some s.signature) (not inside && is_additional r) (is_some s.edns && is_opt r) faults.InvalidEmptyRecord faults.RecordAfterSig (faults.RecordNotInAdditionalSection (type_of_data r.rdata)) faults.DuplicateEdns follow.0 in
+    let t = no_fault (is_empty_data r.rdata && not (is_update op || is_opt r)) (is_some s.signature) (not inside && is_additional r) (is_some s.edns && is_opt r)
+    faults.InvalidEmptyRecord faults.RecordAfterSig (faults.RecordNotInAdditionalSection (type_of_data r.rdata)) faults.DuplicateEdns follow.0 in
     let before = follow_stand inside op rs (with_record s r) follow.1 in
     let apart : is_signature r ≡ true → is_opt r ≡ false = exclusive r.rdata in
     let edns = edns_after (is_opt r) (is_signature r) s r in
     let signature = signature_after (is_opt r) (is_signature r) s r apart in
-    let rest : Stand inside op (is_opt r || is_some s.edns) (is_signature r || is_some s.signature) rs = subst (λ e. Stand inside op e (is_signature r || is_some s.signature) rs) edns (subst (λ g. Stand inside op (is_some (with_record s r).edns) g rs) signature before) in
+    let rest : Stand inside op (is_opt r || is_some s.edns) (is_signature r || is_some s.signature) rs =
+    subst (λ e. Stand inside op e (is_signature r || is_some s.signature) rs) edns (subst (λ g. Stand inside op (is_some (with_record s r).edns) g rs) signature before) in
     record {
       given = All-cons (HasNeededData op) r rs (given_from (is_empty_data r.rdata) (is_update op || is_opt r) t.first) rest.given;
       placed = λ outside. All-cons (λ x. is_additional x ≡ false) r rs (placed_from inside (is_additional r) t.third outside) (rest.placed outside);
@@ -148,7 +151,8 @@ stand_follow inside op (r ∷ rs) s w =
       third = from_placed inside (is_additional r) (λ outside. w.placed outside 0 r (omega arith));
       fourth = apart_of (is_opt r) (is_some s.edns) r (filter is_opt rs) w.one;
     } in
-    let head : fault_of inside op s r ≡ None = passes (is_empty_data r.rdata && not (is_update op || is_opt r)) (is_some s.signature) (not inside && is_additional r) (is_some s.edns && is_opt r) faults.InvalidEmptyRecord faults.RecordAfterSig (faults.RecordNotInAdditionalSection (type_of_data r.rdata)) faults.DuplicateEdns t in
+    let head : fault_of inside op s r ≡ None = passes (is_empty_data r.rdata && not (is_update op || is_opt r)) (is_some s.signature) (not inside && is_additional r)
+    (is_some s.edns && is_opt r) faults.InvalidEmptyRecord faults.RecordAfterSig (faults.RecordNotInAdditionalSection (type_of_data r.rdata)) faults.DuplicateEdns t in
     let edns = edns_after (is_opt r) (is_signature r) s r in
     let signature = signature_after (is_opt r) (is_signature r) s r apart in
     let rest : Stand inside op (is_opt r || is_some s.edns) (is_signature r || is_some s.signature) rs = record {
@@ -158,7 +162,8 @@ stand_follow inside op (r ∷ rs) s w =
       ends = w.ends.1;
       one = one_less (is_opt r) (is_some s.edns) r (filter is_opt rs) w.one;
     } in
-    let after : Stand inside op (is_some (with_record s r).edns) (is_some (with_record s r).signature) rs = subst (λ e. Stand inside op e (is_some (with_record s r).signature) rs) (sym edns) (subst (λ g. Stand inside op (is_opt r || is_some s.edns) g rs) (sym signature) rest) in
+    let after : Stand inside op (is_some (with_record s r).edns) (is_some (with_record s r).signature) rs =
+    subst (λ e. Stand inside op e (is_some (with_record s r).signature) rs) (sym edns) (subst (λ g. Stand inside op (is_opt r || is_some s.edns) g rs) (sym signature) rest) in
     (head, stand_follow inside op rs (with_record s r) after)
   where
     no_cons : r ∷ rs ≡ [] → ⊥

@@ -165,5 +165,6 @@ module _ (ds : List (Record RData)) (op : OpCode) (fits : All (FitsAdditional op
 
   pub one_opt : (edns : Option Edns) (signature : Option (Record (List ℕ))) → AtMostOneOpt (ds ++ tail edns signature)
   one_opt edns signature =
-      let same : filter is_opt (ds ++ tail edns signature) ≡ filter is_opt (tail edns signature) = filter-append is_opt ds (tail edns signature) ∙ ap (λ xs. xs ++ filter is_opt (tail edns signature)) (filter_none is_opt ds no_opts) in
+      let same : filter is_opt (ds ++ tail edns signature) ≡ filter is_opt (tail edns signature) = filter-append is_opt ds (tail edns signature)
+      ∙ ap (λ xs. xs ++ filter is_opt (tail edns signature)) (filter_none is_opt ds no_opts) in
       subst (λ (xs : List (Record RData)). length xs ≤ 1) (sym same) (rest_one edns signature)

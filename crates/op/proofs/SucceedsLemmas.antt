@@ -117,7 +117,8 @@ module _ (k : State) (blank : k.suffixes ≡ []) (within : length k.bytes ≤ k.
 
     opt_failed : Both (WritesRecordItems edns) Second_extra fourth (Err e) last → e ≡ refusals.Memory
     opt_failed b =
-        let few = took_few k b.between (before + additionals.count + b.value.count) (took_front edns k fourth b.between (before + additionals.count) b.value.count b.value.is_cut took b.ran) blank within small in
+        let few = took_few k b.between (before + additionals.count + b.value.count)
+        (took_front edns k fourth b.between (before + additionals.count) b.value.count b.value.is_cut took b.ran) blank within small in
         elim (failed e b.rest) [
           | inl test ↦ absurd (omega (arith, few, test.0.0))
           | inr c ↦ sum_failed b.value b.between b.ran c
@@ -168,7 +169,8 @@ module _ (m : MessageValue) (q q' : Iter Query) (a a' n n' d d' : Iter (Record R
     extras_next queries first fourth sections few took three run =
         let one = took_front a.rest.now kept first three.second 0 sections.answers.count sections.answers.is_cut took three.answers in
         let two = took_front n.rest.now kept three.second three.third (0 + sections.answers.count) sections.authorities.count sections.authorities.is_cut one three.authorities in
-        let all = took_front d.rest.now kept three.third fourth (0 + sections.answers.count + sections.authorities.count) sections.additionals.count sections.additionals.is_cut two three.additionals in
+        let all = took_front d.rest.now kept three.third fourth (0 + sections.answers.count + sections.authorities.count)
+        sections.additionals.count sections.additionals.is_cut two three.additionals in
         elim (failed e run) [
           | inl extras ↦ extras_failed kept no_suffix kept_within kept_small e edns signature sections.additionals fourth new (0 + sections.answers.count + sections.authorities.count) all extras
           | inr b ↦ header_failed queries b.between sections b.value few b.rest

@@ -93,7 +93,8 @@ merged (Some e) m low small is high =
 
 same_message : {a b : Metadata} {q r : List Query} {as1 as2 ns1 ns2 ds1 ds2 : List (Record RData)} {f g : Option Edns} {s t : Option (Record (List ℕ))} → a ≡ b → q ≡ r → as1 ≡ as2
     → ns1 ≡ ns2 → ds1 ≡ ds2 → f ≡ g → s ≡ t
-    → ◌≡◌ {A = MessageValue} (record { metadata = a; queries = q; answers = as1; authorities = ns1; additionals = ds1; edns = f; signature = s }) (record { metadata = b; queries = r; answers = as2; authorities = ns2; additionals = ds2; edns = g; signature = t })
+    → ◌≡◌ {A = MessageValue} (record { metadata = a; queries = q; answers = as1; authorities = ns1; additionals = ds1; edns = f; signature = s })
+    (record { metadata = b; queries = r; answers = as2; authorities = ns2; additionals = ds2; edns = g; signature = t })
 same_message p q r s t u v = rw (p, q, r, s, t, u, v) refl
 
 -- ---- any message
@@ -127,8 +128,10 @@ uncut_written m limit C c k (no_answers, no_authorities, no_additionals, no_edns
 module _ (B : List ℕ) (i : ℕ) (m : MessageValue) (e : ℕ) (w : IsMessageAt B i m e) (bytes : All (λ b. b < 256) B) where
   high_small : All (λ x. x.rcode_high < 256) (listed (option_map edns_of (find is_opt w.additionals)))
   high_small =
-      let all = back_all (λ r. r.ttl / 16777216 < 256) (λ j r k word. subst (λ (n : ℕ). n / 16777216 < 256) (sym word.value.ttl) (ttl_small B (word.word.owner_end + 4) word.raw.ttl bytes word.word.ttl_stands)) w.additionals_stand in
-      listed_map (Found (λ r. r.ttl / 16777216 < 256) is_opt) (λ x. x.rcode_high < 256) edns_of (λ r f. f.has) (find is_opt w.additionals) (found (λ r. r.ttl / 16777216 < 256) is_opt w.additionals all)
+      let all = back_all (λ r. r.ttl / 16777216 < 256)
+      (λ j r k word. subst (λ (n : ℕ). n / 16777216 < 256) (sym word.value.ttl) (ttl_small B (word.word.owner_end + 4) word.raw.ttl bytes word.word.ttl_stands)) w.additionals_stand in
+      listed_map (Found (λ r. r.ttl / 16777216 < 256) is_opt) (λ x. x.rcode_high < 256) edns_of
+      (λ r f. f.has) (find is_opt w.additionals) (found (λ r. r.ttl / 16777216 < 256) is_opt w.additionals all)
 
   code_merged : IsMerged m.edns m.metadata.response_code
   code_merged =

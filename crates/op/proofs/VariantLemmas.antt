@@ -36,11 +36,14 @@ choices_ordered : (Fss : List (List Field)) (place number : Choice Fss → ℕ) 
     → (c d : Choice Fss) → by (Some Less) (Some Greater) Fss each c d ≡ Some (ordering_then (nat_cmp (place c) (place d)) (nat_cmp (number c) (number d)))
 choices_ordered [] place number n each placed ordered c d = absurd c
 choices_ordered (Fs ∷ Fss) place number n each placed ordered (inl x) (inl y) =
-    ordered.0 x y ∙ by_places Equal (place (inl x)) (place (inl y)) (number (inl x)) (number (inl y)) (nat_cmp_is (place (inl x)) (place (inl y)) Equal (placed.0 x ∙ sym (placed.0 y))) (nat_cmp (number (inl x)) (number (inl y))) refl
+    ordered.0 x y ∙ by_places Equal (place (inl x)) (place (inl y)) (number (inl x)) (number (inl y))
+    (nat_cmp_is (place (inl x)) (place (inl y)) Equal (placed.0 x ∙ sym (placed.0 y))) (nat_cmp (number (inl x)) (number (inl y))) refl
 choices_ordered (Fs ∷ Fss) place number n each placed ordered (inl x) (inr d) =
-    by_places Less (place (inl x)) (place (inr d)) (number (inl x)) (number (inr d)) (nat_cmp_is (place (inl x)) (place (inr d)) Less (omega (arith, placed.0 x, at_least Fss (λ e. place (inr e)) (n + 1) placed.1 d))) Less refl
+    by_places Less (place (inl x)) (place (inr d)) (number (inl x)) (number (inr d))
+    (nat_cmp_is (place (inl x)) (place (inr d)) Less (omega (arith, placed.0 x, at_least Fss (λ e. place (inr e)) (n + 1) placed.1 d))) Less refl
 choices_ordered (Fs ∷ Fss) place number n each placed ordered (inr c) (inl y) =
-    by_places Greater (place (inr c)) (place (inl y)) (number (inr c)) (number (inl y)) (nat_cmp_is (place (inr c)) (place (inl y)) Greater (omega (arith, placed.0 y, at_least Fss (λ e. place (inr e)) (n + 1) placed.1 c))) Greater refl
+    by_places Greater (place (inr c)) (place (inl y)) (number (inr c)) (number (inl y))
+    (nat_cmp_is (place (inr c)) (place (inl y)) Greater (omega (arith, placed.0 y, at_least Fss (λ e. place (inr e)) (n + 1) placed.1 c))) Greater refl
 choices_ordered (Fs ∷ Fss) place number n each placed ordered (inr c) (inr d) =
     choices_ordered Fss (λ e. place (inr e)) (λ e. number (inr e)) (n + 1) each.1 placed.1 ordered.1 c d
 

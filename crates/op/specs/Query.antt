@@ -84,7 +84,8 @@ IsQueryFault B i f = IsFaulty B i i 0 f ⊎ ((name : NameValue) × (m : ℕ) × 
 -- name, class and type, and whether a unicast response is asked for
 abbrev pub query_text : Query → List ℕ
 query_text q =
-    name_text q.name ++ (codes " " ++ (class_text q.query_class ++ (codes " " ++ (type_text q.query_type ++ (codes "; mdns_unicast_response: " ++ (if q.mdns_unicast_response then codes "true" else codes "false"))))))
+    name_text q.name ++ (codes " " ++ (class_text q.query_class ++
+    (codes " " ++ (type_text q.query_type ++ (codes "; mdns_unicast_response: " ++ (if q.mdns_unicast_response then codes "true" else codes "false"))))))
 
 -- the question for a type of a name, in the class IN and answered by multicast
 abbrev pub plain_question : NameValue → RecordType → Query

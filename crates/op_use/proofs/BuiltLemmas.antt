@@ -99,7 +99,8 @@ any_class : IsSentClass classes.ANY
 any_class = record { reads = refl; narrow = omega arith }
 
 -- the records of a set
-each_fits : (t : RecordType) → is_ordinary t ≡ true → (rs : List (Record RData)) → AllByRecursion (λ (r : Record RData). type_of_data r.rdata ≡ t) rs → AllByRecursion FitsRecord rs → AllByRecursion (FitsPlain op_codes.Update) rs
+each_fits : (t : RecordType) → is_ordinary t ≡ true → (rs : List (Record RData))
+    → AllByRecursion (λ (r : Record RData). type_of_data r.rdata ≡ t) rs → AllByRecursion FitsRecord rs → AllByRecursion (FitsPlain op_codes.Update) rs
 each_fits t plain [] own fits = tt
 each_fits t plain (r ∷ rs) own fits =
     (record { fits = fits.0; given = λ _. refl; placed = ap is_additional_type own.0 ∙ not_additional t plain }, each_fits t plain rs own.1 fits.1)
@@ -134,13 +135,15 @@ one_fits r fits = All-cons (FitsPlain op_codes.Update) r [] fits (All-nil _)
 
 pub append_fits : (id : ℕ) (s : SetValue) (origin : NameValue) (must_exist use_edns : Bool) → IsSendable origin s → Fits (update_message id use_edns (append s origin must_exist))
 append_fits id s origin true use_edns g =
-    sections_fit id use_edns origin s.dns_class _ _ g.rooted g.sent.class (one_fits _ (empty_fits s.name s.record_type classes.ANY g.sent.absolute (sent_type s g.sent g.ordinary) any_class)) (records_fit s g.sound g.ordinary g.sent)
+    sections_fit id use_edns origin s.dns_class _ _ g.rooted g.sent.class
+    (one_fits _ (empty_fits s.name s.record_type classes.ANY g.sent.absolute (sent_type s g.sent g.ordinary) any_class)) (records_fit s g.sound g.ordinary g.sent)
 append_fits id s origin false use_edns g =
     sections_fit id use_edns origin s.dns_class _ _ g.rooted g.sent.class (All-nil _) (records_fit s g.sound g.ordinary g.sent)
 
 pub create_fits : (id : ℕ) (s : SetValue) (origin : NameValue) (use_edns : Bool) → IsSendable origin s → Fits (update_message id use_edns (create s origin))
 create_fits id s origin use_edns g =
-    sections_fit id use_edns origin s.dns_class _ _ g.rooted g.sent.class (one_fits _ (empty_fits s.name s.record_type classes.NONE g.sent.absolute (sent_type s g.sent g.ordinary) none_class)) (records_fit s g.sound g.ordinary g.sent)
+    sections_fit id use_edns origin s.dns_class _ _ g.rooted g.sent.class
+    (one_fits _ (empty_fits s.name s.record_type classes.NONE g.sent.absolute (sent_type s g.sent g.ordinary) none_class)) (records_fit s g.sound g.ordinary g.sent)
 
 -- records in the class NONE, and without a time to live
 in_none : (r : Record RData) → is_opt_type (type_of_data r.rdata) ≡ false → FitsRecord r → FitsRecord (in_class classes.NONE r)
@@ -153,7 +156,8 @@ in_none r plain fits = record {
   not_flushing = λ e. absurd (true≢false (sym e ∙ plain));
 }
 
-each_none : (t : RecordType) → is_ordinary t ≡ true → (rs : List (Record RData)) → AllByRecursion (λ (r : Record RData). type_of_data r.rdata ≡ t) rs → AllByRecursion FitsRecord rs → AllByRecursion (FitsPlain op_codes.Update) (map (in_class classes.NONE) rs)
+each_none : (t : RecordType) → is_ordinary t ≡ true → (rs : List (Record RData)) → AllByRecursion (λ (r : Record RData). type_of_data r.rdata ≡ t) rs
+    → AllByRecursion FitsRecord rs → AllByRecursion (FitsPlain op_codes.Update) (map (in_class classes.NONE) rs)
 each_none t plain [] own fits = tt
 each_none t plain (r ∷ rs) own fits =
     (record { fits = in_none r (ap is_opt_type own.0 ∙ not_opt t plain) fits.0; given = λ _. refl; placed = ap is_additional_type own.0 ∙ not_additional t plain }, each_none t plain rs own.1 fits.1)
@@ -173,7 +177,8 @@ untimed r fits = record {
   not_flushing = fits.not_flushing;
 }
 
-each_untimed : (t : RecordType) → is_ordinary t ≡ true → (rs : List (Record RData)) → AllByRecursion (λ (r : Record RData). type_of_data r.rdata ≡ t) rs → AllByRecursion FitsRecord rs → AllByRecursion (FitsPlain op_codes.Update) (map without_ttl rs)
+each_untimed : (t : RecordType) → is_ordinary t ≡ true → (rs : List (Record RData)) → AllByRecursion (λ (r : Record RData). type_of_data r.rdata ≡ t) rs
+    → AllByRecursion FitsRecord rs → AllByRecursion (FitsPlain op_codes.Update) (map without_ttl rs)
 each_untimed t plain [] own fits = tt
 each_untimed t plain (r ∷ rs) own fits =
     (record { fits = untimed r fits.0; given = λ _. refl; placed = ap is_additional_type own.0 ∙ not_additional t plain }, each_untimed t plain rs own.1 fits.1)

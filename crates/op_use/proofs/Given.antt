@@ -110,7 +110,8 @@ pub given_at : (z : Zone) (named : NameValue) (s : SetValue) → IsGiven z named
 given_at z named s g = each_at z named s g.place g.sound.class s.records g.sound.own_owner g.sound.own_type g.sound.own_class
 
 -- the zone section passes
-pub zone_passes : (z : Zone) (named owner : NameValue) (class : DNSClass) → IsFor z named owner class → zone_fault z (record { name = named; query_type = types.SOA; query_class = class; mdns_unicast_response = false } ∷ []) ≡ None
+pub zone_passes : (z : Zone) (named owner : NameValue) (class : DNSClass) → IsFor z named owner class
+    → zone_fault z (record { name = named; query_type = types.SOA; query_class = class; mdns_unicast_response = false } ∷ []) ≡ None
 zone_passes z named owner class f =
     ap (λ b. unless (b && same_class class z.class) NotAuth) f.same_origin
     ∙ ap (λ b. unless b NotAuth) (ap (same_class class) f.same_class ∙ class_laws.refl class)

@@ -3,4 +3,5 @@ mod Changes
 mod Given
 mod Meaning
 mod MergeSteps
+mod ServerRowsLemmas
 mod ZoneSteps

@@ -22,7 +22,9 @@ use Rattle.rr.specs.RecordSet.{SetValue, is_ns, is_soa}
 use Rattle.base_data.specs.SameData.{same_data}
 use Rattle.op_use.specs.Zone.{Datum, IsZone, Zone, at, has_set, is_guarded, put}
 use Rattle.op_use.specs.NamedChanges.{has_data_of_set, is_data_of, less_data, less_key, merged, set_key}
-use Rattle.op_use.specs.Server.{Sections, Fault, and_then, unless, first_fault, prescan_fault, prescan_by, prerequisite_fault, prerequisite_by, prerequisites_fault, collected, is_met, is_same_key, is_of_zone, use_of, is_any, is_meta, type_of_record, record_key, update, removed, answer, serve, zone_fault}
+use Rattle.op_use.specs.Server.{Sections, Fault, and_then, unless, first_fault, prescan_fault, prescan_by, prerequisite_fault, prerequisite_by, prerequisites_fault}
+use Rattle.op_use.specs.Server.{collected, is_met, is_same_key, is_of_zone, use_of, is_any, is_meta, type_of_record, record_key, update, removed, answer, serve}
+use Rattle.op_use.specs.Server.{zone_fault}
 use Rattle.op_use.specs.SoundSet.{IsFor, IsGiven, NoCname, is_ordinary}
 use Rattle.op_use.specs.UpdateMessage.{append, compare_and_swap, create, delete_all, delete_by_rdata, delete_rrset, empty_record, in_class, without_ttl}
 use Rattle.op_use.proofs.Changes.{AppendChanges, CompareAndSwapChanges, CreateChanges, DeleteAllChanges, DeleteByRdataChanges, DeleteRrsetChanges}
@@ -34,7 +36,8 @@ and_then_none : (p : Fault) → and_then p None ≡ p
 and_then_none (Some code) = refl
 and_then_none None = refl
 
-served : (z : Zone) (m : Sections) (p : Fault) → zone_fault z m.zones ≡ None → prerequisites_fault z m.prerequisites ≡ p → first_fault (prescan_fault z) m.updates ≡ None → serve z m ≡ answer z m.updates p
+served : (z : Zone) (m : Sections) (p : Fault) → zone_fault z m.zones ≡ None → prerequisites_fault z m.prerequisites ≡ p
+    → first_fault (prescan_fault z) m.updates ≡ None → serve z m ≡ answer z m.updates p
 served z m p a b c = ap (answer z m.updates) ((λ i. and_then (a i) (and_then (b i) (c i))) ∙ and_then_none p)
 
 -- the answer where one condition decides
@@ -65,13 +68,15 @@ adds z named s g none =
     ∙ ap (put z (set_key s)) (all_added s.records (at z (set_key s)) g.sound.distinct)
 
 -- the prerequisite that there is no such set, and that there is one
-no_such : (z : Zone) (owner : NameValue) (t : RecordType) → is_zone_of z.origin owner ≡ true → is_any t ≡ false → prerequisites_fault z (empty_record owner t classes.NONE ∷ []) ≡ unless (not (has_set z (key_of owner t))) YXRRSet
+no_such : (z : Zone) (owner : NameValue) (t : RecordType) → is_zone_of z.origin owner ≡ true → is_any t ≡ false
+    → prerequisites_fault z (empty_record owner t classes.NONE ∷ []) ≡ unless (not (has_set z (key_of owner t))) YXRRSet
 no_such z owner t inside plain =
     and_then_none _ ∙ and_then_none _
     ∙ ap (λ b. and_then (unless b NotZone) (prerequisite_by (use_of z.class classes.NONE) z (empty_record owner t classes.NONE))) inside
     ∙ cond-false (is_any t) _ _ plain
 
-such : (z : Zone) (owner : NameValue) (t : RecordType) → is_zone_of z.origin owner ≡ true → is_any t ≡ false → prerequisites_fault z (empty_record owner t classes.ANY ∷ []) ≡ unless (has_set z (key_of owner t)) NXRRSet
+such : (z : Zone) (owner : NameValue) (t : RecordType) → is_zone_of z.origin owner ≡ true → is_any t ≡ false
+    → prerequisites_fault z (empty_record owner t classes.ANY ∷ []) ≡ unless (has_set z (key_of owner t)) NXRRSet
 such z owner t inside plain =
     and_then_none _ ∙ and_then_none _
     ∙ ap (λ b. and_then (unless b NotZone) (prerequisite_by (use_of z.class classes.ANY) z (empty_record owner t classes.ANY))) inside
@@ -106,7 +111,8 @@ taken_one : (z : Zone) (k : RrKey) (t : RecordType) (r : Record RData) → is_so
 taken_one z k t r soa ns h =
     let no_start : is_soa (type_of_record r) ≡ false = ap is_soa h.type ∙ soa in
     let no_server : is_ns (type_of_record r) ≡ false = ap is_ns h.type ∙ ns in
-    cond-false _ z _ (ap (λ (p : Bool × Bool). p.0 || ((same_name r.name z.origin && (p.0 || p.1)) && nat_le (length (at z (record_key r))) 1)) (λ i. (no_start i, no_server i)) ∙ never (same_name r.name z.origin) _)
+    cond-false _ z _ (ap (λ (p : Bool × Bool). p.0 || ((same_name r.name z.origin && (p.0 || p.1)) && nat_le (length (at z (record_key r))) 1)) (λ i. (no_start i, no_server i))
+    ∙ never (same_name r.name z.origin) _)
     ∙ ap (λ q. put z q (removed (at z q) r)) h.key
 
 takes : (z : Zone) (k : RrKey) (t : RecordType) → is_soa t ≡ false → is_ns t ≡ false → (rs : List (Record RData)) (xs : List Datum) → AllByRecursion (IsAt z k t) rs
@@ -127,7 +133,8 @@ takes_out z named s g =
     ∙ ap (put z (set_key s)) (all_removed s.records (at z (set_key s)))
 
 -- the prescan passes them
-takes_pass : (z : Zone) (k : RrKey) (t : RecordType) → is_meta t ≡ false → (rs : List (Record RData)) → AllByRecursion (IsAt z k t) rs → first_fault (prescan_fault z) (map (in_class classes.NONE) rs) ≡ None
+takes_pass : (z : Zone) (k : RrKey) (t : RecordType) → is_meta t ≡ false → (rs : List (Record RData))
+    → AllByRecursion (IsAt z k t) rs → first_fault (prescan_fault z) (map (in_class classes.NONE) rs) ≡ None
 takes_pass z k t m [] h = refl
 takes_pass z k t m (r ∷ rs) h =
     ap (λ f. and_then f (first_fault (prescan_fault z) (map (in_class classes.NONE) rs))) (
@@ -192,14 +199,18 @@ any_under k r d (q ∷ qs) e h =
     let here : is_same_key r q ≡ true = (λ i. eq_by_cmp key_cmp (e i) (h.0 i)) ∙ tied k in
     ap (λ b. (b && is_data_of d q) || list_any (λ q. is_same_key r q && is_data_of d q) qs) here ∙ ap (λ b. is_data_of d q || b) (any_under k r d qs e h.1)
 
-all_under : (k : RrKey) (r : Record RData) (qs : List (Record RData)) (ds : List Datum) → record_key r ≡ k → Under k qs → list_all (λ d. list_any (λ q. is_same_key r q && is_data_of d q) qs) ds ≡ list_all (λ d. list_any (is_data_of d) qs) ds
+all_under : (k : RrKey) (r : Record RData) (qs : List (Record RData)) (ds : List Datum) → record_key r ≡ k → Under k qs
+    → list_all (λ d. list_any (λ q. is_same_key r q && is_data_of d q) qs) ds ≡ list_all (λ d. list_any (is_data_of d) qs) ds
 all_under k r qs [] e h = refl
 all_under k r qs (d ∷ ds) e h = λ i. any_under k r d qs e h i && all_under k r qs ds e h i
 
-met_under : (z : Zone) (k : RrKey) (r : Record RData) (qs : List (Record RData)) → record_key r ≡ k → Under k qs → is_met z qs r ≡ (list_any (λ d. is_data_of d r) (at z k) && list_all (λ d. list_any (is_data_of d) qs) (at z k))
-met_under z k r qs e h = ap (λ q. list_any (λ d. is_data_of d r) (at z q) && list_all (λ d. list_any (λ p. is_same_key r p && is_data_of d p) qs) (at z q)) e ∙ ap (λ b. list_any (λ d. is_data_of d r) (at z k) && b) (all_under k r qs (at z k) e h)
+met_under : (z : Zone) (k : RrKey) (r : Record RData) (qs : List (Record RData)) → record_key r ≡ k → Under k qs
+    → is_met z qs r ≡ (list_any (λ d. is_data_of d r) (at z k) && list_all (λ d. list_any (is_data_of d) qs) (at z k))
+met_under z k r qs e h = ap (λ q. list_any (λ d. is_data_of d r) (at z q) && list_all (λ d. list_any (λ p. is_same_key r p && is_data_of d p) qs) (at z q)) e
+    ∙ ap (λ b. list_any (λ d. is_data_of d r) (at z k) && b) (all_under k r qs (at z k) e h)
 
-each_met : (z : Zone) (k : RrKey) (qs rs : List (Record RData)) → Under k qs → Under k rs → list_all (is_met z qs) rs ≡ list_all (λ r. list_any (λ d. is_data_of d r) (at z k) && list_all (λ d. list_any (is_data_of d) qs) (at z k)) rs
+each_met : (z : Zone) (k : RrKey) (qs rs : List (Record RData)) → Under k qs → Under k rs
+    → list_all (is_met z qs) rs ≡ list_all (λ r. list_any (λ d. is_data_of d r) (at z k) && list_all (λ d. list_any (is_data_of d) qs) (at z k)) rs
 each_met z k qs [] g h = refl
 each_met z k qs (r ∷ rs) g h = λ i. met_under z k r qs h.0 g i && each_met z k qs rs g h.1 i
 
@@ -271,7 +282,8 @@ not_filled : (o p : Option (List Datum)) → (o ≡ None) ⊎ (o ≡ p) → p �
 not_filled o p (inl e) h = λ f. cc
 not_filled o p (inr e) h = λ f. h (sym e ∙ f)
 
-still_distinct : (o p : Option (List Datum)) → (o ≡ None) ⊎ (o ≡ p) → IsDistinct (on (λ (d : Datum). d.rdata) same_data) (unwrap_or p []) → IsDistinct (on (λ (d : Datum). d.rdata) same_data) (unwrap_or o [])
+still_distinct : (o p : Option (List Datum)) → (o ≡ None) ⊎ (o ≡ p) → IsDistinct (on (λ (d : Datum). d.rdata) same_data) (unwrap_or p [])
+    → IsDistinct (on (λ (d : Datum). d.rdata) same_data) (unwrap_or o [])
 unfolding IsDistinct
 still_distinct o p (inl e) h = subst (λ r. IsDistinct (on (λ (d : Datum). d.rdata) same_data) (unwrap_or r [])) (sym e) tt
 still_distinct o p (inr e) h = subst (λ r. IsDistinct (on (λ (d : Datum). d.rdata) same_data) (unwrap_or r [])) (sym e) h

@@ -37,7 +37,7 @@ at_put z k xs = ap (λ o. unwrap_or o []) (get_with_set z.sets k xs k ∙ ap (λ
 pub at_put_other : (z : Zone) (k q : RrKey) (xs : List Datum) → eq_by_cmp key_cmp q k ≡ false → fin.get (put z k xs).sets q ≡ fin.get z.sets q
 at_put_other z k q xs h = get_with_set z.sets k xs q ∙ ap (λ b. cond b (kept xs) (fin.get z.sets q)) h
 
-twice : (b : Bool) (x y z : Option (List Datum)) → cond b y (cond b x z) ≡ cond b y z
+pub twice : (b : Bool) (x y z : Option (List Datum)) → cond b y (cond b x z) ≡ cond b y z
 twice true x y z = refl
 twice false x y z = refl
 

@@ -4,6 +4,7 @@ pub mod NamedChanges
 pub mod Responses
 pub mod SerialMessage
 pub mod Server
+pub mod ServerRows
 pub mod SoundSet
 pub mod UpdateMeaning
 pub mod UpdateMessage

@@ -4,6 +4,7 @@
 
 pub mod dns_response;
 pub mod serial_message;
+pub mod server_rows;
 pub mod update_message;
 
 pub use dns_response::DnsResponse;

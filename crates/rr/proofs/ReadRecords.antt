@@ -22,7 +22,8 @@ use Rattle.base_data.specs.Kinds.{type_of_data, DataWord}
 use Rattle.base_data.specs.DataAt.{IsDataAt}
 use Rattle.base_data.specs.RData.{rdata_at}
 use Rattle.base_data.specs.declared.rdata.RData.{RData}
-use Rattle.rr.specs.Record.{FitsRecord, IsRawRecordAt, IsReadableRecord, IsRecordAt, IsRecordValue, RawRecord, RecordWord, body_at, class_value, flush_value, is_opt_type, raw_record, record_at, record_value}
+use Rattle.rr.specs.Record.{FitsRecord, IsRawRecordAt, IsReadableRecord, IsRecordAt, IsRecordValue, RawRecord, RecordWord, body_at, class_value, flush_value, is_opt_type}
+use Rattle.rr.specs.Record.{raw_record, record_at, record_value}
 use Rattle.rr.specs.declared.record.Record.{Record}
 
 pub opt_is : (type : RecordType) → is_opt_type type ≡ true → type ≡ types.OPT
@@ -99,7 +100,8 @@ body_is owner type B i r is =
       inside = omega (arith, fits, at_data);
       rdata = rdata.value.0;
       rdata_stands = subst (λ k. IsDataAt B k type len.value.0 rdata.value.0) at_data data_is.0;
-      is = sym (same_ok _ r rdata.second) ∙ ap (λ (k : ℕ). (record { name = owner; dns_class = class_value type class.value.0; ttl = ttl.value.0; rdata = rdata.value.0; mdns_cache_flush = flush_value type class.value.0 }, k)) end;
+      is = sym (same_ok _ r rdata.second) ∙ ap (λ (k : ℕ).
+          (record { name = owner; dns_class = class_value type class.value.0; ttl = ttl.value.0; rdata = rdata.value.0; mdns_cache_flush = flush_value type class.value.0 }, k)) end;
     }
 
 body_again : (owner : NameValue) (type : RecordType) (B : List ℕ) (i : ℕ) (r : Record RData × ℕ) → IsBody owner type B i r → body_at owner type B i ≡ Ok r
@@ -148,7 +150,13 @@ record_is B i r is =
       rdata_stands = data_is.word;
       fills = refl;
     } in
-    let found : Record RData = record { name = name; dns_class = class_value (type_of type.value.0) body.class; ttl = body.ttl; rdata = body.rdata; mdns_cache_flush = flush_value (type_of type.value.0) body.class } in
+    let found : Record RData = record {
+      name = name;
+      dns_class = class_value (type_of type.value.0) body.class;
+      ttl = body.ttl;
+      rdata = body.rdata;
+      mdns_cache_flush = flush_value (type_of type.value.0) body.class;
+    } in
     let value : IsRecordValue raw found = record {
       owner = ap (λ (absolute : Bool). record name { absolute = absolute }) name_stands.absolute;
       root = root_of name (type_of type.value.0) tested.0;

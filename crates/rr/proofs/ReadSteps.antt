@@ -44,7 +44,8 @@ module _ (owner : NameValue) (type : RecordType) (B : List ℕ) (i class ttl_at 
           number_same w16 third B len_at (Err f) (same_again ∙ same) no,
         ) refl) fails
 
-    module _ (len data_at : ℕ) (len_is : number_at w16 third len_at ≡ Ok (len, data_at)) (last : List ℕ) (same_last : last ≡ third) (left asked : ℕ) (left_is : left ≡ length last - data_at) (asked_is : asked ≡ len) where
+    module _ (len data_at : ℕ) (len_is : number_at w16 third len_at ≡ Ok (len, data_at)) (last : List ℕ)
+        (same_last : last ≡ third) (left asked : ℕ) (left_is : left ≡ length last - data_at) (asked_is : asked ≡ len) where
       same_bytes : last ≡ B
       same_bytes = same_last ∙ (same_again ∙ same)
 
@@ -80,7 +81,8 @@ module _ (owner : NameValue) (type : RecordType) (B : List ℕ) (i class ttl_at 
             subst (λ (bytes : List ℕ). rdata_at type len bytes data_at ≡ Err f) same_bytes no,
           ) refl) fails
 
-      pub body_read : asked ≤ left → (rdata : RData) (end : ℕ) → rdata_at type len last data_at ≡ Ok (rdata, end) → (dns_class : DNSClass) (flush : Bool) → dns_class ≡ class_value type class → flush ≡ flush_value type class
+      pub body_read : asked ≤ left → (rdata : RData) (end : ℕ) → rdata_at type len last data_at ≡ Ok (rdata, end)
+          → (dns_class : DNSClass) (flush : Bool) → dns_class ≡ class_value type class → flush ≡ flush_value type class
           → body_at owner type B i ≡ Ok (record { name = owner; dns_class = dns_class; ttl = ttl; rdata = rdata; mdns_cache_flush = flush }, end)
       unfolding body_at
       body_read fits rdata end rdata_is dns_class flush dns_class_is flush_is = rw (
@@ -127,7 +129,8 @@ module _ (B : List ℕ) (i : ℕ) (owner : NameValue) (type_place : ℕ) (owner_
   pub type_fails : (f : DecodeError) → Fails f (type_at second type_place) → Fails f (record_at B i)
   unfolding record_at
   type_fails f fails =
-      Fails-through f (type_at second type_place) (record_at B i) (λ no. rw owner_is (type_err (number_at w16 B type_place) (λ n. behind_type B owner (type_of n.0) n.1) f (type_same second B type_place (Err f) same no))) fails
+      Fails-through f (type_at second type_place) (record_at B i)
+      (λ no. rw owner_is (type_err (number_at w16 B type_place) (λ n. behind_type B owner (type_of n.0) n.1) f (type_same second B type_place (Err f) same no))) fails
 
   module _ (type : RecordType) (e : ℕ) (type_is : type_at second type_place ≡ Ok (type, e)) where
     head_is : record_at B i ≡ behind_type B owner type e
@@ -147,6 +150,7 @@ module _ (B : List ℕ) (i : ℕ) (owner : NameValue) (type_place : ℕ) (owner_
       goes false true is = refl
       goes opt false is = cc
 
-    pub record_read : (old mid new : Reader) (r : Result (Record RData) DecodeError) → mid.bytes ≡ old.bytes → Reads (λ x. x) mid new r (body_at owner type B e) → body_at owner type B e ≡ record_at B i → Reads (λ x. x) old new r (record_at B i)
+    pub record_read : (old mid new : Reader) (r : Result (Record RData) DecodeError) → mid.bytes ≡ old.bytes
+        → Reads (λ x. x) mid new r (body_at owner type B e) → body_at owner type B e ≡ record_at B i → Reads (λ x. x) old new r (record_at B i)
     record_read old mid new (Ok x) over read is = (sym is ∙ read.0, read.1 ∙ over)
     record_read old mid new (Err f) over read is = subst (Fails f) is read

@@ -25,7 +25,8 @@ use Rattle.rr.specs.Record.IsRecordFault.{bad_data, cut_fields, cut_type, in_nam
 use Rattle.rr.proofs.ReadRecords.{is_wrong_owner, no_element, opt_is, root_of, root_passes}
 
 -- a test that turns away, or goes on
-turned_or : {A : Type 0} (test : Bool) (e : DecodeError) (r : Result A DecodeError) (f : DecodeError) (P : Type 0) → cond test (Err e) r ≡ Err f → (test ≡ true → f ≡ e → P) → (test ≡ false → r ≡ Err f → P) → P
+turned_or : {A : Type 0} (test : Bool) (e : DecodeError) (r : Result A DecodeError) (f : DecodeError) (P : Type 0)
+    → cond test (Err e) r ≡ Err f → (test ≡ true → f ≡ e → P) → (test ≡ false → r ≡ Err f → P) → P
 turned_or true e r f P is turns goes = turns refl (cc)
 turned_or false e r f P is turns goes = goes refl is
 
@@ -59,7 +60,8 @@ body_fault owner type m B i f head is =
     let class_is = number_is w16 B (m + 2) class class_read in
     bind_err (number_at w32 B class.1) _ f (IsRecordFault B i f) is1 (λ e. let s = number_short w32 B class.1 f e in cut s.fault (omega (arith, s.short, class_is.behind))) (λ ttl ttl_read is2.
     let ttl_is = number_is w32 B class.1 ttl ttl_read in
-    bind_err (number_at w16 B ttl.1) _ f (IsRecordFault B i f) is2 (λ e. let s = number_short w16 B ttl.1 f e in cut s.fault (omega (arith, s.short, class_is.behind, ttl_is.behind))) (λ len len_read is3.
+    bind_err (number_at w16 B ttl.1) _ f (IsRecordFault B i f) is2
+    (λ e. let s = number_short w16 B ttl.1 f e in cut s.fault (omega (arith, s.short, class_is.behind, ttl_is.behind))) (λ len len_read is3.
     let len_is = number_is w16 B ttl.1 len len_read in
     let at_len : ttl.1 ≡ m + 8 = omega (arith, class_is.behind, ttl_is.behind) in
     let at_data : len.1 ≡ m + 10 = omega (arith, len_is.behind, at_len) in
@@ -82,7 +84,8 @@ unfolding record_at
 record_fault B i f is =
     bind_err (name_at B i) _ f (IsRecordFault B i f) is (λ e. in_name (name_fault B i f e)) (λ owner owner_read is1.
     let stands : IsNameAt B i owner.0 owner.1 = name_is B i owner.0 owner.1 owner_read in
-    bind_err (number_at w16 B owner.1) _ f (IsRecordFault B i f) is1 (λ e. let s = number_short w16 B owner.1 f e in subst (IsRecordFault B i) (sym s.fault) (cut_type stands s.short)) (λ type type_read is2.
+    bind_err (number_at w16 B owner.1) _ f (IsRecordFault B i f) is1
+    (λ e. let s = number_short w16 B owner.1 f e in subst (IsRecordFault B i) (sym s.fault) (cut_type stands s.short)) (λ type type_read is2.
     let type_is = number_is w16 B owner.1 type type_read in
     turned_or (is_wrong_owner owner.0 (type_of type.0)) _ _ f (IsRecordFault B i f) is2
     (λ test fault. subst (IsRecordFault B i) (sym fault) (opt_owner stands type_is.stands (wrong_type owner.0 (type_of type.0) test) (wrong_labels owner.0 (type_of type.0) test)))
@@ -108,7 +111,8 @@ body_cut owner type B i short = cases (nat_lt (length B) (i + 2)) refl (nat_lt (
   cases : (class : Bool) → nat_lt (length B) (i + 2) ≡ class → (ttl : Bool) → nat_lt (length B) (i + 2 + 4) ≡ ttl → body_at owner type B i ≡ Err faults.InsufficientBytes
   cases true is ttl is2 = rw (number_cut w16 B i (ltb-true (length B) (i + 2) is)) refl
   cases false is true is2 = rw (number_there w16 B i (ltb-false (length B) (i + 2) is), number_cut w32 B (i + 2) (ltb-true (length B) (i + 2 + 4) is2)) refl
-  cases false is false is2 = rw (number_there w16 B i (ltb-false (length B) (i + 2) is), number_there w32 B (i + 2) (ltb-false (length B) (i + 2 + 4) is2), number_cut w16 B (i + 2 + 4) (omega (arith, short))) refl
+  cases false is false is2 =
+      rw (number_there w16 B i (ltb-false (length B) (i + 2) is), number_there w32 B (i + 2) (ltb-false (length B) (i + 2 + 4) is2), number_cut w16 B (i + 2 + 4) (omega (arith, short))) refl
 
 module _ (owner : NameValue) (type : RecordType) (B : List ℕ) (i len : ℕ) (counted : IsNumberAt w16 B (i + 6) len) where
   class_there : number_at w16 B i ≡ Ok (number_of w16 B i, i + 2)
@@ -138,7 +142,8 @@ module _ (owner : NameValue) (type : RecordType) (B : List ℕ) (i len : ℕ) (c
       rw (class_there, ttl_there, at_len, len_there, at_data, test, bad) refl
 
 -- what a record with a head is read as is what is read behind it
-head_read : (B : List ℕ) (i : ℕ) (owner : NameValue) (type m : ℕ) (r : Result (Record RData × ℕ) DecodeError) → HasHead B i owner type m → body_at owner (type_of type) B (m + 2) ≡ r → record_at B i ≡ r
+head_read : (B : List ℕ) (i : ℕ) (owner : NameValue) (type m : ℕ) (r : Result (Record RData × ℕ) DecodeError)
+    → HasHead B i owner type m → body_at owner (type_of type) B (m + 2) ≡ r → record_at B i ≡ r
 unfolding record_at
 head_read B i owner type m r head is =
     let owner_read = name_again B i owner m head.owner_stands in

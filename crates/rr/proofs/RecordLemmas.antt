@@ -15,7 +15,8 @@ use Rattle.rr.specs.Record.{RecordWord}
 use Rattle.rr.specs.declared.record.Record.{Record}
 
 -- what is written one behind the other are the fields of a record
-pub record_word : (r : Record RData) (type field : ℕ) → type ≡ type_number (type_of_data r.rdata) → field ≡ class_field r.mdns_cache_flush (class_number r.dns_class) → (word : List ℕ → ℕ → ℕ → Type 0) → ((B : List ℕ) (i e : ℕ) → word B i e → DataWord r.rdata B i e)
+pub record_word : (r : Record RData) (type field : ℕ) → type ≡ type_number (type_of_data r.rdata) → field ≡ class_field r.mdns_cache_flush (class_number r.dns_class)
+    → (word : List ℕ → ℕ → ℕ → Type 0) → ((B : List ℕ) (i e : ℕ) → word B i e → DataWord r.rdata B i e)
     → (B : List ℕ) (i e : ℕ) → Then (NameAt r.name.labels) (Then (Number w16 type) (Then (Number w16 field) (Then (Number w32 r.ttl) (Sized word)))) B i e → RecordWord r B i e
 record_word r type field type_is field_is word as_data B i e h =
     let m = h.0 in
@@ -40,11 +41,13 @@ record_word r type field type_is field_is word as_data B i e h =
     }
 
 -- a name that was read, and isn't the root, has a label
-pub not_root : (B : List ℕ) (i : ℕ) (name : NameValue) (e : ℕ) (is_root : Bool) → name_at B i ≡ Ok (name, e) → (IsTrue is_root ↔ (name ≡ record { labels = []; absolute = true })) → is_root ≡ false → (length name.labels == 0) ≡ false
+pub not_root : (B : List ℕ) (i : ℕ) (name : NameValue) (e : ℕ) (is_root : Bool) → name_at B i ≡ Ok (name, e)
+    → (IsTrue is_root ↔ (name ≡ record { labels = []; absolute = true })) → is_root ≡ false → (length name.labels == 0) ≡ false
 not_root B i name e is_root read tells not_it =
     let absolute = (name_is B i name e read).absolute in
     labelled name.labels name.absolute absolute (λ same. let says = tells.1 same in cc)
   where
-    labelled : (labels : List (List ℕ)) (absolute : Bool) → absolute ≡ true → (◌≡◌ {A = NameValue} (record { labels = labels; absolute = absolute }) (record { labels = []; absolute = true }) → ⊥) → (length labels == 0) ≡ false
+    labelled : (labels : List (List ℕ)) (absolute : Bool) → absolute ≡ true
+        → (◌≡◌ {A = NameValue} (record { labels = labels; absolute = absolute }) (record { labels = []; absolute = true }) → ⊥) → (length labels == 0) ≡ false
     labelled [] absolute is not_same = absurd (not_same (ap (λ (b : Bool). record { labels = []; absolute = b }) is))
     labelled (label ∷ labels) absolute is not_same = ne_eqb (length (label ∷ labels)) 0 (omega arith)

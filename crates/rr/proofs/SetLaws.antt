@@ -49,7 +49,8 @@ far_from : (x r : Record RData) (ys : List (Record RData)) → Far x ys → list
 far_from x r [] far h = cc
 far_from x r (y ∷ ys) far h = far_at x y r ys _ refl h far.0 (far_from x r ys far.1)
 
-before_at : (x r : Record RData) (xs : List (Record RData)) (b : Bool) → (b || list_any (λ z. same_entry z r) xs) ≡ true → Far x xs → (list_any (λ z. same_entry z r) xs ≡ true → list_any (has_data_of r) (before r xs) ≡ false)
+before_at : (x r : Record RData) (xs : List (Record RData)) (b : Bool) → (b || list_any (λ z. same_entry z r) xs) ≡ true
+    → Far x xs → (list_any (λ z. same_entry z r) xs ≡ true → list_any (has_data_of r) (before r xs) ≡ false)
     → list_any (has_data_of r) (if b then [] else x ∷ before r xs) ≡ false
 before_at x r xs true h far go = refl
 before_at x r xs false h far go = or_from (has_data_of r x) _ (far_from x r xs far h) (go h)
@@ -109,7 +110,8 @@ some_left r [] d h = absurd (omega arith)
 some_left r (x ∷ []) d h = absurd (omega arith)
 some_left r (x ∷ y ∷ zs) d h = full_of_two x y r zs _ refl (parts_of x (y ∷ zs) d).0.0
 
-in_type : (t : RecordType) (r : Record RData) (xs : List (Record RData)) → AllByRecursion (λ (x : Record RData). type_of_data x.rdata ≡ t) xs → list_any (has_data_of r) xs ≡ true → type_of_data r.rdata ≡ t
+in_type : (t : RecordType) (r : Record RData) (xs : List (Record RData))
+    → AllByRecursion (λ (x : Record RData). type_of_data x.rdata ≡ t) xs → list_any (has_data_of r) xs ≡ true → type_of_data r.rdata ≡ t
 in_type t r [] own h = cc
 in_type t r (x ∷ xs) own h = ⊎_elim
     (λ (e : has_data_of r x ≡ true). sym (one_type x.rdata r.rdata e) ∙ own.0)
@@ -120,7 +122,8 @@ in_type t r (x ∷ xs) own h = ⊎_elim
 abbrev taken : SetValue → Record RData → ℕ → Bool × SetValue
 taken set r serial = (true, record set { records = filter (λ x. not (has_data_of r x)) set.records; serial = serial })
 
-left_by : (set : SetValue) (r : Record RData) (serial : ℕ) (b : Bool) → (is_kept set (type_of_data r.rdata) || not (list_any (has_data_of r) set.records)) ≡ b → is_ns set.record_type ≡ true → IsTidy set → set.records ≢ []
+left_by : (set : SetValue) (r : Record RData) (serial : ℕ) (b : Bool)
+    → (is_kept set (type_of_data r.rdata) || not (list_any (has_data_of r) set.records)) ≡ b → is_ns set.record_type ≡ true → IsTidy set → set.records ≢ []
     → (cond {A = Bool × SetValue} b (false, set) (taken set r serial)).1.records ≢ []
 left_by set r serial true e ns tidy full = full
 left_by set r serial false e ns tidy full =
@@ -155,7 +158,8 @@ raised _ _ h = cc
 abbrev alone : SetValue → Record RData → ℕ → SetValue
 alone set r serial = record set { records = r ∷ []; ttl = r.ttl; serial = serial }
 
-risen_by : (set : SetValue) (r : Record RData) (serial : ℕ) (b : Bool) → (unless_kept (not b) set (true, alone set r serial)).0 ≡ true → (b ≡ true) × ((unless_kept (not b) set (true, alone set r serial)).1.records ≡ r ∷ [])
+risen_by : (set : SetValue) (r : Record RData) (serial : ℕ) (b : Bool) → (unless_kept (not b) set (true, alone set r serial)).0 ≡ true
+    → (b ≡ true) × ((unless_kept (not b) set (true, alone set r serial)).1.records ≡ r ∷ [])
 risen_by set r serial true h = (refl, refl)
 risen_by set r serial false h = cc
 
@@ -174,7 +178,8 @@ start_rises set x r serial h =
     let both : (is_later x.rdata r.rdata ≡ true) × ((insert (of_start set x) r serial).1.records ≡ r ∷ []) = risen_by (of_start set x) r serial (is_later x.rdata r.rdata) h in
     (raised x.rdata r.rdata both.0, both.1)
 
-pub serial_rises : (set : SetValue) (x r : Record RData) (serial : ℕ) → set.record_type ≡ types.SOA → set.records ≡ x ∷ [] → (insert set r serial).0 ≡ true → IsRaised x.rdata r.rdata × ((insert set r serial).1.records ≡ r ∷ [])
+pub serial_rises : (set : SetValue) (x r : Record RData) (serial : ℕ) → set.record_type ≡ types.SOA → set.records ≡ x ∷ []
+    → (insert set r serial).0 ≡ true → IsRaised x.rdata r.rdata × ((insert set r serial).1.records ≡ r ∷ [])
 serial_rises set x r serial type one =
     subst (λ s. (insert s r serial).0 ≡ true → IsRaised x.rdata r.rdata × ((insert s r serial).1.records ≡ r ∷ [])) (sym (is_of_start set x type one)) (start_rises set x r serial)
 

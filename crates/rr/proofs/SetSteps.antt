@@ -1,5 +1,6 @@
 -- Steps of putting a record among others.
-use Rattle.std.proofs.Common.{ℕ, zero, suc, Bool, true, false, not, cond, List, [], ◌∷◌, ◌++◌, ◌≡◌, ◌≤◌, ◌<◌, ◌+◌, ◌==◌, ◌||◌, ◌&&◌, refl, sym, ap, subst, ◌∙◌, length, take, drop, set, get_or, arith, if◌then◌else◌}
+use Rattle.std.proofs.Common.{ℕ, zero, suc, Bool, true, false, not, cond, List, [], ◌∷◌, ◌++◌, ◌≡◌, ◌≤◌, ◌<◌, ◌+◌, ◌==◌, ◌||◌, ◌&&◌, refl, sym, ap, subst, ◌∙◌, length}
+use Rattle.std.proofs.Common.{take, drop, set, get_or, arith, if◌then◌else◌}
 use Rattle.std.specs.List.{AllByRecursion, list_any}
 use Rattle.base_data.specs.declared.rdata.RData.{RData}
 use Rattle.rr.specs.declared.record.Record.{Record}
@@ -70,7 +71,8 @@ replaced_none r (x ∷ xs) h =
 
 -- what a search from the front knows of the place
 pub placed_at : (r : Record RData) (xs : List (Record RData)) → placed r xs ≡ record {
-  records = replaced r (take (length (before r xs)) xs) ++ drop (length (before r xs)) xs ++ (if list_any (λ x. same_entry x r) xs || list_any (has_data_of r) (take (length (before r xs)) xs) then [] else r ∷ []);
+  records = replaced r (take (length (before r xs)) xs) ++ drop (length (before r xs)) xs ++
+      (if list_any (λ x. same_entry x r) xs || list_any (has_data_of r) (take (length (before r xs)) xs) then [] else r ∷ []);
   is_changed = list_any (has_data_of r) (take (length (before r xs)) xs) || (length (before r xs) == length xs);
   is_new = length (before r xs) == length xs;
 }
@@ -109,17 +111,20 @@ renewed_push : (ps : List (ℕ × Record RData)) (p : ℕ × Record RData) (xs :
 renewed_push [] p xs = refl
 renewed_push (q ∷ ps) p xs = renewed_push ps p (set xs q.0 q.1)
 
-test_at : (r d : Record RData) (xs : List (Record RData)) (i : ℕ) (b : Bool) → i < length xs → d ≡ get_or xs i d → same_data d.rdata r.rdata ≡ b → has_data_of r (get_or (replaced r (take i xs) ++ drop i xs) i d) ≡ b
+test_at : (r d : Record RData) (xs : List (Record RData)) (i : ℕ) (b : Bool) → i < length xs → d ≡ get_or xs i d
+    → same_data d.rdata r.rdata ≡ b → has_data_of r (get_or (replaced r (take i xs) ++ drop i xs) i d) ≡ b
 test_at r d xs i b h read t = ap (has_data_of r) (past r xs i d h ∙ sym read) ∙ t
 
 -- one more copy, for a place with the same data
-pub copy_pushed : (r copy d : Record RData) (xs : List (Record RData)) (ps : List (ℕ × Record RData)) (i : ℕ) → i < length xs → renewed ps xs ≡ replaced r (take i xs) ++ drop i xs → d ≡ get_or xs i d → same_data d.rdata r.rdata ≡ true → copy ≡ r
+pub copy_pushed : (r copy d : Record RData) (xs : List (Record RData)) (ps : List (ℕ × Record RData)) (i : ℕ) → i < length xs
+    → renewed ps xs ≡ replaced r (take i xs) ++ drop i xs → d ≡ get_or xs i d → same_data d.rdata r.rdata ≡ true → copy ≡ r
     → renewed (ps ++ (i, copy) ∷ []) xs ≡ replaced r (take (i + 1) xs) ++ drop (i + 1) xs
 copy_pushed r copy d xs ps i h e read t same =
     renewed_push ps (i, copy) xs ∙ (λ j. set (e j) i (same j)) ∙ replaced_yes r xs i d h (test_at r d xs i true h read t) ∙ ap (λ n. replaced r (take n xs) ++ drop n xs) (one_more i)
 
 -- no copy, for a place with other data
-pub copy_skipped : (r d : Record RData) (xs : List (Record RData)) (ps : List (ℕ × Record RData)) (i : ℕ) → i < length xs → renewed ps xs ≡ replaced r (take i xs) ++ drop i xs → d ≡ get_or xs i d → same_data d.rdata r.rdata ≡ false
+pub copy_skipped : (r d : Record RData) (xs : List (Record RData)) (ps : List (ℕ × Record RData)) (i : ℕ) → i < length xs
+    → renewed ps xs ≡ replaced r (take i xs) ++ drop i xs → d ≡ get_or xs i d → same_data d.rdata r.rdata ≡ false
     → renewed ps xs ≡ replaced r (take (i + 1) xs) ++ drop (i + 1) xs
 copy_skipped r d xs ps i h e read t =
     e ∙ replaced_no r xs i d h (test_at r d xs i false h read t) ∙ ap (λ n. replaced r (take n xs) ++ drop n xs) (one_more i)
@@ -128,12 +133,14 @@ any_at : (b c : Bool) (x : Bool) → (b || (c || x)) ≡ ((b || c) || x)
 any_at true c x = refl
 any_at false c x = refl
 
-any_next : (r : Record RData) (xs : List (Record RData)) (i : ℕ) (d : Record RData) → i < length xs → list_any (has_data_of r) (take (suc i) xs) ≡ (list_any (has_data_of r) (take i xs) || has_data_of r (get_or xs i d))
+any_next : (r : Record RData) (xs : List (Record RData)) (i : ℕ) (d : Record RData) → i < length xs
+    → list_any (has_data_of r) (take (suc i) xs) ≡ (list_any (has_data_of r) (take i xs) || has_data_of r (get_or xs i d))
 any_next r [] i d h = absurd (omega arith)
 any_next r (x ∷ xs) zero d h = or_nothing (has_data_of r x)
 any_next r (x ∷ xs) (suc i) d h = ap (λ b. has_data_of r x || b) (any_next r xs i d (omega arith)) ∙ any_at (has_data_of r x) _ _
 
-any_upto : (r d : Record RData) (xs : List (Record RData)) (i : ℕ) (b : Bool) → i < length xs → d ≡ get_or xs i d → same_data d.rdata r.rdata ≡ b → list_any (has_data_of r) (take (i + 1) xs) ≡ (list_any (has_data_of r) (take i xs) || b)
+any_upto : (r d : Record RData) (xs : List (Record RData)) (i : ℕ) (b : Bool) → i < length xs → d ≡ get_or xs i d
+    → same_data d.rdata r.rdata ≡ b → list_any (has_data_of r) (take (i + 1) xs) ≡ (list_any (has_data_of r) (take i xs) || b)
 any_upto r d xs i b h read t =
     ap (λ n. list_any (has_data_of r) (take n xs)) (sym (one_more i)) ∙ any_next r xs i d h ∙ ap (λ c. list_any (has_data_of r) (take i xs) || c) (ap (has_data_of r) (sym read) ∙ t)
 
@@ -150,7 +157,8 @@ pub any_found : (r d : Record RData) (xs : List (Record RData)) (ps : List (ℕ 
 any_found r d xs ps p i h read t = not_empty ps p ∙ sym (ap not (any_upto r d xs i true h read t ∙ either (list_any (has_data_of r) (take i xs))))
 
 -- there is none at this place
-pub any_passed : (r d : Record RData) (xs : List (Record RData)) (b : Bool) (i : ℕ) → i < length xs → b ≡ not (list_any (has_data_of r) (take i xs)) → d ≡ get_or xs i d → same_data d.rdata r.rdata ≡ false
+pub any_passed : (r d : Record RData) (xs : List (Record RData)) (b : Bool) (i : ℕ) → i < length xs
+    → b ≡ not (list_any (has_data_of r) (take i xs)) → d ≡ get_or xs i d → same_data d.rdata r.rdata ≡ false
     → b ≡ not (list_any (has_data_of r) (take (i + 1) xs))
 any_passed r d xs b i h e read t = e ∙ sym (ap not (any_upto r d xs i false h read t ∙ or_nothing (list_any (has_data_of r) (take i xs))))
 
@@ -167,7 +175,8 @@ none_copied n m true e h any =
     let both : true ≡ false = h ∙ ap (λ k. k == 0) e ∙ any in
     cc
 
-pub within_push : (n : ℕ) (ps : List (ℕ × Record RData)) (p : ℕ × Record RData) → AllByRecursion (λ (q : ℕ × Record RData). q.0 < n) ps → p.0 < n → AllByRecursion (λ (q : ℕ × Record RData). q.0 < n) (ps ++ p ∷ [])
+pub within_push : (n : ℕ) (ps : List (ℕ × Record RData)) (p : ℕ × Record RData)
+    → AllByRecursion (λ (q : ℕ × Record RData). q.0 < n) ps → p.0 < n → AllByRecursion (λ (q : ℕ × Record RData). q.0 < n) (ps ++ p ∷ [])
 within_push n [] p h l = (l, tt)
 within_push n (q ∷ ps) p h l = (h.0, within_push n ps p h.1 l)
 
@@ -199,28 +208,33 @@ placed_from r xs end found = record {
   is_new = end == length xs;
 }
 
-with_end : (r : Record RData) (xs ys : List (Record RData)) (end : ℕ) (a b : Bool) → end ≡ length (before r xs) → IsPlaced (placed_from r xs end (list_any (λ x. same_entry x r) xs)) a b ys → IsPlaced (placed r xs) a b ys
+with_end : (r : Record RData) (xs ys : List (Record RData)) (end : ℕ) (a b : Bool) → end ≡ length (before r xs)
+    → IsPlaced (placed_from r xs end (list_any (λ x. same_entry x r) xs)) a b ys → IsPlaced (placed r xs) a b ys
 with_end r xs ys end a b e h = subst (λ p. IsPlaced p a b ys) (ap (λ n. placed_from r xs n (list_any (λ x. same_entry x r) xs)) e ∙ sym (placed_at r xs)) h
 
 turn : (b c : Bool) → not b ≡ c → b ≡ not c
 turn true c h = ap not h
 turn false c h = ap not h
 
-pub place_replaced : (r : Record RData) (xs ys : List (Record RData)) (end : ℕ) → end ≡ length (before r xs) → list_any (has_data_of r) (take end xs) ≡ true → ys ≡ replaced r (take end xs) ++ drop end xs → IsPlaced (placed r xs) true (end == length xs) ys
+pub place_replaced : (r : Record RData) (xs ys : List (Record RData)) (end : ℕ) → end ≡ length (before r xs)
+    → list_any (has_data_of r) (take end xs) ≡ true → ys ≡ replaced r (take end xs) ++ drop end xs → IsPlaced (placed r xs) true (end == length xs) ys
 place_replaced r xs ys end e h is =
     with_end r xs ys end true (end == length xs) e (
       ap (λ b. b || (end == length xs)) (sym h),
       refl,
-      is ∙ sym (append-nil (replaced r (take end xs) ++ drop end xs)) ∙ ap (λ b. replaced r (take end xs) ++ drop end xs ++ (if b then [] else r ∷ [])) (sym (ap (λ b. list_any (λ x. same_entry x r) xs || b) h ∙ either (list_any (λ x. same_entry x r) xs))),
+      is ∙ sym (append-nil (replaced r (take end xs) ++ drop end xs))
+          ∙ ap (λ b. replaced r (take end xs) ++ drop end xs ++ (if b then [] else r ∷ [])) (sym (ap (λ b. list_any (λ x. same_entry x r) xs || b) h ∙ either (list_any (λ x. same_entry x r) xs))),
     )
 
 whole : (r : Record RData) (xs : List (Record RData)) (end : ℕ) → list_any (has_data_of r) (take end xs) ≡ false → replaced r (take end xs) ++ drop end xs ≡ xs
 whole r xs end h = ap (λ zs. zs ++ drop end xs) (replaced_none r (take end xs) h) ∙ take-append-drop end xs
 
-joined : (r : Record RData) (xs : List (Record RData)) (end : ℕ) (b : Bool) → list_any (has_data_of r) (take end xs) ≡ false → list_any (λ x. same_entry x r) xs ≡ not b → (list_any (λ x. same_entry x r) xs || list_any (has_data_of r) (take end xs)) ≡ not b
+joined : (r : Record RData) (xs : List (Record RData)) (end : ℕ) (b : Bool) → list_any (has_data_of r) (take end xs) ≡ false
+    → list_any (λ x. same_entry x r) xs ≡ not b → (list_any (λ x. same_entry x r) xs || list_any (has_data_of r) (take end xs)) ≡ not b
 joined r xs end b h back = ap (λ c. list_any (λ x. same_entry x r) xs || c) h ∙ or_nothing (list_any (λ x. same_entry x r) xs) ∙ back
 
-place_rest : (r : Record RData) (xs ys : List (Record RData)) (end : ℕ) (b : Bool) → end ≡ length (before r xs) → list_any (has_data_of r) (take end xs) ≡ false → (end == length xs) ≡ b → ys ≡ xs ++ (if not b then [] else r ∷ []) → IsPlaced (placed r xs) b b ys
+place_rest : (r : Record RData) (xs ys : List (Record RData)) (end : ℕ) (b : Bool) → end ≡ length (before r xs)
+    → list_any (has_data_of r) (take end xs) ≡ false → (end == length xs) ≡ b → ys ≡ xs ++ (if not b then [] else r ∷ []) → IsPlaced (placed r xs) b b ys
 place_rest r xs ys end b e h new is =
     let back : list_any (λ x. same_entry x r) xs ≡ not b = turn (list_any (λ x. same_entry x r) xs) b (found r xs ∙ ap (λ n. n == length xs) (sym e) ∙ new) in
     with_end r xs ys end b b e (
@@ -229,22 +243,27 @@ place_rest r xs ys end b e h new is =
       is ∙ sym (λ i. whole r xs end h i ++ (if joined r xs end b h back i then [] else r ∷ [])),
     )
 
-pub place_pushed : (r : Record RData) (xs ys : List (Record RData)) (end : ℕ) → end ≡ length (before r xs) → list_any (has_data_of r) (take end xs) ≡ false → (end == length xs) ≡ true → ys ≡ xs ++ r ∷ [] → IsPlaced (placed r xs) true true ys
+pub place_pushed : (r : Record RData) (xs ys : List (Record RData)) (end : ℕ) → end ≡ length (before r xs)
+    → list_any (has_data_of r) (take end xs) ≡ false → (end == length xs) ≡ true → ys ≡ xs ++ r ∷ [] → IsPlaced (placed r xs) true true ys
 place_pushed r xs ys end e h new is = place_rest r xs ys end true e h new is
 
-pub place_kept : (r : Record RData) (xs ys : List (Record RData)) (end : ℕ) → end ≡ length (before r xs) → list_any (has_data_of r) (take end xs) ≡ false → (end == length xs) ≡ false → ys ≡ xs → IsPlaced (placed r xs) false false ys
+pub place_kept : (r : Record RData) (xs ys : List (Record RData)) (end : ℕ) → end ≡ length (before r xs)
+    → list_any (has_data_of r) (take end xs) ≡ false → (end == length xs) ≡ false → ys ≡ xs → IsPlaced (placed r xs) false false ys
 place_kept r xs ys end e h new is = place_rest r xs ys end false e h new (is ∙ sym (append-nil xs))
 
 -- `insert` where the record was placed
-pub insert_placed : (set : SetValue) (r : Record RData) (serial : ℕ) (ys : List (Record RData)) (alone changed new : Bool) → (is_soa set.record_type && stays set.records r.rdata) ≡ false → alone ≡ holds_one set.record_type
+pub insert_placed : (set : SetValue) (r : Record RData) (serial : ℕ) (ys : List (Record RData)) (alone changed new : Bool)
+    → (is_soa set.record_type && stays set.records r.rdata) ≡ false → alone ≡ holds_one set.record_type
     → IsPlaced (placed r (if alone then [] else set.records)) changed new ys → (new, if changed then record set { records = ys; ttl = r.ttl; serial = serial } else set) ≡ insert set r serial
 insert_placed set r serial ys alone changed new kept e h =
     let place : Placed = placed r (if alone then [] else set.records) in
     let over : Placed → Bool × SetValue = λ p. (p.is_new, if p.is_changed then record set { records = p.records; ttl = r.ttl; serial = serial } else set) in
-    let all : ◌≡◌ {A = Bool × SetValue} (new, if changed then record set { records = ys; ttl = r.ttl; serial = serial } else set) (over place) = λ i. (h.1 i, if h.0 i then record set { records = h.2 i; ttl = r.ttl; serial = serial } else set) in
+    let all : ◌≡◌ {A = Bool × SetValue} (new, if changed then record set { records = ys; ttl = r.ttl; serial = serial } else set) (over place) =
+    λ i. (h.1 i, if h.0 i then record set { records = h.2 i; ttl = r.ttl; serial = serial } else set) in
     all ∙ ap (λ b. over (placed r (if b then [] else set.records))) e ∙ sym (cond-false (is_soa set.record_type && stays set.records r.rdata) (false, set) _ kept)
 
-pub insert_changed : (v set : SetValue) (r : Record RData) (serial : ℕ) (ys : List (Record RData)) (alone changed new : Bool) → v ≡ set → (is_soa set.record_type && stays set.records r.rdata) ≡ false → alone ≡ holds_one v.record_type
+pub insert_changed : (v set : SetValue) (r : Record RData) (serial : ℕ) (ys : List (Record RData)) (alone changed new : Bool)
+    → v ≡ set → (is_soa set.record_type && stays set.records r.rdata) ≡ false → alone ≡ holds_one v.record_type
     → changed ≡ true → IsPlaced (placed r (if alone then [] else v.records)) changed new ys → (new, record v { records = ys; ttl = r.ttl; serial = serial }) ≡ insert set r serial
 insert_changed v set r serial ys alone changed new same kept e did h =
     ap (λ b. (new, if b then record v { records = ys; ttl = r.ttl; serial = serial } else v)) (sym did)
@@ -253,14 +272,16 @@ insert_changed v set r serial ys alone changed new same kept e did h =
 placed_same : (r : Record RData) (xs : List (Record RData)) → (placed r xs).is_changed ≡ false → (placed r xs).records ≡ xs
 placed_same r xs h =
     let end = length (before r xs) in
-    let parts : (list_any (has_data_of r) (take end xs) ≡ false) × ((end == length xs) ≡ false) = or_parts (list_any (has_data_of r) (take end xs)) _ (ap (λ p. p.is_changed) (sym (placed_at r xs)) ∙ h) in
+    let parts : (list_any (has_data_of r) (take end xs) ≡ false) × ((end == length xs) ≡ false) =
+    or_parts (list_any (has_data_of r) (take end xs)) _ (ap (λ p. p.is_changed) (sym (placed_at r xs)) ∙ h) in
     sym ((place_kept r xs xs end refl parts.0 parts.1 refl).2)
 
 kept_records : (r : Record RData) (xs : List (Record RData)) (alone : Bool) → (placed r (if alone then [] else xs)).is_changed ≡ false → (placed r (if alone then [] else xs)).records ≡ xs
 kept_records r xs true h = cc
 kept_records r xs false h = placed_same r xs h
 
-pub insert_same : (v set : SetValue) (r : Record RData) (serial : ℕ) (ys : List (Record RData)) (alone changed new : Bool) → v ≡ set → (is_soa set.record_type && stays set.records r.rdata) ≡ false → alone ≡ holds_one v.record_type
+pub insert_same : (v set : SetValue) (r : Record RData) (serial : ℕ) (ys : List (Record RData)) (alone changed new : Bool)
+    → v ≡ set → (is_soa set.record_type && stays set.records r.rdata) ≡ false → alone ≡ holds_one v.record_type
     → changed ≡ false → IsPlaced (placed r (if alone then [] else v.records)) changed new ys → (new, record v { records = ys }) ≡ insert set r serial
 insert_same v set r serial ys alone changed new same kept e didnt h =
     let back : ys ≡ v.records = h.2 ∙ kept_records r v.records alone (sym h.0 ∙ didnt) in

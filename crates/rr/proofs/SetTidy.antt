@@ -114,7 +114,8 @@ put r found front back = replaced r front ++ back ++ (if found || list_any (has_
 distinct_new : (r : Record RData) (xs : List (Record RData)) → Distinct xs → list_any (λ x. same_entry x r) xs ≡ false → Distinct (placed r xs).records
 distinct_new r xs d none =
     let whole : (placed r xs).records ≡ put r false xs [] = λ i. put r (none i) (all_are_before r xs none i) (none_is_from r xs none i) in
-    let short : put r false xs [] ≡ replaced r xs ++ (if list_any (has_data_of r) xs then [] else r ∷ []) = ap (λ ys. ys ++ (if list_any (has_data_of r) xs then [] else r ∷ [])) (append-nil (replaced r xs)) in
+    let short : put r false xs [] ≡ replaced r xs ++ (if list_any (has_data_of r) xs then [] else r ∷ []) =
+    ap (λ ys. ys ++ (if list_any (has_data_of r) xs then [] else r ∷ [])) (append-nil (replaced r xs)) in
     subst Distinct (sym (whole ∙ short)) (distinct_put r xs _ refl d)
 
 -- what changed is new

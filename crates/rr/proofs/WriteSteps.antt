@@ -35,5 +35,7 @@ module _ (name rdata : ℕ) (a b : State) (limit : b.limit ≡ a.limit) (most : 
       pub ttl_refused : {X : Type 0} (r : Result X ProtoError) → Refuses 4 d r → Refuses (name + (10 + rdata)) a r
       ttl_refused r refuses = Refuses-earlier r 4 (name + (10 + rdata)) a d (limit_d ∙ (limit_c ∙ limit)) (omega (arith, most, most_c, most_d)) refuses
 
-      pub data_refused : {X : Type 0} (e : State) → e.limit ≡ d.limit → length e.bytes ≤ length d.bytes + 4 → (len : ℕ) → rdata ≡ len → (r : Result X ProtoError) → Refuses (2 + len) e r → Refuses (name + (10 + rdata)) a r
-      data_refused e limit_e most_e len same r refuses = Refuses-earlier r (2 + len) (name + (10 + rdata)) a e (limit_e ∙ (limit_d ∙ (limit_c ∙ limit))) (omega (arith, most, most_c, most_d, most_e, same)) refuses
+      pub data_refused : {X : Type 0} (e : State) → e.limit ≡ d.limit → length e.bytes ≤ length d.bytes + 4
+          → (len : ℕ) → rdata ≡ len → (r : Result X ProtoError) → Refuses (2 + len) e r → Refuses (name + (10 + rdata)) a r
+      data_refused e limit_e most_e len same r refuses =
+          Refuses-earlier r (2 + len) (name + (10 + rdata)) a e (limit_e ∙ (limit_d ∙ (limit_c ∙ limit))) (omega (arith, most, most_c, most_d, most_e, same)) refuses

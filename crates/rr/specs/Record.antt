@@ -161,8 +161,10 @@ pub data IsRecordFault (B : List ℕ) (i : ℕ) : DecodeError → Type 0 where
   cut_type : {owner : NameValue} {m : ℕ} → IsNameAt B i owner m → length B < m + 2 → IsRecordFault B i faults.InsufficientBytes
   opt_owner : {owner : NameValue} {type m : ℕ} → IsNameAt B i owner m → IsNumberAt w16 B m type → type_of type ≡ types.OPT → owner.labels ≢ [] → IsRecordFault B i (faults.EdnsNameNotRoot owner)
   cut_fields : {owner : NameValue} {type m : ℕ} → HasHead B i owner type m → length B < m + 10 → IsRecordFault B i faults.InsufficientBytes
-  long_data : {owner : NameValue} {type m len : ℕ} → HasHead B i owner type m → IsNumberAt w16 B (m + 8) len → length B < m + 10 + len → IsRecordFault B i (faults.IncorrectRDataLengthRead (length B - (m + 10)) len)
-  bad_data : {owner : NameValue} {type m len : ℕ} → HasHead B i owner type m → IsNumberAt w16 B (m + 8) len → m + 10 + len ≤ length B → ((d : RData) → ¬ IsDataAt B (m + 10) (type_of type) len d) → IsRecordFault B i (faults.BadData (type_of type))
+  long_data : {owner : NameValue} {type m len : ℕ} → HasHead B i owner type m → IsNumberAt w16 B (m + 8) len
+      → length B < m + 10 + len → IsRecordFault B i (faults.IncorrectRDataLengthRead (length B - (m + 10)) len)
+  bad_data : {owner : NameValue} {type m len : ℕ} → HasHead B i owner type m → IsNumberAt w16 B (m + 8) len → m + 10 + len ≤ length B
+      → ((d : RData) → ¬ IsDataAt B (m + 10) (type_of type) len d) → IsRecordFault B i (faults.BadData (type_of type))
 
 -- name, TTL, class, type and data
 abbrev pub record_text : Record RData → List ℕ

@@ -52,7 +52,8 @@ pub record IsRaised (old_data new_data : RData) : Type 0 where
 
 -- an `insert` into a set of one SOA that answers true leaves the new one alone, of a greater serial
 abbrev pub SerialRises : Type 0
-SerialRises = (set : SetValue) (x r : Record RData) (serial : ℕ) → set.record_type ≡ types.SOA → set.records ≡ x ∷ [] → (insert set r serial).0 ≡ true → IsRaised x.rdata r.rdata × ((insert set r serial).1.records ≡ r ∷ [])
+SerialRises = (set : SetValue) (x r : Record RData) (serial : ℕ) → set.record_type ≡ types.SOA → set.records ≡ x ∷ []
+    → (insert set r serial).0 ≡ true → IsRaised x.rdata r.rdata × ((insert set r serial).1.records ≡ r ∷ [])
 
 -- one that answers false leaves the old one alone
 abbrev pub SerialStays : Type 0

@@ -5,6 +5,7 @@ ghost use Rattle.base.specs.ParseError.{parse_number};
 ghost use Rattle.base.specs.declared.error.parse_error.ParseError.TheVariants as refusals;
 
 use crate::record_type::RecordType;
+use crate::text::Token;
 use std::alloc::{AllocError, AllocFailed};
 use thiserror::Error;
 
@@ -14,6 +15,9 @@ pub enum ParseError {
     /// A growth was refused.
     #[error("out of memory")]
     Memory,
+    /// A token that the entry has no place for.
+    #[error("a token that the entry has no place for")]
+    UnexpectedToken(Token),
     /// A character or a bracket that no token has a place for.
     #[error("the text can't be cut into tokens")]
     Lexer,
@@ -47,6 +51,7 @@ impl ParseError {
     {
         match self {
             ParseError::Memory => 3,
+            ParseError::UnexpectedToken(_) => 17,
             ParseError::Lexer => 18,
             ParseError::Message(_) => 19,
             ParseError::IncludeNotFound(_) => 20,

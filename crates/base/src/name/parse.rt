@@ -4,7 +4,9 @@ ghost use Rattle.std.specs.Prelude.{◌≡◌, ◌↔◌, ◌⊎◌, ◌<◌, �
 ghost use Rattle.std.specs.Char.{is_ascii_digit};
 ghost use Rattle.std.specs.Option.{option_copied, option_map};
 ghost use Rattle.base.specs.Labels.{NameValue, IsWire, labels_of};
+ghost use Rattle.base.specs.NameOf.{name_of};
 ghost use Rattle.base.specs.NameText.{IsLabelsText, IsNameText, decimal_char, escaped_char, first_char};
+ghost use Rattle.base.specs.TextFaults.{Gives};
 
 use crate::error::ParseError;
 use crate::name::Name;
@@ -38,6 +40,16 @@ impl Name {
     /// than 255 (RFC 1035, 2.3.4), a backslash that stands before anything else, any other character, and
     /// `@` alone without an origin. Refused with `Memory` for want of it.
     pub fn parse(alloc: Global, text: &str, origin: Option<&Name>) -> Result<Name, ParseError>
+        ensures named { IfOk result (IsNameText text.now (option_copied origin.entry)) }
+        ensures refused { (result ≡ Err ParseError.BadName) ↔ ((name : NameValue) → IsNameText text.now (option_copied origin.entry) name → ⊥) }
+        ensures err { IfErr result (λ e. (e ≡ ParseError.Memory) ⊎ (e ≡ ParseError.BadName)) }
+        ensures reads { Gives (λ n. n) result (name_of text.now (option_copied origin.entry)) }
+    {
+        Name::parse_text(alloc, text, origin)
+    }
+
+    /// The same, by the relation alone.
+    fn parse_text(alloc: Global, text: &str, origin: Option<&Name>) -> Result<Name, ParseError>
         ensures named { IfOk result (IsNameText text.now (option_copied origin.entry)) }
         ensures refused { (result ≡ Err ParseError.BadName) ↔ ((name : NameValue) → IsNameText text.now (option_copied origin.entry) name → ⊥) }
         ensures err { IfErr result (λ e. (e ≡ ParseError.Memory) ⊎ (e ≡ ParseError.BadName)) }

@@ -4,16 +4,19 @@ ghost use Rattle.std.specs.Prelude.{◌≡◌, [], Some, refl};
 ghost use Rattle.std.specs.Net.Addr.{ipv4_octets};
 ghost use Rattle.std.specs.Net.Text.{ipv4_text};
 ghost use Rattle.base.specs.Words.{Bytes};
-ghost use Rattle.base_data.specs.A.{a_at};
+ghost use Rattle.base_data.specs.A.{a_at, a_of};
 ghost use Rattle.base_data.specs.Kinds.{a_in};
 ghost use Rattle.base_data.specs.declared.rdata.RData.TheVariants as kinds;
 
 use crate::rdata::RData;
 use crate::rdata::emit::emit_bytes;
+use crate::rdata::fields::ipv4_item;
+use crate::rdata::items::TextData;
 use crate::record_data::RecordData;
 use base::{
-    BinDecodable, BinDecoder, BinEncodable, BinEncoder, DecodeError, ProtoError, RecordType,
+    BinDecodable, BinDecoder, BinEncodable, BinEncoder, DecodeError, Name, ProtoError, RecordType,
 };
+use std::alloc::{AllocError, Global};
 use std::fmt;
 use std::net::Ipv4Addr;
 
@@ -77,6 +80,26 @@ impl BinDecodable for A {
             }),
             _ => Err(DecodeError::InsufficientBytes),
         }
+    }
+}
+
+impl TextData for A {
+    ghost of_items = { λ items _. a_of items };
+
+    /// One item, the address in dotted decimal (RFC 1035, 3.4.1).
+    #[tactic(auto, unfolding(crate::specs::A::a_of))]
+    fn from_items(
+        _alloc: Global,
+        items: &[&str],
+        _origin: Option<&Name>,
+    ) -> Result<Option<A>, AllocError> {
+        let [address] = items else {
+            return Ok(None);
+        };
+        let Some(address) = ipv4_item(address) else {
+            return Ok(None);
+        };
+        Ok(Some(A::new(address)))
     }
 }
 

@@ -4,16 +4,19 @@ ghost use Rattle.std.specs.Prelude.{◌≡◌, ◌+◌, ◌++◌, ◌≤◌, ℕ
 ghost use Rattle.std.specs.Net.Addr.{ipv6_octets, ipv6_segments, segments_of};
 ghost use Rattle.std.specs.Net.Text.{groups_text};
 ghost use Rattle.base.specs.Words.{Bytes};
-ghost use Rattle.base_data.specs.AAAA.{AreZeros, IsFirstLongest, aaaa_at, aaaa_text};
+ghost use Rattle.base_data.specs.AAAA.{AreZeros, IsFirstLongest, aaaa_at, aaaa_text, aaaa_of};
 ghost use Rattle.base_data.specs.Kinds.{aaaa_in};
 ghost use Rattle.base_data.specs.declared.rdata.RData.TheVariants as kinds;
 
 use crate::rdata::RData;
 use crate::rdata::emit::emit_bytes;
+use crate::rdata::fields::ipv6_item;
+use crate::rdata::items::TextData;
 use crate::record_data::RecordData;
 use base::{
-    BinDecodable, BinDecoder, BinEncodable, BinEncoder, DecodeError, ProtoError, RecordType,
+    BinDecodable, BinDecoder, BinEncodable, BinEncoder, DecodeError, Name, ProtoError, RecordType,
 };
+use std::alloc::{AllocError, Global};
 use std::fmt;
 use std::net::Ipv6Addr;
 
@@ -87,6 +90,26 @@ pub fn address_text()
     ensures whole { (octets : List ℕ) → ((start : ℕ) → ¬ AreZeros (segments_of octets) start 2)
         → aaaa_text octets ≡ groups_text (segments_of octets) }
 {}
+
+impl TextData for AAAA {
+    ghost of_items = { λ items _. aaaa_of items };
+
+    /// One item, the address in groups (RFC 4291, 2.2).
+    #[tactic(auto, unfolding(crate::specs::AAAA::aaaa_of))]
+    fn from_items(
+        _alloc: Global,
+        items: &[&str],
+        _origin: Option<&Name>,
+    ) -> Result<Option<AAAA>, AllocError> {
+        let [address] = items else {
+            return Ok(None);
+        };
+        let Some(address) = ipv6_item(address) else {
+            return Ok(None);
+        };
+        Ok(Some(AAAA::new(address)))
+    }
+}
 
 impl RecordData for AAAA {
     ghost as_rdata = { kinds.AAAA };

@@ -4,16 +4,18 @@ ghost use Rattle.std.specs.Prelude.{◌≡◌, OnOk, Some, [], refl};
 ghost use Rattle.base.specs.Laws.{Keeps, Writes};
 ghost use Rattle.base.specs.State.{appended};
 ghost use Rattle.base.specs.Wire.{state_of, Refuses};
-ghost use Rattle.base_data.specs.ANAME.{aname_at, aname_kind, aname_wire};
+ghost use Rattle.base_data.specs.ANAME.{aname_at, aname_kind, aname_wire, aname_of};
 ghost use Rattle.base_data.specs.Kinds.{aname_in};
 ghost use Rattle.base_data.specs.declared.rdata.RData.TheVariants as kinds;
 
 use crate::rdata::RData;
+use crate::rdata::fields::one_name;
+use crate::rdata::items::TextData;
 use crate::record_data::RecordData;
 use base::{
     BinDecodable, BinDecoder, BinEncodable, BinEncoder, DecodeError, Name, ProtoError, RecordType,
 };
-use std::alloc::AllocError;
+use std::alloc::{AllocError, Global};
 use std::fmt;
 
 /// The name whose addresses a name has too.
@@ -90,6 +92,20 @@ impl fmt::Display for ANAME {
     /// The name, as in zone files (RFC 1035, 5.1).
     fn fmt<W: fmt::Write>(&self, f: &mut fmt::Formatter<W>) -> fmt::Result {
         fmt::Display::fmt(&self.name, f)
+    }
+}
+
+impl TextData for ANAME {
+    ghost of_items = { aname_of };
+
+    /// One item, the name (RFC 1035, 5.1).
+    #[tactic(auto, unfolding(crate::specs::ANAME::aname_of))]
+    fn from_items(
+        alloc: Global,
+        items: &[&str],
+        origin: Option<&Name>,
+    ) -> Result<Option<ANAME>, AllocError> {
+        Ok(one_name(alloc, items, origin)?.map(ANAME::new))
     }
 }
 

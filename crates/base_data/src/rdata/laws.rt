@@ -1,13 +1,15 @@
 //! Laws of data: when it is equal, its order, and what holds of each kind.
 
-ghost use Rattle.std.specs.Prelude.{◌≡◌, ◌≤◌, ◌↔◌, ℕ, List, IsTrue, length, true};
+ghost use Rattle.std.specs.Prelude.{◌≡◌, ◌≤◌, ◌↔◌, ℕ, List, IsTrue, None, Ok, Some, length, map, true};
+ghost use Rattle.std.specs.List.{join_with_byte};
 ghost use Rattle.std.specs.Cmp.{IsTotalOrder};
 ghost use Rattle.base.specs.NameOrder.{same_name};
 ghost use Rattle.base.specs.declared.record_type.RecordType.TheVariants as types;
-ghost use Rattle.base_data.specs.Kinds.{DataWord, FitsTypes, type_of_data};
+ghost use Rattle.base_data.specs.Kinds.{DataWord, FitsTypes, IsSpelled, data_of, data_text, items_of, shown_item, type_of_data};
 ghost use Rattle.base_data.specs.DataOrder.{data_cmp};
 ghost use Rattle.base_data.specs.RData.{is_signature_data, signature_in};
 ghost use Rattle.base_data.specs.SameData.{same_data};
+ghost use Rattle.base_data.specs.StringItems.{IsStringText, string_item};
 ghost use Rattle.base_data.specs.declared.rdata.RData.{RData as AnyData};
 ghost use Rattle.base_data.specs.declared.rdata.RData.TheVariants as kinds;
 ghost use Rattle.base_data.specs.declared.rdata.aname.ANAME.{ANAME as Aname};
@@ -62,4 +64,20 @@ pub fn data_of_each_kind()
     ensures inside { (d : AnyData) (B : List ℕ) (i e : ℕ) → i ≤ length B → DataWord d B i e → e ≤ length B }
     ensures signature_type { (d : AnyData) → IsTrue (is_signature_data d) → type_of_data d ≡ types.TSIG }
     ensures signature { (d : AnyData) → IsTrue (is_signature_data d) → d ≡ kinds.TSIG (signature_in d) }
+{}
+
+/// The character string of an item is what its pieces say, one behind the other, of 255 bytes at most: a byte that is no
+/// backslash is itself, a quote too; a backslash and a byte that is no digit are that byte; a backslash and three
+/// decimal digits up to 255 are the byte of that number (RFC 1035, 5.1).
+pub fn strings_are_their_pieces()
+    ensures { (text bytes : List ℕ) → (string_item text ≡ Some bytes) ↔ (IsStringText text bytes × (length bytes ≤ 255)) }
+{}
+
+/// The text of data of a kind with a text form is its items with one space between each two (RFC 1035, 5.1), strings
+/// in quotes. These items, without the quotes, name that data, read without an origin: under one, a relative name
+/// becomes another. Left out are data with the relative name without labels, whose text is empty, and the kinds without
+/// a text form, which have no items.
+pub fn texts_are_read()
+    ensures shown { (d : AnyData) (items : List (List ℕ)) → items_of d ≡ Some items → data_text d ≡ join_with_byte 32 (map (shown_item d) items) }
+    ensures read { (d : AnyData) (items : List (List ℕ)) → items_of d ≡ Some items → IsSpelled d → data_of (type_of_data d) items None ≡ Ok d }
 {}

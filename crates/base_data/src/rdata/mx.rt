@@ -3,17 +3,19 @@
 ghost use Rattle.std.specs.Prelude.{◌≡◌, OnOk, Some, [], refl};
 ghost use Rattle.base.specs.Laws.{Keeps, Writes};
 ghost use Rattle.base.specs.Wire.{state_of, Refuses};
-ghost use Rattle.base_data.specs.MX.{MXWord, mx_at, plain_mx, mx_text, CompressesMX};
+ghost use Rattle.base_data.specs.MX.{MXWord, mx_at, plain_mx, mx_text, CompressesMX, mx_of};
 ghost use Rattle.base_data.specs.Kinds.{mx_in};
 ghost use Rattle.base_data.specs.declared.rdata.RData.TheVariants as kinds;
 
 use crate::rdata::RData;
 use crate::rdata::emit::emit_u16;
+use crate::rdata::fields::{name_item, u16_item};
+use crate::rdata::items::TextData;
 use crate::record_data::RecordData;
 use base::{
     BinDecodable, BinDecoder, BinEncodable, BinEncoder, DecodeError, Name, ProtoError, RecordType,
 };
-use std::alloc::AllocError;
+use std::alloc::{AllocError, Global};
 use std::fmt;
 
 /// A host that takes mail (RFC 1035, 3.3.9).
@@ -105,6 +107,29 @@ impl fmt::Display for MX {
     /// The fields as in zone files, with a space between each two (RFC 1035, 5.1).
     fn fmt<W: fmt::Write>(&self, f: &mut fmt::Formatter<W>) -> fmt::Result {
         write!(f, "{} {}", self.preference, self.exchange)
+    }
+}
+
+impl TextData for MX {
+    ghost of_items = { mx_of };
+
+    /// Two items, the preference and the name of the host (RFC 1035, 3.3.9 and 5.1).
+    #[tactic(auto, unfolding(crate::specs::MX::mx_of))]
+    fn from_items(
+        alloc: Global,
+        items: &[&str],
+        origin: Option<&Name>,
+    ) -> Result<Option<MX>, AllocError> {
+        let [preference, exchange] = items else {
+            return Ok(None);
+        };
+        let Some(preference) = u16_item(preference) else {
+            return Ok(None);
+        };
+        let Some(exchange) = name_item(alloc, exchange, origin)? else {
+            return Ok(None);
+        };
+        Ok(Some(MX::new(preference, exchange)))
     }
 }
 

@@ -4,16 +4,18 @@ ghost use Rattle.std.specs.Prelude.{◌≡◌, OnOk, Some, [], refl};
 ghost use Rattle.base.specs.Laws.{Keeps, Writes};
 ghost use Rattle.base.specs.Wire.{state_of, Refuses};
 ghost use Rattle.base_data.specs.NameData.{IsCompressed};
-ghost use Rattle.base_data.specs.NS.{ns_at, ns_kind};
+ghost use Rattle.base_data.specs.NS.{ns_at, ns_kind, ns_of};
 ghost use Rattle.base_data.specs.Kinds.{ns_in};
 ghost use Rattle.base_data.specs.declared.rdata.RData.TheVariants as kinds;
 
 use crate::rdata::RData;
+use crate::rdata::fields::one_name;
+use crate::rdata::items::TextData;
 use crate::record_data::RecordData;
 use base::{
     BinDecodable, BinDecoder, BinEncodable, BinEncoder, DecodeError, Name, ProtoError, RecordType,
 };
-use std::alloc::AllocError;
+use std::alloc::{AllocError, Global};
 use std::fmt;
 
 /// An authoritative server of a zone (RFC 1035, 3.3.11).
@@ -90,6 +92,20 @@ impl fmt::Display for NS {
     /// The name, as in zone files (RFC 1035, 5.1).
     fn fmt<W: fmt::Write>(&self, f: &mut fmt::Formatter<W>) -> fmt::Result {
         fmt::Display::fmt(&self.name, f)
+    }
+}
+
+impl TextData for NS {
+    ghost of_items = { ns_of };
+
+    /// One item, the name (RFC 1035, 5.1).
+    #[tactic(auto, unfolding(crate::specs::NS::ns_of))]
+    fn from_items(
+        alloc: Global,
+        items: &[&str],
+        origin: Option<&Name>,
+    ) -> Result<Option<NS>, AllocError> {
+        Ok(one_name(alloc, items, origin)?.map(NS::new))
     }
 }
 

@@ -3,17 +3,19 @@
 ghost use Rattle.std.specs.Prelude.{◌≡◌, OnOk, Some, [], refl};
 ghost use Rattle.base.specs.Laws.{Keeps, Writes};
 ghost use Rattle.base.specs.Wire.{state_of, Refuses};
-ghost use Rattle.base_data.specs.SOA.{SOAFits, SOAWord, soa_at, plain_soa, soa_numbers, soa_text, CompressesSOA};
+ghost use Rattle.base_data.specs.SOA.{SOAFits, SOAWord, soa_at, plain_soa, soa_numbers, soa_text, CompressesSOA, soa_of};
 ghost use Rattle.base_data.specs.Kinds.{soa_in};
 ghost use Rattle.base_data.specs.declared.rdata.RData.TheVariants as kinds;
 
 use crate::rdata::RData;
 use crate::rdata::emit::emit_bytes;
+use crate::rdata::fields::{name_item, ttl_item, u32_item};
+use crate::rdata::items::TextData;
 use crate::record_data::RecordData;
 use base::{
     BinDecodable, BinDecoder, BinEncodable, BinEncoder, DecodeError, Name, ProtoError, RecordType,
 };
-use std::alloc::AllocError;
+use std::alloc::{AllocError, Global};
 use std::fmt;
 
 /// The start of a zone (RFC 1035, 3.3.13).
@@ -201,6 +203,45 @@ impl fmt::Display for SOA {
             "{} {} {} {} {} {} {}",
             self.mname, self.rname, self.serial, self.refresh, self.retry, self.expire, self.minimum
         )
+    }
+}
+
+impl TextData for SOA {
+    ghost of_items = { soa_of };
+
+    /// Seven items: the two names, the serial in decimal, and four times, in seconds or with units (RFC 1035, 3.3.13
+    /// and 5.1).
+    #[tactic(auto, unfolding(crate::specs::SOA::soa_of))]
+    fn from_items(
+        alloc: Global,
+        items: &[&str],
+        origin: Option<&Name>,
+    ) -> Result<Option<SOA>, AllocError> {
+        let [mname, rname, serial, refresh, retry, expire, minimum] = items else {
+            return Ok(None);
+        };
+        let Some(mname) = name_item(alloc, mname, origin)? else {
+            return Ok(None);
+        };
+        let Some(rname) = name_item(alloc, rname, origin)? else {
+            return Ok(None);
+        };
+        let Some(serial) = u32_item(serial) else {
+            return Ok(None);
+        };
+        let Some(refresh) = ttl_item(refresh) else {
+            return Ok(None);
+        };
+        let Some(retry) = ttl_item(retry) else {
+            return Ok(None);
+        };
+        let Some(expire) = ttl_item(expire) else {
+            return Ok(None);
+        };
+        let Some(minimum) = ttl_item(minimum) else {
+            return Ok(None);
+        };
+        Ok(Some(SOA::new(mname, rname, serial, refresh, retry, expire, minimum)))
     }
 }
 

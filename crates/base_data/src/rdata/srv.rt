@@ -4,17 +4,19 @@ ghost use Rattle.std.specs.Prelude.{◌≡◌, OnOk, Some, [], refl};
 ghost use Rattle.base.specs.Laws.{Keeps, Writes};
 ghost use Rattle.base.specs.State.{appended};
 ghost use Rattle.base.specs.Wire.{state_of, Refuses};
-ghost use Rattle.base_data.specs.SRV.{SRVFits, SRVWord, srv_at, plain_srv, srv_numbers, srv_text, srv_wire};
+ghost use Rattle.base_data.specs.SRV.{SRVFits, SRVWord, srv_at, plain_srv, srv_numbers, srv_text, srv_wire, srv_of};
 ghost use Rattle.base_data.specs.Kinds.{srv_in};
 ghost use Rattle.base_data.specs.declared.rdata.RData.TheVariants as kinds;
 
 use crate::rdata::RData;
 use crate::rdata::emit::emit_bytes;
+use crate::rdata::fields::{name_item, u16_item};
+use crate::rdata::items::TextData;
 use crate::record_data::RecordData;
 use base::{
     BinDecodable, BinDecoder, BinEncodable, BinEncoder, DecodeError, Name, ProtoError, RecordType,
 };
-use std::alloc::AllocError;
+use std::alloc::{AllocError, Global};
 use std::fmt;
 
 /// A host that has a service (RFC 2782).
@@ -153,6 +155,35 @@ impl fmt::Display for SRV {
             "{} {} {} {}",
             self.priority, self.weight, self.port, self.target
         )
+    }
+}
+
+impl TextData for SRV {
+    ghost of_items = { srv_of };
+
+    /// Four items: priority, weight, port and target (RFC 2782).
+    #[tactic(auto, unfolding(crate::specs::SRV::srv_of))]
+    fn from_items(
+        alloc: Global,
+        items: &[&str],
+        origin: Option<&Name>,
+    ) -> Result<Option<SRV>, AllocError> {
+        let [priority, weight, port, target] = items else {
+            return Ok(None);
+        };
+        let Some(priority) = u16_item(priority) else {
+            return Ok(None);
+        };
+        let Some(weight) = u16_item(weight) else {
+            return Ok(None);
+        };
+        let Some(port) = u16_item(port) else {
+            return Ok(None);
+        };
+        let Some(target) = name_item(alloc, target, origin)? else {
+            return Ok(None);
+        };
+        Ok(Some(SRV::new(priority, weight, port, target)))
     }
 }
 

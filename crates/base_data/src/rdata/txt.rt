@@ -5,22 +5,25 @@ ghost use Rattle.std.specs.Cmp.{partial_equiv_from_equiv};
 ghost use Rattle.base.specs.Labels.{wire_of, labels_of};
 ghost use Rattle.base.specs.Reading.{Reads};
 ghost use Rattle.base.specs.Words.{Bytes};
-ghost use Rattle.base_data.specs.TXT.{AreShort, are_strings, same_txt, txt_at};
+ghost use Rattle.base_data.specs.TXT.{AreShort, are_strings, same_txt, txt_at, txt_of};
 ghost use Rattle.base_data.specs.Kinds.{txt_in};
 ghost use Rattle.base_data.specs.Equality.{same_txt-equiv};
 ghost use Rattle.base_data.specs.declared.rdata.RData.TheVariants as kinds;
 
 mod display;
 mod strings;
+mod unescape;
 
 use crate::rdata::RData;
 use crate::rdata::emit::emit_bytes;
+use crate::rdata::items::TextData;
 use crate::rdata::reading::SizedData;
 use crate::record_data::RecordData;
-use base::{BinDecoder, BinEncodable, BinEncoder, DecodeError, ProtoError, RecordType};
+use base::{BinDecoder, BinEncodable, BinEncoder, DecodeError, Name, ProtoError, RecordType};
 use std::alloc::{AllocError, Global};
 use std::marker::Model;
 pub use strings::Strings;
+use unescape::string_item;
 
 /// One or more character strings, each of up to 255 bytes (RFC 1035, 3.3.14). Contracts see the strings.
 #[derive(Debug, Drop)]
@@ -160,6 +163,30 @@ impl BinEncodable for TXT {
 pub fn text_order()
     ensures equal { (a b : List (List ℕ)) → IsTrue (⟦<TXT as PartialEq>⟧.eq a b) ↔ (a ≡ b) }
 {}
+
+impl TextData for TXT {
+    ghost of_items = { λ items _. txt_of items };
+
+    /// An item for each string, one at least, without quotes (RFC 1035, 3.3.14 and 5.1).
+    #[tactic(auto, unfolding(crate::specs::TXT::txt_of))]
+    fn from_items(
+        alloc: Global,
+        items: &[&str],
+        _origin: Option<&Name>,
+    ) -> Result<Option<TXT>, AllocError> {
+        if items.is_empty() {
+            return Ok(None);
+        }
+        let mut bytes = Vec::new(alloc);
+        for item in items {
+            let Some(string) = string_item(alloc, item)? else {
+                return Ok(None);
+            };
+            push_string(&mut bytes, &string)?;
+        }
+        Ok(Some(TXT { bytes }))
+    }
+}
 
 impl RecordData for TXT {
     ghost as_rdata = { kinds.TXT };

@@ -1,5 +1,5 @@
 use super::forms::has_text;
-use base::{DecodeError, Name, ParseError, ProtoError, RecordType};
+use base::{DecodeError, Name, ParseError, ProtoError, RecordType, Token};
 use std::alloc::{AllocError, Global};
 use std::test::Fail;
 
@@ -73,6 +73,7 @@ fn refusals_of_records_have_their_texts(rt: HostRuntime) {
 #[test]
 fn refusals_of_zone_text_have_their_numbers(rt: HostRuntime) {
     assert!(rt; zone_text(ParseError::Memory) == 3);
+    assert!(rt; zone_text(ParseError::UnexpectedToken(Token::At)) == 17);
     assert!(rt; zone_text(ParseError::Lexer) == 18);
     assert!(rt; zone_text(ParseError::Message("$ORIGIN was not specified")) == 19);
     assert!(rt; zone_text(ParseError::UnsupportedRecordType(RecordType::NULL)) == 22);

@@ -1,6 +1,6 @@
 //! That each variant of each enum that has a text prints: a contract says which text it is where printing succeeds.
 
-use base::{BinDecoder, DNSClass, DecodeError, Name, ParseError, ProtoError, RecordType};
+use base::{BinDecoder, DNSClass, DecodeError, Name, ParseError, ProtoError, RecordType, Token};
 use base_data::RData;
 use op::{MessageType, OpCode, ResponseCode};
 use std::alloc::Global;
@@ -174,6 +174,7 @@ fn refusals_of_reading_print(alloc: Global) -> bool {
 
 fn refusals_of_zone_text_print(alloc: Global) -> bool {
     refusal_prints(alloc, ParseError::Memory)
+        && refusal_prints(alloc, ParseError::UnexpectedToken(Token::EOL))
         && refusal_prints(alloc, ParseError::Lexer)
         && refusal_prints(alloc, ParseError::Message("record name not specified"))
         && refusal_prints(alloc, ParseError::IncludeNotFound(String::new(alloc)))

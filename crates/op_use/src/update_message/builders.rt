@@ -9,7 +9,9 @@ ghost use Rattle.op.specs.Fits.{Fits};
 ghost use Rattle.op.specs.Message.{message_value};
 ghost use Rattle.op_use.specs.SoundSet.{IsSendable, IsSendableKey, IsSendableOwner};
 ghost use Rattle.op_use.specs.UpdateMeaning.{AppendsToSet, CreatesSet, DeletesData, DeletesName, DeletesSet, SwapsSets};
-ghost use Rattle.op_use.specs.UpdateMessage.{append as append_sections, compare_and_swap as swap_sections, create as create_sections, delete_all as delete_all_sections, delete_by_rdata as delete_data_sections, delete_rrset as delete_set_sections, empty_record as empty_entry, in_class, sections, transfer_message, update_message, without_ttl};
+ghost use Rattle.op_use.specs.UpdateMessage.{append as append_sections, compare_and_swap as swap_sections, create as create_sections};
+ghost use Rattle.op_use.specs.UpdateMessage.{delete_all as delete_all_sections, delete_by_rdata as delete_data_sections, delete_rrset as delete_set_sections, empty_record as empty_entry};
+ghost use Rattle.op_use.specs.UpdateMessage.{in_class, sections, transfer_message, update_message, without_ttl};
 
 use base::{DNSClass, Name, ProtoError, RecordType};
 use base_data::{RData, SOA};

@@ -79,7 +79,8 @@ impl IntoIterator for RecordSet {
 
     type IntoIter = vec::IntoIter<Record>;
 
-    ghost into_iter_gives = { λ set iter. (into_iter_items iter ≡ set.records) × (into_iter_len iter ≡ length set.records) × EveryRun (into_iter_steps {X = Entry RData} {Z = Global}) (λ p. ItemsAre p (into_iter_items p.from)) };
+    ghost into_iter_gives = { λ set iter. (into_iter_items iter ≡ set.records) × (into_iter_len iter ≡ length set.records)
+        × EveryRun (into_iter_steps {X = Entry RData} {Z = Global}) (λ p. ItemsAre p (into_iter_items p.from)) };
 
     /// The records, in order, each once. Takes no memory.
     fn into_iter(self) -> vec::IntoIter<Record> {

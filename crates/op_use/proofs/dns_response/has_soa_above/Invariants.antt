@@ -9,4 +9,5 @@ use Rattle.op_use.proofs.dns_response.has_soa_above.Given as goal
 
 -- what is left says as much as all
 abbrev pub invariant-loop-record : goal.invariant-loop-record
-invariant-loop-record l = list_any (λ r. is_of types.SOA r && is_zone_of r.name l.name) l.record-iterator ≡ list_any (λ r. is_of types.SOA r && is_zone_of r.name l.name) (all_records (message_value l.message))
+invariant-loop-record l =
+    list_any (λ r. is_of types.SOA r && is_zone_of r.name l.name) l.record-iterator ≡ list_any (λ r. is_of types.SOA r && is_zone_of r.name l.name) (all_records (message_value l.message))

@@ -9,4 +9,5 @@ returns-clause-keeps c = Keeps-either c.emit_slice.result c.to_bytes.result _ _ 
 pub returns-clause-writes : goal.returns-clause-writes
 returns-clause-writes c =
     let twelve : length c.to_bytes.result ≡ 12 = ap length c.to_bytes.ensures.bytes in
-    Writes-either c.emit_slice.result (HeaderWord c.args.self.now) 12 c.to_bytes.result _ _ c.emit_slice.ensures.ok (omega arith) (λ B s. rw twelve (c.to_bytes.ensures.word B _ (rw c.to_bytes.ensures.bytes at s)))
+    Writes-either c.emit_slice.result (HeaderWord c.args.self.now) 12 c.to_bytes.result _ _ c.emit_slice.ensures.ok
+    (omega arith) (λ B s. rw twelve (c.to_bytes.ensures.word B _ (rw c.to_bytes.ensures.bytes at s)))

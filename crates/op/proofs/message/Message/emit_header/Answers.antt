@@ -9,7 +9,8 @@ use Rattle.op.proofs.message.Message.emit_header.Goals as goal
 
 -- the iterators run over the message's parts
 parts_of : (c : goal.After-emit_message_parts)
-    → AreOf (message_value c.args.self.now) c.iter.result c.emit_message_parts.new.queries c.iter-2.result c.emit_message_parts.new.answers c.iter-3.result c.emit_message_parts.new.authorities c.iter-4.result c.emit_message_parts.new.additionals
+    → AreOf (message_value c.args.self.now) c.iter.result c.emit_message_parts.new.queries c.iter-2.result
+    c.emit_message_parts.new.answers c.iter-3.result c.emit_message_parts.new.authorities c.iter-4.result c.emit_message_parts.new.additionals
     (opt_records c.args.self.now.metadata.response_code (option_copied c.as_ref.result))
     (signature_records (option_copied c.as_deref.result))
 parts_of c = record {
@@ -24,12 +25,14 @@ parts_of c = record {
 pub returns-clause-emitted : goal.returns-clause-emitted
 returns-clause-emitted c =
     let parts = c.emit_message_parts.new in
-    emitted_if (message_value c.args.self.now) c.iter.result parts.queries c.iter-2.result parts.answers c.iter-3.result parts.authorities c.iter-4.result parts.additionals _ _ (parts_of c) _ _ c.emit_message_parts.result c.emit_message_parts.ensures.run
+    emitted_if (message_value c.args.self.now) c.iter.result parts.queries c.iter-2.result parts.answers c.iter-3.result
+    parts.authorities c.iter-4.result parts.additionals _ _ (parts_of c) _ _ c.emit_message_parts.result c.emit_message_parts.ensures.run
 
 pub returns-clause-left : goal.returns-clause-left
 returns-clause-left c = λ empty blank.
     let parts = c.emit_message_parts.new in
-    left_if (message_value c.args.self.now) c.iter.result parts.queries c.iter-2.result parts.answers c.iter-3.result parts.authorities c.iter-4.result parts.additionals _ _ (parts_of c) _ _ c.emit_message_parts.result c.emit_message_parts.ensures.run empty blank c.emit_message_parts.ensures.narrow
+    left_if (message_value c.args.self.now) c.iter.result parts.queries c.iter-2.result parts.answers c.iter-3.result parts.authorities c.iter-4.result
+    parts.additionals _ _ (parts_of c) _ _ c.emit_message_parts.result c.emit_message_parts.ensures.run empty blank c.emit_message_parts.ensures.narrow
 
 pub returns-clause-refused : goal.returns-clause-refused
 returns-clause-refused c = λ empty blank.
@@ -38,4 +41,5 @@ returns-clause-refused c = λ empty blank.
 pub returns-clause-only : goal.returns-clause-only
 returns-clause-only c =
     let parts = c.emit_message_parts.new in
-    only_if (message_value c.args.self.now) c.iter.result parts.queries c.iter-2.result parts.answers c.iter-3.result parts.authorities c.iter-4.result parts.additionals _ _ (parts_of c) _ _ c.emit_message_parts.result c.emit_message_parts.ensures.run
+    only_if (message_value c.args.self.now) c.iter.result parts.queries c.iter-2.result parts.answers c.iter-3.result
+    parts.authorities c.iter-4.result parts.additionals _ _ (parts_of c) _ _ c.emit_message_parts.result c.emit_message_parts.ensures.run

@@ -38,7 +38,8 @@ returns-clause-keeps g c =
 pub returns-in_err-place-clause-run : goal.returns-in_err-place-clause-run
 returns-in_err-place-clause-run g c =
     let is = err_from_is_err_and c.from_residual.result c.from_residual.ensures.1 in
-    without_room g.Q.EmitAndCount.emits g.A.EmitAndCount.emits g.N.EmitAndCount.emits g.D.EmitAndCount.emits c.args.queries.now c.args.queries.now c.args.answers.now c.args.answers.now c.args.authorities.now c.args.authorities.now c.args.additionals.now c.args.additionals.now c.args.metadata.now
+    without_room g.Q.EmitAndCount.emits g.A.EmitAndCount.emits g.N.EmitAndCount.emits g.D.EmitAndCount.emits c.args.queries.now c.args.queries.now
+    c.args.answers.now c.args.answers.now c.args.authorities.now c.args.authorities.now c.args.additionals.now c.args.additionals.now c.args.metadata.now
     (opt_records c.args.metadata.now.response_code (option_copied c.args.edns)) (signature_records (option_copied c.args.signature))
     (state_of c.args.encoder.now) c.from_residual.result
     c.in_err-place.field-0.0 (state_of c.place.new.self) (c.in_err-place.ensures.err, c.in_err-place.ensures.refuses) (is.1 ∙ ap (λ e. Err e) is.2) (refl, refl, refl, refl)
@@ -46,7 +47,8 @@ returns-in_err-place-clause-run g c =
 pub returns-in_err-query_count-clause-run : goal.returns-in_err-query_count-clause-run
 returns-in_err-query_count-clause-run g c =
     let is = err_from_is_err_and c.from_residual-in_err-query_count.result c.from_residual-in_err-query_count.ensures.1 in
-    without_questions g.Q.EmitAndCount.emits g.A.EmitAndCount.emits g.N.EmitAndCount.emits g.D.EmitAndCount.emits c.args.queries.now c.emit.new.self c.args.answers.now c.args.answers.now c.args.authorities.now c.args.authorities.now c.args.additionals.now c.args.additionals.now c.args.metadata.now
+    without_questions g.Q.EmitAndCount.emits g.A.EmitAndCount.emits g.N.EmitAndCount.emits g.D.EmitAndCount.emits c.args.queries.now c.emit.new.self
+    c.args.answers.now c.args.answers.now c.args.authorities.now c.args.authorities.now c.args.additionals.now c.args.additionals.now c.args.metadata.now
     (opt_records c.args.metadata.now.response_code (option_copied c.args.edns)) (signature_records (option_copied c.args.signature))
     (state_of c.args.encoder.now) c.from_residual-in_err-query_count.result
     c.in_ok-place.place (state_of c.place.new.self) (c.in_ok-place.ensures.ok.1, c.in_ok-place.ensures.ok.0, c.in_ok-place.ensures.within)
@@ -55,7 +57,8 @@ returns-in_err-query_count-clause-run g c =
 pub returns-in_err-sections-clause-run : goal.returns-in_err-sections-clause-run
 returns-in_err-sections-clause-run g c =
     let is = err_from_is_err_and c.from_residual-in_err-sections.result c.from_residual-in_err-sections.ensures.1 in
-    without_sections g.Q.EmitAndCount.emits g.A.EmitAndCount.emits g.N.EmitAndCount.emits g.D.EmitAndCount.emits c.args.queries.now c.emit.new.self c.args.answers.now c.emit_sections.new.answers c.args.authorities.now c.emit_sections.new.authorities c.args.additionals.now c.emit_sections.new.additionals c.args.metadata.now
+    without_sections g.Q.EmitAndCount.emits g.A.EmitAndCount.emits g.N.EmitAndCount.emits g.D.EmitAndCount.emits c.args.queries.now c.emit.new.self c.args.answers.now
+    c.emit_sections.new.answers c.args.authorities.now c.emit_sections.new.authorities c.args.additionals.now c.emit_sections.new.additionals c.args.metadata.now
     (opt_records c.args.metadata.now.response_code (option_copied c.args.edns)) (signature_records (option_copied c.args.signature))
     (state_of c.args.encoder.now) c.from_residual-in_err-sections.result
     c.in_ok-place.place (state_of c.place.new.self) (c.in_ok-place.ensures.ok.1, c.in_ok-place.ensures.ok.0, c.in_ok-place.ensures.within)
@@ -65,7 +68,8 @@ returns-in_err-sections-clause-run g c =
 pub returns-in_err-extras-clause-run : goal.returns-in_err-extras-clause-run
 returns-in_err-extras-clause-run g c =
     let is = err_from_is_err_and c.from_residual-in_err-extras.result c.from_residual-in_err-extras.ensures.1 in
-    without_extras g.Q.EmitAndCount.emits g.A.EmitAndCount.emits g.N.EmitAndCount.emits g.D.EmitAndCount.emits c.args.queries.now c.emit.new.self c.args.answers.now c.emit_sections.new.answers c.args.authorities.now c.emit_sections.new.authorities c.args.additionals.now c.emit_sections.new.additionals c.args.metadata.now
+    without_extras g.Q.EmitAndCount.emits g.A.EmitAndCount.emits g.N.EmitAndCount.emits g.D.EmitAndCount.emits c.args.queries.now c.emit.new.self c.args.answers.now
+    c.emit_sections.new.answers c.args.authorities.now c.emit_sections.new.authorities c.args.additionals.now c.emit_sections.new.additionals c.args.metadata.now
     (opt_records c.args.metadata.now.response_code (option_copied c.args.edns)) (signature_records (option_copied c.args.signature))
     (state_of c.args.encoder.now) c.from_residual-in_err-extras.result
     c.in_ok-place.place (state_of c.place.new.self) (c.in_ok-place.ensures.ok.1, c.in_ok-place.ensures.ok.0, c.in_ok-place.ensures.within)
@@ -76,7 +80,8 @@ returns-in_err-extras-clause-run g c =
 pub returns-in_err-header-clause-run : goal.returns-in_err-header-clause-run
 returns-in_err-header-clause-run g c =
     let is = err_from_is_err_and c.from_residual-in_err-header.result c.from_residual-in_err-header.ensures.1 in
-    without_header g.Q.EmitAndCount.emits g.A.EmitAndCount.emits g.N.EmitAndCount.emits g.D.EmitAndCount.emits c.args.queries.now c.emit.new.self c.args.answers.now c.emit_sections.new.answers c.args.authorities.now c.emit_sections.new.authorities c.args.additionals.now c.emit_sections.new.additionals c.args.metadata.now
+    without_header g.Q.EmitAndCount.emits g.A.EmitAndCount.emits g.N.EmitAndCount.emits g.D.EmitAndCount.emits c.args.queries.now c.emit.new.self c.args.answers.now
+    c.emit_sections.new.answers c.args.authorities.now c.emit_sections.new.authorities c.args.additionals.now c.emit_sections.new.additionals c.args.metadata.now
     (opt_records c.args.metadata.now.response_code (option_copied c.args.edns)) (signature_records (option_copied c.args.signature))
     (state_of c.args.encoder.now) c.from_residual-in_err-header.result
     c.in_ok-place.place (state_of c.place.new.self) (c.in_ok-place.ensures.ok.1, c.in_ok-place.ensures.ok.0, c.in_ok-place.ensures.within)
@@ -87,7 +92,8 @@ returns-in_err-header-clause-run g c =
 
 pub returns-clause-run : goal.returns-clause-run
 returns-clause-run g c =
-    whole g.Q.EmitAndCount.emits g.A.EmitAndCount.emits g.N.EmitAndCount.emits g.D.EmitAndCount.emits c.args.queries.now c.emit.new.self c.args.answers.now c.emit_sections.new.answers c.args.authorities.now c.emit_sections.new.authorities c.args.additionals.now c.emit_sections.new.additionals c.args.metadata.now
+    whole g.Q.EmitAndCount.emits g.A.EmitAndCount.emits g.N.EmitAndCount.emits g.D.EmitAndCount.emits c.args.queries.now c.emit.new.self c.args.answers.now
+    c.emit_sections.new.answers c.args.authorities.now c.emit_sections.new.authorities c.args.additionals.now c.emit_sections.new.additionals c.args.metadata.now
     (opt_records c.args.metadata.now.response_code (option_copied c.args.edns)) (signature_records (option_copied c.args.signature))
     (state_of c.args.encoder.now) (Ok c.in_ok-header.header)
     c.in_ok-place.place (state_of c.place.new.self) (c.in_ok-place.ensures.ok.1, c.in_ok-place.ensures.ok.0, c.in_ok-place.ensures.within)

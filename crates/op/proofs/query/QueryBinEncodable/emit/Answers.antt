@@ -14,4 +14,5 @@ pub returns-clause-writes : goal.returns-clause-writes
 returns-clause-writes c =
     let type = c.emit-2.ensures.keeps in
     let class = c.emit-3.ensures.keeps in
-    on_ok_weaker c.emit-3.result (λ w. Writes-weaker (question_word c.args.self.now c.to_field-class.result c.to_field-class.ensures) (omega arith) (Writes-then c.emit.ensures.keeps (Keeps-then type class) c.in_ok-emit.ensures.writes (Writes-then type class c.in_ok-emit-2.ensures.writes w))) c.emit-3.ensures.writes
+    on_ok_weaker c.emit-3.result (λ w. Writes-weaker (question_word c.args.self.now c.to_field-class.result c.to_field-class.ensures) (omega arith)
+    (Writes-then c.emit.ensures.keeps (Keeps-then type class) c.in_ok-emit.ensures.writes (Writes-then type class c.in_ok-emit-2.ensures.writes w))) c.emit-3.ensures.writes

@@ -11,4 +11,5 @@ returns-clause-found c =
 pub returns-clause-only : goal.returns-clause-only
 returns-clause-only c =
     let same : c.deref.result.now ≡ c.args.self.now.bytes = cc in
-    subst (λ (bytes : List ℕ). (m : MessageValue) (e : ℕ) → IsMessageAt bytes 0 m e → MatchResult c.from_vec.result (λ read. message_value read ≡ m) (λ f. f ≡ faults.Memory)) same c.from_vec.ensures.only
+    subst (λ (bytes : List ℕ). (m : MessageValue) (e : ℕ) → IsMessageAt bytes 0 m e
+    → MatchResult c.from_vec.result (λ read. message_value read ≡ m) (λ f. f ≡ faults.Memory)) same c.from_vec.ensures.only

@@ -11,7 +11,8 @@ use Rattle.op_use.proofs.update_message.builders.compare_and_swap.Goals as goal
 pub returns-clause-fits : goal.returns-clause-fits
 returns-clause-fits c =
     let built : IfOk c.update.result (λ m. message_value m ≡ update_message c.args.id c.args.use_edns (compare_and_swap c.args.current c.args.new c.args.origin)) = grind (arith, common_steps) in
-    of_built (λ m. IsSendable c.args.origin c.args.current → IsSendable c.args.origin c.args.new → Fits m) _ c.update.result built (compare_and_swap_fits c.args.id c.args.current c.args.new c.args.origin c.args.use_edns)
+    of_built (λ m. IsSendable c.args.origin c.args.current → IsSendable c.args.origin c.args.new
+    → Fits m) _ c.update.result built (compare_and_swap_fits c.args.id c.args.current c.args.new c.args.origin c.args.use_edns)
 
 pub returns-clause-means : goal.returns-clause-means
 returns-clause-means c =

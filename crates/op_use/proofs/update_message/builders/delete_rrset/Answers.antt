@@ -12,7 +12,8 @@ use Rattle.op_use.proofs.update_message.builders.delete_rrset.Goals as goal
 pub returns-clause-fits : goal.returns-clause-fits
 returns-clause-fits c =
     let built : IfOk c.update.result (λ m. message_value m ≡ update_message c.args.id c.args.use_edns (delete_rrset c.args.entry c.args.origin)) = grind (arith, common_steps) in
-    of_built (λ m. IsSendableKey c.args.origin c.args.entry.name (type_of_data c.args.entry.rdata) c.args.entry.dns_class → Fits m) _ c.update.result built (delete_rrset_fits c.args.id c.args.entry c.args.origin c.args.use_edns)
+    of_built (λ m. IsSendableKey c.args.origin c.args.entry.name (type_of_data c.args.entry.rdata) c.args.entry.dns_class
+    → Fits m) _ c.update.result built (delete_rrset_fits c.args.id c.args.entry c.args.origin c.args.use_edns)
 
 pub returns-clause-means : goal.returns-clause-means
 returns-clause-means c =

@@ -15,7 +15,10 @@ returns-in_err-ttl c =
     let at = c.args.decoder.now in
     let second = c.read_u16.new.self in
     let class = c.in_ok-read_u16.ensures.read in
-    record { read = rw (p.1, p.2) (ttl_fails c.args.name c.args.record_type at.bytes at.index c.in_ok-read_u16.field-0 second.index class.0 second.bytes class.1 c.in_err-ttl.field-0.0 c.in_err-ttl.ensures.read) }
+    record {
+      read = rw (p.1, p.2) (ttl_fails c.args.name c.args.record_type at.bytes at.index c.in_ok-read_u16.field-0
+          second.index class.0 second.bytes class.1 c.in_err-ttl.field-0.0 c.in_err-ttl.ensures.read);
+    }
 
 pub returns-in_err-len : goal.returns-in_err-len
 returns-in_err-len c =
@@ -26,7 +29,8 @@ returns-in_err-len c =
     let class = c.in_ok-read_u16.ensures.read in
     let ttl = c.in_ok-ttl.ensures.read in
     record {
-      read = rw (p.1, p.2) (len_fails c.args.name c.args.record_type at.bytes at.index c.in_ok-read_u16.field-0 second.index class.0 second.bytes class.1 c.in_ok-ttl.ttl third.index ttl.0 third.bytes ttl.1
+      read = rw (p.1, p.2) (len_fails c.args.name c.args.record_type at.bytes at.index c.in_ok-read_u16.field-0
+          second.index class.0 second.bytes class.1 c.in_ok-ttl.ttl third.index ttl.0 third.bytes ttl.1
           c.in_err-len.field-0.0 c.in_err-len.ensures.read);
     }
 
@@ -56,8 +60,10 @@ returns-in_err-rdata c =
     let ttl = c.in_ok-ttl.ensures.read in
     let len = c.in_ok-len.ensures.read in
     record {
-      read = rw (p.1, p.2) (data_fails c.args.name c.args.record_type at.bytes at.index c.in_ok-read_u16.field-0 second.index class.0 second.bytes class.1 c.in_ok-ttl.ttl third.index ttl.0 third.bytes ttl.1
-          c.in_ok-len.len last.index len.0 last.bytes len.1 c.len-left.result c.from.result c.len-left.ensures c.from.ensures c.if-left-from.false c.in_err-rdata.field-0.0 c.in_err-rdata.ensures.read);
+      read = rw (p.1, p.2) (data_fails c.args.name c.args.record_type at.bytes at.index c.in_ok-read_u16.field-0
+          second.index class.0 second.bytes class.1 c.in_ok-ttl.ttl third.index ttl.0 third.bytes ttl.1
+          c.in_ok-len.len last.index len.0 last.bytes len.1 c.len-left.result c.from.result
+          c.len-left.ensures c.from.ensures c.if-left-from.false c.in_err-rdata.field-0.0 c.in_err-rdata.ensures.read);
     }
 
 pub returns : goal.returns
@@ -74,7 +80,8 @@ returns c =
     record {
       read = (
         body_read c.args.name c.args.record_type at.bytes at.index c.in_ok-read_u16.field-0 second.index class.0 second.bytes class.1 c.in_ok-ttl.ttl third.index ttl.0 third.bytes ttl.1
-            c.in_ok-len.len last.index len.0 last.bytes len.1 c.len-left.result c.from.result c.len-left.ensures c.from.ensures c.if-left-from.false c.in_ok-rdata.rdata c.read.new.decoder.index rdata.0
+            c.in_ok-len.len last.index len.0 last.bytes len.1 c.len-left.result c.from.result
+            c.len-left.ensures c.from.ensures c.if-left-from.false c.in_ok-rdata.rdata c.read.new.decoder.index rdata.0
             kind.result.0 kind.result.1 kind.ensures.class kind.ensures.flush,
         rdata.1 ∙ (len.1 ∙ (ttl.1 ∙ class.1)),
       );

@@ -24,7 +24,8 @@ returns-clause-writes c =
     let keeps_3 = Keeps-then c.emit_ttl.ensures.keeps keeps_4 in
     let keeps_2 = Keeps-then c.emit-2.ensures.keeps keeps_3 in
     let keeps_1 = Keeps-then c.emit.ensures.keeps keeps_2 in
-    on_ok_weaker c.emit_sized.result (λ w. Writes-weaker (edns_word e _ _ (c.from-payload.ensures ∙ ap class_number c.for_opt.ensures) (c.ttl_of-ttl.ensures ∙ ap (λ n. 16777216 * e.rcode_high + (65536 * e.version + n)) c.from.ensures)) (omega (arith, options_plain e.options))
+    on_ok_weaker c.emit_sized.result (λ w. Writes-weaker (edns_word e _ _ (c.from-payload.ensures ∙ ap class_number c.for_opt.ensures)
+    (c.ttl_of-ttl.ensures ∙ ap (λ n. 16777216 * e.rcode_high + (65536 * e.version + n)) c.from.ensures)) (omega (arith, options_plain e.options))
     (Writes-then c.emit_root.ensures.keeps keeps_1 c.in_ok-emit_root.ensures.writes
     (Writes-then c.emit.ensures.keeps keeps_2 c.in_ok-emit.ensures.writes
     (Writes-then c.emit-2.ensures.keeps keeps_3 c.in_ok-emit-2.ensures.writes

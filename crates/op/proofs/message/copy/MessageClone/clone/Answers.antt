@@ -20,7 +20,15 @@ values_same a b metadata queries answers authorities additionals edns signature 
 pub returns : goal.returns
 returns c =
     let m = c.args.self.now in
-    let copy : Message = record { metadata = m.metadata; queries = c.in_ok-clone.field-0; answers = c.in_ok-clone-2.field-0; authorities = c.in_ok-clone-3.field-0; additionals = c.in_ok-clone-4.field-0; signature = c.in_ok-clone-5.field-0; edns = c.in_ok-clone-6.field-0 } in
+    let copy : Message = record {
+      metadata = m.metadata;
+      queries = c.in_ok-clone.field-0;
+      answers = c.in_ok-clone-2.field-0;
+      authorities = c.in_ok-clone-3.field-0;
+      additionals = c.in_ok-clone-4.field-0;
+      signature = c.in_ok-clone-5.field-0;
+      edns = c.in_ok-clone-6.field-0;
+    } in
     record {
       cases = values_same m copy refl (each_same m.queries.items c.in_ok-clone.field-0.items c.in_ok-clone.ensures.cases.0)
           (records_same m.answers.items c.in_ok-clone-2.field-0.items c.in_ok-clone-2.ensures.cases.0)

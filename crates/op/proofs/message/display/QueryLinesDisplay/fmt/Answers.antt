@@ -14,4 +14,5 @@ one_more f xs i x within is =
 pub loop-query-preserved : goal.loop-query-preserved
 loop-query-preserved g c = λ plain.
     let before = c.loop-query.invariant plain in
-    has_written_of_eq _ _ _ _ _ (one_more query_line c.args.self.now.0.now c.loop-query.query-index c.query-item.result c.loop-query-test.true c.query-item.is) (has_written_append _ _ _ _ _ _ before (c.in_ok-writeln.ensures.writes before.plain (refl {a = true})))
+    has_written_of_eq _ _ _ _ _ (one_more query_line c.args.self.now.0.now c.loop-query.query-index c.query-item.result c.loop-query-test.true c.query-item.is)
+    (has_written_append _ _ _ _ _ _ before (c.in_ok-writeln.ensures.writes before.plain (refl {a = true})))

@@ -20,7 +20,8 @@ pub returns-in_err-emit-clause-refuses : goal.returns-in_err-emit-clause-refuses
 returns-in_err-emit-clause-refuses g c =
     let p = err_from_is_err_and c.from_residual.result c.from_residual.ensures.1 in
     let r = c.args.self.now in
-    rw (p.1, p.2) (name_refused {X = Unit {0}} (plain_len r.name.labels) (plain_data (g.R.RecordData.as_rdata r.rdata)) (state_of c.args.encoder.now) (Err c.in_err-emit.field-0.0) c.in_err-emit.ensures.refuses)
+    rw (p.1, p.2) (name_refused {X = Unit {0}} (plain_len r.name.labels) (plain_data (g.R.RecordData.as_rdata r.rdata))
+    (state_of c.args.encoder.now) (Err c.in_err-emit.field-0.0) c.in_err-emit.ensures.refuses)
 
 pub returns-in_err-emit-2-clause-keeps : goal.returns-in_err-emit-2-clause-keeps
 returns-in_err-emit-2-clause-keeps g c = Keeps-then c.emit.ensures.keeps c.emit-2.ensures.keeps
@@ -32,7 +33,8 @@ pub returns-in_err-emit-2-clause-refuses : goal.returns-in_err-emit-2-clause-ref
 returns-in_err-emit-2-clause-refuses g c =
     let p = err_from_is_err_and c.from_residual-in_err-emit-2.result c.from_residual-in_err-emit-2.ensures.1 in
     let r = c.args.self.now in
-    rw (p.1, p.2) (type_refused (plain_len r.name.labels) (plain_data (g.R.RecordData.as_rdata r.rdata)) (state_of c.args.encoder.now) (state_of c.emit.new.encoder) c.emit.ensures.keeps.limit c.in_ok-emit.ensures.writes.at_most
+    rw (p.1, p.2) (type_refused (plain_len r.name.labels) (plain_data (g.R.RecordData.as_rdata r.rdata))
+    (state_of c.args.encoder.now) (state_of c.emit.new.encoder) c.emit.ensures.keeps.limit c.in_ok-emit.ensures.writes.at_most
     {X = Unit {0}} (Err c.in_err-emit-2.field-0.0) c.in_err-emit-2.ensures.refuses)
 
 pub returns-in_err-emit-3-clause-keeps : goal.returns-in_err-emit-3-clause-keeps
@@ -45,7 +47,8 @@ pub returns-in_err-emit-3-clause-refuses : goal.returns-in_err-emit-3-clause-ref
 returns-in_err-emit-3-clause-refuses g c =
     let p = err_from_is_err_and c.from_residual-in_err-emit-3.result c.from_residual-in_err-emit-3.ensures.1 in
     let r = c.args.self.now in
-    rw (p.1, p.2) (class_refused (plain_len r.name.labels) (plain_data (g.R.RecordData.as_rdata r.rdata)) (state_of c.args.encoder.now) (state_of c.emit.new.encoder) c.emit.ensures.keeps.limit c.in_ok-emit.ensures.writes.at_most
+    rw (p.1, p.2) (class_refused (plain_len r.name.labels) (plain_data (g.R.RecordData.as_rdata r.rdata))
+    (state_of c.args.encoder.now) (state_of c.emit.new.encoder) c.emit.ensures.keeps.limit c.in_ok-emit.ensures.writes.at_most
     (state_of c.emit-2.new.encoder) c.emit-2.ensures.keeps.limit c.in_ok-emit-2.ensures.writes.at_most {X = Unit {0}} (Err c.in_err-emit-3.field-0.0) c.in_err-emit-3.ensures.refuses)
 
 pub returns-in_err-emit_ttl-clause-keeps : goal.returns-in_err-emit_ttl-clause-keeps
@@ -58,8 +61,10 @@ pub returns-in_err-emit_ttl-clause-refuses : goal.returns-in_err-emit_ttl-clause
 returns-in_err-emit_ttl-clause-refuses g c =
     let p = err_from_is_err_and c.from_residual-in_err-emit_ttl.result c.from_residual-in_err-emit_ttl.ensures.1 in
     let r = c.args.self.now in
-    rw (p.1, p.2) (ttl_refused (plain_len r.name.labels) (plain_data (g.R.RecordData.as_rdata r.rdata)) (state_of c.args.encoder.now) (state_of c.emit.new.encoder) c.emit.ensures.keeps.limit c.in_ok-emit.ensures.writes.at_most
-    (state_of c.emit-2.new.encoder) c.emit-2.ensures.keeps.limit c.in_ok-emit-2.ensures.writes.at_most (state_of c.emit-3.new.encoder) c.emit-3.ensures.keeps.limit c.in_ok-emit-3.ensures.writes.at_most
+    rw (p.1, p.2) (ttl_refused (plain_len r.name.labels) (plain_data (g.R.RecordData.as_rdata r.rdata))
+    (state_of c.args.encoder.now) (state_of c.emit.new.encoder) c.emit.ensures.keeps.limit c.in_ok-emit.ensures.writes.at_most
+    (state_of c.emit-2.new.encoder) c.emit-2.ensures.keeps.limit c.in_ok-emit-2.ensures.writes.at_most
+    (state_of c.emit-3.new.encoder) c.emit-3.ensures.keeps.limit c.in_ok-emit-3.ensures.writes.at_most
     {X = Unit {0}} (Err c.in_err-emit_ttl.field-0.0) c.in_err-emit_ttl.ensures.refuses)
 
 pub returns-clause-keeps : goal.returns-clause-keeps
@@ -75,7 +80,8 @@ returns-clause-writes g c =
     let keeps_1 = Keeps-then c.emit-2.ensures.keeps keeps_2 in
     let as_data = λ (B : List ℕ) (i e : ℕ). (law.keeps_word r.rdata B i e).1 in
     let fits = whole_record (plain_len r.name.labels) _ _ (law.keeps_len r.rdata) in
-    on_ok_weaker c.emit_sized.result (λ w. Writes-weaker (record_word (with_data g.R.RecordData.as_rdata r) _ _ (ap type_number c.record_type.ensures) c.to_field-class.ensures (g.R.BinEncodable.word r.rdata) as_data) fits
+    on_ok_weaker c.emit_sized.result (λ w. Writes-weaker
+    (record_word (with_data g.R.RecordData.as_rdata r) _ _ (ap type_number c.record_type.ensures) c.to_field-class.ensures (g.R.BinEncodable.word r.rdata) as_data) fits
     (Writes-then c.emit.ensures.keeps keeps_1 c.in_ok-emit.ensures.writes
     (Writes-then c.emit-2.ensures.keeps keeps_2 c.in_ok-emit-2.ensures.writes
     (Writes-then c.emit-3.ensures.keeps keeps_3 c.in_ok-emit-3.ensures.writes
@@ -84,6 +90,9 @@ returns-clause-writes g c =
 pub returns-clause-refuses : goal.returns-clause-refuses
 returns-clause-refuses g c =
     let r = c.args.self.now in
-    data_refused (plain_len r.name.labels) (plain_data (g.R.RecordData.as_rdata r.rdata)) (state_of c.args.encoder.now) (state_of c.emit.new.encoder) c.emit.ensures.keeps.limit c.in_ok-emit.ensures.writes.at_most
-    (state_of c.emit-2.new.encoder) c.emit-2.ensures.keeps.limit c.in_ok-emit-2.ensures.writes.at_most (state_of c.emit-3.new.encoder) c.emit-3.ensures.keeps.limit c.in_ok-emit-3.ensures.writes.at_most
-    (state_of c.emit_ttl.new.encoder) c.emit_ttl.ensures.keeps.limit c.in_ok-emit_ttl.ensures.writes.at_most (g.R.BinEncodable.plain_len r.rdata) (g.met.R.RecordData.keeps_len r.rdata) c.emit_sized.result c.emit_sized.ensures.refuses
+    data_refused (plain_len r.name.labels) (plain_data (g.R.RecordData.as_rdata r.rdata)) (state_of c.args.encoder.now)
+    (state_of c.emit.new.encoder) c.emit.ensures.keeps.limit c.in_ok-emit.ensures.writes.at_most
+    (state_of c.emit-2.new.encoder) c.emit-2.ensures.keeps.limit c.in_ok-emit-2.ensures.writes.at_most
+    (state_of c.emit-3.new.encoder) c.emit-3.ensures.keeps.limit c.in_ok-emit-3.ensures.writes.at_most
+    (state_of c.emit_ttl.new.encoder) c.emit_ttl.ensures.keeps.limit c.in_ok-emit_ttl.ensures.writes.at_most
+    (g.R.BinEncodable.plain_len r.rdata) (g.met.R.RecordData.keeps_len r.rdata) c.emit_sized.result c.emit_sized.ensures.refuses

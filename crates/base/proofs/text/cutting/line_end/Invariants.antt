@@ -1,0 +1,6 @@
+use Rattle.std.proofs.Common.{◌≡◌, drop}
+use Rattle.base.specs.Tokens.{line_end}
+use Rattle.base.proofs.text.cutting.line_end.Given as goal
+
+abbrev pub invariant-loop-i : goal.invariant-loop-i
+invariant-loop-i l = line_end (drop l.i l.text) ≡ line_end l.text

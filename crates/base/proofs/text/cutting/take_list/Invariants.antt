@@ -1,0 +1,14 @@
+use Rattle.std.proofs.Common.{length}
+use Rattle.std.specs.Str.{IsUtf8}
+use Rattle.base.specs.Tokens.{texts}
+use Rattle.base.proofs.ListItems.{Listing}
+use Rattle.base.proofs.text.cutting.take_list.Given as goal
+
+abbrev pub invariant-items : goal.invariant-items
+invariant-items l = record {
+  utf8 : IsUtf8 l.rest;
+  listing : Listing l.text l.rest (texts l.items.items);
+}
+
+abbrev pub decreases-items : goal.decreases-items
+decreases-items l = length l.rest

@@ -1,0 +1,11 @@
+//! The tokens of zone text and the texts of TTLs (RFC 1035, 5.1): the lower half of `serialize::txt`.
+
+mod cutting;
+pub mod laws;
+pub mod lexer;
+pub mod token;
+pub mod ttl;
+
+pub use lexer::Lexer;
+pub use token::Token;
+pub use ttl::parse_ttl;

@@ -1,0 +1,253 @@
+//! Cuts off what a text begins with: blanks, comments, items, quoted texts and lists (RFC 1035, 5.1).
+//!
+//! Every character with a meaning is one of ASCII, so texts are looked at byte by byte.
+
+ghost use Rattle.std.specs.Prelude.{◌≡◌, ◌≤◌, ◌<◌, ◌+◌, ◌∷◌, true, false, length, take, drop, get_or, slice_get, IfSome, IfNone, IfOk, IsTrue, None, Some};
+ghost use Rattle.std.specs.Option.{option_map};
+ghost use Rattle.std.specs.Str.{IsCharBoundary};
+ghost use Rattle.std.specs.String.{string_bytes};
+ghost use Rattle.base.specs.Cuts.{AnswersElement, AnswersItem, AnswersNext, CutsOff};
+ghost use Rattle.base.specs.Tokens.{before, begins_blank, element, element_of, ends_item, is_blank, is_line_end, item, item_token};
+ghost use Rattle.base.specs.Tokens.{line_end, list_items, next, past_blanks, past_comment, past_line_end, past_separators, quoted, separates, texts, visible};
+
+use crate::error::ParseError;
+use crate::text::Token;
+use std::alloc::Global;
+
+/// Whether an item ends before this byte.
+fn ends_item(c: u8) -> bool
+    ensures { result ≡ ends_item c }
+{
+    matches!(c, b' ' | b'\t' | b'\n' | b'\r' | b';' | b'(' | b')' | b'"')
+}
+
+/// How many bytes the item has that a text begins with; none where a backslash ends the text.
+#[tactic(auto, unfolding(crate::specs::Tokens::item))]
+fn item_len(text: &[u8]) -> Option<usize>
+    ensures value { option_map (λ n. (take n text.now, drop n text.now)) result ≡ item false text.now }
+    ensures boundary { IfSome result (λ n. IsCharBoundary text.now n) }
+{
+    let mut kept = false;
+    for (i, c) in text.iter().enumerate() {
+        if !kept && ends_item(*c) {
+            return Some(i);
+        }
+        kept = !kept && *c == b'\\';
+    }
+    if kept {
+        return None;
+    }
+    Some(text.len())
+}
+
+/// How many bytes stand before the next `"` that no backslash keeps; none where there is no such `"`.
+#[tactic(auto, unfolding(crate::specs::Tokens::quoted))]
+fn quoted_len(text: &[u8]) -> Option<usize>
+    ensures value { option_map (λ n. (take n text.now, drop (n + 1) text.now)) result ≡ quoted false text.now }
+    ensures boundary { IfSome result (λ n. IsCharBoundary text.now n) }
+    ensures quote { IfSome result (λ n. (n < length text.now) × (get_or text.now n 0 ≡ 34)) }
+{
+    let mut kept = false;
+    for (i, c) in text.iter().enumerate() {
+        if !kept && *c == b'"' {
+            return Some(i);
+        }
+        kept = !kept && *c == b'\\';
+    }
+    None
+}
+
+/// What is behind the first character of a text, which is one of ASCII.
+pub(super) fn past_first(text: &str) -> &str
+    requires some { 0 < length text.now }
+    requires ascii { get_or text.now 0 0 < 128 }
+    ensures value { text.now ≡ get_or text.now 0 0 ∷ result.now }
+{
+    &text[1..]
+}
+
+/// Whether this byte is a space or a tab.
+fn is_blank(c: u8) -> bool
+    ensures { result ≡ is_blank c }
+{
+    c == b' ' || c == b'\t'
+}
+
+/// Whether this byte ends a line.
+pub(super) fn is_line_end(c: u8) -> bool
+    ensures { result ≡ is_line_end c }
+{
+    c == b'\n' || c == b'\r'
+}
+
+/// Whether this byte separates items within parentheses: a blank or the end of a line.
+fn separates(c: u8) -> bool
+    ensures { result ≡ separates c }
+{
+    is_blank(c) || is_line_end(c)
+}
+
+/// The first byte of a text, if there is one.
+pub(super) fn first_byte(text: &str) -> Option<u8>
+    ensures { result ≡ slice_get text.now 0 }
+{
+    text.as_bytes().first().copied()
+}
+
+/// Whether a text begins with a blank.
+pub(super) fn begins_blank(text: &str) -> bool
+    ensures value { result ≡ begins_blank text.now }
+    ensures first { IsTrue result → (0 < length text.now) × (get_or text.now 0 0 < 128) }
+{
+    match first_byte(text) {
+        Some(c) => is_blank(c),
+        None => false,
+    }
+}
+
+/// What is behind the blanks that a text begins with.
+pub(super) fn past_blanks(text: &str) -> &str
+    ensures { result.now ≡ past_blanks text.now }
+{
+    let mut rest = text;
+    'blanks: while begins_blank(rest) {
+        rest = past_first(rest);
+    }
+    rest
+}
+
+/// What stands from the end of the line on.
+fn line_end(text: &str) -> &str
+    ensures { result.now ≡ line_end text.now }
+{
+    for (i, c) in text.as_bytes().iter().enumerate() {
+        if is_line_end(*c) {
+            return &text[i..];
+        }
+    }
+    &text[text.len()..]
+}
+
+/// What is behind the comment that a text begins with, if it begins with one.
+pub(super) fn past_comment(text: &str) -> &str
+    ensures { result.now ≡ past_comment text.now }
+{
+    if first_byte(text) == Some(b';') {
+        return line_end(text);
+    }
+    text
+}
+
+/// Within parentheses: what is behind blanks, line ends and comments.
+#[tactic(auto, using(crate::proofs::Cutting::separators_comment, crate::proofs::Cutting::comment_shorter, crate::proofs::Cutting::separators_here, crate::proofs::Cutting::separators_none))]
+fn past_separators(text: &str) -> &str
+    ensures { result.now ≡ past_separators false text.now }
+{
+    let mut rest = text;
+    'separators: while let Some(c) = first_byte(rest) {
+        if c == b';' {
+            rest = line_end(rest);
+        } else {
+            if !separates(c) {
+                return rest;
+            }
+            rest = past_first(rest);
+        }
+    }
+    rest
+}
+
+/// The item that a text begins with, and what is behind it.
+pub(super) fn take_item(alloc: Global, text: &str) -> Result<(String, &str), ParseError>
+    ensures { CutsOff (λ r. (string_bytes r.0, r.1.now)) result (item false text.now) }
+{
+    let Some(len) = item_len(text.as_bytes()) else {
+        return Err(ParseError::Lexer);
+    };
+    let (word, rest) = text.split_at(len);
+    Ok((String::from_str(alloc, word)?, rest))
+}
+
+/// What stands before the closing quotation mark, and what is behind that.
+pub(super) fn take_quoted(alloc: Global, text: &str) -> Result<(String, &str), ParseError>
+    ensures { CutsOff (λ r. (string_bytes r.0, r.1.now)) result (quoted false text.now) }
+{
+    let Some(len) = quoted_len(text.as_bytes()) else {
+        return Err(ParseError::Lexer);
+    };
+    let (word, rest) = text.split_at(len);
+    Ok((String::from_str(alloc, word)?, past_first(rest)))
+}
+
+/// What stands next within parentheses, none where they close, and what is behind it.
+#[tactic(auto, unfolding(crate::specs::Tokens::element))]
+fn take_element(alloc: Global, text: &str) -> Result<(Option<String>, &str), ParseError>
+    ensures { AnswersElement result (element (past_separators false text.now)) }
+{
+    let rest = past_separators(text);
+    match first_byte(rest) {
+        None => Err(ParseError::Lexer),
+        Some(b')') => Ok((None, past_first(rest))),
+        Some(b'(') => Err(ParseError::Lexer),
+        Some(b'$') => Err(ParseError::Lexer),
+        Some(b'"') => {
+            let (word, tail) = take_quoted(alloc, past_first(rest))?;
+            Ok((Some(word), tail))
+        }
+        Some(_) => {
+            let (word, tail) = take_item(alloc, rest)?;
+            Ok((Some(word), tail))
+        }
+    }
+}
+
+/// The items within parentheses and what is behind the closing one, of the text behind the opening one.
+pub(super) fn take_list(alloc: Global, text: &str) -> Result<(Vec<String>, &str), ParseError>
+    ensures { CutsOff (λ r. (texts r.0.items, r.1.now)) result (list_items (length text.now) text.now) }
+{
+    let mut items = Vec::new(alloc);
+    let mut rest = text;
+    'items: loop {
+        let (word, tail) = take_element(alloc, rest)?;
+        rest = tail;
+        let Some(word) = word else {
+            return Ok((items, rest));
+        };
+        items.push(word)?;
+    }
+}
+
+/// What is behind the end of the line that a text begins with: CR LF is one.
+pub(super) fn past_line_end(text: &str) -> &str
+    requires some { 0 < length text.now }
+    requires ends { IsTrue (is_line_end (get_or text.now 0 0)) }
+    ensures { result.now ≡ past_line_end (get_or text.now 0 0) (drop 1 text.now) }
+{
+    let rest = past_first(text);
+    if first_byte(text) == Some(b'\r') && first_byte(rest) == Some(b'\n') {
+        return past_first(rest);
+    }
+    rest
+}
+
+/// The token that an item is outside parentheses.
+pub(super) fn token_of(word: String) -> Result<Token, ParseError>
+    ensures { AnswersItem result (string_bytes word) }
+{
+    if word.as_str() == "@" {
+        return Ok(Token::At);
+    }
+    if word.as_str() == "$ORIGIN" {
+        return Ok(Token::Origin);
+    }
+    if word.as_str() == "$INCLUDE" {
+        return Ok(Token::Include);
+    }
+    if word.as_str() == "$TTL" {
+        return Ok(Token::Ttl);
+    }
+    if first_byte(word.as_str()) == Some(b'$') {
+        return Err(ParseError::Lexer);
+    }
+    Ok(Token::CharData(word))
+}

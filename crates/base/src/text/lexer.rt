@@ -1,0 +1,102 @@
+//! Cuts zone text into tokens (RFC 1035, 5.1).
+
+ghost use Rattle.std.specs.Prelude.{◌≡◌, Some, false, slice_get, true};
+ghost use Rattle.base.specs.Cuts.{AnswersNext, AnswersToken, Stays};
+ghost use Rattle.base.specs.Tokens.{is_line_end, next, visible};
+
+use crate::error::ParseError;
+use crate::text::Token;
+use crate::text::cutting::{
+    begins_blank, first_byte, is_line_end, past_blanks, past_comment, past_first, past_line_end,
+    take_item, take_list, take_quoted, token_of,
+};
+use std::alloc::Global;
+use std::marker::Model;
+
+/// Cuts a text into tokens (RFC 1035, 5.1).
+///
+/// Contracts see what is still to be read, and whether it stands at the beginning of a line.
+#[derive(Drop)]
+pub struct Lexer<'a> {
+    alloc: Global,
+    rest: &'a str,
+    at_line_start: bool,
+}
+
+impl<'a> Model for Lexer<'a> {
+    ghost use Rattle.base.specs.Tokens.{Unread};
+
+    ghost Value = { Unread };
+
+    ghost view = { λ l. record { text = l.rest.now; at_line_start = l.at_line_start } };
+}
+
+impl<'a> Lexer<'a> {
+    /// A lexer at the beginning of a text.
+    pub fn new(alloc: Global, text: &'a str) -> Lexer<'a>
+        ensures { result ≡ record { text = text.now; at_line_start = true } }
+    {
+        Lexer {
+            alloc,
+            rest: text,
+            at_line_start: true,
+        }
+    }
+
+    /// The next token; `None` at the end of the text, and again whenever it is asked for there. No end of a
+    /// line is added at the end of the text.
+    ///
+    /// Refused with `Lexer` where the text can't be cut on: a `(` or an item that begins with `$` within
+    /// parentheses, a `)` outside them, an item that begins with `$` and is none of `$ORIGIN`, `$INCLUDE` and
+    /// `$TTL`, and the text's end within parentheses, in quotes or behind a backslash. Refused with `Memory`
+    /// for want of it. After `None` and after a refusal the lexer stands where it stood.
+    #[tactic(auto, unfolding(crate::specs::Tokens::next, crate::specs::Tokens::visible))]
+    pub fn next_token(&mut self) -> Result<Option<Token>, ParseError>
+        ensures value { AnswersNext result self.new (next self.old) }
+        ensures stays { Stays result self.old self.new }
+    {
+        if self.at_line_start && begins_blank(self.rest) {
+            self.rest = past_blanks(self.rest);
+            self.at_line_start = false;
+            return Ok(Some(Token::Blank));
+        }
+        let text = past_comment(past_blanks(self.rest));
+        let Some(c) = first_byte(text) else {
+            return Ok(None);
+        };
+        if is_line_end(c) {
+            self.rest = past_line_end(text);
+            self.at_line_start = true;
+            return Ok(Some(Token::EOL));
+        }
+        let (token, rest) = cut_token(self.alloc, c, text)?;
+        self.rest = rest;
+        self.at_line_start = false;
+        Ok(Some(token))
+    }
+}
+
+/// The token that a text begins with, which begins with this byte, no blank, no comment and no line's end,
+/// and what is behind it.
+#[tactic(auto, unfolding(crate::specs::Tokens::visible))]
+fn cut_token(alloc: Global, first: u8, text: &str) -> Result<(Token, &str), ParseError>
+    requires first { slice_get text.now 0 ≡ Some first }
+    requires no_line_end { is_line_end first ≡ false }
+    ensures { AnswersToken result (visible text.now) }
+{
+    match first {
+        b'"' => {
+            let (word, rest) = take_quoted(alloc, past_first(text))?;
+            Ok((Token::CharData(word), rest))
+        }
+        b'(' => {
+            let (items, rest) = take_list(alloc, past_first(text))?;
+            Ok((Token::List(items), rest))
+        }
+        b')' => Err(ParseError::Lexer),
+        _ => {
+            let (word, rest) = take_item(alloc, text)?;
+            Ok((token_of(word)?, rest))
+        }
+    }
+}

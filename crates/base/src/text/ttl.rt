@@ -1,0 +1,79 @@
+//! The texts of TTLs.
+
+ghost use Rattle.std.specs.Prelude.{◌≡◌, ◌∷◌, List, ℕ, IfNone, IfSome, None};
+ghost use Rattle.std.specs.Option.{ok_or};
+ghost use Rattle.base.specs.Ttl.{below_limit, ttl_of, ttl_sum, unit_of};
+ghost use Rattle.base.specs.declared.error.parse_error.ParseError.TheVariants as refusals;
+
+use crate::error::ParseError;
+
+/// The seconds of a unit, in either case.
+fn unit_of(c: u8) -> Option<u32>
+    ensures { result ≡ unit_of c }
+{
+    match c.to_ascii_lowercase() {
+        b's' => Some(1),
+        b'm' => Some(60),
+        b'h' => Some(3_600),
+        b'd' => Some(86_400),
+        b'w' => Some(604_800),
+        _ => None,
+    }
+}
+
+/// One byte on: the sum and the number of the group begun; none where the text is no TTL text, or says too many.
+#[tactic(auto, using(crate::proofs::TtlLemmas::digit_too_many, crate::proofs::TtlLemmas::step_digit, crate::proofs::TtlLemmas::step_bare, crate::proofs::TtlLemmas::step_other, crate::proofs::TtlLemmas::step_unit, crate::proofs::TtlLemmas::unit_too_many))]
+fn ttl_step(sum: u32, begun: Option<u32>, c: u8) -> Option<(u32, Option<u32>)>
+    ensures none { IfNone result ((rest : List ℕ) → below_limit (ttl_sum sum begun (c ∷ rest)) ≡ None) }
+    ensures some { IfSome result (λ r. (rest : List ℕ) → ttl_sum sum begun (c ∷ rest) ≡ ttl_sum r.0 r.1 rest) }
+{
+    if c.is_ascii_digit() {
+        let Some(tens) = begun.unwrap_or(0).checked_mul(10) else {
+            return None;
+        };
+        let Some(number) = tens.checked_add(u32::from(c - b'0')) else {
+            return None;
+        };
+        return Some((sum, Some(number)));
+    }
+    let Some(number) = begun else {
+        return None;
+    };
+    let Some(unit) = unit_of(c) else {
+        return None;
+    };
+    let Some(seconds) = number.checked_mul(unit) else {
+        return None;
+    };
+    let Some(total) = sum.checked_add(seconds) else {
+        return None;
+    };
+    Some((total, None))
+}
+
+/// The seconds that a text says; none where it is no TTL text, or says too many.
+#[tactic(auto, using(crate::proofs::TtlLemmas::ttl_fails, crate::proofs::TtlLemmas::ttl_nothing, crate::proofs::TtlLemmas::ttl_ends))]
+pub(crate) fn ttl_of(text: &[u8]) -> Option<u32>
+    ensures { result ≡ ttl_of text.now }
+{
+    if text.is_empty() {
+        return None;
+    }
+    let mut sum: u32 = 0;
+    let mut begun: Option<u32> = None;
+    for c in text {
+        let Some((next_sum, next_begun)) = ttl_step(sum, begun, *c) else {
+            return None;
+        };
+        sum = next_sum;
+        begun = next_begun;
+    }
+    sum.checked_add(begun.unwrap_or(0))
+}
+
+/// The seconds of a TTL text: groups of digits and a unit, which the last may lack. Takes no memory.
+pub fn parse_ttl(text: &str) -> Result<u32, ParseError>
+    ensures { result ≡ ok_or (ttl_of text.now) refusals.BadTtl }
+{
+    ttl_of(text.as_bytes()).ok_or(ParseError::BadTtl)
+}

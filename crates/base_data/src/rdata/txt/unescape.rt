@@ -1,0 +1,95 @@
+//! Reads character strings from the items of a text (RFC 1035, 5.1).
+
+ghost use Rattle.std.specs.Prelude.{◌≡◌, ◌≤◌, IfOk, IfSome, length, option_map};
+ghost use Rattle.base_data.specs.StringItems.{escape_step, string_item, unescaped};
+
+use std::alloc::{AllocError, Global};
+
+/// How much of an escape was read.
+#[derive(Clone, Copy)]
+enum Escape {
+    /// Nothing: what follows stands for itself.
+    Outside,
+    /// The backslash.
+    Begun,
+    /// The backslash and a digit, of this number.
+    OneDigit(u8),
+    /// The backslash and two digits, of this number.
+    TwoDigits(u16),
+}
+
+/// What a byte is behind as much of an escape: a byte of the string or none, and as much of an escape then. None where
+/// it can't stand there: fewer than three digits, or a number above 255.
+fn escape_step(state: Escape, byte: u8) -> Option<(Option<u8>, Escape)>
+    ensures { result ≡ escape_step state byte }
+{
+    match state {
+        Escape::Outside => {
+            if byte == b'\\' {
+                return Some((None, Escape::Begun));
+            }
+            Some((Some(byte), Escape::Outside))
+        }
+        Escape::Begun => {
+            if byte.is_ascii_digit() {
+                return Some((None, Escape::OneDigit(byte - b'0')));
+            }
+            Some((Some(byte), Escape::Outside))
+        }
+        Escape::OneDigit(n) => {
+            if !byte.is_ascii_digit() {
+                return None;
+            }
+            Some((
+                None,
+                Escape::TwoDigits(u16::from(n) * 10 + u16::from(byte - b'0')),
+            ))
+        }
+        Escape::TwoDigits(n) => {
+            if !byte.is_ascii_digit() {
+                return None;
+            }
+            let number = u32::from(n) * 10 + u32::from(byte - b'0');
+            if number > 255 {
+                return None;
+            }
+            Some((Some(number as u8), Escape::Outside))
+        }
+    }
+}
+
+/// The bytes of a text; none where an escape is written wrongly. Refused for want of memory.
+fn unescaped(alloc: Global, text: &[u8]) -> Result<Option<Vec<u8>>, AllocError>
+    ensures { IfOk result (λ r. option_map (λ v. v.items) r ≡ unescaped Escape.Outside text.now) }
+{
+    let mut bytes = Vec::new(alloc);
+    let mut state = Escape::Outside;
+    for c in text {
+        let Some((byte, next)) = escape_step(state, *c) else {
+            return Ok(None);
+        };
+        if let Some(b) = byte {
+            bytes.push(b)?;
+        }
+        state = next;
+    }
+    match state {
+        Escape::Outside => Ok(Some(bytes)),
+        _ => Ok(None),
+    }
+}
+
+/// The character string that an item is, of 255 bytes at most. Refused for want of memory.
+#[tactic(auto, unfolding(crate::specs::StringItems::string_item))]
+pub(crate) fn string_item(alloc: Global, item: &str) -> Result<Option<Vec<u8>>, AllocError>
+    ensures string { IfOk result (λ r. option_map (λ v. v.items) r ≡ string_item item.now) }
+    ensures short { IfOk result (λ r. IfSome r (λ v. length v.items ≤ 255)) }
+{
+    let Some(bytes) = unescaped(alloc, item.as_bytes())? else {
+        return Ok(None);
+    };
+    if bytes.len() > 255 {
+        return Ok(None);
+    }
+    Ok(Some(bytes))
+}

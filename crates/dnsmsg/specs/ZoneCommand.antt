@@ -1,0 +1,69 @@
+-- What the command `zone` prints.
+use Rattle.std.specs.List.{after_first, before_first, flat_map, list_all, list_any}
+use Rattle.std.specs.Prelude.{ℕ, Bool, ◌==◌, List, [], ◌∷◌, ◌++◌, codes, if◌then◌else◌, Option, Some, None, Result, Ok, Err}
+use Rattle.std.specs.Str.{bytes_eq, is_utf8}
+use Rattle.base.specs.Labels.{NameValue}
+use Rattle.base.specs.NameText.{name_text}
+use Rattle.base.specs.TextFaults.{Fault, unexpected, lexer, says, not_found, unknown_type, unsupported_type, bad_data, bad_name, bad_ttl}
+use Rattle.base.specs.declared.rr_key.RrKey.{RrKey}
+use Rattle.op.specs.MessageText.{line, record_lines}
+use Rattle.rr.specs.RecordSet.{SetValue}
+use Rattle.txt.specs.Zone.{Texts, zone_of}
+use Rattle.txt.specs.ZoneSets.{ZoneSets}
+use Rattle.dnsmsg.specs.Answer.{Answer, done, refused}
+
+-- ---- included texts, NAME=TEXT each
+
+abbrev pub is_equals : ℕ → Bool
+is_equals c = c == 61
+
+-- the text of a word, where the word is of this name: the first = ends the name
+abbrev pub text_in : List ℕ → List ℕ → Option (List ℕ)
+text_in word name = if bytes_eq (before_first is_equals word) name then Some (after_first is_equals word) else None
+
+abbrev pub or_else : Option (List ℕ) → Option (List ℕ) → Option (List ℕ)
+or_else None other = other
+or_else (Some text) other = Some text
+
+-- the text of a name, by the last word of that name
+abbrev pub text_named : List (List ℕ) → Texts
+text_named [] name = None
+text_named (word ∷ words) name = or_else (text_named words name) (text_in word name)
+
+-- whether each word has a name
+abbrev pub are_texts : List (List ℕ) → Bool
+are_texts words = list_all (λ word. list_any is_equals word) words
+
+-- ---- the answer
+
+-- the records of all sets, in the order of their keys, a line each
+abbrev pub set_lines : ZoneSets → List ℕ
+set_lines = flat_map (λ (e : RrKey × SetValue). record_lines e.1.records)
+
+abbrev pub origin_line : NameValue → List ℕ
+origin_line origin = line (codes "$ORIGIN " ++ name_text origin)
+
+-- the origin and the records of a zone
+abbrev pub zone_lines : NameValue × ZoneSets → List ℕ
+zone_lines zone = origin_line zone.0 ++ set_lines zone.1
+
+-- the number of a fault of zone text
+abbrev pub fault_number : Fault → ℕ
+fault_number (unexpected token) = 17
+fault_number lexer = 18
+fault_number (says text) = 19
+fault_number (not_found name) = 20
+fault_number (unknown_type text) = 21
+fault_number (unsupported_type type) = 22
+fault_number (bad_data type) = 23
+fault_number bad_name = 23
+fault_number bad_ttl = 23
+
+-- the lines of a zone that was read, or the number of the fault
+abbrev pub answer_to_zone : Result (NameValue × ZoneSets) Fault → Answer
+answer_to_zone (Ok zone) = done (zone_lines zone)
+answer_to_zone (Err fault) = refused (fault_number fault)
+
+-- the answer to a text under an origin, with the texts that these words hand in; refusal 24 where it isn't UTF-8
+unfoldable pub zone_answer : Option NameValue → List (List ℕ) → List ℕ → Answer
+zone_answer origin words input = if is_utf8 input then answer_to_zone (zone_of (text_named words) origin input) else refused 24

@@ -1,0 +1,95 @@
+//! The command `zone`.
+
+ghost use Rattle.std.specs.Prelude.{◌≡◌, ◌++◌, ℕ, IfOk, List, OnOk};
+ghost use Rattle.std.specs.List.{after_first, before_first};
+ghost use Rattle.std.specs.String.{string_bytes};
+ghost use Rattle.op.specs.MessageText.{line, record_lines};
+ghost use Rattle.rr.specs.Record.{record_text};
+ghost use Rattle.txt.specs.Steps.{texts_in};
+ghost use Rattle.dnsmsg.specs.Answering.{Answers};
+ghost use Rattle.dnsmsg.specs.Words.{texts};
+ghost use Rattle.dnsmsg.specs.ZoneCommand.{is_equals, origin_line, set_lines, text_named, zone_answer, zone_lines};
+
+use crate::refusal::Refusal;
+use base::{Name, RrKey};
+use rr::{Record, RecordSet};
+use std::alloc::{AllocError, Global};
+use std::collections::BTreeMap;
+use std::str;
+use txt::Parser;
+
+/// What is printed of the zone whose text this is, with the texts that the words hand in, NAME=TEXT each: the line
+/// of its origin, and every record in the order of owners and types (RFC 1035, 5.1).
+///
+/// Refused with 24 for a text that isn't UTF-8, with the number of what the parser refuses, and for want of memory.
+pub fn zone(
+    alloc: Global,
+    origin: Option<Name>,
+    words: &[String],
+    text: &[u8],
+) -> Result<String, Refusal>
+    ensures { Answers string_bytes (zone_answer origin (texts words.now) text.now) result }
+{
+    let Ok(text) = str::from_utf8(text) else {
+        return Err(Refusal::Input);
+    };
+    let includes = included_texts(alloc, words)?;
+    let (name, sets) = Parser::new(alloc, text, &includes, origin).parse()?;
+    Ok(zone_lines(alloc, &name, sets)?)
+}
+
+// The texts that words hand in, by their names. The last word of a name stands.
+fn included_texts(
+    alloc: Global,
+    words: &[String],
+) -> Result<BTreeMap<String, String>, AllocError>
+    ensures { IfOk result (λ includes. (name : List ℕ) → texts_in includes name ≡ text_named (texts words.now) name) }
+{
+    let mut includes = BTreeMap::new(alloc);
+    for word in words {
+        let (name, text) = name_and_text(word.as_str());
+        includes.insert(String::from_str(alloc, name)?, String::from_str(alloc, text)?)?;
+    }
+    Ok(includes)
+}
+
+// What stands before the first equals sign, and what behind it.
+fn name_and_text(word: &str) -> (&str, &str)
+    ensures { (result.0.now ≡ before_first is_equals word.now) × (result.1.now ≡ after_first is_equals word.now) }
+{
+    match word.split_once('=') {
+        Some(parts) => parts,
+        None => (word, ""),
+    }
+}
+
+// The origin and the records of the sets, a line each.
+fn zone_lines(
+    alloc: Global,
+    name: &Name,
+    sets: BTreeMap<RrKey, RecordSet>,
+) -> Result<String, AllocError>
+    ensures { IfOk result (λ lines. string_bytes lines ≡ zone_lines (name.now, sets.entries)) }
+{
+    let mut lines = format!(in alloc; "$ORIGIN {name}\n")?;
+    for (_key, set) in sets {
+        add_records(alloc, set.into_parts().records, &mut lines)?;
+    }
+    Ok(lines)
+}
+
+// Adds the records, a line each.
+fn add_records(alloc: Global, records: Vec<Record>, lines: &mut String) -> Result<(), AllocError>
+    ensures { OnOk result (string_bytes lines.new ≡ string_bytes lines.old ++ record_lines records.items) }
+{
+    for entry in records {
+        lines.push_str(&record_line(alloc, &entry)?)?;
+    }
+    Ok(())
+}
+
+fn record_line(alloc: Global, entry: &Record) -> Result<String, AllocError>
+    ensures { IfOk result (λ text. string_bytes text ≡ line (record_text entry.now)) }
+{
+    format!(in alloc; "{entry}\n")
+}

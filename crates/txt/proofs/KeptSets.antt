@@ -1,0 +1,134 @@
+-- The sets of a zone stay as they stand under their keys.
+use Rattle.std.proofs.Common.{◌≡◌, ◌≢◌, ◌≤◌, List, [], ◌∷◌, length, refl, ap, sym, ◌∙◌, subst, arith, Bool, true, false, Some, Ok}
+use Rattle.std.specs.BTreeMap.{insert_entry, is_at}
+use Rattle.std.specs.Bool.{beq}
+use Rattle.std.specs.Map.{set_value}
+use Rattle.std.specs.Ordering.{is_eq}
+use Rattle.std.specs.Prelude.{◌&&◌, if◌then◌else◌}
+use Rattle.std.specs.declared.cmp.Ordering.{Ordering}
+use Rattle.std.specs.declared.cmp.Ordering.TheVariants.{Less, Equal, Greater}
+use Rattle.base.proofs.KeyLemmas.{key_cmp-exact}
+use Rattle.base.specs.Labels.{NameValue}
+use Rattle.base.specs.NameOrder.{folded, lowered, same_by-equiv, same_labels, same_name}
+use Rattle.base.specs.RrKey.{key_cmp, key_of}
+use Rattle.base.specs.declared.rr_key.RrKey.{RrKey}
+use Rattle.base_data.specs.Kinds.{type_of_data}
+use Rattle.base_data.specs.declared.rdata.RData.{RData}
+use Rattle.rr.proofs.SetTidy.{insert_keeps_tidy, one_is_tidy}
+use Rattle.rr.specs.RecordSet.{SetValue, is_soa, same_entry, set_of}
+use Rattle.rr.specs.SetChanges.{MayEnter, holds_one, insert, placed, stays}
+use Rattle.rr.specs.declared.record.Record.{Record}
+use Rattle.txt.specs.ZoneSets.{AreKept, IsKept, ZoneSets, added, added_to, record_key, set_at}
+
+-- what ties is the same key
+same_key : (a b : RrKey) → is_at (key_cmp a) b ≡ true → a ≡ b
+same_key a b is = key_cmp-exact a b (equal (key_cmp a b) is) where
+  equal : (o : Ordering) → is_eq o ≡ true → o ≡ Equal
+  equal Equal is = refl
+  equal Less is = absurd cc
+  equal Greater is = absurd cc
+
+-- the set that is found under a key is kept under it
+pub found_kept : (sets : ZoneSets) (key : RrKey) (set : SetValue) → AreKept sets → set_at sets key ≡ Some set → IsKept key set
+found_kept [] key set kept found = absurd cc
+found_kept (e ∷ es) key set kept found = go (is_at (key_cmp key) e.0) refl (λ later. found_kept es key set kept.1 later) where
+  go : (b : Bool) → is_at (key_cmp key) e.0 ≡ b → (set_at es key ≡ Some set → IsKept key set) → IsKept key set
+  go true is later =
+      let here : e.1 ≡ set = cc (is, found) in
+      subst (λ (k : RrKey). IsKept k set) (sym (same_key key e.0 is)) (subst (IsKept e.0) here kept.0)
+  go false is later = later (let same : set_at (e ∷ es) key ≡ set_at es key = rw is refl in sym same ∙ found)
+
+-- another set of the same key in its place
+pub changed_kept : (sets : ZoneSets) (key : RrKey) (set : SetValue) → AreKept sets → IsKept key set → AreKept (set_value (is_at (key_cmp key)) sets set)
+changed_kept [] key set kept is = tt
+changed_kept (e ∷ es) key set kept is = go (is_at (key_cmp key) e.0) refl (changed_kept es key set kept.1 is) where
+  go : (b : Bool) → is_at (key_cmp key) e.0 ≡ b → AreKept (set_value (is_at (key_cmp key)) es set) → AreKept (set_value (is_at (key_cmp key)) (e ∷ es) set)
+  go true here again = rw here (subst (λ (k : RrKey). IsKept k set) (same_key key e.0 here) is, kept.1)
+  go false here again = rw here (kept.0, again)
+
+-- a set under a new key, or under one that is there
+pub put_kept : (sets : ZoneSets) (key : RrKey) (set : SetValue) → AreKept sets → IsKept key set → AreKept (insert_entry key_cmp sets key set)
+put_kept [] key set kept is = (is, tt)
+put_kept (e ∷ es) key set kept is = go (key_cmp key e.0) refl (put_kept es key set kept.1 is) where
+  go : (o : Ordering) → key_cmp key e.0 ≡ o → AreKept (insert_entry key_cmp es key set) → AreKept (insert_entry key_cmp (e ∷ es) key set)
+  go Less here again = rw here (is, (kept.0, kept.1))
+  go Equal here again = rw here (subst (λ (k : RrKey). IsKept k set) (key_cmp-exact key e.0 here) is, kept.1)
+  go Greater here again = rw here (kept.0, again)
+
+-- names of one lower case are the same
+same_of_lower : (a b : NameValue) → lowered a ≡ lowered b → same_name a b ≡ true
+same_of_lower a b is =
+    subst (λ (n : NameValue). (beq n.absolute b.absolute && same_labels n.labels (folded b)) ≡ true) (sym is) ((same_by-equiv folded).refl b)
+
+-- a record may enter the set that is kept under its key
+pub enters : (set : SetValue) (r : Record RData) → IsKept (record_key r) set → MayEnter set r
+enters set r kept = record {
+  owner = same_of_lower set.name r.name (ap (λ (k : RrKey). k.name) (sym kept.key_is));
+  own_type = ap (λ (k : RrKey). k.record_type) kept.key_is;
+  single = kept.single;
+}
+
+-- what holds of a set, and of the set that the record was placed in, holds behind `insert`
+insert_cases : (P : SetValue → Type 0) (set : SetValue) (r : Record RData) → P set
+    → P (record set { records = (placed r (if holds_one set.record_type then [] else set.records)).records; ttl = r.ttl; serial = 0 }) → P (insert set r 0).1
+insert_cases P set r same changed =
+    go (is_soa set.record_type && stays set.records r.rdata) (placed r (if holds_one set.record_type then [] else set.records)).is_changed where
+      go : (b d : Bool) → P (if◌then◌else◌ {A = Bool × SetValue} b (false, set) (
+        (placed r (if holds_one set.record_type then [] else set.records)).is_new,
+        if d then record set { records = (placed r (if holds_one set.record_type then [] else set.records)).records; ttl = r.ttl; serial = 0 } else set,
+      )).1
+      go true d = same
+      go false true = changed
+      go false false = same
+
+some_placed : (r : Record RData) (xs : List (Record RData)) → xs ≢ [] → (placed r xs).records ≢ []
+some_placed r [] some = absurd (some refl)
+some_placed r (x ∷ xs) some = go (same_entry x r) refl where
+  go : (b : Bool) → same_entry x r ≡ b → (placed r (x ∷ xs)).records ≢ []
+  go true is = rw is (λ none. let e : ⊥ = cc in e)
+  go false is = rw is (λ none. let e : ⊥ = cc in e)
+
+some_of : (r : Record RData) (xs : List (Record RData)) (b : Bool) → xs ≢ [] → (placed r (if b then [] else xs)).records ≢ []
+some_of r xs true some = λ none. let e : ⊥ = cc in e
+some_of r xs false some = some_placed r xs some
+
+one_of : (r : Record RData) (xs : List (Record RData)) (b : Bool) → b ≡ true → length (placed r (if b then [] else xs)).records ≤ 1
+one_of r xs true is = omega arith
+one_of r xs false is = absurd cc
+
+-- the set is kept with one record more
+pub insert_kept : (set : SetValue) (r : Record RData) → IsKept (record_key r) set → IsKept (record_key r) (insert set r 0).1
+insert_kept set r kept = record {
+  key_is = insert_cases (λ s. record_key r ≡ key_of s.name s.record_type) set r kept.key_is kept.key_is;
+  some = insert_cases (λ s. s.records ≢ []) set r kept.some (some_of r set.records (holds_one set.record_type) kept.some);
+  tidy = insert_keeps_tidy set r 0 (enters set r kept) kept.tidy;
+  single = insert_cases (λ s. holds_one s.record_type ≡ true → length s.records ≤ 1) set r kept.single (one_of r set.records (holds_one set.record_type));
+}
+
+-- the set of a record is kept under its key
+pub new_kept : (r : Record RData) → IsKept (record_key r) (set_of r)
+new_kept r = record {
+  key_is = refl;
+  some = λ none. let e : ⊥ = cc in e;
+  tidy = one_is_tidy r;
+  single = λ holds. omega arith;
+}
+
+-- the key that was made is the record's
+pub key_made : (key : RrKey) (r : Record RData) → key.name ≡ lowered r.name → key.record_type ≡ type_of_data r.rdata → key ≡ record_key r
+key_made key r name type = λ i. record { name = name i; record_type = type i }
+
+-- the set that is found for a record is kept under its key
+pub found_for : (sets : ZoneSets) (key : RrKey) (set : SetValue) (r : Record RData) → key ≡ record_key r → AreKept sets → set_at sets key ≡ Some set → IsKept (record_key r) set
+found_for sets key set r is kept found = subst (λ (k : RrKey). IsKept k set) is (found_kept sets key set kept found)
+
+-- the sets are kept with this one in the place of the one that was found
+pub kept_with : (sets entries : ZoneSets) (key : RrKey) (set : SetValue) (r : Record RData) → key ≡ record_key r → AreKept sets → IsKept (record_key r) set
+    → entries ≡ set_value (is_at (key_cmp key)) sets set → AreKept entries
+kept_with sets entries key set r is kept one made = subst AreKept (sym made) (changed_kept sets key set kept (subst (λ (k : RrKey). IsKept k set) (sym is) one))
+
+-- a record of a key that is there goes into its set
+pub added_there : (sets : ZoneSets) (key : RrKey) (set : SetValue) (r : Record RData) → key ≡ record_key r → set_at sets key ≡ Some set → is_soa (type_of_data r.rdata) ≡ false
+    → added sets r ≡ Ok (set_value (is_at (key_cmp key)) sets (insert set r 0).1)
+added_there sets key set r is there other =
+    ap (added_to sets r) (ap (set_at sets) (sym is) ∙ there) ∙ rw other (ap (λ (k : RrKey). Ok (set_value (is_at (key_cmp k)) sets (insert set r 0).1)) (sym is))

@@ -1,0 +1,4 @@
+pub mod KeptSets
+pub mod Stack
+pub mod Taking
+pub mod TextsLemmas

@@ -1,0 +1,5 @@
+pub mod Entries
+pub mod Parser
+pub mod Steps
+pub mod Zone
+pub mod ZoneSets

@@ -1,0 +1,49 @@
+-- The record sets of a zone, by owner and type, as the entries of a map.
+use Rattle.std.specs.BTreeMap.{insert_entry, is_at}
+use Rattle.std.specs.Map.{lookup, set_value}
+use Rattle.std.specs.List.{AllByRecursion}
+use Rattle.std.specs.Prelude.{◌≡◌, ◌≢◌, ◌≤◌, true, List, [], Option, Some, None, Result, Ok, Err, codes, if◌then◌else◌, length}
+use Rattle.base.specs.RrKey.{key_cmp, key_of}
+use Rattle.base.specs.TextFaults.{Fault, says}
+use Rattle.base.specs.declared.rr_key.RrKey.{RrKey}
+use Rattle.base_data.specs.Kinds.{type_of_data}
+use Rattle.base_data.specs.declared.rdata.RData.{RData}
+use Rattle.rr.specs.RecordSet.{IsTidy, SetValue, is_soa, set_of}
+use Rattle.rr.specs.SetChanges.{holds_one, insert}
+use Rattle.rr.specs.declared.record.Record.{Record}
+
+-- record sets under their keys, in the order of these
+abbrev pub ZoneSets : Type 0
+ZoneSets = List (RrKey × SetValue)
+
+-- the key that a record stands under: owner and type (RFC 2181, 5)
+abbrev pub record_key : Record RData → RrKey
+record_key r = key_of r.name (type_of_data r.rdata)
+
+-- the set under a key, if there is one
+abbrev pub set_at : ZoneSets → RrKey → Option SetValue
+set_at sets key = lookup (is_at (key_cmp key)) sets
+
+-- The sets with one more record. A new key takes the set of its record, and another record goes into its set by
+-- `insert`, with the serial 0; there is one SOA of an owner.
+abbrev pub added_to : ZoneSets → Record RData → Option SetValue → Result ZoneSets Fault
+added_to sets r None = Ok (insert_entry key_cmp sets (record_key r) (set_of r))
+added_to sets r (Some set) =
+    if is_soa (type_of_data r.rdata) then Err (says (codes "SOA is already specified"))
+    else Ok (set_value (is_at (key_cmp (record_key r))) sets (insert set r 0).1)
+
+-- the sets with one record more
+abbrev pub added : ZoneSets → Record RData → Result ZoneSets Fault
+added sets r = added_to sets r (set_at sets (record_key r))
+
+-- A set as it stands under a key: of the key's owner and type, not empty and tidy, and with one record where only one
+-- may stand.
+pub record IsKept (key : RrKey) (set : SetValue) : Type 0 where
+  pub key_is : key ≡ key_of set.name set.record_type
+  pub some : set.records ≢ []
+  pub tidy : IsTidy set
+  pub single : holds_one set.record_type ≡ true → length set.records ≤ 1
+
+-- each set stands under its key
+abbrev pub AreKept : ZoneSets → Type 0
+AreKept sets = AllByRecursion (λ (e : RrKey × SetValue). IsKept e.0 e.1) sets

@@ -1,0 +1,6 @@
+//! Zone text: the layer of hickory-proto's `serialize::txt` that reads whole zones (RFC 1035, 5).
+#![tactic(auto)]
+
+pub mod zone;
+
+pub use zone::Parser;

@@ -1,0 +1,90 @@
+//! Reads the zone of a text and of the texts that it includes (RFC 1035, 5.1).
+
+ghost use Rattle.std.specs.Prelude.{IfOk, ◌≡◌};
+ghost use Rattle.base.specs.TextFaults.{Gives};
+ghost use Rattle.txt.specs.Zone.{answer_of, beginning, folded_text, zone_of};
+ghost use Rattle.txt.specs.Parser.{named_texts, text_among};
+ghost use Rattle.txt.specs.ZoneSets.{AreKept};
+
+mod context;
+mod sets;
+mod setting;
+mod texts;
+mod tokens;
+
+use crate::zone::context::Context;
+use crate::zone::texts::read_texts;
+use base::{Name, ParseError, RrKey};
+use rr::RecordSet;
+use std::alloc::Global;
+use std::collections::BTreeMap;
+use std::marker::Model;
+
+/// Reads the zone of a text (RFC 1035, 5.1).
+///
+/// Contracts see the text, the texts that it may include by their names, and the origin that was given.
+#[derive(Drop)]
+pub struct Parser<'a> {
+    alloc: Global,
+    text: &'a str,
+    includes: &'a BTreeMap<String, String>,
+    origin: Option<Name>,
+}
+
+impl<'a> Model for Parser<'a> {
+    ghost use Rattle.txt.specs.Parser.{ParserValue, named_texts};
+
+    ghost Value = { ParserValue };
+
+    ghost view = { λ p. record { text = p.text.now; includes = named_texts p.includes.now; origin = p.origin } };
+}
+
+impl<'a> Parser<'a> {
+    /// A parser of a text, with the texts that it may include by `$INCLUDE`, each under its name, and an origin,
+    /// which `parse` makes absolute. Takes no memory.
+    pub fn new(
+        alloc: Global,
+        text: &'a str,
+        includes: &'a BTreeMap<String, String>,
+        origin: Option<Name>,
+    ) -> Parser<'a>
+        ensures { result ≡ record { text = text.now; includes = named_texts includes.now; origin = origin } }
+    {
+        Parser {
+            alloc,
+            text,
+            includes,
+            origin,
+        }
+    }
+
+    /// The origin at the end of the text, and its record sets by owner and type: the zone that its entries define.
+    ///
+    /// An entry is the end of a line; `$ORIGIN` or `$TTL` and an item; `$INCLUDE`, the name of a text and the end of
+    /// the line; or an owner (a name, `@` for the origin, or a blank for the last owner), any TTLs and classes, and
+    /// then the end of the line, or a type and the items of its data up to the end of the line or of the text. A
+    /// record has the TTL that its line states, else the one of `$TTL`, else the last that a line stated; its
+    /// owner is made absolute. An included text begins with what is in force, and at its end the includer's origin
+    /// comes back, and all else is carried on. At most 257 texts are open at once. A record of a new owner and type
+    /// makes a set, and another goes into its set as `RecordSet::insert` has it, with the serial 0.
+    ///
+    /// Refused, at the first entry where it is so, and within it in this order from left to right: with
+    /// `UnexpectedToken` and `Lexer` where such a token stands; `BadName`, `BadTtl` and `UnknownRecordType` for an
+    /// item that is none; at the end of an entry, `UnsupportedRecordType` and `BadData` for the items of data, and
+    /// `Message` where no owner or no TTL is in force, for a second SOA of an owner, for a name behind the name of
+    /// an included text, and for too many open texts; `IncludeNotFound` for a text that was not handed in; at the
+    /// very end, `Message` where no origin is in force. With `Memory` for want of it, at any time.
+    pub fn parse(self) -> Result<(Name, BTreeMap<RrKey, RecordSet>), ParseError>
+        ensures zone { Gives (λ r. (r.0, r.1.entries)) result (zone_of (text_among self.entry.includes) self.entry.origin self.entry.text) }
+        ensures kept { IfOk result (λ r. AreKept r.1.entries) }
+    {
+        let Parser {
+            alloc,
+            text,
+            includes,
+            origin,
+        } = self;
+        let context = read_texts(alloc, text, includes, Context::new(alloc, origin))?;
+        context.answer()
+    }
+}

@@ -1,0 +1,336 @@
+//! What is in force between the entries of a text, and how an entry changes it.
+
+ghost use Rattle.std.specs.Prelude.{◌≡◌, IfOk, OnOk, Ok, Some};
+ghost use Rattle.std.specs.String.{string_bytes};
+ghost use Rattle.base.specs.NameOf.{name_of};
+ghost use Rattle.base.specs.TextFaults.{Gives};
+ghost use Rattle.base.specs.TokenList.{symbols};
+ghost use Rattle.base.specs.Tokens.{texts};
+ghost use Rattle.base_data.specs.Kinds.{data_of};
+ghost use Rattle.txt.specs.Steps.{AnswersStep, Goes, Makes, Takes, setting_value, took_at, took_default, took_include, took_include_end, took_named, took_origin, took_typed, took_words};
+ghost use Rattle.txt.specs.Zone.{State, absolute, answered, beginning, record_of, recorded, set_by, spent, with_record};
+ghost use Rattle.txt.specs.ZoneSets.{AreKept};
+
+use crate::zone::sets::ZoneSets;
+use crate::zone::setting::{Setting, setting_of, type_of_text};
+use crate::zone::tokens::{read_items, read_token, texts_of};
+use base::{DNSClass, Lexer, Name, ParseError, RecordType, RrKey, Token, parse_ttl};
+use base_data::RData;
+use rr::{Record, RecordSet};
+use std::alloc::{AllocError, Global};
+use std::collections::BTreeMap;
+use std::marker::Model;
+
+/// What is in force between entries.
+#[derive(Drop)]
+pub(super) struct Context {
+    alloc: Global,
+    origin: Option<Name>,
+    owner: Option<Name>,
+    dns_class: DNSClass,
+    pending: Option<u32>,
+    default_ttl: Option<u32>,
+    last_ttl: Option<u32>,
+    sets: ZoneSets,
+}
+
+impl Model for Context {
+    ghost use Rattle.txt.specs.Zone.{State};
+
+    ghost Value = { State };
+
+    ghost view = { λ c. record { origin = c.origin; owner = c.owner; dns_class = c.dns_class; pending = c.pending; default_ttl = c.default_ttl; last_ttl = c.last_ttl; sets = c.sets } };
+}
+
+/// What was met between entries.
+#[derive(Drop)]
+pub(super) enum Step {
+    /// An entry that was carried out.
+    Applied,
+    /// An entry that opens the text of this name.
+    Include(String),
+    /// The end of the text.
+    End,
+}
+
+impl Context {
+    /// What is in force before the first entry; the origin is made absolute. Takes no memory.
+    pub(super) fn new(alloc: Global, origin: Option<Name>) -> Context
+        ensures { result ≡ beginning origin }
+    {
+        Context {
+            alloc,
+            origin: origin.map(absolute),
+            owner: None,
+            dns_class: DNSClass::IN,
+            pending: None,
+            default_ttl: None,
+            last_ttl: None,
+            sets: ZoneSets::new(alloc),
+        }
+    }
+
+    /// Reads the next entry, and carries it out.
+    pub(super) fn next_entry(&mut self, lexer: &mut Lexer<'_>) -> Result<Step, ParseError>
+        ensures { AnswersStep result self.old self.new (symbols lexer.old) (symbols lexer.new) }
+    {
+        match read_token(lexer)? {
+            None => Ok(Step::End),
+            Some(Token::EOL) => Ok(Step::Applied),
+            Some(Token::Origin) => {
+                self.take_origin(lexer)?;
+                Ok(Step::Applied)
+            }
+            Some(Token::Ttl) => {
+                self.take_default(lexer)?;
+                Ok(Step::Applied)
+            }
+            Some(Token::Include) => take_include(lexer),
+            Some(Token::Blank) => {
+                self.take_line(lexer)?;
+                Ok(Step::Applied)
+            }
+            Some(Token::At) => {
+                self.take_at(lexer)?;
+                Ok(Step::Applied)
+            }
+            Some(Token::CharData(word)) => {
+                self.take_named(word, lexer)?;
+                Ok(Step::Applied)
+            }
+            Some(Token::List(items)) => Err(ParseError::UnexpectedToken(Token::List(items))),
+        }
+    }
+
+    /// Behind the sign @: the owner is the origin, and then comes the rest of the line.
+    fn take_at(&mut self, lexer: &mut Lexer<'_>) -> Result<(), ParseError>
+        ensures { Goes result self.new (symbols lexer.new) (took_at self.old (symbols lexer.old)) }
+    {
+        let origin = self.copy_origin()?;
+        self.set_owner(origin);
+        self.take_line(lexer)
+    }
+
+    /// Behind an owner's text: the name that it names, and then the rest of the line.
+    fn take_named(&mut self, word: String, lexer: &mut Lexer<'_>) -> Result<(), ParseError>
+        ensures { Goes result self.new (symbols lexer.new) (took_named self.old (string_bytes word) (symbols lexer.old)) }
+    {
+        let name = self.name(word.as_str())?;
+        self.set_owner(Some(name));
+        self.take_line(lexer)
+    }
+
+    /// The name that a text names, under the origin.
+    fn name(&self, text: &str) -> Result<Name, ParseError>
+        ensures { Gives (λ n. n) result (name_of text.now self.now.origin) }
+    {
+        Name::parse(self.alloc, text, self.origin.as_ref())
+    }
+
+    /// Sets the owner.
+    fn set_owner(&mut self, owner: Option<Name>)
+        ensures { self.new ≡ record self.old { owner = owner } }
+    {
+        self.owner = owner;
+    }
+
+    /// Behind `$ORIGIN`: the name becomes the origin.
+    fn take_origin(&mut self, lexer: &mut Lexer<'_>) -> Result<(), ParseError>
+        ensures { Goes result self.new (symbols lexer.new) (took_origin self.old (symbols lexer.old)) }
+    {
+        let Some(token) = read_token(lexer)? else {
+            return Ok(());
+        };
+        match token {
+            Token::CharData(word) => {
+                self.origin = Some(Name::parse(self.alloc, word.as_str(), None)?);
+                Ok(())
+            }
+            other => Err(ParseError::UnexpectedToken(other)),
+        }
+    }
+
+    /// Behind `$TTL`: the TTL becomes the default.
+    fn take_default(&mut self, lexer: &mut Lexer<'_>) -> Result<(), ParseError>
+        ensures { Goes result self.new (symbols lexer.new) (took_default self.old (symbols lexer.old)) }
+    {
+        let Some(token) = read_token(lexer)? else {
+            return Ok(());
+        };
+        match token {
+            Token::CharData(word) => {
+                let Ok(ttl) = parse_ttl(word.as_str()) else {
+                    return Err(ParseError::BadTtl);
+                };
+                self.default_ttl = Some(ttl);
+                Ok(())
+            }
+            other => Err(ParseError::UnexpectedToken(other)),
+        }
+    }
+
+    /// Behind an owner: settings, and then the end of the line, or a type and its data.
+    fn take_line(&mut self, lexer: &mut Lexer<'_>) -> Result<(), ParseError>
+        ensures { Goes result self.new (symbols lexer.new) (took_words self.old (symbols lexer.old)) }
+    {
+        'words: loop {
+            let Some(token) = read_token(lexer)? else {
+                return Ok(());
+            };
+            match token {
+                Token::EOL => return Ok(()),
+                Token::CharData(word) => {
+                    let Some(setting) = setting_of(self.alloc, word.as_str())? else {
+                        return self.take_record(word, lexer);
+                    };
+                    self.set(setting);
+                }
+                other => return Err(ParseError::UnexpectedToken(other)),
+            }
+        }
+    }
+
+    /// Carries out what an item states.
+    fn set(&mut self, setting: Setting)
+        ensures { self.new ≡ set_by self.old (setting_value setting) }
+    {
+        match setting {
+            Setting::Ttl(ttl) => self.pending = Some(ttl),
+            Setting::Class(dns_class) => self.dns_class = dns_class,
+        }
+    }
+
+    /// Behind the type's text: the items of the data, and then the record.
+    fn take_record(&mut self, word: String, lexer: &mut Lexer<'_>) -> Result<(), ParseError>
+        ensures { Goes result self.new (symbols lexer.new) (took_typed self.old (string_bytes word) (symbols lexer.old)) }
+    {
+        let record_type = type_of_text(word)?;
+        let items = read_items(self.alloc, lexer)?;
+        let rdata = self.data(record_type, items)?;
+        self.record(rdata)?;
+        Ok(())
+    }
+
+    /// The data of a type that items name, under the origin.
+    fn data(&self, record_type: RecordType, items: Vec<String>) -> Result<RData, ParseError>
+        ensures { Gives (λ d. d) result (data_of record_type (texts items.items) self.now.origin) }
+    {
+        let texts = texts_of(self.alloc, &items)?;
+        RData::from_items(self.alloc, record_type, &texts, self.origin.as_ref())
+    }
+
+    /// Makes a record of data, with what is in force.
+    fn record(&mut self, rdata: RData) -> Result<(), ParseError>
+        ensures { Makes result self.new (recorded self.old rdata) }
+    {
+        let entry = self.record_of(rdata)?;
+        self.add(entry)?;
+        self.spend();
+        Ok(())
+    }
+
+    /// The record of data, with what is in force: the owner, made absolute, and the pending TTL, else the default,
+    /// else the last.
+    fn record_of(&self, rdata: RData) -> Result<Record, ParseError>
+        ensures { Gives (λ r. r) result (record_of self.now rdata) }
+    {
+        let Some(owner) = &self.owner else {
+            return Err(ParseError::Message("record name not specified"));
+        };
+        let name = absolute(owner.clone()?);
+        let Some(ttl) = self.pending.or(self.default_ttl.or(self.last_ttl)) else {
+            return Err(ParseError::Message("record ttl not specified"));
+        };
+        Ok(Record {
+            name,
+            dns_class: self.dns_class,
+            ttl,
+            rdata,
+            mdns_cache_flush: false,
+        })
+    }
+
+    /// Puts a record into the sets.
+    fn add(&mut self, entry: Record) -> Result<(), ParseError>
+        ensures { Makes result self.new (with_record self.old entry) }
+    {
+        self.sets.add(entry)
+    }
+
+    /// The pending TTL becomes the last, and is used up.
+    fn spend(&mut self)
+        ensures { self.new ≡ spent self.old }
+    {
+        if self.pending.is_some() {
+            self.last_ttl = self.pending;
+            self.pending = None;
+        }
+    }
+
+    /// The origin and the sets of records. Refused with `Message` where there is no origin.
+    pub(super) fn answer(self) -> Result<(Name, BTreeMap<RrKey, RecordSet>), ParseError>
+        ensures zone { Gives (λ r. (r.0, r.1.entries)) result (answered self) }
+        ensures kept { IfOk result (λ r. AreKept r.1.entries) }
+    {
+        let Context { origin, sets, .. } = self;
+        let Some(origin) = origin else {
+            return Err(ParseError::Message("$ORIGIN was not specified"));
+        };
+        Ok((origin, sets.into_map()))
+    }
+
+    /// The origin, copied.
+    pub(super) fn copy_origin(&self) -> Result<Option<Name>, AllocError>
+        ensures { OnOk result (result ≡ Ok self.now.origin) }
+    {
+        match &self.origin {
+            Some(origin) => Ok(Some(origin.clone()?)),
+            None => Ok(None),
+        }
+    }
+
+    /// Sets the origin.
+    pub(super) fn set_origin(&mut self, origin: Option<Name>)
+        ensures { self.new ≡ record self.old { origin = origin } }
+    {
+        self.origin = origin;
+    }
+}
+
+/// The name, absolute.
+fn absolute(name: Name) -> Name
+    ensures { result ≡ absolute name }
+{
+    let mut whole = name;
+    whole.set_fqdn(true);
+    whole
+}
+
+/// Behind `$INCLUDE`: the name of a text, and the end of the line.
+fn take_include(lexer: &mut Lexer<'_>) -> Result<Step, ParseError>
+    ensures { (s : State) → Takes result s s (symbols lexer.new) (took_include s (symbols lexer.old)) }
+{
+    let Some(token) = read_token(lexer)? else {
+        return Ok(Step::Applied);
+    };
+    match token {
+        Token::CharData(name) => end_include(name, lexer),
+        other => Err(ParseError::UnexpectedToken(other)),
+    }
+}
+
+/// Behind the name of an included text: the end of the line.
+fn end_include(name: String, lexer: &mut Lexer<'_>) -> Result<Step, ParseError>
+    ensures { (s : State) → Takes result s s (symbols lexer.new) (took_include_end s (string_bytes name) (symbols lexer.old)) }
+{
+    let Some(token) = read_token(lexer)? else {
+        return Ok(Step::Applied);
+    };
+    match token {
+        Token::EOL => Ok(Step::Include(name)),
+        Token::CharData(_domain) => Err(ParseError::Message(
+            "Domain name for $INCLUDE is not supported",
+        )),
+        other => Err(ParseError::UnexpectedToken(other)),
+    }
+}
