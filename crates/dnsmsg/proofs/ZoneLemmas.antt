@@ -45,14 +45,14 @@ text_put old new key text words behind word before put named is more name =
     ap (option_map string_bytes) (put name)
     ∙ found (bytes_eq (string_bytes key) name) refl
     ∙ sym (named_more words word name) ∙ ap (λ ws. text_named ws name) (sym more) where
-  found : (b : Bool) → bytes_eq (string_bytes key) name ≡ b
-      → option_map string_bytes (cond (bytes_eq (string_bytes key) name) (Some text) (get_by_text old name)) ≡ or_else (text_in word name) (text_named words name)
-  found true same =
-      let here : bytes_eq (before_first is_equals word) name ≡ true = ap (λ (ks : List ℕ). bytes_eq ks name) (sym named) ∙ same in
-      rw (same, here) (ap Some is)
-  found false other =
-      let here : bytes_eq (before_first is_equals word) name ≡ false = ap (λ (ks : List ℕ). bytes_eq ks name) (sym named) ∙ other in
-      rw (other, here) (before name)
+      found : (b : Bool) → bytes_eq (string_bytes key) name ≡ b
+          → option_map string_bytes (cond (bytes_eq (string_bytes key) name) (Some text) (get_by_text old name)) ≡ or_else (text_in word name) (text_named words name)
+      found true same =
+          let here : bytes_eq (before_first is_equals word) name ≡ true = ap (λ (ks : List ℕ). bytes_eq ks name) (sym named) ∙ same in
+          rw (same, here) (ap Some is)
+      found false other =
+          let here : bytes_eq (before_first is_equals word) name ≡ false = ap (λ (ks : List ℕ). bytes_eq ks name) (sym named) ∙ other in
+          rw (other, here) (before name)
 
 not_utf8 : (input : List ℕ) → ¬ (IsUtf8 input) → is_utf8 input ≡ false
 not_utf8 input never = go (is_utf8 input) refl where

@@ -25,6 +25,7 @@ mod tokens;
 mod types;
 mod updates;
 mod wire;
+mod zone_includes;
 mod zones;
 
 use crate::run::run;

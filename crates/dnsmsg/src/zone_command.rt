@@ -39,16 +39,16 @@ pub fn zone(
 }
 
 // The texts that words hand in, by their names. The last word of a name stands.
-fn included_texts(
-    alloc: Global,
-    words: &[String],
-) -> Result<BTreeMap<String, String>, AllocError>
+fn included_texts(alloc: Global, words: &[String]) -> Result<BTreeMap<String, String>, AllocError>
     ensures { IfOk result (λ includes. (name : List ℕ) → texts_in includes name ≡ text_named (texts words.now) name) }
 {
     let mut includes = BTreeMap::new(alloc);
     for word in words {
         let (name, text) = name_and_text(word.as_str());
-        includes.insert(String::from_str(alloc, name)?, String::from_str(alloc, text)?)?;
+        includes.insert(
+            String::from_str(alloc, name)?,
+            String::from_str(alloc, text)?,
+        )?;
     }
     Ok(includes)
 }

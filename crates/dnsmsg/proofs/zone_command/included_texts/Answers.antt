@@ -11,10 +11,10 @@ use Rattle.dnsmsg.proofs.zone_command.included_texts.Goals as goal
 pub loop-word-preserved : goal.loop-word-preserved
 loop-word-preserved c =
     let more = ap texts (take_more c.args.words.now c.loop-word.word-index c.word-item.result c.loop-word-test.true)
-      ∙ map-append string_bytes (take c.loop-word.word-index c.args.words.now) _ in
+    ∙ map-append string_bytes (take c.loop-word.word-index c.args.words.now) _ in
     text_put c.loop-word.includes c.insert.new.self c.in_ok-from_str.field-0 c.in_ok-from_str-2.field-0 (texts (take c.loop-word.word-index c.args.words.now))
-      (texts (take (c.loop-word.word-index + 1) c.args.words.now)) (string_bytes c.word-item.result)
-      c.loop-word.invariant
-      (btree_map_updates_text (string_bytes c.in_ok-from_str.field-0) c.loop-word.includes c.insert.new.self (Some c.in_ok-from_str-2.field-0) c.in_ok-insert.ensures.updates)
-      (search rules) (search rules)
-      (more ∙ ap (λ (w : String Global). texts (take c.loop-word.word-index c.args.words.now) ++ string_bytes w ∷ []) (sym c.word-item.is))
+    (texts (take (c.loop-word.word-index + 1) c.args.words.now)) (string_bytes c.word-item.result)
+    c.loop-word.invariant
+    (btree_map_updates_text (string_bytes c.in_ok-from_str.field-0) c.loop-word.includes c.insert.new.self (Some c.in_ok-from_str-2.field-0) c.in_ok-insert.ensures.updates)
+    (search rules) (search rules)
+    (more ∙ ap (λ (w : String Global). texts (take c.loop-word.word-index c.args.words.now) ++ string_bytes w ∷ []) (sym c.word-item.is))
