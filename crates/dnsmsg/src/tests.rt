@@ -13,6 +13,7 @@ mod errors;
 mod forms;
 mod hashes;
 mod header_rows;
+mod hostile;
 mod messages;
 mod names;
 mod read_refusals;
