@@ -73,7 +73,7 @@ comment_line (c ∷ text) = go (is_line_end c) refl (comment_line text) where
   go true is again = rw is (sym (past_at_line_end c text is))
   go false is again = rw is again
 
-line_end_le : (text : List ℕ) → length (line_end text) ≤ length text
+pub line_end_le : (text : List ℕ) → length (line_end text) ≤ length text
 line_end_le [] = omega arith
 line_end_le (c ∷ text) = go (is_line_end c) refl (line_end_le text) where
   go : (b : Bool) → is_line_end c ≡ b → length (line_end text) ≤ length text → length (line_end (c ∷ text)) ≤ length (c ∷ text)

@@ -6,6 +6,8 @@ pub mod EscapeLemmas
 pub mod GatherLemmas
 pub mod Giving
 pub mod ItemLemmas
+pub mod JoinLemmas
+pub mod JoinedLaw
 pub mod KeyLemmas
 pub mod LabelLemmas
 pub mod LawLemmas

@@ -30,6 +30,7 @@ use Rattle.base.specs.Tokens.{
   within_line,
 }
 use Rattle.base.specs.TokenList.{Symbol, followed, next_symbol, symbol_of, symbols}
+use Rattle.base.proofs.Cutting.{line_end_le}
 use Rattle.base.proofs.ListingLemmas.{Shrinks, listing_is}
 use Rattle.base.proofs.ListItems.{IsListWithin, IsWithin, item_of_visible, item_within, list_within, quoted_within, within-before}
 
@@ -63,13 +64,6 @@ line_end_bare (c ∷ text) = go (is_line_end c) refl (line_end_bare text) where
   go true is again = rw is (grind (arith, nat_tests), grind (arith, nat_tests))
   go false is again = rw is again
 
-line_end_low : (text : List ℕ) → length (line_end text) ≤ length text
-line_end_low [] = omega arith
-line_end_low (c ∷ text) = go (is_line_end c) refl (line_end_low text) where
-  go : (b : Bool) → is_line_end c ≡ b → length (line_end text) ≤ length text → length (line_end (c ∷ text)) ≤ length (c ∷ text)
-  go true is again = rw is (omega arith)
-  go false is again = rw is (omega arith)
-
 comment_bare : (text : List ℕ) → IsUnblank text → IsBare (past_comment text)
 comment_bare [] is = tt
 comment_bare (c ∷ text) is = go (c == 59) refl where
@@ -81,7 +75,7 @@ comment_le : (text : List ℕ) → length (past_comment text) ≤ length text
 comment_le [] = omega arith
 comment_le (c ∷ text) = go (c == 59) refl where
   go : (b : Bool) → (c == 59) ≡ b → length (past_comment (c ∷ text)) ≤ length (c ∷ text)
-  go true comment = rw comment (omega (arith, line_end_low text))
+  go true comment = rw comment (omega (arith, line_end_le text))
   go false comment = rw comment (omega arith)
 
 -- what comes next leaves less than this
@@ -157,7 +151,7 @@ symbol-after n ends is = tt
 symbol-after n faulty is = is
 symbol-after n (token value rest) is = is
 
-symbols_shrink : Shrinks next_symbol (λ unread. length unread.text)
+pub symbols_shrink : Shrinks next_symbol (λ unread. length unread.text)
 symbols_shrink unread found is = subst (IsAfterSymbol (length unread.text)) is (symbol-after (length unread.text) (next unread) (next_after unread))
 
 pub symbols_are : (unread : Unread) → symbols unread ≡ followed symbols (next_symbol unread)

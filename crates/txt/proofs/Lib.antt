@@ -1,3 +1,4 @@
+pub mod Joined
 pub mod KeptSets
 pub mod Stack
 pub mod Taking

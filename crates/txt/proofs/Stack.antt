@@ -142,7 +142,7 @@ behind (symbol include ∷ rest) = omega (arith, include_le rest)
 behind (symbol ttl_sign ∷ rest) = omega (arith, default_le rest)
 behind (broken ∷ rest) = omega arith
 
-entries_shrink : Shrinks first_entry (λ from. length from)
+pub entries_shrink : Shrinks first_entry (λ from. length from)
 entries_shrink from found is = subst (IsBehind (length from)) is (behind from)
 
 -- the first entry, and then the others
@@ -175,9 +175,9 @@ pub fold_is : (within : Within) (s : State) (from : List Symbol) → fold within
 unfolding taken
 fold_is within s from = ap (fold within s) (entries_are from) ∙ fold-taken within s (first_entry from)
 
-bind-bind : {A B C : Type 0} (made : Result A Fault) (f : A → Result B Fault) (g : B → Result C Fault) → ((made >>= f) >>= g) ≡ (made >>= λ a. f a >>= g)
-bind-bind (Ok a) f g = refl
-bind-bind (Err fault) f g = refl
+pub bind_bind : {A B C : Type 0} (made : Result A Fault) (f : A → Result B Fault) (g : B → Result C Fault) → ((made >>= f) >>= g) ≡ (made >>= λ a. f a >>= g)
+bind_bind (Ok a) f g = refl
+bind_bind (Err fault) f g = refl
 
 -- What is made of the whole, where this is made of the text that is read: then come the texts below, the one
 -- that was left last first, each behind its included text.
@@ -260,7 +260,7 @@ remains_opened {texts} {max} {fs} {s} f name text r is same room found = record 
       ap (finish texts max fs)
       (ap (λ (o : Option NameValue). fold (included texts (max - suc (length fs))) s (entries_of (whole_text text))
       >>= λ t. fold (included texts (max - length fs)) (restored o t) (entries (symbols f.lexer))) same
-      ∙ sym (bind-bind (fold (included texts (max - suc (length fs))) s (entries_of (whole_text text)))
+      ∙ sym (bind_bind (fold (included texts (max - suc (length fs))) s (entries_of (whole_text text)))
       (λ t. Ok (restored s.origin t)) (λ t. fold (included texts (max - length fs)) t (entries (symbols f.lexer))))
       ∙ ap (λ (made : Result State Fault). made >>= λ t. fold (included texts (max - length fs)) t (entries (symbols f.lexer)))
       (sym (ap (λ (n : ℕ). included texts n s name) (room_is max (length fs) room) ∙ included_suc texts (max - suc (length fs)) s name (Some text) found)))

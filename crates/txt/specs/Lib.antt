@@ -2,4 +2,5 @@ pub mod Entries
 pub mod Parser
 pub mod Steps
 pub mod Zone
+pub mod ZoneLaws
 pub mod ZoneSets

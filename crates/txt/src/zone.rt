@@ -7,6 +7,7 @@ ghost use Rattle.txt.specs.Parser.{named_texts, text_among};
 ghost use Rattle.txt.specs.ZoneSets.{AreKept};
 
 mod context;
+pub mod laws;
 mod sets;
 mod setting;
 mod texts;

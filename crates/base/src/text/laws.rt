@@ -1,12 +1,20 @@
 //! Laws of the tokens of zone text.
 
-ghost use Rattle.std.specs.Prelude.{◌≡◌};
-ghost use Rattle.base.specs.TokenList.{followed, next_symbol, symbols};
-ghost use Rattle.base.specs.Tokens.{Unread};
+ghost use Rattle.std.specs.Prelude.{ℕ, List, ◌++◌, ◌≡◌};
+ghost use Rattle.base.specs.TokenList.{EndsWithALine, followed, next_symbol, symbols, whole_text};
+ghost use Rattle.base.specs.Tokens.{Unread, past_line_end};
 
 /// The tokens of a text are its first and then the tokens of the rest; the fault, where it comes, is the
 /// last, and at the text's end there is none. So a text that `Lexer::next_token` reads to its end gives
 /// exactly this list.
 pub fn tokens_come_in_turn()
     ensures { (unread : Unread) → symbols unread ≡ followed symbols (next_symbol unread) }
+{}
+
+/// The tokens of two texts one behind the other, the first of which ends with the end of a line, are those of the
+/// one and then those of the other. A carriage return that ends the first and a line feed that begins the second
+/// are the end of one line, and its token is the first one's (RFC 1035, 5.1).
+pub fn tokens_of_texts_in_turn()
+    ensures { (a b : List ℕ) (e : EndsWithALine a) →
+        symbols (whole_text (a ++ b)) ≡ symbols (whole_text a) ++ symbols (whole_text (past_line_end e.byte b)) }
 {}
