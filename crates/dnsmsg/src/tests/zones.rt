@@ -69,7 +69,7 @@ fn owners_and_times(rt: HostRuntime) -> Result<(), AllocError> {
         &["zone", "a."],
         "w 60 A 192.0.2.1\nw 90 A 192.0.2.1\n",
         0,
-        "$ORIGIN a.\nw.a. 60 IN A 192.0.2.1\n",
+        "$ORIGIN a.\nw.a. 90 IN A 192.0.2.1\n",
     )?;
     zone(
         &rt,
@@ -131,7 +131,10 @@ fn what_is_refused(rt: HostRuntime) -> Result<(), AllocError> {
             ("$TTL x\n", "refused 23\n"),
             ("a..b 60 A 192.0.2.1\n", "refused 23\n"),
             ("n 60 A 1.2.3\n", "refused 23\n"),
-            ("@ 5 SOA a b 1 1 1 1 1\n@ SOA a b 2 1 1 1 1\n", "refused 19\n"),
+            (
+                "@ 5 SOA a b 1 1 1 1 1\n@ SOA a b 2 1 1 1 1\n",
+                "refused 19\n",
+            ),
         ],
     )?;
     zone(
