@@ -131,10 +131,7 @@ fn what_is_refused(rt: HostRuntime) -> Result<(), AllocError> {
             ("$TTL x\n", "refused 23\n"),
             ("a..b 60 A 192.0.2.1\n", "refused 23\n"),
             ("n 60 A 1.2.3\n", "refused 23\n"),
-            (
-                "@ 5 SOA a b 1 1 1 1 1\n@ SOA a b 2 1 1 1 1\n",
-                "refused 19\n",
-            ),
+            ("@ 5 SOA a b 1 1 1 1 1\n@ SOA a b 2 1 1 1 1\n", "refused 19\n"),
         ],
     )?;
     zone(
