@@ -4,6 +4,7 @@ pub mod ReadRecords
 pub mod ReadSteps
 pub mod RecordFaults
 pub mod RecordLemmas
+pub mod SerialLemmas
 pub mod SetLaws
 pub mod SetSteps
 pub mod SetTidy

@@ -1,10 +1,10 @@
 -- Laws of record sets.
-use Rattle.std.proofs.Common.{ℕ, Bool, true, false, not, cond, List, [], ◌∷◌, ◌≡◌, ◌≢◌, ◌<◌, ◌||◌, ◌&&◌, nat_le, refl, sym, ap, subst, ◌∙◌, length, filter, arith, if◌then◌else◌}
+use Rattle.std.proofs.Common.{ℕ, Bool, true, false, not, cond, List, [], ◌∷◌, ◌≡◌, ◌≢◌, ◌<◌, ◌||◌, ◌&&◌, ◌++◌, nat_eq, nat_le, refl, sym, ap, subst, ◌∙◌, length, filter, arith, if◌then◌else◌}
 use Rattle.std.specs.List.{list_any, AllByRecursion, IsDistinct}
 use Rattle.std.specs.Ordering.{on}
-use Rattle.std.specs.Cmp.{IsEquivalence, second_so}
-use Rattle.std.proofs.lemmas.Bool.{cond-true, cond-false, or_parts, or_from, not-false, leb-false}
-use Rattle.base.specs.NameOrder.{same_name}
+use Rattle.std.specs.Cmp.{IsEquivalence, nat_eq_equiv}
+use Rattle.std.proofs.lemmas.Bool.{cond-true, cond-false, or_parts, not-false, leb-false}
+use Rattle.std.proofs.lemmas.List.{append-nil}
 use Rattle.base_data.specs.Kinds.{type_of_data}
 use Rattle.base_data.specs.declared.rdata.RData.{RData}
 use Rattle.base_data.specs.SameData.{same_data}
@@ -16,9 +16,8 @@ use Rattle.base.specs.declared.record_type.RecordType.TheVariants as types
 use Rattle.std.proofs.Common.{⊎_elim}
 use Rattle.std.proofs.lemmas.Bool.{or_cases}
 use Rattle.rr.specs.declared.record.Record.{Record}
-use Rattle.rr.specs.RecordOrder.{same_class}
-use Rattle.rr.specs.RecordSet.{IsTidy, SetValue, is_ns, is_soa, same_entry}
-use Rattle.rr.specs.SetChanges.{before, has_data_of, holds_one, insert, is_kept, is_later, placed, remove, stays}
+use Rattle.rr.specs.RecordSet.{IsTidy, SetValue, is_ns, is_soa, same_entry, same_entry-equiv}
+use Rattle.rr.specs.SetChanges.{beside, has_data_of, has_entry, insert, is_kept, is_later, is_left, joined, remove, replaced}
 use Rattle.rr.specs.SetLaws.{IsRaised}
 
 pub laws : IsEquivalence same_data
@@ -34,38 +33,8 @@ pub parts_of : (x : Record RData) (xs : List (Record RData)) → Distinct (x ∷
 unfolding IsDistinct
 parts_of x xs h = h
 
-same_records_data : (x r : Record RData) → same_entry x r ≡ true → same_data x.rdata r.rdata ≡ true
-same_records_data x r h = second_so (same_class x.dns_class r.dns_class) _ (second_so (same_name x.name r.name) _ h)
-
 pub apart : (x y r : Record RData) → same_data x.rdata y.rdata ≡ false → same_data y.rdata r.rdata ≡ true → same_data x.rdata r.rdata ≡ false
 apart x y r far near = laws.symm x.rdata r.rdata ∙ sym (laws.congr y.rdata r.rdata x.rdata near) ∙ laws.symm y.rdata x.rdata ∙ far
-
-far_at : (x y r : Record RData) (ys : List (Record RData)) (b : Bool) → same_entry y r ≡ b → (b || list_any (λ z. same_entry z r) ys) ≡ true → same_data x.rdata y.rdata ≡ false
-    → (list_any (λ z. same_entry z r) ys ≡ true → same_data x.rdata r.rdata ≡ false) → same_data x.rdata r.rdata ≡ false
-far_at x y r ys true e h far go = apart x y r far (same_records_data y r e)
-far_at x y r ys false e h far go = go h
-
-far_from : (x r : Record RData) (ys : List (Record RData)) → Far x ys → list_any (λ z. same_entry z r) ys ≡ true → same_data x.rdata r.rdata ≡ false
-far_from x r [] far h = cc
-far_from x r (y ∷ ys) far h = far_at x y r ys _ refl h far.0 (far_from x r ys far.1)
-
-before_at : (x r : Record RData) (xs : List (Record RData)) (b : Bool) → (b || list_any (λ z. same_entry z r) xs) ≡ true
-    → Far x xs → (list_any (λ z. same_entry z r) xs ≡ true → list_any (has_data_of r) (before r xs) ≡ false)
-    → list_any (has_data_of r) (if b then [] else x ∷ before r xs) ≡ false
-before_at x r xs true h far go = refl
-before_at x r xs false h far go = or_from (has_data_of r x) _ (far_from x r xs far h) (go h)
-
--- of records with distinct data, none before the first equal one has its data
-none_before : (r : Record RData) (xs : List (Record RData)) → Distinct xs → list_any (λ z. same_entry z r) xs ≡ true → list_any (has_data_of r) (before r xs) ≡ false
-none_before r [] d h = refl
-none_before r (x ∷ xs) d h =
-    let parts : Far x xs × Distinct xs = parts_of x xs d in
-    before_at x r xs (same_entry x r) h parts.0 (none_before r xs parts.1)
-
-pub unchanged : (r : Record RData) (xs : List (Record RData)) → Distinct xs → (placed r xs).is_new ≡ false → (placed r xs).is_changed ≡ false
-unchanged r xs d h =
-    let found : list_any (λ z. same_entry z r) xs ≡ true = not-false _ h in
-    or_from (list_any (has_data_of r) (before r xs)) _ (none_before r xs d found) h
 
 pub distinct_kept : (b : Bool) (xs : List (Record RData)) → Distinct xs → Distinct (if b then [] else xs)
 unfolding IsDistinct
@@ -75,17 +44,45 @@ distinct_kept false xs d = d
 abbrev pub unless_kept : Bool → SetValue → Bool × SetValue → Bool × SetValue
 unless_kept b set p = if b then (false, set) else p
 
-stays_so : (set other : SetValue) (b c : Bool) → (c ≡ false → other ≡ set) → (unless_kept b set (c, other)).0 ≡ false → (unless_kept b set (c, other)).1 ≡ set
-stays_so set other true c h e = refl
-stays_so set other false c h e = h e
+stays_so : (set changed : SetValue) (b : Bool) → (unless_kept b set (true, changed)).0 ≡ false → (unless_kept b set (true, changed)).1 ≡ set
+stays_so set changed true h = refl
+stays_so set changed false h = cc
 
 -- an insert that answers false changes nothing
-pub false_keeps : (set : SetValue) (r : Record RData) (serial : ℕ) → IsTidy set → (insert set r serial).0 ≡ false → (insert set r serial).1 ≡ set
-false_keeps set r serial tidy =
-    let xs = if holds_one set.record_type then [] else set.records in
-    let p = placed r xs in
-    stays_so set (if p.is_changed then record set { records = p.records; ttl = r.ttl; serial = serial } else set) (is_soa set.record_type && stays set.records r.rdata) p.is_new
-    (λ e. cond-false p.is_changed _ set (unchanged r xs (distinct_kept (holds_one set.record_type) set.records tidy.distinct) e))
+pub false_keeps : (set : SetValue) (r : Record RData) (serial : ℕ) → (insert set r serial).0 ≡ false → (insert set r serial).1 ≡ set
+false_keeps set r serial = stays_so set (record set { records = joined r (beside set); ttl = r.ttl; serial = serial }) (is_left set r)
+
+-- after one that answers true the record is there
+either : (b : Bool) → (b || true) ≡ true
+either true = refl
+either false = refl
+
+its_own : (r : Record RData) → (same_entry r r && nat_eq r.ttl r.ttl) ≡ true
+its_own r = λ i. same_entry-equiv.refl r i && nat_eq_equiv.refl r.ttl i
+
+held_at : (r x : Record RData) (ys : List (Record RData)) (b c : Bool) → (b || c) ≡ true → (c ≡ true → has_entry r ys ≡ true) → has_entry r ((if b then r else x) ∷ ys) ≡ true
+held_at r x ys true c h go = ap (λ b. b || has_entry r ys) (its_own r)
+held_at r x ys false c h go = ap (λ b. (same_entry x r && nat_eq x.ttl r.ttl) || b) (go h) ∙ either (same_entry x r && nat_eq x.ttl r.ttl)
+
+held_replaced : (r : Record RData) (xs : List (Record RData)) → list_any (has_data_of r) xs ≡ true → has_entry r (replaced r xs) ≡ true
+held_replaced r [] h = cc
+held_replaced r (x ∷ xs) h = held_at r x (replaced r xs) (has_data_of r x) (list_any (has_data_of r) xs) h (held_replaced r xs)
+
+held_pushed : (r : Record RData) (xs : List (Record RData)) → has_entry r (xs ++ r ∷ []) ≡ true
+held_pushed r [] = ap (λ b. b || false) (its_own r)
+held_pushed r (x ∷ xs) = ap (λ b. (same_entry x r && nat_eq x.ttl r.ttl) || b) (held_pushed r xs) ∙ either (same_entry x r && nat_eq x.ttl r.ttl)
+
+held_by : (r : Record RData) (xs : List (Record RData)) (b : Bool) → list_any (has_data_of r) xs ≡ b → has_entry r (replaced r xs ++ (if b then [] else r ∷ [])) ≡ true
+held_by r xs true any = subst (λ ys. has_entry r ys ≡ true) (sym (append-nil (replaced r xs))) (held_replaced r xs any)
+held_by r xs false none = held_pushed r (replaced r xs)
+
+held_so : (r : Record RData) (set changed : SetValue) (b : Bool) → has_entry r changed.records ≡ true → (unless_kept b set (true, changed)).0 ≡ true
+    → has_entry r (unless_kept b set (true, changed)).1.records ≡ true
+held_so r set changed true held h = cc
+held_so r set changed false held h = held
+
+pub true_holds : (set : SetValue) (r : Record RData) (serial : ℕ) → (insert set r serial).0 ≡ true → has_entry r (insert set r serial).1.records ≡ true
+true_holds set r serial = held_so r set (record set { records = joined r (beside set); ttl = r.ttl; serial = serial }) (is_left set r) (held_by r (beside set) _ refl)
 
 -- the last name server stays
 not_both : (x y r : Record RData) → same_data x.rdata y.rdata ≡ false → has_data_of r x ≡ true → has_data_of r y ≡ false
@@ -158,31 +155,33 @@ raised _ _ h = cc
 abbrev alone : SetValue → Record RData → ℕ → SetValue
 alone set r serial = record set { records = r ∷ []; ttl = r.ttl; serial = serial }
 
-risen_by : (set : SetValue) (r : Record RData) (serial : ℕ) (b : Bool) → (unless_kept (not b) set (true, alone set r serial)).0 ≡ true
-    → (b ≡ true) × ((unless_kept (not b) set (true, alone set r serial)).1.records ≡ r ∷ [])
+risen_by : (set : SetValue) (r : Record RData) (serial : ℕ) (b : Bool) → (unless_kept (not b || false) set (true, alone set r serial)).0 ≡ true
+    → (b ≡ true) × ((unless_kept (not b || false) set (true, alone set r serial)).1.records ≡ r ∷ [])
 risen_by set r serial true h = (refl, refl)
 risen_by set r serial false h = cc
 
-stayed_by : (set : SetValue) (r : Record RData) (serial : ℕ) (b : Bool) → (unless_kept (not b) set (true, alone set r serial)).0 ≡ false → (unless_kept (not b) set (true, alone set r serial)).1 ≡ set
+stayed_by : (set : SetValue) (r : Record RData) (serial : ℕ) (b : Bool) → b ≡ false → unless_kept (not b || false) set (true, alone set r serial) ≡ (false, set)
 stayed_by set r serial true h = cc
 stayed_by set r serial false h = refl
 
-abbrev of_start : SetValue → Record RData → SetValue
-of_start set x = record set { record_type = types.SOA; records = x ∷ [] }
+abbrev of_start : SetValue → Record RData → List (Record RData) → SetValue
+of_start set x xs = record set { record_type = types.SOA; records = x ∷ xs }
 
-is_of_start : (set : SetValue) (x : Record RData) → set.record_type ≡ types.SOA → set.records ≡ x ∷ [] → set ≡ of_start set x
-is_of_start set x type one = λ i. record set { record_type = type i; records = one i }
+is_of_start : (set : SetValue) (x : Record RData) (xs : List (Record RData)) → set.record_type ≡ types.SOA → set.records ≡ x ∷ xs → set ≡ of_start set x xs
+is_of_start set x xs type some = λ i. record set { record_type = type i; records = some i }
 
-start_rises : (set : SetValue) (x r : Record RData) (serial : ℕ) → (insert (of_start set x) r serial).0 ≡ true → IsRaised x.rdata r.rdata × ((insert (of_start set x) r serial).1.records ≡ r ∷ [])
-start_rises set x r serial h =
-    let both : (is_later x.rdata r.rdata ≡ true) × ((insert (of_start set x) r serial).1.records ≡ r ∷ []) = risen_by (of_start set x) r serial (is_later x.rdata r.rdata) h in
+start_rises : (set : SetValue) (x r : Record RData) (xs : List (Record RData)) (serial : ℕ) → (insert (of_start set x xs) r serial).0 ≡ true
+    → IsRaised x.rdata r.rdata × ((insert (of_start set x xs) r serial).1.records ≡ r ∷ [])
+start_rises set x r xs serial h =
+    let both : (is_later x.rdata r.rdata ≡ true) × ((insert (of_start set x xs) r serial).1.records ≡ r ∷ []) = risen_by (of_start set x xs) r serial (is_later x.rdata r.rdata) h in
     (raised x.rdata r.rdata both.0, both.1)
 
-pub serial_rises : (set : SetValue) (x r : Record RData) (serial : ℕ) → set.record_type ≡ types.SOA → set.records ≡ x ∷ []
+pub serial_rises : (set : SetValue) (x r : Record RData) (xs : List (Record RData)) (serial : ℕ) → set.record_type ≡ types.SOA → set.records ≡ x ∷ xs
     → (insert set r serial).0 ≡ true → IsRaised x.rdata r.rdata × ((insert set r serial).1.records ≡ r ∷ [])
-serial_rises set x r serial type one =
-    subst (λ s. (insert s r serial).0 ≡ true → IsRaised x.rdata r.rdata × ((insert s r serial).1.records ≡ r ∷ [])) (sym (is_of_start set x type one)) (start_rises set x r serial)
+serial_rises set x r xs serial type some =
+    subst (λ s. (insert s r serial).0 ≡ true → IsRaised x.rdata r.rdata × ((insert s r serial).1.records ≡ r ∷ [])) (sym (is_of_start set x xs type some)) (start_rises set x r xs serial)
 
-pub serial_stays : (set : SetValue) (x r : Record RData) (serial : ℕ) → set.record_type ≡ types.SOA → set.records ≡ x ∷ [] → (insert set r serial).0 ≡ false → (insert set r serial).1 ≡ set
-serial_stays set x r serial type one =
-    subst (λ s. (insert s r serial).0 ≡ false → (insert s r serial).1 ≡ s) (sym (is_of_start set x type one)) (stayed_by (of_start set x) r serial (is_later x.rdata r.rdata))
+pub serial_stays : (set : SetValue) (x r : Record RData) (xs : List (Record RData)) (serial : ℕ) → set.record_type ≡ types.SOA → set.records ≡ x ∷ xs
+    → is_later x.rdata r.rdata ≡ false → ◌≡◌ {A = Bool × SetValue} (insert set r serial) (false, set)
+serial_stays set x r xs serial type some e =
+    subst (λ s. ◌≡◌ {A = Bool × SetValue} (insert s r serial) (false, s)) (sym (is_of_start set x xs type some)) (stayed_by (of_start set x xs) r serial (is_later x.rdata r.rdata) e)

@@ -1,53 +1,17 @@
 -- Steps of putting a record among others.
-use Rattle.std.proofs.Common.{ℕ, zero, suc, Bool, true, false, not, cond, List, [], ◌∷◌, ◌++◌, ◌≡◌, ◌≤◌, ◌<◌, ◌+◌, ◌==◌, ◌||◌, ◌&&◌, refl, sym, ap, subst, ◌∙◌, length}
+use Rattle.std.proofs.Common.{ℕ, zero, suc, Bool, true, false, not, List, [], ◌∷◌, ◌++◌, ◌≡◌, ◌<◌, ◌+◌, ◌==◌, ◌||◌, refl, sym, ap, subst, ◌∙◌, length}
 use Rattle.std.proofs.Common.{take, drop, set, get_or, arith, if◌then◌else◌}
 use Rattle.std.specs.List.{AllByRecursion, list_any}
 use Rattle.base_data.specs.declared.rdata.RData.{RData}
 use Rattle.rr.specs.declared.record.Record.{Record}
 use Rattle.std.proofs.lemmas.Bool.Decides.{nat_tests}
 use Rattle.std.proofs.lemmas.Bool.{cond-true, cond-false, or_parts}
-use Rattle.std.proofs.lemmas.List.{append-nil, length-set, take-append-drop}
+use Rattle.std.proofs.lemmas.List.{length-set}
 use Rattle.base.specs.NameOrder.{folded, same_by-equiv, same_name}
 use Rattle.base_data.specs.Kinds.{type_of_data}
-use Rattle.rr.specs.SetChanges.{MayAdd, MayEnter, Placed, IsPlaced, insert, stays, holds_one, before, from, replaced, has_data_of, placed, renewed}
-use Rattle.rr.specs.RecordSet.{SetValue, is_soa, same_entry}
+use Rattle.rr.specs.SetChanges.{MayAdd, MayEnter, has_data_of, renewed, replaced}
+use Rattle.rr.specs.RecordSet.{SetValue}
 use Rattle.base_data.specs.SameData.{same_data}
-
-before_le_at : (r x : Record RData) (xs : List (Record RData)) (b : Bool) → length (before r xs) ≤ length xs → length (cond b [] (x ∷ before r xs)) ≤ suc (length xs)
-before_le_at r x xs true h = omega arith
-before_le_at r x xs false h = omega arith
-
-pub before_le : (r : Record RData) (xs : List (Record RData)) → length (before r xs) ≤ length xs
-before_le r [] = omega arith
-before_le r (x ∷ xs) = before_le_at r x xs (same_entry x r) (before_le r xs)
-
-before_take_at : (x : Record RData) (ys xs : List (Record RData)) (b : Bool) → ys ≡ take (length ys) xs → cond b [] (x ∷ ys) ≡ take (length (cond b [] (x ∷ ys))) (x ∷ xs)
-before_take_at x ys xs true h = refl
-before_take_at x ys xs false h = ap (λ zs. x ∷ zs) h
-
-pub before_take : (r : Record RData) (xs : List (Record RData)) → before r xs ≡ take (length (before r xs)) xs
-before_take r [] = refl
-before_take r (x ∷ xs) = before_take_at x (before r xs) xs (same_entry x r) (before_take r xs)
-
-from_drop_at : (x : Record RData) (ys zs xs : List (Record RData)) (b : Bool) → zs ≡ drop (length ys) xs → cond b (x ∷ xs) zs ≡ drop (length (cond b [] (x ∷ ys))) (x ∷ xs)
-from_drop_at x ys zs xs true h = refl
-from_drop_at x ys zs xs false h = h
-
-pub from_drop : (r : Record RData) (xs : List (Record RData)) → from r xs ≡ drop (length (before r xs)) xs
-from_drop r [] = refl
-from_drop r (x ∷ xs) = from_drop_at x (before r xs) (from r xs) xs (same_entry x r) (from_drop r xs)
-
-next_eq : (a b : ℕ) → (suc a == suc b) ≡ (a == b)
-next_eq a b = grind (arith, nat_tests)
-
-found_at : (x : Record RData) (ys xs : List (Record RData)) (b c : Bool) → not c ≡ (length ys == length xs) → not (b || c) ≡ (length (cond b [] (x ∷ ys)) == suc (length xs))
-found_at x ys xs true c h = grind (arith, nat_tests)
-found_at x ys xs false c h = h ∙ sym (next_eq (length ys) (length xs))
-
--- there is no equal record where the search came to the end
-pub found : (r : Record RData) (xs : List (Record RData)) → not (list_any (λ x. same_entry x r) xs) ≡ (length (before r xs) == length xs)
-found r [] = refl
-found r (x ∷ xs) = found_at x (before r xs) xs (same_entry x r) (list_any (λ y. same_entry y r) xs) (found r xs)
 
 -- one more place
 pub replaced_yes : (r : Record RData) (xs : List (Record RData)) (i : ℕ) (d : Record RData) → i < length xs → has_data_of r (get_or (replaced r (take i xs) ++ drop i xs) i d) ≡ true
@@ -68,24 +32,6 @@ replaced_none r (x ∷ xs) h =
     let parts : (has_data_of r x ≡ false) × (list_any (has_data_of r) xs ≡ false) = or_parts (has_data_of r x) _ h in
     let first : (if has_data_of r x then r else x) ≡ x = cond-false (has_data_of r x) r x parts.0 in
     λ i. first i ∷ replaced_none r xs parts.1 i
-
--- what a search from the front knows of the place
-pub placed_at : (r : Record RData) (xs : List (Record RData)) → placed r xs ≡ record {
-  records = replaced r (take (length (before r xs)) xs) ++ drop (length (before r xs)) xs ++
-      (if list_any (λ x. same_entry x r) xs || list_any (has_data_of r) (take (length (before r xs)) xs) then [] else r ∷ []);
-  is_changed = list_any (has_data_of r) (take (length (before r xs)) xs) || (length (before r xs) == length xs);
-  is_new = length (before r xs) == length xs;
-}
-placed_at r xs =
-    let any = list_any (λ x. same_entry x r) xs in
-    let front = before_take r xs in
-    let back = from_drop r xs in
-    let new = found r xs in
-    λ i. record {
-      records = replaced r (front i) ++ back i ++ (if any || list_any (has_data_of r) (front i) then [] else r ∷ []);
-      is_changed = list_any (has_data_of r) (front i) || new i;
-      is_new = new i;
-    }
 
 one_more : (i : ℕ) → suc i ≡ i + 1
 one_more i = omega arith
@@ -162,19 +108,6 @@ pub any_passed : (r d : Record RData) (xs : List (Record RData)) (b : Bool) (i :
     → b ≡ not (list_any (has_data_of r) (take (i + 1) xs))
 any_passed r d xs b i h e read t = e ∙ sym (ap not (any_upto r d xs i false h read t ∙ or_nothing (list_any (has_data_of r) (take i xs))))
 
--- there are copies exactly where there is a place
-pub some_copied : (n m : ℕ) (b : Bool) → n ≡ m → false ≡ (n == 0) → (m == 0) ≡ not b → b ≡ true
-some_copied n m true e h any = refl
-some_copied n m false e h any =
-    let both : false ≡ true = h ∙ ap (λ k. k == 0) e ∙ any in
-    cc
-
-pub none_copied : (n m : ℕ) (b : Bool) → n ≡ m → true ≡ (n == 0) → (m == 0) ≡ not b → b ≡ false
-none_copied n m false e h any = refl
-none_copied n m true e h any =
-    let both : true ≡ false = h ∙ ap (λ k. k == 0) e ∙ any in
-    cc
-
 pub within_push : (n : ℕ) (ps : List (ℕ × Record RData)) (p : ℕ × Record RData)
     → AllByRecursion (λ (q : ℕ × Record RData). q.0 < n) ps → p.0 < n → AllByRecursion (λ (q : ℕ × Record RData). q.0 < n) (ps ++ p ∷ [])
 within_push n [] p h l = (l, tt)
@@ -199,95 +132,6 @@ len_step m n ps qs p e less h = omega (arith, less, h, ap length e)
 pub renew_end : (xs zs : List (Record RData)) (ps : List (ℕ × Record RData)) (m : ℕ) → renewed ps xs ≡ zs → m ≡ 0 → m ≡ length ps → xs ≡ zs
 renew_end xs zs [] m h none len = h
 renew_end xs zs (p ∷ ps) m h none len = absurd (omega arith)
-
--- what `placed` gives where a search came to end
-abbrev pub placed_from : Record RData → List (Record RData) → ℕ → Bool → Placed
-placed_from r xs end found = record {
-  records = replaced r (take end xs) ++ drop end xs ++ (if found || list_any (has_data_of r) (take end xs) then [] else r ∷ []);
-  is_changed = list_any (has_data_of r) (take end xs) || (end == length xs);
-  is_new = end == length xs;
-}
-
-with_end : (r : Record RData) (xs ys : List (Record RData)) (end : ℕ) (a b : Bool) → end ≡ length (before r xs)
-    → IsPlaced (placed_from r xs end (list_any (λ x. same_entry x r) xs)) a b ys → IsPlaced (placed r xs) a b ys
-with_end r xs ys end a b e h = subst (λ p. IsPlaced p a b ys) (ap (λ n. placed_from r xs n (list_any (λ x. same_entry x r) xs)) e ∙ sym (placed_at r xs)) h
-
-turn : (b c : Bool) → not b ≡ c → b ≡ not c
-turn true c h = ap not h
-turn false c h = ap not h
-
-pub place_replaced : (r : Record RData) (xs ys : List (Record RData)) (end : ℕ) → end ≡ length (before r xs)
-    → list_any (has_data_of r) (take end xs) ≡ true → ys ≡ replaced r (take end xs) ++ drop end xs → IsPlaced (placed r xs) true (end == length xs) ys
-place_replaced r xs ys end e h is =
-    with_end r xs ys end true (end == length xs) e (
-      ap (λ b. b || (end == length xs)) (sym h),
-      refl,
-      is ∙ sym (append-nil (replaced r (take end xs) ++ drop end xs))
-          ∙ ap (λ b. replaced r (take end xs) ++ drop end xs ++ (if b then [] else r ∷ [])) (sym (ap (λ b. list_any (λ x. same_entry x r) xs || b) h ∙ either (list_any (λ x. same_entry x r) xs))),
-    )
-
-whole : (r : Record RData) (xs : List (Record RData)) (end : ℕ) → list_any (has_data_of r) (take end xs) ≡ false → replaced r (take end xs) ++ drop end xs ≡ xs
-whole r xs end h = ap (λ zs. zs ++ drop end xs) (replaced_none r (take end xs) h) ∙ take-append-drop end xs
-
-joined : (r : Record RData) (xs : List (Record RData)) (end : ℕ) (b : Bool) → list_any (has_data_of r) (take end xs) ≡ false
-    → list_any (λ x. same_entry x r) xs ≡ not b → (list_any (λ x. same_entry x r) xs || list_any (has_data_of r) (take end xs)) ≡ not b
-joined r xs end b h back = ap (λ c. list_any (λ x. same_entry x r) xs || c) h ∙ or_nothing (list_any (λ x. same_entry x r) xs) ∙ back
-
-place_rest : (r : Record RData) (xs ys : List (Record RData)) (end : ℕ) (b : Bool) → end ≡ length (before r xs)
-    → list_any (has_data_of r) (take end xs) ≡ false → (end == length xs) ≡ b → ys ≡ xs ++ (if not b then [] else r ∷ []) → IsPlaced (placed r xs) b b ys
-place_rest r xs ys end b e h new is =
-    let back : list_any (λ x. same_entry x r) xs ≡ not b = turn (list_any (λ x. same_entry x r) xs) b (found r xs ∙ ap (λ n. n == length xs) (sym e) ∙ new) in
-    with_end r xs ys end b b e (
-      sym new ∙ ap (λ c. c || (end == length xs)) (sym h),
-      sym new,
-      is ∙ sym (λ i. whole r xs end h i ++ (if joined r xs end b h back i then [] else r ∷ [])),
-    )
-
-pub place_pushed : (r : Record RData) (xs ys : List (Record RData)) (end : ℕ) → end ≡ length (before r xs)
-    → list_any (has_data_of r) (take end xs) ≡ false → (end == length xs) ≡ true → ys ≡ xs ++ r ∷ [] → IsPlaced (placed r xs) true true ys
-place_pushed r xs ys end e h new is = place_rest r xs ys end true e h new is
-
-pub place_kept : (r : Record RData) (xs ys : List (Record RData)) (end : ℕ) → end ≡ length (before r xs)
-    → list_any (has_data_of r) (take end xs) ≡ false → (end == length xs) ≡ false → ys ≡ xs → IsPlaced (placed r xs) false false ys
-place_kept r xs ys end e h new is = place_rest r xs ys end false e h new (is ∙ sym (append-nil xs))
-
--- `insert` where the record was placed
-pub insert_placed : (set : SetValue) (r : Record RData) (serial : ℕ) (ys : List (Record RData)) (alone changed new : Bool)
-    → (is_soa set.record_type && stays set.records r.rdata) ≡ false → alone ≡ holds_one set.record_type
-    → IsPlaced (placed r (if alone then [] else set.records)) changed new ys → (new, if changed then record set { records = ys; ttl = r.ttl; serial = serial } else set) ≡ insert set r serial
-insert_placed set r serial ys alone changed new kept e h =
-    let place : Placed = placed r (if alone then [] else set.records) in
-    let over : Placed → Bool × SetValue = λ p. (p.is_new, if p.is_changed then record set { records = p.records; ttl = r.ttl; serial = serial } else set) in
-    let all : ◌≡◌ {A = Bool × SetValue} (new, if changed then record set { records = ys; ttl = r.ttl; serial = serial } else set) (over place) =
-    λ i. (h.1 i, if h.0 i then record set { records = h.2 i; ttl = r.ttl; serial = serial } else set) in
-    all ∙ ap (λ b. over (placed r (if b then [] else set.records))) e ∙ sym (cond-false (is_soa set.record_type && stays set.records r.rdata) (false, set) _ kept)
-
-pub insert_changed : (v set : SetValue) (r : Record RData) (serial : ℕ) (ys : List (Record RData)) (alone changed new : Bool)
-    → v ≡ set → (is_soa set.record_type && stays set.records r.rdata) ≡ false → alone ≡ holds_one v.record_type
-    → changed ≡ true → IsPlaced (placed r (if alone then [] else v.records)) changed new ys → (new, record v { records = ys; ttl = r.ttl; serial = serial }) ≡ insert set r serial
-insert_changed v set r serial ys alone changed new same kept e did h =
-    ap (λ b. (new, if b then record v { records = ys; ttl = r.ttl; serial = serial } else v)) (sym did)
-    ∙ insert_placed v r serial ys alone changed new (ap (λ s. is_soa s.record_type && stays s.records r.rdata) same ∙ kept) e h ∙ ap (λ s. insert s r serial) same
-
-placed_same : (r : Record RData) (xs : List (Record RData)) → (placed r xs).is_changed ≡ false → (placed r xs).records ≡ xs
-placed_same r xs h =
-    let end = length (before r xs) in
-    let parts : (list_any (has_data_of r) (take end xs) ≡ false) × ((end == length xs) ≡ false) =
-    or_parts (list_any (has_data_of r) (take end xs)) _ (ap (λ p. p.is_changed) (sym (placed_at r xs)) ∙ h) in
-    sym ((place_kept r xs xs end refl parts.0 parts.1 refl).2)
-
-kept_records : (r : Record RData) (xs : List (Record RData)) (alone : Bool) → (placed r (if alone then [] else xs)).is_changed ≡ false → (placed r (if alone then [] else xs)).records ≡ xs
-kept_records r xs true h = cc
-kept_records r xs false h = placed_same r xs h
-
-pub insert_same : (v set : SetValue) (r : Record RData) (serial : ℕ) (ys : List (Record RData)) (alone changed new : Bool)
-    → v ≡ set → (is_soa set.record_type && stays set.records r.rdata) ≡ false → alone ≡ holds_one v.record_type
-    → changed ≡ false → IsPlaced (placed r (if alone then [] else v.records)) changed new ys → (new, record v { records = ys }) ≡ insert set r serial
-insert_same v set r serial ys alone changed new same kept e didnt h =
-    let back : ys ≡ v.records = h.2 ∙ kept_records r v.records alone (sym h.0 ∙ didnt) in
-    ap (λ zs. (new, record v { records = zs })) back
-    ∙ ap (λ b. (new, if b then record v { records = ys; ttl = r.ttl; serial = serial } else v)) (sym didnt)
-    ∙ insert_placed v r serial ys alone changed new (ap (λ s. is_soa s.record_type && stays s.records r.rdata) same ∙ kept) e h ∙ ap (λ s. insert s r serial) same
 
 -- the record that a set makes of its data may enter it
 pub may_enter : (set : SetValue) (r : Record RData) (rdata : RData) → MayAdd set rdata → r.name ≡ set.name → r.rdata ≡ rdata → MayEnter set r

@@ -1,5 +1,5 @@
 -- Tidy sets stay tidy.
-use Rattle.std.proofs.Common.{ℕ, Bool, true, false, not, cond, List, [], ◌∷◌, ◌++◌, ◌≡◌, ◌≤◌, ◌+◌, ◌||◌, ◌&&◌, refl, sym, ap, subst, ◌∙◌, length, filter, arith, if◌then◌else◌}
+use Rattle.std.proofs.Common.{ℕ, Bool, true, false, not, cond, List, [], ◌∷◌, ◌++◌, ◌≡◌, ◌≤◌, ◌+◌, ◌||◌, refl, sym, subst, ◌∙◌, length, filter, arith, if◌then◌else◌}
 use Rattle.std.specs.List.{AllByRecursion, IsDistinct, list_any}
 use Rattle.std.proofs.lemmas.Bool.{or_parts}
 use Rattle.std.proofs.lemmas.List.{append-nil}
@@ -9,13 +9,13 @@ use Rattle.base.specs.declared.record_type.RecordType.TheVariants as types
 use Rattle.base_data.specs.Kinds.{type_of_data}
 use Rattle.base_data.specs.SameData.{same_data}
 use Rattle.base_data.specs.declared.rdata.RData.{RData}
-use Rattle.rr.specs.RecordSet.{IsTidy, SetValue, empty_set, is_soa, same_entry, set_of}
-use Rattle.rr.specs.SetChanges.{MayAdd, MayEnter, add_data, before, from, has_data_of, holds_one, insert, is_kept, own_record, placed, remove, replaced, stays}
+use Rattle.rr.specs.RecordSet.{IsTidy, SetValue, empty_set, is_soa, set_of}
+use Rattle.rr.specs.SetChanges.{MayAdd, MayEnter, add_data, beside, has_data_of, holds_one, insert, is_kept, is_left, joined, own_record, remove, replaced}
 use Rattle.rr.specs.declared.record.Record.{Record}
-use Rattle.rr.proofs.SetLaws.{Distinct, Far, apart, distinct_kept, laws, parts_of, unchanged, unless_kept}
+use Rattle.rr.proofs.SetLaws.{Distinct, Far, apart, distinct_kept, laws, parts_of, unless_kept}
 use Rattle.rr.proofs.SetSteps.{may_enter, replaced_none}
 
--- what holds of each record, and of r, holds of each record where r was placed
+-- what holds of each record, and of r, holds of each record where r was joined to them
 all_append : (P : Record RData → Type 0) (xs ys : List (Record RData)) → AllByRecursion P xs → AllByRecursion P ys → AllByRecursion P (xs ++ ys)
 all_append P [] ys h k = k
 all_append P (x ∷ xs) ys h k = (h.0, all_append P xs ys h.1 k)
@@ -23,14 +23,6 @@ all_append P (x ∷ xs) ys h k = (h.0, all_append P xs ys h.1 k)
 all_if : (P : Record RData → Type 0) (b : Bool) (xs ys : List (Record RData)) → AllByRecursion P xs → AllByRecursion P ys → AllByRecursion P (if b then xs else ys)
 all_if P true xs ys h k = h
 all_if P false xs ys h k = k
-
-all_before : (P : Record RData → Type 0) (r : Record RData) (xs : List (Record RData)) → AllByRecursion P xs → AllByRecursion P (before r xs)
-all_before P r [] h = tt
-all_before P r (x ∷ xs) h = all_if P (same_entry x r) [] (x ∷ before r xs) tt (h.0, all_before P r xs h.1)
-
-all_from : (P : Record RData → Type 0) (r : Record RData) (xs : List (Record RData)) → AllByRecursion P xs → AllByRecursion P (from r xs)
-all_from P r [] h = tt
-all_from P r (x ∷ xs) h = all_if P (same_entry x r) (x ∷ xs) (from r xs) h (all_from P r xs h.1)
 
 one_of : (P : Record RData → Type 0) (b : Bool) (r x : Record RData) → P r → P x → P (if b then r else x)
 one_of P true r x h k = h
@@ -40,31 +32,10 @@ all_replaced : (P : Record RData → Type 0) (r : Record RData) (xs : List (Reco
 all_replaced P r [] h k = tt
 all_replaced P r (x ∷ xs) h k = (one_of P (has_data_of r x) r x h k.0, all_replaced P r xs h k.1)
 
-all_placed : (P : Record RData → Type 0) (r : Record RData) (xs : List (Record RData)) → P r → AllByRecursion P xs → AllByRecursion P (placed r xs).records
-all_placed P r xs h k =
-    let front = all_replaced P r (before r xs) h (all_before P r xs k) in
-    let found = list_any (λ x. same_entry x r) xs in
-    let replaces = list_any (has_data_of r) (before r xs) in
-    all_append P (replaced r (before r xs) ++ from r xs) (if found || replaces then [] else r ∷ [])
-    (all_append P (replaced r (before r xs)) (from r xs) front (all_from P r xs k))
-    (all_if P (found || replaces) [] (r ∷ []) tt (h, tt))
-
--- with no equal record, all records are looked at
-before_all : (x : Record RData) (ys xs : List (Record RData)) (b c : Bool) → (b || c) ≡ false → (c ≡ false → ys ≡ xs) → (if b then [] else x ∷ ys) ≡ x ∷ xs
-before_all x ys xs true c h go = cc
-before_all x ys xs false c h go = ap (λ zs. x ∷ zs) (go h)
-
-all_are_before : (r : Record RData) (xs : List (Record RData)) → list_any (λ x. same_entry x r) xs ≡ false → before r xs ≡ xs
-all_are_before r [] h = refl
-all_are_before r (x ∷ xs) h = before_all x (before r xs) xs (same_entry x r) (list_any (λ y. same_entry y r) xs) h (all_are_before r xs)
-
-from_none : (x : Record RData) (ys xs : List (Record RData)) (b c : Bool) → (b || c) ≡ false → (c ≡ false → ys ≡ []) → (if b then x ∷ xs else ys) ≡ []
-from_none x ys xs true c h go = cc
-from_none x ys xs false c h go = go h
-
-none_is_from : (r : Record RData) (xs : List (Record RData)) → list_any (λ x. same_entry x r) xs ≡ false → from r xs ≡ []
-none_is_from r [] h = refl
-none_is_from r (x ∷ xs) h = from_none x (from r xs) xs (same_entry x r) (list_any (λ y. same_entry y r) xs) h (none_is_from r xs)
+all_joined : (P : Record RData → Type 0) (r : Record RData) (xs : List (Record RData)) → P r → AllByRecursion P xs → AllByRecursion P (joined r xs)
+all_joined P r xs h k =
+    let any = list_any (has_data_of r) xs in
+    all_append P (replaced r xs) (if any then [] else r ∷ []) (all_replaced P r xs h k) (all_if P any [] (r ∷ []) tt (h, tt))
 
 -- data that is far from some stays far from them where r takes the place of equal data
 far_at : (z r y : Record RData) (b : Bool) → has_data_of r y ≡ b → same_data z.rdata y.rdata ≡ false → same_data z.rdata (if b then r else y).rdata ≡ false
@@ -108,38 +79,13 @@ distinct_put : (r : Record RData) (xs : List (Record RData)) (b : Bool) → list
 distinct_put r xs true h d = subst Distinct (sym (append-nil (replaced r xs))) (distinct_replaced r xs d)
 distinct_put r xs false h d = subst (λ ys. Distinct (ys ++ r ∷ [])) (sym (replaced_none r xs h)) (distinct_pushed r xs h d)
 
-abbrev put : Record RData → Bool → List (Record RData) → List (Record RData) → List (Record RData)
-put r found front back = replaced r front ++ back ++ (if found || list_any (has_data_of r) front then [] else r ∷ [])
-
-distinct_new : (r : Record RData) (xs : List (Record RData)) → Distinct xs → list_any (λ x. same_entry x r) xs ≡ false → Distinct (placed r xs).records
-distinct_new r xs d none =
-    let whole : (placed r xs).records ≡ put r false xs [] = λ i. put r (none i) (all_are_before r xs none i) (none_is_from r xs none i) in
-    let short : put r false xs [] ≡ replaced r xs ++ (if list_any (has_data_of r) xs then [] else r ∷ []) =
-    ap (λ ys. ys ++ (if list_any (has_data_of r) xs then [] else r ∷ [])) (append-nil (replaced r xs)) in
-    subst Distinct (sym (whole ∙ short)) (distinct_put r xs _ refl d)
-
--- what changed is new
-new_of : (r : Record RData) (xs : List (Record RData)) (found : Bool) → list_any (λ x. same_entry x r) xs ≡ found → Distinct xs → (placed r xs).is_changed ≡ true → found ≡ false
-new_of r xs false e d h = refl
-new_of r xs true e d h =
-    let same : (placed r xs).is_changed ≡ false = unchanged r xs d (ap not e) in
-    let both : true ≡ false = sym h ∙ same in
-    cc
-
-distinct_placed : (r : Record RData) (xs : List (Record RData)) → Distinct xs → (placed r xs).is_changed ≡ true → Distinct (placed r xs).records
-distinct_placed r xs d h = distinct_new r xs d (new_of r xs _ refl d h)
-
 soa_is_one : (t : RecordType) → is_soa t ≡ true → holds_one t ≡ true
 soa_is_one types.SOA h = refl
 soa_is_one _ h = cc
 
-alone : (r : Record RData) (rs : List (Record RData)) (b : Bool) → b ≡ true → length (placed r (if b then [] else rs)).records ≤ 1
+alone : (r : Record RData) (rs : List (Record RData)) (b : Bool) → b ≡ true → length (joined r (if b then [] else rs)) ≤ 1
 alone r rs true h = omega arith
 alone r rs false h = cc
-
-tidy_if : (set changed : SetValue) (c : Bool) → IsTidy set → (c ≡ true → IsTidy changed) → IsTidy (if c then changed else set)
-tidy_if set changed true tidy h = h refl
-tidy_if set changed false tidy h = tidy
 
 tidy_unless : (set : SetValue) (b : Bool) (p : Bool × SetValue) → IsTidy set → IsTidy p.1 → IsTidy (unless_kept b set p).1
 tidy_unless set true p tidy h = tidy
@@ -147,17 +93,14 @@ tidy_unless set false p tidy h = h
 
 pub insert_keeps_tidy : (set : SetValue) (r : Record RData) (serial : ℕ) → MayEnter set r → IsTidy set → IsTidy (insert set r serial).1
 insert_keeps_tidy set r serial enters tidy =
-    let xs = if holds_one set.record_type then [] else set.records in
-    let p = placed r xs in
     let Own : Record RData → Type 0 = λ x. type_of_data x.rdata ≡ set.record_type in
-    let own : AllByRecursion Own xs = all_if Own (holds_one set.record_type) [] set.records tt tidy.own_type in
-    let changed = record set { records = p.records; ttl = r.ttl; serial = serial } in
-    tidy_unless set (is_soa set.record_type && stays set.records r.rdata) (p.is_new, if p.is_changed then changed else set) tidy
-    (tidy_if set changed p.is_changed tidy (λ did. record {
-      own_type = all_placed Own r xs enters.own_type own;
-      distinct = distinct_placed r xs (distinct_kept (holds_one set.record_type) set.records tidy.distinct) did;
+    let own : AllByRecursion Own (beside set) = all_if Own (holds_one set.record_type) [] set.records tt tidy.own_type in
+    tidy_unless set (is_left set r) (true, record set { records = joined r (beside set); ttl = r.ttl; serial = serial }) tidy
+    record {
+      own_type = all_joined Own r (beside set) enters.own_type own;
+      distinct = distinct_put r (beside set) _ refl (distinct_kept (holds_one set.record_type) set.records tidy.distinct);
       single = λ soa. alone r set.records (holds_one set.record_type) (soa_is_one set.record_type soa);
-    }))
+    }
 
 pub add_keeps_tidy : (set : SetValue) (rdata : RData) → MayAdd set rdata → IsTidy set → IsTidy (add_data set rdata).1
 add_keeps_tidy set rdata enters tidy = insert_keeps_tidy set (own_record set rdata) 0 (may_enter set (own_record set rdata) rdata enters refl refl) tidy

@@ -3,6 +3,7 @@ pub mod RecordOrder
 pub mod RecordRef
 pub mod RecordSet
 pub mod RrsetRecords
+pub mod SerialOrder
 pub mod SetChanges
 pub mod SetLaws
 pub mod SetParts

@@ -1,5 +1,5 @@
 -- What goes into a record set, and what comes out (RFC 2136, 1.1.5, 3.4.2.2 and 3.4.2.4).
-use Rattle.std.specs.Prelude.{ℕ, Bool, true, false, not, List, [], ◌∷◌, ◌++◌, ◌≡◌, ◌≤◌, ◌&&◌, ◌||◌, ◌⊎◌, nat_le, nat_lt, length, set, if◌then◌else◌, Option}
+use Rattle.std.specs.Prelude.{ℕ, Bool, true, false, not, List, [], ◌∷◌, ◌++◌, ◌≡◌, ◌≤◌, ◌&&◌, ◌||◌, ◌⊎◌, nat_eq, nat_le, length, set, if◌then◌else◌, Option}
 use Rattle.std.specs.List.{filter, find, list_any}
 use Rattle.base.specs.NameOrder.{same_name}
 use Rattle.base.specs.declared.dns_class.DNSClass.TheVariants as classes
@@ -10,6 +10,7 @@ use Rattle.base_data.specs.SameData.{same_data}
 use Rattle.base_data.specs.declared.rdata.RData.{RData}
 use Rattle.base_data.specs.declared.rdata.RData.TheVariants as kinds
 use Rattle.rr.specs.RecordSet.{SetValue, is_ns, is_soa, same_entry}
+use Rattle.rr.specs.SerialOrder.{is_greater}
 use Rattle.rr.specs.declared.record.Record.{Record}
 
 -- the types of which a set holds one record
@@ -35,10 +36,6 @@ pub record MayLeave (set : SetValue) (r : Record RData) : Type 0 where
   pub owner : same_name set.name r.name ≡ true
   pub own_type : (type_of_data r.rdata ≡ set.record_type) ⊎ (type_of_data r.rdata ≡ types.ANY)
 
--- whether a serial is greater than an old one, as plain numbers
-abbrev pub is_greater : ℕ → ℕ → Bool
-is_greater old new = nat_lt old new
-
 -- whether both are SOA data, the new one of a greater serial
 abbrev pub is_later : RData → RData → Bool
 is_later (kinds.SOA old) (kinds.SOA new) = is_greater old.serial new.serial
@@ -58,47 +55,28 @@ abbrev pub replaced : Record RData → List (Record RData) → List (Record RDat
 replaced r [] = []
 replaced r (x ∷ xs) = (if has_data_of r x then r else x) ∷ replaced r xs
 
--- the records before the first one equal to r
-abbrev pub before : Record RData → List (Record RData) → List (Record RData)
-before r [] = []
-before r (x ∷ xs) = if same_entry x r then [] else x ∷ before r xs
+-- r in the place of each record of equal data, or behind all where there is none
+abbrev pub joined : Record RData → List (Record RData) → List (Record RData)
+joined r xs = replaced r xs ++ (if list_any (has_data_of r) xs then [] else r ∷ [])
 
--- the records from the first one equal to r on
-abbrev pub from : Record RData → List (Record RData) → List (Record RData)
-from r [] = []
-from r (x ∷ xs) = if same_entry x r then x ∷ xs else from r xs
+-- whether some record is equal to r and has its time to live
+abbrev pub has_entry : Record RData → List (Record RData) → Bool
+has_entry r xs = list_any (λ x. same_entry x r && nat_eq x.ttl r.ttl) xs
 
--- where a new record went: the records then, whether one was replaced or pushed, and whether the record is new
-pub record Placed : Type 0 where
-  pub records : List (Record RData)
-  pub is_changed : Bool
-  pub is_new : Bool
+-- the records of a set beside which a new one comes to stand: none where one may stand
+abbrev pub beside : SetValue → List (Record RData)
+beside set = if holds_one set.record_type then [] else set.records
 
--- How a record goes among others, whatever the times to live are: before the first equal record it replaces those of
--- equal data; it is new where there is no equal record, and then pushed unless it replaced one.
-abbrev pub placed : Record RData → List (Record RData) → Placed
-placed r xs =
-    let found = list_any (λ x. same_entry x r) xs in
-    let replaces = list_any (has_data_of r) (before r xs) in
-    record {
-      records = replaced r (before r xs) ++ from r xs ++ (if found || replaces then [] else r ∷ []);
-      is_changed = replaces || not found;
-      is_new = not found;
-    }
+-- whether `insert` leaves a set as it is: an SOA stays where the new one isn't later, and an equal record where the
+-- new one has its time to live
+abbrev pub is_left : SetValue → Record RData → Bool
+is_left set r = (is_soa set.record_type && stays set.records r.rdata) || has_entry r (beside set)
 
--- what placing changed, what it answered, and the records then
-abbrev pub IsPlaced : Placed → Bool → Bool → List (Record RData) → Type 0
-IsPlaced p is_changed is_new records = (is_changed ≡ p.is_changed) × (is_new ≡ p.is_new) × (records ≡ p.records)
-
--- The answer of `insert` and the set then. An SOA stays where the new one isn't later. Where one record may stand, the
--- new one stands alone. A change takes over the record's time to live, and the serial.
+-- The answer of `insert` and the set then. A change takes over the record's time to live, and the serial.
 abbrev pub insert : SetValue → Record RData → ℕ → Bool × SetValue
 insert set r serial =
-    if is_soa set.record_type && stays set.records r.rdata then (false, set)
-    else (
-    let p = placed r (if holds_one set.record_type then [] else set.records) in
-    (p.is_new, if p.is_changed then record set { records = p.records; ttl = r.ttl; serial = serial } else set)
-    )
+    if is_left set r then (false, set)
+    else (true, record set { records = joined r (beside set); ttl = r.ttl; serial = serial })
 
 -- the record that a set makes of data: its name and its time to live, in the class IN
 abbrev pub own_record : SetValue → RData → Record RData

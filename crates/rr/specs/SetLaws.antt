@@ -1,5 +1,5 @@
 -- Laws of record sets.
-use Rattle.std.specs.Prelude.{ℕ, Bool, true, false, [], ◌∷◌, ◌≡◌, ◌≢◌}
+use Rattle.std.specs.Prelude.{ℕ, Bool, true, false, List, [], ◌∷◌, ◌≡◌, ◌≢◌}
 use Rattle.base.specs.Labels.{NameValue}
 use Rattle.base.specs.declared.record_type.RecordType.{RecordType}
 use Rattle.base.specs.declared.record_type.RecordType.TheVariants as types
@@ -7,7 +7,8 @@ use Rattle.base_data.specs.declared.rdata.RData.{RData}
 use Rattle.base_data.specs.declared.rdata.RData.TheVariants as kinds
 use Rattle.base_data.specs.declared.rdata.soa.SOA.{SOA}
 use Rattle.rr.specs.RecordSet.{IsTidy, SetValue, empty_set, is_ns, set_of}
-use Rattle.rr.specs.SetChanges.{MayAdd, MayEnter, add_data, insert, is_greater, remove}
+use Rattle.rr.specs.SerialOrder.{is_greater}
+use Rattle.rr.specs.SetChanges.{MayAdd, MayEnter, add_data, has_entry, insert, is_later, remove}
 use Rattle.rr.specs.declared.record.Record.{Record}
 
 -- no equal data comes into a tidy set, and nothing else that isn't tidy
@@ -30,9 +31,13 @@ EmptyIsTidy = (name : NameValue) (type : RecordType) (ttl serial : ℕ) → IsTi
 abbrev pub OneIsTidy : Type 0
 OneIsTidy = (r : Record RData) → IsTidy (set_of r)
 
--- an `insert` into a tidy set that answers false changes nothing
+-- an `insert` that answers false changes nothing
 abbrev pub FalseKeeps : Type 0
-FalseKeeps = (set : SetValue) (r : Record RData) (serial : ℕ) → IsTidy set → (insert set r serial).0 ≡ false → (insert set r serial).1 ≡ set
+FalseKeeps = (set : SetValue) (r : Record RData) (serial : ℕ) → (insert set r serial).0 ≡ false → (insert set r serial).1 ≡ set
+
+-- after an `insert` that answers true the set holds an equal record of the new time to live
+abbrev pub TrueHolds : Type 0
+TrueHolds = (set : SetValue) (r : Record RData) (serial : ℕ) → (insert set r serial).0 ≡ true → has_entry r (insert set r serial).1.records ≡ true
 
 -- a tidy set of name servers with a record does not become empty
 abbrev pub LastServerStays : Type 0
@@ -50,11 +55,12 @@ pub record IsRaised (old_data new_data : RData) : Type 0 where
   pub is_new : new_data ≡ kinds.SOA new
   pub raised : is_greater old.serial new.serial ≡ true
 
--- an `insert` into a set of one SOA that answers true leaves the new one alone, of a greater serial
+-- an `insert` into an SOA set with records that answers true leaves the new one alone, of a greater serial
 abbrev pub SerialRises : Type 0
-SerialRises = (set : SetValue) (x r : Record RData) (serial : ℕ) → set.record_type ≡ types.SOA → set.records ≡ x ∷ []
+SerialRises = (set : SetValue) (x r : Record RData) (xs : List (Record RData)) (serial : ℕ) → set.record_type ≡ types.SOA → set.records ≡ x ∷ xs
     → (insert set r serial).0 ≡ true → IsRaised x.rdata r.rdata × ((insert set r serial).1.records ≡ r ∷ [])
 
--- one that answers false leaves the old one alone
+-- one of no greater serial leaves the set as it is
 abbrev pub SerialStays : Type 0
-SerialStays = (set : SetValue) (x r : Record RData) (serial : ℕ) → set.record_type ≡ types.SOA → set.records ≡ x ∷ [] → (insert set r serial).0 ≡ false → (insert set r serial).1 ≡ set
+SerialStays = (set : SetValue) (x r : Record RData) (xs : List (Record RData)) (serial : ℕ) → set.record_type ≡ types.SOA → set.records ≡ x ∷ xs
+    → is_later x.rdata r.rdata ≡ false → ◌≡◌ {A = Bool × SetValue} (insert set r serial) (false, set)

@@ -11,6 +11,7 @@ mod parts;
 mod placing;
 mod records;
 mod removing;
+mod serial;
 mod setting;
 
 use crate::record::Record;

@@ -15,8 +15,8 @@ use Rattle.base.specs.declared.rr_key.RrKey.{RrKey}
 use Rattle.base_data.specs.Kinds.{type_of_data}
 use Rattle.base_data.specs.declared.rdata.RData.{RData}
 use Rattle.rr.proofs.SetTidy.{insert_keeps_tidy, one_is_tidy}
-use Rattle.rr.specs.RecordSet.{SetValue, is_soa, same_entry, set_of}
-use Rattle.rr.specs.SetChanges.{MayEnter, holds_one, insert, placed, stays}
+use Rattle.rr.specs.RecordSet.{SetValue, is_soa, set_of}
+use Rattle.rr.specs.SetChanges.{MayEnter, beside, holds_one, insert, is_left, joined}
 use Rattle.rr.specs.declared.record.Record.{Record}
 use Rattle.txt.specs.ZoneSets.{AreKept, IsKept, ZoneSets, added, added_to, record_key, set_at}
 
@@ -68,31 +68,19 @@ enters set r kept = record {
   single = kept.single;
 }
 
--- what holds of a set, and of the set that the record was placed in, holds behind `insert`
+-- what holds of a set, and of the set that the record was joined to, holds behind `insert`
 insert_cases : (P : SetValue → Type 0) (set : SetValue) (r : Record RData) → P set
-    → P (record set { records = (placed r (if holds_one set.record_type then [] else set.records)).records; ttl = r.ttl; serial = 0 }) → P (insert set r 0).1
-insert_cases P set r same changed =
-    go (is_soa set.record_type && stays set.records r.rdata) (placed r (if holds_one set.record_type then [] else set.records)).is_changed where
-      go : (b d : Bool) → P (if◌then◌else◌ {A = Bool × SetValue} b (false, set) (
-        (placed r (if holds_one set.record_type then [] else set.records)).is_new,
-        if d then record set { records = (placed r (if holds_one set.record_type then [] else set.records)).records; ttl = r.ttl; serial = 0 } else set,
-      )).1
-      go true d = same
-      go false true = changed
-      go false false = same
+    → P (record set { records = joined r (beside set); ttl = r.ttl; serial = 0 }) → P (insert set r 0).1
+insert_cases P set r same changed = go (is_left set r) where
+  go : (b : Bool) → P (if◌then◌else◌ {A = Bool × SetValue} b (false, set) (true, record set { records = joined r (beside set); ttl = r.ttl; serial = 0 })).1
+  go true = same
+  go false = changed
 
-some_placed : (r : Record RData) (xs : List (Record RData)) → xs ≢ [] → (placed r xs).records ≢ []
-some_placed r [] some = absurd (some refl)
-some_placed r (x ∷ xs) some = go (same_entry x r) refl where
-  go : (b : Bool) → same_entry x r ≡ b → (placed r (x ∷ xs)).records ≢ []
-  go true is = rw is (λ none. let e : ⊥ = cc in e)
-  go false is = rw is (λ none. let e : ⊥ = cc in e)
+some_joined : (r : Record RData) (xs : List (Record RData)) → joined r xs ≢ []
+some_joined r [] = λ none. let e : ⊥ = cc in e
+some_joined r (x ∷ xs) = λ none. let e : ⊥ = cc in e
 
-some_of : (r : Record RData) (xs : List (Record RData)) (b : Bool) → xs ≢ [] → (placed r (if b then [] else xs)).records ≢ []
-some_of r xs true some = λ none. let e : ⊥ = cc in e
-some_of r xs false some = some_placed r xs some
-
-one_of : (r : Record RData) (xs : List (Record RData)) (b : Bool) → b ≡ true → length (placed r (if b then [] else xs)).records ≤ 1
+one_of : (r : Record RData) (xs : List (Record RData)) (b : Bool) → b ≡ true → length (joined r (if b then [] else xs)) ≤ 1
 one_of r xs true is = omega arith
 one_of r xs false is = absurd cc
 
@@ -100,7 +88,7 @@ one_of r xs false is = absurd cc
 pub insert_kept : (set : SetValue) (r : Record RData) → IsKept (record_key r) set → IsKept (record_key r) (insert set r 0).1
 insert_kept set r kept = record {
   key_is = insert_cases (λ s. record_key r ≡ key_of s.name s.record_type) set r kept.key_is kept.key_is;
-  some = insert_cases (λ s. s.records ≢ []) set r kept.some (some_of r set.records (holds_one set.record_type) kept.some);
+  some = insert_cases (λ s. s.records ≢ []) set r kept.some (some_joined r (beside set));
   tidy = insert_keeps_tidy set r 0 (enters set r kept) kept.tidy;
   single = insert_cases (λ s. holds_one s.record_type ≡ true → length s.records ≤ 1) set r kept.single (one_of r set.records (holds_one set.record_type));
 }

@@ -69,7 +69,7 @@ fn owners_and_times(rt: HostRuntime) -> Result<(), AllocError> {
         &["zone", "a."],
         "w 60 A 192.0.2.1\nw 90 A 192.0.2.1\n",
         0,
-        "$ORIGIN a.\nw.a. 60 IN A 192.0.2.1\n",
+        "$ORIGIN a.\nw.a. 90 IN A 192.0.2.1\n",
     )?;
     zone(
         &rt,

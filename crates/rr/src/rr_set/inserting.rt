@@ -1,26 +1,27 @@
 //! Puts records into a set (RFC 2136, 1.1.5 and 3.4.2.2).
 
-ghost use Rattle.std.specs.Prelude.{◌≡◌, ◌&&◌, ⊤, IfOk, OnErr, option_map};
+ghost use Rattle.std.specs.Prelude.{◌≡◌, ⊤, IfOk, OnErr, option_map};
 ghost use Rattle.std.specs.Borrow.{follows_so, sem};
 ghost use mathlib.Core.Option.{none};
-ghost use Rattle.rr.specs.RecordSet.{is_soa};
-ghost use Rattle.rr.specs.SetChanges.{MayAdd, MayEnter, add_data, first_of, holds_one, insert, stays};
+ghost use Rattle.rr.specs.SetChanges.{MayAdd, MayEnter, add_data, first_of, has_entry, holds_one, insert, is_left, stays};
 ghost use Rattle.rr.specs.contracts.rr_set.RecordSet.{the_row};
 
 use crate::record::Record;
 use crate::rr_set::RecordSet;
 use crate::rr_set::placing::place;
+use crate::rr_set::serial::is_greater;
 use base::RecordType;
 use base_data::RData;
 use std::alloc::AllocError;
 
 impl RecordSet {
-    /// Puts a record in. The answer is whether no record was equal to it, that is of its class and data.
+    /// Puts a record in. The answer is whether the set changed.
     ///
-    /// An SOA stays, and the answer is false, unless both have SOA data and the new one's serial is greater. Of SOA,
-    /// CNAME and ANAME the new record then stands alone. Else it stands in the place of each record of equal data
-    /// before the first equal one, or behind all records where there is neither. If the records change, the set takes
-    /// over the record's TTL and the serial.
+    /// An SOA stays, and the answer is false, unless both have SOA data and the new one's serial is greater (RFC 1982).
+    /// Of SOA, CNAME and ANAME the new record then stands alone. Of other types the answer is false where some record
+    /// is equal to it, that is of its class and data, and has its TTL; else it stands in the place of each record of
+    /// equal data, or behind all records where there is none. If the answer is true, the set takes over the record's
+    /// TTL and the serial; if it is false, the set is as it was.
     ///
     /// The record has the set's owner and type, and a set of SOA, CNAME or ANAME has one record at most. Refused for
     /// want of memory; the set is then as it was.
@@ -29,17 +30,14 @@ impl RecordSet {
         ensures ok { IfOk result (λ is_new. (is_new, self.new) ≡ insert self.old entry serial) }
         ensures err { OnErr result (self.new ≡ self.old) }
     {
-        if self.keeps_start(&entry.rdata) {
+        if self.is_left(&entry) {
             return Ok(false);
         }
         let ttl = entry.ttl;
-        let is_alone = holds_one_record(self.record_type);
-        let (is_changed, is_new) = place(&mut self.records, is_alone, entry)?;
-        if is_changed {
-            self.ttl = ttl;
-            self.serial = serial;
-        }
-        Ok(is_new)
+        place(&mut self.records, holds_one_record(self.record_type), entry)?;
+        self.ttl = ttl;
+        self.serial = serial;
+        Ok(true)
     }
 
     /// Puts a record of this data in, with the set's name and TTL, of class IN, and with the serial 0. The answer is
@@ -79,11 +77,15 @@ impl RecordSet {
         self.records.iter().find(|known| known.rdata == *rdata)
     }
 
-    /// Whether an SOA stays in spite of this data.
-    fn keeps_start(&self, rdata: &RData) -> bool
-        ensures { result ≡ (is_soa self.now.record_type && stays self.now.records rdata.now) }
+    /// Whether the set is left as it is in spite of a new record.
+    fn is_left(&self, entry: &Record) -> bool
+        ensures { result ≡ is_left self.now entry.now }
     {
-        matches!(self.record_type, RecordType::SOA) && first_stays(&self.records, rdata)
+        match self.record_type {
+            RecordType::SOA => first_stays(&self.records, &entry.rdata),
+            RecordType::CNAME | RecordType::ANAME => false,
+            _ => has_entry(&self.records, entry),
+        }
     }
 }
 
@@ -104,8 +106,20 @@ fn first_stays(records: &[Record], rdata: &RData) -> bool
     match records.first() {
         None => false,
         Some(known) => match (&known.rdata, rdata) {
-            (RData::SOA(old), RData::SOA(new)) => new.serial() <= old.serial(),
+            (RData::SOA(old), RData::SOA(new)) => !is_greater(old.serial(), new.serial()),
             _ => true,
         },
     }
+}
+
+/// Whether some record is equal to this one and has its TTL.
+fn has_entry(records: &[Record], entry: &Record) -> bool
+    ensures { result ≡ has_entry entry.now records.now }
+{
+    for known in records {
+        if *known == *entry && known.ttl == entry.ttl {
+            return true;
+        }
+    }
+    false
 }

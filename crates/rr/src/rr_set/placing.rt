@@ -1,27 +1,27 @@
 //! Where a record goes among others.
 
-ghost use Rattle.std.specs.Prelude.{◌≡◌, ◌≤◌, ◌<◌, ◌++◌, ◌∷◌, ◌==◌, [], true, not, IfOk, OnErr, OnOk, drop, if◌then◌else◌, length, set, take};
+ghost use Rattle.std.specs.Prelude.{◌≡◌, ◌≤◌, ◌<◌, ◌++◌, ◌∷◌, ◌==◌, [], true, not, IfOk, OnErr, OnOk, if◌then◌else◌, length, set};
 ghost use Rattle.std.specs.List.{AllByRecursion, list_any};
-ghost use Rattle.rr.specs.SetChanges.{IsPlaced, before, has_data_of, placed, renewed, replaced};
+ghost use Rattle.rr.specs.SetChanges.{has_data_of, joined, renewed, replaced};
 
 use crate::record::Record;
 use std::alloc::AllocError;
 
-/// Puts a record among others, or alone: whether one was replaced or pushed, and whether no record was equal to it.
+/// Puts a record among others, or alone.
 pub(super) fn place(
     records: &mut Vec<Record>,
     is_alone: bool,
     entry: Record,
-) -> Result<(bool, bool), AllocError>
+) -> Result<(), AllocError>
     requires { is_alone ≡ true → length records.old.items ≤ 1 }
-    ensures ok { IfOk result (λ r. IsPlaced (placed entry (if is_alone then [] else records.old.items)) r.0 r.1 records.new.items) }
+    ensures ok { OnOk result (records.new.items ≡ joined entry (if is_alone then [] else records.old.items)) }
     ensures err { OnErr result (records.new.items ≡ records.old.items) }
 {
     if is_alone {
-        put_alone(records, entry)?;
-        return Ok((true, true));
+        put_alone(records, entry)
+    } else {
+        join(records, entry)
     }
-    place_among(records, entry)
 }
 
 /// Makes the record the only one.
@@ -38,51 +38,29 @@ fn put_alone(records: &mut Vec<Record>, entry: Record) -> Result<(), AllocError>
     Ok(())
 }
 
-/// Puts a record among others. All memory is taken before the first change.
-fn place_among(records: &mut Vec<Record>, entry: Record) -> Result<(bool, bool), AllocError>
-    ensures ok { IfOk result (λ r. IsPlaced (placed entry records.old.items) r.0 r.1 records.new.items) }
+/// Puts a record in the place of each of equal data, or behind all where there is none. All memory is taken before the
+/// first change.
+fn join(records: &mut Vec<Record>, entry: Record) -> Result<(), AllocError>
+    ensures ok { OnOk result (records.new.items ≡ joined entry records.old.items) }
     ensures err { OnErr result (records.new.items ≡ records.old.items) }
 {
-    let end = first_equal(records, &entry);
-    let is_new = end == records.len();
-    let copies = copies_for(records, end, &entry)?;
-    if !copies.is_empty() {
-        renew(records, copies);
-        return Ok((true, is_new));
-    }
-    if is_new {
+    let copies = copies_for(records, &entry)?;
+    if copies.is_empty() {
         records.push(entry)?;
-        return Ok((true, true));
+    } else {
+        renew(records, copies);
     }
-    Ok((false, false))
+    Ok(())
 }
 
-/// Where the first equal record stands, or else the end.
-fn first_equal(records: &[Record], entry: &Record) -> usize
-    ensures place { result ≡ length (before entry.now records.now) }
-    ensures within { result ≤ length records.now }
-{
-    for i in 0..records.len() {
-        if records[i] == *entry {
-            return i;
-        }
-    }
-    records.len()
-}
-
-/// A copy of the record for each place before the end whose record has the same data.
-fn copies_for(
-    records: &Vec<Record>,
-    end: usize,
-    entry: &Record,
-) -> Result<Vec<(usize, Record)>, AllocError>
-    requires { end ≤ length records.now.items }
-    ensures renewed { IfOk result (λ copies. renewed copies.items records.now.items ≡ replaced entry.now (take end records.now.items) ++ drop end records.now.items) }
+/// A copy of the record for each place whose record has the same data.
+fn copies_for(records: &Vec<Record>, entry: &Record) -> Result<Vec<(usize, Record)>, AllocError>
+    ensures renewed { IfOk result (λ copies. renewed copies.items records.now.items ≡ replaced entry.now records.now.items) }
     ensures within { IfOk result (λ copies. AllByRecursion (λ p. p.0 < length records.now.items) copies.items) }
-    ensures any { IfOk result (λ copies. (length copies.items == 0) ≡ not (list_any (has_data_of entry.now) (take end records.now.items))) }
+    ensures any { IfOk result (λ copies. (length copies.items == 0) ≡ not (list_any (has_data_of entry.now) records.now.items)) }
 {
     let mut copies = Vec::new(*records.allocator());
-    for i in 0..end {
+    for i in 0..records.len() {
         if records[i].rdata == entry.rdata {
             push_copy(&mut copies, i, entry)?;
         }
