@@ -1,7 +1,15 @@
+mod AppliedData
 mod BuiltLemmas
 mod Changes
 mod Given
+mod KeySteps
+mod MapSteps
+mod MapZones
 mod Meaning
 mod MergeSteps
+mod Origins
+mod RenewSteps
 mod ServerRowsLemmas
+mod UpdateSteps
+mod WholeSteps
 mod ZoneSteps
