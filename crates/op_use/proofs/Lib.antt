@@ -1,8 +1,10 @@
 mod AppliedData
+mod AppliedLemmas
 mod BuiltLemmas
 mod Changes
 mod Given
 mod KeySteps
+mod MapIsZone
 mod MapSteps
 mod MapZones
 mod Meaning

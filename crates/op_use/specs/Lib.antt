@@ -1,3 +1,4 @@
+pub mod AppliedMeaning
 pub mod Applying
 pub mod DnsResponse
 pub mod Lending

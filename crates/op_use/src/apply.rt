@@ -10,6 +10,7 @@ ghost use Rattle.op_use.specs.Server.{sections_of};
 mod changes;
 mod class_use;
 mod faults;
+pub mod laws;
 mod prerequisites;
 mod prescan;
 mod records;
