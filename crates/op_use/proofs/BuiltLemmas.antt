@@ -18,7 +18,7 @@ use Rattle.rr.specs.RecordSet.{SetValue}
 use Rattle.rr.specs.declared.record.Record.{Record}
 use Rattle.op.specs.Cut.{IsCut, IsUncut}
 use Rattle.op.specs.Fits.{Fits, FitsEdns, FitsPlain, listed}
-use Rattle.op.specs.Message.{MessageValue}
+use Rattle.op.specs.Message.{IsMessageAt, MessageValue}
 use Rattle.op.specs.Query.{FitsQuery}
 use Rattle.op.specs.Section.{is_additional_type}
 use Rattle.op.specs.declared.op_code.OpCode.TheVariants as op_codes
@@ -46,10 +46,14 @@ same_sections m limit B c k uncut =
     let queries : c.queries ≡ m.queries = k.queries in
     λ i. record { zones = queries i; prerequisites = answers i; updates = authorities i }
 
+-- what is read from uncut bytes of a message has its sections
+pub read_sections : (m : MessageValue) (limit : ℕ) (B : List ℕ) (c : MessageValue) (k : IsCut m limit B c) → IsUncut k → (n : MessageValue) (e : ℕ) → IsMessageAt B 0 n e
+    → sections_of n ≡ sections_of m
+read_sections m limit B c k uncut n e word = ap sections_of ((one_message B 0 n c e _ word k.word).0) ∙ same_sections m limit B c k uncut
+
 -- what a server makes of a message, it makes of what is read from uncut bytes of it
 pub means_uncut : (m : MessageValue) (Premise : Zone → Type 0) (outcome : Zone → ResponseCode × Zone) → ((z : Zone) → Premise z → serve z (sections_of m) ≡ outcome z) → MeansUncut m Premise outcome
-means_uncut m Premise outcome means limit B c k uncut n e word z premise =
-    ap (serve z) (ap sections_of ((one_message B 0 n c e _ word k.word).0) ∙ same_sections m limit B c k uncut) ∙ means z premise
+means_uncut m Premise outcome means limit B c k uncut n e word z premise = ap (serve z) (read_sections m limit B c k uncut n e word) ∙ means z premise
 
 -- ---- what fits
 

@@ -1,7 +1,17 @@
+mod AppliedData
+mod AppliedLemmas
 mod BuiltLemmas
 mod Changes
 mod Given
+mod KeySteps
+mod MapIsZone
+mod MapSteps
+mod MapZones
 mod Meaning
 mod MergeSteps
+mod Origins
+mod RenewSteps
 mod ServerRowsLemmas
+mod UpdateSteps
+mod WholeSteps
 mod ZoneSteps

@@ -1,5 +1,9 @@
+pub mod AppliedMeaning
+pub mod Applying
 pub mod DnsResponse
 pub mod Lending
+pub mod MapFaults
+pub mod MapUpdates
 pub mod NamedChanges
 pub mod Responses
 pub mod SerialMessage

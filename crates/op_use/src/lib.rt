@@ -2,11 +2,13 @@
 //! messages with the address that they came from.
 #![tactic(auto)]
 
+pub mod apply;
 pub mod dns_response;
 pub mod serial_message;
 pub mod server_rows;
 pub mod update_message;
 
+pub use apply::apply_update;
 pub use dns_response::DnsResponse;
 pub use serial_message::SerialMessage;
 pub use update_message::UpdateMessage;

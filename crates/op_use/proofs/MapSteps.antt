@@ -1,0 +1,158 @@
+-- Steps of changing a map of record sets.
+use Rattle.base.specs.Labels.{NameValue}
+use Rattle.base.specs.NameOrder.{exact, lowered, same_by-equiv}
+use Rattle.base.specs.RrKey.{key_cmp, key_of}
+use Rattle.base.specs.declared.dns_class.DNSClass.{DNSClass}
+use Rattle.base.specs.declared.record_type.RecordType.{RecordType}
+use Rattle.base.specs.declared.rr_key.RrKey.{RrKey}
+use Rattle.base_data.specs.declared.rdata.RData.{RData}
+use Rattle.op_use.proofs.AppliedData.{Distinct, distinct_joined, distinct_one, distinct_parted}
+use Rattle.op_use.proofs.MapZones.{zone_puts}
+use Rattle.op_use.proofs.Origins.{From, back_among, front_among}
+use Rattle.op_use.proofs.ZoneSteps.{same_key}
+use Rattle.op_use.specs.Applying.{IsZoneMap, IsZoneSet, TakesFrom, names_owner, records_at, records_in, zone_of_map}
+use Rattle.op_use.specs.MapUpdates.{IsAfter, IsSetTo, joined, parted}
+use Rattle.op_use.specs.NamedChanges.{datum_of}
+use Rattle.op_use.specs.Server.{record_key, update}
+use Rattle.op_use.specs.Zone.{is_owned, put}
+use Rattle.rr.specs.RecordSet.{SetValue}
+use Rattle.rr.specs.declared.record.Record.{Record}
+use Rattle.std.proofs.Common.{ap, arith, inl, inr, refl, subst, sym, ◌∙◌, ◌⊎◌}
+use Rattle.std.proofs.lemmas.Bool.{or_parts, true≢false}
+use Rattle.std.proofs.lemmas.List.Folds.{list_any-append}
+use Rattle.std.proofs.lemmas.List.Sums.{fold-append}
+use Rattle.std.proofs.lemmas.Map.Entries.{lookup-filter-keys}
+use Rattle.std.specs.BTreeMap as tree
+use Rattle.std.specs.BTreeMap.{BTreeMap, is_at}
+use Rattle.std.specs.List.{IsAmong, IsDistinct, filter}
+use Rattle.std.specs.Map.{lookup}
+use Rattle.std.specs.Ordering.{eq_by_cmp}
+use Rattle.std.specs.Prelude.{Bool, List, None, Option, Some, [], cond, false, length, map, slice_index_or, suc, take, true, unwrap_or, zero, ℕ, ◌++◌, ◌+◌, ◌<◌}
+use Rattle.std.specs.Prelude.{◌==◌, ◌∷◌, ◌≡◌, ◌≢◌}
+
+-- one set of a map is changed
+module _ (origin : NameValue) (class : DNSClass) (k : RrKey) (xs : List (Record RData)) (m n : BTreeMap RrKey SetValue) (h : IsSetTo class k xs m n) where
+  set_kept : (b : Bool) (q : RrKey) → eq_by_cmp key_cmp k q ≡ b → IsZoneMap class m → (s : SetValue) → cond b h.set (tree.get key_cmp m q) ≡ Some s → IsZoneSet class q s
+  set_kept true q t old s e = subst (λ p. IsZoneSet class p s) (same_key k q t) (h.fits s e)
+  set_kept false q t old s e = old q s e
+
+  pub kept_after : IsZoneMap class m → IsZoneMap class n
+  kept_after old = λ q s e. set_kept (eq_by_cmp key_cmp k q) q refl old s (sym (h.puts q) ∙ e)
+
+  other_after : (r : Record RData) → is_owned r.name k ≡ true → (b : Bool) (q : RrKey) → eq_by_cmp key_cmp k q ≡ b → is_owned r.name q ≡ false
+      → cond b h.set (tree.get key_cmp m q) ≡ tree.get key_cmp m q
+  other_after r owned true q t free = absurd (true≢false (sym owned ∙ ap (is_owned r.name) (same_key k q t) ∙ free))
+  other_after r owned false q t free = refl
+
+  taken_at : (r : Record RData) → From r (records_at m k) xs → (b : Bool) (q : RrKey) → eq_by_cmp key_cmp k q ≡ b → (v : Record RData)
+      → IsAmong (records_in (cond b h.set (tree.get key_cmp m q))) v → IsAmong (records_at m q) v ⊎ IsAmong (r ∷ []) v
+  taken_at r from true q t v a = subst (λ p. IsAmong (records_at m p) v ⊎ IsAmong (r ∷ []) v) (same_key k q t) (from v (subst (λ ys. IsAmong ys v) h.records a))
+  taken_at r from false q t v a = inl a
+
+  pub set_after : (r : Record RData) → IsZoneMap class m → is_owned r.name k ≡ true → From r (records_at m k) xs
+      → update (zone_of_map origin class m) r ≡ put (zone_of_map origin class m) k (map datum_of xs) → IsAfter origin class (r ∷ []) m n
+  set_after r old owned from step = record {
+    zone = zone_puts origin class m n k h.set (λ s e. (h.fits s e).filled) h.puts ∙ ap (λ ys. put (zone_of_map origin class m) k (map datum_of ys)) h.records ∙ sym step;
+    is_map = kept_after old;
+    others = λ q no. h.puts q ∙ other_after r owned (eq_by_cmp key_cmp k q) q refl ((or_parts (is_owned r.name q) false no).0);
+    taken = λ q v a. taken_at r from (eq_by_cmp key_cmp k q) q refl v (subst (λ o. IsAmong (records_in o) v) (h.puts q) a);
+  }
+
+-- an update that changes nothing
+pub same_after : (origin : NameValue) (class : DNSClass) (m : BTreeMap RrKey SetValue) (r : Record RData) → IsZoneMap class m
+    → update (zone_of_map origin class m) r ≡ zone_of_map origin class m → IsAfter origin class (r ∷ []) m m
+same_after origin class m r old step = record { zone = sym step; is_map = old; others = λ q no. refl; taken = λ q v a. inl a }
+
+-- no update
+pub none_after : (origin : NameValue) (class : DNSClass) (m : BTreeMap RrKey SetValue) → IsZoneMap class m → IsAfter origin class [] m m
+none_after origin class m old = record { zone = refl; is_map = old; others = λ q no. refl; taken = λ q v a. inl a }
+
+taken_chain : (rs : List (Record RData)) (r : Record RData) (m n : BTreeMap RrKey SetValue) (q : RrKey) (v : Record RData) → TakesFrom rs m n
+    → IsAmong (records_at n q) v ⊎ IsAmong (r ∷ []) v → IsAmong (records_at m q) v ⊎ IsAmong (rs ++ r ∷ []) v
+taken_chain rs r m n q v old (inl a) = front_of (old q v a) where
+  front_of : IsAmong (records_at m q) v ⊎ IsAmong rs v → IsAmong (records_at m q) v ⊎ IsAmong (rs ++ r ∷ []) v
+  front_of (inl a) = inl a
+  front_of (inr a) = inr (front_among rs (r ∷ []) v a)
+taken_chain rs r m n q v old (inr a) = inr (back_among rs (r ∷ []) v a)
+
+-- one more update
+pub more_after : (origin : NameValue) (class : DNSClass) (rs : List (Record RData)) (r : Record RData) (m n p : BTreeMap RrKey SetValue) → IsAfter origin class rs m n
+    → IsAfter origin class (r ∷ []) n p → IsAfter origin class (rs ++ r ∷ []) m p
+more_after origin class rs r m n p first next = record {
+  zone = next.zone ∙ ap (λ z. update z r) first.zone ∙ sym (fold-append update (zone_of_map origin class m) rs (r ∷ []));
+  is_map = next.is_map;
+  others = λ q no.
+      let parts = or_parts (names_owner rs q) (names_owner (r ∷ []) q) (sym (list_any-append (λ (x : Record RData). is_owned x.name q) rs (r ∷ [])) ∙ no) in
+      next.others q parts.1 ∙ first.others q parts.0;
+  taken = λ q v a. taken_chain rs r m n q v first.taken (next.taken q v a);
+}
+
+-- the steps of a change of one set
+injected : (s p : SetValue) → Some s ≡ Some p → s ≡ p
+injected s p e = ap (λ o. unwrap_or o s) e
+
+pub some_filled : (xs : List (Record RData)) (n : ℕ) → n ≡ length xs → (n == 0) ≡ false → xs ≢ []
+some_filled [] n l e = absurd (true≢false (ap (λ k. k == 0) (sym l) ∙ e))
+some_filled (x ∷ xs) n l e = λ f. cc
+
+pub made_set : (class : DNSClass) (k : RrKey) (owner : NameValue) (t : RecordType) (ttl : ℕ) (xs : List (Record RData)) (s : SetValue) (m n : BTreeMap RrKey SetValue)
+    → k ≡ key_of owner t → Distinct xs → xs ≢ []
+    → s ≡ record { name = owner; record_type = t; dns_class = class; ttl = ttl; records = xs; serial = 0 } → tree.Updates key_cmp m n k (Some s) → IsSetTo class k xs m n
+made_set class k owner t ttl xs s m n own apart full is h = record {
+  set = Some s;
+  records = ap (λ (p : SetValue). p.records) is;
+  fits = λ p e. subst (λ q. IsZoneSet class k q) (sym is ∙ injected s p e) (record { own_key = sym own; own_class = refl; filled = full; distinct = apart });
+  puts = h.0;
+}
+
+pub moved : (class : DNSClass) (k q : RrKey) (xs ys : List (Record RData)) (m n : BTreeMap RrKey SetValue) → k ≡ q → xs ≡ ys → IsSetTo class k xs m n → IsSetTo class q ys m n
+moved class k q xs ys m n e f h = subst (λ j. IsSetTo class j ys m n) e (subst (λ zs. IsSetTo class k zs m n) f h)
+
+again : {X : Type 0} (b : Bool) (x y : Option X) (z : Option X) → cond b y (cond b x z) ≡ cond b y z
+again true x y z = refl
+again false x y z = refl
+
+pub chained : (class : DNSClass) (k : RrKey) (xs : List (Record RData)) (m n p : BTreeMap RrKey SetValue) → tree.Updates key_cmp m n k None → IsSetTo class k xs n p → IsSetTo class k xs m p
+chained class k xs m n p first h = record {
+  set = h.set;
+  records = h.records;
+  fits = h.fits;
+  puts = λ q. h.puts q ∙ ap (cond (eq_by_cmp key_cmp k q) h.set) (first.0 q) ∙ again (eq_by_cmp key_cmp k q) None h.set (tree.get key_cmp m q);
+}
+
+distinct_in : (class : DNSClass) (k : RrKey) (o : Option SetValue) → ((s : SetValue) → o ≡ Some s → IsZoneSet class k s) → Distinct (records_in o)
+unfolding IsDistinct
+distinct_in class k None h = tt
+distinct_in class k (Some s) h = (h s refl).distinct
+
+pub join_distinct : (class : DNSClass) (m : BTreeMap RrKey SetValue) (k : RrKey) (r : Record RData) (xs ys : List (Record RData)) → IsZoneMap class m → xs ≡ records_at m k
+    → ys ≡ joined r xs → Distinct ys
+join_distinct class m k r xs ys old e f = subst (λ zs. Distinct zs) (sym (f ∙ ap (joined r) e)) (distinct_joined r (records_at m k) (distinct_in class k (tree.get key_cmp m k) (old k)))
+
+pub part_distinct : (class : DNSClass) (m : BTreeMap RrKey SetValue) (k : RrKey) (r : Record RData) (xs ys : List (Record RData)) → IsZoneMap class m → xs ≡ records_at m k
+    → ys ≡ parted r xs → Distinct ys
+part_distinct class m k r xs ys old e f = subst (λ zs. Distinct zs) (sym (f ∙ ap (parted r) e)) (distinct_parted r (records_at m k) (distinct_in class k (tree.get key_cmp m k) (old k)))
+
+pub one_distinct : (r : Record RData) (ys : List (Record RData)) → ys ≡ r ∷ [] → Distinct ys
+one_distinct r ys e = subst (λ zs. Distinct zs) (sym e) (distinct_one r)
+
+-- the key of a record is of its owner
+pub own_key : (r : Record RData) → is_owned r.name (record_key r) ≡ true
+own_key r = (same_by-equiv exact).refl (lowered r.name)
+
+-- a map whose entries were filtered by their keys
+pub filtered_by : (p : RrKey → Bool) (m n : BTreeMap RrKey SetValue) → n.entries ≡ filter (λ e. p e.0) m.entries
+    → (q : RrKey) → tree.get key_cmp n q ≡ cond (p q) (tree.get key_cmp m q) None
+filtered_by p m n h q = ap (λ es. lookup (is_at (key_cmp q)) es) h ∙ lookup-filter-keys (is_at (key_cmp q)) p (p q) (λ k t. ap p (sym (same_key q k t))) m.entries
+
+-- the updates so far and one more
+taken_next : (xs : List (Record RData)) (i : ℕ) (d : Record RData) → i < length xs → take i xs ++ slice_index_or xs i d ∷ [] ≡ take (suc i) xs
+taken_next [] i d h = absurd (omega arith)
+taken_next (x ∷ xs) zero d h = refl
+taken_next (x ∷ xs) (suc i) d h = ap (λ ys. x ∷ ys) (taken_next xs i d (omega arith))
+
+after_one : (i : ℕ) → suc i ≡ i + 1
+after_one i = omega arith
+
+pub taken_more : (xs : List (Record RData)) (i : ℕ) (x : Record RData) → i < length xs → x ≡ slice_index_or xs i x → take i xs ++ x ∷ [] ≡ take (i + 1) xs
+taken_more xs i x h e = ap (λ y. take i xs ++ y ∷ []) e ∙ taken_next xs i x h ∙ ap (λ n. take n xs) (after_one i)

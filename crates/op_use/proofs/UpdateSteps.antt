@@ -1,0 +1,114 @@
+-- What the server makes of one update of a map.
+use Rattle.base.proofs.KeyLemmas.{key_cmp-exact}
+use Rattle.base.specs.Labels.{NameValue}
+use Rattle.base.specs.RrKey.{key_cmp, key_of}
+use Rattle.base.specs.declared.dns_class.DNSClass.{DNSClass}
+use Rattle.base.specs.declared.record_type.RecordType.TheVariants as types
+use Rattle.base.specs.declared.rr_key.RrKey.{RrKey}
+use Rattle.base_data.specs.declared.rdata.RData.{RData}
+use Rattle.op_use.proofs.AppliedData.{joined_data, parted_data}
+use Rattle.op_use.proofs.MapSteps.{own_key, same_after, set_after}
+use Rattle.op_use.proofs.MapZones.{data_at, get_zone}
+use Rattle.op_use.proofs.Origins.{from_joined, from_none, from_one, from_parted, none_among}
+use Rattle.op_use.proofs.ZoneSteps.{same_sets}
+use Rattle.op_use.specs.Applying.{IsZoneMap, IsZoneSet, data_of, records_at, records_in, zone_of_map}
+use Rattle.op_use.specs.MapUpdates.{IsAfter, IsSetTo, Leaves, joined, parted}
+use Rattle.op_use.specs.NamedChanges.{datum_of, is_left}
+use Rattle.op_use.specs.Server.{OfAny, OfNone, OfNothing, OfZone, added, is_any, is_cname, record_key, removed, type_of_record, update_by, use_of}
+use Rattle.op_use.specs.Zone.{Datum, at, has_set, has_type_at, is_guarded, is_owned, put}
+use Rattle.rr.specs.RecordSet.{SetValue, is_soa}
+use Rattle.rr.specs.declared.record.Record.{Record}
+use Rattle.std.proofs.Common.{ap, inl, refl, subst, sym, ◌∙◌, ◌⊎◌}
+use Rattle.std.proofs.lemmas.Bool.{cond-false, cond-true, or_parts}
+use Rattle.std.proofs.lemmas.List.{length-map}
+use Rattle.std.specs.BTreeMap as tree
+use Rattle.std.specs.BTreeMap.{BTreeMap}
+use Rattle.std.specs.FinMap as fin
+use Rattle.std.specs.FinMap.{FinMap}
+use Rattle.std.specs.List.{IsAmong}
+use Rattle.std.specs.Prelude.{Bool, List, None, Option, Some, [], cond, false, length, nat_le, not, option_map, true, ◌&&◌, ◌||◌, ◌∷◌, ◌≡◌}
+
+module _ (origin : NameValue) (class : DNSClass) (m n : BTreeMap RrKey SetValue) (r : Record RData) (old : IsZoneMap class m) where
+  pub after_cname_stays : use_of class r.dns_class ≡ OfZone → is_cname (type_of_record r) ≡ true
+      → has_type_at (zone_of_map origin class m) r.name (λ t. not (is_cname t)) ≡ true → IsAfter origin class (r ∷ []) m m
+  after_cname_stays u c h = same_after origin class m r old (ap (λ how. update_by how (zone_of_map origin class m) r) u ∙ cond-true _ _ _ c ∙ cond-true _ _ _ h)
+
+  pub after_cname : use_of class r.dns_class ≡ OfZone → is_cname (type_of_record r) ≡ true → has_type_at (zone_of_map origin class m) r.name (λ t. not (is_cname t)) ≡ false
+      → IsSetTo class (record_key r) (r ∷ []) m n → IsAfter origin class (r ∷ []) m n
+  after_cname u c h s = set_after origin class (record_key r) (r ∷ []) m n s r old (own_key r) (from_one r (records_at m (record_key r)))
+      (ap (λ how. update_by how (zone_of_map origin class m) r) u ∙ cond-true _ _ _ c ∙ cond-false _ _ _ h)
+
+  pub after_beside_cname : use_of class r.dns_class ≡ OfZone → is_cname (type_of_record r) ≡ false → has_set (zone_of_map origin class m) (key_of r.name types.CNAME) ≡ true
+      → IsAfter origin class (r ∷ []) m m
+  after_beside_cname u c h = same_after origin class m r old (ap (λ how. update_by how (zone_of_map origin class m) r) u ∙ cond-false _ _ _ c ∙ cond-true _ _ _ h)
+
+  pub after_join : use_of class r.dns_class ≡ OfZone → is_cname (type_of_record r) ≡ false → has_set (zone_of_map origin class m) (key_of r.name types.CNAME) ≡ false
+      → IsSetTo class (record_key r) (joined r (records_at m (record_key r))) m n → IsAfter origin class (r ∷ []) m n
+  after_join u c h s = set_after origin class (record_key r) (joined r (records_at m (record_key r))) m n s r old (own_key r) (from_joined r (records_at m (record_key r)))
+      (ap (λ how. update_by how (zone_of_map origin class m) r) u ∙ cond-false _ _ _ c ∙ cond-false _ _ _ h
+      ∙ ap (put (zone_of_map origin class m) (record_key r)) (ap (λ xs. added xs r) (data_at origin class m (record_key r)) ∙ sym (joined_data r (records_at m (record_key r)))))
+
+  pub after_kept : use_of class r.dns_class ≡ OfNone
+      → (is_soa (type_of_record r) || (is_guarded (zone_of_map origin class m) r.name (type_of_record r) && nat_le (length (records_at m (record_key r))) 1)) ≡ true
+      → IsAfter origin class (r ∷ []) m m
+  after_kept u h = same_after origin class m r old (ap (λ how. update_by how (zone_of_map origin class m) r) u ∙ cond-true _ _ _ (counted ∙ h)) where
+    counted : (is_soa (type_of_record r)
+        || (is_guarded (zone_of_map origin class m) r.name (type_of_record r) && nat_le (length (at (zone_of_map origin class m) (record_key r))) 1))
+        ≡ (is_soa (type_of_record r) || (is_guarded (zone_of_map origin class m) r.name (type_of_record r) && nat_le (length (records_at m (record_key r))) 1))
+    counted = ap (λ k. is_soa (type_of_record r)
+        || (is_guarded (zone_of_map origin class m) r.name (type_of_record r) && nat_le k 1)) (ap length (data_at origin class m (record_key r))
+        ∙ length-map (records_at m (record_key r)) datum_of)
+
+  pub after_part : use_of class r.dns_class ≡ OfNone
+      → (is_soa (type_of_record r) || (is_guarded (zone_of_map origin class m) r.name (type_of_record r) && nat_le (length (records_at m (record_key r))) 1)) ≡ false
+      → IsSetTo class (record_key r) (parted r (records_at m (record_key r))) m n → IsAfter origin class (r ∷ []) m n
+  after_part u h s = set_after origin class (record_key r) (parted r (records_at m (record_key r))) m n s r old (own_key r) (from_parted r (records_at m (record_key r)))
+      (ap (λ how. update_by how (zone_of_map origin class m) r) u ∙ cond-false _ _ _ (counted ∙ h)
+      ∙ ap (put (zone_of_map origin class m) (record_key r)) (ap (λ xs. removed xs r) (data_at origin class m (record_key r)) ∙ sym (parted_data r (records_at m (record_key r))))) where
+        counted : (is_soa (type_of_record r)
+            || (is_guarded (zone_of_map origin class m) r.name (type_of_record r) && nat_le (length (at (zone_of_map origin class m) (record_key r))) 1))
+            ≡ (is_soa (type_of_record r) || (is_guarded (zone_of_map origin class m) r.name (type_of_record r) && nat_le (length (records_at m (record_key r))) 1))
+        counted = ap (λ k. is_soa (type_of_record r)
+            || (is_guarded (zone_of_map origin class m) r.name (type_of_record r) && nat_le k 1)) (ap length (data_at origin class m (record_key r))
+            ∙ length-map (records_at m (record_key r)) datum_of)
+
+  pub after_guarded : use_of class r.dns_class ≡ OfAny → is_any (type_of_record r) ≡ false → is_guarded (zone_of_map origin class m) r.name (type_of_record r) ≡ true
+      → IsAfter origin class (r ∷ []) m m
+  after_guarded u c h = same_after origin class m r old (ap (λ how. update_by how (zone_of_map origin class m) r) u ∙ cond-false _ _ _ c ∙ cond-true _ _ _ h)
+
+  pub after_set : use_of class r.dns_class ≡ OfAny → is_any (type_of_record r) ≡ false → is_guarded (zone_of_map origin class m) r.name (type_of_record r) ≡ false
+      → IsSetTo class (record_key r) [] m n → IsAfter origin class (r ∷ []) m n
+  after_set u c h s = set_after origin class (record_key r) [] m n s r old (own_key r) (from_none r (records_at m (record_key r)))
+      (ap (λ how. update_by how (zone_of_map origin class m) r) u ∙ cond-false _ _ _ c ∙ cond-false _ _ _ h)
+
+  pub after_nothing : use_of class r.dns_class ≡ OfNothing → IsAfter origin class (r ∷ []) m m
+  after_nothing u = same_after origin class m r old (ap (λ how. update_by how (zone_of_map origin class m) r) u)
+
+  -- all sets of a name
+  mapped_cond : (b : Bool) (o : Option SetValue) → option_map data_of (cond b o None) ≡ cond b (option_map data_of o) None
+  mapped_cond true o = refl
+  mapped_cond false o = refl
+
+  left_kept : (b : Bool) (q : RrKey) (s : SetValue) → cond b (tree.get key_cmp m q) None ≡ Some s → IsZoneSet class q s
+  left_kept true q s e = old q s e
+  left_kept false q s e = absurd cc
+
+  left_same : (a g : Bool) (o : Option SetValue) → a ≡ false → cond (not a || g) o None ≡ o
+  left_same a g o e = ap (λ b. cond (not b || g) o None) e
+
+  left_taken : (b : Bool) (q : RrKey) (v : Record RData) → IsAmong (records_in (cond b (tree.get key_cmp m q) None)) v → IsAmong (records_at m q) v ⊎ IsAmong (r ∷ []) v
+  left_taken true q v a = inl a
+  left_taken false q v a = none_among v a
+
+  pub after_name : use_of class r.dns_class ≡ OfAny → is_any (type_of_record r) ≡ true → Leaves origin r.name m n → IsAfter origin class (r ∷ []) m n
+  after_name u c h = record {
+    zone = ap (λ (sets : FinMap key_cmp (List Datum)). record { origin = origin; class = class; sets = sets }) (same_sets _ _ (λ q.
+        get_zone origin class n q ∙ ap (option_map data_of) (h q) ∙ mapped_cond (is_left (zone_of_map origin class m) r.name q) (tree.get key_cmp m q)
+        ∙ ap (λ o. cond (is_left (zone_of_map origin class m) r.name q) o None) (sym (get_zone origin class m q))
+        ∙ sym (fin.get-retain_keys (zone_of_map origin class m).sets (is_left (zone_of_map origin class m) r.name) q
+        (λ x e. ap (is_left (zone_of_map origin class m) r.name) (sym (key_cmp-exact q x e))))))
+        ∙ sym (ap (λ how. update_by how (zone_of_map origin class m) r) u ∙ cond-true _ _ _ c);
+    is_map = λ q s e. left_kept (is_left (zone_of_map origin class m) r.name q) q s (sym (h q) ∙ e);
+    others = λ q free. h q ∙ left_same (is_owned r.name q) _ (tree.get key_cmp m q) ((or_parts (is_owned r.name q) false free).0);
+    taken = λ q v a. left_taken (is_left (zone_of_map origin class m) r.name q) q v (subst (λ o. IsAmong (records_in o) v) (h q) a);
+  }

@@ -1,0 +1,132 @@
+-- The whole of an update.
+use Rattle.base.specs.Labels.{NameValue}
+use Rattle.base.specs.NameOrder.{is_zone_of}
+use Rattle.base.specs.RrKey.{key_cmp}
+use Rattle.base.specs.declared.dns_class.DNSClass.{DNSClass}
+use Rattle.base.specs.declared.rr_key.RrKey.{RrKey}
+use Rattle.base_data.specs.RData.{is_empty_data}
+use Rattle.base_data.specs.declared.rdata.RData.{RData}
+use Rattle.op.specs.declared.response_code.ResponseCode.TheVariants.{FormErr, NXDomain, NXRRSet, NoError, NotImp, NotZone, YXDomain, YXRRSet}
+use Rattle.op.specs.declared.response_code.ResponseCode.{ResponseCode}
+use Rattle.op_use.proofs.AppliedData.{any_data}
+use Rattle.op_use.proofs.MapZones.{data_at, set_at, types_at}
+use Rattle.op_use.specs.Applying.{entry_of, IsApplied, IsZoneMap, applied, is_all_served, records_at, records_in, zone_of_map}
+use Rattle.op_use.specs.MapFaults.{all_met, fault_at, fault_by, fault_here, found_in, met_at}
+use Rattle.op_use.specs.MapUpdates.{IsAfter}
+use Rattle.op_use.specs.NamedChanges.{datum_of, is_data_of}
+use Rattle.op_use.specs.Server.{OfAny, OfNone, OfNothing, OfZone, Sections, Use as UseValue, and_then, answer, collected, fault, first_fault, is_any, is_met}
+use Rattle.op_use.specs.Server.{is_of_zone, is_same_key, prerequisite_by, prerequisite_fault, prerequisites_fault, prescan_fault, record_key, type_of_record}
+use Rattle.op_use.specs.Server.{unless, update, use_of, zone_fault}
+use Rattle.op_use.specs.Zone.{Datum, has_set, has_type_at}
+use Rattle.rr.specs.RecordSet.{SetValue}
+use Rattle.rr.specs.SetChanges.{has_data_of}
+use Rattle.rr.specs.declared.record.Record.{Record}
+use Rattle.std.proofs.Common.{ap, inl, refl, subst, sym, ◌∙◌, ◌⊎◌}
+use Rattle.std.proofs.lemmas.Bool.{cond-false, cond-true}
+use Rattle.std.specs.BTreeMap as tree
+use Rattle.std.specs.BTreeMap.{BTreeMap, is_at}
+use Rattle.std.specs.FinMap as fin
+use Rattle.std.specs.List.{IsAmong, fold, list_all, list_any}
+use Rattle.std.specs.Map.{lookup}
+use Rattle.std.specs.Prelude.{Bool, List, None, Some, [], cond, false, filter, if◌then◌else◌, map, not, true, ◌&&◌, ◌==◌, ◌||◌, ◌∷◌, ◌≡◌}
+
+-- prerequisites by themselves
+chosen : (a b c : Bool) (x y : ResponseCode) → unless (if a then b else c) (if a then x else y) ≡ (if a then unless b x else unless c y)
+chosen true b c x y = refl
+chosen false b c x y = refl
+
+chosen_not : (a b c : Bool) (x y : ResponseCode) → unless (not (if a then b else c)) (if a then x else y) ≡ (if a then unless (not b) x else unless (not c) y)
+chosen_not true b c x y = refl
+chosen_not false b c x y = refl
+
+module _ (origin : NameValue) (class : DNSClass) (m : BTreeMap RrKey SetValue) where
+  found_zone : (r : Record RData)
+      → found_in m r ≡ (if is_any (type_of_record r) then has_type_at (zone_of_map origin class m) r.name (λ t. true) else has_set (zone_of_map origin class m) (record_key r))
+  found_zone r = λ i. if is_any (type_of_record r) then sym (types_at origin class m r.name (λ t. true)) i else sym (set_at origin class m (record_key r)) i
+
+  fault_use : (u : UseValue) (r : Record RData) → fault_by u (found_in m r) r ≡ prerequisite_by u (zone_of_map origin class m) r
+  fault_use OfAny r = ap (and_then (unless (is_empty_data r.rdata) FormErr)) (ap (λ f. unless f (if is_any (type_of_record r) then NXDomain else NXRRSet)) (found_zone r)
+      ∙ chosen (is_any (type_of_record r)) _ _ NXDomain NXRRSet)
+  fault_use OfNone r = ap (and_then (unless (is_empty_data r.rdata) FormErr)) (ap (λ f. unless (not f) (if is_any (type_of_record r) then YXDomain else YXRRSet)) (found_zone r) ∙ chosen_not (is_any (type_of_record r)) _ _ YXDomain YXRRSet)
+  fault_use OfZone r = refl
+  fault_use OfNothing r = refl
+
+  fault_same : (r : Record RData) → fault_at origin class m r ≡ prerequisite_fault (zone_of_map origin class m) r
+  fault_same r = ap (λ f. and_then (unless (r.ttl == 0) FormErr) (and_then (unless (is_zone_of origin r.name) NotZone) f)) (fault_use (use_of class r.dns_class) r)
+
+any_step : (p : Record RData → Bool) (b : Bool) (r : Record RData) (xs : List (Record RData)) → list_any p (cond b (r ∷ xs) xs) ≡ ((b && p r) || list_any p xs)
+any_step p true r xs = refl
+any_step p false r xs = refl
+
+any_filter : (p q : Record RData → Bool) (rs : List (Record RData)) → list_any p (filter q rs) ≡ list_any (λ r. q r && p r) rs
+any_filter p q [] = refl
+any_filter p q (r ∷ rs) = any_step p (q r) r (filter q rs) ∙ ap (λ b. (q r && p r) || b) (any_filter p q rs)
+
+all_step : (p : Record RData → Bool) (b : Bool) (r : Record RData) (xs : List (Record RData)) → list_all p (cond b (r ∷ xs) xs) ≡ ((not b || p r) && list_all p xs)
+all_step p true r xs = refl
+all_step p false r xs = refl
+
+all_filter : (p q : Record RData → Bool) (rs : List (Record RData)) → list_all p (filter q rs) ≡ list_all (λ r. not (q r) || p r) rs
+all_filter p q [] = refl
+all_filter p q (r ∷ rs) = all_step p (q r) r (filter q rs) ∙ ap (λ b. (not (q r) || p r) && b) (all_filter p q rs)
+
+all_data : (p : Datum → Bool) (xs : List (Record RData)) → list_all p (map datum_of xs) ≡ list_all (λ x. p (datum_of x)) xs
+all_data p [] = refl
+all_data p (x ∷ xs) = ap (λ b. p (datum_of x) && b) (all_data p xs)
+
+module _ (origin : NameValue) (class : DNSClass) (m : BTreeMap RrKey SetValue) (rs : List (Record RData)) where
+  met_same : (r : Record RData) → is_met (zone_of_map origin class m) (collected (zone_of_map origin class m) rs) r ≡ met_at m class rs r
+  met_same r =
+      ap (λ ds. list_any (λ d. is_data_of d r) ds
+      && list_all (λ d. list_any (λ q. is_same_key r q && is_data_of d q) (collected (zone_of_map origin class m) rs)) ds) (data_at origin class m (record_key r))
+      ∙ (λ i. any_data r (records_at m (record_key r)) i
+      && all_data (λ d. list_any (λ q. is_same_key r q && is_data_of d q) (collected (zone_of_map origin class m) rs)) (records_at m (record_key r)) i)
+      ∙ ap (λ (f : Record RData → Bool). list_any (has_data_of r) (records_at m (record_key r)) && list_all f (records_at m (record_key r)))
+      (λ i x. any_filter (λ q. is_same_key r q && has_data_of q x) (λ q. is_of_zone (use_of class q.dns_class)) rs i)
+
+  all_met_same : all_met m class rs rs ≡ list_all (is_met (zone_of_map origin class m) (collected (zone_of_map origin class m) rs)) (collected (zone_of_map origin class m) rs)
+  all_met_same = sym (ap (λ (f : Record RData → Bool). list_all f (collected (zone_of_map origin class m) rs)) (λ i r. met_same r i)
+      ∙ all_filter (met_at m class rs) (λ r. is_of_zone (use_of class r.dns_class)) rs)
+
+  pub prerequisites_same : and_then (first_fault (fault_at origin class m) rs) (unless (all_met m class rs rs) NXRRSet) ≡ prerequisites_fault (zone_of_map origin class m) rs
+  prerequisites_same = λ i. and_then (first_fault (λ r. fault_same origin class m r i) rs) (unless (all_met_same i) NXRRSet)
+
+-- the code of an update
+pub fault_is : (origin : NameValue) (class : DNSClass) (m : BTreeMap RrKey SetValue) (s : Sections) → fault_here origin class m s ≡ fault (zone_of_map origin class m) s
+fault_is origin class m s =
+    ap (λ f. and_then (zone_fault (zone_of_map origin class m) s.zones) (and_then f (first_fault (prescan_fault (zone_of_map origin class m)) s.updates))) (prerequisites_same origin class m s.prerequisites)
+
+-- a copy of a map
+module _ (origin : NameValue) (class : DNSClass) (m n : BTreeMap RrKey SetValue) (same : tree.IsUnchanged m n) where
+  pub get_copy : (q : RrKey) → tree.get key_cmp n q ≡ tree.get key_cmp m q
+  get_copy q = ap (λ es. lookup (is_at (key_cmp q)) es) same
+
+  pub zone_copy : zone_of_map origin class n ≡ zone_of_map origin class m
+  zone_copy = ap (λ (es : List (RrKey × SetValue)). record { origin = origin; class = class; sets = fin.from_entries (map entry_of es) }) same
+
+  pub map_copy : IsZoneMap class m → IsZoneMap class n
+  map_copy old = λ q s e. old q s (sym (get_copy q) ∙ e)
+
+  refused : (s : Sections) (code : ResponseCode) → IsZoneMap class m → (code, zone_of_map origin class m) ≡ applied (zone_of_map origin class m) s → IsApplied origin class s m code n
+  refused s code old h = record {
+    served = ap (λ z. (code, z)) zone_copy ∙ h;
+    is_map = map_copy old;
+    others = (λ q free. get_copy q, λ e. same);
+    taken = λ q v a. inl (subst (λ o. IsAmong (records_in o) v) (get_copy q) a);
+  }
+
+  pub applied_not : (s : Sections) → IsZoneMap class m → is_all_served s ≡ false → IsApplied origin class s m NotImp n
+  applied_not s old h = refused s NotImp old (sym (cond-false _ _ _ h))
+
+  pub applied_fault : (s : Sections) (code : ResponseCode) → IsZoneMap class m → is_all_served s ≡ true → fault_here origin class m s ≡ Some code → IsApplied origin class s m code n
+  applied_fault s code old h f = refused s code old (sym (cond-true _ _ _ h ∙ ap (answer (zone_of_map origin class m) s.updates) (sym (fault_is origin class m s) ∙ f)))
+
+  pub applied_all : (s : Sections) (p : BTreeMap RrKey SetValue) → is_all_served s ≡ true → fault_here origin class m s ≡ None → IsAfter origin class s.updates n p
+      → IsApplied origin class s m NoError p
+  applied_all s p h f after = record {
+    served = ap (λ z. (NoError, z)) (after.zone ∙ ap (λ z. fold update z s.updates) zone_copy)
+        ∙ sym (cond-true _ _ _ h ∙ ap (answer (zone_of_map origin class m) s.updates) (sym (fault_is origin class m s) ∙ f));
+    is_map = after.is_map;
+    others = (λ q free. after.others q free ∙ get_copy q, λ e. absurd (e refl));
+    taken = λ q v a. subst (λ o. IsAmong (records_in o) v ⊎ IsAmong s.updates v) (get_copy q) (after.taken q v a);
+  }

@@ -1,0 +1,64 @@
+-- What the updates of the builders make of a map of record sets, where their bytes are read and applied.
+use Rattle.std.specs.BTreeMap.{BTreeMap}
+use Rattle.std.specs.Prelude.{Bool, List, not, true, ℕ, ◌&&◌, ◌≡◌, ◌≢◌, [], if◌then◌else◌}
+use Rattle.base.specs.Labels.{NameValue}
+use Rattle.base.specs.RrKey.{key_of}
+use Rattle.base.specs.declared.dns_class.DNSClass.{DNSClass}
+use Rattle.base.specs.declared.rr_key.RrKey.{RrKey}
+use Rattle.base_data.specs.Kinds.{type_of_data}
+use Rattle.base_data.specs.declared.rdata.RData.{RData}
+use Rattle.op.specs.Cut.{IsCut, IsUncut}
+use Rattle.op.specs.Message.{IsMessageAt, MessageValue}
+use Rattle.op.specs.declared.response_code.ResponseCode.TheVariants.{NXRRSet, NoError, YXRRSet}
+use Rattle.op.specs.declared.response_code.ResponseCode.{ResponseCode}
+use Rattle.op_use.specs.Applying.{IsApplied, IsZoneMap, zone_of_map}
+use Rattle.op_use.specs.NamedChanges.{has_data_of_set, less_data, less_key, less_name, merged, set_key}
+use Rattle.op_use.specs.Server.{sections_of}
+use Rattle.op_use.specs.SoundSet.{IsFor, IsGiven, NoCname, is_ordinary, is_plain_class}
+use Rattle.op_use.specs.UpdateMessage.{append, compare_and_swap, create, delete_all, delete_by_rdata, delete_rrset, update_message}
+use Rattle.op_use.specs.Zone.{IsZone, Zone, has_set}
+use Rattle.rr.specs.RecordSet.{SetValue}
+use Rattle.rr.specs.declared.record.Record.{Record}
+
+-- Of all uncut bytes of a message, under any limit, whatever message is read from them: what comes of a map, where that
+-- is applied to it and its zone meets the premise, is this outcome.
+abbrev pub AppliesUncut : MessageValue → (Zone → Type 0) → (Zone → ResponseCode × Zone) → Type 0
+AppliesUncut m Premise outcome =
+    (limit : ℕ) (B : List ℕ) (c : MessageValue) (k : IsCut m limit B c) → IsUncut k → (n : MessageValue) (e : ℕ) → IsMessageAt B 0 n e
+    → (origin : NameValue) (class : DNSClass) (old new : BTreeMap RrKey SetValue) (code : ResponseCode) → IsZoneMap class old → Premise (zone_of_map origin class old)
+    → IsApplied origin class (sections_of n) old code new → ◌≡◌ {A = ResponseCode × Zone} (code, zone_of_map origin class new) (outcome (zone_of_map origin class old))
+
+-- a map to which updates may be applied is a zone
+abbrev pub MapsAreZones : Type 0
+MapsAreZones = (origin : NameValue) (class : DNSClass) (m : BTreeMap RrKey SetValue) → IsZoneMap class m → IsZone (zone_of_map origin class m)
+
+abbrev pub CreateApplies : Type 0
+CreateApplies = (id : ℕ) (s : SetValue) (origin : NameValue) (use_edns : Bool)
+    → AppliesUncut (update_message id use_edns (create s origin)) (λ z. IsGiven z origin s × NoCname z s.name)
+    (λ z. if has_set z (set_key s) then (YXRRSet, z) else (NoError, merged z s))
+
+abbrev pub AppendApplies : Type 0
+AppendApplies = (id : ℕ) (s : SetValue) (origin : NameValue) (must_exist use_edns : Bool)
+    → AppliesUncut (update_message id use_edns (append s origin must_exist)) (λ z. IsGiven z origin s × NoCname z s.name)
+    (λ z. if must_exist && not (has_set z (set_key s)) then (NXRRSet, z) else (NoError, merged z s))
+
+abbrev pub SwapApplies : Type 0
+SwapApplies = (id : ℕ) (current new : SetValue) (origin : NameValue) (use_edns : Bool)
+    → AppliesUncut (update_message id use_edns (compare_and_swap current new origin))
+    (λ z. (current.records ≢ []) × IsGiven z origin current × IsGiven z origin new × NoCname z new.name)
+    (λ z. if has_data_of_set z current then (NoError, merged (less_key z (set_key current)) new) else (NXRRSet, z))
+
+abbrev pub DeleteDataApplies : Type 0
+DeleteDataApplies = (id : ℕ) (s : SetValue) (origin : NameValue) (use_edns : Bool)
+    → AppliesUncut (update_message id use_edns (delete_by_rdata s origin)) (λ z. IsGiven z origin s) (λ z. (NoError, less_data z s))
+
+abbrev pub DeleteSetApplies : Type 0
+DeleteSetApplies = (id : ℕ) (r : Record RData) (origin : NameValue) (use_edns : Bool)
+    → AppliesUncut (update_message id use_edns (delete_rrset r origin))
+    (λ z. IsZone z × IsFor z origin r.name r.dns_class × (is_plain_class r.dns_class ≡ true) × (is_ordinary (type_of_data r.rdata) ≡ true))
+    (λ z. (NoError, less_key z (key_of r.name (type_of_data r.rdata))))
+
+abbrev pub DeleteNameApplies : Type 0
+DeleteNameApplies = (id : ℕ) (owner origin : NameValue) (class : DNSClass) (use_edns : Bool)
+    → AppliesUncut (update_message id use_edns (delete_all owner origin class)) (λ z. IsZone z × IsFor z origin owner class × (is_plain_class class ≡ true))
+    (λ z. (NoError, less_name z owner))

@@ -1,0 +1,102 @@
+-- What it is to apply an update to a map of record sets (RFC 2136, 3).
+use Rattle.base.specs.Labels.{NameValue}
+use Rattle.base.specs.RrKey.{key_cmp}
+use Rattle.base.specs.declared.dns_class.DNSClass.TheVariants as classes
+use Rattle.base.specs.declared.dns_class.DNSClass.{DNSClass}
+use Rattle.base.specs.declared.rr_key.RrKey.{RrKey}
+use Rattle.base_data.specs.SameData.{same_data}
+use Rattle.base_data.specs.declared.rdata.RData.{RData}
+use Rattle.op.specs.declared.response_code.ResponseCode.TheVariants.{NoError, NotImp}
+use Rattle.op.specs.declared.response_code.ResponseCode.{ResponseCode}
+use Rattle.op_use.specs.NamedChanges.{datum_of, set_key}
+use Rattle.op_use.specs.Server.{Sections, is_any, is_cname, serve, type_of_record}
+use Rattle.op_use.specs.SoundSet.{is_ordinary}
+use Rattle.op_use.specs.Zone.{Datum, Zone, is_owned}
+use Rattle.rr.specs.RecordSet.{SetValue, is_ns}
+use Rattle.rr.specs.declared.record.Record.{Record}
+use Rattle.std.specs.BTreeMap as tree
+use Rattle.std.specs.BTreeMap.{BTreeMap}
+use Rattle.std.specs.FinMap as fin
+use Rattle.std.specs.List.{IsAmong, IsDistinct, list_all, list_any}
+use Rattle.std.specs.Ordering.{on}
+use Rattle.std.specs.Prelude.{Bool, List, None, Option, Some, [], false, if◌then◌else◌, map, true, ◌&&◌, ◌||◌, ◌≡◌, ◌≢◌, ◌⊎◌}
+
+-- the data of a set
+abbrev pub data_of : SetValue → List Datum
+data_of s = map datum_of s.records
+
+-- a key and the data of its set
+abbrev pub entry_of : RrKey × SetValue → RrKey × List Datum
+entry_of e = (e.0, data_of e.1)
+
+-- the zone whose sets a map holds
+abbrev pub zone_of_map : NameValue → DNSClass → BTreeMap RrKey SetValue → Zone
+zone_of_map origin class sets = record { origin = origin; class = class; sets = fin.from_entries (map entry_of sets.entries) }
+
+-- A set that a zone of a class may have under a key: its own key, not empty, of that class, no two records of equal data.
+pub record IsZoneSet (of_class : DNSClass) (k : RrKey) (s : SetValue) : Type 0 where
+  pub own_key : set_key s ≡ k
+  pub own_class : s.dns_class ≡ of_class
+  pub filled : s.records ≢ []
+  pub distinct : IsDistinct (on (λ (r : Record RData). r.rdata) same_data) s.records
+
+-- each set of a map is such
+abbrev pub IsZoneMap : DNSClass → BTreeMap RrKey SetValue → Type 0
+IsZoneMap class sets = (k : RrKey) (s : SetValue) → tree.get key_cmp sets k ≡ Some s → IsZoneSet class k s
+
+-- the classes that updates give a meaning of their own (RFC 2136, 2.4 and 2.5)
+abbrev pub is_class_any : DNSClass → Bool
+is_class_any classes.ANY = true
+is_class_any _ = false
+
+abbrev pub is_class_none : DNSClass → Bool
+is_class_none classes.NONE = true
+is_class_none _ = false
+
+-- whether a record is of a type that is served: an ordinary one, NS or CNAME, or ANY where it names all types of an owner
+abbrev pub is_served : Record RData → Bool
+is_served r = is_ordinary (type_of_record r) || is_ns (type_of_record r) || is_cname (type_of_record r) || (is_any (type_of_record r) && is_class_any r.dns_class)
+
+-- the same of a prerequisite, which may say that an owner has no set (RFC 2136, 2.4.5)
+abbrev pub is_served_prerequisite : Record RData → Bool
+is_served_prerequisite r = is_served r || (is_any (type_of_record r) && is_class_none r.dns_class)
+
+-- whether all of an update is served
+abbrev pub is_all_served : Sections → Bool
+is_all_served m = list_all is_served_prerequisite m.prerequisites && list_all is_served m.updates
+
+-- The code and the zone after an update is applied: what a server makes of it; NotImp where it isn't served, which is
+-- tested first.
+abbrev pub applied : Zone → Sections → ResponseCode × Zone
+applied z m = if is_all_served m then serve z m else (NotImp, z)
+
+-- whether an update names the owner of a key
+abbrev pub names_owner : List (Record RData) → RrKey → Bool
+names_owner rs k = list_any (λ r. is_owned r.name k) rs
+
+-- the set of an owner that no update names stays as it is, and each set with a code other than NoError
+abbrev pub KeepsUnnamed : ResponseCode → List (Record RData) → BTreeMap RrKey SetValue → BTreeMap RrKey SetValue → Type 0
+KeepsUnnamed code rs old new =
+    ((k : RrKey) → names_owner rs k ≡ false → tree.get key_cmp new k ≡ tree.get key_cmp old k) × (code ≢ NoError → tree.IsUnchanged old new)
+
+-- the records of a set that may be there
+abbrev pub records_in : Option SetValue → List (Record RData)
+records_in (Some s) = s.records
+records_in None = []
+
+-- those under a key
+abbrev pub records_at : BTreeMap RrKey SetValue → RrKey → List (Record RData)
+records_at m k = records_in (tree.get key_cmp m k)
+
+-- each record of a set of the new map is one of the old map's set under that key, or one of rs
+abbrev pub TakesFrom : List (Record RData) → BTreeMap RrKey SetValue → BTreeMap RrKey SetValue → Type 0
+TakesFrom rs old new = (k : RrKey) (x : Record RData) → IsAmong (records_at new k) x → IsAmong (records_at old k) x ⊎ IsAmong rs x
+
+-- The code and the new map are those that a server makes of the zone; the new map may be updated again; what no update
+-- names stays; and each record was there or came with the updates.
+pub record IsApplied (origin : NameValue) (class : DNSClass) (s : Sections) (old : BTreeMap RrKey SetValue) (code : ResponseCode) (new : BTreeMap RrKey SetValue)
+    : Type 0 where
+  pub served : (code, zone_of_map origin class new) ≡ applied (zone_of_map origin class old) s
+  pub is_map : IsZoneMap class new
+  pub others : KeepsUnnamed code s.updates old new
+  pub taken : TakesFrom s.updates old new

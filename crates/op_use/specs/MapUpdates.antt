@@ -1,0 +1,64 @@
+-- What one update, and one after the other, makes of a map of record sets (RFC 2136, 3.4.2).
+use Rattle.base.specs.Labels.{NameValue}
+use Rattle.base.specs.NameOrder.{same_name}
+use Rattle.base.specs.RrKey.{key_cmp}
+use Rattle.base.specs.declared.dns_class.DNSClass.{DNSClass}
+use Rattle.base.specs.declared.rr_key.RrKey.{RrKey}
+use Rattle.base_data.specs.declared.rdata.RData.{RData}
+use Rattle.op_use.specs.Applying.{records_at, IsZoneMap, IsZoneSet, TakesFrom, names_owner, records_in, zone_of_map}
+use Rattle.op_use.specs.Server.{record_key, type_of_record, OfAny, OfNone, OfNothing, OfZone, Use as UseValue, update}
+use Rattle.op_use.specs.Zone.{is_owned}
+use Rattle.op_use.specs.declared.apply.class_use.Use.TheVariants as uses
+use Rattle.op_use.specs.declared.apply.class_use.Use.{Use}
+use Rattle.rr.specs.RecordSet.{SetValue, is_ns, is_soa}
+use Rattle.rr.specs.SetChanges.{has_data_of, replaced}
+use Rattle.rr.specs.declared.record.Record.{Record}
+use Rattle.std.specs.BTreeMap as tree
+use Rattle.std.specs.BTreeMap.{BTreeMap}
+use Rattle.std.specs.List.{filter, fold, list_any}
+use Rattle.std.specs.Ordering.{eq_by_cmp}
+use Rattle.std.specs.Prelude.{Bool, length, nat_le, List, None, Option, Some, [], cond, false, if◌then◌else◌, not, ◌&&◌, ◌++◌, ◌||◌, ◌∷◌, ◌≡◌}
+
+-- the new map is the old one after the updates rs
+pub record IsAfter (origin : NameValue) (class : DNSClass) (rs : List (Record RData)) (old new : BTreeMap RrKey SetValue) : Type 0 where
+  pub zone : zone_of_map origin class new ≡ fold update (zone_of_map origin class old) rs
+  pub is_map : IsZoneMap class new
+  pub others : (k : RrKey) → names_owner rs k ≡ false → tree.get key_cmp new k ≡ tree.get key_cmp old k
+  pub taken : TakesFrom rs old new
+
+-- the records of a set after one is added: it stands in the place of equal data, or else last
+abbrev pub joined : Record RData → List (Record RData) → List (Record RData)
+joined r xs = if list_any (has_data_of r) xs then replaced r xs else xs ++ r ∷ []
+
+-- the records without the data of one
+abbrev pub parted : Record RData → List (Record RData) → List (Record RData)
+parted r xs = filter (λ x. not (has_data_of r x)) xs
+
+-- the new map has o under a key, and else what the old one has
+abbrev pub Puts : RrKey → Option SetValue → BTreeMap RrKey SetValue → BTreeMap RrKey SetValue → Type 0
+Puts k o old new = (q : RrKey) → tree.get key_cmp new q ≡ cond (eq_by_cmp key_cmp k q) o (tree.get key_cmp old q)
+
+-- the new map has a set of these records under a key, none where there are none, and else what the old one has
+pub record IsSetTo (class : DNSClass) (k : RrKey) (xs : List (Record RData)) (old new : BTreeMap RrKey SetValue) : Type 0 where
+  pub set : Option SetValue
+  pub records : records_in set ≡ xs
+  pub fits : (s : SetValue) → set ≡ Some s → IsZoneSet class k s
+  pub puts : Puts k set old new
+
+-- whether a record stays in spite of an update: an SOA, and the last name server of the zone (RFC 2136, 3.4.2.4)
+abbrev pub is_kept_in : NameValue → BTreeMap RrKey SetValue → Record RData → Bool
+is_kept_in origin m r =
+    is_soa (type_of_record r)
+    || ((same_name r.name origin && (is_soa (type_of_record r) || is_ns (type_of_record r))) && nat_le (length (records_at m (record_key r))) 1)
+
+-- how an update's class reads
+abbrev pub use_value : Use → UseValue
+use_value uses.OfAny = OfAny
+use_value uses.OfNone = OfNone
+use_value uses.OfZone = OfZone
+use_value uses.OfNothing = OfNothing
+
+-- the new map is the old one without the sets of an owner; at the origin SOA and NS stay
+abbrev pub Leaves : NameValue → NameValue → BTreeMap RrKey SetValue → BTreeMap RrKey SetValue → Type 0
+Leaves origin owner old new = (q : RrKey)
+    → tree.get key_cmp new q ≡ cond (not (is_owned owner q) || (same_name owner origin && (is_soa q.record_type || is_ns q.record_type))) (tree.get key_cmp old q) None

@@ -1,0 +1,120 @@
+//! Updates applied to the record sets of a zone (RFC 2136, 3).
+
+ghost use Rattle.std.specs.BTreeMap.{IsUnchanged};
+ghost use Rattle.std.specs.Prelude.{◌≡◌, IfOk, IsOkUnless, None, Some, true};
+ghost use Rattle.op.specs.Message.{message_value};
+ghost use Rattle.op_use.specs.Applying.{IsApplied, IsZoneMap, is_all_served as is_all_served_in};
+ghost use Rattle.op_use.specs.MapFaults.{fault_here};
+ghost use Rattle.op_use.specs.Server.{sections_of};
+
+mod changes;
+mod class_use;
+mod faults;
+pub mod laws;
+mod prerequisites;
+mod prescan;
+mod records;
+mod served;
+mod sets;
+mod types;
+
+use base::{DNSClass, Name, ProtoError, RrKey};
+use changes::update_all;
+use faults::fault;
+use op::{Message, ResponseCode};
+use rr::RecordSet;
+use served::is_all_served;
+use std::alloc::{AllocError, Global};
+use std::collections::BTreeMap;
+
+/// Applies an update to the sets of a zone of this origin and class: answers the server's code (RFC 2136, 2.2), and the
+/// sets then.
+///
+/// A message with a record of a type that isn't served is answered NotImp, before anything else is looked at: served are
+/// the ordinary types, NS, CNAME, and ANY where it stands for all types of an owner. With any code but NoError the sets
+/// are the same. A record that is added is the message's, also where it replaces one of equal data. Opcode and message
+/// type aren't looked at.
+///
+/// Each set that is handed in has records, no two of them of equal data, has this class, and stands under its own key;
+/// this holds of the answered sets too. Those that are handed in stay as they are. Refused for want of memory.
+pub fn apply_update(
+    alloc: Global,
+    sets: &BTreeMap<RrKey, RecordSet>,
+    origin: &Name,
+    class: DNSClass,
+    message: &Message,
+) -> Result<(ResponseCode, BTreeMap<RrKey, RecordSet>), ProtoError>
+    requires { IsZoneMap class sets.now }
+    ensures applied { IfOk result (λ r. IsApplied origin.now class (sections_of (message_value message.now)) sets.now r.0 r.1) }
+    ensures only { IsOkUnless result ProtoError.Memory }
+{
+    if is_all_served(message) {
+        return apply_served(alloc, sets, origin, class, message);
+    }
+    let same = copy_of(sets)?;
+    Ok((ResponseCode::NotImp, same))
+}
+
+// An update of types that are served.
+fn apply_served(
+    alloc: Global,
+    sets: &BTreeMap<RrKey, RecordSet>,
+    origin: &Name,
+    class: DNSClass,
+    message: &Message,
+) -> Result<(ResponseCode, BTreeMap<RrKey, RecordSet>), ProtoError>
+    requires sets { IsZoneMap class sets.now }
+    requires served { is_all_served_in (sections_of (message_value message.now)) ≡ true }
+    ensures applied { IfOk result (λ r. IsApplied origin.now class (sections_of (message_value message.now)) sets.now r.0 r.1) }
+    ensures only { IsOkUnless result ProtoError.Memory }
+{
+    let found = fault(sets, origin, class, message)?;
+    match found {
+        Some(code) => refuse(sets, origin, class, message, code),
+        None => change(alloc, sets, origin, class, message),
+    }
+}
+
+// An update that is refused leaves the sets as they are.
+fn refuse(
+    sets: &BTreeMap<RrKey, RecordSet>,
+    origin: &Name,
+    class: DNSClass,
+    message: &Message,
+    code: ResponseCode,
+) -> Result<(ResponseCode, BTreeMap<RrKey, RecordSet>), ProtoError>
+    requires sets { IsZoneMap class sets.now }
+    requires served { is_all_served_in (sections_of (message_value message.now)) ≡ true }
+    requires found { fault_here origin.now class sets.now (sections_of (message_value message.now)) ≡ Some code }
+    ensures applied { IfOk result (λ r. IsApplied origin.now class (sections_of (message_value message.now)) sets.now r.0 r.1) }
+    ensures only { IsOkUnless result ProtoError.Memory }
+{
+    let same = copy_of(sets)?;
+    Ok((code, same))
+}
+
+// An update that passed every test changes a copy, which goes where a growth is refused.
+fn change(
+    alloc: Global,
+    sets: &BTreeMap<RrKey, RecordSet>,
+    origin: &Name,
+    class: DNSClass,
+    message: &Message,
+) -> Result<(ResponseCode, BTreeMap<RrKey, RecordSet>), ProtoError>
+    requires sets { IsZoneMap class sets.now }
+    requires served { is_all_served_in (sections_of (message_value message.now)) ≡ true }
+    requires found { fault_here origin.now class sets.now (sections_of (message_value message.now)) ≡ None }
+    ensures applied { IfOk result (λ r. IsApplied origin.now class (sections_of (message_value message.now)) sets.now r.0 r.1) }
+    ensures only { IsOkUnless result ProtoError.Memory }
+{
+    let mut changed = copy_of(sets)?;
+    update_all(alloc, &mut changed, origin, class, &message.authorities)?;
+    Ok((ResponseCode::NoError, changed))
+}
+
+fn copy_of(sets: &BTreeMap<RrKey, RecordSet>) -> Result<BTreeMap<RrKey, RecordSet>, AllocError>
+    ensures { IfOk result (λ m. IsUnchanged sets.now m) }
+{
+    let copy = sets.clone()?;
+    Ok(copy)
+}

@@ -1,0 +1,57 @@
+//! Types that updates treat in their own ways (RFC 2136, 2.4, 2.5 and 3.4.2).
+
+ghost use Rattle.std.specs.Prelude.{◌≡◌, ◌&&◌, ◌||◌};
+ghost use Rattle.base.specs.NameOrder.{same_name};
+ghost use Rattle.op_use.specs.Server.{is_any, is_cname, is_meta as is_meta_type};
+ghost use Rattle.op_use.specs.SoundSet.{is_ordinary as is_ordinary_type};
+ghost use Rattle.rr.specs.RecordSet.{is_ns, is_soa};
+
+use base::{Name, RecordType};
+
+pub(crate) fn is_start(record_type: RecordType) -> bool
+    ensures { result ≡ is_soa record_type }
+{
+    matches!(record_type, RecordType::SOA)
+}
+
+pub(crate) fn is_alias(record_type: RecordType) -> bool
+    ensures { result ≡ is_cname record_type }
+{
+    matches!(record_type, RecordType::CNAME)
+}
+
+pub(crate) fn is_all(record_type: RecordType) -> bool
+    ensures { result ≡ is_any record_type }
+{
+    matches!(record_type, RecordType::ANY)
+}
+
+// Whether a set stays where all of its owner goes: SOA and NS at the origin (RFC 2136, 3.4.2.3).
+pub(crate) fn is_guarded(origin: &Name, owner: &Name, record_type: RecordType) -> bool
+    ensures { result ≡ (same_name owner.now origin.now && (is_soa record_type || is_ns record_type)) }
+{
+    *owner == *origin && (is_start(record_type) || matches!(record_type, RecordType::NS))
+}
+
+// Whether updates treat a type like most.
+pub(crate) fn is_ordinary(record_type: RecordType) -> bool
+    ensures { result ≡ is_ordinary_type record_type }
+{
+    let number = u16::from(record_type);
+    !(number == 0
+        || number == 2
+        || number == 5
+        || number == 6
+        || number == 11
+        || number == 24
+        || number == 41
+        || (128 <= number && number <= 255))
+}
+
+// Whether this is a query or meta type.
+pub(crate) fn is_meta(record_type: RecordType) -> bool
+    ensures { result ≡ is_meta_type record_type }
+{
+    let number = u16::from(record_type);
+    128 <= number && number <= 255
+}
