@@ -15,7 +15,7 @@ use base_data::RData;
 use std::alloc::AllocError;
 
 impl RecordSet {
-    /// Puts a record in. The answer is whether the set changed.
+    /// Puts a record in. The answer is whether it went in.
     ///
     /// An SOA stays, and the answer is false, unless both have SOA data and the new one's serial is greater (RFC 1982).
     /// Of SOA, CNAME and ANAME the new record then stands alone. Of other types the answer is false where some record
