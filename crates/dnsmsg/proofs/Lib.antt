@@ -1,3 +1,4 @@
+mod ApplyLemmas
 mod CutLemmas
 mod LimitLemmas
 mod RunLemmas

@@ -3,9 +3,10 @@ use Rattle.std.proofs.Common.{◌≡◌, ◌⊎◌, ℕ, ◌≤◌, List, ap, sy
 use Rattle.std.specs.Prelude.{IfSome, String, ◌≢◌}
 use Rattle.std.specs.String.{string_bytes}
 use Rattle.std.specs.declared.alloc.Global.{Global}
-use Rattle.dnsmsg.specs.Answer.{Answer, IsAnswered, IsPrinted, broken, done, refused, usage}
+use Rattle.dnsmsg.specs.Answer.{Answer, IsAnswered, IsGivenBy, IsPrinted, broken, done, refused, usage}
+use Rattle.dnsmsg.specs.ApplyCommand.{IsApplyAnswer}
 use Rattle.dnsmsg.specs.Command.{CommandAnswers, IsGiven}
-use Rattle.dnsmsg.specs.CutCommand.{IsCutAnswer, IsCutGiven}
+use Rattle.dnsmsg.specs.CutCommand.{IsCutAnswer}
 use Rattle.dnsmsg.specs.HeaderCommand.{header_answer}
 use Rattle.dnsmsg.specs.ReadCommand.{read_answer}
 use Rattle.dnsmsg.specs.Refusal.{refusal_number}
@@ -70,26 +71,31 @@ module _ (status : ℕ) (old new : Option (List ℕ)) (words : List (List ℕ)) 
   memory_answers (commands.OnMessage messages.Read) shown = inr shown
   memory_answers (commands.OnMessage (messages.Cut limit)) shown = inr shown
   memory_answers (commands.Zone origin) shown = inr shown
+  memory_answers (commands.Apply origin) shown = inr shown
 
   pub lines_answer : (command : Command) (lines : String Global) → CommandAnswers command words text (Ok lines) → IsPrinted (done (string_bytes lines)) status old new → IsGiven command words text status old new
   lines_answer (commands.OnMessage messages.Header) lines says shown = answered header_answer (done (string_bytes lines)) says shown
   lines_answer (commands.OnMessage messages.Read) lines says shown = answered read_answer (done (string_bytes lines)) says shown
   lines_answer (commands.OnMessage (messages.Cut limit)) lines says shown = inl (done (string_bytes lines), says, shown)
   lines_answer (commands.Zone origin) lines says shown = answered (zone_answer origin (behind_origin words)) (done (string_bytes lines)) says shown
+  lines_answer (commands.Apply origin) lines says shown = inl (done (string_bytes lines), says, shown)
 
   refused_with : (answer_of : List ℕ → Answer) (number : ℕ) → (number ≡ 3) ⊎ (answer_of text ≡ refused number) → IsPrinted (refused number) status old new → IsAnswered (answer_of text) status old new
   refused_with answer_of number (inl memory) shown = inr (subst (λ n. IsPrinted (refused n) status old new) memory shown)
   refused_with answer_of number (inr is) shown = answered answer_of (refused number) is shown
 
-  refused_cut : (limit number : ℕ) → (number ≡ 3) ⊎ IsCutAnswer limit text (refused number) → IsPrinted (refused number) status old new → IsCutGiven limit text status old new
-  refused_cut limit number (inl memory) shown = inr (subst (λ n. IsPrinted (refused n) status old new) memory shown)
-  refused_cut limit number (inr answers) shown = inl (refused number, answers, shown)
+  -- the same of a command whose answer is a relation
+  refused_by : (IsAnswer : Answer → Type 0) (number : ℕ) → (number ≡ 3) ⊎ IsAnswer (refused number) → IsPrinted (refused number) status old new
+      → IsGivenBy IsAnswer status old new
+  refused_by IsAnswer number (inl memory) shown = inr (subst (λ n. IsPrinted (refused n) status old new) memory shown)
+  refused_by IsAnswer number (inr answers) shown = inl (refused number, answers, shown)
 
   pub refusal_answers : (command : Command) (refusal : Refusal) → CommandAnswers command words text (Err refusal) → IsPrinted (refused (refusal_number refusal)) status old new → IsGiven command words text status old new
   refusal_answers (commands.OnMessage messages.Header) refusal says shown = refused_with header_answer (refusal_number refusal) says shown
   refusal_answers (commands.OnMessage messages.Read) refusal says shown = refused_with read_answer (refusal_number refusal) says shown
-  refusal_answers (commands.OnMessage (messages.Cut limit)) refusal says shown = refused_cut limit (refusal_number refusal) says shown
+  refusal_answers (commands.OnMessage (messages.Cut limit)) refusal says shown = refused_by (IsCutAnswer limit text) (refusal_number refusal) says shown
   refusal_answers (commands.Zone origin) refusal says shown = refused_with (zone_answer origin (behind_origin words)) (refusal_number refusal) says shown
+  refusal_answers (commands.Apply origin) refusal says shown = refused_by (IsApplyAnswer origin (behind_origin words) text) (refusal_number refusal) says shown
 
 -- what was printed answers what remained of the input
 module _ (status : ℕ) (old new remaining : Option (List ℕ)) (words : List (List ℕ)) (command : Command) where

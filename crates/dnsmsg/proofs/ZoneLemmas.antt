@@ -54,7 +54,7 @@ text_put old new key text words behind word before put named is more name =
           let here : bytes_eq (before_first is_equals word) name ≡ false = ap (λ (ks : List ℕ). bytes_eq ks name) (sym named) ∙ other in
           rw (other, here) (before name)
 
-not_utf8 : (input : List ℕ) → ¬ (IsUtf8 input) → is_utf8 input ≡ false
+pub not_utf8 : (input : List ℕ) → ¬ (IsUtf8 input) → is_utf8 input ≡ false
 not_utf8 input never = go (is_utf8 input) refl where
   go : (b : Bool) → is_utf8 input ≡ b → is_utf8 input ≡ false
   go true is = absurd (never (IsUtf8-from_is_utf8 input is))
@@ -65,17 +65,24 @@ pub zone_not_text : (origin : Option NameValue) (words : List (List ℕ)) (input
 unfolding zone_answer
 zone_not_text origin words input never = rw (not_utf8 input never) refl
 
--- the answer is that of the zone that the parser reads
+-- the zone of the text is that which the parser reads
+pub zone_read : (origin : Option NameValue) (words : List (List ℕ)) (input text : List ℕ) (includes : BTreeMap (String Global) (String Global)) (p : ParserValue)
+    → text ≡ input → ((name : List ℕ) → texts_in includes name ≡ text_named words name)
+    → p ≡ record { text = text; includes = named_texts includes; origin = origin }
+    → zone_of (text_named words) origin input ≡ zone_of (text_among p.includes) p.origin p.text
+zone_read origin words input text includes p same named is =
+    ap (λ (texts : Texts). zone_of texts origin input) (sym (sym (texts_are includes) ∙ (λ i name. named name i)))
+    ∙ ap (λ (t : List ℕ). zone_of (text_among (named_texts includes)) origin t) (sym same)
+    ∙ ap (λ (q : ParserValue). zone_of (text_among q.includes) q.origin q.text) (sym is)
+
+-- the answer is that of that zone
 pub zone_answers : (origin : Option NameValue) (words : List (List ℕ)) (input text : List ℕ) (includes : BTreeMap (String Global) (String Global)) (p : ParserValue)
     → IsUtf8 input → text ≡ input → ((name : List ℕ) → texts_in includes name ≡ text_named words name)
     → p ≡ record { text = text; includes = named_texts includes; origin = origin }
     → zone_answer origin words input ≡ answer_to_zone (zone_of (text_among p.includes) p.origin p.text)
 unfolding zone_answer
 zone_answers origin words input text includes p is_text same named is =
-    rw (is_utf8-from_IsUtf8 input is_text)
-    (ap (λ (texts : Texts). answer_to_zone (zone_of texts origin input)) (sym (sym (texts_are includes) ∙ (λ i name. named name i)))
-    ∙ ap (λ (t : List ℕ). answer_to_zone (zone_of (text_among (named_texts includes)) origin t)) (sym same)
-    ∙ ap (λ (q : ParserValue). answer_to_zone (zone_of (text_among q.includes) q.origin q.text)) (sym is))
+    rw (is_utf8-from_IsUtf8 input is_text) (ap answer_to_zone (zone_read origin words input text includes p same named is))
 
 -- a refusal is for want of memory, or has the number of the fault
 pub zone_refused : (e : ParseError) (made : Result (NameValue × ZoneSets) Fault) → Fails e made → (parse_number e ≡ 3) ⊎ (answer_to_zone made ≡ refused (parse_number e))

@@ -1,5 +1,6 @@
 -- What a command's call answers, against what the run is to print.
-use Rattle.std.specs.Prelude.{◌≡◌, ◌⊎◌, ℕ, List, Result, Ok, Err, IsErr, Vec}
+use Rattle.std.specs.Prelude.{◌≡◌, ◌⊎◌, ℕ, List, Result, Ok, Err, IsErr, String, Vec}
+use Rattle.std.specs.String.{string_bytes}
 use Rattle.std.specs.declared.alloc.Global.{Global}
 use Rattle.hex.specs.declared.error.FromHexError.{FromHexError}
 use Rattle.dnsmsg.specs.Answer.{Answer, done, refused}
@@ -10,6 +11,11 @@ use Rattle.dnsmsg.specs.declared.refusal.Refusal.{Refusal}
 abbrev pub Answers : {X : Type 0} → (X → List ℕ) → Answer → Result X Refusal → Type 0
 Answers text answer (Ok x) = answer ≡ done (text x)
 Answers text answer (Err refusal) = (refusal_number refusal ≡ 3) ⊎ (answer ≡ refused (refusal_number refusal))
+
+-- The same, where a relation says what may be answered.
+abbrev pub AnswersBy : (Answer → Type 0) → Result (String Global) Refusal → Type 0
+AnswersBy IsAnswer (Ok text) = IsAnswer (done (string_bytes text))
+AnswersBy IsAnswer (Err refusal) = (refusal_number refusal ≡ 3) ⊎ IsAnswer (refused (refusal_number refusal))
 
 -- The bytes that hexadecimal text spells, or that it isn't hexadecimal, or want of memory.
 abbrev pub Decodes : Result (List ℕ) FromHexError → Result (Vec ℕ Global) Refusal → Type 0

@@ -6,12 +6,13 @@ use Rattle.std.specs.String.{string_bytes}
 use Rattle.std.specs.Str.{bytes_eq}
 use Rattle.dnsmsg.specs.Answer.{IsAnswered, IsPrinted, refused, usage}
 use Rattle.dnsmsg.specs.Answering.{Answers}
+use Rattle.dnsmsg.specs.ApplyCommand.{ApplyAnswers, IsApplyGiven}
 use Rattle.dnsmsg.specs.CutCommand.{CutAnswers, IsCutGiven}
 use Rattle.dnsmsg.specs.HeaderCommand.{header_answer}
 use Rattle.dnsmsg.specs.Limit.{limit_of}
 use Rattle.dnsmsg.specs.ReadCommand.{read_answer}
 use Rattle.dnsmsg.specs.ZoneCommand.{zone_answer}
-use Rattle.dnsmsg.specs.ZoneWords.{begins_with, behind_origin, zone_named}
+use Rattle.dnsmsg.specs.ZoneWords.{apply_named, behind_origin, has_origin, zone_named}
 use Rattle.dnsmsg.specs.declared.refusal.Refusal.{Refusal}
 use Rattle.dnsmsg.specs.declared.command.Command.{Command}
 use Rattle.dnsmsg.specs.declared.command.Command.TheVariants as command
@@ -29,7 +30,10 @@ message_command (word ∷ (next ∷ (other ∷ others))) = None
 abbrev pub command_of : List (List ℕ) → Option Command
 command_of [] = None
 command_of (word ∷ []) = option_map command.OnMessage (message_command (word ∷ []))
-command_of (word ∷ (next ∷ others)) = if bytes_eq word (codes "zone") then zone_named next others else option_map command.OnMessage (message_command (word ∷ (next ∷ others)))
+command_of (word ∷ (next ∷ others)) =
+    if bytes_eq word (codes "zone") then zone_named next others
+    else (if bytes_eq word (codes "apply") then apply_named next others
+    else option_map command.OnMessage (message_command (word ∷ (next ∷ others))))
 
 -- What a command's call answers to a text, where these are all words.
 abbrev pub CommandAnswers : Command → List (List ℕ) → List ℕ → Result (String Global) Refusal → Type 0
@@ -37,6 +41,7 @@ CommandAnswers (command.OnMessage on_message.Header) words text result = Answers
 CommandAnswers (command.OnMessage on_message.Read) words text result = Answers string_bytes (read_answer text) result
 CommandAnswers (command.OnMessage (on_message.Cut limit)) words text result = CutAnswers limit text result
 CommandAnswers (command.Zone origin) words text result = Answers string_bytes (zone_answer origin (behind_origin words) text) result
+CommandAnswers (command.Apply origin) words text result = ApplyAnswers origin (behind_origin words) text result
 
 -- What a run of a command gives: the answer to the text, or for want of memory the refusal for that.
 abbrev pub IsGiven : Command → List (List ℕ) → List ℕ → ℕ → Option (List ℕ) → Option (List ℕ) → Type 0
@@ -44,8 +49,9 @@ IsGiven (command.OnMessage on_message.Header) words text status old new = IsAnsw
 IsGiven (command.OnMessage on_message.Read) words text status old new = IsAnswered (read_answer text) status old new
 IsGiven (command.OnMessage (on_message.Cut limit)) words text status old new = IsCutGiven limit text status old new
 IsGiven (command.Zone origin) words text status old new = IsAnswered (zone_answer origin (behind_origin words) text) status old new
+IsGiven (command.Apply origin) words text status old new = IsApplyGiven origin (behind_origin words) text status old new
 
--- What a run of words that name no command gives: the usage line, or, where they begin with `zone` and so have an
--- origin to be read, the refusal for want of memory.
+-- What a run of words that name no command gives: the usage line, or, where they have an origin to be read, the refusal
+-- for want of memory.
 abbrev pub IsTurnedAway : List (List ℕ) → ℕ → Option (List ℕ) → Option (List ℕ) → Type 0
-IsTurnedAway words status old new = IsPrinted usage status old new ⊎ ((begins_with (codes "zone") words ≡ true) × IsPrinted (refused 3) status old new)
+IsTurnedAway words status old new = IsPrinted usage status old new ⊎ ((has_origin words ≡ true) × IsPrinted (refused 3) status old new)

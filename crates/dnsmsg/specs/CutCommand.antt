@@ -1,7 +1,6 @@
 -- What the command `cut` prints.
 use Rattle.std.specs.Prelude.{◌≡◌, ◌⊎◌, ℕ, List, [], ◌∷◌, ◌++◌, Option, Result, Ok, Err, String}
 use Rattle.std.specs.declared.alloc.Global.{Global}
-use Rattle.std.specs.String.{string_bytes}
 use Rattle.hex.specs.Hex.{encode_lower}
 use Rattle.hex.specs.declared.error.FromHexError.{FromHexError}
 use Rattle.base.specs.Reading.{Read}
@@ -10,9 +9,9 @@ use Rattle.base.specs.ProtoError.{proto_number}
 use Rattle.base.specs.declared.error.proto_error.ProtoError.{ProtoError}
 use Rattle.op.specs.Cut.{IsTooSmall, IsWritten}
 use Rattle.op.specs.Message.{MessageValue, message_at}
-use Rattle.dnsmsg.specs.Answer.{Answer, IsPrinted, done, refused}
+use Rattle.dnsmsg.specs.Answer.{Answer, IsGivenBy, done, refused}
+use Rattle.dnsmsg.specs.Answering.{AnswersBy}
 use Rattle.dnsmsg.specs.HexInput.{bytes_of}
-use Rattle.dnsmsg.specs.Refusal.{refusal_number}
 use Rattle.dnsmsg.specs.declared.refusal.Refusal.{Refusal}
 
 -- bytes in hexadecimal, one line
@@ -39,11 +38,8 @@ CutsBuffer limit (Err fault) answer = answer ≡ refused 24
 abbrev pub IsCutAnswer : ℕ → List ℕ → Answer → Type 0
 IsCutAnswer limit input answer = CutsBuffer limit (bytes_of input) answer
 
--- What the command's call answers, against that: a text, a refusal, or that for want of memory.
 abbrev pub CutAnswers : ℕ → List ℕ → Result (String Global) Refusal → Type 0
-CutAnswers limit input (Ok text) = IsCutAnswer limit input (done (string_bytes text))
-CutAnswers limit input (Err refusal) = (refusal_number refusal ≡ 3) ⊎ IsCutAnswer limit input (refused (refusal_number refusal))
+CutAnswers limit input result = AnswersBy (IsCutAnswer limit input) result
 
--- Such an answer was given, or for want of memory the refusal for that.
 abbrev pub IsCutGiven : ℕ → List ℕ → ℕ → Option (List ℕ) → Option (List ℕ) → Type 0
-IsCutGiven limit input status old new = ((answer : Answer) × IsCutAnswer limit input answer × IsPrinted answer status old new) ⊎ IsPrinted (refused 3) status old new
+IsCutGiven limit input status old new = IsGivenBy (IsCutAnswer limit input) status old new

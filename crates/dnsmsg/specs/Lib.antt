@@ -1,5 +1,6 @@
 pub mod Answer
 pub mod Answering
+pub mod ApplyCommand
 pub mod Command
 pub mod CutCommand
 pub mod HeaderCommand

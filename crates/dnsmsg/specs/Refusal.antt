@@ -8,6 +8,7 @@ use Rattle.dnsmsg.specs.declared.refusal.Refusal.TheVariants as refusals
 
 abbrev pub refusal_number : Refusal → ℕ
 refusal_number refusals.Input = 24
+refusal_number refusals.Class = 25
 refusal_number (refusals.Decode fault) = decode_number fault
 refusal_number (refusals.Proto error) = proto_number error
 refusal_number (refusals.Parse error) = parse_number error

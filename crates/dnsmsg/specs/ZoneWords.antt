@@ -1,5 +1,6 @@
--- The words of the command `zone`.
-use Rattle.std.specs.Prelude.{ℕ, Bool, false, List, [], ◌∷◌, codes, if◌then◌else◌, Option, Some, None, Result, Ok, Err}
+-- The words of the commands with an origin, `zone` and `apply`.
+use Rattle.std.specs.Option.{option_map}
+use Rattle.std.specs.Prelude.{ℕ, Bool, false, ◌||◌, List, [], ◌∷◌, codes, if◌then◌else◌, Option, Some, None, Result, Ok, Err}
 use Rattle.std.specs.Str.{bytes_eq}
 use Rattle.base.specs.Labels.{NameValue}
 use Rattle.base.specs.NameOf.{name_of}
@@ -8,22 +9,32 @@ use Rattle.dnsmsg.specs.ZoneCommand.{are_texts}
 use Rattle.dnsmsg.specs.declared.command.Command.{Command}
 use Rattle.dnsmsg.specs.declared.command.Command.TheVariants as command
 
-abbrev pub zone_under : Result NameValue Fault → Option Command
-zone_under (Ok origin) = Some (command.Zone (Some origin))
-zone_under (Err fault) = None
+abbrev pub origin_under : Result NameValue Fault → Option (Option NameValue)
+origin_under (Ok origin) = Some (Some origin)
+origin_under (Err fault) = None
 
--- the command of an origin: `-` for none, else a name
-abbrev pub origin_named : List ℕ → Option Command
-origin_named word = if bytes_eq word (codes "-") then Some (command.Zone None) else zone_under (name_of word None)
+-- the origin that a word names, if it names one: `-` for none, else a name
+abbrev pub origin_named : List ℕ → Option (Option NameValue)
+origin_named word = if bytes_eq word (codes "-") then Some None else origin_under (name_of word None)
 
 -- the command of an origin and of included texts, if each of these has a name
 unfoldable pub zone_named : List ℕ → List (List ℕ) → Option Command
-zone_named origin words = if are_texts words then origin_named origin else None
+zone_named origin words = if are_texts words then option_map command.Zone (origin_named origin) else None
+
+-- the command of an origin and of an update, one word
+abbrev pub apply_named : List ℕ → List (List ℕ) → Option Command
+apply_named origin [] = None
+apply_named origin (update ∷ []) = option_map command.Apply (origin_named origin)
+apply_named origin (update ∷ (word ∷ words)) = None
 
 -- whether the words begin with this one
 abbrev pub begins_with : List ℕ → List (List ℕ) → Bool
 begins_with name [] = false
 begins_with name (word ∷ words) = bytes_eq word name
+
+-- whether the words begin with a command that has an origin
+abbrev pub has_origin : List (List ℕ) → Bool
+has_origin words = begins_with (codes "zone") words || begins_with (codes "apply") words
 
 -- the words behind the command and the origin
 abbrev pub behind_origin : List (List ℕ) → List (List ℕ)

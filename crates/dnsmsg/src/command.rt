@@ -5,7 +5,7 @@ ghost use Rattle.std.specs.List.{list_any};
 ghost use Rattle.dnsmsg.specs.Command.{command_of, message_command};
 ghost use Rattle.dnsmsg.specs.Words.{texts};
 ghost use Rattle.dnsmsg.specs.ZoneCommand.{are_texts, is_equals};
-ghost use Rattle.dnsmsg.specs.ZoneWords.{begins_with, zone_named};
+ghost use Rattle.dnsmsg.specs.ZoneWords.{apply_named, has_origin, origin_named, zone_named};
 
 use crate::limit::limit;
 use base::{Name, ParseError};
@@ -18,6 +18,8 @@ pub enum Command {
     OnMessage(MessageCommand),
     /// Zone text under an origin, if one is given: the origin at its end, and its records.
     Zone(Option<Name>),
+    /// An update in hexadecimal, and zone text under an origin, if one is given: the zone behind the update.
+    Apply(Option<Name>),
 }
 
 /// What the program can do with a message, or a part of one, in hexadecimal.
@@ -48,14 +50,17 @@ impl MessageCommand {
 }
 
 impl Command {
-    /// The command that the words name, if they name one. Refused for want of memory where they begin with `zone`.
+    /// The command that the words name, if they name one. Refused for want of memory where they have an origin.
     pub fn from_words(alloc: Global, words: &[String]) -> Result<Option<Command>, AllocError>
         ensures value { IfOk result (λ command. command ≡ command_of (texts words.now)) }
-        ensures memory { IfErr result (λ _. begins_with (codes "zone") (texts words.now) ≡ true) }
+        ensures memory { IfErr result (λ _. has_origin (texts words.now) ≡ true) }
     {
-        if let [word, origin, included @ ..] = words {
+        if let [word, origin, others @ ..] = words {
             if word.as_str() == "zone" {
-                return zone(alloc, origin.as_str(), included);
+                return zone(alloc, origin.as_str(), others);
+            }
+            if word.as_str() == "apply" {
+                return apply(alloc, origin.as_str(), others);
             }
         }
         Ok(MessageCommand::from_words(words).map(Command::OnMessage))
@@ -70,11 +75,34 @@ fn zone(alloc: Global, origin: &str, included: &[String]) -> Result<Option<Comma
     if !are_texts(included) {
         return Ok(None);
     }
-    if origin == "-" {
-        return Ok(Some(Command::Zone(None)));
+    match named_origin(alloc, origin)? {
+        Some(origin) => Ok(Some(Command::Zone(origin))),
+        None => Ok(None),
     }
-    match Name::parse(alloc, origin, None) {
-        Ok(name) => Ok(Some(Command::Zone(Some(name)))),
+}
+
+// The command of an origin and of an update, one word.
+fn apply(alloc: Global, origin: &str, others: &[String]) -> Result<Option<Command>, AllocError>
+    ensures { IfOk result (λ command. command ≡ apply_named origin.now (texts others.now)) }
+{
+    let [_update] = others else {
+        return Ok(None);
+    };
+    match named_origin(alloc, origin)? {
+        Some(origin) => Ok(Some(Command::Apply(origin))),
+        None => Ok(None),
+    }
+}
+
+// The origin that a word names, if it names one: `-` for none, else a name.
+fn named_origin(alloc: Global, word: &str) -> Result<Option<Option<Name>>, AllocError>
+    ensures { IfOk result (λ origin. origin ≡ origin_named word.now) }
+{
+    if word == "-" {
+        return Ok(Some(None));
+    }
+    match Name::parse(alloc, word, None) {
+        Ok(name) => Ok(Some(Some(name))),
         Err(ParseError::BadName) => Ok(None),
         Err(_) => Err(AllocError),
     }

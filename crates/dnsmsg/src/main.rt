@@ -1,6 +1,7 @@
 //! `dnsmsg`: DNS messages on the command line.
 #![tactic(auto)]
 
+mod apply_command;
 mod command;
 mod cut_command;
 mod header_command;

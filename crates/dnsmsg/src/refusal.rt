@@ -16,6 +16,8 @@ pub enum Refusal {
     Proto(ProtoError),
     /// The text is no zone's.
     Parse(ParseError),
+    /// A set or a record of the zone isn't of the class IN.
+    Class,
 }
 
 impl Refusal {
@@ -28,6 +30,7 @@ impl Refusal {
             Refusal::Decode(e) => e.number(),
             Refusal::Proto(e) => e.number(),
             Refusal::Parse(e) => e.number(),
+            Refusal::Class => 25,
         }
     }
 }

@@ -7,6 +7,7 @@ ghost use Rattle.dnsmsg.specs.Words.{texts};
 ghost use Rattle.dnsmsg.specs.ZoneWords.{behind_origin};
 ghost use Rattle.dnsmsg.specs.declared.command.Command.{Command as Asked};
 
+use crate::apply_command::apply;
 use crate::command::{Command, MessageCommand};
 use crate::cut_command::cut;
 use crate::header_command::header;
@@ -70,6 +71,7 @@ impl Command {
             Command::OnMessage(MessageCommand::Read) => read(alloc, text),
             Command::OnMessage(MessageCommand::Cut(limit)) => cut(alloc, text, limit),
             Command::Zone(origin) => zone(alloc, origin, behind_origin(words), text),
+            Command::Apply(origin) => apply(alloc, origin, behind_origin(words), text),
         }
     }
 }
@@ -79,7 +81,7 @@ fn behind_origin(words: &[String]) -> &[String]
     ensures { texts result.now ≡ behind_origin (texts words.now) }
 {
     match words {
-        [_, _, included @ ..] => included,
+        [_, _, others @ ..] => others,
         _ => &[],
     }
 }

@@ -39,7 +39,10 @@ pub fn zone(
 }
 
 // The texts that words hand in, by their names. The last word of a name stands.
-fn included_texts(alloc: Global, words: &[String]) -> Result<BTreeMap<String, String>, AllocError>
+pub(crate) fn included_texts(
+    alloc: Global,
+    words: &[String],
+) -> Result<BTreeMap<String, String>, AllocError>
     ensures { IfOk result (λ includes. (name : List ℕ) → texts_in includes name ≡ text_named (texts words.now) name) }
 {
     let mut includes = BTreeMap::new(alloc);
@@ -64,7 +67,7 @@ fn name_and_text(word: &str) -> (&str, &str)
 }
 
 // The origin and the records of the sets, a line each.
-fn zone_lines(
+pub(crate) fn zone_lines(
     alloc: Global,
     name: &Name,
     sets: BTreeMap<RrKey, RecordSet>,

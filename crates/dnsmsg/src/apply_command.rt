@@ -1,0 +1,134 @@
+//! The command `apply`.
+
+ghost use Rattle.std.specs.List.{list_all};
+ghost use Rattle.std.specs.Prelude.{◌≡◌, IfOk};
+ghost use Rattle.std.specs.String.{string_bytes};
+ghost use Rattle.base_data.specs.declared.rdata.RData.{RData};
+ghost use Rattle.dnsmsg.specs.Answering.{AnswersBy};
+ghost use Rattle.dnsmsg.specs.ApplyCommand.{ApplyAnswers, UpdatesSets, UpdatesText, are_sets_in, first_word, is_in as is_in_class, is_set_in, update_lines};
+ghost use Rattle.dnsmsg.specs.Words.{texts};
+ghost use Rattle.op.specs.Message.{message_value};
+ghost use Rattle.rr.specs.declared.record.Record.{Record as Entry};
+ghost use Rattle.txt.specs.ZoneSets.{AreKept};
+
+use crate::hex_input::decoded;
+use crate::refusal::Refusal;
+use crate::zone_command::{included_texts, zone_lines};
+use base::{DNSClass, Name, RrKey};
+use op::{Message, ResponseCode};
+use op_use::apply_update;
+use rr::{Record, RecordSet};
+use std::alloc::{AllocError, Global};
+use std::collections::BTreeMap;
+use std::str;
+use txt::Parser;
+
+/// What is printed of an update, whose bytes the first word spells in hexadecimal, and of the zone whose text this is:
+/// the name of the server's code, and the zone then, as `zone` prints it (RFC 2136, 3). No text is there to be included.
+///
+/// Refused with 24 for a word that isn't hexadecimal, with the number of the first fault of bytes that begin with no
+/// message, with 24 for a text that isn't UTF-8, with the number of what the parser refuses, with 25 for a set or a record
+/// of another class than IN, and for want of memory.
+pub fn apply(
+    alloc: Global,
+    origin: Option<Name>,
+    words: &[String],
+    text: &[u8],
+) -> Result<String, Refusal>
+    ensures { ApplyAnswers origin (texts words.now) text.now result }
+{
+    let bytes = decoded(alloc, first_word(words).as_bytes())?;
+    let message = Message::from_vec(alloc, &bytes)?;
+    apply_to_text(alloc, &message, origin, text)
+}
+
+fn first_word(words: &[String]) -> &str
+    ensures { result.now ≡ first_word (texts words.now) }
+{
+    match words {
+        [word, ..] => word.as_str(),
+        _ => "",
+    }
+}
+
+fn apply_to_text(
+    alloc: Global,
+    message: &Message,
+    origin: Option<Name>,
+    text: &[u8],
+) -> Result<String, Refusal>
+    ensures { AnswersBy (UpdatesText (message_value message.now) origin text.now) result }
+{
+    let Ok(text) = str::from_utf8(text) else {
+        return Err(Refusal::Input);
+    };
+    let includes = included_texts(alloc, &[])?;
+    let (name, sets) = Parser::new(alloc, text, &includes, origin).parse()?;
+    apply_to_sets(alloc, message, &name, &sets)
+}
+
+fn apply_to_sets(
+    alloc: Global,
+    message: &Message,
+    name: &Name,
+    sets: &BTreeMap<RrKey, RecordSet>,
+) -> Result<String, Refusal>
+    requires { AreKept sets.now.entries }
+    ensures { AnswersBy (UpdatesSets (message_value message.now) name.now sets.now) result }
+{
+    if !are_sets_in(sets) {
+        return Err(Refusal::Class);
+    }
+    let (code, changed) = apply_update(alloc, sets, name, DNSClass::IN, message)?;
+    Ok(update_lines(alloc, code, name, changed)?)
+}
+
+// Whether each set and each record is of the class IN.
+fn are_sets_in(sets: &BTreeMap<RrKey, RecordSet>) -> bool
+    ensures { result ≡ are_sets_in sets.now.entries }
+{
+    for set in sets.values() {
+        if !is_set_in(set) {
+            return false;
+        }
+    }
+    true
+}
+
+fn is_set_in(set: &RecordSet) -> bool
+    ensures { result ≡ is_set_in set.now }
+{
+    is_in(set.dns_class()) && are_records_in(set)
+}
+
+fn are_records_in(set: &RecordSet) -> bool
+    ensures { result ≡ list_all (λ (r : Entry RData). is_in_class r.dns_class) set.now.records }
+{
+    for entry in set.records_without_rrsigs() {
+        if !is_in(entry.dns_class) {
+            return false;
+        }
+    }
+    true
+}
+
+fn is_in(class: DNSClass) -> bool
+    ensures { result ≡ is_in_class class }
+{
+    matches!(class, DNSClass::IN)
+}
+
+// The code and the zone.
+fn update_lines(
+    alloc: Global,
+    code: ResponseCode,
+    name: &Name,
+    sets: BTreeMap<RrKey, RecordSet>,
+) -> Result<String, AllocError>
+    ensures { IfOk result (λ lines. string_bytes lines ≡ update_lines code (name.now, sets.entries)) }
+{
+    let word = code.name().unwrap_or("");
+    let mut lines = format!(in alloc; "{word}\n")?;
+    lines.push_str(&zone_lines(alloc, name, sets)?)?;
+    Ok(lines)
+}
