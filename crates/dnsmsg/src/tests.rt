@@ -4,6 +4,7 @@
 //! Each test is proved, which costs most where a function lets go of several values: so the runs are made in small
 //! functions, and a test goes over plain rows.
 
+mod applies;
 mod broken_streams;
 mod cut_rows;
 mod cut_tables;
