@@ -1,10 +1,9 @@
 //! The kinds of record data, each in a file of its own, and the data of any record: what goes through all kinds
 //! stands here.
 
-ghost use Rattle.std.specs.Prelude.{◌≡◌, ◌<◌, ◌≤◌, [], OnOk, Some, take};
-ghost use Rattle.base.specs.Laws.{Keeps, Writes};
+ghost use Rattle.std.specs.Prelude.{◌≡◌, ◌<◌, ◌≤◌, [], Some, take};
+ghost use Rattle.base.specs.Laws.{Writes};
 ghost use Rattle.base.specs.Reading.{Reads};
-ghost use Rattle.base.specs.Wire.{state_of, Refuses};
 ghost use Rattle.base_data.specs.Kinds.{DataWord, WritesNames, canonical_data, data_text, kind_at, kind_rank, name_flags, plain_data, type_of_data};
 ghost use Rattle.base_data.specs.RData.{is_empty_data};
 
@@ -258,19 +257,13 @@ impl BinEncodable for RData {
 
     ghost plain_len = { plain_data };
 
-    ghost owner = { λ _. [] };
+    ghost names = { WritesNames };
 
     /// Writes the data as its kind is written, names of NS, CNAME, PTR, MX and SOA with compression and all other
     /// data without it, and nothing for empty data (RFC 1035, 3.3; RFC 3597, 4).
     ///
     /// Refused with `MaxBufferSizeExceeded` where a byte would pass the limit, and with `Memory` for want of it.
-    fn emit(&self, encoder: &mut BinEncoder<'_>) -> Result<(), ProtoError>
-        ensures keeps { Keeps (state_of encoder.old) (state_of encoder.new) }
-        ensures writes { OnOk result (Writes (DataWord self.now) (plain_data self.now) []
-            (state_of encoder.old) (state_of encoder.new)) }
-        ensures refuses { Refuses (plain_data self.now) (state_of encoder.old) result }
-        ensures names { OnOk result (WritesNames self.now (state_of encoder.old) (state_of encoder.new)) }
-    {
+    fn emit(&self, encoder: &mut BinEncoder<'_>) -> Result<(), ProtoError> {
         match self {
             RData::A(rdata) => rdata.emit(encoder),
             RData::AAAA(rdata) => rdata.emit(encoder),

@@ -101,8 +101,6 @@ impl BinEncodable for Header {
 
     ghost plain_len = { λ _. 12 };
 
-    ghost owner = { λ _. [] };
-
     /// Writes the twelve bytes of the header, as `to_bytes` has them (RFC 1035, 4.1.1).
     ///
     /// Refused, with nothing written, with `MaxBufferSizeExceeded` where a byte would pass the limit, and with `Memory`

@@ -21,6 +21,8 @@ impl BinEncodable for Name {
 
     ghost owner = { λ n. n.labels };
 
+    ghost names = { λ n. StoresSuffixes n.labels };
+
     /// Writes the name, letters as they are; whether it is absolute isn't written.
     ///
     /// Ends with a pointer at the first suffix of it, but the root, that was stored with the same labels
@@ -29,13 +31,7 @@ impl BinEncodable for Name {
     ///
     /// Refused with `MaxBufferSizeExceeded` where a byte would pass the limit, and with `Memory` for want of it. What
     /// stood before stays, and labels that were written before the refusal stand behind it.
-    fn emit(&self, encoder: &mut BinEncoder<'_>) -> Result<(), ProtoError>
-        ensures keeps { Keeps (state_of encoder.old) (state_of encoder.new) }
-        ensures writes { OnOk result (Writes (NameAt self.now.labels) (plain_len self.now.labels) self.now.labels
-            (state_of encoder.old) (state_of encoder.new)) }
-        ensures refuses { Refuses (plain_len self.now.labels) (state_of encoder.old) result }
-        ensures stores { OnOk result (StoresSuffixes self.now.labels (state_of encoder.old) (state_of encoder.new)) }
-    {
+    fn emit(&self, encoder: &mut BinEncoder<'_>) -> Result<(), ProtoError> {
         let mut rest = self.as_wire();
         while let Some((label, tail)) = first_label(rest) {
             if let Some(offset) = encoder.find(rest) {

@@ -10,18 +10,22 @@ use crate::wire::encoder::BinEncoder;
 /// A value that can be written.
 ///
 /// `word` relates a buffer to the places where what is written of the value begins and ends there,
-/// `plain_len` is how many bytes it takes with every name uncompressed, and `owner` are the labels of
-/// the name of a question or record, none for all else.
+/// `plain_len` is how many bytes it takes with every name uncompressed, `owner` are the labels of the name
+/// of a question or record, none for all else, and `names` says how its names are written, nothing where it
+/// has none.
 pub trait BinEncodable {
-    ghost use Rattle.std.specs.Prelude.{ℕ, List, OnOk};
+    ghost use Rattle.std.specs.Prelude.{ℕ, List, [], OnOk};
     ghost use Rattle.base.specs.Laws.{Keeps, Writes};
+    ghost use Rattle.base.specs.State.{State};
     ghost use Rattle.base.specs.Wire.{state_of, Refuses};
 
     ghost word: { Self → List ℕ → ℕ → ℕ → Type 0 };
 
     ghost plain_len: { Self → ℕ };
 
-    ghost owner: { Self → List (List ℕ) };
+    ghost owner: { Self → List (List ℕ) } = { λ _. [] };
+
+    ghost names: { Self → State → State → Type 0 } = { λ _ _ _. Unit {0} };
 
     /// Writes the value behind what the encoder holds (RFC 1035, 4.1).
     ///
@@ -31,7 +35,8 @@ pub trait BinEncodable {
         ensures keeps { Keeps (state_of encoder.old) (state_of encoder.new) }
         ensures writes { OnOk result (Writes (word self.now) (plain_len self.now) (owner self.now)
             (state_of encoder.old) (state_of encoder.new)) }
-        ensures refuses { Refuses (plain_len self.now) (state_of encoder.old) result };
+        ensures refuses { Refuses (plain_len self.now) (state_of encoder.old) result }
+        ensures names { OnOk result (names self.now (state_of encoder.old) (state_of encoder.new)) };
 }
 
 /// A value that takes as many bytes whatever it is, so that room can be kept for it.
@@ -58,8 +63,6 @@ impl BinEncodable for u16 {
 
     ghost plain_len = { λ _. 2 };
 
-    ghost owner = { λ _. [] };
-
     fn emit(&self, encoder: &mut BinEncoder<'_>) -> Result<(), ProtoError> {
         let number = *self;
         encoder.emit_u16(number)
@@ -72,6 +75,8 @@ impl<E: BinEncodable> BinEncodable for &E {
     ghost plain_len = { λ e. E.plain_len e.now };
 
     ghost owner = { λ e. E.owner e.now };
+
+    ghost names = { λ e. E.names e.now };
 
     fn emit(&self, encoder: &mut BinEncoder<'_>) -> Result<(), ProtoError> {
         let value: &E = self;

@@ -1,6 +1,6 @@
 //! Types and classes, each a number of two bytes (RFC 1035, 3.2.1 and 4.1.2).
 
-ghost use Rattle.std.specs.Prelude.{[], Ok};
+ghost use Rattle.std.specs.Prelude.{Ok};
 ghost use Rattle.std.specs.Int.{w16};
 ghost use Rattle.base.specs.DNSClass.{class_number, class_of};
 ghost use Rattle.base.specs.Reading.{number_at, ◌>>=◌};
@@ -19,8 +19,6 @@ impl BinEncodable for RecordType {
     ghost word = { λ t. Number w16 (type_number t) };
 
     ghost plain_len = { λ _. 2 };
-
-    ghost owner = { λ _. [] };
 
     fn emit(&self, encoder: &mut BinEncoder<'_>) -> Result<(), ProtoError> {
         u16::from(*self).emit(encoder)
@@ -41,8 +39,6 @@ impl BinEncodable for DNSClass {
     ghost word = { λ c. Number w16 (class_number c) };
 
     ghost plain_len = { λ _. 2 };
-
-    ghost owner = { λ _. [] };
 
     fn emit(&self, encoder: &mut BinEncoder<'_>) -> Result<(), ProtoError> {
         u16::from(*self).emit(encoder)

@@ -1,6 +1,6 @@
 //! Addresses of four bytes.
 
-ghost use Rattle.std.specs.Prelude.{◌≡◌, [], Some, refl};
+ghost use Rattle.std.specs.Prelude.{◌≡◌, Some, refl};
 ghost use Rattle.std.specs.Net.Addr.{ipv4_octets};
 ghost use Rattle.std.specs.Net.Text.{ipv4_text};
 ghost use Rattle.base.specs.Words.{Bytes};
@@ -58,8 +58,6 @@ impl BinEncodable for A {
     ghost word = { λ a. Bytes a.octets };
 
     ghost plain_len = { λ _. 4 };
-
-    ghost owner = { λ _. [] };
 
     /// Writes the four bytes (RFC 1035, 3.4.1).
     ///

@@ -1,6 +1,6 @@
 //! Addresses of sixteen bytes.
 
-ghost use Rattle.std.specs.Prelude.{◌≡◌, ◌+◌, ◌++◌, ◌≤◌, ℕ, List, [], Some, codes, take, drop, refl};
+ghost use Rattle.std.specs.Prelude.{◌≡◌, ◌+◌, ◌++◌, ◌≤◌, ℕ, List, Some, codes, take, drop, refl};
 ghost use Rattle.std.specs.Net.Addr.{ipv6_octets, ipv6_segments, segments_of};
 ghost use Rattle.std.specs.Net.Text.{groups_text};
 ghost use Rattle.base.specs.Words.{Bytes};
@@ -60,8 +60,6 @@ impl BinEncodable for AAAA {
     ghost word = { λ a. Bytes a.octets };
 
     ghost plain_len = { λ _. 16 };
-
-    ghost owner = { λ _. [] };
 
     /// Writes the sixteen bytes (RFC 3596, 2.2).
     ///

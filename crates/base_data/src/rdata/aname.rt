@@ -1,10 +1,8 @@
 //! Names whose addresses another name has too.
 
-ghost use Rattle.std.specs.Prelude.{◌≡◌, OnOk, Some, [], refl};
-ghost use Rattle.base.specs.Laws.{Keeps, Writes};
-ghost use Rattle.base.specs.State.{appended};
-ghost use Rattle.base.specs.Wire.{state_of, Refuses};
-ghost use Rattle.base_data.specs.ANAME.{aname_at, aname_kind, aname_wire, aname_of};
+ghost use Rattle.std.specs.Prelude.{◌≡◌, Some, refl};
+ghost use Rattle.base.specs.Laws.{Writes};
+ghost use Rattle.base_data.specs.ANAME.{aname_at, aname_kind, aname_of};
 ghost use Rattle.base_data.specs.Kinds.{aname_in};
 ghost use Rattle.base_data.specs.declared.rdata.RData.TheVariants as kinds;
 
@@ -70,18 +68,12 @@ impl BinEncodable for ANAME {
 
     ghost plain_len = { λ x. (aname_kind x).plain };
 
-    ghost owner = { λ _. [] };
+    ghost names = { λ x. (aname_kind x).names };
 
     /// Writes the name without compression (RFC 3597, 4).
     ///
     /// Refused with `MaxBufferSizeExceeded` where a byte would pass the limit, and with `Memory` for want of it.
-    fn emit(&self, encoder: &mut BinEncoder<'_>) -> Result<(), ProtoError>
-        ensures keeps { Keeps (state_of encoder.old) (state_of encoder.new) }
-        ensures writes { OnOk result (Writes (aname_kind self.now).word (aname_kind self.now).plain []
-            (state_of encoder.old) (state_of encoder.new)) }
-        ensures refuses { Refuses (aname_kind self.now).plain (state_of encoder.old) result }
-        ensures names { OnOk result (state_of encoder.new ≡ appended (aname_wire self.now) (state_of encoder.old)) }
-    {
+    fn emit(&self, encoder: &mut BinEncoder<'_>) -> Result<(), ProtoError> {
         self.name.emit_plain(encoder)
     }
 }

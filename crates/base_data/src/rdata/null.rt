@@ -1,6 +1,6 @@
 //! Data that is only carried.
 
-ghost use Rattle.std.specs.Prelude.{◌≡◌, [], Some, length, refl};
+ghost use Rattle.std.specs.Prelude.{◌≡◌, Some, length, refl};
 ghost use Rattle.std.specs.Cmp.{partial_equiv_from_equiv};
 ghost use Rattle.base.specs.Reading.{Reads, bytes_at};
 ghost use Rattle.base.specs.Words.{Bytes};
@@ -97,8 +97,6 @@ impl BinEncodable for NULL {
     ghost word = { Bytes };
 
     ghost plain_len = { length };
-
-    ghost owner = { λ _. [] };
 
     /// Writes the bytes as they are (RFC 1035, 3.3.10; RFC 3597, 3).
     ///

@@ -1,6 +1,6 @@
 //! EDNS options.
 
-ghost use Rattle.std.specs.Prelude.{◌≡◌, [], OnOk, OnErr, position, refl, Some};
+ghost use Rattle.std.specs.Prelude.{◌≡◌, OnOk, OnErr, position, refl, Some};
 ghost use Rattle.std.specs.Cmp.{partial_equiv_from_equiv};
 ghost use Rattle.std.specs.Option.{option_copied};
 ghost use Rattle.base.specs.Reading.{Reads};
@@ -137,8 +137,6 @@ impl BinEncodable for OPT {
     ghost word = { options_word };
 
     ghost plain_len = { options_len };
-
-    ghost owner = { λ _. [] };
 
     /// Writes each option: its code, the number of its bytes, and its bytes (RFC 6891, 6.1.2).
     ///

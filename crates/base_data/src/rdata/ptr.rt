@@ -1,9 +1,7 @@
 //! Pointers to names.
 
-ghost use Rattle.std.specs.Prelude.{◌≡◌, OnOk, Some, [], refl};
-ghost use Rattle.base.specs.Laws.{Keeps, Writes};
-ghost use Rattle.base.specs.Wire.{state_of, Refuses};
-ghost use Rattle.base_data.specs.NameData.{IsCompressed};
+ghost use Rattle.std.specs.Prelude.{◌≡◌, Some, refl};
+ghost use Rattle.base.specs.Laws.{Writes};
 ghost use Rattle.base_data.specs.PTR.{ptr_at, ptr_kind, ptr_of};
 ghost use Rattle.base_data.specs.Kinds.{ptr_in};
 ghost use Rattle.base_data.specs.declared.rdata.RData.TheVariants as kinds;
@@ -70,18 +68,12 @@ impl BinEncodable for PTR {
 
     ghost plain_len = { λ x. (ptr_kind x).plain };
 
-    ghost owner = { λ _. [] };
+    ghost names = { λ x. (ptr_kind x).names };
 
     /// Writes the name with compression (RFC 1035, 3.3.12 and 4.1.4).
     ///
     /// Refused with `MaxBufferSizeExceeded` where a byte would pass the limit, and with `Memory` for want of it.
-    fn emit(&self, encoder: &mut BinEncoder<'_>) -> Result<(), ProtoError>
-        ensures keeps { Keeps (state_of encoder.old) (state_of encoder.new) }
-        ensures writes { OnOk result (Writes (ptr_kind self.now).word (ptr_kind self.now).plain []
-            (state_of encoder.old) (state_of encoder.new)) }
-        ensures refuses { Refuses (ptr_kind self.now).plain (state_of encoder.old) result }
-        ensures names { OnOk result (IsCompressed self.now.name.labels (state_of encoder.old) (state_of encoder.new)) }
-    {
+    fn emit(&self, encoder: &mut BinEncoder<'_>) -> Result<(), ProtoError> {
         self.name.emit(encoder)
     }
 }

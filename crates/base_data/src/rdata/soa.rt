@@ -1,8 +1,7 @@
 //! Starts of zones.
 
-ghost use Rattle.std.specs.Prelude.{◌≡◌, OnOk, Some, [], refl};
-ghost use Rattle.base.specs.Laws.{Keeps, Writes};
-ghost use Rattle.base.specs.Wire.{state_of, Refuses};
+ghost use Rattle.std.specs.Prelude.{◌≡◌, Some, refl};
+ghost use Rattle.base.specs.Laws.{Writes};
 ghost use Rattle.base_data.specs.SOA.{SOAFits, SOAWord, soa_at, plain_soa, soa_numbers, soa_text, CompressesSOA, soa_of};
 ghost use Rattle.base_data.specs.Kinds.{soa_in};
 ghost use Rattle.base_data.specs.declared.rdata.RData.TheVariants as kinds;
@@ -152,18 +151,12 @@ impl BinEncodable for SOA {
 
     ghost plain_len = { plain_soa };
 
-    ghost owner = { λ _. [] };
+    ghost names = { CompressesSOA };
 
     /// Writes the fields one behind the other, names with compression (RFC 1035, 3.3.13 and 4.1.4).
     ///
     /// Refused with `MaxBufferSizeExceeded` where a byte would pass the limit, and with `Memory` for want of it.
-    fn emit(&self, encoder: &mut BinEncoder<'_>) -> Result<(), ProtoError>
-        ensures keeps { Keeps (state_of encoder.old) (state_of encoder.new) }
-        ensures writes { OnOk result (Writes (SOAWord self.now) (plain_soa self.now) []
-            (state_of encoder.old) (state_of encoder.new)) }
-        ensures refuses { Refuses (plain_soa self.now) (state_of encoder.old) result }
-        ensures names { OnOk result (CompressesSOA self.now (state_of encoder.old) (state_of encoder.new)) }
-    {
+    fn emit(&self, encoder: &mut BinEncoder<'_>) -> Result<(), ProtoError> {
         self.mname.emit(encoder)?;
         self.rname.emit(encoder)?;
         emit_bytes(&self.number_octets(), encoder)

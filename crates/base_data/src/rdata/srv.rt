@@ -1,10 +1,8 @@
 //! Hosts that have a service.
 
-ghost use Rattle.std.specs.Prelude.{◌≡◌, OnOk, Some, [], refl};
-ghost use Rattle.base.specs.Laws.{Keeps, Writes};
-ghost use Rattle.base.specs.State.{appended};
-ghost use Rattle.base.specs.Wire.{state_of, Refuses};
-ghost use Rattle.base_data.specs.SRV.{SRVFits, SRVWord, srv_at, plain_srv, srv_numbers, srv_text, srv_wire, srv_of};
+ghost use Rattle.std.specs.Prelude.{◌≡◌, Some, refl};
+ghost use Rattle.base.specs.Laws.{Writes};
+ghost use Rattle.base_data.specs.SRV.{SRVFits, SRVWord, srv_at, plain_srv, srv_kind, srv_numbers, srv_text, srv_of};
 ghost use Rattle.base_data.specs.Kinds.{srv_in};
 ghost use Rattle.base_data.specs.declared.rdata.RData.TheVariants as kinds;
 
@@ -109,18 +107,12 @@ impl BinEncodable for SRV {
 
     ghost plain_len = { plain_srv };
 
-    ghost owner = { λ _. [] };
+    ghost names = { λ x. (srv_kind x).names };
 
     /// Writes the fields one behind the other, the name without compression (RFC 2782; RFC 3597, 4).
     ///
     /// Refused with `MaxBufferSizeExceeded` where a byte would pass the limit, and with `Memory` for want of it.
-    fn emit(&self, encoder: &mut BinEncoder<'_>) -> Result<(), ProtoError>
-        ensures keeps { Keeps (state_of encoder.old) (state_of encoder.new) }
-        ensures writes { OnOk result (Writes (SRVWord self.now) (plain_srv self.now) []
-            (state_of encoder.old) (state_of encoder.new)) }
-        ensures refuses { Refuses (plain_srv self.now) (state_of encoder.old) result }
-        ensures names { OnOk result (state_of encoder.new ≡ appended (srv_wire self.now) (state_of encoder.old)) }
-    {
+    fn emit(&self, encoder: &mut BinEncoder<'_>) -> Result<(), ProtoError> {
         emit_bytes(&self.number_octets(), encoder)?;
         self.target.emit_plain(encoder)
     }

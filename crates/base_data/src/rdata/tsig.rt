@@ -101,8 +101,6 @@ impl BinEncodable for TSIG {
 
     ghost plain_len = { length };
 
-    ghost owner = { λ _. [] };
-
     /// Writes the bytes as they are (RFC 8945, 4.2).
     ///
     /// Refused with `MaxBufferSizeExceeded` where a byte would pass the limit, and with `Memory` for want of it.

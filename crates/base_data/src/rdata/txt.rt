@@ -149,8 +149,6 @@ impl BinEncodable for TXT {
 
     ghost plain_len = { λ t. length (wire_of t) };
 
-    ghost owner = { λ _. [] };
-
     /// Writes each string behind its length (RFC 1035, 3.3 and 3.3.14).
     ///
     /// Refused with `MaxBufferSizeExceeded` where a byte would pass the limit, and with `Memory` for want of it.

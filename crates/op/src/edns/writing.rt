@@ -44,8 +44,6 @@ impl BinEncodable for Edns {
 
     ghost plain_len = { plain_edns };
 
-    ghost owner = { λ _. [] };
-
     /// Writes the OPT record: a zero byte for the root, the type, the payload size, the high code, the version and
     /// the flags, and the options behind the number of their bytes (RFC 6891, 6.1.2 and 6.1.3).
     ///

@@ -1,6 +1,6 @@
 //! An EDNS option.
 
-ghost use Rattle.std.specs.Prelude.{◌≡◌, ◌≤◌, [], length, refl};
+ghost use Rattle.std.specs.Prelude.{◌≡◌, ◌≤◌, length};
 ghost use Rattle.std.specs.Cmp.{partial_equiv_from_equiv};
 ghost use Rattle.base_data.specs.Equality.{same_option-equiv};
 ghost use Rattle.base_data.specs.OPT.{option_at, option_len, option_word, same_option};
@@ -82,8 +82,6 @@ impl BinEncodable for EdnsOption {
     ghost word = { option_word };
 
     ghost plain_len = { option_len };
-
-    ghost owner = { λ _. [] };
 
     /// Writes the code, the number of the bytes, and the bytes (RFC 6891, 6.1.2).
     ///

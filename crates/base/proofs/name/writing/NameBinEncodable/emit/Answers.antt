@@ -76,16 +76,16 @@ pub returns-clause-writes : goal.returns-clause-writes
 returns-clause-writes c =
     on_ok_both c.emit.result (λ is within. Progress-root _ _ _ _ _ c.loop-label.invariant.progress c.in_default.ensures.labels is within c.as_wire-rest.ensures.plain) c.emit.ensures.ok c.emit.ensures.within
 
-pub returns-in-Some-find-clause-stores : goal.returns-in-Some-find-clause-stores
-returns-in-Some-find-clause-stores c =
+pub returns-in-Some-find-clause-names : goal.returns-in-Some-find-clause-names
+returns-in-Some-find-clause-names c =
     let s = state_of c.loop-label.encoder in
     on_ok_weaker c.emit_u16.result
     (λ is. Progress-stores _ _ _ s (state_of c.emit_u16.new.self) c.loop-label.invariant.progress (ap (λ (z : State). z.suffixes) is)
     (omega (arith, ap (λ (z : State). length z.bytes) is, length-append s.bytes (to_be_bytes w16 (49152 + c.in-Some-find.offset)))))
     c.emit_u16.ensures.ok
 
-pub returns-clause-stores : goal.returns-clause-stores
-returns-clause-stores c =
+pub returns-clause-names : goal.returns-clause-names
+returns-clause-names c =
     let s = state_of c.loop-label.encoder in
     on_ok_weaker c.emit.result
     (λ is. Progress-stores _ _ _ s (state_of c.emit.new.self) c.loop-label.invariant.progress (ap (λ (z : State). z.suffixes) is)
