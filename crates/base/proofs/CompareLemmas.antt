@@ -3,6 +3,7 @@ use Rattle.std.proofs.Common.{◌≡◌, ℕ, zero, suc, ◌+◌, ◌-◌, ◌�
 use Rattle.std.proofs.lemmas.Bool.Decides.{nat_tests}
 use Rattle.std.specs.declared.cmp.Ordering.{Ordering}
 use Rattle.std.specs.declared.cmp.Ordering.TheVariants.{Less, Equal, Greater}
+use Rattle.std.specs.Cmp.{Equal-is}
 use Rattle.std.specs.Cmp.Lexicographic.{bytes_decides, slice_cmp}
 use Rattle.std.specs.Ordering.{bool_cmp, nat_cmp, ordering_then}
 use Rattle.std.specs.Prelude.{IsTrue, ◌↔◌, nat_lt}
@@ -12,7 +13,8 @@ use Rattle.std.proofs.lemmas.Bool.{cond-true, lt-ltb}
 use Rattle.std.proofs.lemmas.Slice.Eq.{ends_is}
 use Rattle.std.proofs.lemmas.List.{map-append, drop-map, length-map, length-reverse, length-take-le, reverse-append, take-append-drop, drop_at, drop_all, drop-drop}
 use Rattle.base.specs.Labels.{NameValue, AreLabels, IsWire, wire_of, labels_of}
-use Rattle.base.specs.NameOrder.{folded, folded_labels, is_zone_of, lowered, same_labels, labels_cmp, labels_decide, name_cmp}
+use Rattle.base.specs.NameOrder.{folded, folded_labels, is_zone_of, lowered, same_labels, labels_cmp, name_cmp}
+use Rattle.base.specs.NameOrderLaws.{labels_decide, labels_tie}
 use Rattle.base.proofs.LabelLemmas.{IsWire-wire_of, labels_of-wire_of, labels_of_is, length-wire_of}
 
 -- no length of a label is an ASCII letter
@@ -178,6 +180,15 @@ labels_cmp-step us vs x y xs ys order label next us_is vs_is same label_is next_
     ∙ sym (labels_cmp-cons x y xs ys order same)
     ∙ ap (λ (zs : List (List ℕ)). ordering_then (labels_cmp (folded_labels zs) (folded_labels (y ∷ ys))) order) (sym us_is)
     ∙ ap (λ (zs : List (List ℕ)). ordering_then (labels_cmp (folded_labels us) (folded_labels zs)) order) (sym vs_is)
+
+-- labels that are the same are in one place
+labels_cmp-itself : (xs : List (List ℕ)) → labels_cmp xs xs ≡ Equal
+labels_cmp-itself xs = (Equal-is (labels_cmp xs xs)).0 (sym (labels_tie xs xs) ∙ (labels_decide xs xs).1 refl)
+
+-- behind the same labels the order of those before decides
+pub labels_cmp-same : (xs ys : List (List ℕ)) (order next : Ordering) → xs ≡ ys → ordering_then (labels_cmp (folded_labels xs) (folded_labels ys)) order ≡ next → order ≡ next
+labels_cmp-same xs ys order next same is =
+    sym (ap (λ (o : Ordering). ordering_then o order) (ap (λ (zs : List (List ℕ)). labels_cmp (folded_labels xs) (folded_labels zs)) (sym same) ∙ labels_cmp-itself (folded_labels xs))) ∙ is
 
 -- past the last label there is nothing
 pub drop_to_none : (labels : List (List ℕ)) (m n : ℕ) → m ≤ n → drop m labels ≡ [] → drop n labels ≡ []

@@ -8,7 +8,8 @@ use Rattle.std.specs.Ordering.{is_eq, nat_cmp, ordering_then}
 use Rattle.base.specs.declared.record_type.RecordType.{RecordType}
 use Rattle.base.specs.declared.record_type.RecordType.TheVariants as types
 use Rattle.base.specs.declared.rr_key.RrKey.{RrKey}
-use Rattle.base.specs.NameOrder.{cmp_by-total, exact, lower_cmp, lower_cmp-exact}
+use Rattle.base.specs.NameOrder.{exact, lower_cmp}
+use Rattle.base.specs.NameOrderLaws.{cmp_by-total, lower_cmp-exact}
 use Rattle.base.specs.RrKey.{key_cmp}
 use Rattle.base.specs.contracts.record_type.RecordTypeOrd.TheImpl.Laws.{total-law}
 use Rattle.base.specs.RecordType.{type_cmp, type_number, type_of, type_rank}

@@ -9,6 +9,7 @@ pub mod Laws
 pub mod Many
 pub mod NameOf
 pub mod NameOrder
+pub mod NameOrderLaws
 pub mod NameText
 pub mod Names
 pub mod ParseError

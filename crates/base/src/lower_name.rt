@@ -5,7 +5,8 @@ ghost use Rattle.std.specs.Cmp.{partial_equiv_from_equiv};
 ghost use Rattle.std.specs.Ordering.{as_partial_cmp};
 ghost use Rattle.base.specs.Labels.{NameValue};
 ghost use Rattle.base.specs.NameText.{name_text};
-ghost use Rattle.base.specs.NameOrder.{exact, folded, lowered, same_lower, lower_cmp, lower_fed, same_by-equiv, same_by-tie, cmp_by-total, cmp_by-partial, fed_by-same};
+ghost use Rattle.base.specs.NameOrder.{exact, folded, lowered, same_lower, lower_cmp, lower_fed};
+ghost use Rattle.base.specs.NameOrderLaws.{same_by-equiv, same_by-tie, cmp_by-total, cmp_by-partial, fed_by-same};
 
 use crate::name::Name;
 use std::alloc::AllocError;

@@ -4,7 +4,8 @@ use Rattle.std.proofs.lemmas.List.{append_cancel_right}
 use Rattle.std.specs.Prelude.{OnOk}
 use Rattle.base.specs.Labels.{NameValue, wire_of}
 use Rattle.base.specs.Laws.{StoresSuffixes, Writes}
-use Rattle.base.specs.NameOrder.{canonical_name, folded, same_by-is, same_name}
+use Rattle.base.specs.NameOrder.{canonical_name, folded, same_name}
+use Rattle.base.specs.NameOrderLaws.{same_by-is}
 use Rattle.base.specs.Spelling.SpelledIn.{ends, label, pointer}
 use Rattle.base.specs.Spelling.{IsNameAt, Spelled, SpelledIn, anywhere}
 use Rattle.base.specs.State.{State}

@@ -20,6 +20,7 @@ mod names;
 mod read_refusals;
 mod read_rows;
 mod records;
+mod refused_memory;
 mod responses;
 mod sets;
 mod texts;

@@ -8,7 +8,8 @@ use Rattle.std.specs.Cmp.{booleans_Decides, first_so, second_so}
 use Rattle.std.specs.Ordering.{eq_by_cmp}
 use Rattle.std.proofs.lemmas.Bool.{cond-true, cond-false, false_from_ne_true, true≢false}
 use Rattle.base.specs.Labels.{NameValue}
-use Rattle.base.specs.NameOrder.{folded, is_zone_of, labels_decide, lowered, same_name}
+use Rattle.base.specs.NameOrder.{folded, is_zone_of, lowered, same_name}
+use Rattle.base.specs.NameOrderLaws.{labels_decide}
 use Rattle.base_data.specs.Kinds.{type_of_data}
 use Rattle.base_data.specs.declared.rdata.RData.{RData}
 use Rattle.base.specs.RecordType.{type_number}

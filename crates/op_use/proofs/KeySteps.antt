@@ -1,7 +1,8 @@
 -- When the keys of sets are the same.
 use Rattle.base.specs.Keys.{keys_match}
 use Rattle.base.specs.Labels.{NameValue}
-use Rattle.base.specs.NameOrder.{folded, lower_cmp, lowered, same_by-tie, same_name}
+use Rattle.base.specs.NameOrder.{folded, lower_cmp, lowered, same_name}
+use Rattle.base.specs.NameOrderLaws.{same_by-tie}
 use Rattle.base.specs.RecordType.{same_type, type_cmp, type_number, type_rank}
 use Rattle.base.specs.RrKey.{key_cmp, key_of}
 use Rattle.base.specs.declared.record_type.RecordType.{RecordType}

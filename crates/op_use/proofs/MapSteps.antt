@@ -1,6 +1,7 @@
 -- Steps of changing a map of record sets.
 use Rattle.base.specs.Labels.{NameValue}
-use Rattle.base.specs.NameOrder.{exact, lowered, same_by-equiv}
+use Rattle.base.specs.NameOrder.{exact, lowered}
+use Rattle.base.specs.NameOrderLaws.{same_by-equiv}
 use Rattle.base.specs.RrKey.{key_cmp, key_of}
 use Rattle.base.specs.declared.dns_class.DNSClass.{DNSClass}
 use Rattle.base.specs.declared.record_type.RecordType.{RecordType}

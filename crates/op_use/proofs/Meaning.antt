@@ -6,7 +6,8 @@ use Rattle.std.specs.FinMap as fin
 use Rattle.std.specs.Ordering.{on, eq_by_cmp}
 use Rattle.std.proofs.lemmas.Bool.{cond-true, cond-false, and_parts}
 use Rattle.base.specs.Labels.{NameValue}
-use Rattle.base.specs.NameOrder.{folded, is_zone_of, same_by-equiv, same_name}
+use Rattle.base.specs.NameOrder.{folded, is_zone_of, same_name}
+use Rattle.base.specs.NameOrderLaws.{same_by-equiv}
 use Rattle.base_data.specs.Kinds.{type_of_data}
 use Rattle.base_data.specs.declared.rdata.RData.{RData}
 use Rattle.base.specs.declared.record_type.RecordType.{RecordType}

@@ -8,7 +8,8 @@ use Rattle.std.specs.Ordering.{is_eq, nat_cmp, ordering_then}
 use Rattle.std.specs.declared.cmp.Ordering.{Ordering}
 use Rattle.std.specs.declared.cmp.Ordering.TheVariants.{Less, Equal, Greater}
 use Rattle.base.specs.DNSClass.{class_cmp}
-use Rattle.base.specs.NameOrder.{folded, name_cmp, same_by-tie, same_name}
+use Rattle.base.specs.NameOrder.{folded, name_cmp, same_name}
+use Rattle.base.specs.NameOrderLaws.{same_by-tie}
 use Rattle.base.specs.Keys.{keys_match}
 use Rattle.base.specs.RecordType.{same_type, type_cmp, type_number, type_rank}
 use Rattle.base.specs.declared.dns_class.DNSClass.{DNSClass}
@@ -18,7 +19,8 @@ use Rattle.base_data.specs.DataOrder.{data_cmp}
 use Rattle.base_data.proofs.DataTies.{data_ties}
 use Rattle.base_data.specs.contracts.rdata.RDataPartialEq.TheImpl.{ghosts as equality}
 use Rattle.base_data.specs.declared.rdata.RData.{RData}
-use Rattle.rr.specs.RecordOrder.{class_cmp-total, record_cmp, type_cmp-total}
+use Rattle.rr.specs.RecordOrder.{record_cmp}
+use Rattle.rr.specs.RecordOrderLaws.{class_cmp-total, type_cmp-total}
 use Rattle.rr.specs.declared.record.Record.{Record}
 
 -- the first ties, and so does the second

@@ -7,7 +7,8 @@ use Rattle.rr.specs.declared.record.Record.{Record}
 use Rattle.std.proofs.lemmas.Bool.Decides.{nat_tests}
 use Rattle.std.proofs.lemmas.Bool.{cond-true, cond-false, or_parts}
 use Rattle.std.proofs.lemmas.List.{length-set}
-use Rattle.base.specs.NameOrder.{folded, same_by-equiv, same_name}
+use Rattle.base.specs.NameOrder.{folded, same_name}
+use Rattle.base.specs.NameOrderLaws.{same_by-equiv}
 use Rattle.base_data.specs.Kinds.{type_of_data}
 use Rattle.rr.specs.SetChanges.{MayAdd, MayEnter, has_data_of, renewed, replaced}
 use Rattle.rr.specs.RecordSet.{SetValue}

@@ -1,5 +1,6 @@
 pub mod Record
 pub mod RecordOrder
+pub mod RecordOrderLaws
 pub mod RecordRef
 pub mod RecordSet
 pub mod RrsetRecords

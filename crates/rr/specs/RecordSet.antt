@@ -6,7 +6,8 @@ use Rattle.std.specs.Cmp.{IsEquivalence, and_equiv, nat_eq_equiv, on_equiv}
 use Rattle.std.specs.Cmp.Lexicographic.{pointwise}
 use Rattle.std.proofs.lemmas.Cmp.{lists_equiv}
 use Rattle.base.specs.Labels.{NameValue}
-use Rattle.base.specs.NameOrder.{folded, same_by-equiv, same_name}
+use Rattle.base.specs.NameOrder.{folded, same_name}
+use Rattle.base.specs.NameOrderLaws.{same_by-equiv}
 use Rattle.base.specs.RecordType.{same_type}
 use Rattle.base.specs.contracts.record_type.RecordTypeEq.TheImpl.Laws.{laws-law as type_laws}
 use Rattle.base.specs.declared.dns_class.DNSClass.{DNSClass}
@@ -17,7 +18,8 @@ use Rattle.base_data.specs.Kinds.{type_of_data}
 use Rattle.base_data.specs.SameData.{same_data}
 use Rattle.base_data.specs.contracts.rdata.RDataEq.TheImpl.Laws.{laws-law as data_laws}
 use Rattle.base_data.specs.declared.rdata.RData.{RData}
-use Rattle.rr.specs.RecordOrder.{same_class, same_class-equiv, same_record, same_record-equiv}
+use Rattle.rr.specs.RecordOrder.{same_class, same_record}
+use Rattle.rr.specs.RecordOrderLaws.{same_class-equiv, same_record-equiv}
 use Rattle.rr.specs.declared.record.Record.{Record}
 
 -- a set: its owner, type and class, its records in order, and the time to live and the serial of its last change

@@ -9,7 +9,8 @@ use Rattle.std.specs.declared.cmp.Ordering.{Ordering}
 use Rattle.std.specs.declared.cmp.Ordering.TheVariants.{Less, Equal, Greater}
 use Rattle.base.proofs.KeyLemmas.{key_cmp-exact}
 use Rattle.base.specs.Labels.{NameValue}
-use Rattle.base.specs.NameOrder.{folded, lowered, same_by-equiv, same_labels, same_name}
+use Rattle.base.specs.NameOrder.{folded, lowered, same_labels, same_name}
+use Rattle.base.specs.NameOrderLaws.{same_by-equiv}
 use Rattle.base.specs.RrKey.{key_cmp, key_of}
 use Rattle.base.specs.declared.rr_key.RrKey.{RrKey}
 use Rattle.base_data.specs.Kinds.{type_of_data}

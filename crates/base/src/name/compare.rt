@@ -6,7 +6,8 @@ ghost use Rattle.std.specs.Cmp.{partial_equiv_from_equiv};
 ghost use Rattle.std.specs.Cmp.Lexicographic.{slice_cmp};
 ghost use Rattle.std.specs.Ordering.{as_partial_cmp, nat_cmp};
 ghost use Rattle.base.specs.Labels.{NameValue, AreLabels, IsLabelRun, labels_of};
-ghost use Rattle.base.specs.NameOrder.{canonical_cmp, is_zone_of, folded, folded_labels, lowered, labels_cmp, same_labels, same_name, name_cmp, name_fed, same_by-equiv, same_by-tie, cmp_by-total, cmp_by-partial, fed_by-same};
+ghost use Rattle.base.specs.NameOrder.{canonical_cmp, is_zone_of, folded, folded_labels, lowered, labels_cmp, same_labels, same_name, name_cmp, name_fed};
+ghost use Rattle.base.specs.NameOrderLaws.{same_by-equiv, same_by-tie, cmp_by-total, cmp_by-partial, fed_by-same};
 
 use crate::name::{Name, first_label};
 use std::alloc::AllocError;
@@ -164,9 +165,11 @@ fn cmp_label(left: &[u8], right: &[u8]) -> Ordering
         let [y, ys @ ..] = others else {
             break;
         };
-        let order = x.to_ascii_lowercase().cmp(&y.to_ascii_lowercase());
-        if order.is_ne() {
-            return order;
+        if *x != *y {
+            let order = x.to_ascii_lowercase().cmp(&y.to_ascii_lowercase());
+            if order.is_ne() {
+                return order;
+            }
         }
         rest = xs;
         others = ys;
@@ -189,6 +192,10 @@ fn cmp_labels(left: &[u8], right: &[u8]) -> Ordering
             return order;
         };
         order = cmp_label(x, y).then(order);
+        // Names of one zone mostly end in the same labels.
+        if *xs == *ys {
+            return order;
+        }
         rest = xs;
         others = ys;
     }

@@ -1,7 +1,7 @@
 mod edns;
 mod header;
-mod message;
-mod query;
+pub(super) mod message;
+pub(super) mod query;
 mod values;
 
 use super::forms::has_text;

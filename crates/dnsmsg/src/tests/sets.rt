@@ -15,15 +15,20 @@ use std::net::Ipv4Addr;
 use std::test::Fail;
 
 /// A record of an address: its last byte, its class and its TTL.
-type Row = (u8, DNSClass, u32);
+pub(super) type Row = (u8, DNSClass, u32);
 
 /// The data of the address 93.184.216 and this byte.
-fn address(last: u8) -> RData {
+pub(super) fn address(last: u8) -> RData {
     A::new(Ipv4Addr::new(93, 184, 216, last)).into_rdata()
 }
 
 /// The record of `example.` with this data.
-fn record(alloc: Global, dns_class: DNSClass, ttl: u32, rdata: RData) -> Result<Record, Fail> {
+pub(super) fn record(
+    alloc: Global,
+    dns_class: DNSClass,
+    ttl: u32,
+    rdata: RData,
+) -> Result<Record, Fail> {
     match Name::parse(alloc, "example.", None) {
         Ok(owner) => {
             let mut entry = Record::from_rdata(owner, ttl, rdata);
@@ -47,13 +52,13 @@ fn records(alloc: Global, rows: &[Row]) -> Result<Vec<Record>, Fail> {
 }
 
 /// The set of `example.` of this type without records.
-fn empty(alloc: Global, record_type: RecordType) -> Result<RecordSet, Fail> {
+pub(super) fn empty(alloc: Global, record_type: RecordType) -> Result<RecordSet, Fail> {
     Ok(RecordSet::new(alloc, Name::parse(alloc, "example.", None)?, record_type, 0))
 }
 
 /// Whether a record of this type may be put into the set.
 #[tactic(auto, using(crate::proofs::SetCalls::one_type))]
-fn may_hold(set: &RecordSet, record_type: RecordType) -> bool
+pub(super) fn may_hold(set: &RecordSet, record_type: RecordType) -> bool
     ensures typed { result ≡ true → record_type ≡ set.now.record_type }
     ensures single { result ≡ true → holds_one set.now.record_type ≡ true → length set.now.records ≤ 1 }
 {
@@ -84,7 +89,7 @@ fn is_row(entry: &Record, row: &Row) -> bool {
 }
 
 /// Whether the records of the set are these, and its TTL and serial.
-fn shows(set: &RecordSet, rows: &[Row], ttl: u32, serial: u32) -> bool {
+pub(super) fn shows(set: &RecordSet, rows: &[Row], ttl: u32, serial: u32) -> bool {
     let mut entries = set.records_without_rrsigs();
     for row in rows {
         match entries.next() {

@@ -1,6 +1,6 @@
 //! Updates, as the builders make them, and the questions for transfers: their bytes, and that they are read again.
 
-mod builders;
+pub(super) mod builders;
 mod transfers;
 
 ghost use Rattle.std.specs.Prelude.{◌≡◌, IfOk, true};

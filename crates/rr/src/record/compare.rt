@@ -2,7 +2,8 @@
 
 ghost use Rattle.std.specs.Prelude.{◌≡◌};
 ghost use Rattle.std.specs.Cmp.{partial_equiv_from_equiv};
-ghost use Rattle.rr.specs.RecordOrder.{record_cmp, same_record, same_record-equiv};
+ghost use Rattle.rr.specs.RecordOrder.{record_cmp, same_record};
+ghost use Rattle.rr.specs.RecordOrderLaws.{same_record-equiv};
 
 use crate::record::Record;
 use base_data::{RData, RecordData};

@@ -1,6 +1,6 @@
 ghost use Rattle.std.specs.Prelude.{◌≡◌};
 
-mod parts;
+pub(in crate::tests) mod parts;
 mod reading;
 mod written_rows;
 

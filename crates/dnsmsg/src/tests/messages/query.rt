@@ -75,7 +75,7 @@ fn a_lower_question_keeps_the_one_that_was_asked(rt: HostRuntime) -> Result<(), 
 }
 
 // What is made of that question.
-fn lowered(alloc: Global) -> Result<LowerQuery, Fail> {
+pub(in crate::tests) fn lowered(alloc: Global) -> Result<LowerQuery, Fail> {
     let question: Query = read(alloc, &WWW)?;
     Ok(LowerQuery::try_from(question)?)
 }

@@ -8,7 +8,7 @@ use rr::RecordSet;
 use std::alloc::Global;
 use std::test::Fail;
 
-fn created(alloc: Global) -> Result<Message, Fail> {
+pub(in crate::tests) fn created(alloc: Global) -> Result<Message, Fail> {
     let (origin, set) = zone_and_addresses(alloc, 60, 1)?;
     Ok(create(alloc, 1, set, origin, true)?)
 }
@@ -22,7 +22,7 @@ fn a_set_is_created(rt: HostRuntime) -> Result<(), Fail> {
     Ok(())
 }
 
-fn appended(alloc: Global) -> Result<Message, Fail> {
+pub(in crate::tests) fn appended(alloc: Global) -> Result<Message, Fail> {
     let (origin, set) = zone_and_addresses(alloc, 60, 1)?;
     Ok(append(alloc, 3, set, origin, true, false)?)
 }
@@ -38,7 +38,7 @@ fn a_set_that_exists_gets_more_records(rt: HostRuntime) -> Result<(), Fail> {
 }
 
 // From the address 192.0.2.1 to that and 192.0.2.2.
-fn swapped(alloc: Global) -> Result<Message, Fail> {
+pub(in crate::tests) fn swapped(alloc: Global) -> Result<Message, Fail> {
     let current = addresses(alloc, 300, 1)?;
     match zone_and_addresses(alloc, 60, 2) {
         Ok((origin, new)) if origin.zone_of(current.name()) => {
@@ -63,7 +63,7 @@ fn a_set_is_swapped_for_another(rt: HostRuntime) -> Result<(), Fail> {
     Ok(())
 }
 
-fn without_data(alloc: Global) -> Result<Message, Fail> {
+pub(in crate::tests) fn without_data(alloc: Global) -> Result<Message, Fail> {
     let (origin, set) = zone_and_addresses(alloc, 60, 1)?;
     Ok(delete_by_rdata(alloc, 4, set, origin, false)?)
 }
@@ -76,7 +76,7 @@ fn data_is_deleted(rt: HostRuntime) -> Result<(), Fail> {
     Ok(())
 }
 
-fn without_set(alloc: Global) -> Result<Message, Fail> {
+pub(in crate::tests) fn without_set(alloc: Global) -> Result<Message, Fail> {
     let gone = host(alloc, 60, 1)?;
     let origin = name(alloc, "example.")?;
     if origin.zone_of(&gone.name) {
@@ -94,7 +94,7 @@ fn a_set_is_deleted(rt: HostRuntime) -> Result<(), Fail> {
 }
 
 // All sets of `owner`, at most, in `example.`.
-fn without_name(alloc: Global, owner: &str) -> Result<Message, Fail> {
+pub(in crate::tests) fn without_name(alloc: Global, owner: &str) -> Result<Message, Fail> {
     let gone = name(alloc, owner)?;
     let origin = name(alloc, "example.")?;
     if origin.zone_of(&gone) {

@@ -18,7 +18,7 @@ const SIGNED: &str = "000780000001000100000003\
     00002904d0000000000018fde900140000000000000000000000000000000000000000\
     0000fa00ff000000000001aa";
 
-fn signed(alloc: Global) -> Result<Message, Fail> {
+pub(in crate::tests) fn signed(alloc: Global) -> Result<Message, Fail> {
     let Ok(bytes) = hex::decode(alloc, SIGNED) else {
         return Err(AllocError.into());
     };
@@ -26,7 +26,7 @@ fn signed(alloc: Global) -> Result<Message, Fail> {
 }
 
 // The bytes of the message without its records and its signature.
-fn truncated(alloc: Global) -> Result<Vec<u8>, Fail> {
+pub(in crate::tests) fn truncated(alloc: Global) -> Result<Vec<u8>, Fail> {
     let message = signed(alloc)?;
     let cut = message.truncate();
     drop(message);

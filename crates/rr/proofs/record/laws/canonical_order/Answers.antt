@@ -1,5 +1,5 @@
 use Rattle.rr.proofs.OrderRecords.{records_tied}
-use Rattle.rr.specs.RecordOrder.{record_cmp-total}
+use Rattle.rr.specs.RecordOrderLaws.{record_cmp-total}
 use Rattle.rr.proofs.record.laws.canonical_order.Goals as goal
 
 pub returns-clause-total : goal.returns-clause-total

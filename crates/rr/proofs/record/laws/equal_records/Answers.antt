@@ -1,5 +1,5 @@
 use Rattle.rr.proofs.EqualRecords.{equal_is}
-use Rattle.rr.specs.RecordOrder.{same_record-equiv}
+use Rattle.rr.specs.RecordOrderLaws.{same_record-equiv}
 use Rattle.rr.proofs.record.laws.equal_records.Goals as goal
 
 pub returns-clause-equal : goal.returns-clause-equal
