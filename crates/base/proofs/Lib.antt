@@ -28,6 +28,7 @@ pub mod RefusalLemmas
 pub mod Refusing
 pub mod SliceLemmas
 pub mod SpellingLemmas
+pub mod SuffixLemmas
 pub mod TextLawLemmas
 pub mod TextLemmas
 pub mod TokenLemmas

@@ -20,6 +20,7 @@ pub mod RecordType
 pub mod RrKey
 pub mod Spelling
 pub mod State
+pub mod Suffixes
 pub mod TextFaults
 pub mod TokenList
 pub mod Tokens

@@ -4,18 +4,21 @@ use Rattle.std.specs.declared.alloc.Global.{Global}
 use Rattle.base.specs.declared.error.proto_error.ProtoError.{ProtoError}
 use Rattle.base.specs.declared.error.proto_error.ProtoError.TheVariants as refusals
 use Rattle.base.specs.declared.wire.encoder.BinEncoder.{BinEncoder}
-use Rattle.base.specs.State.{State, Stored}
+use Rattle.base.specs.declared.wire.suffix_table.SuffixTable.{SuffixTable}
+use Rattle.base.specs.declared.wire.suffix_table.HasSuffixes.{Ghosts}
+use Rattle.base.specs.contracts.wire.suffix_table.SuffixTableHasSuffixes.TheImpl.{ghosts}
+use Rattle.base.specs.State.{State}
 
 -- the encoder with the table of suffixes that it has by itself
 abbrev pub Encoder : Type 0
-Encoder = BinEncoder (Vec Stored Global)
+Encoder = BinEncoder SuffixTable ghosts
 
 -- the bytes written so far, the limit, and the suffixes stored, with their places
 abbrev pub state_of : Encoder → State
-state_of e = record { buffer = e.buffer.ghost_name; bytes = e.buffer.now.items; limit = e.limit; suffixes = e.suffixes.items }
+state_of e = record { buffer = e.buffer.ghost_name; bytes = e.buffer.now.items; limit = e.limit; suffixes = e.suffixes }
 
 -- the vector that an encoder writes to
-abbrev pub vector_of : {T : Type 0} → BinEncoder T → Vec ℕ Global
+abbrev pub vector_of : {T : Type 0} {g : Ghosts T} → BinEncoder T g → Vec ℕ Global
 vector_of e = e.buffer.now
 
 -- of as many bytes at most: refused for the limit only where they would pass it, and else for memory alone

@@ -10,6 +10,7 @@ mod numbers;
 pub mod place;
 pub mod sized;
 pub mod suffix;
+pub mod suffix_table;
 
 pub use decodable::BinDecodable;
 pub use decoder::BinDecoder;

@@ -1,9 +1,8 @@
 //! Writes a message's bytes under a limit.
 
-ghost use Rattle.std.specs.Prelude.{◌≡◌, ◌+◌, ◌-◌, ◌^◌, ◌<◌, ◌≤◌, [], ◌∷◌, length, replicate, OnOk, OnErr, IfOk, IsErrOf, ◌==◌};
+ghost use Rattle.std.specs.Prelude.{◌≡◌, ◌+◌, ◌-◌, ◌^◌, ◌<◌, ◌≤◌, [], ◌∷◌, ◌++◌, length, take, drop, replicate, All, OnOk, OnErr, IfOk, IsErrOf, ◌==◌};
 ghost use Rattle.std.specs.Int.{w16, w32, to_be_bytes};
 ghost use Rattle.base.specs.State.{appended, overwritten};
-ghost use Rattle.base.specs.Wire.{state_of, vector_of, Refuses};
 
 mod items;
 mod rollback;
@@ -12,19 +11,22 @@ mod table;
 use crate::error::ProtoError;
 use crate::wire::encodable::EncodedSize;
 use crate::wire::place::Place;
-use crate::wire::suffix::Suffix;
+use crate::wire::suffix_table::{HasSuffixes, SuffixTable};
 use std::marker::PhantomData;
 
 /// Writes bytes to a vector, up to a limit.
 ///
 /// Everyone writes `BinEncoder<'a>`: the second parameter is there for proofs alone.
-pub struct BinEncoder<'a, T = Vec<Suffix>> {
+pub struct BinEncoder<'a, T: HasSuffixes = SuffixTable> {
     buffer: &'a mut Vec<u8>,
     limit: u16,
     suffixes: T,
+    ghost below: { All (λ t. t.offset < length buffer.now.items) (T.suffixes suffixes) },
 }
 
-impl<'a, T: Drop> Drop for BinEncoder<'a, T> {
+impl<'a, T: HasSuffixes + Drop> Drop for BinEncoder<'a, T> {
+    ghost use Rattle.base.specs.Wire.{vector_of};
+
     fn drop(self)
         ensures { self.exit.0.now ≡ vector_of self.entry }
     {
@@ -37,6 +39,8 @@ impl<'a, T: Drop> Drop for BinEncoder<'a, T> {
 }
 
 impl<'a> BinEncoder<'a> {
+    ghost use Rattle.base.specs.Wire.{state_of, Refuses};
+
     /// An encoder over the emptied vector, with the limit of 65,535 bytes. Takes no memory.
     pub fn new(buffer: &'a mut Vec<u8>) -> BinEncoder<'a>
         ensures { state_of result ≡ record { buffer = buffer.entry.ghost_name; bytes = []; limit = 65535; suffixes = [] } }
@@ -46,7 +50,7 @@ impl<'a> BinEncoder<'a> {
         BinEncoder {
             buffer,
             limit: u16::MAX,
-            suffixes: Vec::new(alloc),
+            suffixes: SuffixTable::new(alloc),
         }
     }
 
@@ -172,6 +176,15 @@ impl<'a> BinEncoder<'a> {
         ensures state { state_of self.new ≡ overwritten place (T.encoded value.now) (state_of self.old) }
     {
         let start = place.start;
-        value.fill(&mut self.buffer[start..start + T::LEN]);
+        fill_at(self.buffer, start, value);
     }
+}
+
+/// Writes the value over the bytes from a place on.
+fn fill_at<T: EncodedSize>(bytes: &mut Vec<u8>, start: usize, value: &T)
+    requires { start + T.LEN ≤ length bytes.old.items }
+    ensures items { bytes.new.items ≡ take start bytes.old.items ++ (T.encoded value.now ++ drop (start + length (T.encoded value.now)) bytes.old.items) }
+    ensures len { length bytes.new.items ≡ length bytes.old.items }
+{
+    value.fill(&mut bytes[start..start + T::LEN]);
 }

@@ -1,7 +1,7 @@
 //! Suffixes of names that were written.
 
 ghost use Rattle.std.specs.Prelude.{◌≡◌, ◌<◌, ◌↔◌, IfOk, IsTrue};
-ghost use Rattle.base.specs.Labels.{IsLabelRun, labels_of, IsWire};
+ghost use Rattle.base.specs.Labels.{IsLabelRun, wire_of, labels_of, IsWire};
 
 use std::alloc::{AllocError, Global};
 use std::marker::Model;
@@ -37,6 +37,13 @@ impl Suffix {
             labels: Vec::from_slice(alloc, wire)?,
             offset,
         })
+    }
+
+    /// The labels, each with its length before it.
+    pub(crate) fn as_wire(&self) -> &[u8]
+        ensures { result.now ≡ wire_of self.now.labels }
+    {
+        self.labels.as_slice()
     }
 
     /// Whether the suffix has these labels, each with its length before it, byte for byte.

@@ -2,6 +2,7 @@ mod items;
 mod names;
 mod numbers;
 mod numbers_read;
+mod suffixes;
 
 use crate::tests::forms::is_emitted;
 use base::{

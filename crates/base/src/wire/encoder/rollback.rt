@@ -1,6 +1,6 @@
 //! Going back to an earlier state of an encoder.
 
-ghost use Rattle.std.specs.Prelude.{◌≡◌, length};
+ghost use Rattle.std.specs.Prelude.{◌≡◌, ◌<◌, length, take, All};
 ghost use Rattle.base.specs.State.{cut};
 ghost use Rattle.base.specs.Wire.{state_of};
 
@@ -25,11 +25,12 @@ impl<'a> BinEncoder<'a> {
         }
     }
 
-    /// Cuts back to as many bytes and suffixes.
+    /// Cuts back to as many bytes and suffixes. These are spelled below the cut.
     pub(crate) fn roll_back(&mut self, mark: Mark)
+        requires { All (λ t. t.offset < mark.len) (take mark.count (state_of self.old).suffixes) }
         ensures { state_of self.new ≡ cut mark.len mark.count (state_of self.old) }
     {
-        self.buffer.truncate(mark.len);
         self.suffixes.truncate(mark.count);
+        self.buffer.truncate(mark.len);
     }
 }

@@ -1,40 +1,37 @@
 //! The suffixes that were written, and where (RFC 1035, 4.1.4).
 
-ghost use Rattle.std.specs.Prelude.{◌≡◌, ◌<◌, ◌≢◌, All, Any, MatchOption, OnOk, OnErr, IfSome};
+ghost use Rattle.std.specs.Prelude.{◌≡◌, ◌<◌, ◌≢◌, length, All, Any, MatchOption, OnOk, OnErr, IfSome};
 ghost use Rattle.base.specs.Labels.{IsLabelRun, labels_of, IsWire};
 ghost use Rattle.base.specs.State.{stored};
 ghost use Rattle.base.specs.Wire.{state_of, IsMemory};
 
 use crate::error::ProtoError;
 use crate::wire::encoder::BinEncoder;
-use crate::wire::suffix::Suffix;
 
 /// Offsets from here on don't fit a pointer (RFC 1035, 4.1.4).
 const FIRST_FAR: usize = 16384;
 
 impl<'a> BinEncoder<'a> {
-    /// Where a stored suffix of these labels, each with its length before it, is spelled; the oldest, where
-    /// there are more. Letters are compared as they are.
+    /// Where a stored suffix of these labels, each with its length before it, is spelled. Letters are compared as they
+    /// are.
     pub(crate) fn find(&self, wire: &[u8]) -> Option<u16>
         requires { IsLabelRun wire.now }
         ensures found { MatchOption result (All (λ t. t.labels ≢ labels_of wire.now) (state_of self.now).suffixes)
             (λ offset. Any (λ t. (t.labels ≡ labels_of wire.now) × (t.offset ≡ offset)) (state_of self.now).suffixes) }
         ensures near { IfSome result (λ offset. offset < 16384) }
     {
-        for suffix in &self.suffixes {
-            if suffix.is(wire) {
-                return Some(suffix.offset());
-            }
-        }
-        None
+        self.suffixes.find(wire)
     }
 
-    /// Stores the suffix of these labels, each with its length before it, that was written at a place,
-    /// unless the place is too far for a pointer.
+    /// Stores the suffix of these labels, each with its length before it, that was written at a place behind all
+    /// stored ones, unless the place is too far for a pointer. It isn't stored yet.
     ///
     /// Refused for want of memory, with nothing stored.
     pub(crate) fn store(&mut self, wire: &[u8], at: usize) -> Result<(), ProtoError>
-        requires { IsWire wire.now }
+        requires wire { IsWire wire.now }
+        requires stands { at < length (state_of self.old).bytes }
+        requires absent { All (λ t. t.labels ≢ labels_of wire.now) (state_of self.old).suffixes }
+        requires later { All (λ t. t.offset < at) (state_of self.old).suffixes }
         ensures ok { OnOk result (state_of self.new ≡ stored (labels_of wire.now) at (state_of self.old)) }
         ensures err { OnErr result (state_of self.new ≡ state_of self.old) }
         ensures memory { IsMemory result }
@@ -42,8 +39,6 @@ impl<'a> BinEncoder<'a> {
         if at >= FIRST_FAR {
             return Ok(());
         }
-        let suffix = Suffix::new(*self.suffixes.allocator(), wire, at as u16)?;
-        self.suffixes.push(suffix)?;
-        Ok(())
+        self.suffixes.store(wire, at as u16)
     }
 }

@@ -30,7 +30,7 @@ fn counted<P: EmitAndCount>(part: &mut P, encoder: &mut BinEncoder<'_>) -> Resul
 }
 
 /// How many items stand where one didn't fit; 100 otherwise.
-fn count_before(answer: Result<usize, ProtoError>) -> usize {
+pub fn count_before(answer: Result<usize, ProtoError>) -> usize {
     let count = match &answer {
         Err(ProtoError::NotAllRecordsWritten { count }) => *count,
         _ => 100,
@@ -139,7 +139,7 @@ fn write_again(alloc: Global, names: &[Name], encoder: &mut BinEncoder<'_>) -> b
     fit && refusal(again) == 0
 }
 
-fn three_names(alloc: Global) -> Result<Vec<Name>, DecodeError> {
+pub fn three_names(alloc: Global) -> Result<Vec<Name>, DecodeError> {
     let mut names = Vec::new(alloc);
     for name in &[
         b"\x01a\x01b\0".as_slice(),

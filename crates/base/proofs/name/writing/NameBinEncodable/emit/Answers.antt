@@ -8,6 +8,7 @@ use Rattle.base.specs.State.{State, appended, stored}
 use Rattle.base.specs.Wire.{state_of}
 use Rattle.base.proofs.LabelLemmas.{IsWire-wire_of, labels_of_is}
 use Rattle.base.proofs.ProgressLemmas.{Progress, Progress-start, Progress-step, Progress-root, Progress-pointer, Progress-stores, size_of-append, stores}
+use Rattle.base.proofs.LawLemmas.{Keeps-then, Keeps-either}
 use Rattle.base.proofs.RefusalLemmas.{Refuses-earlier, on_ok_both}
 use Rattle.base.proofs.name.writing.NameBinEncodable.emit.Goals as goal
 
@@ -91,3 +92,7 @@ returns-clause-names c =
     (λ is. Progress-stores _ _ _ s (state_of c.emit.new.self) c.loop-label.invariant.progress (ap (λ (z : State). z.suffixes) is)
     (omega (arith, ap (λ (z : State). length z.bytes) is, length-append s.bytes (0 ∷ []))))
     c.emit.ensures.ok
+
+pub returns-clause-keeps : goal.returns-clause-keeps
+returns-clause-keeps c =
+    Keeps-then c.loop-label.invariant.progress.keeps (Keeps-either c.emit.result (0 ∷ []) _ _ c.emit.ensures.ok c.emit.ensures.err c.emit.ensures.within)

@@ -1,0 +1,34 @@
+use Rattle.std.proofs.Common.{rules, ◌≡◌, ◌≢◌, ◌∙◌, ◌<◌, ℕ, List, true, ap, get_or, length, subst, arith}
+use Rattle.std.specs.Prelude.{All, Any, MatchOption}
+use Rattle.std.proofs.lemmas.List.{take_all}
+use Rattle.std.proofs.lemmas.List.Elements.{All-more, All-append}
+use Rattle.base.specs.Labels.{labels_of}
+use Rattle.base.specs.State.{Stored}
+use Rattle.base.specs.Suffixes.{offset_in}
+use Rattle.base.proofs.SuffixLemmas.{IsTable-finds, IsIndexed-near}
+use Rattle.base.proofs.wire.suffix_table.SuffixTable.find.Goals as goal
+
+pub loop-suffix-preserved : goal.loop-suffix-preserved
+loop-suffix-preserved c =
+    let others : Stored → Type 0 = λ t. t.labels ≢ labels_of c.args.wire.now in
+    let inside : c.loop-suffix.suffix-index < length c.self.inside.first.items = omega arith in
+    let at = c.suffix-item.is ∙ ap (λ (ts : List Stored). get_or ts c.loop-suffix.suffix-index c.suffix-item.result) c.deref-suffix-items.ensures.value in
+    let other : others c.suffix-item.result = λ same. let is_not = c.if-is.false in let is : c.is.result ≡ true = c.is.ensures.1 same in cc in
+    All-more others _ c.loop-suffix.suffix-index c.suffix-item.result inside c.loop-suffix.invariant (subst others at other)
+
+pub returns-then-is_empty-clause-found : goal.returns-then-is_empty-clause-found
+returns-then-is_empty-clause-found c =
+    let others : Stored → Type 0 = λ t. t.labels ≢ labels_of c.args.wire.now in
+    let first = subst (All others) (take_all c.loop-suffix.suffix-index c.self.inside.first.items (omega arith)) c.loop-suffix.invariant in
+    let none : length c.self.inside.others.items ≡ 0 = search rules in
+    subst (All others) c.self.view_is (All-append others c.self.inside.first.items c.self.inside.others.items first (λ k d inside. absurd (omega (arith, none))))
+
+pub returns-clause-found : goal.returns-clause-found
+returns-clause-found c =
+    let others : Stored → Type 0 = λ t. t.labels ≢ labels_of c.args.wire.now in
+    let first = subst (All others) (take_all c.loop-suffix.suffix-index c.self.inside.first.items (omega arith)) c.loop-suffix.invariant in
+    subst (λ (ts : List Stored). MatchOption c.copied.result (All others ts) (λ (offset : ℕ). Any (λ (t : Stored). (t.labels ≡ labels_of c.args.wire.now) × (t.offset ≡ offset)) ts)) c.self.view_is
+    (IsTable-finds (offset_in c.self.inside.index) c.self.inside.first.items c.self.inside.others.items c.args.wire.now c.copied.result first c.self.invariant.behind c.requires (c.copied.ensures ∙ c.get.ensures.value))
+
+pub returns-clause-near : goal.returns-clause-near
+returns-clause-near c = IsIndexed-near (offset_in c.self.inside.index) c.self.inside.others.items c.args.wire.now c.copied.result c.self.invariant.behind (c.copied.ensures ∙ c.get.ensures.value)

@@ -1,0 +1,33 @@
+use Rattle.std.proofs.Common.{◌≡◌, ◌∙◌, ◌++◌, ◌∷◌, [], ◌≢◌, ◌<◌, ◌≤◌, ◌+◌, ◌-◌, List, length, length-append, take, sym, ap, subst, arith}
+use Rattle.std.specs.List.{AllPairs}
+use Rattle.base.specs.Labels.{wire_of}
+use Rattle.base.specs.State.{Stored}
+use Rattle.base.specs.Suffixes.{offset_in, IsIndexed}
+use Rattle.base.proofs.SuffixLemmas.{IsIndexed-pop, IsTable-front, cut_last, index_here, index_others}
+use Rattle.base.proofs.wire.suffix_table.SuffixTable.truncate.Goals as goal
+
+pub loop-self-preserved-in-Some : goal.loop-self-preserved-in-Some
+loop-self-preserved-in-Some c =
+    let front = c.pop.new.self.items in
+    let first = c.loop-self.self-inside.first.items in
+    let is : c.loop-self.self-inside.others.items ≡ front ++ c.in-Some.suffix ∷ [] = c.in-Some.ensures.items in
+    let after = offset_in c.remove.new.self in
+    let bytes = c.as_wire.result.now in
+    let wire : bytes ≡ wire_of c.in-Some.suffix.labels = c.as_wire.ensures in
+    let updates = c.remove.ensures.updates in
+    let here = ap after (sym wire) ∙ index_here bytes c.loop-self.self-inside.index c.remove.new.self _ updates in
+    let h = subst (IsIndexed (offset_in c.loop-self.self-inside.index)) is c.loop-self.invariant.table in
+    let behind = c.loop-self.invariant.behind in
+    let fits : c.args.count ≤ length first + length front = omega (arith, ap length is, length-append front (c.in-Some.suffix ∷ []), behind) in
+    record {
+      table = IsIndexed-pop _ after front c.in-Some.suffix h here (λ cs other. index_others bytes c.loop-self.self-inside.index c.remove.new.self _ updates cs (λ same. other (same ∙ wire)));
+      front = sym (cut_last c.args.count first front c.in-Some.suffix fits) ∙ ap (λ (zs : List Stored). take c.args.count (first ++ zs)) (sym is) ∙ c.loop-self.invariant.front;
+      behind = behind;
+    }
+
+pub invariant_of-self : goal.invariant_of-self
+invariant_of-self c =
+    let fits : length c.loop-self.self-inside.others.items ≤ c.args.count - length c.loop-self.self-inside.first.items = omega (arith, c.loop-self.invariant.behind) in
+    IsTable-front (offset_in c.loop-self.self-inside.index) c.args.count c.loop-self.self-inside.first.items c.loop-self.self-inside.others.items c.truncate.new.self.items c.args.self.now c.loop-self.invariant.table
+    (subst (AllPairs (λ (s t : Stored). s.offset < t.offset)) c.self.view_is c.self.invariant.rises) (subst (AllPairs (λ (s t : Stored). s.labels ≢ t.labels)) c.self.view_is c.self.invariant.once)
+    c.loop-self.invariant.front fits c.truncate.ensures.items

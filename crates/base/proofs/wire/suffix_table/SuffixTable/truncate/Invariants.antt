@@ -1,0 +1,13 @@
+use Rattle.std.proofs.Common.{◌≡◌, ◌-◌, ◌++◌, length, take}
+use Rattle.base.specs.Suffixes.{offset_in, IsIndexed}
+use Rattle.base.proofs.wire.suffix_table.SuffixTable.truncate.Given as goal
+
+abbrev pub invariant-loop-self : goal.invariant-loop-self
+invariant-loop-self l = record {
+  table : IsIndexed (offset_in l.self-inside.index) l.self-inside.others.items;
+  front : take l.count (l.self-inside.first.items ++ l.self-inside.others.items) ≡ take l.count l.fn.self;
+  behind : l.behind ≡ l.count - length l.self-inside.first.items;
+}
+
+abbrev pub decreases-loop-self : goal.decreases-loop-self
+decreases-loop-self l = length l.self-inside.others.items

@@ -1,0 +1,26 @@
+-- The table of suffixes: a list in order of offset, and an ordered index of it.
+use Rattle.std.specs.Prelude.{◌≡◌, ◌≢◌, ℕ, ◌<◌, ◌++◌, List, Option, Some, Vec, All, Any}
+use Rattle.std.specs.BTreeMap.{BTreeMap, get_by}
+use Rattle.std.specs.Cmp.Lexicographic.{slice_cmp}
+use Rattle.std.specs.List.{AllPairs}
+use Rattle.std.specs.Ordering.{nat_cmp}
+use Rattle.std.specs.declared.alloc.Global.{Global}
+use Rattle.base.specs.Labels.{wire_of}
+use Rattle.base.specs.State.{Stored}
+
+-- the offset that the index has for a suffix of these bytes
+abbrev pub offset_in : BTreeMap (Vec ℕ Global) ℕ → List ℕ → Option ℕ
+offset_in index bytes = get_by (λ k. slice_cmp nat_cmp bytes k.items) index
+
+-- The suffixes stand in order of offset, each once; the index finds each at its bytes, and nothing else.
+pub record IsIndexed (find : List ℕ → Option ℕ) (list : List Stored) : Type 0 where
+  pub rises : AllPairs (λ s t. s.offset < t.offset) list
+  pub once : AllPairs (λ s t. s.labels ≢ t.labels) list
+  pub kept : All (λ t. find (wire_of t.labels) ≡ Some t.offset) list
+  pub found : (bytes : List ℕ) (o : ℕ) → find bytes ≡ Some o → (o < 16384) × Any (λ t. (wire_of t.labels ≡ bytes) × (t.offset ≡ o)) list
+
+-- The first suffixes stand in a list alone, the others in a second one with an index of it; all stand in order of offset, each once.
+pub record IsTable (find : List ℕ → Option ℕ) (first others : List Stored) : Type 0 where
+  pub rises : AllPairs (λ s t. s.offset < t.offset) (first ++ others)
+  pub once : AllPairs (λ s t. s.labels ≢ t.labels) (first ++ others)
+  pub behind : IsIndexed find others

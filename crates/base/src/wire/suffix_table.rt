@@ -1,0 +1,141 @@
+//! The suffixes of names that were written, with an index of them (RFC 1035, 4.1.4).
+
+ghost use Rattle.std.specs.Prelude.{◌≡◌, ◌≢◌, ◌<◌, ◌++◌, ◌∷◌, [], length, take, All, Any, MatchOption, OnOk, OnErr, IfSome};
+ghost use Rattle.base.specs.Labels.{IsLabelRun, labels_of, IsWire};
+
+use crate::error::ProtoError;
+use crate::wire::suffix::Suffix;
+use std::alloc::Global;
+use std::collections::BTreeMap;
+use std::marker::Model;
+
+/// What an encoder keeps of the names that it wrote.
+pub trait HasSuffixes {
+    ghost use Rattle.std.specs.Prelude.{List};
+    ghost use Rattle.base.specs.State.{Stored};
+
+    ghost suffixes: { Self → List Stored };
+}
+
+/// How many suffixes are looked up one by one.
+const FIRST: usize = 24;
+
+/// The suffixes that a later name may point to, in order of offset, each once.
+///
+/// The first ones are looked up one by one, so that a message with few names pays for no index.
+#[derive(Drop)]
+pub struct SuffixTable {
+    first: Vec<Suffix>,
+    others: Vec<Suffix>,
+    /// The offset of each of the others, by its labels with their lengths before them.
+    index: BTreeMap<Vec<u8>, u16>,
+}
+
+impl Model for SuffixTable {
+    ghost use Rattle.std.specs.Prelude.{◌++◌, List};
+    ghost use Rattle.base.specs.State.{Stored};
+    ghost use Rattle.base.specs.Suffixes.{offset_in, IsTable};
+
+    ghost Value = { List Stored };
+
+    ghost view = { λ t. t.first.items ++ t.others.items };
+
+    ghost invariant = { λ t. IsTable (offset_in t.index) t.first.items t.others.items };
+}
+
+impl HasSuffixes for SuffixTable {
+    ghost suffixes = { λ t. t };
+}
+
+impl SuffixTable {
+    ghost use Rattle.base.specs.Wire.{IsMemory};
+
+    /// No suffix. Takes no memory.
+    pub(crate) fn new(alloc: Global) -> SuffixTable
+        ensures { result ≡ [] }
+    {
+        SuffixTable {
+            first: Vec::new(alloc),
+            others: Vec::new(alloc),
+            index: BTreeMap::new(alloc),
+        }
+    }
+
+    /// How many suffixes are stored.
+    pub(crate) fn len(&self) -> usize
+        ensures { result ≡ length self.now }
+    {
+        self.first.len() + self.others.len()
+    }
+
+    /// Where the suffix of these labels, each with its length before it, is spelled. Letters are compared as they are.
+    pub(crate) fn find(&self, wire: &[u8]) -> Option<u16>
+        requires { IsLabelRun wire.now }
+        ensures found { MatchOption result (All (λ t. t.labels ≢ labels_of wire.now) self.now)
+            (λ offset. Any (λ t. (t.labels ≡ labels_of wire.now) × (t.offset ≡ offset)) self.now) }
+        ensures near { IfSome result (λ offset. offset < 16384) }
+    {
+        for suffix in &self.first {
+            if suffix.is(wire) {
+                return Some(suffix.offset());
+            }
+        }
+        if self.others.is_empty() {
+            return None;
+        }
+        self.index.get(wire).copied()
+    }
+
+    /// Stores a suffix of these labels, each with its length before it, that isn't stored yet, behind all others.
+    ///
+    /// Refused for want of memory, with nothing stored.
+    pub(crate) fn store(&mut self, wire: &[u8], at: u16) -> Result<(), ProtoError>
+        requires wire { IsWire wire.now }
+        requires near { at < 16384 }
+        requires absent { All (λ t. t.labels ≢ labels_of wire.now) self.old }
+        requires later { All (λ t. t.offset < at) self.old }
+        ensures ok { OnOk result (self.new ≡ self.old ++ record { labels = labels_of wire.now; offset = at } ∷ []) }
+        ensures err { OnErr result (self.new ≡ self.old) }
+        ensures memory { IsMemory result }
+    {
+        let alloc = *self.first.allocator();
+        let suffix = Suffix::new(alloc, wire, at)?;
+        if self.first.len() < FIRST && self.others.is_empty() {
+            SuffixTable::push_first(&mut self.first, suffix)?;
+            return Ok(());
+        }
+        let key = Vec::from_slice(alloc, wire)?;
+        self.others.reserve(1)?;
+        self.index.insert(key, at)?;
+        self.others.push(suffix)?;
+        Ok(())
+    }
+
+    /// Forgets all but the first `count` suffixes.
+    pub(crate) fn truncate(&mut self, count: usize)
+        ensures { self.new ≡ take count self.old }
+    {
+        let behind = count.saturating_sub(self.first.len());
+        while self.others.len() > behind {
+            if let Some(suffix) = self.others.pop() {
+                self.index.remove(suffix.as_wire());
+            }
+        }
+        self.first.truncate(count);
+    }
+
+    /// Stores one of the first suffixes, and with the first of all makes room for the others of these.
+    ///
+    /// Refused for want of memory, with nothing stored.
+    fn push_first(first: &mut Vec<Suffix>, suffix: Suffix) -> Result<(), ProtoError>
+        ensures ok { OnOk result (first.new.items ≡ first.old.items ++ suffix ∷ []) }
+        ensures err { OnErr result (first.new.items ≡ first.old.items) }
+        ensures memory { IsMemory result }
+    {
+        if first.is_empty() {
+            first.reserve(FIRST)?;
+        }
+        first.push(suffix)?;
+        Ok(())
+    }
+}
