@@ -10,6 +10,7 @@ mod MapZones
 mod Meaning
 mod MergeSteps
 mod Origins
+mod OwnerKeys
 mod RenewSteps
 mod ServerRowsLemmas
 mod UpdateSteps

@@ -11,6 +11,7 @@ mod changes;
 mod class_use;
 mod faults;
 pub mod laws;
+mod owners;
 mod prerequisites;
 mod prescan;
 mod records;

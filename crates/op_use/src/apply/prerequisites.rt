@@ -11,8 +11,9 @@ ghost use Rattle.rr.specs.SetChanges.{has_data_of};
 ghost use Rattle.rr.specs.declared.record.Record.{Record as Entry};
 
 use crate::apply::class_use::{Use, use_of};
+use crate::apply::owners::has_type;
 use crate::apply::prescan::unless;
-use crate::apply::sets::{has_type, key_of};
+use crate::apply::sets::key_of;
 use crate::apply::types::is_all;
 use base::{DNSClass, Name, RecordType, RrKey};
 use op::ResponseCode;
