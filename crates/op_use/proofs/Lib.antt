@@ -4,6 +4,7 @@ mod BuiltLemmas
 mod Changes
 mod Given
 mod KeySteps
+mod ListedSteps
 mod MapIsZone
 mod MapSteps
 mod MapZones
