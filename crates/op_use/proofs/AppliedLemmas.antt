@@ -1,8 +1,7 @@
 -- What the builders send is served, and makes the named change of a map.
-use Rattle.std.proofs.Common.{Bool, List, [], ap, false, map, refl, true, ℕ, ◌&&◌, ◌++◌, ◌||◌, ◌∙◌, ◌∷◌, ◌≡◌, ◌≢◌}
+use Rattle.std.proofs.Common.{Bool, List, [], ap, false, map, refl, true, ◌&&◌, ◌++◌, ◌||◌, ◌∙◌, ◌∷◌, ◌≡◌, ◌≢◌}
 use Rattle.std.proofs.lemmas.Bool.{cond-true}
 use Rattle.std.proofs.lemmas.List.Folds.{list_all-append}
-use Rattle.std.specs.BTreeMap.{BTreeMap}
 use Rattle.std.specs.List.{AllByRecursion, list_all}
 use Rattle.base.specs.Labels.{NameValue}
 use Rattle.base.specs.declared.dns_class.DNSClass.TheVariants as classes
@@ -10,17 +9,16 @@ use Rattle.base.specs.declared.dns_class.DNSClass.{DNSClass}
 use Rattle.base.specs.declared.record_type.RecordType.{RecordType}
 use Rattle.base_data.specs.Kinds.{type_of_data}
 use Rattle.base_data.specs.declared.rdata.RData.{RData}
-use Rattle.op.specs.Cut.{IsCut, IsUncut}
-use Rattle.op.specs.Message.{IsMessageAt, MessageValue}
+use Rattle.op.specs.Message.{MessageValue}
 use Rattle.op.specs.declared.response_code.ResponseCode.{ResponseCode}
 use Rattle.op_use.proofs.BuiltLemmas.{read_sections}
 use Rattle.op_use.proofs.MapIsZone.{zone_is}
 use Rattle.op_use.proofs.Meaning.{append_changes, compare_and_swap_changes, create_changes, delete_all_changes, delete_by_rdata_changes, delete_rrset_changes}
-use Rattle.op_use.specs.Applying.{IsApplied, IsZoneMap, applied, is_all_served, is_class_any, is_class_none, is_served, is_served_prerequisite, zone_of_map}
+use Rattle.op_use.specs.Applying.{applied, is_all_served, is_class_any, is_class_none, is_served, is_served_prerequisite, zone_of_map}
 use Rattle.op_use.specs.AppliedMeaning.{AppendApplies, AppliesUncut, CreateApplies, DeleteDataApplies, DeleteNameApplies, DeleteSetApplies, MapsAreZones, SwapApplies}
 use Rattle.op_use.specs.Server.{is_any, is_cname, sections_of, serve, type_of_record}
 use Rattle.op_use.specs.SoundSet.{IsFor, IsGiven, IsSound, NoCname, is_ordinary, is_plain_class}
-use Rattle.op_use.specs.UpdateMessage.{append, empty_record, in_class, update_message, without_ttl}
+use Rattle.op_use.specs.UpdateMessage.{append, empty_record, in_class, without_ttl}
 use Rattle.op_use.specs.Zone.{IsZone, Zone}
 use Rattle.rr.specs.RecordSet.{SetValue, is_ns}
 use Rattle.rr.specs.declared.record.Record.{Record}

@@ -4,12 +4,14 @@ mod BuiltLemmas
 mod Changes
 mod Given
 mod KeySteps
+mod ListedSteps
 mod MapIsZone
 mod MapSteps
 mod MapZones
 mod Meaning
 mod MergeSteps
 mod Origins
+mod OwnerKeys
 mod RenewSteps
 mod ServerRowsLemmas
 mod UpdateSteps

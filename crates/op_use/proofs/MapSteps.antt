@@ -22,11 +22,9 @@ use Rattle.std.proofs.Common.{ap, arith, inl, inr, refl, subst, sym, ◌∙◌, 
 use Rattle.std.proofs.lemmas.Bool.{or_parts, true≢false}
 use Rattle.std.proofs.lemmas.List.Folds.{list_any-append}
 use Rattle.std.proofs.lemmas.List.Sums.{fold-append}
-use Rattle.std.proofs.lemmas.Map.Entries.{lookup-filter-keys}
 use Rattle.std.specs.BTreeMap as tree
-use Rattle.std.specs.BTreeMap.{BTreeMap, is_at}
-use Rattle.std.specs.List.{IsAmong, IsDistinct, filter}
-use Rattle.std.specs.Map.{lookup}
+use Rattle.std.specs.BTreeMap.{BTreeMap}
+use Rattle.std.specs.List.{IsAmong, IsDistinct}
 use Rattle.std.specs.Ordering.{eq_by_cmp}
 use Rattle.std.specs.Prelude.{Bool, List, None, Option, Some, [], cond, false, length, map, slice_index_or, suc, take, true, unwrap_or, zero, ℕ, ◌++◌, ◌+◌, ◌<◌}
 use Rattle.std.specs.Prelude.{◌==◌, ◌∷◌, ◌≡◌, ◌≢◌}
@@ -140,11 +138,6 @@ one_distinct r ys e = subst (λ zs. Distinct zs) (sym e) (distinct_one r)
 -- the key of a record is of its owner
 pub own_key : (r : Record RData) → is_owned r.name (record_key r) ≡ true
 own_key r = (same_by-equiv exact).refl (lowered r.name)
-
--- a map whose entries were filtered by their keys
-pub filtered_by : (p : RrKey → Bool) (m n : BTreeMap RrKey SetValue) → n.entries ≡ filter (λ e. p e.0) m.entries
-    → (q : RrKey) → tree.get key_cmp n q ≡ cond (p q) (tree.get key_cmp m q) None
-filtered_by p m n h q = ap (λ es. lookup (is_at (key_cmp q)) es) h ∙ lookup-filter-keys (is_at (key_cmp q)) p (p q) (λ k t. ap p (sym (same_key q k t))) m.entries
 
 -- the updates so far and one more
 taken_next : (xs : List (Record RData)) (i : ℕ) (d : Record RData) → i < length xs → take i xs ++ slice_index_or xs i d ∷ [] ≡ take (suc i) xs

@@ -121,12 +121,21 @@ module _ (origin : NameValue) (class : DNSClass) (m n : BTreeMap RrKey SetValue)
   pub applied_fault : (s : Sections) (code : ResponseCode) → IsZoneMap class m → is_all_served s ≡ true → fault_here origin class m s ≡ Some code → IsApplied origin class s m code n
   applied_fault s code old h f = refused s code old (sym (cond-true _ _ _ h ∙ ap (answer (zone_of_map origin class m) s.updates) (sym (fault_is origin class m s) ∙ f)))
 
-  pub applied_all : (s : Sections) (p : BTreeMap RrKey SetValue) → is_all_served s ≡ true → fault_here origin class m s ≡ None → IsAfter origin class s.updates n p
-      → IsApplied origin class s m NoError p
-  applied_all s p h f after = record {
-    served = ap (λ z. (NoError, z)) (after.zone ∙ ap (λ z. fold update z s.updates) zone_copy)
-        ∙ sym (cond-true _ _ _ h ∙ ap (answer (zone_of_map origin class m) s.updates) (sym (fault_is origin class m s) ∙ f));
+  -- updates of the copy are updates of the map
+  pub after_copy : (rs : List (Record RData)) (p : BTreeMap RrKey SetValue) → IsAfter origin class rs n p → IsAfter origin class rs m p
+  after_copy rs p after = record {
+    zone = after.zone ∙ ap (λ z. fold update z rs) zone_copy;
     is_map = after.is_map;
-    others = (λ q free. after.others q free ∙ get_copy q, λ e. absurd (e refl));
-    taken = λ q v a. subst (λ o. IsAmong (records_in o) v ⊎ IsAmong s.updates v) (get_copy q) (after.taken q v a);
+    others = λ q free. after.others q free ∙ get_copy q;
+    taken = λ q v a. subst (λ o. IsAmong (records_in o) v ⊎ IsAmong rs v) (get_copy q) (after.taken q v a);
   }
+
+pub applied_all : (origin : NameValue) (class : DNSClass) (m p : BTreeMap RrKey SetValue) (s : Sections) → is_all_served s ≡ true → fault_here origin class m s ≡ None
+    → IsAfter origin class s.updates m p → IsApplied origin class s m NoError p
+applied_all origin class m p s h f after = record {
+  served = ap (λ z. (NoError, z)) after.zone
+      ∙ sym (cond-true _ _ _ h ∙ ap (answer (zone_of_map origin class m) s.updates) (sym (fault_is origin class m s) ∙ f));
+  is_map = after.is_map;
+  others = (after.others, λ e. absurd (e refl));
+  taken = after.taken;
+}

@@ -38,21 +38,29 @@ fault_if origin class found r =
 abbrev pub fault_at : NameValue → DNSClass → BTreeMap RrKey SetValue → Record RData → Fault
 fault_at origin class m r = fault_if origin class (found_in m r) r
 
--- whether a record q of the zone's class lists the data of x for the set of r
+-- whether a prerequisite is by value: of the zone's class
+abbrev pub is_by_value : DNSClass → Record RData → Bool
+is_by_value class r = is_of_zone (use_of class r.dns_class)
+
+-- whether a record q by value lists the data of x for the set of r
 abbrev pub asks_for : DNSClass → Record RData → Record RData → Record RData → Bool
-asks_for class r x q = is_of_zone (use_of class q.dns_class) && (is_same_key r q && has_data_of q x)
+asks_for class r x q = is_by_value class q && (is_same_key r q && has_data_of q x)
 
--- whether the set of a record has just the data that the records ask for
-abbrev pub met_under : BTreeMap RrKey SetValue → DNSClass → List (Record RData) → Record RData → RrKey → Bool
-met_under m class rs r k = list_any (has_data_of r) (records_at m k) && list_all (λ x. list_any (asks_for class r x) rs) (records_at m k)
+-- whether the set under a key has the data of a record
+abbrev pub there_under : BTreeMap RrKey SetValue → Record RData → RrKey → Bool
+there_under m r k = list_any (has_data_of r) (records_at m k)
 
--- the same of the set under the record's key
+-- whether it has only data that the records list for the set of r
+abbrev pub listed_under : BTreeMap RrKey SetValue → DNSClass → List (Record RData) → Record RData → RrKey → Bool
+listed_under m class rs r k = list_all (λ x. list_any (asks_for class r x) rs) (records_at m k)
+
+-- whether the set of a record has just the data that the records list
 abbrev pub met_at : BTreeMap RrKey SetValue → DNSClass → List (Record RData) → Record RData → Bool
-met_at m class rs r = met_under m class rs r (record_key r)
+met_at m class rs r = there_under m r (record_key r) && listed_under m class rs r (record_key r)
 
--- whether each record of the zone's class finds its set so
+-- whether each record by value finds its set so
 abbrev pub all_met : BTreeMap RrKey SetValue → DNSClass → List (Record RData) → List (Record RData) → Bool
-all_met m class all rs = list_all (λ r. not (is_of_zone (use_of class r.dns_class)) || met_at m class all r) rs
+all_met m class all rs = list_all (λ r. not (is_by_value class r) || met_at m class all r) rs
 
 -- what an update is refused for, by what a map holds: the first of its three steps that fails
 abbrev pub fault_here : NameValue → DNSClass → BTreeMap RrKey SetValue → Sections → Fault

@@ -5,18 +5,21 @@ ghost use Rattle.std.specs.Prelude.{◌≡◌, IfOk, IsOkUnless, None, Some, tru
 ghost use Rattle.op.specs.Message.{message_value};
 ghost use Rattle.op_use.specs.Applying.{IsApplied, IsZoneMap, is_all_served as is_all_served_in};
 ghost use Rattle.op_use.specs.MapFaults.{fault_here};
+ghost use Rattle.op_use.specs.MapUpdates.{IsAfter};
 ghost use Rattle.op_use.specs.Server.{sections_of};
 
 mod changes;
 mod class_use;
 mod faults;
 pub mod laws;
+mod owners;
 mod prerequisites;
 mod prescan;
 mod records;
 mod served;
 mod sets;
 mod types;
+mod values;
 
 use base::{DNSClass, Name, ProtoError, RrKey};
 use changes::update_all;
@@ -107,9 +110,24 @@ fn change(
     ensures applied { IfOk result (λ r. IsApplied origin.now class (sections_of (message_value message.now)) sets.now r.0 r.1) }
     ensures only { IsOkUnless result ProtoError.Memory }
 {
+    let changed = changed_copy(alloc, sets, origin, class, message)?;
+    Ok((ResponseCode::NoError, changed))
+}
+
+// The sets after the updates.
+fn changed_copy(
+    alloc: Global,
+    sets: &BTreeMap<RrKey, RecordSet>,
+    origin: &Name,
+    class: DNSClass,
+    message: &Message,
+) -> Result<BTreeMap<RrKey, RecordSet>, AllocError>
+    requires { IsZoneMap class sets.now }
+    ensures { IfOk result (λ m. IsAfter origin.now class (message_value message.now).authorities sets.now m) }
+{
     let mut changed = copy_of(sets)?;
     update_all(alloc, &mut changed, origin, class, &message.authorities)?;
-    Ok((ResponseCode::NoError, changed))
+    Ok(changed)
 }
 
 fn copy_of(sets: &BTreeMap<RrKey, RecordSet>) -> Result<BTreeMap<RrKey, RecordSet>, AllocError>

@@ -6,9 +6,8 @@ ghost use Rattle.op_use.specs.MapUpdates.{IsAfter, is_kept_in};
 ghost use Rattle.op_use.specs.Server.{OfAny, OfNone, OfZone, use_of as the_use};
 
 use crate::apply::class_use::{Use, use_of};
-use crate::apply::sets::{
-    add_data, count, has_set, has_type, key_of, put_alone, take_data, take_name, take_set,
-};
+use crate::apply::owners::{has_type, take_name};
+use crate::apply::sets::{add_data, count, has_set, key_of, put_alone, take_data, take_set};
 use crate::apply::types::{is_alias, is_all, is_guarded, is_start};
 use base::{DNSClass, Name, RecordType, RrKey};
 use rr::{Record, RecordSet};
@@ -44,7 +43,7 @@ fn update(
 {
     match use_of(class, entry.dns_class) {
         Use::OfAny => {
-            delete(sets, origin, class, entry)?;
+            delete(alloc, sets, origin, class, entry)?;
             Ok(())
         }
         Use::OfNone => {
@@ -107,6 +106,7 @@ fn take_out(
 
 // Takes a set out, or all of an owner (RFC 2136, 3.4.2.3).
 fn delete(
+    alloc: Global,
     sets: &mut BTreeMap<RrKey, RecordSet>,
     origin: &Name,
     class: DNSClass,
@@ -117,7 +117,7 @@ fn delete(
     ensures { OnOk result (IsAfter origin.now class (entry.now ∷ []) sets.old sets.new) }
 {
     if is_all(entry.record_type()) {
-        take_name(sets, origin, &entry.name)?;
+        take_name(alloc, sets, origin, &entry.name)?;
         return Ok(());
     }
     if is_guarded(origin, &entry.name, entry.record_type()) {

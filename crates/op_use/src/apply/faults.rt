@@ -6,8 +6,9 @@ ghost use Rattle.op.specs.declared.response_code.ResponseCode.TheVariants.{NXRRS
 ghost use Rattle.op_use.specs.MapFaults.{fault_here};
 ghost use Rattle.op_use.specs.Server.{and_then, sections_of, unless as unless_so};
 
-use crate::apply::prerequisites::{are_met, prerequisites};
+use crate::apply::prerequisites::prerequisites;
 use crate::apply::prescan::{prescan_all, unless, zone_fault};
+use crate::apply::values::are_met;
 use base::{DNSClass, Name, RrKey};
 use op::{Message, ResponseCode};
 use rr::RecordSet;

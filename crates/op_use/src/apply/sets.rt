@@ -1,23 +1,21 @@
 //! Sets put under their keys, and taken out.
 
-ghost use Rattle.std.specs.BTreeMap.{Updates, keys};
-ghost use Rattle.std.specs.List.{IsDistinct, list_any};
+ghost use Rattle.std.specs.BTreeMap.{Updates};
+ghost use Rattle.std.specs.List.{IsDistinct};
 ghost use Rattle.std.specs.Ordering.{on};
-ghost use Rattle.std.specs.Prelude.{◌≡◌, ◌&&◌, ◌∷◌, [], IfOk, None, OnOk, Some, length, not};
+ghost use Rattle.std.specs.Prelude.{◌≡◌, ◌∷◌, [], IfOk, None, OnOk, Some, length};
 ghost use Rattle.base.specs.Labels.{NameValue};
 ghost use Rattle.base.specs.RrKey.{key_cmp, key_of as the_key};
 ghost use Rattle.base.specs.declared.dns_class.DNSClass.{DNSClass as Class};
-ghost use Rattle.base.specs.declared.rr_key.RrKey.{RrKey as Key};
 ghost use Rattle.base_data.specs.SameData.{same_data};
 ghost use Rattle.base_data.specs.declared.rdata.RData.{RData};
 ghost use Rattle.op_use.specs.Applying.{IsZoneMap, records_at, zone_of_map};
-ghost use Rattle.op_use.specs.MapUpdates.{IsSetTo, Leaves, joined, parted};
-ghost use Rattle.op_use.specs.Server.{is_cname, record_key};
-ghost use Rattle.op_use.specs.Zone.{has_set as has_set_in, is_owned};
+ghost use Rattle.op_use.specs.MapUpdates.{IsSetTo, joined, parted};
+ghost use Rattle.op_use.specs.Server.{record_key};
+ghost use Rattle.op_use.specs.Zone.{has_set as has_set_in};
 ghost use Rattle.rr.specs.declared.record.Record.{Record as Entry};
 
 use crate::apply::records::{join, part};
-use crate::apply::types::is_alias;
 use base::{DNSClass, LowerName, Name, RecordType, RrKey};
 use rr::{Record, RecordSet};
 use std::alloc::{AllocError, Global};
@@ -45,23 +43,6 @@ pub(crate) fn count(sets: &BTreeMap<RrKey, RecordSet>, key: &RrKey) -> usize
         Some(set) => set.records_count(),
         None => 0,
     }
-}
-
-// Whether an owner has a set, of any type or of any but CNAME.
-pub(crate) fn has_type(
-    sets: &BTreeMap<RrKey, RecordSet>,
-    owner: &Name,
-    is_beside: bool,
-) -> Result<bool, AllocError>
-    ensures { IfOk result (λ b. b ≡ list_any (λ (k : Key). is_owned owner.now k && not (is_beside && is_cname k.record_type)) (keys sets.now)) }
-{
-    let lower = LowerName::new(owner)?;
-    for key in sets.keys() {
-        if lower == key.name && !(is_beside && is_alias(key.record_type)) {
-            return Ok(true);
-        }
-    }
-    Ok(false)
 }
 
 // Adds a record to its set, or makes a set of it.
@@ -147,25 +128,6 @@ pub(crate) fn take_set(sets: &mut BTreeMap<RrKey, RecordSet>, class: DNSClass, k
     ensures { IsSetTo class key.now [] sets.old sets.new }
 {
     sets.remove(key);
-}
-
-// Takes all sets of an owner out; at the origin SOA and NS stay.
-pub(crate) fn take_name(
-    sets: &mut BTreeMap<RrKey, RecordSet>,
-    origin: &Name,
-    owner: &Name,
-) -> Result<(), AllocError>
-    ensures { OnOk result (Leaves origin.now owner.now sets.old sets.new) }
-{
-    let lower = LowerName::new(owner)?;
-    let is_origin = *owner == *origin;
-    sets.retain(|key, _| {
-        !(lower == key.name)
-            || (is_origin
-                && (matches!(key.record_type, RecordType::SOA)
-                    || matches!(key.record_type, RecordType::NS)))
-    });
-    Ok(())
 }
 
 // Takes a set out; the answer is its records, none where there is no set.

@@ -1,4 +1,4 @@
-use Rattle.op_use.proofs.apply.prerequisites.has_data.Given as goal
+use Rattle.op_use.proofs.apply.values.has_data.Given as goal
 use Rattle.rr.specs.RrsetRecords.{records_left}
 use Rattle.rr.specs.SetChanges.{has_data_of}
 use Rattle.std.proofs.Common.{◌≡◌}

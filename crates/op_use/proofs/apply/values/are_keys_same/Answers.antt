@@ -1,5 +1,5 @@
 use Rattle.op_use.proofs.KeySteps.{same_key_is}
-use Rattle.op_use.proofs.apply.prerequisites.are_keys_same.Goals as goal
+use Rattle.op_use.proofs.apply.values.are_keys_same.Goals as goal
 use Rattle.std.proofs.Common.{◌&&◌, ◌∙◌}
 
 pub returns : goal.returns

@@ -1,0 +1,100 @@
+//! All sets of one owner, whose keys stand side by side in the map.
+
+ghost use Rattle.std.specs.BTreeMap.{get, keys};
+ghost use Rattle.std.specs.List.{filter, list_any};
+ghost use Rattle.std.specs.Ordering.{eq_by_cmp};
+ghost use Rattle.std.specs.Prelude.{◌≡◌, ◌&&◌, ◌++◌, ◌||◌, ◌∷◌, [], IfOk, None, OnOk, cond, not};
+ghost use Rattle.base.specs.NameOrder.{same_name};
+ghost use Rattle.base.specs.RrKey.{key_cmp};
+ghost use Rattle.base.specs.declared.rr_key.RrKey.{RrKey as Key};
+ghost use Rattle.op_use.specs.MapUpdates.{Leaves};
+ghost use Rattle.op_use.specs.Server.{is_cname};
+ghost use Rattle.op_use.specs.Zone.{is_owned};
+ghost use Rattle.rr.specs.RecordSet.{is_ns, is_soa};
+
+use crate::apply::sets::key_of;
+use crate::apply::types::{is_alias, is_guarded};
+use base::{Name, RecordType, RrKey};
+use rr::RecordSet;
+use std::alloc::{AllocError, Global};
+use std::collections::BTreeMap;
+
+// Whether an owner has a set, of any type or of any but CNAME.
+pub(crate) fn has_type(
+    sets: &BTreeMap<RrKey, RecordSet>,
+    owner: &Name,
+    is_beside: bool,
+) -> Result<bool, AllocError>
+    ensures { IfOk result (λ b. b ≡ list_any (λ (k : Key). is_owned owner.now k && not (is_beside && is_cname k.record_type)) (keys sets.now)) }
+{
+    let least = key_of(owner, RecordType::ZERO)?;
+    for (key, _) in sets.range(&least..) {
+        if least.name != key.name {
+            return Ok(false);
+        }
+        if counts(is_beside, key.record_type) {
+            return Ok(true);
+        }
+    }
+    Ok(false)
+}
+
+fn counts(is_beside: bool, record_type: RecordType) -> bool
+    ensures { result ≡ not (is_beside && is_cname record_type) }
+{
+    !(is_beside && is_alias(record_type))
+}
+
+// Takes all sets of an owner out; at the origin SOA and NS stay.
+pub(crate) fn take_name(
+    alloc: Global,
+    sets: &mut BTreeMap<RrKey, RecordSet>,
+    origin: &Name,
+    owner: &Name,
+) -> Result<(), AllocError>
+    ensures { OnOk result (Leaves origin.now owner.now sets.old sets.new) }
+{
+    let taken = unguarded_keys(alloc, sets, origin, owner)?;
+    take_keys(sets, &taken);
+    Ok(())
+}
+
+// The keys of an owner, at the origin but those of SOA and NS.
+fn unguarded_keys(
+    alloc: Global,
+    sets: &BTreeMap<RrKey, RecordSet>,
+    origin: &Name,
+    owner: &Name,
+) -> Result<Vec<RrKey>, AllocError>
+    ensures { IfOk result (λ ks. ks.items ≡ filter (λ (k : Key). is_owned owner.now k && not (same_name owner.now origin.now && (is_soa k.record_type || is_ns k.record_type))) (keys sets.now)) }
+{
+    let least = key_of(owner, RecordType::ZERO)?;
+    let mut found = Vec::new(alloc);
+    for (key, _) in sets.range(&least..) {
+        if least.name != key.name {
+            return Ok(found);
+        }
+        if is_guarded(origin, owner, key.record_type) {
+            continue;
+        }
+        list_key(&mut found, key)?;
+    }
+    Ok(found)
+}
+
+fn list_key(found: &mut Vec<RrKey>, key: &RrKey) -> Result<(), AllocError>
+    ensures { OnOk result (found.new.items ≡ found.old.items ++ key.now ∷ []) }
+{
+    let copy = key.clone()?;
+    found.push(copy)?;
+    Ok(())
+}
+
+// Takes the sets under these keys out.
+fn take_keys(sets: &mut BTreeMap<RrKey, RecordSet>, taken: &[RrKey])
+    ensures { (q : Key) → get key_cmp sets.new q ≡ cond (list_any (λ (k : Key). eq_by_cmp key_cmp k q) taken.now) None (get key_cmp sets.old q) }
+{
+    for key in taken {
+        sets.remove(key);
+    }
+}
