@@ -1,14 +1,14 @@
 -- What the callers say of what they send, keep and change.
-use Rattle.std.proofs.Common.{Bool, Err, List, None, Ok, Option, Result, Some, [], ap, lit<, lit≤, false, refl, subst, sym, true, ℕ, ◌∙◌, ◌∷◌, ◌≡◌, ◌⊎◌, inl, inr}
+use Rattle.std.proofs.Common.{Err, List, None, Ok, Option, Result, Some, [], ap, lit<, lit≤, false, refl, subst, sym, true, ℕ, ◌∙◌, ◌∷◌, ◌≡◌, ◌⊎◌, inl, inr}
 use Rattle.std.proofs.lemmas.Bool.{or_parts}
 use Rattle.std.proofs.lemmas.List.Elements.{All-cons, All-nil}
 use Rattle.std.proofs.lemmas.Result.{IfErr-weaker}
 use Rattle.std.specs.BTreeMap.{BTreeMap}
-use Rattle.std.specs.Prelude.{All, IfErr, IfOk, String, Vec, map, ◌||◌}
+use Rattle.std.specs.Prelude.{All, IfErr, IfOk, String, Vec, map}
 use Rattle.std.specs.String.{string_bytes}
 use Rattle.std.specs.declared.alloc.Global.{Global}
 use Rattle.base.specs.Labels.{NameValue}
-use Rattle.base.specs.NameOrder.{folded, is_zone_of, same_by-equiv, same_name}
+use Rattle.base.specs.NameOrder.{folded, is_zone_of, same_by-equiv}
 use Rattle.base.specs.TextFaults.{Fault}
 use Rattle.base.specs.declared.dns_class.DNSClass.TheVariants as classes
 use Rattle.base.specs.declared.error.proto_error.ProtoError.{ProtoError}
@@ -24,7 +24,7 @@ use Rattle.op.specs.Parts.{payload_taken}
 use Rattle.op.specs.declared.edns.Edns.{Edns}
 use Rattle.op.specs.declared.response_code.ResponseCode.{ResponseCode}
 use Rattle.op_use.specs.AppliedMeaning.{CreateApplies, MapsAreZones}
-use Rattle.op_use.specs.Applying.{IsApplied, zone_of_map}
+use Rattle.op_use.specs.Applying.{IsApplied}
 use Rattle.op_use.specs.Server.{sections_of}
 use Rattle.op_use.specs.SoundSet.{IsSendable}
 use Rattle.op_use.specs.UpdateMessage.{create, update_message}

@@ -1,7 +1,7 @@
 -- What the callers that docs/CALLING.md quotes promise.
 use Rattle.std.specs.BTreeMap.{BTreeMap}
 use Rattle.std.specs.Option.{option_map}
-use Rattle.std.specs.Prelude.{All, Bool, Err, List, None, Ok, Option, Result, Some, [], false, if◌then◌else◌, length, map, ℕ, ◌-◌, ◌≡◌, ◌⊎◌}
+use Rattle.std.specs.Prelude.{All, Err, List, None, Ok, Option, Result, Some, false, if◌then◌else◌, length, map, ℕ, ◌-◌, ◌≡◌, ◌⊎◌}
 use Rattle.base.specs.Labels.{NameValue}
 use Rattle.base.specs.Reading.{Fails}
 use Rattle.base.specs.TextFaults.{Fault}

@@ -1,7 +1,5 @@
 use Rattle.std.proofs.Common.{ap, map, rules, ◌∙◌}
-use Rattle.base_data.specs.declared.rdata.RData.{RData}
 use Rattle.rr.specs.Record.{decremented}
-use Rattle.rr.specs.declared.record.Record.{Record}
 use Rattle.dnsmsg.proofs.callers.cache.cached.Goals as goal
 
 pub returns-clause-kept : goal.returns-clause-kept

@@ -1,4 +1,3 @@
-use Rattle.std.specs.Prelude.{◌≡◌}
 use Rattle.std.proofs.Common.{subst}
 use Rattle.op.specs.Message.{message_value}
 use Rattle.dnsmsg.proofs.CallerLemmas.{created}
