@@ -1,4 +1,5 @@
 mod ApplyLemmas
+mod CallerLemmas
 mod CutLemmas
 mod LimitLemmas
 mod RunLemmas

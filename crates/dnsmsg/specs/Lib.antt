@@ -1,6 +1,7 @@
 pub mod Answer
 pub mod Answering
 pub mod ApplyCommand
+pub mod Callers
 pub mod Command
 pub mod CutCommand
 pub mod HeaderCommand

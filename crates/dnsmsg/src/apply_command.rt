@@ -84,7 +84,7 @@ fn apply_to_sets(
 }
 
 // Whether each set and each record is of the class IN.
-fn are_sets_in(sets: &BTreeMap<RrKey, RecordSet>) -> bool
+pub(crate) fn are_sets_in(sets: &BTreeMap<RrKey, RecordSet>) -> bool
     ensures { result ≡ are_sets_in sets.now.entries }
 {
     for set in sets.values() {

@@ -2,6 +2,7 @@
 #![tactic(auto)]
 
 mod apply_command;
+mod callers;
 mod command;
 mod cut_command;
 mod header_command;

@@ -6,6 +6,7 @@
 
 mod applies;
 mod broken_streams;
+mod callers;
 mod cut_rows;
 mod cut_tables;
 mod data;
