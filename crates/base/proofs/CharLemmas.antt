@@ -43,7 +43,8 @@ no_char : {r : TextChar × List ℕ} → None ≡ Some r → ⊥
 no_char h = cc
 
 -- a piece that is this character
-piece_is : {front text rest : List ℕ} {c d : TextChar} (piece behind : List ℕ) → IsCharText (front ++ piece) d → text ≡ piece ++ behind → ◌≡◌ {A = Option (TextChar × List ℕ)} (Some (d, behind)) (Some (c, rest)) → Piece front text c rest
+piece_is : {front text rest : List ℕ} {c d : TextChar} (piece behind : List ℕ) → IsCharText (front ++ piece) d → text ≡ piece ++ behind
+    → ◌≡◌ {A = Option (TextChar × List ℕ)} (Some (d, behind)) (Some (c, rest)) → Piece front text c rest
 piece_is {front} {text} {rest} {c} {d} piece behind spells is found =
     let same = same_first found in
     record { piece = piece; spells = subst (IsCharText (front ++ piece)) same.0 spells; is = is ∙ ap (λ (r : List ℕ). piece ++ r) same.1 }
@@ -61,7 +62,8 @@ decimal_piece x (y ∷ z ∷ text) c rest digit h = go (is_ascii_digit y && is_a
       let both = first_so (is_ascii_digit y && is_ascii_digit z) (nat_lt number 256) is in
       let small = second_so (is_ascii_digit y && is_ascii_digit z) (nat_lt number 256) is in
       piece_is (y ∷ z ∷ []) text
-      (is_number refl (record { first = digit; second = first_so (is_ascii_digit y) (is_ascii_digit z) both; third = second_so (is_ascii_digit y) (is_ascii_digit z) both; is = refl; byte = grind (arith, nat_tests) }))
+      (is_number refl (record { first = digit; second = first_so (is_ascii_digit y) (is_ascii_digit z) both; third = second_so (is_ascii_digit y)
+          (is_ascii_digit z) both; is = refl; byte = grind (arith, nat_tests) }))
       refl (rw is at h)
   go false is = absurd (no_char (rw is at h))
 

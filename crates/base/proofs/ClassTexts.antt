@@ -9,7 +9,8 @@ use Rattle.base.specs.DNSClass.{class_from_text, class_text, is_named_class, nam
 use Rattle.base.proofs.ReadTexts.{find-passes}
 
 -- the class that a text is read as, after the test for the sign *
-class_text-read_by : (text : List ℕ) (c : DNSClass) (b : Bool) → bytes_eq (codes "*") text ≡ b → cond b (Some classes.ANY) (find (λ d. bytes_eq (class_text d) text) named_classes) ≡ Some c → (class_text c ≡ text) ⊎ ((text ≡ codes "*") × (c ≡ classes.ANY))
+class_text-read_by : (text : List ℕ) (c : DNSClass) (b : Bool) → bytes_eq (codes "*") text ≡ b
+    → cond b (Some classes.ANY) (find (λ d. bytes_eq (class_text d) text) named_classes) ≡ Some c → (class_text c ≡ text) ⊎ ((text ≡ codes "*") × (c ≡ classes.ANY))
 class_text-read_by text c true star found = inr (sym ((bytes_eq-Decides (codes "*") text).0 star), cc)
 class_text-read_by text c false star found =
     inl ((bytes_eq-Decides (class_text c) text).0

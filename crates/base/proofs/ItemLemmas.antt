@@ -31,7 +31,8 @@ module _ {E : Type 0} (word : E → List ℕ → ℕ → ℕ → Type 0) (plain 
 
   -- the words of items that were written stand back to back in every buffer that holds them, and all
   -- suffixes stored until then are spelled there
-  pub Words-each : (xs : List E) (a b : State) → EachWritten word plain owner xs a b → (B : List ℕ) → Holds a b B → BackToBack (λ i x e. word x B i e) (length a.bytes) xs (length b.bytes) × IsValid b B
+  pub Words-each : (xs : List E) (a b : State) → EachWritten word plain owner xs a b → (B : List ℕ) → Holds a b B
+      → BackToBack (λ i x e. word x B i e) (length a.bytes) xs (length b.bytes) × IsValid b B
   Words-each [] a b same B h =
       (subst (λ (s : State). BackToBack (λ i x e. word x B i e) (length a.bytes) [] (length s.bytes)) (sym same) none, subst (λ (s : State). IsValid s B) (sym same) h.table)
   Words-each (x ∷ xs) a c (b, keeps, writes, others) B h =

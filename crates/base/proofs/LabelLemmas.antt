@@ -45,7 +45,8 @@ pub nil_from_labels_of : (bytes : List ℕ) → wire_of (labels_of bytes) ≡ by
 nil_from_labels_of bytes whole none = sym whole ∙ ap wire_of none ∙ wire_of-nil
 
 -- the absolute name without labels
-pub is_root_name : (bytes : List ℕ) (absolute : Bool) → bytes ≡ [] → absolute ≡ true → ◌≡◌ {A = NameValue} (record { labels = labels_of bytes; absolute = absolute }) (record { labels = []; absolute = true })
+pub is_root_name : (bytes : List ℕ) (absolute : Bool) → bytes ≡ [] → absolute ≡ true
+    → ◌≡◌ {A = NameValue} (record { labels = labels_of bytes; absolute = absolute }) (record { labels = []; absolute = true })
 is_root_name bytes absolute none is =
     let name : List (List ℕ) → NameValue = λ labels. record { labels = labels; absolute = absolute } in
     let flagged : Bool → NameValue = λ flag. record { labels = []; absolute = flag } in
@@ -97,7 +98,8 @@ pub record IsFirst (bytes : List ℕ) (n : ℕ) : Type 0 where
 first_at : (x : List ℕ) (xs : List (List ℕ)) (bytes : List ℕ) → bytes ≡ length x ∷ (x ++ wire_of xs) → labels_of bytes ≡ x ∷ xs → (n : ℕ) → n ≡ length x + 1 → IsFirst bytes n
 first_at x xs bytes is labels n end =
     let front : slice_range bytes 1 n ≡ x = ap (λ (w : List ℕ). slice_range w 1 n) is ∙ take_at x (wire_of xs) (n - 1) (omega arith) in
-    let rest : drop n bytes ≡ wire_of xs = ap (λ (w : List ℕ). drop n w) is ∙ ap (λ (k : ℕ). drop k (length x ∷ (x ++ wire_of xs))) (end ∙ add-one (length x)) ∙ drop_at x (wire_of xs) (length x) refl in
+    let rest : drop n bytes ≡ wire_of xs = ap (λ (w : List ℕ). drop n w) is ∙ ap (λ (k : ℕ). drop k (length x ∷ (x ++ wire_of xs))) (end ∙ add-one (length x))
+        ∙ drop_at x (wire_of xs) (length x) refl in
     let others : labels_of (drop n bytes) ≡ xs = ap labels_of rest ∙ labels_of-wire_of xs in
     record {
       fits = omega (arith, ap length is, length-append x (wire_of xs));

@@ -46,13 +46,15 @@ pub spelled_later : (B : List ℕ) (m n : ℕ) → m ≤ n → (t : Stored) → 
 spelled_later B m n le t s = record { below = omega (arith, s.below); fits = s.fits; end = s.end; spelled = s.spelled }
 
 -- Bytes that are a word wherever they stand were written.
-pub Writes-appended : (word : List ℕ → ℕ → ℕ → Type 0) (plain : ℕ) (xs : List ℕ) (a : State) → length xs ≤ plain → ((B : List ℕ) → Stands xs B (length a.bytes) → word B (length a.bytes) (length a.bytes + length xs)) → Writes word plain [] a (appended xs a)
+pub Writes-appended : (word : List ℕ → ℕ → ℕ → Type 0) (plain : ℕ) (xs : List ℕ) (a : State) → length xs ≤ plain
+    → ((B : List ℕ) → Stands xs B (length a.bytes) → word B (length a.bytes) (length a.bytes + length xs)) → Writes word plain [] a (appended xs a)
 Writes-appended word plain xs a fits is_word = record {
   word_stands = λ B h.
       let stands : Stands xs B (length a.bytes) = rw drop-append_seam at h.bytes in
       rw length-append (is_word B stands);
   valid = λ B h. record {
-    each = All-weaker (IsSpelled B (length a.bytes)) (IsSpelled B (length (a.bytes ++ xs))) (spelled_later B (length a.bytes) (length (a.bytes ++ xs)) (omega (arith, length-append a.bytes xs))) a.suffixes h.table.each;
+    each = All-weaker (IsSpelled B (length a.bytes)) (IsSpelled B (length (a.bytes ++ xs)))
+        (spelled_later B (length a.bytes) (length (a.bytes ++ xs)) (omega (arith, length-append a.bytes xs))) a.suffixes h.table.each;
   };
   at_most = omega (arith, length-append a.bytes xs);
   compresses = record {
@@ -63,11 +65,13 @@ Writes-appended word plain xs a fits is_word = record {
   };
 }
 
-pub Writes-bytes : (word : List ℕ → ℕ → ℕ → Type 0) (plain : ℕ) (xs : List ℕ) (a b : State) → b ≡ appended xs a → length xs ≤ plain → ((B : List ℕ) → Stands xs B (length a.bytes) → word B (length a.bytes) (length a.bytes + length xs)) → Writes word plain [] a b
+pub Writes-bytes : (word : List ℕ → ℕ → ℕ → Type 0) (plain : ℕ) (xs : List ℕ) (a b : State) → b ≡ appended xs a → length xs ≤ plain
+    → ((B : List ℕ) → Stands xs B (length a.bytes) → word B (length a.bytes) (length a.bytes + length xs)) → Writes word plain [] a b
 Writes-bytes word plain xs a b is fits is_word = subst (λ (s : State). Writes word plain [] a s) (sym is) (Writes-appended word plain xs a fits is_word)
 
 -- the same where the answer may be a refusal
-pub Writes-either : {X : Type 0} (r : Result X ProtoError) (word : List ℕ → ℕ → ℕ → Type 0) (plain : ℕ) (xs : List ℕ) (a b : State) → OnOk r (b ≡ appended xs a) → length xs ≤ plain → ((B : List ℕ) → Stands xs B (length a.bytes) → word B (length a.bytes) (length a.bytes + length xs)) → OnOk r (Writes word plain [] a b)
+pub Writes-either : {X : Type 0} (r : Result X ProtoError) (word : List ℕ → ℕ → ℕ → Type 0) (plain : ℕ) (xs : List ℕ) (a b : State) → OnOk r (b ≡ appended xs a)
+    → length xs ≤ plain → ((B : List ℕ) → Stands xs B (length a.bytes) → word B (length a.bytes) (length a.bytes + length xs)) → OnOk r (Writes word plain [] a b)
 Writes-either (Ok x) word plain xs a b ok fits is_word = Writes-bytes word plain xs a b ok fits is_word
 Writes-either (Err e) word plain xs a b ok fits is_word = ok
 
@@ -80,7 +84,8 @@ Keeps-then {a} {b} {c} k l = record {
   bytes = l.bytes ∙ ap (λ (xs : List ℕ). xs ++ l.appended) k.bytes ∙ append_assoc a.bytes k.appended l.appended;
   suffixes = l.suffixes ∙ ap (λ (ts : List Stored). ts ++ l.added) k.suffixes ∙ append_assoc a.suffixes k.added l.added;
   offsets = All-append (λ (t : Stored). length a.bytes ≤ t.offset) k.added l.added k.offsets
-      (All-weaker (λ (t : Stored). length b.bytes ≤ t.offset) (λ (t : Stored). length a.bytes ≤ t.offset) (λ t later. omega (arith, ap length k.bytes, length-append a.bytes k.appended)) l.added l.offsets);
+      (All-weaker (λ (t : Stored). length b.bytes ≤ t.offset) (λ (t : Stored). length a.bytes ≤ t.offset)
+          (λ t later. omega (arith, ap length k.bytes, length-append a.bytes k.appended)) l.added l.offsets);
   limit = l.limit ∙ k.limit;
   buffer = l.buffer ∙ k.buffer;
   within = omega (arith, k.within, l.within, k.limit);
@@ -107,7 +112,8 @@ module _ (a b c : State) (k : Keeps a b) (l : Keeps b c) (B : List ℕ) where
   -- what was added by the second stands behind the first
   pub Stands-second : Holds a c B → Stands (drop (length b.bytes) c.bytes) B (length b.bytes)
   Stands-second h =
-      let all : Stands (k.appended ++ (l.appended ++ [])) B (length a.bytes) = subst (λ (xs : List ℕ). Stands xs B (length a.bytes)) (both ∙ ap (λ (xs : List ℕ). k.appended ++ xs) (sym (append-nil l.appended))) h.bytes in
+      let all : Stands (k.appended ++ (l.appended ++ [])) B (length a.bytes) = subst (λ (xs : List ℕ). Stands xs B (length a.bytes))
+          (both ∙ ap (λ (xs : List ℕ). k.appended ++ xs) (sym (append-nil l.appended))) h.bytes in
       let place : length a.bytes + length k.appended ≡ length b.bytes = sym (ap length k.bytes ∙ length-append a.bytes k.appended) in
       subst (λ (xs : List ℕ). Stands xs B (length b.bytes)) (sym (added_bytes b c l.appended l.bytes))
       (subst (Stands l.appended B) place (stands_part k.appended l.appended [] B (length a.bytes) all))
@@ -123,7 +129,8 @@ any_append P xs ys zs is (k, t, inside, at, holds) =
 
 -- With on_ok_weaker of std, the law of an emit in parts is one term: on_ok_weaker of the last answer,
 -- a λ of Writes-then of the first part and of Writes-then of the second and so on, and the last clause.
-pub Writes-then : {first second : List ℕ → ℕ → ℕ → Type 0} {n m : ℕ} {owner : List (List ℕ)} {a b c : State} → Keeps a b → Keeps b c → Writes first n owner a b → Writes second m [] b c → Writes (Then first second) (n + m) owner a c
+pub Writes-then : {first second : List ℕ → ℕ → ℕ → Type 0} {n m : ℕ} {owner : List (List ℕ)} {a b c : State} → Keeps a b → Keeps b c → Writes first n owner a b
+    → Writes second m [] b c → Writes (Then first second) (n + m) owner a c
 Writes-then {a = a} {b = b} {c = c} k l v w = record {
   word_stands = λ B h. (length b.bytes, v.word_stands B (Holds-first a b c k l B h), w.word_stands B (behind B h));
   valid = λ B h. w.valid B (behind B h);
@@ -139,7 +146,8 @@ Writes-then {a = a} {b = b} {c = c} k l v w = record {
   behind B h = Holds-second a b c k l B (v.valid B (Holds-first a b c k l B h)) h
 
 -- a word that follows from the one that was written, and as many bytes or more
-pub Writes-weaker : {word other : List ℕ → ℕ → ℕ → Type 0} {n m : ℕ} {owner : List (List ℕ)} {a b : State} → ((B : List ℕ) (i e : ℕ) → word B i e → other B i e) → n ≤ m → Writes word n owner a b → Writes other m owner a b
+pub Writes-weaker : {word other : List ℕ → ℕ → ℕ → Type 0} {n m : ℕ} {owner : List (List ℕ)} {a b : State} → ((B : List ℕ) (i e : ℕ) → word B i e → other B i e)
+    → n ≤ m → Writes word n owner a b → Writes other m owner a b
 Writes-weaker {a = a} {b = b} follows fits w = record {
   word_stands = λ B h. follows B (length a.bytes) (length b.bytes) (w.word_stands B h);
   valid = w.valid;

@@ -56,7 +56,8 @@ pub at_dot : {text : List ℕ} → text ≡ 46 ∷ [] → text ≡ 64 ∷ [] →
 at_dot e f = let codes : 46 ∷ [] ≡ 64 ∷ [] = sym e ∙ f in omega (arith, ap (λ (t : List ℕ). get_or t 0 0) codes)
 
 -- what is named where the text is no labels
-pub no_name : {text : List ℕ} {o : Option NameValue} {n : NameValue} → text ≢ 46 ∷ [] → text ≢ 64 ∷ [] → ((labels : List (List ℕ)) (absolute : Bool) → IsLabelsText text labels absolute → ⊥) → IsNameText text o n → ⊥
+pub no_name : {text : List ℕ} {o : Option NameValue} {n : NameValue} → text ≢ 46 ∷ [] → text ≢ 64 ∷ []
+    → ((labels : List (List ℕ)) (absolute : Bool) → IsLabelsText text labels absolute → ⊥) → IsNameText text o n → ⊥
 no_name dot at nothing (is_root e) = dot e
 no_name dot at nothing (is_origin e f) = at f
 no_name dot at nothing (is_absolute {labels} text) = nothing labels true text
@@ -72,7 +73,8 @@ no_origin at missing (is_relative e f text) = f at
 no_origin at missing (is_completed e f text short) = some_none (sym e ∙ missing)
 
 -- labels that the origin makes too long name nothing
-pub too_long : {text : List ℕ} {o : Option NameValue} {n origin : NameValue} {labels : List (List ℕ)} → o ≡ Some origin → text ≢ 64 ∷ [] → IsLabelsText text labels false → 255 < plain_len (labels ++ origin.labels) → IsNameText text o n → ⊥
+pub too_long : {text : List ℕ} {o : Option NameValue} {n origin : NameValue} {labels : List (List ℕ)} → o ≡ Some origin → text ≢ 64 ∷ []
+    → IsLabelsText text labels false → 255 < plain_len (labels ++ origin.labels) → IsNameText text o n → ⊥
 too_long given at is long (is_root e) = not_dot e is
 too_long given at is long (is_origin e f) = at f
 too_long given at is long (is_absolute text) = true_false (labels_once text is).1 where
@@ -88,15 +90,18 @@ too_long {origin = given_origin} given at is long (is_completed {labels = xs} e 
 -- labels behind others, in bytes
 pub appended_labels : (bytes wire : List ℕ) (labels : List (List ℕ)) → IsWire bytes → wire ≡ wire_of labels → labels_of (bytes ++ wire) ≡ labels_of bytes ++ labels
 appended_labels bytes wire labels holds is =
-    ap labels_of (ap (λ (front : List ℕ). front ++ wire) (sym holds.whole) ∙ ap (λ (back : List ℕ). wire_of (labels_of bytes) ++ back) is ∙ sym (wire_of-append (labels_of bytes) labels)) ∙ labels_of-wire_of (labels_of bytes ++ labels)
+    ap labels_of (ap (λ (front : List ℕ). front ++ wire) (sym holds.whole) ∙ ap (λ (back : List ℕ). wire_of (labels_of bytes) ++ back) is
+        ∙ sym (wire_of-append (labels_of bytes) labels)) ∙ labels_of-wire_of (labels_of bytes ++ labels)
 
 pub IsWire-appended : (bytes wire : List ℕ) (labels : List (List ℕ)) → IsWire bytes → wire ≡ wire_of labels → AreLabels labels → length bytes + length wire ≤ 254 → IsWire (bytes ++ wire)
 IsWire-appended bytes wire labels holds is are short =
-    let whole : wire_of (labels_of bytes ++ labels) ≡ bytes ++ wire = wire_of-append (labels_of bytes) labels ∙ ap (λ (front : List ℕ). front ++ wire_of labels) holds.whole ∙ ap (λ (back : List ℕ). bytes ++ back) (sym is) in
+    let whole : wire_of (labels_of bytes ++ labels) ≡ bytes ++ wire = wire_of-append (labels_of bytes) labels
+        ∙ ap (λ (front : List ℕ). front ++ wire_of labels) holds.whole ∙ ap (λ (back : List ℕ). bytes ++ back) (sym is) in
     subst IsWire whole (IsWire-wire_of (labels_of bytes ++ labels) (AreLabels-append (labels_of bytes) labels holds.labels are)
     (omega (arith, length-wire_of (labels_of bytes ++ labels), ap length whole, length-append bytes wire)))
 
-module _ {text : List ℕ} {o : Option NameValue} {bytes wire : List ℕ} {origin : NameValue} (read : IsLabelsText text (labels_of bytes) false) (holds : IsWire bytes) (at : text ≢ 64 ∷ []) (given : o ≡ Some origin) (is : wire ≡ wire_of origin.labels) where
+module _ {text : List ℕ} {o : Option NameValue} {bytes wire : List ℕ} {origin : NameValue} (read : IsLabelsText text (labels_of bytes) false)
+    (holds : IsWire bytes) (at : text ≢ 64 ∷ []) (given : o ≡ Some origin) (is : wire ≡ wire_of origin.labels) where
   both_size : size_of (labels_of bytes ++ origin.labels) ≡ length bytes + length wire
   both_size = omega (arith, size_of-append (labels_of bytes) origin.labels, size_of-labels_of bytes holds, ap length is, length-wire_of origin.labels)
 
@@ -109,17 +114,20 @@ module _ {text : List ℕ} {o : Option NameValue} {bytes wire : List ℕ} {origi
   completes_not long named = too_long given at read (omega (arith, both_size)) named
 
 -- what is refused as a bad name, where a name is answered
-pub named_answers : {text : List ℕ} {o : Option NameValue} {n : NameValue} {r : Result NameValue ParseError} → r ≡ Ok n → IsNameText text o n → (r ≡ Err refusals.BadName) ↔ ((name : NameValue) → IsNameText text o name → ⊥)
+pub named_answers : {text : List ℕ} {o : Option NameValue} {n : NameValue} {r : Result NameValue ParseError} → r ≡ Ok n → IsNameText text o n
+    → (r ≡ Err refusals.BadName) ↔ ((name : NameValue) → IsNameText text o name → ⊥)
 named_answers {n = n} is named = (λ bad. absurd (apart (sym is ∙ bad)), λ nothing. absurd (nothing n named)) where
   apart : Ok n ≡ Err refusals.BadName → ⊥
   apart e = cc
 
 -- where memory is wanting
-pub memory_answers : {text : List ℕ} {o : Option NameValue} {n : NameValue} {r : Result NameValue ParseError} → r ≡ Err refusals.Memory → IsNameText text o n → (r ≡ Err refusals.BadName) ↔ ((name : NameValue) → IsNameText text o name → ⊥)
+pub memory_answers : {text : List ℕ} {o : Option NameValue} {n : NameValue} {r : Result NameValue ParseError} → r ≡ Err refusals.Memory → IsNameText text o n
+    → (r ≡ Err refusals.BadName) ↔ ((name : NameValue) → IsNameText text o name → ⊥)
 memory_answers {n = n} is named = (λ bad. absurd (apart (sym is ∙ bad)), λ nothing. absurd (nothing n named)) where
   apart : ◌≡◌ {A = Result NameValue ParseError} (Err refusals.Memory) (Err refusals.BadName) → ⊥
   apart e = cc
 
 -- and where nothing is named
-pub bad_answers : {text : List ℕ} {o : Option NameValue} {r : Result NameValue ParseError} → r ≡ Err refusals.BadName → ((name : NameValue) → IsNameText text o name → ⊥) → (r ≡ Err refusals.BadName) ↔ ((name : NameValue) → IsNameText text o name → ⊥)
+pub bad_answers : {text : List ℕ} {o : Option NameValue} {r : Result NameValue ParseError} → r ≡ Err refusals.BadName
+    → ((name : NameValue) → IsNameText text o name → ⊥) → (r ≡ Err refusals.BadName) ↔ ((name : NameValue) → IsNameText text o name → ⊥)
 bad_answers is nothing = (λ bad. nothing, λ no. is)

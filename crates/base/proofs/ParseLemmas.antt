@@ -187,7 +187,8 @@ module _ {text rest : List ℕ} {done : List (List ℕ)} {current : List ℕ} (g
         (on.0, on.1, earlier.2 ∙ ap (λ (ds : List TextChar). ended done ++ (map Byte current ++ ds)) on.2 ∙ one_more on.0);
   } where
     one_more : (cs : List TextChar) → ended done ++ (map Byte current ++ (Byte b ∷ cs)) ≡ ended done ++ (map Byte (current ++ b ∷ []) ++ cs)
-    one_more cs = ap (λ (ds : List TextChar). ended done ++ ds) (sym (append_assoc (map Byte current) (Byte b ∷ []) cs) ∙ ap (λ (ds : List TextChar). ds ++ cs) (sym (map-append Byte current (b ∷ []))))
+    one_more cs = ap (λ (ds : List TextChar). ended done ++ ds)
+        (sym (append_assoc (map Byte current) (Byte b ∷ []) cs) ∙ ap (λ (ds : List TextChar). ds ++ cs) (sym (map-append Byte current (b ∷ []))))
 
   pub gathered_dot : {tail : List ℕ} → first_char rest ≡ Some (Dot, tail) → Gathered text tail (done ++ current ∷ []) []
   gathered_dot {tail} is = record {
@@ -215,14 +216,16 @@ module _ {text rest : List ℕ} {done : List (List ℕ)} {current : List ℕ} (g
       let r = rest_pieces is in
       let on = reads_on r.1 first in
       let f = first_of on.0 in
-      (f.head, f.tail, subst (λ (ps : List (List ℕ)). Fits (done ++ ps)) (ap (λ (ds : List TextChar). pieces (map Byte current ++ ds)) on.2 ∙ pieces-front current (Byte b ∷ on.0) (b ∷ f.head) f.tail (ap (onto_first b) f.is)) r.2)
+      (f.head, f.tail, subst (λ (ps : List (List ℕ)). Fits (done ++ ps))
+          (ap (λ (ds : List TextChar). pieces (map Byte current ++ ds)) on.2 ∙ pieces-front current (Byte b ∷ on.0) (b ∷ f.head) f.tail (ap (onto_first b) f.is)) r.2)
 
   pub label_too_long : {labels : List (List ℕ)} {absolute : Bool} {b : ℕ} {tail : List ℕ} → first_char rest ≡ Some (Byte b, tail) → 63 ≤ length current → IsLabelsText text labels absolute → ⊥
   label_too_long {b = b} first long is =
       let r = with_byte first is in
       omega (arith, short_at done (current ++ b ∷ r.0) r.1 r.2.short, length-append current (b ∷ r.0))
 
-  pub name_too_long : {labels : List (List ℕ)} {absolute : Bool} {b : ℕ} {tail : List ℕ} → first_char rest ≡ Some (Byte b, tail) → AreLabels done → 254 ≤ size_of done + 1 + length current → IsLabelsText text labels absolute → ⊥
+  pub name_too_long : {labels : List (List ℕ)} {absolute : Bool} {b : ℕ} {tail : List ℕ} → first_char rest ≡ Some (Byte b, tail) → AreLabels done
+      → 254 ≤ size_of done + 1 + length current → IsLabelsText text labels absolute → ⊥
   name_too_long {b = b} first are long is =
       let r = with_byte first is in
       let len = length-append current (b ∷ r.0) in
@@ -234,7 +237,8 @@ module _ {text rest : List ℕ} {done : List (List ℕ)} {current : List ℕ} (g
       let on = reads_on r.1 first in
       let f = first_of on.0 in
       not_inner done f.head f.tail
-      (subst (λ (ps : List (List ℕ)). InnerSome (done ++ ps)) (ap (λ (ds : List TextChar). pieces (map Byte current ++ ds)) on.2 ∙ ap (λ (x : List ℕ). pieces (map Byte x ++ (Dot ∷ on.0))) empty ∙ ap (λ (ps : List (List ℕ)). [] ∷ ps) f.is) r.2.inner)
+      (subst (λ (ps : List (List ℕ)). InnerSome (done ++ ps))
+          (ap (λ (ds : List TextChar). pieces (map Byte current ++ ds)) on.2 ∙ ap (λ (x : List ℕ). pieces (map Byte x ++ (Dot ∷ on.0))) empty ∙ ap (λ (ps : List (List ℕ)). [] ∷ ps) f.is) r.2.inner)
 
   -- the text goes on, but not by a character
   pub no_char : {labels : List (List ℕ)} {absolute : Bool} → first_char rest ≡ None → rest ≢ [] → IsLabelsText text labels absolute → ⊥
@@ -249,7 +253,8 @@ size_of-append [] ys = omega arith
 size_of-append (x ∷ xs) ys = omega (arith, size_of-append xs ys)
 
 -- the text has ended, and a label with it
-pub ends_relative : {text : List ℕ} {done : List (List ℕ)} {current : List ℕ} → Gathered text [] done current → 1 ≤ length current → length current ≤ 63 → AreLabels done → size_of done + 1 + length current ≤ 254
+pub ends_relative : {text : List ℕ} {done : List (List ℕ)} {current : List ℕ} → Gathered text [] done current → 1 ≤ length current → length current ≤ 63
+    → AreLabels done → size_of done + 1 + length current ≤ 254
     → IsLabelsText text (done ++ current ∷ []) false
 ends_relative {text} {done} {current} gathered some small are short = record {
   reads = subst (AreCharsOf text) (sym (append_assoc (ended done) (map Byte current) []) ∙ ap (λ (cs : List TextChar). cs ++ []) (sym (dotted-last done current))) (gathered.goes_on [] none);
@@ -313,7 +318,8 @@ module _ {text rest room : List ℕ} {used len : ℕ} (holds : Holds text rest r
 
   pub holds_byte : {b : ℕ} {tail : List ℕ} → first_char rest ≡ Some (Byte b, tail) → len < 63 → used + 1 + len < 254 → Holds text tail (set room (used + 1 + len) b) used (len + 1)
   holds_byte {b} {tail} first small room_left = record {
-    gathered = subst (λ (done : List (List ℕ)). Gathered text tail done (take (len + 1) (drop (used + 1) next))) (ap labels_of (sym front)) (subst (Gathered text tail (labels_of (take used room))) (sym behind) (gathered_byte holds.gathered first));
+    gathered = subst (λ (done : List (List ℕ)). Gathered text tail done (take (len + 1) (drop (used + 1) next))) (ap labels_of (sym front))
+        (subst (Gathered text tail (labels_of (take used room))) (sym behind) (gathered_byte holds.gathered first));
     wire = subst IsWire (sym front) holds.wire;
     size = length-set room (used + 1 + len) b ∙ holds.size;
     inside = holds.inside;
@@ -366,7 +372,8 @@ module _ {text rest room : List ℕ} {used len : ℕ} (holds : Holds text rest r
   pub stops_at_char : first_char rest ≡ None → rest ≢ [] → (labels : List (List ℕ)) (absolute : Bool) → IsLabelsText text labels absolute → ⊥
   stops_at_char nothing some labels absolute is = no_char holds.gathered nothing some is
 
-  pub stops_at_byte : {b : ℕ} {tail : List ℕ} → first_char rest ≡ Some (Byte b, tail) → 63 ≤ len ⊎ 254 ≤ used + 1 + len → (labels : List (List ℕ)) (absolute : Bool) → IsLabelsText text labels absolute → ⊥
+  pub stops_at_byte : {b : ℕ} {tail : List ℕ} → first_char rest ≡ Some (Byte b, tail) → 63 ≤ len ⊎ 254 ≤ used + 1 + len
+      → (labels : List (List ℕ)) (absolute : Bool) → IsLabelsText text labels absolute → ⊥
   stops_at_byte first (inl long) labels absolute is = label_too_long holds.gathered first (omega (arith, current_len)) is
   stops_at_byte first (inr long) labels absolute is = name_too_long holds.gathered first holds.wire.labels (omega (arith, done_size, current_len)) is
 

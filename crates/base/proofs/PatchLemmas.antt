@@ -59,7 +59,8 @@ module _ (room xs : List ℕ) (a b c d : State) (size : length xs ≡ length roo
   pub Holds-behind : (B : List ℕ) → Holds (appended xs a) d B → Holds b c B
   Holds-behind B h = record {
     table = record {
-      each = subst (λ (n : ℕ). (ts : List Stored) → ts ≡ a.suffixes → All (IsSpelled B n) ts) (sym start) (λ ts is. subst (λ (us : List Stored). All (IsSpelled B (length (a.bytes ++ xs))) us) (sym is) h.table.each) b.suffixes old;
+      each = subst (λ (n : ℕ). (ts : List Stored) → ts ≡ a.suffixes → All (IsSpelled B n) ts) (sym start)
+          (λ ts is. subst (λ (us : List Stored). All (IsSpelled B (length (a.bytes ++ xs))) us) (sym is) h.table.each) b.suffixes old;
     };
     bytes =
         let behind : drop (length (a.bytes ++ xs)) d.bytes ≡ k.appended = ap (drop (length (a.bytes ++ xs))) bytes ∙ drop-append_seam (a.bytes ++ xs) k.appended in
@@ -83,13 +84,15 @@ module _ (room xs : List ℕ) (a b c d : State) (size : length xs ≡ length roo
   }
 
 -- a word behind its length
-module _ (n : ℕ) (room : List ℕ) (a b c d : State) (small : n < 2 ^ 16) (size : 2 ≡ length room) (kept : b ≡ appended room a) (k : Keeps b c) (len : n ≡ length c.bytes - (length a.bytes + 2)) (filled : d ≡ overwritten (length a.bytes) (to_be_bytes w16 n) c) where
+module _ (n : ℕ) (room : List ℕ) (a b c d : State) (small : n < 2 ^ 16) (size : 2 ≡ length room) (kept : b ≡ appended room a) (k : Keeps b c)
+    (len : n ≡ length c.bytes - (length a.bytes + 2)) (filled : d ≡ overwritten (length a.bytes) (to_be_bytes w16 n) c) where
   number : Writes (Number w16 n) 2 [] a (appended (to_be_bytes w16 n) a)
   number = Writes-appended (Number w16 n) 2 (to_be_bytes w16 n) a (omega arith) (λ B stands. (number16_stands n B (length a.bytes) small stands, refl))
 
   pub Keeps-sized : length b.bytes ≤ a.limit → Keeps a d
   Keeps-sized within =
-      let first : Keeps a (appended (to_be_bytes w16 n) a) = Keeps-appended (to_be_bytes w16 n) a (appended (to_be_bytes w16 n) a) refl (omega (arith, start room (to_be_bytes w16 n) a b c d size kept k filled)) in
+      let first : Keeps a (appended (to_be_bytes w16 n) a) = Keeps-appended (to_be_bytes w16 n) a (appended (to_be_bytes w16 n) a) refl
+          (omega (arith, start room (to_be_bytes w16 n) a b c d size kept k filled)) in
       Keeps-then first (Keeps-filled room (to_be_bytes w16 n) a b c d size kept k filled)
 
   pub Writes-sized : {word : List ℕ → ℕ → ℕ → Type 0} {plain : ℕ} {owner : List (List ℕ)} → length b.bytes ≤ a.limit → Writes word plain owner b c → Writes (Sized word) (2 + plain) [] a d
@@ -109,4 +112,5 @@ module _ (n : ℕ) (room : List ℕ) (a b c d : State) (small : n < 2 ^ 16) (siz
     both = Writes-then first (Keeps-filled room (to_be_bytes w16 n) a b c d size kept k filled) number (Writes-unowned (Writes-filled room (to_be_bytes w16 n) a b c d size kept k filled w))
 
     end : length d.bytes ≡ length a.bytes + 2 + n
-    end = omega (arith, len, stop room (to_be_bytes w16 n) a b c d size kept k filled, ap length k.bytes, length-append b.bytes k.appended, ap (λ (s : State). length s.bytes) kept, length-append a.bytes room)
+    end = omega (arith, len, stop room (to_be_bytes w16 n) a b c d size kept k filled, ap length k.bytes, length-append b.bytes k.appended, ap
+        (λ (s : State). length s.bytes) kept, length-append a.bytes room)

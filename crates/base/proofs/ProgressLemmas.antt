@@ -52,7 +52,8 @@ Progress-start labels a are = record {
 }
 
 -- two beginnings of one list, where what is behind the shorter one is not what is behind the other
-behind : (front before : List (List ℕ)) (x : List ℕ) (xs ys : List (List ℕ)) → front ++ x ∷ xs ≡ before ++ ys → size_of front ≤ size_of before → ys ≢ x ∷ xs → size_of (front ++ x ∷ []) ≤ size_of before
+behind : (front before : List (List ℕ)) (x : List ℕ) (xs ys : List (List ℕ)) → front ++ x ∷ xs ≡ before ++ ys → size_of front ≤ size_of before → ys ≢ x ∷ xs
+    → size_of (front ++ x ∷ []) ≤ size_of before
 behind [] [] x xs ys same order other = absurd (other (sym same))
 behind [] (y ∷ before) x xs ys same order other =
     let first : x ≡ y = cc in
@@ -65,7 +66,8 @@ behind (y ∷ front) (z ∷ before) x xs ys same order other =
     omega (arith, behind front before x xs ys rest (omega arith) other)
 
 -- two beginnings of one list, where the second ends inside the label behind the first
-same_end : (front before : List (List ℕ)) (x : List ℕ) (xs back : List (List ℕ)) → front ++ x ∷ xs ≡ before ++ back → size_of front ≤ size_of before → size_of before < size_of (front ++ x ∷ []) → x ∷ xs ≡ back
+same_end : (front before : List (List ℕ)) (x : List ℕ) (xs back : List (List ℕ)) → front ++ x ∷ xs ≡ before ++ back → size_of front ≤ size_of before
+    → size_of before < size_of (front ++ x ∷ []) → x ∷ xs ≡ back
 same_end [] [] x xs back same order less = same
 same_end [] (y ∷ before) x xs back same order less =
     let first : x ≡ y = cc in
@@ -86,7 +88,8 @@ pub record Stores (labels : List (List ℕ)) (at : ℕ) (m z : State) : Type 0 w
   pub buffer : z.buffer ≡ m.buffer
   pub which : ((added ≡ []) × (16384 ≤ at)) ⊎ ((added ≡ record { labels = labels; offset = at } ∷ []) × (at < 16384))
 
-stores_by : (labels : List (List ℕ)) (at : ℕ) (m z : State) (far : Bool) → nat_le 16384 at ≡ far → z ≡ cond far m (record m { suffixes = m.suffixes ++ record { labels = labels; offset = at } ∷ [] }) → Stores labels at m z
+stores_by : (labels : List (List ℕ)) (at : ℕ) (m z : State) (far : Bool) → nat_le 16384 at ≡ far
+    → z ≡ cond far m (record m { suffixes = m.suffixes ++ record { labels = labels; offset = at } ∷ [] }) → Stores labels at m z
 stores_by labels at m z true is same = record {
   added = [];
   suffixes = ap (λ (s : State). s.suffixes) same ∙ sym (append-nil m.suffixes);
@@ -161,7 +164,8 @@ module _ (labels : List (List ℕ)) (x : List ℕ) (xs : List (List ℕ)) (a s z
         let got = p.spells B e (Holds-first a s z p.keeps step B h) spelled in
         let grows : length s.bytes ≤ length z.bytes = omega (arith, longer_by) in
         let old = All-weaker (IsSpelled B (length s.bytes)) (IsSpelled B (length z.bytes)) (spelled_later B (length s.bytes) (length z.bytes) grows) s.suffixes got.1.each in
-        let added = all_added (IsSpelled B (length z.bytes)) (λ near. record { below = omega (arith, longer_by); fits = near; end = e; spelled = spelled_from_later (length s.bytes) (omega (arith, p.len)) spelled }) in
+        let added = all_added (IsSpelled B (length z.bytes))
+            (λ near. record { below = omega (arith, longer_by); fits = near; end = e; spelled = spelled_from_later (length s.bytes) (omega (arith, p.len)) spelled }) in
         (got.0, record { each = All-same (IsSpelled B (length z.bytes)) z.suffixes (s.suffixes ++ st.added) st.suffixes (All-append (IsSpelled B (length z.bytes)) s.suffixes st.added old added) });
     begun = inr (λ early. elim p.begun [
       | inr was ↦ any_append (λ t. t.labels ≡ labels) s.suffixes st.added z.suffixes st.suffixes (was early)
@@ -183,8 +187,10 @@ module _ (labels : List (List ℕ)) (x : List ℕ) (xs : List (List ℕ)) (a s z
               elim st.which [
                 | inl far ↦ absurd (omega (arith, place, far.1))
                 | inr near ↦
-                    let pushed = Any-push (λ (t : Stored). (t.labels ≡ back) × (t.offset ≡ length a.bytes + size_of before)) s.suffixes (record { labels = x ∷ xs; offset = length s.bytes }) (end, place) in
-                    subst (λ (ts : List Stored). Any (λ t. (t.labels ≡ back) × (t.offset ≡ length a.bytes + size_of before)) ts) (sym (st.suffixes ∙ ap (λ (ts : List Stored). s.suffixes ++ ts) near.0)) pushed
+                    let pushed = Any-push (λ (t : Stored). (t.labels ≡ back) × (t.offset ≡ length a.bytes + size_of before)) s.suffixes
+                        (record { labels = x ∷ xs; offset = length s.bytes }) (end, place) in
+                    subst (λ (ts : List Stored). Any (λ t. (t.labels ≡ back) × (t.offset ≡ length a.bytes + size_of before)) ts)
+                        (sym (st.suffixes ∙ ap (λ (ts : List Stored). s.suffixes ++ ts) near.0)) pushed
               ]
         ];
   }
@@ -242,31 +248,38 @@ appended_bytes xs a s z k l is B h =
     subst (λ (ys : List ℕ). Stands ys B (length s.bytes)) (added_bytes s z xs (ap (λ (u : State). u.bytes) is)) (Stands-second a s z k l B h)
 
 -- the zero byte behind the last label
-pub Progress-root : (labels rest : List (List ℕ)) (a s z : State) → Progress labels rest a s → rest ≡ [] → z ≡ appended (0 ∷ []) s → length z.bytes ≤ s.limit → plain_len labels ≤ 255 → Writes (NameAt labels) (plain_len labels) labels a z
+pub Progress-root : (labels rest : List (List ℕ)) (a s z : State) → Progress labels rest a s → rest ≡ [] → z ≡ appended (0 ∷ []) s → length z.bytes ≤ s.limit
+    → plain_len labels ≤ 255 → Writes (NameAt labels) (plain_len labels) labels a z
 Progress-root labels rest a s z p none is within short =
     let k : Keeps s z = Keeps-appended (0 ∷ []) s z is within in
     let len : length z.bytes ≡ length s.bytes + 1 = ap (λ (u : State). length u.bytes) is ∙ length-append s.bytes (0 ∷ []) in
     Progress-end labels rest a s z p k (ap (λ (u : State). u.suffixes) is)
-    (λ B h. subst (λ (ls : List (List ℕ)). Spelled B ls (length a.bytes) (length s.bytes) (length z.bytes)) (sym none) (root_stands B (length a.bytes) (length s.bytes) (length z.bytes) (appended_bytes (0 ∷ []) a s z p.keeps k is B h) len))
+    (λ B h. subst (λ (ls : List (List ℕ)). Spelled B ls (length a.bytes) (length s.bytes) (length z.bytes)) (sym none)
+        (root_stands B (length a.bytes) (length s.bytes) (length z.bytes) (appended_bytes (0 ∷ []) a s z p.keeps k is B h) len))
     (omega arith) (omega arith) (omega arith)
     (λ some first same. absurd (some (p.parts ∙ ap (λ (front : List (List ℕ)). front ++ rest) first ∙ none))) short
 
 -- a pointer to where the rest, which has labels, is stored
-pub Progress-pointer : (labels rest : List (List ℕ)) (o : ℕ) (a s z : State) → Progress labels rest a s → 2 ≤ size_of rest → Any (λ t. (t.labels ≡ rest) × (t.offset ≡ o)) s.suffixes → z ≡ appended (to_be_bytes w16 (49152 + o)) s → length z.bytes ≤ s.limit → plain_len labels ≤ 255
+pub Progress-pointer : (labels rest : List (List ℕ)) (o : ℕ) (a s z : State) → Progress labels rest a s → 2 ≤ size_of rest
+    → Any (λ t. (t.labels ≡ rest) × (t.offset ≡ o)) s.suffixes → z ≡ appended (to_be_bytes w16 (49152 + o)) s → length z.bytes ≤ s.limit → plain_len labels ≤ 255
     → Writes (NameAt labels) (plain_len labels) labels a z
 Progress-pointer labels rest o a s z p some found is within short =
     let k : Keeps s z = Keeps-appended (to_be_bytes w16 (49152 + o)) s z is within in
     let len : length z.bytes ≡ length s.bytes + 2 = ap (λ (u : State). length u.bytes) is ∙ length-append s.bytes (to_be_bytes w16 (49152 + o)) in
-    let old : Any (λ t. (t.labels ≡ rest) × (t.offset ≡ o)) a.suffixes = any_front (λ t. (t.labels ≡ rest) × (t.offset ≡ o)) (λ t. size_of rest < size_of t.labels) (λ t is longer. omega (arith, ap size_of is.0)) a.suffixes p.added s.suffixes p.suffixes p.longer found in
+    let old : Any (λ t. (t.labels ≡ rest) × (t.offset ≡ o)) a.suffixes = any_front (λ t. (t.labels ≡ rest) × (t.offset ≡ o))
+        (λ t. size_of rest < size_of t.labels) (λ t is longer. omega (arith, ap size_of is.0)) a.suffixes p.added s.suffixes p.suffixes p.longer found in
     let same : z.suffixes ≡ s.suffixes = ap (λ (u : State). u.suffixes) is in
     Progress-end labels rest a s z p k same
     (λ B h. points B z (appended_bytes (to_be_bytes w16 (49152 + o)) a s z p.keeps k is B h) h.table.each old len)
     (omega arith) (omega arith) (omega arith)
-    (λ some' first same'. any_labels z.suffixes (p.parts ∙ ap (λ (front : List (List ℕ)). front ++ rest) first) (subst (λ (ts : List Stored). Any (λ t. (t.labels ≡ rest) × (t.offset ≡ o)) ts) (sym same) found)) short where
-      points : (B : List ℕ) (z : State) → Stands (to_be_bytes w16 (49152 + o)) B (length s.bytes) → All (IsSpelled B (length a.bytes)) a.suffixes → Any (λ t. (t.labels ≡ rest) × (t.offset ≡ o)) a.suffixes → length z.bytes ≡ length s.bytes + 2 → Spelled B rest (length a.bytes) (length s.bytes) (length z.bytes)
+    (λ some' first same'. any_labels z.suffixes (p.parts ∙ ap (λ (front : List (List ℕ)). front ++ rest) first)
+        (subst (λ (ts : List Stored). Any (λ t. (t.labels ≡ rest) × (t.offset ≡ o)) ts) (sym same) found)) short where
+      points : (B : List ℕ) (z : State) → Stands (to_be_bytes w16 (49152 + o)) B (length s.bytes) → All (IsSpelled B (length a.bytes)) a.suffixes
+          → Any (λ t. (t.labels ≡ rest) × (t.offset ≡ o)) a.suffixes → length z.bytes ≡ length s.bytes + 2 → Spelled B rest (length a.bytes) (length s.bytes) (length z.bytes)
       points B z stands table (k, t, inside, at, is) len =
           let spelled : IsSpelled B (length a.bytes) t = subst (IsSpelled B (length a.bytes)) at (table k t inside) in
-          let there : Spelled B rest o o spelled.end = subst (λ (n : ℕ). Spelled B rest n n spelled.end) is.1 (subst (λ (ls : List (List ℕ)). Spelled B ls t.offset t.offset spelled.end) is.0 spelled.spelled) in
+          let there : Spelled B rest o o spelled.end = subst (λ (n : ℕ). Spelled B rest n n spelled.end) is.1
+              (subst (λ (ls : List (List ℕ)). Spelled B ls t.offset t.offset spelled.end) is.0 spelled.spelled) in
           pointer_stands B rest (length a.bytes) (length s.bytes) o spelled.end (length z.bytes) (omega (arith, is.1, spelled.below)) (omega (arith, is.1, spelled.fits)) stands there len
 
       any_labels : (ts : List Stored) → labels ≡ rest → Any (λ t. (t.labels ≡ rest) × (t.offset ≡ o)) ts → Any (λ t. t.labels ≡ labels) ts

@@ -20,7 +20,8 @@ bind_ok (Ok x) f y is = record { value = x; first = refl; second = is }
 bind_ok (Err e) f y is = cc
 
 -- where two steps fail, the first does, or the second
-pub bind_err : {A B : Type 0} (r : Result A DecodeError) (f : A → Result B DecodeError) (e : DecodeError) (P : Type 0) → (r >>= f) ≡ Err e → (r ≡ Err e → P) → ((x : A) → r ≡ Ok x → f x ≡ Err e → P) → P
+pub bind_err : {A B : Type 0} (r : Result A DecodeError) (f : A → Result B DecodeError) (e : DecodeError) (P : Type 0) → (r >>= f) ≡ Err e → (r ≡ Err e → P)
+    → ((x : A) → r ≡ Ok x → f x ≡ Err e → P) → P
 bind_err (Ok x) f e P is first second = second x refl is
 bind_err (Err d) f e P is first second = first (cc)
 

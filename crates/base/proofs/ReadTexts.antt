@@ -7,7 +7,8 @@ both_true true b both = (refl, both)
 both_true false b both = cc
 
 -- what `find` gives passes, and passes what all items pass
-found_here : {X : Type 0} (p q : X → Bool) (y : X) (ys : List X) (x : X) (b : Bool) → p y ≡ b → q y ≡ true → (find p ys ≡ Some x → (p x ≡ true) × (q x ≡ true)) → cond b (Some y) (find p ys) ≡ Some x → (p x ≡ true) × (q x ≡ true)
+found_here : {X : Type 0} (p q : X → Bool) (y : X) (ys : List X) (x : X) (b : Bool) → p y ≡ b → q y ≡ true → (find p ys ≡ Some x → (p x ≡ true) × (q x ≡ true))
+    → cond b (Some y) (find p ys) ≡ Some x → (p x ≡ true) × (q x ≡ true)
 found_here p q y ys x true passes all later found = let same : y ≡ x = cc in (ap p (sym same) ∙ passes, ap q (sym same) ∙ all)
 found_here p q y ys x false passes all later found = later found
 

@@ -87,7 +87,8 @@ labels_right bytes s i used few = walk_right (fuel s used) bytes s i used few (o
 
 -- and the other way round
 
-pub labels_at-part : (bytes : List ℕ) (s i used : ℕ) (read : Result Part DecodeError) → used ≤ 254 → part_at bytes i ≡ read → labels_at bytes s i used ≡ (read >>= after_part (labels_at bytes) bytes s i used)
+pub labels_at-part : (bytes : List ℕ) (s i used : ℕ) (read : Result Part DecodeError) → used ≤ 254 → part_at bytes i ≡ read
+    → labels_at bytes s i used ≡ (read >>= after_part (labels_at bytes) bytes s i used)
 labels_at-part bytes s i used read few is = labels_at-step bytes s i used few ∙ ap (λ (r : Result Part DecodeError). r >>= after_part (labels_at bytes) bytes s i used) is
 
 pub labels_at-label : (bytes : List ℕ) (s i used n : ℕ) → ByteAt anywhere bytes i n → 1 ≤ n → n ≤ 63 → i + 1 + n ≤ length bytes → used + n + 2 ≤ 255

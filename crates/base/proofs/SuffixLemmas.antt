@@ -161,34 +161,42 @@ all_behind P xs ys h k d inside =
     subst P (get_or-append_right xs ys (length xs) (length xs + k) d refl (omega arith) ∙ ap (λ (i : ℕ). get_or ys i d) back) (h (length xs + k) d (omega (arith, length-append xs ys)))
 
 -- what a look-up answers behind the first ones
-pub IsTable-finds : (find : List ℕ → Option ℕ) (first others : List Stored) (bytes : List ℕ) (r : Option ℕ) → All (λ t. t.labels ≢ labels_of bytes) first → IsIndexed find others → wire_of (labels_of bytes) ≡ bytes → r ≡ find bytes
+pub IsTable-finds : (find : List ℕ → Option ℕ) (first others : List Stored) (bytes : List ℕ) (r : Option ℕ) → All (λ t. t.labels ≢ labels_of bytes) first
+    → IsIndexed find others → wire_of (labels_of bytes) ≡ bytes → r ≡ find bytes
     → MatchOption r (All (λ t. t.labels ≢ labels_of bytes) (first ++ others)) (λ offset. Any (λ t. (t.labels ≡ labels_of bytes) × (t.offset ≡ offset)) (first ++ others))
 IsTable-finds find first others bytes None none h whole is = All-append (λ (t : Stored). t.labels ≢ labels_of bytes) first others none (IsIndexed-finds find others bytes None h whole is)
-IsTable-finds find first others bytes (Some o) none h whole is = any_behind (λ (t : Stored). (t.labels ≡ labels_of bytes) × (t.offset ≡ o)) first others (IsIndexed-finds find others bytes (Some o) h whole is)
+IsTable-finds find first others bytes (Some o) none h whole is = any_behind (λ (t : Stored). (t.labels ≡ labels_of bytes) × (t.offset ≡ o)) first others
+    (IsIndexed-finds find others bytes (Some o) h whole is)
 
 -- one of the first suffixes more
 pub IsTable-first : (find : List ℕ → Option ℕ) (first others xs : List Stored) (t : Stored) → length others ≡ 0 → xs ≡ first ++ t ∷ [] → IsTable find first others
     → All (λ s. s.labels ≢ t.labels) (first ++ others) → All (λ s. s.offset < t.offset) (first ++ others) → IsTable find xs others
 IsTable-first find first [] xs t none is h absent later = subst (λ (ys : List Stored). IsTable find ys []) (sym is) (record {
   rises = subst (AllPairs (λ (s u : Stored). s.offset < u.offset)) (sym (append-nil (first ++ t ∷ [])))
-      (all_pairs_push (λ (s u : Stored). s.offset < u.offset) first t (subst (AllPairs (λ (s u : Stored). s.offset < u.offset)) (append-nil first) h.rises) (subst (All (λ (s : Stored). s.offset < t.offset)) (append-nil first) later));
+      (all_pairs_push (λ (s u : Stored). s.offset < u.offset) first t (subst (AllPairs (λ (s u : Stored). s.offset < u.offset)) (append-nil first) h.rises)
+          (subst (All (λ (s : Stored). s.offset < t.offset)) (append-nil first) later));
   once = subst (AllPairs (λ (s u : Stored). s.labels ≢ u.labels)) (sym (append-nil (first ++ t ∷ [])))
-      (all_pairs_push (λ (s u : Stored). s.labels ≢ u.labels) first t (subst (AllPairs (λ (s u : Stored). s.labels ≢ u.labels)) (append-nil first) h.once) (subst (All (λ (s : Stored). s.labels ≢ t.labels)) (append-nil first) absent));
+      (all_pairs_push (λ (s u : Stored). s.labels ≢ u.labels) first t (subst (AllPairs (λ (s u : Stored). s.labels ≢ u.labels)) (append-nil first) h.once)
+          (subst (All (λ (s : Stored). s.labels ≢ t.labels)) (append-nil first) absent));
   behind = h.behind;
 })
 IsTable-first find first (u ∷ others) xs t none is h absent later = absurd (omega (arith, none))
 
 -- one of the others more
 module _ (find after : List ℕ → Option ℕ) (first others : List Stored) (bytes : List ℕ) (o : ℕ) (h : IsTable find first others) (whole : wire_of (labels_of bytes) ≡ bytes) (near : o < 16384)
-    (absent : All (λ t. t.labels ≢ labels_of bytes) (first ++ others)) (later : All (λ t. t.offset < o) (first ++ others)) (here : after bytes ≡ Some o) (elsewhere : (cs : List ℕ) → cs ≢ bytes → after cs ≡ find cs) where
+    (absent : All (λ t. t.labels ≢ labels_of bytes) (first ++ others)) (later : All (λ t. t.offset < o) (first ++ others)) (here : after bytes ≡ Some o)
+        (elsewhere : (cs : List ℕ) → cs ≢ bytes → after cs ≡ find cs) where
   abbrev more : Stored
   more = record { labels = labels_of bytes; offset = o }
 
   pub IsTable-others : IsTable after first (others ++ record { labels = labels_of bytes; offset = o } ∷ [])
   IsTable-others = record {
-    rises = subst (AllPairs (λ (s u : Stored). s.offset < u.offset)) (append_assoc first others (more ∷ [])) (all_pairs_push (λ (s u : Stored). s.offset < u.offset) (first ++ others) more h.rises later);
-    once = subst (AllPairs (λ (s u : Stored). s.labels ≢ u.labels)) (append_assoc first others (more ∷ [])) (all_pairs_push (λ (s u : Stored). s.labels ≢ u.labels) (first ++ others) more h.once absent);
-    behind = IsIndexed-push find after others bytes o h.behind whole near (all_behind (λ (s : Stored). s.labels ≢ labels_of bytes) first others absent) (all_behind (λ (s : Stored). s.offset < o) first others later) here elsewhere;
+    rises = subst (AllPairs (λ (s u : Stored). s.offset < u.offset)) (append_assoc first others (more ∷ []))
+        (all_pairs_push (λ (s u : Stored). s.offset < u.offset) (first ++ others) more h.rises later);
+    once = subst (AllPairs (λ (s u : Stored). s.labels ≢ u.labels)) (append_assoc first others (more ∷ []))
+        (all_pairs_push (λ (s u : Stored). s.labels ≢ u.labels) (first ++ others) more h.once absent);
+    behind = IsIndexed-push find after others bytes o h.behind whole near (all_behind (λ (s : Stored). s.labels ≢ labels_of bytes) first others absent)
+        (all_behind (λ (s : Stored). s.offset < o) first others later) here elsewhere;
   }
 
 -- the last of the others is cut off
@@ -201,12 +209,15 @@ take_both n xs [] fits = append-nil (take n xs) ∙ ap (take n) (sym (append-nil
 take_both n xs (y ∷ ys) fits =
     ap (λ (zs : List Stored). zs ++ y ∷ ys) (take_all n xs (omega arith)) ∙ sym (take_all n (xs ++ y ∷ ys) (omega (arith, length-append xs (y ∷ ys))))
 
-pub IsTable-front : (find : List ℕ → Option ℕ) (n : ℕ) (first others xs old : List Stored) → IsIndexed find others → AllPairs (λ s t. s.offset < t.offset) old → AllPairs (λ s t. s.labels ≢ t.labels) old
+pub IsTable-front : (find : List ℕ → Option ℕ) (n : ℕ) (first others xs old : List Stored) → IsIndexed find others → AllPairs (λ s t. s.offset < t.offset) old
+    → AllPairs (λ s t. s.labels ≢ t.labels) old
     → take n (first ++ others) ≡ take n old → length others ≤ n - length first → xs ≡ take n first → IsTable find xs others
 IsTable-front find n first others xs old h rises once is fits cut =
     let whole : xs ++ others ≡ take n old = ap (λ (zs : List Stored). zs ++ others) cut ∙ take_both n first others fits ∙ is in
     record {
-      rises = subst (AllPairs (λ (s t : Stored). s.offset < t.offset)) (sym whole) (pairs_front (λ s t. s.offset < t.offset) (take n old) (drop n old) (subst (AllPairs (λ (s t : Stored). s.offset < t.offset)) (sym (take-append-drop n old)) rises));
-      once = subst (AllPairs (λ (s t : Stored). s.labels ≢ t.labels)) (sym whole) (pairs_front (λ s t. s.labels ≢ t.labels) (take n old) (drop n old) (subst (AllPairs (λ (s t : Stored). s.labels ≢ t.labels)) (sym (take-append-drop n old)) once));
+      rises = subst (AllPairs (λ (s t : Stored). s.offset < t.offset)) (sym whole)
+          (pairs_front (λ s t. s.offset < t.offset) (take n old) (drop n old) (subst (AllPairs (λ (s t : Stored). s.offset < t.offset)) (sym (take-append-drop n old)) rises));
+      once = subst (AllPairs (λ (s t : Stored). s.labels ≢ t.labels)) (sym whole)
+          (pairs_front (λ s t. s.labels ≢ t.labels) (take n old) (drop n old) (subst (AllPairs (λ (s t : Stored). s.labels ≢ t.labels)) (sym (take-append-drop n old)) once));
       behind = h;
     }

@@ -79,7 +79,8 @@ dot_reads : AreCharsOf (46 ∷ []) (Dot ∷ [])
 dot_reads = reads_more (first_dot []) none
 
 -- the text of labels is those labels
-labels_text_is : (labels : List (List ℕ)) (absolute : Bool) → All (All (λ b. b < 256)) labels → AreLabels labels → plain_len labels ≤ 255 → labels ≢ [] → IsLabelsText (name_text (record { labels = labels; absolute = absolute })) labels absolute
+labels_text_is : (labels : List (List ℕ)) (absolute : Bool) → All (All (λ b. b < 256)) labels → AreLabels labels → plain_len labels ≤ 255 → labels ≢ []
+    → IsLabelsText (name_text (record { labels = labels; absolute = absolute })) labels absolute
 labels_text_is labels true bytes are short some = record { reads = labels_read labels (46 ∷ []) (Dot ∷ []) bytes dot_reads; some = some; each = are; short = short }
 labels_text_is labels false bytes are short some = record { reads = labels_read labels [] [] bytes none; some = some; each = are; short = short }
 
@@ -93,7 +94,8 @@ not_at labels is at =
 -- a name's text names it
 pub name_text_names : (n : NameValue) → All (All (λ b. b < 256)) n.labels → AreLabels n.labels → plain_len n.labels ≤ 255 → (n.absolute ≡ false → n.labels ≢ []) → IsNameText (name_text n) None n
 name_text_names n bytes are short some = go n.labels n.absolute bytes are short some where
-  go : (labels : List (List ℕ)) (absolute : Bool) → All (All (λ b. b < 256)) labels → AreLabels labels → plain_len labels ≤ 255 → (absolute ≡ false → labels ≢ []) → IsNameText (name_text (record { labels = labels; absolute = absolute })) None (record { labels = labels; absolute = absolute })
+  go : (labels : List (List ℕ)) (absolute : Bool) → All (All (λ b. b < 256)) labels → AreLabels labels → plain_len labels ≤ 255
+      → (absolute ≡ false → labels ≢ []) → IsNameText (name_text (record { labels = labels; absolute = absolute })) None (record { labels = labels; absolute = absolute })
   go [] true bytes are short some = is_root refl
   go [] false bytes are short some = absurd (some refl refl)
   go (x ∷ xs) true bytes are short some = is_absolute (labels_text_is (x ∷ xs) true bytes are short (λ e. absurd cc))

@@ -20,14 +20,16 @@ labels_text-cons x (y ∷ ys) tail last whole is =
     rw no (append_assoc (label_text x) (46 ∷ []) (labels_text (y ∷ ys)))
 
 -- one more label was written
-pub labels_text-step : (text : List ℕ) (labels : List (List ℕ)) (all : List ℕ) (x : List ℕ) (xs : List (List ℕ)) (tail : List ℕ) (last : Bool) → text ++ labels_text labels ≡ all → labels ≡ x ∷ xs → wire_of xs ≡ tail → last ≡ (length tail == 0)
+pub labels_text-step : (text : List ℕ) (labels : List (List ℕ)) (all : List ℕ) (x : List ℕ) (xs : List (List ℕ)) (tail : List ℕ) (last : Bool)
+    → text ++ labels_text labels ≡ all → labels ≡ x ∷ xs → wire_of xs ≡ tail → last ≡ (length tail == 0)
     → (text ++ (label_text x ++ (if last then [] else 46 ∷ []))) ++ labels_text xs ≡ all
 labels_text-step text labels all x xs tail last before is whole last_is =
     append_assoc text (label_text x ++ (if last then [] else 46 ∷ [])) (labels_text xs)
     ∙ ap (λ (rest : List ℕ). text ++ rest) (labels_text-cons x xs tail last whole last_is ∙ ap labels_text (sym is)) ∙ before
 
 -- all labels were written
-pub name_text_is : (name : NameValue) (text end : List ℕ) (labels : List (List ℕ)) (dot : Bool) → text ++ labels_text labels ≡ labels_text name.labels → labels ≡ [] → dot ≡ name.absolute → end ≡ (if dot then 46 ∷ [] else [])
+pub name_text_is : (name : NameValue) (text end : List ℕ) (labels : List (List ℕ)) (dot : Bool) → text ++ labels_text labels ≡ labels_text name.labels
+    → labels ≡ [] → dot ≡ name.absolute → end ≡ (if dot then 46 ∷ [] else [])
     → text ++ end ≡ name_text name
 name_text_is name text end labels dot before none dot_is end_is =
     let whole : text ≡ labels_text name.labels = sym (append-nil text) ∙ ap (λ (ls : List (List ℕ)). text ++ labels_text ls) (sym none) ∙ before in

@@ -33,7 +33,8 @@ use Rattle.base_data.specs.declared.rdata.RData.{RData}
 
 -- bytes that are carried
 carried_row : (type : RecordType) (len : ℕ) (B : List ℕ) (i : ℕ) → 1 ≤ len → is_carried type ≡ true → IsRow type len B i (as_any (λ x. kinds.Unknown type x) (bytes_at len B i))
-carried_row type len B i some carried = row_of type len B i (λ x. kinds.Unknown type x) (bytes_at len B i) (fills_bytes len B i some) (λ x is. record { type_is = refl; word = is.0; readable = (carried, is.1) })
+carried_row type len B i some carried = row_of type len B i (λ x. kinds.Unknown type x) (bytes_at len B i) (fills_bytes len B i some)
+    (λ x is. record { type_is = refl; word = is.0; readable = (carried, is.1) })
 
 pub kind_row : (type : RecordType) (len : ℕ) (B : List ℕ) (i : ℕ) → 1 ≤ len → IsRow type len B i (kind_at type len B i)
 unfolding kind_at
@@ -74,7 +75,8 @@ carried_at _ len B i carried = refl
 -- ---- reading, by kind
 
 -- data that stands, in some bytes, is read
-pub kind_again : (d : RData) (len : ℕ) (B : List ℕ) (i : ℕ) → 1 ≤ len → DataWord d B i (i + len) → IsReadable d → filling (type_of_data d) (i + len) (kind_at (type_of_data d) len B i) ≡ Ok (d, i + len)
+pub kind_again : (d : RData) (len : ℕ) (B : List ℕ) (i : ℕ) → 1 ≤ len → DataWord d B i (i + len) → IsReadable d
+    → filling (type_of_data d) (i + len) (kind_at (type_of_data d) len B i) ≡ Ok (d, i + len)
 unfolding kind_at
 kind_again (kinds.A x) len B i some word readable = again_of types.A (i + len) (λ y. kinds.A y) _ (fills_a B i (i + len)) x (word, readable)
 kind_again (kinds.AAAA x) len B i some word readable = again_of types.AAAA (i + len) (λ y. kinds.AAAA y) _ (fills_aaaa B i (i + len)) x (word, readable)

@@ -19,7 +19,8 @@ use Rattle.base_data.specs.declared.rdata.mx.MX.{MX}
 
 pub tells_mx : (B : List ℕ) (i : ℕ) → Tells (mx_at B i) (λ r. MXWord r.0 B i r.1 × (r.0.exchange.absolute ≡ true))
 unfolding mx_at
-tells_mx B i = tells_same (tells_then (tells_number w16 B i) (λ preference. tells_then (tells_name B preference.1) (λ exchange. tells_ok (record { preference = preference.0; exchange = exchange.0 }, exchange.1))))
+tells_mx B i = tells_same
+    (tells_then (tells_number w16 B i) (λ preference. tells_then (tells_name B preference.1) (λ exchange. tells_ok (record { preference = preference.0; exchange = exchange.0 }, exchange.1))))
     (λ r (preference, number, (exchange, at, is)).
     let name = name_here B preference.1 exchange at in
     subst (λ (x : MX × ℕ). MXWord x.0 B i x.1 × (x.0.exchange.absolute ≡ true)) is ((preference.1, number, name.0), name.1))

@@ -37,7 +37,8 @@ pub name_inside : (labels : List (List ℕ)) (B : List ℕ) (i e : ℕ) → Name
 name_inside labels B i e h = spelling_inside h.0
 
 -- a name that was written is compressed
-pub compressed : {X : Type 0} (r : Result X ProtoError) (word : List ℕ → ℕ → ℕ → Type 0) (n : ℕ) (labels : List (List ℕ)) (a b : State) → OnOk r (Writes word n labels a b) → OnOk r (StoresSuffixes labels a b) → OnOk r (IsCompressed labels a b)
+pub compressed : {X : Type 0} (r : Result X ProtoError) (word : List ℕ → ℕ → ℕ → Type 0) (n : ℕ) (labels : List (List ℕ)) (a b : State)
+    → OnOk r (Writes word n labels a b) → OnOk r (StoresSuffixes labels a b) → OnOk r (IsCompressed labels a b)
 compressed (Ok x) word n labels a b writes stores = record { points = writes.compresses; stores = stores }
 compressed (Err e) word n labels a b writes stores = writes
 

@@ -26,7 +26,8 @@ hex_next options i option inside is =
     ∙ flat_map-append byte_hex (options_wire (take i options)) (option_wire option))
 
 -- one option more was counted
-pub len_next : (options : List OptionValue) (i : ℕ) (option : OptionValue) → i < length options → option ≡ get_or options i option → options_len (take i options) + (4 + length option.bytes) ≡ options_len (take (i + 1) options)
+pub len_next : (options : List OptionValue) (i : ℕ) (option : OptionValue) → i < length options → option ≡ get_or options i option
+    → options_len (take i options) + (4 + length option.bytes) ≡ options_len (take (i + 1) options)
 len_next options i option inside is =
     let next : take (i + 1) options ≡ take i options ++ option ∷ [] = take_more options i option inside ∙ ap (λ (x : OptionValue). take i options ++ x ∷ []) (sym is) in
     omega (arith, ap options_len next, pushed (take i options) option) where
@@ -37,7 +38,8 @@ len_next options i option inside is =
 pub none_text : (options : List OptionValue) (n : ℕ) → n ≡ options_len options → n ≡ 0 → codes "\\# 0" ≡ opaque_text (options_wire options)
 none_text options n counted none = rw (eq-eqb (length (options_wire options)) 0 (omega (arith, length-options_wire options))) refl
 
-pub some_text : (options : List OptionValue) (n : ℕ) → n ≡ options_len options → 0 < n → codes "\\# " ++ (decimal n ++ (codes " " ++ hex_text (options_wire options))) ≡ opaque_text (options_wire options)
+pub some_text : (options : List OptionValue) (n : ℕ) → n ≡ options_len options → 0 < n
+    → codes "\\# " ++ (decimal n ++ (codes " " ++ hex_text (options_wire options))) ≡ opaque_text (options_wire options)
 some_text options n counted some =
     let same : length (options_wire options) ≡ n = omega (arith, length-options_wire options) in
     rw (ne_eqb (length (options_wire options)) 0 (omega arith), same) (ap (λ (text : List ℕ). 92 ∷ 35 ∷ 32 ∷ text) (sym (append_assoc (decimal n) (32 ∷ []) (hex_text (options_wire options)))))

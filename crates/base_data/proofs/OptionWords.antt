@@ -20,7 +20,9 @@ use Rattle.base_data.proofs.Tells.{AreBytesAt, Fills, Tells, fills_same, room_be
 use Rattle.base_data.specs.OPT.{FitsOption, OptionValue, opt_at, option_at, option_len, option_word, options_to, options_wire, options_word}
 
 pub tells_option : (B : List ℕ) (i : ℕ) → Tells (option_at B i) (λ r. option_word r.0 B i r.1)
-tells_option B i = tells_same (tells_then (tells_number w16 B i) (λ code. tells_then (tells_number w16 B code.1) (λ len. tells_then (tells_bytes len.0 B len.1) (λ text. tells_ok (record { code = code.0; bytes = text.0 }, text.1)))))
+tells_option B i = tells_same
+    (tells_then (tells_number w16 B i)
+    (λ code. tells_then (tells_number w16 B code.1) (λ len. tells_then (tells_bytes len.0 B len.1) (λ text. tells_ok (record { code = code.0; bytes = text.0 }, text.1)))))
     (λ r (code, a, (len, b, (text, t, is))).
     let counted : Number w16 (length text.0) B code.1 len.1 = subst (λ (n : ℕ). Number w16 n B code.1 len.1) (sym t.counted) b in
     subst (λ (x : OptionValue × ℕ). option_word x.0 B i x.1) is (code.1, a, (len.1, counted, t.word)))
@@ -113,7 +115,8 @@ options_inside {B} {i} {e} inside (more {j = j} {x = x} word words) =
     options_inside ends_at words
 
 -- an option was written: its code, the number of its bytes, and its bytes
-pub option_written : {X : Type 0} (r : Result X ProtoError) (option : OptionValue) (code len : ℕ) (bytes : List ℕ) (a b s t : State) → code ≡ option.code → len ≡ length bytes → bytes ≡ option.bytes → Keeps a b → Keeps b s → Keeps s t
+pub option_written : {X : Type 0} (r : Result X ProtoError) (option : OptionValue) (code len : ℕ) (bytes : List ℕ) (a b s t : State) → code ≡ option.code
+    → len ≡ length bytes → bytes ≡ option.bytes → Keeps a b → Keeps b s → Keeps s t
     → Writes (Number w16 code) 2 [] a b → Writes (Number w16 len) 2 [] b s → OnOk r (Writes (Bytes bytes) (length bytes) [] s t) → OnOk r (Writes (option_word option) (option_len option) [] a t)
 option_written r option code len bytes a b s t code_is len_is bytes_is k l m v w =
     let made : ◌≡◌ {A = OptionValue} (record { code = code; bytes = bytes }) option = λ i. record { code = code_is i; bytes = bytes_is i } in

@@ -33,7 +33,8 @@ fault_in type faults.Memory other f is = absurd (other refl)
 fault_in type _ other f is = cc
 
 -- of a kind
-pub row_of : {X : Type 0} {P : X → Type 0} (type : RecordType) (len : ℕ) (B : List ℕ) (i : ℕ) (kind : X → RData) (read : Read X) → Fills read (i + len) P → ((x : X) → P x → IsDataAt B i type len (kind x)) → IsRow type len B i (as_any kind read)
+pub row_of : {X : Type 0} {P : X → Type 0} (type : RecordType) (len : ℕ) (B : List ℕ) (i : ℕ) (kind : X → RData) (read : Read X) → Fills read (i + len) P
+    → ((x : X) → P x → IsDataAt B i type len (kind x)) → IsRow type len B i (as_any kind read)
 row_of {X} type len B i kind (Ok p) fills stands = record {
   says = λ r is.
       let full = filled type (i + len) (kind p.0, p.1) r is in
@@ -49,7 +50,8 @@ row_of {X} type len B i kind (Err e) fills stands = record {
   err : DecodeError → Read X
   err g = Err g
 
-pub again_of : {X : Type 0} {P : X → Type 0} (type : RecordType) (end : ℕ) (kind : X → RData) (read : Read X) → Fills read end P → (x : X) → P x → filling type end (as_any kind read) ≡ Ok (kind x, end)
+pub again_of : {X : Type 0} {P : X → Type 0} (type : RecordType) (end : ℕ) (kind : X → RData) (read : Read X) → Fills read end P → (x : X) → P x
+    → filling type end (as_any kind read) ≡ Ok (kind x, end)
 again_of {X} type end kind read fills x is =
     ap (λ (r : Read X). filling type end (as_any kind r)) (fills.again x is) ∙ rw (eq-eqb end end refl) refl
 

@@ -27,7 +27,8 @@ use Rattle.base_data.specs.declared.rdata.soa.SOA.{SOA}
 
 pub tells_soa : (B : List ℕ) (i : ℕ) → Tells (soa_at B i) (λ r. SOAWord r.0 B i r.1 × (r.0.mname.absolute ≡ true) × (r.0.rname.absolute ≡ true))
 unfolding soa_at
-tells_soa B i = tells_same (tells_then (tells_name B i) (λ mname. tells_then (tells_name B mname.1) (λ rname. tells_then (tells_number w32 B rname.1) (λ serial. tells_then (tells_number w32 B serial.1) (λ refresh.
+tells_soa B i = tells_same
+    (tells_then (tells_name B i) (λ mname. tells_then (tells_name B mname.1) (λ rname. tells_then (tells_number w32 B rname.1) (λ serial. tells_then (tells_number w32 B serial.1) (λ refresh.
     tells_then (tells_number w32 B refresh.1) (λ retry. tells_then (tells_number w32 B retry.1) (λ expire. tells_then (tells_number w32 B expire.1) (λ minimum.
     tells_ok (record { mname = mname.0; rname = rname.0; serial = serial.0; refresh = refresh.0; retry = retry.0; expire = expire.0; minimum = minimum.0 }, minimum.1)))))))))
     (λ r (mname, m, (rname, n, (serial, a, (refresh, b, (retry, c, (expire, d, (minimum, f, is))))))).
@@ -92,7 +93,8 @@ pub soa_numbers_written : {X : Type 0} (r : Result X ProtoError) (x : SOA) (a b 
 soa_numbers_written r x a b fits is = Writes-either r (SOANumbers x) 20 (soa_numbers x) a b is (omega arith) (λ B. soa_numbers_stand x B (length a.bytes) fits)
 
 -- two names, and numbers behind them
-pub compressed_soa : {v w : List ℕ → ℕ → ℕ → Type 0} {m n : ℕ} (x : SOA) (a b c h : State) → Keeps a b → Writes v m x.mname.labels a b → StoresSuffixes x.mname.labels a b → Keeps b c → Writes w n x.rname.labels b c → StoresSuffixes x.rname.labels b c
+pub compressed_soa : {v w : List ℕ → ℕ → ℕ → Type 0} {m n : ℕ} (x : SOA) (a b c h : State) → Keeps a b → Writes v m x.mname.labels a b
+    → StoresSuffixes x.mname.labels a b → Keeps b c → Writes w n x.rname.labels b c → StoresSuffixes x.rname.labels b c
     → h ≡ appended (soa_numbers x) c → CompressesSOA x a h
 compressed_soa x a b c h k first stores_first l second stores_second numbers = record {
   behind_first = b;
@@ -105,7 +107,9 @@ compressed_soa x a b c h k first stores_first l second stores_second numbers = r
 }
 
 -- equal exactly where each field is
-pub soa_same : (a b : SOA) → IsTrue (soa_equality.eq a b) ↔ (IsTrue (same_name a.mname b.mname) × IsTrue (same_name a.rname b.rname) × (a.serial ≡ b.serial) × (a.refresh ≡ b.refresh) × (a.retry ≡ b.retry) × (a.expire ≡ b.expire) × (a.minimum ≡ b.minimum))
+pub soa_same : (a b : SOA)
+    → IsTrue (soa_equality.eq a b) ↔
+    (IsTrue (same_name a.mname b.mname) × IsTrue (same_name a.rname b.rname) × (a.serial ≡ b.serial) × (a.refresh ≡ b.refresh) × (a.retry ≡ b.retry) × (a.expire ≡ b.expire) × (a.minimum ≡ b.minimum))
 soa_same a b = (
   λ h.
       let n = second_so (same_name a.mname b.mname) _ h in

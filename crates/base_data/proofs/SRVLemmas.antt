@@ -23,7 +23,8 @@ use Rattle.base_data.specs.declared.rdata.srv.SRV.{SRV}
 
 pub tells_srv : (B : List ℕ) (i : ℕ) → Tells (srv_at B i) (λ r. SRVWord r.0 B i r.1 × (r.0.target.absolute ≡ true))
 unfolding srv_at
-tells_srv B i = tells_same (tells_then (tells_number w16 B i) (λ priority. tells_then (tells_number w16 B priority.1) (λ weight. tells_then (tells_number w16 B weight.1) (λ port. tells_then (tells_name B port.1) (λ target.
+tells_srv B i = tells_same
+    (tells_then (tells_number w16 B i) (λ priority. tells_then (tells_number w16 B priority.1) (λ weight. tells_then (tells_number w16 B weight.1) (λ port. tells_then (tells_name B port.1) (λ target.
     tells_ok (record { priority = priority.0; weight = weight.0; port = port.0; target = target.0 }, target.1))))))
     (λ r (priority, a, (weight, b, (port, c, (target, at, is)))).
     let name = name_here B port.1 target at in
@@ -65,9 +66,11 @@ srv_numbers_stand x B i fits s =
     )
 
 -- the numbers of an SRV were written as their bytes, and the name behind them
-pub srv_written : (x : SRV) (octets : List ℕ) (a b c : State) → SRVFits x → octets ≡ srv_numbers x → Keeps a b → Keeps b c → b ≡ appended octets a → Writes (NameAt x.target.labels) (plain_len x.target.labels) [] b c → Writes (SRVWord x) (plain_srv x) [] a c
+pub srv_written : (x : SRV) (octets : List ℕ) (a b c : State) → SRVFits x → octets ≡ srv_numbers x → Keeps a b → Keeps b c → b ≡ appended octets a
+    → Writes (NameAt x.target.labels) (plain_len x.target.labels) [] b c → Writes (SRVWord x) (plain_srv x) [] a c
 srv_written x octets a b c fits are k l is name =
-    let numbers : Writes (SRVNumbers x) 6 [] a b = Writes-bytes (SRVNumbers x) 6 (srv_numbers x) a b (is ∙ ap (λ (xs : List ℕ). appended xs a) are) (omega arith) (λ B. srv_numbers_stand x B (length a.bytes) fits) in
+    let numbers : Writes (SRVNumbers x) 6 [] a b = Writes-bytes (SRVNumbers x) 6 (srv_numbers x) a b (is ∙ ap (λ (xs : List ℕ). appended xs a) are)
+        (omega arith) (λ B. srv_numbers_stand x B (length a.bytes) fits) in
     Writes-weaker (λ B i e w. (w.1.0, w.1.1, (w.1.2.0, w.1.2.1, (w.0, w.1.2.2, w.2)))) (omega arith) (Writes-then k l numbers name)
 
 -- numbers, and a name without compression behind them

@@ -134,9 +134,11 @@ wire_of-next strings i d inside =
     ∙ wire_of-push (shown (take i strings)) (get_or strings i d).now)
 
 -- a text of all strings
-pub shown_text : (bytes : List ℕ) (strings : List (Bor (List ℕ))) (i : ℕ) → bytes ≡ wire_of (shown (take i strings)) → length strings ≤ i → strings ≢ [] → All (λ string. length string.now ≤ 255) strings → IsText bytes
+pub shown_text : (bytes : List ℕ) (strings : List (Bor (List ℕ))) (i : ℕ) → bytes ≡ wire_of (shown (take i strings)) → length strings ≤ i → strings ≢ []
+    → All (λ string. length string.now ≤ 255) strings → IsText bytes
 shown_text bytes strings i is end some short =
-    IsText-wire_of bytes (shown strings) (is ∙ ap (λ (xs : List (Bor (List ℕ))). wire_of (shown xs)) (take_all i strings end)) (shown_some strings some) (All-map (λ (string : List ℕ). length string ≤ 255) (λ (string : Bor (List ℕ)). string.now) strings short) where
+    IsText-wire_of bytes (shown strings) (is ∙ ap (λ (xs : List (Bor (List ℕ))). wire_of (shown xs)) (take_all i strings end)) (shown_some strings some)
+        (All-map (λ (string : List ℕ). length string ≤ 255) (λ (string : Bor (List ℕ)). string.now) strings short) where
       shown_some : (xs : List (Bor (List ℕ))) → xs ≢ [] → shown xs ≢ []
       shown_some [] none = absurd (none refl)
       shown_some (x ∷ xs) none = λ is. cc

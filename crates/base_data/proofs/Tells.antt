@@ -33,7 +33,8 @@ tells_ok {X} x = record {
   ok z = Ok z
 
 -- a step, and those behind it
-pub tells_then : {X Y : Type 0} {r : Result X DecodeError} {f : X → Result Y DecodeError} {P : X → Type 0} {Q : X → Y → Type 0} → Tells r P → ((x : X) → Tells (f x) (Q x)) → Tells (r >>= f) (λ y. (x : X) × P x × Q x y)
+pub tells_then : {X Y : Type 0} {r : Result X DecodeError} {f : X → Result Y DecodeError} {P : X → Type 0} {Q : X → Y → Type 0} → Tells r P
+    → ((x : X) → Tells (f x) (Q x)) → Tells (r >>= f) (λ y. (x : X) × P x × Q x y)
 tells_then {X} {Y} {r} {f} {P} {Q} first others = record {
   says = λ y is. let both = bind_ok r f y is in (both.value, first.says both.value both.first, (others both.value).says y both.second);
   again = λ y is. ap (λ (s : Result X DecodeError). s >>= f) (first.again is.0 is.1) ∙ (others is.0).again y is.2;

@@ -61,7 +61,9 @@ plain_soa x = plain_len x.mname.labels + (plain_len x.rname.labels + 20)
 
 -- the fields, with a space between each two
 abbrev pub soa_text : SOA → List ℕ
-soa_text x = name_text x.mname ++ (codes " " ++ (name_text x.rname ++ (codes " " ++ (decimal x.serial ++ (codes " " ++ (decimal x.refresh ++ (codes " " ++ (decimal x.retry ++ (codes " " ++ (decimal x.expire ++ (codes " " ++ (decimal x.minimum))))))))))))
+soa_text x = name_text x.mname ++
+    (codes " " ++ (name_text x.rname ++
+    (codes " " ++ (decimal x.serial ++ (codes " " ++ (decimal x.refresh ++ (codes " " ++ (decimal x.retry ++ (codes " " ++ (decimal x.expire ++ (codes " " ++ (decimal x.minimum))))))))))))
 
 -- two names with compression, one behind the other, and numbers
 pub record CompressesSOA (x : SOA) (old new : State) : Type 0 where

@@ -13,7 +13,8 @@ digits : IsNumeralModel (λ ds. list_all is_ascii_digit ds ≡ true) (digits_val
 digits = numerals_by_value (λ ds. list_all is_ascii_digit ds ≡ true) (search rules)
 
 -- a number of as many digits, if there is one and it is small
-small_number : (all some small : Bool) (n len : ℕ) (r : Option ℕ) → all ≡ true → (some ≡ nat_lt 0 len) → (small ≡ nat_lt n 65536) → ((0 < len) → (n < 65536) → r ≡ Some n) → ((¬ ((0 < len) × (n < 65536))) → r ≡ None) → r ≡ cond (all && (some && small)) (Some n) None
+small_number : (all some small : Bool) (n len : ℕ) (r : Option ℕ) → all ≡ true → (some ≡ nat_lt 0 len) → (small ≡ nat_lt n 65536)
+    → ((0 < len) → (n < 65536) → r ≡ Some n) → ((¬ ((0 < len) × (n < 65536))) → r ≡ None) → r ≡ cond (all && (some && small)) (Some n) None
 small_number true true true n len r whole some small given lacks = given (ltb-true 0 len (sym some)) (ltb-true n 65536 (sym small))
 small_number true true false n len r whole some small given lacks = lacks (λ h. absurd (omega (arith, ltb-false n 65536 (sym small), h.1)))
 small_number true false small n len r whole some below given lacks = lacks (λ h. absurd (omega (arith, ltb-false 0 len (sym some), h.0)))

@@ -73,7 +73,8 @@ module _ (status : ℕ) (old new : Option (List ℕ)) (words : List (List ℕ)) 
   memory_answers (commands.Zone origin) shown = inr shown
   memory_answers (commands.Apply origin) shown = inr shown
 
-  pub lines_answer : (command : Command) (lines : String Global) → CommandAnswers command words text (Ok lines) → IsPrinted (done (string_bytes lines)) status old new → IsGiven command words text status old new
+  pub lines_answer : (command : Command) (lines : String Global) → CommandAnswers command words text (Ok lines)
+      → IsPrinted (done (string_bytes lines)) status old new → IsGiven command words text status old new
   lines_answer (commands.OnMessage messages.Header) lines says shown = answered header_answer (done (string_bytes lines)) says shown
   lines_answer (commands.OnMessage messages.Read) lines says shown = answered read_answer (done (string_bytes lines)) says shown
   lines_answer (commands.OnMessage (messages.Cut limit)) lines says shown = inl (done (string_bytes lines), says, shown)
@@ -90,7 +91,8 @@ module _ (status : ℕ) (old new : Option (List ℕ)) (words : List (List ℕ)) 
   refused_by IsAnswer number (inl memory) shown = inr (subst (λ n. IsPrinted (refused n) status old new) memory shown)
   refused_by IsAnswer number (inr answers) shown = inl (refused number, answers, shown)
 
-  pub refusal_answers : (command : Command) (refusal : Refusal) → CommandAnswers command words text (Err refusal) → IsPrinted (refused (refusal_number refusal)) status old new → IsGiven command words text status old new
+  pub refusal_answers : (command : Command) (refusal : Refusal) → CommandAnswers command words text (Err refusal)
+      → IsPrinted (refused (refusal_number refusal)) status old new → IsGiven command words text status old new
   refusal_answers (commands.OnMessage messages.Header) refusal says shown = refused_with header_answer (refusal_number refusal) says shown
   refusal_answers (commands.OnMessage messages.Read) refusal says shown = refused_with read_answer (refusal_number refusal) says shown
   refusal_answers (commands.OnMessage (messages.Cut limit)) refusal says shown = refused_by (IsCutAnswer limit text) (refusal_number refusal) says shown
@@ -100,7 +102,8 @@ module _ (status : ℕ) (old new : Option (List ℕ)) (words : List (List ℕ)) 
 -- what was printed answers what remained of the input
 module _ (status : ℕ) (old new remaining : Option (List ℕ)) (words : List (List ℕ)) (command : Command) where
   pub memory_given : (status ≡ 3) ⊎ IsPrinted (refused 3) status old new → status ≢ broken → IfSome remaining (λ input. IsGiven command words input status old new)
-  memory_given printed whole = of_any (λ input. IsGiven command words input status old new) remaining (λ input. memory_answers status old new words input command (given status old new (refused 3) printed whole))
+  memory_given printed whole = of_any (λ input. IsGiven command words input status old new) remaining
+      (λ input. memory_answers status old new words input command (given status old new (refused 3) printed whole))
 
   module _ (text : List ℕ) (all : IfSome remaining (λ input. text ≡ input)) where
     pub lines_given : (lines : String Global) (shown : List ℕ) → CommandAnswers command words text (Ok lines) → shown ≡ string_bytes lines
