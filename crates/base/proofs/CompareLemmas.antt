@@ -174,10 +174,10 @@ ended_folded xs ys one =
     ∙ ap (λ (n : ℕ). nat_cmp n (length (map to_ascii_lowercase ys))) (length-map xs to_ascii_lowercase) ∙ ap (nat_cmp (length xs)) (length-map ys to_ascii_lowercase)
 
 -- one more label from the left
-pub labels_cmp-step : (us vs : List (List ℕ)) (x y : List ℕ) (xs ys : List (List ℕ)) (order label next : Ordering) → us ≡ x ∷ xs → vs ≡ y ∷ ys → length xs ≡ length ys
+pub labels_cmp-step : {us vs : List (List ℕ)} {x y : List ℕ} {xs ys : List (List ℕ)} {label next : Ordering} (order : Ordering) → us ≡ x ∷ xs → vs ≡ y ∷ ys → length xs ≡ length ys
     → label ≡ slice_cmp nat_cmp (map to_ascii_lowercase x) (map to_ascii_lowercase y) → next ≡ ordering_then label order
     → ordering_then (labels_cmp (folded_labels xs) (folded_labels ys)) next ≡ ordering_then (labels_cmp (folded_labels us) (folded_labels vs)) order
-labels_cmp-step us vs x y xs ys order label next us_is vs_is same label_is next_is =
+labels_cmp-step {us} {vs} {x} {y} {xs} {ys} {label} {next} order us_is vs_is same label_is next_is =
     ap (ordering_then (labels_cmp (folded_labels xs) (folded_labels ys))) (next_is ∙ ap (λ (o : Ordering). ordering_then o order) label_is)
     ∙ sym (labels_cmp-cons x y xs ys order same)
     ∙ ap (λ (zs : List (List ℕ)). ordering_then (labels_cmp (folded_labels zs) (folded_labels (y ∷ ys))) order) (sym us_is)
@@ -207,12 +207,12 @@ are_last_at b xs ys us vs n count us_is vs_is test =
         (test ∙ ap (λ (zs : List (List ℕ)). same_labels (folded_labels zs) (folded_labels vs)) us_is ∙ ap (λ (zs : List (List ℕ)). same_labels (folded_labels (drop n ys)) (folded_labels zs)) vs_is)
 
 -- the order of names, from that of their last labels
-pub name_cmp_is : (a b : NameValue) (us vs : List (List ℕ)) (m n k l : ℕ) (flags labels both counts all : Ordering) → m ≡ length a.labels → n ≡ length b.labels → k ≡ m - n → l ≡ n - m
-    → us ≡ drop k a.labels → vs ≡ drop l b.labels → flags ≡ bool_cmp a.absolute b.absolute → labels ≡ labels_cmp (folded_labels us) (folded_labels vs) → both ≡ ordering_then flags labels
-    → counts ≡ nat_cmp m n → all ≡ ordering_then both counts → all ≡ name_cmp a b
-name_cmp_is a b us vs m n k l flags labels both counts all m_is n_is k_is l_is us_is vs_is flags_is labels_is both_is counts_is all_is =
-    all_is ∙ ap (λ (o : Ordering). ordering_then o counts) both_is ∙ sym (then-assoc flags labels counts)
-    ∙ ap (λ (o : Ordering). ordering_then o (ordering_then labels counts)) flags_is
+pub name_cmp_is : (a b : NameValue) {us vs : List (List ℕ)} {m n k l : ℕ} {flags labels count all : Ordering} → m ≡ length a.labels → n ≡ length b.labels → k ≡ m - n → l ≡ n - m
+    → us ≡ drop k a.labels → vs ≡ drop l b.labels → flags ≡ bool_cmp a.absolute b.absolute → labels ≡ labels_cmp (folded_labels us) (folded_labels vs)
+    → count ≡ nat_cmp m n → all ≡ ordering_then (ordering_then flags labels) count → all ≡ name_cmp a b
+name_cmp_is a b {flags = flags} {labels = labels} {count = count} m_is n_is k_is l_is us_is vs_is flags_is labels_is count_is all_is =
+    all_is ∙ sym (then-assoc flags labels count)
+    ∙ ap (λ (o : Ordering). ordering_then o (ordering_then labels count)) flags_is
     ∙ ap (ordering_then (bool_cmp a.absolute b.absolute)) (cc (labels_cmp-counts a.labels b.labels))
 
 AreLabels-folded : (labels : List (List ℕ)) → AreLabels labels → AreLabels (folded_labels labels)

@@ -34,8 +34,8 @@ label_stands B x xs s i e some small stands rest =
     let next : i + (1 + length x) ≡ i + 1 + length x = omega arith in
     label (byte_first (length x) x B i stands) some small (stands_bytes x B (i + 1) (omega arith) bytes) (subst (λ (j : ℕ). Spelled B xs s j e) next rest)
 
-pub pointer_stands : (B : List ℕ) (labels : List (List ℕ)) (s i t f e : ℕ) → t < s → t < 16384 → Stands (to_be_bytes w16 (49152 + t)) B i → Spelled B labels t t f → e ≡ i + 2 → Spelled B labels s i e
-pointer_stands B labels s i t f e below near stands rest is =
+pub pointer_stands : {B : List ℕ} {labels : List (List ℕ)} {s i t f e : ℕ} → t < s → t < 16384 → Stands (to_be_bytes w16 (49152 + t)) B i → Spelled B labels t t f → e ≡ i + 2 → Spelled B labels s i e
+pointer_stands {B} {labels} {s} {i} {t} {f} {e} below near stands rest is =
     let n = 49152 + t in
     let same : target (n / 256 % 256) (n % 256) ≡ t = omega arith in
     let first : ByteAt anywhere B i (n / 256 % 256) = byte_first (n / 256 % 256) (n % 256 ∷ []) B i stands in

@@ -260,10 +260,10 @@ Progress-root labels rest a s z p none is within short =
     (λ some first same. absurd (some (p.parts ∙ ap (λ (front : List (List ℕ)). front ++ rest) first ∙ none))) short
 
 -- a pointer to where the rest, which has labels, is stored
-pub Progress-pointer : (labels rest : List (List ℕ)) (o : ℕ) (a s z : State) → Progress labels rest a s → 2 ≤ size_of rest
+pub Progress-pointer : {labels rest : List (List ℕ)} {o : ℕ} {a s z : State} → Progress labels rest a s → 2 ≤ size_of rest
     → Any (λ t. (t.labels ≡ rest) × (t.offset ≡ o)) s.suffixes → z ≡ appended (to_be_bytes w16 (49152 + o)) s → length z.bytes ≤ s.limit → plain_len labels ≤ 255
     → Writes (NameAt labels) (plain_len labels) labels a z
-Progress-pointer labels rest o a s z p some found is within short =
+Progress-pointer {labels} {rest} {o} {a} {s} {z} p some found is within short =
     let k : Keeps s z = Keeps-appended (to_be_bytes w16 (49152 + o)) s z is within in
     let len : length z.bytes ≡ length s.bytes + 2 = ap (λ (u : State). length u.bytes) is ∙ length-append s.bytes (to_be_bytes w16 (49152 + o)) in
     let old : Any (λ t. (t.labels ≡ rest) × (t.offset ≡ o)) a.suffixes = any_front (λ t. (t.labels ≡ rest) × (t.offset ≡ o))
@@ -280,7 +280,7 @@ Progress-pointer labels rest o a s z p some found is within short =
           let spelled : IsSpelled B (length a.bytes) t = subst (IsSpelled B (length a.bytes)) at (table k t inside) in
           let there : Spelled B rest o o spelled.end = subst (λ (n : ℕ). Spelled B rest n n spelled.end) is.1
               (subst (λ (ls : List (List ℕ)). Spelled B ls t.offset t.offset spelled.end) is.0 spelled.spelled) in
-          pointer_stands B rest (length a.bytes) (length s.bytes) o spelled.end (length z.bytes) (omega (arith, is.1, spelled.below)) (omega (arith, is.1, spelled.fits)) stands there len
+          pointer_stands (omega (arith, is.1, spelled.below)) (omega (arith, is.1, spelled.fits)) stands there len
 
       any_labels : (ts : List Stored) → labels ≡ rest → Any (λ t. (t.labels ≡ rest) × (t.offset ≡ o)) ts → Any (λ t. t.labels ≡ labels) ts
       any_labels ts all (k, t, inside, at, is) = (k, t, inside, at, is.0 ∙ sym all)

@@ -37,16 +37,16 @@ range_is bytes i x at =
     let len = length-range bytes i (length x) at.inside in
     same_number_lists (slice_range bytes (i + 1) (i + 1 + length x)) x len (λ k below. sym (stands.is k below) ∙ at.is k (omega (arith, len)))
 
-label_spelled : (bytes : List ℕ) (s i n e : ℕ) (x : List ℕ) (xs : List (List ℕ)) → length x ≡ n → ByteAt anywhere bytes i n → 1 ≤ n → n ≤ 63 → BytesAt anywhere bytes (i + 1) x
+label_spelled : {bytes : List ℕ} {s i n e : ℕ} {x : List ℕ} {xs : List (List ℕ)} → length x ≡ n → ByteAt anywhere bytes i n → 1 ≤ n → n ≤ 63 → BytesAt anywhere bytes (i + 1) x
     → Spelled bytes xs s (i + 1 + n) e → Spelled bytes (x ∷ xs) s i e
-label_spelled bytes s i n e x xs len h some small at rest =
+label_spelled {bytes} {s} {i} {n} {e} {x} {xs} len h some small at rest =
     label (subst (λ (k : ℕ). ByteAt anywhere bytes i k) (sym len) h) (omega arith) (omega arith) at (subst (λ (k : ℕ). Spelled bytes xs s (i + 1 + k) e) (sym len) rest)
 
 right_label : (bytes : List ℕ) (s i used n : ℕ) (r : Labels) → ByteAt anywhere bytes i n → 1 ≤ n → n ≤ 63 → i + 1 + n ≤ length bytes → used + n + 2 ≤ 255
     → IsRight bytes s (i + 1 + n) (used + n + 1) r → IsRight bytes s i used (with_label (slice_range bytes (i + 1) (i + 1 + n)) r)
 right_label bytes s i used n (Ok r) h some small fits short right =
     let len = length-range bytes i n fits in
-    (label_spelled bytes s i n r.1 (slice_range bytes (i + 1) (i + 1 + n)) r.0 len h some small (range_stands bytes i n fits) right.0, omega (arith, right.1, len))
+    (label_spelled len h some small (range_stands bytes i n fits) right.0, omega (arith, right.1, len))
 right_label bytes s i used n (Err f) h some small fits short right =
     let more : used + n + 1 ≡ used + (1 + n) = omega arith in
     behind_label h some small fits (omega arith) (subst (λ (u : ℕ). IsFaulty bytes s (i + 1 + n) u f) more right)

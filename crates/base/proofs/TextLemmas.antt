@@ -20,10 +20,10 @@ labels_text-cons x (y ∷ ys) tail last whole is =
     rw no (append_assoc (label_text x) (46 ∷ []) (labels_text (y ∷ ys)))
 
 -- one more label was written
-pub labels_text-step : (text : List ℕ) (labels : List (List ℕ)) (all : List ℕ) (x : List ℕ) (xs : List (List ℕ)) (tail : List ℕ) (last : Bool)
+pub labels_text-step : (text : List ℕ) {labels : List (List ℕ)} {all : List ℕ} {x : List ℕ} {xs : List (List ℕ)} {tail : List ℕ} {last : Bool}
     → text ++ labels_text labels ≡ all → labels ≡ x ∷ xs → wire_of xs ≡ tail → last ≡ (length tail == 0)
     → (text ++ (label_text x ++ (if last then [] else 46 ∷ []))) ++ labels_text xs ≡ all
-labels_text-step text labels all x xs tail last before is whole last_is =
+labels_text-step text {labels} {all} {x} {xs} {tail} {last} before is whole last_is =
     append_assoc text (label_text x ++ (if last then [] else 46 ∷ [])) (labels_text xs)
     ∙ ap (λ (rest : List ℕ). text ++ rest) (labels_text-cons x xs tail last whole last_is ∙ ap labels_text (sym is)) ∙ before
 

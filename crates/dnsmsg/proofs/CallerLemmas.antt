@@ -8,7 +8,8 @@ use Rattle.std.specs.Prelude.{All, IfErr, IfOk, String, Vec, map}
 use Rattle.std.specs.String.{string_bytes}
 use Rattle.std.specs.declared.alloc.Global.{Global}
 use Rattle.base.specs.Labels.{NameValue}
-use Rattle.base.specs.NameOrder.{folded, is_zone_of, same_by-equiv}
+use Rattle.base.specs.NameOrder.{folded, is_zone_of}
+use Rattle.base.specs.NameOrderLaws.{same_by-equiv}
 use Rattle.base.specs.TextFaults.{Fault}
 use Rattle.base.specs.declared.dns_class.DNSClass.TheVariants as classes
 use Rattle.base.specs.declared.error.proto_error.ProtoError.{ProtoError}

@@ -1,7 +1,8 @@
 -- The keys of one owner stand side by side in the order of a map, from its least key on.
 use Rattle.base.proofs.KeyLemmas.{key_cmp-total}
 use Rattle.base.specs.Labels.{NameValue}
-use Rattle.base.specs.NameOrder.{cmp_by-total, exact, lower_cmp, lowered, same_by-tie}
+use Rattle.base.specs.NameOrder.{exact, lower_cmp, lowered}
+use Rattle.base.specs.NameOrderLaws.{cmp_by-total, same_by-tie}
 use Rattle.base.specs.RecordType.{type_cmp, type_number, type_rank}
 use Rattle.base.specs.RrKey.{key_cmp, key_of}
 use Rattle.base.specs.declared.record_type.RecordType.TheVariants as types

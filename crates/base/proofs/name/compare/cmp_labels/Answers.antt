@@ -14,7 +14,7 @@ loop-x-preserved c =
       whole = first.others;
       other_whole = other.others;
       same_count = same;
-      so_far = labels_cmp-step _ _ _ _ _ _ c.loop-x.order _ _ first.labels other.labels same c.cmp_label.ensures c.then-order.ensures ∙ before.so_far;
+      so_far = labels_cmp-step c.loop-x.order first.labels other.labels same c.cmp_label.ensures c.then-order.ensures ∙ before.so_far;
     }
 
 pub returns-then-eq : goal.returns-then-eq
@@ -27,4 +27,4 @@ returns-then-eq c =
     let equal : xs ≡ ys = (bytes_decides xs ys).0 (sym c.eq.ensures ∙ c.if-eq.true) in
     let same : length (labels_of xs) ≡ length (labels_of ys) = ap (λ (zs : List ℕ). length (labels_of zs)) equal in
     labels_cmp-same (labels_of xs) (labels_of ys) _ _ (ap labels_of equal)
-    (labels_cmp-step _ _ _ _ _ _ c.loop-x.order _ _ first.labels other.labels same c.cmp_label.ensures c.then-order.ensures ∙ before.so_far)
+    (labels_cmp-step c.loop-x.order first.labels other.labels same c.cmp_label.ensures c.then-order.ensures ∙ before.so_far)

@@ -11,7 +11,7 @@ loop-label-preserved g c =
           let before = c.loop-label.invariant.written plain in
           (_, has_written_append _ _ _ _ _ _ before.1
               (c.in_ok-fmt.ensures.writes before.1.plain
-              (refl {a = true})), labels_text-step before.0 _ _ _ _ _ _ before.2 c.in-Some.ensures.labels c.in-Some.ensures.others c.is_empty-is_last.ensures);
+              (refl {a = true})), labels_text-step before.0 before.2 c.in-Some.ensures.labels c.in-Some.ensures.others c.is_empty-is_last.ensures);
     }
 
 pub returns-clause-writes : goal.returns-clause-writes

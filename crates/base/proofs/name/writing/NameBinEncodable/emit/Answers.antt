@@ -31,7 +31,7 @@ pub returns-in-Some-find-clause-writes : goal.returns-in-Some-find-clause-writes
 returns-in-Some-find-clause-writes c =
     let p = c.loop-label.invariant.progress in
     on_ok_both c.emit_u16.result
-    (λ is within. Progress-pointer _ _ c.in-Some-find.offset _ _ _ p (label_first _ _ _ c.in-Some.ensures.labels p.are) c.in-Some-find.ensures.found is within c.as_wire-rest.ensures.plain)
+    (λ is within. Progress-pointer p (label_first _ _ _ c.in-Some.ensures.labels p.are) c.in-Some-find.ensures.found is within c.as_wire-rest.ensures.plain)
     c.emit_u16.ensures.ok c.emit_u16.ensures.within
 
 pub returns-in-Some-find-clause-refuses : goal.returns-in-Some-find-clause-refuses
