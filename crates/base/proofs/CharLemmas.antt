@@ -62,8 +62,14 @@ decimal_piece x (y ∷ z ∷ text) c rest digit h = go (is_ascii_digit y && is_a
       let both = first_so (is_ascii_digit y && is_ascii_digit z) (nat_lt number 256) is in
       let small = second_so (is_ascii_digit y && is_ascii_digit z) (nat_lt number 256) is in
       piece_is (y ∷ z ∷ []) text
-      (is_number refl (record { first = digit; second = first_so (is_ascii_digit y) (is_ascii_digit z) both; third = second_so (is_ascii_digit y)
-          (is_ascii_digit z) both; is = refl; byte = grind (arith, nat_tests) }))
+      (is_number refl (record {
+        first = digit;
+        second = first_so (is_ascii_digit y) (is_ascii_digit z) both;
+        third = second_so (is_ascii_digit y)
+            (is_ascii_digit z) both;
+        is = refl;
+        byte = grind (arith, nat_tests);
+      }))
       refl (rw is at h)
   go false is = absurd (no_char (rw is at h))
 

@@ -29,7 +29,7 @@ map_lower-wire_of (x ∷ xs) are =
     let len : to_ascii_lowercase (length x) ≡ length (map to_ascii_lowercase x) = lower_length (length x) are.0.short ∙ sym (length-map x to_ascii_lowercase) in
     ap (λ (n : ℕ). n ∷ map to_ascii_lowercase (x ++ wire_of xs)) len
     ∙ ap (λ (bytes : List ℕ). length (map to_ascii_lowercase x) ∷ bytes)
-        (map-append to_ascii_lowercase x (wire_of xs) ∙ ap (λ (bytes : List ℕ). map to_ascii_lowercase x ++ bytes) (map_lower-wire_of xs are.1))
+    (map-append to_ascii_lowercase x (wire_of xs) ∙ ap (λ (bytes : List ℕ). map to_ascii_lowercase x ++ bytes) (map_lower-wire_of xs are.1))
 
 pub map_lower-wire : (bytes : List ℕ) → wire_of (labels_of bytes) ≡ bytes → AreLabels (labels_of bytes) → map to_ascii_lowercase bytes ≡ wire_of (folded_labels (labels_of bytes))
 map_lower-wire bytes whole are = ap (map to_ascii_lowercase) (sym whole) ∙ map_lower-wire_of (labels_of bytes) are
@@ -170,7 +170,7 @@ are_last b xs ys n count test = (forward, back) where
 pub ended_folded : (xs ys : List ℕ) → length xs ≡ 0 ⊎ length ys ≡ 0 → slice_cmp nat_cmp (map to_ascii_lowercase xs) (map to_ascii_lowercase ys) ≡ nat_cmp (length xs) (length ys)
 ended_folded xs ys one =
     ended nat_cmp (map to_ascii_lowercase xs) (map to_ascii_lowercase ys)
-        (elim one [ inl none ↦ inl (length-map xs to_ascii_lowercase ∙ none) | inr none ↦ inr (length-map ys to_ascii_lowercase ∙ none) ])
+    (elim one [ inl none ↦ inl (length-map xs to_ascii_lowercase ∙ none) | inr none ↦ inr (length-map ys to_ascii_lowercase ∙ none) ])
     ∙ ap (λ (n : ℕ). nat_cmp n (length (map to_ascii_lowercase ys))) (length-map xs to_ascii_lowercase) ∙ ap (nat_cmp (length xs)) (length-map ys to_ascii_lowercase)
 
 -- one more label from the left
@@ -204,7 +204,7 @@ pub are_last_at : (b : Bool) (xs ys us vs : List (List ℕ)) (n : ℕ) → n + l
     → IsTrue b ↔ ((front : List (List ℕ)) × (folded_labels ys ≡ front ++ folded_labels xs))
 are_last_at b xs ys us vs n count us_is vs_is test =
     are_last b xs ys n count
-        (test ∙ ap (λ (zs : List (List ℕ)). same_labels (folded_labels zs) (folded_labels vs)) us_is ∙ ap (λ (zs : List (List ℕ)). same_labels (folded_labels (drop n ys)) (folded_labels zs)) vs_is)
+    (test ∙ ap (λ (zs : List (List ℕ)). same_labels (folded_labels zs) (folded_labels vs)) us_is ∙ ap (λ (zs : List (List ℕ)). same_labels (folded_labels (drop n ys)) (folded_labels zs)) vs_is)
 
 -- the order of names, from that of their last labels
 pub name_cmp_is : (a b : NameValue) {us vs : List (List ℕ)} {m n k l : ℕ} {flags labels count all : Ordering} → m ≡ length a.labels → n ≡ length b.labels → k ≡ m - n → l ≡ n - m

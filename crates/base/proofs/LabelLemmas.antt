@@ -99,7 +99,7 @@ first_at : (x : List ℕ) (xs : List (List ℕ)) (bytes : List ℕ) → bytes �
 first_at x xs bytes is labels n end =
     let front : slice_range bytes 1 n ≡ x = ap (λ (w : List ℕ). slice_range w 1 n) is ∙ take_at x (wire_of xs) (n - 1) (omega arith) in
     let rest : drop n bytes ≡ wire_of xs = ap (λ (w : List ℕ). drop n w) is ∙ ap (λ (k : ℕ). drop k (length x ∷ (x ++ wire_of xs))) (end ∙ add-one (length x))
-        ∙ drop_at x (wire_of xs) (length x) refl in
+    ∙ drop_at x (wire_of xs) (length x) refl in
     let others : labels_of (drop n bytes) ≡ xs = ap labels_of rest ∙ labels_of-wire_of xs in
     record {
       fits = omega (arith, ap length is, length-append x (wire_of xs));

@@ -85,7 +85,7 @@ Keeps-then {a} {b} {c} k l = record {
   suffixes = l.suffixes ∙ ap (λ (ts : List Stored). ts ++ l.added) k.suffixes ∙ append_assoc a.suffixes k.added l.added;
   offsets = All-append (λ (t : Stored). length a.bytes ≤ t.offset) k.added l.added k.offsets
       (All-weaker (λ (t : Stored). length b.bytes ≤ t.offset) (λ (t : Stored). length a.bytes ≤ t.offset)
-          (λ t later. omega (arith, ap length k.bytes, length-append a.bytes k.appended)) l.added l.offsets);
+      (λ t later. omega (arith, ap length k.bytes, length-append a.bytes k.appended)) l.added l.offsets);
   limit = l.limit ∙ k.limit;
   buffer = l.buffer ∙ k.buffer;
   within = omega (arith, k.within, l.within, k.limit);
@@ -113,7 +113,7 @@ module _ (a b c : State) (k : Keeps a b) (l : Keeps b c) (B : List ℕ) where
   pub Stands-second : Holds a c B → Stands (drop (length b.bytes) c.bytes) B (length b.bytes)
   Stands-second h =
       let all : Stands (k.appended ++ (l.appended ++ [])) B (length a.bytes) = subst (λ (xs : List ℕ). Stands xs B (length a.bytes))
-          (both ∙ ap (λ (xs : List ℕ). k.appended ++ xs) (sym (append-nil l.appended))) h.bytes in
+      (both ∙ ap (λ (xs : List ℕ). k.appended ++ xs) (sym (append-nil l.appended))) h.bytes in
       let place : length a.bytes + length k.appended ≡ length b.bytes = sym (ap length k.bytes ∙ length-append a.bytes k.appended) in
       subst (λ (xs : List ℕ). Stands xs B (length b.bytes)) (sym (added_bytes b c l.appended l.bytes))
       (subst (Stands l.appended B) place (stands_part k.appended l.appended [] B (length a.bytes) all))

@@ -91,12 +91,12 @@ too_long {origin = given_origin} given at is long (is_completed {labels = xs} e 
 pub appended_labels : (bytes wire : List ℕ) (labels : List (List ℕ)) → IsWire bytes → wire ≡ wire_of labels → labels_of (bytes ++ wire) ≡ labels_of bytes ++ labels
 appended_labels bytes wire labels holds is =
     ap labels_of (ap (λ (front : List ℕ). front ++ wire) (sym holds.whole) ∙ ap (λ (back : List ℕ). wire_of (labels_of bytes) ++ back) is
-        ∙ sym (wire_of-append (labels_of bytes) labels)) ∙ labels_of-wire_of (labels_of bytes ++ labels)
+    ∙ sym (wire_of-append (labels_of bytes) labels)) ∙ labels_of-wire_of (labels_of bytes ++ labels)
 
 pub IsWire-appended : (bytes wire : List ℕ) (labels : List (List ℕ)) → IsWire bytes → wire ≡ wire_of labels → AreLabels labels → length bytes + length wire ≤ 254 → IsWire (bytes ++ wire)
 IsWire-appended bytes wire labels holds is are short =
     let whole : wire_of (labels_of bytes ++ labels) ≡ bytes ++ wire = wire_of-append (labels_of bytes) labels
-        ∙ ap (λ (front : List ℕ). front ++ wire_of labels) holds.whole ∙ ap (λ (back : List ℕ). bytes ++ back) (sym is) in
+    ∙ ap (λ (front : List ℕ). front ++ wire_of labels) holds.whole ∙ ap (λ (back : List ℕ). bytes ++ back) (sym is) in
     subst IsWire whole (IsWire-wire_of (labels_of bytes ++ labels) (AreLabels-append (labels_of bytes) labels holds.labels are)
     (omega (arith, length-wire_of (labels_of bytes ++ labels), ap length whole, length-append bytes wire)))
 

@@ -215,9 +215,12 @@ module _ {text rest : List ℕ} {done : List (List ℕ)} {current : List ℕ} (g
   with_byte {b = b} first is =
       let r = rest_pieces is in
       let on = reads_on r.1 first in
-      let f = first_of on.0 in
-      (f.head, f.tail, subst (λ (ps : List (List ℕ)). Fits (done ++ ps))
-          (ap (λ (ds : List TextChar). pieces (map Byte current ++ ds)) on.2 ∙ pieces-front current (Byte b ∷ on.0) (b ∷ f.head) f.tail (ap (onto_first b) f.is)) r.2)
+      let f = first_of on.0 in (
+        f.head,
+        f.tail,
+        subst (λ (ps : List (List ℕ)). Fits (done ++ ps))
+            (ap (λ (ds : List TextChar). pieces (map Byte current ++ ds)) on.2 ∙ pieces-front current (Byte b ∷ on.0) (b ∷ f.head) f.tail (ap (onto_first b) f.is)) r.2,
+      )
 
   pub label_too_long : {labels : List (List ℕ)} {absolute : Bool} {b : ℕ} {tail : List ℕ} → first_char rest ≡ Some (Byte b, tail) → 63 ≤ length current → IsLabelsText text labels absolute → ⊥
   label_too_long {b = b} first long is =
@@ -238,7 +241,7 @@ module _ {text rest : List ℕ} {done : List (List ℕ)} {current : List ℕ} (g
       let f = first_of on.0 in
       not_inner done f.head f.tail
       (subst (λ (ps : List (List ℕ)). InnerSome (done ++ ps))
-          (ap (λ (ds : List TextChar). pieces (map Byte current ++ ds)) on.2 ∙ ap (λ (x : List ℕ). pieces (map Byte x ++ (Dot ∷ on.0))) empty ∙ ap (λ (ps : List (List ℕ)). [] ∷ ps) f.is) r.2.inner)
+      (ap (λ (ds : List TextChar). pieces (map Byte current ++ ds)) on.2 ∙ ap (λ (x : List ℕ). pieces (map Byte x ++ (Dot ∷ on.0))) empty ∙ ap (λ (ps : List (List ℕ)). [] ∷ ps) f.is) r.2.inner)
 
   -- the text goes on, but not by a character
   pub no_char : {labels : List (List ℕ)} {absolute : Bool} → first_char rest ≡ None → rest ≢ [] → IsLabelsText text labels absolute → ⊥

@@ -92,7 +92,7 @@ module _ (n : ℕ) (room : List ℕ) (a b c d : State) (small : n < 2 ^ 16) (siz
   pub Keeps-sized : length b.bytes ≤ a.limit → Keeps a d
   Keeps-sized within =
       let first : Keeps a (appended (to_be_bytes w16 n) a) = Keeps-appended (to_be_bytes w16 n) a (appended (to_be_bytes w16 n) a) refl
-          (omega (arith, start room (to_be_bytes w16 n) a b c d size kept k filled)) in
+      (omega (arith, start room (to_be_bytes w16 n) a b c d size kept k filled)) in
       Keeps-then first (Keeps-filled room (to_be_bytes w16 n) a b c d size kept k filled)
 
   pub Writes-sized : {word : List ℕ → ℕ → ℕ → Type 0} {plain : ℕ} {owner : List (List ℕ)} → length b.bytes ≤ a.limit → Writes word plain owner b c → Writes (Sized word) (2 + plain) [] a d
@@ -112,5 +112,13 @@ module _ (n : ℕ) (room : List ℕ) (a b c d : State) (small : n < 2 ^ 16) (siz
     both = Writes-then first (Keeps-filled room (to_be_bytes w16 n) a b c d size kept k filled) number (Writes-unowned (Writes-filled room (to_be_bytes w16 n) a b c d size kept k filled w))
 
     end : length d.bytes ≡ length a.bytes + 2 + n
-    end = omega (arith, len, stop room (to_be_bytes w16 n) a b c d size kept k filled, ap length k.bytes, length-append b.bytes k.appended, ap
-        (λ (s : State). length s.bytes) kept, length-append a.bytes room)
+    end = omega (
+      arith,
+      len,
+      stop room (to_be_bytes w16 n) a b c d size kept k filled,
+      ap length k.bytes,
+      length-append b.bytes k.appended,
+      ap
+          (λ (s : State). length s.bytes) kept,
+      length-append a.bytes room,
+    )

@@ -165,7 +165,7 @@ module _ (labels : List (List ℕ)) (x : List ℕ) (xs : List (List ℕ)) (a s z
         let grows : length s.bytes ≤ length z.bytes = omega (arith, longer_by) in
         let old = All-weaker (IsSpelled B (length s.bytes)) (IsSpelled B (length z.bytes)) (spelled_later B (length s.bytes) (length z.bytes) grows) s.suffixes got.1.each in
         let added = all_added (IsSpelled B (length z.bytes))
-            (λ near. record { below = omega (arith, longer_by); fits = near; end = e; spelled = spelled_from_later (length s.bytes) (omega (arith, p.len)) spelled }) in
+        (λ near. record { below = omega (arith, longer_by); fits = near; end = e; spelled = spelled_from_later (length s.bytes) (omega (arith, p.len)) spelled }) in
         (got.0, record { each = All-same (IsSpelled B (length z.bytes)) z.suffixes (s.suffixes ++ st.added) st.suffixes (All-append (IsSpelled B (length z.bytes)) s.suffixes st.added old added) });
     begun = inr (λ early. elim p.begun [
       | inr was ↦ any_append (λ t. t.labels ≡ labels) s.suffixes st.added z.suffixes st.suffixes (was early)
@@ -188,9 +188,9 @@ module _ (labels : List (List ℕ)) (x : List ℕ) (xs : List (List ℕ)) (a s z
                 | inl far ↦ absurd (omega (arith, place, far.1))
                 | inr near ↦
                     let pushed = Any-push (λ (t : Stored). (t.labels ≡ back) × (t.offset ≡ length a.bytes + size_of before)) s.suffixes
-                        (record { labels = x ∷ xs; offset = length s.bytes }) (end, place) in
+                    (record { labels = x ∷ xs; offset = length s.bytes }) (end, place) in
                     subst (λ (ts : List Stored). Any (λ t. (t.labels ≡ back) × (t.offset ≡ length a.bytes + size_of before)) ts)
-                        (sym (st.suffixes ∙ ap (λ (ts : List Stored). s.suffixes ++ ts) near.0)) pushed
+                    (sym (st.suffixes ∙ ap (λ (ts : List Stored). s.suffixes ++ ts) near.0)) pushed
               ]
         ];
   }
@@ -255,7 +255,7 @@ Progress-root labels rest a s z p none is within short =
     let len : length z.bytes ≡ length s.bytes + 1 = ap (λ (u : State). length u.bytes) is ∙ length-append s.bytes (0 ∷ []) in
     Progress-end labels rest a s z p k (ap (λ (u : State). u.suffixes) is)
     (λ B h. subst (λ (ls : List (List ℕ)). Spelled B ls (length a.bytes) (length s.bytes) (length z.bytes)) (sym none)
-        (root_stands B (length a.bytes) (length s.bytes) (length z.bytes) (appended_bytes (0 ∷ []) a s z p.keeps k is B h) len))
+    (root_stands B (length a.bytes) (length s.bytes) (length z.bytes) (appended_bytes (0 ∷ []) a s z p.keeps k is B h) len))
     (omega arith) (omega arith) (omega arith)
     (λ some first same. absurd (some (p.parts ∙ ap (λ (front : List (List ℕ)). front ++ rest) first ∙ none))) short
 
@@ -267,19 +267,19 @@ Progress-pointer {labels} {rest} {o} {a} {s} {z} p some found is within short =
     let k : Keeps s z = Keeps-appended (to_be_bytes w16 (49152 + o)) s z is within in
     let len : length z.bytes ≡ length s.bytes + 2 = ap (λ (u : State). length u.bytes) is ∙ length-append s.bytes (to_be_bytes w16 (49152 + o)) in
     let old : Any (λ t. (t.labels ≡ rest) × (t.offset ≡ o)) a.suffixes = any_front (λ t. (t.labels ≡ rest) × (t.offset ≡ o))
-        (λ t. size_of rest < size_of t.labels) (λ t is longer. omega (arith, ap size_of is.0)) a.suffixes p.added s.suffixes p.suffixes p.longer found in
+    (λ t. size_of rest < size_of t.labels) (λ t is longer. omega (arith, ap size_of is.0)) a.suffixes p.added s.suffixes p.suffixes p.longer found in
     let same : z.suffixes ≡ s.suffixes = ap (λ (u : State). u.suffixes) is in
     Progress-end labels rest a s z p k same
     (λ B h. points B z (appended_bytes (to_be_bytes w16 (49152 + o)) a s z p.keeps k is B h) h.table.each old len)
     (omega arith) (omega arith) (omega arith)
     (λ some' first same'. any_labels z.suffixes (p.parts ∙ ap (λ (front : List (List ℕ)). front ++ rest) first)
-        (subst (λ (ts : List Stored). Any (λ t. (t.labels ≡ rest) × (t.offset ≡ o)) ts) (sym same) found)) short where
+    (subst (λ (ts : List Stored). Any (λ t. (t.labels ≡ rest) × (t.offset ≡ o)) ts) (sym same) found)) short where
       points : (B : List ℕ) (z : State) → Stands (to_be_bytes w16 (49152 + o)) B (length s.bytes) → All (IsSpelled B (length a.bytes)) a.suffixes
           → Any (λ t. (t.labels ≡ rest) × (t.offset ≡ o)) a.suffixes → length z.bytes ≡ length s.bytes + 2 → Spelled B rest (length a.bytes) (length s.bytes) (length z.bytes)
       points B z stands table (k, t, inside, at, is) len =
           let spelled : IsSpelled B (length a.bytes) t = subst (IsSpelled B (length a.bytes)) at (table k t inside) in
           let there : Spelled B rest o o spelled.end = subst (λ (n : ℕ). Spelled B rest n n spelled.end) is.1
-              (subst (λ (ls : List (List ℕ)). Spelled B ls t.offset t.offset spelled.end) is.0 spelled.spelled) in
+          (subst (λ (ls : List (List ℕ)). Spelled B ls t.offset t.offset spelled.end) is.0 spelled.spelled) in
           pointer_stands (omega (arith, is.1, spelled.below)) (omega (arith, is.1, spelled.fits)) stands there len
 
       any_labels : (ts : List Stored) → labels ≡ rest → Any (λ t. (t.labels ≡ rest) × (t.offset ≡ o)) ts → Any (λ t. t.labels ≡ labels) ts

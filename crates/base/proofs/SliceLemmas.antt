@@ -28,6 +28,13 @@ module _ {E : Type 0} (word : E → List ℕ → ℕ → ℕ → Type 0) (plain 
   -- the elements before one that didn't fit were written
   pub Emits-front : EmitsAll (λ (x : Bor E). word x.now) (λ x. plain x.now) (λ x. owner x.now) fronts s t a b (Err (refusals.NotAllRecordsWritten n))
       → (xs : List E) × (x : E) × (rest : List E) × (s.rest.now ≡ xs ++ x ∷ rest) × EachWritten word plain owner xs a b × (n ≡ length xs) × (a.limit < length b.bytes + plain x)
-  Emits-front (xs, x, (u, yields, step), each, counted, full) =
-      (map (λ x. x.now) xs, x.now, t.rest.now, Yields-slice s u xs yields
-          ∙ ap (λ rest. map (λ x. x.now) xs ++ rest) step, Each-map (λ x. x.now) word plain owner xs a b each, counted ∙ sym (length-map xs (λ x. x.now)), full)
+  Emits-front (xs, x, (u, yields, step), each, counted, full) = (
+    map (λ x. x.now) xs,
+    x.now,
+    t.rest.now,
+    Yields-slice s u xs yields
+        ∙ ap (λ rest. map (λ x. x.now) xs ++ rest) step,
+    Each-map (λ x. x.now) word plain owner xs a b each,
+    counted ∙ sym (length-map xs (λ x. x.now)),
+    full,
+  )

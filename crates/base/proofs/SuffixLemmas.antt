@@ -174,10 +174,10 @@ pub IsTable-first : (find : List ℕ → Option ℕ) (first others xs : List Sto
 IsTable-first find first [] xs t none is h absent later = subst (λ (ys : List Stored). IsTable find ys []) (sym is) (record {
   rises = subst (AllPairs (λ (s u : Stored). s.offset < u.offset)) (sym (append-nil (first ++ t ∷ [])))
       (all_pairs_push (λ (s u : Stored). s.offset < u.offset) first t (subst (AllPairs (λ (s u : Stored). s.offset < u.offset)) (append-nil first) h.rises)
-          (subst (All (λ (s : Stored). s.offset < t.offset)) (append-nil first) later));
+      (subst (All (λ (s : Stored). s.offset < t.offset)) (append-nil first) later));
   once = subst (AllPairs (λ (s u : Stored). s.labels ≢ u.labels)) (sym (append-nil (first ++ t ∷ [])))
       (all_pairs_push (λ (s u : Stored). s.labels ≢ u.labels) first t (subst (AllPairs (λ (s u : Stored). s.labels ≢ u.labels)) (append-nil first) h.once)
-          (subst (All (λ (s : Stored). s.labels ≢ t.labels)) (append-nil first) absent));
+      (subst (All (λ (s : Stored). s.labels ≢ t.labels)) (append-nil first) absent));
   behind = h.behind;
 })
 IsTable-first find first (u ∷ others) xs t none is h absent later = absurd (omega (arith, none))
@@ -185,7 +185,7 @@ IsTable-first find first (u ∷ others) xs t none is h absent later = absurd (om
 -- one of the others more
 module _ (find after : List ℕ → Option ℕ) (first others : List Stored) (bytes : List ℕ) (o : ℕ) (h : IsTable find first others) (whole : wire_of (labels_of bytes) ≡ bytes) (near : o < 16384)
     (absent : All (λ t. t.labels ≢ labels_of bytes) (first ++ others)) (later : All (λ t. t.offset < o) (first ++ others)) (here : after bytes ≡ Some o)
-        (elsewhere : (cs : List ℕ) → cs ≢ bytes → after cs ≡ find cs) where
+    (elsewhere : (cs : List ℕ) → cs ≢ bytes → after cs ≡ find cs) where
   abbrev more : Stored
   more = record { labels = labels_of bytes; offset = o }
 

@@ -68,9 +68,11 @@ module _ (shown : NameValue → List (List ℕ)) where
   -- and so have those that the order does not tell apart
   pub cmp_by-ties : (a b : NameValue) → (cmp_by shown a b ≡ Equal) ↔ ((a.absolute ≡ b.absolute) × (shown a ≡ shown b))
   cmp_by-ties a b =
-      let tie = same_by-tie a b in
-      (λ (h : cmp_by shown a b ≡ Equal). (same_by-is a b).0 (tie ∙ ap is_eq h), λ (h : (a.absolute ≡ b.absolute) × (shown a ≡ shown b)).
-          (Equal-is (cmp_by shown a b)).0 (sym tie ∙ (same_by-is a b).1 h))
+      let tie = same_by-tie a b in (
+        λ (h : cmp_by shown a b ≡ Equal). (same_by-is a b).0 (tie ∙ ap is_eq h),
+        λ (h : (a.absolute ≡ b.absolute) × (shown a ≡ shown b)).
+            (Equal-is (cmp_by shown a b)).0 (sym tie ∙ (same_by-is a b).1 h),
+      )
 
 -- values of the same parts are the same
 name_parts : (a b : NameValue) → a.absolute ≡ b.absolute → a.labels ≡ b.labels → a ≡ b

@@ -23,7 +23,7 @@ pub data_says : (type : RecordType) (len : ℕ) (B : List ℕ) (i : ℕ) (r : RD
 unfolding rdata_at
 data_says type zero B i r is =
     subst (λ (z : RData × ℕ). IsDataAt B i type 0 z.0 × (z.1 ≡ i + 0)) (same_ok (kinds.Update0 type, i) r is)
-        (record { type_is = refl; word = (record { is = refl }, refl); readable = tt }, omega arith)
+    (record { type_is = refl; word = (record { is = refl }, refl); readable = tt }, omega arith)
 data_says type (suc n) B i r is = (kind_row type (suc n) B i (omega arith)).says r (sym (some_data type n B i) ∙ is)
 
 data_bad : (type : RecordType) (len : ℕ) (B : List ℕ) (i : ℕ) (f : DecodeError) → rdata_at type len B i ≡ Err f → f ≡ faults.BadData type

@@ -70,7 +70,7 @@ pub srv_written : (x : SRV) (octets : List ℕ) (a b c : State) → SRVFits x �
     → Writes (NameAt x.target.labels) (plain_len x.target.labels) [] b c → Writes (SRVWord x) (plain_srv x) [] a c
 srv_written x octets a b c fits are k l is name =
     let numbers : Writes (SRVNumbers x) 6 [] a b = Writes-bytes (SRVNumbers x) 6 (srv_numbers x) a b (is ∙ ap (λ (xs : List ℕ). appended xs a) are)
-        (omega arith) (λ B. srv_numbers_stand x B (length a.bytes) fits) in
+    (omega arith) (λ B. srv_numbers_stand x B (length a.bytes) fits) in
     Writes-weaker (λ B i e w. (w.1.0, w.1.1, (w.1.2.0, w.1.2.1, (w.0, w.1.2.2, w.2)))) (omega arith) (Writes-then k l numbers name)
 
 -- numbers, and a name without compression behind them

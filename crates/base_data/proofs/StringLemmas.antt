@@ -138,7 +138,7 @@ pub shown_text : (bytes : List ℕ) (strings : List (Bor (List ℕ))) (i : ℕ) 
     → All (λ string. length string.now ≤ 255) strings → IsText bytes
 shown_text bytes strings i is end some short =
     IsText-wire_of bytes (shown strings) (is ∙ ap (λ (xs : List (Bor (List ℕ))). wire_of (shown xs)) (take_all i strings end)) (shown_some strings some)
-        (All-map (λ (string : List ℕ). length string ≤ 255) (λ (string : Bor (List ℕ)). string.now) strings short) where
+    (All-map (λ (string : List ℕ). length string ≤ 255) (λ (string : Bor (List ℕ)). string.now) strings short) where
       shown_some : (xs : List (Bor (List ℕ))) → xs ≢ [] → shown xs ≢ []
       shown_some [] none = absurd (none refl)
       shown_some (x ∷ xs) none = λ is. cc

@@ -1,8 +1,9 @@
 -- What the command `apply` answers; and that updates may be applied to a parsed zone of one class.
-use Rattle.std.proofs.Common.{Bool, Err, List, None, Ok, Option, Result, Some, [], ap, cond, false, inl, inr, refl, subst, sym, true, ℕ, ◌&&◌, ◌∙◌, ◌∷◌, ◌≡◌, ◌⊎◌}
+use Rattle.std.proofs.Common.{Bool, Err, List, Ok, Option, Result, Some, [], ap, cond, false, inl, inr, refl, subst, sym, true, ℕ, ◌∷◌, ◌≡◌, ◌⊎◌}
 use Rattle.std.proofs.lemmas.Bool.{and_parts}
 use Rattle.std.proofs.lemmas.Str.{is_utf8-from_IsUtf8}
 use Rattle.std.specs.BTreeMap.{BTreeMap, is_at}
+use Rattle.std.specs.List.{AllByRecursion}
 use Rattle.std.specs.Map.{lookup}
 use Rattle.std.specs.Ordering.{eq_by_cmp, is_eq}
 use Rattle.std.specs.Prelude.{String, unwrap_or}
@@ -23,7 +24,7 @@ use Rattle.base.specs.declared.error.parse_error.ParseError.TheVariants as refus
 use Rattle.base.specs.declared.rr_key.RrKey.{RrKey}
 use Rattle.op.proofs.MessageStands.{message_again}
 use Rattle.op.specs.Message.{IsMessageAt, MessageValue}
-use Rattle.op_use.specs.Applying.{IsZoneMap, IsZoneSet}
+use Rattle.op_use.specs.Applying.{IsZoneMap}
 use Rattle.rr.specs.RecordSet.{SetValue}
 use Rattle.txt.specs.Zone.{zone_of}
 use Rattle.txt.specs.ZoneSets.{AreKept, IsKept, ZoneSets}
@@ -31,6 +32,7 @@ use Rattle.dnsmsg.specs.Answer.{Answer, done, refused}
 use Rattle.dnsmsg.specs.Answering.{AnswersBy}
 use Rattle.dnsmsg.specs.ApplyCommand.{IsApplyAnswer, UpdatesBuffer, UpdatesRead, UpdatesSets, UpdatesText, UpdatesZone, are_sets_in, first_word, is_in, is_set_in}
 use Rattle.dnsmsg.specs.HexInput.{bytes_of}
+use Rattle.dnsmsg.specs.ParsedZone.{AreOfClass}
 use Rattle.dnsmsg.specs.Refusal.{refusal_number}
 use Rattle.dnsmsg.specs.ZoneCommand.{fault_number, text_named}
 use Rattle.dnsmsg.specs.declared.refusal.Refusal.{Refusal}
@@ -50,24 +52,30 @@ same_key q k h = key_cmp-exact q k (tied _ h)
 injected : (s p : SetValue) → Some s ≡ Some p → s ≡ p
 injected s p e = ap (λ o. unwrap_or o s) e
 
-zone_set : (k : RrKey) (s : SetValue) → IsKept k s → is_set_in s ≡ true → IsZoneSet classes.IN k s
-zone_set k s kept all = record { own_key = sym kept.key_is; own_class = in_only s.dns_class ((and_parts (is_in s.dns_class) _ all).0); filled = kept.some; distinct = kept.tidy.distinct }
+-- what holds of each entry holds of a set that is found
+found_at : (P : RrKey → SetValue → Type 0) (k : RrKey) (e : RrKey × SetValue) (b : Bool) (o : Option SetValue) (s : SetValue) → eq_by_cmp key_cmp k e.0 ≡ b → P e.0 e.1
+    → (o ≡ Some s → P k s) → cond b (Some e.1) o ≡ Some s → P k s
+found_at P k e true o s t here later h = subst (λ q. P q s) (sym (same_key k e.0 t)) (subst (λ v. P e.0 v) (injected e.1 s h) here)
+found_at P k e false o s t here later h = later h
 
-found_at : (k : RrKey) (e : RrKey × SetValue) (b : Bool) (o : Option SetValue) (s : SetValue) → eq_by_cmp key_cmp k e.0 ≡ b → IsZoneSet classes.IN e.0 e.1
-    → (o ≡ Some s → IsZoneSet classes.IN k s) → cond b (Some e.1) o ≡ Some s → IsZoneSet classes.IN k s
-found_at k e true o s t here later h =
-    subst (λ q. IsZoneSet classes.IN q s) (sym (same_key k e.0 t)) (subst (λ v. IsZoneSet classes.IN e.0 v) (injected e.1 s h) here)
-found_at k e false o s t here later h = later h
-
-found : (k : RrKey) (es : ZoneSets) → AreKept es → are_sets_in es ≡ true → (s : SetValue) → lookup (is_at (key_cmp k)) es ≡ Some s → IsZoneSet classes.IN k s
-found k [] kept all s h = absurd cc
-found k (e ∷ es) kept all s h =
-    let parts = and_parts (is_set_in e.1) (are_sets_in es) all in
-    found_at k e (eq_by_cmp key_cmp k e.0) (lookup (is_at (key_cmp k)) es) s refl (zone_set e.0 e.1 kept.0 parts.0) (found k es kept.1 parts.1 s) h
+found : (P : RrKey → SetValue → Type 0) (k : RrKey) (es : ZoneSets) → AllByRecursion (λ (e : RrKey × SetValue). P e.0 e.1) es → (s : SetValue) → lookup (is_at (key_cmp k)) es ≡ Some s → P k s
+found P k [] all s h = absurd cc
+found P k (e ∷ es) all s h = found_at P k e (eq_by_cmp key_cmp k e.0) (lookup (is_at (key_cmp k)) es) s refl all.0 (found P k es all.1 s) h
 
 -- updates may be applied to the sets of a parsed zone that are of one class
+pub zone_map : (class : DNSClass) (m : BTreeMap RrKey SetValue) → AreKept m.entries → AreOfClass class m → IsZoneMap class m
+zone_map class m kept of_class = λ k s h.
+    let set_kept = found IsKept k m.entries kept s h in
+    record { own_key = sym set_kept.key_is; own_class = of_class k s h; filled = set_kept.some; distinct = set_kept.tidy.distinct }
+
+sets_in : (es : ZoneSets) → are_sets_in es ≡ true → AllByRecursion (λ (e : RrKey × SetValue). e.1.dns_class ≡ classes.IN) es
+sets_in [] h = tt
+sets_in (e ∷ es) h =
+    let parts = and_parts (is_set_in e.1) (are_sets_in es) h in
+    (in_only e.1.dns_class ((and_parts (is_in e.1.dns_class) _ parts.0).0), sets_in es parts.1)
+
 pub parsed_map : (m : BTreeMap RrKey SetValue) → AreKept m.entries → are_sets_in m.entries ≡ true → IsZoneMap classes.IN m
-parsed_map m kept all = λ k s h. found k m.entries kept all s h
+parsed_map m kept all = zone_map classes.IN m kept (λ k s h. found (λ q v. v.dns_class ≡ classes.IN) k m.entries (sets_in m.entries all) s h)
 
 -- what is said of fewer answers is said of more
 pub answers_more : (P Q : Answer → Type 0) → ((answer : Answer) → P answer → Q answer) → (result : Result (String Global) Refusal) → AnswersBy P result → AnswersBy Q result

@@ -31,7 +31,7 @@ header_word (first ∷ (next ∷ others)) word text test some few is_first is_te
 pub one_word : (words : List (String Global)) (word again : String Global) (text next : List ℕ) (test other read : Bool) → 1 ≤ length words → length words < 2
     → word ≡ get_or words 0 word → text ≡ string_bytes word
     → test ≡ bytes_eq text (codes "header") → test ≡ false → again ≡ get_or words 0 again → next ≡ string_bytes again → other ≡ bytes_eq next (codes "read")
-        → other ≡ read → one_named false read ≡ message_command (texts words)
+    → other ≡ read → one_named false read ≡ message_command (texts words)
 one_word [] word again text next test other read some few is_first is_text is_test is is_again is_next is_other reads = absurd (omega arith)
 one_word (first ∷ []) word again text next test other read some few is_first is_text is_test is is_again is_next is_other reads =
     ap (λ header. one_named header read) (compared first word text (codes "header") test false is_first is_text is_test is)
@@ -42,7 +42,7 @@ one_word (first ∷ (second ∷ others)) word again text next test other read so
 pub two_words : (words : List (String Global)) (word number : String Global) (text : List ℕ) (test cut : Bool) → 2 ≤ length words → length words < 3
     → word ≡ get_or words 0 word → text ≡ string_bytes word
     → test ≡ bytes_eq text (codes "cut") → test ≡ cut → number ≡ get_or words 1 number
-        → (if cut then option_map commands.Cut (limit_of (string_bytes number)) else None) ≡ message_command (texts words)
+    → (if cut then option_map commands.Cut (limit_of (string_bytes number)) else None) ≡ message_command (texts words)
 two_words [] word number text test cut some few is_first is_text is_test is is_second = absurd (omega arith)
 two_words (first ∷ []) word number text test cut some few is_first is_text is_test is is_second = absurd (omega arith)
 two_words (first ∷ (second ∷ [])) word number text test cut some few is_first is_text is_test is is_second =

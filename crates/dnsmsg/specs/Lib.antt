@@ -7,6 +7,7 @@ pub mod CutCommand
 pub mod HeaderCommand
 pub mod HexInput
 pub mod Limit
+pub mod ParsedZone
 pub mod ReadCommand
 pub mod Refusal
 pub mod Words

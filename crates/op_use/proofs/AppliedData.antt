@@ -2,14 +2,15 @@
 use Rattle.base_data.specs.SameData.{same_data}
 use Rattle.base_data.specs.contracts.rdata.RDataEq.TheImpl.Laws.{laws-law as data_laws}
 use Rattle.base_data.specs.declared.rdata.RData.{RData}
-use Rattle.op_use.specs.MapUpdates.{joined, parted}
+use Rattle.op_use.specs.MapUpdates.{parted}
 use Rattle.op_use.specs.NamedChanges.{datum_of, is_data_of}
 use Rattle.op_use.specs.Server.{added, removed}
-use Rattle.rr.specs.SetChanges.{has_data_of, replaced}
+use Rattle.rr.proofs.SetSteps.{replaced_none}
+use Rattle.rr.specs.SetChanges.{has_data_of, joined, replaced}
 use Rattle.rr.specs.declared.record.Record.{Record}
-use Rattle.std.proofs.Common.{ap, refl, sym, ◌∙◌}
+use Rattle.std.proofs.Common.{ap, refl, subst, sym, ◌∙◌}
 use Rattle.std.proofs.lemmas.Bool.{or_parts}
-use Rattle.std.proofs.lemmas.List.{map-append}
+use Rattle.std.proofs.lemmas.List.{append-nil, map-append}
 use Rattle.std.specs.List.{AllByRecursion, IsDistinct, list_any}
 use Rattle.std.specs.Ordering.{on}
 use Rattle.std.specs.Prelude.{Bool, List, [], cond, false, if◌then◌else◌, map, not, true, ◌++◌, ◌||◌, ◌∷◌, ◌≡◌}
@@ -27,6 +28,18 @@ replaced_data : (r : Record RData) (xs : List (Record RData)) → map datum_of (
 replaced_data r [] = refl
 replaced_data r (x ∷ xs) = λ i. datum_if (same_data x.rdata r.rdata) r x i ∷ replaced_data r xs i
 
+joined_when : (r : Record RData) (xs : List (Record RData)) (b : Bool) → list_any (has_data_of r) xs ≡ b
+    → replaced r xs ++ (if b then [] else r ∷ []) ≡ (if b then replaced r xs else xs ++ r ∷ [])
+joined_when r xs true any = append-nil (replaced r xs)
+joined_when r xs false none = ap (λ ys. ys ++ r ∷ []) (replaced_none r xs none)
+
+-- a record that joins others takes the places of equal data, or stands behind all
+pub joined_is : (r : Record RData) (xs : List (Record RData)) → joined r xs ≡ (if list_any (has_data_of r) xs then replaced r xs else xs ++ r ∷ [])
+joined_is r xs = joined_when r xs (list_any (has_data_of r) xs) refl
+
+pub joined_last : (r : Record RData) (xs : List (Record RData)) → list_any (has_data_of r) xs ≡ false → joined r xs ≡ xs ++ r ∷ []
+joined_last r xs none = joined_is r xs ∙ ap (λ b. if b then replaced r xs else xs ++ r ∷ []) none
+
 joined_at : (r : Record RData) (xs : List (Record RData)) (b : Bool)
     → map datum_of (if b then replaced r xs else xs ++ r ∷ [])
     ≡ (if b then map (λ d. if is_data_of d r then datum_of r else d) (map datum_of xs) else map datum_of xs ++ datum_of r ∷ [])
@@ -34,7 +47,7 @@ joined_at r xs true = replaced_data r xs
 joined_at r xs false = map-append datum_of xs (r ∷ [])
 
 pub joined_data : (r : Record RData) (xs : List (Record RData)) → map datum_of (joined r xs) ≡ added (map datum_of xs) r
-joined_data r xs = joined_at r xs (list_any (has_data_of r) xs)
+joined_data r xs = ap (map datum_of) (joined_is r xs) ∙ joined_at r xs (list_any (has_data_of r) xs)
     ∙ ap (λ b. if b then map (λ d. if is_data_of d r then datum_of r else d) (map datum_of xs) else map datum_of xs ++ datum_of r ∷ []) (sym (any_data r xs))
 
 parted_at : (r x : Record RData) (xs : List (Record RData)) (b : Bool) → map datum_of xs ≡ map datum_of xs
@@ -90,7 +103,7 @@ distinct_at r xs true e h = distinct_replaced r xs h
 distinct_at r xs false e h = distinct_last r xs h e
 
 pub distinct_joined : (r : Record RData) (xs : List (Record RData)) → Distinct xs → Distinct (joined r xs)
-distinct_joined r xs h = distinct_at r xs _ refl h
+distinct_joined r xs h = subst (λ ys. Distinct ys) (sym (joined_is r xs)) (distinct_at r xs _ refl h)
 
 far_cond : (x y : Record RData) (ys : List (Record RData)) (b : Bool) → same_data x.rdata y.rdata ≡ false → Far x ys → Far x (cond b (y ∷ ys) ys)
 far_cond x y ys true e h = (e, h)

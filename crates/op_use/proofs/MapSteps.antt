@@ -12,11 +12,12 @@ use Rattle.op_use.proofs.MapZones.{zone_puts}
 use Rattle.op_use.proofs.Origins.{From, back_among, front_among}
 use Rattle.op_use.proofs.ZoneSteps.{same_key}
 use Rattle.op_use.specs.Applying.{IsZoneMap, IsZoneSet, TakesFrom, names_owner, records_at, records_in, zone_of_map}
-use Rattle.op_use.specs.MapUpdates.{IsAfter, IsSetTo, joined, parted}
+use Rattle.op_use.specs.MapUpdates.{IsAfter, IsSetTo, parted}
 use Rattle.op_use.specs.NamedChanges.{datum_of}
 use Rattle.op_use.specs.Server.{record_key, update}
 use Rattle.op_use.specs.Zone.{is_owned, put}
 use Rattle.rr.specs.RecordSet.{SetValue}
+use Rattle.rr.specs.SetChanges.{joined}
 use Rattle.rr.specs.declared.record.Record.{Record}
 use Rattle.std.proofs.Common.{ap, arith, inl, inr, refl, subst, sym, ◌∙◌, ◌⊎◌}
 use Rattle.std.proofs.lemmas.Bool.{or_parts, true≢false}

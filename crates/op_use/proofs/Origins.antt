@@ -1,10 +1,11 @@
 -- Where the records of a changed set come from.
 use Rattle.base_data.specs.SameData.{same_data}
 use Rattle.base_data.specs.declared.rdata.RData.{RData}
-use Rattle.op_use.specs.MapUpdates.{joined, parted}
-use Rattle.rr.specs.SetChanges.{has_data_of, replaced}
+use Rattle.op_use.proofs.AppliedData.{joined_is}
+use Rattle.op_use.specs.MapUpdates.{parted}
+use Rattle.rr.specs.SetChanges.{has_data_of, joined, replaced}
 use Rattle.rr.specs.declared.record.Record.{Record}
-use Rattle.std.proofs.Common.{arith, inl, inr, refl, ◌⊎◌}
+use Rattle.std.proofs.Common.{arith, inl, inr, refl, subst, sym, ◌⊎◌}
 use Rattle.std.specs.List.{IsAmong, list_any}
 use Rattle.std.specs.Prelude.{Bool, List, [], cond, false, if◌then◌else◌, length, not, slice_index_or, suc, true, zero, ℕ, ◌++◌, ◌<◌, ◌∷◌, ◌≡◌}
 
@@ -68,7 +69,7 @@ from_at r xs true = from_replaced r xs
 from_at r xs false = from_last r xs
 
 pub from_joined : (r : Record RData) (xs : List (Record RData)) → From r xs (joined r xs)
-from_joined r xs = from_at r xs (list_any (has_data_of r) xs)
+from_joined r xs = subst (λ ys. From r xs ys) (sym (joined_is r xs)) (from_at r xs (list_any (has_data_of r) xs))
 
 from_cond : (r x : Record RData) (xs ys : List (Record RData)) (b : Bool) → From r xs ys → From r (x ∷ xs) (cond b (x ∷ ys) ys)
 from_cond r x xs ys true more = λ v h. step_from r x xs ys v false more (among_parts x v ys h)

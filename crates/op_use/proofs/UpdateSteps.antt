@@ -12,11 +12,12 @@ use Rattle.op_use.proofs.MapZones.{data_at, get_zone}
 use Rattle.op_use.proofs.Origins.{from_joined, from_none, from_one, from_parted, none_among}
 use Rattle.op_use.proofs.ZoneSteps.{same_sets}
 use Rattle.op_use.specs.Applying.{IsZoneMap, IsZoneSet, data_of, records_at, records_in, zone_of_map}
-use Rattle.op_use.specs.MapUpdates.{IsAfter, IsSetTo, Leaves, joined, parted}
+use Rattle.op_use.specs.MapUpdates.{IsAfter, IsSetTo, Leaves, parted}
 use Rattle.op_use.specs.NamedChanges.{datum_of, is_left}
 use Rattle.op_use.specs.Server.{OfAny, OfNone, OfNothing, OfZone, added, is_any, is_cname, record_key, removed, type_of_record, update_by, use_of}
 use Rattle.op_use.specs.Zone.{Datum, at, has_set, has_type_at, is_guarded, is_owned, put}
 use Rattle.rr.specs.RecordSet.{SetValue, is_soa}
+use Rattle.rr.specs.SetChanges.{joined}
 use Rattle.rr.specs.declared.record.Record.{Record}
 use Rattle.std.proofs.Common.{ap, inl, refl, subst, sym, ◌∙◌, ◌⊎◌}
 use Rattle.std.proofs.lemmas.Bool.{cond-false, cond-true, or_parts}

@@ -11,13 +11,13 @@ use Rattle.op_use.specs.Zone.{is_owned}
 use Rattle.op_use.specs.declared.apply.class_use.Use.TheVariants as uses
 use Rattle.op_use.specs.declared.apply.class_use.Use.{Use}
 use Rattle.rr.specs.RecordSet.{SetValue, is_ns, is_soa}
-use Rattle.rr.specs.SetChanges.{has_data_of, replaced}
+use Rattle.rr.specs.SetChanges.{has_data_of}
 use Rattle.rr.specs.declared.record.Record.{Record}
 use Rattle.std.specs.BTreeMap as tree
 use Rattle.std.specs.BTreeMap.{BTreeMap}
-use Rattle.std.specs.List.{filter, fold, list_any}
+use Rattle.std.specs.List.{filter, fold}
 use Rattle.std.specs.Ordering.{eq_by_cmp}
-use Rattle.std.specs.Prelude.{Bool, length, nat_le, List, None, Option, Some, [], cond, false, if◌then◌else◌, not, ◌&&◌, ◌++◌, ◌||◌, ◌∷◌, ◌≡◌}
+use Rattle.std.specs.Prelude.{Bool, length, nat_le, List, None, Option, Some, cond, false, not, ◌&&◌, ◌||◌, ◌≡◌}
 
 -- the new map is the old one after the updates rs
 pub record IsAfter (origin : NameValue) (class : DNSClass) (rs : List (Record RData)) (old new : BTreeMap RrKey SetValue) : Type 0 where
@@ -25,10 +25,6 @@ pub record IsAfter (origin : NameValue) (class : DNSClass) (rs : List (Record RD
   pub is_map : IsZoneMap class new
   pub others : (k : RrKey) → names_owner rs k ≡ false → tree.get key_cmp new k ≡ tree.get key_cmp old k
   pub taken : TakesFrom rs old new
-
--- the records of a set after one is added: it stands in the place of equal data, or else last
-abbrev pub joined : Record RData → List (Record RData) → List (Record RData)
-joined r xs = if list_any (has_data_of r) xs then replaced r xs else xs ++ r ∷ []
 
 -- the records without the data of one
 abbrev pub parted : Record RData → List (Record RData) → List (Record RData)

@@ -131,6 +131,82 @@ fn the_last_name_server_stays(rt: HostRuntime) -> Result<(), AllocError> {
     leaves(&rt, &server, (START, "@ NS ns2\n"), "NoError", (second, ""))
 }
 
+// The zone before the update of ten.
+const TEN_TEXT: &str =
+    "@ 3600 SOA ns hostmaster 1 2 3 4 5\n@ NS ns\n@ NS ns2\n@ MX 10 mail\nns A 192.0.2.1\nns2 A 192.0.2.2\nmail 600 A 192.0.2.3\nwww 300 A 192.0.2.4\nwww A 192.0.2.5\n";
+
+const TEN_MORE: &str = "ftp 300 CNAME www\nold A 192.0.2.6\nold TXT gone\n";
+
+// And how it is printed.
+const TEN_SHOWN: &str =
+    "$ORIGIN example.\nexample. 3600 IN NS ns.example.\nexample. 3600 IN NS ns2.example.\nexample. 3600 IN SOA ns.example. hostmaster.example. 1 2 3 4 5\nexample. 3600 IN MX 10 mail.example.\n";
+
+const TEN_SHOWN_MORE: &str =
+    "ftp.example. 300 IN CNAME www.example.\nmail.example. 600 IN A 192.0.2.3\nns.example. 3600 IN A 192.0.2.1\nns2.example. 3600 IN A 192.0.2.2\nold.example. 300 IN A 192.0.2.6\nold.example. 300 IN TXT \"gone\"\nwww.example. 300 IN A 192.0.2.4\nwww.example. 300 IN A 192.0.2.5\n";
+
+// Its header, and the zone section.
+const TEN_START: &str = "1F2E 2800 0001 000A 000A 0000 076578616D706C65 00 0006 0001";
+
+// Ten prerequisites (RFC 2136, 2.4): www has the addresses 192.0.2.4 and 192.0.2.5 and no other; the zone has mail
+// exchanges, and ns an address; old is in use, and new isn't; www has no address of IPv6; ftp is an alias; old has the
+// one text gone; mail is in use.
+const TEN_ASKED: &str =
+    "03777777 C00C 0001 0001 00000000 0004 C0000204 C019 0001 0001 00000000 0004 C0000205 C00C 000F 00FF 00000000 0000 026E73 C00C 0001 00FF 00000000 0000 036F6C64 C00C 00FF 00FF 00000000 0000";
+
+const TEN_ASKED_MORE: &str =
+    "036E6577 C00C 00FF 00FE 00000000 0000 C019 001C 00FE 00000000 0000 03667470 C00C 0005 00FF 00000000 0000 036F6C64 C00C 0010 0001 00000000 0005 04676F6E65 046D61696C C00C 00FF 00FF 00000000 0000";
+
+// Ten changes (RFC 2136, 2.5): www is given 2001:db8::4, the address that it has with 60 seconds, loses 192.0.2.5 and is
+// given 192.0.2.7; all of old goes; new becomes an alias of www; the alias of ftp goes, and ftp is given an address; ns2
+// is no server any more; the mail exchanges go.
+const TEN_CHANGES: &str =
+    "C019 001C 0001 0000003C 0010 20010DB8000000000000000000000004 C019 0001 0001 0000003C 0004 C0000204 C019 0001 00FE 00000000 0004 C0000205 C019 0001 0001 0000003C 0004 C0000207 036F6C64 C00C 00FF 00FF 00000000 0000";
+
+const TEN_CHANGES_MORE: &str =
+    "036E6577 C00C 0005 0001 0000003C 0002 C019 03667470 C00C 0005 00FF 00000000 0000 03667470 C00C 0001 0001 0000003C 0004 C0000208 C00C 0002 00FE 00000000 0006 036E7332 C00C C00C 000F 00FF 00000000 0000";
+
+// The zone then, by RFC 2136, 3.4.2.
+const TEN_LEFT: &str =
+    "ftp.example. 60 IN A 192.0.2.8\nmail.example. 600 IN A 192.0.2.3\nnew.example. 60 IN CNAME www.example.\nns.example. 3600 IN A 192.0.2.1\nns2.example. 3600 IN A 192.0.2.2\nwww.example. 60 IN A 192.0.2.4\nwww.example. 60 IN A 192.0.2.7\nwww.example. 60 IN AAAA 2001:db8::4\n";
+
+fn update_of_ten(rt: &impl AllocGlobal) -> Result<String, AllocError> {
+    let parts = [
+        TEN_START,
+        TEN_ASKED,
+        TEN_ASKED_MORE,
+        TEN_CHANGES,
+        TEN_CHANGES_MORE,
+    ];
+    parts.join(rt.alloc(), " ")
+}
+
+#[test]
+fn ten_changes_behind_ten_prerequisites(rt: HostRuntime) -> Result<(), AllocError> {
+    let update = update_of_ten(&rt)?;
+    leaves(
+        &rt,
+        &update,
+        (TEN_TEXT, TEN_MORE),
+        "NoError",
+        (SHOWN, TEN_LEFT),
+    )
+}
+
+// One prerequisite that fails, the last that is looked at among them, leaves all as it was.
+#[test]
+fn ten_changes_behind_one_that_fails(rt: HostRuntime) -> Result<(), AllocError> {
+    let update = update_of_ten(&rt)?;
+    let asked = [TEN_TEXT, "www A 192.0.2.9\n"].concat(rt.alloc())?;
+    let left = [TEN_SHOWN_MORE, "www.example. 300 IN A 192.0.2.9\n"].concat(rt.alloc())?;
+    leaves(
+        &rt,
+        &update,
+        (&asked, TEN_MORE),
+        "NXRRSet",
+        (TEN_SHOWN, &left),
+    )
+}
+
 // The update leaves the zone as it is, and is answered with this code.
 fn is_refused(rt: &(impl Abort + AllocGlobal), update: &str, code: &str) -> Result<(), AllocError> {
     leaves(rt, update, (START, WWW), code, (SHOWN, SHOWN_WWW))

@@ -2,8 +2,8 @@
 
 ghost use Rattle.std.specs.List.{list_any};
 ghost use Rattle.std.specs.Prelude.{◌≡◌, ◌<◌, OnOk, length, set};
-ghost use Rattle.op_use.specs.MapUpdates.{joined, parted};
-ghost use Rattle.rr.specs.SetChanges.{has_data_of, replaced};
+ghost use Rattle.op_use.specs.MapUpdates.{parted};
+ghost use Rattle.rr.specs.SetChanges.{has_data_of, joined, replaced};
 
 use rr::Record;
 use std::alloc::AllocError;

@@ -10,9 +10,10 @@ ghost use Rattle.base.specs.declared.dns_class.DNSClass.{DNSClass as Class};
 ghost use Rattle.base_data.specs.SameData.{same_data};
 ghost use Rattle.base_data.specs.declared.rdata.RData.{RData};
 ghost use Rattle.op_use.specs.Applying.{IsZoneMap, records_at, zone_of_map};
-ghost use Rattle.op_use.specs.MapUpdates.{IsSetTo, joined, parted};
+ghost use Rattle.op_use.specs.MapUpdates.{IsSetTo, parted};
 ghost use Rattle.op_use.specs.Server.{record_key};
 ghost use Rattle.op_use.specs.Zone.{has_set as has_set_in};
+ghost use Rattle.rr.specs.SetChanges.{joined};
 ghost use Rattle.rr.specs.declared.record.Record.{Record as Entry};
 
 use crate::apply::records::{join, part};

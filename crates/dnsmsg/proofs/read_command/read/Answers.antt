@@ -15,4 +15,4 @@ pub returns : goal.returns
 returns c =
     let found = c.in_ok-message.ensures.found in
     message_is_printed c.args.text.now c.deref.result.now (message_value c.in_ok-message.message) found.0
-        (c.in_ok-bytes.ensures ∙ ap Ok (sym c.deref.ensures.value)) found.1 ∙ ap done (sym c.in_ok-to_string.ensures.ok)
+    (c.in_ok-bytes.ensures ∙ ap Ok (sym c.deref.ensures.value)) found.1 ∙ ap done (sym c.in_ok-to_string.ensures.ok)

@@ -35,8 +35,11 @@ returns-clause-writes c =
     let len : length (wire_of labels ++ 0 ∷ []) ≡ plain_len labels = length-append (wire_of labels) (0 ∷ []) ∙ ap (λ (n : ℕ). n + 1) (length-wire_of labels) in
     on_ok_weaker c.emit.result
     (λ is. Writes-bytes (NameAt labels) (plain_len labels) (wire_of labels ++ 0 ∷ []) a _ (joined (wire_of labels) (0 ∷ []) a m _ wrote is) (omega arith)
-    (λ B stands. (subst (λ (n : ℕ). Spelled B labels (length a.bytes) (length a.bytes) (length a.bytes + n)) (sym len)
-        (labels_stand B labels (length a.bytes) (length a.bytes) c.as_wire.ensures.labels stands), c.as_wire.ensures.plain)))
+    (λ B stands. (
+      subst (λ (n : ℕ). Spelled B labels (length a.bytes) (length a.bytes) (length a.bytes + n)) (sym len)
+          (labels_stand B labels (length a.bytes) (length a.bytes) c.as_wire.ensures.labels stands),
+      c.as_wire.ensures.plain,
+    )))
     c.emit.ensures.ok
 
 pub returns-clause-refuses : goal.returns-clause-refuses
@@ -47,4 +50,4 @@ returns-clause-refuses c =
     let wrote : m ≡ appended (wire_of labels) a = c.in_ok-emit_slice.ensures.ok ∙ ap (λ bytes. appended bytes a) c.as_wire.ensures.value in
     let limit = ap (λ (s : State). s.limit) wrote in
     Refuses-earlier c.emit.result 1 (plain_len labels) a m limit
-        (omega (arith, ap (λ (s : State). length s.bytes) wrote, length-append a.bytes (wire_of labels), length-wire_of labels)) c.emit.ensures.refuses
+    (omega (arith, ap (λ (s : State). length s.bytes) wrote, length-append a.bytes (wire_of labels), length-wire_of labels)) c.emit.ensures.refuses

@@ -14,5 +14,5 @@ pub returns-then-count-others : goal.returns-then-count-others
 returns-then-count-others c =
     let last : IsTrue c.same_in_any_case.result ↔ ((front : List (List ℕ)) × (folded c.args.other.now ≡ front ++ folded c.args.self.now)) =
     are_last_at _ _ _ _ _ _ (omega (arith, c.if-count-others.true, c.label_count-count.ensures, c.label_count-others.ensures))
-        (c.past_labels.ensures.labels ∙ ap (drop _) c.as_wire.ensures.cut) c.as_wire-then-count-others.ensures.cut c.same_in_any_case.ensures in
+    (c.past_labels.ensures.labels ∙ ap (drop _) c.as_wire.ensures.cut) c.as_wire-then-count-others.ensures.cut c.same_in_any_case.ensures in
     record { last_labels = last; test = zone_test c.args.self.now c.args.other.now c.same_in_any_case.result last }

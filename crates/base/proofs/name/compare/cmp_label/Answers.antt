@@ -8,5 +8,5 @@ returns c =
     let xs = c.loop-rest.rest.now in
     let ys = c.loop-rest.others.now in
     let one : length xs ≡ 0 ⊎ length ys
-        ≡ 0 = elim c.if-rest-lt1.branch [ in_default w ↦ inl (omega (arith, w.in_default.len_below)) | in-len1-up+in_default-others w ↦ inr (omega (arith, w.in_default-others.len_below)) ] in
+    ≡ 0 = elim c.if-rest-lt1.branch [ in_default w ↦ inl (omega (arith, w.in_default.len_below)) | in-len1-up+in_default-others w ↦ inr (omega (arith, w.in_default-others.len_below)) ] in
     c.cmp.ensures ∙ sym (ended_folded xs ys one) ∙ c.loop-rest.invariant

@@ -30,9 +30,9 @@ returns-clause-some c =
     let copied : c.copy_from_slice.new.self ≡ wire = c.copy_from_slice.ensures.after in
     let whole = take-put_mid used (used + length wire - used) room c.copy_from_slice.new.self (used + length wire) (omega (arith, ap length copied)) (omega (arith, front)) in
     subst (λ (bytes : List ℕ). IsNameText c.args.text.now (option_copied c.args.origin) (record { labels = labels_of bytes; absolute = true }))
-        (sym (whole ∙ ap (λ (xs : List ℕ). take used room ++ xs) copied))
+    (sym (whole ∙ ap (λ (xs : List ℕ). take used room ++ xs) copied))
     (completes (subst (IsLabelsText _ _) c.if-is_fqdn.false c.in-Some.ensures.some) c.in-Some.ensures.wire c.requires.no_origin
-        (ap option_copied c.in-Some-origin.is) c.as_wire-wire.ensures.value (omega (arith, c.if-end-gt-ROOM.false, front)))
+    (ap option_copied c.in-Some-origin.is) c.as_wire-wire.ensures.value (omega (arith, c.if-end-gt-ROOM.false, front)))
 
 pub returns-clause-wire : goal.returns-clause-wire
 returns-clause-wire c =

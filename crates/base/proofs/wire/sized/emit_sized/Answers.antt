@@ -30,4 +30,4 @@ returns-in_err-emit-clause-refuses g c =
     let a = state_of c.args.encoder.now in
     let is = err_from_is_err_and c.from_residual-in_err-emit.result c.from_residual-in_err-emit.ensures.1 in
     rw (is.1, is.2) (Refuses-earlier {X = Unit {0}} (Err c.in_err-emit.field-0.0) _ _ a (state_of c.place.new.self) (ap (λ s. s.limit) kept)
-        (omega (arith, ap (λ (s : State). length s.bytes) kept, length-append a.bytes (0 ∷ 0 ∷ []))) c.in_err-emit.ensures.refuses)
+    (omega (arith, ap (λ (s : State). length s.bytes) kept, length-append a.bytes (0 ∷ 0 ∷ []))) c.in_err-emit.ensures.refuses)

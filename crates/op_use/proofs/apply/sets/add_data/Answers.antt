@@ -2,7 +2,7 @@ use Rattle.base.specs.RrKey.{key_of}
 use Rattle.op_use.proofs.MapSteps.{chained, join_distinct, moved}
 use Rattle.op_use.proofs.apply.sets.add_data.Goals as goal
 use Rattle.op_use.specs.Applying.{records_at}
-use Rattle.op_use.specs.MapUpdates.{joined}
+use Rattle.rr.specs.SetChanges.{joined}
 use Rattle.op_use.specs.Server.{type_of_record}
 use Rattle.std.proofs.Common.{ap, ◌∙◌, ◌≡◌}
 

@@ -7,5 +7,5 @@ use Rattle.base.proofs.name.display.ByteTextDisplay.fmt.Goals as goal
 pub returns-then-not-is_ascii_graphic-clause-writes : goal.returns-then-not-is_ascii_graphic-clause-writes
 returns-then-not-is_ascii_graphic-clause-writes g c = λ plain ok.
     has_written_of_eq _ _ _ _ _
-        (ap (λ spec. 92 ∷ styled_decimal spec c.args.self.now.0) c.laid_out.ensures ∙ ap (λ digits. 92 ∷ digits) (three_places c.args.self.now.0 (omega arith))
-        ∙ escaped c.args.self.now.0 (sym c.is_ascii_graphic.ensures.value ∙ c.if-not-is_ascii_graphic.true)) (c.write.ensures.writes plain ok)
+    (ap (λ spec. 92 ∷ styled_decimal spec c.args.self.now.0) c.laid_out.ensures ∙ ap (λ digits. 92 ∷ digits) (three_places c.args.self.now.0 (omega arith))
+    ∙ escaped c.args.self.now.0 (sym c.is_ascii_graphic.ensures.value ∙ c.if-not-is_ascii_graphic.true)) (c.write.ensures.writes plain ok)

@@ -76,7 +76,7 @@ loop-label-preserved c =
 pub returns-clause-writes : goal.returns-clause-writes
 returns-clause-writes c =
     on_ok_both c.emit.result
-        (λ is within. Progress-root _ _ _ _ _ c.loop-label.invariant.progress c.in_default.ensures.labels is within c.as_wire-rest.ensures.plain) c.emit.ensures.ok c.emit.ensures.within
+    (λ is within. Progress-root _ _ _ _ _ c.loop-label.invariant.progress c.in_default.ensures.labels is within c.as_wire-rest.ensures.plain) c.emit.ensures.ok c.emit.ensures.within
 
 pub returns-in-Some-find-clause-names : goal.returns-in-Some-find-clause-names
 returns-in-Some-find-clause-names c =

@@ -22,7 +22,7 @@ invariant_of-self-2 c =
     let updates = c.in_ok-insert.ensures.updates in
     let here = ap after (sym key) ∙ index_here c.in_ok-key.key.items c.self.inside.index c.insert.new.self _ updates in
     let pushed = IsTable-others
-        (offset_in c.self.inside.index) after c.self.inside.first.items c.self.inside.others.items c.args.wire.now c.args.at c.self.invariant c.requires.wire.whole c.requires.near
+    (offset_in c.self.inside.index) after c.self.inside.first.items c.self.inside.others.items c.args.wire.now c.args.at c.self.invariant c.requires.wire.whole c.requires.near
     (subst (All (λ (s : Stored). s.labels ≢ t.labels)) (sym c.self.view_is) c.requires.absent) (subst (All (λ (s : Stored). s.offset < t.offset)) (sym c.self.view_is) c.requires.later) here
     (λ cs other. index_others c.in_ok-key.key.items c.self.inside.index c.insert.new.self _ updates cs (λ same. other (same ∙ key))) in
     let is : c.self.inside.others.items ++ t ∷ [] ≡ c.push.new.self.items = search rules in

@@ -16,4 +16,4 @@ returns-clause-writes c =
 pub returns-clause-names : goal.returns-clause-names
 returns-clause-names c =
     on_ok_weaker c.emit.result (λ name. compressed_mx c.args.self.now (state_of c.args.encoder.now) _ _ c.in_ok-emit_u16.ensures.state name)
-        (compressed c.emit.result _ _ _ _ _ c.emit.ensures.writes c.emit.ensures.names)
+    (compressed c.emit.result _ _ _ _ _ c.emit.ensures.writes c.emit.ensures.names)

@@ -18,7 +18,7 @@ returns-in_err-emit-clause-refuses c =
     let option = c.option-item.result in
     let inside : i < length c.args.self.now = omega (arith, c.loop-option-test.true, ap length same) in
     rw (p.1, p.2) (refused_all c.args.self.now i option c.in_err-emit.field-0.0 _ _ inside
-        (c.option-item.is ∙ ap (λ xs. get_or xs i option) same) c.loop-option.invariant c.in_err-emit.ensures.refuses)
+    (c.option-item.is ∙ ap (λ xs. get_or xs i option) same) c.loop-option.invariant c.in_err-emit.ensures.refuses)
 
 pub loop-option-preserved : goal.loop-option-preserved
 loop-option-preserved c =

@@ -13,7 +13,7 @@ returns-in_err-read c =
     record {
       read = rw (p.1, p.2, opt_at-to c.args.len (c.index.result + c.from.result) old.bytes old.index end)
           (gathered_fault c.args.len (c.index.result + c.from.result) old.bytes at.bytes old.index at.index c.options.options.items c.in_err-read.field-0.0
-              (omega (arith, c.options-test.true, begins)) c.in_err-read.ensures.read c.options.invariant);
+          (omega (arith, c.options-test.true, begins)) c.in_err-read.ensures.read c.options.invariant);
     }
 
 pub options-preserved : goal.options-preserved
@@ -23,8 +23,8 @@ options-preserved c =
     let begins = c.index-in-options.ensures.value in
     rw (c.in_ok-push.ensures.items, c.in_ok-read.ensures.read.1)
     (gathered_more c.args.len
-        (c.index.result + c.from.result) old.bytes at.bytes old.index at.index c.options.options.items c.in_ok-read.field-0 c.read.new.decoder.index
-        (omega (arith, c.options-test.true, begins)) c.in_ok-read.ensures.read.0 c.options.invariant)
+    (c.index.result + c.from.result) old.bytes at.bytes old.index at.index c.options.options.items c.in_ok-read.field-0 c.read.new.decoder.index
+    (omega (arith, c.options-test.true, begins)) c.in_ok-read.ensures.read.0 c.options.invariant)
 
 pub returns : goal.returns
 returns c =

@@ -26,7 +26,7 @@ returns-in-MaxBufferSizeExceeded g c =
     let full : c.loop-item.self.limit < length c.loop-item.self.buffer.now.items + g.E.BinEncodable.plain_len c.in-Some.item =
     subst (λ (e : ProtoError). Refuses {X = ℕ} (g.E.BinEncodable.plain_len c.in-Some.item) (state_of c.loop-item.self) (Err e)) c.in-MaxBufferSizeExceeded.is c.in-Err.ensures.refuses in
     let stopped : EmitsAll g.E.BinEncodable.word g.E.BinEncodable.plain_len g.E.BinEncodable.owner g.I.Iterator.next_gives c.args.items.now c.next.new.self
-        (state_of c.args.self.now) (state_of c.roll_back.new.self) (Err (refusals.NotAllRecordsWritten c.loop-item.count)) = (
+    (state_of c.args.self.now) (state_of c.roll_back.new.self) (Err (refusals.NotAllRecordsWritten c.loop-item.count)) = (
       c.loop-item.yielded,
       c.in-Some.item,
       (c.loop-item.items, c.loop-item.yielded_by, c.in-Some.ensures.steps),

@@ -8,9 +8,12 @@ loop-string-preserved g c =
     record {
       whole = c.in-Some.ensures.others;
       written = λ plain.
-          let before = c.loop-string.invariant.written plain in
-          (_, has_written_append _ _ _ _ _ _ before.1
-              (c.in_ok-fmt.ensures.writes before.1.plain (refl {a = true})), txt_text-step before.0 _ _ _ _ _ _ before.2 c.in-Some.ensures.strings c.in-Some.ensures.others c.is_empty-is_last.ensures);
+          let before = c.loop-string.invariant.written plain in (
+            _,
+            has_written_append _ _ _ _ _ _ before.1
+                (c.in_ok-fmt.ensures.writes before.1.plain (refl {a = true})),
+            txt_text-step before.0 _ _ _ _ _ _ before.2 c.in-Some.ensures.strings c.in-Some.ensures.others c.is_empty-is_last.ensures,
+          );
     }
 
 pub returns-clause-writes : goal.returns-clause-writes

@@ -1,0 +1,18 @@
+-- That updates may be applied to a parsed zone.
+use Rattle.std.specs.BTreeMap as tree
+use Rattle.std.specs.BTreeMap.{BTreeMap}
+use Rattle.std.specs.Prelude.{Some, ◌≡◌}
+use Rattle.base.specs.RrKey.{key_cmp}
+use Rattle.base.specs.declared.dns_class.DNSClass.{DNSClass}
+use Rattle.base.specs.declared.rr_key.RrKey.{RrKey}
+use Rattle.op_use.specs.Applying.{IsZoneMap}
+use Rattle.rr.specs.RecordSet.{SetValue}
+use Rattle.txt.specs.ZoneSets.{AreKept}
+
+-- each set of a map is of a class
+abbrev pub AreOfClass : DNSClass → BTreeMap RrKey SetValue → Type 0
+AreOfClass class m = (k : RrKey) (s : SetValue) → tree.get key_cmp m k ≡ Some s → s.dns_class ≡ class
+
+-- what the parser says of its sets, and one class of them all, is what applying an update asks
+abbrev pub ParsedZonesMayBeUpdated : Type 0
+ParsedZonesMayBeUpdated = (class : DNSClass) (m : BTreeMap RrKey SetValue) → AreKept m.entries → AreOfClass class m → IsZoneMap class m
