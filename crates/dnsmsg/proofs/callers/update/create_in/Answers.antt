@@ -10,7 +10,7 @@ apply_update-requires c = c.in_ok-sets.ensures.zone.is_map
 
 pub returns-in_err-bytes-clause-refused : goal.returns-in_err-bytes-clause-refused
 returns-in_err-bytes-clause-refused c =
-    let p = err_from_is_err_and c.from_residual-in_err-bytes.result c.from_residual-in_err-bytes.ensures.1 in
+    let p = err_from_is_err_and c.from_residual.result c.from_residual.ensures.1 in
     rw (p.1, p.2) (inl c.in_err-bytes.ensures.refused)
 
 pub returns-in_err-update-clause-refused : goal.returns-in_err-update-clause-refused
