@@ -34,7 +34,9 @@ use Rattle.rr.specs.declared.record.Record.{Record}
 use Rattle.txt.specs.Parser.{ParserValue, named_texts, text_among}
 use Rattle.txt.specs.Zone.{Texts, zone_of}
 use Rattle.txt.specs.ZoneSets.{ZoneSets}
-use Rattle.dnsmsg.specs.Callers.{HasNoRoom, IsAnswered, IsCreated, IsReceived, IsUnanswered, IsZoneOfText, no_texts, response_edns, response_to}
+use Rattle.dnsmsg.specs.Callers.{HasNoRoom, IsAnswered, IsCreated, IsNotReceived, IsReceived, IsUnanswered, IsUnsent, IsZoneOfText, no_texts, creating, response_edns, response_to}
+use Rattle.dnsmsg.specs.declared.refusal.Refusal.{Refusal}
+use Rattle.dnsmsg.specs.declared.refusal.Refusal.TheVariants as refused
 
 -- ---- an answer
 
@@ -110,19 +112,26 @@ uncut {m = m} k clear =
 none_among : (includes : BTreeMap (String Global) (String Global)) → includes.entries ≡ [] → text_among (named_texts includes) ≡ no_texts
 none_among includes empty = ap (λ es. text_among (map (λ (e : String Global × String Global). (string_bytes e.0, string_bytes e.1)) es)) empty
 
--- a text that includes none is parsed as by a map without texts
-pub parsed_alone : (origin under : NameValue) (text : List ℕ) (includes : BTreeMap (String Global) (String Global)) (p : ParserValue) (made : Result (NameValue × ZoneSets) Fault) → under ≡ origin
-    → includes.entries ≡ [] → p ≡ record { text = text; includes = named_texts includes; origin = Some under } → zone_of (text_among p.includes) p.origin p.text ≡ made
-    → zone_of no_texts (Some origin) text ≡ made
-parsed_alone origin under text includes p made same empty is read =
+-- a text that includes none is read as by a map without texts
+pub read_alone : (origin under : NameValue) (text : List ℕ) (includes : BTreeMap (String Global) (String Global)) (p : ParserValue) → under ≡ origin → includes.entries ≡ []
+    → p ≡ record { text = text; includes = named_texts includes; origin = Some under } → zone_of no_texts (Some origin) text ≡ zone_of (text_among p.includes) p.origin p.text
+read_alone origin under text includes p same empty is =
     ap (λ n. zone_of no_texts (Some n) text) (sym same)
     ∙ ap (λ (t : Texts). zone_of t (Some under) text) (sym (none_among includes empty))
-    ∙ ap (λ (q : ParserValue). zone_of (text_among q.includes) q.origin q.text) (sym is) ∙ read
+    ∙ ap (λ (q : ParserValue). zone_of (text_among q.includes) q.origin q.text) (sym is)
+
+-- what was not received whole was not sent
+pub unsent : (origin : NameValue) (s : SetValue) (B : List ℕ) → (IsSendable origin s → IsWritten (creating origin s) 65535 B) → (e : Refusal) → IsNotReceived B e → IsUnsent origin s e
+unsent origin s B written (refused.Decode fault) why = (B, written, why)
+unsent origin s B written refused.Input why = (B, written, why)
+unsent origin s B written refused.Class why = absurd why
+unsent origin s B written (refused.Parse e) why = absurd why
+unsent origin s B written (refused.Proto e) why = absurd why
 
 module _ (maps : MapsAreZones) (creates : CreateApplies) (origin : NameValue) (text : List ℕ) (s : SetValue) (bytes : List ℕ) (update : MessageValue)
     (old new : BTreeMap RrKey SetValue) (code : ResponseCode) where
   -- the update that was received makes of the zone what creating the set makes
-  pub created : is_zone_of origin s.name ≡ true → (IsSendable origin s → IsWritten (update_message 1 false (create s origin)) 65535 bytes) → IsReceived bytes update
+  pub created : is_zone_of origin s.name ≡ true → (IsSendable origin s → IsWritten (creating origin s) 65535 bytes) → IsReceived bytes update
       → IsZoneOfText origin text old → IsApplied origin classes.IN (sections_of update) old code new → IsCreated origin text s code new
   created within written received before applied = record {
     old = old;

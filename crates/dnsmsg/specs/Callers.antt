@@ -1,10 +1,10 @@
 -- What the callers that docs/CALLING.md quotes promise.
 use Rattle.std.specs.BTreeMap.{BTreeMap}
 use Rattle.std.specs.Option.{option_map}
-use Rattle.std.specs.Prelude.{All, Err, List, None, Ok, Option, Result, Some, false, if◌then◌else◌, length, map, ℕ, ◌-◌, ◌≡◌, ◌⊎◌}
+use Rattle.std.specs.Prelude.{All, Err, List, None, Ok, Option, Result, Some, false, if◌then◌else◌, length, map, true, ℕ, ◌-◌, ◌≡◌, ◌⊎◌}
 use Rattle.base.specs.Labels.{NameValue}
-use Rattle.base.specs.Reading.{Fails}
-use Rattle.base.specs.TextFaults.{Fault}
+use Rattle.base.specs.Reading.{Fails as FailsToRead}
+use Rattle.base.specs.TextFaults.{Fails, Fault}
 use Rattle.base.specs.declared.dns_class.DNSClass.TheVariants as classes
 use Rattle.base.specs.declared.error.proto_error.ProtoError.{ProtoError}
 use Rattle.base.specs.declared.error.proto_error.ProtoError.TheVariants as refusals
@@ -24,14 +24,19 @@ use Rattle.op_use.specs.DnsResponse.{IsResponse}
 use Rattle.op_use.specs.NamedChanges.{merged, set_key}
 use Rattle.op_use.specs.Responses.{negative_ttl}
 use Rattle.op_use.specs.SoundSet.{IsSendable, NoCname}
+use Rattle.op_use.specs.UpdateMessage.{create, update_message}
 use Rattle.op_use.specs.Zone.{Zone, has_set}
 use Rattle.rr.specs.Record.{decremented}
 use Rattle.rr.specs.RecordSet.{SetValue}
 use Rattle.rr.specs.declared.record.Record.{Record}
 use Rattle.txt.specs.Zone.{Texts, zone_of}
 use Rattle.txt.specs.ZoneSets.{ZoneSets}
+use Rattle.dnsmsg.specs.ApplyCommand.{are_sets_in}
+use Rattle.dnsmsg.specs.Refusal.{refusal_number}
 use Rattle.dnsmsg.specs.ZoneCommand.{fault_number}
 use Rattle.dnsmsg.specs.declared.callers.cache.CacheEntry.{CacheEntry}
+use Rattle.dnsmsg.specs.declared.refusal.Refusal.{Refusal}
+use Rattle.dnsmsg.specs.declared.refusal.Refusal.TheVariants as refused
 
 -- ---- an answer to a query
 
@@ -61,7 +66,7 @@ pub record HasNoRoom (received : List ℕ) (answers : List (Record RData)) (e : 
 
 -- why there was no answer: what reading met, questions without room, or want of memory
 abbrev pub IsUnanswered : List ℕ → List (Record RData) → ProtoError → Type 0
-IsUnanswered received answers (refusals.Decode fault) = Fails fault (message_at received 0)
+IsUnanswered received answers (refusals.Decode fault) = FailsToRead fault (message_at received 0)
 IsUnanswered received answers refusals.Memory = Unit {0}
 IsUnanswered received answers e = HasNoRoom received answers e
 
@@ -99,12 +104,47 @@ pub record IsReceived (bytes : List ℕ) (m : MessageValue) : Type 0 where
 abbrev pub creation : Zone → SetValue → ResponseCode × Zone
 creation z s = if has_set z (set_key s) then (YXRRSet, z) else (NoError, merged z s)
 
+-- the message that asks for a set to be created
+abbrev pub creating : NameValue → SetValue → MessageValue
+creating origin s = update_message 1 false (create s origin)
+
 -- The zone of the text, before the update that creates a set and after it.
 pub record IsCreated (origin : NameValue) (text : List ℕ) (s : SetValue) (code : ResponseCode) (new : BTreeMap RrKey SetValue) : Type 0 where
   pub old : BTreeMap RrKey SetValue
   pub before : IsZoneOfText origin text old
   pub change : IsSendable origin s → s.dns_class ≡ classes.IN → NoCname (zone_of_map origin classes.IN old) s.name
       → ◌≡◌ {A = ResponseCode × Zone} (code, zone_of_map origin classes.IN new) (creation (zone_of_map origin classes.IN old) s)
+
+-- a zone of the text, of another class than IN
+pub record IsOtherZone (origin : NameValue) (text : List ℕ) : Type 0 where
+  pub last_origin : NameValue
+  pub sets : ZoneSets
+  pub parsed : zone_of no_texts (Some origin) text ≡ Ok (last_origin, sets)
+  pub other : are_sets_in sets ≡ false
+
+-- why a text is no zone of the class IN: the parser's fault, or another class; or want of memory
+abbrev pub IsNoZone : NameValue → List ℕ → Refusal → Type 0
+IsNoZone origin text (refused.Parse e) = Fails e (zone_of no_texts (Some origin) text)
+IsNoZone origin text refused.Class = IsOtherZone origin text
+IsNoZone origin text e = refusal_number e ≡ 3
+
+-- the bytes begin with a message that was cut
+pub record IsCutShort (bytes : List ℕ) : Type 0 where
+  pub message : MessageValue
+  pub end : ℕ
+  pub stands : IsMessageAt bytes 0 message end
+  pub short : message.metadata.truncation ≡ true
+
+-- why no whole message was received: what reading met, or it was cut
+abbrev pub IsNotReceived : List ℕ → Refusal → Type 0
+IsNotReceived bytes (refused.Decode fault) = FailsToRead fault (message_at bytes 0)
+IsNotReceived bytes refused.Input = IsCutShort bytes
+IsNotReceived bytes e = ⊥
+
+-- uncompressed questions without room; or bytes, such as a message is written as, that are not received whole
+abbrev pub IsUnsent : NameValue → SetValue → Refusal → Type 0
+IsUnsent origin s (refused.Proto e) = (e ≡ refusals.Memory) ⊎ IsTooSmall (creating origin s) 65535 e
+IsUnsent origin s e = (B : List ℕ) × (IsSendable origin s → IsWritten (creating origin s) 65535 B) × IsNotReceived B e
 
 -- ---- zone text that is checked
 

@@ -1,12 +1,12 @@
 //! Creates a record set in the zone of a text, by an update that is sent and received.
 
-ghost use Rattle.std.specs.Prelude.{◌≡◌, IfOk, false, true};
+ghost use Rattle.std.specs.Prelude.{◌≡◌, ◌⊎◌, IfErr, IfOk, true};
 ghost use Rattle.base.specs.NameOrder.{is_zone_of};
-ghost use Rattle.op.specs.Cut.{IsWritten};
+ghost use Rattle.base.specs.declared.error.proto_error.ProtoError.TheVariants as refusals;
+ghost use Rattle.op.specs.Cut.{IsTooSmall, IsWritten};
 ghost use Rattle.op.specs.Message.{message_value};
 ghost use Rattle.op_use.specs.SoundSet.{IsSendable};
-ghost use Rattle.op_use.specs.UpdateMessage.{create as create_sections, update_message};
-ghost use Rattle.dnsmsg.specs.Callers.{IsCreated, IsReceived, IsZoneOfText};
+ghost use Rattle.dnsmsg.specs.Callers.{IsCreated, IsNoZone, IsNotReceived, IsReceived, IsUnsent, IsZoneOfText, creating};
 
 use crate::apply_command::are_sets_in;
 use crate::refusal::Refusal;
@@ -32,7 +32,8 @@ pub fn create_in(
     set: RecordSet,
 ) -> Result<(ResponseCode, BTreeMap<RrKey, RecordSet>), Refusal>
     requires { is_zone_of origin.now set.name ≡ true }
-    ensures { IfOk result (λ r. IsCreated origin.now text.now set r.0 r.1) }
+    ensures created { IfOk result (λ r. IsCreated origin.now text.now set r.0 r.1) }
+    ensures refused { IfErr result (λ e. IsUnsent origin.now set e ⊎ IsNoZone origin.now text.now e) }
 {
     built_updates_apply_as_named();
     let bytes = sent(alloc, origin, set)?;
@@ -44,7 +45,8 @@ pub fn create_in(
 // The bytes of the update that creates a set.
 fn sent(alloc: Global, origin: &Name, set: RecordSet) -> Result<Vec<u8>, ProtoError>
     requires { is_zone_of origin.now set.name ≡ true }
-    ensures { IfOk result (λ bytes. IsSendable origin.now set → IsWritten (update_message 1 false (create_sections set origin.now)) 65535 bytes.items) }
+    ensures written { IfOk result (λ bytes. IsSendable origin.now set → IsWritten (creating origin.now set) 65535 bytes.items) }
+    ensures refused { IfErr result (λ e. (e ≡ refusals.Memory) ⊎ IsTooSmall (creating origin.now set) 65535 e) }
 {
     let update = create(alloc, 1, set, origin.clone()?, false)?;
     update.to_vec()
@@ -52,7 +54,8 @@ fn sent(alloc: Global, origin: &Name, set: RecordSet) -> Result<Vec<u8>, ProtoEr
 
 // The message that bytes begin with, if it was not cut.
 fn received(alloc: Global, bytes: &[u8]) -> Result<Message, Refusal>
-    ensures { IfOk result (λ m. IsReceived bytes.now (message_value m)) }
+    ensures whole { IfOk result (λ m. IsReceived bytes.now (message_value m)) }
+    ensures refused { IfErr result (λ e. IsNotReceived bytes.now e) }
 {
     let message = Message::from_vec(alloc, bytes)?;
     if message.metadata.truncation {
@@ -67,7 +70,8 @@ fn zone_of_text(
     origin: &Name,
     text: &str,
 ) -> Result<BTreeMap<RrKey, RecordSet>, Refusal>
-    ensures { IfOk result (λ sets. IsZoneOfText origin.now text.now sets) }
+    ensures zone { IfOk result (λ sets. IsZoneOfText origin.now text.now sets) }
+    ensures refused { IfErr result (λ e. IsNoZone origin.now text.now e) }
 {
     let includes = BTreeMap::new(alloc);
     let (_, sets) = Parser::new(alloc, text, &includes, Some(origin.clone()?)).parse()?;
