@@ -10,7 +10,6 @@ use Rattle.std.specs.declared.alloc.Global.{Global}
 use Rattle.base.specs.Labels.{NameValue}
 use Rattle.base.specs.NameOrder.{folded, is_zone_of}
 use Rattle.base.specs.NameOrderLaws.{same_by-equiv}
-use Rattle.base.specs.TextFaults.{Fault}
 use Rattle.base.specs.declared.dns_class.DNSClass.TheVariants as classes
 use Rattle.base.specs.declared.error.proto_error.ProtoError.{ProtoError}
 use Rattle.base.specs.declared.error.proto_error.ProtoError.TheVariants as refusals
@@ -28,12 +27,10 @@ use Rattle.op_use.specs.AppliedMeaning.{CreateApplies, MapsAreZones}
 use Rattle.op_use.specs.Applying.{IsApplied}
 use Rattle.op_use.specs.Server.{sections_of}
 use Rattle.op_use.specs.SoundSet.{IsSendable}
-use Rattle.op_use.specs.UpdateMessage.{create, update_message}
 use Rattle.rr.specs.RecordSet.{SetValue}
 use Rattle.rr.specs.declared.record.Record.{Record}
 use Rattle.txt.specs.Parser.{ParserValue, named_texts, text_among}
 use Rattle.txt.specs.Zone.{Texts, zone_of}
-use Rattle.txt.specs.ZoneSets.{ZoneSets}
 use Rattle.dnsmsg.specs.Callers.{HasNoRoom, IsAnswered, IsCreated, IsNotReceived, IsReceived, IsUnanswered, IsUnsent, IsZoneOfText, no_texts, creating, response_edns, response_to}
 use Rattle.dnsmsg.specs.declared.refusal.Refusal.{Refusal}
 use Rattle.dnsmsg.specs.declared.refusal.Refusal.TheVariants as refused

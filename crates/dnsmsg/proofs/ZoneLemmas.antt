@@ -3,7 +3,7 @@ use Rattle.std.proofs.Common.{◌≡◌, ◌⊎◌, inl, inr, Result, ℕ, List,
 use Rattle.std.specs.BTreeMap.{BTreeMap, get_by_text}
 use Rattle.std.specs.List.{after_first, before_first}
 use Rattle.std.specs.Map.{update}
-use Rattle.std.specs.Prelude.{String, if◌then◌else◌, option_map}
+use Rattle.std.specs.Prelude.{String, option_map}
 use Rattle.std.proofs.lemmas.Str.{IsUtf8-from_is_utf8, is_utf8-from_IsUtf8}
 use Rattle.std.specs.Str.{IsUtf8, bytes_eq, is_utf8}
 use Rattle.std.specs.String.{string_bytes}

@@ -1,4 +1,4 @@
-use Rattle.std.proofs.Common.{rules, ◌≡◌, ap, sym, ◌∙◌, take, ◌∷◌, [], ◌++◌, ◌+◌}
+use Rattle.std.proofs.Common.{rules, ap, sym, ◌∙◌, take, ◌∷◌, [], ◌++◌, ◌+◌}
 use Rattle.std.proofs.lemmas.List.{map-append, take_more}
 use Rattle.std.proofs.lemmas.Map.Text.{btree_map_updates_text}
 use Rattle.std.specs.Prelude.{Some, String}

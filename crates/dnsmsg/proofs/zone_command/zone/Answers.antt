@@ -1,4 +1,4 @@
-use Rattle.std.proofs.Common.{◌≡◌, ap, sym, ◌∙◌, inr}
+use Rattle.std.proofs.Common.{ap, sym, ◌∙◌, inr}
 use Rattle.std.proofs.lemmas.Result.{err_from_is_err_and}
 use Rattle.base.specs.ParseError.{parse_number}
 use Rattle.txt.specs.Parser.{text_among}

@@ -1,6 +1,6 @@
 use Rattle.std.proofs.Common.{subst, sym, ◌∙◌}
 use Rattle.std.proofs.lemmas.Result.{err_from_is_err_and}
-use Rattle.base.specs.TextFaults.{Fails, Fault}
+use Rattle.base.specs.TextFaults.{Fails}
 use Rattle.dnsmsg.proofs.ApplyLemmas.{parsed_map}
 use Rattle.dnsmsg.proofs.CallerLemmas.{read_alone}
 use Rattle.dnsmsg.proofs.callers.update.zone_of_text.Goals as goal
