@@ -1,6 +1,7 @@
 pub mod CharLemmas
 pub mod ClassTexts
 pub mod CompareLemmas
+pub mod CountLemmas
 pub mod Cutting
 pub mod EscapeLemmas
 pub mod GatherLemmas
@@ -29,6 +30,7 @@ pub mod Refusing
 pub mod SliceLemmas
 pub mod SpellingLemmas
 pub mod SuffixLemmas
+pub mod TailLemmas
 pub mod TextLawLemmas
 pub mod TextLemmas
 pub mod TokenLemmas

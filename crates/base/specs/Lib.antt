@@ -1,9 +1,11 @@
+pub mod Counts
 pub mod Cuts
 pub mod DNSClass
 pub mod DecodeError
 pub mod Faults
 pub mod Items
 pub mod Keys
+pub mod Kept
 pub mod Labels
 pub mod Laws
 pub mod Many
@@ -12,6 +14,7 @@ pub mod NameOrder
 pub mod NameText
 pub mod Names
 pub mod ParseError
+pub mod Passed
 pub mod ProtoError
 pub mod Reader
 pub mod Reading

@@ -2,6 +2,7 @@
 //! stands here.
 
 ghost use Rattle.std.specs.Prelude.{◌≡◌, ◌<◌, ◌≤◌, [], OnOk, Some, take};
+ghost use Rattle.base.specs.Counts.{Counts};
 ghost use Rattle.base.specs.Laws.{Keeps, Writes};
 ghost use Rattle.base.specs.Reading.{Reads};
 ghost use Rattle.base.specs.Wire.{state_of, Refuses};
@@ -131,6 +132,7 @@ impl RData {
     ) -> Result<RData, DecodeError>
         requires { 0 < len }
         ensures read { Reads (λ x. x) decoder.old decoder.new result (kind_at record_type len decoder.old.bytes decoder.old.index) }
+        ensures counts { Counts decoder.old decoder.new result }
     {
         match record_type {
             RecordType::A => read_as::<A>(decoder),

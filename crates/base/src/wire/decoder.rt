@@ -1,12 +1,16 @@
 //! Reads a message's bytes.
 
-ghost use Rattle.std.specs.Prelude.{◌≡◌, ◌-◌, ◌^◌, ◌<◌, ◌≤◌, length, nat_le, IsOkUnless};
+ghost use Rattle.std.specs.Prelude.{◌≡◌, ℕ, true, ◌+◌, ◌-◌, ◌^◌, ◌<◌, ◌≤◌, length, min, nat_le, is_some, IfSome, OnOk, OnErr, IsOkUnless};
+ghost use Rattle.std.specs.FinSet as set;
 ghost use Rattle.std.specs.Int.{w16, w32};
+ghost use Rattle.base.specs.Counts.{Counts};
+ghost use Rattle.base.specs.Kept.{IsKept};
 ghost use Rattle.base.specs.Reader.{begun};
 ghost use Rattle.base.specs.Reading.{Reads, byte_at, bytes_at, number_at};
 
 use crate::error::DecodeError;
 use std::alloc::Global;
+use std::collections::BTreeMap;
 use std::marker::Model;
 
 /// Reads values one by one from a buffer, which a name in it may point back into.
@@ -15,17 +19,25 @@ pub struct BinDecoder<'a> {
     alloc: Global,
     buffer: &'a [u8],
     index: usize,
+    /// The labels at each offset that a pointer led to, each with its length before it.
+    kept: BTreeMap<u16, Vec<u8>>,
+    jumps: usize,
 }
 
 impl<'a> Model for BinDecoder<'a> {
     ghost use Rattle.std.specs.Prelude.{◌≤◌, length};
-    ghost use Rattle.base.specs.Reader.{Reader};
+    ghost use Rattle.std.specs.BTreeMap.{keys};
+    ghost use Rattle.std.specs.FinSet as set;
+    ghost use Rattle.base.specs.Reader.{Reader, reader_code};
+    ghost use Rattle.base.specs.Kept.{AreKept};
 
     ghost Value = { Reader };
 
-    ghost view = { λ d. record { bytes = d.buffer.now; index = d.index } };
+    ghost coded = { reader_code };
 
-    ghost invariant = { λ d. d.index ≤ length d.buffer.now };
+    ghost view = { λ d. record { bytes = d.buffer.now; index = d.index; kept = set.from_list (keys d.kept); jumps = d.jumps } };
+
+    ghost invariant = { λ d. (d.index ≤ length d.buffer.now) × AreKept d.buffer.now d.kept };
 }
 
 impl<'a> BinDecoder<'a> {
@@ -37,6 +49,8 @@ impl<'a> BinDecoder<'a> {
             alloc,
             buffer,
             index: 0,
+            kept: BTreeMap::new(alloc),
+            jumps: 0,
         }
     }
 
@@ -75,6 +89,42 @@ impl<'a> BinDecoder<'a> {
         self.buffer
     }
 
+    /// How many pointers were followed into bytes. The labels that a pointer led to are read once and kept, so it is
+    /// no more than there are offsets that a pointer can name, whatever the buffer.
+    pub fn jumps(&self) -> usize
+        ensures value { result ≡ self.now.jumps }
+        ensures few { set.len self.now.kept ≤ 16384 }
+    {
+        self.jumps
+    }
+
+    /// The labels at an offset that a pointer led to, each with its length before it, where they are kept.
+    pub(crate) fn kept(&self, target: u16) -> Option<&[u8]>
+        ensures is { is_some result ≡ set.contains self.now.kept target }
+        ensures near { (q : ℕ) → set.contains self.now.kept q ≡ true → q < 16384 }
+        ensures spelled { IfSome result (λ labels. IsKept self.now.bytes target labels.now) }
+    {
+        self.kept.get(&target).map(|labels| labels.as_slice())
+    }
+
+    /// Keeps the labels at an offset that a pointer led to, each with its length before it.
+    pub(crate) fn keep(&mut self, target: u16, labels: Vec<u8>) -> Result<(), DecodeError>
+        requires { IsKept self.old.bytes target labels.items }
+        ensures ok { OnOk result (self.new ≡ record self.old { kept = set.insert self.old.kept target }) }
+        ensures err { OnErr result (self.new ≡ self.old) }
+        ensures only { IsOkUnless result DecodeError.Memory }
+    {
+        self.kept.insert(target, labels)?;
+        Ok(())
+    }
+
+    /// Counts a pointer that is followed into bytes.
+    pub(crate) fn count_jump(&mut self)
+        ensures { self.new ≡ record self.old { jumps = min (self.old.jumps + 1) usize.MAX } }
+    {
+        self.jumps = self.jumps.saturating_add(1);
+    }
+
     /// Goes to a place inside the buffer or at its end.
     pub(crate) fn move_to(&mut self, index: usize)
         requires { index ≤ length self.old.bytes }
@@ -87,6 +137,7 @@ impl<'a> BinDecoder<'a> {
     pub fn pop(&mut self) -> Result<u8, DecodeError>
         ensures only { IsOkUnless result DecodeError.InsufficientBytes }
         ensures read { Reads (λ b. b) self.old self.new result (byte_at self.old.bytes self.old.index) }
+        ensures counts { Counts self.old self.new result }
     {
         match self.buffer.get(self.index) {
             Some(byte) => {
@@ -102,6 +153,7 @@ impl<'a> BinDecoder<'a> {
     pub fn read_u16(&mut self) -> Result<u16, DecodeError>
         ensures only { IsOkUnless result DecodeError.InsufficientBytes }
         ensures read { Reads (λ n. n) self.old self.new result (number_at w16 self.old.bytes self.old.index) }
+        ensures counts { Counts self.old self.new result }
     {
         match &self.buffer[self.index..] {
             [high, low, ..] => {
@@ -117,6 +169,7 @@ impl<'a> BinDecoder<'a> {
     pub fn read_u32(&mut self) -> Result<u32, DecodeError>
         ensures only { IsOkUnless result DecodeError.InsufficientBytes }
         ensures read { Reads (λ n. n) self.old self.new result (number_at w32 self.old.bytes self.old.index) }
+        ensures counts { Counts self.old self.new result }
     {
         match &self.buffer[self.index..] {
             [highest, high, low, lowest, ..] => {
@@ -131,6 +184,7 @@ impl<'a> BinDecoder<'a> {
     pub fn read_slice(&mut self, len: usize) -> Result<&'a [u8], DecodeError>
         ensures only { IsOkUnless result DecodeError.InsufficientBytes }
         ensures read { Reads (λ bytes. bytes.now) self.old self.new result (bytes_at len self.old.bytes self.old.index) }
+        ensures counts { Counts self.old self.new result }
     {
         let start = self.index;
         if len > self.buffer.len() - start {

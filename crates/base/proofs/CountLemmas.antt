@@ -1,0 +1,159 @@
+-- The offsets that are kept, as a set, and how many pointers are followed.
+use Rattle.std.proofs.Common.{◌≡◌, ℕ, zero, suc, ◌+◌, ◌-◌, ◌^◌, ◌<◌, ◌≤◌, inl, inr, Bool, true, false, cond, List, [], ◌∷◌, ◌++◌, length, refl, ap, sym, ◌∙◌, subst, arith, length-append}
+use Rattle.std.specs.Prelude.{Option, Some, None, Vec, is_some, min, ◌||◌, ◌&&◌, not}
+use Rattle.std.specs.BTreeMap.{BTreeMap, keys, get, Updates, is_at}
+use Rattle.std.specs.Cmp.{nat_cmp_total, eq_by_cmp_equiv}
+use Rattle.std.specs.FinSet as set
+use Rattle.std.specs.FinSet.{nat_cmp-IsAntisymmetric}
+use Rattle.std.specs.List.{list_any}
+use Rattle.std.specs.Map.{lookup, keys_of}
+use Rattle.std.specs.Ordering.{nat_cmp, is_eq, eq_by_cmp}
+use Rattle.std.specs.declared.alloc.Global.{Global}
+use Rattle.std.proofs.lemmas.Bool.{cases_Bool, cond-true, cond-false, false≢true}
+use Rattle.std.proofs.lemmas.Map.Lookups.{exact_unsigned}
+use Rattle.base.specs.Kept.{AreKept}
+use Rattle.std.specs.Borrow.{Bor}
+use Rattle.std.specs.Option.{option_copied}
+use Rattle.std.specs.declared.cmp.Ordering.{Ordering}
+use Rattle.std.specs.declared.cmp.Ordering.TheVariants.{Less, Equal, Greater}
+use Rattle.base.specs.Counts.{IsCounted}
+use Rattle.base.specs.Passed.{inserted, Followed}
+use Rattle.base.specs.Reader.{Reader}
+
+-- ---- the keys of a map as a set
+
+found_some : {X : Type 0} (test : ℕ → Bool) (es : List (ℕ × X)) → is_some (lookup test es) ≡ list_any test (keys_of es)
+found_some test [] = refl
+found_some {X} test (e ∷ es) = by_test (test e.0) (found_some test es) where
+  by_test : (b : Bool) → is_some (lookup test es) ≡ list_any test (keys_of es) → is_some (cond b (Some e.1) (lookup test es)) ≡ (b || list_any test (keys_of es))
+  by_test true same = refl
+  by_test false same = same
+
+pub contains_kept : (m : BTreeMap ℕ (Vec ℕ Global)) (q : ℕ) → set.contains (set.from_list {R = nat_cmp} (keys m)) q ≡ is_some (get nat_cmp m q)
+contains_kept m q = set.contains-from_list nat_cmp_total (keys m) q ∙ sym (found_some (is_at (nat_cmp q)) m.entries)
+
+some_or : {X : Type 0} (b : Bool) (v : X) (o : Option X) → is_some (cond b (Some v) o) ≡ (b || is_some o)
+some_or true v o = refl
+some_or false v o = refl
+
+pub kept_inserted : (m n : BTreeMap ℕ (Vec ℕ Global)) (t : ℕ) (v : Vec ℕ Global) → Updates nat_cmp m n t (Some v) → set.from_list {R = nat_cmp} (keys n) ≡ set.insert (set.from_list (keys m)) t
+kept_inserted m n t v h = set.same_set nat_cmp_total nat_cmp-IsAntisymmetric _ _ (λ q.
+    contains_kept n q ∙ ap is_some (h.0 q) ∙ some_or (is_at (nat_cmp t) q) v (get nat_cmp m q)
+    ∙ ap (λ (b : Bool). b || is_some (get nat_cmp m q)) ((eq_by_cmp_equiv nat_cmp_total).symm t q)
+    ∙ ap (λ (b : Bool). eq_by_cmp nat_cmp q t || b) (sym (contains_kept m q))
+    ∙ sym (set.contains-insert nat_cmp_total (set.from_list (keys m)) t q))
+
+pub kept_near : (bytes : List ℕ) (m : BTreeMap ℕ (Vec ℕ Global)) → AreKept bytes m → (q : ℕ) → set.contains (set.from_list {R = nat_cmp} (keys m)) q ≡ true → q < 16384
+kept_near bytes m are q is = by_value (get nat_cmp m q) refl (sym (contains_kept m q) ∙ is) where
+  by_value : (o : Option (Vec ℕ Global)) → get nat_cmp m q ≡ o → is_some o ≡ true → q < 16384
+  by_value None at some = absurd (false≢true some)
+  by_value (Some v) at some = (are q v at).near
+
+pub is_some-copied : {X : Type 0} (o : Option (Bor X)) → is_some (option_copied o) ≡ is_some o
+is_some-copied None = refl
+is_some-copied (Some x) = refl
+
+-- ---- how many there are
+
+gone : (s : set.FinSet nat_cmp) (n q : ℕ) → set.contains (set.remove s n) q ≡ true → (q ≡ n → ⊥) × (set.contains s q ≡ true)
+gone s n q is = go (eq_by_cmp nat_cmp q n) refl (sym (set.contains-remove nat_cmp_total s n q) ∙ is) where
+  go : (b : Bool) → eq_by_cmp nat_cmp q n ≡ b → (not b && set.contains s q) ≡ true → (q ≡ n → ⊥) × (set.contains s q ≡ true)
+  go true equal never = absurd (false≢true never)
+  go false differ has = ((λ same. false≢true (sym differ ∙ ap (eq_by_cmp nat_cmp q) (sym same) ∙ (eq_by_cmp_equiv nat_cmp_total).refl q)), has)
+
+-- numbers below n are at most n
+pub few_below : (n : ℕ) (s : set.FinSet nat_cmp) → ((q : ℕ) → set.contains s q ≡ true → q < n) → set.len s ≤ n
+few_below zero s below =
+    let none : (q : ℕ) → set.contains s q ≡ set.contains (set.empty {R = nat_cmp}) q = λ q. elim (cases_Bool (set.contains s q)) [
+      | inl has ↦ absurd (omega (arith, below q has))
+      | inr hasnt ↦ hasnt ∙ sym (set.contains-empty nat_cmp q)
+    ] in
+    let is = set.same_set nat_cmp_total nat_cmp-IsAntisymmetric s set.empty none in
+    omega (arith, ap set.len is, set.len-empty nat_cmp)
+few_below (suc n) s below =
+    let rest = few_below n (set.remove s n) (λ q has. let g = gone s n q has in grind (arith, g.0, below q g.1)) in
+    let len = set.len-remove nat_cmp_total s n in
+    elim (cases_Bool (set.contains s n)) [
+      | inl has ↦ omega (arith, rest, len ∙ cond-true (set.contains s n) _ _ has)
+      | inr hasnt ↦ omega (arith, rest, len ∙ cond-false (set.contains s n) _ _ hasnt)
+    ]
+
+equal_is : (o : Ordering) → is_eq o ≡ true → o ≡ Equal
+equal_is Less is = absurd (false≢true is)
+equal_is Equal is = refl
+equal_is Greater is = absurd (false≢true is)
+
+pub inserted-push : (ts : List ℕ) (t : ℕ) (s : set.FinSet nat_cmp) → inserted (ts ++ t ∷ []) s ≡ set.insert (inserted ts s) t
+inserted-push [] t s = refl
+inserted-push (u ∷ ts) t s = inserted-push ts t (set.insert s u)
+
+-- Pointers to these offsets were followed, each to below the one before it, down to start.
+pub record Follows (ts : List ℕ) (start : ℕ) (old new : Reader) : Type 0 where
+  pub now : new ≡ record old { jumps = new.jumps }
+  pub jumps : old.jumps + length ts < 2 ^ 64 → new.jumps ≡ old.jumps + length ts
+  pub all : set.len (inserted ts old.kept) ≡ set.len old.kept + length ts
+  pub few : set.len old.kept ≤ 16384 → set.len (inserted ts old.kept) ≤ 16384
+  pub near : ((q : ℕ) → set.contains old.kept q ≡ true → q < 16384) → (q : ℕ) → set.contains (inserted ts old.kept) q ≡ true → q < 16384
+  pub fresh : (q : ℕ) → q < start → set.contains (inserted ts old.kept) q ≡ set.contains old.kept q
+
+pub Follows-none : (start : ℕ) (old : Reader) → Follows [] start old old
+Follows-none start old = record {
+  now = refl;
+  jumps = λ small. omega arith;
+  all = omega arith;
+  few = λ few. few;
+  near = λ near. near;
+  fresh = λ q below. refl;
+}
+
+module _ (ts : List ℕ) (start t : ℕ) (old new after : Reader) (f : Follows ts start old new) (below : t < start) (small : t < 16384)
+    (absent : set.contains new.kept t ≡ false) (near : (q : ℕ) → set.contains new.kept q ≡ true → q < 16384) (is : after ≡ record new { jumps = min (new.jumps + 1) (2 ^ 64 - 1) }) where
+  kept : new.kept ≡ old.kept
+  kept = ap (λ (r : Reader). r.kept) f.now
+
+  not_yet : set.contains (inserted ts old.kept) t ≡ false
+  not_yet = f.fresh t below ∙ ap (λ (k : set.FinSet nat_cmp). set.contains k t) (sym kept) ∙ absent
+
+  len : set.len (inserted (ts ++ t ∷ []) old.kept) ≡ set.len (inserted ts old.kept) + 1
+  len = ap set.len (inserted-push ts t old.kept) ∙ set.len-insert nat_cmp_total (inserted ts old.kept) t ∙ cond-false (set.contains (inserted ts old.kept) t) _ _ not_yet
+
+  has : (q : ℕ) → set.contains (inserted (ts ++ t ∷ []) old.kept) q ≡ (eq_by_cmp nat_cmp q t || set.contains (inserted ts old.kept) q)
+  has q = ap (λ (k : set.FinSet nat_cmp). set.contains k q) (inserted-push ts t old.kept) ∙ set.contains-insert nat_cmp_total (inserted ts old.kept) t q
+
+  near_all : ((q : ℕ) → set.contains old.kept q ≡ true → q < 16384) → (q : ℕ) → set.contains (inserted (ts ++ t ∷ []) old.kept) q ≡ true → q < 16384
+  near_all near_old q one = go (eq_by_cmp nat_cmp q t) refl (sym (has q) ∙ one) where
+    go : (b : Bool) → eq_by_cmp nat_cmp q t ≡ b → (b || set.contains (inserted ts old.kept) q) ≡ true → q < 16384
+    go true equal all = omega (arith, exact_unsigned q t (equal_is (nat_cmp q t) equal))
+    go false differ all = f.near near_old q all
+
+  few_all : set.len (inserted (ts ++ t ∷ []) old.kept) ≤ 16384
+  few_all = few_below 16384 (inserted (ts ++ t ∷ []) old.kept) (near_all (subst (λ (k : set.FinSet nat_cmp). (q : ℕ) → set.contains k q ≡ true → q < 16384) kept near))
+
+  fresh_all : (q : ℕ) → q < t → set.contains (inserted (ts ++ t ∷ []) old.kept) q ≡ set.contains old.kept q
+  fresh_all q less = has q ∙ go (eq_by_cmp nat_cmp q t) refl where
+    go : (b : Bool) → eq_by_cmp nat_cmp q t ≡ b → (b || set.contains (inserted ts old.kept) q) ≡ set.contains old.kept q
+    go true equal = absurd (omega (arith, exact_unsigned q t (equal_is (nat_cmp q t) equal)))
+    go false differ = f.fresh q (omega arith)
+
+  pub Follows-push : Follows (ts ++ t ∷ []) t old after
+  Follows-push = record {
+    now = is ∙ ap (λ (r : Reader). record r { jumps = min (new.jumps + 1) (2 ^ 64 - 1) }) f.now ∙ ap (λ (j : ℕ). record old { jumps = j }) (sym (ap (λ (r : Reader). r.jumps) is));
+    jumps = λ fits. omega (arith, ap (λ (r : Reader). r.jumps) is, f.jumps (omega (arith, length-append ts (t ∷ []))), length-append ts (t ∷ []));
+    all = omega (arith, len, f.all, length-append ts (t ∷ []));
+    few = λ few. few_all;
+    near = near_all;
+    fresh = fresh_all;
+  }
+
+-- a read that followed pointers ends: with all of them kept, or with a refusal
+pub counted_after : (ts : List ℕ) (old new : Reader) → Followed ts old new → IsCounted old → (last : Reader) → last.jumps ≡ new.jumps → last.kept ≡ inserted ts old.kept → IsCounted last
+counted_after ts old new f counted last jumps kept =
+    let few = f.few counted.few in
+    let raised = f.jumps (omega (arith, counted.each, few, f.all)) in
+    let len = ap set.len kept in
+    record { each = omega (arith, jumps, raised, counted.each, len, f.all); few = omega (arith, len, few) }
+
+pub counted_refused : (ts : List ℕ) (old new : Reader) → Followed ts old new → IsCounted old → new.jumps ≤ 16384
+counted_refused ts old new f counted =
+    let few = f.few counted.few in
+    omega (arith, f.jumps (omega (arith, counted.each, few, f.all)), counted.each, few, f.all)
