@@ -13,6 +13,9 @@ ghost use Rattle.op.specs.declared.header.Header.{Header as WrittenHeader};
 use crate::message::Message;
 use base::{BinEncoder, ProtoError};
 
+/// The bytes that a new message has room for at first: as many as fit a datagram (RFC 1035, 4.2.1).
+const ROOM: usize = 512;
+
 impl Message {
     /// Writes the message behind what the encoder holds: a header, the questions, answers, authorities and additional
     /// records, EDNS and the signature (RFC 1035, 4.1).
@@ -54,7 +57,7 @@ impl Message {
         ensures emitted { IfOk result (λ bytes. EmittedNew (message_value self.now) 65535 bytes.items) }
         ensures left { IfErr result (λ e. (e ≡ ProtoError.Memory) ⊎ LeavesNew (message_value self.now) 65535 e) }
     {
-        let mut buffer = Vec::new(*self.queries.allocator());
+        let mut buffer = Vec::with_capacity(*self.queries.allocator(), ROOM)?;
         {
             let mut encoder = BinEncoder::new(&mut buffer);
             self.emit(&mut encoder)?;

@@ -22,6 +22,9 @@ use base_data::TSIG;
 use rr::Record;
 use std::alloc::Global;
 
+/// How many bytes the shortest record has (RFC 1035, 3.2.1).
+const SHORTEST: usize = 11;
+
 impl Message {
     /// Reads `count` questions, one behind the other (RFC 1035, 4.1.2).
     ///
@@ -67,6 +70,10 @@ impl Message {
         ensures counts { Counts decoder.old decoder.new result }
     {
         let mut section = Section::new(decoder.allocator());
+        // a count that lies takes no more room than the bytes that are left could fill
+        if count > 2 {
+            section.reserve(count.min(decoder.len() / SHORTEST))?;
+        }
         for _ in 0..count {
             let next = Record::read(decoder)?;
             section.take(decoder.allocator(), next, is_additional, op_code)?;

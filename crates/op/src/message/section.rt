@@ -39,6 +39,15 @@ impl Section {
         }
     }
 
+    /// Makes room for as many records more. Refused for want of memory, with the section as it was.
+    pub(crate) fn reserve(&mut self, count: usize) -> Result<(), DecodeError>
+        ensures same { section_value self.new ≡ section_value self.old }
+        ensures only { IsOkUnless result DecodeError.Memory }
+    {
+        self.records.reserve(count)?;
+        Ok(())
+    }
+
     /// Takes a record that was read, if it may stand behind those that were read before.
     ///
     /// Refused with the first test that it fails, and for want of memory.

@@ -5,7 +5,7 @@ use Rattle.op.proofs.message.Message.read_section.Goals as goal
 
 pub returns-in_err-next-clause-read : goal.returns-in_err-next-clause-read
 returns-in_err-next-clause-read c =
-    let p = err_from_is_err_and c.from_residual.result c.from_residual.ensures.1 in
+    let p = err_from_is_err_and c.from_residual-in_err-next.result c.from_residual-in_err-next.ensures.1 in
     let at = c.loop.decoder in
     rw (p.1, p.2) (takes_unread c.args.is_additional c.args.op_code c.args.count c.loop.counter c.args.decoder.now.bytes at.bytes
           c.args.decoder.now.index at.index (section_value c.loop.section) c.in_err-next.field-0.0 c.loop-test.true c.in_err-next.ensures.read c.loop.invariant.takes)
