@@ -144,7 +144,8 @@ impl BinDecodable for Name {
     ghost read_at = { name_at };
 
     /// Reads an absolute name at the decoder's place, its pointers followed, and moves behind it
-    /// (RFC 1035, 4.1.4). Grows memory once, and not at all for the root.
+    /// (RFC 1035, 4.1.4). Grows memory once for the name, unless it is the root, and to keep the labels of each pointer
+    /// target that it follows. A target that is kept already ends the walk.
     ///
     /// Refused with `InsufficientBytes` where the buffer ends inside a piece of the name; with `BadName`
     /// where the top bits of a byte are 01 or 10, where a pointer doesn't go below the start of its piece,
