@@ -1,21 +1,23 @@
 -- The offsets that are kept, as a set, and how many pointers are followed.
 use Rattle.std.proofs.Common.{◌≡◌, ℕ, zero, suc, ◌+◌, ◌-◌, ◌^◌, ◌<◌, ◌≤◌, inl, inr, Bool, true, false, cond, List, [], ◌∷◌, ◌++◌, length, refl, ap, sym, ◌∙◌, subst, arith, length-append}
-use Rattle.std.specs.Prelude.{Option, Some, None, Vec, is_some, min, ◌||◌, ◌&&◌, not}
+use Rattle.std.specs.Prelude.{Option, Some, None, Vec, is_some, min, map, nat_eq, ◌==◌, ◌||◌, ◌&&◌, not}
 use Rattle.std.specs.BTreeMap.{BTreeMap, keys, get, Updates, is_at}
-use Rattle.std.specs.Cmp.{nat_cmp_total, eq_by_cmp_equiv}
+use Rattle.std.specs.Cmp.{nat_cmp_total, eq_by_cmp_equiv, unsigned_ties}
 use Rattle.std.specs.FinSet as set
 use Rattle.std.specs.FinSet.{nat_cmp-IsAntisymmetric}
 use Rattle.std.specs.List.{list_any}
 use Rattle.std.specs.Map.{lookup, keys_of}
 use Rattle.std.specs.Ordering.{nat_cmp, is_eq, eq_by_cmp}
 use Rattle.std.specs.declared.alloc.Global.{Global}
-use Rattle.std.proofs.lemmas.Bool.{cases_Bool, cond-true, cond-false, false≢true}
+use Rattle.std.proofs.lemmas.Bool.{cases_Bool, cond-true, cond-false, eqb-true, false≢true}
+use Rattle.std.proofs.lemmas.List.Folds.{list_any-append}
 use Rattle.std.proofs.lemmas.Map.Lookups.{exact_unsigned}
-use Rattle.base.specs.Kept.{AreKept}
+use Rattle.base.specs.Kept.{AreKept, ArePlain, targets_of}
 use Rattle.std.specs.Borrow.{Bor}
 use Rattle.std.specs.Option.{option_copied}
 use Rattle.std.specs.declared.cmp.Ordering.{Ordering}
 use Rattle.std.specs.declared.cmp.Ordering.TheVariants.{Less, Equal, Greater}
+use Rattle.base.specs.declared.wire.plain.Plain.{Plain}
 use Rattle.base.specs.Counts.{IsCounted}
 use Rattle.base.specs.Passed.{inserted, Followed}
 use Rattle.base.specs.Reader.{Reader}
@@ -36,18 +38,65 @@ some_or : {X : Type 0} (b : Bool) (v : X) (o : Option X) → is_some (cond b (So
 some_or true v o = refl
 some_or false v o = refl
 
-pub kept_inserted : (m n : BTreeMap ℕ (Vec ℕ Global)) (t : ℕ) (v : Vec ℕ Global) → Updates nat_cmp m n t (Some v) → set.from_list {R = nat_cmp} (keys n) ≡ set.insert (set.from_list (keys m)) t
-kept_inserted m n t v h = set.same_set nat_cmp_total nat_cmp-IsAntisymmetric _ _ (λ q.
-    contains_kept n q ∙ ap is_some (h.0 q) ∙ some_or (is_at (nat_cmp t) q) v (get nat_cmp m q)
-    ∙ ap (λ (b : Bool). b || is_some (get nat_cmp m q)) ((eq_by_cmp_equiv nat_cmp_total).symm t q)
-    ∙ ap (λ (b : Bool). eq_by_cmp nat_cmp q t || b) (sym (contains_kept m q))
-    ∙ sym (set.contains-insert nat_cmp_total (set.from_list (keys m)) t q))
+-- whether an offset is among the first ones
+abbrev pub among : List Plain → ℕ → Bool
+among ps q = list_any (λ p. p.target == q) ps
 
-pub kept_near : (bytes : List ℕ) (m : BTreeMap ℕ (Vec ℕ Global)) → AreKept bytes m → (q : ℕ) → set.contains (set.from_list {R = nat_cmp} (keys m)) q ≡ true → q < 16384
-kept_near bytes m are q is = by_value (get nat_cmp m q) refl (sym (contains_kept m q) ∙ is) where
+any_target : (ps : List Plain) (q : ℕ) → list_any (λ y. nat_eq y q) (map (λ p. p.target) ps) ≡ among ps q
+any_target [] q = refl
+any_target (p ∷ ps) q = ap (λ (b : Bool). nat_eq p.target q || b) (any_target ps q)
+
+pub contains_all : (ps : List Plain) (m : BTreeMap ℕ (Vec ℕ Global)) (q : ℕ) → set.contains (targets_of ps m) q ≡ (among ps q || is_some (get nat_cmp m q))
+contains_all ps m q = set.contains-from_list_nat (map (λ (p : Plain). p.target) ps ++ keys m) q ∙ list_any-append (λ (y : ℕ). nat_eq y q) (map (λ (p : Plain). p.target) ps) (keys m)
+    ∙ ap (λ (b : Bool). b || list_any (λ y. nat_eq y q) (keys m)) (any_target ps q)
+    ∙ ap (λ (b : Bool). among ps q || b) (sym (set.contains-from_list_nat (keys m) q) ∙ contains_kept m q)
+
+-- of three tests, one in front
+in_front : (a b c : Bool) → (a || (b || c)) ≡ (b || (a || c))
+in_front true true c = refl
+in_front true false c = refl
+in_front false true c = refl
+in_front false false c = refl
+
+moved : (a b c : Bool) → ((a || (b || false)) || c) ≡ (b || (a || c))
+moved true true c = refl
+moved true false c = refl
+moved false true c = refl
+moved false false c = refl
+
+pub plain_inserted : (ps : List Plain) (m : BTreeMap ℕ (Vec ℕ Global)) (p : Plain) → targets_of (ps ++ p ∷ []) m ≡ set.insert (targets_of ps m) p.target
+plain_inserted ps m p = set.same_set nat_cmp_total nat_cmp-IsAntisymmetric _ _ (λ q.
+    contains_all (ps ++ p ∷ []) m q
+    ∙ ap (λ (b : Bool). b || is_some (get nat_cmp m q)) (list_any-append (λ (x : Plain). x.target == q) ps (p ∷ []))
+    ∙ moved (among ps q) (p.target == q) (is_some (get nat_cmp m q))
+    ∙ ap (λ (b : Bool). b || (among ps q || is_some (get nat_cmp m q))) (unsigned_ties p.target q ∙ (eq_by_cmp_equiv nat_cmp_total).symm p.target q)
+    ∙ ap (λ (b : Bool). eq_by_cmp nat_cmp q p.target || b) (sym (contains_all ps m q))
+    ∙ sym (set.contains-insert nat_cmp_total (targets_of ps m) p.target q))
+
+pub kept_inserted : (ps : List Plain) (m n : BTreeMap ℕ (Vec ℕ Global)) (t : ℕ) (v : Vec ℕ Global) → Updates nat_cmp m n t (Some v) → targets_of ps n ≡ set.insert (targets_of ps m) t
+kept_inserted ps m n t v h = set.same_set nat_cmp_total nat_cmp-IsAntisymmetric _ _ (λ q.
+    contains_all ps n q ∙ ap (λ (b : Bool). among ps q || b) (ap is_some (h.0 q) ∙ some_or (is_at (nat_cmp t) q) v (get nat_cmp m q))
+    ∙ in_front (among ps q) (is_at (nat_cmp t) q) (is_some (get nat_cmp m q))
+    ∙ ap (λ (b : Bool). b || (among ps q || is_some (get nat_cmp m q))) ((eq_by_cmp_equiv nat_cmp_total).symm t q)
+    ∙ ap (λ (b : Bool). eq_by_cmp nat_cmp q t || b) (sym (contains_all ps m q))
+    ∙ sym (set.contains-insert nat_cmp_total (targets_of ps m) t q))
+
+plain_near : (bytes : List ℕ) (ps : List Plain) → ArePlain bytes ps → (q : ℕ) → among ps q ≡ true → q < 16384
+plain_near bytes [] are q is = absurd (false≢true is)
+plain_near bytes (p ∷ ps) are q is = go (plain_near bytes ps (λ k d inside. are (suc k) d (omega arith)) q) (p.target == q) refl is where
+  go : (among ps q ≡ true → q < 16384) → (b : Bool) → (p.target == q) ≡ b → (b || among ps q) ≡ true → q < 16384
+  go rest true same all = omega (arith, eqb-true p.target q same, (are 0 p (omega arith)).kept.near)
+  go rest false differ all = rest all
+
+pub kept_near : (bytes : List ℕ) (ps : List Plain) (m : BTreeMap ℕ (Vec ℕ Global)) → ArePlain bytes ps → AreKept bytes m → (q : ℕ) → set.contains (targets_of ps m) q ≡ true → q < 16384
+kept_near bytes ps m plain are q is = either (among ps q) refl (sym (contains_all ps m q) ∙ is) where
   by_value : (o : Option (Vec ℕ Global)) → get nat_cmp m q ≡ o → is_some o ≡ true → q < 16384
   by_value None at some = absurd (false≢true some)
   by_value (Some v) at some = (are q v at).near
+
+  either : (b : Bool) → among ps q ≡ b → (b || is_some (get nat_cmp m q)) ≡ true → q < 16384
+  either true at has = plain_near bytes ps plain q at
+  either false at has = by_value (get nat_cmp m q) refl has
 
 pub is_some-copied : {X : Type 0} (o : Option (Bor X)) → is_some (option_copied o) ≡ is_some o
 is_some-copied None = refl

@@ -26,6 +26,7 @@ pub mod Suffixes
 pub mod TextFaults
 pub mod TokenList
 pub mod Tokens
+pub mod Trail
 pub mod Ttl
 pub mod Wire
 pub mod Words

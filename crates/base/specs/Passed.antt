@@ -2,7 +2,7 @@
 use Rattle.std.specs.Prelude.{◌≡◌, ℕ, ◌+◌, ◌^◌, ◌<◌, ◌≤◌, List, [], ◌∷◌, length, drop, map, All}
 use Rattle.std.specs.FinSet as set
 use Rattle.std.specs.Ordering.{nat_cmp}
-use Rattle.base.specs.declared.name.reading.Passed.{Passed}
+use Rattle.base.specs.declared.name.trail.Passed.{Passed}
 use Rattle.base.specs.Kept.{IsKept}
 use Rattle.base.specs.Reader.{Reader}
 

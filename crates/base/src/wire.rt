@@ -8,6 +8,7 @@ pub mod encoder;
 pub mod many;
 mod numbers;
 pub mod place;
+pub(crate) mod plain;
 pub mod sized;
 pub mod suffix;
 pub mod suffix_table;

@@ -9,6 +9,7 @@ ghost use Rattle.base.specs.Reading.{Fails};
 
 use crate::error::DecodeError;
 use crate::name::Name;
+use crate::name::trail::{Passed, Trail};
 use crate::wire::{BinDecodable, BinDecoder};
 
 /// The bytes of the longest name (RFC 1035, 2.3.4).
@@ -56,13 +57,6 @@ fn part_of(buffer: &[u8], at: usize) -> Result<Part, DecodeError>
     Ok(Part::Pointer(256 * u16::from(first - 192) + u16::from(buffer[at + 1])))
 }
 
-/// A pointer that was followed: the offset that it led to, and how many bytes of labels stand before those there.
-#[derive(Drop)]
-struct Passed {
-    target: u16,
-    from: usize,
-}
-
 /// Gathers the labels of the name at the decoder's place, each with its length before it, in `room`, and the pointers
 /// that were followed. Answers how many bytes the labels are, and the place behind the name.
 fn gather(
@@ -70,19 +64,19 @@ fn gather(
     first: usize,
     decoder: &mut BinDecoder<'_>,
     room: &mut [u8; ROOM],
-    passed: &mut Vec<Passed>,
+    passed: &mut Trail,
 ) -> Result<(usize, usize), DecodeError>
     requires same { buffer.now ≡ decoder.old.bytes }
     requires inside { first ≤ length buffer.now }
-    requires none { passed.old.items ≡ [] }
+    requires none { passed.old ≡ [] }
     ensures read { MatchResult result
         (λ r. labels_at buffer.now first first 0 ≡ Ok (labels_of (take r.0 room.new), r.1))
         (λ e. Fails e (labels_at buffer.now first first 0)) }
     ensures used { IfOk result (λ r. r.0 ≤ 254) }
     ensures end { IfOk result (λ r. r.1 ≤ length buffer.now) }
     ensures wire { IfOk result (λ r. IsWire (take r.0 room.new)) }
-    ensures kept { IfOk result (λ r. AreSpelled buffer.now (take r.0 room.new) passed.new.items) }
-    ensures followed { Followed (targets passed.new.items) decoder.old decoder.new }
+    ensures kept { IfOk result (λ r. AreSpelled buffer.now (take r.0 room.new) passed.new) }
+    ensures followed { Followed (targets passed.new) decoder.old decoder.new }
 {
     let mut used = 0;
     let mut start = first;
@@ -123,19 +117,16 @@ fn gather(
 }
 
 /// Keeps the labels behind the pointers that were followed.
-fn keep_all(
-    decoder: &mut BinDecoder<'_>,
-    labels: &[u8],
-    passed: &[Passed],
-) -> Result<(), DecodeError>
+fn keep_all(decoder: &mut BinDecoder<'_>, labels: &[u8], passed: &Trail) -> Result<(), DecodeError>
     requires { AreSpelled decoder.old.bytes labels.now passed.now }
     ensures ok { OnOk result (decoder.new ≡ record decoder.old { kept = inserted (targets passed.now) decoder.old.kept }) }
     ensures err { OnErr result (decoder.new.jumps ≡ decoder.old.jumps) }
     ensures only { IsOkUnless result DecodeError.Memory }
 {
-    for pointer in passed {
-        let bytes = Vec::from_slice(decoder.allocator(), &labels[pointer.from..])?;
-        decoder.keep(pointer.target, bytes)?;
+    for i in 0..passed.len() {
+        if let Some(pointer) = passed.at(i) {
+            decoder.keep(pointer.target, &labels[pointer.from..])?;
+        }
     }
     Ok(())
 }
@@ -153,7 +144,7 @@ impl BinDecodable for Name {
     #[tactic(auto, unfolding(crate::specs::Names::name_at))]
     fn read(decoder: &mut BinDecoder<'_>) -> Result<Name, DecodeError> {
         let mut room = [0; ROOM];
-        let mut passed = Vec::new(decoder.allocator());
+        let mut passed = Trail::new(decoder.allocator());
         let (used, end) = gather(
             decoder.buffer(),
             decoder.index(),

@@ -1,17 +1,22 @@
 //! Reads a message's bytes.
 
-ghost use Rattle.std.specs.Prelude.{◌≡◌, ℕ, true, ◌+◌, ◌-◌, ◌^◌, ◌<◌, ◌≤◌, length, min, nat_le, is_some, IfSome, OnOk, OnErr, IsOkUnless};
+ghost use Rattle.std.specs.Prelude.{◌≡◌, ℕ, true, ◌+◌, ◌-◌, ◌^◌, ◌<◌, ◌≤◌, length, min, nat_le, is_some, IfSome, IsTrue, OnOk, OnErr, IsOkUnless};
 ghost use Rattle.std.specs.FinSet as set;
 ghost use Rattle.std.specs.Int.{w16, w32};
+ghost use Rattle.std.specs.List.{slice_range};
 ghost use Rattle.base.specs.Counts.{Counts};
 ghost use Rattle.base.specs.Kept.{IsKept};
 ghost use Rattle.base.specs.Reader.{begun};
 ghost use Rattle.base.specs.Reading.{Reads, byte_at, bytes_at, number_at};
 
 use crate::error::DecodeError;
+use crate::wire::plain::Plain;
 use std::alloc::Global;
 use std::collections::BTreeMap;
 use std::marker::Model;
+
+/// How many targets are looked up one by one.
+const FIRST: usize = 16;
 
 /// Reads values one by one from a buffer, which a name in it may point back into.
 #[derive(Drop)]
@@ -19,25 +24,25 @@ pub struct BinDecoder<'a> {
     alloc: Global,
     buffer: &'a [u8],
     index: usize,
-    /// The labels at each offset that a pointer led to, each with its length before it.
-    kept: BTreeMap<u16, Vec<u8>>,
+    /// The offsets that pointers led to where the labels stand in the buffer as they are, the first of these.
+    plain: Vec<Plain>,
+    /// The labels at each other offset that a pointer led to, each with its length before it.
+    others: BTreeMap<u16, Vec<u8>>,
     jumps: usize,
 }
 
 impl<'a> Model for BinDecoder<'a> {
     ghost use Rattle.std.specs.Prelude.{◌≤◌, length};
-    ghost use Rattle.std.specs.BTreeMap.{keys};
-    ghost use Rattle.std.specs.FinSet as set;
     ghost use Rattle.base.specs.Reader.{Reader, reader_code};
-    ghost use Rattle.base.specs.Kept.{AreKept};
+    ghost use Rattle.base.specs.Kept.{AreKept, ArePlain, targets_of};
 
     ghost Value = { Reader };
 
     ghost coded = { reader_code };
 
-    ghost view = { λ d. record { bytes = d.buffer.now; index = d.index; kept = set.from_list (keys d.kept); jumps = d.jumps } };
+    ghost view = { λ d. record { bytes = d.buffer.now; index = d.index; kept = targets_of d.plain.items d.others; jumps = d.jumps } };
 
-    ghost invariant = { λ d. (d.index ≤ length d.buffer.now) × AreKept d.buffer.now d.kept };
+    ghost invariant = { λ d. (d.index ≤ length d.buffer.now) × (ArePlain d.buffer.now d.plain.items × AreKept d.buffer.now d.others) };
 }
 
 impl<'a> BinDecoder<'a> {
@@ -49,7 +54,8 @@ impl<'a> BinDecoder<'a> {
             alloc,
             buffer,
             index: 0,
-            kept: BTreeMap::new(alloc),
+            plain: Vec::new(alloc),
+            others: BTreeMap::new(alloc),
             jumps: 0,
         }
     }
@@ -104,17 +110,31 @@ impl<'a> BinDecoder<'a> {
         ensures near { (q : ℕ) → set.contains self.now.kept q ≡ true → q < 16384 }
         ensures spelled { IfSome result (λ labels. IsKept self.now.bytes target labels.now) }
     {
-        self.kept.get(&target).map(|labels| labels.as_slice())
+        for plain in &self.plain {
+            if plain.target == target {
+                let start = usize::from(target);
+                return Some(&self.buffer[start..start + usize::from(plain.len)]);
+            }
+        }
+        self.others.get(&target).map(|labels| labels.as_slice())
     }
 
     /// Keeps the labels at an offset that a pointer led to, each with its length before it.
-    pub(crate) fn keep(&mut self, target: u16, labels: Vec<u8>) -> Result<(), DecodeError>
-        requires { IsKept self.old.bytes target labels.items }
+    pub(crate) fn keep(&mut self, target: u16, labels: &[u8]) -> Result<(), DecodeError>
+        requires { IsKept self.old.bytes target labels.now }
         ensures ok { OnOk result (self.new ≡ record self.old { kept = set.insert self.old.kept target }) }
         ensures err { OnErr result (self.new ≡ self.old) }
         ensures only { IsOkUnless result DecodeError.Memory }
     {
-        self.kept.insert(target, labels)?;
+        if self.plain.len() < FIRST && stands_at(self.buffer, usize::from(target), labels) {
+            self.plain.push(Plain {
+                target,
+                len: labels.len() as u8,
+            })?;
+            return Ok(());
+        }
+        let labels = Vec::from_slice(self.alloc, labels)?;
+        self.others.insert(target, labels)?;
         Ok(())
     }
 
@@ -193,4 +213,14 @@ impl<'a> BinDecoder<'a> {
         self.index += len;
         Ok(&self.buffer[start..start + len])
     }
+}
+
+/// Whether the labels stand in the buffer at a place.
+fn stands_at(buffer: &[u8], start: usize, labels: &[u8]) -> bool
+    requires { start < 2 ^ 16 }
+    ensures inside { IsTrue result → start + length labels.now ≤ length buffer.now }
+    ensures same { IsTrue result → slice_range buffer.now start (start + length labels.now) ≡ labels.now }
+{
+    let end = start + labels.len();
+    end <= buffer.len() && &buffer[start..end] == labels
 }

@@ -3,7 +3,7 @@ use Rattle.std.proofs.lemmas.Result.{err_from_is_err_and}
 use Rattle.std.proofs.lemmas.Slice.{take-put_mid}
 use Rattle.base.specs.declared.name.reading.Part.TheVariants.{Root, Label, Pointer}
 use Rattle.base.specs.declared.name.reading.Part.{Part}
-use Rattle.base.specs.declared.name.reading.Passed.{Passed}
+use Rattle.base.specs.declared.name.trail.Passed.{Passed}
 use Rattle.base.specs.Kept.{IsKept}
 use Rattle.base.specs.Labels.{IsWire, labels_of}
 use Rattle.base.specs.Passed.{targets}
@@ -72,7 +72,7 @@ parts-preserved-in-Label c =
     let gone = next ∙ ap (λ (xs : List ℕ). take used room ++ xs) copied in
     record {
       gathers = gathers_label _ _ _ _ _ _ _ _ gathers c.in-Label.len size _ is (omega arith) (omega arith) gone;
-      tails = All-weaker _ (Tail buffer c.parts.start (at + size) (used + size) _) (λ p tail. Tail-label buffer c.parts.start at used (take used room) p c.in-Label.len size _ is (omega arith) (omega arith) (omega (arith, gathers.len)) gone tail) c.parts.passed.items c.parts.invariant.tails;
+      tails = All-weaker _ (Tail buffer c.parts.start (at + size) (used + size) _) (λ p tail. Tail-label buffer c.parts.start at used (take used room) p c.in-Label.len size _ is (omega arith) (omega arith) (omega (arith, gathers.len)) gone tail) c.parts.passed c.parts.invariant.tails;
       follows = c.parts.invariant.follows;
     }
 
@@ -92,14 +92,14 @@ parts-preserved c =
     let bytes = take used c.parts.room in
     let g = c.parts.invariant.gathers in
     let one : Passed = record { target = t; from = used } in
-    let items : c.push.new.self.items ≡ c.parts.passed.items ++ one ∷ [] = c.in_ok-push-in-Pointer.ensures.items in
-    let more : targets c.push.new.self.items ≡ targets c.parts.passed.items ++ t ∷ [] = ap targets items ∙ map_push (λ (p : Passed). p.target) c.parts.passed.items one in
-    let follows = Follows-push (targets c.parts.passed.items) c.parts.start t c.args.decoder.now c.parts.decoder c.count_jump.new.self c.parts.invariant.follows below small absent c.kept.ensures.near c.count_jump.ensures in
+    let items : c.push.new.self ≡ c.parts.passed ++ one ∷ [] = c.in_ok-push-in-Pointer.ensures.ok in
+    let more : targets c.push.new.self ≡ targets c.parts.passed ++ t ∷ [] = ap targets items ∙ map_push (λ (p : Passed). p.target) c.parts.passed one in
+    let follows = Follows-push (targets c.parts.passed) c.parts.start t c.args.decoder.now c.parts.decoder c.count_jump.new.self c.parts.invariant.follows below small absent c.kept.ensures.near c.count_jump.ensures in
     let P = Tail c.args.buffer.now t t used bytes in
-    let old = All-weaker _ P (λ p tail. Tail-pointer c.args.buffer.now c.parts.start c.parts.at used bytes p t is below tail) c.parts.passed.items c.parts.invariant.tails in
+    let old = All-weaker _ P (λ p tail. Tail-pointer c.args.buffer.now c.parts.start c.parts.at used bytes p t is below tail) c.parts.passed c.parts.invariant.tails in
     rw c.from-start.ensures (record {
       gathers = rw c.unwrap_or-behind.ensures (gathers_pointer _ _ _ _ _ _ _ _ g t is below);
-      tails = All-same P _ _ items (All-push P c.parts.passed.items one old (Tail-new c.args.buffer.now t used bytes (omega (arith, g.low)) small (omega (arith, g.len)) g.few));
+      tails = All-same P _ _ items (All-push P c.parts.passed one old (Tail-new c.args.buffer.now t used bytes (omega (arith, g.low)) small (omega (arith, g.len)) g.few));
       follows = subst (λ (ts : List ℕ). Follows ts t c.args.decoder.now c.count_jump.new.self) (sym more) follows;
     })
 
@@ -153,9 +153,9 @@ returns-in-Some-clause-kept c =
     let copied = c.copy_from_slice-in-Some.ensures.after in
     let next = take-put_mid used (used + length items - used) room c.copy_from_slice-in-Some.new.self (used + length items) (omega (arith, ap length copied)) (omega (arith, ap length copied, c.parts.invariant.gathers.len, length-take used room)) in
     let whole = next ∙ ap (λ (xs : List ℕ). take used room ++ xs) copied in
-    All-weaker _ (Ends c.args.buffer.now _) (λ p tail. Tail-kept c.args.buffer.now c.parts.start c.parts.at used (take used room) p c.in-Pointer.target items _ is (omega arith) (kept_is _ _ _ _ bytes c.in-Some.ensures.spelled) (omega arith) whole (omega (arith, c.parts.invariant.gathers.len)) tail) c.parts.passed.items c.parts.invariant.tails
+    All-weaker _ (Ends c.args.buffer.now _) (λ p tail. Tail-kept c.args.buffer.now c.parts.start c.parts.at used (take used room) p c.in-Pointer.target items _ is (omega arith) (kept_is _ _ _ _ bytes c.in-Some.ensures.spelled) (omega arith) whole (omega (arith, c.parts.invariant.gathers.len)) tail) c.parts.passed c.parts.invariant.tails
 
 pub returns-in-Root-clause-kept : goal.returns-in-Root-clause-kept
 returns-in-Root-clause-kept c =
     let is : part_at c.args.buffer.now c.parts.at ≡ Ok Root = cc (c.part_of.ensures.value, c.in_ok-part_of.was, c.in-Root.is) in
-    All-weaker _ (Ends c.args.buffer.now (take c.parts.used c.parts.room)) (λ p tail. Tail-root c.args.buffer.now c.parts.start c.parts.at c.parts.used (take c.parts.used c.parts.room) p is (omega (arith, c.parts.invariant.gathers.len)) tail) c.parts.passed.items c.parts.invariant.tails
+    All-weaker _ (Ends c.args.buffer.now (take c.parts.used c.parts.room)) (λ p tail. Tail-root c.args.buffer.now c.parts.start c.parts.at c.parts.used (take c.parts.used c.parts.room) p is (omega (arith, c.parts.invariant.gathers.len)) tail) c.parts.passed c.parts.invariant.tails

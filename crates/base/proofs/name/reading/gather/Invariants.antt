@@ -9,8 +9,8 @@ use Rattle.base.proofs.name.reading.gather.Given as goal
 abbrev pub invariant-parts : goal.invariant-parts
 invariant-parts l = record {
   gathers : Gathers l.buffer l.first 0 l.start l.at l.used (take l.used l.room) l.end;
-  tails : All (Tail l.buffer l.start l.at l.used (take l.used l.room)) l.passed.items;
-  follows : Follows (targets l.passed.items) l.start l.fn.decoder l.decoder;
+  tails : All (Tail l.buffer l.start l.at l.used (take l.used l.room)) l.passed;
+  follows : Follows (targets l.passed) l.start l.fn.decoder l.decoder;
 }
 
 abbrev pub decreases-parts : goal.decreases-parts
