@@ -171,7 +171,8 @@ module _ (buffer : List ℕ) (first start at used : ℕ) (bytes : List ℕ) (end
       (labels_at-label buffer start at used n part.0 part.1 part.2 part.3 (omega arith)) in
       let here : labels_at buffer start (at + size) (used + size) ≡ read = ap (λ (k : ℕ). labels_at buffer start k (used + size)) step_is ∙ ap (labels_at buffer start (at + 1 + n)) used_is in
       record {
-        so_far = ap (λ (r : Labels). with_front (labels_of next) (ended_at end r)) here ∙ ap (λ (front : List (List ℕ)). with_front front (ended_at end read)) labels ∙ sym (push_front (labels_of bytes) x end read) ∙ sym goes_on;
+        so_far = ap (λ (r : Labels). with_front (labels_of next) (ended_at end r)) here
+            ∙ ap (λ (front : List (List ℕ)). with_front front (ended_at end read)) labels ∙ sym (push_front (labels_of bytes) x end read) ∙ sym goes_on;
         wire = subst IsWire (sym pushed) (IsWire-push bytes x gathers.wire (omega (arith, part.1)) (omega (arith, part.2)) (omega (arith, gathers.len)));
         len = omega (arith, ap length pushed, length-append bytes (length x ∷ x), gathers.len);
         low = gathers.low;

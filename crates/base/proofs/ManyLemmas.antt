@@ -52,15 +52,18 @@ gathers_none read count bytes i =
     let all : count - 0 ≡ count = omega arith in
     record { whole = rw all (front_none (many_at read count bytes i)); same = refl; below = omega arith }
 
-pub gathers_more : {A : Type 0} (read : List ℕ → ℕ → Read A) (n c : ℕ) (first bytes : List ℕ) (start i : ℕ) (items : List A) (x : A) (e : ℕ) → c < n → read bytes i ≡ Ok (x, e) → Gathers read n c first bytes start i items → Gathers read n (c + 1) first bytes start e (items ++ x ∷ [])
+pub gathers_more : {A : Type 0} (read : List ℕ → ℕ → Read A) (n c : ℕ) (first bytes : List ℕ) (start i : ℕ) (items : List A) (x : A) (e : ℕ) → c < n
+    → read bytes i ≡ Ok (x, e) → Gathers read n c first bytes start i items → Gathers read n (c + 1) first bytes start e (items ++ x ∷ [])
 gathers_more read n c first bytes start i items x e below is g = record { whole = sym (many-step read n c bytes i items x e below is) ∙ g.whole; same = g.same; below = omega arith }
 
-pub gathers_all : {A : Type 0} (read : List ℕ → ℕ → Read A) (n c : ℕ) (first bytes : List ℕ) (start i : ℕ) (items : List A) → n ≤ c → Gathers read n c first bytes start i items → many_at read n first start ≡ Ok (items, i)
+pub gathers_all : {A : Type 0} (read : List ℕ → ℕ → Read A) (n c : ℕ) (first bytes : List ℕ) (start i : ℕ) (items : List A) → n ≤ c
+    → Gathers read n c first bytes start i items → many_at read n first start ≡ Ok (items, i)
 gathers_all read n c first bytes start i items done g =
     let none : n - c ≡ 0 = omega arith in
     sym g.whole ∙ rw none (many-end read bytes i items)
 
-pub gathers_fault : {A : Type 0} (read : List ℕ → ℕ → Read A) (n c : ℕ) (first bytes : List ℕ) (start i : ℕ) (items : List A) (f : DecodeError) → c < n → Fails f (read bytes i) → Gathers read n c first bytes start i items → Fails f (many_at read n first start)
+pub gathers_fault : {A : Type 0} (read : List ℕ → ℕ → Read A) (n c : ℕ) (first bytes : List ℕ) (start i : ℕ) (items : List A) (f : DecodeError) → c < n
+    → Fails f (read bytes i) → Gathers read n c first bytes start i items → Fails f (many_at read n first start)
 gathers_fault read n c first bytes start i items f below fails g =
     Fails-through f (read bytes i) (many_at read n first start) (λ is. sym g.whole ∙ many-fault read n c bytes i items f below is) fails
 
@@ -73,7 +76,8 @@ pub record AreMany {A : Type 0} (Word : ℕ → A → ℕ → Type 0) (n i : ℕ
   pub counted : length r.0 ≡ n
 
 -- where each value that is read has its word, values read one behind the other stand back to back
-pub many_stand : {A : Type 0} (Word : ℕ → A → ℕ → Type 0) (read : List ℕ → ℕ → Read A) (bytes : List ℕ) → ((i : ℕ) (r : A × ℕ) → read bytes i ≡ Ok r → Word i r.0 r.1) → (n i : ℕ) (r : List A × ℕ) → many_at read n bytes i ≡ Ok r → AreMany Word n i r
+pub many_stand : {A : Type 0} (Word : ℕ → A → ℕ → Type 0) (read : List ℕ → ℕ → Read A) (bytes : List ℕ)
+    → ((i : ℕ) (r : A × ℕ) → read bytes i ≡ Ok r → Word i r.0 r.1) → (n i : ℕ) (r : List A × ℕ) → many_at read n bytes i ≡ Ok r → AreMany Word n i r
 unfolding many_at
 many_stand Word read bytes stands zero i r is =
     let same : ([], i) ≡ r = cc in
@@ -86,7 +90,8 @@ many_stand Word read bytes stands (suc n) i r is =
     subst (λ x. AreMany Word (suc n) i x) same (record { words = more (stands i first.value first.first) rest.words; counted = omega (arith, rest.counted) })
 
 -- and where each word is read, words that stand back to back are read
-pub many_again : {A : Type 0} (Word : ℕ → A → ℕ → Type 0) (read : List ℕ → ℕ → Read A) (bytes : List ℕ) → ((i : ℕ) (x : A) (e : ℕ) → Word i x e → read bytes i ≡ Ok (x, e)) → (i : ℕ) (xs : List A) (e : ℕ) → BackToBack Word i xs e → many_at read (length xs) bytes i ≡ Ok (xs, e)
+pub many_again : {A : Type 0} (Word : ℕ → A → ℕ → Type 0) (read : List ℕ → ℕ → Read A) (bytes : List ℕ)
+    → ((i : ℕ) (x : A) (e : ℕ) → Word i x e → read bytes i ≡ Ok (x, e)) → (i : ℕ) (xs : List A) (e : ℕ) → BackToBack Word i xs e → many_at read (length xs) bytes i ≡ Ok (xs, e)
 unfolding many_at
 many_again Word read bytes again i [] e none = refl
 many_again Word read bytes again i (x ∷ xs) e (more {j = j} word rest) =

@@ -91,7 +91,13 @@ option_moves B i r is =
     let len = bind_ok (number_at w16 B code.value.1) _ r code.second in
     let text = bind_ok (bytes_at len.value.0 B len.value.1) _ r len.second in
     let end : text.value.1 ≡ r.1 = ap (λ (x : OptionValue × ℕ). x.1) (same_ok text.second) in
-    omega (arith, (number_is w16 B i code.value code.first).behind, (number_is w16 B code.value.1 len.value len.first).behind, (bytes_is len.value.0 B len.value.1 text.value text.first).behind, end) where
+    omega (
+      arith,
+      (number_is w16 B i code.value code.first).behind,
+      (number_is w16 B code.value.1 len.value len.first).behind,
+      (bytes_is len.value.0 B len.value.1 text.value text.first).behind,
+      end,
+    ) where
       same_ok : {A : Type 0} {x y : A} → ◌≡◌ {A = Result A DecodeError} (Ok x) (Ok y) → x ≡ y
       same_ok same = cc
 

@@ -43,8 +43,15 @@ tells_soa B i = tells_same
     let a = n.2 in
     let b = a.2 in
     let c = b.2 in
-    let d = c.2 in
-    ((x.mname, m.0), here_name B i x.mname m.0 m.1 is.1, ((x.rname, n.0), here_name B m.0 x.rname n.0 n.1 is.2, ((x.serial, a.0), a.1, ((x.refresh, b.0), b.1, ((x.retry, c.0), c.1, ((x.expire, d.0), d.1, ((x.minimum, r.1), d.2, refl))))))))
+    let d = c.2 in (
+      (x.mname, m.0),
+      here_name B i x.mname m.0 m.1 is.1,
+      (
+        (x.rname, n.0),
+        here_name B m.0 x.rname n.0 n.1 is.2,
+        ((x.serial, a.0), a.1, ((x.refresh, b.0), b.1, ((x.retry, c.0), c.1, ((x.expire, d.0), d.1, ((x.minimum, r.1), d.2, refl))))),
+      ),
+    ))
 
 -- it has a byte at least, and ends inside the buffer
 pub soa_longer : (x : SOA) (B : List ℕ) (i e : ℕ) → SOAWord x B i e → i < e

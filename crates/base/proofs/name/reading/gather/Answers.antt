@@ -53,7 +53,8 @@ parts-preserved-in-Label c =
     let size = 1 + c.from-size.result in
     let gathers = c.parts.invariant in
     let copied = c.copy_from_slice.ensures.after in
-    let len : length c.copy_from_slice.new.self ≡ size = omega (arith, ap length copied, length-take (at + size - at) (drop at buffer), length-drop at buffer, label_fits buffer at c.in-Label.len is) in
+    let len : length c.copy_from_slice.new.self ≡ size =
+    omega (arith, ap length copied, length-take (at + size - at) (drop at buffer), length-drop at buffer, label_fits buffer at c.in-Label.len is) in
     let next = take-put_mid used (used + size - used) room c.copy_from_slice.new.self (used + size) (omega arith) (omega (arith, gathers.len, length-take used room)) in
     gathers_label _ _ _ _ _ _ _ gathers c.in-Label.len size _ is (omega arith) (omega arith) (next ∙ ap (λ (xs : List ℕ). take used room ++ xs) copied)
 

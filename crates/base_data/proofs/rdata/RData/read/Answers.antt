@@ -20,5 +20,6 @@ returns-else-index-end c =
     let other : c.read_kind.new.decoder.index ≡ c.args.decoder.now.index + c.args.len
     → ⊥ = λ ends. c.if-index-end.false (omega (arith, c.index-in-Ok.ensures.value, ends, c.index.ensures.value, c.from.ensures)) in
     record {
-      read = data_does_not_fill c.args.record_type c.args.len c.args.decoder.now.bytes c.args.decoder.now.index c.in-Ok.rdata c.read_kind.new.decoder.index c.if-len-eq0.false c.in-Ok.ensures.read.0 other;
+      read = data_does_not_fill c.args.record_type c.args.len c.args.decoder.now.bytes c.args.decoder.now.index c.in-Ok.rdata c.read_kind.new.decoder.index
+          c.if-len-eq0.false c.in-Ok.ensures.read.0 other;
     }

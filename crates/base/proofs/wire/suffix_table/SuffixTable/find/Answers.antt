@@ -28,7 +28,8 @@ returns-clause-found c =
     let others : Stored → Type 0 = λ t. t.labels ≢ labels_of c.args.wire.now in
     let first = subst (All others) (take_all c.loop-suffix.suffix-index c.self.inside.first.items (omega arith)) c.loop-suffix.invariant in
     subst (λ (ts : List Stored). MatchOption c.copied.result (All others ts) (λ (offset : ℕ). Any (λ (t : Stored). (t.labels ≡ labels_of c.args.wire.now) × (t.offset ≡ offset)) ts)) c.self.view_is
-    (IsTable-finds (offset_in c.self.inside.index) c.self.inside.first.items c.self.inside.others.items c.args.wire.now c.copied.result first c.self.invariant.behind c.requires (c.copied.ensures ∙ c.get.ensures.value))
+    (IsTable-finds (offset_in c.self.inside.index) c.self.inside.first.items c.self.inside.others.items c.args.wire.now c.copied.result first
+    c.self.invariant.behind c.requires (c.copied.ensures ∙ c.get.ensures.value))
 
 pub returns-clause-near : goal.returns-clause-near
 returns-clause-near c = IsIndexed-near (offset_in c.self.inside.index) c.self.inside.others.items c.args.wire.now c.copied.result c.self.invariant.behind (c.copied.ensures ∙ c.get.ensures.value)

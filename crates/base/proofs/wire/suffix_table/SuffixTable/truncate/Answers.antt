@@ -28,6 +28,7 @@ loop-self-preserved-in-Some c =
 pub invariant_of-self : goal.invariant_of-self
 invariant_of-self c =
     let fits : length c.loop-self.self-inside.others.items ≤ c.args.count - length c.loop-self.self-inside.first.items = omega (arith, c.loop-self.invariant.behind) in
-    IsTable-front (offset_in c.loop-self.self-inside.index) c.args.count c.loop-self.self-inside.first.items c.loop-self.self-inside.others.items c.truncate.new.self.items c.args.self.now c.loop-self.invariant.table
+    IsTable-front (offset_in c.loop-self.self-inside.index) c.args.count c.loop-self.self-inside.first.items c.loop-self.self-inside.others.items
+    c.truncate.new.self.items c.args.self.now c.loop-self.invariant.table
     (subst (AllPairs (λ (s t : Stored). s.offset < t.offset)) c.self.view_is c.self.invariant.rises) (subst (AllPairs (λ (s t : Stored). s.labels ≢ t.labels)) c.self.view_is c.self.invariant.once)
     c.loop-self.invariant.front fits c.truncate.ensures.items

@@ -23,4 +23,5 @@ pub returns-clause-names : goal.returns-clause-names
 returns-clause-names c =
     on_ok_weaker c.emit_bytes.result (λ numbers.
     compressed_soa c.args.self.now
-    (state_of c.args.encoder.now) _ _ _ c.emit.ensures.keeps c.in_ok-emit.ensures.writes c.in_ok-emit.ensures.names c.emit-2.ensures.keeps c.in_ok-emit-2.ensures.writes c.in_ok-emit-2.ensures.names numbers) (written_as c.emit_bytes.result _ _ _ _ c.number_octets.ensures.bytes c.emit_bytes.ensures.state)
+    (state_of c.args.encoder.now) _ _ _ c.emit.ensures.keeps c.in_ok-emit.ensures.writes c.in_ok-emit.ensures.names c.emit-2.ensures.keeps
+    c.in_ok-emit-2.ensures.writes c.in_ok-emit-2.ensures.names numbers) (written_as c.emit_bytes.result _ _ _ _ c.number_octets.ensures.bytes c.emit_bytes.ensures.state)
