@@ -2,6 +2,7 @@ pub mod Cuts
 pub mod DNSClass
 pub mod DecodeError
 pub mod Faults
+pub mod Held
 pub mod Items
 pub mod Keys
 pub mod Labels
@@ -12,6 +13,7 @@ pub mod NameOrder
 pub mod NameOrderLaws
 pub mod NameText
 pub mod Names
+pub mod Octets
 pub mod ParseError
 pub mod ProtoError
 pub mod Reader

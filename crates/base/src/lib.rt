@@ -5,6 +5,7 @@ pub mod dns_class;
 pub mod error;
 pub mod lower_name;
 pub mod name;
+mod octets;
 pub mod record_type;
 pub mod rr_key;
 pub mod text;

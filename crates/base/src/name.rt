@@ -13,6 +13,7 @@ mod reading;
 pub mod round_trip;
 mod writing;
 
+use crate::octets::Octets;
 use std::alloc::{AllocError, Global};
 use std::marker::Model;
 
@@ -22,9 +23,9 @@ use std::marker::Model;
 /// The case of letters is kept. Contracts see the labels from the left, and the flag.
 #[derive(Debug, Drop)]
 pub struct Name {
-    /// The labels from the left, each with its length before it, without a final zero byte.
-    bytes: Vec<u8>,
-    is_fqdn: bool,
+    /// The labels from the left, each with its length before it, without a final zero byte; marked where the name is
+    /// absolute.
+    octets: Octets,
 }
 
 impl Model for Name {
@@ -32,9 +33,9 @@ impl Model for Name {
 
     ghost Value = { NameValue };
 
-    ghost view = { λ n. record { labels = labels_of n.bytes.items; absolute = n.is_fqdn } };
+    ghost view = { λ n. record { labels = labels_of n.octets.items; absolute = n.octets.mark } };
 
-    ghost invariant = { λ n. IsWire n.bytes.items };
+    ghost invariant = { λ n. IsWire n.octets.items };
 }
 
 impl Name {
@@ -43,35 +44,34 @@ impl Name {
         ensures { result ≡ record { labels = []; absolute = true } }
     {
         Name {
-            bytes: Vec::new(alloc),
-            is_fqdn: true,
+            octets: Octets::none(alloc, true),
         }
     }
 
     /// The allocator that the name's labels are in.
     pub fn allocator(&self) -> Global {
-        *self.bytes.allocator()
+        self.octets.allocator()
     }
 
     /// Whether this is the absolute name without labels.
     pub fn is_root(&self) -> bool
         ensures { IsTrue result ↔ (self.now ≡ record { labels = []; absolute = true }) }
     {
-        self.is_fqdn && self.bytes.is_empty()
+        self.octets.mark() && self.octets.as_slice().is_empty()
     }
 
     /// Makes the name absolute, or relative. Its labels stay.
     pub fn set_fqdn(&mut self, is_fqdn: bool)
         ensures { self.new ≡ record self.old { absolute = is_fqdn } }
     {
-        self.is_fqdn = is_fqdn;
+        self.octets.set_mark(is_fqdn);
     }
 
     /// Whether the name is absolute.
     pub fn is_fqdn(&self) -> bool
         ensures { result ≡ self.now.absolute }
     {
-        self.is_fqdn
+        self.octets.mark()
     }
 
     /// How many labels the name has, a label `*` counted too. The root has none.
@@ -117,7 +117,7 @@ impl Name {
         ensures short { length result.now ≤ 254 }
         ensures plain { plain_len self.now.labels ≤ 255 }
     {
-        &self.bytes
+        self.octets.as_slice()
     }
 }
 
@@ -126,8 +126,7 @@ impl Clone for Name {
 
     fn clone(&self) -> Result<Name, AllocError> {
         Ok(Name {
-            bytes: self.bytes.clone()?,
-            is_fqdn: self.is_fqdn,
+            octets: self.octets.clone()?,
         })
     }
 }

@@ -44,7 +44,7 @@ impl Name {
         ensures { IfOk result (λ n. n ≡ lowered self.now) }
     {
         let mut name = self.clone()?;
-        lower_all(&mut name.bytes);
+        name.octets.make_ascii_lowercase();
         Ok(name)
     }
 }
@@ -120,13 +120,6 @@ fn same_in_any_case(left: &[u8], right: &[u8]) -> bool
     ensures { result ≡ same_labels (folded_labels (labels_of left.now)) (folded_labels (labels_of right.now)) }
 {
     left.eq_ignore_ascii_case(right)
-}
-
-/// Puts the ASCII letters of bytes in lower case.
-fn lower_all(bytes: &mut Vec<u8>)
-    ensures { bytes.new.items ≡ map to_ascii_lowercase bytes.old.items }
-{
-    bytes.make_ascii_lowercase();
 }
 
 /// Puts bytes in lower case at the front of `room`.

@@ -10,6 +10,7 @@ ghost use Rattle.base.specs.TextFaults.{Gives};
 
 use crate::error::ParseError;
 use crate::name::Name;
+use crate::octets::Octets;
 use std::alloc::Global;
 
 /// The bytes of the labels of the longest name, each with its length before it (RFC 1035, 2.3.4).
@@ -68,8 +69,7 @@ impl Name {
             return Err(ParseError::BadName);
         };
         Ok(Name {
-            bytes: Vec::from_slice(alloc, &room[..used])?,
-            is_fqdn,
+            octets: Octets::from_front(alloc, &room, used, is_fqdn)?,
         })
     }
 }

@@ -7,6 +7,7 @@ ghost use Rattle.base.specs.Reading.{Fails};
 
 use crate::error::DecodeError;
 use crate::name::Name;
+use crate::octets::Octets;
 use crate::wire::{BinDecodable, BinDecoder};
 
 /// The bytes of the longest name (RFC 1035, 2.3.4).
@@ -106,11 +107,8 @@ impl BinDecodable for Name {
     fn read(decoder: &mut BinDecoder<'_>) -> Result<Name, DecodeError> {
         let mut room = [0; ROOM];
         let (used, end) = gather(decoder.buffer(), decoder.index(), &mut room)?;
-        let bytes = Vec::from_slice(decoder.allocator(), &room[..used])?;
+        let octets = Octets::from_front(decoder.allocator(), &room, used, true)?;
         decoder.move_to(end);
-        Ok(Name {
-            bytes,
-            is_fqdn: true,
-        })
+        Ok(Name { octets })
     }
 }

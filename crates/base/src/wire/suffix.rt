@@ -3,6 +3,7 @@
 ghost use Rattle.std.specs.Prelude.{◌≡◌, ◌<◌, ◌↔◌, IfOk, IsTrue};
 ghost use Rattle.base.specs.Labels.{IsLabelRun, wire_of, labels_of, IsWire};
 
+use crate::octets::Octets;
 use std::alloc::{AllocError, Global};
 use std::marker::Model;
 
@@ -10,7 +11,7 @@ use std::marker::Model;
 #[derive(Drop)]
 pub struct Suffix {
     /// The labels, each with its length before it.
-    labels: Vec<u8>,
+    labels: Octets,
     offset: u16,
 }
 
@@ -34,7 +35,7 @@ impl Suffix {
         ensures { IfOk result (λ suffix. suffix ≡ record { labels = labels_of wire.now; offset = offset }) }
     {
         Ok(Suffix {
-            labels: Vec::from_slice(alloc, wire)?,
+            labels: Octets::from_slice(alloc, wire, false)?,
             offset,
         })
     }

@@ -1,9 +1,10 @@
-use Rattle.std.proofs.Common.{refl, true}
+use Rattle.std.proofs.Common.{ap}
 use Rattle.base.proofs.LabelLemmas.{IsWire-nil, is_root_name}
+use Rattle.base.specs.Octets.{OctetsValue}
 use Rattle.base.proofs.name.Name.root.Goals as goal
 
 pub invariant_of-result : goal.invariant_of-result
-invariant_of-result c = rw c.new.ensures.items IsWire-nil
+invariant_of-result c = rw c.none.ensures IsWire-nil
 
 pub returns : goal.returns
-returns c = is_root_name c.new.result.items true c.new.ensures.items refl
+returns c = is_root_name _ _ (ap (λ (o : OctetsValue). o.items) c.none.ensures) (ap (λ (o : OctetsValue). o.mark) c.none.ensures)
