@@ -1,6 +1,7 @@
 pub mod CharLemmas
 pub mod ClassTexts
 pub mod CompareLemmas
+pub mod CopyLemmas
 pub mod Cutting
 pub mod EscapeLemmas
 pub mod GatherLemmas

@@ -1,6 +1,6 @@
 //! Reads a name (RFC 1035, 4.1.4).
 
-ghost use Rattle.std.specs.Prelude.{◌≡◌, ◌≤◌, length, take, IfOk, MatchResult};
+ghost use Rattle.std.specs.Prelude.{◌≡◌, ◌≤◌, ◌+◌, ◌++◌, length, take, slice_range, IfOk, MatchResult};
 ghost use Rattle.base.specs.Labels.{IsWire, labels_of};
 ghost use Rattle.base.specs.Names.{part_at, labels_at, name_at};
 ghost use Rattle.base.specs.Reading.{Fails};
@@ -15,6 +15,9 @@ const LONGEST: usize = 255;
 
 /// The bytes of its labels, each with its length before it: all but the final zero byte.
 const ROOM: usize = 254;
+
+/// How many bytes are copied at once for a short label.
+const PIECE: usize = 16;
 
 /// What stands at a place of a name.
 #[derive(Drop)]
@@ -54,6 +57,20 @@ fn part_of(buffer: &[u8], at: usize) -> Result<Part, DecodeError>
     Ok(Part::Pointer(256 * u16::from(first - 192) + u16::from(buffer[at + 1])))
 }
 
+/// Copies a label with its length behind what is used of the room. Of a short one more is copied, where there is as much,
+/// since a fixed number of bytes is copied faster.
+fn copy_label(buffer: &[u8], at: usize, size: usize, room: &mut [u8; ROOM], used: usize)
+    requires there { at + size ≤ length buffer.now }
+    requires fits { used + size ≤ 254 }
+    ensures { take (used + size) room.new ≡ take used room.old ++ slice_range buffer.now at (at + size) }
+{
+    if size <= PIECE && used + PIECE <= ROOM && at + PIECE <= buffer.len() {
+        room[used..used + PIECE].copy_from_slice(&buffer[at..at + PIECE]);
+    } else {
+        room[used..used + size].copy_from_slice(&buffer[at..at + size]);
+    }
+}
+
 /// Gathers the labels of the name at a place, each with its length before it, in `room`. Answers how
 /// many bytes they are, and the place behind the name.
 fn gather(buffer: &[u8], first: usize, room: &mut [u8; ROOM]) -> Result<(usize, usize), DecodeError>
@@ -77,7 +94,7 @@ fn gather(buffer: &[u8], first: usize, room: &mut [u8; ROOM]) -> Result<(usize, 
                 if used + size + 1 > LONGEST {
                     return Err(DecodeError::BadName);
                 }
-                room[used..used + size].copy_from_slice(&buffer[at..at + size]);
+                copy_label(buffer, at, size, room, used);
                 used += size;
                 at += size;
             }

@@ -1,6 +1,5 @@
-use Rattle.std.proofs.Common.{rules, ◌≡◌, ℕ, ◌+◌, ◌-◌, ◌≤◌, List, ◌++◌, length, take, drop, Ok, Err, ap, sym, ◌∙◌, arith, length-take, length-drop}
+use Rattle.std.proofs.Common.{◌≡◌, ℕ, ◌+◌, take, Ok, Err, ap, sym, ◌∙◌, arith}
 use Rattle.std.proofs.lemmas.Result.{err_from_is_err_and}
-use Rattle.std.proofs.lemmas.Slice.{take-put_mid}
 use Rattle.base.specs.declared.name.reading.Part.TheVariants.{Root, Label, Pointer}
 use Rattle.base.specs.Labels.{labels_of}
 use Rattle.base.specs.Names.{part_at}
@@ -37,26 +36,15 @@ returns-then-used-size-gt-LONGEST-clause-read c =
     let is : part_at c.args.buffer.now c.parts.at ≡ Ok (Label c.in-Label.len) = cc (c.part_of.ensures, c.in_ok-part_of.was, c.in-Label.is) in
     at_long _ _ _ _ _ _ _ c.parts.invariant c.in-Label.len is (omega arith)
 
-pub slice_bounds-copy_from_slice-end-in-Label : goal.slice_bounds-copy_from_slice-end-in-Label
-slice_bounds-copy_from_slice-end-in-Label c =
+pub copy_label-requires-clause-there : goal.copy_label-requires-clause-there
+copy_label-requires-clause-there c =
     let is : part_at c.args.buffer.now c.parts.at ≡ Ok (Label c.in-Label.len) = cc (c.part_of.ensures, c.in_ok-part_of.was, c.in-Label.is) in
-    let fits : c.parts.at + (1 + c.from-size.result) ≤ length c.args.buffer.now = omega (arith, label_fits c.args.buffer.now c.parts.at c.in-Label.len is) in
-    search rules
+    omega (arith, label_fits c.args.buffer.now c.parts.at c.in-Label.len is)
 
 pub parts-preserved-in-Label : goal.parts-preserved-in-Label
 parts-preserved-in-Label c =
     let is : part_at c.args.buffer.now c.parts.at ≡ Ok (Label c.in-Label.len) = cc (c.part_of.ensures, c.in_ok-part_of.was, c.in-Label.is) in
-    let buffer = c.args.buffer.now in
-    let at = c.parts.at in
-    let used = c.parts.used in
-    let room = c.parts.room in
-    let size = 1 + c.from-size.result in
-    let gathers = c.parts.invariant in
-    let copied = c.copy_from_slice.ensures.after in
-    let len : length c.copy_from_slice.new.self ≡ size =
-    omega (arith, ap length copied, length-take (at + size - at) (drop at buffer), length-drop at buffer, label_fits buffer at c.in-Label.len is) in
-    let next = take-put_mid used (used + size - used) room c.copy_from_slice.new.self (used + size) (omega arith) (omega (arith, gathers.len, length-take used room)) in
-    gathers_label _ _ _ _ _ _ _ gathers c.in-Label.len size _ is (omega arith) (omega arith) (next ∙ ap (λ (xs : List ℕ). take used room ++ xs) copied)
+    gathers_label _ _ _ _ _ _ _ c.parts.invariant c.in-Label.len (1 + c.from-size.result) _ is (omega arith) (omega arith) c.copy_label.ensures
 
 pub returns-then-target-start-clause-read : goal.returns-then-target-start-clause-read
 returns-then-target-start-clause-read c =

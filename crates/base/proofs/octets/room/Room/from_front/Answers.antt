@@ -1,6 +1,5 @@
 use Rattle.std.proofs.Common.{ℕ, List, take, ap, ◌∙◌}
 use Rattle.std.proofs.lemmas.List.{take-take}
-use Rattle.base.specs.Octets.{OctetsValue}
 use Rattle.base.proofs.octets.room.Room.from_front.Goals as goal
 
 pub returns : goal.returns

@@ -1,7 +1,7 @@
 use Rattle.std.proofs.Common.{ℕ, List, take, ap, ◌∙◌}
 use Rattle.std.proofs.lemmas.List.{take-map}
 use Rattle.std.specs.Char.{to_ascii_lowercase}
-use Rattle.base.specs.Octets.{OctetsValue, lower_octets}
+use Rattle.base.specs.Octets.{lower_octets}
 use Rattle.base.proofs.octets.room.Room.make_ascii_lowercase.Goals as goal
 
 pub returns : goal.returns

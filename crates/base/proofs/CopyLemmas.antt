@@ -1,0 +1,28 @@
+-- Copies into a room.
+use Rattle.std.proofs.Common.{◌≡◌, ◌∙◌, ℕ, ◌+◌, ◌-◌, ◌≤◌, List, [], ◌∷◌, ◌++◌, length, take, drop, suc, ap, sym, arith, length-take}
+use Rattle.std.proofs.lemmas.List.{take-take}
+use Rattle.std.proofs.lemmas.Slice.{take-put_mid}
+use Rattle.std.specs.Prelude.{slice_range}
+use borrow.Rule.Slice.PartMut.{put_mid}
+
+-- as many of the first as xs has, and n more
+take_behind : (xs ys : List ℕ) (k n : ℕ) → k ≡ length xs + n → take k (xs ++ ys) ≡ xs ++ take n ys
+take_behind [] ys k n is = ap (λ (j : ℕ). take j ys) (omega arith)
+take_behind (x ∷ xs) ys k n is =
+    let more : k ≡ suc (length xs + n) = omega arith in
+    ap (λ (j : ℕ). take j (x ∷ (xs ++ ys))) more ∙ ap (λ (zs : List ℕ). x ∷ zs) (take_behind xs ys (length xs + n) n (omega arith))
+
+-- what a room begins with where more was copied behind what is used of it
+pub copied_behind : (buffer room copied : List ℕ) (at size piece used : ℕ) → used ≤ length room → length copied ≡ piece → size ≤ piece
+    → copied ≡ slice_range buffer at (at + piece)
+    → take (used + size) (put_mid used (used + piece - used) room copied) ≡ take used room ++ slice_range buffer at (at + size)
+copied_behind buffer room copied at size piece used fits len few is =
+    let whole = put_mid used (used + piece - used) room copied in
+    let front = length-take used room in
+    let some : piece ≡ at + piece - at = omega arith in
+    let same : size ≡ at + size - at = omega arith in
+    sym (take-take (used + size) (used + piece) whole (omega arith))
+    ∙ ap (take (used + size)) (take-put_mid used (used + piece - used) room copied (used + piece) (omega arith) fits)
+    ∙ take_behind (take used room) copied (used + size) size (omega arith)
+    ∙ ap (λ (xs : List ℕ). take used room ++ take size xs) (is ∙ ap (λ (k : ℕ). take k (drop at buffer)) (sym some))
+    ∙ ap (λ (xs : List ℕ). take used room ++ xs) (take-take size piece (drop at buffer) few ∙ ap (λ (k : ℕ). take k (drop at buffer)) same)

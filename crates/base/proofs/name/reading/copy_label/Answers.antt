@@ -1,0 +1,11 @@
+use Rattle.std.proofs.Common.{◌≡◌, ap, arith, ◌+◌, ◌-◌, drop, length, length-take, length-drop}
+use Rattle.base.proofs.CopyLemmas.{copied_behind}
+use Rattle.base.proofs.name.reading.copy_label.Goals as goal
+
+pub returns-then-at-buffer : goal.returns-then-at-buffer
+returns-then-at-buffer c =
+    let copied = c.copy_from_slice.ensures.after in
+    let at = c.args.at in
+    let len : length c.copy_from_slice.new.self ≡ 16 =
+    omega (arith, ap length copied, length-take (at + 16 - at) (drop at c.args.buffer.now), length-drop at c.args.buffer.now) in
+    copied_behind _ _ _ at _ 16 _ (omega arith) len (omega arith) copied
