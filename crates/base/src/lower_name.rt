@@ -36,8 +36,8 @@ impl Model for LowerName {
 }
 
 impl LowerName {
-    /// The name with its ASCII letters in lower case, and its flag. Grows memory once, and not at all for
-    /// a name without labels; refused for want of it.
+    /// The name with its ASCII letters in lower case, and its flag. Grows memory once, and not at all for a name whose
+    /// labels take up to 29 bytes; refused for want of it.
     pub fn new(name: &Name) -> Result<LowerName, AllocError>
         ensures { IfOk result (λ lower. lower ≡ lowered name.now) }
     {

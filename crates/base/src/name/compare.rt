@@ -38,8 +38,8 @@ impl Name {
         cmp_label(self.as_wire(), other.as_wire())
     }
 
-    /// The name with its ASCII letters in lower case. Grows memory once, and not at all for a name without
-    /// labels; refused for want of it.
+    /// The name with its ASCII letters in lower case. Grows memory once, and not at all for a name whose labels take
+    /// up to 29 bytes; refused for want of it.
     pub(crate) fn to_lowercase(&self) -> Result<Name, AllocError>
         ensures { IfOk result (λ n. n ≡ lowered self.now) }
     {

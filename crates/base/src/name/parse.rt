@@ -35,7 +35,7 @@ impl Name {
     /// backslash stand the characters 0x21 to 0x7E.
     ///
     /// Where an origin is given, its labels are appended to a relative name, which becomes absolute; and `@`
-    /// alone is the origin. Grows memory once at most.
+    /// alone is the origin. Grows memory once at most, where the labels take more than 29 bytes.
     ///
     /// Refused with `BadName`: the empty text, an empty label, a label of more than 63 bytes, a name of more
     /// than 255 (RFC 1035, 2.3.4), a backslash that stands before anything else, any other character, and

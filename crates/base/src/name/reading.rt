@@ -115,7 +115,7 @@ impl BinDecodable for Name {
     ghost read_at = { name_at };
 
     /// Reads an absolute name at the decoder's place, its pointers followed, and moves behind it
-    /// (RFC 1035, 4.1.4). Grows memory once, and not at all for the root.
+    /// (RFC 1035, 4.1.4). Grows memory once, and not at all for a name whose labels take up to 29 bytes.
     ///
     /// Refused with `InsufficientBytes` where the buffer ends inside a piece of the name; with `BadName`
     /// where the top bits of a byte are 01 or 10, where a pointer doesn't go below the start of its piece,
