@@ -19,10 +19,9 @@ fn is_blank(byte: u8) -> bool
 fn without_blanks(alloc: Global, text: &[u8]) -> Result<Vec<u8>, AllocError>
     ensures { IfOk result (λ v. v.items ≡ filter (λ c. not (is_blank c)) text.now) }
 {
-    text.iter()
-        .copied()
-        .filter(|byte| !is_blank(*byte))
-        .collect(alloc)
+    let mut digits = Vec::with_capacity(alloc, text.len())?;
+    digits.extend(text.iter().copied().filter(|byte| !is_blank(*byte)))?;
+    Ok(digits)
 }
 
 /// The bytes that the text spells in hexadecimal, in letters of either case, with blanks dropped wherever they stand.

@@ -5,7 +5,7 @@ ghost use Rattle.rr.specs.SetChanges.{holds_one};
 
 mod inserting;
 mod iterating;
-mod removing;
+pub(super) mod removing;
 
 use base::{DNSClass, Name, RecordType};
 use base_data::{A, RData, RecordData};

@@ -33,7 +33,8 @@ fn a_zone_with_its_start(rt: HostRuntime) -> Result<(), AllocError> {
         &["zone", "-"],
         "$ORIGIN example.\n$TTL 1h\n@ IN SOA ns hostmaster (\n 1 7200 3600 1209600 300 ) ; first\n NS ns\nns 60 A 192.0.2.1\n A 192.0.2.2\nwww CNAME ns\n",
         0,
-        "$ORIGIN example.\nexample. 3600 IN NS ns.example.\nexample. 3600 IN SOA ns.example. hostmaster.example. 1 7200 3600 1209600 300\nns.example. 60 IN A 192.0.2.1\nns.example. 3600 IN A 192.0.2.2\nwww.example. 3600 IN CNAME ns.example.\n",
+        "$ORIGIN example.\nexample. 3600 IN NS ns.example.\nexample. 3600 IN SOA ns.example. hostmaster.example. 1 7200 3600 1209600 300\n\
+         ns.example. 60 IN A 192.0.2.1\nns.example. 3600 IN A 192.0.2.2\nwww.example. 3600 IN CNAME ns.example.\n",
     )
 }
 

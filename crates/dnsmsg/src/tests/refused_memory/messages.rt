@@ -1,10 +1,39 @@
+use crate::hex_input::decoded;
 use crate::tests::messages::message::parts::{signed, truncated};
-use crate::tests::messages::query::lowered;
-use base::{BinEncodable, BinEncoder};
+use base::{BinEncodable, BinEncoder, Name, RecordType};
 use base_data::{EdnsOption, OPT};
-use op::Message;
+use op::{LowerQuery, Message, Query};
 use std::alloc::{AllocError, Global};
 use std::test::Fail;
+
+// The parts of the signed message, in hexadecimal, as they stand at its front.
+const QUESTION: &str = "01610000010001";
+
+const TEXT: &str = "c00c001000010000003c0029\
+    2878787878787878787878787878787878787878787878787878787878787878787878787878787878";
+
+const ADDRESS: &str = "c00c000100010000003c0004c0000201";
+
+const EDNS: &str = "00002904d0000000000018fde900140000000000000000000000000000000000000000";
+
+const SIGNATURE: &str = "0000fa00ff000000000001aa";
+
+// The same records where two bytes stand before the message.
+const TEXT_BEHIND: &str = "c00e001000010000003c0029\
+    2878787878787878787878787878787878787878787878787878787878787878787878787878787878";
+
+const ADDRESS_BEHIND: &str = "c00e000100010000003c0004c0000201";
+
+/// Whether the bytes are these, in hexadecimal.
+fn are_bytes(alloc: Global, bytes: &[u8], parts: &[&str]) -> Result<bool, Fail> {
+    let text = parts.concat(alloc)?;
+    let wanted = decoded(alloc, text.as_bytes());
+    drop(text);
+    let wanted = wanted?;
+    let same = *bytes == *wanted.as_slice();
+    drop(wanted);
+    Ok(same)
+}
 
 /// Writes the message behind two bytes, under a limit for all of it. Whether these stand, whatever comes of it.
 fn leaves_what_stood(message: &Message, bytes: &mut Vec<u8>, limit: u16) -> Result<bool, Fail> {
@@ -20,50 +49,95 @@ fn leaves_what_stood(message: &Message, bytes: &mut Vec<u8>, limit: u16) -> Resu
     Ok(true)
 }
 
-/// Whether that is so of the signed message under a limit.
-fn signed_leaves_what_stood(alloc: Global, limit: u16) -> Result<bool, Fail> {
+/// Whether that is so of the signed message under a limit, and it is written as these parts.
+fn is_written_behind(alloc: Global, limit: u16, parts: &[&str]) -> Result<bool, Fail> {
     let message = signed(alloc)?;
     let mut bytes = Vec::new(alloc);
-    let right = leaves_what_stood(&message, &mut bytes, limit);
+    let stood = leaves_what_stood(&message, &mut bytes, limit);
     drop(message);
+    let right = match stood {
+        Ok(true) => are_bytes(alloc, &bytes, parts),
+        other => other,
+    };
     drop(bytes);
     right
 }
 
 #[test]
 fn what_stood_before_a_message_stays(rt: HostRuntime) -> Result<(), Fail> {
-    assert!(rt; signed_leaves_what_stood(rt.alloc(), 137)?);
+    let header = "abcd000780000001000100000003";
+    let parts = [
+        header,
+        QUESTION,
+        TEXT_BEHIND,
+        ADDRESS_BEHIND,
+        EDNS,
+        SIGNATURE,
+    ];
+    assert!(rt; is_written_behind(rt.alloc(), 137, &parts)?);
     Ok(())
 }
 
 #[test]
-fn what_stood_before_a_cut_stays(rt: HostRuntime) -> Result<(), Fail> {
-    assert!(rt; signed_leaves_what_stood(rt.alloc(), 49)?);
+fn what_stood_before_a_cut_without_edns_stays(rt: HostRuntime) -> Result<(), Fail> {
+    let header = "abcd000782000001000100000002";
+    let parts = [header, QUESTION, TEXT_BEHIND, ADDRESS_BEHIND, SIGNATURE];
+    assert!(rt; is_written_behind(rt.alloc(), 102, &parts)?);
     Ok(())
 }
 
-/// How many bytes the message is.
-fn written_len(message: Message) -> Result<usize, Fail> {
+#[test]
+fn what_stood_before_a_cut_without_answers_stays(rt: HostRuntime) -> Result<(), Fail> {
+    let header = "abcd000782000001000000000002";
+    let parts = [header, QUESTION, ADDRESS_BEHIND, SIGNATURE];
+    assert!(rt; is_written_behind(rt.alloc(), 49, &parts)?);
+    Ok(())
+}
+
+/// Whether the message is written as these parts.
+fn is_written(alloc: Global, message: Message, parts: &[&str]) -> Result<bool, Fail> {
     let bytes = message.to_vec();
     drop(message);
-    Ok(bytes?.len())
+    let bytes = bytes?;
+    let same = are_bytes(alloc, &bytes, parts);
+    drop(bytes);
+    same
 }
 
 #[test]
 fn a_message_is_written_whole(rt: HostRuntime) -> Result<(), Fail> {
-    assert!(rt; written_len(signed(rt.alloc())?)? == 135);
+    let header = "000780000001000100000003";
+    let parts = [header, QUESTION, TEXT, ADDRESS, EDNS, SIGNATURE];
+    assert!(rt; is_written(rt.alloc(), signed(rt.alloc())?, &parts)?);
     Ok(())
+}
+
+/// Whether the truncated message is written as these parts.
+fn is_truncated_to(alloc: Global, parts: &[&str]) -> Result<bool, Fail> {
+    let bytes = truncated(alloc)?;
+    let same = are_bytes(alloc, &bytes, parts);
+    drop(bytes);
+    same
 }
 
 #[test]
 fn a_message_is_truncated(rt: HostRuntime) -> Result<(), Fail> {
-    assert!(rt; truncated(rt.alloc())?.len() == 54);
+    assert!(rt; is_truncated_to(rt.alloc(), &["000782000001000000000001", QUESTION, EDNS])?);
     Ok(())
+}
+
+/// Whether the question for a name, in lower case, has that name.
+fn is_lowered(alloc: Global, asked: &str, lower: &str) -> Result<bool, Fail> {
+    let question = Query::query(Name::parse(alloc, asked, None)?, RecordType::AAAA);
+    let question = LowerQuery::query(question)?;
+    let shown = question.name().to_string(alloc);
+    drop(question);
+    Ok(shown?.as_str() == lower)
 }
 
 #[test]
 fn a_question_is_lowered(rt: HostRuntime) -> Result<(), Fail> {
-    drop(lowered(rt.alloc())?);
+    assert!(rt; is_lowered(rt.alloc(), "WWW.example.com.", "www.example.com.")?);
     Ok(())
 }
 

@@ -1,123 +1,94 @@
-use crate::tests::sets::{Row, address, empty, may_hold, record, shows};
-use base::{DNSClass, Name, RecordType};
-use base_data::{CNAME, RData, SOA};
+use crate::tests::sets::removing::{is_taken, server};
+use crate::tests::sets::{address, empty, may_hold, record};
+use base::{DNSClass, Name, ProtoError, RecordType};
+use base_data::{CNAME, NS, RData, SOA};
 use rr::{Record, RecordSet};
-use std::alloc::Global;
+use std::alloc::{AllocError, Global};
 use std::test::Fail;
 
-/// Puts a record in, and tells whether the answer is this; where it is refused the set has to be what it was.
-fn answers(set: &mut RecordSet, entry: Record, serial: u32, wanted: bool) -> Result<bool, Fail> {
-    let before = set.clone()?;
-    let right = answers_or_stays(set, &before, entry, serial, wanted);
-    drop(before);
-    right
+/// Data of a row: the last byte of an address, or a start's serial and first name, or a name.
+#[derive(Clone, Copy)]
+enum Datum {
+    Address(u8),
+    Start(u32, &'static str),
+    Alias(&'static str),
+    Server(&'static str),
 }
 
-fn answers_or_stays(
-    set: &mut RecordSet,
-    before: &RecordSet,
-    entry: Record,
-    serial: u32,
-    wanted: bool,
-) -> Result<bool, Fail> {
+/// What is done to a set.
+#[derive(Clone, Copy)]
+enum Step {
+    /// Data is put in: whether it is new, and whether it is there then.
+    Put(Datum, bool, bool),
+    /// The record of a server is removed: whether one goes.
+    Remove(&'static str, bool),
+}
+
+/// How data is put in.
+#[derive(Clone, Copy)]
+enum Way {
+    Insert,
+    AddRdata,
+    NewRecord,
+}
+
+/// The data of the row.
+fn rdata_of(alloc: Global, datum: Datum) -> Result<RData, Fail> {
+    Ok(match datum {
+        Datum::Address(last) => address(last),
+        Datum::Start(serial, name) => start(Name::parse(alloc, name, None)?, serial),
+        Datum::Alias(name) => RData::CNAME(CNAME::new(Name::parse(alloc, name, None)?)),
+        Datum::Server(name) => RData::NS(NS::new(Name::parse(alloc, name, None)?)),
+    })
+}
+
+/// The start of a zone, of this serial and first name.
+fn start(first: Name, serial: u32) -> RData {
+    let mailbox = Name::root(first.allocator());
+    RData::SOA(SOA::new(first, mailbox, serial, 1, 1, 1, 1))
+}
+
+/// What a call answers that was refused memory: that, if the set is what it was before.
+fn refused(set: &RecordSet, before: &RecordSet, e: AllocError) -> Fail {
+    if *set == *before {
+        return e.into();
+    }
+    ProtoError::Message("a refused call changed the set").into()
+}
+
+/// What stands in place of a call that the set isn't made for.
+fn unfit() -> Fail {
+    ProtoError::Message("data that the set can't hold").into()
+}
+
+/// Inserts a record, and tells whether it is new.
+fn inserts(set: &mut RecordSet, before: &RecordSet, entry: Record) -> Result<bool, Fail> {
     if *set.name() == entry.name && may_hold(set, entry.record_type()) {
-        return match set.insert(entry, serial) {
-            Ok(is_new) => Ok(is_new == wanted),
-            Err(e) if *set == *before => Err(e.into()),
-            Err(_) => Ok(false),
+        return match set.insert(entry, 0) {
+            Ok(is_new) => Ok(is_new),
+            Err(e) => Err(refused(set, before, e)),
         };
     }
     drop(entry);
-    Ok(false)
+    Err(unfit())
 }
 
-/// Whether inserting the rows one after the other into an empty set gives these answers and leaves these records.
-fn leaves(alloc: Global, inserts: &[(Row, bool)], left: &[Row]) -> Result<bool, Fail> {
-    let mut set = empty(alloc, RecordType::A)?;
-    let mut right = true;
-    for &((last, dns_class, ttl), wanted) in inserts {
-        let entry = record(alloc, dns_class, ttl, address(last))?;
-        right = answers(&mut set, entry, 0, wanted)? && right;
-    }
-    right = shows(&set, left, 5, 0) && right;
-    drop(set);
-    Ok(right)
-}
-
-#[test]
-fn addresses_are_put_in(rt: HostRuntime) -> Result<(), Fail> {
-    let first = (24, DNSClass::IN, 5);
-    let second = (25, DNSClass::IN, 5);
-    let inserts = [(first, true), (first, false), (second, true)];
-    assert!(rt; leaves(rt.alloc(), &inserts, &[first, second])?);
-    Ok(())
-}
-
-/// The start of `example.` of a serial and a first name.
-fn start(alloc: Global, serial: u32, name: &str) -> Result<RData, Fail> {
-    let first = Name::parse(alloc, name, None)?;
-    Ok(RData::SOA(SOA::new(first, Name::root(alloc), serial, 1, 1, 1, 1)))
-}
-
-/// Whether inserting starts of these serials and names gives these answers.
-fn starts(alloc: Global, rows: &[(u32, &str, bool)]) -> Result<bool, Fail> {
-    let mut set = empty(alloc, RecordType::SOA)?;
-    let mut right = true;
-    for &(serial, name, wanted) in rows {
-        let entry = record(alloc, DNSClass::IN, 5, start(alloc, serial, name)?)?;
-        right = answers(&mut set, entry, serial, wanted)? && right;
-    }
-    drop(set);
-    Ok(right)
-}
-
-#[test]
-fn starts_are_put_in(rt: HostRuntime) -> Result<(), Fail> {
-    let rows = [
-        (2015082403, "a.", true),
-        (2015082403, "b.", false),
-        (2015082404, "c.", true),
-    ];
-    assert!(rt; starts(rt.alloc(), &rows)?);
-    Ok(())
-}
-
-/// Whether inserting aliases of these names answers true each time.
-fn aliases(alloc: Global, names: &[&str]) -> Result<bool, Fail> {
-    let mut set = empty(alloc, RecordType::CNAME)?;
-    let mut right = true;
-    for name in names {
-        let rdata = RData::CNAME(CNAME::new(Name::parse(alloc, name, None)?));
-        let entry = record(alloc, DNSClass::IN, 5, rdata)?;
-        right = answers(&mut set, entry, 0, true)? && right;
-    }
-    drop(set);
-    Ok(right)
-}
-
-#[test]
-fn aliases_are_put_in(rt: HostRuntime) -> Result<(), Fail> {
-    assert!(rt; aliases(rt.alloc(), &["a.", "b.", "b."])?);
-    Ok(())
-}
-
-/// Adds data; where that is refused the set has to be what it was.
+/// Adds data, and tells whether it is new.
 fn adds(set: &mut RecordSet, before: &RecordSet, rdata: RData) -> Result<bool, Fail> {
     if may_hold(set, rdata.record_type()) {
         return match set.add_rdata(rdata) {
             Ok(is_new) => Ok(is_new),
-            Err(e) if *set == *before => Err(e.into()),
-            Err(_) => Ok(false),
+            Err(e) => Err(refused(set, before, e)),
         };
     }
     drop(rdata);
-    Ok(false)
+    Err(unfit())
 }
 
-/// Finds the new record of an address; where that is refused the set has to be what it was.
+/// Adds a copy of data, and tells whether the set has a record of it then.
 fn finds(set: &mut RecordSet, before: &RecordSet, rdata: &RData) -> Result<bool, Fail> {
     if !may_hold(set, rdata.record_type()) {
-        return Ok(false);
+        return Err(unfit());
     }
     let found = match set.new_record(rdata) {
         Ok(entry) => Ok(entry.is_some()),
@@ -125,32 +96,178 @@ fn finds(set: &mut RecordSet, before: &RecordSet, rdata: &RData) -> Result<bool,
     };
     match found {
         Ok(is_found) => Ok(is_found),
-        Err(e) if *set == *before => Err(e.into()),
-        Err(_) => Ok(false),
+        Err(e) => Err(refused(set, before, e)),
     }
 }
 
-/// Whether two addresses are added to an empty set, and a third is found in it.
-fn addresses_come_in(alloc: Global) -> Result<bool, Fail> {
-    let mut set = empty(alloc, RecordType::A)?;
-    let mut right = true;
-    for last in 24..26 {
-        let before = set.clone()?;
-        let added = adds(&mut set, &before, address(last));
-        drop(before);
-        right = added? && right;
+/// Inserts the record of the set's owner with this data.
+fn inserts_data(
+    alloc: Global,
+    set: &mut RecordSet,
+    before: &RecordSet,
+    rdata: RData,
+) -> Result<bool, Fail> {
+    let entry = record(alloc, DNSClass::IN, 5, rdata)?;
+    inserts(set, before, entry)
+}
+
+/// Puts data in, in this way.
+fn puts(
+    alloc: Global,
+    set: &mut RecordSet,
+    before: &RecordSet,
+    way: Way,
+    rdata: RData,
+) -> Result<bool, Fail> {
+    match way {
+        Way::Insert => inserts_data(alloc, set, before, rdata),
+        Way::AddRdata => adds(set, before, rdata),
+        Way::NewRecord => {
+            let found = finds(set, before, &rdata);
+            drop(rdata);
+            found
+        }
     }
-    let before = set.clone()?;
-    let rdata = address(26);
-    let found = finds(&mut set, &before, &rdata);
-    drop(rdata);
-    drop(before);
+}
+
+/// Puts the data of a row in.
+fn puts_row(alloc: Global, set: &mut RecordSet, way: Way, datum: Datum) -> Result<bool, Fail> {
+    let rdata = rdata_of(alloc, datum)?;
+    match set.clone() {
+        Ok(before) => {
+            let put = puts(alloc, set, &before, way, rdata);
+            drop(before);
+            put
+        }
+        Err(e) => {
+            drop(rdata);
+            Err(e.into())
+        }
+    }
+}
+
+/// Whether removing a server has this answer.
+fn removes(alloc: Global, set: &mut RecordSet, name: &str, wanted: bool) -> Result<bool, Fail> {
+    let entry = server(alloc, name)?;
+    let is_taken = is_taken(set, &entry, 0, wanted);
+    drop(entry);
+    Ok(is_taken)
+}
+
+/// Whether the step has its answer.
+fn takes(alloc: Global, set: &mut RecordSet, way: Way, step: Step) -> Result<bool, Fail> {
+    match step {
+        Step::Put(datum, is_new, is_there) => {
+            let put = puts_row(alloc, set, way, datum)?;
+            Ok(match way {
+                Way::Insert | Way::AddRdata => put == is_new,
+                Way::NewRecord => put == is_there,
+            })
+        }
+        Step::Remove(name, wanted) => removes(alloc, set, name, wanted),
+    }
+}
+
+/// Whether the set has records of this data, one after the other, and no others.
+fn holds(alloc: Global, set: &RecordSet, rows: &[Datum]) -> Result<bool, Fail> {
+    let mut entries = set.records_without_rrsigs();
+    for &datum in rows {
+        let rdata = rdata_of(alloc, datum)?;
+        let is_next = match entries.next() {
+            Some(entry) => entry.rdata == rdata,
+            None => false,
+        };
+        drop(rdata);
+        if !is_next {
+            return Ok(false);
+        }
+    }
+    Ok(entries.next().is_none())
+}
+
+/// Whether the steps, with data put in in this way, have their answers and leave this data.
+fn goes(
+    alloc: Global,
+    record_type: RecordType,
+    way: Way,
+    steps: &[Step],
+    left: &[Datum],
+) -> Result<bool, Fail> {
+    let mut set = empty(alloc, record_type)?;
+    let mut right = true;
+    for &step in steps {
+        right = takes(alloc, &mut set, way, step)? && right;
+    }
+    let is_left = holds(alloc, &set, left);
     drop(set);
-    Ok(found? && right)
+    Ok(is_left? && right)
+}
+
+/// Whether that is so of each way.
+fn goes_each_way(
+    alloc: Global,
+    record_type: RecordType,
+    steps: &[Step],
+    left: &[Datum],
+) -> Result<bool, Fail> {
+    let inserted = goes(alloc, record_type, Way::Insert, steps, left)?;
+    let added = goes(alloc, record_type, Way::AddRdata, steps, left)?;
+    let found = goes(alloc, record_type, Way::NewRecord, steps, left)?;
+    Ok(inserted && added && found)
 }
 
 #[test]
-fn addresses_are_added_and_found(rt: HostRuntime) -> Result<(), Fail> {
-    assert!(rt; addresses_come_in(rt.alloc())?);
+fn addresses_are_put_in(rt: HostRuntime) -> Result<(), Fail> {
+    let (first, second) = (Datum::Address(24), Datum::Address(25));
+    let steps = [
+        Step::Put(first, true, true),
+        Step::Put(first, false, true),
+        Step::Put(second, true, true),
+    ];
+    assert!(rt; goes_each_way(rt.alloc(), RecordType::A, &steps, &[first, second])?);
+    Ok(())
+}
+
+#[test]
+fn starts_are_put_in(rt: HostRuntime) -> Result<(), Fail> {
+    let first = Datum::Start(2015082403, "a.");
+    let second = Datum::Start(2015082403, "b.");
+    let third = Datum::Start(2015082404, "c.");
+    let steps = [
+        Step::Put(first, true, true),
+        Step::Put(second, false, false),
+        Step::Put(third, true, true),
+        Step::Put(second, false, false),
+        Step::Put(first, false, false),
+    ];
+    assert!(rt; goes_each_way(rt.alloc(), RecordType::SOA, &steps, &[third])?);
+    Ok(())
+}
+
+#[test]
+fn aliases_are_put_in(rt: HostRuntime) -> Result<(), Fail> {
+    let (first, second) = (Datum::Alias("a."), Datum::Alias("b."));
+    let steps = [
+        Step::Put(first, true, true),
+        Step::Put(second, true, true),
+        Step::Put(second, true, true),
+    ];
+    assert!(rt; goes_each_way(rt.alloc(), RecordType::CNAME, &steps, &[second])?);
+    Ok(())
+}
+
+#[test]
+fn servers_are_put_in_and_removed(rt: HostRuntime) -> Result<(), Fail> {
+    let (first, second) = ("ns1.example.", "ns2.example.");
+    let steps = [
+        Step::Put(Datum::Server(first), true, true),
+        Step::Put(Datum::Server(second), true, true),
+        Step::Remove(first, true),
+        Step::Remove(second, false),
+        Step::Put(Datum::Server(first), true, true),
+        Step::Remove(second, true),
+        Step::Remove(first, false),
+    ];
+    assert!(rt; goes_each_way(rt.alloc(), RecordType::NS, &steps, &[Datum::Server(first)])?);
     Ok(())
 }

@@ -6,13 +6,18 @@ use std::alloc::Global;
 use std::test::Fail;
 
 /// The record of `example.` with a server of this name.
-fn server(alloc: Global, name: &str) -> Result<Record, Fail> {
+pub(in crate::tests) fn server(alloc: Global, name: &str) -> Result<Record, Fail> {
     let rdata = RData::NS(NS::new(Name::parse(alloc, name, None)?));
     record(alloc, DNSClass::IN, 5, rdata)
 }
 
 /// Removes a record, and tells whether the answer is this. It has to be the set's or of type ANY: that is tested.
-fn is_taken(set: &mut RecordSet, entry: &Record, serial: u32, wanted: bool) -> bool {
+pub(in crate::tests) fn is_taken(
+    set: &mut RecordSet,
+    entry: &Record,
+    serial: u32,
+    wanted: bool,
+) -> bool {
     let typed = entry.record_type() == set.record_type() || entry.record_type() == RecordType::ANY;
     *set.name() == entry.name && typed && set.remove(entry, serial) == wanted
 }

@@ -8,6 +8,10 @@ use rr::RecordSet;
 use std::alloc::Global;
 use std::test::Fail;
 
+pub(in crate::tests) const CREATED: &[u8] =
+    b"\x00\x01\x28\x00\x00\x01\x00\x01\x00\x01\x00\x01\x07example\x00\x00\x06\x00\x01\x03www\xC0\x0C\x00\x01\x00\xFE\x00\x00\x00\x00\x00\x00\
+      \xC0\x19\x00\x01\x00\x01\x00\x00\x00\x3C\x00\x04\xC0\x00\x02\x01\x00\x00\x29\x04\xD0\x00\x00\x00\x00\x00\x00";
+
 pub(in crate::tests) fn created(alloc: Global) -> Result<Message, Fail> {
     let (origin, set) = zone_and_addresses(alloc, 60, 1)?;
     Ok(create(alloc, 1, set, origin, true)?)
@@ -15,12 +19,13 @@ pub(in crate::tests) fn created(alloc: Global) -> Result<Message, Fail> {
 
 #[test]
 fn a_set_is_created(rt: HostRuntime) -> Result<(), Fail> {
-    let wire =
-        b"\x00\x01\x28\x00\x00\x01\x00\x01\x00\x01\x00\x01\x07example\x00\x00\x06\x00\x01\x03www\xC0\x0C\x00\x01\x00\xFE\x00\x00\x00\x00\x00\x00\
-          \xC0\x19\x00\x01\x00\x01\x00\x00\x00\x3C\x00\x04\xC0\x00\x02\x01\x00\x00\x29\x04\xD0\x00\x00\x00\x00\x00\x00";
-    assert!(rt; is_sent_as(rt.alloc(), created(rt.alloc())?, wire));
+    assert!(rt; is_sent_as(rt.alloc(), created(rt.alloc())?, CREATED));
     Ok(())
 }
+
+pub(in crate::tests) const APPENDED: &[u8] =
+    b"\x00\x03\x28\x00\x00\x01\x00\x01\x00\x01\x00\x00\x07example\x00\x00\x06\x00\x01\x03www\xC0\x0C\x00\x01\x00\xFF\x00\x00\x00\x00\x00\x00\
+      \xC0\x19\x00\x01\x00\x01\x00\x00\x00\x3C\x00\x04\xC0\x00\x02\x01";
 
 pub(in crate::tests) fn appended(alloc: Global) -> Result<Message, Fail> {
     let (origin, set) = zone_and_addresses(alloc, 60, 1)?;
@@ -29,13 +34,15 @@ pub(in crate::tests) fn appended(alloc: Global) -> Result<Message, Fail> {
 
 #[test]
 fn a_set_that_exists_gets_more_records(rt: HostRuntime) -> Result<(), Fail> {
-    let wire =
-        b"\x00\x03\x28\x00\x00\x01\x00\x01\x00\x01\x00\x00\x07example\x00\x00\x06\x00\x01\x03www\xC0\x0C\x00\x01\x00\xFF\x00\x00\x00\x00\x00\x00\
-          \xC0\x19\x00\x01\x00\x01\x00\x00\x00\x3C\x00\x04\xC0\x00\x02\x01";
-    assert!(rt; wire.len() == 57);
-    assert!(rt; is_sent_as(rt.alloc(), appended(rt.alloc())?, wire));
+    assert!(rt; APPENDED.len() == 57);
+    assert!(rt; is_sent_as(rt.alloc(), appended(rt.alloc())?, APPENDED));
     Ok(())
 }
+
+pub(in crate::tests) const SWAPPED: &[u8] =
+    b"\x12\x34\x28\x00\x00\x01\x00\x01\x00\x03\x00\x00\x07example\x00\x00\x06\x00\x01\x03www\xC0\x0C\x00\x01\x00\x01\x00\x00\x00\x00\x00\x04\xC0\x00\x02\x01\
+      \xC0\x19\x00\x01\x00\xFE\x00\x00\x00\x00\x00\x04\xC0\x00\x02\x01\xC0\x19\x00\x01\x00\x01\x00\x00\x00\x3C\x00\x04\xC0\x00\x02\x01\
+      \xC0\x19\x00\x01\x00\x01\x00\x00\x00\x3C\x00\x04\xC0\x00\x02\x02";
 
 // From the address 192.0.2.1 to that and 192.0.2.2.
 pub(in crate::tests) fn swapped(alloc: Global) -> Result<Message, Fail> {
@@ -54,14 +61,13 @@ pub(in crate::tests) fn swapped(alloc: Global) -> Result<Message, Fail> {
 
 #[test]
 fn a_set_is_swapped_for_another(rt: HostRuntime) -> Result<(), Fail> {
-    let wire =
-        b"\x12\x34\x28\x00\x00\x01\x00\x01\x00\x03\x00\x00\x07example\x00\x00\x06\x00\x01\x03www\xC0\x0C\x00\x01\x00\x01\x00\x00\x00\x00\x00\x04\xC0\x00\x02\x01\
-          \xC0\x19\x00\x01\x00\xFE\x00\x00\x00\x00\x00\x04\xC0\x00\x02\x01\xC0\x19\x00\x01\x00\x01\x00\x00\x00\x3C\x00\x04\xC0\x00\x02\x01\
-          \xC0\x19\x00\x01\x00\x01\x00\x00\x00\x3C\x00\x04\xC0\x00\x02\x02";
-    assert!(rt; wire.len() == 93);
-    assert!(rt; is_sent_as(rt.alloc(), swapped(rt.alloc())?, wire));
+    assert!(rt; SWAPPED.len() == 93);
+    assert!(rt; is_sent_as(rt.alloc(), swapped(rt.alloc())?, SWAPPED));
     Ok(())
 }
+
+pub(in crate::tests) const WITHOUT_DATA: &[u8] =
+    b"\x00\x04\x28\x00\x00\x01\x00\x00\x00\x01\x00\x00\x07example\x00\x00\x06\x00\x01\x03www\xC0\x0C\x00\x01\x00\xFE\x00\x00\x00\x00\x00\x04\xC0\x00\x02\x01";
 
 pub(in crate::tests) fn without_data(alloc: Global) -> Result<Message, Fail> {
     let (origin, set) = zone_and_addresses(alloc, 60, 1)?;
@@ -70,11 +76,12 @@ pub(in crate::tests) fn without_data(alloc: Global) -> Result<Message, Fail> {
 
 #[test]
 fn data_is_deleted(rt: HostRuntime) -> Result<(), Fail> {
-    let wire =
-        b"\x00\x04\x28\x00\x00\x01\x00\x00\x00\x01\x00\x00\x07example\x00\x00\x06\x00\x01\x03www\xC0\x0C\x00\x01\x00\xFE\x00\x00\x00\x00\x00\x04\xC0\x00\x02\x01";
-    assert!(rt; is_sent_as(rt.alloc(), without_data(rt.alloc())?, wire));
+    assert!(rt; is_sent_as(rt.alloc(), without_data(rt.alloc())?, WITHOUT_DATA));
     Ok(())
 }
+
+pub(in crate::tests) const WITHOUT_SET: &[u8] =
+    b"\x00\x05\x28\x00\x00\x01\x00\x00\x00\x01\x00\x00\x07example\x00\x00\x06\x00\x01\x03www\xC0\x0C\x00\x01\x00\xFF\x00\x00\x00\x00\x00\x00";
 
 pub(in crate::tests) fn without_set(alloc: Global) -> Result<Message, Fail> {
     let gone = host(alloc, 60, 1)?;
@@ -87,11 +94,12 @@ pub(in crate::tests) fn without_set(alloc: Global) -> Result<Message, Fail> {
 
 #[test]
 fn a_set_is_deleted(rt: HostRuntime) -> Result<(), Fail> {
-    let wire =
-        b"\x00\x05\x28\x00\x00\x01\x00\x00\x00\x01\x00\x00\x07example\x00\x00\x06\x00\x01\x03www\xC0\x0C\x00\x01\x00\xFF\x00\x00\x00\x00\x00\x00";
-    assert!(rt; is_sent_as(rt.alloc(), without_set(rt.alloc())?, wire));
+    assert!(rt; is_sent_as(rt.alloc(), without_set(rt.alloc())?, WITHOUT_SET));
     Ok(())
 }
+
+pub(in crate::tests) const WITHOUT_NAME: &[u8] =
+    b"\x00\x02\x28\x00\x00\x01\x00\x00\x00\x01\x00\x00\x07example\x00\x00\x06\x00\x01\xC0\x0C\x00\xFF\x00\xFF\x00\x00\x00\x00\x00\x00";
 
 // All sets of `owner`, at most, in `example.`.
 pub(in crate::tests) fn without_name(alloc: Global, owner: &str) -> Result<Message, Fail> {
@@ -105,9 +113,13 @@ pub(in crate::tests) fn without_name(alloc: Global, owner: &str) -> Result<Messa
 
 #[test]
 fn a_name_is_deleted(rt: HostRuntime) -> Result<(), Fail> {
-    let wire =
-        b"\x00\x02\x28\x00\x00\x01\x00\x00\x00\x01\x00\x00\x07example\x00\x00\x06\x00\x01\xC0\x0C\x00\xFF\x00\xFF\x00\x00\x00\x00\x00\x00";
-    assert!(rt; is_sent_as(rt.alloc(), without_name(rt.alloc(), "example.")?, wire));
+    assert!(rt;
+        is_sent_as(
+            rt.alloc(),
+            without_name(rt.alloc(), "example.")?,
+            WITHOUT_NAME
+        )
+    );
     Ok(())
 }
 
