@@ -137,7 +137,13 @@ fn is_lowered(alloc: Global, asked: &str, lower: &str) -> Result<bool, Fail> {
 
 #[test]
 fn a_question_is_lowered(rt: HostRuntime) -> Result<(), Fail> {
-    assert!(rt; is_lowered(rt.alloc(), "WWW.example.com.", "www.example.com.")?);
+    assert!(rt;
+        is_lowered(
+            rt.alloc(),
+            "WWW.a-name-that-wants-memory.example.com.",
+            "www.a-name-that-wants-memory.example.com."
+        )?
+    );
     Ok(())
 }
 
