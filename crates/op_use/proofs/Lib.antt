@@ -14,6 +14,7 @@ mod Origins
 mod OwnerKeys
 mod RenewSteps
 mod ServerRowsLemmas
+mod SpelledSteps
 mod UpdateSteps
 mod WholeSteps
 mod ZoneSteps
