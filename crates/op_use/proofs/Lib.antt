@@ -2,6 +2,7 @@ mod AppliedData
 mod AppliedLemmas
 mod BuiltLemmas
 mod Changes
+mod FollowSteps
 mod Given
 mod KeySteps
 mod ListedSteps
