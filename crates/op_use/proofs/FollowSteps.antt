@@ -34,7 +34,8 @@ at_after_put z q k ds =
 
 module _ (z : Zone) (r : Record RData) (k : RrKey) (xs : List (Record RData)) (same : at z k ≡ map datum_of xs) where
   -- a change of the record's set
-  module _ (F : List (Record RData) → List (Record RData)) (G : List Datum → List Datum) (each : (ys : List (Record RData)) → map datum_of (F ys) ≡ G (map datum_of ys)) where
+  module _ (F : List (Record RData) → List (Record RData)) (G : List Datum → List Datum)
+      (each : (ys : List (Record RData)) → map datum_of (F ys) ≡ G (map datum_of ys)) where
     set_follows : (b : Bool) → eq_by_cmp key_cmp (record_key r) k ≡ b → cond b (G (at z (record_key r))) (at z k) ≡ map datum_of (cond b (F xs) xs)
     set_follows true t = ap (λ q. G (at z q)) (same_key (record_key r) k t) ∙ ap G same ∙ sym (each xs)
     set_follows false t = same
@@ -50,7 +51,8 @@ module _ (z : Zone) (r : Record RData) (k : RrKey) (xs : List (Record RData)) (s
   added_follows false a true = same
   added_follows false a false = put_follows (joined r) (λ ds. added ds r) (joined_data r)
 
-  removed_follows : (n : Bool) → at (cond n z (put z (record_key r) (removed (at z (record_key r)) r))) k ≡ map datum_of (cond (not n && is_under r k) (parted r xs) xs)
+  removed_follows : (n : Bool) → at (cond n z (put z (record_key r) (removed (at z (record_key r)) r))) k
+      ≡ map datum_of (cond (not n && is_under r k) (parted r xs) xs)
   removed_follows true = same
   removed_follows false = put_follows (parted r) (λ ds. removed ds r) (parted_data r)
 
@@ -73,7 +75,8 @@ module _ (z : Zone) (r : Record RData) (k : RrKey) (xs : List (Record RData)) (s
   follows_by OfNone = removed_follows (is_needed z r)
   follows_by OfNothing = same
 
-all_follow : (rs : List (Record RData)) (z : Zone) (k : RrKey) (xs : List (Record RData)) → at z k ≡ map datum_of xs → at (fold update z rs) k ≡ map datum_of (records_after z rs k xs)
+all_follow : (rs : List (Record RData)) (z : Zone) (k : RrKey) (xs : List (Record RData)) → at z k ≡ map datum_of xs
+    → at (fold update z rs) k ≡ map datum_of (records_after z rs k xs)
 all_follow [] z k xs same = same
 all_follow (r ∷ rs) z k xs same = all_follow rs (update z r) k (after_update z r k xs) (follows_by z r k xs same (use_of z.class r.dns_class))
 
