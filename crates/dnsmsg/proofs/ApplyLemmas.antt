@@ -1,40 +1,41 @@
 -- What the command `apply` answers; and that updates may be applied to a parsed zone of one class.
-use Rattle.std.proofs.Common.{Bool, Err, List, Ok, Option, Result, Some, [], ap, cond, false, inl, inr, refl, subst, sym, true, ℕ, ◌∷◌, ◌≡◌, ◌⊎◌}
-use Rattle.std.proofs.lemmas.Bool.{and_parts}
+use Rattle.std.proofs.Common.{Bool, List, Ok, Option, Result, Some, [], ap, cond, false, refl, subst, sym, true, ℕ, ◌∷◌, ◌≡◌, ◌∙◌}
+use Rattle.std.proofs.lemmas.Bool.{and_parts, cond-false, cond-true}
 use Rattle.std.proofs.lemmas.Str.{is_utf8-from_IsUtf8}
+use Rattle.std.specs.BTreeMap as tree
 use Rattle.std.specs.BTreeMap.{BTreeMap, is_at}
 use Rattle.std.specs.List.{AllByRecursion}
 use Rattle.std.specs.Map.{lookup}
 use Rattle.std.specs.Ordering.{eq_by_cmp, is_eq}
 use Rattle.std.specs.Prelude.{String, unwrap_or}
-use Rattle.std.specs.Str.{IsUtf8}
+use Rattle.std.specs.Str.{IsUtf8, is_utf8}
 use Rattle.std.specs.String.{string_bytes}
 use Rattle.std.specs.declared.alloc.Global.{Global}
 use Rattle.std.specs.declared.cmp.Ordering.TheVariants.{Less, Equal, Greater}
 use Rattle.std.specs.declared.cmp.Ordering.{Ordering}
 use Rattle.base.proofs.KeyLemmas.{key_cmp-exact}
 use Rattle.base.specs.Labels.{NameValue}
-use Rattle.base.specs.ParseError.{parse_number}
 use Rattle.base.specs.RrKey.{key_cmp}
-use Rattle.base.specs.TextFaults.{Fails, Fault}
+use Rattle.base.specs.TextFaults.{Fault}
 use Rattle.base.specs.declared.dns_class.DNSClass.TheVariants as classes
 use Rattle.base.specs.declared.dns_class.DNSClass.{DNSClass}
-use Rattle.base.specs.declared.error.parse_error.ParseError.{ParseError}
-use Rattle.base.specs.declared.error.parse_error.ParseError.TheVariants as refusals
 use Rattle.base.specs.declared.rr_key.RrKey.{RrKey}
 use Rattle.op.proofs.MessageStands.{message_again}
 use Rattle.op.specs.Message.{IsMessageAt, MessageValue}
-use Rattle.op_use.specs.Applying.{IsZoneMap}
+use Rattle.op.specs.declared.response_code.ResponseCode.{ResponseCode}
+use Rattle.op_use.specs.Applying.{IsApplied, IsZoneMap}
+use Rattle.op_use.specs.Server.{sections_of}
 use Rattle.rr.specs.RecordSet.{SetValue}
 use Rattle.txt.specs.Zone.{zone_of}
 use Rattle.txt.specs.ZoneSets.{AreKept, IsKept, ZoneSets}
+use Rattle.dnsmsg.proofs.AppliedLines.{lines_applied}
 use Rattle.dnsmsg.specs.Answer.{Answer, done, refused}
-use Rattle.dnsmsg.specs.Answering.{AnswersBy}
-use Rattle.dnsmsg.specs.ApplyCommand.{IsApplyAnswer, UpdatesBuffer, UpdatesRead, UpdatesSets, UpdatesText, UpdatesZone, are_sets_in, first_word, is_in, is_set_in}
+use Rattle.dnsmsg.specs.Answering.{Answers}
+use Rattle.dnsmsg.specs.ApplyCommand.{answer_to_parsed, answer_to_received, answer_to_text, answer_to_update, answer_to_word, apply_answer}
+use Rattle.dnsmsg.specs.ApplyCommand.{are_sets_in, first_word, is_in, is_set_in, update_lines}
 use Rattle.dnsmsg.specs.HexInput.{bytes_of}
 use Rattle.dnsmsg.specs.ParsedZone.{AreOfClass}
-use Rattle.dnsmsg.specs.Refusal.{refusal_number}
-use Rattle.dnsmsg.specs.ZoneCommand.{fault_number, text_named}
+use Rattle.dnsmsg.specs.ZoneCommand.{text_named}
 use Rattle.dnsmsg.specs.declared.refusal.Refusal.{Refusal}
 
 in_only : (c : DNSClass) → is_in c ≡ true → c ≡ classes.IN
@@ -77,47 +78,29 @@ sets_in (e ∷ es) h =
 pub parsed_map : (m : BTreeMap RrKey SetValue) → AreKept m.entries → are_sets_in m.entries ≡ true → IsZoneMap classes.IN m
 parsed_map m kept all = zone_map classes.IN m kept (λ k s h. found (λ q v. v.dns_class ≡ classes.IN) k m.entries (sets_in m.entries all) s h)
 
--- what is said of fewer answers is said of more
-pub answers_more : (P Q : Answer → Type 0) → ((answer : Answer) → P answer → Q answer) → (result : Result (String Global) Refusal) → AnswersBy P result → AnswersBy Q result
-answers_more P Q more (Ok text) says = more (done (string_bytes text)) says
-answers_more P Q more (Err refusal) (inl memory) = inl memory
-answers_more P Q more (Err refusal) (inr says) = inr (more (refused (refusal_number refusal)) says)
+-- the answer to the sets is that of the lines that are printed
+pub update_answered : (m : MessageValue) (name : NameValue) (old new : BTreeMap RrKey SetValue) (code : ResponseCode) (text : List ℕ)
+    → are_sets_in old.entries ≡ true → IsApplied name classes.IN (sections_of m) old code new → tree.IsOrdered key_cmp new
+    → text ≡ update_lines code (name, new.entries)
+    → answer_to_update m (name, old.entries) ≡ done text
+update_answered m name old new code text all after ordered is =
+    cond-true _ _ _ all ∙ ap done (lines_applied name (sections_of m) old new code ordered after ∙ sym is)
 
-module _ (m : MessageValue) where
-  told : (made : Result (NameValue × ZoneSets) Fault) (fault : Fault) → made ≡ Err fault → UpdatesZone m made (refused (fault_number fault))
-  told made fault is = subst (λ (r : Result (NameValue × ZoneSets) Fault). UpdatesZone m r (refused (fault_number fault))) (sym is) refl
+-- the answer to text is that to the zone that was read from it
+pub text_answers : (m : MessageValue) (origin : Option NameValue) (input : List ℕ) (made : Result (NameValue × ZoneSets) Fault) → IsUtf8 input
+    → zone_of (text_named []) origin input ≡ made → answer_to_text m origin input ≡ answer_to_parsed m made
+text_answers m origin input made is_text is = rw (is_utf8-from_IsUtf8 input is_text) (ap (answer_to_parsed m) is)
 
-  -- a refusal of the parser is for want of memory, or has the number of the fault
-  zone_refused : (e : ParseError) (made : Result (NameValue × ZoneSets) Fault) → Fails e made → (parse_number e ≡ 3) ⊎ UpdatesZone m made (refused (parse_number e))
-  zone_refused refusals.Memory made is = inl refl
-  zone_refused (refusals.UnexpectedToken t) made is = inr (told made _ is)
-  zone_refused refusals.Lexer made is = inr (told made _ is)
-  zone_refused (refusals.Message text) made is = inr (told made _ is)
-  zone_refused (refusals.IncludeNotFound name) made is = inr (told made _ is)
-  zone_refused (refusals.UnknownRecordType text) made is = inr (told made _ is)
-  zone_refused (refusals.UnsupportedRecordType type) made is = inr (told made _ is)
-  zone_refused (refusals.BadData type) made is = inr (told made _ is)
-  zone_refused refusals.BadName made is = inr (told made _ is)
-  zone_refused refusals.BadTtl made is = inr (told made _ is)
-
-  -- the answer to what the parser made of the text is that to the text
-  module _ (origin : Option NameValue) (input : List ℕ) (made : Result (NameValue × ZoneSets) Fault) (is_text : IsUtf8 input)
-      (is : zone_of (text_named []) origin input ≡ made) where
-    of_text : (answer : Answer) → UpdatesZone m made answer → UpdatesText m origin input answer
-    of_text answer updates = inl (is_utf8-from_IsUtf8 input is_text, subst (λ (r : Result (NameValue × ZoneSets) Fault). UpdatesZone m r answer) (sym is) updates)
-
-    pub text_refused : (e : ParseError) → Fails e made → (parse_number e ≡ 3) ⊎ UpdatesText m origin input (refused (parse_number e))
-    text_refused e fails = go (zone_refused e made fails) where
-      go : (parse_number e ≡ 3) ⊎ UpdatesZone m made (refused (parse_number e)) → (parse_number e ≡ 3) ⊎ UpdatesText m origin input (refused (parse_number e))
-      go (inl memory) = inl memory
-      go (inr updates) = inr (of_text (refused (parse_number e)) updates)
-
-    pub text_updated : (name : NameValue) (sets : BTreeMap RrKey SetValue) → made ≡ Ok (name, sets.entries) → (answer : Answer) → UpdatesSets m name sets answer → UpdatesText m origin input answer
-    text_updated name sets read answer updates =
-        of_text answer (subst (λ (r : Result (NameValue × ZoneSets) Fault). UpdatesZone m r answer) (sym read) (sets, refl, updates))
+pub text_not_utf8 : (m : MessageValue) (origin : Option NameValue) (input : List ℕ) → is_utf8 input ≡ false → answer_to_text m origin input ≡ refused 24
+text_not_utf8 m origin input is = cond-false _ _ _ is
 
 -- the answer to a message that was read is that to its word
 pub word_answers : (origin : Option NameValue) (words : List (List ℕ)) (input bytes : List ℕ) (m : MessageValue) (e : ℕ) → bytes_of (first_word words) ≡ Ok bytes → IsMessageAt bytes 0 m e
-    → (answer : Answer) → UpdatesText m origin input answer → IsApplyAnswer origin words input answer
-word_answers origin words input bytes m e spelled stands answer updates =
-    subst (λ r. UpdatesBuffer origin input r answer) (sym spelled) (subst (λ r. UpdatesRead origin input r answer) (sym (message_again bytes 0 m e stands)) updates)
+    → apply_answer origin words input ≡ answer_to_text m origin input
+word_answers origin words input bytes m e spelled stands =
+    ap (answer_to_word origin input) spelled ∙ ap (answer_to_received origin input) (message_again bytes 0 m e stands)
+
+-- what is said of an answer is said of its equal
+pub answers_same : (answer answered : Answer) (result : Result (String Global) Refusal) → answer ≡ answered
+    → Answers string_bytes answered result → Answers string_bytes answer result
+answers_same answer answered result is says = subst (λ a. Answers string_bytes a result) (sym is) says

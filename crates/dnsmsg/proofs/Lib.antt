@@ -1,3 +1,4 @@
+mod AppliedLines
 mod ApplyLemmas
 mod CallerLemmas
 mod CutLemmas

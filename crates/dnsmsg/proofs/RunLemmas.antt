@@ -4,7 +4,7 @@ use Rattle.std.specs.Prelude.{IfSome, String, ◌≢◌}
 use Rattle.std.specs.String.{string_bytes}
 use Rattle.std.specs.declared.alloc.Global.{Global}
 use Rattle.dnsmsg.specs.Answer.{Answer, IsAnswered, IsGivenBy, IsPrinted, broken, done, refused, usage}
-use Rattle.dnsmsg.specs.ApplyCommand.{IsApplyAnswer}
+use Rattle.dnsmsg.specs.ApplyCommand.{apply_answer}
 use Rattle.dnsmsg.specs.Command.{CommandAnswers, IsGiven}
 use Rattle.dnsmsg.specs.CutCommand.{IsCutAnswer}
 use Rattle.dnsmsg.specs.HeaderCommand.{header_answer}
@@ -79,7 +79,7 @@ module _ (status : ℕ) (old new : Option (List ℕ)) (words : List (List ℕ)) 
   lines_answer (commands.OnMessage messages.Read) lines says shown = answered read_answer (done (string_bytes lines)) says shown
   lines_answer (commands.OnMessage (messages.Cut limit)) lines says shown = inl (done (string_bytes lines), says, shown)
   lines_answer (commands.Zone origin) lines says shown = answered (zone_answer origin (behind_origin words)) (done (string_bytes lines)) says shown
-  lines_answer (commands.Apply origin) lines says shown = inl (done (string_bytes lines), says, shown)
+  lines_answer (commands.Apply origin) lines says shown = answered (apply_answer origin (behind_origin words)) (done (string_bytes lines)) says shown
 
   refused_with : (answer_of : List ℕ → Answer) (number : ℕ) → (number ≡ 3) ⊎ (answer_of text ≡ refused number) → IsPrinted (refused number) status old new → IsAnswered (answer_of text) status old new
   refused_with answer_of number (inl memory) shown = inr (subst (λ n. IsPrinted (refused n) status old new) memory shown)
@@ -97,7 +97,7 @@ module _ (status : ℕ) (old new : Option (List ℕ)) (words : List (List ℕ)) 
   refusal_answers (commands.OnMessage messages.Read) refusal says shown = refused_with read_answer (refusal_number refusal) says shown
   refusal_answers (commands.OnMessage (messages.Cut limit)) refusal says shown = refused_by (IsCutAnswer limit text) (refusal_number refusal) says shown
   refusal_answers (commands.Zone origin) refusal says shown = refused_with (zone_answer origin (behind_origin words)) (refusal_number refusal) says shown
-  refusal_answers (commands.Apply origin) refusal says shown = refused_by (IsApplyAnswer origin (behind_origin words) text) (refusal_number refusal) says shown
+  refusal_answers (commands.Apply origin) refusal says shown = refused_with (apply_answer origin (behind_origin words)) (refusal_number refusal) says shown
 
 -- what was printed answers what remained of the input
 module _ (status : ℕ) (old new remaining : Option (List ℕ)) (words : List (List ℕ)) (command : Command) where

@@ -1,5 +1,5 @@
 -- The texts that words hand in, one word after the other.
-use Rattle.std.proofs.Common.{◌≡◌, ◌⊎◌, inl, inr, Result, ℕ, List, [], ◌∷◌, ◌++◌, refl, ap, sym, ◌∙◌, Bool, true, false, cond, Option, Some, None}
+use Rattle.std.proofs.Common.{◌≡◌, ◌⊎◌, inl, inr, Err, Result, ℕ, List, [], ◌∷◌, ◌++◌, refl, ap, sym, ◌∙◌, Bool, true, false, cond, Option, Some, None}
 use Rattle.std.specs.BTreeMap.{BTreeMap, get_by_text}
 use Rattle.std.specs.List.{after_first, before_first}
 use Rattle.std.specs.Map.{update}
@@ -19,7 +19,7 @@ use Rattle.txt.specs.Steps.{texts_in}
 use Rattle.txt.specs.Zone.{Texts, zone_of}
 use Rattle.txt.specs.ZoneSets.{ZoneSets}
 use Rattle.dnsmsg.specs.Answer.{Answer, refused}
-use Rattle.dnsmsg.specs.ZoneCommand.{answer_to_zone, is_equals, or_else, text_in, text_named, zone_answer}
+use Rattle.dnsmsg.specs.ZoneCommand.{answer_to_zone, fault_number, is_equals, or_else, text_in, text_named, zone_answer}
 
 else_none : (text : Option (List ℕ)) → text ≡ or_else text None
 else_none None = refl
@@ -85,17 +85,22 @@ zone_answers origin words input text includes p is_text same named is =
     rw (is_utf8-from_IsUtf8 input is_text) (ap answer_to_zone (zone_read origin words input text includes p same named is))
 
 -- a refusal is for want of memory, or has the number of the fault
+module _ (answer_to : Result (NameValue × ZoneSets) Fault → Answer) (told : (fault : Fault) → answer_to (Err fault) ≡ refused (fault_number fault)) where
+  pub fault_refused : (e : ParseError) (made : Result (NameValue × ZoneSets) Fault) → Fails e made
+      → (parse_number e ≡ 3) ⊎ (answer_to made ≡ refused (parse_number e))
+  fault_refused refusals.Memory made is = inl refl
+  fault_refused (refusals.UnexpectedToken t) made is = inr (ap answer_to is ∙ told _)
+  fault_refused refusals.Lexer made is = inr (ap answer_to is ∙ told _)
+  fault_refused (refusals.Message text) made is = inr (ap answer_to is ∙ told _)
+  fault_refused (refusals.IncludeNotFound name) made is = inr (ap answer_to is ∙ told _)
+  fault_refused (refusals.UnknownRecordType text) made is = inr (ap answer_to is ∙ told _)
+  fault_refused (refusals.UnsupportedRecordType type) made is = inr (ap answer_to is ∙ told _)
+  fault_refused (refusals.BadData type) made is = inr (ap answer_to is ∙ told _)
+  fault_refused refusals.BadName made is = inr (ap answer_to is ∙ told _)
+  fault_refused refusals.BadTtl made is = inr (ap answer_to is ∙ told _)
+
 pub zone_refused : (e : ParseError) (made : Result (NameValue × ZoneSets) Fault) → Fails e made → (parse_number e ≡ 3) ⊎ (answer_to_zone made ≡ refused (parse_number e))
-zone_refused refusals.Memory made is = inl refl
-zone_refused (refusals.UnexpectedToken t) made is = inr (ap answer_to_zone is)
-zone_refused refusals.Lexer made is = inr (ap answer_to_zone is)
-zone_refused (refusals.Message text) made is = inr (ap answer_to_zone is)
-zone_refused (refusals.IncludeNotFound name) made is = inr (ap answer_to_zone is)
-zone_refused (refusals.UnknownRecordType text) made is = inr (ap answer_to_zone is)
-zone_refused (refusals.UnsupportedRecordType type) made is = inr (ap answer_to_zone is)
-zone_refused (refusals.BadData type) made is = inr (ap answer_to_zone is)
-zone_refused refusals.BadName made is = inr (ap answer_to_zone is)
-zone_refused refusals.BadTtl made is = inr (ap answer_to_zone is)
+zone_refused = fault_refused answer_to_zone (λ fault. refl)
 
 -- the refusal of a text is that of its answer
 pub refusal_told : (answer answered : Answer) (number : ℕ) → answer ≡ answered → (number ≡ 3) ⊎ (answered ≡ refused number) → (number ≡ 3) ⊎ (answer ≡ refused number)

@@ -1,10 +1,9 @@
 -- What the command `apply` prints.
-use Rattle.std.specs.BTreeMap.{BTreeMap}
-use Rattle.std.specs.List.{list_all}
+use Rattle.std.specs.FinMap as fin
+use Rattle.std.specs.List.{flat_map, list_all}
 use Rattle.std.specs.Map.{values_of}
-use Rattle.std.specs.Prelude.{Bool, Err, List, None, Ok, Option, Result, Some, String, [], false, true, ℕ, ◌&&◌, ◌++◌, ◌∷◌, ◌≡◌, ◌⊎◌}
+use Rattle.std.specs.Prelude.{Bool, Err, List, None, Ok, Option, Result, Some, [], false, if◌then◌else◌, true, ℕ, ◌&&◌, ◌++◌, ◌∷◌}
 use Rattle.std.specs.Str.{is_utf8}
-use Rattle.std.specs.declared.alloc.Global.{Global}
 use Rattle.hex.specs.declared.error.FromHexError.{FromHexError}
 use Rattle.base.specs.DecodeError.{decode_number}
 use Rattle.base.specs.Labels.{NameValue}
@@ -15,20 +14,19 @@ use Rattle.base.specs.declared.dns_class.DNSClass.{DNSClass}
 use Rattle.base.specs.declared.rr_key.RrKey.{RrKey}
 use Rattle.base_data.specs.declared.rdata.RData.{RData}
 use Rattle.op.specs.Message.{MessageValue, message_at}
-use Rattle.op.specs.MessageText.{line}
+use Rattle.op.specs.MessageText.{line, record_lines}
 use Rattle.op.specs.ResponseCode.{code_name}
 use Rattle.op.specs.declared.response_code.ResponseCode.{ResponseCode}
-use Rattle.op_use.specs.Applying.{IsApplied}
-use Rattle.op_use.specs.Server.{sections_of}
+use Rattle.op_use.specs.Applying.{applied, records_applied, records_in, zone_of_sets}
+use Rattle.op_use.specs.Server.{Sections, sections_of}
+use Rattle.op_use.specs.Zone.{Zone}
 use Rattle.rr.specs.RecordSet.{SetValue}
 use Rattle.rr.specs.declared.record.Record.{Record}
 use Rattle.txt.specs.Zone.{zone_of}
-use Rattle.txt.specs.ZoneSets.{ZoneSets}
-use Rattle.dnsmsg.specs.Answer.{Answer, IsGivenBy, done, refused}
-use Rattle.dnsmsg.specs.Answering.{AnswersBy}
+use Rattle.txt.specs.ZoneSets.{ZoneSets, set_at}
+use Rattle.dnsmsg.specs.Answer.{Answer, done, refused}
 use Rattle.dnsmsg.specs.HexInput.{bytes_of}
-use Rattle.dnsmsg.specs.ZoneCommand.{fault_number, text_named, zone_lines}
-use Rattle.dnsmsg.specs.declared.refusal.Refusal.{Refusal}
+use Rattle.dnsmsg.specs.ZoneCommand.{fault_number, origin_line, text_named, zone_lines}
 
 abbrev pub is_in : DNSClass → Bool
 is_in classes.IN = true
@@ -51,47 +49,49 @@ code_word (Some name) = name
 abbrev pub update_lines : ResponseCode → NameValue × ZoneSets → List ℕ
 update_lines code zone = line (code_word (code_name code)) ++ zone_lines zone
 
--- The answer has the code and the zone that come of a map where a message is applied to it.
-pub record UpdatesMap (m : MessageValue) (origin : NameValue) (old : BTreeMap RrKey SetValue) (answer : Answer) : Type 0 where
-  pub code : ResponseCode
-  pub new : BTreeMap RrKey SetValue
-  pub applied : IsApplied origin classes.IN (sections_of m) old code new
-  pub shown : answer ≡ done (update_lines code (origin, new.entries))
+-- ---- the answer
 
--- the answer to sets of the class IN, or refusal 25
-abbrev pub UpdatesSets : MessageValue → NameValue → BTreeMap RrKey SetValue → Answer → Type 0
-UpdatesSets m origin old answer = ((are_sets_in old.entries ≡ true) × UpdatesMap m origin old answer) ⊎ ((are_sets_in old.entries ≡ false) × (answer ≡ refused 25))
+-- the zone of the class IN of an origin and its sets
+abbrev pub zone_in : NameValue × ZoneSets → Zone
+zone_in zone = zone_of_sets zone.0 classes.IN zone.1
+
+-- the records that an update leaves under a key, a line each
+abbrev pub lines_under : Sections → NameValue × ZoneSets → RrKey → List ℕ
+lines_under m zone k = record_lines (records_applied (zone_in zone) m k (records_in (set_at zone.1 k)))
+
+-- the code, the origin, and the records that an update leaves, in the order of their keys
+abbrev pub applied_lines : Sections → NameValue × ZoneSets → List ℕ
+applied_lines m zone =
+    let outcome = applied (zone_in zone) m in
+    line (code_word (code_name outcome.0)) ++ (origin_line zone.0 ++ flat_map (lines_under m zone) (fin.keys outcome.1.sets))
+
+-- the answer to a zone and a message that is applied to it; refusal 25 for another class than IN
+abbrev pub answer_to_update : MessageValue → NameValue × ZoneSets → Answer
+answer_to_update m zone = if are_sets_in zone.1 then done (applied_lines (sections_of m) zone) else refused 25
 
 -- the answer to a zone that was read, or the number of its fault
-abbrev pub UpdatesZone : MessageValue → Result (NameValue × ZoneSets) Fault → Answer → Type 0
-UpdatesZone m (Ok zone) answer = (old : BTreeMap RrKey SetValue) × (old.entries ≡ zone.1) × UpdatesSets m zone.0 old answer
-UpdatesZone m (Err fault) answer = answer ≡ refused (fault_number fault)
+abbrev pub answer_to_parsed : MessageValue → Result (NameValue × ZoneSets) Fault → Answer
+answer_to_parsed m (Ok zone) = answer_to_update m zone
+answer_to_parsed m (Err fault) = refused (fault_number fault)
 
 -- the answer to zone text under an origin, without texts to include; refusal 24 where it isn't UTF-8
-abbrev pub UpdatesText : MessageValue → Option NameValue → List ℕ → Answer → Type 0
-UpdatesText m origin input answer =
-    ((is_utf8 input ≡ true) × UpdatesZone m (zone_of (text_named []) origin input) answer) ⊎ ((is_utf8 input ≡ false) × (answer ≡ refused 24))
+abbrev pub answer_to_text : MessageValue → Option NameValue → List ℕ → Answer
+answer_to_text m origin input = if is_utf8 input then answer_to_parsed m (zone_of (text_named []) origin input) else refused 24
 
 -- the answer where a message was read, or the number of the fault that reading met
-abbrev pub UpdatesRead : Option NameValue → List ℕ → Read MessageValue → Answer → Type 0
-UpdatesRead origin input (Ok (message, end)) answer = UpdatesText message origin input answer
-UpdatesRead origin input (Err fault) answer = answer ≡ refused (decode_number fault)
+abbrev pub answer_to_received : Option NameValue → List ℕ → Read MessageValue → Answer
+answer_to_received origin input (Ok (message, end)) = answer_to_text message origin input
+answer_to_received origin input (Err fault) = refused (decode_number fault)
 
 -- the answer where a word is hexadecimal, or refusal 24
-abbrev pub UpdatesBuffer : Option NameValue → List ℕ → Result (List ℕ) FromHexError → Answer → Type 0
-UpdatesBuffer origin input (Ok bytes) answer = UpdatesRead origin input (message_at bytes 0) answer
-UpdatesBuffer origin input (Err fault) answer = answer ≡ refused 24
+abbrev pub answer_to_word : Option NameValue → List ℕ → Result (List ℕ) FromHexError → Answer
+answer_to_word origin input (Ok bytes) = answer_to_received origin input (message_at bytes 0)
+answer_to_word origin input (Err fault) = refused 24
 
 abbrev pub first_word : List (List ℕ) → List ℕ
 first_word [] = []
 first_word (word ∷ words) = word
 
--- an answer to zone text under an origin, and to an update whose bytes the first word spells in hexadecimal
-abbrev pub IsApplyAnswer : Option NameValue → List (List ℕ) → List ℕ → Answer → Type 0
-IsApplyAnswer origin words input answer = UpdatesBuffer origin input (bytes_of (first_word words)) answer
-
-abbrev pub ApplyAnswers : Option NameValue → List (List ℕ) → List ℕ → Result (String Global) Refusal → Type 0
-ApplyAnswers origin words input result = AnswersBy (IsApplyAnswer origin words input) result
-
-abbrev pub IsApplyGiven : Option NameValue → List (List ℕ) → List ℕ → ℕ → Option (List ℕ) → Option (List ℕ) → Type 0
-IsApplyGiven origin words input status old new = IsGivenBy (IsApplyAnswer origin words input) status old new
+-- the answer to zone text under an origin, and to an update whose bytes the first word spells in hexadecimal
+abbrev pub apply_answer : Option NameValue → List (List ℕ) → List ℕ → Answer
+apply_answer origin words input = answer_to_word origin input (bytes_of (first_word words))

@@ -6,7 +6,7 @@ use Rattle.std.specs.String.{string_bytes}
 use Rattle.std.specs.Str.{bytes_eq}
 use Rattle.dnsmsg.specs.Answer.{IsAnswered, IsPrinted, refused, usage}
 use Rattle.dnsmsg.specs.Answering.{Answers}
-use Rattle.dnsmsg.specs.ApplyCommand.{ApplyAnswers, IsApplyGiven}
+use Rattle.dnsmsg.specs.ApplyCommand.{apply_answer}
 use Rattle.dnsmsg.specs.CutCommand.{CutAnswers, IsCutGiven}
 use Rattle.dnsmsg.specs.HeaderCommand.{header_answer}
 use Rattle.dnsmsg.specs.Limit.{limit_of}
@@ -41,7 +41,7 @@ CommandAnswers (command.OnMessage on_message.Header) words text result = Answers
 CommandAnswers (command.OnMessage on_message.Read) words text result = Answers string_bytes (read_answer text) result
 CommandAnswers (command.OnMessage (on_message.Cut limit)) words text result = CutAnswers limit text result
 CommandAnswers (command.Zone origin) words text result = Answers string_bytes (zone_answer origin (behind_origin words) text) result
-CommandAnswers (command.Apply origin) words text result = ApplyAnswers origin (behind_origin words) text result
+CommandAnswers (command.Apply origin) words text result = Answers string_bytes (apply_answer origin (behind_origin words) text) result
 
 -- What a run of a command gives: the answer to the text, or for want of memory the refusal for that.
 abbrev pub IsGiven : Command → List (List ℕ) → List ℕ → ℕ → Option (List ℕ) → Option (List ℕ) → Type 0
@@ -49,7 +49,7 @@ IsGiven (command.OnMessage on_message.Header) words text status old new = IsAnsw
 IsGiven (command.OnMessage on_message.Read) words text status old new = IsAnswered (read_answer text) status old new
 IsGiven (command.OnMessage (on_message.Cut limit)) words text status old new = IsCutGiven limit text status old new
 IsGiven (command.Zone origin) words text status old new = IsAnswered (zone_answer origin (behind_origin words) text) status old new
-IsGiven (command.Apply origin) words text status old new = IsApplyGiven origin (behind_origin words) text status old new
+IsGiven (command.Apply origin) words text status old new = IsAnswered (apply_answer origin (behind_origin words) text) status old new
 
 -- What a run of words that name no command gives: the usage line, or, where they have an origin to be read, the refusal
 -- for want of memory.

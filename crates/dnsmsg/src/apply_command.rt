@@ -1,11 +1,14 @@
 //! The command `apply`.
 
+ghost use Rattle.std.specs.BTreeMap.{IsOrdered};
 ghost use Rattle.std.specs.List.{list_all};
 ghost use Rattle.std.specs.Prelude.{◌≡◌, IfOk};
 ghost use Rattle.std.specs.String.{string_bytes};
+ghost use Rattle.base.specs.RrKey.{key_cmp};
 ghost use Rattle.base_data.specs.declared.rdata.RData.{RData};
-ghost use Rattle.dnsmsg.specs.Answering.{AnswersBy};
-ghost use Rattle.dnsmsg.specs.ApplyCommand.{ApplyAnswers, UpdatesSets, UpdatesText, are_sets_in, first_word, is_in as is_in_class, is_set_in, update_lines};
+ghost use Rattle.dnsmsg.specs.Answering.{Answers};
+ghost use Rattle.dnsmsg.specs.ApplyCommand.{answer_to_text, answer_to_update, apply_answer, update_lines};
+ghost use Rattle.dnsmsg.specs.ApplyCommand.{are_sets_in, first_word, is_in as is_in_class, is_set_in};
 ghost use Rattle.dnsmsg.specs.Words.{texts};
 ghost use Rattle.op.specs.Message.{message_value};
 ghost use Rattle.rr.specs.declared.record.Record.{Record as Entry};
@@ -35,7 +38,7 @@ pub fn apply(
     words: &[String],
     text: &[u8],
 ) -> Result<String, Refusal>
-    ensures { ApplyAnswers origin (texts words.now) text.now result }
+    ensures { Answers string_bytes (apply_answer origin (texts words.now) text.now) result }
 {
     let bytes = decoded(alloc, first_word(words).as_bytes())?;
     let message = Message::from_vec(alloc, &bytes)?;
@@ -57,7 +60,7 @@ fn apply_to_text(
     origin: Option<Name>,
     text: &[u8],
 ) -> Result<String, Refusal>
-    ensures { AnswersBy (UpdatesText (message_value message.now) origin text.now) result }
+    ensures { Answers string_bytes (answer_to_text (message_value message.now) origin text.now) result }
 {
     let Ok(text) = str::from_utf8(text) else {
         return Err(Refusal::Input);
@@ -74,7 +77,7 @@ fn apply_to_sets(
     sets: &BTreeMap<RrKey, RecordSet>,
 ) -> Result<String, Refusal>
     requires { AreKept sets.now.entries }
-    ensures { AnswersBy (UpdatesSets (message_value message.now) name.now sets.now) result }
+    ensures { Answers string_bytes (answer_to_update (message_value message.now) (name.now, sets.now.entries)) result }
 {
     if !are_sets_in(sets) {
         return Err(Refusal::Class);
@@ -125,7 +128,8 @@ fn update_lines(
     name: &Name,
     sets: BTreeMap<RrKey, RecordSet>,
 ) -> Result<String, AllocError>
-    ensures { IfOk result (λ lines. string_bytes lines ≡ update_lines code (name.now, sets.entries)) }
+    ensures lines { IfOk result (λ lines. string_bytes lines ≡ update_lines code (name.now, sets.entries)) }
+    ensures ordered { IfOk result (λ _. IsOrdered key_cmp sets) }
 {
     let word = code.name().unwrap_or("");
     let mut lines = format!(in alloc; "{word}\n")?;

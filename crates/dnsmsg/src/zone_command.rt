@@ -1,8 +1,10 @@
 //! The command `zone`.
 
+ghost use Rattle.std.specs.BTreeMap.{IsOrdered};
 ghost use Rattle.std.specs.Prelude.{◌≡◌, ◌++◌, ℕ, IfOk, List, OnOk};
 ghost use Rattle.std.specs.List.{after_first, before_first};
 ghost use Rattle.std.specs.String.{string_bytes};
+ghost use Rattle.base.specs.RrKey.{key_cmp};
 ghost use Rattle.op.specs.MessageText.{line, record_lines};
 ghost use Rattle.rr.specs.Record.{record_text};
 ghost use Rattle.txt.specs.Steps.{texts_in};
@@ -72,7 +74,8 @@ pub(crate) fn zone_lines(
     name: &Name,
     sets: BTreeMap<RrKey, RecordSet>,
 ) -> Result<String, AllocError>
-    ensures { IfOk result (λ lines. string_bytes lines ≡ zone_lines (name.now, sets.entries)) }
+    ensures lines { IfOk result (λ lines. string_bytes lines ≡ zone_lines (name.now, sets.entries)) }
+    ensures ordered { IfOk result (λ _. IsOrdered key_cmp sets) }
 {
     let mut lines = format!(in alloc; "$ORIGIN {name}\n")?;
     for (_key, set) in sets {

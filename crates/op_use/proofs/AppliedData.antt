@@ -2,7 +2,7 @@
 use Rattle.base_data.specs.SameData.{same_data}
 use Rattle.base_data.specs.contracts.rdata.RDataEq.TheImpl.Laws.{laws-law as data_laws}
 use Rattle.base_data.specs.declared.rdata.RData.{RData}
-use Rattle.op_use.specs.MapUpdates.{parted}
+use Rattle.op_use.specs.AppliedRecords.{parted}
 use Rattle.op_use.specs.NamedChanges.{datum_of, is_data_of}
 use Rattle.op_use.specs.Server.{added, removed}
 use Rattle.rr.proofs.SetSteps.{replaced_none}

@@ -2,6 +2,7 @@ mod AppliedData
 mod AppliedLemmas
 mod BuiltLemmas
 mod Changes
+mod FollowSteps
 mod Given
 mod KeySteps
 mod ListedSteps
@@ -14,6 +15,7 @@ mod Origins
 mod OwnerKeys
 mod RenewSteps
 mod ServerRowsLemmas
+mod SpelledSteps
 mod UpdateSteps
 mod WholeSteps
 mod ZoneSteps

@@ -11,11 +11,12 @@ use Rattle.op_use.proofs.AppliedData.{Distinct, distinct_joined, distinct_one, d
 use Rattle.op_use.proofs.MapZones.{zone_puts}
 use Rattle.op_use.proofs.Origins.{From, back_among, front_among}
 use Rattle.op_use.proofs.ZoneSteps.{same_key}
+use Rattle.op_use.specs.AppliedRecords.{after_update, parted, records_after}
 use Rattle.op_use.specs.Applying.{IsZoneMap, IsZoneSet, TakesFrom, names_owner, records_at, records_in, zone_of_map}
-use Rattle.op_use.specs.MapUpdates.{IsAfter, IsSetTo, parted}
+use Rattle.op_use.specs.MapUpdates.{IsAfter, IsSetTo}
 use Rattle.op_use.specs.NamedChanges.{datum_of}
 use Rattle.op_use.specs.Server.{record_key, update}
-use Rattle.op_use.specs.Zone.{is_owned, put}
+use Rattle.op_use.specs.Zone.{Zone, is_owned, put}
 use Rattle.rr.specs.RecordSet.{SetValue}
 use Rattle.rr.specs.SetChanges.{joined}
 use Rattle.rr.specs.declared.record.Record.{Record}
@@ -25,7 +26,7 @@ use Rattle.std.proofs.lemmas.List.Folds.{list_any-append}
 use Rattle.std.proofs.lemmas.List.Sums.{fold-append}
 use Rattle.std.specs.BTreeMap as tree
 use Rattle.std.specs.BTreeMap.{BTreeMap}
-use Rattle.std.specs.List.{IsAmong, IsDistinct}
+use Rattle.std.specs.List.{IsAmong, IsDistinct, fold}
 use Rattle.std.specs.Ordering.{eq_by_cmp}
 use Rattle.std.specs.Prelude.{Bool, List, None, Option, Some, [], cond, false, length, map, slice_index_or, suc, take, true, unwrap_or, zero, ℕ, ◌++◌, ◌+◌, ◌<◌}
 use Rattle.std.specs.Prelude.{◌==◌, ◌∷◌, ◌≡◌, ◌≢◌}
@@ -49,23 +50,32 @@ module _ (origin : NameValue) (class : DNSClass) (k : RrKey) (xs : List (Record 
   taken_at r from true q t v a = subst (λ p. IsAmong (records_at m p) v ⊎ IsAmong (r ∷ []) v) (same_key k q t) (from v (subst (λ ys. IsAmong ys v) h.records a))
   taken_at r from false q t v a = inl a
 
+  records_put : (b : Bool) (o : Option SetValue) → records_in (cond b h.set o) ≡ cond b xs (records_in o)
+  records_put true o = h.records
+  records_put false o = refl
+
   pub set_after : (r : Record RData) → IsZoneMap class m → is_owned r.name k ≡ true → From r (records_at m k) xs
-      → update (zone_of_map origin class m) r ≡ put (zone_of_map origin class m) k (map datum_of xs) → IsAfter origin class (r ∷ []) m n
-  set_after r old owned from step = record {
+      → update (zone_of_map origin class m) r ≡ put (zone_of_map origin class m) k (map datum_of xs)
+      → ((q : RrKey) → after_update (zone_of_map origin class m) r q (records_at m q) ≡ cond (eq_by_cmp key_cmp k q) xs (records_at m q))
+      → IsAfter origin class (r ∷ []) m n
+  set_after r old owned from step spelled = record {
     zone = zone_puts origin class m n k h.set (λ s e. (h.fits s e).filled) h.puts ∙ ap (λ ys. put (zone_of_map origin class m) k (map datum_of ys)) h.records ∙ sym step;
     is_map = kept_after old;
     others = λ q no. h.puts q ∙ other_after r owned (eq_by_cmp key_cmp k q) q refl ((or_parts (is_owned r.name q) false no).0);
     taken = λ q v a. taken_at r from (eq_by_cmp key_cmp k q) q refl v (subst (λ o. IsAmong (records_in o) v) (h.puts q) a);
+    exact = λ q. ap records_in (h.puts q) ∙ records_put (eq_by_cmp key_cmp k q) (tree.get key_cmp m q) ∙ sym (spelled q);
   }
 
 -- an update that changes nothing
 pub same_after : (origin : NameValue) (class : DNSClass) (m : BTreeMap RrKey SetValue) (r : Record RData) → IsZoneMap class m
-    → update (zone_of_map origin class m) r ≡ zone_of_map origin class m → IsAfter origin class (r ∷ []) m m
-same_after origin class m r old step = record { zone = sym step; is_map = old; others = λ q no. refl; taken = λ q v a. inl a }
+    → update (zone_of_map origin class m) r ≡ zone_of_map origin class m
+    → ((q : RrKey) → after_update (zone_of_map origin class m) r q (records_at m q) ≡ records_at m q) → IsAfter origin class (r ∷ []) m m
+same_after origin class m r old step spelled =
+    record { zone = sym step; is_map = old; others = λ q no. refl; taken = λ q v a. inl a; exact = λ q. sym (spelled q) }
 
 -- no update
 pub none_after : (origin : NameValue) (class : DNSClass) (m : BTreeMap RrKey SetValue) → IsZoneMap class m → IsAfter origin class [] m m
-none_after origin class m old = record { zone = refl; is_map = old; others = λ q no. refl; taken = λ q v a. inl a }
+none_after origin class m old = record { zone = refl; is_map = old; others = λ q no. refl; taken = λ q v a. inl a; exact = λ q. refl }
 
 taken_chain : (rs : List (Record RData)) (r : Record RData) (m n : BTreeMap RrKey SetValue) (q : RrKey) (v : Record RData) → TakesFrom rs m n
     → IsAmong (records_at n q) v ⊎ IsAmong (r ∷ []) v → IsAmong (records_at m q) v ⊎ IsAmong (rs ++ r ∷ []) v
@@ -74,6 +84,11 @@ taken_chain rs r m n q v old (inl a) = front_of (old q v a) where
   front_of (inl a) = inl a
   front_of (inr a) = inr (front_among rs (r ∷ []) v a)
 taken_chain rs r m n q v old (inr a) = inr (back_among rs (r ∷ []) v a)
+
+last_after : (z : Zone) (rs : List (Record RData)) (r : Record RData) (q : RrKey) (xs : List (Record RData))
+    → records_after z (rs ++ r ∷ []) q xs ≡ after_update (fold update z rs) r q (records_after z rs q xs)
+last_after z [] r q xs = refl
+last_after z (x ∷ rs) r q xs = last_after (update z x) rs r q (after_update z x q xs)
 
 -- one more update
 pub more_after : (origin : NameValue) (class : DNSClass) (rs : List (Record RData)) (r : Record RData) (m n p : BTreeMap RrKey SetValue) → IsAfter origin class rs m n
@@ -85,6 +100,7 @@ more_after origin class rs r m n p first next = record {
       let parts = or_parts (names_owner rs q) (names_owner (r ∷ []) q) (sym (list_any-append (λ (x : Record RData). is_owned x.name q) rs (r ∷ [])) ∙ no) in
       next.others q parts.1 ∙ first.others q parts.0;
   taken = λ q v a. taken_chain rs r m n q v first.taken (next.taken q v a);
+  exact = λ q. next.exact q ∙ (λ i. after_update (first.zone i) r q (first.exact q i)) ∙ sym (last_after (zone_of_map origin class m) rs r q (records_at m q));
 }
 
 -- the steps of a change of one set

@@ -2,7 +2,7 @@
 use Rattle.base_data.specs.SameData.{same_data}
 use Rattle.base_data.specs.declared.rdata.RData.{RData}
 use Rattle.op_use.proofs.AppliedData.{joined_is}
-use Rattle.op_use.specs.MapUpdates.{parted}
+use Rattle.op_use.specs.AppliedRecords.{parted}
 use Rattle.rr.specs.SetChanges.{has_data_of, joined, replaced}
 use Rattle.rr.specs.declared.record.Record.{Record}
 use Rattle.std.proofs.Common.{arith, inl, inr, refl, subst, sym, ◌⊎◌}

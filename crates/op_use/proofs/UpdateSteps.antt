@@ -10,12 +10,15 @@ use Rattle.op_use.proofs.AppliedData.{joined_data, parted_data}
 use Rattle.op_use.proofs.MapSteps.{own_key, same_after, set_after}
 use Rattle.op_use.proofs.MapZones.{data_at, get_zone}
 use Rattle.op_use.proofs.Origins.{from_joined, from_none, from_one, from_parted, none_among}
+use Rattle.op_use.proofs.SpelledSteps.{alias_comes, alias_kept_out, beside_kept_out, guarded_stays, name_goes}
+use Rattle.op_use.proofs.SpelledSteps.{needed_stays, nothing_changes, other_comes, other_parts, set_goes}
 use Rattle.op_use.proofs.ZoneSteps.{same_sets}
 use Rattle.op_use.specs.Applying.{IsZoneMap, IsZoneSet, data_of, records_at, records_in, zone_of_map}
-use Rattle.op_use.specs.MapUpdates.{IsAfter, IsSetTo, Leaves, parted}
+use Rattle.op_use.specs.AppliedRecords.{is_needed, parted}
+use Rattle.op_use.specs.MapUpdates.{IsAfter, IsSetTo, Leaves}
 use Rattle.op_use.specs.NamedChanges.{datum_of, is_left}
 use Rattle.op_use.specs.Server.{OfAny, OfNone, OfNothing, OfZone, added, is_any, is_cname, record_key, removed, type_of_record, update_by, use_of}
-use Rattle.op_use.specs.Zone.{Datum, at, has_set, has_type_at, is_guarded, is_owned, put}
+use Rattle.op_use.specs.Zone.{Datum, has_set, has_type_at, is_guarded, is_owned, put}
 use Rattle.rr.specs.RecordSet.{SetValue, is_soa}
 use Rattle.rr.specs.SetChanges.{joined}
 use Rattle.rr.specs.declared.record.Record.{Record}
@@ -33,57 +36,60 @@ module _ (origin : NameValue) (class : DNSClass) (m n : BTreeMap RrKey SetValue)
   pub after_cname_stays : use_of class r.dns_class ≡ OfZone → is_cname (type_of_record r) ≡ true
       → has_type_at (zone_of_map origin class m) r.name (λ t. not (is_cname t)) ≡ true → IsAfter origin class (r ∷ []) m m
   after_cname_stays u c h = same_after origin class m r old (ap (λ how. update_by how (zone_of_map origin class m) r) u ∙ cond-true _ _ _ c ∙ cond-true _ _ _ h)
+      (λ q. alias_kept_out (zone_of_map origin class m) r (records_at m) q u c h)
 
   pub after_cname : use_of class r.dns_class ≡ OfZone → is_cname (type_of_record r) ≡ true → has_type_at (zone_of_map origin class m) r.name (λ t. not (is_cname t)) ≡ false
       → IsSetTo class (record_key r) (r ∷ []) m n → IsAfter origin class (r ∷ []) m n
   after_cname u c h s = set_after origin class (record_key r) (r ∷ []) m n s r old (own_key r) (from_one r (records_at m (record_key r)))
       (ap (λ how. update_by how (zone_of_map origin class m) r) u ∙ cond-true _ _ _ c ∙ cond-false _ _ _ h)
+      (λ q. alias_comes (zone_of_map origin class m) r (records_at m) q u c h)
 
   pub after_beside_cname : use_of class r.dns_class ≡ OfZone → is_cname (type_of_record r) ≡ false → has_set (zone_of_map origin class m) (key_of r.name types.CNAME) ≡ true
       → IsAfter origin class (r ∷ []) m m
   after_beside_cname u c h = same_after origin class m r old (ap (λ how. update_by how (zone_of_map origin class m) r) u ∙ cond-false _ _ _ c ∙ cond-true _ _ _ h)
+      (λ q. beside_kept_out (zone_of_map origin class m) r (records_at m) q u c h)
 
   pub after_join : use_of class r.dns_class ≡ OfZone → is_cname (type_of_record r) ≡ false → has_set (zone_of_map origin class m) (key_of r.name types.CNAME) ≡ false
       → IsSetTo class (record_key r) (joined r (records_at m (record_key r))) m n → IsAfter origin class (r ∷ []) m n
   after_join u c h s = set_after origin class (record_key r) (joined r (records_at m (record_key r))) m n s r old (own_key r) (from_joined r (records_at m (record_key r)))
       (ap (λ how. update_by how (zone_of_map origin class m) r) u ∙ cond-false _ _ _ c ∙ cond-false _ _ _ h
       ∙ ap (put (zone_of_map origin class m) (record_key r)) (ap (λ xs. added xs r) (data_at origin class m (record_key r)) ∙ sym (joined_data r (records_at m (record_key r)))))
+      (λ q. other_comes (zone_of_map origin class m) r (records_at m) q u c h)
 
-  pub after_kept : use_of class r.dns_class ≡ OfNone
-      → (is_soa (type_of_record r) || (is_guarded (zone_of_map origin class m) r.name (type_of_record r) && nat_le (length (records_at m (record_key r))) 1)) ≡ true
-      → IsAfter origin class (r ∷ []) m m
-  after_kept u h = same_after origin class m r old (ap (λ how. update_by how (zone_of_map origin class m) r) u ∙ cond-true _ _ _ (counted ∙ h)) where
-    counted : (is_soa (type_of_record r)
-        || (is_guarded (zone_of_map origin class m) r.name (type_of_record r) && nat_le (length (at (zone_of_map origin class m) (record_key r))) 1))
-        ≡ (is_soa (type_of_record r) || (is_guarded (zone_of_map origin class m) r.name (type_of_record r) && nat_le (length (records_at m (record_key r))) 1))
-    counted = ap (λ k. is_soa (type_of_record r)
-        || (is_guarded (zone_of_map origin class m) r.name (type_of_record r) && nat_le k 1)) (ap length (data_at origin class m (record_key r))
-        ∙ length-map (records_at m (record_key r)) datum_of)
+  -- whether a record stays, by the map's records
+  abbrev stays : Bool
+  stays = is_soa (type_of_record r) || (is_guarded (zone_of_map origin class m) r.name (type_of_record r) && nat_le (length (records_at m (record_key r))) 1)
 
-  pub after_part : use_of class r.dns_class ≡ OfNone
-      → (is_soa (type_of_record r) || (is_guarded (zone_of_map origin class m) r.name (type_of_record r) && nat_le (length (records_at m (record_key r))) 1)) ≡ false
-      → IsSetTo class (record_key r) (parted r (records_at m (record_key r))) m n → IsAfter origin class (r ∷ []) m n
+  counted : is_needed (zone_of_map origin class m) r ≡ stays
+  counted = ap (λ k. is_soa (type_of_record r) || (is_guarded (zone_of_map origin class m) r.name (type_of_record r) && nat_le k 1))
+      (ap length (data_at origin class m (record_key r)) ∙ length-map (records_at m (record_key r)) datum_of)
+
+  pub after_kept : use_of class r.dns_class ≡ OfNone → stays ≡ true → IsAfter origin class (r ∷ []) m m
+  after_kept u h = same_after origin class m r old (ap (λ how. update_by how (zone_of_map origin class m) r) u ∙ cond-true _ _ _ (counted ∙ h))
+      (λ q. needed_stays (zone_of_map origin class m) r (records_at m) q u (counted ∙ h))
+
+  pub after_part : use_of class r.dns_class ≡ OfNone → stays ≡ false → IsSetTo class (record_key r) (parted r (records_at m (record_key r))) m n
+      → IsAfter origin class (r ∷ []) m n
   after_part u h s = set_after origin class (record_key r) (parted r (records_at m (record_key r))) m n s r old (own_key r) (from_parted r (records_at m (record_key r)))
       (ap (λ how. update_by how (zone_of_map origin class m) r) u ∙ cond-false _ _ _ (counted ∙ h)
-      ∙ ap (put (zone_of_map origin class m) (record_key r)) (ap (λ xs. removed xs r) (data_at origin class m (record_key r)) ∙ sym (parted_data r (records_at m (record_key r))))) where
-        counted : (is_soa (type_of_record r)
-            || (is_guarded (zone_of_map origin class m) r.name (type_of_record r) && nat_le (length (at (zone_of_map origin class m) (record_key r))) 1))
-            ≡ (is_soa (type_of_record r) || (is_guarded (zone_of_map origin class m) r.name (type_of_record r) && nat_le (length (records_at m (record_key r))) 1))
-        counted = ap (λ k. is_soa (type_of_record r)
-            || (is_guarded (zone_of_map origin class m) r.name (type_of_record r) && nat_le k 1)) (ap length (data_at origin class m (record_key r))
-            ∙ length-map (records_at m (record_key r)) datum_of)
+      ∙ ap (put (zone_of_map origin class m) (record_key r)) (ap (λ xs. removed xs r) (data_at origin class m (record_key r))
+      ∙ sym (parted_data r (records_at m (record_key r)))))
+      (λ q. other_parts (zone_of_map origin class m) r (records_at m) q u (counted ∙ h))
 
   pub after_guarded : use_of class r.dns_class ≡ OfAny → is_any (type_of_record r) ≡ false → is_guarded (zone_of_map origin class m) r.name (type_of_record r) ≡ true
       → IsAfter origin class (r ∷ []) m m
   after_guarded u c h = same_after origin class m r old (ap (λ how. update_by how (zone_of_map origin class m) r) u ∙ cond-false _ _ _ c ∙ cond-true _ _ _ h)
+      (λ q. guarded_stays (zone_of_map origin class m) r (records_at m) q u c h)
 
   pub after_set : use_of class r.dns_class ≡ OfAny → is_any (type_of_record r) ≡ false → is_guarded (zone_of_map origin class m) r.name (type_of_record r) ≡ false
       → IsSetTo class (record_key r) [] m n → IsAfter origin class (r ∷ []) m n
   after_set u c h s = set_after origin class (record_key r) [] m n s r old (own_key r) (from_none r (records_at m (record_key r)))
       (ap (λ how. update_by how (zone_of_map origin class m) r) u ∙ cond-false _ _ _ c ∙ cond-false _ _ _ h)
+      (λ q. set_goes (zone_of_map origin class m) r (records_at m) q u c h)
 
   pub after_nothing : use_of class r.dns_class ≡ OfNothing → IsAfter origin class (r ∷ []) m m
   after_nothing u = same_after origin class m r old (ap (λ how. update_by how (zone_of_map origin class m) r) u)
+      (λ q. nothing_changes (zone_of_map origin class m) r (records_at m) q u)
 
   -- all sets of a name
   mapped_cond : (b : Bool) (o : Option SetValue) → option_map data_of (cond b o None) ≡ cond b (option_map data_of o) None
@@ -101,6 +107,10 @@ module _ (origin : NameValue) (class : DNSClass) (m n : BTreeMap RrKey SetValue)
   left_taken true q v a = inl a
   left_taken false q v a = none_among v a
 
+  left_records : (b : Bool) (o : Option SetValue) → records_in (cond b o None) ≡ cond b (records_in o) []
+  left_records true o = refl
+  left_records false o = refl
+
   pub after_name : use_of class r.dns_class ≡ OfAny → is_any (type_of_record r) ≡ true → Leaves origin r.name m n → IsAfter origin class (r ∷ []) m n
   after_name u c h = record {
     zone = ap (λ (sets : FinMap key_cmp (List Datum)). record { origin = origin; class = class; sets = sets }) (same_sets _ _ (λ q.
@@ -112,4 +122,6 @@ module _ (origin : NameValue) (class : DNSClass) (m n : BTreeMap RrKey SetValue)
     is_map = λ q s e. left_kept (is_left (zone_of_map origin class m) r.name q) q s (sym (h q) ∙ e);
     others = λ q free. h q ∙ left_same (is_owned r.name q) _ (tree.get key_cmp m q) ((or_parts (is_owned r.name q) false free).0);
     taken = λ q v a. left_taken (is_left (zone_of_map origin class m) r.name q) q v (subst (λ o. IsAmong (records_in o) v) (h q) a);
+    exact = λ q. ap records_in (h q) ∙ left_records (is_left (zone_of_map origin class m) r.name q) (tree.get key_cmp m q)
+        ∙ sym (name_goes (zone_of_map origin class m) r (records_at m) q u c);
   }

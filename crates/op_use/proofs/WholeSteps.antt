@@ -10,11 +10,13 @@ use Rattle.op.specs.declared.response_code.ResponseCode.TheVariants.{FormErr, NX
 use Rattle.op.specs.declared.response_code.ResponseCode.{ResponseCode}
 use Rattle.op_use.proofs.AppliedData.{any_data}
 use Rattle.op_use.proofs.MapZones.{data_at, set_at, types_at}
-use Rattle.op_use.specs.Applying.{entry_of, IsApplied, IsZoneMap, applied, is_all_served, records_at, records_in, zone_of_map}
+use Rattle.op_use.specs.AppliedRecords.{records_after, records_answered}
+use Rattle.op_use.specs.Applying.{entry_of, IsApplied, IsZoneMap, applied, is_all_served, records_applied, records_at, records_in, zone_of_map}
 use Rattle.op_use.specs.MapFaults.{all_met, fault_at, fault_by, fault_here, found_in, met_at}
 use Rattle.op_use.specs.MapUpdates.{IsAfter}
 use Rattle.op_use.specs.NamedChanges.{datum_of, is_data_of}
-use Rattle.op_use.specs.Server.{OfAny, OfNone, OfNothing, OfZone, Sections, Use as UseValue, and_then, answer, collected, fault, first_fault, is_any, is_met}
+use Rattle.op_use.specs.Server.{Fault, OfAny, OfNone, OfNothing, OfZone, Sections, Use as UseValue, and_then, answer, collected, fault}
+use Rattle.op_use.specs.Server.{first_fault, is_any, is_met}
 use Rattle.op_use.specs.Server.{is_of_zone, is_same_key, prerequisite_by, prerequisite_fault, prerequisites_fault, prescan_fault, record_key, type_of_record}
 use Rattle.op_use.specs.Server.{unless, update, use_of, zone_fault}
 use Rattle.op_use.specs.Zone.{Datum, has_set, has_type_at}
@@ -96,6 +98,13 @@ pub fault_is : (origin : NameValue) (class : DNSClass) (m : BTreeMap RrKey SetVa
 fault_is origin class m s =
     ap (λ f. and_then (zone_fault (zone_of_map origin class m) s.zones) (and_then f (first_fault (prescan_fault (zone_of_map origin class m)) s.updates))) (prerequisites_same origin class m s.prerequisites)
 
+-- what an update that is served leaves under a key
+spelled_as : (origin : NameValue) (class : DNSClass) (m : BTreeMap RrKey SetValue) (s : Sections) (q : RrKey) (found : Fault) → is_all_served s ≡ true
+    → fault_here origin class m s ≡ found
+    → records_applied (zone_of_map origin class m) s q (records_at m q) ≡ records_answered (zone_of_map origin class m) s.updates found q (records_at m q)
+spelled_as origin class m s q found h f =
+    cond-true _ _ _ h ∙ ap (λ c. records_answered (zone_of_map origin class m) s.updates c q (records_at m q)) (sym (fault_is origin class m s) ∙ f)
+
 -- a copy of a map
 module _ (origin : NameValue) (class : DNSClass) (m n : BTreeMap RrKey SetValue) (same : tree.IsUnchanged m n) where
   pub get_copy : (q : RrKey) → tree.get key_cmp n q ≡ tree.get key_cmp m q
@@ -107,19 +116,22 @@ module _ (origin : NameValue) (class : DNSClass) (m n : BTreeMap RrKey SetValue)
   pub map_copy : IsZoneMap class m → IsZoneMap class n
   map_copy old = λ q s e. old q s (sym (get_copy q) ∙ e)
 
-  refused : (s : Sections) (code : ResponseCode) → IsZoneMap class m → (code, zone_of_map origin class m) ≡ applied (zone_of_map origin class m) s → IsApplied origin class s m code n
-  refused s code old h = record {
+  refused : (s : Sections) (code : ResponseCode) → IsZoneMap class m → (code, zone_of_map origin class m) ≡ applied (zone_of_map origin class m) s
+      → ((q : RrKey) → records_applied (zone_of_map origin class m) s q (records_at m q) ≡ records_at m q) → IsApplied origin class s m code n
+  refused s code old h spelled = record {
     served = ap (λ z. (code, z)) zone_copy ∙ h;
     is_map = map_copy old;
     others = (λ q free. get_copy q, λ e. same);
     taken = λ q v a. inl (subst (λ o. IsAmong (records_in o) v) (get_copy q) a);
+    exact = λ q. ap records_in (get_copy q) ∙ sym (spelled q);
   }
 
   pub applied_not : (s : Sections) → IsZoneMap class m → is_all_served s ≡ false → IsApplied origin class s m NotImp n
-  applied_not s old h = refused s NotImp old (sym (cond-false _ _ _ h))
+  applied_not s old h = refused s NotImp old (sym (cond-false _ _ _ h)) (λ q. cond-false _ _ _ h)
 
   pub applied_fault : (s : Sections) (code : ResponseCode) → IsZoneMap class m → is_all_served s ≡ true → fault_here origin class m s ≡ Some code → IsApplied origin class s m code n
   applied_fault s code old h f = refused s code old (sym (cond-true _ _ _ h ∙ ap (answer (zone_of_map origin class m) s.updates) (sym (fault_is origin class m s) ∙ f)))
+      (λ q. spelled_as origin class m s q (Some code) h f)
 
   -- updates of the copy are updates of the map
   pub after_copy : (rs : List (Record RData)) (p : BTreeMap RrKey SetValue) → IsAfter origin class rs n p → IsAfter origin class rs m p
@@ -128,6 +140,7 @@ module _ (origin : NameValue) (class : DNSClass) (m n : BTreeMap RrKey SetValue)
     is_map = after.is_map;
     others = λ q free. after.others q free ∙ get_copy q;
     taken = λ q v a. subst (λ o. IsAmong (records_in o) v ⊎ IsAmong rs v) (get_copy q) (after.taken q v a);
+    exact = λ q. after.exact q ∙ (λ i. records_after (zone_copy i) rs q (records_in (get_copy q i)));
   }
 
 pub applied_all : (origin : NameValue) (class : DNSClass) (m p : BTreeMap RrKey SetValue) (s : Sections) → is_all_served s ≡ true → fault_here origin class m s ≡ None
@@ -138,4 +151,5 @@ applied_all origin class m p s h f after = record {
   is_map = after.is_map;
   others = (after.others, λ e. absurd (e refl));
   taken = after.taken;
+  exact = λ q. after.exact q ∙ sym (spelled_as origin class m s q None h f);
 }

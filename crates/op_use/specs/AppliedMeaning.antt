@@ -1,6 +1,6 @@
 -- What the updates of the builders make of a map of record sets, where their bytes are read and applied.
 use Rattle.std.specs.BTreeMap.{BTreeMap}
-use Rattle.std.specs.Prelude.{Bool, List, not, true, ℕ, ◌&&◌, ◌≡◌, ◌≢◌, [], if◌then◌else◌}
+use Rattle.std.specs.Prelude.{Bool, List, map, not, true, ℕ, ◌&&◌, ◌≡◌, ◌≢◌, [], if◌then◌else◌}
 use Rattle.base.specs.Labels.{NameValue}
 use Rattle.base.specs.RrKey.{key_of}
 use Rattle.base.specs.declared.dns_class.DNSClass.{DNSClass}
@@ -11,12 +11,12 @@ use Rattle.op.specs.Cut.{IsCut, IsUncut}
 use Rattle.op.specs.Message.{IsMessageAt, MessageValue}
 use Rattle.op.specs.declared.response_code.ResponseCode.TheVariants.{NXRRSet, NoError, YXRRSet}
 use Rattle.op.specs.declared.response_code.ResponseCode.{ResponseCode}
-use Rattle.op_use.specs.Applying.{IsApplied, IsZoneMap, zone_of_map}
-use Rattle.op_use.specs.NamedChanges.{has_data_of_set, less_data, less_key, less_name, merged, set_key}
-use Rattle.op_use.specs.Server.{sections_of}
+use Rattle.op_use.specs.Applying.{IsApplied, IsZoneMap, applied, records_applied, zone_of_map}
+use Rattle.op_use.specs.NamedChanges.{datum_of, has_data_of_set, less_data, less_key, less_name, merged, set_key}
+use Rattle.op_use.specs.Server.{Sections, sections_of}
 use Rattle.op_use.specs.SoundSet.{IsFor, IsGiven, NoCname, is_ordinary, is_plain_class}
 use Rattle.op_use.specs.UpdateMessage.{append, compare_and_swap, create, delete_all, delete_by_rdata, delete_rrset, update_message}
-use Rattle.op_use.specs.Zone.{IsZone, Zone, has_set}
+use Rattle.op_use.specs.Zone.{IsZone, Zone, at, has_set}
 use Rattle.rr.specs.RecordSet.{SetValue}
 use Rattle.rr.specs.declared.record.Record.{Record}
 
@@ -31,6 +31,11 @@ AppliesUncut m Premise outcome =
 -- a map to which updates may be applied is a zone
 abbrev pub MapsAreZones : Type 0
 MapsAreZones = (origin : NameValue) (class : DNSClass) (m : BTreeMap RrKey SetValue) → IsZoneMap class m → IsZone (zone_of_map origin class m)
+
+-- the records that an update leaves under a key have the data that the zone has there then
+abbrev pub RecordsHoldTheData : Type 0
+RecordsHoldTheData = (z : Zone) (m : Sections) (k : RrKey) (xs : List (Record RData)) → at z k ≡ map datum_of xs
+    → at (applied z m).1 k ≡ map datum_of (records_applied z m k xs)
 
 abbrev pub CreateApplies : Type 0
 CreateApplies = (id : ℕ) (s : SetValue) (origin : NameValue) (use_edns : Bool)

@@ -8,8 +8,9 @@ use Rattle.base_data.specs.SameData.{same_data}
 use Rattle.base_data.specs.declared.rdata.RData.{RData}
 use Rattle.op.specs.declared.response_code.ResponseCode.TheVariants.{NoError, NotImp}
 use Rattle.op.specs.declared.response_code.ResponseCode.{ResponseCode}
+use Rattle.op_use.specs.AppliedRecords.{records_answered}
 use Rattle.op_use.specs.NamedChanges.{datum_of, set_key}
-use Rattle.op_use.specs.Server.{Sections, is_any, is_cname, serve, type_of_record}
+use Rattle.op_use.specs.Server.{Sections, fault, is_any, is_cname, serve, type_of_record}
 use Rattle.op_use.specs.SoundSet.{is_ordinary}
 use Rattle.op_use.specs.Zone.{Datum, Zone, is_owned}
 use Rattle.rr.specs.RecordSet.{SetValue, is_ns}
@@ -29,9 +30,13 @@ data_of s = map datum_of s.records
 abbrev pub entry_of : RrKey × SetValue → RrKey × List Datum
 entry_of e = (e.0, data_of e.1)
 
+-- the zone whose sets stand under their keys
+abbrev pub zone_of_sets : NameValue → DNSClass → List (RrKey × SetValue) → Zone
+zone_of_sets origin class sets = record { origin = origin; class = class; sets = fin.from_entries (map entry_of sets) }
+
 -- the zone whose sets a map holds
 abbrev pub zone_of_map : NameValue → DNSClass → BTreeMap RrKey SetValue → Zone
-zone_of_map origin class sets = record { origin = origin; class = class; sets = fin.from_entries (map entry_of sets.entries) }
+zone_of_map origin class m = zone_of_sets origin class m.entries
 
 -- A set that a zone of a class may have under a key: its own key, not empty, of that class, no two records of equal data.
 pub record IsZoneSet (of_class : DNSClass) (k : RrKey) (s : SetValue) : Type 0 where
@@ -70,6 +75,11 @@ is_all_served m = list_all is_served_prerequisite m.prerequisites && list_all is
 abbrev pub applied : Zone → Sections → ResponseCode × Zone
 applied z m = if is_all_served m then serve z m else (NotImp, z)
 
+-- The records xs under a key after an update is applied, each as it is spelled: as they were where it isn't served or
+-- is refused.
+abbrev pub records_applied : Zone → Sections → RrKey → List (Record RData) → List (Record RData)
+records_applied z m k xs = if is_all_served m then records_answered z m.updates (fault z m) k xs else xs
+
 -- whether an update names the owner of a key
 abbrev pub names_owner : List (Record RData) → RrKey → Bool
 names_owner rs k = list_any (λ r. is_owned r.name k) rs
@@ -93,10 +103,11 @@ abbrev pub TakesFrom : List (Record RData) → BTreeMap RrKey SetValue → BTree
 TakesFrom rs old new = (k : RrKey) (x : Record RData) → IsAmong (records_at new k) x → IsAmong (records_at old k) x ⊎ IsAmong rs x
 
 -- The code and the new map are those that a server makes of the zone; the new map may be updated again; what no update
--- names stays; and each record was there or came with the updates.
+-- names stays; each record was there or came with the updates; and which, how spelled and in which order is told too.
 pub record IsApplied (origin : NameValue) (class : DNSClass) (s : Sections) (old : BTreeMap RrKey SetValue) (code : ResponseCode) (new : BTreeMap RrKey SetValue)
     : Type 0 where
   pub served : (code, zone_of_map origin class new) ≡ applied (zone_of_map origin class old) s
   pub is_map : IsZoneMap class new
   pub others : KeepsUnnamed code s.updates old new
   pub taken : TakesFrom s.updates old new
+  pub exact : (k : RrKey) → records_at new k ≡ records_applied (zone_of_map origin class old) s k (records_at old k)

@@ -1,4 +1,5 @@
 pub mod AppliedMeaning
+pub mod AppliedRecords
 pub mod Applying
 pub mod DnsResponse
 pub mod Lending

@@ -5,17 +5,17 @@ use Rattle.base.specs.RrKey.{key_cmp}
 use Rattle.base.specs.declared.dns_class.DNSClass.{DNSClass}
 use Rattle.base.specs.declared.rr_key.RrKey.{RrKey}
 use Rattle.base_data.specs.declared.rdata.RData.{RData}
+use Rattle.op_use.specs.AppliedRecords.{records_after}
 use Rattle.op_use.specs.Applying.{records_at, IsZoneMap, IsZoneSet, TakesFrom, names_owner, records_in, zone_of_map}
 use Rattle.op_use.specs.Server.{record_key, type_of_record, OfAny, OfNone, OfNothing, OfZone, Use as UseValue, update}
 use Rattle.op_use.specs.Zone.{is_owned}
 use Rattle.op_use.specs.declared.apply.class_use.Use.TheVariants as uses
 use Rattle.op_use.specs.declared.apply.class_use.Use.{Use}
 use Rattle.rr.specs.RecordSet.{SetValue, is_ns, is_soa}
-use Rattle.rr.specs.SetChanges.{has_data_of}
 use Rattle.rr.specs.declared.record.Record.{Record}
 use Rattle.std.specs.BTreeMap as tree
 use Rattle.std.specs.BTreeMap.{BTreeMap}
-use Rattle.std.specs.List.{filter, fold}
+use Rattle.std.specs.List.{fold}
 use Rattle.std.specs.Ordering.{eq_by_cmp}
 use Rattle.std.specs.Prelude.{Bool, length, nat_le, List, None, Option, Some, cond, false, not, ◌&&◌, ◌||◌, ◌≡◌}
 
@@ -25,10 +25,7 @@ pub record IsAfter (origin : NameValue) (class : DNSClass) (rs : List (Record RD
   pub is_map : IsZoneMap class new
   pub others : (k : RrKey) → names_owner rs k ≡ false → tree.get key_cmp new k ≡ tree.get key_cmp old k
   pub taken : TakesFrom rs old new
-
--- the records without the data of one
-abbrev pub parted : Record RData → List (Record RData) → List (Record RData)
-parted r xs = filter (λ x. not (has_data_of r x)) xs
+  pub exact : (k : RrKey) → records_at new k ≡ records_after (zone_of_map origin class old) rs k (records_at old k)
 
 -- the new map has o under a key, and else what the old one has
 abbrev pub Puts : RrKey → Option SetValue → BTreeMap RrKey SetValue → BTreeMap RrKey SetValue → Type 0

@@ -2,7 +2,7 @@
 
 ghost use Rattle.std.specs.List.{list_any};
 ghost use Rattle.std.specs.Prelude.{◌≡◌, ◌<◌, OnOk, length, set};
-ghost use Rattle.op_use.specs.MapUpdates.{parted};
+ghost use Rattle.op_use.specs.AppliedRecords.{parted};
 ghost use Rattle.rr.specs.SetChanges.{has_data_of, joined, replaced};
 
 use rr::Record;

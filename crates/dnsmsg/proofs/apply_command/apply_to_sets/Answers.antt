@@ -1,6 +1,12 @@
 use Rattle.std.proofs.Common.{sym, ◌∙◌}
-use Rattle.dnsmsg.proofs.ApplyLemmas.{parsed_map}
+use Rattle.op.specs.Message.{message_value}
+use Rattle.dnsmsg.proofs.ApplyLemmas.{parsed_map, update_answered}
 use Rattle.dnsmsg.proofs.apply_command.apply_to_sets.Goals as goal
 
 pub apply_update-requires : goal.apply_update-requires
 apply_update-requires c = parsed_map c.args.sets.now c.requires (sym c.are_sets_in.ensures ∙ c.if-not-are_sets_in.false)
+
+pub returns : goal.returns
+returns c = update_answered (message_value c.args.message.now) c.args.name.now c.args.sets.now c.in_ok-code.changed c.in_ok-code.code _
+    (sym c.are_sets_in.ensures ∙ c.if-not-are_sets_in.false) c.in_ok-code.ensures.applied c.in_ok-update_lines.ensures.ordered
+    c.in_ok-update_lines.ensures.lines

@@ -25,4 +25,4 @@ pub returns : goal.returns
 returns c =
     zone_answers c.args.origin (texts c.args.words.now) c.args.text.now c.in-Ok.text.now c.in_ok-includes.includes c.new.result
     c.in-Ok.ensures.cases.1 c.in-Ok.ensures.cases.0 c.in_ok-includes.ensures c.new.ensures
-    ∙ ap answer_to_zone c.in_ok-name.ensures.zone ∙ ap done (sym c.in_ok-zone_lines.ensures)
+    ∙ ap answer_to_zone c.in_ok-name.ensures.zone ∙ ap done (sym c.in_ok-zone_lines.ensures.lines)

@@ -2,7 +2,7 @@ use Rattle.base.specs.RrKey.{key_of}
 use Rattle.op_use.proofs.MapSteps.{chained, moved, part_distinct}
 use Rattle.op_use.proofs.apply.sets.take_data.Goals as goal
 use Rattle.op_use.specs.Applying.{records_at}
-use Rattle.op_use.specs.MapUpdates.{parted}
+use Rattle.op_use.specs.AppliedRecords.{parted}
 use Rattle.op_use.specs.Server.{type_of_record}
 use Rattle.std.proofs.Common.{ap, ◌∙◌, ◌≡◌}
 
