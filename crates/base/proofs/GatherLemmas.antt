@@ -8,12 +8,13 @@ use Rattle.base.specs.declared.error.decode_error.DecodeError.{DecodeError}
 use Rattle.base.specs.declared.error.decode_error.DecodeError.TheVariants as faults
 use Rattle.base.specs.declared.name.reading.Part.{Part}
 use Rattle.base.specs.declared.name.reading.Part.TheVariants.{Root, Label, Pointer}
-use Rattle.base.specs.Labels.{IsWire, labels_of}
+use Rattle.base.specs.Kept.{IsKept}
+use Rattle.base.specs.Labels.{IsWire, AreLabels, labels_of, wire_of}
 use Rattle.base.specs.Names.{Labels, part_at, with_label, ending, labels_at}
 use Rattle.base.specs.Reading.{◌>>=◌, Fails}
-use Rattle.base.specs.Spelling.{ByteAt, anywhere}
-use Rattle.base.proofs.LabelLemmas.{IsWire-nil, IsWire-push, labels_of-nil, labels_of-push}
-use Rattle.base.proofs.ReadingLemmas.{labels_at-part, labels_at-label, length-range}
+use Rattle.base.specs.Spelling.{ByteAt, anywhere, Spelled}
+use Rattle.base.proofs.LabelLemmas.{IsWire-nil, IsWire-push, AreLabels-append, labels_of-nil, labels_of-push, labels_of_is, wire_of-append, size_of-labels_of}
+use Rattle.base.proofs.ReadingLemmas.{labels_at-part, labels_at-label, labels_again, labels_too_long, length-range, IsRight, labels_right}
 use Rattle.base.proofs.WalkLemmas.{PartIs, is_past, is_root, is_cut_label, is_label, is_bits, is_cut_pointer, is_pointer, part_is}
 
 -- the labels that were read, before those that are read behind them
@@ -26,10 +27,11 @@ ended_at None read = read
 ended_at (Some e) read = ending e read
 
 -- What was gathered, before what is read from at on, is the whole name.
-pub record Gathers (buffer : List ℕ) (first start at used : ℕ) (bytes : List ℕ) (end : Option ℕ) : Type 0 where
-  pub so_far : with_front (labels_of bytes) (ended_at end (labels_at buffer start at used)) ≡ labels_at buffer first first 0
+pub record Gathers (buffer : List ℕ) (first before start at used : ℕ) (bytes : List ℕ) (end : Option ℕ) : Type 0 where
+  pub so_far : with_front (labels_of bytes) (ended_at end (labels_at buffer start at used)) ≡ labels_at buffer first first before
   pub wire : IsWire bytes
-  pub len : length bytes ≡ used
+  pub len : before + length bytes ≡ used
+  pub few : used ≤ 254
   pub low : start ≤ length buffer
   pub inside : at ≤ length buffer
   pub end_inside : unwrap_or end 0 ≤ length buffer
@@ -38,40 +40,41 @@ with_front-nil : (read : Labels) → with_front [] read ≡ read
 with_front-nil (Ok r) = refl
 with_front-nil (Err f) = refl
 
-pub gathers_none : (buffer : List ℕ) (first : ℕ) → first ≤ length buffer → Gathers buffer first first first 0 [] None
-gathers_none buffer first inside = record {
-  so_far = rw labels_of-nil (with_front-nil (labels_at buffer first first 0));
+pub gathers_none : (buffer : List ℕ) (first before : ℕ) → first ≤ length buffer → before ≤ 254 → Gathers buffer first before first first before [] None
+gathers_none buffer first before inside small = record {
+  so_far = rw labels_of-nil (with_front-nil (labels_at buffer first first before));
   wire = IsWire-nil;
-  len = refl;
+  len = omega arith;
+  few = small;
   low = inside;
   inside = inside;
   end_inside = omega arith;
 }
 
-module _ (buffer : List ℕ) (first start at used : ℕ) (bytes : List ℕ) (end : Option ℕ) (gathers : Gathers buffer first start at used bytes end) where
+module _ (buffer : List ℕ) (first before start at used : ℕ) (bytes : List ℕ) (end : Option ℕ) (gathers : Gathers buffer first before start at used bytes end) where
   few : used ≤ 254
-  few = omega (arith, gathers.len, gathers.wire.short)
+  few = gathers.few
 
   -- what is read from here on, as the whole name
-  goes : (read : Labels) → labels_at buffer start at used ≡ read → labels_at buffer first first 0 ≡ with_front (labels_of bytes) (ended_at end read)
+  goes : (read : Labels) → labels_at buffer start at used ≡ read → labels_at buffer first first before ≡ with_front (labels_of bytes) (ended_at end read)
   goes read is = sym gathers.so_far ∙ ap (λ (r : Labels). with_front (labels_of bytes) (ended_at end r)) is
 
-  fails : (f : DecodeError) → labels_at buffer start at used ≡ Err f → labels_at buffer first first 0 ≡ Err f
+  fails : (f : DecodeError) → labels_at buffer start at used ≡ Err f → labels_at buffer first first before ≡ Err f
   fails f is = goes (Err f) is ∙ at_err end f where
     at_err : (end : Option ℕ) (f : DecodeError) → with_front (labels_of bytes) (ended_at end (Err f)) ≡ Err f
     at_err None f = refl
     at_err (Some e) f = refl
 
-  pub at_fault : (f : DecodeError) → part_at buffer at ≡ Err f → labels_at buffer first first 0 ≡ Err f
+  pub at_fault : (f : DecodeError) → part_at buffer at ≡ Err f → labels_at buffer first first before ≡ Err f
   at_fault f is = fails f (labels_at-part buffer start at used (Err f) few is)
 
-  pub at_long : (n : ℕ) → part_at buffer at ≡ Ok (Label n) → 255 < used + n + 2 → labels_at buffer first first 0 ≡ Err faults.BadName
+  pub at_long : (n : ℕ) → part_at buffer at ≡ Ok (Label n) → 255 < used + n + 2 → labels_at buffer first first before ≡ Err faults.BadName
   at_long n is more = fails faults.BadName (labels_at-part buffer start at used (Ok (Label n)) few is ∙ cond-true (nat_lt 255 (used + n + 2)) _ _ (lt-ltb 255 (used + n + 2) more))
 
-  pub at_forward : (t : ℕ) → part_at buffer at ≡ Ok (Pointer t) → start ≤ t → labels_at buffer first first 0 ≡ Err faults.BadName
+  pub at_forward : (t : ℕ) → part_at buffer at ≡ Ok (Pointer t) → start ≤ t → labels_at buffer first first before ≡ Err faults.BadName
   at_forward t is above = fails faults.BadName (labels_at-part buffer start at used (Ok (Pointer t)) few is ∙ cond-true (nat_le start t) _ _ (le-leb start t above))
 
-  pub at_root : part_at buffer at ≡ Ok Root → labels_at buffer first first 0 ≡ Ok (labels_of bytes, unwrap_or end (at + 1))
+  pub at_root : part_at buffer at ≡ Ok Root → labels_at buffer first first before ≡ Ok (labels_of bytes, unwrap_or end (at + 1))
   at_root is = goes (Ok ([], at + 1)) (labels_at-part buffer start at used (Ok Root) few is) ∙ at_end end where
     at_end : (end : Option ℕ) → with_front (labels_of bytes) (ended_at end (Ok ([], at + 1))) ≡ Ok (labels_of bytes, unwrap_or end (at + 1))
     at_end None = ap (λ (labels : List (List ℕ)). Ok (labels, at + 1)) (append-nil (labels_of bytes))
@@ -137,16 +140,17 @@ pub fails_is : {A : Type 0} (f : DecodeError) (read : Result A DecodeError) → 
 fails_is faults.Memory read is = tt
 fails_is f read is = is
 
-module _ (buffer : List ℕ) (first start at used : ℕ) (bytes : List ℕ) (end : Option ℕ) (gathers : Gathers buffer first start at used bytes end) where
+module _ (buffer : List ℕ) (first before start at used : ℕ) (bytes : List ℕ) (end : Option ℕ) (gathers : Gathers buffer first before start at used bytes end) where
   pub root_inside : part_at buffer at ≡ Ok Root → unwrap_or end (at + 1) ≤ length buffer
   root_inside is = either_end end (at + 1) (length buffer) gathers.end_inside (root_part buffer at (part_at buffer at) (part_is buffer at) is)
 
-  pub gathers_pointer : (t : ℕ) → part_at buffer at ≡ Ok (Pointer t) → t < start → Gathers buffer first t t used bytes (Some (unwrap_or end (at + 2)))
+  pub gathers_pointer : (t : ℕ) → part_at buffer at ≡ Ok (Pointer t) → t < start → Gathers buffer first before t t used bytes (Some (unwrap_or end (at + 2)))
   gathers_pointer t is below = record {
-    so_far = ap (with_front (labels_of bytes)) (earlier end (labels_at buffer t t used)) ∙ sym (goes buffer first start at used bytes end gathers (ending (at + 2) (labels_at buffer t t used))
-        (labels_at-part buffer start at used (Ok (Pointer t)) (few buffer first start at used bytes end gathers) is ∙ cond-false (nat_le start t) _ _ (lt-leb start t below)));
+    so_far = ap (with_front (labels_of bytes)) (earlier end (labels_at buffer t t used)) ∙ sym (goes buffer first before start at used bytes end gathers (ending (at + 2) (labels_at buffer t t used))
+        (labels_at-part buffer start at used (Ok (Pointer t)) (few buffer first before start at used bytes end gathers) is ∙ cond-false (nat_le start t) _ _ (lt-leb start t below)));
     wire = gathers.wire;
     len = gathers.len;
+    few = gathers.few;
     low = omega (arith, gathers.low);
     inside = omega (arith, gathers.low);
     end_inside = either_end end (at + 2) (length buffer) gathers.end_inside (pointer_part buffer at t (part_at buffer at) (part_is buffer at) is);
@@ -157,7 +161,7 @@ module _ (buffer : List ℕ) (first start at used : ℕ) (bytes : List ℕ) (end
     earlier (Some e) (Err f) = refl
 
   pub gathers_label : (n size : ℕ) (next : List ℕ) → part_at buffer at ≡ Ok (Label n) → size ≡ 1 + n → used + size + 1 ≤ 255 → next ≡ bytes ++ slice_range buffer at (at + size)
-      → Gathers buffer first start (at + size) (used + size) next end
+      → Gathers buffer first before start (at + size) (used + size) next end
   gathers_label n size next is size_is short next_is =
       let part = label_part buffer at n (part_at buffer at) (part_is buffer at) is in
       let x = slice_range buffer (at + 1) (at + 1 + n) in
@@ -167,7 +171,7 @@ module _ (buffer : List ℕ) (first start at used : ℕ) (bytes : List ℕ) (end
       let pushed : next ≡ bytes ++ (length x ∷ x) = next_is ∙ ap (λ (k : ℕ). bytes ++ slice_range buffer at k) step_is ∙ ap (λ (xs : List ℕ). bytes ++ xs) (label_range buffer at n part.0 part.3) in
       let labels : labels_of next ≡ labels_of bytes ++ x ∷ [] = ap labels_of pushed ∙ labels_of-push bytes x gathers.wire in
       let read : Labels = labels_at buffer start (at + 1 + n) (used + n + 1) in
-      let goes_on : labels_at buffer first first 0 ≡ with_front (labels_of bytes) (ended_at end (with_label x read)) = goes buffer first start at used bytes end gathers (with_label x read)
+      let goes_on : labels_at buffer first first before ≡ with_front (labels_of bytes) (ended_at end (with_label x read)) = goes buffer first before start at used bytes end gathers (with_label x read)
       (labels_at-label buffer start at used n part.0 part.1 part.2 part.3 (omega arith)) in
       let here : labels_at buffer start (at + size) (used + size) ≡ read = ap (λ (k : ℕ). labels_at buffer start k (used + size)) step_is ∙ ap (labels_at buffer start (at + 1 + n)) used_is in
       record {
@@ -175,7 +179,59 @@ module _ (buffer : List ℕ) (first start at used : ℕ) (bytes : List ℕ) (end
             ∙ ap (λ (front : List (List ℕ)). with_front front (ended_at end read)) labels ∙ sym (push_front (labels_of bytes) x end read) ∙ sym goes_on;
         wire = subst IsWire (sym pushed) (IsWire-push bytes x gathers.wire (omega (arith, part.1)) (omega (arith, part.2)) (omega (arith, gathers.len)));
         len = omega (arith, ap length pushed, length-append bytes (length x ∷ x), gathers.len);
+        few = omega arith;
         low = gathers.low;
         inside = omega (arith, part.3);
         end_inside = gathers.end_inside;
       }
+
+-- the bytes of labels behind those before them
+joined : (bytes items : List ℕ) → IsWire bytes → IsWire items → bytes ++ items ≡ wire_of (labels_of bytes ++ labels_of items)
+joined bytes items b i = ap (λ (xs : List ℕ). xs ++ items) (sym b.whole) ∙ ap (λ (xs : List ℕ). wire_of (labels_of bytes) ++ xs) (sym i.whole) ∙ sym (wire_of-append (labels_of bytes) (labels_of items))
+
+pub IsWire-append : (bytes items : List ℕ) → IsWire bytes → IsWire items → length bytes + length items ≤ 254 → IsWire (bytes ++ items)
+IsWire-append bytes items b i short =
+    let is = joined bytes items b i in
+    let labels : labels_of (bytes ++ items) ≡ labels_of bytes ++ labels_of items = labels_of_is (bytes ++ items) _ is in
+    record {
+      whole = ap wire_of labels ∙ sym is;
+      labels = subst AreLabels (sym labels) (AreLabels-append (labels_of bytes) (labels_of items) b.labels i.labels);
+      short = omega (arith, length-append bytes items);
+    }
+
+-- what was read is spelled
+pub spelled_is : (B : List ℕ) (t used e : ℕ) (xs : List ℕ) → used ≤ 254 → labels_at B t t used ≡ Ok (labels_of xs, e) → Spelled B (labels_of xs) t t e
+spelled_is B t used e xs few is = right (labels_at B t t used) is (labels_right B t t used few) where
+  right : (r : Labels) → r ≡ Ok (labels_of xs, e) → IsRight B t t used r → Spelled B (labels_of xs) t t e
+  right (Ok r) same is_right =
+      let equal : r ≡ (labels_of xs, e) = cc in
+      subst (λ (p : List (List ℕ) × ℕ). Spelled B p.0 t t p.1) equal is_right.0
+  right (Err f) same is_right = absurd cc
+
+-- a target that is kept ends the walk
+module _ (buffer : List ℕ) (first before start at used : ℕ) (bytes : List ℕ) (end : Option ℕ) (gathers : Gathers buffer first before start at used bytes end) (t : ℕ) (is : part_at buffer at ≡ Ok (Pointer t)) (below : t < start)
+    (items : List ℕ) (kept : IsKept buffer t items) where
+  goes_there : labels_at buffer first first before ≡ with_front (labels_of bytes) (ended_at end (ending (at + 2) (labels_at buffer t t used)))
+  goes_there = goes buffer first before start at used bytes end gathers (ending (at + 2) (labels_at buffer t t used))
+      (labels_at-part buffer start at used (Ok (Pointer t)) (few buffer first before start at used bytes end gathers) is ∙ cond-false (nat_le start t) _ _ (lt-leb start t below))
+
+  pub at_kept : used + length items + 1 ≤ 255 → labels_at buffer first first before ≡ Ok (labels_of (bytes ++ items), unwrap_or end (at + 2))
+  at_kept short =
+      let size = size_of-labels_of items kept.wire in
+      let there : labels_at buffer t t used ≡ Ok (labels_of items, kept.end) = labels_again used kept.spelled (omega (arith, size)) in
+      let labels : labels_of (bytes ++ items) ≡ labels_of bytes ++ labels_of items = labels_of_is (bytes ++ items) _ (joined bytes items gathers.wire kept.wire) in
+      goes_there ∙ ap (λ (r : Labels). with_front (labels_of bytes) (ended_at end (ending (at + 2) r))) there ∙ at_end end ∙ ap (λ (ls : List (List ℕ)). Ok (ls, unwrap_or end (at + 2))) (sym labels) where
+        at_end : (end : Option ℕ) → with_front (labels_of bytes) (ended_at end (Ok (labels_of items, at + 2))) ≡ Ok (labels_of bytes ++ labels_of items, unwrap_or end (at + 2))
+        at_end None = refl
+        at_end (Some e) = refl
+
+  pub kept_end : unwrap_or end (at + 2) ≤ length buffer
+  kept_end = either_end end (at + 2) (length buffer) gathers.end_inside (pointer_part buffer at t (part_at buffer at) (part_is buffer at) is)
+
+  pub at_kept_long : 255 < used + length items + 1 → labels_at buffer first first before ≡ Err faults.BadName
+  at_kept_long long =
+      let size = size_of-labels_of items kept.wire in
+      goes_there ∙ ap (λ (r : Labels). with_front (labels_of bytes) (ended_at end (ending (at + 2) r))) (labels_too_long used (few buffer first before start at used bytes end gathers) kept.spelled (omega (arith, size))) ∙ at_err end where
+        at_err : (end : Option ℕ) → with_front (labels_of bytes) (ended_at end (Err faults.BadName)) ≡ Err faults.BadName
+        at_err None = refl
+        at_err (Some e) = refl

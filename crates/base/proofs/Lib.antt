@@ -2,6 +2,7 @@ pub mod CharLemmas
 pub mod ClassTexts
 pub mod CompareLemmas
 pub mod CopyLemmas
+pub mod CountLemmas
 pub mod Cutting
 pub mod EscapeLemmas
 pub mod GatherLemmas
@@ -30,6 +31,8 @@ pub mod Refusing
 pub mod SliceLemmas
 pub mod SpellingLemmas
 pub mod SuffixLemmas
+pub mod TailLemmas
+pub mod TargetLemmas
 pub mod TextLawLemmas
 pub mod TextLemmas
 pub mod TokenLemmas

@@ -1,10 +1,11 @@
 -- What walking over the parts of a name reads is what the bytes spell, or the first fault.
-use Rattle.std.proofs.Common.{◌≡◌, ℕ, zero, suc, ◌+◌, ◌-◌, ◌<◌, ◌≤◌, List, ◌∷◌, Bool, true, length, drop, Result, Ok, Err, refl, ap, sym, ◌∙◌, subst, arith, length-take, length-drop, get_or-take, get_or-drop}
+use Rattle.std.proofs.Common.{◌≡◌, ℕ, zero, suc, ◌+◌, ◌-◌, ◌<◌, ◌≤◌, inl, inr, List, ◌∷◌, Bool, true, length, drop, Result, Ok, Err, refl, ap, sym, ◌∙◌, subst, arith, length-take, length-drop, get_or-take, get_or-drop}
 use Rattle.std.specs.Prelude.{nat_lt, nat_le}
 use Rattle.std.specs.List.{slice_range}
-use Rattle.std.proofs.lemmas.Bool.{cond_both, cond-true, cond-false, leb-true, leb-false, ltb-true, ltb-false, le-leb, lt-leb, lt-ltb, le-ltb}
+use Rattle.std.proofs.lemmas.Bool.{cases_lt, cond_both, cond-true, cond-false, leb-true, leb-false, ltb-true, ltb-false, le-leb, lt-leb, lt-ltb, le-ltb}
 use Rattle.std.proofs.lemmas.Grind.{same_number_lists}
 use Rattle.base.specs.declared.error.decode_error.DecodeError.{DecodeError}
+use Rattle.base.specs.declared.error.decode_error.DecodeError.TheVariants as faults
 use Rattle.base.specs.declared.name.reading.Part.{Part}
 use Rattle.base.specs.declared.name.reading.Part.TheVariants.{Root, Label, Pointer}
 use Rattle.base.specs.Faults.{IsFaulty, ended, cut_label, cut_pointer, bad_bits, long, forward, behind_label, behind_pointer}
@@ -112,6 +113,20 @@ labels_again {bytes} {s} {i} used (label {e = e} {x = x} {xs = xs} h some small 
     ∙ ap (λ (y : List ℕ). with_label y (Ok (xs, e))) (range_is bytes i x at)
 labels_again {bytes} {s} {i} used (pointer {b = b} {c = c} h next high below rest) short =
     labels_at-pointer bytes s i used b c (omega arith) h next high below ∙ ap (ending (i + 2)) (labels_again used rest short)
+
+-- a spelling that is too long is refused where it is read
+pub labels_too_long : {bytes : List ℕ} {s i e : ℕ} {xs : List (List ℕ)} (used : ℕ) → used ≤ 254 → Spelled bytes xs s i e → 255 < used + size_of xs + 1 → labels_at bytes s i used ≡ Err faults.BadName
+labels_too_long {bytes} {s} {i} used few (ends h) more = absurd (omega arith)
+labels_too_long {bytes} {s} {i} used few (label {e = e} {x = x} {xs = xs} h some small at rest) more = elim (cases_lt 255 (used + length x + 2)) [
+  | inl over ↦
+      labels_at-part bytes s i used (Ok (Label (length x))) few (part_at-label bytes i (length x) h some small at.inside)
+      ∙ cond-true (nat_lt 255 (used + length x + 2)) _ _ (lt-ltb 255 (used + length x + 2) over)
+  | inr fits ↦
+      labels_at-label bytes s i used (length x) h some small at.inside fits
+      ∙ ap (with_label (slice_range bytes (i + 1) (i + 1 + length x))) (labels_too_long (used + length x + 1) (omega arith) rest (omega arith))
+]
+labels_too_long {bytes} {s} {i} used few (pointer {b = b} {c = c} h next high below rest) more =
+    labels_at-pointer bytes s i used b c few h next high below ∙ ap (ending (i + 2)) (labels_too_long used few rest more)
 
 pub faulty_again : {bytes : List ℕ} {s i used : ℕ} {f : DecodeError} → used ≤ 254 → IsFaulty bytes s i used f → labels_at bytes s i used ≡ Err f
 faulty_again {bytes} {s} {i} {used} few (ended h) = labels_at-part bytes s i used _ few (part_at-past bytes i h)

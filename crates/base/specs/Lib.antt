@@ -1,3 +1,4 @@
+pub mod Counts
 pub mod Cuts
 pub mod DNSClass
 pub mod DecodeError
@@ -5,6 +6,7 @@ pub mod Faults
 pub mod Held
 pub mod Items
 pub mod Keys
+pub mod Kept
 pub mod Labels
 pub mod Laws
 pub mod Many
@@ -15,6 +17,7 @@ pub mod NameText
 pub mod Names
 pub mod Octets
 pub mod ParseError
+pub mod Passed
 pub mod ProtoError
 pub mod Reader
 pub mod Reading
@@ -23,9 +26,11 @@ pub mod RrKey
 pub mod Spelling
 pub mod State
 pub mod Suffixes
+pub mod Targets
 pub mod TextFaults
 pub mod TokenList
 pub mod Tokens
+pub mod Trail
 pub mod Ttl
 pub mod Wire
 pub mod Words

@@ -11,6 +11,7 @@ pub mod name_of;
 pub mod parse;
 mod reading;
 pub mod round_trip;
+mod trail;
 mod writing;
 
 use crate::octets::Octets;

@@ -8,9 +8,11 @@ pub mod encoder;
 pub mod many;
 mod numbers;
 pub mod place;
+pub(crate) mod plain;
 pub mod sized;
 pub mod suffix;
 pub mod suffix_table;
+pub(crate) mod target_table;
 
 pub use decodable::BinDecodable;
 pub use decoder::BinDecoder;

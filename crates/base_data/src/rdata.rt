@@ -2,6 +2,7 @@
 //! stands here.
 
 ghost use Rattle.std.specs.Prelude.{◌≡◌, ◌<◌, ◌≤◌, [], Some, take};
+ghost use Rattle.base.specs.Counts.{Counts};
 ghost use Rattle.base.specs.Laws.{Writes};
 ghost use Rattle.base.specs.Reading.{Reads};
 ghost use Rattle.base_data.specs.Kinds.{DataWord, WritesNames, canonical_data, data_text, kind_at, kind_rank, name_flags, plain_data, type_of_data};
@@ -130,6 +131,7 @@ impl RData {
     ) -> Result<RData, DecodeError>
         requires { 0 < len }
         ensures read { Reads (λ x. x) decoder.old decoder.new result (kind_at record_type len decoder.old.bytes decoder.old.index) }
+        ensures counts { Counts decoder.old decoder.new result }
     {
         match record_type {
             RecordType::A => read_as::<A>(decoder),

@@ -1,6 +1,7 @@
 //! The header of a message (RFC 1035, 4.1.1).
 
 ghost use Rattle.std.specs.Prelude.{◌≡◌, ◌↔◌, ◌<◌, ◌+◌, ◌%◌, ◌||◌, ◌^◌, ℕ, List, [], length, Ok, Err, IfOk, OnOk, OnErr, IsOkUnless, IsErrOf};
+ghost use Rattle.base.specs.Counts.{Counts};
 ghost use Rattle.base.specs.Reading.{Reads};
 ghost use Rattle.base.specs.State.{appended};
 ghost use Rattle.base.specs.Laws.{Keeps, Writes};
@@ -139,6 +140,7 @@ impl BinDecodable for Header {
     #[tactic(auto, unfolding(crate::specs::Header::header_at))]
     fn read(decoder: &mut BinDecoder<'_>) -> Result<Header, DecodeError>
         ensures read { Reads (λ x. x) decoder.old decoder.new result (header_at decoder.old.bytes decoder.old.index) }
+        ensures counts { Counts decoder.old decoder.new result }
         ensures found { IfOk result (λ h. IsHeaderAt decoder.old.bytes decoder.old.index h × (decoder.new.index ≡ decoder.old.index + 12)) }
         ensures only { IsOkUnless result DecodeError.InsufficientBytes }
         ensures short { length decoder.old.bytes < decoder.old.index + 12 ↔ IsErrOf result DecodeError.InsufficientBytes }

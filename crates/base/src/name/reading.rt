@@ -1,12 +1,15 @@
 //! Reads a name (RFC 1035, 4.1.4).
 
-ghost use Rattle.std.specs.Prelude.{◌≡◌, ◌≤◌, ◌+◌, ◌++◌, length, take, slice_range, IfOk, MatchResult};
+ghost use Rattle.std.specs.Prelude.{◌≡◌, ℕ, ◌<◌, ◌≤◌, ◌+◌, ◌++◌, [], Ok, length, take, slice_range, IfOk, OnOk, OnErr, IsOkUnless, MatchResult};
 ghost use Rattle.base.specs.Labels.{IsWire, labels_of};
+ghost use Rattle.base.specs.declared.name.reading.Part.TheVariants.{Pointer};
 ghost use Rattle.base.specs.Names.{part_at, labels_at, name_at};
+ghost use Rattle.base.specs.Passed.{AreSpelled, Followed, inserted, targets};
 ghost use Rattle.base.specs.Reading.{Fails};
 
 use crate::error::DecodeError;
 use crate::name::Name;
+use crate::name::trail::{Passed, Trail};
 use crate::octets::Octets;
 use crate::wire::{BinDecodable, BinDecoder};
 
@@ -33,7 +36,8 @@ enum Part {
 /// What stands at a place of a name, or why nothing can.
 #[tactic(auto, unfolding(crate::specs::Names::part_at))]
 fn part_of(buffer: &[u8], at: usize) -> Result<Part, DecodeError>
-    ensures { result ≡ part_at buffer.now at }
+    ensures value { result ≡ part_at buffer.now at }
+    ensures near { (t : ℕ) → result ≡ Ok (Pointer t) → t < 16384 }
 {
     if at >= buffer.len() {
         return Err(DecodeError::InsufficientBytes);
@@ -71,16 +75,26 @@ fn copy_label(buffer: &[u8], at: usize, size: usize, room: &mut [u8; ROOM], used
     }
 }
 
-/// Gathers the labels of the name at a place, each with its length before it, in `room`. Answers how
-/// many bytes they are, and the place behind the name.
-fn gather(buffer: &[u8], first: usize, room: &mut [u8; ROOM]) -> Result<(usize, usize), DecodeError>
-    requires { first ≤ length buffer.now }
+/// Gathers the labels of the name at the decoder's place, each with its length before it, in `room`, and the pointers
+/// that were followed. Answers how many bytes the labels are, and the place behind the name.
+fn gather(
+    buffer: &[u8],
+    first: usize,
+    decoder: &mut BinDecoder<'_>,
+    room: &mut [u8; ROOM],
+    passed: &mut Trail,
+) -> Result<(usize, usize), DecodeError>
+    requires same { buffer.now ≡ decoder.old.bytes }
+    requires inside { first ≤ length buffer.now }
+    requires none { passed.old ≡ [] }
     ensures read { MatchResult result
         (λ r. labels_at buffer.now first first 0 ≡ Ok (labels_of (take r.0 room.new), r.1))
         (λ e. Fails e (labels_at buffer.now first first 0)) }
     ensures used { IfOk result (λ r. r.0 ≤ 254) }
     ensures end { IfOk result (λ r. r.1 ≤ length buffer.now) }
     ensures wire { IfOk result (λ r. IsWire (take r.0 room.new)) }
+    ensures kept { IfOk result (λ r. AreSpelled buffer.now (take r.0 room.new) passed.new) }
+    ensures followed { Followed (targets passed.new) decoder.old decoder.new }
 {
     let mut used = 0;
     let mut start = first;
@@ -99,23 +113,48 @@ fn gather(buffer: &[u8], first: usize, room: &mut [u8; ROOM]) -> Result<(usize, 
                 at += size;
             }
             Part::Pointer(target) => {
-                let target = usize::from(target);
-                if target >= start {
+                if usize::from(target) >= start {
                     return Err(DecodeError::BadName);
                 }
-                end = Some(end.unwrap_or(at + 2));
-                start = target;
-                at = target;
+                let behind = end.unwrap_or(at + 2);
+                if let Some(labels) = decoder.kept(target) {
+                    if used + labels.len() + 1 > LONGEST {
+                        return Err(DecodeError::BadName);
+                    }
+                    room[used..used + labels.len()].copy_from_slice(labels);
+                    return Ok((used + labels.len(), behind));
+                }
+                passed.push(Passed { target, from: used })?;
+                decoder.count_jump();
+                end = Some(behind);
+                start = usize::from(target);
+                at = start;
             }
         }
     }
+}
+
+/// Keeps the labels behind the pointers that were followed.
+fn keep_all(decoder: &mut BinDecoder<'_>, labels: &[u8], passed: &Trail) -> Result<(), DecodeError>
+    requires { AreSpelled decoder.old.bytes labels.now passed.now }
+    ensures ok { OnOk result (decoder.new ≡ record decoder.old { kept = inserted (targets passed.now) decoder.old.kept }) }
+    ensures err { OnErr result (decoder.new.jumps ≡ decoder.old.jumps) }
+    ensures only { IsOkUnless result DecodeError.Memory }
+{
+    for i in 0..passed.len() {
+        if let Some(pointer) = passed.at(i) {
+            decoder.keep(pointer.target, &labels[pointer.from..])?;
+        }
+    }
+    Ok(())
 }
 
 impl BinDecodable for Name {
     ghost read_at = { name_at };
 
     /// Reads an absolute name at the decoder's place, its pointers followed, and moves behind it
-    /// (RFC 1035, 4.1.4). Grows memory once, and not at all for a name whose labels take up to 29 bytes.
+    /// (RFC 1035, 4.1.4). Grows memory once for a name whose labels take more than 29 bytes, and to keep the labels of each
+    /// pointer target that it follows. A target that is kept already ends the walk.
     ///
     /// Refused with `InsufficientBytes` where the buffer ends inside a piece of the name; with `BadName`
     /// where the top bits of a byte are 01 or 10, where a pointer doesn't go below the start of its piece,
@@ -123,8 +162,16 @@ impl BinDecodable for Name {
     #[tactic(auto, unfolding(crate::specs::Names::name_at))]
     fn read(decoder: &mut BinDecoder<'_>) -> Result<Name, DecodeError> {
         let mut room = [0; ROOM];
-        let (used, end) = gather(decoder.buffer(), decoder.index(), &mut room)?;
+        let mut passed = Trail::new(decoder.allocator());
+        let (used, end) = gather(
+            decoder.buffer(),
+            decoder.index(),
+            decoder,
+            &mut room,
+            &mut passed,
+        )?;
         let octets = Octets::from_front(decoder.allocator(), &room, used, true)?;
+        keep_all(decoder, &room[..used], &passed)?;
         decoder.move_to(end);
         Ok(Name { octets })
     }

@@ -11,6 +11,7 @@ use crate::wire::decoder::BinDecoder;
 /// `read_at` is what a buffer spells at a place: the value and the place behind it, or the first fault.
 pub trait BinDecodable: Drop {
     ghost use Rattle.std.specs.Prelude.{ℕ, List};
+    ghost use Rattle.base.specs.Counts.{Counts};
     ghost use Rattle.base.specs.Reading.{Read, Reads};
 
     ghost read_at: { List ℕ → ℕ → Read Self };
@@ -19,7 +20,8 @@ pub trait BinDecodable: Drop {
     ///
     /// Refused with the first fault, and with `Memory` for want of it. A decoder that refused isn't used again.
     fn read(decoder: &mut BinDecoder<'_>) -> Result<Self, DecodeError>
-        ensures read { Reads (λ x. x) decoder.old decoder.new result (read_at decoder.old.bytes decoder.old.index) };
+        ensures read { Reads (λ x. x) decoder.old decoder.new result (read_at decoder.old.bytes decoder.old.index) }
+        ensures counts { Counts decoder.old decoder.new result };
 }
 
 impl BinDecodable for u16 {

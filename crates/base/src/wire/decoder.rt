@@ -1,11 +1,17 @@
 //! Reads a message's bytes.
 
-ghost use Rattle.std.specs.Prelude.{◌≡◌, ◌-◌, ◌^◌, ◌<◌, ◌≤◌, length, nat_le, IsOkUnless};
+ghost use Rattle.std.specs.Prelude.{◌≡◌, ℕ, true, ◌+◌, ◌-◌, ◌^◌, ◌<◌, ◌≤◌, length, min, nat_le, is_some, IfSome, IsTrue, OnOk, OnErr, IsOkUnless};
+ghost use Rattle.std.specs.FinSet as set;
 ghost use Rattle.std.specs.Int.{w16, w32};
+ghost use Rattle.std.specs.List.{slice_range};
+ghost use Rattle.base.specs.Counts.{Counts};
+ghost use Rattle.base.specs.Kept.{IsKept};
 ghost use Rattle.base.specs.Reader.{begun};
 ghost use Rattle.base.specs.Reading.{Reads, byte_at, bytes_at, number_at};
 
 use crate::error::DecodeError;
+use crate::wire::plain::{Plain, PlainTargets};
+use crate::wire::target_table::TargetTable;
 use std::alloc::Global;
 use std::marker::Model;
 
@@ -15,17 +21,25 @@ pub struct BinDecoder<'a> {
     alloc: Global,
     buffer: &'a [u8],
     index: usize,
+    /// The first offsets that pointers led to where the labels stand in the buffer as they are.
+    plain: PlainTargets,
+    /// The labels at each other offset that a pointer led to.
+    others: TargetTable,
+    jumps: usize,
 }
 
 impl<'a> Model for BinDecoder<'a> {
     ghost use Rattle.std.specs.Prelude.{◌≤◌, length};
-    ghost use Rattle.base.specs.Reader.{Reader};
+    ghost use Rattle.base.specs.Reader.{Reader, reader_code};
+    ghost use Rattle.base.specs.Kept.{AreKept, ArePlain, targets_of};
 
     ghost Value = { Reader };
 
-    ghost view = { λ d. record { bytes = d.buffer.now; index = d.index } };
+    ghost coded = { reader_code };
 
-    ghost invariant = { λ d. d.index ≤ length d.buffer.now };
+    ghost view = { λ d. record { bytes = d.buffer.now; index = d.index; kept = targets_of d.plain d.others; jumps = d.jumps } };
+
+    ghost invariant = { λ d. (d.index ≤ length d.buffer.now) × (ArePlain d.buffer.now d.plain × AreKept d.buffer.now d.others) };
 }
 
 impl<'a> BinDecoder<'a> {
@@ -37,6 +51,9 @@ impl<'a> BinDecoder<'a> {
             alloc,
             buffer,
             index: 0,
+            plain: PlainTargets::none(),
+            others: TargetTable::new(alloc),
+            jumps: 0,
         }
     }
 
@@ -75,6 +92,55 @@ impl<'a> BinDecoder<'a> {
         self.buffer
     }
 
+    /// How many pointers were followed into bytes. The labels that a pointer led to are read once and kept, so it is
+    /// no more than there are offsets that a pointer can name, whatever the buffer.
+    pub fn jumps(&self) -> usize
+        ensures value { result ≡ self.now.jumps }
+        ensures few { set.len self.now.kept ≤ 16384 }
+    {
+        self.jumps
+    }
+
+    /// The labels at an offset that a pointer led to, each with its length before it, where they are kept.
+    pub(crate) fn kept(&self, target: u16) -> Option<&[u8]>
+        ensures is { is_some result ≡ set.contains self.now.kept target }
+        ensures near { (q : ℕ) → set.contains self.now.kept q ≡ true → q < 16384 }
+        ensures spelled { IfSome result (λ labels. IsKept self.now.bytes target labels.now) }
+    {
+        match self.plain.find(target) {
+            Some(len) => {
+                let start = usize::from(target);
+                Some(&self.buffer[start..start + usize::from(len)])
+            }
+            None => self.others.find(target),
+        }
+    }
+
+    /// Keeps the labels at an offset that a pointer led to, each with its length before it.
+    pub(crate) fn keep(&mut self, target: u16, labels: &[u8]) -> Result<(), DecodeError>
+        requires { IsKept self.old.bytes target labels.now }
+        ensures ok { OnOk result (self.new ≡ record self.old { kept = set.insert self.old.kept target }) }
+        ensures err { OnErr result (self.new ≡ self.old) }
+        ensures only { IsOkUnless result DecodeError.Memory }
+    {
+        let plain = Plain {
+            target,
+            len: labels.len() as u8,
+        };
+        if stands_at(self.buffer, usize::from(target), labels) && self.plain.keep(plain) {
+            return Ok(());
+        }
+        self.others.keep(target, labels)?;
+        Ok(())
+    }
+
+    /// Counts a pointer that is followed into bytes.
+    pub(crate) fn count_jump(&mut self)
+        ensures { self.new ≡ record self.old { jumps = min (self.old.jumps + 1) usize.MAX } }
+    {
+        self.jumps = self.jumps.saturating_add(1);
+    }
+
     /// Goes to a place inside the buffer or at its end.
     pub(crate) fn move_to(&mut self, index: usize)
         requires { index ≤ length self.old.bytes }
@@ -87,6 +153,7 @@ impl<'a> BinDecoder<'a> {
     pub fn pop(&mut self) -> Result<u8, DecodeError>
         ensures only { IsOkUnless result DecodeError.InsufficientBytes }
         ensures read { Reads (λ b. b) self.old self.new result (byte_at self.old.bytes self.old.index) }
+        ensures counts { Counts self.old self.new result }
     {
         match self.buffer.get(self.index) {
             Some(byte) => {
@@ -102,6 +169,7 @@ impl<'a> BinDecoder<'a> {
     pub fn read_u16(&mut self) -> Result<u16, DecodeError>
         ensures only { IsOkUnless result DecodeError.InsufficientBytes }
         ensures read { Reads (λ n. n) self.old self.new result (number_at w16 self.old.bytes self.old.index) }
+        ensures counts { Counts self.old self.new result }
     {
         match &self.buffer[self.index..] {
             [high, low, ..] => {
@@ -117,6 +185,7 @@ impl<'a> BinDecoder<'a> {
     pub fn read_u32(&mut self) -> Result<u32, DecodeError>
         ensures only { IsOkUnless result DecodeError.InsufficientBytes }
         ensures read { Reads (λ n. n) self.old self.new result (number_at w32 self.old.bytes self.old.index) }
+        ensures counts { Counts self.old self.new result }
     {
         match &self.buffer[self.index..] {
             [highest, high, low, lowest, ..] => {
@@ -131,6 +200,7 @@ impl<'a> BinDecoder<'a> {
     pub fn read_slice(&mut self, len: usize) -> Result<&'a [u8], DecodeError>
         ensures only { IsOkUnless result DecodeError.InsufficientBytes }
         ensures read { Reads (λ bytes. bytes.now) self.old self.new result (bytes_at len self.old.bytes self.old.index) }
+        ensures counts { Counts self.old self.new result }
     {
         let start = self.index;
         if len > self.buffer.len() - start {
@@ -139,4 +209,14 @@ impl<'a> BinDecoder<'a> {
         self.index += len;
         Ok(&self.buffer[start..start + len])
     }
+}
+
+/// Whether the labels stand in the buffer at a place.
+fn stands_at(buffer: &[u8], start: usize, labels: &[u8]) -> bool
+    requires { start < 2 ^ 16 }
+    ensures inside { IsTrue result → start + length labels.now ≤ length buffer.now }
+    ensures same { IsTrue result → slice_range buffer.now start (start + length labels.now) ≡ labels.now }
+{
+    let end = start + labels.len();
+    end <= buffer.len() && &buffer[start..end] == labels
 }

@@ -1,5 +1,6 @@
 //! Reads values one behind the other.
 
+ghost use Rattle.base.specs.Counts.{Counts};
 ghost use Rattle.base.specs.Many.{many_at};
 ghost use Rattle.base.specs.Reading.{Reads};
 
@@ -15,6 +16,7 @@ pub fn read_many<T: BinDecodable>(
     count: usize,
 ) -> Result<Vec<T>, DecodeError>
     ensures read { Reads (λ v. v.items) decoder.old decoder.new result (many_at T.read_at count decoder.old.bytes decoder.old.index) }
+    ensures counts { Counts decoder.old decoder.new result }
 {
     let mut values = Vec::new(decoder.allocator());
     for _ in 0..count {

@@ -1,6 +1,7 @@
 //! Reads data by type and length.
 
 ghost use Rattle.std.specs.Prelude.{◌≡◌, ◌<◌};
+ghost use Rattle.base.specs.Counts.{Counts};
 ghost use Rattle.base.specs.Reading.{Reads, bytes_at};
 ghost use Rattle.base_data.specs.Kinds.{as_any};
 ghost use Rattle.base_data.specs.RData.{in_data, rdata_at};
@@ -23,6 +24,7 @@ impl RData {
         len: u16,
     ) -> Result<RData, DecodeError>
         ensures read { Reads (λ x. x) decoder.old decoder.new result (rdata_at record_type len decoder.old.bytes decoder.old.index) }
+        ensures counts { Counts decoder.old decoder.new result }
     {
         if len == 0 {
             return Ok(RData::Update0(record_type));
@@ -54,6 +56,7 @@ fn inside(record_type: RecordType, fault: DecodeError) -> DecodeError
 /// Data whose end is told by its length alone.
 pub(crate) trait SizedData: RecordData {
     ghost use Rattle.std.specs.Prelude.{◌<◌, ℕ, List};
+    ghost use Rattle.base.specs.Counts.{Counts};
     ghost use Rattle.base.specs.Reading.{Read, Reads};
 
     ghost sized_at: { ℕ → List ℕ → ℕ → Read Self };
@@ -63,7 +66,8 @@ pub(crate) trait SizedData: RecordData {
     /// Refused with the first fault, and with `Memory` for want of it. A decoder that refused isn't used again.
     fn read(decoder: &mut BinDecoder<'_>, len: u16) -> Result<Self, DecodeError>
         requires { 0 < len }
-        ensures read { Reads (λ x. x) decoder.old decoder.new result (sized_at len decoder.old.bytes decoder.old.index) };
+        ensures read { Reads (λ x. x) decoder.old decoder.new result (sized_at len decoder.old.bytes decoder.old.index) }
+        ensures counts { Counts decoder.old decoder.new result };
 }
 
 /// Reads the data of a kind that ends by itself.
@@ -71,6 +75,7 @@ pub(crate) fn read_as<R: BinDecodable + RecordData>(
     decoder: &mut BinDecoder<'_>,
 ) -> Result<RData, DecodeError>
     ensures read { Reads (λ x. x) decoder.old decoder.new result (as_any R.as_rdata (R.read_at decoder.old.bytes decoder.old.index)) }
+    ensures counts { Counts decoder.old decoder.new result }
 {
     Ok(R::read(decoder)?.into_rdata())
 }
@@ -82,6 +87,7 @@ pub(crate) fn read_sized<R: SizedData>(
 ) -> Result<RData, DecodeError>
     requires { 0 < len }
     ensures read { Reads (λ x. x) decoder.old decoder.new result (as_any R.as_rdata (R.sized_at len decoder.old.bytes decoder.old.index)) }
+    ensures counts { Counts decoder.old decoder.new result }
 {
     Ok(R::read(decoder, len)?.into_rdata())
 }
@@ -94,6 +100,7 @@ pub(crate) fn read_carried(
 ) -> Result<RData, DecodeError>
     requires { 0 < len }
     ensures read { Reads (λ x. x) decoder.old decoder.new result (as_any (kinds.Unknown code) (bytes_at len decoder.old.bytes decoder.old.index)) }
+    ensures counts { Counts decoder.old decoder.new result }
 {
     let rdata = NULL::read(decoder, len)?;
     Ok(RData::Unknown { code, rdata })

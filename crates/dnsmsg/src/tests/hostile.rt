@@ -2,6 +2,7 @@
 
 mod changed;
 mod fronts;
+mod jumps;
 mod messages;
 mod names;
 mod rows;

@@ -1,6 +1,7 @@
 //! Reads messages (RFC 1035, 4.1).
 
 ghost use Rattle.std.specs.Prelude.{◌≡◌, ◌⊎◌, ℕ, IfErr, IfOk, MatchResult};
+ghost use Rattle.base.specs.Counts.{Counts};
 ghost use Rattle.base.specs.Many.{many_at};
 ghost use Rattle.base.specs.Reading.{Fails, Reads};
 ghost use Rattle.op.specs.Fault.{IsMessageFault};
@@ -33,6 +34,7 @@ impl Message {
         count: usize,
     ) -> Result<Vec<Query>, ProtoError>
         ensures read { ReadsOrDecodes (λ v. v.items) decoder.old decoder.new result (many_at query_at count decoder.old.bytes decoder.old.index) }
+        ensures counts { Counts decoder.old decoder.new result }
     {
         Ok(read_many::<Query>(decoder, count)?)
     }
@@ -52,6 +54,7 @@ impl Message {
         op_code: OpCode,
     ) -> Result<(Vec<Record>, Option<Edns>, Option<Box<Record<TSIG>>>), DecodeError>
         ensures read { Reads parts_value decoder.old decoder.new result (section_at is_additional op_code count decoder.old.bytes decoder.old.index) }
+        ensures counts { Counts decoder.old decoder.new result }
     {
         let section = Message::read_section(decoder, count, is_additional, op_code)?;
         Ok((section.records, section.edns, section.signature))
@@ -64,6 +67,7 @@ impl Message {
         op_code: OpCode,
     ) -> Result<Section, DecodeError>
         ensures read { Reads section_value decoder.old decoder.new result (section_at is_additional op_code count decoder.old.bytes decoder.old.index) }
+        ensures counts { Counts decoder.old decoder.new result }
     {
         let mut section = Section::new(decoder.allocator());
         // a count that lies takes no more room than the bytes that are left could fill
@@ -84,6 +88,7 @@ impl Message {
         op_code: OpCode,
     ) -> Result<Sections, DecodeError>
         ensures read { Reads sections_value decoder.old decoder.new result (sections_at op_code counts decoder.old.bytes decoder.old.index) }
+        ensures counts { Counts decoder.old decoder.new result }
     {
         let answers = Message::read_section(decoder, usize::from(counts.answers), false, op_code)?;
         let authorities = Message::read_section(
@@ -113,6 +118,7 @@ impl Message {
     #[tactic(auto, unfolding(crate::specs::Message::message_at))]
     pub fn read(decoder: &mut BinDecoder<'_>) -> Result<Message, DecodeError>
         ensures read { Reads message_value decoder.old decoder.new result (message_at decoder.old.bytes decoder.old.index) }
+        ensures counts { Counts decoder.old decoder.new result }
     {
         let header = Header::read(decoder)?;
         let queries = read_many::<Query>(decoder, usize::from(header.counts.queries))?;

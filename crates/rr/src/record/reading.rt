@@ -1,6 +1,7 @@
 //! Reads records.
 
 ghost use Rattle.std.specs.Prelude.{◌≡◌};
+ghost use Rattle.base.specs.Counts.{Counts};
 ghost use Rattle.base.specs.Reading.{Reads};
 ghost use Rattle.rr.specs.Record.{body_at, class_value, flush_value, is_opt_type, record_at};
 
@@ -57,6 +58,7 @@ fn read_body(
     record_type: RecordType,
 ) -> Result<Record<RData>, DecodeError>
     ensures read { Reads (λ x. x) decoder.old decoder.new result (body_at name record_type decoder.old.bytes decoder.old.index) }
+    ensures counts { Counts decoder.old decoder.new result }
 {
     let (dns_class, mdns_cache_flush) = class_of_field(record_type, decoder.read_u16()?);
     let ttl = decoder.read_u32()?;

@@ -1,6 +1,10 @@
+use Rattle.base.specs.Counts.{IsCounted}
 use Rattle.op.proofs.SectionLemmas.{Takes}
 use Rattle.op.specs.Section.{section_value}
 use Rattle.op.proofs.message.Message.read_section.Given as goal
 
 abbrev pub invariant-loop : goal.invariant-loop
-invariant-loop l = Takes l.is_additional l.op_code l.count l.counter l.fn.decoder.bytes l.decoder.bytes l.fn.decoder.index l.decoder.index (section_value l.section)
+invariant-loop l = record {
+  takes : Takes l.is_additional l.op_code l.count l.counter l.fn.decoder.bytes l.decoder.bytes l.fn.decoder.index l.decoder.index (section_value l.section);
+  counted : IsCounted l.fn.decoder → IsCounted l.decoder;
+}

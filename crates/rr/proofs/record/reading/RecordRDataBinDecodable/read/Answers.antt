@@ -7,34 +7,32 @@ use Rattle.rr.proofs.RecordLemmas.{not_root}
 use Rattle.rr.proofs.record.reading.RecordRDataBinDecodable.read.Goals as goal
 use Rattle.rr.proofs.record.reading.RecordRDataBinDecodable.read.Goals.{else-is_opt-via-then-is_opt+else-not-is_root, else-is_opt-via-else-is_opt}
 
-pub returns-in_err-name : goal.returns-in_err-name
-returns-in_err-name c =
+pub returns-in_err-name-clause-read : goal.returns-in_err-name-clause-read
+returns-in_err-name-clause-read c =
     let p = err_from_is_err_and c.from_residual.result c.from_residual.ensures.1 in
     let at = c.args.decoder.now in
-    record { read = rw (p.1, p.2) (name_fails at.bytes at.index c.in_err-name.field-0.0 c.in_err-name.ensures.read) }
+    rw (p.1, p.2) (name_fails at.bytes at.index c.in_err-name.field-0.0 c.in_err-name.ensures.read)
 
-pub returns-in_err-record_type : goal.returns-in_err-record_type
-returns-in_err-record_type c =
+pub returns-in_err-record_type-clause-read : goal.returns-in_err-record_type-clause-read
+returns-in_err-record_type-clause-read c =
     let p = err_from_is_err_and c.from_residual-in_err-record_type.result c.from_residual-in_err-record_type.ensures.1 in
     let at = c.args.decoder.now in
     let next = c.read.new.decoder in
     let name = c.in_ok-name.ensures.read in
-    record { read = rw (p.1, p.2) (type_fails at.bytes at.index c.in_ok-name.name next.index name.0 next.bytes name.1 c.in_err-record_type.field-0.0 c.in_err-record_type.ensures.read) }
+    rw (p.1, p.2) (type_fails at.bytes at.index c.in_ok-name.name next.index name.0 next.bytes name.1 c.in_err-record_type.field-0.0 c.in_err-record_type.ensures.read)
 
-pub returns-then-not-is_root : goal.returns-then-not-is_root
-returns-then-not-is_root c =
+pub returns-then-not-is_root-clause-read : goal.returns-then-not-is_root-clause-read
+returns-then-not-is_root-clause-read c =
     let at = c.args.decoder.now in
     let next = c.read.new.decoder in
     let name = c.in_ok-name.ensures.read in
     let type = c.in_ok-record_type.ensures.read in
     let labelled = not_root at.bytes at.index c.in_ok-name.name next.index c.is_root.result name.0 c.is_root.ensures c.if-not-is_root.true in
-    record {
-      read = wrong_owner at.bytes at.index c.in_ok-name.name next.index name.0 next.bytes name.1
-          c.in_ok-record_type.record_type c.read-2.new.decoder.index type.0 (sym c.is_opt.ensures ∙ c.if-is_opt.true) labelled;
-    }
+    wrong_owner at.bytes at.index c.in_ok-name.name next.index name.0 next.bytes name.1
+          c.in_ok-record_type.record_type c.read-2.new.decoder.index type.0 (sym c.is_opt.ensures ∙ c.if-is_opt.true) labelled
 
-pub returns : goal.returns
-returns c =
+pub returns-clause-read : goal.returns-clause-read
+returns-clause-read c =
     let at = c.args.decoder.now in
     let next = c.read.new.decoder in
     let last = c.read-2.new.decoder in
@@ -47,7 +45,5 @@ returns c =
       | else-is_opt-via-else-is_opt w ↦ other_type at.bytes at.index owner next.index name.0 next.bytes name.1 kind last.index type.0 (sym c.is_opt.ensures ∙ w.if-is_opt.false)
     ] in
     let same = type.1 ∙ name.1 in
-    record {
-      read = record_read at.bytes at.index owner next.index name.0 next.bytes name.1 kind last.index type.0 at last c.read_body.new.decoder c.read_body.result same
-          (subst (λ (bytes : List ℕ). Reads (λ x. x) last c.read_body.new.decoder c.read_body.result (body_at owner kind bytes last.index)) same c.read_body.ensures.read) is;
-    }
+    record_read at.bytes at.index owner next.index name.0 next.bytes name.1 kind last.index type.0 at last c.read_body.new.decoder c.read_body.result same
+          (subst (λ (bytes : List ℕ). Reads (λ x. x) last c.read_body.new.decoder c.read_body.result (body_at owner kind bytes last.index)) same c.read_body.ensures.read) is

@@ -1,0 +1,32 @@
+use Rattle.std.proofs.Common.{◌≡◌, ◌∙◌, ℕ, ◌<◌, Bool, true, false, ap, sym, subst}
+use Rattle.std.specs.Borrow.{Bor}
+use Rattle.std.specs.FinSet as set
+use Rattle.std.specs.Prelude.{is_some, ◌||◌, Option, get_or, None}
+use Rattle.base.specs.Kept.{is_target}
+use Rattle.base.specs.Reader.{Reader}
+use Rattle.base.specs.Targets.{labels_now}
+use Rattle.base.proofs.CountLemmas.{contains_all, found_or, kept_at, kept_near}
+use Rattle.base.proofs.wire.decoder.BinDecoder.kept.Goals as goal
+
+pub returns-in-Some-clause-near : goal.returns-in-Some-clause-near
+returns-in-Some-clause-near c = subst (λ (r : Reader). (q : ℕ) → set.contains r.kept q ≡ true → q < 16384) c.self.view_is (kept_near _ c.self.inside.plain c.self.inside.others c.self.invariant.1.0 c.self.invariant.1.1)
+
+pub returns-in-None-clause-near : goal.returns-in-None-clause-near
+returns-in-None-clause-near c = subst (λ (r : Reader). (q : ℕ) → set.contains r.kept q ≡ true → q < 16384) c.self.view_is (kept_near _ c.self.inside.plain c.self.inside.others c.self.invariant.1.0 c.self.invariant.1.1)
+
+pub returns-in-Some-clause-is : goal.returns-in-Some-clause-is
+returns-in-Some-clause-is c =
+    let plain = c.self.inside.plain in
+    let others = c.self.inside.others in
+    let t = c.args.target in
+    let found : is_target plain t ≡ true = sym c.in-Some.ensures.is in
+    sym (sym (ap (λ (r : Reader). set.contains r.kept t) c.self.view_is) ∙ contains_all plain others t ∙ ap (λ (b : Bool). b || kept_at others t) found)
+
+pub returns-in-None-clause-is : goal.returns-in-None-clause-is
+returns-in-None-clause-is c =
+    let plain = c.self.inside.plain in
+    let others = c.self.inside.others in
+    let t = c.args.target in
+    let none : is_target plain t ≡ false = sym c.in-None.ensures.is in
+    let found : is_some c.find-in-None.result ≡ kept_at others t = found_or c.find-in-None.result ∙ ap is_some c.find-in-None.ensures in
+    found ∙ ap (λ (b : Bool). b || kept_at others t) (sym none) ∙ sym (contains_all plain others t) ∙ ap (λ (r : Reader). set.contains r.kept t) c.self.view_is

@@ -1,0 +1,81 @@
+//! The labels at offsets that pointers led to.
+
+ghost use Rattle.std.specs.Prelude.{◌≡◌, ◌≢◌, ℕ, ◌<◌, ◌≤◌, [], None, Some, length, get_or, OnErr, OnOk};
+ghost use Rattle.base.specs.Targets.{labels_now};
+
+use std::alloc::{AllocError, Global};
+use std::marker::Model;
+
+/// The labels that are kept, each with its length before it, by the offset where they are spelled. An offset is found
+/// without a search, since there are few that a pointer can name.
+#[derive(Drop)]
+pub(crate) struct TargetTable {
+    /// By offset, the place in `kept` behind the number of bytes that its labels are, and 0 where none are kept.
+    places: Vec<usize>,
+    /// Labels one behind the other, before each the number of bytes that they are.
+    kept: Vec<u8>,
+}
+
+/// Makes places up to an offset, the new ones without labels.
+fn reach(places: &mut Vec<usize>, target: usize) -> Result<(), AllocError>
+    requires { target < 65536 }
+    ensures there { OnOk result (target < length places.new.items) }
+    ensures same { (q : ℕ) → get_or places.new.items q 0 ≡ get_or places.old.items q 0 }
+    ensures err { OnErr result (places.new.items ≡ places.old.items) }
+{
+    if target >= places.len() {
+        places.resize(target + 1, 0)?;
+    }
+    Ok(())
+}
+
+impl Model for TargetTable {
+    ghost use Rattle.std.specs.Prelude.{ℕ, List, Option, map, All};
+    ghost use Rattle.base.specs.Targets.{labels_in, IsInside};
+
+    ghost Value = { List (Option (List ℕ)) };
+
+    ghost view = { λ t. map (labels_in t.kept.items) t.places.items };
+
+    ghost invariant = { λ t. All (IsInside t.kept.items) t.places.items };
+}
+
+impl TargetTable {
+    /// No labels. Takes no memory.
+    pub(crate) fn new(alloc: Global) -> TargetTable
+        ensures { result ≡ [] }
+    {
+        TargetTable {
+            places: Vec::new(alloc),
+            kept: Vec::new(alloc),
+        }
+    }
+
+    /// The labels at an offset, if they are kept.
+    pub(crate) fn find(&self, target: u16) -> Option<&[u8]>
+        ensures { labels_now result ≡ get_or self.now target None }
+    {
+        let place = *self.places.get(usize::from(target))?;
+        if place == 0 {
+            return None;
+        }
+        let len = usize::from(self.kept[place - 1]);
+        Some(&self.kept[place..place + len])
+    }
+
+    /// Keeps the labels at an offset. Refused for want of memory, with the table as it was.
+    pub(crate) fn keep(&mut self, target: u16, labels: &[u8]) -> Result<(), AllocError>
+        requires { length labels.now ≤ 254 }
+        ensures ok { OnOk result (get_or self.new target None ≡ Some labels.now) }
+        ensures others { (q : ℕ) → q ≢ target → OnOk result (get_or self.new q None ≡ get_or self.old q None) }
+        ensures err { OnErr result (self.new ≡ self.old) }
+    {
+        let target = usize::from(target);
+        self.kept.reserve(1 + labels.len())?;
+        reach(&mut self.places, target)?;
+        self.kept.push(labels.len() as u8)?;
+        self.places[target] = self.kept.len();
+        self.kept.extend_from_slice(labels)?;
+        Ok(())
+    }
+}
