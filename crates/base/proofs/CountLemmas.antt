@@ -6,15 +6,16 @@ use Rattle.std.specs.FinSet as set
 use Rattle.std.specs.FinSet.{nat_cmp-IsAntisymmetric}
 use Rattle.std.specs.List.{list_any}
 use Rattle.std.specs.Ordering.{nat_cmp, is_eq, eq_by_cmp}
-use Rattle.std.proofs.lemmas.Bool.{cases_Bool, cond-true, cond-false, eq-eqb, eqb-true, false≢true, ne_eqb}
+use Rattle.std.proofs.lemmas.Bool.{cases_Bool, cond-true, cond-false, eq-eqb, eqb-true, eqb-false, false≢true, ne_eqb}
 use Rattle.std.proofs.lemmas.List.Folds.{list_any-append}
 use Rattle.std.proofs.lemmas.Map.Lookups.{exact_unsigned}
-use Rattle.base.specs.Kept.{AreKept, ArePlain, is_target, offsets, targets_of}
+use Rattle.base.specs.Kept.{AreKept, ArePlain, IsKept, is_target, offsets, targets_of}
 use Rattle.std.specs.declared.cmp.Ordering.{Ordering}
 use Rattle.std.specs.declared.cmp.Ordering.TheVariants.{Less, Equal, Greater}
 use Rattle.base.specs.declared.wire.plain.Plain.{Plain}
 use Rattle.base.specs.Counts.{IsCounted}
-use Rattle.base.specs.Passed.{inserted, Followed}
+use Rattle.base.specs.Passed.{Followed}
+use Rattle.base.specs.Passing.{among, inserted}
 use Rattle.base.specs.Reader.{Reader}
 use Rattle.base.specs.Targets.{labels_now}
 use Rattle.std.specs.Borrow.{Bor}
@@ -104,9 +105,22 @@ kept_inserted ps old new t items there others = set.same_set nat_cmp_total nat_c
     ∙ ap (λ (b : Bool). b || (is_target ps q || kept_at old q)) (unsigned_ties t q ∙ (eq_by_cmp_equiv nat_cmp_total).symm t q)
     ∙ ap (λ (b : Bool). eq_by_cmp nat_cmp q t || b) (sym (contains_all ps old q))
     ∙ sym (set.contains-insert nat_cmp_total (targets_of ps old) t q)) where
-  at : (q : ℕ) → (nat_eq t q ≡ true) ⊎ (nat_eq t q ≡ false) → kept_at new q ≡ (nat_eq t q || kept_at old q)
-  at q (inl same) = ap (kept_at new) (sym (eqb-true t q same)) ∙ ap is_some there ∙ ap (λ (b : Bool). b || kept_at old q) (sym same)
-  at q (inr differ) = ap is_some (others q (λ equal. false≢true (sym differ ∙ eq-eqb t q (sym equal)))) ∙ ap (λ (b : Bool). b || kept_at old q) (sym differ)
+      at : (q : ℕ) → (nat_eq t q ≡ true) ⊎ (nat_eq t q ≡ false) → kept_at new q ≡ (nat_eq t q || kept_at old q)
+      at q (inl same) = ap (kept_at new) (sym (eqb-true t q same)) ∙ ap is_some there ∙ ap (λ (b : Bool). b || kept_at old q) (sym same)
+      at q (inr differ) = ap is_some (others q (λ equal. false≢true (sym differ ∙ eq-eqb t q (sym equal)))) ∙ ap (λ (b : Bool). b || kept_at old q) (sym differ)
+
+some_is : {A : Type 0} (x y : A) → ◌≡◌ {A = Option A} (Some x) (Some y) → x ≡ y
+some_is x y same = cc
+
+pub kept_are : (bytes : List ℕ) (old new : List (Option (List ℕ))) (t : ℕ) (items : List ℕ) → AreKept bytes old → IsKept bytes t items → get_or new t None ≡ Some items
+    → ((q : ℕ) → q ≢ t → get_or new q None ≡ get_or old q None) → AreKept bytes new
+kept_are bytes old new t items are one there others u xs is = elim (cases_Bool (nat_eq u t)) [
+  | inl same ↦
+      let equal : u ≡ t = eqb-true u t same in
+      let all : items ≡ xs = some_is items xs (sym there ∙ ap (λ (k : ℕ). get_or new k None) (sym equal) ∙ is) in
+      subst (λ (k : ℕ). IsKept bytes k xs) (sym equal) (subst (IsKept bytes t) all one)
+  | inr differ ↦ are u xs (sym (others u (eqb-false u t differ)) ∙ is)
+]
 
 plain_near : (bytes : List ℕ) (ps : List Plain) → ArePlain bytes ps → (q : ℕ) → is_target ps q ≡ true → q < 16384
 plain_near bytes [] are q is = absurd (false≢true is)
@@ -155,9 +169,46 @@ equal_is Less is = absurd (false≢true is)
 equal_is Equal is = refl
 equal_is Greater is = absurd (false≢true is)
 
+pub same_members : (a b : set.FinSet nat_cmp) → ((q : ℕ) → set.contains a q ≡ set.contains b q) → a ≡ b
+same_members = set.same_set nat_cmp_total nat_cmp-IsAntisymmetric
+
+pub contains-inserted : (ts : List ℕ) (s : set.FinSet nat_cmp) (q : ℕ) → set.contains (inserted ts s) q ≡ (set.contains s q || among ts q)
+contains-inserted ts s q = set.contains-union nat_cmp_total s (set.from_list ts) q ∙ ap (λ (b : Bool). set.contains s q || b) (set.contains-from_list_nat ts q)
+
+pub contains-one_more : (s : set.FinSet nat_cmp) (t q : ℕ) → set.contains (set.insert s t) q ≡ (nat_eq t q || set.contains s q)
+contains-one_more s t q = set.contains-insert nat_cmp_total s t q ∙ ap (λ (b : Bool). b || set.contains s q) (sym (unsigned_ties t q ∙ (eq_by_cmp_equiv nat_cmp_total).symm t q))
+
+or_false : (b : Bool) → (b || false) ≡ b
+or_false true = refl
+or_false false = refl
+
+pub inserted-none : (s : set.FinSet nat_cmp) → inserted [] s ≡ s
+inserted-none s = same_members (inserted [] s) s (λ q. contains-inserted [] s q ∙ or_false (set.contains s q))
+
+behind_all : (a b c : Bool) → (a || (b || (c || false))) ≡ (c || (a || b))
+behind_all true true true = refl
+behind_all true true false = refl
+behind_all true false true = refl
+behind_all true false false = refl
+behind_all false true true = refl
+behind_all false true false = refl
+behind_all false false true = refl
+behind_all false false false = refl
+
 pub inserted-push : (ts : List ℕ) (t : ℕ) (s : set.FinSet nat_cmp) → inserted (ts ++ t ∷ []) s ≡ set.insert (inserted ts s) t
-inserted-push [] t s = refl
-inserted-push (u ∷ ts) t s = inserted-push ts t (set.insert s u)
+inserted-push ts t s = same_members _ _ (λ q.
+    contains-inserted (ts ++ t ∷ []) s q
+    ∙ ap (λ (b : Bool). set.contains s q || b) (list_any-append (λ (y : ℕ). nat_eq y q) ts (t ∷ []))
+    ∙ behind_all (set.contains s q) (among ts q) (nat_eq t q)
+    ∙ ap (λ (b : Bool). nat_eq t q || b) (sym (contains-inserted ts s q))
+    ∙ sym (contains-one_more (inserted ts s) t q))
+
+pub inserted-first : (t : ℕ) (ts : List ℕ) (s : set.FinSet nat_cmp) → inserted (t ∷ ts) s ≡ set.insert (inserted ts s) t
+inserted-first t ts s = same_members _ _ (λ q.
+    contains-inserted (t ∷ ts) s q
+    ∙ in_front (set.contains s q) (nat_eq t q) (among ts q)
+    ∙ ap (λ (b : Bool). nat_eq t q || b) (sym (contains-inserted ts s q))
+    ∙ sym (contains-one_more (inserted ts s) t q))
 
 -- Pointers to these offsets were followed, each to below the one before it, down to start.
 pub record Follows (ts : List ℕ) (start : ℕ) (old new : Reader) : Type 0 where
@@ -172,10 +223,10 @@ pub Follows-none : (start : ℕ) (old : Reader) → Follows [] start old old
 Follows-none start old = record {
   now = refl;
   jumps = λ small. omega arith;
-  all = omega arith;
-  few = λ few. few;
-  near = λ near. near;
-  fresh = λ q below. refl;
+  all = omega (arith, ap set.len (inserted-none old.kept));
+  few = λ few. omega (arith, few, ap set.len (inserted-none old.kept));
+  near = λ near q is. near q (ap (λ (k : set.FinSet nat_cmp). set.contains k q) (sym (inserted-none old.kept)) ∙ is);
+  fresh = λ q below. ap (λ (k : set.FinSet nat_cmp). set.contains k q) (inserted-none old.kept);
 }
 
 module _ (ts : List ℕ) (start t : ℕ) (old new after : Reader) (f : Follows ts start old new) (below : t < start) (small : t < 16384)

@@ -20,6 +20,7 @@ pub mod NameOfLaws
 pub mod NameOfLemmas
 pub mod NamedLemmas
 pub mod ParseLemmas
+pub mod PassLemmas
 pub mod PatchLemmas
 pub mod PointerLemmas
 pub mod ProgressLemmas

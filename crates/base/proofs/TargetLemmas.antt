@@ -49,8 +49,8 @@ module _ (kept labels : List ℕ) where
       let at : length kept + 1 - 1 ≡ length kept = omega arith in
       ap (λ (i : ℕ). get_or whole i 0) at ∙ get_or-append_right kept (length labels ∷ labels) (length kept) (length kept) 0 refl (omega arith)
       ∙ ap (λ (i : ℕ). get_or (length labels ∷ labels) i 0) none where
-    none : length kept - length kept ≡ zero
-    none = omega arith
+        none : length kept - length kept ≡ zero
+        none = omega arith
 
   behind : (xs : List ℕ) → drop (length xs + 1) (xs ++ (length labels ∷ labels)) ≡ labels
   behind xs =
@@ -86,10 +86,10 @@ padded places n short q =
       | inr past ↦ get_or-append_right places _ (length places) q 0 refl (ltb-false q (length places) past) ∙ zeros (n - length places) (q - length places)
           ∙ sym (get_or_past places q 0 (ltb-false q (length places) past))
     ] where
-  zeros : (m i : ℕ) → get_or (replicate m zero) i zero ≡ zero
-  zeros zero i = refl
-  zeros (suc m) zero = refl
-  zeros (suc m) (suc i) = zeros m i
+      zeros : (m i : ℕ) → get_or (replicate m zero) i zero ≡ zero
+      zeros zero i = refl
+      zeros (suc m) zero = refl
+      zeros (suc m) (suc i) = zeros m i
 
 -- The labels by offset, a place behind the others at one offset and those from before at all others.
 pub record IsPut (kept labels old new : List ℕ) (t : ℕ) : Type 0 where

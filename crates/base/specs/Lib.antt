@@ -18,6 +18,7 @@ pub mod Names
 pub mod Octets
 pub mod ParseError
 pub mod Passed
+pub mod Passing
 pub mod ProtoError
 pub mod Reader
 pub mod Reading

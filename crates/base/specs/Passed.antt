@@ -1,22 +1,28 @@
 -- The pointers that reading a name followed.
-use Rattle.std.specs.Prelude.{◌≡◌, ℕ, ◌+◌, ◌^◌, ◌<◌, ◌≤◌, List, [], ◌∷◌, length, drop, map, All}
+use Rattle.std.specs.Prelude.{◌≡◌, ℕ, true, ◌+◌, ◌^◌, ◌<◌, ◌≤◌, List, [], ◌∷◌, length, drop, map, All}
 use Rattle.std.specs.FinSet as set
 use Rattle.std.specs.Ordering.{nat_cmp}
 use Rattle.base.specs.declared.name.trail.Passed.{Passed}
 use Rattle.base.specs.Kept.{IsKept}
+use Rattle.base.specs.Passing.{AreIn, PassesKept, among, inserted, passed}
 use Rattle.base.specs.Reader.{Reader}
+use Rattle.base.specs.Spelling.{Spelled}
 
 abbrev pub targets : List Passed → List ℕ
 targets ps = map (λ p. p.target) ps
 
--- with these offsets too
-abbrev pub inserted : List ℕ → set.FinSet nat_cmp → set.FinSet nat_cmp
-inserted [] kept = kept
-inserted (t ∷ ts) kept = inserted ts (set.insert kept t)
-
 -- the labels from there on are those behind each pointer
 abbrev pub AreSpelled : List ℕ → List ℕ → List Passed → Type 0
 AreSpelled bytes labels ps = All (λ p. (p.from ≤ length labels) × IsKept bytes p.target (drop p.from labels)) ps
+
+-- Behind each pointer kept offsets are passed, and those of the pointers that were followed later.
+abbrev pub PassLater : List ℕ → set.FinSet nat_cmp → List Passed → Type 0
+PassLater bytes kept [] = Unit {0}
+PassLater bytes kept (p ∷ ps) = PassesKept bytes (inserted (targets ps) kept) p.target × PassLater bytes kept ps
+
+-- these offsets are passed by what is spelled at t, and else kept ones alone
+abbrev pub PassesThese : List ℕ → set.FinSet nat_cmp → ℕ → List ℕ → Type 0
+PassesThese bytes kept t ts = (xs : List (List ℕ)) (e : ℕ) (h : Spelled bytes xs t t e) → AreIn (inserted ts kept) (passed h) × ((q : ℕ) → among ts q ≡ true → among (passed h) q ≡ true)
 
 -- Pointers to these offsets were followed, none of them twice and none that was kept, and nothing is kept yet.
 pub record Followed (ts : List ℕ) (old new : Reader) : Type 0 where

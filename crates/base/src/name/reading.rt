@@ -1,11 +1,15 @@
 //! Reads a name (RFC 1035, 4.1.4).
 
 ghost use Rattle.std.specs.Prelude.{◌≡◌, ℕ, ◌<◌, ◌≤◌, ◌+◌, ◌++◌, [], Ok, length, take, slice_range, IfOk, OnOk, OnErr, IsOkUnless, MatchResult};
+ghost use Rattle.std.specs.FinSet as set;
+ghost use Rattle.base.specs.Counts.{Counts};
 ghost use Rattle.base.specs.Labels.{IsWire, labels_of};
 ghost use Rattle.base.specs.declared.name.reading.Part.TheVariants.{Pointer};
 ghost use Rattle.base.specs.Names.{part_at, labels_at, name_at};
-ghost use Rattle.base.specs.Passed.{AreSpelled, Followed, inserted, targets};
-ghost use Rattle.base.specs.Reading.{Fails};
+ghost use Rattle.base.specs.Passed.{AreSpelled, Followed, PassLater, PassesThese, targets};
+ghost use Rattle.base.specs.Passing.{inserted, passed};
+ghost use Rattle.base.specs.Reading.{Fails, Reads};
+ghost use Rattle.base.specs.Spelling.{Spelled};
 
 use crate::error::DecodeError;
 use crate::name::Name;
@@ -95,6 +99,8 @@ fn gather(
     ensures wire { IfOk result (λ r. IsWire (take r.0 room.new)) }
     ensures kept { IfOk result (λ r. AreSpelled buffer.now (take r.0 room.new) passed.new) }
     ensures followed { Followed (targets passed.new) decoder.old decoder.new }
+    ensures these { IfOk result (λ r. PassesThese buffer.now decoder.old.kept first (targets passed.new)) }
+    ensures later { IfOk result (λ r. PassLater buffer.now decoder.old.kept passed.new) }
 {
     let mut used = 0;
     let mut start = first;
@@ -134,14 +140,16 @@ fn gather(
     }
 }
 
-/// Keeps the labels behind the pointers that were followed.
+/// Keeps the labels behind the pointers that were followed, the last of them first, so that those behind a kept one are
+/// kept at any time.
 fn keep_all(decoder: &mut BinDecoder<'_>, labels: &[u8], passed: &Trail) -> Result<(), DecodeError>
-    requires { AreSpelled decoder.old.bytes labels.now passed.now }
+    requires spelled { AreSpelled decoder.old.bytes labels.now passed.now }
+    requires later { PassLater decoder.old.bytes decoder.old.kept passed.now }
     ensures ok { OnOk result (decoder.new ≡ record decoder.old { kept = inserted (targets passed.now) decoder.old.kept }) }
     ensures err { OnErr result (decoder.new.jumps ≡ decoder.old.jumps) }
     ensures only { IsOkUnless result DecodeError.Memory }
 {
-    for i in 0..passed.len() {
+    for i in (0..passed.len()).rev() {
         if let Some(pointer) = passed.at(i) {
             decoder.keep(pointer.target, &labels[pointer.from..])?;
         }
@@ -160,7 +168,12 @@ impl BinDecodable for Name {
     /// where the top bits of a byte are 01 or 10, where a pointer doesn't go below the start of its piece,
     /// and where the name would have more than 255 bytes; and for want of memory.
     #[tactic(auto, unfolding(crate::specs::Names::name_at))]
-    fn read(decoder: &mut BinDecoder<'_>) -> Result<Name, DecodeError> {
+    fn read(decoder: &mut BinDecoder<'_>) -> Result<Name, DecodeError>
+        ensures read { Reads (λ x. x) decoder.old decoder.new result (name_at decoder.old.bytes decoder.old.index) }
+        ensures counts { Counts decoder.old decoder.new result }
+        ensures passes { IfOk result (λ n. (h : Spelled decoder.old.bytes n.labels decoder.old.index decoder.old.index decoder.new.index)
+            → decoder.new.kept ≡ set.union decoder.old.kept (set.from_list (passed h))) }
+    {
         let mut room = [0; ROOM];
         let mut passed = Trail::new(decoder.allocator());
         let (used, end) = gather(

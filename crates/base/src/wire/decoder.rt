@@ -1,16 +1,16 @@
 //! Reads a message's bytes.
 
-ghost use Rattle.std.specs.Prelude.{◌≡◌, ℕ, true, ◌+◌, ◌-◌, ◌^◌, ◌<◌, ◌≤◌, length, min, nat_le, is_some, IfSome, IsTrue, OnOk, OnErr, IsOkUnless};
+ghost use Rattle.std.specs.Prelude.{◌≡◌, ℕ, true, ◌+◌, ◌-◌, ◌^◌, ◌<◌, ◌≤◌, length, min, nat_le, is_some, IfSome, OnOk, OnErr, IsOkUnless};
 ghost use Rattle.std.specs.FinSet as set;
 ghost use Rattle.std.specs.Int.{w16, w32};
-ghost use Rattle.std.specs.List.{slice_range};
 ghost use Rattle.base.specs.Counts.{Counts};
 ghost use Rattle.base.specs.Kept.{IsKept};
+ghost use Rattle.base.specs.Passing.{IsClosed, PassesKept};
 ghost use Rattle.base.specs.Reader.{begun};
 ghost use Rattle.base.specs.Reading.{Reads, byte_at, bytes_at, number_at};
 
 use crate::error::DecodeError;
-use crate::wire::plain::{Plain, PlainTargets};
+use crate::wire::plain::PlainTargets;
 use crate::wire::target_table::TargetTable;
 use std::alloc::Global;
 use std::marker::Model;
@@ -32,6 +32,7 @@ impl<'a> Model for BinDecoder<'a> {
     ghost use Rattle.std.specs.Prelude.{◌≤◌, length};
     ghost use Rattle.base.specs.Reader.{Reader, reader_code};
     ghost use Rattle.base.specs.Kept.{AreKept, ArePlain, targets_of};
+    ghost use Rattle.base.specs.Passing.{IsClosed};
 
     ghost Value = { Reader };
 
@@ -39,7 +40,7 @@ impl<'a> Model for BinDecoder<'a> {
 
     ghost view = { λ d. record { bytes = d.buffer.now; index = d.index; kept = targets_of d.plain d.others; jumps = d.jumps } };
 
-    ghost invariant = { λ d. (d.index ≤ length d.buffer.now) × (ArePlain d.buffer.now d.plain × AreKept d.buffer.now d.others) };
+    ghost invariant = { λ d. (d.index ≤ length d.buffer.now) × (ArePlain d.buffer.now d.plain × (AreKept d.buffer.now d.others × IsClosed d.buffer.now (targets_of d.plain d.others))) };
 }
 
 impl<'a> BinDecoder<'a> {
@@ -106,6 +107,7 @@ impl<'a> BinDecoder<'a> {
         ensures is { is_some result ≡ set.contains self.now.kept target }
         ensures near { (q : ℕ) → set.contains self.now.kept q ≡ true → q < 16384 }
         ensures spelled { IfSome result (λ labels. IsKept self.now.bytes target labels.now) }
+        ensures closed { IsClosed self.now.bytes self.now.kept }
     {
         match self.plain.find(target) {
             Some(len) => {
@@ -118,16 +120,13 @@ impl<'a> BinDecoder<'a> {
 
     /// Keeps the labels at an offset that a pointer led to, each with its length before it.
     pub(crate) fn keep(&mut self, target: u16, labels: &[u8]) -> Result<(), DecodeError>
-        requires { IsKept self.old.bytes target labels.now }
+        requires kept { IsKept self.old.bytes target labels.now }
+        requires behind { PassesKept self.old.bytes self.old.kept target }
         ensures ok { OnOk result (self.new ≡ record self.old { kept = set.insert self.old.kept target }) }
         ensures err { OnErr result (self.new ≡ self.old) }
         ensures only { IsOkUnless result DecodeError.Memory }
     {
-        let plain = Plain {
-            target,
-            len: labels.len() as u8,
-        };
-        if stands_at(self.buffer, usize::from(target), labels) && self.plain.keep(plain) {
+        if self.plain.keep(self.buffer, target, labels) {
             return Ok(());
         }
         self.others.keep(target, labels)?;
@@ -209,14 +208,4 @@ impl<'a> BinDecoder<'a> {
         self.index += len;
         Ok(&self.buffer[start..start + len])
     }
-}
-
-/// Whether the labels stand in the buffer at a place.
-fn stands_at(buffer: &[u8], start: usize, labels: &[u8]) -> bool
-    requires { start < 2 ^ 16 }
-    ensures inside { IsTrue result → start + length labels.now ≤ length buffer.now }
-    ensures same { IsTrue result → slice_range buffer.now start (start + length labels.now) ≡ labels.now }
-{
-    let end = start + labels.len();
-    end <= buffer.len() && &buffer[start..end] == labels
 }

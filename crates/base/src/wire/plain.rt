@@ -1,6 +1,7 @@
 //! Pointer targets whose labels stand in the buffer as they are.
 
-ghost use Rattle.std.specs.Prelude.{◌≡◌, ◌≤◌, ◌++◌, ◌∷◌, [], true, false, take, is_some, IfSome, Any};
+ghost use Rattle.std.specs.Prelude.{◌≡◌, ◌≤◌, ◌+◌, ◌++◌, ◌∷◌, [], true, false, length, is_some, IfSome, Any};
+ghost use Rattle.std.specs.List.{slice_range};
 ghost use Rattle.base.specs.Kept.{is_target, HasLen};
 
 use std::marker::Model;
@@ -57,15 +58,23 @@ impl PlainTargets {
         None
     }
 
-    /// Keeps one more, if there is room. Answers whether there was.
-    pub(crate) fn keep(&mut self, plain: Plain) -> bool
-        ensures kept { result ≡ true → self.new ≡ self.old ++ plain ∷ [] }
+    /// Keeps an offset if its labels stand there in the buffer as they are, and there is room. Answers whether it did.
+    pub(crate) fn keep(&mut self, buffer: &[u8], target: u16, labels: &[u8]) -> bool
+        requires { length labels.now ≤ 254 }
+        ensures kept { result ≡ true → self.new ≡ self.old ++ record { target = target; len = length labels.now } ∷ [] }
+        ensures inside { result ≡ true → target + length labels.now ≤ length buffer.now }
+        ensures same { result ≡ true → slice_range buffer.now target (target + length labels.now) ≡ labels.now }
         ensures full { result ≡ false → self.new ≡ self.old }
     {
-        if self.count == ROOM {
+        let start = usize::from(target);
+        let end = start + labels.len();
+        if self.count == ROOM || end > buffer.len() || &buffer[start..end] != labels {
             return false;
         }
-        self.room[self.count] = plain;
+        self.room[self.count] = Plain {
+            target,
+            len: labels.len() as u8,
+        };
         self.count += 1;
         true
     }

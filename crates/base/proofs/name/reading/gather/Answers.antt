@@ -1,4 +1,4 @@
-use Rattle.std.proofs.Common.{rules, ◌≡◌, ℕ, ◌+◌, ◌-◌, ◌<◌, ◌≤◌, false, List, [], ◌∷◌, ◌++◌, length, take, drop, Ok, Err, ap, sym, subst, ◌∙◌, arith, length-take, length-drop}
+use Rattle.std.proofs.Common.{rules, ◌≡◌, ℕ, ◌+◌, ◌-◌, ◌<◌, ◌≤◌, true, false, List, [], ◌∷◌, ◌++◌, length, take, drop, Ok, Err, ap, sym, subst, ◌∙◌, arith, length-take, length-drop}
 use Rattle.std.proofs.lemmas.Result.{err_from_is_err_and}
 use Rattle.std.proofs.lemmas.Slice.{take-put_mid}
 use Rattle.base.specs.declared.name.reading.Part.TheVariants.{Root, Label, Pointer}
@@ -11,9 +11,12 @@ use Rattle.base.specs.Reader.{Reader}
 use Rattle.base.proofs.CountLemmas.{Follows, Follows-none, Follows-push}
 use Rattle.base.specs.Names.{part_at}
 use Rattle.std.specs.FinSet as set
+use Rattle.std.specs.Ordering.{nat_cmp}
+use Rattle.base.specs.Passing.{IsClosed}
 use Rattle.std.proofs.lemmas.List.{map_push}
 use Rattle.std.proofs.lemmas.List.Elements.{All-nil, All-same, All-weaker, All-push}
 use Rattle.base.proofs.TailLemmas.{Tail, Ends, Tail-new, Tail-label, Tail-pointer, Tail-root, Tail-kept}
+use Rattle.base.proofs.PassLemmas.{Lead, Lead-kept, Lead-label, Lead-pointer, Lead-root, Leads, Leads-kept, Leads-label, Leads-none, Leads-pointer, Leads-root}
 use Rattle.base.proofs.GatherLemmas.{gathers_none, at_fault, at_long, at_forward, at_root, root_inside, label_fits, gathers_label, gathers_pointer, fails_is, at_kept, at_kept_long, kept_end, IsWire-append}
 use Rattle.base.proofs.name.reading.gather.Goals as goal
 
@@ -21,6 +24,8 @@ pub parts-init : goal.parts-init
 parts-init c = record {
   gathers = gathers_none c.args.buffer.now c.args.first 0 c.requires.inside (omega arith);
   tails = All-same (Tail c.args.buffer.now c.args.first c.args.first 0 []) _ [] c.requires.none (All-nil (Tail c.args.buffer.now c.args.first c.args.first 0 []));
+  leads = subst (λ (ps : List Passed). Leads c.args.buffer.now c.args.first (targets ps) c.args.first c.args.first) (sym c.requires.none) (λ xs e h. Leads-none c.args.buffer.now c.args.first xs e h);
+  lead = subst (λ (ps : List Passed). Lead c.args.buffer.now ps c.args.first c.args.first) (sym c.requires.none) tt;
   follows = subst (λ (ps : List Passed). Follows (targets ps) c.args.first c.args.decoder.now c.args.decoder.now) (sym c.requires.none) (Follows-none c.args.first c.args.decoder.now);
 }
 
@@ -69,6 +74,8 @@ parts-preserved-in-Label c =
       tails = All-weaker _ (Tail buffer c.parts.start (at + size) (used + size) _)
           (λ p tail. Tail-label buffer c.parts.start at used (take used c.parts.room) p c.in-Label.len size _ is (omega arith) (omega arith) (omega (arith, gathers.len)) c.copy_label.ensures tail)
           c.parts.passed c.parts.invariant.tails;
+      leads = λ xs e h. Leads-label buffer c.args.first (targets c.parts.passed) c.parts.start at c.parts.invariant.leads c.in-Label.len _ is (omega arith) xs e h;
+      lead = Lead-label buffer c.parts.passed c.parts.start at c.in-Label.len _ is (omega arith) c.parts.invariant.lead;
       follows = c.parts.invariant.follows;
     }
 
@@ -96,6 +103,9 @@ parts-preserved c =
     rw c.from-start.ensures (record {
       gathers = rw c.unwrap_or-behind.ensures (gathers_pointer _ _ _ _ _ _ _ _ g t is below);
       tails = All-same P _ _ items (All-push P c.parts.passed one old (Tail-new c.args.buffer.now t used bytes (omega (arith, g.low)) small (omega (arith, g.len)) g.few));
+      leads = subst (λ (ts : List ℕ). Leads c.args.buffer.now c.args.first ts t t) (sym more)
+          (Leads-pointer c.args.buffer.now c.args.first (targets c.parts.passed) c.parts.start c.parts.at c.parts.invariant.leads t is);
+      lead = subst (λ (ps : List Passed). Lead c.args.buffer.now ps t t) (sym items) (Lead-pointer c.args.buffer.now c.parts.passed c.parts.start c.parts.at one is c.parts.invariant.lead);
       follows = subst (λ (ts : List ℕ). Follows ts t c.args.decoder.now c.count_jump.new.self) (sym more) follows;
     })
 
@@ -155,3 +165,33 @@ pub returns-in-Root-clause-kept : goal.returns-in-Root-clause-kept
 returns-in-Root-clause-kept c =
     let is : part_at c.args.buffer.now c.parts.at ≡ Ok Root = cc (c.part_of.ensures.value, c.in_ok-part_of.was, c.in-Root.is) in
     All-weaker _ (Ends c.args.buffer.now (take c.parts.used c.parts.room)) (λ p tail. Tail-root c.args.buffer.now c.parts.start c.parts.at c.parts.used (take c.parts.used c.parts.room) p is (omega (arith, c.parts.invariant.gathers.len)) tail) c.parts.passed c.parts.invariant.tails
+
+pub returns-in-Root-clause-these : goal.returns-in-Root-clause-these
+returns-in-Root-clause-these c =
+    let is : part_at c.args.buffer.now c.parts.at ≡ Ok Root = cc (c.part_of.ensures.value, c.in_ok-part_of.was, c.in-Root.is) in
+    λ xs e h. Leads-root c.args.buffer.now c.args.first (targets c.parts.passed) c.parts.start c.parts.at c.parts.invariant.leads c.args.decoder.now.kept is xs e h
+
+pub returns-in-Root-clause-later : goal.returns-in-Root-clause-later
+returns-in-Root-clause-later c =
+    let is : part_at c.args.buffer.now c.parts.at ≡ Ok Root = cc (c.part_of.ensures.value, c.in_ok-part_of.was, c.in-Root.is) in
+    Lead-root c.args.buffer.now c.args.decoder.now.kept c.parts.passed c.parts.start c.parts.at is c.parts.invariant.lead
+
+-- the pointer leads to a kept offset, and with one all that is passed from there is kept
+known : (c : goal.After-copy_from_slice) → (set.contains c.args.decoder.now.kept c.in-Pointer.target ≡ true) × IsClosed c.args.buffer.now c.args.decoder.now.kept
+known c =
+    let same = c.parts.invariant.follows.now in
+    let kept = ap (λ (r : Reader). r.kept) same in
+    let bytes = ap (λ (r : Reader). r.bytes) same ∙ sym c.requires.same in (
+      ap (λ (k : set.FinSet nat_cmp). set.contains k c.in-Pointer.target) (sym kept) ∙ sym c.in-Some.ensures.is,
+      subst (λ (k : set.FinSet nat_cmp). IsClosed c.args.buffer.now k) kept (subst (λ (bs : List ℕ). IsClosed bs c.parts.decoder.kept) bytes c.kept.ensures.closed),
+    )
+
+pub returns-in-Some-clause-these : goal.returns-in-Some-clause-these
+returns-in-Some-clause-these c =
+    let is : part_at c.args.buffer.now c.parts.at ≡ Ok (Pointer c.in-Pointer.target) = cc (c.part_of.ensures.value, c.in_ok-part_of.was, c.in-Pointer.is) in
+    Leads-kept c.args.buffer.now c.args.first (targets c.parts.passed) c.parts.start c.parts.at c.parts.invariant.leads c.args.decoder.now.kept c.in-Pointer.target is (known c).0 (known c).1
+
+pub returns-in-Some-clause-later : goal.returns-in-Some-clause-later
+returns-in-Some-clause-later c =
+    let is : part_at c.args.buffer.now c.parts.at ≡ Ok (Pointer c.in-Pointer.target) = cc (c.part_of.ensures.value, c.in_ok-part_of.was, c.in-Pointer.is) in
+    Lead-kept c.args.buffer.now c.args.decoder.now.kept c.parts.passed c.parts.start c.parts.at c.in-Pointer.target is (known c).0 (known c).1 c.parts.invariant.lead

@@ -3,16 +3,17 @@ use Rattle.std.specs.Borrow.{Bor}
 use Rattle.std.specs.FinSet as set
 use Rattle.std.specs.Prelude.{is_some, ◌||◌, Option, get_or, None}
 use Rattle.base.specs.Kept.{is_target}
+use Rattle.base.specs.Passing.{IsClosed}
 use Rattle.base.specs.Reader.{Reader}
 use Rattle.base.specs.Targets.{labels_now}
 use Rattle.base.proofs.CountLemmas.{contains_all, found_or, kept_at, kept_near}
 use Rattle.base.proofs.wire.decoder.BinDecoder.kept.Goals as goal
 
 pub returns-in-Some-clause-near : goal.returns-in-Some-clause-near
-returns-in-Some-clause-near c = subst (λ (r : Reader). (q : ℕ) → set.contains r.kept q ≡ true → q < 16384) c.self.view_is (kept_near _ c.self.inside.plain c.self.inside.others c.self.invariant.1.0 c.self.invariant.1.1)
+returns-in-Some-clause-near c = subst (λ (r : Reader). (q : ℕ) → set.contains r.kept q ≡ true → q < 16384) c.self.view_is (kept_near _ c.self.inside.plain c.self.inside.others c.self.invariant.1.0 c.self.invariant.1.1.0)
 
 pub returns-in-None-clause-near : goal.returns-in-None-clause-near
-returns-in-None-clause-near c = subst (λ (r : Reader). (q : ℕ) → set.contains r.kept q ≡ true → q < 16384) c.self.view_is (kept_near _ c.self.inside.plain c.self.inside.others c.self.invariant.1.0 c.self.invariant.1.1)
+returns-in-None-clause-near c = subst (λ (r : Reader). (q : ℕ) → set.contains r.kept q ≡ true → q < 16384) c.self.view_is (kept_near _ c.self.inside.plain c.self.inside.others c.self.invariant.1.0 c.self.invariant.1.1.0)
 
 pub returns-in-Some-clause-is : goal.returns-in-Some-clause-is
 returns-in-Some-clause-is c =
@@ -30,3 +31,9 @@ returns-in-None-clause-is c =
     let none : is_target plain t ≡ false = sym c.in-None.ensures.is in
     let found : is_some c.find-in-None.result ≡ kept_at others t = found_or c.find-in-None.result ∙ ap is_some c.find-in-None.ensures in
     found ∙ ap (λ (b : Bool). b || kept_at others t) (sym none) ∙ sym (contains_all plain others t) ∙ ap (λ (r : Reader). set.contains r.kept t) c.self.view_is
+
+pub returns-in-Some-clause-closed : goal.returns-in-Some-clause-closed
+returns-in-Some-clause-closed c = subst (λ (r : Reader). IsClosed r.bytes r.kept) c.self.view_is c.self.invariant.1.1.1
+
+pub returns-in-None-clause-closed : goal.returns-in-None-clause-closed
+returns-in-None-clause-closed c = subst (λ (r : Reader). IsClosed r.bytes r.kept) c.self.view_is c.self.invariant.1.1.1

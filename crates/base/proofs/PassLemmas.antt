@@ -1,0 +1,218 @@
+-- What the names that are spelled at offsets pass.
+use Rattle.std.proofs.Common.{◌≡◌, ℕ, zero, suc, ◌+◌, ◌-◌, ◌<◌, ◌≤◌, List, [], ◌∷◌, ◌++◌, length, drop, Bool, true, false, Ok, Result, refl, ap, sym, ◌∙◌, subst, arith, append_assoc, inl, inr}
+use Rattle.std.specs.Prelude.{Option, Some, None, get_or, nat_eq, map, ◌||◌}
+use Rattle.std.specs.FinSet as set
+use Rattle.std.specs.Ordering.{nat_cmp}
+use Rattle.std.proofs.lemmas.Bool.{cases_Bool, eqb-true, false≢true}
+use Rattle.std.proofs.lemmas.List.{append-nil, map_push}
+use Rattle.std.proofs.lemmas.List.Folds.{list_any-append}
+use Rattle.base.specs.declared.error.decode_error.DecodeError.{DecodeError}
+use Rattle.base.specs.declared.name.reading.Part.{Part}
+use Rattle.base.specs.declared.name.reading.Part.TheVariants.{Root, Label, Pointer}
+use Rattle.base.specs.declared.name.trail.Passed.{Passed}
+use Rattle.base.specs.Kept.{AreKept, ArePlain, targets_of}
+use Rattle.base.specs.Names.{part_at}
+use Rattle.base.specs.Passed.{PassLater, PassesThese, targets}
+use Rattle.base.specs.Passing.{AreIn, IsClosed, PassesKept, among, inserted, passed}
+use Rattle.base.specs.Spelling.{Spelled, ends, label, pointer, target}
+use Rattle.base.proofs.CountLemmas.{contains-inserted, contains-one_more, same_members}
+use Rattle.base.proofs.WalkLemmas.{part_at-label, part_at-pointer, part_at-root}
+
+-- ---- sets that hold more
+
+either : (a b : Bool) (P : Type 0) → (a ≡ true → P) → (b ≡ true → P) → (a || b) ≡ true → P
+either true b P left right is = left refl
+either false b P left right is = right is
+
+left_of : (a b : Bool) → a ≡ true → (a || b) ≡ true
+left_of true b is = refl
+left_of false b is = absurd (false≢true is)
+
+right_of : (a b : Bool) → b ≡ true → (a || b) ≡ true
+right_of true b is = refl
+right_of false b is = is
+
+module _ (bytes : List ℕ) (kept : set.FinSet nat_cmp) (t : ℕ) (closed : IsClosed bytes kept) (behind : PassesKept bytes kept t) where
+  more : (q : ℕ) → set.contains kept q ≡ true → set.contains (set.insert kept t) q ≡ true
+  more q is = contains-one_more kept t q ∙ right_of (nat_eq t q) (set.contains kept q) is
+
+  -- where all that a new offset passes is kept
+  pub closed_inserted : IsClosed bytes (set.insert kept t)
+  closed_inserted u is = either (nat_eq t u) (set.contains kept u) (PassesKept bytes (set.insert kept t) u)
+      (λ same. subst (PassesKept bytes (set.insert kept t)) (eqb-true t u same) (λ xs e h q in_it. more q (behind xs e h q in_it)))
+      (λ old xs e h q in_it. more q (closed u old xs e h q in_it))
+      (sym (contains-one_more kept t u) ∙ is)
+
+-- before anything is kept
+pub nothing_kept : (bytes : List ℕ) → ArePlain bytes [] × (AreKept bytes [] × IsClosed bytes (targets_of [] []))
+nothing_kept bytes = (
+  λ k d inside. absurd (omega (arith, inside)),
+  (
+    λ t items is. absurd (none_is_not items is),
+    λ t has. absurd (false≢true (sym (set.contains-empty nat_cmp t) ∙ has)),
+  ),
+) where
+  none_is_not : (items : List ℕ) → ◌≡◌ {A = Option (List ℕ)} None (Some items) → ⊥
+  none_is_not items same = absurd cc
+
+-- ---- the rest of a spelling
+
+-- labels are spelled from at on, in a piece that begins at start, and the offsets that they pass are such
+pub record Rest (bytes : List ℕ) (start at : ℕ) (P : List ℕ → Type 0) : Type 0 where
+  pub labels : List (List ℕ)
+  pub end : ℕ
+  pub spelled : Spelled bytes labels start at end
+  pub passes : P (passed spelled)
+
+same_label : (m n : ℕ) → ◌≡◌ {A = Result Part DecodeError} (Ok (Label m)) (Ok (Label n)) → m ≡ n
+same_label m n is = cc
+
+same_pointer : (t u : ℕ) → ◌≡◌ {A = Result Part DecodeError} (Ok (Pointer t)) (Ok (Pointer u)) → t ≡ u
+same_pointer t u is = cc
+
+after_label : {bytes : List ℕ} {start at e : ℕ} {xs : List (List ℕ)} (n : ℕ) → part_at bytes at ≡ Ok (Label n) → (h : Spelled bytes xs start at e) → Rest bytes start (at + 1 + n) (λ qs. passed h ≡ qs)
+after_label {bytes} {at = at} n is (ends h) = absurd (no_root (sym (part_at-root bytes at h) ∙ is)) where
+  no_root : ◌≡◌ {A = Result Part DecodeError} (Ok Root) (Ok (Label n)) → ⊥
+  no_root same = absurd cc
+after_label {bytes} {start} {at} n is (label {e = e} {x = x} {xs = xs} h some small there rest) =
+    let len : length x ≡ n = same_label (length x) n (sym (part_at-label bytes at (length x) h some small there.inside) ∙ is) in
+    subst (λ (k : ℕ). Rest bytes start (at + 1 + k) (λ qs. passed rest ≡ qs)) len (record { labels = xs; end = e; spelled = rest; passes = refl })
+after_label {bytes} {at = at} n is (pointer {b = b} {c = c} h next high below rest) = absurd (no_pointer (target b c) (sym (part_at-pointer bytes at b c h next high) ∙ is)) where
+  no_pointer : (t : ℕ) → ◌≡◌ {A = Result Part DecodeError} (Ok (Pointer t)) (Ok (Label n)) → ⊥
+  no_pointer t same = absurd cc
+
+after_pointer : {bytes : List ℕ} {start at e : ℕ} {xs : List (List ℕ)} (t : ℕ) → part_at bytes at ≡ Ok (Pointer t) → (h : Spelled bytes xs start at e) → Rest bytes t t (λ qs. passed h ≡ t ∷ qs)
+after_pointer {bytes} {at = at} t is (ends h) = absurd (no_root (sym (part_at-root bytes at h) ∙ is)) where
+  no_root : ◌≡◌ {A = Result Part DecodeError} (Ok Root) (Ok (Pointer t)) → ⊥
+  no_root same = absurd cc
+after_pointer {bytes} {at = at} t is (label {x = x} h some small there rest) = absurd (no_label (length x) (sym (part_at-label bytes at (length x) h some small there.inside) ∙ is)) where
+  no_label : (n : ℕ) → ◌≡◌ {A = Result Part DecodeError} (Ok (Label n)) (Ok (Pointer t)) → ⊥
+  no_label n same = absurd cc
+after_pointer {bytes} {at = at} t is (pointer {b = b} {c = c} {e = e} {xs = xs} h next high below rest) =
+    let there : target b c ≡ t = same_pointer (target b c) t (sym (part_at-pointer bytes at b c h next high) ∙ is) in
+    subst (λ (u : ℕ). Rest bytes u u (λ qs. ◌≡◌ {A = List ℕ} (target b c ∷ passed rest) (u ∷ qs))) there (record { labels = xs; end = e; spelled = rest; passes = refl })
+
+after_root : {bytes : List ℕ} {start at e : ℕ} {xs : List (List ℕ)} → part_at bytes at ≡ Ok Root → (h : Spelled bytes xs start at e) → passed h ≡ []
+after_root is (ends h) = refl
+after_root {bytes} {at = at} is (label {x = x} h some small there rest) = absurd (no_label (length x) (sym (part_at-label bytes at (length x) h some small there.inside) ∙ is)) where
+  no_label : (n : ℕ) → ◌≡◌ {A = Result Part DecodeError} (Ok (Label n)) (Ok Root) → ⊥
+  no_label n same = absurd cc
+after_root {bytes} {at = at} is (pointer {b = b} {c = c} h next high below rest) = absurd (no_pointer (target b c) (sym (part_at-pointer bytes at b c h next high) ∙ is)) where
+  no_pointer : (t : ℕ) → ◌≡◌ {A = Result Part DecodeError} (Ok (Pointer t)) (Ok Root) → ⊥
+  no_pointer t same = absurd cc
+
+-- ---- the pointers that are followed from an offset
+
+-- whatever is spelled at first passes these offsets, and then what the rest from at on passes
+abbrev pub Leads : List ℕ → ℕ → List ℕ → ℕ → ℕ → Type 0
+Leads bytes first ts start at = (xs : List (List ℕ)) (e : ℕ) (h : Spelled bytes xs first first e) → Rest bytes start at (λ qs. passed h ≡ ts ++ qs)
+
+pub Leads-none : (bytes : List ℕ) (first : ℕ) → Leads bytes first [] first first
+Leads-none bytes first xs e h = record { labels = xs; end = e; spelled = h; passes = refl }
+
+module _ (bytes : List ℕ) (first : ℕ) (ts : List ℕ) (start at : ℕ) (leads : Leads bytes first ts start at) where
+  pub Leads-label : (n next : ℕ) → part_at bytes at ≡ Ok (Label n) → next ≡ at + 1 + n → Leads bytes first ts start next
+  Leads-label n next is next_is xs e h =
+      let r = leads xs e h in
+      let s = after_label n is r.spelled in
+      subst (λ (k : ℕ). Rest bytes start k (λ qs. passed h ≡ ts ++ qs)) (sym next_is)
+      (record { labels = s.labels; end = s.end; spelled = s.spelled; passes = r.passes ∙ ap (λ (qs : List ℕ). ts ++ qs) s.passes })
+
+  pub Leads-pointer : (t : ℕ) → part_at bytes at ≡ Ok (Pointer t) → Leads bytes first (ts ++ t ∷ []) t t
+  Leads-pointer t is xs e h =
+      let r = leads xs e h in
+      let s = after_pointer t is r.spelled in
+      record {
+        labels = s.labels;
+        end = s.end;
+        spelled = s.spelled;
+        passes = r.passes ∙ ap (λ (qs : List ℕ). ts ++ qs) s.passes ∙ sym (append_assoc ts (t ∷ []) (passed s.spelled));
+      }
+
+  among_more : (qs : List ℕ) (q : ℕ) → among (ts ++ qs) q ≡ (among ts q || among qs q)
+  among_more qs q = list_any-append (λ (y : ℕ). nat_eq y q) ts qs
+
+  pub Leads-root : (kept : set.FinSet nat_cmp) → part_at bytes at ≡ Ok Root → PassesThese bytes kept first ts
+  Leads-root kept is xs e h =
+      let r = leads xs e h in
+      let all : passed h ≡ ts = r.passes ∙ ap (λ (qs : List ℕ). ts ++ qs) (after_root is r.spelled) ∙ append-nil ts in (
+        λ q in_it. contains-inserted ts kept q ∙ right_of (set.contains kept q) (among ts q) (ap (λ (qs : List ℕ). among qs q) (sym all) ∙ in_it),
+        λ q one. ap (λ (qs : List ℕ). among qs q) all ∙ one,
+      )
+
+  -- behind a kept offset only kept ones are passed
+  pub Leads-kept : (kept : set.FinSet nat_cmp) (t : ℕ) → part_at bytes at ≡ Ok (Pointer t) → set.contains kept t ≡ true → IsClosed bytes kept → PassesThese bytes kept first ts
+  Leads-kept kept t is has closed xs e h =
+      let r = leads xs e h in
+      let s = after_pointer t is r.spelled in
+      let all : passed h ≡ ts ++ t ∷ passed s.spelled = r.passes ∙ ap (λ (qs : List ℕ). ts ++ qs) s.passes in
+      let rest = passed s.spelled in
+      let split : (q : ℕ) → among (passed h) q ≡ (among ts q || (nat_eq t q || among rest q)) = λ q. ap (λ (qs : List ℕ). among qs q) all ∙ among_more (t ∷ rest) q in (
+        λ q in_it. contains-inserted ts kept q ∙ either (among ts q) (nat_eq t q || among rest q) ((set.contains kept q || among ts q) ≡ true)
+            (λ one. right_of (set.contains kept q) (among ts q) one)
+            (λ behind. left_of (set.contains kept q) (among ts q) (either (nat_eq t q) (among rest q) (set.contains kept q ≡ true)
+            (λ same. subst (λ (u : ℕ). set.contains kept u ≡ true) (eqb-true t q same) has)
+            (λ one. closed t has s.labels s.end s.spelled q one)
+            behind))
+            (sym (split q) ∙ in_it),
+        λ q one. split q ∙ left_of (among ts q) (nat_eq t q || among rest q) one,
+      )
+
+-- each pointer that was followed leads on by those after it
+abbrev pub Lead : List ℕ → List Passed → ℕ → ℕ → Type 0
+Lead bytes [] start at = Unit {0}
+Lead bytes (p ∷ ps) start at = Leads bytes p.target (targets ps) start at × Lead bytes ps start at
+
+pub Lead-label : (bytes : List ℕ) (ps : List Passed) (start at n next : ℕ) → part_at bytes at ≡ Ok (Label n) → next ≡ at + 1 + n → Lead bytes ps start at → Lead bytes ps start next
+Lead-label bytes [] start at n next is next_is lead = tt
+Lead-label bytes (p ∷ ps) start at n next is next_is lead =
+    (λ xs e h. Leads-label bytes p.target (targets ps) start at lead.0 n next is next_is xs e h, Lead-label bytes ps start at n next is next_is lead.1)
+
+pub Lead-pointer : (bytes : List ℕ) (ps : List Passed) (start at : ℕ) (one : Passed) → part_at bytes at ≡ Ok (Pointer one.target) → Lead bytes ps start at → Lead bytes (ps ++ one ∷ []) one.target one.target
+Lead-pointer bytes [] start at one is lead = (λ xs e h. Leads-none bytes one.target xs e h, tt)
+Lead-pointer bytes (p ∷ ps) start at one is lead =
+    let more : targets ps ++ one.target ∷ [] ≡ targets (ps ++ one ∷ []) = sym (map_push (λ (x : Passed). x.target) ps one) in (
+      λ xs e h. subst (λ (ts : List ℕ). Rest bytes one.target one.target (λ qs. passed h ≡ ts ++ qs)) more (Leads-pointer bytes p.target (targets ps) start at lead.0 one.target is xs e h),
+      Lead-pointer bytes ps start at one is lead.1,
+    )
+
+pub Lead-root : (bytes : List ℕ) (kept : set.FinSet nat_cmp) (ps : List Passed) (start at : ℕ) → part_at bytes at ≡ Ok Root → Lead bytes ps start at → PassLater bytes kept ps
+Lead-root bytes kept [] start at is lead = tt
+Lead-root bytes kept (p ∷ ps) start at is lead = (λ xs e h. (Leads-root bytes p.target (targets ps) start at lead.0 kept is xs e h).0, Lead-root bytes kept ps start at is lead.1)
+
+pub Lead-kept : (bytes : List ℕ) (kept : set.FinSet nat_cmp) (ps : List Passed) (start at t : ℕ) → part_at bytes at ≡ Ok (Pointer t) → set.contains kept t ≡ true → IsClosed bytes kept
+    → Lead bytes ps start at → PassLater bytes kept ps
+Lead-kept bytes kept [] start at t is has closed lead = tt
+Lead-kept bytes kept (p ∷ ps) start at t is has closed lead =
+    (λ xs e h. (Leads-kept bytes p.target (targets ps) start at lead.0 kept t is has closed xs e h).0, Lead-kept bytes kept ps start at t is has closed lead.1)
+
+-- ---- what is kept once a name was read
+
+-- the pointer at i, and the offsets of those after it
+pub later_at : (bytes : List ℕ) (kept : set.FinSet nat_cmp) (ps : List Passed) (i : ℕ) (d : Passed) → i < length ps → PassLater bytes kept ps
+    → PassesKept bytes (inserted (targets (drop (i + 1) ps)) kept) (get_or ps i d).target
+later_at bytes kept [] i d inside later = absurd (omega (arith, inside))
+later_at bytes kept (p ∷ ps) zero d inside later = later.0
+later_at bytes kept (p ∷ ps) (suc i) d inside later =
+    let next : suc (i + 1) ≡ suc i + 1 = omega arith in
+    subst (λ (k : ℕ). PassesKept bytes (inserted (targets (drop k (p ∷ ps))) kept) (get_or ps i d).target) next (later_at bytes kept ps i d (omega (arith, inside)) later.1)
+
+pub passes_are_kept : (bytes : List ℕ) (kept : set.FinSet nat_cmp) (t : ℕ) (ts : List ℕ) → PassesThese bytes kept t ts → (xs : List (List ℕ)) (e : ℕ) (h : Spelled bytes xs t t e)
+    → inserted ts kept ≡ inserted (passed h) kept
+passes_are_kept bytes kept t ts these xs e h = same_members _ _ (λ q. same (set.contains (inserted ts kept) q) (set.contains (inserted (passed h) kept) q) (to q) (from q)) where
+  same : (a b : Bool) → (a ≡ true → b ≡ true) → (b ≡ true → a ≡ true) → a ≡ b
+  same true b to from = sym (to refl)
+  same false true to from = from refl
+  same false false to from = refl
+
+  to : (q : ℕ) → set.contains (inserted ts kept) q ≡ true → set.contains (inserted (passed h) kept) q ≡ true
+  to q is = contains-inserted (passed h) kept q ∙ either (set.contains kept q) (among ts q) ((set.contains kept q || among (passed h) q) ≡ true)
+      (λ old. left_of (set.contains kept q) (among (passed h) q) old)
+      (λ one. right_of (set.contains kept q) (among (passed h) q) ((these xs e h).1 q one))
+      (sym (contains-inserted ts kept q) ∙ is)
+
+  from : (q : ℕ) → set.contains (inserted (passed h) kept) q ≡ true → set.contains (inserted ts kept) q ≡ true
+  from q is = either (set.contains kept q) (among (passed h) q) (set.contains (inserted ts kept) q ≡ true)
+      (λ old. contains-inserted ts kept q ∙ left_of (set.contains kept q) (among ts q) old)
+      (λ one. (these xs e h).0 q one)
+      (sym (contains-inserted (passed h) kept q) ∙ is)
