@@ -17,8 +17,6 @@ use Rattle.base.specs.Counts.{IsCounted}
 use Rattle.base.specs.Passed.{Followed}
 use Rattle.base.specs.Passing.{among, inserted}
 use Rattle.base.specs.Reader.{Reader}
-use Rattle.base.specs.Targets.{labels_now}
-use Rattle.std.specs.Borrow.{Bor}
 
 -- ---- the offsets that are kept as a set
 
@@ -65,10 +63,6 @@ any_offset t (Some items ∷ kept) q = ap (λ (b : Bool). nat_eq t q || b) (any_
 
 abbrev pub kept_at : List (Option (List ℕ)) → ℕ → Bool
 kept_at kept q = is_some (get_or kept q None)
-
-pub found_or : (found : Option (Bor (List ℕ))) → is_some found ≡ is_some (labels_now found)
-found_or None = refl
-found_or (Some labels) = refl
 
 pub contains_all : (ps : List Plain) (kept : List (Option (List ℕ))) (q : ℕ) → set.contains (targets_of ps kept) q ≡ (is_target ps q || kept_at kept q)
 contains_all ps kept q = set.contains-from_list_nat (map (λ (p : Plain). p.target) ps ++ offsets 0 kept) q ∙ list_any-append (λ (y : ℕ). nat_eq y q) (map (λ (p : Plain). p.target) ps) (offsets 0 kept)
@@ -178,7 +172,7 @@ contains-inserted ts s q = set.contains-union nat_cmp_total s (set.from_list ts)
 pub contains-one_more : (s : set.FinSet nat_cmp) (t q : ℕ) → set.contains (set.insert s t) q ≡ (nat_eq t q || set.contains s q)
 contains-one_more s t q = set.contains-insert nat_cmp_total s t q ∙ ap (λ (b : Bool). b || set.contains s q) (sym (unsigned_ties t q ∙ (eq_by_cmp_equiv nat_cmp_total).symm t q))
 
-or_false : (b : Bool) → (b || false) ≡ b
+pub or_false : (b : Bool) → (b || false) ≡ b
 or_false true = refl
 or_false false = refl
 

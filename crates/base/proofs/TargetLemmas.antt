@@ -78,18 +78,14 @@ inside_or kept places all q = elim (cases_Bool (nat_lt q (length places))) [
 ]
 
 -- places of 0 behind the others are no places
-pub padded : (places : List ℕ) (n : ℕ) → length places ≤ n → (q : ℕ) → get_or (take n places ++ replicate (n - length places) 0) q 0 ≡ get_or places q 0
-padded places n short q =
-    let all : take n places ≡ places = take_all n places short in
-    ap (λ (xs : List ℕ). get_or (xs ++ replicate (n - length places) 0) q 0) all ∙ elim (cases_Bool (nat_lt q (length places))) [
-      | inl inside ↦ get_or_append_left places _ 0 q (ltb-true q (length places) inside)
-      | inr past ↦ get_or-append_right places _ (length places) q 0 refl (ltb-false q (length places) past) ∙ zeros (n - length places) (q - length places)
-          ∙ sym (get_or_past places q 0 (ltb-false q (length places) past))
-    ] where
-      zeros : (m i : ℕ) → get_or (replicate m zero) i zero ≡ zero
-      zeros zero i = refl
-      zeros (suc m) zero = refl
-      zeros (suc m) (suc i) = zeros m i
+pub zeros_behind : (places : List ℕ) (m q : ℕ) → get_or (places ++ replicate m 0) q 0 ≡ get_or places q 0
+zeros_behind [] m q = zeros m q where
+  zeros : (m i : ℕ) → get_or (replicate m zero) i zero ≡ zero
+  zeros zero i = refl
+  zeros (suc m) zero = refl
+  zeros (suc m) (suc i) = zeros m i
+zeros_behind (p ∷ places) m zero = refl
+zeros_behind (p ∷ places) m (suc q) = zeros_behind places m q
 
 -- The labels by offset, a place behind the others at one offset and those from before at all others.
 pub record IsPut (kept labels old new : List ℕ) (t : ℕ) : Type 0 where

@@ -30,10 +30,10 @@ ArePlain bytes ps = All (IsPlain bytes) ps
 abbrev pub is_target : List Plain → ℕ → Bool
 is_target ps q = list_any (λ p. p.target == q) ps
 
--- the labels at this offset are so many bytes
-pub record HasLen (target len : ℕ) (p : Plain) : Type 0 where
+-- these are the labels that stand at this offset
+pub record HasLabels (bytes : List ℕ) (target : ℕ) (labels : List ℕ) (p : Plain) : Type 0 where
   pub there : p.target ≡ target
-  pub is : p.len ≡ len
+  pub is : labels ≡ slice_range bytes target (target + p.len)
 
 -- the offsets, counted from t on, at which labels are kept
 abbrev pub offsets : ℕ → List (Option (List ℕ)) → List ℕ

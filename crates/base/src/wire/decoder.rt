@@ -109,12 +109,9 @@ impl<'a> BinDecoder<'a> {
         ensures spelled { IfSome result (λ labels. IsKept self.now.bytes target labels.now) }
         ensures closed { IsClosed self.now.bytes self.now.kept }
     {
-        match self.plain.find(target) {
-            Some(len) => {
-                let start = usize::from(target);
-                Some(&self.buffer[start..start + usize::from(len)])
-            }
-            None => self.others.find(target),
+        match self.others.find(target) {
+            Some(labels) => Some(labels),
+            None => self.plain.find(self.buffer, target),
         }
     }
 

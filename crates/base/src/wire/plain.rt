@@ -1,8 +1,8 @@
 //! Pointer targets whose labels stand in the buffer as they are.
 
-ghost use Rattle.std.specs.Prelude.{◌≡◌, ◌≤◌, ◌+◌, ◌++◌, ◌∷◌, [], true, false, length, is_some, IfSome, Any};
+ghost use Rattle.std.specs.Prelude.{◌≡◌, ◌≤◌, ◌+◌, ◌++◌, ◌∷◌, [], true, false, length, is_some, IfSome, All, Any};
 ghost use Rattle.std.specs.List.{slice_range};
-ghost use Rattle.base.specs.Kept.{is_target, HasLen};
+ghost use Rattle.base.specs.Kept.{is_target, HasLabels};
 
 use std::marker::Model;
 
@@ -45,14 +45,16 @@ impl PlainTargets {
         }
     }
 
-    /// How many bytes the labels at an offset are, if it is one of these.
-    pub(crate) fn find(&self, target: u16) -> Option<u8>
+    /// The labels in the buffer at an offset, if it is one of these.
+    pub(crate) fn find<'a>(&self, buffer: &'a [u8], target: u16) -> Option<&'a [u8]>
+        requires { All (λ p. p.target + p.len ≤ length buffer.now) self.now }
         ensures is { is_some result ≡ is_target self.now target }
-        ensures there { IfSome result (λ len. Any (HasLen target len) self.now) }
+        ensures there { IfSome result (λ labels. Any (HasLabels buffer.now target labels.now) self.now) }
     {
         for plain in &self.room[..self.count] {
             if plain.target == target {
-                return Some(plain.len);
+                let start = usize::from(target);
+                return Some(&buffer[start..start + usize::from(plain.len)]);
             }
         }
         None

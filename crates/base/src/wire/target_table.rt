@@ -16,7 +16,11 @@ pub(crate) struct TargetTable {
     kept: Vec<u8>,
 }
 
-/// Makes places up to an offset, the new ones without labels.
+/// How many places are made at once.
+const STEP: usize = 256;
+
+/// Makes places up to an offset, the new ones without labels. They are copied many at once, since that is faster than one by
+/// one.
 fn reach(places: &mut Vec<usize>, target: usize) -> Result<(), AllocError>
     requires { target < 65536 }
     ensures there { OnOk result (target < length places.new.items) }
@@ -24,7 +28,11 @@ fn reach(places: &mut Vec<usize>, target: usize) -> Result<(), AllocError>
     ensures err { OnErr result (places.new.items ≡ places.old.items) }
 {
     if target >= places.len() {
-        places.resize(target + 1, 0)?;
+        places.reserve(target + STEP - places.len())?;
+    }
+    while places.len() <= target {
+        let none = [0; STEP];
+        places.extend_from_slice(&none)?;
     }
     Ok(())
 }

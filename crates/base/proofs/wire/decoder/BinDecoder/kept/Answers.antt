@@ -1,12 +1,11 @@
 use Rattle.std.proofs.Common.{◌≡◌, ◌∙◌, ℕ, ◌<◌, Bool, true, false, ap, sym, subst}
-use Rattle.std.specs.Borrow.{Bor}
+use Rattle.std.proofs.Math.Bool.{or-true}
 use Rattle.std.specs.FinSet as set
-use Rattle.std.specs.Prelude.{is_some, ◌||◌, Option, get_or, None}
+use Rattle.std.specs.Prelude.{is_some, ◌||◌}
 use Rattle.base.specs.Kept.{is_target}
 use Rattle.base.specs.Passing.{IsClosed}
 use Rattle.base.specs.Reader.{Reader}
-use Rattle.base.specs.Targets.{labels_now}
-use Rattle.base.proofs.CountLemmas.{contains_all, found_or, kept_at, kept_near}
+use Rattle.base.proofs.CountLemmas.{contains_all, kept_at, kept_near, or_false}
 use Rattle.base.proofs.wire.decoder.BinDecoder.kept.Goals as goal
 
 pub returns-in-Some-clause-near : goal.returns-in-Some-clause-near
@@ -20,17 +19,17 @@ returns-in-Some-clause-is c =
     let plain = c.self.inside.plain in
     let others = c.self.inside.others in
     let t = c.args.target in
-    let found : is_target plain t ≡ true = sym c.in-Some.ensures.is in
-    sym (sym (ap (λ (r : Reader). set.contains r.kept t) c.self.view_is) ∙ contains_all plain others t ∙ ap (λ (b : Bool). b || kept_at others t) found)
+    let kept : kept_at others t ≡ true = ap is_some (sym c.in-Some.ensures) in
+    sym (sym (ap (λ (r : Reader). set.contains r.kept t) c.self.view_is) ∙ contains_all plain others t ∙ ap (λ (b : Bool). is_target plain t || b) kept ∙ or-true (is_target plain t))
 
 pub returns-in-None-clause-is : goal.returns-in-None-clause-is
 returns-in-None-clause-is c =
     let plain = c.self.inside.plain in
     let others = c.self.inside.others in
     let t = c.args.target in
-    let none : is_target plain t ≡ false = sym c.in-None.ensures.is in
-    let found : is_some c.find-in-None.result ≡ kept_at others t = found_or c.find-in-None.result ∙ ap is_some c.find-in-None.ensures in
-    found ∙ ap (λ (b : Bool). b || kept_at others t) (sym none) ∙ sym (contains_all plain others t) ∙ ap (λ (r : Reader). set.contains r.kept t) c.self.view_is
+    let none : kept_at others t ≡ false = ap is_some (sym c.in-None.ensures) in
+    c.find-in-None.ensures.is ∙ sym (sym (ap (λ (r : Reader). set.contains r.kept t) c.self.view_is) ∙ contains_all plain others t
+    ∙ ap (λ (b : Bool). is_target plain t || b) none ∙ or_false (is_target plain t))
 
 pub returns-in-Some-clause-closed : goal.returns-in-Some-clause-closed
 returns-in-Some-clause-closed c = subst (λ (r : Reader). IsClosed r.bytes r.kept) c.self.view_is c.self.invariant.1.1.1
