@@ -1,6 +1,6 @@
 -- The offsets that are kept, as a set, and how many pointers are followed.
 use Rattle.std.proofs.Common.{◌≡◌, ◌≢◌, ◌⊎◌, ℕ, zero, suc, ◌+◌, ◌-◌, ◌^◌, ◌<◌, ◌≤◌, inl, inr, Bool, true, false, cond, List, [], ◌∷◌, ◌++◌, length, refl, ap, sym, ◌∙◌, subst, arith, length-append}
-use Rattle.std.specs.Prelude.{Option, Some, None, get_or, is_some, min, map, nat_eq, ◌==◌, ◌||◌, ◌&&◌, not}
+use Rattle.std.specs.Prelude.{Option, Some, None, get_or, is_some, min, map, nat_eq, All, ◌==◌, ◌||◌, ◌&&◌, not}
 use Rattle.std.specs.Cmp.{nat_cmp_total, eq_by_cmp_equiv, unsigned_ties}
 use Rattle.std.specs.FinSet as set
 use Rattle.std.specs.FinSet.{nat_cmp-IsAntisymmetric}
@@ -13,9 +13,10 @@ use Rattle.base.specs.Kept.{AreKept, ArePlain, IsKept, is_target, offsets, targe
 use Rattle.std.specs.declared.cmp.Ordering.{Ordering}
 use Rattle.std.specs.declared.cmp.Ordering.TheVariants.{Less, Equal, Greater}
 use Rattle.base.specs.declared.wire.plain.Plain.{Plain}
-use Rattle.base.specs.Counts.{IsCounted}
+use Rattle.base.specs.Counts.{IsCounted, IsPassed}
 use Rattle.base.specs.Passed.{Followed}
-use Rattle.base.specs.Passing.{among, inserted}
+use Rattle.base.specs.Passing.{NamesPass, among, inserted, one_more, passed}
+use Rattle.base.specs.Spelling.{Spelled, ends, label, pointer}
 use Rattle.base.specs.Reader.{Reader}
 
 -- ---- the offsets that are kept as a set
@@ -262,13 +263,49 @@ module _ (ts : List ℕ) (start t : ℕ) (old new after : Reader) (f : Follows t
     fresh = fresh_all;
   }
 
--- a read that followed pointers ends: with all of them kept, or with a refusal
-pub counted_after : (ts : List ℕ) (old new : Reader) → Followed ts old new → IsCounted old → (last : Reader) → last.jumps ≡ new.jumps → last.kept ≡ inserted ts old.kept → IsCounted last
-counted_after ts old new f counted last jumps kept =
+-- a name ends behind the place where it begins
+pub ends_behind : {bytes : List ℕ} {s i e : ℕ} {xs : List (List ℕ)} → Spelled bytes xs s i e → i < e
+ends_behind (ends h) = omega arith
+ends_behind (label h some small at rest) = omega (arith, ends_behind rest)
+ends_behind (pointer h next high below rest) = omega arith
+
+or_either : (a b : Bool) → (a || b) ≡ (b || a)
+or_either true true = refl
+or_either true false = refl
+or_either false true = refl
+or_either false false = refl
+
+-- with the offsets of one more name
+pub both_lists : (ts us : List ℕ) → inserted ts (set.from_list us) ≡ set.from_list (ts ++ us)
+both_lists ts us = same_members _ _ (λ q.
+    contains-inserted ts (set.from_list us) q
+    ∙ ap (λ (b : Bool). b || among ts q) (set.contains-from_list_nat us q)
+    ∙ or_either (among us q) (among ts q)
+    ∙ sym (list_any-append (λ (y : ℕ). nat_eq y q) ts us)
+    ∙ sym (set.contains-from_list_nat (ts ++ us) q))
+
+one_passed : (old last : Reader) (xs : List (List ℕ)) (e : ℕ) (h : Spelled old.bytes xs old.index old.index e) → IsPassed old → last.bytes ≡ old.bytes → last.index ≡ e → last.kept ≡ inserted (passed h) old.kept → IsPassed last
+one_passed old last xs e h p bytes index kept =
+    let behind = ends_behind h in
+    record {
+      names = old.index ∷ p.names;
+      offsets = passed h ++ p.offsets;
+      before = before behind;
+      pass = subst (λ (bs : List ℕ). NamesPass bs (old.index ∷ p.names) (passed h ++ p.offsets)) (sym bytes) (one_more h p.pass);
+      exact = kept ∙ ap (inserted (passed h)) p.exact ∙ both_lists (passed h) p.offsets;
+    } where
+      before : old.index < e → All (λ (i : ℕ). i < last.index) (old.index ∷ p.names)
+      before behind zero d inside = omega (arith, index, behind)
+      before behind (suc k) d inside = omega (arith, index, behind, p.before k d (omega (arith, inside)))
+
+-- a read of a name ends: with all that it passes kept, or with a refusal
+pub counted_after : (ts : List ℕ) (old new : Reader) → Followed ts old new → IsCounted old → (last : Reader) → last.jumps ≡ new.jumps → last.kept ≡ inserted ts old.kept
+    → (xs : List (List ℕ)) (e : ℕ) (h : Spelled old.bytes xs old.index old.index e) → last.bytes ≡ old.bytes → last.index ≡ e → last.kept ≡ inserted (passed h) old.kept → IsCounted last
+counted_after ts old new f counted last jumps kept xs e h bytes index passes =
     let few = f.few counted.few in
     let raised = f.jumps (omega (arith, counted.each, few, f.all)) in
     let len = ap set.len kept in
-    record { each = omega (arith, jumps, raised, counted.each, len, f.all); few = omega (arith, len, few) }
+    record { each = omega (arith, jumps, raised, counted.each, len, f.all); few = omega (arith, len, few); passed = one_passed old last xs e h counted.passed bytes index passes }
 
 pub counted_refused : (ts : List ℕ) (old new : Reader) → Followed ts old new → IsCounted old → new.jumps ≤ 16384
 counted_refused ts old new f counted =

@@ -1,5 +1,5 @@
 -- The offsets that the pointers of a name lead to (RFC 1035, 4.1.4).
-use Rattle.std.specs.Prelude.{◌≡◌, ℕ, Bool, true, List, [], ◌∷◌, nat_eq}
+use Rattle.std.specs.Prelude.{◌≡◌, ℕ, Bool, true, List, [], ◌∷◌, ◌++◌, nat_eq}
 use Rattle.std.specs.FinSet as set
 use Rattle.std.specs.List.{list_any}
 use Rattle.std.specs.Ordering.{nat_cmp}
@@ -30,3 +30,8 @@ PassesKept bytes kept t = (xs : List (List ℕ)) (e : ℕ) (h : Spelled bytes xs
 -- with an offset, all that is passed from there is kept
 abbrev pub IsClosed : List ℕ → set.FinSet nat_cmp → Type 0
 IsClosed bytes kept = (t : ℕ) → set.contains kept t ≡ true → PassesKept bytes kept t
+
+-- Names stand at these places, and their pointers lead to these offsets, one name's before another's.
+pub data NamesPass (bytes : List ℕ) : List ℕ → List ℕ → Type 0 where
+  no_names : NamesPass bytes [] []
+  one_more : {i e : ℕ} {xs : List (List ℕ)} {places ts : List ℕ} → (h : Spelled bytes xs i i e) → NamesPass bytes places ts → NamesPass bytes (i ∷ places) (passed h ++ ts)
