@@ -6,11 +6,9 @@ use Rattle.std.proofs.lemmas.Bool.{cond-true, cond-false, le-leb, lt-leb, lt-ltb
 use Rattle.std.proofs.lemmas.List.{append-nil, drop_more}
 use Rattle.base.specs.declared.error.decode_error.DecodeError.{DecodeError}
 use Rattle.base.specs.declared.error.decode_error.DecodeError.TheVariants as faults
-use Rattle.base.specs.declared.name.reading.Part.{Part}
-use Rattle.base.specs.declared.name.reading.Part.TheVariants.{Root, Label, Pointer}
 use Rattle.base.specs.Kept.{IsKept}
 use Rattle.base.specs.Labels.{IsWire, AreLabels, labels_of, wire_of}
-use Rattle.base.specs.Names.{Labels, part_at, with_label, ending, labels_at}
+use Rattle.base.specs.Names.{NamePart, zero_byte, label_of, pointer_to, Labels, part_at, with_label, ending, labels_at}
 use Rattle.base.specs.Reading.{◌>>=◌, Fails}
 use Rattle.base.specs.Spelling.{ByteAt, anywhere, Spelled}
 use Rattle.base.proofs.LabelLemmas.{IsWire-nil, IsWire-push, AreLabels-append, labels_of-nil, labels_of-push, labels_of_is, wire_of-append, size_of-labels_of}
@@ -68,20 +66,20 @@ module _ (buffer : List ℕ) (first before start at used : ℕ) (bytes : List �
   pub at_fault : (f : DecodeError) → part_at buffer at ≡ Err f → labels_at buffer first first before ≡ Err f
   at_fault f is = fails f (labels_at-part buffer start at used (Err f) few is)
 
-  pub at_long : (n : ℕ) → part_at buffer at ≡ Ok (Label n) → 255 < used + n + 2 → labels_at buffer first first before ≡ Err faults.BadName
-  at_long n is more = fails faults.BadName (labels_at-part buffer start at used (Ok (Label n)) few is ∙ cond-true (nat_lt 255 (used + n + 2)) _ _ (lt-ltb 255 (used + n + 2) more))
+  pub at_long : (n : ℕ) → part_at buffer at ≡ Ok (label_of n) → 255 < used + n + 2 → labels_at buffer first first before ≡ Err faults.BadName
+  at_long n is more = fails faults.BadName (labels_at-part buffer start at used (Ok (label_of n)) few is ∙ cond-true (nat_lt 255 (used + n + 2)) _ _ (lt-ltb 255 (used + n + 2) more))
 
-  pub at_forward : (t : ℕ) → part_at buffer at ≡ Ok (Pointer t) → start ≤ t → labels_at buffer first first before ≡ Err faults.BadName
-  at_forward t is above = fails faults.BadName (labels_at-part buffer start at used (Ok (Pointer t)) few is ∙ cond-true (nat_le start t) _ _ (le-leb start t above))
+  pub at_forward : (t : ℕ) → part_at buffer at ≡ Ok (pointer_to t) → start ≤ t → labels_at buffer first first before ≡ Err faults.BadName
+  at_forward t is above = fails faults.BadName (labels_at-part buffer start at used (Ok (pointer_to t)) few is ∙ cond-true (nat_le start t) _ _ (le-leb start t above))
 
-  pub at_root : part_at buffer at ≡ Ok Root → labels_at buffer first first before ≡ Ok (labels_of bytes, unwrap_or end (at + 1))
-  at_root is = goes (Ok ([], at + 1)) (labels_at-part buffer start at used (Ok Root) few is) ∙ at_end end where
+  pub at_root : part_at buffer at ≡ Ok zero_byte → labels_at buffer first first before ≡ Ok (labels_of bytes, unwrap_or end (at + 1))
+  at_root is = goes (Ok ([], at + 1)) (labels_at-part buffer start at used (Ok zero_byte) few is) ∙ at_end end where
     at_end : (end : Option ℕ) → with_front (labels_of bytes) (ended_at end (Ok ([], at + 1))) ≡ Ok (labels_of bytes, unwrap_or end (at + 1))
     at_end None = ap (λ (labels : List (List ℕ)). Ok (labels, at + 1)) (append-nil (labels_of bytes))
     at_end (Some e) = ap (λ (labels : List (List ℕ)). Ok (labels, e)) (append-nil (labels_of bytes))
 
 -- what a label is
-label_part : (bytes : List ℕ) (i n : ℕ) (read : Result Part DecodeError) → PartIs bytes i read → read ≡ Ok (Label n) → ByteAt anywhere bytes i n × (1 ≤ n) × (n ≤ 63) × (i + 1 + n ≤ length bytes)
+label_part : (bytes : List ℕ) (i n : ℕ) (read : Result NamePart DecodeError) → PartIs bytes i read → read ≡ Ok (label_of n) → ByteAt anywhere bytes i n × (1 ≤ n) × (n ≤ 63) × (i + 1 + n ≤ length bytes)
 label_part bytes i n _ (is_past h) is = absurd cc
 label_part bytes i n _ (is_root h) is = absurd cc
 label_part bytes i n _ (is_cut_label h some small cut) is = absurd cc
@@ -92,10 +90,10 @@ label_part bytes i n _ (is_bits h low high) is = absurd cc
 label_part bytes i n _ (is_cut_pointer h high cut) is = absurd cc
 label_part bytes i n _ (is_pointer h next high) is = absurd cc
 
-pub label_fits : (bytes : List ℕ) (i n : ℕ) → part_at bytes i ≡ Ok (Label n) → i + 1 + n ≤ length bytes
+pub label_fits : (bytes : List ℕ) (i n : ℕ) → part_at bytes i ≡ Ok (label_of n) → i + 1 + n ≤ length bytes
 label_fits bytes i n is = (label_part bytes i n (part_at bytes i) (part_is bytes i) is).3
 
-root_part : (bytes : List ℕ) (i : ℕ) (read : Result Part DecodeError) → PartIs bytes i read → read ≡ Ok Root → i + 1 ≤ length bytes
+root_part : (bytes : List ℕ) (i : ℕ) (read : Result NamePart DecodeError) → PartIs bytes i read → read ≡ Ok zero_byte → i + 1 ≤ length bytes
 root_part bytes i _ (is_past h) is = absurd cc
 root_part bytes i _ (is_root h) is = omega (arith, h.inside)
 root_part bytes i _ (is_cut_label h some small cut) is = absurd cc
@@ -104,7 +102,7 @@ root_part bytes i _ (is_bits h low high) is = absurd cc
 root_part bytes i _ (is_cut_pointer h high cut) is = absurd cc
 root_part bytes i _ (is_pointer h next high) is = absurd cc
 
-pointer_part : (bytes : List ℕ) (i t : ℕ) (read : Result Part DecodeError) → PartIs bytes i read → read ≡ Ok (Pointer t) → i + 2 ≤ length bytes
+pointer_part : (bytes : List ℕ) (i t : ℕ) (read : Result NamePart DecodeError) → PartIs bytes i read → read ≡ Ok (pointer_to t) → i + 2 ≤ length bytes
 pointer_part bytes i t _ (is_past h) is = absurd cc
 pointer_part bytes i t _ (is_root h) is = absurd cc
 pointer_part bytes i t _ (is_cut_label h some small cut) is = absurd cc
@@ -141,13 +139,13 @@ fails_is faults.Memory read is = tt
 fails_is f read is = is
 
 module _ (buffer : List ℕ) (first before start at used : ℕ) (bytes : List ℕ) (end : Option ℕ) (gathers : Gathers buffer first before start at used bytes end) where
-  pub root_inside : part_at buffer at ≡ Ok Root → unwrap_or end (at + 1) ≤ length buffer
+  pub root_inside : part_at buffer at ≡ Ok zero_byte → unwrap_or end (at + 1) ≤ length buffer
   root_inside is = either_end end (at + 1) (length buffer) gathers.end_inside (root_part buffer at (part_at buffer at) (part_is buffer at) is)
 
-  pub gathers_pointer : (t : ℕ) → part_at buffer at ≡ Ok (Pointer t) → t < start → Gathers buffer first before t t used bytes (Some (unwrap_or end (at + 2)))
+  pub gathers_pointer : (t : ℕ) → part_at buffer at ≡ Ok (pointer_to t) → t < start → Gathers buffer first before t t used bytes (Some (unwrap_or end (at + 2)))
   gathers_pointer t is below = record {
     so_far = ap (with_front (labels_of bytes)) (earlier end (labels_at buffer t t used)) ∙ sym (goes buffer first before start at used bytes end gathers (ending (at + 2) (labels_at buffer t t used))
-        (labels_at-part buffer start at used (Ok (Pointer t)) (few buffer first before start at used bytes end gathers) is ∙ cond-false (nat_le start t) _ _ (lt-leb start t below)));
+        (labels_at-part buffer start at used (Ok (pointer_to t)) (few buffer first before start at used bytes end gathers) is ∙ cond-false (nat_le start t) _ _ (lt-leb start t below)));
     wire = gathers.wire;
     len = gathers.len;
     few = gathers.few;
@@ -160,7 +158,7 @@ module _ (buffer : List ℕ) (first before start at used : ℕ) (bytes : List �
     earlier (Some e) (Ok r) = refl
     earlier (Some e) (Err f) = refl
 
-  pub gathers_label : (n size : ℕ) (next : List ℕ) → part_at buffer at ≡ Ok (Label n) → size ≡ 1 + n → used + size + 1 ≤ 255 → next ≡ bytes ++ slice_range buffer at (at + size)
+  pub gathers_label : (n size : ℕ) (next : List ℕ) → part_at buffer at ≡ Ok (label_of n) → size ≡ 1 + n → used + size + 1 ≤ 255 → next ≡ bytes ++ slice_range buffer at (at + size)
       → Gathers buffer first before start (at + size) (used + size) next end
   gathers_label n size next is size_is short next_is =
       let part = label_part buffer at n (part_at buffer at) (part_is buffer at) is in
@@ -209,11 +207,11 @@ spelled_is B t used e xs few is = right (labels_at B t t used) is (labels_right 
   right (Err f) same is_right = absurd cc
 
 -- a target that is kept ends the walk
-module _ (buffer : List ℕ) (first before start at used : ℕ) (bytes : List ℕ) (end : Option ℕ) (gathers : Gathers buffer first before start at used bytes end) (t : ℕ) (is : part_at buffer at ≡ Ok (Pointer t)) (below : t < start)
+module _ (buffer : List ℕ) (first before start at used : ℕ) (bytes : List ℕ) (end : Option ℕ) (gathers : Gathers buffer first before start at used bytes end) (t : ℕ) (is : part_at buffer at ≡ Ok (pointer_to t)) (below : t < start)
     (items : List ℕ) (kept : IsKept buffer t items) where
   goes_there : labels_at buffer first first before ≡ with_front (labels_of bytes) (ended_at end (ending (at + 2) (labels_at buffer t t used)))
   goes_there = goes buffer first before start at used bytes end gathers (ending (at + 2) (labels_at buffer t t used))
-      (labels_at-part buffer start at used (Ok (Pointer t)) (few buffer first before start at used bytes end gathers) is ∙ cond-false (nat_le start t) _ _ (lt-leb start t below))
+      (labels_at-part buffer start at used (Ok (pointer_to t)) (few buffer first before start at used bytes end gathers) is ∙ cond-false (nat_le start t) _ _ (lt-leb start t below))
 
   pub at_kept : used + length items + 1 ≤ 255 → labels_at buffer first first before ≡ Ok (labels_of (bytes ++ items), unwrap_or end (at + 2))
   at_kept short =

@@ -7,11 +7,9 @@ use Rattle.std.proofs.lemmas.Bool.{cases_Bool, eqb-true, false≢true}
 use Rattle.std.proofs.lemmas.List.{append-nil, map_push}
 use Rattle.std.proofs.lemmas.List.Folds.{list_any-append}
 use Rattle.base.specs.declared.error.decode_error.DecodeError.{DecodeError}
-use Rattle.base.specs.declared.name.reading.Part.{Part}
-use Rattle.base.specs.declared.name.reading.Part.TheVariants.{Root, Label, Pointer}
 use Rattle.base.specs.declared.name.trail.Passed.{Passed}
 use Rattle.base.specs.Kept.{AreKept, ArePlain, targets_of}
-use Rattle.base.specs.Names.{part_at}
+use Rattle.base.specs.Names.{NamePart, zero_byte, label_of, pointer_to, part_at}
 use Rattle.base.specs.Passed.{PassLater, PassesThese, targets}
 use Rattle.base.specs.Passing.{AreIn, IsClosed, PassesKept, among, inserted, passed}
 use Rattle.base.specs.Spelling.{Spelled, ends, label, pointer, target}
@@ -64,41 +62,41 @@ pub record Rest (bytes : List ℕ) (start at : ℕ) (P : List ℕ → Type 0) : 
   pub spelled : Spelled bytes labels start at end
   pub passes : P (passed spelled)
 
-same_label : (m n : ℕ) → ◌≡◌ {A = Result Part DecodeError} (Ok (Label m)) (Ok (Label n)) → m ≡ n
+same_label : (m n : ℕ) → ◌≡◌ {A = Result NamePart DecodeError} (Ok (label_of m)) (Ok (label_of n)) → m ≡ n
 same_label m n is = cc
 
-same_pointer : (t u : ℕ) → ◌≡◌ {A = Result Part DecodeError} (Ok (Pointer t)) (Ok (Pointer u)) → t ≡ u
+same_pointer : (t u : ℕ) → ◌≡◌ {A = Result NamePart DecodeError} (Ok (pointer_to t)) (Ok (pointer_to u)) → t ≡ u
 same_pointer t u is = cc
 
-after_label : {bytes : List ℕ} {start at e : ℕ} {xs : List (List ℕ)} (n : ℕ) → part_at bytes at ≡ Ok (Label n) → (h : Spelled bytes xs start at e) → Rest bytes start (at + 1 + n) (λ qs. passed h ≡ qs)
+after_label : {bytes : List ℕ} {start at e : ℕ} {xs : List (List ℕ)} (n : ℕ) → part_at bytes at ≡ Ok (label_of n) → (h : Spelled bytes xs start at e) → Rest bytes start (at + 1 + n) (λ qs. passed h ≡ qs)
 after_label {bytes} {at = at} n is (ends h) = absurd (no_root (sym (part_at-root bytes at h) ∙ is)) where
-  no_root : ◌≡◌ {A = Result Part DecodeError} (Ok Root) (Ok (Label n)) → ⊥
+  no_root : ◌≡◌ {A = Result NamePart DecodeError} (Ok zero_byte) (Ok (label_of n)) → ⊥
   no_root same = absurd cc
 after_label {bytes} {start} {at} n is (label {e = e} {x = x} {xs = xs} h some small there rest) =
     let len : length x ≡ n = same_label (length x) n (sym (part_at-label bytes at (length x) h some small there.inside) ∙ is) in
     subst (λ (k : ℕ). Rest bytes start (at + 1 + k) (λ qs. passed rest ≡ qs)) len (record { labels = xs; end = e; spelled = rest; passes = refl })
 after_label {bytes} {at = at} n is (pointer {b = b} {c = c} h next high below rest) = absurd (no_pointer (target b c) (sym (part_at-pointer bytes at b c h next high) ∙ is)) where
-  no_pointer : (t : ℕ) → ◌≡◌ {A = Result Part DecodeError} (Ok (Pointer t)) (Ok (Label n)) → ⊥
+  no_pointer : (t : ℕ) → ◌≡◌ {A = Result NamePart DecodeError} (Ok (pointer_to t)) (Ok (label_of n)) → ⊥
   no_pointer t same = absurd cc
 
-after_pointer : {bytes : List ℕ} {start at e : ℕ} {xs : List (List ℕ)} (t : ℕ) → part_at bytes at ≡ Ok (Pointer t) → (h : Spelled bytes xs start at e) → Rest bytes t t (λ qs. passed h ≡ t ∷ qs)
+after_pointer : {bytes : List ℕ} {start at e : ℕ} {xs : List (List ℕ)} (t : ℕ) → part_at bytes at ≡ Ok (pointer_to t) → (h : Spelled bytes xs start at e) → Rest bytes t t (λ qs. passed h ≡ t ∷ qs)
 after_pointer {bytes} {at = at} t is (ends h) = absurd (no_root (sym (part_at-root bytes at h) ∙ is)) where
-  no_root : ◌≡◌ {A = Result Part DecodeError} (Ok Root) (Ok (Pointer t)) → ⊥
+  no_root : ◌≡◌ {A = Result NamePart DecodeError} (Ok zero_byte) (Ok (pointer_to t)) → ⊥
   no_root same = absurd cc
 after_pointer {bytes} {at = at} t is (label {x = x} h some small there rest) = absurd (no_label (length x) (sym (part_at-label bytes at (length x) h some small there.inside) ∙ is)) where
-  no_label : (n : ℕ) → ◌≡◌ {A = Result Part DecodeError} (Ok (Label n)) (Ok (Pointer t)) → ⊥
+  no_label : (n : ℕ) → ◌≡◌ {A = Result NamePart DecodeError} (Ok (label_of n)) (Ok (pointer_to t)) → ⊥
   no_label n same = absurd cc
 after_pointer {bytes} {at = at} t is (pointer {b = b} {c = c} {e = e} {xs = xs} h next high below rest) =
     let there : target b c ≡ t = same_pointer (target b c) t (sym (part_at-pointer bytes at b c h next high) ∙ is) in
     subst (λ (u : ℕ). Rest bytes u u (λ qs. ◌≡◌ {A = List ℕ} (target b c ∷ passed rest) (u ∷ qs))) there (record { labels = xs; end = e; spelled = rest; passes = refl })
 
-after_root : {bytes : List ℕ} {start at e : ℕ} {xs : List (List ℕ)} → part_at bytes at ≡ Ok Root → (h : Spelled bytes xs start at e) → passed h ≡ []
+after_root : {bytes : List ℕ} {start at e : ℕ} {xs : List (List ℕ)} → part_at bytes at ≡ Ok zero_byte → (h : Spelled bytes xs start at e) → passed h ≡ []
 after_root is (ends h) = refl
 after_root {bytes} {at = at} is (label {x = x} h some small there rest) = absurd (no_label (length x) (sym (part_at-label bytes at (length x) h some small there.inside) ∙ is)) where
-  no_label : (n : ℕ) → ◌≡◌ {A = Result Part DecodeError} (Ok (Label n)) (Ok Root) → ⊥
+  no_label : (n : ℕ) → ◌≡◌ {A = Result NamePart DecodeError} (Ok (label_of n)) (Ok zero_byte) → ⊥
   no_label n same = absurd cc
 after_root {bytes} {at = at} is (pointer {b = b} {c = c} h next high below rest) = absurd (no_pointer (target b c) (sym (part_at-pointer bytes at b c h next high) ∙ is)) where
-  no_pointer : (t : ℕ) → ◌≡◌ {A = Result Part DecodeError} (Ok (Pointer t)) (Ok Root) → ⊥
+  no_pointer : (t : ℕ) → ◌≡◌ {A = Result NamePart DecodeError} (Ok (pointer_to t)) (Ok zero_byte) → ⊥
   no_pointer t same = absurd cc
 
 -- ---- the pointers that are followed from an offset
@@ -111,14 +109,14 @@ pub Leads-none : (bytes : List ℕ) (first : ℕ) → Leads bytes first [] first
 Leads-none bytes first xs e h = record { labels = xs; end = e; spelled = h; passes = refl }
 
 module _ (bytes : List ℕ) (first : ℕ) (ts : List ℕ) (start at : ℕ) (leads : Leads bytes first ts start at) where
-  pub Leads-label : (n next : ℕ) → part_at bytes at ≡ Ok (Label n) → next ≡ at + 1 + n → Leads bytes first ts start next
+  pub Leads-label : (n next : ℕ) → part_at bytes at ≡ Ok (label_of n) → next ≡ at + 1 + n → Leads bytes first ts start next
   Leads-label n next is next_is xs e h =
       let r = leads xs e h in
       let s = after_label n is r.spelled in
       subst (λ (k : ℕ). Rest bytes start k (λ qs. passed h ≡ ts ++ qs)) (sym next_is)
       (record { labels = s.labels; end = s.end; spelled = s.spelled; passes = r.passes ∙ ap (λ (qs : List ℕ). ts ++ qs) s.passes })
 
-  pub Leads-pointer : (t : ℕ) → part_at bytes at ≡ Ok (Pointer t) → Leads bytes first (ts ++ t ∷ []) t t
+  pub Leads-pointer : (t : ℕ) → part_at bytes at ≡ Ok (pointer_to t) → Leads bytes first (ts ++ t ∷ []) t t
   Leads-pointer t is xs e h =
       let r = leads xs e h in
       let s = after_pointer t is r.spelled in
@@ -132,7 +130,7 @@ module _ (bytes : List ℕ) (first : ℕ) (ts : List ℕ) (start at : ℕ) (lead
   among_more : (qs : List ℕ) (q : ℕ) → among (ts ++ qs) q ≡ (among ts q || among qs q)
   among_more qs q = list_any-append (λ (y : ℕ). nat_eq y q) ts qs
 
-  pub Leads-root : (kept : set.FinSet nat_cmp) → part_at bytes at ≡ Ok Root → PassesThese bytes kept first ts
+  pub Leads-root : (kept : set.FinSet nat_cmp) → part_at bytes at ≡ Ok zero_byte → PassesThese bytes kept first ts
   Leads-root kept is xs e h =
       let r = leads xs e h in
       let all : passed h ≡ ts = r.passes ∙ ap (λ (qs : List ℕ). ts ++ qs) (after_root is r.spelled) ∙ append-nil ts in (
@@ -141,7 +139,7 @@ module _ (bytes : List ℕ) (first : ℕ) (ts : List ℕ) (start at : ℕ) (lead
       )
 
   -- behind a kept offset only kept ones are passed
-  pub Leads-kept : (kept : set.FinSet nat_cmp) (t : ℕ) → part_at bytes at ≡ Ok (Pointer t) → set.contains kept t ≡ true → IsClosed bytes kept → PassesThese bytes kept first ts
+  pub Leads-kept : (kept : set.FinSet nat_cmp) (t : ℕ) → part_at bytes at ≡ Ok (pointer_to t) → set.contains kept t ≡ true → IsClosed bytes kept → PassesThese bytes kept first ts
   Leads-kept kept t is has closed xs e h =
       let r = leads xs e h in
       let s = after_pointer t is r.spelled in
@@ -163,12 +161,12 @@ abbrev pub Lead : List ℕ → List Passed → ℕ → ℕ → Type 0
 Lead bytes [] start at = Unit {0}
 Lead bytes (p ∷ ps) start at = Leads bytes p.target (targets ps) start at × Lead bytes ps start at
 
-pub Lead-label : (bytes : List ℕ) (ps : List Passed) (start at n next : ℕ) → part_at bytes at ≡ Ok (Label n) → next ≡ at + 1 + n → Lead bytes ps start at → Lead bytes ps start next
+pub Lead-label : (bytes : List ℕ) (ps : List Passed) (start at n next : ℕ) → part_at bytes at ≡ Ok (label_of n) → next ≡ at + 1 + n → Lead bytes ps start at → Lead bytes ps start next
 Lead-label bytes [] start at n next is next_is lead = tt
 Lead-label bytes (p ∷ ps) start at n next is next_is lead =
     (λ xs e h. Leads-label bytes p.target (targets ps) start at lead.0 n next is next_is xs e h, Lead-label bytes ps start at n next is next_is lead.1)
 
-pub Lead-pointer : (bytes : List ℕ) (ps : List Passed) (start at : ℕ) (one : Passed) → part_at bytes at ≡ Ok (Pointer one.target) → Lead bytes ps start at → Lead bytes (ps ++ one ∷ []) one.target one.target
+pub Lead-pointer : (bytes : List ℕ) (ps : List Passed) (start at : ℕ) (one : Passed) → part_at bytes at ≡ Ok (pointer_to one.target) → Lead bytes ps start at → Lead bytes (ps ++ one ∷ []) one.target one.target
 Lead-pointer bytes [] start at one is lead = (λ xs e h. Leads-none bytes one.target xs e h, tt)
 Lead-pointer bytes (p ∷ ps) start at one is lead =
     let more : targets ps ++ one.target ∷ [] ≡ targets (ps ++ one ∷ []) = sym (map_push (λ (x : Passed). x.target) ps one) in (
@@ -176,11 +174,11 @@ Lead-pointer bytes (p ∷ ps) start at one is lead =
       Lead-pointer bytes ps start at one is lead.1,
     )
 
-pub Lead-root : (bytes : List ℕ) (kept : set.FinSet nat_cmp) (ps : List Passed) (start at : ℕ) → part_at bytes at ≡ Ok Root → Lead bytes ps start at → PassLater bytes kept ps
+pub Lead-root : (bytes : List ℕ) (kept : set.FinSet nat_cmp) (ps : List Passed) (start at : ℕ) → part_at bytes at ≡ Ok zero_byte → Lead bytes ps start at → PassLater bytes kept ps
 Lead-root bytes kept [] start at is lead = tt
 Lead-root bytes kept (p ∷ ps) start at is lead = (λ xs e h. (Leads-root bytes p.target (targets ps) start at lead.0 kept is xs e h).0, Lead-root bytes kept ps start at is lead.1)
 
-pub Lead-kept : (bytes : List ℕ) (kept : set.FinSet nat_cmp) (ps : List Passed) (start at t : ℕ) → part_at bytes at ≡ Ok (Pointer t) → set.contains kept t ≡ true → IsClosed bytes kept
+pub Lead-kept : (bytes : List ℕ) (kept : set.FinSet nat_cmp) (ps : List Passed) (start at t : ℕ) → part_at bytes at ≡ Ok (pointer_to t) → set.contains kept t ≡ true → IsClosed bytes kept
     → Lead bytes ps start at → PassLater bytes kept ps
 Lead-kept bytes kept [] start at t is has closed lead = tt
 Lead-kept bytes kept (p ∷ ps) start at t is has closed lead =

@@ -6,11 +6,9 @@ use Rattle.std.proofs.lemmas.Bool.{cases_lt, cond_both, cond-true, cond-false, l
 use Rattle.std.proofs.lemmas.Grind.{same_number_lists}
 use Rattle.base.specs.declared.error.decode_error.DecodeError.{DecodeError}
 use Rattle.base.specs.declared.error.decode_error.DecodeError.TheVariants as faults
-use Rattle.base.specs.declared.name.reading.Part.{Part}
-use Rattle.base.specs.declared.name.reading.Part.TheVariants.{Root, Label, Pointer}
 use Rattle.base.specs.Faults.{IsFaulty, ended, cut_label, cut_pointer, bad_bits, long, forward, behind_label, behind_pointer}
 use Rattle.base.specs.Labels.{NameValue, size_of}
-use Rattle.base.specs.Names.{Labels, part_at, with_label, ending, after_part, walk, labels_at, name_at}
+use Rattle.base.specs.Names.{NamePart, zero_byte, label_of, pointer_to, Labels, part_at, with_label, ending, after_part, walk, labels_at, name_at}
 use Rattle.base.specs.Reading.{◌>>=◌}
 use Rattle.base.specs.Spelling.{ByteAt, BytesAt, ends, label, pointer, Spelled, IsNameAt, anywhere, target}
 use Rattle.base.proofs.WalkLemmas.{PartIs, is_past, is_root, is_cut_label, is_label, is_bits, is_cut_pointer, is_pointer, fuel, part_is, part_at-past, part_at-root, part_at-cut_label, part_at-label, part_at-bits, part_at-cut_pointer, part_at-pointer, labels_at-step, walk-suc}
@@ -57,7 +55,7 @@ right_pointer : (bytes : List ℕ) (s i used b c : ℕ) (r : Labels) → ByteAt 
 right_pointer bytes s i used b c (Ok r) h next high below right = (pointer h next high below right.0, right.1)
 right_pointer bytes s i used b c (Err f) h next high below right = behind_pointer h next high below right
 
-right_behind : (bytes : List ℕ) (s i used : ℕ) (read : Result Part DecodeError) → PartIs bytes i read → used ≤ 254 → (again : ℕ → ℕ → ℕ → Labels)
+right_behind : (bytes : List ℕ) (s i used : ℕ) (read : Result NamePart DecodeError) → PartIs bytes i read → used ≤ 254 → (again : ℕ → ℕ → ℕ → Labels)
     → ((s' i' used' : ℕ) → used' ≤ 254 → fuel s' used' < fuel s used → IsRight bytes s' i' used' (again s' i' used'))
     → IsRight bytes s i used (read >>= after_part again bytes s i used)
 right_behind bytes s i used _ (is_past h) few again right = ended h
@@ -88,24 +86,24 @@ labels_right bytes s i used few = walk_right (fuel s used) bytes s i used few (o
 
 -- and the other way round
 
-pub labels_at-part : (bytes : List ℕ) (s i used : ℕ) (read : Result Part DecodeError) → used ≤ 254 → part_at bytes i ≡ read
+pub labels_at-part : (bytes : List ℕ) (s i used : ℕ) (read : Result NamePart DecodeError) → used ≤ 254 → part_at bytes i ≡ read
     → labels_at bytes s i used ≡ (read >>= after_part (labels_at bytes) bytes s i used)
-labels_at-part bytes s i used read few is = labels_at-step bytes s i used few ∙ ap (λ (r : Result Part DecodeError). r >>= after_part (labels_at bytes) bytes s i used) is
+labels_at-part bytes s i used read few is = labels_at-step bytes s i used few ∙ ap (λ (r : Result NamePart DecodeError). r >>= after_part (labels_at bytes) bytes s i used) is
 
 pub labels_at-label : (bytes : List ℕ) (s i used n : ℕ) → ByteAt anywhere bytes i n → 1 ≤ n → n ≤ 63 → i + 1 + n ≤ length bytes → used + n + 2 ≤ 255
     → labels_at bytes s i used ≡ with_label (slice_range bytes (i + 1) (i + 1 + n)) (labels_at bytes s (i + 1 + n) (used + n + 1))
 labels_at-label bytes s i used n h some small fits short =
-    labels_at-part bytes s i used (Ok (Label n)) (omega arith) (part_at-label bytes i n h some small fits)
+    labels_at-part bytes s i used (Ok (label_of n)) (omega arith) (part_at-label bytes i n h some small fits)
     ∙ cond-false (nat_lt 255 (used + n + 2)) _ _ (le-ltb 255 (used + n + 2) short)
 
 pub labels_at-pointer : (bytes : List ℕ) (s i used b c : ℕ) → used ≤ 254 → ByteAt anywhere bytes i b → ByteAt anywhere bytes (i + 1) c → 192 ≤ b → target b c < s
     → labels_at bytes s i used ≡ ending (i + 2) (labels_at bytes (target b c) (target b c) used)
 labels_at-pointer bytes s i used b c few h next high below =
-    labels_at-part bytes s i used (Ok (Pointer (target b c))) few (part_at-pointer bytes i b c h next high)
+    labels_at-part bytes s i used (Ok (pointer_to (target b c))) few (part_at-pointer bytes i b c h next high)
     ∙ cond-false (nat_le s (target b c)) _ _ (lt-leb s (target b c) below)
 
 pub labels_again : {bytes : List ℕ} {s i e : ℕ} {xs : List (List ℕ)} (used : ℕ) → Spelled bytes xs s i e → used + size_of xs + 1 ≤ 255 → labels_at bytes s i used ≡ Ok (xs, e)
-labels_again {bytes} {s} {i} used (ends h) short = labels_at-part bytes s i used (Ok Root) (omega arith) (part_at-root bytes i h)
+labels_again {bytes} {s} {i} used (ends h) short = labels_at-part bytes s i used (Ok zero_byte) (omega arith) (part_at-root bytes i h)
 labels_again {bytes} {s} {i} used (label {e = e} {x = x} {xs = xs} h some small at rest) short =
     let again = labels_again (used + length x + 1) rest (omega arith) in
     labels_at-label bytes s i used (length x) h some small at.inside (omega arith)
@@ -119,7 +117,7 @@ pub labels_too_long : {bytes : List ℕ} {s i e : ℕ} {xs : List (List ℕ)} (u
 labels_too_long {bytes} {s} {i} used few (ends h) more = absurd (omega arith)
 labels_too_long {bytes} {s} {i} used few (label {e = e} {x = x} {xs = xs} h some small at rest) more = elim (cases_lt 255 (used + length x + 2)) [
   | inl over ↦
-      labels_at-part bytes s i used (Ok (Label (length x))) few (part_at-label bytes i (length x) h some small at.inside)
+      labels_at-part bytes s i used (Ok (label_of (length x))) few (part_at-label bytes i (length x) h some small at.inside)
       ∙ cond-true (nat_lt 255 (used + length x + 2)) _ _ (lt-ltb 255 (used + length x + 2) over)
   | inr fits ↦
       labels_at-label bytes s i used (length x) h some small at.inside fits
@@ -134,10 +132,10 @@ faulty_again {bytes} {s} {i} {used} few (cut_label {n = n} h some small cut) = l
 faulty_again {bytes} {s} {i} {used} few (cut_pointer {b = b} h high cut) = labels_at-part bytes s i used _ few (part_at-cut_pointer bytes i b h high cut)
 faulty_again {bytes} {s} {i} {used} few (bad_bits {b = b} h low high) = labels_at-part bytes s i used _ few (part_at-bits bytes i b h low high)
 faulty_again {bytes} {s} {i} {used} few (long {n = n} h some small fits more) =
-    labels_at-part bytes s i used (Ok (Label n)) few (part_at-label bytes i n h some small fits)
+    labels_at-part bytes s i used (Ok (label_of n)) few (part_at-label bytes i n h some small fits)
     ∙ cond-true (nat_lt 255 (used + n + 2)) _ _ (lt-ltb 255 (used + n + 2) (omega arith))
 faulty_again {bytes} {s} {i} {used} few (forward {b = b} {c = c} h next high above) =
-    labels_at-part bytes s i used (Ok (Pointer (target b c))) few (part_at-pointer bytes i b c h next high)
+    labels_at-part bytes s i used (Ok (pointer_to (target b c))) few (part_at-pointer bytes i b c h next high)
     ∙ cond-true (nat_le s (target b c)) _ _ (le-leb s (target b c) above)
 faulty_again {bytes} {s} {i} {used} few (behind_label {n = n} {f = f} h some small fits short rest) =
     let more : used + (1 + n) ≡ used + n + 1 = omega arith in

@@ -2,10 +2,9 @@
 use Rattle.std.proofs.Common.{◌≡◌, ℕ, ◌+◌, ◌<◌, ◌≤◌, List, ◌++◌, length, drop, Option, None, Ok, ap, sym, ◌∙◌, subst, arith, length-append}
 use Rattle.std.specs.List.{slice_range}
 use Rattle.std.proofs.lemmas.List.{drop-append-le, drop_all}
-use Rattle.base.specs.declared.name.reading.Part.TheVariants.{Root, Label, Pointer}
 use Rattle.base.specs.declared.name.trail.Passed.{Passed}
 use Rattle.base.specs.Kept.{IsKept}
-use Rattle.base.specs.Names.{part_at}
+use Rattle.base.specs.Names.{zero_byte, label_of, pointer_to, part_at}
 use Rattle.base.proofs.GatherLemmas.{Gathers, gathers_none, gathers_label, gathers_pointer, at_root, at_kept, spelled_is, IsWire-append}
 
 -- what was gathered since a pointer, before what is read from at on, are the labels behind it
@@ -27,7 +26,7 @@ Tail-new buffer t used bytes inside near len few = record {
 }
 
 module _ (buffer : List ℕ) (start at used : ℕ) (bytes : List ℕ) (p : Passed) where
-  pub Tail-pointer : (t : ℕ) → part_at buffer at ≡ Ok (Pointer t) → t < start → Tail buffer start at used bytes p → Tail buffer t t used bytes p
+  pub Tail-pointer : (t : ℕ) → part_at buffer at ≡ Ok (pointer_to t) → t < start → Tail buffer start at used bytes p → Tail buffer t t used bytes p
   Tail-pointer t is below tail = record {
     end = _;
     inside = tail.inside;
@@ -35,7 +34,7 @@ module _ (buffer : List ℕ) (start at used : ℕ) (bytes : List ℕ) (p : Passe
     gathers = gathers_pointer buffer p.target p.from start at used (drop p.from bytes) tail.end tail.gathers t is below;
   }
 
-  pub Tail-label : (n size : ℕ) (next : List ℕ) → part_at buffer at ≡ Ok (Label n) → size ≡ 1 + n → used + size + 1 ≤ 255 → length bytes ≡ used → next ≡ bytes ++ slice_range buffer at (at + size)
+  pub Tail-label : (n size : ℕ) (next : List ℕ) → part_at buffer at ≡ Ok (label_of n) → size ≡ 1 + n → used + size + 1 ≤ 255 → length bytes ≡ used → next ≡ bytes ++ slice_range buffer at (at + size)
       → Tail buffer start at used bytes p → Tail buffer start (at + size) (used + size) next p
   Tail-label n size next is size_is short len next_is tail = record {
     end = tail.end;
@@ -45,7 +44,7 @@ module _ (buffer : List ℕ) (start at used : ℕ) (bytes : List ℕ) (p : Passe
         (ap (drop p.from) next_is ∙ drop-append-le p.from bytes (slice_range buffer at (at + size)) tail.inside);
   }
 
-  pub Tail-root : part_at buffer at ≡ Ok Root → length bytes ≡ used → Tail buffer start at used bytes p → Ends buffer bytes p
+  pub Tail-root : part_at buffer at ≡ Ok zero_byte → length bytes ≡ used → Tail buffer start at used bytes p → Ends buffer bytes p
   Tail-root is len tail =
       let g = tail.gathers in (
         tail.inside,
@@ -57,7 +56,7 @@ module _ (buffer : List ℕ) (start at used : ℕ) (bytes : List ℕ) (p : Passe
         },
       )
 
-  pub Tail-kept : (t : ℕ) (items whole : List ℕ) → part_at buffer at ≡ Ok (Pointer t) → t < start → IsKept buffer t items → used + length items + 1 ≤ 255 → whole ≡ bytes ++ items → length bytes ≡ used
+  pub Tail-kept : (t : ℕ) (items whole : List ℕ) → part_at buffer at ≡ Ok (pointer_to t) → t < start → IsKept buffer t items → used + length items + 1 ≤ 255 → whole ≡ bytes ++ items → length bytes ≡ used
       → Tail buffer start at used bytes p → Ends buffer whole p
   Tail-kept t items whole is below kept short whole_is len tail =
       let g = tail.gathers in

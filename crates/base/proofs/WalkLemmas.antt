@@ -6,21 +6,19 @@ use Rattle.std.proofs.lemmas.Bool.{cond_both, leb-true, leb-false, ltb-true, ltb
 use Rattle.std.proofs.lemmas.Bool.Decides.{nat_tests}
 use Rattle.base.specs.declared.error.decode_error.DecodeError.{DecodeError}
 use Rattle.base.specs.declared.error.decode_error.DecodeError.TheVariants as faults
-use Rattle.base.specs.declared.name.reading.Part.{Part}
-use Rattle.base.specs.declared.name.reading.Part.TheVariants.{Root, Label, Pointer}
 use Rattle.base.specs.Reading.{◌>>=◌}
 use Rattle.base.specs.Spelling.{ByteAt, anywhere, target}
-use Rattle.base.specs.Names.{Labels, part_at, with_label, ending, after_part, walk, labels_at}
+use Rattle.base.specs.Names.{NamePart, zero_byte, label_of, pointer_to, Labels, part_at, with_label, ending, after_part, walk, labels_at}
 
 -- what part_at answers, by what stands at the place
-pub data PartIs (bytes : List ℕ) (i : ℕ) : Result Part DecodeError → Type 0 where
+pub data PartIs (bytes : List ℕ) (i : ℕ) : Result NamePart DecodeError → Type 0 where
   is_past : length bytes ≤ i → PartIs bytes i (Err faults.InsufficientBytes)
-  is_root : ByteAt anywhere bytes i 0 → PartIs bytes i (Ok Root)
+  is_root : ByteAt anywhere bytes i 0 → PartIs bytes i (Ok zero_byte)
   is_cut_label : {n : ℕ} → ByteAt anywhere bytes i n → 1 ≤ n → n ≤ 63 → length bytes < i + 1 + n → PartIs bytes i (Err faults.InsufficientBytes)
-  is_label : {n : ℕ} → ByteAt anywhere bytes i n → 1 ≤ n → n ≤ 63 → i + 1 + n ≤ length bytes → PartIs bytes i (Ok (Label n))
+  is_label : {n : ℕ} → ByteAt anywhere bytes i n → 1 ≤ n → n ≤ 63 → i + 1 + n ≤ length bytes → PartIs bytes i (Ok (label_of n))
   is_bits : {b : ℕ} → ByteAt anywhere bytes i b → 64 ≤ b → b < 192 → PartIs bytes i (Err faults.BadName)
   is_cut_pointer : {b : ℕ} → ByteAt anywhere bytes i b → 192 ≤ b → length bytes ≤ i + 1 → PartIs bytes i (Err faults.InsufficientBytes)
-  is_pointer : {b c : ℕ} → ByteAt anywhere bytes i b → ByteAt anywhere bytes (i + 1) c → 192 ≤ b → PartIs bytes i (Ok (Pointer (target b c)))
+  is_pointer : {b c : ℕ} → ByteAt anywhere bytes i b → ByteAt anywhere bytes (i + 1) c → 192 ≤ b → PartIs bytes i (Ok (pointer_to (target b c)))
 
 pub byte : (bytes : List ℕ) (i b : ℕ) → i < length bytes → get_or bytes i 0 ≡ b → ByteAt anywhere bytes i b
 byte bytes i b inside is = record { inside = inside; is = is; seen = tt }
@@ -30,7 +28,7 @@ unfolding part_at
 part_is bytes i =
     let b = get_or bytes i 0 in
     let c = get_or bytes (i + 1) 0 in
-    let P : Result Part DecodeError → Type 0 = PartIs bytes i in
+    let P : Result NamePart DecodeError → Type 0 = PartIs bytes i in
     cond_both (nat_le (length bytes) i) _ _ P (λ h. is_past (leb-true (length bytes) i h)) (λ h1.
     let here : ByteAt anywhere bytes i b = byte bytes i b (leb-false (length bytes) i h1) refl in
     cond_both (b == 0) _ _ P (λ h. is_root (byte bytes i 0 here.inside (eqb-true b 0 h))) (λ h2.
@@ -52,7 +50,7 @@ pub part_at-past : (bytes : List ℕ) (i : ℕ) → length bytes ≤ i → part_
 unfolding part_at
 part_at-past bytes i h = grind (arith, nat_tests)
 
-pub part_at-root : (bytes : List ℕ) (i : ℕ) → ByteAt anywhere bytes i 0 → part_at bytes i ≡ Ok Root
+pub part_at-root : (bytes : List ℕ) (i : ℕ) → ByteAt anywhere bytes i 0 → part_at bytes i ≡ Ok zero_byte
 unfolding part_at
 part_at-root bytes i b = grind (arith, nat_tests, b.is, b.inside)
 
@@ -60,7 +58,7 @@ pub part_at-cut_label : (bytes : List ℕ) (i n : ℕ) → ByteAt anywhere bytes
 unfolding part_at
 part_at-cut_label bytes i n b some small cut = grind (arith, nat_tests, b.is, b.inside)
 
-pub part_at-label : (bytes : List ℕ) (i n : ℕ) → ByteAt anywhere bytes i n → 1 ≤ n → n ≤ 63 → i + 1 + n ≤ length bytes → part_at bytes i ≡ Ok (Label n)
+pub part_at-label : (bytes : List ℕ) (i n : ℕ) → ByteAt anywhere bytes i n → 1 ≤ n → n ≤ 63 → i + 1 + n ≤ length bytes → part_at bytes i ≡ Ok (label_of n)
 unfolding part_at
 part_at-label bytes i n b some small fits = grind (arith, nat_tests, b.is, b.inside)
 
@@ -72,7 +70,7 @@ pub part_at-cut_pointer : (bytes : List ℕ) (i b : ℕ) → ByteAt anywhere byt
 unfolding part_at
 part_at-cut_pointer bytes i b at high cut = grind (arith, nat_tests, at.is, at.inside)
 
-pub part_at-pointer : (bytes : List ℕ) (i b c : ℕ) → ByteAt anywhere bytes i b → ByteAt anywhere bytes (i + 1) c → 192 ≤ b → part_at bytes i ≡ Ok (Pointer (target b c))
+pub part_at-pointer : (bytes : List ℕ) (i b c : ℕ) → ByteAt anywhere bytes i b → ByteAt anywhere bytes (i + 1) c → 192 ≤ b → part_at bytes i ≡ Ok (pointer_to (target b c))
 unfolding part_at
 part_at-pointer bytes i b c at next high = grind (arith, nat_tests, at.is, at.inside, next.is, next.inside)
 
@@ -85,7 +83,7 @@ cond_same true x y z same = refl
 cond_same false x y z same = same refl
 
 -- two ways to read on that agree on what is shorter to walk agree behind a part
-behind_same : (bytes : List ℕ) (s i used : ℕ) (part : Result Part DecodeError) → PartIs bytes i part → used ≤ 254 → (f g : ℕ → ℕ → ℕ → Labels)
+behind_same : (bytes : List ℕ) (s i used : ℕ) (part : Result NamePart DecodeError) → PartIs bytes i part → used ≤ 254 → (f g : ℕ → ℕ → ℕ → Labels)
     → ((s' i' used' : ℕ) → used' ≤ 254 → fuel s' used' < fuel s used → f s' i' used' ≡ g s' i' used')
     → (part >>= after_part f bytes s i used) ≡ (part >>= after_part g bytes s i used)
 behind_same bytes s i used _ (is_past h) few f g same = refl

@@ -17,6 +17,7 @@ pub mod NameText
 pub mod Names
 pub mod Octets
 pub mod ParseError
+pub mod PartOf
 pub mod Passed
 pub mod Passing
 pub mod ProtoError

@@ -2,22 +2,26 @@
 use Rattle.std.specs.Prelude.{ℕ, zero, suc, ◌+◌, ◌-◌, ◌==◌, List, [], ◌∷◌, length, slice_index, slice_range, nat_lt, nat_le, if◌then◌else◌, Result, Ok, Err, true}
 use Rattle.base.specs.declared.error.decode_error.DecodeError.{DecodeError}
 use Rattle.base.specs.declared.error.decode_error.DecodeError.TheVariants as faults
-use Rattle.base.specs.declared.name.reading.Part.{Part}
-use Rattle.base.specs.declared.name.reading.Part.TheVariants.{Root, Label, Pointer}
 use Rattle.base.specs.Labels.{NameValue}
 use Rattle.base.specs.Reading.{Read, ◌>>=◌}
 use Rattle.base.specs.Spelling.{target}
 
--- what stands at a place of a name: the zero byte, a label of as many bytes, or a pointer to an offset
-unfoldable pub part_at : List ℕ → ℕ → Result Part DecodeError
+-- What stands at a place of a name: the zero byte that ends it, a label of as many bytes, or a pointer to an offset.
+pub data NamePart : Type 0 where
+  zero_byte : NamePart
+  label_of : ℕ → NamePart
+  pointer_to : ℕ → NamePart
+
+-- what stands at a place, or why nothing can
+unfoldable pub part_at : List ℕ → ℕ → Result NamePart DecodeError
 part_at bytes i =
     let b = slice_index bytes i in
     if nat_le (length bytes) i then Err faults.InsufficientBytes
-    else (if b == 0 then Ok Root
-    else (if nat_lt b 64 then (if nat_lt (length bytes) (i + 1 + b) then Err faults.InsufficientBytes else Ok (Label b))
+    else (if b == 0 then Ok zero_byte
+    else (if nat_lt b 64 then (if nat_lt (length bytes) (i + 1 + b) then Err faults.InsufficientBytes else Ok (label_of b))
     else (if nat_lt b 192 then Err faults.BadName
     else (if nat_le (length bytes) (i + 1) then Err faults.InsufficientBytes
-    else Ok (Pointer (target b (slice_index bytes (i + 1))))))))
+    else Ok (pointer_to (target b (slice_index bytes (i + 1))))))))
 
 abbrev pub Labels : Type 0
 Labels = Read (List (List ℕ))
@@ -32,12 +36,12 @@ ending e read = read >>= λ r. Ok (r.0, e)
 
 -- The labels from a part on, in a piece that begins at s, where as many bytes were used by the labels
 -- before; what comes behind the part is read by again.
-abbrev pub after_part : (ℕ → ℕ → ℕ → Labels) → List ℕ → ℕ → ℕ → ℕ → Part → Labels
-after_part again bytes s i used Root = Ok ([], i + 1)
-after_part again bytes s i used (Label len) =
+abbrev pub after_part : (ℕ → ℕ → ℕ → Labels) → List ℕ → ℕ → ℕ → ℕ → NamePart → Labels
+after_part again bytes s i used zero_byte = Ok ([], i + 1)
+after_part again bytes s i used (label_of len) =
     if nat_lt 255 (used + len + 2) then Err faults.BadName
     else with_label (slice_range bytes (i + 1) (i + 1 + len)) (again s (i + 1 + len) (used + len + 1))
-after_part again bytes s i used (Pointer t) = if nat_le s t then Err faults.BadName else ending (i + 2) (again t t used)
+after_part again bytes s i used (pointer_to t) = if nat_le s t then Err faults.BadName else ending (i + 2) (again t t used)
 
 -- the labels from i on, of as many parts at most
 unfoldable pub walk : ℕ → List ℕ → ℕ → ℕ → ℕ → Labels

@@ -5,6 +5,7 @@ pub mod decoder;
 pub mod emit_and_count;
 pub mod encodable;
 pub mod encoder;
+pub mod laws;
 pub mod many;
 mod numbers;
 pub mod place;

@@ -1,11 +1,11 @@
 //! Reads a name (RFC 1035, 4.1.4).
 
-ghost use Rattle.std.specs.Prelude.{◌≡◌, ℕ, ◌<◌, ◌≤◌, ◌+◌, ◌++◌, [], Ok, length, take, slice_range, IfOk, OnOk, OnErr, IsOkUnless, MatchResult};
+ghost use Rattle.std.specs.Prelude.{◌≡◌, ℕ, ◌<◌, ◌≤◌, ◌+◌, ◌++◌, [], Ok, Err, length, take, slice_range, IfOk, OnOk, OnErr, IsOkUnless, MatchResult};
 ghost use Rattle.std.specs.FinSet as set;
 ghost use Rattle.base.specs.Counts.{Counts};
 ghost use Rattle.base.specs.Labels.{IsWire, labels_of};
-ghost use Rattle.base.specs.declared.name.reading.Part.TheVariants.{Pointer};
-ghost use Rattle.base.specs.Names.{part_at, labels_at, name_at};
+ghost use Rattle.base.specs.Names.{part_at, pointer_to, labels_at, name_at};
+ghost use Rattle.base.specs.PartOf.{part};
 ghost use Rattle.base.specs.Passed.{AreSpelled, Followed, PassLater, PassesThese, targets};
 ghost use Rattle.base.specs.Passing.{inserted, passed};
 ghost use Rattle.base.specs.Reading.{Fails, Reads};
@@ -40,8 +40,8 @@ enum Part {
 /// What stands at a place of a name, or why nothing can.
 #[tactic(auto, unfolding(crate::specs::Names::part_at))]
 fn part_of(buffer: &[u8], at: usize) -> Result<Part, DecodeError>
-    ensures value { result ≡ part_at buffer.now at }
-    ensures near { (t : ℕ) → result ≡ Ok (Pointer t) → t < 16384 }
+    ensures value { MatchResult result (λ p. part_at buffer.now at ≡ Ok (part p)) (λ e. part_at buffer.now at ≡ Err e) }
+    ensures near { (t : ℕ) → part_at buffer.now at ≡ Ok (pointer_to t) → t < 16384 }
 {
     if at >= buffer.len() {
         return Err(DecodeError::InsufficientBytes);

@@ -1,7 +1,6 @@
-use Rattle.std.proofs.Common.{rules, ◌≡◌, ℕ, ◌+◌, ◌-◌, ◌<◌, ◌≤◌, true, false, List, [], ◌∷◌, ◌++◌, length, take, drop, Ok, Err, ap, sym, subst, ◌∙◌, arith, length-take, length-drop}
+use Rattle.std.proofs.Common.{rules, ◌≡◌, ℕ, ◌+◌, ◌-◌, ◌<◌, ◌≤◌, true, false, List, [], ◌∷◌, ◌++◌, length, take, drop, Result, Ok, Err, ap, sym, subst, ◌∙◌, arith, length-take, length-drop}
 use Rattle.std.proofs.lemmas.Result.{err_from_is_err_and}
 use Rattle.std.proofs.lemmas.Slice.{take-put_mid}
-use Rattle.base.specs.declared.name.reading.Part.TheVariants.{Root, Label, Pointer}
 use Rattle.base.specs.declared.name.reading.Part.{Part}
 use Rattle.base.specs.declared.name.trail.Passed.{Passed}
 use Rattle.base.specs.Kept.{IsKept}
@@ -9,7 +8,9 @@ use Rattle.base.specs.Labels.{IsWire, labels_of}
 use Rattle.base.specs.Passed.{targets}
 use Rattle.base.specs.Reader.{Reader}
 use Rattle.base.proofs.CountLemmas.{Follows, Follows-none, Follows-push}
-use Rattle.base.specs.Names.{part_at}
+use Rattle.base.specs.Names.{NamePart, label_of, part_at, pointer_to, zero_byte}
+use Rattle.base.specs.PartOf.{part}
+use Rattle.base.specs.declared.error.decode_error.DecodeError.{DecodeError}
 use Rattle.std.specs.FinSet as set
 use Rattle.std.specs.Ordering.{nat_cmp}
 use Rattle.base.specs.Passing.{IsClosed}
@@ -19,6 +20,10 @@ use Rattle.base.proofs.TailLemmas.{Tail, Ends, Tail-new, Tail-label, Tail-pointe
 use Rattle.base.proofs.PassLemmas.{Lead, Lead-kept, Lead-label, Lead-pointer, Lead-root, Leads, Leads-kept, Leads-label, Leads-none, Leads-pointer, Leads-root}
 use Rattle.base.proofs.GatherLemmas.{gathers_none, at_fault, at_long, at_forward, at_root, root_inside, label_fits, gathers_label, gathers_pointer, fails_is, at_kept, at_kept_long, kept_end, IsWire-append}
 use Rattle.base.proofs.name.reading.gather.Goals as goal
+
+-- what stands at a place, where something does
+abbrev found : Part → Result NamePart DecodeError
+found p = Ok (part p)
 
 pub parts-init : goal.parts-init
 parts-init c = record {
@@ -33,12 +38,12 @@ pub returns-in_err-part_of-clause-read : goal.returns-in_err-part_of-clause-read
 returns-in_err-part_of-clause-read c =
     let p = err_from_is_err_and c.from_residual.result c.from_residual.ensures.1 in
     let fault = c.in_err-part_of.field-0.0 in
-    let is : part_at c.args.buffer.now c.parts.at ≡ Err fault = sym c.part_of.ensures.value ∙ c.in_err-part_of.was in
+    let is : part_at c.args.buffer.now c.parts.at ≡ Err fault = c.in_err-part_of.ensures.value in
     rw (p.1, p.2) (fails_is fault _ (at_fault _ _ _ _ _ _ _ _ c.parts.invariant.gathers fault is))
 
 pub returns-in-Root-clause-read : goal.returns-in-Root-clause-read
 returns-in-Root-clause-read c =
-    let is : part_at c.args.buffer.now c.parts.at ≡ Ok Root = cc (c.part_of.ensures.value, c.in_ok-part_of.was, c.in-Root.is) in
+    let is : part_at c.args.buffer.now c.parts.at ≡ Ok zero_byte = c.in_ok-part_of.ensures.value ∙ ap found c.in-Root.is in
     let end = c.unwrap_or.ensures in
     at_root _ _ _ _ _ _ _ _ c.parts.invariant.gathers is ∙ ap (λ (e : ℕ). Ok (labels_of (take c.parts.used c.parts.room), e)) (sym end)
 
@@ -47,23 +52,23 @@ returns-in-Root-clause-used c = omega (arith, c.parts.invariant.gathers.wire.sho
 
 pub returns-in-Root-clause-end : goal.returns-in-Root-clause-end
 returns-in-Root-clause-end c =
-    let is : part_at c.args.buffer.now c.parts.at ≡ Ok Root = cc (c.part_of.ensures.value, c.in_ok-part_of.was, c.in-Root.is) in
+    let is : part_at c.args.buffer.now c.parts.at ≡ Ok zero_byte = c.in_ok-part_of.ensures.value ∙ ap found c.in-Root.is in
     rw c.unwrap_or.ensures (root_inside _ _ _ _ _ _ _ _ c.parts.invariant.gathers is)
 
 pub returns-then-used-size-gt-LONGEST-clause-read :
     goal.returns-then-used-size-gt-LONGEST-clause-read
 returns-then-used-size-gt-LONGEST-clause-read c =
-    let is : part_at c.args.buffer.now c.parts.at ≡ Ok (Label c.in-Label.len) = cc (c.part_of.ensures.value, c.in_ok-part_of.was, c.in-Label.is) in
+    let is : part_at c.args.buffer.now c.parts.at ≡ Ok (label_of c.in-Label.len) = c.in_ok-part_of.ensures.value ∙ ap found c.in-Label.is in
     at_long _ _ _ _ _ _ _ _ c.parts.invariant.gathers c.in-Label.len is (omega arith)
 
 pub copy_label-requires-clause-there : goal.copy_label-requires-clause-there
 copy_label-requires-clause-there c =
-    let is : part_at c.args.buffer.now c.parts.at ≡ Ok (Label c.in-Label.len) = cc (c.part_of.ensures.value, c.in_ok-part_of.was, c.in-Label.is) in
+    let is : part_at c.args.buffer.now c.parts.at ≡ Ok (label_of c.in-Label.len) = c.in_ok-part_of.ensures.value ∙ ap found c.in-Label.is in
     omega (arith, label_fits c.args.buffer.now c.parts.at c.in-Label.len is)
 
 pub parts-preserved-in-Label : goal.parts-preserved-in-Label
 parts-preserved-in-Label c =
-    let is : part_at c.args.buffer.now c.parts.at ≡ Ok (Label c.in-Label.len) = cc (c.part_of.ensures.value, c.in_ok-part_of.was, c.in-Label.is) in
+    let is : part_at c.args.buffer.now c.parts.at ≡ Ok (label_of c.in-Label.len) = c.in_ok-part_of.ensures.value ∙ ap found c.in-Label.is in
     let buffer = c.args.buffer.now in
     let at = c.parts.at in
     let used = c.parts.used in
@@ -81,14 +86,14 @@ parts-preserved-in-Label c =
 
 pub returns-then-from-start-clause-read : goal.returns-then-from-start-clause-read
 returns-then-from-start-clause-read c =
-    let is : part_at c.args.buffer.now c.parts.at ≡ Ok (Pointer c.in-Pointer.target) = cc (c.part_of.ensures.value, c.in_ok-part_of.was, c.in-Pointer.is) in
+    let is : part_at c.args.buffer.now c.parts.at ≡ Ok (pointer_to c.in-Pointer.target) = c.in_ok-part_of.ensures.value ∙ ap found c.in-Pointer.is in
     at_forward _ _ _ _ _ _ _ _ c.parts.invariant.gathers c.in-Pointer.target is (omega arith)
 
 pub parts-preserved : goal.parts-preserved
 parts-preserved c =
     let t = c.in-Pointer.target in
-    let is : part_at c.args.buffer.now c.parts.at ≡ Ok (Pointer t) = cc (c.part_of.ensures.value, c.in_ok-part_of.was, c.in-Pointer.is) in
-    let small = c.part_of.ensures.near t (c.in_ok-part_of.was ∙ ap (λ (p : Part). Ok p) c.in-Pointer.is) in
+    let is : part_at c.args.buffer.now c.parts.at ≡ Ok (pointer_to t) = c.in_ok-part_of.ensures.value ∙ ap found c.in-Pointer.is in
+    let small = c.part_of.ensures.near t is in
     let below : t < c.parts.start = omega arith in
     let absent : set.contains c.parts.decoder.kept t ≡ false = sym c.in_default.ensures.is in
     let used = c.parts.used in
@@ -115,13 +120,13 @@ kept_is B C t xs same kept = subst (λ (bytes : List ℕ). IsKept bytes t xs) sa
 pub returns-then-used-labels-gt-LONGEST-clause-read :
     goal.returns-then-used-labels-gt-LONGEST-clause-read
 returns-then-used-labels-gt-LONGEST-clause-read c =
-    let is : part_at c.args.buffer.now c.parts.at ≡ Ok (Pointer c.in-Pointer.target) = cc (c.part_of.ensures.value, c.in_ok-part_of.was, c.in-Pointer.is) in
+    let is : part_at c.args.buffer.now c.parts.at ≡ Ok (pointer_to c.in-Pointer.target) = c.in_ok-part_of.ensures.value ∙ ap found c.in-Pointer.is in
     let bytes = ap (λ (r : Reader). r.bytes) c.parts.invariant.follows.now ∙ sym c.requires.same in
     at_kept_long _ _ _ _ _ _ _ _ c.parts.invariant.gathers c.in-Pointer.target is (omega arith) c.in-Some.labels.now (kept_is _ _ _ _ bytes c.in-Some.ensures.spelled) (omega arith)
 
 pub returns-in-Some-clause-read : goal.returns-in-Some-clause-read
 returns-in-Some-clause-read c =
-    let is : part_at c.args.buffer.now c.parts.at ≡ Ok (Pointer c.in-Pointer.target) = cc (c.part_of.ensures.value, c.in_ok-part_of.was, c.in-Pointer.is) in
+    let is : part_at c.args.buffer.now c.parts.at ≡ Ok (pointer_to c.in-Pointer.target) = c.in_ok-part_of.ensures.value ∙ ap found c.in-Pointer.is in
     let bytes = ap (λ (r : Reader). r.bytes) c.parts.invariant.follows.now ∙ sym c.requires.same in
     let used = c.parts.used in
     let room = c.parts.room in
@@ -134,7 +139,7 @@ returns-in-Some-clause-read c =
 
 pub returns-in-Some-clause-end : goal.returns-in-Some-clause-end
 returns-in-Some-clause-end c =
-    let is : part_at c.args.buffer.now c.parts.at ≡ Ok (Pointer c.in-Pointer.target) = cc (c.part_of.ensures.value, c.in_ok-part_of.was, c.in-Pointer.is) in
+    let is : part_at c.args.buffer.now c.parts.at ≡ Ok (pointer_to c.in-Pointer.target) = c.in_ok-part_of.ensures.value ∙ ap found c.in-Pointer.is in
     let bytes = ap (λ (r : Reader). r.bytes) c.parts.invariant.follows.now ∙ sym c.requires.same in
     rw c.unwrap_or-behind.ensures (kept_end _ _ _ _ _ _ _ _ c.parts.invariant.gathers c.in-Pointer.target is (omega arith) c.in-Some.labels.now (kept_is _ _ _ _ bytes c.in-Some.ensures.spelled))
 
@@ -151,7 +156,7 @@ returns-in-Some-clause-wire c =
 
 pub returns-in-Some-clause-kept : goal.returns-in-Some-clause-kept
 returns-in-Some-clause-kept c =
-    let is : part_at c.args.buffer.now c.parts.at ≡ Ok (Pointer c.in-Pointer.target) = cc (c.part_of.ensures.value, c.in_ok-part_of.was, c.in-Pointer.is) in
+    let is : part_at c.args.buffer.now c.parts.at ≡ Ok (pointer_to c.in-Pointer.target) = c.in_ok-part_of.ensures.value ∙ ap found c.in-Pointer.is in
     let bytes = ap (λ (r : Reader). r.bytes) c.parts.invariant.follows.now ∙ sym c.requires.same in
     let used = c.parts.used in
     let room = c.parts.room in
@@ -163,17 +168,17 @@ returns-in-Some-clause-kept c =
 
 pub returns-in-Root-clause-kept : goal.returns-in-Root-clause-kept
 returns-in-Root-clause-kept c =
-    let is : part_at c.args.buffer.now c.parts.at ≡ Ok Root = cc (c.part_of.ensures.value, c.in_ok-part_of.was, c.in-Root.is) in
+    let is : part_at c.args.buffer.now c.parts.at ≡ Ok zero_byte = c.in_ok-part_of.ensures.value ∙ ap found c.in-Root.is in
     All-weaker _ (Ends c.args.buffer.now (take c.parts.used c.parts.room)) (λ p tail. Tail-root c.args.buffer.now c.parts.start c.parts.at c.parts.used (take c.parts.used c.parts.room) p is (omega (arith, c.parts.invariant.gathers.len)) tail) c.parts.passed c.parts.invariant.tails
 
 pub returns-in-Root-clause-these : goal.returns-in-Root-clause-these
 returns-in-Root-clause-these c =
-    let is : part_at c.args.buffer.now c.parts.at ≡ Ok Root = cc (c.part_of.ensures.value, c.in_ok-part_of.was, c.in-Root.is) in
+    let is : part_at c.args.buffer.now c.parts.at ≡ Ok zero_byte = c.in_ok-part_of.ensures.value ∙ ap found c.in-Root.is in
     λ xs e h. Leads-root c.args.buffer.now c.args.first (targets c.parts.passed) c.parts.start c.parts.at c.parts.invariant.leads c.args.decoder.now.kept is xs e h
 
 pub returns-in-Root-clause-later : goal.returns-in-Root-clause-later
 returns-in-Root-clause-later c =
-    let is : part_at c.args.buffer.now c.parts.at ≡ Ok Root = cc (c.part_of.ensures.value, c.in_ok-part_of.was, c.in-Root.is) in
+    let is : part_at c.args.buffer.now c.parts.at ≡ Ok zero_byte = c.in_ok-part_of.ensures.value ∙ ap found c.in-Root.is in
     Lead-root c.args.buffer.now c.args.decoder.now.kept c.parts.passed c.parts.start c.parts.at is c.parts.invariant.lead
 
 -- the pointer leads to a kept offset, and with one all that is passed from there is kept
@@ -188,10 +193,10 @@ known c =
 
 pub returns-in-Some-clause-these : goal.returns-in-Some-clause-these
 returns-in-Some-clause-these c =
-    let is : part_at c.args.buffer.now c.parts.at ≡ Ok (Pointer c.in-Pointer.target) = cc (c.part_of.ensures.value, c.in_ok-part_of.was, c.in-Pointer.is) in
+    let is : part_at c.args.buffer.now c.parts.at ≡ Ok (pointer_to c.in-Pointer.target) = c.in_ok-part_of.ensures.value ∙ ap found c.in-Pointer.is in
     Leads-kept c.args.buffer.now c.args.first (targets c.parts.passed) c.parts.start c.parts.at c.parts.invariant.leads c.args.decoder.now.kept c.in-Pointer.target is (known c).0 (known c).1
 
 pub returns-in-Some-clause-later : goal.returns-in-Some-clause-later
 returns-in-Some-clause-later c =
-    let is : part_at c.args.buffer.now c.parts.at ≡ Ok (Pointer c.in-Pointer.target) = cc (c.part_of.ensures.value, c.in_ok-part_of.was, c.in-Pointer.is) in
+    let is : part_at c.args.buffer.now c.parts.at ≡ Ok (pointer_to c.in-Pointer.target) = c.in_ok-part_of.ensures.value ∙ ap found c.in-Pointer.is in
     Lead-kept c.args.buffer.now c.args.decoder.now.kept c.parts.passed c.parts.start c.parts.at c.in-Pointer.target is (known c).0 (known c).1 c.parts.invariant.lead
