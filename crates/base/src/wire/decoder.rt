@@ -15,6 +15,9 @@ use crate::wire::target_table::TargetTable;
 use std::alloc::Global;
 use std::marker::Model;
 
+/// How many offsets a pointer can name (RFC 1035, 4.1.4).
+const FARTHEST: usize = 16384;
+
 /// Reads values one by one from a buffer, which a name in it may point back into.
 #[derive(Drop)]
 pub struct BinDecoder<'a> {
@@ -126,7 +129,8 @@ impl<'a> BinDecoder<'a> {
         if self.plain.keep(self.buffer, target, labels) {
             return Ok(());
         }
-        self.others.keep(target, labels)?;
+        let most = self.buffer.len().min(FARTHEST) as u16;
+        self.others.keep(target, labels, most)?;
         Ok(())
     }
 

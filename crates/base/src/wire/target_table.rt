@@ -19,16 +19,20 @@ pub(crate) struct TargetTable {
 /// How many places are made at once.
 const STEP: usize = 256;
 
-/// Makes places up to an offset, the new ones without labels. They are copied many at once, since that is faster than one by
-/// one.
-fn reach(places: &mut Vec<usize>, target: usize) -> Result<(), AllocError>
-    requires { target < 65536 }
+/// Room for the labels of the longest name (RFC 1035, 2.3.4) and their number.
+const LONGEST: usize = 255;
+
+/// Makes places up to an offset, the new ones without labels, with room for as many offsets as there may be. They are copied
+/// many at once, since that is faster than one by one.
+fn reach(places: &mut Vec<usize>, target: usize, most: usize) -> Result<(), AllocError>
+    requires below { target < 65536 }
+    requires few { most < 65536 }
     ensures there { OnOk result (target < length places.new.items) }
     ensures same { (q : ℕ) → get_or places.new.items q 0 ≡ get_or places.old.items q 0 }
     ensures err { OnErr result (places.new.items ≡ places.old.items) }
 {
     if target >= places.len() {
-        places.reserve(target + STEP - places.len())?;
+        places.reserve(target.max(most) + STEP - places.len())?;
     }
     while places.len() <= target {
         let none = [0; STEP];
@@ -71,16 +75,17 @@ impl TargetTable {
         Some(&self.kept[place..place + len])
     }
 
-    /// Keeps the labels at an offset. Refused for want of memory, with the table as it was.
-    pub(crate) fn keep(&mut self, target: u16, labels: &[u8]) -> Result<(), AllocError>
+    /// Keeps the labels at an offset, of which there are so many at most. Refused for want of memory, with the table as it
+    /// was.
+    pub(crate) fn keep(&mut self, target: u16, labels: &[u8], most: u16) -> Result<(), AllocError>
         requires { length labels.now ≤ 254 }
         ensures ok { OnOk result (get_or self.new target None ≡ Some labels.now) }
         ensures others { (q : ℕ) → q ≢ target → OnOk result (get_or self.new q None ≡ get_or self.old q None) }
         ensures err { OnErr result (self.new ≡ self.old) }
     {
         let target = usize::from(target);
-        self.kept.reserve(1 + labels.len())?;
-        reach(&mut self.places, target)?;
+        self.kept.reserve(LONGEST)?;
+        reach(&mut self.places, target, usize::from(most))?;
         self.kept.push(labels.len() as u8)?;
         self.places[target] = self.kept.len();
         self.kept.extend_from_slice(labels)?;
