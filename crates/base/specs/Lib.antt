@@ -23,6 +23,7 @@ pub mod RrKey
 pub mod Spelling
 pub mod State
 pub mod Suffixes
+pub mod TextChar
 pub mod TextFaults
 pub mod TokenList
 pub mod Tokens
