@@ -1,5 +1,6 @@
 -- Reading the text of names: what was gathered, and what no name can be.
-use Rattle.std.proofs.Common.{◌≡◌, ◌≢◌, ℕ, zero, suc, ◌+◌, ◌<◌, ◌≤◌, ◌⊎◌, inl, inr, List, [], ◌∷◌, ◌++◌, length, map, take, drop, set, refl, ap, sym, ◌∙◌, subst, arith, append_assoc, length-append, length-drop, length-set, length-take-le, Bool, true, false, Some, None}
+use Rattle.std.proofs.Common.{◌≡◌, ◌≢◌, ℕ, zero, suc, ◌+◌, ◌<◌, ◌≤◌, ◌⊎◌, inl, inr, List, [], ◌∷◌, ◌++◌, length, map, take}
+use Rattle.std.proofs.Common.{drop, set, refl, ap, sym, ◌∙◌, subst, arith, append_assoc, length-append, length-drop, length-set, length-take-le, Bool, true, false, Some, None}
 use Rattle.std.specs.Prelude.{if◌then◌else◌}
 use Rattle.std.proofs.lemmas.List.{append-nil, map-append, drop-set-add, nil_from_length, set_split, take-set-le, take_more_set}
 use Rattle.std.proofs.Math.Seq.{take-append-add}
