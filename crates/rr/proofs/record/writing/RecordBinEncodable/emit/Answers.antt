@@ -81,7 +81,7 @@ returns-clause-writes g c =
     let as_data = λ (B : List ℕ) (i e : ℕ). (law.keeps_word r.rdata B i e).1 in
     let fits = whole_record (plain_len r.name.labels) _ _ (law.keeps_len r.rdata) in
     on_ok_weaker c.emit_sized.result (λ w. Writes-weaker
-    (record_word (with_data g.R.RecordData.as_rdata r) _ _ (ap type_number c.record_type.ensures) c.to_field-class.ensures (g.R.BinEncodable.word r.rdata) as_data) fits
+    (record_word (with_data g.R.RecordData.as_rdata r) (ap type_number c.record_type.ensures) c.to_field-class.ensures (g.R.BinEncodable.word r.rdata) as_data) fits
     (Writes-then c.emit.ensures.keeps keeps_1 c.in_ok-emit.ensures.writes
     (Writes-then c.emit-2.ensures.keeps keeps_2 c.in_ok-emit-2.ensures.writes
     (Writes-then c.emit-3.ensures.keeps keeps_3 c.in_ok-emit-3.ensures.writes
