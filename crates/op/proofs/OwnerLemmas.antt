@@ -36,7 +36,8 @@ no_front : (front ls : List (List ℕ)) → front ++ ls ≡ [] → ls ≡ []
 no_front [] ls is = is
 no_front (x ∷ front) ls is = cc
 
-module _ {E : Type 0} (word : E → List ℕ → ℕ → ℕ → Type 0) (plain : E → ℕ) (owner : E → List (List ℕ)) (B : List ℕ) (Word : ℕ → E → ℕ → Type 0) (end : (i : ℕ) (x : E) (e : ℕ) → Word i x e → ℕ) where
+module _ {E : Type 0} (word : E → List ℕ → ℕ → ℕ → Type 0) (plain : E → ℕ) (owner : E → List (List ℕ)) (B : List ℕ)
+    (Word : ℕ → E → ℕ → Type 0) (end : (i : ℕ) (x : E) (e : ℕ) → Word i x e → ℕ) where
   -- Items that were written, as they are read in B; with the owners before them theirs are short, and stored.
   pub record Section (known : List Owner) (xs : List E) (a b : State) : Type 0 where
     pub words : BackToBack Word (length a.bytes) xs (length b.bytes)

@@ -118,7 +118,8 @@ module _ (owner : NameValue) {X : Type 0} where
   next_other e es h = take_while-cons owned_entry e es ∙ cond-false _ _ _ h
 
   module _ (p : RrKey → Bool) where
-    any_step : (e : RrKey × X) (fs : List (RrKey × X)) (c b : Bool) → is_owned owner e.0 ≡ b → list_any (passes owner p) (keys_of fs) ≡ c → list_any (passes owner p) (keys_of (cond b (e ∷ fs) fs)) ≡ (passes owner p e.0 || c)
+    any_step : (e : RrKey × X) (fs : List (RrKey × X)) (c b : Bool) → is_owned owner e.0 ≡ b → list_any (passes owner p) (keys_of fs) ≡ c
+        → list_any (passes owner p) (keys_of (cond b (e ∷ fs) fs)) ≡ (passes owner p e.0 || c)
     any_step e fs c true h more = ap (λ d. passes owner p e.0 || d) more
     any_step e fs c false h more = more ∙ sym (ap (λ b. (b && p e.0) || c) h)
 
@@ -229,7 +230,9 @@ turned true false o = refl
 turned false b o = refl
 
 -- the entries behind, where all of an owner's keys that aren't guarded are taken out
-pub all_gone : {X : Type 0} (owner : NameValue) (guarded : RrKey → Bool) (es : List (RrKey × X)) (q : RrKey) → cond (list_any (λ x. eq_by_cmp key_cmp x q) (filter (passes owner (λ k. not (guarded k))) (keys_of es))) None (lookup (is_at (key_cmp q)) es) ≡ cond (not (is_owned owner q) || guarded q) (lookup (is_at (key_cmp q)) es) None
+pub all_gone : {X : Type 0} (owner : NameValue) (guarded : RrKey → Bool) (es : List (RrKey × X)) (q : RrKey)
+    → cond (list_any (λ x. eq_by_cmp key_cmp x q) (filter (passes owner (λ k. not (guarded k))) (keys_of es))) None (lookup (is_at (key_cmp q)) es)
+    ≡ cond (not (is_owned owner q) || guarded q) (lookup (is_at (key_cmp q)) es) None
 all_gone {X} owner guarded es q = ap (λ b. cond b None (lookup (is_at (key_cmp q)) es)) (listed (λ k. is_owned owner k && not (guarded k)) q (keys_of es))
     ∙ gone (is_owned owner q && not (guarded q)) (list_any (λ x. eq_by_cmp key_cmp x q) (keys_of es)) (lookup (is_at (key_cmp q)) es) (absent q es)
     ∙ turned (is_owned owner q) (guarded q) (lookup (is_at (key_cmp q)) es)
