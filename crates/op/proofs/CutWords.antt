@@ -1,5 +1,5 @@
 -- The words of a message that was written, in the bytes that stand at the end.
-use Rattle.std.proofs.Common.{◌≡◌, ℕ, List, [], ◌∷◌, ◌++◌, length, take, refl, ap, sym, ◌∙◌, subst, arith, append_assoc}
+use Rattle.std.proofs.Common.{Bool, ◌≡◌, ℕ, List, [], ◌∷◌, ◌++◌, length, take, refl, ap, sym, ◌∙◌, subst, arith, append_assoc}
 use Rattle.std.specs.Prelude.{All}
 use Rattle.std.proofs.Math.Seq.{drop-append_seam, take-length}
 use Rattle.std.proofs.lemmas.List.Elements.{All-append, All-cons, All-nil, All-tail}
@@ -13,7 +13,7 @@ use Rattle.base_data.specs.declared.rdata.RData.{RData}
 use Rattle.rr.specs.Record.{FitsRecord, IsRecordAt, RecordWord, plain_record}
 use Rattle.rr.specs.declared.record.Record.{Record}
 use Rattle.op.specs.Cut.{AreCompressed, Owner, query_owners, record_owners}
-use Rattle.op.specs.Emitted.{Emitted, query_owner, record_owner}
+use Rattle.op.specs.Emitted.{Emitted, WritesRecords, query_owner, record_owner}
 use Rattle.op.specs.Message.{MessageValue}
 use Rattle.op.specs.declared.header.Header.{Header}
 use Rattle.op.specs.Header.{RawHeader, header_bytes}
@@ -70,46 +70,45 @@ pub record AreFit {m : MessageValue} {old new : State} {h : Header} (e : Emitted
   pub edns : All FitsRecord e.edns.kept
   pub signature : All FitsRecord e.signature.kept
 
+-- a front of records that was written keeps what stood before it
+pub records_keep : {xs : List (Record RData)} {a b : State} {n : ℕ} {is_cut : Bool} → WritesRecords xs a b n is_cut → Keeps a b
+records_keep {a = a} {b = b} w = Each-keeps RecordWord plain_record record_owner w.kept a b w.written
+
 module _ (B : List ℕ) where
+  records_valid : {xs : List (Record RData)} {a b : State} {n : ℕ} {is_cut : Bool} → WritesRecords xs a b n is_cut → Holds a b B → IsValid b B
+  records_valid {a = a} {b = b} w holds = Each-valid RecordWord plain_record record_owner w.kept a b w.written B holds
+
   section_of_records : (rs : List (Record RData)) (a b : State) (known : List Owner) → All FitsRecord rs → EachWritten RecordWord plain_record record_owner rs a b → Holds a b B
       → Known known a → AreCompressed known → Section RecordWord plain_record record_owner B (IsRecordAt B) (λ i r e w. w.word.owner_end) known rs a b
   section_of_records rs a b known fits written holds stored short =
       section RecordWord plain_record record_owner B (IsRecordAt B) (λ i r e w. w.word.owner_end) FitsRecord (record_back B) (record_ends B) rs a b known fits written holds stored short
 
-  words_of : (rs : List (Record RData)) (a b : State) → All FitsRecord rs → EachWritten RecordWord plain_record record_owner rs a b → Holds a b B
-      → BackToBack (IsRecordAt B) (length a.bytes) rs (length b.bytes)
-  words_of rs a b fits written holds = (section_of_records rs a b [] fits written holds (none_known a) tt).words
+  words_of : {xs : List (Record RData)} {a b : State} {n : ℕ} {is_cut : Bool} (w : WritesRecords xs a b n is_cut) → All FitsRecord w.kept → Holds a b B
+      → BackToBack (IsRecordAt B) (length a.bytes) w.kept (length b.bytes)
+  words_of {a = a} {b = b} w fits holds = (section_of_records w.kept a b [] fits w.written holds (none_known a) tt).words
 
 module _ (B : List ℕ) (m : MessageValue) (old new : State) (h : Header) (e : Emitted m old new h) (fits : AreFit e) (holds : Holds e.kept e.sixth B) where
-  keeps : (rs : List (Record RData)) (a b : State) → EachWritten RecordWord plain_record record_owner rs a b → Keeps a b
-  keeps rs a b w = Each-keeps RecordWord plain_record record_owner rs a b w
-
-  valid : (rs : List (Record RData)) (a b : State) → EachWritten RecordWord plain_record record_owner rs a b → Holds a b B → IsValid b B
-  valid rs a b w h = Each-valid RecordWord plain_record record_owner rs a b w B h
-
-  all : List (Record RData)
-  all = e.additionals.kept ++ (e.edns.kept ++ e.signature.kept)
-
-  wall : EachWritten RecordWord plain_record record_owner (e.additionals.kept ++ (e.edns.kept ++ e.signature.kept)) e.third e.sixth
-  wall = each_append RecordWord plain_record record_owner e.additionals.kept (e.edns.kept ++ e.signature.kept) e.third e.fourth e.sixth e.additionals.written (each_append RecordWord plain_record record_owner e.edns.kept e.signature.kept e.fourth e.fifth e.sixth e.edns.written e.signature.written)
+  last_written : EachWritten RecordWord plain_record record_owner (e.additionals.kept ++ (e.edns.kept ++ e.signature.kept)) e.third e.sixth
+  last_written = each_append RecordWord plain_record record_owner e.additionals.kept (e.edns.kept ++ e.signature.kept) e.third e.fourth e.sixth e.additionals.written
+      (each_append RecordWord plain_record record_owner e.edns.kept e.signature.kept e.fourth e.fifth e.sixth e.edns.written e.signature.written)
 
   kq : Keeps e.kept e.first
   kq = Each-keeps QueryWord plain_query query_owner m.queries e.kept e.first e.queries
 
   k5 : Keeps e.fifth e.sixth
-  k5 = keeps e.signature.kept e.fifth e.sixth e.signature.written
+  k5 = records_keep e.signature
 
   k4 : Keeps e.fourth e.sixth
-  k4 = Keeps-then (keeps e.edns.kept e.fourth e.fifth e.edns.written) k5
+  k4 = Keeps-then (records_keep e.edns) k5
 
   k3 : Keeps e.third e.sixth
-  k3 = Keeps-then (keeps e.additionals.kept e.third e.fourth e.additionals.written) k4
+  k3 = Keeps-then (records_keep e.additionals) k4
 
   k2 : Keeps e.second e.sixth
-  k2 = Keeps-then (keeps e.authorities.kept e.second e.third e.authorities.written) k3
+  k2 = Keeps-then (records_keep e.authorities) k3
 
   k1 : Keeps e.first e.sixth
-  k1 = Keeps-then (keeps e.answers.kept e.first e.second e.answers.written) k2
+  k1 = Keeps-then (records_keep e.answers) k2
 
   hq : Holds e.kept e.first B
   hq = Holds-first e.kept e.first e.sixth kq k1 B holds
@@ -118,41 +117,50 @@ module _ (B : List ℕ) (m : MessageValue) (old new : State) (h : Header) (e : E
   h1 = Holds-second e.kept e.first e.sixth kq k1 B (Each-valid QueryWord plain_query query_owner m.queries e.kept e.first e.queries B hq) holds
 
   ha : Holds e.first e.second B
-  ha = Holds-first e.first e.second e.sixth (keeps e.answers.kept e.first e.second e.answers.written) k2 B h1
+  ha = Holds-first e.first e.second e.sixth (records_keep e.answers) k2 B h1
 
   h2 : Holds e.second e.sixth B
-  h2 = Holds-second e.first e.second e.sixth (keeps e.answers.kept e.first e.second e.answers.written) k2 B (valid e.answers.kept e.first e.second e.answers.written ha) h1
+  h2 = Holds-second e.first e.second e.sixth (records_keep e.answers) k2 B (records_valid B e.answers ha) h1
 
   hn : Holds e.second e.third B
-  hn = Holds-first e.second e.third e.sixth (keeps e.authorities.kept e.second e.third e.authorities.written) k3 B h2
+  hn = Holds-first e.second e.third e.sixth (records_keep e.authorities) k3 B h2
 
   h3 : Holds e.third e.sixth B
-  h3 = Holds-second e.second e.third e.sixth (keeps e.authorities.kept e.second e.third e.authorities.written) k3 B (valid e.authorities.kept e.second e.third e.authorities.written hn) h2
+  h3 = Holds-second e.second e.third e.sixth (records_keep e.authorities) k3 B (records_valid B e.authorities hn) h2
 
   hd : Holds e.third e.fourth B
-  hd = Holds-first e.third e.fourth e.sixth (keeps e.additionals.kept e.third e.fourth e.additionals.written) k4 B h3
+  hd = Holds-first e.third e.fourth e.sixth (records_keep e.additionals) k4 B h3
 
   h4 : Holds e.fourth e.sixth B
-  h4 = Holds-second e.third e.fourth e.sixth (keeps e.additionals.kept e.third e.fourth e.additionals.written) k4 B (valid e.additionals.kept e.third e.fourth e.additionals.written hd) h3
+  h4 = Holds-second e.third e.fourth e.sixth (records_keep e.additionals) k4 B (records_valid B e.additionals hd) h3
 
   he : Holds e.fourth e.fifth B
-  he = Holds-first e.fourth e.fifth e.sixth (keeps e.edns.kept e.fourth e.fifth e.edns.written) k5 B h4
+  he = Holds-first e.fourth e.fifth e.sixth (records_keep e.edns) k5 B h4
 
   h5 : Holds e.fifth e.sixth B
-  h5 = Holds-second e.fourth e.fifth e.sixth (keeps e.edns.kept e.fourth e.fifth e.edns.written) k5 B (valid e.edns.kept e.fourth e.fifth e.edns.written he) h4
+  h5 = Holds-second e.fourth e.fifth e.sixth (records_keep e.edns) k5 B (records_valid B e.edns he) h4
 
   pub ends : Ends B e.additionals.kept e.edns.kept e.signature.kept (length e.third.bytes) (length e.fourth.bytes) (length e.fifth.bytes) (length e.sixth.bytes)
-  ends = record { additionals = words_of B e.additionals.kept e.third e.fourth fits.additionals e.additionals.written hd; edns = words_of B e.edns.kept e.fourth e.fifth fits.edns e.edns.written he; signature = words_of B e.signature.kept e.fifth e.sixth fits.signature e.signature.written h5 }
+  ends = record {
+    additionals = words_of B e.additionals fits.additionals hd;
+    edns = words_of B e.edns fits.edns he;
+    signature = words_of B e.signature fits.signature h5;
+  }
 
-  fits_all : All FitsRecord (e.additionals.kept ++ (e.edns.kept ++ e.signature.kept))
-  fits_all = All-append FitsRecord e.additionals.kept (e.edns.kept ++ e.signature.kept) fits.additionals (All-append FitsRecord e.edns.kept e.signature.kept fits.edns fits.signature)
+  last_fit : All FitsRecord (e.additionals.kept ++ (e.edns.kept ++ e.signature.kept))
+  last_fit = All-append FitsRecord e.additionals.kept (e.edns.kept ++ e.signature.kept) fits.additionals
+      (All-append FitsRecord e.edns.kept e.signature.kept fits.edns fits.signature)
 
-  pub composed : Composed B m.queries e.answers.kept e.authorities.kept (e.additionals.kept ++ (e.edns.kept ++ e.signature.kept)) (length e.kept.bytes) (length e.first.bytes) (length e.second.bytes) (length e.third.bytes) (length e.sixth.bytes)
+  pub composed : Composed B m.queries e.answers.kept e.authorities.kept (e.additionals.kept ++ (e.edns.kept ++ e.signature.kept))
+      (length e.kept.bytes) (length e.first.bytes) (length e.second.bytes) (length e.third.bytes) (length e.sixth.bytes)
   composed =
-      let sq = section QueryWord plain_query query_owner B (IsQueryAt B) (λ i q j w. w.word.owner_end) FitsQuery (query_back B) (query_ends B) m.queries e.kept e.first [] fits.queries e.queries hq (none_known e.kept) tt in
+      let sq = section QueryWord plain_query query_owner B (IsQueryAt B) (λ i q j w. w.word.owner_end) FitsQuery (query_back B) (query_ends B)
+      m.queries e.kept e.first [] fits.queries e.queries hq (none_known e.kept) tt in
       let sa = section_of_records B e.answers.kept e.first e.second (query_owners sq.words) fits.answers e.answers.written ha sq.stored sq.short in
-      let sn = section_of_records B e.authorities.kept e.second e.third (query_owners sq.words ++ record_owners sa.words) fits.authorities e.authorities.written hn sa.stored sa.short in
-      let sd = section_of_records B (e.additionals.kept ++ (e.edns.kept ++ e.signature.kept)) e.third e.sixth ((query_owners sq.words ++ record_owners sa.words) ++ record_owners sn.words) fits_all wall h3 sn.stored sn.short in
+      let sn = section_of_records B e.authorities.kept e.second e.third (query_owners sq.words ++ record_owners sa.words)
+      fits.authorities e.authorities.written hn sa.stored sa.short in
+      let sd = section_of_records B (e.additionals.kept ++ (e.edns.kept ++ e.signature.kept)) e.third e.sixth ((query_owners sq.words ++ record_owners sa.words) ++ record_owners sn.words)
+      last_fit last_written h3 sn.stored sn.short in
       record {
         queries = sq.words;
         answers = sa.words;
