@@ -171,19 +171,19 @@ module _ (owner : NameValue) (p : RrKey → Bool) {X : Type 0} where
       → list_any (passes owner p) (keys_of (take_while (owned_entry owner) s)) ≡ c → false ≡ c
   any_other s es e c h other more = sym (ap (λ xs. list_any (passes owner p) (keys_of xs)) (ap (take_while (owned_entry owner)) h ∙ next_other owner e es other)) ∙ more
 
-  pub kept_here : (s es : List (RrKey × X)) (e : RrKey × X) (found more ks : List RrKey) → more ≡ found ++ e.0 ∷ [] → s ≡ e ∷ es → is_owned owner e.0 ≡ true → p e.0 ≡ true
+  pub kept_here : {s es : List (RrKey × X)} {e : RrKey × X} {more ks : List RrKey} (found : List RrKey) → more ≡ found ++ e.0 ∷ [] → s ≡ e ∷ es → is_owned owner e.0 ≡ true → p e.0 ≡ true
       → found ++ filter (passes owner p) (keys_of (take_while (owned_entry owner) s)) ≡ ks
       → more ++ filter (passes owner p) (keys_of (take_while (owned_entry owner) es)) ≡ ks
-  kept_here s es e found more ks m h own good so_far = ap (λ xs. xs ++ rest) m ∙ append_assoc found (e.0 ∷ []) rest
+  kept_here {s} {es} {e} found m h own good so_far = ap (λ xs. xs ++ rest) m ∙ append_assoc found (e.0 ∷ []) rest
       ∙ sym (ap (λ xs. found ++ filter (passes owner p) (keys_of xs)) (ap (take_while (owned_entry owner)) h ∙ next_owned owner e es own)
       ∙ ap (λ b. found ++ cond (b && p e.0) (e.0 ∷ rest) rest) own ∙ ap (λ b. found ++ cond b (e.0 ∷ rest) rest) good) ∙ so_far where
         rest : List RrKey
         rest = filter (passes owner p) (keys_of (take_while (owned_entry owner) es))
 
-  pub kept_next : (s es : List (RrKey × X)) (e : RrKey × X) (found ks : List RrKey) → s ≡ e ∷ es → is_owned owner e.0 ≡ true → p e.0 ≡ false
+  pub kept_next : {s es : List (RrKey × X)} {e : RrKey × X} {ks : List RrKey} (found : List RrKey) → s ≡ e ∷ es → is_owned owner e.0 ≡ true → p e.0 ≡ false
       → found ++ filter (passes owner p) (keys_of (take_while (owned_entry owner) s)) ≡ ks
       → found ++ filter (passes owner p) (keys_of (take_while (owned_entry owner) es)) ≡ ks
-  kept_next s es e found ks h own bad more =
+  kept_next {s} {es} {e} found h own bad more =
       sym (ap (λ xs. found ++ filter (passes owner p) (keys_of xs)) (ap (take_while (owned_entry owner)) h ∙ next_owned owner e es own)
       ∙ ap (λ b. found ++ cond (b && p e.0) (e.0 ∷ rest) rest) own ∙ ap (λ b. found ++ cond b (e.0 ∷ rest) rest) bad) ∙ more where
         rest : List RrKey
