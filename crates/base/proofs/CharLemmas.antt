@@ -5,17 +5,16 @@ use Rattle.std.specs.Char.{is_ascii_digit}
 use Rattle.std.specs.Cmp.{first_so, second_so}
 use Rattle.std.proofs.lemmas.Bool.{eqb-true, eqb-false}
 use Rattle.std.proofs.lemmas.Bool.Decides.{nat_tests}
-use Rattle.base.specs.declared.name.parse.TextChar.{TextChar}
-use Rattle.base.specs.NameText.{AreCharsOf, more, IsCharText, is_dot, is_printable, is_escaped, is_number, decimal_char, escaped_char, first_char}
+use Rattle.base.specs.NameText.{Character, AreCharsOf, more, IsCharText, is_dot, is_printable, is_escaped, is_number, decimal_char, escaped_char, first_char}
 
 -- the parts of one first character
-pub same_first : {c d : TextChar} {r r' : List ℕ} → ◌≡◌ {A = Option (TextChar × List ℕ)} (Some (c, r)) (Some (d, r')) → (c ≡ d) × (r ≡ r')
+pub same_first : {c d : Character} {r r' : List ℕ} → ◌≡◌ {A = Option (Character × List ℕ)} (Some (c, r)) (Some (d, r')) → (c ≡ d) × (r ≡ r')
 same_first {c} {d} {r} {r'} h =
-    let pair : ◌≡◌ {A = TextChar × List ℕ} (c, r) (d, r') = cc in
-    (ap (λ (p : TextChar × List ℕ). p.0) pair, ap (λ (p : TextChar × List ℕ). p.1) pair)
+    let pair : ◌≡◌ {A = Character × List ℕ} (c, r) (d, r') = cc in
+    (ap (λ (p : Character × List ℕ). p.0) pair, ap (λ (p : Character × List ℕ). p.1) pair)
 
 -- what a piece is, before the rest
-pub first_of_piece : {piece rest text : List ℕ} {c : TextChar} → IsCharText piece c → text ≡ piece ++ rest → first_char text ≡ Some (c, rest)
+pub first_of_piece : {piece rest text : List ℕ} {c : Character} → IsCharText piece c → text ≡ piece ++ rest → first_char text ≡ Some (c, rest)
 unfolding first_char escaped_char decimal_char
 first_of_piece {rest = rest} (is_dot e) is = ap first_char (is ∙ ap (λ (p : List ℕ). p ++ rest) e)
 first_of_piece {rest = rest} (is_printable {b} e low high dot backslash) is =
@@ -34,22 +33,22 @@ first_of_piece {rest = rest} (is_number {x} {y} {z} {b} e decimal) is =
     ap first_char (is ∙ ap (λ (p : List ℕ). p ++ rest) e) ∙ rw (first, second, third, ← decimal.is, small) refl
 
 -- a piece, and the text behind it
-record Piece (front text : List ℕ) (c : TextChar) (rest : List ℕ) : Type 0 where
+record Piece (front text : List ℕ) (c : Character) (rest : List ℕ) : Type 0 where
   piece : List ℕ
   spells : IsCharText (front ++ piece) c
   is : text ≡ piece ++ rest
 
-no_char : {r : TextChar × List ℕ} → None ≡ Some r → ⊥
+no_char : {r : Character × List ℕ} → None ≡ Some r → ⊥
 no_char h = cc
 
 -- a piece that is this character
-piece_is : {front text rest : List ℕ} {c d : TextChar} (piece behind : List ℕ) → IsCharText (front ++ piece) d → text ≡ piece ++ behind
-    → ◌≡◌ {A = Option (TextChar × List ℕ)} (Some (d, behind)) (Some (c, rest)) → Piece front text c rest
+piece_is : {front text rest : List ℕ} {c d : Character} (piece behind : List ℕ) → IsCharText (front ++ piece) d → text ≡ piece ++ behind
+    → ◌≡◌ {A = Option (Character × List ℕ)} (Some (d, behind)) (Some (c, rest)) → Piece front text c rest
 piece_is {front} {text} {rest} {c} {d} piece behind spells is found =
     let same = same_first found in
     record { piece = piece; spells = subst (IsCharText (front ++ piece)) same.0 spells; is = is ∙ ap (λ (r : List ℕ). piece ++ r) same.1 }
 
-decimal_piece : (x : ℕ) (text : List ℕ) (c : TextChar) (rest : List ℕ) → is_ascii_digit x ≡ true → decimal_char x text ≡ Some (c, rest) → Piece (92 ∷ x ∷ []) text c rest
+decimal_piece : (x : ℕ) (text : List ℕ) (c : Character) (rest : List ℕ) → is_ascii_digit x ≡ true → decimal_char x text ≡ Some (c, rest) → Piece (92 ∷ x ∷ []) text c rest
 unfolding decimal_char
 decimal_piece x [] c rest digit h = absurd (no_char h)
 decimal_piece x (y ∷ []) c rest digit h = absurd (no_char h)
@@ -73,7 +72,7 @@ decimal_piece x (y ∷ z ∷ text) c rest digit h = go (is_ascii_digit y && is_a
       refl (rw is at h)
   go false is = absurd (no_char (rw is at h))
 
-escaped_piece : (text : List ℕ) (c : TextChar) (rest : List ℕ) → escaped_char text ≡ Some (c, rest) → Piece (92 ∷ []) text c rest
+escaped_piece : (text : List ℕ) (c : Character) (rest : List ℕ) → escaped_char text ≡ Some (c, rest) → Piece (92 ∷ []) text c rest
 unfolding escaped_char
 escaped_piece [] c rest h = absurd (no_char h)
 escaped_piece (x ∷ text) c rest h = go (is_ascii_digit x) (nat_lt x 128) refl refl where
@@ -84,7 +83,7 @@ escaped_piece (x ∷ text) c rest h = go (is_ascii_digit x) (nat_lt x 128) refl 
   go false true is small = piece_is (x ∷ []) text (is_escaped refl (grind (arith, nat_tests)) is) refl (rw (is, small) at h)
   go false false is small = absurd (no_char (rw (is, small) at h))
 
-pub piece_of_first : (text : List ℕ) (c : TextChar) (rest : List ℕ) → first_char text ≡ Some (c, rest) → (piece : List ℕ) × IsCharText piece c × (text ≡ piece ++ rest)
+pub piece_of_first : (text : List ℕ) (c : Character) (rest : List ℕ) → first_char text ≡ Some (c, rest) → (piece : List ℕ) × IsCharText piece c × (text ≡ piece ++ rest)
 unfolding first_char
 piece_of_first [] c rest h = absurd (no_char h)
 piece_of_first (b ∷ text) c rest h = go (b == 92) (b == 46) (nat_le 33 b && nat_le b 126) refl refl refl where
@@ -102,5 +101,5 @@ piece_of_first (b ∷ text) c rest h = go (b == 92) (b == 46) (nat_le 33 b && na
   go false false false is is_it printable = absurd (no_char (rw (is, is_it, printable) at h))
 
 -- one character more before those of the rest
-pub reads_more : {text rest : List ℕ} {c : TextChar} {cs : List TextChar} → first_char text ≡ Some (c, rest) → AreCharsOf rest cs → AreCharsOf text (c ∷ cs)
+pub reads_more : {text rest : List ℕ} {c : Character} {cs : List Character} → first_char text ≡ Some (c, rest) → AreCharsOf rest cs → AreCharsOf text (c ∷ cs)
 reads_more {text} {rest} {c} first reads = let p = piece_of_first text c rest first in more p.1 p.2 reads

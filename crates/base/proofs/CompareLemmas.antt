@@ -1,5 +1,6 @@
 -- Labels in lower case, and the order of labels from the last on.
-use Rattle.std.proofs.Common.{◌≡◌, ℕ, zero, suc, ◌+◌, ◌-◌, ◌≤◌, ◌⊎◌, inl, inr, List, [], ◌∷◌, ◌++◌, length, map, reverse, take, drop, refl, ap, sym, ◌∙◌, arith, Bool, true, length-append, length-drop}
+use Rattle.std.proofs.Common.{◌≡◌, ℕ, zero, suc, ◌+◌, ◌-◌, ◌≤◌, ◌⊎◌, inl, inr, List, [], ◌∷◌, ◌++◌}
+use Rattle.std.proofs.Common.{length, map, reverse, take, drop, refl, ap, sym, ◌∙◌, arith, Bool, true, length-append, length-drop}
 use Rattle.std.proofs.lemmas.Bool.Decides.{nat_tests}
 use Rattle.std.specs.declared.cmp.Ordering.{Ordering}
 use Rattle.std.specs.declared.cmp.Ordering.TheVariants.{Less, Equal, Greater}
@@ -206,14 +207,21 @@ are_last_at b xs ys us vs n count us_is vs_is test =
     are_last b xs ys n count
     (test ∙ ap (λ (zs : List (List ℕ)). same_labels (folded_labels zs) (folded_labels vs)) us_is ∙ ap (λ (zs : List (List ℕ)). same_labels (folded_labels (drop n ys)) (folded_labels zs)) vs_is)
 
+-- The labels of two names that are compared: of either as many of the last as both have.
+pub record LastLabels (a b us vs : List (List ℕ)) (m n : ℕ) : Type 0 where
+  pub count : m ≡ length a
+  pub other_count : n ≡ length b
+  pub last : us ≡ drop (m - n) a
+  pub other_last : vs ≡ drop (n - m) b
+
 -- the order of names, from that of their last labels
-pub name_cmp_is : (a b : NameValue) {us vs : List (List ℕ)} {m n k l : ℕ} {flags labels count all : Ordering} → m ≡ length a.labels → n ≡ length b.labels → k ≡ m - n → l ≡ n - m
-    → us ≡ drop k a.labels → vs ≡ drop l b.labels → flags ≡ bool_cmp a.absolute b.absolute → labels ≡ labels_cmp (folded_labels us) (folded_labels vs)
-    → count ≡ nat_cmp m n → all ≡ ordering_then (ordering_then flags labels) count → all ≡ name_cmp a b
-name_cmp_is a b {flags = flags} {labels = labels} {count = count} m_is n_is k_is l_is us_is vs_is flags_is labels_is count_is all_is =
+pub name_cmp_is : (a b : NameValue) {us vs : List (List ℕ)} {m n : ℕ} {flags labels count all : Ordering} → LastLabels a.labels b.labels us vs m n
+    → flags ≡ bool_cmp a.absolute b.absolute → labels ≡ labels_cmp (folded_labels us) (folded_labels vs) → count ≡ nat_cmp m n
+    → all ≡ ordering_then (ordering_then flags labels) count → all ≡ name_cmp a b
+name_cmp_is a b {flags = flags} {labels = labels} {count = count} lasts flags_is labels_is count_is all_is =
     all_is ∙ sym (then-assoc flags labels count)
     ∙ ap (λ (o : Ordering). ordering_then o (ordering_then labels count)) flags_is
-    ∙ ap (ordering_then (bool_cmp a.absolute b.absolute)) (cc (labels_cmp-counts a.labels b.labels))
+    ∙ ap (ordering_then (bool_cmp a.absolute b.absolute)) (cc (labels_cmp-counts a.labels b.labels, lasts.count, lasts.other_count, lasts.last, lasts.other_last))
 
 AreLabels-folded : (labels : List (List ℕ)) → AreLabels labels → AreLabels (folded_labels labels)
 AreLabels-folded [] are = are

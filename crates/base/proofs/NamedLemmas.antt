@@ -1,34 +1,34 @@
 -- What the text of a name names.
-use Rattle.std.proofs.Common.{◌≡◌, ◌≢◌, ℕ, ◌+◌, ◌<◌, ◌≤◌, List, [], ◌∷◌, ◌++◌, length, get_or, refl, ap, sym, ◌∙◌, subst, arith, length-append, Bool, true, false, Option, Some, None, Result, Ok, Err}
+use Rattle.std.proofs.Common.{◌≡◌, ◌≢◌, ℕ, ◌+◌, ◌<◌, ◌≤◌, List, [], ◌∷◌, ◌++◌, length, get_or, refl, ap}
+use Rattle.std.proofs.Common.{sym, ◌∙◌, subst, arith, length-append, Bool, true, false, Option, Some, None, Result, Ok, Err}
 use Rattle.std.specs.Prelude.{◌↔◌}
 use Rattle.std.proofs.lemmas.List.{append-nil, same_from_push}
 use Rattle.base.specs.declared.error.parse_error.ParseError.{ParseError}
 use Rattle.base.specs.declared.error.parse_error.ParseError.TheVariants as refusals
-use Rattle.base.specs.declared.name.parse.TextChar.TheVariants.{Dot, Byte}
 use Rattle.base.specs.Labels.{NameValue, AreLabels, IsWire, wire_of, labels_of, plain_len, size_of}
-use Rattle.base.specs.NameText.{AreCharsOf, none, IsLabelsText, IsNameText, is_root, is_origin, is_absolute, is_relative, is_completed, first_char}
+use Rattle.base.specs.NameText.{dot, byte, AreCharsOf, none, IsLabelsText, IsNameText, is_root, is_origin, is_absolute, is_relative, is_completed, first_char}
 use Rattle.base.proofs.CharLemmas.{reads_more}
 use Rattle.base.proofs.LabelLemmas.{AreLabels-append, IsWire-wire_of, labels_of-wire_of, length-wire_of, size_of-labels_of, wire_of-append}
 use Rattle.base.proofs.ParseLemmas.{last_piece, not_nil, size_of-append, text_pieces}
 
-reads_dot : AreCharsOf (46 ∷ []) (Dot ∷ [])
+reads_dot : AreCharsOf (46 ∷ []) (dot ∷ [])
 unfolding first_char
 reads_dot = reads_more refl none
 
-pub reads_at : AreCharsOf (64 ∷ []) (Byte 64 ∷ [])
+pub reads_at : AreCharsOf (64 ∷ []) (byte 64 ∷ [])
 unfolding first_char
 reads_at = reads_more refl none
 
 -- a dot alone is no labels
 pub not_dot : {text : List ℕ} {labels : List (List ℕ)} {absolute : Bool} → text ≡ 46 ∷ [] → IsLabelsText text labels absolute → ⊥
-not_dot {labels = labels} {absolute = absolute} is text = go labels text.each text.some (text_pieces text (subst (λ (t : List ℕ). AreCharsOf t (Dot ∷ [])) (sym is) reads_dot)) where
+not_dot {labels = labels} {absolute = absolute} is text = go labels text.each text.some (text_pieces text (subst (λ (t : List ℕ). AreCharsOf t (dot ∷ [])) (sym is) reads_dot)) where
   go : (labels : List (List ℕ)) → AreLabels labels → labels ≢ [] → [] ∷ [] ∷ [] ≡ labels ++ last_piece absolute → ⊥
   go [] are some e = some refl
   go (x ∷ xs) are some e = let first : [] ≡ x = cc in omega (arith, are.0.some, ap length first)
 
 -- a sign @ alone has no dot at the end
 pub not_absolute_at : {text : List ℕ} {labels : List (List ℕ)} → text ≡ 64 ∷ [] → IsLabelsText text labels true → ⊥
-not_absolute_at {labels = labels} is text = go labels text.some (text_pieces text (subst (λ (t : List ℕ). AreCharsOf t (Byte 64 ∷ [])) (sym is) reads_at)) where
+not_absolute_at {labels = labels} is text = go labels text.some (text_pieces text (subst (λ (t : List ℕ). AreCharsOf t (byte 64 ∷ [])) (sym is) reads_at)) where
   go : (labels : List (List ℕ)) → labels ≢ [] → (64 ∷ []) ∷ [] ≡ labels ++ [] ∷ [] → ⊥
   go [] some e = some refl
   go (x ∷ xs) some e = not_nil xs [] (let tail : [] ≡ xs ++ [] ∷ [] = cc in sym tail)
@@ -58,11 +58,11 @@ at_dot e f = let codes : 46 ∷ [] ≡ 64 ∷ [] = sym e ∙ f in omega (arith, 
 -- what is named where the text is no labels
 pub no_name : {text : List ℕ} {o : Option NameValue} {n : NameValue} → text ≢ 46 ∷ [] → text ≢ 64 ∷ []
     → ((labels : List (List ℕ)) (absolute : Bool) → IsLabelsText text labels absolute → ⊥) → IsNameText text o n → ⊥
-no_name dot at nothing (is_root e) = dot e
-no_name dot at nothing (is_origin e f) = at f
-no_name dot at nothing (is_absolute {labels} text) = nothing labels true text
-no_name dot at nothing (is_relative {labels} e f text) = nothing labels false text
-no_name dot at nothing (is_completed {labels = labels} e f text short) = nothing labels false text
+no_name not_root at nothing (is_root e) = not_root e
+no_name not_root at nothing (is_origin e f) = at f
+no_name not_root at nothing (is_absolute {labels} text) = nothing labels true text
+no_name not_root at nothing (is_relative {labels} e f text) = nothing labels false text
+no_name not_root at nothing (is_completed {labels = labels} e f text short) = nothing labels false text
 
 -- a sign @ alone names nothing where no origin is given
 pub no_origin : {text : List ℕ} {o : Option NameValue} {n : NameValue} → text ≡ 64 ∷ [] → o ≡ None → IsNameText text o n → ⊥

@@ -1,22 +1,21 @@
 -- Reading the text of names: what was gathered, and what no name can be.
-use Rattle.std.proofs.Common.{◌≡◌, ◌≢◌, ℕ, zero, suc, ◌+◌, ◌<◌, ◌≤◌, ◌⊎◌, inl, inr, List, [], ◌∷◌, ◌++◌, length, map, take, drop, set, refl, ap, sym, ◌∙◌, subst, arith, append_assoc, length-append, length-drop, length-set, length-take-le, Bool, true, false, Some, None}
+use Rattle.std.proofs.Common.{◌≡◌, ◌≢◌, ℕ, zero, suc, ◌+◌, ◌<◌, ◌≤◌, ◌⊎◌, inl, inr, List, [], ◌∷◌, ◌++◌, length, map, take}
+use Rattle.std.proofs.Common.{drop, set, refl, ap, sym, ◌∙◌, subst, arith, append_assoc, length-append, length-drop, length-set, length-take-le, Bool, true, false, Some, None}
 use Rattle.std.specs.Prelude.{if◌then◌else◌}
 use Rattle.std.proofs.lemmas.List.{append-nil, map-append, drop-set-add, nil_from_length, set_split, take-set-le, take_more_set}
 use Rattle.std.proofs.Math.Seq.{take-append-add}
-use Rattle.base.specs.declared.name.parse.TextChar.{TextChar}
-use Rattle.base.specs.declared.name.parse.TextChar.TheVariants.{Dot, Byte}
 use Rattle.base.specs.Labels.{AreLabels, IsWire, labels_of, plain_len, size_of}
-use Rattle.base.specs.NameText.{AreCharsOf, none, more, IsLabelsText, dotted, first_char}
+use Rattle.base.specs.NameText.{Character, dot, byte, AreCharsOf, none, more, IsLabelsText, dotted, first_char}
 use Rattle.base.specs.NameOf.{onto_first, pieces}
 use Rattle.base.proofs.CharLemmas.{first_of_piece, reads_more, same_first}
 use Rattle.base.proofs.LabelLemmas.{AreLabels-append, IsWire-nil, IsWire-push, labels_of-nil, labels_of-push, size_of-labels_of}
 
-nothing_first : {r : TextChar × List ℕ} → first_char [] ≡ Some r → ⊥
+nothing_first : {r : Character × List ℕ} → first_char [] ≡ Some r → ⊥
 unfolding first_char
 nothing_first h = cc
 
 -- a text has one list of characters
-pub reads_once : {text : List ℕ} {cs ds : List TextChar} → AreCharsOf text cs → AreCharsOf text ds → cs ≡ ds
+pub reads_once : {text : List ℕ} {cs ds : List Character} → AreCharsOf text cs → AreCharsOf text ds → cs ≡ ds
 reads_once none none = refl
 reads_once none (more spells is rest) = absurd (nothing_first (first_of_piece spells is))
 reads_once (more spells is rest) none = absurd (nothing_first (first_of_piece spells is))
@@ -25,52 +24,52 @@ reads_once (more {rest = r} {c = c} spells is rest) (more {rest = r'} {c = d} {c
     cc (same.0, reads_once rest (subst (λ (t : List ℕ). AreCharsOf t ds) (sym same.1) rest'))
 
 -- labels with a dot behind each
-abbrev pub ended : List (List ℕ) → List TextChar
+abbrev pub ended : List (List ℕ) → List Character
 ended [] = []
-ended (x ∷ xs) = map Byte x ++ (Dot ∷ ended xs)
+ended (x ∷ xs) = map byte x ++ (dot ∷ ended xs)
 
 ended-append : (xs ys : List (List ℕ)) → ended (xs ++ ys) ≡ ended xs ++ ended ys
 ended-append [] ys = refl
-ended-append (x ∷ xs) ys = ap (λ (cs : List TextChar). map Byte x ++ (Dot ∷ cs)) (ended-append xs ys) ∙ sym (append_assoc (map Byte x) (Dot ∷ ended xs) (ended ys))
+ended-append (x ∷ xs) ys = ap (λ (cs : List Character). map byte x ++ (dot ∷ cs)) (ended-append xs ys) ∙ sym (append_assoc (map byte x) (dot ∷ ended xs) (ended ys))
 
-pub dotted-last : (xs : List (List ℕ)) (x : List ℕ) → dotted (xs ++ x ∷ []) ≡ ended xs ++ map Byte x
+pub dotted-last : (xs : List (List ℕ)) (x : List ℕ) → dotted (xs ++ x ∷ []) ≡ ended xs ++ map byte x
 dotted-last [] x = refl
-dotted-last (y ∷ []) x = sym (append_assoc (map Byte y) (Dot ∷ []) (map Byte x))
-dotted-last (y ∷ z ∷ zs) x = ap (λ (cs : List TextChar). map Byte y ++ (Dot ∷ cs)) (dotted-last (z ∷ zs) x) ∙ sym (append_assoc (map Byte y) (Dot ∷ ended (z ∷ zs)) (map Byte x))
+dotted-last (y ∷ []) x = sym (append_assoc (map byte y) (dot ∷ []) (map byte x))
+dotted-last (y ∷ z ∷ zs) x = ap (λ (cs : List Character). map byte y ++ (dot ∷ cs)) (dotted-last (z ∷ zs) x) ∙ sym (append_assoc (map byte y) (dot ∷ ended (z ∷ zs)) (map byte x))
 
-pub dotted-dot : (xs : List (List ℕ)) → xs ≢ [] → dotted xs ++ Dot ∷ [] ≡ ended xs
+pub dotted-dot : (xs : List (List ℕ)) → xs ≢ [] → dotted xs ++ dot ∷ [] ≡ ended xs
 dotted-dot [] some = absurd (some refl)
 dotted-dot (x ∷ []) some = refl
-dotted-dot (x ∷ y ∷ ys) some = append_assoc (map Byte x) (Dot ∷ dotted (y ∷ ys)) (Dot ∷ []) ∙ ap (λ (cs : List TextChar). map Byte x ++ (Dot ∷ cs)) (dotted-dot (y ∷ ys) (λ e. absurd cc))
+dotted-dot (x ∷ y ∷ ys) some = append_assoc (map byte x) (dot ∷ dotted (y ∷ ys)) (dot ∷ []) ∙ ap (λ (cs : List Character). map byte x ++ (dot ∷ cs)) (dotted-dot (y ∷ ys) (λ e. absurd cc))
 
-pieces-label : (x : List ℕ) (cs : List TextChar) → pieces (map Byte x ++ (Dot ∷ cs)) ≡ x ∷ pieces cs
+pieces-label : (x : List ℕ) (cs : List Character) → pieces (map byte x ++ (dot ∷ cs)) ≡ x ∷ pieces cs
 pieces-label [] cs = refl
 pieces-label (b ∷ x) cs = ap (onto_first b) (pieces-label x cs)
 
-pieces-map : (x : List ℕ) → pieces (map Byte x) ≡ x ∷ []
+pieces-map : (x : List ℕ) → pieces (map byte x) ≡ x ∷ []
 pieces-map [] = refl
 pieces-map (b ∷ x) = ap (onto_first b) (pieces-map x)
 
-pieces-ended : (xs : List (List ℕ)) (cs : List TextChar) → pieces (ended xs ++ cs) ≡ xs ++ pieces cs
+pieces-ended : (xs : List (List ℕ)) (cs : List Character) → pieces (ended xs ++ cs) ≡ xs ++ pieces cs
 pieces-ended [] cs = refl
 pieces-ended (x ∷ xs) cs =
-    ap pieces (append_assoc (map Byte x) (Dot ∷ ended xs) cs) ∙ pieces-label x (ended xs ++ cs) ∙ ap (λ (ys : List (List ℕ)). x ∷ ys) (pieces-ended xs cs)
+    ap pieces (append_assoc (map byte x) (dot ∷ ended xs) cs) ∙ pieces-label x (ended xs ++ cs) ∙ ap (λ (ys : List (List ℕ)). x ∷ ys) (pieces-ended xs cs)
 
 -- some bytes before others
-pieces-front : (x : List ℕ) (cs : List TextChar) (h : List ℕ) (t : List (List ℕ)) → pieces cs ≡ h ∷ t → pieces (map Byte x ++ cs) ≡ (x ++ h) ∷ t
+pieces-front : (x : List ℕ) (cs : List Character) (h : List ℕ) (t : List (List ℕ)) → pieces cs ≡ h ∷ t → pieces (map byte x ++ cs) ≡ (x ++ h) ∷ t
 pieces-front [] cs h t is = is
 pieces-front (b ∷ x) cs h t is = ap (onto_first b) (pieces-front x cs h t is)
 
 -- there is always one
-pub record First (cs : List TextChar) : Type 0 where
+pub record First (cs : List Character) : Type 0 where
   pub head : List ℕ
   pub tail : List (List ℕ)
   pub is : pieces cs ≡ head ∷ tail
 
-pub first_of : (cs : List TextChar) → First cs
+pub first_of : (cs : List Character) → First cs
 first_of [] = record { head = []; tail = []; is = refl }
-first_of (Dot ∷ cs) = record { head = []; tail = pieces cs; is = refl }
-first_of (Byte b ∷ cs) = let r = first_of cs in record { head = b ∷ r.head; tail = r.tail; is = ap (onto_first b) r.is }
+first_of (dot ∷ cs) = record { head = []; tail = pieces cs; is = refl }
+first_of (byte b ∷ cs) = let r = first_of cs in record { head = b ∷ r.head; tail = r.tail; is = ap (onto_first b) r.is }
 
 pieces-dotted : (xs : List (List ℕ)) → xs ≢ [] → pieces (dotted xs) ≡ xs
 pieces-dotted [] some = absurd (some refl)
@@ -81,7 +80,7 @@ pieces-dotted (x ∷ y ∷ ys) some = pieces-label x (dotted (y ∷ ys)) ∙ ap 
 abbrev pub last_piece : Bool → List (List ℕ)
 last_piece absolute = if absolute then [] ∷ [] else []
 
-pieces-text : (labels : List (List ℕ)) (absolute : Bool) → labels ≢ [] → pieces (dotted labels ++ (if absolute then Dot ∷ [] else [])) ≡ labels ++ last_piece absolute
+pieces-text : (labels : List (List ℕ)) (absolute : Bool) → labels ≢ [] → pieces (dotted labels ++ (if absolute then dot ∷ [] else [])) ≡ labels ++ last_piece absolute
 pieces-text labels true some = ap pieces (dotted-dot labels some ∙ sym (append-nil (ended labels))) ∙ pieces-ended labels []
 pieces-text labels false some = ap pieces (append-nil (dotted labels)) ∙ pieces-dotted labels some ∙ sym (append-nil labels)
 
@@ -141,10 +140,10 @@ Fits-labels xs absolute are short = record {
 }
 
 -- the pieces of the characters of a name's text
-pub text_pieces : {text : List ℕ} {labels : List (List ℕ)} {absolute : Bool} {cs : List TextChar} → IsLabelsText text labels absolute → AreCharsOf text cs → pieces cs ≡ labels ++ last_piece absolute
+pub text_pieces : {text : List ℕ} {labels : List (List ℕ)} {absolute : Bool} {cs : List Character} → IsLabelsText text labels absolute → AreCharsOf text cs → pieces cs ≡ labels ++ last_piece absolute
 text_pieces {labels = labels} {absolute = absolute} is reads = ap pieces (reads_once reads is.reads) ∙ pieces-text labels absolute is.some
 
-text_fits : {text : List ℕ} {labels : List (List ℕ)} {absolute : Bool} {cs : List TextChar} → IsLabelsText text labels absolute → AreCharsOf text cs → Fits (pieces cs)
+text_fits : {text : List ℕ} {labels : List (List ℕ)} {absolute : Bool} {cs : List Character} → IsLabelsText text labels absolute → AreCharsOf text cs → Fits (pieces cs)
 text_fits {labels = labels} {absolute = absolute} is reads = subst Fits (sym (text_pieces is reads)) (Fits-labels labels absolute is.each is.short)
 
 short_at : (xs : List (List ℕ)) (y : List ℕ) (ys : List (List ℕ)) → AllShort (xs ++ y ∷ ys) → length y ≤ 63
@@ -158,59 +157,59 @@ not_inner (x ∷ z ∷ zs) y ys inner = not_inner (z ∷ zs) y ys inner.1
 
 -- What was gathered of a text before the rest: labels that have ended, and the bytes of one that goes on.
 pub record Gathered (text rest : List ℕ) (done : List (List ℕ)) (current : List ℕ) : Type 0 where
-  pub goes_on : (cs : List TextChar) → AreCharsOf rest cs → AreCharsOf text (ended done ++ (map Byte current ++ cs))
-  pub comes_from : (cs : List TextChar) → AreCharsOf text cs → (ds : List TextChar) × AreCharsOf rest ds × (cs ≡ ended done ++ (map Byte current ++ ds))
+  pub goes_on : (cs : List Character) → AreCharsOf rest cs → AreCharsOf text (ended done ++ (map byte current ++ cs))
+  pub comes_from : (cs : List Character) → AreCharsOf text cs → (ds : List Character) × AreCharsOf rest ds × (cs ≡ ended done ++ (map byte current ++ ds))
 
 pub gathered_none : (text : List ℕ) → Gathered text text [] []
 gathered_none text = record { goes_on = λ cs reads. reads; comes_from = λ cs reads. (cs, reads, refl) }
 
 -- the characters from a place on
-reads_on : {text rest : List ℕ} {c : TextChar} {cs : List TextChar} → AreCharsOf text cs → first_char text ≡ Some (c, rest) → (ds : List TextChar) × AreCharsOf rest ds × (cs ≡ c ∷ ds)
+reads_on : {text rest : List ℕ} {c : Character} {cs : List Character} → AreCharsOf text cs → first_char text ≡ Some (c, rest) → (ds : List Character) × AreCharsOf rest ds × (cs ≡ c ∷ ds)
 reads_on none is = absurd (nothing_first is)
 reads_on {rest = rest} {c = c} (more {rest = r} {c = d} {cs = ds} spells whole reads) is =
     let same = same_first (sym (first_of_piece spells whole) ∙ is) in
-    (ds, subst (λ (t : List ℕ). AreCharsOf t ds) same.1 reads, ap (λ (e : TextChar). e ∷ ds) same.0)
+    (ds, subst (λ (t : List ℕ). AreCharsOf t ds) same.1 reads, ap (λ (e : Character). e ∷ ds) same.0)
 
-stuck : {rest : List ℕ} {ds : List TextChar} → AreCharsOf rest ds → first_char rest ≡ None → rest ≢ [] → ⊥
+stuck : {rest : List ℕ} {ds : List Character} → AreCharsOf rest ds → first_char rest ≡ None → rest ≢ [] → ⊥
 stuck none nothing some = some refl
 stuck (more spells is reads) nothing some = absurd (none_some (sym nothing ∙ first_of_piece spells is)) where
-  none_some : {r : TextChar × List ℕ} → None ≡ Some r → ⊥
+  none_some : {r : Character × List ℕ} → None ≡ Some r → ⊥
   none_some e = cc
 
 module _ {text rest : List ℕ} {done : List (List ℕ)} {current : List ℕ} (gathered : Gathered text rest done current) where
-  pub gathered_byte : {b : ℕ} {tail : List ℕ} → first_char rest ≡ Some (Byte b, tail) → Gathered text tail done (current ++ b ∷ [])
+  pub gathered_byte : {b : ℕ} {tail : List ℕ} → first_char rest ≡ Some (byte b, tail) → Gathered text tail done (current ++ b ∷ [])
   gathered_byte {b} {tail} is = record {
-    goes_on = λ cs reads. subst (AreCharsOf text) (one_more cs) (gathered.goes_on (Byte b ∷ cs) (reads_more is reads));
+    goes_on = λ cs reads. subst (AreCharsOf text) (one_more cs) (gathered.goes_on (byte b ∷ cs) (reads_more is reads));
     comes_from = λ cs reads.
         let earlier = gathered.comes_from cs reads in
         let on = reads_on earlier.1 is in
-        (on.0, on.1, earlier.2 ∙ ap (λ (ds : List TextChar). ended done ++ (map Byte current ++ ds)) on.2 ∙ one_more on.0);
+        (on.0, on.1, earlier.2 ∙ ap (λ (ds : List Character). ended done ++ (map byte current ++ ds)) on.2 ∙ one_more on.0);
   } where
-    one_more : (cs : List TextChar) → ended done ++ (map Byte current ++ (Byte b ∷ cs)) ≡ ended done ++ (map Byte (current ++ b ∷ []) ++ cs)
-    one_more cs = ap (λ (ds : List TextChar). ended done ++ ds)
-        (sym (append_assoc (map Byte current) (Byte b ∷ []) cs) ∙ ap (λ (ds : List TextChar). ds ++ cs) (sym (map-append Byte current (b ∷ []))))
+    one_more : (cs : List Character) → ended done ++ (map byte current ++ (byte b ∷ cs)) ≡ ended done ++ (map byte (current ++ b ∷ []) ++ cs)
+    one_more cs = ap (λ (ds : List Character). ended done ++ ds)
+        (sym (append_assoc (map byte current) (byte b ∷ []) cs) ∙ ap (λ (ds : List Character). ds ++ cs) (sym (map-append byte current (b ∷ []))))
 
-  pub gathered_dot : {tail : List ℕ} → first_char rest ≡ Some (Dot, tail) → Gathered text tail (done ++ current ∷ []) []
+  pub gathered_dot : {tail : List ℕ} → first_char rest ≡ Some (dot, tail) → Gathered text tail (done ++ current ∷ []) []
   gathered_dot {tail} is = record {
-    goes_on = λ cs reads. subst (AreCharsOf text) (one_more cs) (gathered.goes_on (Dot ∷ cs) (reads_more is reads));
+    goes_on = λ cs reads. subst (AreCharsOf text) (one_more cs) (gathered.goes_on (dot ∷ cs) (reads_more is reads));
     comes_from = λ cs reads.
         let earlier = gathered.comes_from cs reads in
         let on = reads_on earlier.1 is in
-        (on.0, on.1, earlier.2 ∙ ap (λ (ds : List TextChar). ended done ++ (map Byte current ++ ds)) on.2 ∙ one_more on.0);
+        (on.0, on.1, earlier.2 ∙ ap (λ (ds : List Character). ended done ++ (map byte current ++ ds)) on.2 ∙ one_more on.0);
   } where
-    one_more : (cs : List TextChar) → ended done ++ (map Byte current ++ (Dot ∷ cs)) ≡ ended (done ++ current ∷ []) ++ cs
+    one_more : (cs : List Character) → ended done ++ (map byte current ++ (dot ∷ cs)) ≡ ended (done ++ current ∷ []) ++ cs
     one_more cs =
-        ap (λ (ds : List TextChar). ended done ++ ds) (sym (append_assoc (map Byte current) (Dot ∷ []) cs)) ∙ sym (append_assoc (ended done) (map Byte current ++ Dot ∷ []) cs)
-        ∙ ap (λ (ds : List TextChar). ds ++ cs) (sym (ended-append done (current ∷ [])))
+        ap (λ (ds : List Character). ended done ++ ds) (sym (append_assoc (map byte current) (dot ∷ []) cs)) ∙ sym (append_assoc (ended done) (map byte current ++ dot ∷ []) cs)
+        ∙ ap (λ (ds : List Character). ds ++ cs) (sym (ended-append done (current ∷ [])))
 
   -- the pieces, where the rest reads as these characters
-  rest_pieces : {labels : List (List ℕ)} {absolute : Bool} → IsLabelsText text labels absolute → (ds : List TextChar) × AreCharsOf rest ds × Fits (done ++ pieces (map Byte current ++ ds))
+  rest_pieces : {labels : List (List ℕ)} {absolute : Bool} → IsLabelsText text labels absolute → (ds : List Character) × AreCharsOf rest ds × Fits (done ++ pieces (map byte current ++ ds))
   rest_pieces is =
       let earlier = gathered.comes_from _ is.reads in
-      (earlier.0, earlier.1, subst Fits (ap pieces earlier.2 ∙ pieces-ended done (map Byte current ++ earlier.0)) (text_fits is is.reads))
+      (earlier.0, earlier.1, subst Fits (ap pieces earlier.2 ∙ pieces-ended done (map byte current ++ earlier.0)) (text_fits is is.reads))
 
   -- a byte more
-  with_byte : {labels : List (List ℕ)} {absolute : Bool} {b : ℕ} {tail : List ℕ} → first_char rest ≡ Some (Byte b, tail) → IsLabelsText text labels absolute
+  with_byte : {labels : List (List ℕ)} {absolute : Bool} {b : ℕ} {tail : List ℕ} → first_char rest ≡ Some (byte b, tail) → IsLabelsText text labels absolute
       → (h : List ℕ) × (t : List (List ℕ)) × Fits (done ++ (current ++ b ∷ h) ∷ t)
   with_byte {b = b} first is =
       let r = rest_pieces is in
@@ -219,29 +218,29 @@ module _ {text rest : List ℕ} {done : List (List ℕ)} {current : List ℕ} (g
         f.head,
         f.tail,
         subst (λ (ps : List (List ℕ)). Fits (done ++ ps))
-            (ap (λ (ds : List TextChar). pieces (map Byte current ++ ds)) on.2 ∙ pieces-front current (Byte b ∷ on.0) (b ∷ f.head) f.tail (ap (onto_first b) f.is)) r.2,
+            (ap (λ (ds : List Character). pieces (map byte current ++ ds)) on.2 ∙ pieces-front current (byte b ∷ on.0) (b ∷ f.head) f.tail (ap (onto_first b) f.is)) r.2,
       )
 
-  pub label_too_long : {labels : List (List ℕ)} {absolute : Bool} {b : ℕ} {tail : List ℕ} → first_char rest ≡ Some (Byte b, tail) → 63 ≤ length current → IsLabelsText text labels absolute → ⊥
+  pub label_too_long : {labels : List (List ℕ)} {absolute : Bool} {b : ℕ} {tail : List ℕ} → first_char rest ≡ Some (byte b, tail) → 63 ≤ length current → IsLabelsText text labels absolute → ⊥
   label_too_long {b = b} first long is =
       let r = with_byte first is in
       omega (arith, short_at done (current ++ b ∷ r.0) r.1 r.2.short, length-append current (b ∷ r.0))
 
-  pub name_too_long : {labels : List (List ℕ)} {absolute : Bool} {b : ℕ} {tail : List ℕ} → first_char rest ≡ Some (Byte b, tail) → AreLabels done
+  pub name_too_long : {labels : List (List ℕ)} {absolute : Bool} {b : ℕ} {tail : List ℕ} → first_char rest ≡ Some (byte b, tail) → AreLabels done
       → 254 ≤ size_of done + 1 + length current → IsLabelsText text labels absolute → ⊥
   name_too_long {b = b} first are long is =
       let r = with_byte first is in
       let len = length-append current (b ∷ r.0) in
       omega (arith, r.2.light, weight-labels done ((current ++ b ∷ r.0) ∷ r.1) are, weight-some (current ++ b ∷ r.0) r.1 (omega arith), len)
 
-  pub label_empty : {labels : List (List ℕ)} {absolute : Bool} {tail : List ℕ} → first_char rest ≡ Some (Dot, tail) → current ≡ [] → IsLabelsText text labels absolute → ⊥
+  pub label_empty : {labels : List (List ℕ)} {absolute : Bool} {tail : List ℕ} → first_char rest ≡ Some (dot, tail) → current ≡ [] → IsLabelsText text labels absolute → ⊥
   label_empty first empty is =
       let r = rest_pieces is in
       let on = reads_on r.1 first in
       let f = first_of on.0 in
       not_inner done f.head f.tail
       (subst (λ (ps : List (List ℕ)). InnerSome (done ++ ps))
-      (ap (λ (ds : List TextChar). pieces (map Byte current ++ ds)) on.2 ∙ ap (λ (x : List ℕ). pieces (map Byte x ++ (Dot ∷ on.0))) empty ∙ ap (λ (ps : List (List ℕ)). [] ∷ ps) f.is) r.2.inner)
+      (ap (λ (ds : List Character). pieces (map byte current ++ ds)) on.2 ∙ ap (λ (x : List ℕ). pieces (map byte x ++ (dot ∷ on.0))) empty ∙ ap (λ (ps : List (List ℕ)). [] ∷ ps) f.is) r.2.inner)
 
   -- the text goes on, but not by a character
   pub no_char : {labels : List (List ℕ)} {absolute : Bool} → first_char rest ≡ None → rest ≢ [] → IsLabelsText text labels absolute → ⊥
@@ -260,7 +259,7 @@ pub ends_relative : {text : List ℕ} {done : List (List ℕ)} {current : List �
     → AreLabels done → size_of done + 1 + length current ≤ 254
     → IsLabelsText text (done ++ current ∷ []) false
 ends_relative {text} {done} {current} gathered some small are short = record {
-  reads = subst (AreCharsOf text) (sym (append_assoc (ended done) (map Byte current) []) ∙ ap (λ (cs : List TextChar). cs ++ []) (sym (dotted-last done current))) (gathered.goes_on [] none);
+  reads = subst (AreCharsOf text) (sym (append_assoc (ended done) (map byte current) []) ∙ ap (λ (cs : List Character). cs ++ []) (sym (dotted-last done current))) (gathered.goes_on [] none);
   some = not_nil done current;
   each = AreLabels-append done (current ∷ []) are (record { some = some; short = small }, tt);
   short = omega (arith, size_of-append done (current ∷ []));
@@ -275,7 +274,7 @@ ends_absolute {text} {done} gathered some are short = record {
   short = omega arith;
 }
 
-reads_nil : {ds : List TextChar} → AreCharsOf [] ds → ds ≡ []
+reads_nil : {ds : List Character} → AreCharsOf [] ds → ds ≡ []
 reads_nil none = refl
 reads_nil (more spells is reads) = absurd (nothing_first (first_of_piece spells is))
 
@@ -283,7 +282,7 @@ reads_nil (more spells is reads) = absurd (nothing_first (first_of_piece spells 
 ends_nothing : {text : List ℕ} {done labels : List (List ℕ)} {current : List ℕ} {absolute : Bool} → Gathered text [] done current → done ≡ [] → current ≡ [] → IsLabelsText text labels absolute → ⊥
 ends_nothing {done = done} {labels = labels} {current = current} {absolute = absolute} gathered no_label no_byte is =
     let from = gathered.comes_from _ is.reads in
-    let chars = from.2 ∙ ap (λ (xs : List (List ℕ)). ended xs ++ (map Byte current ++ from.0)) no_label ∙ ap (λ (x : List ℕ). map Byte x ++ from.0) no_byte ∙ reads_nil from.1 in
+    let chars = from.2 ∙ ap (λ (xs : List (List ℕ)). ended xs ++ (map byte current ++ from.0)) no_label ∙ ap (λ (x : List ℕ). map byte x ++ from.0) no_byte ∙ reads_nil from.1 in
     go labels absolute is.each is.some (sym (ap pieces chars) ∙ text_pieces is is.reads)
   where
     go : (labels : List (List ℕ)) (absolute : Bool) → AreLabels labels → labels ≢ [] → [] ∷ [] ≡ labels ++ last_piece absolute → ⊥
@@ -319,7 +318,7 @@ module _ {text rest room : List ℕ} {used len : ℕ} (holds : Holds text rest r
   pub done_size : size_of (labels_of (take used room)) ≡ used
   done_size = omega (arith, size_of-labels_of (take used room) holds.wire, length-take-le used room (omega (arith, holds.size, holds.inside)))
 
-  pub holds_byte : {b : ℕ} {tail : List ℕ} → first_char rest ≡ Some (Byte b, tail) → len < 63 → used + 1 + len < 254 → Holds text tail (set room (used + 1 + len) b) used (len + 1)
+  pub holds_byte : {b : ℕ} {tail : List ℕ} → first_char rest ≡ Some (byte b, tail) → len < 63 → used + 1 + len < 254 → Holds text tail (set room (used + 1 + len) b) used (len + 1)
   holds_byte {b} {tail} first small room_left = record {
     gathered = subst (λ (done : List (List ℕ)). Gathered text tail done (take (len + 1) (drop (used + 1) next))) (ap labels_of (sym front))
         (subst (Gathered text tail (labels_of (take used room))) (sym behind) (gathered_byte holds.gathered first));
@@ -352,7 +351,7 @@ module _ {text rest room : List ℕ} {used len : ℕ} (holds : Holds text rest r
       ∙ ap (λ (k : ℕ). take used room ++ (k ∷ take len (drop (suc used) room))) (is ∙ sym current_len)
       ∙ ap (λ (k : ℕ). take used room ++ (length current ∷ take len (drop k room))) next
 
-  pub holds_dot : {n : ℕ} {tail : List ℕ} → first_char rest ≡ Some (Dot, tail) → n ≡ len → 1 ≤ len → Holds text tail (set room used n) (used + 1 + len) 0
+  pub holds_dot : {n : ℕ} {tail : List ℕ} → first_char rest ≡ Some (dot, tail) → n ≡ len → 1 ≤ len → Holds text tail (set room used n) (used + 1 + len) 0
   holds_dot {n} {tail} first is some = record {
     gathered = subst (λ (done : List (List ℕ)). Gathered text tail done []) (sym (ap labels_of put ∙ labels_of-push (take used room) current holds.wire)) (gathered_dot holds.gathered first);
     wire = subst IsWire (sym put) pushed;
@@ -375,12 +374,12 @@ module _ {text rest room : List ℕ} {used len : ℕ} (holds : Holds text rest r
   pub stops_at_char : first_char rest ≡ None → rest ≢ [] → (labels : List (List ℕ)) (absolute : Bool) → IsLabelsText text labels absolute → ⊥
   stops_at_char nothing some labels absolute is = no_char holds.gathered nothing some is
 
-  pub stops_at_byte : {b : ℕ} {tail : List ℕ} → first_char rest ≡ Some (Byte b, tail) → 63 ≤ len ⊎ 254 ≤ used + 1 + len
+  pub stops_at_byte : {b : ℕ} {tail : List ℕ} → first_char rest ≡ Some (byte b, tail) → 63 ≤ len ⊎ 254 ≤ used + 1 + len
       → (labels : List (List ℕ)) (absolute : Bool) → IsLabelsText text labels absolute → ⊥
   stops_at_byte first (inl long) labels absolute is = label_too_long holds.gathered first (omega (arith, current_len)) is
   stops_at_byte first (inr long) labels absolute is = name_too_long holds.gathered first holds.wire.labels (omega (arith, done_size, current_len)) is
 
-  pub stops_at_dot : {tail : List ℕ} → first_char rest ≡ Some (Dot, tail) → len ≡ 0 → (labels : List (List ℕ)) (absolute : Bool) → IsLabelsText text labels absolute → ⊥
+  pub stops_at_dot : {tail : List ℕ} → first_char rest ≡ Some (dot, tail) → len ≡ 0 → (labels : List (List ℕ)) (absolute : Bool) → IsLabelsText text labels absolute → ⊥
   stops_at_dot first nothing labels absolute is = label_empty holds.gathered first (nil_from_length _ (current_len ∙ nothing)) is
 
   no_labels : (labels : List (List ℕ)) → AreLabels labels → size_of labels ≡ 0 → labels ≡ []

@@ -209,15 +209,16 @@ take_both n xs [] fits = append-nil (take n xs) ∙ ap (take n) (sym (append-nil
 take_both n xs (y ∷ ys) fits =
     ap (λ (zs : List Stored). zs ++ y ∷ ys) (take_all n xs (omega arith)) ∙ sym (take_all n (xs ++ y ∷ ys) (omega (arith, length-append xs (y ∷ ys))))
 
-pub IsTable-front : (find : List ℕ → Option ℕ) (n : ℕ) (first others xs old : List Stored) → IsIndexed find others → AllPairs (λ s t. s.offset < t.offset) old
-    → AllPairs (λ s t. s.labels ≢ t.labels) old
-    → take n (first ++ others) ≡ take n old → length others ≤ n - length first → xs ≡ take n first → IsTable find xs others
-IsTable-front find n first others xs old h rises once is fits cut =
+-- The first suffixes of a table are a table, where the index has lost those that are gone.
+pub IsTable-front : {find before : List ℕ → Option ℕ} {others xs old_first old_others : List Stored} (n : ℕ) (first : List Stored) → IsTable before old_first old_others → IsIndexed find others
+    → take n (first ++ others) ≡ take n (old_first ++ old_others) → length others ≤ n - length first → xs ≡ take n first → IsTable find xs others
+IsTable-front {others = others} {xs = xs} {old_first = old_first} {old_others = old_others} n first table h is fits cut =
+    let old = old_first ++ old_others in
     let whole : xs ++ others ≡ take n old = ap (λ (zs : List Stored). zs ++ others) cut ∙ take_both n first others fits ∙ is in
     record {
       rises = subst (AllPairs (λ (s t : Stored). s.offset < t.offset)) (sym whole)
-          (pairs_front (λ s t. s.offset < t.offset) (take n old) (drop n old) (subst (AllPairs (λ (s t : Stored). s.offset < t.offset)) (sym (take-append-drop n old)) rises));
+          (pairs_front (λ s t. s.offset < t.offset) (take n old) (drop n old) (subst (AllPairs (λ (s t : Stored). s.offset < t.offset)) (sym (take-append-drop n old)) table.rises));
       once = subst (AllPairs (λ (s t : Stored). s.labels ≢ t.labels)) (sym whole)
-          (pairs_front (λ s t. s.labels ≢ t.labels) (take n old) (drop n old) (subst (AllPairs (λ (s t : Stored). s.labels ≢ t.labels)) (sym (take-append-drop n old)) once));
+          (pairs_front (λ s t. s.labels ≢ t.labels) (take n old) (drop n old) (subst (AllPairs (λ (s t : Stored). s.labels ≢ t.labels)) (sym (take-append-drop n old)) table.once));
       behind = h;
     }

@@ -1,13 +1,13 @@
 -- The text of a name names it, and a text names one name.
-use Rattle.std.proofs.Common.{◌≡◌, ◌≢◌, ℕ, suc, ◌+◌, ◌-◌, ◌*◌, ◌/◌, ◌%◌, ◌<◌, ◌≤◌, List, [], ◌∷◌, ◌++◌, length, map, refl, ap, sym, ◌∙◌, subst, arith, append_assoc, Bool, true, false, Option, Some, None}
+use Rattle.std.proofs.Common.{◌≡◌, ◌≢◌, ℕ, suc, ◌+◌, ◌-◌, ◌*◌, ◌/◌, ◌%◌, ◌<◌, ◌≤◌, List, [], ◌∷◌, ◌++◌}
+use Rattle.std.proofs.Common.{length, map, refl, ap, sym, ◌∙◌, subst, arith, append_assoc, Bool, true, false, Option, Some, None}
 use Rattle.std.specs.Prelude.{All, ◌==◌, ◌||◌, ◌&&◌, nat_lt, nat_le}
 use Rattle.std.specs.Char.{is_ascii_digit}
 use Rattle.std.proofs.lemmas.Bool.Decides.{nat_tests}
 use Rattle.std.proofs.lemmas.List.{append-nil}
-use Rattle.base.specs.declared.name.parse.TextChar.{TextChar}
-use Rattle.base.specs.declared.name.parse.TextChar.TheVariants.{Dot, Byte}
 use Rattle.base.specs.Labels.{NameValue, AreLabels, plain_len}
-use Rattle.base.specs.NameText.{AreCharsOf, none, IsLabelsText, IsNameText, is_root, is_origin, is_absolute, is_relative, is_completed, byte_text, decimal_char, decimal_text, dotted, escaped_char, first_char, is_special, label_text, labels_text, name_text}
+use Rattle.base.specs.NameText.{Character, dot, byte, AreCharsOf, none, IsLabelsText, IsNameText, is_root, is_origin, is_absolute, is_relative}
+use Rattle.base.specs.NameText.{is_completed, byte_text, decimal_char, decimal_text, dotted, escaped_char, first_char, is_special, label_text, labels_text, name_text}
 use Rattle.base.proofs.CharLemmas.{reads_more}
 use Rattle.base.proofs.NamedLemmas.{at_dot, labels_once, not_absolute_at, not_dot, reads_at, some_once, some_none}
 use Rattle.base.proofs.ParseLemmas.{text_pieces}
@@ -16,7 +16,7 @@ digit_code : (n : ℕ) → n ≤ 9 → is_ascii_digit (48 + n) ≡ true
 digit_code n low = grind (arith, nat_tests)
 
 -- a backslash and three digits are the byte of that number
-first_decimal : (b : ℕ) (rest : List ℕ) → b < 256 → first_char (decimal_text b ++ rest) ≡ Some (Byte b, rest)
+first_decimal : (b : ℕ) (rest : List ℕ) → b < 256 → first_char (decimal_text b ++ rest) ≡ Some (byte b, rest)
 unfolding first_char escaped_char decimal_char
 first_decimal b rest small =
     let hundreds = digit_code (b / 100) (omega arith) in
@@ -26,25 +26,25 @@ first_decimal b rest small =
     let fits : nat_lt b 256 ≡ true = grind (arith, nat_tests) in
     rw (hundreds, tens, ones, number, fits) refl
 
-first_escaped : (b : ℕ) (rest : List ℕ) → is_special b ≡ true → first_char (92 ∷ b ∷ rest) ≡ Some (Byte b, rest)
+first_escaped : (b : ℕ) (rest : List ℕ) → is_special b ≡ true → first_char (92 ∷ b ∷ rest) ≡ Some (byte b, rest)
 unfolding first_char escaped_char
 first_escaped b rest special =
     let no_digit : is_ascii_digit b ≡ false = grind (arith, nat_tests) in
     let ascii : nat_lt b 128 ≡ true = grind (arith, nat_tests) in
     rw (no_digit, ascii) refl
 
-first_plain : (b : ℕ) (rest : List ℕ) → is_special b ≡ false → nat_lt b 33 || nat_lt 126 b ≡ false → first_char (b ∷ rest) ≡ Some (Byte b, rest)
+first_plain : (b : ℕ) (rest : List ℕ) → is_special b ≡ false → nat_lt b 33 || nat_lt 126 b ≡ false → first_char (b ∷ rest) ≡ Some (byte b, rest)
 unfolding first_char
 first_plain b rest special printable =
     let backslash : (b == 92) ≡ false = grind (arith, nat_tests) in
-    let dot : (b == 46) ≡ false = grind (arith, nat_tests) in
+    let no_dot : (b == 46) ≡ false = grind (arith, nat_tests) in
     let shown : nat_le 33 b && nat_le b 126 ≡ true = grind (arith, nat_tests) in
-    rw (backslash, dot, shown) refl
+    rw (backslash, no_dot, shown) refl
 
 -- the text of a byte is that byte
-first_byte_text : (b : ℕ) (rest : List ℕ) → b < 256 → first_char (byte_text b ++ rest) ≡ Some (Byte b, rest)
+first_byte_text : (b : ℕ) (rest : List ℕ) → b < 256 → first_char (byte_text b ++ rest) ≡ Some (byte b, rest)
 first_byte_text b rest small = go (nat_lt b 33 || nat_lt 126 b) (is_special b) refl refl where
-  go : (outside special : Bool) → nat_lt b 33 || nat_lt 126 b ≡ outside → is_special b ≡ special → first_char (byte_text b ++ rest) ≡ Some (Byte b, rest)
+  go : (outside special : Bool) → nat_lt b 33 || nat_lt 126 b ≡ outside → is_special b ≡ special → first_char (byte_text b ++ rest) ≡ Some (byte b, rest)
   go true special out is = rw out (first_decimal b rest small)
   go false true out is = rw (out, is) (first_escaped b rest is)
   go false false out is = rw (out, is) (first_plain b rest is out)
@@ -56,38 +56,38 @@ All-others : {X : Type 0} (P : X → Type 0) (x : X) (xs : List X) → All P (x 
 All-others P x xs all = λ k d below. all (suc k) d (omega arith)
 
 -- the text of labels reads as their characters, with others behind them
-label_reads : (x rest : List ℕ) (cs : List TextChar) → All (λ b. b < 256) x → AreCharsOf rest cs → AreCharsOf (label_text x ++ rest) (map Byte x ++ cs)
+label_reads : (x rest : List ℕ) (cs : List Character) → All (λ b. b < 256) x → AreCharsOf rest cs → AreCharsOf (label_text x ++ rest) (map byte x ++ cs)
 label_reads [] rest cs bytes reads = reads
 label_reads (b ∷ x) rest cs bytes reads =
-    subst (λ (text : List ℕ). AreCharsOf text (Byte b ∷ (map Byte x ++ cs))) (sym (append_assoc (byte_text b) (label_text x) rest))
+    subst (λ (text : List ℕ). AreCharsOf text (byte b ∷ (map byte x ++ cs))) (sym (append_assoc (byte_text b) (label_text x) rest))
     (reads_more (first_byte_text b (label_text x ++ rest) (All-first (λ (c : ℕ). c < 256) b x bytes)) (label_reads x rest cs (All-others (λ (c : ℕ). c < 256) b x bytes) reads))
 
-first_dot : (rest : List ℕ) → first_char (46 ∷ rest) ≡ Some (Dot, rest)
+first_dot : (rest : List ℕ) → first_char (46 ∷ rest) ≡ Some (dot, rest)
 unfolding first_char
 first_dot rest = refl
 
-labels_read : (xs : List (List ℕ)) (rest : List ℕ) (cs : List TextChar) → All (All (λ b. b < 256)) xs → AreCharsOf rest cs → AreCharsOf (labels_text xs ++ rest) (dotted xs ++ cs)
+labels_read : (xs : List (List ℕ)) (rest : List ℕ) (cs : List Character) → All (All (λ b. b < 256)) xs → AreCharsOf rest cs → AreCharsOf (labels_text xs ++ rest) (dotted xs ++ cs)
 labels_read [] rest cs bytes reads = reads
 labels_read (x ∷ []) rest cs bytes reads = label_reads x rest cs (All-first (All (λ (c : ℕ). c < 256)) x [] bytes) reads
 labels_read (x ∷ y ∷ ys) rest cs bytes reads =
     let behind = reads_more (first_dot (labels_text (y ∷ ys) ++ rest)) (labels_read (y ∷ ys) rest cs (All-others (All (λ (c : ℕ). c < 256)) x (y ∷ ys) bytes) reads) in
-    let here = label_reads x (46 ∷ (labels_text (y ∷ ys) ++ rest)) (Dot ∷ (dotted (y ∷ ys) ++ cs)) (All-first (All (λ (c : ℕ). c < 256)) x (y ∷ ys) bytes) behind in
+    let here = label_reads x (46 ∷ (labels_text (y ∷ ys) ++ rest)) (dot ∷ (dotted (y ∷ ys) ++ cs)) (All-first (All (λ (c : ℕ). c < 256)) x (y ∷ ys) bytes) behind in
     subst (λ (text : List ℕ). AreCharsOf text (dotted (x ∷ y ∷ ys) ++ cs)) (sym (append_assoc (label_text x) (46 ∷ labels_text (y ∷ ys)) rest))
-    (subst (AreCharsOf (label_text x ++ (46 ∷ (labels_text (y ∷ ys) ++ rest)))) (sym (append_assoc (map Byte x) (Dot ∷ dotted (y ∷ ys)) cs)) here)
+    (subst (AreCharsOf (label_text x ++ (46 ∷ (labels_text (y ∷ ys) ++ rest)))) (sym (append_assoc (map byte x) (dot ∷ dotted (y ∷ ys)) cs)) here)
 
-dot_reads : AreCharsOf (46 ∷ []) (Dot ∷ [])
+dot_reads : AreCharsOf (46 ∷ []) (dot ∷ [])
 dot_reads = reads_more (first_dot []) none
 
 -- the text of labels is those labels
 labels_text_is : (labels : List (List ℕ)) (absolute : Bool) → All (All (λ b. b < 256)) labels → AreLabels labels → plain_len labels ≤ 255 → labels ≢ []
     → IsLabelsText (name_text (record { labels = labels; absolute = absolute })) labels absolute
-labels_text_is labels true bytes are short some = record { reads = labels_read labels (46 ∷ []) (Dot ∷ []) bytes dot_reads; some = some; each = are; short = short }
+labels_text_is labels true bytes are short some = record { reads = labels_read labels (46 ∷ []) (dot ∷ []) bytes dot_reads; some = some; each = are; short = short }
 labels_text_is labels false bytes are short some = record { reads = labels_read labels [] [] bytes none; some = some; each = are; short = short }
 
 -- the label @ has a backslash in its text
 not_at : (labels : List (List ℕ)) → IsLabelsText (name_text (record { labels = labels; absolute = false })) labels false → name_text (record { labels = labels; absolute = false }) ≢ 64 ∷ []
 not_at labels is at =
-    let one : ◌≡◌ {A = List (List ℕ)} ((64 ∷ []) ∷ []) labels = text_pieces is (subst (λ (text : List ℕ). AreCharsOf text (Byte 64 ∷ [])) (sym at) reads_at) ∙ append-nil labels in
+    let one : ◌≡◌ {A = List (List ℕ)} ((64 ∷ []) ∷ []) labels = text_pieces is (subst (λ (text : List ℕ). AreCharsOf text (byte 64 ∷ [])) (sym at) reads_at) ∙ append-nil labels in
     let text : ◌≡◌ {A = List ℕ} (92 ∷ 64 ∷ []) (64 ∷ []) = ap (λ (ls : List (List ℕ)). name_text (record { labels = ls; absolute = false })) one ∙ at in
     omega (arith, ap length text)
 

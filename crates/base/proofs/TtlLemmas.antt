@@ -69,6 +69,9 @@ digit_too_many sum begun c rest is big = ap below_limit (step_digit sum begun c 
 pub unit_too_many : (sum n u c : ℕ) (rest : List ℕ) → is_ascii_digit c ≡ false → unit_of c ≡ Some u → 2 ^ 32 ≤ sum + n * u → below_limit (ttl_sum sum (Some n) (c ∷ rest)) ≡ None
 unit_too_many sum n u c rest is unit big = ap below_limit (step_unit sum n u c rest is unit) ∙ ttl_big rest (sum + n * u) None (omega (arith, big))
 
+-- one byte on, in each case
+pub ruleset one_byte = (digit_too_many, step_digit, step_bare, step_other, step_unit, unit_too_many)
+
 pub ttl_nothing : (text : List ℕ) → length text ≡ 0 → None ≡ ttl_of text
 unfolding ttl_of
 ttl_nothing [] none = refl

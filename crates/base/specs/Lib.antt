@@ -29,6 +29,7 @@ pub mod Spelling
 pub mod State
 pub mod Suffixes
 pub mod Targets
+pub mod TextChar
 pub mod TextFaults
 pub mod TokenList
 pub mod Tokens

@@ -1,24 +1,22 @@
 -- The name that a text names, as a function (RFC 1035, 5.1).
 use Rattle.std.specs.Prelude.{ℕ, zero, suc, Bool, true, false, ◌&&◌, List, [], ◌∷◌, ◌++◌, length, nat_le, if◌then◌else◌, Option, Some, None, Result, Ok, Err}
 use Rattle.std.specs.Str.{bytes_eq}
-use Rattle.base.specs.declared.name.parse.TextChar.{TextChar}
-use Rattle.base.specs.declared.name.parse.TextChar.TheVariants.{Dot, Byte}
 use Rattle.base.specs.Labels.{NameValue, plain_len}
-use Rattle.base.specs.NameText.{first_char}
+use Rattle.base.specs.NameText.{Character, dot, byte, first_char}
 use Rattle.base.specs.TextFaults.{Fault, bad_name}
 
 -- this character before those of the rest
-abbrev pub char_on : TextChar → Option (List TextChar) → Option (List TextChar)
+abbrev pub char_on : Character → Option (List Character) → Option (List Character)
 char_on c None = None
 char_on c (Some cs) = Some (c ∷ cs)
 
 -- the first character, and then those of the text behind it
-abbrev pub chars_on : (List ℕ → Option (List TextChar)) → Option (TextChar × List ℕ) → Option (List TextChar)
+abbrev pub chars_on : (List ℕ → Option (List Character)) → Option (Character × List ℕ) → Option (List Character)
 chars_on more None = None
 chars_on more (Some found) = char_on found.0 (more found.1)
 
 -- the characters of a text, of as many at most
-unfoldable pub chars : ℕ → List ℕ → Option (List TextChar)
+unfoldable pub chars : ℕ → List ℕ → Option (List Character)
 chars steps [] = Some []
 chars zero (c ∷ text) = None
 chars (suc steps) (c ∷ text) = chars_on (chars steps) (first_char (c ∷ text))
@@ -29,10 +27,10 @@ onto_first b [] = (b ∷ []) ∷ []
 onto_first b (x ∷ xs) = (b ∷ x) ∷ xs
 
 -- what stands between the dots
-abbrev pub pieces : List TextChar → List (List ℕ)
+abbrev pub pieces : List Character → List (List ℕ)
 pieces [] = [] ∷ []
-pieces (Dot ∷ cs) = [] ∷ pieces cs
-pieces (Byte b ∷ cs) = onto_first b (pieces cs)
+pieces (dot ∷ cs) = [] ∷ pieces cs
+pieces (byte b ∷ cs) = onto_first b (pieces cs)
 
 -- the labels, and whether an empty piece behind the last dot ends the name
 abbrev pub without_end : List (List ℕ) → List (List ℕ) × Bool
@@ -55,7 +53,7 @@ abbrev pub if_name : List (List ℕ) × Bool → Option (List (List ℕ) × Bool
 if_name found = if is_name found.0 then Some found else None
 
 -- the labels of characters, and whether the last of these is a dot
-abbrev pub labels_of_chars : Option (List TextChar) → Option (List (List ℕ) × Bool)
+abbrev pub labels_of_chars : Option (List Character) → Option (List (List ℕ) × Bool)
 labels_of_chars None = None
 labels_of_chars (Some cs) = if_name (without_end (pieces cs))
 

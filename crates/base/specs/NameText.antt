@@ -1,9 +1,8 @@
 -- The text of names (RFC 1035, 5.1; RFC 4343, 2.1).
-use Rattle.std.specs.Prelude.{◌≡◌, ◌≢◌, ℕ, Bool, true, false, ◌+◌, ◌-◌, ◌*◌, ◌/◌, ◌%◌, ◌<◌, ◌≤◌, ◌&&◌, ◌||◌, ◌==◌, List, [], ◌∷◌, ◌++◌, map, nat_lt, nat_le, if◌then◌else◌, Option, Some, None, IsTrue}
+use Rattle.std.specs.Prelude.{◌≡◌, ◌≢◌, ℕ, Bool, true, false, ◌+◌, ◌-◌, ◌*◌, ◌/◌, ◌%◌, ◌<◌, ◌≤◌, ◌&&◌}
+use Rattle.std.specs.Prelude.{◌||◌, ◌==◌, List, [], ◌∷◌, ◌++◌, map, nat_lt, nat_le, if◌then◌else◌, Option, Some, None, IsTrue}
 use Rattle.std.specs.Char.{is_ascii_digit}
 use Rattle.std.specs.List.{flat_map, join_with_byte}
-use Rattle.base.specs.declared.name.parse.TextChar.{TextChar}
-use Rattle.base.specs.declared.name.parse.TextChar.TheVariants.{Dot, Byte}
 use Rattle.base.specs.Labels.{NameValue, AreLabels, plain_len}
 
 -- the bytes before which a backslash stands: . \ " ( ) ; @ $
@@ -38,51 +37,56 @@ pub record IsDecimal (x y z number : ℕ) : Type 0 where
   pub is : number ≡ 100 * (x - 48) + 10 * (y - 48) + (z - 48)
   pub byte : number ≤ 255
 
+-- A character of a name's text: the dot between labels, or at the end, or a byte of a label.
+pub data Character : Type 0 where
+  dot : Character
+  byte : ℕ → Character
+
 -- A piece of text that is one character: a dot; a printable byte that is neither space, dot nor backslash;
 -- a backslash and another character of ASCII, but a digit; or a backslash and three decimal digits.
-pub data IsCharText (text : List ℕ) : TextChar → Type 0 where
-  is_dot : text ≡ 46 ∷ [] → IsCharText text Dot
-  is_printable : {b : ℕ} → text ≡ b ∷ [] → 33 ≤ b → b ≤ 126 → b ≢ 46 → b ≢ 92 → IsCharText text (Byte b)
-  is_escaped : {b : ℕ} → text ≡ 92 ∷ b ∷ [] → b < 128 → is_ascii_digit b ≡ false → IsCharText text (Byte b)
-  is_number : {x y z b : ℕ} → text ≡ 92 ∷ x ∷ y ∷ z ∷ [] → IsDecimal x y z b → IsCharText text (Byte b)
+pub data IsCharText (text : List ℕ) : Character → Type 0 where
+  is_dot : text ≡ 46 ∷ [] → IsCharText text dot
+  is_printable : {b : ℕ} → text ≡ b ∷ [] → 33 ≤ b → b ≤ 126 → b ≢ 46 → b ≢ 92 → IsCharText text (byte b)
+  is_escaped : {b : ℕ} → text ≡ 92 ∷ b ∷ [] → b < 128 → is_ascii_digit b ≡ false → IsCharText text (byte b)
+  is_number : {x y z b : ℕ} → text ≡ 92 ∷ x ∷ y ∷ z ∷ [] → IsDecimal x y z b → IsCharText text (byte b)
 
 -- The character behind a backslash and a digit, which two more digits follow: the byte of this number.
-unfoldable pub decimal_char : ℕ → List ℕ → Option (TextChar × List ℕ)
+unfoldable pub decimal_char : ℕ → List ℕ → Option (Character × List ℕ)
 decimal_char x (y ∷ z ∷ rest) =
     let number = 100 * (x - 48) + 10 * (y - 48) + (z - 48) in
-    if is_ascii_digit y && is_ascii_digit z && nat_lt number 256 then Some (Byte number, rest) else None
+    if is_ascii_digit y && is_ascii_digit z && nat_lt number 256 then Some (byte number, rest) else None
 decimal_char x _ = None
 
 -- The character behind a backslash: the byte of three decimal digits, or any other of ASCII as a byte.
-unfoldable pub escaped_char : List ℕ → Option (TextChar × List ℕ)
+unfoldable pub escaped_char : List ℕ → Option (Character × List ℕ)
 escaped_char [] = None
 escaped_char (c ∷ rest) =
     if is_ascii_digit c then decimal_char c rest
-    else (if nat_lt c 128 then Some (Byte c, rest) else None)
+    else (if nat_lt c 128 then Some (byte c, rest) else None)
 
 -- The first character of a text, and the text behind it: an escaped one, a dot, or a printable one that is
 -- no space. None where the text begins otherwise.
-unfoldable pub first_char : List ℕ → Option (TextChar × List ℕ)
+unfoldable pub first_char : List ℕ → Option (Character × List ℕ)
 first_char [] = None
 first_char (c ∷ rest) =
     if c == 92 then escaped_char rest
-    else (if c == 46 then Some (Dot, rest)
-    else (if nat_le 33 c && nat_le c 126 then Some (Byte c, rest) else None))
+    else (if c == 46 then Some (dot, rest)
+    else (if nat_le 33 c && nat_le c 126 then Some (byte c, rest) else None))
 
 -- the text is these characters, one behind the other
-pub data AreCharsOf : List ℕ → List TextChar → Type 0 where
+pub data AreCharsOf : List ℕ → List Character → Type 0 where
   none : AreCharsOf [] []
-  more : {text piece rest : List ℕ} {c : TextChar} {cs : List TextChar} → IsCharText piece c → text ≡ piece ++ rest → AreCharsOf rest cs → AreCharsOf text (c ∷ cs)
+  more : {text piece rest : List ℕ} {c : Character} {cs : List Character} → IsCharText piece c → text ≡ piece ++ rest → AreCharsOf rest cs → AreCharsOf text (c ∷ cs)
 
 -- the characters of labels with dots between them
-abbrev pub dotted : List (List ℕ) → List TextChar
+abbrev pub dotted : List (List ℕ) → List Character
 dotted [] = []
-dotted (x ∷ []) = map Byte x
-dotted (x ∷ y ∷ ys) = map Byte x ++ (Dot ∷ dotted (y ∷ ys))
+dotted (x ∷ []) = map byte x
+dotted (x ∷ y ∷ ys) = map byte x ++ (dot ∷ dotted (y ∷ ys))
 
 -- The text is one or more labels with dots between them, and with a dot at the end if the name is absolute.
 pub record IsLabelsText (text : List ℕ) (labels : List (List ℕ)) (absolute : Bool) : Type 0 where
-  pub reads : AreCharsOf text (dotted labels ++ (if absolute then Dot ∷ [] else []))
+  pub reads : AreCharsOf text (dotted labels ++ (if absolute then dot ∷ [] else []))
   pub some : labels ≢ []
   pub each : AreLabels labels
   pub short : plain_len labels ≤ 255

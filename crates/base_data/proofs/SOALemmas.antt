@@ -100,10 +100,10 @@ pub soa_numbers_written : {X : Type 0} (r : Result X ProtoError) (x : SOA) (a b 
 soa_numbers_written r x a b fits is = Writes-either r (SOANumbers x) 20 (soa_numbers x) a b is (omega arith) (λ B. soa_numbers_stand x B (length a.bytes) fits)
 
 -- two names, and numbers behind them
-pub compressed_soa : {v w : List ℕ → ℕ → ℕ → Type 0} {m n : ℕ} (x : SOA) (a b c h : State) → Keeps a b → Writes v m x.mname.labels a b
+pub compressed_soa : {v w : List ℕ → ℕ → ℕ → Type 0} {m n : ℕ} {a b c h : State} (x : SOA) → Keeps a b → Writes v m x.mname.labels a b
     → StoresSuffixes x.mname.labels a b → Keeps b c → Writes w n x.rname.labels b c → StoresSuffixes x.rname.labels b c
     → h ≡ appended (soa_numbers x) c → CompressesSOA x a h
-compressed_soa x a b c h k first stores_first l second stores_second numbers = record {
+compressed_soa {b = b} {c = c} x k first stores_first l second stores_second numbers = record {
   behind_first = b;
   behind_second = c;
   keeps_first = k;

@@ -66,9 +66,9 @@ srv_numbers_stand x B i fits s =
     )
 
 -- the numbers of an SRV were written as their bytes, and the name behind them
-pub srv_written : (x : SRV) (octets : List ℕ) (a b c : State) → SRVFits x → octets ≡ srv_numbers x → Keeps a b → Keeps b c → b ≡ appended octets a
+pub srv_written : {octets : List ℕ} {a b c : State} (x : SRV) → SRVFits x → octets ≡ srv_numbers x → Keeps a b → Keeps b c → b ≡ appended octets a
     → Writes (NameAt x.target.labels) (plain_len x.target.labels) [] b c → Writes (SRVWord x) (plain_srv x) [] a c
-srv_written x octets a b c fits are k l is name =
+srv_written {a = a} {b = b} x fits are k l is name =
     let numbers : Writes (SRVNumbers x) 6 [] a b = Writes-bytes (SRVNumbers x) 6 (srv_numbers x) a b (is ∙ ap (λ (xs : List ℕ). appended xs a) are)
     (omega arith) (λ B. srv_numbers_stand x B (length a.bytes) fits) in
     Writes-weaker (λ B i e w. (w.1.0, w.1.1, (w.1.2.0, w.1.2.1, (w.0, w.1.2.2, w.2)))) (omega arith) (Writes-then k l numbers name)

@@ -3,7 +3,8 @@ use Rattle.std.proofs.Common.{◌≡◌, ◌≢◌, ℕ, ◌+◌, ◌<◌, ◌�
 use Rattle.std.proofs.lemmas.List.{append-nil, drop_more, drop_all}
 use Rattle.base_data.specs.declared.rdata.txt.unescape.Escape.{Escape}
 use Rattle.base_data.specs.declared.rdata.txt.unescape.Escape.TheVariants.{Outside, Begun, OneDigit, TwoDigits}
-use Rattle.base_data.specs.StringItems.{byte_list, before, ends_outside, escape_step, put_before, step_on, string_item, string_items, unescaped}
+use Rattle.base_data.specs.Escape.{escape_of}
+use Rattle.base_data.specs.StringItems.{EscapePart, byte_list, before, ends_outside, escape_step, put_before, step_on, string_item, string_items, unescaped}
 
 before-append : {A : Type 0} (xs ys : List A) (rest : Option (List A)) → before (xs ++ ys) rest ≡ before xs (before ys rest)
 before-append xs ys None = refl
@@ -13,45 +14,45 @@ pub before-nil : {A : Type 0} (rest : Option (List A)) → before [] rest ≡ re
 before-nil None = refl
 before-nil (Some bytes) = refl
 
-unescaped-cons : (state : Escape) (c : ℕ) (text : List ℕ) → unescaped state (c ∷ text) ≡ step_on (λ s. unescaped s text) (escape_step state c)
+unescaped-cons : (state : EscapePart) (c : ℕ) (text : List ℕ) → unescaped state (c ∷ text) ≡ step_on (λ s. unescaped s text) (escape_step state c)
 unfolding unescaped
 unescaped-cons state c text = refl
 
-unescaped-nil : (state : Escape) → unescaped state [] ≡ ends_outside state
+unescaped-nil : (state : EscapePart) → unescaped state [] ≡ ends_outside state
 unfolding unescaped
 unescaped-nil state = refl
 
 -- one byte more
-pub unescaped_steps : (text xs : List ℕ) (i : ℕ) (state next : Escape) (byte : Option ℕ) → i < length text → Some (byte, next) ≡ escape_step state (get_or text i 0)
+pub unescaped_steps : (text xs : List ℕ) (i : ℕ) (state next : EscapePart) (byte : Option ℕ) → i < length text → Some (byte, next) ≡ escape_step state (get_or text i 0)
     → before (xs ++ byte_list byte) (unescaped next (drop (i + 1) text)) ≡ before xs (unescaped state (drop i text))
 unescaped_steps text xs i state next byte inside is =
     before-append xs (byte_list byte) (unescaped next (drop (i + 1) text))
-    ∙ ap (λ (step : Option (Option ℕ × Escape)). before xs (step_on (λ s. unescaped s (drop (i + 1) text)) step)) is
+    ∙ ap (λ (step : Option (Option ℕ × EscapePart)). before xs (step_on (λ s. unescaped s (drop (i + 1) text)) step)) is
     ∙ ap (before xs) (sym (unescaped-cons state (get_or text i 0) (drop (i + 1) text)))
     ∙ ap (λ (rest : List ℕ). before xs (unescaped state rest)) (sym (drop_more text i 0 inside))
 
-pub unescaped_stops : (text xs : List ℕ) (i : ℕ) (state : Escape) (all : Option (List ℕ)) → i < length text → None ≡ escape_step state (get_or text i 0)
+pub unescaped_stops : (text xs : List ℕ) (i : ℕ) (state : EscapePart) (all : Option (List ℕ)) → i < length text → None ≡ escape_step state (get_or text i 0)
     → before xs (unescaped state (drop i text)) ≡ all → None ≡ all
 unescaped_stops text xs i state all inside is whole =
     let rest = drop (i + 1) text in
     let step = unescaped-cons state (get_or text i 0) rest ∙ ap (step_on (λ s. unescaped s rest)) (sym is) in
     sym (ap (before xs) (ap (unescaped state) (drop_more text i 0 inside) ∙ step)) ∙ whole
 
-pub unescaped_ends : (text xs : List ℕ) (i : ℕ) (state : Escape) (all : Option (List ℕ)) → length text ≤ i
+pub unescaped_ends : (text xs : List ℕ) (i : ℕ) (state : EscapePart) (all : Option (List ℕ)) → length text ≤ i
     → before xs (unescaped state (drop i text)) ≡ all → before xs (ends_outside state) ≡ all
 unescaped_ends text xs i state all past whole = sym (ap (before xs) (ap (unescaped state) (drop_all i text past) ∙ unescaped-nil state)) ∙ whole
 
-pub ends_not : (state : Escape) → state ≢ Outside → ends_outside state ≡ None
+pub ends_not : (state : Escape) → state ≢ Outside → ends_outside (escape_of state) ≡ None
 ends_not Outside other = absurd (other refl)
 ends_not Begun other = refl
 ends_not (OneDigit n) other = refl
 ends_not (TwoDigits n) other = refl
 
 -- the same, of bytes and a place that are these
-pub unescaped_moved : (items xs rest : List ℕ) (state next : Escape) (all : Option (List ℕ)) → items ≡ xs → state ≡ next
+pub unescaped_moved : (items xs rest : List ℕ) (state next : EscapePart) (all : Option (List ℕ)) → items ≡ xs → state ≡ next
     → before xs (unescaped next rest) ≡ all → before items (unescaped state rest) ≡ all
 unescaped_moved items xs rest state next all a b is =
-    ap (λ (ys : List ℕ). before ys (unescaped state rest)) a ∙ ap (λ (s : Escape). before xs (unescaped s rest)) b ∙ is
+    ap (λ (ys : List ℕ). before ys (unescaped state rest)) a ∙ ap (λ (s : EscapePart). before xs (unescaped s rest)) b ∙ is
 
 string_items-cons : (text : List ℕ) (texts : List (List ℕ)) → string_items (text ∷ texts) ≡ put_before (string_item text) (string_items texts)
 unfolding string_items

@@ -1,5 +1,6 @@
 -- Strings and the bytes that hold them, each with its length before it.
-use Rattle.std.proofs.Common.{◌≡◌, ◌≢◌, ℕ, ◌+◌, ◌<◌, ◌≤◌, Bool, true, false, List, [], ◌∷◌, ◌++◌, IsTrue, length, take, drop, map, get_or, refl, ap, sym, ◌∙◌, append_assoc, arith, length-append, subst}
+use Rattle.std.proofs.Common.{◌≡◌, ◌≢◌, ℕ, ◌+◌, ◌<◌, ◌≤◌, Bool, true, false, List, [], ◌∷◌, ◌++◌, IsTrue}
+use Rattle.std.proofs.Common.{length, take, drop, map, get_or, refl, ap, sym, ◌∙◌, append_assoc, arith, length-append, subst}
 use Rattle.std.proofs.lemmas.List.{append-nil, drop_at, take-append-drop, length-take, length-drop, drop-drop, take_more, take_all, map-append}
 use Rattle.std.proofs.lemmas.List.Elements.{All-nil, All-push, All-map}
 use Rattle.std.proofs.lemmas.Slice.Eq.{bytes_eq-Decides}

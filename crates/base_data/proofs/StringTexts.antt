@@ -20,10 +20,10 @@ txt_text-cons x (y ∷ ys) tail last whole is =
     rw no (append_assoc (string_text x) (32 ∷ []) (txt_text (y ∷ ys)))
 
 -- one more string was written
-pub txt_text-step : (text : List ℕ) (strings : List (List ℕ)) (all : List ℕ) (x : List ℕ) (xs : List (List ℕ)) (tail : List ℕ) (last : Bool)
+pub txt_text-step : {strings xs : List (List ℕ)} {all x tail : List ℕ} {last : Bool} (text : List ℕ)
     → text ++ txt_text strings ≡ all → strings ≡ x ∷ xs → wire_of xs ≡ tail → last ≡ (length tail == 0)
     → (text ++ (string_text x ++ (if last then [] else 32 ∷ []))) ++ txt_text xs ≡ all
-txt_text-step text strings all x xs tail last before is whole last_is =
+txt_text-step {xs = xs} {x = x} {tail = tail} {last = last} text before is whole last_is =
     append_assoc text (string_text x ++ (if last then [] else 32 ∷ [])) (txt_text xs)
     ∙ ap (λ (rest : List ℕ). text ++ rest) (txt_text-cons x xs tail last whole last_is ∙ ap txt_text (sym is)) ∙ before
 

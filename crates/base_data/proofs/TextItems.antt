@@ -30,9 +30,9 @@ read_none bytes items is = record {
 }
 
 -- one string more
-pub read_more : (bytes new : List ℕ) (items : List (Bor (List ℕ))) (i : ℕ) (d : Bor (List ℕ)) (string : List ℕ) → IsRead bytes items i → i < length items
+pub read_more : {bytes new string : List ℕ} {items : List (Bor (List ℕ))} {i : ℕ} (d : Bor (List ℕ)) → IsRead bytes items i → i < length items
     → Some string ≡ string_item (get_or items i d).now → length string ≤ 255 → new ≡ bytes ++ (length string ∷ string) → IsRead new items (i + 1)
-read_more bytes new items i d string so inside is fits pushed = record {
+read_more {string = string} {items = items} {i = i} d so inside is fits pushed = record {
   strings = so.strings ++ string ∷ [];
   wire = pushed ∙ ap (λ (front : List ℕ). front ++ (length string ∷ string)) so.wire ∙ sym (wire_of-push so.strings string);
   short = All-push (λ (s : List ℕ). length s ≤ 255) so.strings string so.short fits;

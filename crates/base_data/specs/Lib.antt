@@ -5,6 +5,7 @@ pub mod CNAME
 pub mod DataAt
 pub mod DataOrder
 pub mod Equality
+pub mod Escape
 pub mod Fields
 pub mod Kind
 pub mod Kinds

@@ -2,15 +2,21 @@
 -- byte of that number, a backslash and another byte are that byte, and any other byte is itself, a quote too.
 use Rattle.std.specs.Prelude.{◌≡◌, ◌≢◌, ◌<◌, false, true, ℕ, ◌+◌, ◌-◌, ◌*◌, ◌==◌, ◌&&◌, List, [], ◌∷◌, ◌++◌, length, nat_lt, nat_le, if◌then◌else◌, Option, Some, None}
 use Rattle.std.specs.Char.{is_ascii_digit}
-use Rattle.base_data.specs.declared.rdata.txt.unescape.Escape.{Escape}
-use Rattle.base_data.specs.declared.rdata.txt.unescape.Escape.TheVariants.{Outside, Begun, OneDigit, TwoDigits}
+
+-- What of an escape stands before a byte: nothing; the backslash; the backslash and a digit, of this number; the backslash
+-- and two digits, of this number.
+pub data EscapePart : Type 0 where
+  no_escape : EscapePart
+  backslash : EscapePart
+  one_digit : ℕ → EscapePart
+  two_digits : ℕ → EscapePart
 
 -- what a byte is behind as much of an escape: a byte of the string or none, and as much of an escape then
-abbrev pub escape_step : Escape → ℕ → Option (Option ℕ × Escape)
-escape_step Outside c = if c == 92 then Some (None, Begun) else Some (Some c, Outside)
-escape_step Begun c = if is_ascii_digit c then Some (None, OneDigit (c - 48)) else Some (Some c, Outside)
-escape_step (OneDigit n) c = if is_ascii_digit c then Some (None, TwoDigits (n * 10 + (c - 48))) else None
-escape_step (TwoDigits n) c = if is_ascii_digit c && nat_lt (n * 10 + (c - 48)) 256 then Some (Some (n * 10 + (c - 48)), Outside) else None
+abbrev pub escape_step : EscapePart → ℕ → Option (Option ℕ × EscapePart)
+escape_step no_escape c = if c == 92 then Some (None, backslash) else Some (Some c, no_escape)
+escape_step backslash c = if is_ascii_digit c then Some (None, one_digit (c - 48)) else Some (Some c, no_escape)
+escape_step (one_digit n) c = if is_ascii_digit c then Some (None, two_digits (n * 10 + (c - 48))) else None
+escape_step (two_digits n) c = if is_ascii_digit c && nat_lt (n * 10 + (c - 48)) 256 then Some (Some (n * 10 + (c - 48)), no_escape) else None
 
 -- these before those of the rest
 abbrev pub before : {A : Type 0} → List A → Option (List A) → Option (List A)
@@ -23,17 +29,17 @@ byte_list None = []
 byte_list (Some b) = b ∷ []
 
 -- the byte of a step, before what is read behind it
-abbrev pub step_on : (Escape → Option (List ℕ)) → Option (Option ℕ × Escape) → Option (List ℕ)
+abbrev pub step_on : (EscapePart → Option (List ℕ)) → Option (Option ℕ × EscapePart) → Option (List ℕ)
 step_on more None = None
 step_on more (Some step) = before (byte_list step.0) (more step.1)
 
 -- a text ends outside of escapes
-abbrev pub ends_outside : Escape → Option (List ℕ)
-ends_outside Outside = Some []
+abbrev pub ends_outside : EscapePart → Option (List ℕ)
+ends_outside no_escape = Some []
 ends_outside _ = None
 
 -- the bytes of a text that stands behind as much of an escape
-unfoldable pub unescaped : Escape → List ℕ → Option (List ℕ)
+unfoldable pub unescaped : EscapePart → List ℕ → Option (List ℕ)
 unescaped state [] = ends_outside state
 unescaped state (c ∷ text) = step_on (λ s. unescaped s text) (escape_step state c)
 
@@ -44,7 +50,7 @@ if_short (Some bytes) = if nat_le (length bytes) 255 then Some bytes else None
 
 -- the character string that an item is
 unfoldable pub string_item : List ℕ → Option (List ℕ)
-string_item text = if_short (unescaped Outside text)
+string_item text = if_short (unescaped no_escape text)
 
 -- one before the others, where there are both
 abbrev pub put_before : {A : Type 0} → Option A → Option (List A) → Option (List A)

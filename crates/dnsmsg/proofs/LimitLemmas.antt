@@ -13,12 +13,12 @@ digits : IsNumeralModel (λ ds. list_all is_ascii_digit ds ≡ true) (digits_val
 digits = numerals_by_value (λ ds. list_all is_ascii_digit ds ≡ true) (search rules)
 
 -- a number of as many digits, if there is one and it is small
-small_number : (all some small : Bool) (n len : ℕ) (r : Option ℕ) → all ≡ true → (some ≡ nat_lt 0 len) → (small ≡ nat_lt n 65536)
+small_number : {all some small : Bool} (n len : ℕ) (r : Option ℕ) → all ≡ true → (some ≡ nat_lt 0 len) → (small ≡ nat_lt n 65536)
     → ((0 < len) → (n < 65536) → r ≡ Some n) → ((¬ ((0 < len) × (n < 65536))) → r ≡ None) → r ≡ cond (all && (some && small)) (Some n) None
-small_number true true true n len r whole some small given lacks = given (ltb-true 0 len (sym some)) (ltb-true n 65536 (sym small))
-small_number true true false n len r whole some small given lacks = lacks (λ h. absurd (omega (arith, ltb-false n 65536 (sym small), h.1)))
-small_number true false small n len r whole some below given lacks = lacks (λ h. absurd (omega (arith, ltb-false 0 len (sym some), h.0)))
-small_number false some small n len r whole p q given lacks = cc
+small_number {all = true} {some = true} {small = true} n len r whole some small given lacks = given (ltb-true 0 len (sym some)) (ltb-true n 65536 (sym small))
+small_number {all = true} {some = true} {small = false} n len r whole some small given lacks = lacks (λ h. absurd (omega (arith, ltb-false n 65536 (sym small), h.1)))
+small_number {all = true} {some = false} n len r whole some below given lacks = lacks (λ h. absurd (omega (arith, ltb-false 0 len (sym some), h.0)))
+small_number {all = false} n len r whole p q given lacks = cc
 
 answered : {E : Type 0} (r : Result ℕ E) (n len : ℕ) → OkIff r ((0 < len) × (n < 2 ^ 16)) n → ((0 < len) → (n < 65536) → result_ok r ≡ Some n)
 answered (Ok x) n len h some small = ap Some h.1
@@ -31,5 +31,5 @@ not_answered (Err e) n len h lacks = refl
 pub limit_read : {E : Type 0} (word : List ℕ) (r : Result ℕ E) → list_all is_ascii_digit word ≡ true → ParsesUnsigned 16 10 word r → result_ok r ≡ limit_of word
 limit_read word r all h =
     let tells = parse_digits digits 16 word r h all in
-    small_number (list_all is_ascii_digit word) (nat_lt 0 (length word)) (nat_lt (digits_value 10 word) 65536) (digits_value 10 word) (length word) (result_ok r) all refl refl
+    small_number (digits_value 10 word) (length word) (result_ok r) all refl refl
     (answered r (digits_value 10 word) (length word) tells) (not_answered r (digits_value 10 word) (length word) tells)

@@ -15,40 +15,47 @@ use Rattle.dnsmsg.specs.declared.command.MessageCommand.TheVariants as commands
 abbrev one_named : Bool → Bool → Option MessageCommand
 one_named header read = if header then Some commands.Header else (if read then Some commands.Read else None)
 
--- the first word was compared with a name
-compared : (first word : String Global) (text name : List ℕ) (test same : Bool) → word ≡ first → text ≡ string_bytes word → test ≡ bytes_eq text name
-    → test ≡ same → same ≡ bytes_eq (string_bytes first) name
-compared first word text name test same is_first is_text is_test is = sym is ∙ is_test ∙ ap (λ t. bytes_eq t name) (is_text ∙ ap string_bytes is_first)
+-- Whether the first word is this name.
+pub record IsFirst (words : List (String Global)) (name : List ℕ) (is : Bool) : Type 0 where
+  pub word : String Global
+  pub first : word ≡ get_or words 0 word
+  pub tells : is ≡ bytes_eq (string_bytes word) name
 
-pub header_word : (words : List (String Global)) (word : String Global) (text : List ℕ) (test : Bool) → 1 ≤ length words → length words < 2 → word ≡ get_or words 0 word → text ≡ string_bytes word
-    → test ≡ bytes_eq text (codes "header") → test ≡ true → Some commands.Header ≡ message_command (texts words)
-header_word [] word text test some few is_first is_text is_test is = absurd (omega arith)
-header_word (first ∷ []) word text test some few is_first is_text is_test is =
-    ap (λ header. one_named header (bytes_eq (string_bytes first) (codes "read"))) (compared first word text (codes "header") test true is_first is_text is_test is)
-header_word (first ∷ (next ∷ others)) word text test some few is_first is_text is_test is = absurd (omega arith)
+-- the first word was compared with a name
+pub compared : {words : List (String Global)} {word : String Global} {text name : List ℕ} {test same : Bool} → word ≡ get_or words 0 word → text ≡ string_bytes word
+    → test ≡ bytes_eq text name → test ≡ same → IsFirst words name same
+compared {word = word} {name = name} first is_text is_test is = record {
+  word = word;
+  first = first;
+  tells = sym is ∙ is_test ∙ ap (λ t. bytes_eq t name) is_text;
+}
+
+told : (first : String Global) (others : List (String Global)) (name : List ℕ) (same : Bool) → IsFirst (first ∷ others) name same → same ≡ bytes_eq (string_bytes first) name
+told first others name same is = is.tells ∙ ap (λ (w : String Global). bytes_eq (string_bytes w) name) is.first
+
+pub header_word : (words : List (String Global)) → 1 ≤ length words → length words < 2 → IsFirst words (codes "header") true → Some commands.Header ≡ message_command (texts words)
+header_word [] some few is = absurd (omega arith)
+header_word (first ∷ []) some few is = ap (λ header. one_named header (bytes_eq (string_bytes first) (codes "read"))) (told first [] (codes "header") true is)
+header_word (first ∷ (next ∷ others)) some few is = absurd (omega arith)
 
 -- a word that isn't `header`, compared with `read`
-pub one_word : (words : List (String Global)) (word again : String Global) (text next : List ℕ) (test other read : Bool) → 1 ≤ length words → length words < 2
-    → word ≡ get_or words 0 word → text ≡ string_bytes word
-    → test ≡ bytes_eq text (codes "header") → test ≡ false → again ≡ get_or words 0 again → next ≡ string_bytes again → other ≡ bytes_eq next (codes "read")
-    → other ≡ read → one_named false read ≡ message_command (texts words)
-one_word [] word again text next test other read some few is_first is_text is_test is is_again is_next is_other reads = absurd (omega arith)
-one_word (first ∷ []) word again text next test other read some few is_first is_text is_test is is_again is_next is_other reads =
-    ap (λ header. one_named header read) (compared first word text (codes "header") test false is_first is_text is_test is)
-    ∙ ap (one_named (bytes_eq (string_bytes first) (codes "header"))) (compared first again next (codes "read") other read is_again is_next is_other reads)
-one_word (first ∷ (second ∷ others)) word again text next test other read some few is_first is_text is_test is is_again is_next is_other reads = absurd (omega arith)
+pub one_word : (words : List (String Global)) {read : Bool} → 1 ≤ length words → length words < 2 → IsFirst words (codes "header") false → IsFirst words (codes "read") read
+    → one_named false read ≡ message_command (texts words)
+one_word [] some few other is = absurd (omega arith)
+one_word (first ∷ []) {read} some few other is =
+    ap (λ header. one_named header read) (told first [] (codes "header") false other)
+    ∙ ap (one_named (bytes_eq (string_bytes first) (codes "header"))) (told first [] (codes "read") read is)
+one_word (first ∷ (second ∷ others)) some few other is = absurd (omega arith)
 
 -- two words, the first compared with `cut`
-pub two_words : (words : List (String Global)) (word number : String Global) (text : List ℕ) (test cut : Bool) → 2 ≤ length words → length words < 3
-    → word ≡ get_or words 0 word → text ≡ string_bytes word
-    → test ≡ bytes_eq text (codes "cut") → test ≡ cut → number ≡ get_or words 1 number
-    → (if cut then option_map commands.Cut (limit_of (string_bytes number)) else None) ≡ message_command (texts words)
-two_words [] word number text test cut some few is_first is_text is_test is is_second = absurd (omega arith)
-two_words (first ∷ []) word number text test cut some few is_first is_text is_test is is_second = absurd (omega arith)
-two_words (first ∷ (second ∷ [])) word number text test cut some few is_first is_text is_test is is_second =
-    ap (λ named. if named then option_map commands.Cut (limit_of (string_bytes number)) else None) (compared first word text (codes "cut") test cut is_first is_text is_test is)
+pub two_words : (words : List (String Global)) {number : String Global} {cut : Bool} → 2 ≤ length words → length words < 3 → IsFirst words (codes "cut") cut
+    → number ≡ get_or words 1 number → (if cut then option_map commands.Cut (limit_of (string_bytes number)) else None) ≡ message_command (texts words)
+two_words [] some few is is_second = absurd (omega arith)
+two_words (first ∷ []) some few is is_second = absurd (omega arith)
+two_words (first ∷ (second ∷ [])) {number} {cut} some few is is_second =
+    ap (λ named. if named then option_map commands.Cut (limit_of (string_bytes number)) else None) (told first (second ∷ []) (codes "cut") cut is)
     ∙ ap (λ (w : String Global). if bytes_eq (string_bytes first) (codes "cut") then option_map commands.Cut (limit_of (string_bytes w)) else None) is_second
-two_words (first ∷ (second ∷ (third ∷ others))) word number text test cut some few is_first is_text is_test is is_second = absurd (omega arith)
+two_words (first ∷ (second ∷ (third ∷ others))) some few is is_second = absurd (omega arith)
 
 pub limit_named : (limit : Option ℕ) (named : Option MessageCommand)
     → MatchOption limit (named ≡ None) (λ x. IsSomeAnd named (λ command. command ≡ commands.Cut x)) → named ≡ option_map commands.Cut limit

@@ -35,23 +35,35 @@ named_more [] word name = else_none (text_in word name)
 named_more (first ∷ words) word name =
     ap (λ (text : Option (List ℕ)). or_else text (text_in first name)) (named_more words word name) ∙ else_else (text_in word name) (text_named words name) (text_in first name)
 
+-- A map got the text that a word hands in, under the name before the word's first equals sign.
+pub record PutsText (old new : BTreeMap (String Global) (String Global)) (word : List ℕ) : Type 0 where
+  pub key : String Global
+  pub text : String Global
+  pub puts : (name : List ℕ) → get_by_text new name ≡ update bytes_eq (get_by_text old) (string_bytes key) (Some text) name
+  pub key_is : string_bytes key ≡ before_first is_equals word
+  pub text_is : string_bytes text ≡ after_first is_equals word
+
 -- one text more in the map is one word more
-pub text_put : (old new : BTreeMap (String Global) (String Global)) (key text : String Global) (words behind : List (List ℕ)) (word : List ℕ)
-    → ((name : List ℕ) → texts_in old name ≡ text_named words name)
-    → ((name : List ℕ) → get_by_text new name ≡ update bytes_eq (get_by_text old) (string_bytes key) (Some text) name)
-    → string_bytes key ≡ before_first is_equals word → string_bytes text ≡ after_first is_equals word → behind ≡ words ++ word ∷ []
+pub text_put : {behind : List (List ℕ)} {word : List ℕ} (old new : BTreeMap (String Global) (String Global)) (words : List (List ℕ))
+    → ((name : List ℕ) → texts_in old name ≡ text_named words name) → PutsText old new word → behind ≡ words ++ word ∷ []
     → (name : List ℕ) → texts_in new name ≡ text_named behind name
-text_put old new key text words behind word before put named is more name =
-    ap (option_map string_bytes) (put name)
+text_put {word = word} old new words before put more name =
+    ap (option_map string_bytes) (put.puts name)
     ∙ found (bytes_eq (string_bytes key) name) refl
     ∙ sym (named_more words word name) ∙ ap (λ ws. text_named ws name) (sym more) where
+      key : String Global
+      key = put.key
+
+      text : String Global
+      text = put.text
+
       found : (b : Bool) → bytes_eq (string_bytes key) name ≡ b
           → option_map string_bytes (cond (bytes_eq (string_bytes key) name) (Some text) (get_by_text old name)) ≡ or_else (text_in word name) (text_named words name)
       found true same =
-          let here : bytes_eq (before_first is_equals word) name ≡ true = ap (λ (ks : List ℕ). bytes_eq ks name) (sym named) ∙ same in
-          rw (same, here) (ap Some is)
+          let here : bytes_eq (before_first is_equals word) name ≡ true = ap (λ (ks : List ℕ). bytes_eq ks name) (sym put.key_is) ∙ same in
+          rw (same, here) (ap Some put.text_is)
       found false other =
-          let here : bytes_eq (before_first is_equals word) name ≡ false = ap (λ (ks : List ℕ). bytes_eq ks name) (sym named) ∙ other in
+          let here : bytes_eq (before_first is_equals word) name ≡ false = ap (λ (ks : List ℕ). bytes_eq ks name) (sym put.key_is) ∙ other in
           rw (other, here) (before name)
 
 pub not_utf8 : (input : List ℕ) → ¬ (IsUtf8 input) → is_utf8 input ≡ false

@@ -11,11 +11,11 @@ use Rattle.base.proofs.ItemLemmas.{Each-keeps}
 use Rattle.base.proofs.LawLemmas.{Keeps-then}
 use Rattle.base.proofs.WordLemmas.{first_stands}
 use Rattle.base_data.specs.declared.rdata.RData.{RData}
-use Rattle.rr.specs.Record.{FitsRecord, RecordWord, plain_record}
+use Rattle.rr.specs.Record.{FitsRecord, plain_record}
 use Rattle.rr.specs.declared.record.Record.{Record}
 use Rattle.op.specs.Cut.{IsCut, IsWritten, NoRoom, any_lost, code_range, raised}
 use Rattle.op.specs.EdnsRecord.{edns_record}
-use Rattle.op.specs.Emitted.{Emitted, WritesRecords, query_owner, record_owner}
+use Rattle.op.specs.Emitted.{Emitted, WritesRecords, query_owner}
 use Rattle.op.specs.Fits.{Fits, FitsAdditional, FitsEdns, FitsPlain, listed, signature_record}
 use Rattle.op.specs.Header.{IsHeaderAt, header_bytes, header_value, metadata_value, raw_header}
 use Rattle.op.specs.Message.{IsMessageAt, MessageValue, high_code, message_of}
@@ -29,7 +29,7 @@ use Rattle.op.specs.declared.header.header_counts.HeaderCounts.{HeaderCounts}
 use Rattle.op.specs.declared.header.metadata.Metadata.{Metadata}
 use Rattle.op.specs.declared.op_code.OpCode.{OpCode}
 use Rattle.op.proofs.CodeLemmas.{high_back, metadata_back}
-use Rattle.op.proofs.CutWords.{Composed, Ends, all_front, composed, ends, header_len, stands_behind}
+use Rattle.op.proofs.CutWords.{AreFit, Composed, Ends, all_front, composed, ends, header_len, records_keep, stands_behind}
 use Rattle.op.proofs.HeaderLemmas.{header_stands}
 use Rattle.op.proofs.MessageStands.{message_again}
 use Rattle.op.proofs.SortLemmas.{OneFront, all_end, all_given, one_front, one_opt, sorted_edns, sorted_records, sorted_signature, tail}
@@ -116,26 +116,23 @@ module _ (m : MessageValue) (old new : State) (h : Header) (e : Emitted m old ne
 
   -- ---- what keeps the limit
 
-  keeps_of : {rs : List (Record RData)} {a b : State} {n : ℕ} {is_cut : Bool} → (w : WritesRecords rs a b n is_cut) → Keeps a b
-  keeps_of {a = a} {b = b} w = Each-keeps RecordWord plain_record record_owner w.kept a b w.written
-
   kq : Keeps e.kept e.first
   kq = Each-keeps QueryWord plain_query query_owner m.queries e.kept e.first e.queries
 
   k1 : Keeps e.kept e.second
-  k1 = Keeps-then kq (keeps_of e.answers)
+  k1 = Keeps-then kq (records_keep e.answers)
 
   k2 : Keeps e.kept e.third
-  k2 = Keeps-then k1 (keeps_of e.authorities)
+  k2 = Keeps-then k1 (records_keep e.authorities)
 
   k3 : Keeps e.kept e.fourth
-  k3 = Keeps-then k2 (keeps_of e.additionals)
+  k3 = Keeps-then k2 (records_keep e.additionals)
 
   k4 : Keeps e.kept e.fifth
-  k4 = Keeps-then k3 (keeps_of e.edns)
+  k4 = Keeps-then k3 (records_keep e.edns)
 
   k5 : Keeps e.kept e.sixth
-  k5 = Keeps-then k4 (keeps_of e.signature)
+  k5 = Keeps-then k4 (records_keep e.signature)
 
   limit_kept : e.kept.limit ≡ old.limit
   limit_kept = ap (λ (s : State). s.limit) e.place
@@ -181,6 +178,16 @@ module _ (m : MessageValue) (old new : State) (h : Header) (e : Emitted m old ne
   signatures_fit : All FitsRecord e.signature.kept
   signatures_fit = subst (All FitsRecord) (sym one_signature.kept_is) (signature_fit one_signature.some fits_signature)
 
+  are_fit : AreFit e
+  are_fit = record {
+    queries = fits.queries;
+    answers = λ k d below. (fits_answers k d below).fits;
+    authorities = λ k d below. (fits_authorities k d below).fits;
+    additionals = λ k d below. (fits_additionals k d below).fits;
+    edns = opts_fit;
+    signature = signatures_fit;
+  }
+
   -- ---- the words
 
   all : List (Record RData)
@@ -189,9 +196,7 @@ module _ (m : MessageValue) (old new : State) (h : Header) (e : Emitted m old ne
   words : Composed new.bytes m.queries e.answers.kept e.authorities.kept (e.additionals.kept ++ tail one_edns.some one_signature.some) 12 (length e.first.bytes) (length e.second.bytes)
       (length e.third.bytes) (length new.bytes)
   words =
-      let c = composed new.bytes m.queries e.answers.kept e.authorities.kept e.additionals.kept e.edns.kept e.signature.kept e.kept e.first e.second e.third e.fourth e.fifth e.sixth
-      fits.queries (λ k d below. (fits_answers k d below).fits) (λ k d below. (fits_authorities k d below).fits) (λ k d below. (fits_additionals k d below).fits) opts_fit signatures_fit
-      e.queries e.answers.written e.authorities.written e.additionals.written e.edns.written e.signature.written holds in
+      let c = composed new.bytes m old new h e are_fit holds in
       let listed_edns = subst (λ es. Composed new.bytes m.queries e.answers.kept e.authorities.kept (e.additionals.kept ++ (es ++ e.signature.kept))
       (length e.kept.bytes) (length e.first.bytes) (length e.second.bytes) (length e.third.bytes) (length e.sixth.bytes)) one_edns.kept_is c in
       let listed_signature = subst (λ ss. Composed new.bytes m.queries e.answers.kept e.authorities.kept (e.additionals.kept ++ (listed (option_map edns_record one_edns.some) ++ ss))
@@ -204,9 +209,7 @@ module _ (m : MessageValue) (old new : State) (h : Header) (e : Emitted m old ne
   last : Ends new.bytes e.additionals.kept (listed (option_map edns_record one_edns.some)) (listed (option_map signature_record one_signature.some)) (length e.third.bytes)
       (length e.fourth.bytes) (length e.fifth.bytes) (length new.bytes)
   last =
-      let c = ends new.bytes m.queries e.answers.kept e.authorities.kept e.additionals.kept e.edns.kept e.signature.kept e.kept e.first e.second e.third e.fourth e.fifth e.sixth
-      fits.queries (λ k d below. (fits_answers k d below).fits) (λ k d below. (fits_authorities k d below).fits) (λ k d below. (fits_additionals k d below).fits) opts_fit signatures_fit
-      e.queries e.answers.written e.authorities.written e.additionals.written e.edns.written e.signature.written holds in
+      let c = ends new.bytes m old new h e are_fit holds in
       let listed_edns = subst (λ es. Ends new.bytes e.additionals.kept es e.signature.kept (length e.third.bytes) (length e.fourth.bytes) (length e.fifth.bytes) (length e.sixth.bytes))
       one_edns.kept_is c in
       let listed_signature = subst (λ ss. Ends new.bytes e.additionals.kept (listed (option_map edns_record one_edns.some)) ss

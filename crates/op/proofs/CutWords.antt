@@ -1,5 +1,5 @@
 -- The words of a message that was written, in the bytes that stand at the end.
-use Rattle.std.proofs.Common.{◌≡◌, ℕ, List, [], ◌∷◌, ◌++◌, length, take, refl, ap, sym, ◌∙◌, subst, arith, append_assoc}
+use Rattle.std.proofs.Common.{Bool, ◌≡◌, ℕ, List, [], ◌∷◌, ◌++◌, length, take, refl, ap, sym, ◌∙◌, subst, arith, append_assoc}
 use Rattle.std.specs.Prelude.{All}
 use Rattle.std.proofs.Math.Seq.{drop-append_seam, take-length}
 use Rattle.std.proofs.lemmas.List.Elements.{All-append, All-cons, All-nil, All-tail}
@@ -13,7 +13,9 @@ use Rattle.base_data.specs.declared.rdata.RData.{RData}
 use Rattle.rr.specs.Record.{FitsRecord, IsRecordAt, RecordWord, plain_record}
 use Rattle.rr.specs.declared.record.Record.{Record}
 use Rattle.op.specs.Cut.{AreCompressed, Owner, query_owners, record_owners}
-use Rattle.op.specs.Emitted.{query_owner, record_owner}
+use Rattle.op.specs.Emitted.{Emitted, WritesRecords, query_owner, record_owner}
+use Rattle.op.specs.Message.{MessageValue}
+use Rattle.op.specs.declared.header.Header.{Header}
 use Rattle.op.specs.Header.{RawHeader, header_bytes}
 use Rattle.op.specs.Query.{FitsQuery, IsQueryAt, QueryWord, plain_query}
 use Rattle.op.specs.declared.query.Query.{Query}
@@ -59,99 +61,112 @@ pub record Ends (B : List ℕ) (ds es ss : List (Record RData)) (k l m e : ℕ) 
   pub edns : BackToBack (IsRecordAt B) l es m
   pub signature : BackToBack (IsRecordAt B) m ss e
 
+-- what was written of a message fits the wire
+pub record AreFit {m : MessageValue} {old new : State} {h : Header} (e : Emitted m old new h) : Type 0 where
+  pub queries : All FitsQuery m.queries
+  pub answers : All FitsRecord e.answers.kept
+  pub authorities : All FitsRecord e.authorities.kept
+  pub additionals : All FitsRecord e.additionals.kept
+  pub edns : All FitsRecord e.edns.kept
+  pub signature : All FitsRecord e.signature.kept
+
+-- a front of records that was written keeps what stood before it
+pub records_keep : {xs : List (Record RData)} {a b : State} {n : ℕ} {is_cut : Bool} → WritesRecords xs a b n is_cut → Keeps a b
+records_keep {a = a} {b = b} w = Each-keeps RecordWord plain_record record_owner w.kept a b w.written
+
 module _ (B : List ℕ) where
+  records_valid : {xs : List (Record RData)} {a b : State} {n : ℕ} {is_cut : Bool} → WritesRecords xs a b n is_cut → Holds a b B → IsValid b B
+  records_valid {a = a} {b = b} w holds = Each-valid RecordWord plain_record record_owner w.kept a b w.written B holds
+
   section_of_records : (rs : List (Record RData)) (a b : State) (known : List Owner) → All FitsRecord rs → EachWritten RecordWord plain_record record_owner rs a b → Holds a b B
       → Known known a → AreCompressed known → Section RecordWord plain_record record_owner B (IsRecordAt B) (λ i r e w. w.word.owner_end) known rs a b
   section_of_records rs a b known fits written holds stored short =
       section RecordWord plain_record record_owner B (IsRecordAt B) (λ i r e w. w.word.owner_end) FitsRecord (record_back B) (record_ends B) rs a b known fits written holds stored short
 
-  words_of : (rs : List (Record RData)) (a b : State) → All FitsRecord rs → EachWritten RecordWord plain_record record_owner rs a b → Holds a b B
-      → BackToBack (IsRecordAt B) (length a.bytes) rs (length b.bytes)
-  words_of rs a b fits written holds = (section_of_records rs a b [] fits written holds (none_known a) tt).words
+  words_of : {xs : List (Record RData)} {a b : State} {n : ℕ} {is_cut : Bool} (w : WritesRecords xs a b n is_cut) → All FitsRecord w.kept → Holds a b B
+      → BackToBack (IsRecordAt B) (length a.bytes) w.kept (length b.bytes)
+  words_of {a = a} {b = b} w fits holds = (section_of_records w.kept a b [] fits w.written holds (none_known a) tt).words
 
-  module _ (qs : List Query) (bs ns ds es ss : List (Record RData)) (s0 s1 s2 s3 s4 s5 s6 : State) (fits_qs : All FitsQuery qs) (fits_as : All FitsRecord bs) (fits_ns : All FitsRecord ns)
-      (fits_ds : All FitsRecord ds) (fits_es : All FitsRecord es) (fits_ss : All FitsRecord ss)
-      (wq : EachWritten QueryWord plain_query query_owner qs s0 s1) (wa : EachWritten RecordWord plain_record record_owner bs s1 s2) (wn : EachWritten RecordWord plain_record record_owner ns s2 s3)
-      (wd : EachWritten RecordWord plain_record record_owner ds s3 s4) (we : EachWritten RecordWord plain_record record_owner es s4 s5)
-      (ws : EachWritten RecordWord plain_record record_owner ss s5 s6) (holds : Holds s0 s6 B) where
-    keeps : (rs : List (Record RData)) (a b : State) → EachWritten RecordWord plain_record record_owner rs a b → Keeps a b
-    keeps rs a b w = Each-keeps RecordWord plain_record record_owner rs a b w
+module _ (B : List ℕ) (m : MessageValue) (old new : State) (h : Header) (e : Emitted m old new h) (fits : AreFit e) (holds : Holds e.kept e.sixth B) where
+  last_written : EachWritten RecordWord plain_record record_owner (e.additionals.kept ++ (e.edns.kept ++ e.signature.kept)) e.third e.sixth
+  last_written = each_append RecordWord plain_record record_owner e.additionals.kept (e.edns.kept ++ e.signature.kept) e.third e.fourth e.sixth e.additionals.written
+      (each_append RecordWord plain_record record_owner e.edns.kept e.signature.kept e.fourth e.fifth e.sixth e.edns.written e.signature.written)
 
-    valid : (rs : List (Record RData)) (a b : State) → EachWritten RecordWord plain_record record_owner rs a b → Holds a b B → IsValid b B
-    valid rs a b w h = Each-valid RecordWord plain_record record_owner rs a b w B h
+  kq : Keeps e.kept e.first
+  kq = Each-keeps QueryWord plain_query query_owner m.queries e.kept e.first e.queries
 
-    all : List (Record RData)
-    all = ds ++ (es ++ ss)
+  k5 : Keeps e.fifth e.sixth
+  k5 = records_keep e.signature
 
-    wall : EachWritten RecordWord plain_record record_owner (ds ++ (es ++ ss)) s3 s6
-    wall = each_append RecordWord plain_record record_owner ds (es ++ ss) s3 s4 s6 wd (each_append RecordWord plain_record record_owner es ss s4 s5 s6 we ws)
+  k4 : Keeps e.fourth e.sixth
+  k4 = Keeps-then (records_keep e.edns) k5
 
-    kq : Keeps s0 s1
-    kq = Each-keeps QueryWord plain_query query_owner qs s0 s1 wq
+  k3 : Keeps e.third e.sixth
+  k3 = Keeps-then (records_keep e.additionals) k4
 
-    k5 : Keeps s5 s6
-    k5 = keeps ss s5 s6 ws
+  k2 : Keeps e.second e.sixth
+  k2 = Keeps-then (records_keep e.authorities) k3
 
-    k4 : Keeps s4 s6
-    k4 = Keeps-then (keeps es s4 s5 we) k5
+  k1 : Keeps e.first e.sixth
+  k1 = Keeps-then (records_keep e.answers) k2
 
-    k3 : Keeps s3 s6
-    k3 = Keeps-then (keeps ds s3 s4 wd) k4
+  hq : Holds e.kept e.first B
+  hq = Holds-first e.kept e.first e.sixth kq k1 B holds
 
-    k2 : Keeps s2 s6
-    k2 = Keeps-then (keeps ns s2 s3 wn) k3
+  h1 : Holds e.first e.sixth B
+  h1 = Holds-second e.kept e.first e.sixth kq k1 B (Each-valid QueryWord plain_query query_owner m.queries e.kept e.first e.queries B hq) holds
 
-    k1 : Keeps s1 s6
-    k1 = Keeps-then (keeps bs s1 s2 wa) k2
+  ha : Holds e.first e.second B
+  ha = Holds-first e.first e.second e.sixth (records_keep e.answers) k2 B h1
 
-    hq : Holds s0 s1 B
-    hq = Holds-first s0 s1 s6 kq k1 B holds
+  h2 : Holds e.second e.sixth B
+  h2 = Holds-second e.first e.second e.sixth (records_keep e.answers) k2 B (records_valid B e.answers ha) h1
 
-    h1 : Holds s1 s6 B
-    h1 = Holds-second s0 s1 s6 kq k1 B (Each-valid QueryWord plain_query query_owner qs s0 s1 wq B hq) holds
+  hn : Holds e.second e.third B
+  hn = Holds-first e.second e.third e.sixth (records_keep e.authorities) k3 B h2
 
-    ha : Holds s1 s2 B
-    ha = Holds-first s1 s2 s6 (keeps bs s1 s2 wa) k2 B h1
+  h3 : Holds e.third e.sixth B
+  h3 = Holds-second e.second e.third e.sixth (records_keep e.authorities) k3 B (records_valid B e.authorities hn) h2
 
-    h2 : Holds s2 s6 B
-    h2 = Holds-second s1 s2 s6 (keeps bs s1 s2 wa) k2 B (valid bs s1 s2 wa ha) h1
+  hd : Holds e.third e.fourth B
+  hd = Holds-first e.third e.fourth e.sixth (records_keep e.additionals) k4 B h3
 
-    hn : Holds s2 s3 B
-    hn = Holds-first s2 s3 s6 (keeps ns s2 s3 wn) k3 B h2
+  h4 : Holds e.fourth e.sixth B
+  h4 = Holds-second e.third e.fourth e.sixth (records_keep e.additionals) k4 B (records_valid B e.additionals hd) h3
 
-    h3 : Holds s3 s6 B
-    h3 = Holds-second s2 s3 s6 (keeps ns s2 s3 wn) k3 B (valid ns s2 s3 wn hn) h2
+  he : Holds e.fourth e.fifth B
+  he = Holds-first e.fourth e.fifth e.sixth (records_keep e.edns) k5 B h4
 
-    hd : Holds s3 s4 B
-    hd = Holds-first s3 s4 s6 (keeps ds s3 s4 wd) k4 B h3
+  h5 : Holds e.fifth e.sixth B
+  h5 = Holds-second e.fourth e.fifth e.sixth (records_keep e.edns) k5 B (records_valid B e.edns he) h4
 
-    h4 : Holds s4 s6 B
-    h4 = Holds-second s3 s4 s6 (keeps ds s3 s4 wd) k4 B (valid ds s3 s4 wd hd) h3
+  pub ends : Ends B e.additionals.kept e.edns.kept e.signature.kept (length e.third.bytes) (length e.fourth.bytes) (length e.fifth.bytes) (length e.sixth.bytes)
+  ends = record {
+    additionals = words_of B e.additionals fits.additionals hd;
+    edns = words_of B e.edns fits.edns he;
+    signature = words_of B e.signature fits.signature h5;
+  }
 
-    he : Holds s4 s5 B
-    he = Holds-first s4 s5 s6 (keeps es s4 s5 we) k5 B h4
+  last_fit : All FitsRecord (e.additionals.kept ++ (e.edns.kept ++ e.signature.kept))
+  last_fit = All-append FitsRecord e.additionals.kept (e.edns.kept ++ e.signature.kept) fits.additionals
+      (All-append FitsRecord e.edns.kept e.signature.kept fits.edns fits.signature)
 
-    h5 : Holds s5 s6 B
-    h5 = Holds-second s4 s5 s6 (keeps es s4 s5 we) k5 B (valid es s4 s5 we he) h4
-
-    pub ends : Ends B ds es ss (length s3.bytes) (length s4.bytes) (length s5.bytes) (length s6.bytes)
-    ends = record { additionals = words_of ds s3 s4 fits_ds wd hd; edns = words_of es s4 s5 fits_es we he; signature = words_of ss s5 s6 fits_ss ws h5 }
-
-    fits_all : All FitsRecord (ds ++ (es ++ ss))
-    fits_all = All-append FitsRecord ds (es ++ ss) fits_ds (All-append FitsRecord es ss fits_es fits_ss)
-
-    pub composed : Composed B qs bs ns (ds ++ (es ++ ss)) (length s0.bytes) (length s1.bytes) (length s2.bytes) (length s3.bytes) (length s6.bytes)
-    composed =
-        let sq = section QueryWord plain_query query_owner B (IsQueryAt B) (λ i q e w. w.word.owner_end) FitsQuery (query_back B) (query_ends B) qs s0 s1 [] fits_qs wq hq (none_known s0) tt in
-        let sa = section_of_records bs s1 s2 (query_owners sq.words) fits_as wa ha sq.stored sq.short in
-        let sn = section_of_records ns s2 s3 (query_owners sq.words ++ record_owners sa.words) fits_ns wn hn sa.stored sa.short in
-        let sd = section_of_records (ds ++ (es ++ ss)) s3 s6 ((query_owners sq.words ++ record_owners sa.words) ++ record_owners sn.words) fits_all wall h3 sn.stored sn.short in
-        record {
-          queries = sq.words;
-          answers = sa.words;
-          authorities = sn.words;
-          additionals = sd.words;
-          short =
-              subst AreCompressed (append_assoc (query_owners sq.words ++ record_owners sa.words) (record_owners sn.words) (record_owners sd.words)
-              ∙ append_assoc (query_owners sq.words) (record_owners sa.words) (record_owners sn.words ++ record_owners sd.words)) sd.short;
-        }
+  pub composed : Composed B m.queries e.answers.kept e.authorities.kept (e.additionals.kept ++ (e.edns.kept ++ e.signature.kept))
+      (length e.kept.bytes) (length e.first.bytes) (length e.second.bytes) (length e.third.bytes) (length e.sixth.bytes)
+  composed =
+      let sq = section QueryWord plain_query query_owner B (IsQueryAt B) (λ i q j w. w.word.owner_end) FitsQuery (query_back B) (query_ends B)
+      m.queries e.kept e.first [] fits.queries e.queries hq (none_known e.kept) tt in
+      let sa = section_of_records B e.answers.kept e.first e.second (query_owners sq.words) fits.answers e.answers.written ha sq.stored sq.short in
+      let sn = section_of_records B e.authorities.kept e.second e.third (query_owners sq.words ++ record_owners sa.words)
+      fits.authorities e.authorities.written hn sa.stored sa.short in
+      let sd = section_of_records B (e.additionals.kept ++ (e.edns.kept ++ e.signature.kept)) e.third e.sixth ((query_owners sq.words ++ record_owners sa.words) ++ record_owners sn.words)
+      last_fit last_written h3 sn.stored sn.short in
+      record {
+        queries = sq.words;
+        answers = sa.words;
+        authorities = sn.words;
+        additionals = sd.words;
+        short =
+            subst AreCompressed (append_assoc (query_owners sq.words ++ record_owners sa.words) (record_owners sn.words) (record_owners sd.words)
+            ∙ append_assoc (query_owners sq.words) (record_owners sa.words) (record_owners sn.words ++ record_owners sd.words)) sd.short;
+      }

@@ -39,5 +39,5 @@ options_plain (option ∷ options) = refl
 pub edns_word : (e : Edns) (class ttl : ℕ) → class ≡ class_number (opt_class e.max_payload) → ttl ≡ opt_ttl e → (B : List ℕ) (i j : ℕ)
     → Then (NameAt []) (Then (Number w16 (type_number types.OPT)) (Then (Number w16 class) (Then (Number w32 ttl) (Sized (options_word e.options))))) B i j → EdnsWord e B i j
 edns_word e class ttl class_is ttl_is B i j h =
-    record_word (edns_record e) (type_number types.OPT) class (opt_type e.options) class_is (options_word e.options) (options_are_data e.options) B i j
+    record_word (edns_record e) (opt_type e.options) class_is (options_word e.options) (options_are_data e.options) B i j
     (subst (λ n. Then (NameAt []) (Then (Number w16 (type_number types.OPT)) (Then (Number w16 class) (Then (Number w32 n) (Sized (options_word e.options))))) B i j) ttl_is h)

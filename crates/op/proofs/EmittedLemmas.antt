@@ -72,8 +72,8 @@ module _ {E : Type 0} (word : E → List ℕ → ℕ → ℕ → Type 0) (plain 
 -- ---- the whole
 
 -- the sum of three counts
-three : (one two sum three total : Written) → Adds one two (Ok sum) → Adds sum three (Ok total) → total.count ≡ one.count + (two.count + three.count)
-three one two sum other total first second = omega (arith, ap (λ w. w.count) first.1, ap (λ w. w.count) second.1)
+three_counted : (one two sum other total : Written) → Adds one two (Ok sum) → Adds sum other (Ok total) → total.count ≡ one.count + (two.count + other.count)
+three_counted one two sum other total first second = omega (arith, ap (λ w. w.count) first.1, ap (λ w. w.count) second.1)
 
 assoc : (p q r : Bool) → ((p || q) || r) ≡ (p || (q || r))
 assoc true q r = refl
@@ -86,60 +86,30 @@ any_three one two sum other total first second =
 same_value : {X : Type 0} (x y : X) → ◌≡◌ {A = Result X ProtoError} (Ok x) (Ok y) → x ≡ y
 same_value x y is = cc
 
--- the pieces of a message that was written
-assemble : (m : MessageValue) (old kept first second third fourth fifth sixth new : State) (h : Header) (place queries : ℕ) (answers authorities additionals opt sum signed total : Written)
-    → KeepsRoom old (Ok place) kept → EachWritten QueryWord plain_query query_owner m.queries kept first → queries ≡ length m.queries
-    → WritesRecords m.answers first second answers.count answers.is_cut
-    → WritesRecords m.authorities second third authorities.count authorities.is_cut
-    → WritesRecords m.additionals third fourth additionals.count additionals.is_cut
-    → WritesRecords (listed (option_map edns_record (raised m))) fourth fifth opt.count opt.is_cut
-    → Adds additionals opt (Ok sum)
-    → WritesRecords (listed (option_map signature_record m.signature)) fifth sixth signed.count signed.is_cut
-    → Adds sum signed (Ok total)
-    → HasHeader m.metadata queries (record { answers = answers; authorities = authorities; additionals = additionals }) total (Ok h)
-    → new ≡ overwritten place (header_bytes (raw_header h)) sixth
-    → Emitted m old new h
-assemble m old kept first second third fourth fifth sixth new h place queries answers authorities additionals opt sum signed total
-    room asked asked_count wrote_answers wrote_authorities wrote_additionals wrote_opt added wrote_signature added_too header filled =
-    let fields = header.1 in
-    record {
-      kept = kept;
-      first = first;
-      second = second;
-      third = third;
-      fourth = fourth;
-      fifth = fifth;
-      sixth = sixth;
-      answers_cut = answers.is_cut;
-      authorities_cut = authorities.is_cut;
-      additionals_cut = additionals.is_cut;
-      edns_cut = opt.is_cut;
-      signature_cut = signed.is_cut;
-      additional_count = additionals.count;
-      edns_count = opt.count;
-      signature_count = signed.count;
-      narrow = header.0;
-      place = room.1;
-      room = room.2;
-      queries = asked;
-      answers = subst (λ n. WritesRecords m.answers first second n answers.is_cut) (sym (ap (λ k. k.counts.answers) fields)) wrote_answers;
-      authorities = subst (λ n. WritesRecords m.authorities second third n authorities.is_cut) (sym (ap (λ k. k.counts.authorities) fields)) wrote_authorities;
-      additionals = wrote_additionals;
-      edns = wrote_opt;
-      signature = wrote_signature;
-      query_count = ap (λ k. k.counts.queries) fields ∙ asked_count;
-      sum = ap (λ k. k.counts.additionals) fields ∙ three additionals opt sum signed total added added_too;
-      metadata =
-          ap (λ k. k.metadata) fields ∙ ap (λ p. record m.metadata { truncation = m.metadata.truncation || (answers.is_cut || (authorities.is_cut || p)) })
-          (any_three additionals opt sum signed total added added_too);
-      header = filled ∙ ap (λ n. overwritten n (header_bytes (raw_header h)) sixth) room.0;
-    }
-
 abbrev pub emits_records : Iter (Record RData) → State → Result ℕ ProtoError → Iter (Record RData) → State → Type 0
 emits_records = slice_emits RecordWord plain_record record_owner
 
 abbrev pub emits_queries : Iter Query → State → Result ℕ ProtoError → Iter Query → State → Type 0
 emits_queries = slice_emits QueryWord plain_query query_owner
+
+-- a part that is a slice: what is left of it before it is written, and behind that
+pub record Slice (E : Type 0) : Type 0 where
+  pub before : Iter E
+  pub behind : Iter E
+
+-- the parts of a message that is composed of slices, with the records of EDNS and of the signature
+pub record Slices : Type 0 where
+  pub queries : Slice Query
+  pub answers : Slice (Record RData)
+  pub authorities : Slice (Record RData)
+  pub additionals : Slice (Record RData)
+  pub edns : List (Record RData)
+  pub signature : List (Record RData)
+
+-- the three sections are written
+abbrev pub EmitsSlices : Slices → State → Result WrittenSections ProtoError → State → Type 0
+EmitsSlices s =
+    EmitsSections emits_records emits_records emits_records s.answers.before s.answers.behind s.authorities.before s.authorities.behind s.additionals.before s.additionals.behind
 
 -- fronts of three lists of records were written
 pub record ThreeFronts (xs ys zs : List (Record RData)) (a d : State) (sections : WrittenSections) : Type 0 where
@@ -149,34 +119,51 @@ pub record ThreeFronts (xs ys zs : List (Record RData)) (a d : State) (sections 
   pub authorities : WritesRecords ys second third sections.authorities.count sections.authorities.is_cut
   pub additionals : WritesRecords zs third d sections.additionals.count sections.additionals.is_cut
 
-module _ (a a' n n' d d' : Iter (Record RData)) (sections : WrittenSections) (first last : State) where
+-- fronts of the sections of slices were written
+abbrev pub SectionFronts : Slices → State → State → WrittenSections → Type 0
+SectionFronts s = ThreeFronts s.answers.before.rest.now s.authorities.before.rest.now s.additionals.before.rest.now
+
+-- a section that is a slice is written and counted
+abbrev pub EmitsSlice : Slice (Record RData) → State → Result Written ProtoError → State → Type 0
+EmitsSlice x = EmitsPart emits_records x.before x.behind
+
+-- of a section that is a slice a front was written
+pub records_front : (x : Slice (Record RData)) (a b : State) (w : Written) → EmitsSlice x a (Ok w) b → WritesRecords x.before.rest.now a b w.count w.is_cut
+records_front x a b w part = slice_front RecordWord plain_record record_owner x.before x.behind a b w part
+
+module _ (s : Slices) (sections : WrittenSections) (first last : State) where
   abbrev Third : Written → Written → Written → State → Result WrittenSections ProtoError → State → Type 0
   Third answers authorities additionals = Tests (λ result. result ≡ Ok (record { answers = answers; authorities = authorities; additionals = additionals }))
 
   abbrev Second : Written → Written → State → Result WrittenSections ProtoError → State → Type 0
-  Second answers authorities = AndThen (EmitsPart emits_records d d') ⊤ (Third answers authorities)
+  Second answers authorities = AndThen (EmitsSlice s.additionals) ⊤ (Third answers authorities)
 
   abbrev First : Written → State → Result WrittenSections ProtoError → State → Type 0
-  First answers = AndThen (EmitsPart emits_records n n') (d' ≡ d) (Second answers)
+  First answers = AndThen (EmitsSlice s.authorities) (s.additionals.behind ≡ s.additionals.before) (Second answers)
 
-  third_done : (answers authorities : Written) (second third : State) → WritesRecords a.rest.now first second answers.count answers.is_cut
-      → WritesRecords n.rest.now second third authorities.count authorities.is_cut
-      → Both (EmitsPart emits_records d d') (Third answers authorities) third (Ok sections) last → ThreeFronts a.rest.now n.rest.now d.rest.now first last sections
-  third_done answers authorities second third one two b =
-      let additionals = slice_front RecordWord plain_record record_owner d d' third b.between b.value b.ran in
+  third_done : {answers authorities : Written} {second third : State} → WritesRecords s.answers.before.rest.now first second answers.count answers.is_cut
+      → WritesRecords s.authorities.before.rest.now second third authorities.count authorities.is_cut
+      → Both (EmitsSlice s.additionals) (Third answers authorities) third (Ok sections) last → SectionFronts s first last sections
+  third_done {answers} {authorities} {second} {third} one two b =
+      let rest = s.additionals.before.rest.now in
+      let additionals = records_front s.additionals third b.between b.value b.ran in
       let are : sections ≡ record { answers = answers; authorities = authorities; additionals = b.value } = same_value sections _ b.rest.0 in
-      subst (λ (s : WrittenSections). ThreeFronts a.rest.now n.rest.now d.rest.now first last s) (sym are)
-      (record { second = second; third = third; answers = one; authorities = two; additionals = subst (λ s. WritesRecords d.rest.now third s b.value.count b.value.is_cut) (sym b.rest.1) additionals })
+      subst (SectionFronts s first last) (sym are) (record {
+        second = second;
+        third = third;
+        answers = one;
+        authorities = two;
+        additionals = subst (λ a. WritesRecords rest third a b.value.count b.value.is_cut) (sym b.rest.1) additionals;
+      })
 
-  second_done : (answers : Written) (second : State) → WritesRecords a.rest.now first second answers.count answers.is_cut
-      → Both (EmitsPart emits_records n n') (Second answers) second (Ok sections) last → ThreeFronts a.rest.now n.rest.now d.rest.now first last sections
-  second_done answers second one b =
-      third_done answers b.value second b.between one (slice_front RecordWord plain_record record_owner n n' second b.between b.value b.ran) (went sections b.rest)
+  second_done : {answers : Written} {second : State} → WritesRecords s.answers.before.rest.now first second answers.count answers.is_cut
+      → Both (EmitsSlice s.authorities) (Second answers) second (Ok sections) last → SectionFronts s first last sections
+  second_done {second = second} one b = third_done one (records_front s.authorities second b.between b.value b.ran) (went sections b.rest)
 
-  first_done : Both (EmitsPart emits_records a a') First first (Ok sections) last → ThreeFronts a.rest.now n.rest.now d.rest.now first last sections
-  first_done b = second_done b.value b.between (slice_front RecordWord plain_record record_owner a a' first b.between b.value b.ran) (went sections b.rest)
+  first_done : Both (EmitsSlice s.answers) First first (Ok sections) last → SectionFronts s first last sections
+  first_done b = second_done (records_front s.answers first b.between b.value b.ran) (went sections b.rest)
 
-  pub sections_done : EmitsSections emits_records emits_records emits_records a a' n n' d d' first (Ok sections) last → ThreeFronts a.rest.now n.rest.now d.rest.now first last sections
+  pub sections_done : EmitsSlices s first (Ok sections) last → SectionFronts s first last sections
   sections_done run = first_done (went sections run)
 
 -- OPT and the signature were written, and counted with the additionals before them
@@ -224,22 +211,76 @@ module _ (edns signature : List (Record RData)) (additionals total : Written) (f
   pub extras_done : WritesExtras edns signature additionals fourth (Ok total) last → TwoFronts edns signature additionals fourth last total
   extras_done run = opt_done (went total run)
 
-module _ (m : MessageValue) (q q' : Iter Query) (a a' n n' d d' : Iter (Record RData)) (edns signature : List (Record RData)) where
-  -- the composition of slices
-  abbrev pub Composed : State → Result Header ProtoError → State → Type 0
-  Composed = Composition emits_records emits_records emits_records a a' n n' d d' m.metadata emits_queries q q' edns signature
+-- room was kept for the header, and the questions were written behind it
+record Begun (queries : List Query) (old : State) (place count : ℕ) (first : State) : Type 0 where
+  kept : State
+  room : KeepsRoom old (Ok place) kept
+  asked : EachWritten QueryWord plain_query query_owner queries kept first
+  counted : count ≡ length queries
 
-  -- the slices are the message's
-  pub record AreOf : Type 0 where
-    pub queries : q.rest.now ≡ m.queries
-    pub answers : a.rest.now ≡ m.answers
-    pub authorities : n.rest.now ≡ m.authorities
-    pub additionals : d.rest.now ≡ m.additionals
-    pub edns_is : edns ≡ listed (option_map edns_record (raised m))
-    pub signature_is : signature ≡ listed (option_map signature_record m.signature)
+-- the pieces of a message that was written
+assemble : {m : MessageValue} {old first fourth sixth new : State} {h : Header} {place queries : ℕ} {sections : WrittenSections} {total : Written} → Begun m.queries old place queries first
+    → ThreeFronts m.answers m.authorities m.additionals first fourth sections
+    → TwoFronts (listed (option_map edns_record (raised m))) (listed (option_map signature_record m.signature)) sections.additionals fourth sixth total
+    → HasHeader m.metadata queries sections total (Ok h)
+    → new ≡ overwritten place (header_bytes (raw_header h)) sixth
+    → Emitted m old new h
+assemble {m = m} {first = first} {fourth = fourth} {sixth = sixth} {h = h} {sections = sections} {total = total} begun three two header filled =
+    let fields = header.1 in
+    record {
+      kept = begun.kept;
+      first = first;
+      second = three.second;
+      third = three.third;
+      fourth = fourth;
+      fifth = two.fifth;
+      sixth = sixth;
+      answers_cut = sections.answers.is_cut;
+      authorities_cut = sections.authorities.is_cut;
+      additionals_cut = sections.additionals.is_cut;
+      edns_cut = two.opt.is_cut;
+      signature_cut = two.signed.is_cut;
+      additional_count = sections.additionals.count;
+      edns_count = two.opt.count;
+      signature_count = two.signed.count;
+      narrow = header.0;
+      place = begun.room.1;
+      room = begun.room.2;
+      queries = begun.asked;
+      answers = subst (λ n. WritesRecords m.answers first three.second n sections.answers.is_cut) (sym (ap (λ k. k.counts.answers) fields)) three.answers;
+      authorities = subst (λ n. WritesRecords m.authorities three.second three.third n sections.authorities.is_cut) (sym (ap (λ k. k.counts.authorities) fields)) three.authorities;
+      additionals = three.additionals;
+      edns = two.opt_front;
+      signature = two.signature_front;
+      query_count = ap (λ k. k.counts.queries) fields ∙ begun.counted;
+      sum = ap (λ k. k.counts.additionals) fields ∙ three_counted sections.additionals two.opt two.sum two.signed total two.added two.added_too;
+      metadata =
+          ap (λ k. k.metadata) fields
+          ∙ ap (λ p. record m.metadata { truncation = m.metadata.truncation || (sections.answers.is_cut || (sections.authorities.is_cut || p)) })
+          (any_three sections.additionals two.opt two.sum two.signed total two.added two.added_too);
+      header = filled ∙ ap (λ n. overwritten n (header_bytes (raw_header h)) sixth) begun.room.0;
+    }
 
-module _ (m : MessageValue) (q q' : Iter Query) (a a' n n' d d' : Iter (Record RData)) (edns signature : List (Record RData)) (are : AreOf m q q' a a' n n' d d' edns signature)
-    (old new : State) (h : Header) where
+-- the composition of slices
+abbrev pub Composed : MessageValue → Slices → State → Result Header ProtoError → State → Type 0
+Composed m s =
+    Composition emits_records emits_records emits_records s.answers.before s.answers.behind s.authorities.before s.authorities.behind s.additionals.before s.additionals.behind
+    m.metadata emits_queries s.queries.before s.queries.behind s.edns s.signature
+
+-- the slices are the message's
+pub record AreOf (m : MessageValue) (s : Slices) : Type 0 where
+  pub queries : s.queries.before.rest.now ≡ m.queries
+  pub answers : s.answers.before.rest.now ≡ m.answers
+  pub authorities : s.authorities.before.rest.now ≡ m.authorities
+  pub additionals : s.additionals.before.rest.now ≡ m.additionals
+  pub edns_is : s.edns ≡ listed (option_map edns_record (raised m))
+  pub signature_is : s.signature ≡ listed (option_map signature_record m.signature)
+
+-- what is left of no section changes
+abbrev pub Idle : Slices → Type 0
+Idle s = (s.answers.behind ≡ s.answers.before) × (s.authorities.behind ≡ s.authorities.before) × (s.additionals.behind ≡ s.additionals.before)
+
+module _ (m : MessageValue) (s : Slices) (are : AreOf m s) (old new : State) (h : Header) where
   abbrev Filled : ℕ → Header → State → Result Header ProtoError → State → Type 0
   Filled place header = FillsIn place header
 
@@ -247,55 +288,47 @@ module _ (m : MessageValue) (q q' : Iter Query) (a a' n n' d d' : Iter (Record R
   Headed place queries sections additionals = AndThen (Tests (HasHeader m.metadata queries sections additionals)) ⊤ (Filled place)
 
   abbrev Extended : ℕ → ℕ → WrittenSections → State → Result Header ProtoError → State → Type 0
-  Extended place queries sections = AndThen (WritesExtras edns signature sections.additionals) ⊤ (Headed place queries sections)
+  Extended place queries sections = AndThen (WritesExtras s.edns s.signature sections.additionals) ⊤ (Headed place queries sections)
 
   abbrev Sectioned : ℕ → ℕ → State → Result Header ProtoError → State → Type 0
-  Sectioned place queries = AndThen (EmitsSections emits_records emits_records emits_records a a' n n' d d') ⊤ (Extended place queries)
+  Sectioned place queries = AndThen (EmitsSlices s) ⊤ (Extended place queries)
 
   abbrev Asked : ℕ → State → Result Header ProtoError → State → Type 0
-  Asked place = AndThen (λ s answer t. emits_queries q s answer q' t) ((a' ≡ a) × (n' ≡ n) × (d' ≡ d)) (Sectioned place)
+  Asked place = AndThen (λ a answer b. emits_queries s.queries.before a answer s.queries.behind b) (Idle s) (Sectioned place)
 
-  header_done : (place queries : ℕ) (kept first fourth sixth : State) (sections : WrittenSections) (total : Written) → KeepsRoom old (Ok place) kept
-      → EachWritten QueryWord plain_query query_owner q.rest.now kept first → queries ≡ length q.rest.now
-      → ThreeFronts a.rest.now n.rest.now d.rest.now first fourth sections → TwoFronts edns signature sections.additionals fourth sixth total
+  header_done : {place queries : ℕ} {first fourth sixth : State} {sections : WrittenSections} {total : Written} → Begun s.queries.before.rest.now old place queries first
+      → SectionFronts s first fourth sections → TwoFronts s.edns s.signature sections.additionals fourth sixth total
       → Both (Tests (HasHeader m.metadata queries sections total)) (Filled place) sixth (Ok h) new → Emitted m old new h
-  header_done place queries kept first fourth sixth sections total room asked count three two b =
+  header_done {place} {queries} {first} {fourth} {sixth} {sections} {total} begun three two b =
       let same : b.value ≡ h = sym (same_value h b.value b.rest.0) in
-      assemble m old kept first three.second three.third fourth two.fifth sixth new h place queries sections.answers sections.authorities sections.additionals two.opt two.sum two.signed total
-      room
-      (subst (λ xs. EachWritten QueryWord plain_query query_owner xs kept first) are.queries asked)
-      (count ∙ ap length are.queries)
-      (subst (λ xs. WritesRecords xs first three.second sections.answers.count sections.answers.is_cut) are.answers three.answers)
-      (subst (λ xs. WritesRecords xs three.second three.third sections.authorities.count sections.authorities.is_cut) are.authorities three.authorities)
-      (subst (λ xs. WritesRecords xs three.third fourth sections.additionals.count sections.additionals.is_cut) are.additionals three.additionals)
-      (subst (λ xs. WritesRecords xs fourth two.fifth two.opt.count two.opt.is_cut) are.edns_is two.opt_front)
-      two.added
-      (subst (λ xs. WritesRecords xs two.fifth sixth two.signed.count two.signed.is_cut) are.signature_is two.signature_front)
-      two.added_too
+      assemble
+      (subst (λ xs. Begun xs old place queries first) are.queries begun)
+      (subst (λ xs. ThreeFronts xs m.authorities m.additionals first fourth sections) are.answers
+      (subst (λ xs. ThreeFronts s.answers.before.rest.now xs m.additionals first fourth sections) are.authorities
+      (subst (λ xs. ThreeFronts s.answers.before.rest.now s.authorities.before.rest.now xs first fourth sections) are.additionals three)))
+      (subst (λ xs. TwoFronts xs (listed (option_map signature_record m.signature)) sections.additionals fourth sixth total) are.edns_is
+      (subst (λ xs. TwoFronts s.edns xs sections.additionals fourth sixth total) are.signature_is two))
       (subst (λ k. HasHeader m.metadata queries sections total (Ok k)) same b.ran.0)
-      (b.rest.1 ∙ ap (λ s. overwritten place (header_bytes (raw_header b.value)) s) b.ran.1 ∙ ap (λ k. overwritten place (header_bytes (raw_header k)) sixth) same)
+      (b.rest.1 ∙ ap (λ a. overwritten place (header_bytes (raw_header b.value)) a) b.ran.1 ∙ ap (λ k. overwritten place (header_bytes (raw_header k)) sixth) same)
 
-  extras_next : (place queries : ℕ) (kept first fourth : State) (sections : WrittenSections) → KeepsRoom old (Ok place) kept
-      → EachWritten QueryWord plain_query query_owner q.rest.now kept first → queries ≡ length q.rest.now
-      → ThreeFronts a.rest.now n.rest.now d.rest.now first fourth sections → Both (WritesExtras edns signature sections.additionals) (Headed place queries sections) fourth (Ok h) new
+  extras_next : {place queries : ℕ} {first fourth : State} {sections : WrittenSections} → Begun s.queries.before.rest.now old place queries first → SectionFronts s first fourth sections
+      → Both (WritesExtras s.edns s.signature sections.additionals) (Headed place queries sections) fourth (Ok h) new → Emitted m old new h
+  extras_next {fourth = fourth} {sections = sections} begun three b =
+      header_done begun three (extras_done s.edns s.signature sections.additionals b.value fourth b.between b.ran) (went h b.rest)
+
+  sections_next : {place queries : ℕ} {first : State} → Begun s.queries.before.rest.now old place queries first → Both (EmitsSlices s) (Extended place queries) first (Ok h) new → Emitted m old new h
+  sections_next {first = first} begun b = extras_next begun (sections_done s b.value first b.between b.ran) (went h b.rest)
+
+  queries_next : (place : ℕ) (kept : State) → KeepsRoom old (Ok place) kept → Both (λ a answer t. emits_queries s.queries.before a answer s.queries.behind t) (Sectioned place) kept (Ok h) new
       → Emitted m old new h
-  extras_next place queries kept first fourth sections room asked count three b =
-      header_done place queries kept first fourth b.between sections b.value room asked count three (extras_done edns signature sections.additionals b.value fourth b.between b.ran) (went h b.rest)
-
-  sections_next : (place queries : ℕ) (kept first : State) → KeepsRoom old (Ok place) kept → EachWritten QueryWord plain_query query_owner q.rest.now kept first → queries ≡ length q.rest.now
-      → Both (EmitsSections emits_records emits_records emits_records a a' n n' d d') (Extended place queries) first (Ok h) new → Emitted m old new h
-  sections_next place queries kept first room asked count b =
-      extras_next place queries kept first b.between b.value room asked count (sections_done a a' n n' d d' b.value first b.between b.ran) (went h b.rest)
-
-  queries_next : (place : ℕ) (kept : State) → KeepsRoom old (Ok place) kept → Both (λ s answer t. emits_queries q s answer q' t) (Sectioned place) kept (Ok h) new → Emitted m old new h
   queries_next place kept room b =
-      let asked = Emits-slice QueryWord plain_query query_owner q q' kept b.between b.value b.ran in
-      sections_next place b.value kept b.between room asked.0 asked.1 (went h b.rest)
+      let asked = Emits-slice QueryWord plain_query query_owner s.queries.before s.queries.behind kept b.between b.value b.ran in
+      sections_next (record { kept = kept; room = room; asked = asked.0; counted = asked.1 }) (went h b.rest)
 
   room_next : Both KeepsRoom Asked old (Ok h) new → Emitted m old new h
   room_next b = queries_next b.value b.between b.ran (went h b.rest)
 
-  pub emitted_of : Composed m q q' a a' n n' d d' edns signature old (Ok h) new → Emitted m old new h
+  pub emitted_of : Composed m s old (Ok h) new → Emitted m old new h
   emitted_of run = room_next (went h run)
 
 -- the OPT record of EDNS with another high code
@@ -306,11 +339,9 @@ raised_list f (Some e) = refl
 pub raised_edns : (m : MessageValue) (seen : Option Edns) → seen ≡ m.edns → opt_records m.metadata.response_code seen ≡ listed (option_map edns_record (raised m))
 raised_edns m seen same = ap (opt_records m.metadata.response_code) same ∙ raised_list (with_high_bits m.metadata.response_code) m.edns
 
-pub emitted_if : (m : MessageValue) (q q' : Iter Query) (a a' n n' d d' : Iter (Record RData)) (edns signature : List (Record RData)) → AreOf m q q' a a' n n' d d' edns signature
-    → (old new : State) (result : Result Header ProtoError)
-    → Composed m q q' a a' n n' d d' edns signature old result new → IfOk result (λ h. Emitted m old new h)
-emitted_if m q q' a a' n n' d d' edns signature are old new (Ok h) run = emitted_of m q q' a a' n n' d d' edns signature are old new h run
-emitted_if m q q' a a' n n' d d' edns signature are old new (Err e) run = tt
+pub emitted_if : {m : MessageValue} {s : Slices} {old new : State} → AreOf m s → (result : Result Header ProtoError) → Composed m s old result new → IfOk result (λ h. Emitted m old new h)
+emitted_if {m} {s} {old} {new} are (Ok h) run = emitted_of m s are old new h run
+emitted_if are (Err e) run = tt
 
 -- what a box holds, borrowed
 pub unboxed : {X B : Type 0} (value : B → X) (o : Option B) (r : Option (Bor X)) → MatchOption o (r ≡ None) (λ x. IsSomeAnd r (λ y. y.now ≡ value x)) → option_copied r ≡ option_map value o

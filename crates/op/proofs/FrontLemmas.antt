@@ -32,9 +32,9 @@ once_yields s t x (y ∷ ys) item (u, step, yields) =
 
 module _ {E : Type 0} (word : E → List ℕ → ℕ → ℕ → Type 0) (plain : E → ℕ) (owner : E → List (List ℕ)) where
   -- of one item that was written, or wasn't
-  whole_item : (x : E) (a b : State) (xs : List E) (n : ℕ) (result : Result Written ProtoError) → xs ≡ x ∷ [] → EachWritten word plain owner xs a b → n ≡ length xs → Narrows n false result
+  whole_item : {x : E} {xs : List E} {n : ℕ} (a b : State) (result : Result Written ProtoError) → xs ≡ x ∷ [] → EachWritten word plain owner xs a b → n ≡ length xs → Narrows n false result
       → WritesItems word plain owner (x ∷ []) a result b
-  whole_item x a b xs n (Ok written) all each count narrows = record {
+  whole_item {xs = xs} a b (Ok written) all each count narrows = record {
     kept = xs;
     lost = [];
     whole = sym all ∙ sym (append-nil xs);
@@ -43,11 +43,11 @@ module _ {E : Type 0} (word : E → List ℕ → ℕ → ℕ → Type 0) (plain 
     tells = ap (λ w. w.is_cut) narrows.1;
     full = tt;
   }
-  whole_item x a b xs n (Err e) all each count narrows = let one : n ≡ 1 = count ∙ ap length all in absurd (omega (arith, one, narrows.0))
+  whole_item {n = n} a b (Err e) all each count narrows = let one : n ≡ 1 = count ∙ ap length all in absurd (omega (arith, one, narrows.0))
 
-  no_item : (x : E) (a b : State) (xs : List E) (n : ℕ) (result : Result Written ProtoError) → xs ≡ [] → EachWritten word plain owner xs a b → a.limit < length b.bytes + plain x
+  no_item : {xs : List E} {n : ℕ} (x : E) (a b : State) (result : Result Written ProtoError) → xs ≡ [] → EachWritten word plain owner xs a b → a.limit < length b.bytes + plain x
       → n ≡ length xs → Narrows n true result → WritesItems word plain owner (x ∷ []) a result b
-  no_item x a b xs n (Ok written) none each full count narrows = record {
+  no_item {xs} x a b (Ok written) none each full count narrows = record {
     kept = xs;
     lost = x ∷ [];
     whole = ap (λ ys. ys ++ x ∷ []) (sym none);
@@ -56,7 +56,7 @@ module _ {E : Type 0} (word : E → List ℕ → ℕ → ℕ → Type 0) (plain 
     tells = ap (λ w. w.is_cut) narrows.1;
     full = full;
   }
-  no_item x a b xs n (Err e) none each full count narrows = let zero : n ≡ 0 = count ∙ ap length none in absurd (omega (arith, zero, narrows.0))
+  no_item {n = n} x a b (Err e) none each full count narrows = let zero : n ≡ 0 = count ∙ ap length none in absurd (omega (arith, zero, narrows.0))
 
   module _ (item : Bor E) (s t : Once (Bor E)) (a b : State) where
     pub one_item : (answer : Result ℕ ProtoError) (result : Result Written ProtoError) → once_item s ≡ Some item
@@ -64,12 +64,12 @@ module _ {E : Type 0} (word : E → List ℕ → ℕ → ℕ → Type 0) (plain 
     one_item (Ok n) result first (xs, (u, yields, stop), each, count) counts =
         elim (once_yields s u item xs first yields) [
           | inl (none, left) ↦ absurd (let is = stop.0 in cc)
-          | inr (all, left) ↦ whole_item item.now a b (map (λ x. x.now) xs) n result (ap (map (λ x. x.now)) all)
+          | inr (all, left) ↦ whole_item a b result (ap (map (λ x. x.now)) all)
               (Each-map (λ x. x.now) word plain owner xs a b each) (count ∙ sym (length-map xs (λ x. x.now))) counts
         ]
     one_item (Err (refusals.NotAllRecordsWritten n)) result first (xs, x, (u, yields, step), each, count, full) counts =
         elim (once_yields s u item xs first yields) [
-          | inl (none, left) ↦ no_item item.now a b (map (λ x. x.now) xs) n result (ap (map (λ x. x.now)) none) (Each-map (λ x. x.now) word plain owner xs a b each)
+          | inl (none, left) ↦ no_item item.now a b result (ap (map (λ x. x.now)) none) (Each-map (λ x. x.now) word plain owner xs a b each)
               (let is = step.0 in let same : x ≡ item = cc in subst (λ (y : Bor E). a.limit < length b.bytes + plain y.now) same full) (count ∙ sym (length-map xs (λ x. x.now))) counts
           | inr (all, left) ↦ absurd (let is = step.0 in cc)
         ]

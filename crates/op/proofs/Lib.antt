@@ -16,7 +16,6 @@ pub mod RunLemmas
 pub mod SucceedsLemmas
 mod BufferLemmas
 mod CodeLemmas
-mod ComposedLemmas
 mod CutOf
 mod CutWords
 mod MessageFaults

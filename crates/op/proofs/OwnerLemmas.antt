@@ -36,7 +36,8 @@ no_front : (front ls : List (List ℕ)) → front ++ ls ≡ [] → ls ≡ []
 no_front [] ls is = is
 no_front (x ∷ front) ls is = cc
 
-module _ {E : Type 0} (word : E → List ℕ → ℕ → ℕ → Type 0) (plain : E → ℕ) (owner : E → List (List ℕ)) (B : List ℕ) (Word : ℕ → E → ℕ → Type 0) (end : (i : ℕ) (x : E) (e : ℕ) → Word i x e → ℕ) where
+module _ {E : Type 0} (word : E → List ℕ → ℕ → ℕ → Type 0) (plain : E → ℕ) (owner : E → List (List ℕ)) (B : List ℕ)
+    (Word : ℕ → E → ℕ → Type 0) (end : (i : ℕ) (x : E) (e : ℕ) → Word i x e → ℕ) where
   -- Items that were written, as they are read in B; with the owners before them theirs are short, and stored.
   pub record Section (known : List Owner) (xs : List E) (a b : State) : Type 0 where
     pub words : BackToBack Word (length a.bytes) xs (length b.bytes)
@@ -51,10 +52,17 @@ module _ {E : Type 0} (word : E → List ℕ → ℕ → ℕ → Type 0) (plain 
     stored = subst (λ os. Known os a) (sym (append-nil known)) stored;
   }
 
-  module _ (x : E) (a b : State) (keeps : Keeps a b) (writes : Writes (word x) (plain x) (owner x) a b) (first : Holds a b B) (w : Word (length a.bytes) x (length b.bytes))
-      (spelled : Spelled B (owner x) (length a.bytes) (length a.bytes) (end (length a.bytes) x (length b.bytes) w)) where
+  -- One item that was written, as it is read in B.
+  record Item (x : E) (a b : State) : Type 0 where
+    keeps : Keeps a b
+    writes : Writes (word x) (plain x) (owner x) a b
+    holds : Holds a b B
+    word_there : Word (length a.bytes) x (length b.bytes)
+    spelled : Spelled B (owner x) (length a.bytes) (length a.bytes) (end (length a.bytes) x (length b.bytes) word_there)
+
+  module _ (x : E) (a b : State) (item : Item x a b) where
     written : Owner
-    written = record { start = length a.bytes; labels = owner x; end = end (length a.bytes) x (length b.bytes) w }
+    written = record { start = length a.bytes; labels = owner x; end = end (length a.bytes) x (length b.bytes) item.word_there }
 
     -- the owner is short behind one that is stored
     one_short : (earlier : Owner) → (earlier.labels ≢ [] → earlier.start < 16384 → Any (λ t. t.labels ≡ earlier.labels) a.suffixes) → IsCompressed earlier written
@@ -62,8 +70,8 @@ module _ {E : Type 0} (word : E → List ℕ → ℕ → ℕ → Type 0) (plain 
     one_short earlier known some early front same =
         let owned : owner x ≢ [] = λ empty. some (no_front front earlier.labels (sym same ∙ empty)) in
         let stored = any_weaker (λ t. t.labels ≡ earlier.labels) (λ t. owner x ≡ front ++ t.labels) a.suffixes (λ t is. same ∙ ap (λ (ls : List (List ℕ)). front ++ ls) (sym is)) (known some early) in
-        let bound = writes.compresses.short owned front stored in
-        let ends = (spelled_once (writes.compresses.spelled owned B first) spelled).1 in
+        let bound = item.writes.compresses.short owned front stored in
+        let ends = (spelled_once (item.writes.compresses.spelled owned B item.holds) item.spelled).1 in
         omega (arith, bound, ends)
 
     known_after : (known : List Owner) → Known known a → Known (known ++ written ∷ []) b
@@ -71,14 +79,14 @@ module _ {E : Type 0} (word : E → List ℕ → ℕ → ℕ → Type 0) (plain 
     known_after known stored =
         All-append (λ o. o.labels ≢ [] → o.start < 16384 → Any (λ t. t.labels ≡ o.labels) b.suffixes) known (written ∷ [])
         (All-weaker (λ o. o.labels ≢ [] → o.start < 16384 → Any (λ t. t.labels ≡ o.labels) a.suffixes) (λ o. o.labels ≢ [] → o.start < 16384 → Any (λ t. t.labels ≡ o.labels) b.suffixes)
-        (λ o is some early. any_append (λ t. t.labels ≡ o.labels) a.suffixes keeps.added b.suffixes keeps.suffixes (is some early)) known stored)
+        (λ o is some early. any_append (λ t. t.labels ≡ o.labels) a.suffixes item.keeps.added b.suffixes item.keeps.suffixes (is some early)) known stored)
         (All-cons (λ o. o.labels ≢ [] → o.start < 16384 → Any (λ t. t.labels ≡ o.labels) b.suffixes) written []
-        (λ some early. writes.compresses.stored some early) (All-nil (λ o. o.labels ≢ [] → o.start < 16384 → Any (λ t. t.labels ≡ o.labels) b.suffixes)))
+        (λ some early. item.writes.compresses.stored some early) (All-nil (λ o. o.labels ≢ [] → o.start < 16384 → Any (λ t. t.labels ≡ o.labels) b.suffixes)))
 
     section_more : (known : List Owner) (xs : List E) (c : State) → Section (known ++ written ∷ []) xs b c → Section known (x ∷ xs) a c
     unfolding owners_by written
     section_more known xs c rest = record {
-      words = more w rest.words;
+      words = more item.word_there rest.words;
       short = subst AreCompressed (append_assoc known (written ∷ []) (owners_by owner end rest.words)) rest.short;
       stored = subst (λ os. Known os c) (append_assoc known (written ∷ []) (owners_by owner end rest.words)) rest.stored;
     }
@@ -91,9 +99,9 @@ module _ {E : Type 0} (word : E → List ℕ → ℕ → ℕ → Type 0) (plain 
         let first = Holds-first a b c keeps later B h in
         let second = Holds-second a b c keeps later B (writes.valid B first) h in
         let w = read x (fits 0 x (omega arith)) (length a.bytes) (length b.bytes) (writes.word_stands B first) in
-        let spelled = ends (length a.bytes) x (length b.bytes) w in
-        let o = written x a b keeps writes first w spelled in
+        let item : Item x a b = record { keeps = keeps; writes = writes; holds = first; word_there = w; spelled = ends (length a.bytes) x (length b.bytes) w } in
+        let o = written x a b item in
         let shorts = All-weaker (λ (earlier : Owner). earlier.labels ≢ [] → earlier.start < 16384
-        → Any (λ t. t.labels ≡ earlier.labels) a.suffixes) (λ earlier. IsCompressed earlier o) (one_short x a b keeps writes first w spelled) known stored in
-        section_more x a b keeps writes first w spelled known xs c
-        (section xs b c (known ++ o ∷ []) (All-tail P x xs fits) others second (known_after x a b keeps writes first w spelled known stored) (short_last known o short shorts))
+        → Any (λ t. t.labels ≡ earlier.labels) a.suffixes) (λ earlier. IsCompressed earlier o) (one_short x a b item) known stored in
+        section_more x a b item known xs c
+        (section xs b c (known ++ o ∷ []) (All-tail P x xs fits) others second (known_after x a b item known stored) (short_last known o short shorts))

@@ -8,7 +8,7 @@ use Rattle.base.specs.declared.error.proto_error.ProtoError.TheVariants as refus
 use Rattle.base.proofs.SliceLemmas.{Emits-front}
 use Rattle.base_data.specs.declared.rdata.RData.{RData}
 use Rattle.rr.specs.declared.record.Record.{Record}
-use Rattle.op.specs.Composition.{Adds, AndThen, Counts, EmitsPart, EmitsSections, FillsIn, HasHeader, IsTooMany, KeepsRoom, Tests, WritesExtras, WritesRecordItems}
+use Rattle.op.specs.Composition.{Adds, AndThen, Counts, FillsIn, HasHeader, IsTooMany, KeepsRoom, Tests, WritesExtras, WritesRecordItems}
 use Rattle.op.specs.Emitted.{Leaves, WritesFront, query_owner}
 use Rattle.op.specs.Message.{MessageValue}
 use Rattle.op.specs.Query.{QueryWord, plain_query}
@@ -16,7 +16,7 @@ use Rattle.op.specs.declared.header.Header.{Header}
 use Rattle.op.specs.declared.message.writing.parts.WrittenSections.{WrittenSections}
 use Rattle.op.specs.declared.message.writing.parts.Written.{Written}
 use Rattle.op.specs.declared.query.Query.{Query}
-use Rattle.op.proofs.EmittedLemmas.{AreOf, Composed, emits_queries, emits_records}
+use Rattle.op.proofs.EmittedLemmas.{AreOf, Composed, EmitsSlice, EmitsSlices, Idle, Slice, Slices, emits_queries, emits_records}
 use Rattle.op.proofs.RunLemmas.{Both, failed, same_err}
 
 -- ---- no room
@@ -34,10 +34,9 @@ room_failed m old new (refusals.Message text) run = absurd run.1
 room_failed m old new refusals.NotAResponse run = absurd run.1
 room_failed m old new (refusals.Decode d) run = absurd run.1
 
-module _ (m : MessageValue) (q q' : Iter Query) (a a' n n' d d' : Iter (Record RData)) (edns signature : List (Record RData)) (are : AreOf m q q' a a' n n' d d' edns signature) (old new : State)
-    (place : ℕ) (kept : State) (room : KeepsRoom old (Ok place) kept) where
+module _ (m : MessageValue) (s : Slices) (are : AreOf m s) (old new : State) (place : ℕ) (kept : State) (room : KeepsRoom old (Ok place) kept) where
   -- the questions before one that had no room
-  not_all : (xs rest : List Query) (x : Query) (count : ℕ) → q.rest.now ≡ xs ++ x ∷ rest → EachWritten QueryWord plain_query query_owner xs kept new → count ≡ length xs
+  not_all : (xs rest : List Query) (x : Query) (count : ℕ) → s.queries.before.rest.now ≡ xs ++ x ∷ rest → EachWritten QueryWord plain_query query_owner xs kept new → count ≡ length xs
       → kept.limit < length new.bytes + plain_query x
       → Leaves m old (refusals.NotAllRecordsWritten count) new
   not_all xs rest x count whole each counted full =
@@ -50,13 +49,13 @@ module _ (m : MessageValue) (q q' : Iter Query) (a a' n n' d d' : Iter (Record R
         tells = refl;
         full = full;
       } in
-      let fits = ap (λ (s : State). length s.bytes) room.1 ∙ length-append old.bytes (replicate 12 0) in
-      (omega (arith, room.2, fits), subst (λ s. WritesFront QueryWord plain_query query_owner m.queries s new count true) room.1 front)
+      let fits = ap (λ (a : State). length a.bytes) room.1 ∙ length-append old.bytes (replicate 12 0) in
+      (omega (arith, room.2, fits), subst (λ a. WritesFront QueryWord plain_query query_owner m.queries a new count true) room.1 front)
 
-  pub queries_failed : (f : ProtoError) → emits_queries q kept (Err f) q' new → Left m old new f
+  pub queries_failed : (f : ProtoError) → emits_queries s.queries.before kept (Err f) s.queries.behind new → Left m old new f
   queries_failed refusals.Memory run = inl refl
   queries_failed (refusals.NotAllRecordsWritten count) run =
-      let front = Emits-front QueryWord plain_query query_owner q q' kept new count run in
+      let front = Emits-front QueryWord plain_query query_owner s.queries.before s.queries.behind kept new count run in
       inr (not_all front.0 front.2 front.1 count front.3 front.4 front.5 front.6)
   queries_failed refusals.MaxBufferSizeExceeded run = absurd run
   queries_failed refusals.NotOpt run = absurd run
@@ -81,28 +80,28 @@ part_counted s t a b (Err refusals.NotAResponse) e emits counts = absurd emits
 part_counted s t a b (Err (refusals.Decode d)) e emits counts = absurd emits
 
 module _ (e : ProtoError) where
-  part_refused : (s t : Iter (Record RData)) (a b : State) → EmitsPart emits_records s t a (Err e) b → OrTooMany e
-  part_refused s t a b part = part_counted s t a b part.0 e part.1 part.2
+  part_refused : (x : Slice (Record RData)) (a b : State) → EmitsSlice x a (Err e) b → OrTooMany e
+  part_refused x a b part = part_counted x.before x.behind a b part.0 e part.1 part.2
 
   -- the sections
-  module _ (a a' n n' d d' : Iter (Record RData)) (first last : State) where
+  module _ (s : Slices) (first last : State) where
     abbrev Third : Written → Written → Written → State → Result WrittenSections ProtoError → State → Type 0
     Third answers authorities additionals = Tests (λ result. result ≡ Ok (record { answers = answers; authorities = authorities; additionals = additionals }))
 
     abbrev Second : Written → Written → State → Result WrittenSections ProtoError → State → Type 0
-    Second answers authorities = AndThen (EmitsPart emits_records d d') ⊤ (Third answers authorities)
+    Second answers authorities = AndThen (EmitsSlice s.additionals) ⊤ (Third answers authorities)
 
     abbrev First : Written → State → Result WrittenSections ProtoError → State → Type 0
-    First answers = AndThen (EmitsPart emits_records n n') (d' ≡ d) (Second answers)
+    First answers = AndThen (EmitsSlice s.authorities) (s.additionals.behind ≡ s.additionals.before) (Second answers)
 
-    second_refused : (answers : Written) (second : State) → Both (EmitsPart emits_records n n') (Second answers) second (Err e) last → OrTooMany e
-    second_refused answers second b = elim (failed e b.rest) [ inl part ↦ part_refused d d' b.between last part | inr c ↦ absurd (let is = c.rest.0 in cc) ]
+    second_refused : (answers : Written) (second : State) → Both (EmitsSlice s.authorities) (Second answers) second (Err e) last → OrTooMany e
+    second_refused answers second b = elim (failed e b.rest) [ inl part ↦ part_refused s.additionals b.between last part | inr c ↦ absurd (let is = c.rest.0 in cc) ]
 
-    first_refused : Both (EmitsPart emits_records a a') First first (Err e) last → OrTooMany e
-    first_refused b = elim (failed e b.rest) [ inl part ↦ part_refused n n' b.between last part | inr c ↦ second_refused b.value b.between c ]
+    first_refused : Both (EmitsSlice s.answers) First first (Err e) last → OrTooMany e
+    first_refused b = elim (failed e b.rest) [ inl part ↦ part_refused s.authorities b.between last part | inr c ↦ second_refused b.value b.between c ]
 
-    sections_refused : EmitsSections emits_records emits_records emits_records a a' n n' d d' first (Err e) last → OrTooMany e
-    sections_refused run = elim (failed e run) [ inl part ↦ part_refused a a' first last part | inr b ↦ first_refused b ]
+    sections_refused : EmitsSlices s first (Err e) last → OrTooMany e
+    sections_refused run = elim (failed e run) [ inl part ↦ part_refused s.answers first last part | inr b ↦ first_refused b ]
 
   -- OPT and the signature
   module _ (edns signature : List (Record RData)) (additionals : Written) (fourth last : State) where
@@ -126,19 +125,18 @@ module _ (e : ProtoError) where
 
 -- ---- the whole
 
-module _ (m : MessageValue) (q q' : Iter Query) (a a' n n' d d' : Iter (Record RData)) (edns signature : List (Record RData)) (are : AreOf m q q' a a' n n' d d' edns signature)
-    (old new : State) (e : ProtoError) where
+module _ (m : MessageValue) (s : Slices) (are : AreOf m s) (old new : State) (e : ProtoError) where
   abbrev Headed : ℕ → ℕ → WrittenSections → Written → State → Result Header ProtoError → State → Type 0
   Headed place queries sections additionals = AndThen (Tests (HasHeader m.metadata queries sections additionals)) ⊤ (FillsIn place)
 
   abbrev Extended : ℕ → ℕ → WrittenSections → State → Result Header ProtoError → State → Type 0
-  Extended place queries sections = AndThen (WritesExtras edns signature sections.additionals) ⊤ (Headed place queries sections)
+  Extended place queries sections = AndThen (WritesExtras s.edns s.signature sections.additionals) ⊤ (Headed place queries sections)
 
   abbrev Sectioned : ℕ → ℕ → State → Result Header ProtoError → State → Type 0
-  Sectioned place queries = AndThen (EmitsSections emits_records emits_records emits_records a a' n n' d d') ⊤ (Extended place queries)
+  Sectioned place queries = AndThen (EmitsSlices s) ⊤ (Extended place queries)
 
   abbrev Asked : ℕ → State → Result Header ProtoError → State → Type 0
-  Asked place = AndThen (λ s answer t. emits_queries q s answer q' t) ((a' ≡ a) × (n' ≡ n) × (d' ≡ d)) (Sectioned place)
+  Asked place = AndThen (λ a answer b. emits_queries s.queries.before a answer s.queries.behind b) (Idle s) (Sectioned place)
 
   header_refused : (place queries : ℕ) (sixth : State) (sections : WrittenSections) (total : Written) → Headed place queries sections total sixth (Err e) new → OrTooMany e
   header_refused place queries sixth sections total run = elim (failed e run) [ inl test ↦ inr (inr test.0.1) | inr b ↦ absurd (let is = b.rest.0 in cc) ]
@@ -146,14 +144,14 @@ module _ (m : MessageValue) (q q' : Iter Query) (a a' n n' d d' : Iter (Record R
   extras_next : (place queries : ℕ) (sections : WrittenSections) (fourth : State) → Extended place queries sections fourth (Err e) new → OrTooMany e
   extras_next place queries sections fourth run =
       elim (failed e run) [
-        | inl extras ↦ extras_refused e edns signature sections.additionals fourth new extras
+        | inl extras ↦ extras_refused e s.edns s.signature sections.additionals fourth new extras
         | inr b ↦ header_refused place queries b.between sections b.value b.rest
       ]
 
   sections_next : (place queries : ℕ) (first : State) → Sectioned place queries first (Err e) new → OrTooMany e
   sections_next place queries first run =
       elim (failed e run) [
-        | inl sections ↦ sections_refused e a a' n n' d d' first new sections
+        | inl sections ↦ sections_refused e s first new sections
         | inr b ↦ extras_next place queries b.value b.between b.rest
       ]
 
@@ -172,15 +170,14 @@ module _ (m : MessageValue) (q q' : Iter Query) (a a' n n' d d' : Iter (Record R
   queries_next : (place : ℕ) (kept : State) → KeepsRoom old (Ok place) kept → Asked place kept (Err e) new → Refused
   queries_next place kept room run =
       elim (failed e run) [
-        | inl queries ↦ left_so (queries_failed m q q' a a' n n' d d' edns signature are old new place kept room e queries)
+        | inl queries ↦ left_so (queries_failed m s are old new place kept room e queries)
         | inr b ↦ counted_so (sections_next place b.value b.between b.rest)
       ]
 
-  refused_of : Composed m q q' a a' n n' d d' edns signature old (Err e) new → Refused
+  refused_of : Composed m s old (Err e) new → Refused
   refused_of run = elim (failed e run) [ inl room ↦ left_so (room_failed m old new e room) | inr b ↦ queries_next b.value b.between b.ran b.rest ]
 
-pub only_if : (m : MessageValue) (q q' : Iter Query) (a a' n n' d d' : Iter (Record RData)) (edns signature : List (Record RData)) → AreOf m q q' a a' n n' d d' edns signature
-    → (old new : State) (result : Result Header ProtoError)
-    → Composed m q q' a a' n n' d d' edns signature old result new → IfErr result (λ e. (e ≡ refusals.Memory) ⊎ (Leaves m old e new ⊎ IsTooMany e))
-only_if m q q' a a' n n' d d' edns signature are old new (Ok h) run = tt
-only_if m q q' a a' n n' d d' edns signature are old new (Err e) run = refused_of m q q' a a' n n' d d' edns signature are old new e run
+pub only_if : {m : MessageValue} {s : Slices} {old new : State} → AreOf m s → (result : Result Header ProtoError) → Composed m s old result new
+    → IfErr result (λ e. (e ≡ refusals.Memory) ⊎ (Leaves m old e new ⊎ IsTooMany e))
+only_if are (Ok h) run = tt
+only_if {m} {s} {old} {new} are (Err e) run = refused_of m s are old new e run

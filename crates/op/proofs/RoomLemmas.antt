@@ -60,15 +60,20 @@ took_more rs k s t n took each = record {
   words : (B : List ℕ) → Holds k t B → BackToBack (λ i r e. RecordWord r B i e) (length s.bytes) rs (length t.bytes) × IsValid t B
   words B h = Words-each RecordWord plain_record record_owner rs s t each B (Holds-second k s t took.keeps later B (took.valid B (Holds-first k s t took.keeps later B h)) h)
 
-pub took_front : (xs : List (Record RData)) (k s t : State) (n m : ℕ) (is_cut : Bool) → Took k s n → WritesRecords xs s t m is_cut → Took k t (n + m)
-took_front xs k s t n m is_cut took front =
-    subst (λ l. Took k t (n + l)) (sym front.counted) (took_more front.kept k s t n took front.written)
+pub took_front : {xs : List (Record RData)} {k s t : State} {n m : ℕ} {is_cut : Bool} → Took k s n → WritesRecords xs s t m is_cut → Took k t (n + m)
+took_front {k = k} {s} {t} {n} took front = subst (λ l. Took k t (n + l)) (sym front.counted) (took_more front.kept k s t n took front.written)
 
--- under a limit of two bytes they are few
-pub took_few : (k t : State) (n : ℕ) → Took k t n → k.suffixes ≡ [] → length k.bytes ≤ k.limit → k.limit < 2 ^ 16 → n < 2 ^ 16
-took_few k t n took blank within small =
-    let bytes = took.bytes t.bytes (Holds-new k t blank) in
-    omega (arith, bytes, took.keeps.within)
+-- An encoder with room for what it holds, in which no name is stored, under a limit that two bytes count.
+pub record IsFresh (k : State) : Type 0 where
+  pub no_suffix : k.suffixes ≡ []
+  pub within : length k.bytes ≤ k.limit
+  pub small : k.limit < 2 ^ 16
+
+-- behind it records are few
+pub took_few : {k t : State} {n : ℕ} → IsFresh k → Took k t n → n < 2 ^ 16
+took_few {k} {t} fresh took =
+    let bytes = took.bytes t.bytes (Holds-new k t fresh.no_suffix) in
+    omega (arith, bytes, took.keeps.within, fresh.within, fresh.small)
 
 -- ---- bytes that questions take
 
@@ -77,11 +82,11 @@ questions_take : {B : List ℕ} {i e : ℕ} {qs : List Query} → BackToBack (λ
 questions_take none = omega arith
 questions_take (more word rest) = omega (arith, name_takes word.owner.0, word.end, questions_take rest)
 
--- so under a limit of two bytes they are few
-pub queries_few : (qs : List Query) (k t : State) → EachWritten QueryWord plain_query query_owner qs k t → k.suffixes ≡ [] → length k.bytes ≤ k.limit → k.limit < 2 ^ 16 → length qs < 2 ^ 16
-queries_few qs k t each blank within small =
-    let words = Words-each QueryWord plain_query query_owner qs k t each t.bytes (Holds-new k t blank) in
-    omega (arith, questions_take words.0, (Each-keeps QueryWord plain_query query_owner qs k t each).within)
+-- so they are few, too
+pub queries_few : (qs : List Query) (k t : State) → IsFresh k → EachWritten QueryWord plain_query query_owner qs k t → length qs < 2 ^ 16
+queries_few qs k t fresh each =
+    let words = Words-each QueryWord plain_query query_owner qs k t each t.bytes (Holds-new k t fresh.no_suffix) in
+    omega (arith, questions_take words.0, (Each-keeps QueryWord plain_query query_owner qs k t each).within, fresh.within, fresh.small)
 
 pub queries_within : (qs : List Query) (a b : State) → EachWritten QueryWord plain_query query_owner qs a b → length b.bytes ≤ length a.bytes + plain_queries qs
 queries_within [] a b same = omega (arith, ap (λ (s : State). length s.bytes) same)

@@ -57,10 +57,10 @@ strip_none true m is = refl
 strip_none false m is = none_asks m.queries m is
 
 -- a message whose sections were stripped by the first question's type
-pub strips : (m : MessageValue) (takes : Bool) (q : Query) (asked : RecordType) (a b c : List (Record RData)) → takes ≡ false → slice_get m.queries 0 ≡ Some q → asked ≡ q.query_type
+pub strips : {takes : Bool} {q : Query} {asked : RecordType} {a b c : List (Record RData)} (m : MessageValue) → takes ≡ false → slice_get m.queries 0 ≡ Some q → asked ≡ q.query_type
     → a ≡ filter (is_for_all asked) m.answers → b ≡ filter (is_for_all asked) m.authorities → c ≡ filter (is_for_all asked) m.additionals
     → ◌≡◌ {A = MessageValue} (record m { answers = a; authorities = b; additionals = c }) (stripped takes m)
-strips m takes q asked a b c is first same answers authorities additionals =
+strips {q = q} {asked = asked} m is first same answers authorities additionals =
     let by : (rs : List (Record RData)) → filter (is_for_all asked) rs ≡ filter (is_for_all q.query_type) rs = λ rs. ap (λ (t : RecordType). filter (is_for_all t) rs) same in
     let kept = same_sections m (answers ∙ by m.answers) (authorities ∙ by m.authorities) (additionals ∙ by m.additionals) in
     kept ∙ sym (first_asks m.queries q m first) ∙ ap (λ (f : Bool). stripped f m) (sym is)

@@ -10,7 +10,7 @@ use Rattle.base_data.specs.declared.rdata.RData.{RData}
 use Rattle.rr.specs.Record.{RecordWord, plain_record}
 use Rattle.rr.specs.declared.record.Record.{Record}
 use Rattle.op.specs.Cut.{IsTooSmall, NoRoom, any_lost}
-use Rattle.op.specs.Composition.{Adds, AndThen, Counts, EmitsPart, EmitsSections, FillsIn, HasHeader, KeepsRoom, Tests, WritesExtras, WritesRecordItems}
+use Rattle.op.specs.Composition.{Adds, AndThen, Counts, FillsIn, HasHeader, KeepsRoom, Tests, WritesExtras, WritesRecordItems}
 use Rattle.op.specs.Emitted.{Leaves, WritesFront, WritesRecords, query_owner, record_owner}
 use Rattle.op.specs.Fits.{plain_queries}
 use Rattle.op.specs.Message.{MessageValue}
@@ -19,9 +19,9 @@ use Rattle.op.specs.declared.header.Header.{Header}
 use Rattle.op.specs.declared.message.writing.parts.WrittenSections.{WrittenSections}
 use Rattle.op.specs.declared.message.writing.parts.Written.{Written}
 use Rattle.op.specs.declared.query.Query.{Query}
-use Rattle.op.proofs.EmittedLemmas.{AreOf, Composed, ThreeFronts, emits_queries, emits_records, sections_done, slice_front}
+use Rattle.op.proofs.EmittedLemmas.{AreOf, Composed, EmitsSlice, EmitsSlices, Idle, SectionFronts, Slice, Slices, emits_queries, emits_records, records_front, sections_done}
 use Rattle.op.proofs.RefusalLemmas.{Left, queries_failed, room_failed}
-use Rattle.op.proofs.RoomLemmas.{Took, plain-append, queries_few, queries_within, took_few, took_front, took_more, took_queries}
+use Rattle.op.proofs.RoomLemmas.{IsFresh, Took, plain-append, queries_few, queries_within, took_few, took_front, took_more, took_queries}
 use Rattle.op.proofs.RunLemmas.{Both, failed, same_err}
 
 -- records that no header can count were written
@@ -46,47 +46,47 @@ part_failed s t a b (Err refusals.NotAResponse) e emits counts = absurd emits
 part_failed s t a b (Err (refusals.Decode d)) e emits counts = absurd emits
 
 -- Behind the state k, with the room for a header, no more records stand than a header can count.
-module _ (k : State) (blank : k.suffixes ≡ []) (within : length k.bytes ≤ k.limit) (small : k.limit < 2 ^ 16) (e : ProtoError) where
+module _ (k : State) (fresh : IsFresh k) (e : ProtoError) where
   few_written : (a b : State) (n : ℕ) → Took k a n → Many a b → e ≡ refusals.Memory
   few_written a b n took many =
-      let few = took_few k b (n + length many.kept) (took_more many.kept k a b n took many.written) blank within small in
+      let few = took_few fresh (took_more many.kept k a b n took many.written) in
       absurd (omega (arith, few, many.many))
 
-  slice_failed : (s t : Iter (Record RData)) (a b : State) (n : ℕ) → Took k a n → EmitsPart emits_records s t a (Err e) b → e ≡ refusals.Memory
-  slice_failed s t a b n took part =
-      elim (part_failed s t a b part.0 e part.1 part.2) [ inl memory ↦ memory | inr many ↦ few_written a b n took many ]
+  slice_failed : (x : Slice (Record RData)) (a b : State) (n : ℕ) → Took k a n → EmitsSlice x a (Err e) b → e ≡ refusals.Memory
+  slice_failed x a b n took part =
+      elim (part_failed x.before x.behind a b part.0 e part.1 part.2) [ inl memory ↦ memory | inr many ↦ few_written a b n took many ]
 
   -- the sections
-  module _ (a a' n n' d d' : Iter (Record RData)) (first last : State) (took : Took k first 0) where
+  module _ (s : Slices) (first last : State) (took : Took k first 0) where
     abbrev Third : Written → Written → Written → State → Result WrittenSections ProtoError → State → Type 0
     Third answers authorities additionals = Tests (λ result. result ≡ Ok (record { answers = answers; authorities = authorities; additionals = additionals }))
 
     abbrev Second : Written → Written → State → Result WrittenSections ProtoError → State → Type 0
-    Second answers authorities = AndThen (EmitsPart emits_records d d') ⊤ (Third answers authorities)
+    Second answers authorities = AndThen (EmitsSlice s.additionals) ⊤ (Third answers authorities)
 
     abbrev First : Written → State → Result WrittenSections ProtoError → State → Type 0
-    First answers = AndThen (EmitsPart emits_records n n') (d' ≡ d) (Second answers)
+    First answers = AndThen (EmitsSlice s.authorities) (s.additionals.behind ≡ s.additionals.before) (Second answers)
 
-    second_failed : (answers : Written) (second : State) → WritesRecords a.rest.now first second answers.count answers.is_cut
-        → Both (EmitsPart emits_records n n') (Second answers) second (Err e) last → e ≡ refusals.Memory
+    second_failed : (answers : Written) (second : State) → WritesRecords s.answers.before.rest.now first second answers.count answers.is_cut
+        → Both (EmitsSlice s.authorities) (Second answers) second (Err e) last → e ≡ refusals.Memory
     second_failed answers second one b =
-        let before = took_front a.rest.now k first second 0 answers.count answers.is_cut took one in
-        let next = slice_front RecordWord plain_record record_owner n n' second b.between b.value b.ran in
+        let before = took_front took one in
+        let next = records_front s.authorities second b.between b.value b.ran in
         elim (failed e b.rest) [
-          | inl part ↦ slice_failed d d' b.between last _ (took_front n.rest.now k second b.between _ b.value.count b.value.is_cut before next) part
+          | inl part ↦ slice_failed s.additionals b.between last _ (took_front before next) part
           | inr c ↦ absurd (let is = c.rest.0 in cc)
         ]
 
-    first_failed : Both (EmitsPart emits_records a a') First first (Err e) last → e ≡ refusals.Memory
+    first_failed : Both (EmitsSlice s.answers) First first (Err e) last → e ≡ refusals.Memory
     first_failed b =
-        let one = slice_front RecordWord plain_record record_owner a a' first b.between b.value b.ran in
+        let one = records_front s.answers first b.between b.value b.ran in
         elim (failed e b.rest) [
-          | inl part ↦ slice_failed n n' b.between last _ (took_front a.rest.now k first b.between 0 b.value.count b.value.is_cut took one) part
+          | inl part ↦ slice_failed s.authorities b.between last _ (took_front took one) part
           | inr c ↦ second_failed b.value b.between one c
         ]
 
-    sections_failed : EmitsSections emits_records emits_records emits_records a a' n n' d d' first (Err e) last → e ≡ refusals.Memory
-    sections_failed run = elim (failed e run) [ inl part ↦ slice_failed a a' first last 0 took part | inr b ↦ first_failed b ]
+    sections_failed : EmitsSlices s first (Err e) last → e ≡ refusals.Memory
+    sections_failed run = elim (failed e run) [ inl part ↦ slice_failed s.answers first last 0 took part | inr b ↦ first_failed b ]
 
   -- OPT and the signature
   module _ (edns signature : List (Record RData)) (additionals : Written) (fourth last : State) (before : ℕ) (took : Took k fourth (before + additionals.count)) where
@@ -99,12 +99,12 @@ module _ (k : State) (blank : k.suffixes ≡ []) (within : length k.bytes ≤ k.
     abbrev Second_extra : Written → State → Result Written ProtoError → State → Type 0
     Second_extra opt = AndThen (Tests (Adds additionals opt)) ⊤ Third_extra
 
-    signed_failed : (opt sum : Written) (fifth : State) → WritesRecords edns fourth fifth opt.count opt.is_cut → sum.count ≡ additionals.count + opt.count
+    signed_failed : {opt : Written} (sum : Written) (fifth : State) → WritesRecords edns fourth fifth opt.count opt.is_cut → sum.count ≡ additionals.count + opt.count
         → Both (WritesRecordItems signature) (Fourth sum) fifth (Err e) last → e ≡ refusals.Memory
-    signed_failed opt sum fifth front count b =
-        let second = took_front edns k fourth fifth (before + additionals.count) opt.count opt.is_cut took front in
-        let third = took_front signature k fifth b.between (before + additionals.count + opt.count) b.value.count b.value.is_cut second b.ran in
-        let few = took_few k b.between (before + additionals.count + opt.count + b.value.count) third blank within small in
+    signed_failed sum fifth front count b =
+        let second = took_front took front in
+        let third = took_front second b.ran in
+        let few = took_few fresh third in
         absurd (omega (arith, few, b.rest.0.0, count))
 
     sum_failed : (opt : Written) (fifth : State) → WritesRecords edns fourth fifth opt.count opt.is_cut → Both (Tests (Adds additionals opt)) Third_extra fifth (Err e) last → e ≡ refusals.Memory
@@ -112,13 +112,12 @@ module _ (k : State) (blank : k.suffixes ≡ []) (within : length k.bytes ≤ k.
         let front_again = subst (λ s. WritesRecords edns fourth s opt.count opt.is_cut) (sym b.ran.1) front in
         elim (failed e b.rest) [
           | inl memory ↦ memory
-          | inr c ↦ signed_failed opt b.value b.between front_again (ap (λ w. w.count) b.ran.0.1) c
+          | inr c ↦ signed_failed b.value b.between front_again (ap (λ w. w.count) b.ran.0.1) c
         ]
 
     opt_failed : Both (WritesRecordItems edns) Second_extra fourth (Err e) last → e ≡ refusals.Memory
     opt_failed b =
-        let few = took_few k b.between (before + additionals.count + b.value.count)
-        (took_front edns k fourth b.between (before + additionals.count) b.value.count b.value.is_cut took b.ran) blank within small in
+        let few = took_few fresh (took_front took b.ran) in
         elim (failed e b.rest) [
           | inl test ↦ absurd (omega (arith, few, test.0.0))
           | inr c ↦ sum_failed b.value b.between b.ran c
@@ -129,81 +128,71 @@ module _ (k : State) (blank : k.suffixes ≡ []) (within : length k.bytes ≤ k.
 
 -- ---- the whole
 
-module _ (m : MessageValue) (q q' : Iter Query) (a a' n n' d d' : Iter (Record RData)) (edns signature : List (Record RData)) (are : AreOf m q q' a a' n n' d d' edns signature) (old new : State)
+module _ (m : MessageValue) (s : Slices) (are : AreOf m s) (old new : State)
     (empty : old.bytes ≡ []) (blank : old.suffixes ≡ []) (small : old.limit < 2 ^ 16) (e : ProtoError) where
   abbrev Headed : ℕ → ℕ → WrittenSections → Written → State → Result Header ProtoError → State → Type 0
   Headed place queries sections additionals = AndThen (Tests (HasHeader m.metadata queries sections additionals)) ⊤ (FillsIn place)
 
   abbrev Extended : ℕ → ℕ → WrittenSections → State → Result Header ProtoError → State → Type 0
-  Extended place queries sections = AndThen (WritesExtras edns signature sections.additionals) ⊤ (Headed place queries sections)
+  Extended place queries sections = AndThen (WritesExtras s.edns s.signature sections.additionals) ⊤ (Headed place queries sections)
 
   abbrev Sectioned : ℕ → ℕ → State → Result Header ProtoError → State → Type 0
-  Sectioned place queries = AndThen (EmitsSections emits_records emits_records emits_records a a' n n' d d') ⊤ (Extended place queries)
+  Sectioned place queries = AndThen (EmitsSlices s) ⊤ (Extended place queries)
 
   abbrev Asked : ℕ → State → Result Header ProtoError → State → Type 0
-  Asked place = AndThen (λ s answer t. emits_queries q s answer q' t) ((a' ≡ a) × (n' ≡ n) × (d' ≡ d)) (Sectioned place)
+  Asked place = AndThen (λ a answer b. emits_queries s.queries.before a answer s.queries.behind b) (Idle s) (Sectioned place)
 
   module _ (place : ℕ) (kept : State) (room : KeepsRoom old (Ok place) kept) where
     limit : kept.limit ≡ old.limit
-    limit = ap (λ (s : State). s.limit) room.1
+    limit = ap (λ (a : State). a.limit) room.1
 
-    no_suffix : kept.suffixes ≡ []
-    no_suffix = ap (λ (s : State). s.suffixes) room.1 ∙ blank
+    fresh : IsFresh kept
+    fresh = record { no_suffix = ap (λ (a : State). a.suffixes) room.1 ∙ blank; within = omega (arith, room.2, limit); small = omega (arith, limit, small) }
 
-    kept_within : length kept.bytes ≤ kept.limit
-    kept_within = omega (arith, room.2, limit)
-
-    kept_small : kept.limit < 2 ^ 16
-    kept_small = omega (arith, limit, small)
-
-    header_failed : (queries : ℕ) (sixth : State) (sections : WrittenSections) (total : Written) → queries < 2 ^ 16
+    header_failed : {sixth : State} (queries : ℕ) (sections : WrittenSections) (total : Written) → queries < 2 ^ 16
         → AndThen (Tests (HasHeader m.metadata queries sections total)) ⊤ (FillsIn place) sixth (Err e) new → e ≡ refusals.Memory
-    header_failed queries sixth sections total few run =
+    header_failed queries sections total few run =
         elim (failed e run) [
           | inl test ↦ absurd (omega (arith, test.0.0, few))
           | inr b ↦ absurd (let is = b.rest.0 in cc)
         ]
 
-    extras_next : (queries : ℕ) (first fourth : State) (sections : WrittenSections) → queries < 2 ^ 16 → Took kept first 0 → ThreeFronts a.rest.now n.rest.now d.rest.now first fourth sections
-        → AndThen (WritesExtras edns signature sections.additionals) ⊤ (Headed place queries sections) fourth (Err e) new → e ≡ refusals.Memory
-    extras_next queries first fourth sections few took three run =
-        let one = took_front a.rest.now kept first three.second 0 sections.answers.count sections.answers.is_cut took three.answers in
-        let two = took_front n.rest.now kept three.second three.third (0 + sections.answers.count) sections.authorities.count sections.authorities.is_cut one three.authorities in
-        let all = took_front d.rest.now kept three.third fourth (0 + sections.answers.count + sections.authorities.count)
-        sections.additionals.count sections.additionals.is_cut two three.additionals in
+    extras_next : {first fourth : State} {sections : WrittenSections} (queries : ℕ) → queries < 2 ^ 16 → Took kept first 0 → SectionFronts s first fourth sections
+        → AndThen (WritesExtras s.edns s.signature sections.additionals) ⊤ (Headed place queries sections) fourth (Err e) new → e ≡ refusals.Memory
+    extras_next {fourth = fourth} {sections = sections} queries few took three run =
+        let all = took_front (took_front (took_front took three.answers) three.authorities) three.additionals in
         elim (failed e run) [
-          | inl extras ↦ extras_failed kept no_suffix kept_within kept_small e edns signature sections.additionals fourth new (0 + sections.answers.count + sections.authorities.count) all extras
-          | inr b ↦ header_failed queries b.between sections b.value few b.rest
+          | inl extras ↦ extras_failed kept fresh e s.edns s.signature sections.additionals fourth new (0 + sections.answers.count + sections.authorities.count) all extras
+          | inr b ↦ header_failed queries sections b.value few b.rest
         ]
 
     sections_next : (queries : ℕ) (first : State) → queries < 2 ^ 16 → Took kept first 0 → Sectioned place queries first (Err e) new → e ≡ refusals.Memory
     sections_next queries first few took run =
         elim (failed e run) [
-          | inl sections ↦ sections_failed kept no_suffix kept_within kept_small e a a' n n' d d' first new took sections
-          | inr b ↦ extras_next queries first b.between b.value few took (sections_done a a' n n' d d' b.value first b.between b.ran) b.rest
+          | inl sections ↦ sections_failed kept fresh e s first new took sections
+          | inr b ↦ extras_next queries few took (sections_done s b.value first b.between b.ran) b.rest
         ]
 
     queries_next : Asked place kept (Err e) new → Left m old new e
     queries_next run =
         elim (failed e run) [
-          | inl queries ↦ queries_failed m q q' a a' n n' d d' edns signature are old new place kept room e queries
-          | inr b ↦ inl (asked_next b.value b.between (Emits-slice QueryWord plain_query query_owner q q' kept b.between b.value b.ran) b.rest)
+          | inl queries ↦ queries_failed m s are old new place kept room e queries
+          | inr b ↦ inl (asked_next b.value b.between (Emits-slice QueryWord plain_query query_owner s.queries.before s.queries.behind kept b.between b.value b.ran) b.rest)
         ]
       where
-        asked_next : (queries : ℕ) (first : State) → EachWritten QueryWord plain_query query_owner q.rest.now kept first × (queries ≡ length q.rest.now)
+        asked_next : (queries : ℕ) (first : State) → EachWritten QueryWord plain_query query_owner s.queries.before.rest.now kept first × (queries ≡ length s.queries.before.rest.now)
             → Sectioned place queries first (Err e) new → e ≡ refusals.Memory
         asked_next queries first asked rest =
-            let few = queries_few q.rest.now kept first asked.0 no_suffix kept_within kept_small in
-            sections_next queries first (omega (arith, asked.1, few)) (took_queries q.rest.now kept first asked.0) rest
+            let few = queries_few s.queries.before.rest.now kept first fresh asked.0 in
+            sections_next queries first (omega (arith, asked.1, few)) (took_queries s.queries.before.rest.now kept first asked.0) rest
 
-  pub composed_failed : Composed m q q' a a' n n' d d' edns signature old (Err e) new → Left m old new e
+  pub composed_failed : Composed m s old (Err e) new → Left m old new e
   composed_failed run = elim (failed e run) [ inl room ↦ room_failed m old new e room | inr b ↦ queries_next b.value b.between b.ran b.rest ]
 
-pub left_if : (m : MessageValue) (q q' : Iter Query) (a a' n n' d d' : Iter (Record RData)) (edns signature : List (Record RData)) → AreOf m q q' a a' n n' d d' edns signature
-    → (old new : State) (result : Result Header ProtoError)
-    → Composed m q q' a a' n n' d d' edns signature old result new → old.bytes ≡ [] → old.suffixes ≡ [] → old.limit < 2 ^ 16 → IfErr result (λ e. (e ≡ refusals.Memory) ⊎ Leaves m old e new)
-left_if m q q' a a' n n' d d' edns signature are old new (Ok h) run empty blank small = tt
-left_if m q q' a a' n n' d d' edns signature are old new (Err e) run empty blank small = composed_failed m q q' a a' n n' d d' edns signature are old new empty blank small e run
+pub left_if : {m : MessageValue} {s : Slices} {old new : State} → AreOf m s → (result : Result Header ProtoError) → Composed m s old result new
+    → old.bytes ≡ [] → old.suffixes ≡ [] → old.limit < 2 ^ 16 → IfErr result (λ e. (e ≡ refusals.Memory) ⊎ Leaves m old e new)
+left_if are (Ok h) run empty blank small = tt
+left_if {m} {s} {old} {new} are (Err e) run empty blank small = composed_failed m s are old new empty blank small e run
 
 -- ---- what follows of the limit
 

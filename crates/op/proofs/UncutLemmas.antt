@@ -52,9 +52,9 @@ listed_same (Some x) (Some y) is = cc
 none_lost : {X : Type 0} (lost : List X) → lost ≡ [] → any_lost lost ≡ false
 none_lost lost is = ap any_lost is
 
-same_truncation : (t a b c d f : Bool) → a ≡ false → b ≡ false → c ≡ false → d ≡ false → f ≡ false → (t || (a || (b || (c || (d || f))))) ≡ t
-same_truncation true a b c d f p q r s u = refl
-same_truncation false a b c d f p q r s u = rw (p, q, r, s, u) refl
+same_truncation : {a b c d f : Bool} (t : Bool) → a ≡ false → b ≡ false → c ≡ false → d ≡ false → f ≡ false → (t || (a || (b || (c || (d || f))))) ≡ t
+same_truncation true p q r s u = refl
+same_truncation false p q r s u = rw (p, q, r, s, u) refl
 
 -- ---- codes
 
@@ -115,7 +115,7 @@ uncut_written m limit C c k (no_answers, no_authorities, no_additionals, no_edns
     let additionals : c.additionals ≡ m.additionals = whole_of m.additionals c.additionals k.additionals.lost k.additionals.front no_additionals in
     let edns : c.edns ≡ raised m = listed_same c.edns (raised m) (whole_of (listed (raised m)) (listed c.edns) k.edns.lost k.edns.front no_edns) in
     let signature : c.signature ≡ m.signature = listed_same c.signature m.signature (whole_of (listed m.signature) (listed c.signature) k.signature.lost k.signature.front no_signature) in
-    let truncation = same_truncation m.metadata.truncation (any_lost k.answers.lost) (any_lost k.authorities.lost) (any_lost k.additionals.lost) (any_lost k.edns.lost) (any_lost k.signature.lost)
+    let truncation = same_truncation m.metadata.truncation
     (none_lost k.answers.lost no_answers) (none_lost k.authorities.lost no_authorities) (none_lost k.additionals.lost no_additionals)
     (none_lost k.edns.lost no_edns) (none_lost k.signature.lost no_signature) in
     let range : code_range c.edns ≡ code_range m.edns = ap code_range edns ∙ range_raised (with_high_bits m.metadata.response_code) m.edns in

@@ -111,10 +111,11 @@ pub some_filled : (xs : List (Record RData)) (n : ℕ) → n ≡ length xs → (
 some_filled [] n l e = absurd (true≢false (ap (λ k. k == 0) (sym l) ∙ e))
 some_filled (x ∷ xs) n l e = λ f. cc
 
-pub made_set : (class : DNSClass) (k : RrKey) (owner : NameValue) (t : RecordType) (ttl : ℕ) (xs : List (Record RData)) (s : SetValue) (m n : BTreeMap RrKey SetValue)
+-- a set that was made of records is the set at its key
+pub made_set : {class : DNSClass} {k : RrKey} {owner : NameValue} {t : RecordType} {ttl : ℕ} {xs : List (Record RData)} {s : SetValue} {m n : BTreeMap RrKey SetValue}
     → k ≡ key_of owner t → Distinct xs → xs ≢ []
     → s ≡ record { name = owner; record_type = t; dns_class = class; ttl = ttl; records = xs; serial = 0 } → tree.Updates key_cmp m n k (Some s) → IsSetTo class k xs m n
-made_set class k owner t ttl xs s m n own apart full is h = record {
+made_set {class} {k} {s = s} own apart full is h = record {
   set = Some s;
   records = ap (λ (p : SetValue). p.records) is;
   fits = λ p e. subst (λ q. IsZoneSet class k q) (sym is ∙ injected s p e) (record { own_key = sym own; own_class = refl; filled = full; distinct = apart });

@@ -118,7 +118,8 @@ module _ (owner : NameValue) {X : Type 0} where
   next_other e es h = take_while-cons owned_entry e es ∙ cond-false _ _ _ h
 
   module _ (p : RrKey → Bool) where
-    any_step : (e : RrKey × X) (fs : List (RrKey × X)) (c b : Bool) → is_owned owner e.0 ≡ b → list_any (passes owner p) (keys_of fs) ≡ c → list_any (passes owner p) (keys_of (cond b (e ∷ fs) fs)) ≡ (passes owner p e.0 || c)
+    any_step : (e : RrKey × X) (fs : List (RrKey × X)) (c b : Bool) → is_owned owner e.0 ≡ b → list_any (passes owner p) (keys_of fs) ≡ c
+        → list_any (passes owner p) (keys_of (cond b (e ∷ fs) fs)) ≡ (passes owner p e.0 || c)
     any_step e fs c true h more = ap (λ d. passes owner p e.0 || d) more
     any_step e fs c false h more = more ∙ sym (ap (λ b. (b && p e.0) || c) h)
 
@@ -170,19 +171,19 @@ module _ (owner : NameValue) (p : RrKey → Bool) {X : Type 0} where
       → list_any (passes owner p) (keys_of (take_while (owned_entry owner) s)) ≡ c → false ≡ c
   any_other s es e c h other more = sym (ap (λ xs. list_any (passes owner p) (keys_of xs)) (ap (take_while (owned_entry owner)) h ∙ next_other owner e es other)) ∙ more
 
-  pub kept_here : (s es : List (RrKey × X)) (e : RrKey × X) (found more ks : List RrKey) → more ≡ found ++ e.0 ∷ [] → s ≡ e ∷ es → is_owned owner e.0 ≡ true → p e.0 ≡ true
+  pub kept_here : {s es : List (RrKey × X)} {e : RrKey × X} {more ks : List RrKey} (found : List RrKey) → more ≡ found ++ e.0 ∷ [] → s ≡ e ∷ es → is_owned owner e.0 ≡ true → p e.0 ≡ true
       → found ++ filter (passes owner p) (keys_of (take_while (owned_entry owner) s)) ≡ ks
       → more ++ filter (passes owner p) (keys_of (take_while (owned_entry owner) es)) ≡ ks
-  kept_here s es e found more ks m h own good so_far = ap (λ xs. xs ++ rest) m ∙ append_assoc found (e.0 ∷ []) rest
+  kept_here {s} {es} {e} found m h own good so_far = ap (λ xs. xs ++ rest) m ∙ append_assoc found (e.0 ∷ []) rest
       ∙ sym (ap (λ xs. found ++ filter (passes owner p) (keys_of xs)) (ap (take_while (owned_entry owner)) h ∙ next_owned owner e es own)
       ∙ ap (λ b. found ++ cond (b && p e.0) (e.0 ∷ rest) rest) own ∙ ap (λ b. found ++ cond b (e.0 ∷ rest) rest) good) ∙ so_far where
         rest : List RrKey
         rest = filter (passes owner p) (keys_of (take_while (owned_entry owner) es))
 
-  pub kept_next : (s es : List (RrKey × X)) (e : RrKey × X) (found ks : List RrKey) → s ≡ e ∷ es → is_owned owner e.0 ≡ true → p e.0 ≡ false
+  pub kept_next : {s es : List (RrKey × X)} {e : RrKey × X} {ks : List RrKey} (found : List RrKey) → s ≡ e ∷ es → is_owned owner e.0 ≡ true → p e.0 ≡ false
       → found ++ filter (passes owner p) (keys_of (take_while (owned_entry owner) s)) ≡ ks
       → found ++ filter (passes owner p) (keys_of (take_while (owned_entry owner) es)) ≡ ks
-  kept_next s es e found ks h own bad more =
+  kept_next {s} {es} {e} found h own bad more =
       sym (ap (λ xs. found ++ filter (passes owner p) (keys_of xs)) (ap (take_while (owned_entry owner)) h ∙ next_owned owner e es own)
       ∙ ap (λ b. found ++ cond (b && p e.0) (e.0 ∷ rest) rest) own ∙ ap (λ b. found ++ cond b (e.0 ∷ rest) rest) bad) ∙ more where
         rest : List RrKey
@@ -229,7 +230,9 @@ turned true false o = refl
 turned false b o = refl
 
 -- the entries behind, where all of an owner's keys that aren't guarded are taken out
-pub all_gone : {X : Type 0} (owner : NameValue) (guarded : RrKey → Bool) (es : List (RrKey × X)) (q : RrKey) → cond (list_any (λ x. eq_by_cmp key_cmp x q) (filter (passes owner (λ k. not (guarded k))) (keys_of es))) None (lookup (is_at (key_cmp q)) es) ≡ cond (not (is_owned owner q) || guarded q) (lookup (is_at (key_cmp q)) es) None
+pub all_gone : {X : Type 0} (owner : NameValue) (guarded : RrKey → Bool) (es : List (RrKey × X)) (q : RrKey)
+    → cond (list_any (λ x. eq_by_cmp key_cmp x q) (filter (passes owner (λ k. not (guarded k))) (keys_of es))) None (lookup (is_at (key_cmp q)) es)
+    ≡ cond (not (is_owned owner q) || guarded q) (lookup (is_at (key_cmp q)) es) None
 all_gone {X} owner guarded es q = ap (λ b. cond b None (lookup (is_at (key_cmp q)) es)) (listed (λ k. is_owned owner k && not (guarded k)) q (keys_of es))
     ∙ gone (is_owned owner q && not (guarded q)) (list_any (λ x. eq_by_cmp key_cmp x q) (keys_of es)) (lookup (is_at (key_cmp q)) es) (absent q es)
     ∙ turned (is_owned owner q) (guarded q) (lookup (is_at (key_cmp q)) es)

@@ -14,13 +14,13 @@ test_of : (r d : Record RData) (xs ys : List (Record RData)) (i : ℕ) (b : Bool
     → has_data_of r (get_or xs i d) ≡ b
 test_of r d xs ys i b e read t = ap (has_data_of r) (sym (read ∙ ap (λ zs. get_or zs i d) e)) ∙ t
 
-pub step_yes : (r copy d : Record RData) (xs ys : List (Record RData)) (i : ℕ) → i < length xs → ys ≡ replaced r (take i xs) ++ drop i xs → d ≡ get_or ys i d
+pub step_yes : {copy d : Record RData} {ys : List (Record RData)} (r : Record RData) (xs : List (Record RData)) (i : ℕ) → i < length xs → ys ≡ replaced r (take i xs) ++ drop i xs → d ≡ get_or ys i d
     → same_data d.rdata r.rdata ≡ true → copy ≡ r → set ys i copy ≡ replaced r (take (i + 1) xs) ++ drop (i + 1) xs
-step_yes r copy d xs ys i h e read t same =
+step_yes {d = d} {ys = ys} r xs i h e read t same =
     (λ j. set (e j) i (same j)) ∙ replaced_yes r xs i d h (test_of r d (replaced r (take i xs) ++ drop i xs) ys i true e read t)
     ∙ ap (λ n. replaced r (take n xs) ++ drop n xs) (one_more i)
 
-pub step_no : (r d : Record RData) (xs ys : List (Record RData)) (i : ℕ) → i < length xs → ys ≡ replaced r (take i xs) ++ drop i xs → d ≡ get_or ys i d
+pub step_no : {d : Record RData} {ys : List (Record RData)} (r : Record RData) (xs : List (Record RData)) (i : ℕ) → i < length xs → ys ≡ replaced r (take i xs) ++ drop i xs → d ≡ get_or ys i d
     → same_data d.rdata r.rdata ≡ false → ys ≡ replaced r (take (i + 1) xs) ++ drop (i + 1) xs
-step_no r d xs ys i h e read t =
+step_no {d} {ys} r xs i h e read t =
     e ∙ replaced_no r xs i d h (test_of r d (replaced r (take i xs) ++ drop i xs) ys i false e read t) ∙ ap (λ n. replaced r (take n xs) ++ drop n xs) (one_more i)

@@ -49,7 +49,8 @@ module _ (origin : NameValue) (class : DNSClass) (m : BTreeMap RrKey SetValue) w
   fault_use : (u : UseValue) (r : Record RData) → fault_by u (found_in m r) r ≡ prerequisite_by u (zone_of_map origin class m) r
   fault_use OfAny r = ap (and_then (unless (is_empty_data r.rdata) FormErr)) (ap (λ f. unless f (if is_any (type_of_record r) then NXDomain else NXRRSet)) (found_zone r)
       ∙ chosen (is_any (type_of_record r)) _ _ NXDomain NXRRSet)
-  fault_use OfNone r = ap (and_then (unless (is_empty_data r.rdata) FormErr)) (ap (λ f. unless (not f) (if is_any (type_of_record r) then YXDomain else YXRRSet)) (found_zone r) ∙ chosen_not (is_any (type_of_record r)) _ _ YXDomain YXRRSet)
+  fault_use OfNone r = ap (and_then (unless (is_empty_data r.rdata) FormErr)) (ap (λ f. unless (not f) (if is_any (type_of_record r) then YXDomain else YXRRSet)) (found_zone r)
+      ∙ chosen_not (is_any (type_of_record r)) _ _ YXDomain YXRRSet)
   fault_use OfZone r = refl
   fault_use OfNothing r = refl
 
@@ -96,7 +97,8 @@ module _ (origin : NameValue) (class : DNSClass) (m : BTreeMap RrKey SetValue) (
 -- the code of an update
 pub fault_is : (origin : NameValue) (class : DNSClass) (m : BTreeMap RrKey SetValue) (s : Sections) → fault_here origin class m s ≡ fault (zone_of_map origin class m) s
 fault_is origin class m s =
-    ap (λ f. and_then (zone_fault (zone_of_map origin class m) s.zones) (and_then f (first_fault (prescan_fault (zone_of_map origin class m)) s.updates))) (prerequisites_same origin class m s.prerequisites)
+    ap (λ f. and_then (zone_fault (zone_of_map origin class m) s.zones) (and_then f (first_fault (prescan_fault (zone_of_map origin class m)) s.updates)))
+    (prerequisites_same origin class m s.prerequisites)
 
 -- what an update that is served leaves under a key
 spelled_as : (origin : NameValue) (class : DNSClass) (m : BTreeMap RrKey SetValue) (s : Sections) (q : RrKey) (found : Fault) → is_all_served s ≡ true

@@ -15,10 +15,10 @@ use Rattle.rr.specs.Record.{RecordWord}
 use Rattle.rr.specs.declared.record.Record.{Record}
 
 -- what is written one behind the other are the fields of a record
-pub record_word : (r : Record RData) (type field : ℕ) → type ≡ type_number (type_of_data r.rdata) → field ≡ class_field r.mdns_cache_flush (class_number r.dns_class)
+pub record_word : {type field : ℕ} (r : Record RData) → type ≡ type_number (type_of_data r.rdata) → field ≡ class_field r.mdns_cache_flush (class_number r.dns_class)
     → (word : List ℕ → ℕ → ℕ → Type 0) → ((B : List ℕ) (i e : ℕ) → word B i e → DataWord r.rdata B i e)
     → (B : List ℕ) (i e : ℕ) → Then (NameAt r.name.labels) (Then (Number w16 type) (Then (Number w16 field) (Then (Number w32 r.ttl) (Sized word)))) B i e → RecordWord r B i e
-record_word r type field type_is field_is word as_data B i e h =
+record_word r type_is field_is word as_data B i e h =
     let m = h.0 in
     let at = h.2 in
     let class_at = h.2.2 in

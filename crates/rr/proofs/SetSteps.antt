@@ -63,17 +63,17 @@ test_at : (r d : Record RData) (xs : List (Record RData)) (i : ℕ) (b : Bool) �
 test_at r d xs i b h read t = ap (has_data_of r) (past r xs i d h ∙ sym read) ∙ t
 
 -- one more copy, for a place with the same data
-pub copy_pushed : (r copy d : Record RData) (xs : List (Record RData)) (ps : List (ℕ × Record RData)) (i : ℕ) → i < length xs
+pub copy_pushed : {copy d : Record RData} (r : Record RData) (xs : List (Record RData)) (ps : List (ℕ × Record RData)) (i : ℕ) → i < length xs
     → renewed ps xs ≡ replaced r (take i xs) ++ drop i xs → d ≡ get_or xs i d → same_data d.rdata r.rdata ≡ true → copy ≡ r
     → renewed (ps ++ (i, copy) ∷ []) xs ≡ replaced r (take (i + 1) xs) ++ drop (i + 1) xs
-copy_pushed r copy d xs ps i h e read t same =
+copy_pushed {copy} {d} r xs ps i h e read t same =
     renewed_push ps (i, copy) xs ∙ (λ j. set (e j) i (same j)) ∙ replaced_yes r xs i d h (test_at r d xs i true h read t) ∙ ap (λ n. replaced r (take n xs) ++ drop n xs) (one_more i)
 
 -- no copy, for a place with other data
-pub copy_skipped : (r d : Record RData) (xs : List (Record RData)) (ps : List (ℕ × Record RData)) (i : ℕ) → i < length xs
+pub copy_skipped : {d : Record RData} (r : Record RData) (xs : List (Record RData)) (ps : List (ℕ × Record RData)) (i : ℕ) → i < length xs
     → renewed ps xs ≡ replaced r (take i xs) ++ drop i xs → d ≡ get_or xs i d → same_data d.rdata r.rdata ≡ false
     → renewed ps xs ≡ replaced r (take (i + 1) xs) ++ drop (i + 1) xs
-copy_skipped r d xs ps i h e read t =
+copy_skipped {d} r xs ps i h e read t =
     e ∙ replaced_no r xs i d h (test_at r d xs i false h read t) ∙ ap (λ n. replaced r (take n xs) ++ drop n xs) (one_more i)
 
 any_at : (b c : Bool) (x : Bool) → (b || (c || x)) ≡ ((b || c) || x)

@@ -1,9 +1,9 @@
 -- Writing a record, step by step.
-use Rattle.std.proofs.Common.{◌≡◌, ◌∙◌, ℕ, ◌+◌, ◌^◌, ◌<◌, ◌≤◌, [], length, refl, arith, Result}
+use Rattle.std.proofs.Common.{List, ◌≡◌, ◌∙◌, ℕ, ◌+◌, ◌^◌, ◌<◌, ◌≤◌, [], length, refl, arith, Result}
 use Rattle.std.specs.Prelude.{OnOk}
 use Rattle.std.specs.Int.{w32, to_be_bytes}
 use Rattle.base.specs.declared.error.proto_error.ProtoError.{ProtoError}
-use Rattle.base.specs.Laws.{Writes}
+use Rattle.base.specs.Laws.{Keeps, Writes}
 use Rattle.base.specs.State.{State, appended}
 use Rattle.base.specs.Wire.{Refuses}
 use Rattle.base.specs.Words.{Number}
@@ -23,19 +23,17 @@ whole_record name rdata len same = omega (arith, same)
 pub name_refused : {X : Type 0} (name rdata : ℕ) (a : State) (r : Result X ProtoError) → Refuses name a r → Refuses (name + (10 + rdata)) a r
 name_refused name rdata a r refuses = Refuses-earlier r name (name + (10 + rdata)) a a refl (omega arith) refuses
 
-module _ (name rdata : ℕ) (a b : State) (limit : b.limit ≡ a.limit) (most : length b.bytes ≤ length a.bytes + name) where
-  pub type_refused : {X : Type 0} (r : Result X ProtoError) → Refuses 2 b r → Refuses (name + (10 + rdata)) a r
-  type_refused r refuses = Refuses-earlier r 2 (name + (10 + rdata)) a b limit (omega (arith, most)) refuses
+-- Between two states no more than so many bytes were written, and the limit stayed.
+pub record Took (n : ℕ) (a b : State) : Type 0 where
+  pub limit : b.limit ≡ a.limit
+  pub most : length b.bytes ≤ length a.bytes + n
 
-  module _ (c : State) (limit_c : c.limit ≡ b.limit) (most_c : length c.bytes ≤ length b.bytes + 2) where
-    pub class_refused : {X : Type 0} (r : Result X ProtoError) → Refuses 2 c r → Refuses (name + (10 + rdata)) a r
-    class_refused r refuses = Refuses-earlier r 2 (name + (10 + rdata)) a c (limit_c ∙ limit) (omega (arith, most, most_c)) refuses
+pub took : {word : List ℕ → ℕ → ℕ → Type 0} {n : ℕ} {owner : List (List ℕ)} {a b : State} → Keeps a b → Writes word n owner a b → Took n a b
+took keeps writes = record { limit = keeps.limit; most = writes.at_most }
 
-    module _ (d : State) (limit_d : d.limit ≡ c.limit) (most_d : length d.bytes ≤ length c.bytes + 2) where
-      pub ttl_refused : {X : Type 0} (r : Result X ProtoError) → Refuses 4 d r → Refuses (name + (10 + rdata)) a r
-      ttl_refused r refuses = Refuses-earlier r 4 (name + (10 + rdata)) a d (limit_d ∙ (limit_c ∙ limit)) (omega (arith, most, most_c, most_d)) refuses
+pub took_more : {m n : ℕ} {a b c : State} → Took m a b → Took n b c → Took (m + n) a c
+took_more first next = record { limit = next.limit ∙ first.limit; most = omega (arith, first.most, next.most) }
 
-      pub data_refused : {X : Type 0} (e : State) → e.limit ≡ d.limit → length e.bytes ≤ length d.bytes + 4
-          → (len : ℕ) → rdata ≡ len → (r : Result X ProtoError) → Refuses (2 + len) e r → Refuses (name + (10 + rdata)) a r
-      data_refused e limit_e most_e len same r refuses =
-          Refuses-earlier r (2 + len) (name + (10 + rdata)) a e (limit_e ∙ (limit_d ∙ (limit_c ∙ limit))) (omega (arith, most, most_c, most_d, most_e, same)) refuses
+-- what was refused behind that was refused for the whole
+pub refused_behind : {X : Type 0} {m : ℕ} {a b : State} (r : Result X ProtoError) (n whole : ℕ) → Took m a b → m + n ≤ whole → Refuses n b r → Refuses whole a r
+refused_behind {a = a} {b = b} r n whole took fits refuses = Refuses-earlier r n whole a b took.limit (omega (arith, took.most, fits)) refuses

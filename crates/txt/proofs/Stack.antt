@@ -349,10 +349,10 @@ cost_in_is : (texts : Texts) (max n : ℕ) (name text : List ℕ) → n < max �
 unfolding cost_in
 cost_in_is texts max n name text less found = ap (λ (room : ℕ). cost_in texts room name) (room_is max n less) ∙ ap (cost_opened (cost_in texts (max - suc n))) found
 
-pub work_opened : (texts : Texts) (max : ℕ) (fs : List Frame) (f : Frame) (s : State) (unread : Unread) (name text : List ℕ)
+pub work_opened : {name text : List ℕ} (texts : Texts) (max : ℕ) (fs : List Frame) (f : Frame) (s : State) (unread : Unread)
     → taken s (symbols unread) ≡ Ok (opens name (symbols f.lexer)) → length fs < max → texts name ≡ Some text → work texts max (f ∷ fs) (whole_text text) < work texts max fs unread
 unfolding taken
-work_opened texts max fs f s unread name text is room found =
+work_opened {name} {text} texts max fs f s unread is room found =
     omega (
       arith,
       ap (cost (cost_in texts (max - length fs))) (entries_are (symbols unread)),

@@ -43,15 +43,15 @@ unfolded p text includes origin start is begins =
     ∙ ap (λ (s : State). answer_of (folded_text (texts_in includes) s text)) (sym begins)
 
 -- what is answered behind all entries is the answer
-pub parsed : {X : Type 0} (view : X → NameValue × ZoneSets) (result : Result X ParseError) (p : ParserValue) (text : List ℕ) (includes : BTreeMap (String Global) (String Global))
-    (origin : Option NameValue) (start t : State) → p ≡ record { text = text; includes = named_texts includes; origin = origin } → start ≡ beginning origin
+pub parsed : {X : Type 0} {p : ParserValue} {text : List ℕ} {origin : Option NameValue} {start t : State} (view : X → NameValue × ZoneSets) (result : Result X ParseError)
+    (includes : BTreeMap (String Global) (String Global)) → p ≡ record { text = text; includes = named_texts includes; origin = origin } → start ≡ beginning origin
     → folded_text (texts_in includes) start text ≡ Ok t → Gives view result (answered t) → Gives view result (zone_of (text_among p.includes) p.origin p.text)
-parsed view result p text includes origin start t is begins folded answers =
+parsed {p = p} {text = text} {origin = origin} {start = start} view result includes is begins folded answers =
     subst (Gives view result) (sym (unfolded p text includes origin start is begins ∙ ap answer_of folded)) answers
 
 -- what the entries are refused for is what the text is refused for
-pub not_parsed : (p : ParserValue) (text : List ℕ) (includes : BTreeMap (String Global) (String Global)) (origin : Option NameValue) (start : State) (e : ParseError)
+pub not_parsed : {p : ParserValue} {text : List ℕ} {origin : Option NameValue} {start : State} (includes : BTreeMap (String Global) (String Global)) (e : ParseError)
     → p ≡ record { text = text; includes = named_texts includes; origin = origin } → start ≡ beginning origin
     → Fails e (folded_text (texts_in includes) start text) → Fails e (zone_of (text_among p.includes) p.origin p.text)
-not_parsed p text includes origin start e is begins fails =
+not_parsed {p} {text} {origin} {start} includes e is begins fails =
     Fails-through e (λ fault here. unfolded p text includes origin start is begins ∙ ap answer_of here) fails

@@ -6,6 +6,7 @@ ghost use Rattle.std.specs.Option.{option_copied, option_map};
 ghost use Rattle.base.specs.Labels.{NameValue, IsWire, labels_of};
 ghost use Rattle.base.specs.NameOf.{name_of};
 ghost use Rattle.base.specs.NameText.{IsLabelsText, IsNameText, decimal_char, escaped_char, first_char};
+ghost use Rattle.base.specs.TextChar.{character_of};
 ghost use Rattle.base.specs.TextFaults.{Gives};
 
 use crate::error::ParseError;
@@ -78,7 +79,7 @@ impl Name {
 #[tactic(auto, unfolding(crate::specs::NameText::decimal_char))]
 fn decimal_char(first: u8, text: &[u8]) -> Option<(TextChar, &[u8])>
     requires { IsTrue (is_ascii_digit first) }
-    ensures value { option_map (λ r. (r.0, r.1.now)) result ≡ decimal_char first text.now }
+    ensures value { option_map (λ r. (character_of r.0, r.1.now)) result ≡ decimal_char first text.now }
     ensures shorter { IfSome result (λ r. length r.1.now < length text.now) }
 {
     let [second, third, rest @ ..] = text else {
@@ -99,7 +100,7 @@ fn decimal_char(first: u8, text: &[u8]) -> Option<(TextChar, &[u8])>
 /// The character of a backslash and what is behind it, and the text behind that.
 #[tactic(auto, unfolding(crate::specs::NameText::escaped_char))]
 fn escaped_char(text: &[u8]) -> Option<(TextChar, &[u8])>
-    ensures value { option_map (λ r. (r.0, r.1.now)) result ≡ escaped_char text.now }
+    ensures value { option_map (λ r. (character_of r.0, r.1.now)) result ≡ escaped_char text.now }
     ensures shorter { IfSome result (λ r. length r.1.now < length text.now) }
 {
     let [first, rest @ ..] = text else {
@@ -117,7 +118,7 @@ fn escaped_char(text: &[u8]) -> Option<(TextChar, &[u8])>
 /// The first character of a text, and the text behind it; none where the text begins with no character.
 #[tactic(auto, unfolding(crate::specs::NameText::first_char))]
 fn first_char(text: &[u8]) -> Option<(TextChar, &[u8])>
-    ensures value { option_map (λ r. (r.0, r.1.now)) result ≡ first_char text.now }
+    ensures value { option_map (λ r. (character_of r.0, r.1.now)) result ≡ first_char text.now }
     ensures shorter { IfSome result (λ r. length r.1.now < length text.now) }
 {
     let [first, rest @ ..] = text else {

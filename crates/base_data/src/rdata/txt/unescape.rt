@@ -1,7 +1,8 @@
 //! Reads character strings from the items of a text (RFC 1035, 5.1).
 
 ghost use Rattle.std.specs.Prelude.{◌≡◌, ◌≤◌, IfOk, IfSome, length, option_map};
-ghost use Rattle.base_data.specs.StringItems.{escape_step, string_item, unescaped};
+ghost use Rattle.base_data.specs.Escape.{escape_of};
+ghost use Rattle.base_data.specs.StringItems.{escape_step, no_escape, string_item, unescaped};
 
 use std::alloc::{AllocError, Global};
 
@@ -21,7 +22,7 @@ enum Escape {
 /// What a byte is behind as much of an escape: a byte of the string or none, and as much of an escape then. None where
 /// it can't stand there: fewer than three digits, or a number above 255.
 fn escape_step(state: Escape, byte: u8) -> Option<(Option<u8>, Escape)>
-    ensures { result ≡ escape_step state byte }
+    ensures { option_map (λ r. (r.0, escape_of r.1)) result ≡ escape_step (escape_of state) byte }
 {
     match state {
         Escape::Outside => {
@@ -60,7 +61,7 @@ fn escape_step(state: Escape, byte: u8) -> Option<(Option<u8>, Escape)>
 
 /// The bytes of a text; none where an escape is written wrongly. Refused for want of memory.
 fn unescaped(alloc: Global, text: &[u8]) -> Result<Option<Vec<u8>>, AllocError>
-    ensures { IfOk result (λ r. option_map (λ v. v.items) r ≡ unescaped Escape.Outside text.now) }
+    ensures { IfOk result (λ r. option_map (λ v. v.items) r ≡ unescaped no_escape text.now) }
 {
     let mut bytes = Vec::new(alloc);
     let mut state = Escape::Outside;

@@ -1,4 +1,4 @@
-use Rattle.std.proofs.Common.{rules, ap, sym, ◌∙◌, take, ◌∷◌, [], ◌++◌, ◌+◌}
+use Rattle.std.proofs.Common.{rules, ap, sym, ◌∙◌, take, ◌∷◌, [], ◌++◌}
 use Rattle.std.proofs.lemmas.List.{map-append, take_more}
 use Rattle.std.proofs.lemmas.Map.Text.{btree_map_updates_text}
 use Rattle.std.specs.Prelude.{Some, String}
@@ -12,9 +12,11 @@ pub loop-word-preserved : goal.loop-word-preserved
 loop-word-preserved c =
     let more = ap texts (take_more c.args.words.now c.loop-word.word-index c.word-item.result c.loop-word-test.true)
     ∙ map-append string_bytes (take c.loop-word.word-index c.args.words.now) _ in
-    text_put c.loop-word.includes c.insert.new.self c.in_ok-from_str.field-0 c.in_ok-from_str-2.field-0 (texts (take c.loop-word.word-index c.args.words.now))
-    (texts (take (c.loop-word.word-index + 1) c.args.words.now)) (string_bytes c.word-item.result)
-    c.loop-word.invariant
-    (btree_map_updates_text (string_bytes c.in_ok-from_str.field-0) c.loop-word.includes c.insert.new.self (Some c.in_ok-from_str-2.field-0) c.in_ok-insert.ensures.updates)
-    (search rules) (search rules)
+    text_put c.loop-word.includes c.insert.new.self (texts (take c.loop-word.word-index c.args.words.now)) c.loop-word.invariant (record {
+      key = c.in_ok-from_str.field-0;
+      text = c.in_ok-from_str-2.field-0;
+      puts = btree_map_updates_text (string_bytes c.in_ok-from_str.field-0) c.loop-word.includes c.insert.new.self (Some c.in_ok-from_str-2.field-0) c.in_ok-insert.ensures.updates;
+      key_is = search rules;
+      text_is = search rules;
+    })
     (more ∙ ap (λ (w : String Global). texts (take c.loop-word.word-index c.args.words.now) ++ string_bytes w ∷ []) (sym c.word-item.is))

@@ -2,6 +2,7 @@ use Rattle.std.proofs.Common.{◌≡◌, ◌≢◌, ℕ, ◌+◌, ◌≤◌, ◌
 use Rattle.std.proofs.lemmas.Bool.Decides.{nat_tests}
 use Rattle.std.proofs.lemmas.List.{nil_from_length}
 use Rattle.base.specs.declared.name.parse.TextChar.{TextChar}
+use Rattle.base.specs.TextChar.{character_of}
 use Rattle.base.proofs.ParseLemmas.{Holds, holds_none, holds_byte, holds_dot, stops_at_byte, stops_at_char, stops_at_dot, stops_at_start, reads_absolute, reads_relative, wire_put}
 use Rattle.base.proofs.name.parse.gather_labels.Goals as goal
 use Rattle.base.proofs.name.parse.gather_labels.Goals.{then-len-ge-LONGEST_LABEL-via-then-len-ge-LONGEST_LABEL, then-len-ge-LONGEST_LABEL-via-else-len-ge-LONGEST_LABEL+then-used-len-ge-ROOM}
@@ -16,20 +17,20 @@ returns-then-len-ge-LONGEST_LABEL-clause-none c =
       | then-len-ge-LONGEST_LABEL-via-then-len-ge-LONGEST_LABEL w ↦ inl (omega (arith, w.if-len-ge-LONGEST_LABEL.true))
       | then-len-ge-LONGEST_LABEL-via-else-len-ge-LONGEST_LABEL+then-used-len-ge-ROOM w ↦ inr (omega (arith, w.if-used-len-ge-ROOM.true))
     ] in
-    stops_at_byte c.chars.invariant (sym c.in-Some.ensures.value ∙ ap (λ (d : TextChar). Some (d, c.in-Some.tail.now)) c.in-Byte.is) long
+    stops_at_byte c.chars.invariant (sym c.in-Some.ensures.value ∙ ap (λ (d : TextChar). Some (character_of d, c.in-Some.tail.now)) c.in-Byte.is) long
 
 pub chars-preserved-in-Byte : goal.chars-preserved-in-Byte
 chars-preserved-in-Byte c =
-    holds_byte c.chars.invariant (sym c.in-Some.ensures.value ∙ ap (λ (d : TextChar). Some (d, c.in-Some.tail.now)) c.in-Byte.is) (omega arith) (omega arith)
+    holds_byte c.chars.invariant (sym c.in-Some.ensures.value ∙ ap (λ (d : TextChar). Some (character_of d, c.in-Some.tail.now)) c.in-Byte.is) (omega arith) (omega arith)
 
 pub returns-then-len-eq0-clause-none : goal.returns-then-len-eq0-clause-none
 returns-then-len-eq0-clause-none c =
-    stops_at_dot c.chars.invariant (sym c.in-Some.ensures.value ∙ ap (λ (d : TextChar). Some (d, c.in-Some.tail.now)) c.in-Dot.is) (omega arith)
+    stops_at_dot c.chars.invariant (sym c.in-Some.ensures.value ∙ ap (λ (d : TextChar). Some (character_of d, c.in-Some.tail.now)) c.in-Dot.is) (omega arith)
 
 pub chars-preserved : goal.chars-preserved
 chars-preserved c =
     let next : c.chars.used + 1 + c.chars.len ≡ c.chars.used + (1 + c.chars.len) = omega arith in
-    let first = sym c.in-Some.ensures.value ∙ ap (λ (d : TextChar). Some (d, c.in-Some.tail.now)) c.in-Dot.is in
+    let first = sym c.in-Some.ensures.value ∙ ap (λ (d : TextChar). Some (character_of d, c.in-Some.tail.now)) c.in-Dot.is in
     subst (λ (used : ℕ). Holds c.args.text.now c.in-Some.tail.now (set c.chars.room c.chars.used c.chars.len) used 0) next (holds_dot c.chars.invariant first refl (omega arith))
 
 pub returns-then-len-gt0-clause-some : goal.returns-then-len-gt0-clause-some

@@ -1,27 +1,28 @@
-use Rattle.std.proofs.Common.{true, false, ap, ◌∙◌}
+use Rattle.std.proofs.Common.{ap, ◌∙◌}
 use Rattle.std.specs.Option.{option_map}
-use Rattle.dnsmsg.proofs.WordLemmas.{header_word, limit_named, one_word, two_words, no_word, many_words}
+use Rattle.dnsmsg.proofs.WordLemmas.{compared, header_word, limit_named, one_word, two_words, no_word, many_words}
 use Rattle.dnsmsg.specs.Limit.{limit_of}
 use Rattle.dnsmsg.specs.declared.command.MessageCommand.TheVariants as commands
 use Rattle.dnsmsg.proofs.command.MessageCommand.from_words.Goals as goal
 
 pub returns-in-len1 : goal.returns-in-len1
-returns-in-len1 c = header_word c.args.words.now c.word-item.result c.as_str.result.now c.eq.result c.in-len1.len_at_least c.in-len1.len_below c.word-item.is c.as_str.ensures.value c.eq.ensures c.if-eq.true
+returns-in-len1 c =
+    header_word c.args.words.now c.in-len1.len_at_least c.in-len1.len_below (compared c.word-item.is c.as_str.ensures.value c.eq.ensures c.if-eq.true)
 
 pub returns-in-len1-2 : goal.returns-in-len1-2
 returns-in-len1-2 c =
-    one_word c.args.words.now c.word-item.result c.word-item-then-words-lt2.result c.as_str.result.now c.as_str-then-words-lt2.result.now c.eq.result c.eq-then-words-lt2.result true c.in-len1.len_at_least c.in-len1.len_below c.word-item.is c.as_str.ensures.value
-    c.eq.ensures c.if-eq.false c.word-item-then-words-lt2.is c.as_str-then-words-lt2.ensures.value c.eq-then-words-lt2.ensures c.if-eq-2.true
+    one_word c.args.words.now c.in-len1.len_at_least c.in-len1.len_below (compared c.word-item.is c.as_str.ensures.value c.eq.ensures c.if-eq.false)
+    (compared c.word-item-then-words-lt2.is c.as_str-then-words-lt2.ensures.value c.eq-then-words-lt2.ensures c.if-eq-2.true)
 
 pub returns-in_default-2 : goal.returns-in_default-2
 returns-in_default-2 c =
-    one_word c.args.words.now c.word-item.result c.word-item-then-words-lt2.result c.as_str.result.now c.as_str-then-words-lt2.result.now c.eq.result c.eq-then-words-lt2.result false c.in-len1.len_at_least c.in-len1.len_below c.word-item.is c.as_str.ensures.value
-    c.eq.ensures c.if-eq.false c.word-item-then-words-lt2.is c.as_str-then-words-lt2.ensures.value c.eq-then-words-lt2.ensures c.if-eq-2.false
+    one_word c.args.words.now c.in-len1.len_at_least c.in-len1.len_below (compared c.word-item.is c.as_str.ensures.value c.eq.ensures c.if-eq.false)
+    (compared c.word-item-then-words-lt2.is c.as_str-then-words-lt2.ensures.value c.eq-then-words-lt2.ensures c.if-eq-2.false)
 
 pub returns-in_default-3 : goal.returns-in_default-3
 returns-in_default-3 c =
-    two_words c.args.words.now c.word-item-then-words-lt3.result c.number-item.result c.as_str-then-words-lt3.result.now c.eq-then-words-lt3.result false c.in-len2.len_at_least c.in-len2.len_below c.word-item-then-words-lt3.is c.as_str-then-words-lt3.ensures.value
-    c.eq-then-words-lt3.ensures c.if-eq-3.false c.number-item.is
+    two_words c.args.words.now c.in-len2.len_at_least c.in-len2.len_below
+    (compared c.word-item-then-words-lt3.is c.as_str-then-words-lt3.ensures.value c.eq-then-words-lt3.ensures c.if-eq-3.false) c.number-item.is
 
 pub returns-in_default : goal.returns-in_default
 returns-in_default c = no_word c.args.words.now c.in_default.len_below
@@ -29,8 +30,8 @@ returns-in_default c = no_word c.args.words.now c.in_default.len_below
 pub returns-in-len2 : goal.returns-in-len2
 returns-in-len2 c =
     limit_named c.limit.result c.map.result c.map.ensures.cases ∙ ap (option_map commands.Cut) (c.limit.ensures ∙ ap limit_of c.as_str-in-len2.ensures.value)
-    ∙ two_words c.args.words.now c.word-item-then-words-lt3.result c.number-item.result c.as_str-then-words-lt3.result.now c.eq-then-words-lt3.result true c.in-len2.len_at_least c.in-len2.len_below c.word-item-then-words-lt3.is c.as_str-then-words-lt3.ensures.value
-    c.eq-then-words-lt3.ensures c.if-eq-3.true c.number-item.is
+    ∙ two_words c.args.words.now c.in-len2.len_at_least c.in-len2.len_below
+    (compared c.word-item-then-words-lt3.is c.as_str-then-words-lt3.ensures.value c.eq-then-words-lt3.ensures c.if-eq-3.true) c.number-item.is
 
 pub returns-in_default-4 : goal.returns-in_default-4
 returns-in_default-4 c = many_words c.args.words.now c.in_default.len_at_least

@@ -1,12 +1,10 @@
-use Rattle.std.proofs.Common.{refl, ap, ◌∙◌, Ok, Err, replicate}
+use Rattle.std.proofs.Common.{refl, ap, ◌∙◌, Err, replicate}
 use Rattle.std.proofs.lemmas.Result.{err_from_is_err_and}
 use Rattle.base.proofs.LawLemmas.{Keeps-same, Keeps-appended, Keeps-then}
 use Rattle.base.specs.State.{overwritten}
 use Rattle.base.specs.Wire.{state_of}
 use Rattle.op.proofs.HeaderRoom.{room_filled}
-use Rattle.op.proofs.ComposedLemmas.{without_room, without_questions, without_sections, without_extras, without_header, whole}
-use Rattle.op.specs.Fits.{opt_records, signature_records}
-use Rattle.std.specs.Option.{option_copied}
+use Rattle.op.proofs.RunLemmas.{goes, stops}
 use Rattle.op.specs.Header.{header_bytes, raw_header}
 use Rattle.op.proofs.message.writing.emit_message_parts.Goals as goal
 
@@ -38,69 +36,45 @@ returns-clause-keeps g c =
 pub returns-in_err-place-clause-run : goal.returns-in_err-place-clause-run
 returns-in_err-place-clause-run g c =
     let is = err_from_is_err_and c.from_residual.result c.from_residual.ensures.1 in
-    without_room g.Q.EmitAndCount.emits g.A.EmitAndCount.emits g.N.EmitAndCount.emits g.D.EmitAndCount.emits c.args.queries.now c.args.queries.now
-    c.args.answers.now c.args.answers.now c.args.authorities.now c.args.authorities.now c.args.additionals.now c.args.additionals.now c.args.metadata.now
-    (opt_records c.args.metadata.now.response_code (option_copied c.args.edns)) (signature_records (option_copied c.args.signature))
-    (state_of c.args.encoder.now) c.from_residual.result
-    c.in_err-place.field-0.0 (state_of c.place.new.self) (c.in_err-place.ensures.err, c.in_err-place.ensures.refuses) (is.1 ∙ ap (λ e. Err e) is.2) (refl, refl, refl, refl)
+    stops c.in_err-place.field-0.0 (c.in_err-place.ensures.err, c.in_err-place.ensures.refuses) (is.1 ∙ ap (λ e. Err e) is.2) (refl, refl, refl, refl)
 
 pub returns-in_err-query_count-clause-run : goal.returns-in_err-query_count-clause-run
 returns-in_err-query_count-clause-run g c =
     let is = err_from_is_err_and c.from_residual-in_err-query_count.result c.from_residual-in_err-query_count.ensures.1 in
-    without_questions g.Q.EmitAndCount.emits g.A.EmitAndCount.emits g.N.EmitAndCount.emits g.D.EmitAndCount.emits c.args.queries.now c.emit.new.self
-    c.args.answers.now c.args.answers.now c.args.authorities.now c.args.authorities.now c.args.additionals.now c.args.additionals.now c.args.metadata.now
-    (opt_records c.args.metadata.now.response_code (option_copied c.args.edns)) (signature_records (option_copied c.args.signature))
-    (state_of c.args.encoder.now) c.from_residual-in_err-query_count.result
-    c.in_ok-place.place (state_of c.place.new.self) (c.in_ok-place.ensures.ok.1, c.in_ok-place.ensures.ok.0, c.in_ok-place.ensures.within)
-    c.in_err-query_count.field-0.0 (state_of c.emit.new.encoder) c.in_err-query_count.ensures.emits (is.1 ∙ ap (λ e. Err e) is.2) (refl, refl, refl)
+    goes c.in_ok-place.place (state_of c.place.new.self) (c.in_ok-place.ensures.ok.1, c.in_ok-place.ensures.ok.0, c.in_ok-place.ensures.within)
+    (stops c.in_err-query_count.field-0.0 c.in_err-query_count.ensures.emits (is.1 ∙ ap (λ e. Err e) is.2) (refl, refl, refl))
 
 pub returns-in_err-sections-clause-run : goal.returns-in_err-sections-clause-run
 returns-in_err-sections-clause-run g c =
     let is = err_from_is_err_and c.from_residual-in_err-sections.result c.from_residual-in_err-sections.ensures.1 in
-    without_sections g.Q.EmitAndCount.emits g.A.EmitAndCount.emits g.N.EmitAndCount.emits g.D.EmitAndCount.emits c.args.queries.now c.emit.new.self c.args.answers.now
-    c.emit_sections.new.answers c.args.authorities.now c.emit_sections.new.authorities c.args.additionals.now c.emit_sections.new.additionals c.args.metadata.now
-    (opt_records c.args.metadata.now.response_code (option_copied c.args.edns)) (signature_records (option_copied c.args.signature))
-    (state_of c.args.encoder.now) c.from_residual-in_err-sections.result
-    c.in_ok-place.place (state_of c.place.new.self) (c.in_ok-place.ensures.ok.1, c.in_ok-place.ensures.ok.0, c.in_ok-place.ensures.within)
-    c.in_ok-query_count.query_count (state_of c.emit.new.encoder) c.in_ok-query_count.ensures.emits
-    c.in_err-sections.field-0.0 (state_of c.emit_sections.new.encoder) c.in_err-sections.ensures.run (is.1 ∙ ap (λ e. Err e) is.2)
+    goes c.in_ok-place.place (state_of c.place.new.self) (c.in_ok-place.ensures.ok.1, c.in_ok-place.ensures.ok.0, c.in_ok-place.ensures.within)
+    (goes c.in_ok-query_count.query_count (state_of c.emit.new.encoder) c.in_ok-query_count.ensures.emits
+    (stops c.in_err-sections.field-0.0 c.in_err-sections.ensures.run (is.1 ∙ ap (λ e. Err e) is.2) tt))
 
 pub returns-in_err-extras-clause-run : goal.returns-in_err-extras-clause-run
 returns-in_err-extras-clause-run g c =
     let is = err_from_is_err_and c.from_residual-in_err-extras.result c.from_residual-in_err-extras.ensures.1 in
-    without_extras g.Q.EmitAndCount.emits g.A.EmitAndCount.emits g.N.EmitAndCount.emits g.D.EmitAndCount.emits c.args.queries.now c.emit.new.self c.args.answers.now
-    c.emit_sections.new.answers c.args.authorities.now c.emit_sections.new.authorities c.args.additionals.now c.emit_sections.new.additionals c.args.metadata.now
-    (opt_records c.args.metadata.now.response_code (option_copied c.args.edns)) (signature_records (option_copied c.args.signature))
-    (state_of c.args.encoder.now) c.from_residual-in_err-extras.result
-    c.in_ok-place.place (state_of c.place.new.self) (c.in_ok-place.ensures.ok.1, c.in_ok-place.ensures.ok.0, c.in_ok-place.ensures.within)
-    c.in_ok-query_count.query_count (state_of c.emit.new.encoder) c.in_ok-query_count.ensures.emits
-    c.in_ok-sections.sections (state_of c.emit_sections.new.encoder) c.in_ok-sections.ensures.run
-    c.in_err-extras.field-0.0 (state_of c.emit_extras.new.encoder) c.in_err-extras.ensures.run (is.1 ∙ ap (λ e. Err e) is.2)
+    goes c.in_ok-place.place (state_of c.place.new.self) (c.in_ok-place.ensures.ok.1, c.in_ok-place.ensures.ok.0, c.in_ok-place.ensures.within)
+    (goes c.in_ok-query_count.query_count (state_of c.emit.new.encoder) c.in_ok-query_count.ensures.emits
+    (goes c.in_ok-sections.sections (state_of c.emit_sections.new.encoder) c.in_ok-sections.ensures.run
+    (stops c.in_err-extras.field-0.0 c.in_err-extras.ensures.run (is.1 ∙ ap (λ e. Err e) is.2) tt)))
 
 pub returns-in_err-header-clause-run : goal.returns-in_err-header-clause-run
 returns-in_err-header-clause-run g c =
     let is = err_from_is_err_and c.from_residual-in_err-header.result c.from_residual-in_err-header.ensures.1 in
-    without_header g.Q.EmitAndCount.emits g.A.EmitAndCount.emits g.N.EmitAndCount.emits g.D.EmitAndCount.emits c.args.queries.now c.emit.new.self c.args.answers.now
-    c.emit_sections.new.answers c.args.authorities.now c.emit_sections.new.authorities c.args.additionals.now c.emit_sections.new.additionals c.args.metadata.now
-    (opt_records c.args.metadata.now.response_code (option_copied c.args.edns)) (signature_records (option_copied c.args.signature))
-    (state_of c.args.encoder.now) c.from_residual-in_err-header.result
-    c.in_ok-place.place (state_of c.place.new.self) (c.in_ok-place.ensures.ok.1, c.in_ok-place.ensures.ok.0, c.in_ok-place.ensures.within)
-    c.in_ok-query_count.query_count (state_of c.emit.new.encoder) c.in_ok-query_count.ensures.emits
-    c.in_ok-sections.sections (state_of c.emit_sections.new.encoder) c.in_ok-sections.ensures.run
-    c.in_ok-extras.extras (state_of c.emit_extras.new.encoder) c.in_ok-extras.ensures.run
-    c.in_err-header.field-0.0 c.in_err-header.ensures (is.1 ∙ ap (λ e. Err e) is.2)
+    goes c.in_ok-place.place (state_of c.place.new.self) (c.in_ok-place.ensures.ok.1, c.in_ok-place.ensures.ok.0, c.in_ok-place.ensures.within)
+    (goes c.in_ok-query_count.query_count (state_of c.emit.new.encoder) c.in_ok-query_count.ensures.emits
+    (goes c.in_ok-sections.sections (state_of c.emit_sections.new.encoder) c.in_ok-sections.ensures.run
+    (goes c.in_ok-extras.extras (state_of c.emit_extras.new.encoder) c.in_ok-extras.ensures.run
+    (stops c.in_err-header.field-0.0 (c.in_err-header.ensures, refl) (is.1 ∙ ap (λ e. Err e) is.2) tt))))
 
 pub returns-clause-run : goal.returns-clause-run
 returns-clause-run g c =
-    whole g.Q.EmitAndCount.emits g.A.EmitAndCount.emits g.N.EmitAndCount.emits g.D.EmitAndCount.emits c.args.queries.now c.emit.new.self c.args.answers.now
-    c.emit_sections.new.answers c.args.authorities.now c.emit_sections.new.authorities c.args.additionals.now c.emit_sections.new.additionals c.args.metadata.now
-    (opt_records c.args.metadata.now.response_code (option_copied c.args.edns)) (signature_records (option_copied c.args.signature))
-    (state_of c.args.encoder.now) (Ok c.in_ok-header.header)
-    c.in_ok-place.place (state_of c.place.new.self) (c.in_ok-place.ensures.ok.1, c.in_ok-place.ensures.ok.0, c.in_ok-place.ensures.within)
-    c.in_ok-query_count.query_count (state_of c.emit.new.encoder) c.in_ok-query_count.ensures.emits
-    c.in_ok-sections.sections (state_of c.emit_sections.new.encoder) c.in_ok-sections.ensures.run
-    c.in_ok-extras.extras (state_of c.emit_extras.new.encoder) c.in_ok-extras.ensures.run
-    c.in_ok-header.header (state_of c.replace.new.self) c.in_ok-header.ensures (refl, c.replace.ensures.state)
+    goes c.in_ok-place.place (state_of c.place.new.self) (c.in_ok-place.ensures.ok.1, c.in_ok-place.ensures.ok.0, c.in_ok-place.ensures.within)
+    (goes c.in_ok-query_count.query_count (state_of c.emit.new.encoder) c.in_ok-query_count.ensures.emits
+    (goes c.in_ok-sections.sections (state_of c.emit_sections.new.encoder) c.in_ok-sections.ensures.run
+    (goes c.in_ok-extras.extras (state_of c.emit_extras.new.encoder) c.in_ok-extras.ensures.run
+    (goes c.in_ok-header.header (state_of c.emit_extras.new.encoder) (c.in_ok-header.ensures, refl) (refl, c.replace.ensures.state)))))
 
 pub returns-in_err-query_count-clause-keeps : goal.returns-in_err-query_count-clause-keeps
 returns-in_err-query_count-clause-keeps g c =

@@ -17,7 +17,7 @@ loop-key-init c = (
 pub loop-key-preserved-then-is_guarded : goal.loop-key-preserved-then-is_guarded
 loop-key-preserved-then-is_guarded c = (
   kept_next c.args.owner.now (λ k. not (same_name c.args.owner.now c.args.origin.now && (is_soa k.record_type || is_ns k.record_type)))
-      c.loop-key.key-iterator c.next.new.self _ c.loop-key.found.items _ c.in-Some.ensures.steps
+      c.loop-key.found.items c.in-Some.ensures.steps
       (ap (λ k. same_lower k.name c.in-Some.key.now.name) (sym c.in_ok-least.ensures) ∙ not-false _ (sym c.ne.ensures ∙ c.if-ne.false))
       (ap not (sym c.is_guarded.ensures ∙ c.if-is_guarded.true)) c.loop-key.invariant.0,
   tt,
@@ -27,7 +27,7 @@ loop-key-preserved-then-is_guarded c = (
 pub loop-key-preserved : goal.loop-key-preserved
 loop-key-preserved c = (
   kept_here c.args.owner.now (λ k. not (same_name c.args.owner.now c.args.origin.now && (is_soa k.record_type || is_ns k.record_type)))
-      c.loop-key.key-iterator c.next.new.self _ c.loop-key.found.items _ _ c.in_ok-list_key.ensures c.in-Some.ensures.steps
+      c.loop-key.found.items c.in_ok-list_key.ensures c.in-Some.ensures.steps
       (ap (λ k. same_lower k.name c.in-Some.key.now.name) (sym c.in_ok-least.ensures) ∙ not-false _ (sym c.ne.ensures ∙ c.if-ne.false))
       (ap not (sym c.is_guarded.ensures ∙ c.if-is_guarded.false)) c.loop-key.invariant.0,
   tt,

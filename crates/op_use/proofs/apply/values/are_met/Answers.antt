@@ -6,10 +6,12 @@ use Rattle.std.proofs.Common.{sym, ◌∙◌}
 
 pub returns-then-not-branch : goal.returns-then-not-branch
 returns-then-not-branch c =
-    first_fails (is_by_value c.args.class) (λ r. there_under c.args.sets.now r (record_key r)) (λ r. listed_under c.args.sets.now c.args.class c.args.entries.now r (record_key r)) c.args.entries.now
+    first_fails (is_by_value c.args.class) (λ r. there_under c.args.sets.now r (record_key r))
+    (λ r. listed_under c.args.sets.now c.args.class c.args.entries.now r (record_key r)) c.args.entries.now
     (sym c.in_ok-are_there.ensures ∙ c.if-not-branch.true)
 
 pub returns : goal.returns
 returns c =
-    second_decides (is_by_value c.args.class) (λ r. there_under c.args.sets.now r (record_key r)) (λ r. listed_under c.args.sets.now c.args.class c.args.entries.now r (record_key r)) c.args.entries.now
+    second_decides (is_by_value c.args.class) (λ r. there_under c.args.sets.now r (record_key r))
+    (λ r. listed_under c.args.sets.now c.args.class c.args.entries.now r (record_key r)) c.args.entries.now
     _ (sym c.in_ok-are_there.ensures ∙ c.if-not-branch.false) c.in_ok-listed.ensures

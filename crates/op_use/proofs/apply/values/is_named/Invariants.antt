@@ -9,4 +9,5 @@ use Rattle.std.specs.List.{list_any}
 -- what is left decides
 abbrev pub invariant-loop-known : goal.invariant-loop-known
 invariant-loop-known l =
-    list_any (λ (q : Record RData). is_by_value l.class q && is_same_key l.entry q) (drop l.known-index l.before) ≡ list_any (λ (q : Record RData). is_by_value l.class q && is_same_key l.entry q) l.before
+    list_any (λ (q : Record RData). is_by_value l.class q && is_same_key l.entry q) (drop l.known-index l.before)
+    ≡ list_any (λ (q : Record RData). is_by_value l.class q && is_same_key l.entry q) l.before

@@ -6,10 +6,10 @@ use Rattle.txt.proofs.zone.Parser.parse.Goals as goal
 pub returns-in_err-context-clause-zone : goal.returns-in_err-context-clause-zone
 returns-in_err-context-clause-zone c =
     let p = err_from_is_err_and c.from_residual.result c.from_residual.ensures.1 in
-    rw (p.1, p.2) (not_parsed c.args.self c.self.inside.text.now c.self.inside.includes.now c.self.inside.origin c.new.result c.in_err-context.field-0.0
+    rw (p.1, p.2) (not_parsed c.self.inside.includes.now c.in_err-context.field-0.0
     (sym c.self.view_is) c.new.ensures c.in_err-context.ensures)
 
 pub returns-clause-zone : goal.returns-clause-zone
 returns-clause-zone c =
-    parsed _ c.answer.result c.args.self c.self.inside.text.now c.self.inside.includes.now c.self.inside.origin c.new.result c.in_ok-context.context
+    parsed _ c.answer.result c.self.inside.includes.now
     (sym c.self.view_is) c.new.ensures c.in_ok-context.ensures c.answer.ensures.zone

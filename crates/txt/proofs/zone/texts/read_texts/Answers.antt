@@ -41,8 +41,7 @@ entries-smaller-in-Include c =
     let text : texts_in c.args.includes.now (string_bytes c.in-Include.name) ≡ Some c.as_str-in-Include.result.now = search rules in
     let stack : reverse c.push.new.self.items ≡ f ∷ reverse c.entries.below.items = ap reverse c.in_ok-push-in-Include.ensures.items ∙ reverse-append c.entries.below.items (f ∷ []) in
     rw (stack, c.new-lexer-in-Include.ensures)
-    (work_opened (texts_in c.args.includes.now) max_depth (reverse c.entries.below.items) f c.entries.context c.entries.lexer
-    (string_bytes c.in-Include.name) c.as_str-in-Include.result.now found.0 (omega (arith, length-reverse c.entries.below.items)) text)
+    (work_opened (texts_in c.args.includes.now) max_depth (reverse c.entries.below.items) f c.entries.context c.entries.lexer found.0 (omega (arith, length-reverse c.entries.below.items)) text)
 
 pub entries-preserved-in-Include : goal.entries-preserved-in-Include
 entries-preserved-in-Include c =

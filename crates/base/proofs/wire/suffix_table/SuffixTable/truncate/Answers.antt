@@ -1,5 +1,4 @@
-use Rattle.std.proofs.Common.{◌≡◌, ◌∙◌, ◌++◌, ◌∷◌, [], ◌≢◌, ◌<◌, ◌≤◌, ◌+◌, ◌-◌, List, length, length-append, take, sym, ap, subst, arith}
-use Rattle.std.specs.List.{AllPairs}
+use Rattle.std.proofs.Common.{◌≡◌, ◌∙◌, ◌++◌, ◌∷◌, [], ◌≤◌, ◌+◌, ◌-◌, List, length, length-append, take, sym, ap, subst, arith}
 use Rattle.base.specs.Labels.{wire_of}
 use Rattle.base.specs.State.{Stored}
 use Rattle.base.specs.Suffixes.{offset_in, IsIndexed}
@@ -28,7 +27,5 @@ loop-self-preserved-in-Some c =
 pub invariant_of-self : goal.invariant_of-self
 invariant_of-self c =
     let fits : length c.loop-self.self-inside.others.items ≤ c.args.count - length c.loop-self.self-inside.first.items = omega (arith, c.loop-self.invariant.behind) in
-    IsTable-front (offset_in c.loop-self.self-inside.index) c.args.count c.loop-self.self-inside.first.items c.loop-self.self-inside.others.items
-    c.truncate.new.self.items c.args.self.now c.loop-self.invariant.table
-    (subst (AllPairs (λ (s t : Stored). s.offset < t.offset)) c.self.view_is c.self.invariant.rises) (subst (AllPairs (λ (s t : Stored). s.labels ≢ t.labels)) c.self.view_is c.self.invariant.once)
-    c.loop-self.invariant.front fits c.truncate.ensures.items
+    IsTable-front c.args.count c.loop-self.self-inside.first.items c.self.invariant c.loop-self.invariant.table
+    (c.loop-self.invariant.front ∙ ap (take c.args.count) (sym c.self.view_is)) fits c.truncate.ensures.items

@@ -1,6 +1,5 @@
 use Rattle.std.proofs.lemmas.Result.{on_ok_weaker}
 use Rattle.base.proofs.LawLemmas.{Keeps-then, Writes-then, Writes-unowned}
-use Rattle.base.specs.Wire.{state_of}
 use Rattle.base_data.proofs.SOALemmas.{compressed_soa, soa_numbers_written}
 use Rattle.base_data.proofs.FieldLemmas.{written_as}
 use Rattle.base_data.proofs.rdata.soa.SOABinEncodable.emit.Goals as goal
@@ -22,6 +21,5 @@ returns-clause-writes c =
 pub returns-clause-names : goal.returns-clause-names
 returns-clause-names c =
     on_ok_weaker c.emit_bytes.result (λ numbers.
-    compressed_soa c.args.self.now
-    (state_of c.args.encoder.now) _ _ _ c.emit.ensures.keeps c.in_ok-emit.ensures.writes c.in_ok-emit.ensures.names c.emit-2.ensures.keeps
+    compressed_soa c.args.self.now c.emit.ensures.keeps c.in_ok-emit.ensures.writes c.in_ok-emit.ensures.names c.emit-2.ensures.keeps
     c.in_ok-emit-2.ensures.writes c.in_ok-emit-2.ensures.names numbers) (written_as c.emit_bytes.result _ _ _ _ c.number_octets.ensures.bytes c.emit_bytes.ensures.state)

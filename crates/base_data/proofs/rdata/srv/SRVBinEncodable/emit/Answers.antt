@@ -8,7 +8,8 @@ returns-clause-keeps c = Keeps-then c.emit_bytes.ensures.keeps c.emit_plain.ensu
 
 pub returns-clause-writes : goal.returns-clause-writes
 returns-clause-writes c =
-    let written = srv_written c.args.self.now _ _ _ _ c.number_octets.ensures.fits c.number_octets.ensures.bytes c.emit_bytes.ensures.keeps c.emit_plain.ensures.keeps c.in_ok-emit_bytes.ensures.state in
+    let written = srv_written c.args.self.now c.number_octets.ensures.fits c.number_octets.ensures.bytes
+    c.emit_bytes.ensures.keeps c.emit_plain.ensures.keeps c.in_ok-emit_bytes.ensures.state in
     on_ok_weaker c.emit_plain.result written c.emit_plain.ensures.writes
 
 pub returns-clause-names : goal.returns-clause-names

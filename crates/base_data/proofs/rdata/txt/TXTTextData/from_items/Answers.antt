@@ -18,7 +18,7 @@ loop-item-preserved c =
     let string = ap (option_map (λ (v : Vec ℕ Global). v.items)) (sym c.in-Some.is) ∙ c.in_ok-string.ensures.string in
     let short : length c.in-Some.string.items ≤ 255 = subst (λ (o : Option (Vec ℕ Global)). IfSome o (λ v. length v.items ≤ 255)) c.in-Some.is c.in_ok-string.ensures.short in
     let pushed = c.in_ok-push_string.ensures ∙ ap (λ (s : List ℕ). c.loop-item.bytes.items ++ (length s ∷ s)) c.deref.ensures.value in
-    read_more _ _ c.args.items.now c.loop-item.item-index _ c.in-Some.string.items c.loop-item.invariant c.loop-item-test.true string short pushed
+    read_more _ c.loop-item.invariant c.loop-item-test.true string short pushed
 
 pub invariant_of-result : goal.invariant_of-result
 invariant_of-result c =

@@ -1,4 +1,4 @@
-use Rattle.std.proofs.Common.{ℕ, List, Err, ap}
+use Rattle.std.proofs.Common.{ℕ, ◌+◌, List, Err, ap, arith}
 use Rattle.std.proofs.lemmas.Result.{err_from_is_err_and, on_ok_weaker}
 use Rattle.base.proofs.LawLemmas.{Keeps-then, Writes-then, Writes-weaker}
 use Rattle.base.specs.Labels.{plain_len}
@@ -7,7 +7,7 @@ use Rattle.base.specs.Wire.{state_of}
 use Rattle.base_data.specs.Kinds.{plain_data}
 use Rattle.rr.specs.Record.{with_data}
 use Rattle.rr.proofs.RecordLemmas.{record_word}
-use Rattle.rr.proofs.WriteSteps.{class_refused, data_refused, name_refused, ttl_refused, type_refused, whole_record}
+use Rattle.rr.proofs.WriteSteps.{name_refused, refused_behind, took, took_more, whole_record}
 use Rattle.rr.proofs.record.writing.RecordBinEncodable.emit.Goals as goal
 
 pub returns-in_err-emit-clause-keeps : goal.returns-in_err-emit-clause-keeps
@@ -33,9 +33,9 @@ pub returns-in_err-emit-2-clause-refuses : goal.returns-in_err-emit-2-clause-ref
 returns-in_err-emit-2-clause-refuses g c =
     let p = err_from_is_err_and c.from_residual-in_err-emit-2.result c.from_residual-in_err-emit-2.ensures.1 in
     let r = c.args.self.now in
-    rw (p.1, p.2) (type_refused (plain_len r.name.labels) (plain_data (g.R.RecordData.as_rdata r.rdata))
-    (state_of c.args.encoder.now) (state_of c.emit.new.encoder) c.emit.ensures.keeps.limit c.in_ok-emit.ensures.writes.at_most
-    {X = Unit {0}} (Err c.in_err-emit-2.field-0.0) c.in_err-emit-2.ensures.refuses)
+    let whole = plain_len r.name.labels + (10 + plain_data (g.R.RecordData.as_rdata r.rdata)) in
+    rw (p.1, p.2) (refused_behind {X = Unit {0}} (Err c.in_err-emit-2.field-0.0) 2 whole
+    (took c.emit.ensures.keeps c.in_ok-emit.ensures.writes) (omega arith) c.in_err-emit-2.ensures.refuses)
 
 pub returns-in_err-emit-3-clause-keeps : goal.returns-in_err-emit-3-clause-keeps
 returns-in_err-emit-3-clause-keeps g c = Keeps-then c.emit.ensures.keeps (Keeps-then c.emit-2.ensures.keeps c.emit-3.ensures.keeps)
@@ -47,9 +47,10 @@ pub returns-in_err-emit-3-clause-refuses : goal.returns-in_err-emit-3-clause-ref
 returns-in_err-emit-3-clause-refuses g c =
     let p = err_from_is_err_and c.from_residual-in_err-emit-3.result c.from_residual-in_err-emit-3.ensures.1 in
     let r = c.args.self.now in
-    rw (p.1, p.2) (class_refused (plain_len r.name.labels) (plain_data (g.R.RecordData.as_rdata r.rdata))
-    (state_of c.args.encoder.now) (state_of c.emit.new.encoder) c.emit.ensures.keeps.limit c.in_ok-emit.ensures.writes.at_most
-    (state_of c.emit-2.new.encoder) c.emit-2.ensures.keeps.limit c.in_ok-emit-2.ensures.writes.at_most {X = Unit {0}} (Err c.in_err-emit-3.field-0.0) c.in_err-emit-3.ensures.refuses)
+    let whole = plain_len r.name.labels + (10 + plain_data (g.R.RecordData.as_rdata r.rdata)) in
+    rw (p.1, p.2) (refused_behind {X = Unit {0}} (Err c.in_err-emit-3.field-0.0) 2 whole
+    (took_more (took c.emit.ensures.keeps c.in_ok-emit.ensures.writes)
+    (took c.emit-2.ensures.keeps c.in_ok-emit-2.ensures.writes)) (omega arith) c.in_err-emit-3.ensures.refuses)
 
 pub returns-in_err-emit_ttl-clause-keeps : goal.returns-in_err-emit_ttl-clause-keeps
 returns-in_err-emit_ttl-clause-keeps g c = Keeps-then c.emit.ensures.keeps (Keeps-then c.emit-2.ensures.keeps (Keeps-then c.emit-3.ensures.keeps c.emit_ttl.ensures.keeps))
@@ -61,11 +62,11 @@ pub returns-in_err-emit_ttl-clause-refuses : goal.returns-in_err-emit_ttl-clause
 returns-in_err-emit_ttl-clause-refuses g c =
     let p = err_from_is_err_and c.from_residual-in_err-emit_ttl.result c.from_residual-in_err-emit_ttl.ensures.1 in
     let r = c.args.self.now in
-    rw (p.1, p.2) (ttl_refused (plain_len r.name.labels) (plain_data (g.R.RecordData.as_rdata r.rdata))
-    (state_of c.args.encoder.now) (state_of c.emit.new.encoder) c.emit.ensures.keeps.limit c.in_ok-emit.ensures.writes.at_most
-    (state_of c.emit-2.new.encoder) c.emit-2.ensures.keeps.limit c.in_ok-emit-2.ensures.writes.at_most
-    (state_of c.emit-3.new.encoder) c.emit-3.ensures.keeps.limit c.in_ok-emit-3.ensures.writes.at_most
-    {X = Unit {0}} (Err c.in_err-emit_ttl.field-0.0) c.in_err-emit_ttl.ensures.refuses)
+    let whole = plain_len r.name.labels + (10 + plain_data (g.R.RecordData.as_rdata r.rdata)) in
+    rw (p.1, p.2) (refused_behind {X = Unit {0}} (Err c.in_err-emit_ttl.field-0.0) 4 whole
+    (took_more (took c.emit.ensures.keeps c.in_ok-emit.ensures.writes)
+    (took_more (took c.emit-2.ensures.keeps c.in_ok-emit-2.ensures.writes)
+    (took c.emit-3.ensures.keeps c.in_ok-emit-3.ensures.writes))) (omega arith) c.in_err-emit_ttl.ensures.refuses)
 
 pub returns-clause-keeps : goal.returns-clause-keeps
 returns-clause-keeps g c = Keeps-then c.emit.ensures.keeps (Keeps-then c.emit-2.ensures.keeps (Keeps-then c.emit-3.ensures.keeps (Keeps-then c.emit_ttl.ensures.keeps c.emit_sized.ensures.keeps)))
@@ -81,7 +82,7 @@ returns-clause-writes g c =
     let as_data = λ (B : List ℕ) (i e : ℕ). (law.keeps_word r.rdata B i e).1 in
     let fits = whole_record (plain_len r.name.labels) _ _ (law.keeps_len r.rdata) in
     on_ok_weaker c.emit_sized.result (λ w. Writes-weaker
-    (record_word (with_data g.R.RecordData.as_rdata r) _ _ (ap type_number c.record_type.ensures) c.to_field-class.ensures (g.R.BinEncodable.word r.rdata) as_data) fits
+    (record_word (with_data g.R.RecordData.as_rdata r) (ap type_number c.record_type.ensures) c.to_field-class.ensures (g.R.BinEncodable.word r.rdata) as_data) fits
     (Writes-then c.emit.ensures.keeps keeps_1 c.in_ok-emit.ensures.writes
     (Writes-then c.emit-2.ensures.keeps keeps_2 c.in_ok-emit-2.ensures.writes
     (Writes-then c.emit-3.ensures.keeps keeps_3 c.in_ok-emit-3.ensures.writes
@@ -90,9 +91,10 @@ returns-clause-writes g c =
 pub returns-clause-refuses : goal.returns-clause-refuses
 returns-clause-refuses g c =
     let r = c.args.self.now in
-    data_refused (plain_len r.name.labels) (plain_data (g.R.RecordData.as_rdata r.rdata)) (state_of c.args.encoder.now)
-    (state_of c.emit.new.encoder) c.emit.ensures.keeps.limit c.in_ok-emit.ensures.writes.at_most
-    (state_of c.emit-2.new.encoder) c.emit-2.ensures.keeps.limit c.in_ok-emit-2.ensures.writes.at_most
-    (state_of c.emit-3.new.encoder) c.emit-3.ensures.keeps.limit c.in_ok-emit-3.ensures.writes.at_most
-    (state_of c.emit_ttl.new.encoder) c.emit_ttl.ensures.keeps.limit c.in_ok-emit_ttl.ensures.writes.at_most
-    (g.R.BinEncodable.plain_len r.rdata) (g.met.R.RecordData.keeps_len r.rdata) c.emit_sized.result c.emit_sized.ensures.refuses
+    let whole = plain_len r.name.labels + (10 + plain_data (g.R.RecordData.as_rdata r.rdata)) in
+    refused_behind c.emit_sized.result (2 + g.R.BinEncodable.plain_len r.rdata) whole
+    (took_more (took c.emit.ensures.keeps c.in_ok-emit.ensures.writes)
+    (took_more (took c.emit-2.ensures.keeps c.in_ok-emit-2.ensures.writes)
+    (took_more (took c.emit-3.ensures.keeps c.in_ok-emit-3.ensures.writes)
+    (took c.emit_ttl.ensures.keeps c.in_ok-emit_ttl.ensures.writes))))
+    (omega (arith, g.met.R.RecordData.keeps_len r.rdata)) c.emit_sized.ensures.refuses

@@ -1,4 +1,3 @@
-use Rattle.std.proofs.Common.{refl}
 use Rattle.base.proofs.LawLemmas.{Keeps-then}
 use Rattle.base_data.proofs.OptionWords.{option_written}
 use Rattle.base_data.proofs.rdata.opt.edns_option.EdnsOptionBinEncodable.emit.Goals as goal
@@ -11,5 +10,9 @@ returns-clause-keeps c = Keeps-then c.emit.ensures.keeps (Keeps-then c.emit-2.en
 
 pub returns-clause-writes : goal.returns-clause-writes
 returns-clause-writes c =
-    option_written c.emit_bytes.result c.args.self.now c.code.result _ c.bytes-bytes.result.now _ _ _ _ c.code.ensures refl c.bytes-bytes.ensures.value
-    c.emit.ensures.keeps c.emit-2.ensures.keeps c.emit_bytes.ensures.keeps c.in_ok-emit.ensures.writes c.in_ok-emit-2.ensures.writes c.emit_bytes.ensures.writes
+    option_written c.emit_bytes.result c.args.self.now c.code.ensures c.bytes-bytes.ensures.value (record {
+      code_keeps = c.emit.ensures.keeps;
+      code_stands = c.in_ok-emit.ensures.writes;
+      len_keeps = c.emit-2.ensures.keeps;
+      len_stands = c.in_ok-emit-2.ensures.writes;
+    }) c.emit_bytes.ensures.keeps c.emit_bytes.ensures.writes
