@@ -13,10 +13,10 @@ take_behind (x ∷ xs) ys k n is =
     ap (λ (j : ℕ). take j (x ∷ (xs ++ ys))) more ∙ ap (λ (zs : List ℕ). x ∷ zs) (take_behind xs ys (length xs + n) n (omega arith))
 
 -- what a room begins with where more was copied behind what is used of it
-pub copied_behind : (buffer room copied : List ℕ) (at size piece used : ℕ) → used ≤ length room → length copied ≡ piece → size ≤ piece
+pub copied_behind : (buffer room : List ℕ) (at : ℕ) {copied : List ℕ} {size piece used : ℕ} → used ≤ length room → length copied ≡ piece → size ≤ piece
     → copied ≡ slice_range buffer at (at + piece)
     → take (used + size) (put_mid used (used + piece - used) room copied) ≡ take used room ++ slice_range buffer at (at + size)
-copied_behind buffer room copied at size piece used fits len few is =
+copied_behind buffer room at {copied} {size} {piece} {used} fits len few is =
     let whole = put_mid used (used + piece - used) room copied in
     let front = length-take used room in
     let some : piece ≡ at + piece - at = omega arith in

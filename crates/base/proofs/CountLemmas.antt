@@ -224,7 +224,7 @@ Follows-none start old = record {
   fresh = λ q below. ap (λ (k : set.FinSet nat_cmp). set.contains k q) (inserted-none old.kept);
 }
 
-module _ (ts : List ℕ) (start t : ℕ) (old new after : Reader) (f : Follows ts start old new) (below : t < start) (small : t < 16384)
+module _ {ts : List ℕ} {start t : ℕ} {old new after : Reader} (f : Follows ts start old new) (below : t < start) (small : t < 16384)
     (absent : set.contains new.kept t ≡ false) (near : (q : ℕ) → set.contains new.kept q ≡ true → q < 16384) (is : after ≡ record new { jumps = min (new.jumps + 1) (2 ^ 64 - 1) }) where
   kept : new.kept ≡ old.kept
   kept = ap (λ (r : Reader). r.kept) f.now
@@ -284,8 +284,8 @@ both_lists ts us = same_members _ _ (λ q.
     ∙ sym (list_any-append (λ (y : ℕ). nat_eq y q) ts us)
     ∙ sym (set.contains-from_list_nat (ts ++ us) q))
 
-one_passed : (old last : Reader) (xs : List (List ℕ)) (e : ℕ) (h : Spelled old.bytes xs old.index old.index e) → IsPassed old → last.bytes ≡ old.bytes → last.index ≡ e → last.kept ≡ inserted (passed h) old.kept → IsPassed last
-one_passed old last xs e h p bytes index kept =
+one_passed : {old last : Reader} {xs : List (List ℕ)} {e : ℕ} (h : Spelled old.bytes xs old.index old.index e) → IsPassed old → last.bytes ≡ old.bytes → last.index ≡ e → last.kept ≡ inserted (passed h) old.kept → IsPassed last
+one_passed {old} {last} {xs} {e} h p bytes index kept =
     let behind = ends_behind h in
     record {
       names = old.index ∷ p.names;
@@ -298,16 +298,28 @@ one_passed old last xs e h p bytes index kept =
       before behind zero d inside = omega (arith, index, behind)
       before behind (suc k) d inside = omega (arith, index, behind, p.before k d (omega (arith, inside)))
 
+-- A decoder behind a name: pointers to these offsets were followed, and with them all that the name passes is kept.
+pub record IsBehind {xs : List (List ℕ)} {e : ℕ} (ts : List ℕ) (old new last : Reader) (h : Spelled old.bytes xs old.index old.index e) : Type 0 where
+  pub bytes : last.bytes ≡ old.bytes
+  pub index : last.index ≡ e
+  pub jumps : last.jumps ≡ new.jumps
+  pub kept : last.kept ≡ inserted ts old.kept
+  pub passes : last.kept ≡ inserted (passed h) old.kept
+
 -- a read of a name ends: with all that it passes kept, or with a refusal
-pub counted_after : (ts : List ℕ) (old new : Reader) → Followed ts old new → IsCounted old → (last : Reader) → last.jumps ≡ new.jumps → last.kept ≡ inserted ts old.kept
-    → (xs : List (List ℕ)) (e : ℕ) (h : Spelled old.bytes xs old.index old.index e) → last.bytes ≡ old.bytes → last.index ≡ e → last.kept ≡ inserted (passed h) old.kept → IsCounted last
-counted_after ts old new f counted last jumps kept xs e h bytes index passes =
+pub counted_after : {ts : List ℕ} {old new last : Reader} {xs : List (List ℕ)} {e : ℕ} (h : Spelled old.bytes xs old.index old.index e) → IsBehind ts old new last h
+    → Followed ts old new → IsCounted old → IsCounted last
+counted_after h behind f counted =
     let few = f.few counted.few in
     let raised = f.jumps (omega (arith, counted.each, few, f.all)) in
-    let len = ap set.len kept in
-    record { each = omega (arith, jumps, raised, counted.each, len, f.all); few = omega (arith, len, few); passed = one_passed old last xs e h counted.passed bytes index passes }
+    let len = ap set.len behind.kept in
+    record {
+      each = omega (arith, behind.jumps, raised, counted.each, len, f.all);
+      few = omega (arith, len, few);
+      passed = one_passed h counted.passed behind.bytes behind.index behind.passes;
+    }
 
-pub counted_refused : (ts : List ℕ) (old new : Reader) → Followed ts old new → IsCounted old → new.jumps ≤ 16384
-counted_refused ts old new f counted =
+pub counted_refused : {ts : List ℕ} {old new : Reader} → Followed ts old new → IsCounted old → new.jumps ≤ 16384
+counted_refused f counted =
     let few = f.few counted.few in
     omega (arith, f.jumps (omega (arith, counted.each, few, f.all)), counted.each, few, f.all)

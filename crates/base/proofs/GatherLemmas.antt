@@ -49,7 +49,7 @@ gathers_none buffer first before inside small = record {
   end_inside = omega arith;
 }
 
-module _ (buffer : List ℕ) (first before start at used : ℕ) (bytes : List ℕ) (end : Option ℕ) (gathers : Gathers buffer first before start at used bytes end) where
+module _ {buffer : List ℕ} {first before start at used : ℕ} {bytes : List ℕ} {end : Option ℕ} (gathers : Gathers buffer first before start at used bytes end) where
   few : used ≤ 254
   few = gathers.few
 
@@ -138,14 +138,14 @@ pub fails_is : {A : Type 0} (f : DecodeError) (read : Result A DecodeError) → 
 fails_is faults.Memory read is = tt
 fails_is f read is = is
 
-module _ (buffer : List ℕ) (first before start at used : ℕ) (bytes : List ℕ) (end : Option ℕ) (gathers : Gathers buffer first before start at used bytes end) where
+module _ {buffer : List ℕ} {first before start at used : ℕ} {bytes : List ℕ} {end : Option ℕ} (gathers : Gathers buffer first before start at used bytes end) where
   pub root_inside : part_at buffer at ≡ Ok zero_byte → unwrap_or end (at + 1) ≤ length buffer
   root_inside is = either_end end (at + 1) (length buffer) gathers.end_inside (root_part buffer at (part_at buffer at) (part_is buffer at) is)
 
   pub gathers_pointer : (t : ℕ) → part_at buffer at ≡ Ok (pointer_to t) → t < start → Gathers buffer first before t t used bytes (Some (unwrap_or end (at + 2)))
   gathers_pointer t is below = record {
-    so_far = ap (with_front (labels_of bytes)) (earlier end (labels_at buffer t t used)) ∙ sym (goes buffer first before start at used bytes end gathers (ending (at + 2) (labels_at buffer t t used))
-        (labels_at-part buffer start at used (Ok (pointer_to t)) (few buffer first before start at used bytes end gathers) is ∙ cond-false (nat_le start t) _ _ (lt-leb start t below)));
+    so_far = ap (with_front (labels_of bytes)) (earlier end (labels_at buffer t t used)) ∙ sym (goes gathers (ending (at + 2) (labels_at buffer t t used))
+        (labels_at-part buffer start at used (Ok (pointer_to t)) (few gathers) is ∙ cond-false (nat_le start t) _ _ (lt-leb start t below)));
     wire = gathers.wire;
     len = gathers.len;
     few = gathers.few;
@@ -169,7 +169,7 @@ module _ (buffer : List ℕ) (first before start at used : ℕ) (bytes : List �
       let pushed : next ≡ bytes ++ (length x ∷ x) = next_is ∙ ap (λ (k : ℕ). bytes ++ slice_range buffer at k) step_is ∙ ap (λ (xs : List ℕ). bytes ++ xs) (label_range buffer at n part.0 part.3) in
       let labels : labels_of next ≡ labels_of bytes ++ x ∷ [] = ap labels_of pushed ∙ labels_of-push bytes x gathers.wire in
       let read : Labels = labels_at buffer start (at + 1 + n) (used + n + 1) in
-      let goes_on : labels_at buffer first first before ≡ with_front (labels_of bytes) (ended_at end (with_label x read)) = goes buffer first before start at used bytes end gathers (with_label x read)
+      let goes_on : labels_at buffer first first before ≡ with_front (labels_of bytes) (ended_at end (with_label x read)) = goes gathers (with_label x read)
       (labels_at-label buffer start at used n part.0 part.1 part.2 part.3 (omega arith)) in
       let here : labels_at buffer start (at + size) (used + size) ≡ read = ap (λ (k : ℕ). labels_at buffer start k (used + size)) step_is ∙ ap (labels_at buffer start (at + 1 + n)) used_is in
       record {
@@ -207,11 +207,11 @@ spelled_is B t used e xs few is = right (labels_at B t t used) is (labels_right 
   right (Err f) same is_right = absurd cc
 
 -- a target that is kept ends the walk
-module _ (buffer : List ℕ) (first before start at used : ℕ) (bytes : List ℕ) (end : Option ℕ) (gathers : Gathers buffer first before start at used bytes end) (t : ℕ) (is : part_at buffer at ≡ Ok (pointer_to t)) (below : t < start)
-    (items : List ℕ) (kept : IsKept buffer t items) where
+module _ {buffer : List ℕ} {first before start at used : ℕ} {bytes : List ℕ} {end : Option ℕ} (gathers : Gathers buffer first before start at used bytes end) {t : ℕ} (is : part_at buffer at ≡ Ok (pointer_to t)) (below : t < start)
+    {items : List ℕ} (kept : IsKept buffer t items) where
   goes_there : labels_at buffer first first before ≡ with_front (labels_of bytes) (ended_at end (ending (at + 2) (labels_at buffer t t used)))
-  goes_there = goes buffer first before start at used bytes end gathers (ending (at + 2) (labels_at buffer t t used))
-      (labels_at-part buffer start at used (Ok (pointer_to t)) (few buffer first before start at used bytes end gathers) is ∙ cond-false (nat_le start t) _ _ (lt-leb start t below))
+  goes_there = goes gathers (ending (at + 2) (labels_at buffer t t used))
+      (labels_at-part buffer start at used (Ok (pointer_to t)) (few gathers) is ∙ cond-false (nat_le start t) _ _ (lt-leb start t below))
 
   pub at_kept : used + length items + 1 ≤ 255 → labels_at buffer first first before ≡ Ok (labels_of (bytes ++ items), unwrap_or end (at + 2))
   at_kept short =
@@ -229,7 +229,7 @@ module _ (buffer : List ℕ) (first before start at used : ℕ) (bytes : List �
   pub at_kept_long : 255 < used + length items + 1 → labels_at buffer first first before ≡ Err faults.BadName
   at_kept_long long =
       let size = size_of-labels_of items kept.wire in
-      goes_there ∙ ap (λ (r : Labels). with_front (labels_of bytes) (ended_at end (ending (at + 2) r))) (labels_too_long used (few buffer first before start at used bytes end gathers) kept.spelled (omega (arith, size))) ∙ at_err end where
+      goes_there ∙ ap (λ (r : Labels). with_front (labels_of bytes) (ended_at end (ending (at + 2) r))) (labels_too_long used (few gathers) kept.spelled (omega (arith, size))) ∙ at_err end where
         at_err : (end : Option ℕ) → with_front (labels_of bytes) (ended_at end (Err faults.BadName)) ≡ Err faults.BadName
         at_err None = refl
         at_err (Some e) = refl

@@ -52,19 +52,19 @@ gathers_none read count bytes i =
     let all : count - 0 ≡ count = omega arith in
     record { whole = rw all (front_none (many_at read count bytes i)); same = refl; below = omega arith }
 
-pub gathers_more : {A : Type 0} (read : List ℕ → ℕ → Read A) (n c : ℕ) (first bytes : List ℕ) (start i : ℕ) (items : List A) (x : A) (e : ℕ) → c < n
+pub gathers_more : {A : Type 0} {read : List ℕ → ℕ → Read A} {n c : ℕ} {first bytes : List ℕ} {start i : ℕ} {items : List A} {x : A} {e : ℕ} → c < n
     → read bytes i ≡ Ok (x, e) → Gathers read n c first bytes start i items → Gathers read n (c + 1) first bytes start e (items ++ x ∷ [])
-gathers_more read n c first bytes start i items x e below is g = record { whole = sym (many-step read n c bytes i items x e below is) ∙ g.whole; same = g.same; below = omega arith }
+gathers_more {read = read} {n} {c} {bytes = bytes} {i = i} {items = items} {x = x} {e = e} below is g = record { whole = sym (many-step read n c bytes i items x e below is) ∙ g.whole; same = g.same; below = omega arith }
 
-pub gathers_all : {A : Type 0} (read : List ℕ → ℕ → Read A) (n c : ℕ) (first bytes : List ℕ) (start i : ℕ) (items : List A) → n ≤ c
+pub gathers_all : {A : Type 0} {read : List ℕ → ℕ → Read A} {n c : ℕ} {first bytes : List ℕ} {start i : ℕ} {items : List A} → n ≤ c
     → Gathers read n c first bytes start i items → many_at read n first start ≡ Ok (items, i)
-gathers_all read n c first bytes start i items done g =
+gathers_all {read = read} {n} {c} {bytes = bytes} {i = i} {items = items} done g =
     let none : n - c ≡ 0 = omega arith in
     sym g.whole ∙ rw none (many-end read bytes i items)
 
-pub gathers_fault : {A : Type 0} (read : List ℕ → ℕ → Read A) (n c : ℕ) (first bytes : List ℕ) (start i : ℕ) (items : List A) (f : DecodeError) → c < n
+pub gathers_fault : {A : Type 0} {read : List ℕ → ℕ → Read A} {n c : ℕ} {first bytes : List ℕ} {start i : ℕ} {items : List A} (f : DecodeError) → c < n
     → Fails f (read bytes i) → Gathers read n c first bytes start i items → Fails f (many_at read n first start)
-gathers_fault read n c first bytes start i items f below fails g =
+gathers_fault {read = read} {n} {c} {first} {bytes} {start} {i} {items} f below fails g =
     Fails-through f (read bytes i) (many_at read n first start) (λ is. sym g.whole ∙ many-fault read n c bytes i items f below is) fails
 
 same_ok : {A : Type 0} {x y : A} → ◌≡◌ {A = Result A DecodeError} (Ok x) (Ok y) → x ≡ y

@@ -102,50 +102,54 @@ after_root {bytes} {at = at} is (pointer {b = b} {c = c} h next high below rest)
 -- ---- the pointers that are followed from an offset
 
 -- whatever is spelled at first passes these offsets, and then what the rest from at on passes
-abbrev pub Leads : List ℕ → ℕ → List ℕ → ℕ → ℕ → Type 0
-Leads bytes first ts start at = (xs : List (List ℕ)) (e : ℕ) (h : Spelled bytes xs first first e) → Rest bytes start at (λ qs. passed h ≡ ts ++ qs)
+pub record Leads (bytes : List ℕ) (first : ℕ) (ts : List ℕ) (start at : ℕ) : Type 0 where
+  pub rest : (xs : List (List ℕ)) (e : ℕ) (h : Spelled bytes xs first first e) → Rest bytes start at (λ qs. passed h ≡ ts ++ qs)
 
 pub Leads-none : (bytes : List ℕ) (first : ℕ) → Leads bytes first [] first first
-Leads-none bytes first xs e h = record { labels = xs; end = e; spelled = h; passes = refl }
+Leads-none bytes first = record { rest = λ xs e h. record { labels = xs; end = e; spelled = h; passes = refl } }
 
-module _ (bytes : List ℕ) (first : ℕ) (ts : List ℕ) (start at : ℕ) (leads : Leads bytes first ts start at) where
-  pub Leads-label : (n next : ℕ) → part_at bytes at ≡ Ok (label_of n) → next ≡ at + 1 + n → Leads bytes first ts start next
-  Leads-label n next is next_is xs e h =
-      let r = leads xs e h in
-      let s = after_label n is r.spelled in
-      subst (λ (k : ℕ). Rest bytes start k (λ qs. passed h ≡ ts ++ qs)) (sym next_is)
-      (record { labels = s.labels; end = s.end; spelled = s.spelled; passes = r.passes ∙ ap (λ (qs : List ℕ). ts ++ qs) s.passes })
+among_more : (ts qs : List ℕ) (q : ℕ) → among (ts ++ qs) q ≡ (among ts q || among qs q)
+among_more ts qs q = list_any-append (λ (y : ℕ). nat_eq y q) ts qs
 
-  pub Leads-pointer : (t : ℕ) → part_at bytes at ≡ Ok (pointer_to t) → Leads bytes first (ts ++ t ∷ []) t t
-  Leads-pointer t is xs e h =
-      let r = leads xs e h in
-      let s = after_pointer t is r.spelled in
-      record {
-        labels = s.labels;
-        end = s.end;
-        spelled = s.spelled;
-        passes = r.passes ∙ ap (λ (qs : List ℕ). ts ++ qs) s.passes ∙ sym (append_assoc ts (t ∷ []) (passed s.spelled));
-      }
+module _ {bytes : List ℕ} {first : ℕ} {ts : List ℕ} {start at : ℕ} (leads : Leads bytes first ts start at) where
+  pub Leads-label : {n next : ℕ} → part_at bytes at ≡ Ok (label_of n) → next ≡ at + 1 + n → Leads bytes first ts start next
+  Leads-label {n} is next_is = record {
+    rest = λ xs e h.
+        let r = leads.rest xs e h in
+        let s = after_label n is r.spelled in
+        subst (λ (k : ℕ). Rest bytes start k (λ qs. passed h ≡ ts ++ qs)) (sym next_is)
+        (record { labels = s.labels; end = s.end; spelled = s.spelled; passes = r.passes ∙ ap (λ (qs : List ℕ). ts ++ qs) s.passes });
+  }
 
-  among_more : (qs : List ℕ) (q : ℕ) → among (ts ++ qs) q ≡ (among ts q || among qs q)
-  among_more qs q = list_any-append (λ (y : ℕ). nat_eq y q) ts qs
+  pub Leads-pointer : {t : ℕ} → part_at bytes at ≡ Ok (pointer_to t) → Leads bytes first (ts ++ t ∷ []) t t
+  Leads-pointer {t} is = record {
+    rest = λ xs e h.
+        let r = leads.rest xs e h in
+        let s = after_pointer t is r.spelled in
+        record {
+          labels = s.labels;
+          end = s.end;
+          spelled = s.spelled;
+          passes = r.passes ∙ ap (λ (qs : List ℕ). ts ++ qs) s.passes ∙ sym (append_assoc ts (t ∷ []) (passed s.spelled));
+        };
+  }
 
   pub Leads-root : (kept : set.FinSet nat_cmp) → part_at bytes at ≡ Ok zero_byte → PassesThese bytes kept first ts
   Leads-root kept is xs e h =
-      let r = leads xs e h in
+      let r = leads.rest xs e h in
       let all : passed h ≡ ts = r.passes ∙ ap (λ (qs : List ℕ). ts ++ qs) (after_root is r.spelled) ∙ append-nil ts in (
         λ q in_it. contains-inserted ts kept q ∙ right_of (set.contains kept q) (among ts q) (ap (λ (qs : List ℕ). among qs q) (sym all) ∙ in_it),
         λ q one. ap (λ (qs : List ℕ). among qs q) all ∙ one,
       )
 
   -- behind a kept offset only kept ones are passed
-  pub Leads-kept : (kept : set.FinSet nat_cmp) (t : ℕ) → part_at bytes at ≡ Ok (pointer_to t) → set.contains kept t ≡ true → IsClosed bytes kept → PassesThese bytes kept first ts
-  Leads-kept kept t is has closed xs e h =
-      let r = leads xs e h in
+  pub Leads-kept : (kept : set.FinSet nat_cmp) {t : ℕ} → part_at bytes at ≡ Ok (pointer_to t) → set.contains kept t ≡ true → IsClosed bytes kept → PassesThese bytes kept first ts
+  Leads-kept kept {t} is has closed xs e h =
+      let r = leads.rest xs e h in
       let s = after_pointer t is r.spelled in
       let all : passed h ≡ ts ++ t ∷ passed s.spelled = r.passes ∙ ap (λ (qs : List ℕ). ts ++ qs) s.passes in
       let rest = passed s.spelled in
-      let split : (q : ℕ) → among (passed h) q ≡ (among ts q || (nat_eq t q || among rest q)) = λ q. ap (λ (qs : List ℕ). among qs q) all ∙ among_more (t ∷ rest) q in (
+      let split : (q : ℕ) → among (passed h) q ≡ (among ts q || (nat_eq t q || among rest q)) = λ q. ap (λ (qs : List ℕ). among qs q) all ∙ among_more ts (t ∷ rest) q in (
         λ q in_it. contains-inserted ts kept q ∙ either (among ts q) (nat_eq t q || among rest q) ((set.contains kept q || among ts q) ≡ true)
             (λ one. right_of (set.contains kept q) (among ts q) one)
             (λ behind. left_of (set.contains kept q) (among ts q) (either (nat_eq t q) (among rest q) (set.contains kept q ≡ true)
@@ -161,28 +165,25 @@ abbrev pub Lead : List ℕ → List Passed → ℕ → ℕ → Type 0
 Lead bytes [] start at = Unit {0}
 Lead bytes (p ∷ ps) start at = Leads bytes p.target (targets ps) start at × Lead bytes ps start at
 
-pub Lead-label : (bytes : List ℕ) (ps : List Passed) (start at n next : ℕ) → part_at bytes at ≡ Ok (label_of n) → next ≡ at + 1 + n → Lead bytes ps start at → Lead bytes ps start next
-Lead-label bytes [] start at n next is next_is lead = tt
-Lead-label bytes (p ∷ ps) start at n next is next_is lead =
-    (λ xs e h. Leads-label bytes p.target (targets ps) start at lead.0 n next is next_is xs e h, Lead-label bytes ps start at n next is next_is lead.1)
+module _ (bytes : List ℕ) (start at : ℕ) where
+  pub Lead-label : (ps : List Passed) {n next : ℕ} → part_at bytes at ≡ Ok (label_of n) → next ≡ at + 1 + n → Lead bytes ps start at → Lead bytes ps start next
+  Lead-label [] is next_is lead = tt
+  Lead-label (p ∷ ps) is next_is lead = (Leads-label lead.0 is next_is, Lead-label ps is next_is lead.1)
 
-pub Lead-pointer : (bytes : List ℕ) (ps : List Passed) (start at : ℕ) (one : Passed) → part_at bytes at ≡ Ok (pointer_to one.target) → Lead bytes ps start at → Lead bytes (ps ++ one ∷ []) one.target one.target
-Lead-pointer bytes [] start at one is lead = (λ xs e h. Leads-none bytes one.target xs e h, tt)
-Lead-pointer bytes (p ∷ ps) start at one is lead =
-    let more : targets ps ++ one.target ∷ [] ≡ targets (ps ++ one ∷ []) = sym (map_push (λ (x : Passed). x.target) ps one) in (
-      λ xs e h. subst (λ (ts : List ℕ). Rest bytes one.target one.target (λ qs. passed h ≡ ts ++ qs)) more (Leads-pointer bytes p.target (targets ps) start at lead.0 one.target is xs e h),
-      Lead-pointer bytes ps start at one is lead.1,
-    )
+  pub Lead-pointer : (ps : List Passed) (one : Passed) → part_at bytes at ≡ Ok (pointer_to one.target) → Lead bytes ps start at → Lead bytes (ps ++ one ∷ []) one.target one.target
+  Lead-pointer [] one is lead = (Leads-none bytes one.target, tt)
+  Lead-pointer (p ∷ ps) one is lead =
+      let more : targets ps ++ one.target ∷ [] ≡ targets (ps ++ one ∷ []) = sym (map_push (λ (x : Passed). x.target) ps one) in
+      (subst (λ (ts : List ℕ). Leads bytes p.target ts one.target one.target) more (Leads-pointer lead.0 is), Lead-pointer ps one is lead.1)
 
-pub Lead-root : (bytes : List ℕ) (kept : set.FinSet nat_cmp) (ps : List Passed) (start at : ℕ) → part_at bytes at ≡ Ok zero_byte → Lead bytes ps start at → PassLater bytes kept ps
-Lead-root bytes kept [] start at is lead = tt
-Lead-root bytes kept (p ∷ ps) start at is lead = (λ xs e h. (Leads-root bytes p.target (targets ps) start at lead.0 kept is xs e h).0, Lead-root bytes kept ps start at is lead.1)
+  pub Lead-root : (kept : set.FinSet nat_cmp) (ps : List Passed) → part_at bytes at ≡ Ok zero_byte → Lead bytes ps start at → PassLater bytes kept ps
+  Lead-root kept [] is lead = tt
+  Lead-root kept (p ∷ ps) is lead = (λ xs e h. (Leads-root lead.0 kept is xs e h).0, Lead-root kept ps is lead.1)
 
-pub Lead-kept : (bytes : List ℕ) (kept : set.FinSet nat_cmp) (ps : List Passed) (start at t : ℕ) → part_at bytes at ≡ Ok (pointer_to t) → set.contains kept t ≡ true → IsClosed bytes kept
-    → Lead bytes ps start at → PassLater bytes kept ps
-Lead-kept bytes kept [] start at t is has closed lead = tt
-Lead-kept bytes kept (p ∷ ps) start at t is has closed lead =
-    (λ xs e h. (Leads-kept bytes p.target (targets ps) start at lead.0 kept t is has closed xs e h).0, Lead-kept bytes kept ps start at t is has closed lead.1)
+  pub Lead-kept : (kept : set.FinSet nat_cmp) {t : ℕ} (ps : List Passed) → part_at bytes at ≡ Ok (pointer_to t) → set.contains kept t ≡ true → IsClosed bytes kept
+      → Lead bytes ps start at → PassLater bytes kept ps
+  Lead-kept kept [] is has closed lead = tt
+  Lead-kept kept (p ∷ ps) is has closed lead = (λ xs e h. (Leads-kept lead.0 kept is has closed xs e h).0, Lead-kept kept ps is has closed lead.1)
 
 -- ---- what is kept once a name was read
 

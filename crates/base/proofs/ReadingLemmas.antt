@@ -41,44 +41,44 @@ label_spelled : {bytes : List ℕ} {s i n e : ℕ} {x : List ℕ} {xs : List (Li
 label_spelled {bytes} {s} {i} {n} {e} {x} {xs} len h some small at rest =
     label (subst (λ (k : ℕ). ByteAt anywhere bytes i k) (sym len) h) (omega arith) (omega arith) at (subst (λ (k : ℕ). Spelled bytes xs s (i + 1 + k) e) (sym len) rest)
 
-right_label : (bytes : List ℕ) (s i used n : ℕ) (r : Labels) → ByteAt anywhere bytes i n → 1 ≤ n → n ≤ 63 → i + 1 + n ≤ length bytes → used + n + 2 ≤ 255
+right_label : {bytes : List ℕ} {i n : ℕ} (s used : ℕ) (r : Labels) → ByteAt anywhere bytes i n → 1 ≤ n → n ≤ 63 → i + 1 + n ≤ length bytes → used + n + 2 ≤ 255
     → IsRight bytes s (i + 1 + n) (used + n + 1) r → IsRight bytes s i used (with_label (slice_range bytes (i + 1) (i + 1 + n)) r)
-right_label bytes s i used n (Ok r) h some small fits short right =
+right_label {bytes} {i} {n} s used (Ok r) h some small fits short right =
     let len = length-range bytes i n fits in
     (label_spelled len h some small (range_stands bytes i n fits) right.0, omega (arith, right.1, len))
-right_label bytes s i used n (Err f) h some small fits short right =
+right_label {bytes} {i} {n} s used (Err f) h some small fits short right =
     let more : used + n + 1 ≡ used + (1 + n) = omega arith in
     behind_label h some small fits (omega arith) (subst (λ (u : ℕ). IsFaulty bytes s (i + 1 + n) u f) more right)
 
-right_pointer : (bytes : List ℕ) (s i used b c : ℕ) (r : Labels) → ByteAt anywhere bytes i b → ByteAt anywhere bytes (i + 1) c → 192 ≤ b → target b c < s
+right_pointer : {bytes : List ℕ} {s i b c : ℕ} (used : ℕ) (r : Labels) → ByteAt anywhere bytes i b → ByteAt anywhere bytes (i + 1) c → 192 ≤ b → target b c < s
     → IsRight bytes (target b c) (target b c) used r → IsRight bytes s i used (ending (i + 2) r)
-right_pointer bytes s i used b c (Ok r) h next high below right = (pointer h next high below right.0, right.1)
-right_pointer bytes s i used b c (Err f) h next high below right = behind_pointer h next high below right
+right_pointer used (Ok r) h next high below right = (pointer h next high below right.0, right.1)
+right_pointer used (Err f) h next high below right = behind_pointer h next high below right
 
-right_behind : (bytes : List ℕ) (s i used : ℕ) (read : Result NamePart DecodeError) → PartIs bytes i read → used ≤ 254 → (again : ℕ → ℕ → ℕ → Labels)
+right_behind : {bytes : List ℕ} {i : ℕ} {read : Result NamePart DecodeError} (s used : ℕ) → PartIs bytes i read → used ≤ 254 → (again : ℕ → ℕ → ℕ → Labels)
     → ((s' i' used' : ℕ) → used' ≤ 254 → fuel s' used' < fuel s used → IsRight bytes s' i' used' (again s' i' used'))
     → IsRight bytes s i used (read >>= after_part again bytes s i used)
-right_behind bytes s i used _ (is_past h) few again right = ended h
-right_behind bytes s i used _ (is_root h) few again right = (ends h, omega arith)
-right_behind bytes s i used _ (is_cut_label h some small cut) few again right = cut_label h some small cut
-right_behind bytes s i used _ (is_label {n} h some small fits) few again right =
+right_behind s used (is_past h) few again right = ended h
+right_behind s used (is_root h) few again right = (ends h, omega arith)
+right_behind s used (is_cut_label h some small cut) few again right = cut_label h some small cut
+right_behind {bytes} {i} s used (is_label {n} h some small fits) few again right =
     cond_both (nat_lt 255 (used + n + 2)) _ _ (IsRight bytes s i used)
     (λ more. long h some small fits (omega (arith, ltb-true 255 (used + n + 2) more)))
     (λ short. let short_is = ltb-false 255 (used + n + 2) short in
-    right_label bytes s i used n (again s (i + 1 + n) (used + n + 1)) h some small fits short_is (right s (i + 1 + n) (used + n + 1) (omega (arith, short_is)) (omega (arith, short_is))))
-right_behind bytes s i used _ (is_bits h low high) few again right = bad_bits h low high
-right_behind bytes s i used _ (is_cut_pointer h high cut) few again right = cut_pointer h high cut
-right_behind bytes s i used _ (is_pointer {b} {c} h next high) few again right =
+    right_label s used (again s (i + 1 + n) (used + n + 1)) h some small fits short_is (right s (i + 1 + n) (used + n + 1) (omega (arith, short_is)) (omega (arith, short_is))))
+right_behind s used (is_bits h low high) few again right = bad_bits h low high
+right_behind s used (is_cut_pointer h high cut) few again right = cut_pointer h high cut
+right_behind {bytes} {i} s used (is_pointer {b} {c} h next high) few again right =
     cond_both (nat_le s (target b c)) _ _ (IsRight bytes s i used)
     (λ above. forward h next high (leb-true s (target b c) above))
     (λ below. let below_is = leb-false s (target b c) below in
-    right_pointer bytes s i used b c (again (target b c) (target b c) used) h next high below_is (right (target b c) (target b c) used few (omega (arith, below_is))))
+    right_pointer used (again (target b c) (target b c) used) h next high below_is (right (target b c) (target b c) used few (omega (arith, below_is))))
 
 walk_right : (n : ℕ) (bytes : List ℕ) (s i used : ℕ) → used ≤ 254 → fuel s used ≤ n → IsRight bytes s i used (walk n bytes s i used)
 walk_right zero bytes s i used few enough = absurd (omega arith)
 walk_right (suc n) bytes s i used few enough =
     subst (IsRight bytes s i used) (sym (walk-suc n bytes s i used))
-    (right_behind bytes s i used (part_at bytes i) (part_is bytes i) few (walk n bytes) (λ s' i' used' few' less. walk_right n bytes s' i' used' few' (omega arith)))
+    (right_behind s used (part_is bytes i) few (walk n bytes) (λ s' i' used' few' less. walk_right n bytes s' i' used' few' (omega arith)))
 
 pub labels_right : (bytes : List ℕ) (s i used : ℕ) → used ≤ 254 → IsRight bytes s i used (labels_at bytes s i used)
 unfolding labels_at
@@ -96,9 +96,9 @@ labels_at-label bytes s i used n h some small fits short =
     labels_at-part bytes s i used (Ok (label_of n)) (omega arith) (part_at-label bytes i n h some small fits)
     ∙ cond-false (nat_lt 255 (used + n + 2)) _ _ (le-ltb 255 (used + n + 2) short)
 
-pub labels_at-pointer : (bytes : List ℕ) (s i used b c : ℕ) → used ≤ 254 → ByteAt anywhere bytes i b → ByteAt anywhere bytes (i + 1) c → 192 ≤ b → target b c < s
+pub labels_at-pointer : {bytes : List ℕ} {i b c : ℕ} (s used : ℕ) → used ≤ 254 → ByteAt anywhere bytes i b → ByteAt anywhere bytes (i + 1) c → 192 ≤ b → target b c < s
     → labels_at bytes s i used ≡ ending (i + 2) (labels_at bytes (target b c) (target b c) used)
-labels_at-pointer bytes s i used b c few h next high below =
+labels_at-pointer {bytes} {i} {b} {c} s used few h next high below =
     labels_at-part bytes s i used (Ok (pointer_to (target b c))) few (part_at-pointer bytes i b c h next high)
     ∙ cond-false (nat_le s (target b c)) _ _ (lt-leb s (target b c) below)
 
@@ -110,7 +110,7 @@ labels_again {bytes} {s} {i} used (label {e = e} {x = x} {xs = xs} h some small 
     ∙ ap (with_label (slice_range bytes (i + 1) (i + 1 + length x))) again
     ∙ ap (λ (y : List ℕ). with_label y (Ok (xs, e))) (range_is bytes i x at)
 labels_again {bytes} {s} {i} used (pointer {b = b} {c = c} h next high below rest) short =
-    labels_at-pointer bytes s i used b c (omega arith) h next high below ∙ ap (ending (i + 2)) (labels_again used rest short)
+    labels_at-pointer s used (omega arith) h next high below ∙ ap (ending (i + 2)) (labels_again used rest short)
 
 -- a spelling that is too long is refused where it is read
 pub labels_too_long : {bytes : List ℕ} {s i e : ℕ} {xs : List (List ℕ)} (used : ℕ) → used ≤ 254 → Spelled bytes xs s i e → 255 < used + size_of xs + 1 → labels_at bytes s i used ≡ Err faults.BadName
@@ -124,7 +124,7 @@ labels_too_long {bytes} {s} {i} used few (label {e = e} {x = x} {xs = xs} h some
       ∙ ap (with_label (slice_range bytes (i + 1) (i + 1 + length x))) (labels_too_long (used + length x + 1) (omega arith) rest (omega arith))
 ]
 labels_too_long {bytes} {s} {i} used few (pointer {b = b} {c = c} h next high below rest) more =
-    labels_at-pointer bytes s i used b c few h next high below ∙ ap (ending (i + 2)) (labels_too_long used few rest more)
+    labels_at-pointer s used few h next high below ∙ ap (ending (i + 2)) (labels_too_long used few rest more)
 
 pub faulty_again : {bytes : List ℕ} {s i used : ℕ} {f : DecodeError} → used ≤ 254 → IsFaulty bytes s i used f → labels_at bytes s i used ≡ Err f
 faulty_again {bytes} {s} {i} {used} few (ended h) = labels_at-part bytes s i used _ few (part_at-past bytes i h)
@@ -142,7 +142,7 @@ faulty_again {bytes} {s} {i} {used} few (behind_label {n = n} {f = f} h some sma
     let again : labels_at bytes s (i + 1 + n) (used + n + 1) ≡ Err f = subst (λ (u : ℕ). labels_at bytes s (i + 1 + n) u ≡ Err f) more (faulty_again (omega arith) rest) in
     labels_at-label bytes s i used n h some small fits (omega arith) ∙ ap (with_label (slice_range bytes (i + 1) (i + 1 + n))) again
 faulty_again {bytes} {s} {i} {used} few (behind_pointer {b = b} {c = c} h next high below rest) =
-    labels_at-pointer bytes s i used b c few h next high below ∙ ap (ending (i + 2)) (faulty_again few rest)
+    labels_at-pointer s used few h next high below ∙ ap (ending (i + 2)) (faulty_again few rest)
 
 -- names
 

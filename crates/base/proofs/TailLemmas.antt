@@ -25,22 +25,22 @@ Tail-new buffer t used bytes inside near len few = record {
   gathers = subst (λ (xs : List ℕ). Gathers buffer t used t t used xs None) (sym (drop_all used bytes (omega arith))) (gathers_none buffer t used inside few);
 }
 
-module _ (buffer : List ℕ) (start at used : ℕ) (bytes : List ℕ) (p : Passed) where
-  pub Tail-pointer : (t : ℕ) → part_at buffer at ≡ Ok (pointer_to t) → t < start → Tail buffer start at used bytes p → Tail buffer t t used bytes p
-  Tail-pointer t is below tail = record {
+module _ {buffer : List ℕ} {start at used : ℕ} {bytes : List ℕ} {p : Passed} where
+  pub Tail-pointer : {t : ℕ} → part_at buffer at ≡ Ok (pointer_to t) → t < start → Tail buffer start at used bytes p → Tail buffer t t used bytes p
+  Tail-pointer {t} is below tail = record {
     end = _;
     inside = tail.inside;
     near = tail.near;
-    gathers = gathers_pointer buffer p.target p.from start at used (drop p.from bytes) tail.end tail.gathers t is below;
+    gathers = gathers_pointer tail.gathers t is below;
   }
 
-  pub Tail-label : (n size : ℕ) (next : List ℕ) → part_at buffer at ≡ Ok (label_of n) → size ≡ 1 + n → used + size + 1 ≤ 255 → length bytes ≡ used → next ≡ bytes ++ slice_range buffer at (at + size)
+  pub Tail-label : {n size : ℕ} {next : List ℕ} → part_at buffer at ≡ Ok (label_of n) → size ≡ 1 + n → used + size + 1 ≤ 255 → length bytes ≡ used → next ≡ bytes ++ slice_range buffer at (at + size)
       → Tail buffer start at used bytes p → Tail buffer start (at + size) (used + size) next p
-  Tail-label n size next is size_is short len next_is tail = record {
+  Tail-label {n} {size} {next} is size_is short len next_is tail = record {
     end = tail.end;
     inside = omega (arith, tail.inside, ap length next_is, length-append bytes (slice_range buffer at (at + size)));
     near = tail.near;
-    gathers = gathers_label buffer p.target p.from start at used (drop p.from bytes) tail.end tail.gathers n size (drop p.from next) is size_is short
+    gathers = gathers_label tail.gathers n size (drop p.from next) is size_is short
         (ap (drop p.from) next_is ∙ drop-append-le p.from bytes (slice_range buffer at (at + size)) tail.inside);
   }
 
@@ -52,19 +52,19 @@ module _ (buffer : List ℕ) (start at used : ℕ) (bytes : List ℕ) (p : Passe
           end = _;
           near = tail.near;
           wire = g.wire;
-          spelled = spelled_is buffer p.target p.from _ (drop p.from bytes) (omega (arith, tail.inside, g.few)) (at_root buffer p.target p.from start at used (drop p.from bytes) tail.end g is);
+          spelled = spelled_is buffer p.target p.from _ (drop p.from bytes) (omega (arith, tail.inside, g.few)) (at_root g is);
         },
       )
 
-  pub Tail-kept : (t : ℕ) (items whole : List ℕ) → part_at buffer at ≡ Ok (pointer_to t) → t < start → IsKept buffer t items → used + length items + 1 ≤ 255 → whole ≡ bytes ++ items → length bytes ≡ used
+  pub Tail-kept : {t : ℕ} {items whole : List ℕ} → part_at buffer at ≡ Ok (pointer_to t) → t < start → IsKept buffer t items → used + length items + 1 ≤ 255 → whole ≡ bytes ++ items → length bytes ≡ used
       → Tail buffer start at used bytes p → Ends buffer whole p
-  Tail-kept t items whole is below kept short whole_is len tail =
+  Tail-kept {t} {items} {whole} is below kept short whole_is len tail =
       let g = tail.gathers in
       let back : drop p.from whole ≡ drop p.from bytes ++ items = ap (drop p.from) whole_is ∙ drop-append-le p.from bytes items tail.inside in
       let ends : IsKept buffer p.target (drop p.from bytes ++ items) = record {
         end = _;
         near = tail.near;
         wire = IsWire-append (drop p.from bytes) items g.wire kept.wire (omega (arith, g.len));
-        spelled = spelled_is buffer p.target p.from _ (drop p.from bytes ++ items) (omega (arith, tail.inside, g.few)) (at_kept buffer p.target p.from start at used (drop p.from bytes) tail.end g t is below items kept short);
+        spelled = spelled_is buffer p.target p.from _ (drop p.from bytes ++ items) (omega (arith, tail.inside, g.few)) (at_kept g is below kept short);
       } in
       (omega (arith, tail.inside, ap length whole_is, length-append bytes items), subst (IsKept buffer p.target) (sym back) ends)

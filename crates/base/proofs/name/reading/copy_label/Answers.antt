@@ -8,4 +8,4 @@ returns-then-at-buffer c =
     let at = c.args.at in
     let len : length c.copy_from_slice.new.self ≡ 16 =
     omega (arith, ap length copied, length-take (at + 16 - at) (drop at c.args.buffer.now), length-drop at c.args.buffer.now) in
-    copied_behind _ _ _ at _ 16 _ (omega arith) len (omega arith) copied
+    copied_behind _ _ at (omega arith) len (omega arith) copied

@@ -5,19 +5,13 @@ use Rattle.base.proofs.wire.many.read_many.Goals as goal
 pub returns-in_err-value-clause-read : goal.returns-in_err-value-clause-read
 returns-in_err-value-clause-read g c =
     let p = err_from_is_err_and c.from_residual.result c.from_residual.ensures.1 in
-    let at = c.loop.decoder in
-    rw (p.1, p.2) (gathers_fault g.T.BinDecodable.read_at c.args.count c.loop.counter c.args.decoder.now.bytes at.bytes c.args.decoder.now.index at.index c.loop.values.items c.in_err-value.field-0.0 c.loop-test.true c.in_err-value.ensures.read c.loop.invariant.gathers)
+    rw (p.1, p.2) (gathers_fault c.in_err-value.field-0.0 c.loop-test.true c.in_err-value.ensures.read c.loop.invariant.gathers)
 
 pub loop-preserved : goal.loop-preserved
-loop-preserved g c =
-    let at = c.loop.decoder in
-    record {
-      gathers = rw (c.in_ok-push.ensures.items, c.in_ok-value.ensures.read.1)
-          (gathers_more g.T.BinDecodable.read_at c.args.count c.loop.counter c.args.decoder.now.bytes at.bytes c.args.decoder.now.index at.index c.loop.values.items c.in_ok-value.value c.read.new.decoder.index c.loop-test.true c.in_ok-value.ensures.read.0 c.loop.invariant.gathers);
-      counted = λ counted. c.in_ok-value.ensures.counts (c.loop.invariant.counted counted);
-    }
+loop-preserved g c = record {
+  gathers = rw (c.in_ok-push.ensures.items, c.in_ok-value.ensures.read.1) (gathers_more c.loop-test.true c.in_ok-value.ensures.read.0 c.loop.invariant.gathers);
+  counted = λ counted. c.in_ok-value.ensures.counts (c.loop.invariant.counted counted);
+}
 
 pub returns-clause-read : goal.returns-clause-read
-returns-clause-read g c =
-    let at = c.loop.decoder in
-    (gathers_all g.T.BinDecodable.read_at c.args.count c.loop.counter c.args.decoder.now.bytes at.bytes c.args.decoder.now.index at.index c.loop.values.items c.loop-test.false c.loop.invariant.gathers, c.loop.invariant.gathers.same)
+returns-clause-read g c = (gathers_all c.loop-test.false c.loop.invariant.gathers, c.loop.invariant.gathers.same)

@@ -40,10 +40,12 @@ returns-clause-counts c = λ counted.
     let h : Spelled old.bytes labels old.index old.index e = subst (λ (bs : List ℕ). Spelled bs labels old.index old.index e) c.buffer.ensures
     (subst (λ (i : ℕ). Spelled c.buffer.result.now labels i i e) c.index.ensures.value there) in
     let followed = c.in_ok-used.ensures.followed in
-    let last = c.move_to.new.self in
     let moved = c.move_to.ensures in
     let all = c.in_ok-keep_all.ensures.ok in
-    let jumps = ap (λ (r : Reader). r.jumps) moved ∙ ap (λ (r : Reader). r.jumps) all in
-    let bytes = ap (λ (r : Reader). r.bytes) moved ∙ ap (λ (r : Reader). r.bytes) all ∙ ap (λ (r : Reader). r.bytes) followed.now in
-    let index = ap (λ (r : Reader). r.index) moved in
-    counted_after (targets c.gather.new.passed) old c.gather.new.decoder followed counted last jumps (kept_now c) labels e h bytes index (passes c labels e h)
+    counted_after h (record {
+      bytes = ap (λ (r : Reader). r.bytes) moved ∙ ap (λ (r : Reader). r.bytes) all ∙ ap (λ (r : Reader). r.bytes) followed.now;
+      index = ap (λ (r : Reader). r.index) moved;
+      jumps = ap (λ (r : Reader). r.jumps) moved ∙ ap (λ (r : Reader). r.jumps) all;
+      kept = kept_now c;
+      passes = passes c labels e h;
+    }) followed counted
