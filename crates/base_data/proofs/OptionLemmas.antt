@@ -57,9 +57,9 @@ written_push options option a s t before k w = record {
   writes = Writes-weaker (λ B i e both. back_push both.1 both.2) (omega (arith, options_len-push options option)) (Writes-then before.keeps k before.writes w);
 }
 
-pub written_more : (options : List OptionValue) (i : ℕ) (option : OptionValue) (a s t : State) → i < length options → option ≡ get_or options i option
+pub written_more : (options : List OptionValue) {i : ℕ} {option : OptionValue} {a s t : State} → i < length options → option ≡ get_or options i option
     → AreWritten (take i options) a s → Keeps s t → Writes (option_word option) (option_len option) [] s t → AreWritten (take (i + 1) options) a t
-written_more options i option a s t inside is before k w =
+written_more options {i} {option} {a} {s} {t} inside is before k w =
     let next : take (i + 1) options ≡ take i options ++ option ∷ [] = take_more options i option inside ∙ ap (λ (x : OptionValue). take i options ++ x ∷ []) (sym is) in
     subst (λ (xs : List OptionValue). AreWritten xs a t) (sym next) (written_push (take i options) option a s t before k w)
 
@@ -130,16 +130,16 @@ options_end zero end B i items done = ap (λ ys. Ok (ys, i)) (append-nil items)
 options_end (suc n) end B i items done = rw (le-leb end i done) (ap (λ ys. Ok (ys, i)) (append-nil items))
 
 -- some options are still looked for before the end
-some_fuel : (count end : ℕ) (first bytes : List ℕ) (start i : ℕ) (items : List OptionValue) → i < end → (g : AreGathered count end first bytes start i items) → (n : ℕ) × (g.fuel ≡ suc n)
-some_fuel count end first bytes start i items below g = at g.fuel g.room where
+some_fuel : {count end : ℕ} {first bytes : List ℕ} {start i : ℕ} {items : List OptionValue} → i < end → (g : AreGathered count end first bytes start i items) → (n : ℕ) × (g.fuel ≡ suc n)
+some_fuel {end = end} {i = i} below g = at g.fuel g.room where
   at : (n : ℕ) → end ≤ i + n → (m : ℕ) × (n ≡ suc m)
   at zero room = absurd (omega arith)
   at (suc n) room = (n, refl)
 
-pub gathered_more : (count end : ℕ) (first bytes : List ℕ) (start i : ℕ) (items : List OptionValue) (x : OptionValue) (e : ℕ) → i < end
+pub gathered_more : {count end : ℕ} {first bytes : List ℕ} {start i : ℕ} {items : List OptionValue} {x : OptionValue} {e : ℕ} → i < end
     → option_at bytes i ≡ Ok (x, e) → AreGathered count end first bytes start i items → AreGathered count end first bytes start e (items ++ x ∷ [])
-gathered_more count end first bytes start i items x e below is g =
-    let fuel = some_fuel count end first bytes start i items below g in
+gathered_more {end = end} {bytes = bytes} {i = i} {items = items} {x = x} {e = e} below is g =
+    let fuel = some_fuel below g in
     let moved : i < e = option_moves bytes i (x, e) is in
     record {
       fuel = fuel.0;
@@ -148,16 +148,16 @@ gathered_more count end first bytes start i items x e below is g =
       same = g.same;
     }
 
-pub gathered_fault : (count end : ℕ) (first bytes : List ℕ) (start i : ℕ) (items : List OptionValue) (f : DecodeError) → i < end → Fails f (option_at bytes i)
+pub gathered_fault : {count end : ℕ} {first bytes : List ℕ} {start i : ℕ} {items : List OptionValue} (f : DecodeError) → i < end → Fails f (option_at bytes i)
     → AreGathered count end first bytes start i items → Fails f (options_to count end first start)
-gathered_fault count end first bytes start i items f below fails g =
-    let fuel = some_fuel count end first bytes start i items below g in
+gathered_fault {count} {end} {first} {bytes} {start} {i} {items} f below fails g =
+    let fuel = some_fuel below g in
     Fails-through f (option_at bytes i) (options_to count end first start)
     (λ is. sym g.whole ∙ ap (λ (n : ℕ). with_front items (options_to n end bytes i)) fuel.1 ∙ options_fault fuel.0 end bytes i items f below is) fails
 
-pub gathered_all : (count end : ℕ) (first bytes : List ℕ) (start i : ℕ) (items : List OptionValue) → end ≤ i → AreGathered count end first bytes start i items
+pub gathered_all : {count end : ℕ} {first bytes : List ℕ} {start i : ℕ} {items : List OptionValue} → end ≤ i → AreGathered count end first bytes start i items
     → options_to count end first start ≡ Ok (items, i)
-gathered_all count end first bytes start i items done g = sym g.whole ∙ options_end g.fuel end bytes i items done
+gathered_all {end = end} {bytes = bytes} {i = i} {items = items} done g = sym g.whole ∙ options_end g.fuel end bytes i items done
 
 -- the options of as many bytes are those up to their end
 pub opt_at-to : (len end : ℕ) (B : List ℕ) (i : ℕ) → end ≡ i + len → opt_at len B i ≡ options_to len end B i

@@ -7,11 +7,10 @@ returns-then-len-eq0-clause-read c = (no_data c.args.record_type c.args.len c.ar
 
 pub returns-then-index-end-clause-read : goal.returns-then-index-end-clause-read
 returns-then-index-end-clause-read c =
-    let ends : c.read_kind.new.decoder.index ≡ c.args.decoder.now.index + c.args.len = omega (arith, c.index-in-Ok.ensures.value, c.if-index-end.true, c.index.ensures.value, c.from.ensures) in
-    (
-        data_fills c.args.record_type c.args.len c.args.decoder.now.bytes c.args.decoder.now.index c.in-Ok.rdata c.read_kind.new.decoder.index c.if-len-eq0.false c.in-Ok.ensures.read.0 ends,
-        c.in-Ok.ensures.read.1,
-      )
+    let ends : c.read_kind.new.decoder.index ≡ c.args.decoder.now.index + c.args.len = omega (arith, c.index-in-Ok.ensures.value, c.if-index-end.true, c.index.ensures.value, c.from.ensures) in (
+      data_fills c.args.record_type c.args.len c.args.decoder.now.bytes c.args.decoder.now.index c.in-Ok.rdata c.read_kind.new.decoder.index c.if-len-eq0.false c.in-Ok.ensures.read.0 ends,
+      c.in-Ok.ensures.read.1,
+    )
 
 pub returns-else-index-end-clause-read : goal.returns-else-index-end-clause-read
 returns-else-index-end-clause-read c =

@@ -26,4 +26,4 @@ loop-option-preserved c =
     let i = c.loop-option.option-index in
     let option = c.option-item.result in
     let inside : i < length c.args.self.now = omega (arith, c.loop-option-test.true, ap length same) in
-    written_more c.args.self.now i option _ _ _ inside (c.option-item.is ∙ ap (λ xs. get_or xs i option) same) c.loop-option.invariant c.in_ok-emit.ensures.keeps c.in_ok-emit.ensures.writes
+    written_more c.args.self.now inside (c.option-item.is ∙ ap (λ xs. get_or xs i option) same) c.loop-option.invariant c.in_ok-emit.ensures.keeps c.in_ok-emit.ensures.writes

@@ -6,32 +6,26 @@ use Rattle.base_data.proofs.rdata.opt.OPTSizedData.read.Goals as goal
 pub returns-in_err-read-clause-read : goal.returns-in_err-read-clause-read
 returns-in_err-read-clause-read c =
     let p = err_from_is_err_and c.from_residual.result c.from_residual.ensures.1 in
-    let at = c.options.decoder in
     let old = c.args.decoder.now in
     let end : c.index.result + c.from.result ≡ old.index + c.args.len = omega (arith, c.index.ensures.value, c.from.ensures) in
     let begins = c.index-in-options.ensures.value in
     rw (p.1, p.2, opt_at-to c.args.len (c.index.result + c.from.result) old.bytes old.index end)
-          (gathered_fault c.args.len (c.index.result + c.from.result) old.bytes at.bytes old.index at.index c.options.options.items c.in_err-read.field-0.0 (omega (arith, c.options-test.true, begins)) c.in_err-read.ensures.read c.options.invariant.gathered)
+    (gathered_fault c.in_err-read.field-0.0 (omega (arith, c.options-test.true, begins)) c.in_err-read.ensures.read c.options.invariant.gathered)
 
 pub options-preserved : goal.options-preserved
 options-preserved c =
-    let at = c.options.decoder in
-    let old = c.args.decoder.now in
     let begins = c.index-in-options.ensures.value in
     record {
       gathered = rw (c.in_ok-push.ensures.items, c.in_ok-read.ensures.read.1)
-          (gathered_more c.args.len (c.index.result + c.from.result) old.bytes at.bytes old.index at.index c.options.options.items c.in_ok-read.field-0 c.read.new.decoder.index (omega (arith, c.options-test.true, begins)) c.in_ok-read.ensures.read.0 c.options.invariant.gathered);
+          (gathered_more (omega (arith, c.options-test.true, begins)) c.in_ok-read.ensures.read.0 c.options.invariant.gathered);
       counted = λ counted. c.in_ok-read.ensures.counts (c.options.invariant.counted counted);
     }
 
 pub returns-clause-read : goal.returns-clause-read
 returns-clause-read c =
-    let at = c.options.decoder in
     let old = c.args.decoder.now in
     let end : c.index.result + c.from.result ≡ old.index + c.args.len = omega (arith, c.index.ensures.value, c.from.ensures) in
-    let begins = c.index-in-options.ensures.value in
-    (
-        opt_at-to c.args.len (c.index.result + c.from.result) old.bytes old.index end
-            ∙ gathered_all c.args.len (c.index.result + c.from.result) old.bytes at.bytes old.index at.index c.options.options.items (omega (arith, c.options-test.false, begins)) c.options.invariant.gathered,
-        c.options.invariant.gathered.same,
-      )
+    let begins = c.index-in-options.ensures.value in (
+      opt_at-to c.args.len (c.index.result + c.from.result) old.bytes old.index end ∙ gathered_all (omega (arith, c.options-test.false, begins)) c.options.invariant.gathered,
+      c.options.invariant.gathered.same,
+    )
