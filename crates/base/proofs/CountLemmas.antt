@@ -284,7 +284,8 @@ both_lists ts us = same_members _ _ (λ q.
     ∙ sym (list_any-append (λ (y : ℕ). nat_eq y q) ts us)
     ∙ sym (set.contains-from_list_nat (ts ++ us) q))
 
-one_passed : {old last : Reader} {xs : List (List ℕ)} {e : ℕ} (h : Spelled old.bytes xs old.index old.index e) → IsPassed old → last.bytes ≡ old.bytes → last.index ≡ e → last.kept ≡ inserted (passed h) old.kept → IsPassed last
+one_passed : {old last : Reader} {xs : List (List ℕ)} {e : ℕ} (h : Spelled old.bytes xs old.index old.index e) → IsPassed old
+    → last.bytes ≡ old.bytes → last.index ≡ e → last.kept ≡ inserted (passed h) old.kept → IsPassed last
 one_passed {old} {last} {xs} {e} h p bytes index kept =
     let behind = ends_behind h in
     record {

@@ -79,7 +79,8 @@ module _ {buffer : List ℕ} {first before start at used : ℕ} {bytes : List �
     at_end (Some e) = ap (λ (labels : List (List ℕ)). Ok (labels, e)) (append-nil (labels_of bytes))
 
 -- what a label is
-label_part : (bytes : List ℕ) (i n : ℕ) (read : Result NamePart DecodeError) → PartIs bytes i read → read ≡ Ok (label_of n) → ByteAt anywhere bytes i n × (1 ≤ n) × (n ≤ 63) × (i + 1 + n ≤ length bytes)
+label_part : (bytes : List ℕ) (i n : ℕ) (read : Result NamePart DecodeError) → PartIs bytes i read → read ≡ Ok (label_of n)
+    → ByteAt anywhere bytes i n × (1 ≤ n) × (n ≤ 63) × (i + 1 + n ≤ length bytes)
 label_part bytes i n _ (is_past h) is = absurd cc
 label_part bytes i n _ (is_root h) is = absurd cc
 label_part bytes i n _ (is_cut_label h some small cut) is = absurd cc
@@ -185,7 +186,9 @@ module _ {buffer : List ℕ} {first before start at used : ℕ} {bytes : List �
 
 -- the bytes of labels behind those before them
 joined : (bytes items : List ℕ) → IsWire bytes → IsWire items → bytes ++ items ≡ wire_of (labels_of bytes ++ labels_of items)
-joined bytes items b i = ap (λ (xs : List ℕ). xs ++ items) (sym b.whole) ∙ ap (λ (xs : List ℕ). wire_of (labels_of bytes) ++ xs) (sym i.whole) ∙ sym (wire_of-append (labels_of bytes) (labels_of items))
+joined bytes items b i =
+    ap (λ (xs : List ℕ). xs ++ items) (sym b.whole)
+    ∙ ap (λ (xs : List ℕ). wire_of (labels_of bytes) ++ xs) (sym i.whole) ∙ sym (wire_of-append (labels_of bytes) (labels_of items))
 
 pub IsWire-append : (bytes items : List ℕ) → IsWire bytes → IsWire items → length bytes + length items ≤ 254 → IsWire (bytes ++ items)
 IsWire-append bytes items b i short =
@@ -207,7 +210,8 @@ spelled_is B t used e xs few is = right (labels_at B t t used) is (labels_right 
   right (Err f) same is_right = absurd cc
 
 -- a target that is kept ends the walk
-module _ {buffer : List ℕ} {first before start at used : ℕ} {bytes : List ℕ} {end : Option ℕ} (gathers : Gathers buffer first before start at used bytes end) {t : ℕ} (is : part_at buffer at ≡ Ok (pointer_to t)) (below : t < start)
+module _ {buffer : List ℕ} {first before start at used : ℕ} {bytes : List ℕ} {end : Option ℕ} (gathers : Gathers buffer first before start at used bytes end)
+    {t : ℕ} (is : part_at buffer at ≡ Ok (pointer_to t)) (below : t < start)
     {items : List ℕ} (kept : IsKept buffer t items) where
   goes_there : labels_at buffer first first before ≡ with_front (labels_of bytes) (ended_at end (ending (at + 2) (labels_at buffer t t used)))
   goes_there = goes gathers (ending (at + 2) (labels_at buffer t t used))
@@ -218,7 +222,8 @@ module _ {buffer : List ℕ} {first before start at used : ℕ} {bytes : List �
       let size = size_of-labels_of items kept.wire in
       let there : labels_at buffer t t used ≡ Ok (labels_of items, kept.end) = labels_again used kept.spelled (omega (arith, size)) in
       let labels : labels_of (bytes ++ items) ≡ labels_of bytes ++ labels_of items = labels_of_is (bytes ++ items) _ (joined bytes items gathers.wire kept.wire) in
-      goes_there ∙ ap (λ (r : Labels). with_front (labels_of bytes) (ended_at end (ending (at + 2) r))) there ∙ at_end end ∙ ap (λ (ls : List (List ℕ)). Ok (ls, unwrap_or end (at + 2))) (sym labels) where
+      goes_there ∙ ap (λ (r : Labels). with_front (labels_of bytes) (ended_at end (ending (at + 2) r))) there
+      ∙ at_end end ∙ ap (λ (ls : List (List ℕ)). Ok (ls, unwrap_or end (at + 2))) (sym labels) where
         at_end : (end : Option ℕ) → with_front (labels_of bytes) (ended_at end (Ok (labels_of items, at + 2))) ≡ Ok (labels_of bytes ++ labels_of items, unwrap_or end (at + 2))
         at_end None = refl
         at_end (Some e) = refl

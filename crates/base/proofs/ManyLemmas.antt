@@ -54,7 +54,8 @@ gathers_none read count bytes i =
 
 pub gathers_more : {A : Type 0} {read : List ℕ → ℕ → Read A} {n c : ℕ} {first bytes : List ℕ} {start i : ℕ} {items : List A} {x : A} {e : ℕ} → c < n
     → read bytes i ≡ Ok (x, e) → Gathers read n c first bytes start i items → Gathers read n (c + 1) first bytes start e (items ++ x ∷ [])
-gathers_more {read = read} {n} {c} {bytes = bytes} {i = i} {items = items} {x = x} {e = e} below is g = record { whole = sym (many-step read n c bytes i items x e below is) ∙ g.whole; same = g.same; below = omega arith }
+gathers_more {read = read} {n} {c} {bytes = bytes} {i = i} {items = items} {x = x} {e = e} below is g =
+    record { whole = sym (many-step read n c bytes i items x e below is) ∙ g.whole; same = g.same; below = omega arith }
 
 pub gathers_all : {A : Type 0} {read : List ℕ → ℕ → Read A} {n c : ℕ} {first bytes : List ℕ} {start i : ℕ} {items : List A} → n ≤ c
     → Gathers read n c first bytes start i items → many_at read n first start ≡ Ok (items, i)

@@ -68,7 +68,8 @@ same_label m n is = cc
 same_pointer : (t u : ℕ) → ◌≡◌ {A = Result NamePart DecodeError} (Ok (pointer_to t)) (Ok (pointer_to u)) → t ≡ u
 same_pointer t u is = cc
 
-after_label : {bytes : List ℕ} {start at e : ℕ} {xs : List (List ℕ)} (n : ℕ) → part_at bytes at ≡ Ok (label_of n) → (h : Spelled bytes xs start at e) → Rest bytes start (at + 1 + n) (λ qs. passed h ≡ qs)
+after_label : {bytes : List ℕ} {start at e : ℕ} {xs : List (List ℕ)} (n : ℕ) → part_at bytes at ≡ Ok (label_of n) → (h : Spelled bytes xs start at e)
+    → Rest bytes start (at + 1 + n) (λ qs. passed h ≡ qs)
 after_label {bytes} {at = at} n is (ends h) = absurd (no_root (sym (part_at-root bytes at h) ∙ is)) where
   no_root : ◌≡◌ {A = Result NamePart DecodeError} (Ok zero_byte) (Ok (label_of n)) → ⊥
   no_root same = absurd cc

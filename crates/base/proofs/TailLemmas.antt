@@ -56,7 +56,8 @@ module _ {buffer : List ℕ} {start at used : ℕ} {bytes : List ℕ} {p : Passe
         },
       )
 
-  pub Tail-kept : {t : ℕ} {items whole : List ℕ} → part_at buffer at ≡ Ok (pointer_to t) → t < start → IsKept buffer t items → used + length items + 1 ≤ 255 → whole ≡ bytes ++ items → length bytes ≡ used
+  pub Tail-kept : {t : ℕ} {items whole : List ℕ} → part_at buffer at ≡ Ok (pointer_to t) → t < start → IsKept buffer t items → used + length items + 1 ≤ 255
+      → whole ≡ bytes ++ items → length bytes ≡ used
       → Tail buffer start at used bytes p → Ends buffer whole p
   Tail-kept {t} {items} {whole} is below kept short whole_is len tail =
       let g = tail.gathers in

@@ -132,7 +132,8 @@ returns-in-Some-clause-read c =
     let room = c.parts.room in
     let items = c.in-Some.labels.now in
     let copied = c.copy_from_slice.ensures.after in
-    let next = take-put_mid used (used + length items - used) room c.copy_from_slice.new.self (used + length items) (omega (arith, ap length copied)) (omega (arith, ap length copied, c.parts.invariant.gathers.len, length-take used room)) in
+    let next = take-put_mid used (used + length items - used) room c.copy_from_slice.new.self (used + length items) (omega (arith, ap length copied))
+    (omega (arith, ap length copied, c.parts.invariant.gathers.len, length-take used room)) in
     at_kept c.parts.invariant.gathers is (omega arith) (kept_is _ _ _ _ bytes c.in-Some.ensures.spelled) (omega arith)
     ∙ ap (λ (e : ℕ). Ok (labels_of (take used room ++ items), e)) (sym c.unwrap_or-behind.ensures)
     ∙ ap (λ (xs : List ℕ). Ok (labels_of xs, c.unwrap_or-behind.result)) (ap (λ (xs : List ℕ). take used room ++ xs) (sym copied) ∙ sym next)
@@ -150,7 +151,8 @@ returns-in-Some-clause-wire c =
     let room = c.parts.room in
     let items = c.in-Some.labels.now in
     let copied = c.copy_from_slice.ensures.after in
-    let next = take-put_mid used (used + length items - used) room c.copy_from_slice.new.self (used + length items) (omega (arith, ap length copied)) (omega (arith, ap length copied, c.parts.invariant.gathers.len, length-take used room)) in
+    let next = take-put_mid used (used + length items - used) room c.copy_from_slice.new.self (used + length items) (omega (arith, ap length copied))
+    (omega (arith, ap length copied, c.parts.invariant.gathers.len, length-take used room)) in
     subst IsWire (ap (λ (xs : List ℕ). take used room ++ xs) (sym copied) ∙ sym next)
     (IsWire-append (take used room) items c.parts.invariant.gathers.wire (kept_is _ _ _ _ bytes c.in-Some.ensures.spelled).wire (omega (arith, c.parts.invariant.gathers.len)))
 
@@ -162,14 +164,18 @@ returns-in-Some-clause-kept c =
     let room = c.parts.room in
     let items = c.in-Some.labels.now in
     let copied = c.copy_from_slice.ensures.after in
-    let next = take-put_mid used (used + length items - used) room c.copy_from_slice.new.self (used + length items) (omega (arith, ap length copied)) (omega (arith, ap length copied, c.parts.invariant.gathers.len, length-take used room)) in
+    let next = take-put_mid used (used + length items - used) room c.copy_from_slice.new.self (used + length items) (omega (arith, ap length copied))
+    (omega (arith, ap length copied, c.parts.invariant.gathers.len, length-take used room)) in
     let whole = next ∙ ap (λ (xs : List ℕ). take used room ++ xs) copied in
-    All-weaker _ (Ends c.args.buffer.now _) (λ p tail. Tail-kept {start = c.parts.start} {used = used} is (omega arith) (kept_is _ _ _ _ bytes c.in-Some.ensures.spelled) (omega arith) whole (omega (arith, c.parts.invariant.gathers.len)) tail) c.parts.passed c.parts.invariant.tails
+    All-weaker _ (Ends c.args.buffer.now _)
+    (λ p tail. Tail-kept {start = c.parts.start} {used = used} is (omega arith) (kept_is _ _ _ _ bytes c.in-Some.ensures.spelled) (omega arith) whole (omega (arith, c.parts.invariant.gathers.len)) tail)
+    c.parts.passed c.parts.invariant.tails
 
 pub returns-in-Root-clause-kept : goal.returns-in-Root-clause-kept
 returns-in-Root-clause-kept c =
     let is : part_at c.args.buffer.now c.parts.at ≡ Ok zero_byte = c.in_ok-part_of.ensures.value ∙ ap found c.in-Root.is in
-    All-weaker _ (Ends c.args.buffer.now (take c.parts.used c.parts.room)) (λ p tail. Tail-root {start = c.parts.start} {used = c.parts.used} is (omega (arith, c.parts.invariant.gathers.len)) tail) c.parts.passed c.parts.invariant.tails
+    All-weaker _ (Ends c.args.buffer.now (take c.parts.used c.parts.room)) (λ p tail. Tail-root {start = c.parts.start} {used = c.parts.used} is (omega (arith, c.parts.invariant.gathers.len)) tail)
+    c.parts.passed c.parts.invariant.tails
 
 pub returns-in-Root-clause-these : goal.returns-in-Root-clause-these
 returns-in-Root-clause-these c =

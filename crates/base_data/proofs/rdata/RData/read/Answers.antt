@@ -14,5 +14,6 @@ returns-then-index-end-clause-read c =
 
 pub returns-else-index-end-clause-read : goal.returns-else-index-end-clause-read
 returns-else-index-end-clause-read c =
-    let other : c.read_kind.new.decoder.index ≡ c.args.decoder.now.index + c.args.len → ⊥ = λ ends. c.if-index-end.false (omega (arith, c.index-in-Ok.ensures.value, ends, c.index.ensures.value, c.from.ensures)) in
+    let other : c.read_kind.new.decoder.index ≡ c.args.decoder.now.index + c.args.len → ⊥ =
+    λ ends. c.if-index-end.false (omega (arith, c.index-in-Ok.ensures.value, ends, c.index.ensures.value, c.from.ensures)) in
     data_does_not_fill c.args.record_type c.args.len c.args.decoder.now.bytes c.args.decoder.now.index c.in-Ok.rdata c.read_kind.new.decoder.index c.if-len-eq0.false c.in-Ok.ensures.read.0 other

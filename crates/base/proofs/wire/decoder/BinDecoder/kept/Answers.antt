@@ -9,10 +9,14 @@ use Rattle.base.proofs.CountLemmas.{contains_all, kept_at, kept_near, or_false}
 use Rattle.base.proofs.wire.decoder.BinDecoder.kept.Goals as goal
 
 pub returns-in-Some-clause-near : goal.returns-in-Some-clause-near
-returns-in-Some-clause-near c = subst (λ (r : Reader). (q : ℕ) → set.contains r.kept q ≡ true → q < 16384) c.self.view_is (kept_near _ c.self.inside.plain c.self.inside.others c.self.invariant.1.0 c.self.invariant.1.1.0)
+returns-in-Some-clause-near c =
+    subst (λ (r : Reader). (q : ℕ) → set.contains r.kept q ≡ true → q < 16384) c.self.view_is
+    (kept_near _ c.self.inside.plain c.self.inside.others c.self.invariant.1.0 c.self.invariant.1.1.0)
 
 pub returns-in-None-clause-near : goal.returns-in-None-clause-near
-returns-in-None-clause-near c = subst (λ (r : Reader). (q : ℕ) → set.contains r.kept q ≡ true → q < 16384) c.self.view_is (kept_near _ c.self.inside.plain c.self.inside.others c.self.invariant.1.0 c.self.invariant.1.1.0)
+returns-in-None-clause-near c =
+    subst (λ (r : Reader). (q : ℕ) → set.contains r.kept q ≡ true → q < 16384) c.self.view_is
+    (kept_near _ c.self.inside.plain c.self.inside.others c.self.invariant.1.0 c.self.invariant.1.1.0)
 
 pub returns-in-Some-clause-is : goal.returns-in-Some-clause-is
 returns-in-Some-clause-is c =

@@ -14,7 +14,8 @@ whole c =
     c.in_ok-extend_from_slice.ensures.items ∙ ap (λ (xs : List ℕ). xs ++ labels) pushed ∙ append_assoc kept (length labels ∷ []) labels
 
 -- the place is put at its offset
-is_put : (c : goal.In_ok-extend_from_slice) → IsPut c.self.inside.kept.items c.args.labels.now c.self.inside.places.items (slice_set c.reach.new.places.items c.from-target.result c.len.result) c.from-target.result
+is_put : (c : goal.In_ok-extend_from_slice)
+    → IsPut c.self.inside.kept.items c.args.labels.now c.self.inside.places.items (slice_set c.reach.new.places.items c.from-target.result c.len.result) c.from-target.result
 is_put c =
     let target = c.from-target.result in
     let middle = c.reach.new.places.items in
