@@ -12,7 +12,7 @@ use Rattle.op_use.proofs.MapZones.{zone_puts}
 use Rattle.op_use.proofs.Origins.{From, back_among, front_among}
 use Rattle.op_use.proofs.ZoneSteps.{same_key}
 use Rattle.op_use.specs.AppliedRecords.{after_update, parted, records_after}
-use Rattle.op_use.specs.Applying.{IsZoneMap, IsZoneSet, TakesFrom, names_owner, records_at, records_in, zone_of_map}
+use Rattle.op_use.specs.Applying.{IsZoneMap, IsZoneSet, TakesFrom, TakesTtls, last_ttl, names_owner, records_at, records_in, zone_of_map}
 use Rattle.op_use.specs.MapUpdates.{IsAfter, IsSetTo}
 use Rattle.op_use.specs.NamedChanges.{datum_of}
 use Rattle.op_use.specs.Server.{record_key, update}
@@ -26,10 +26,10 @@ use Rattle.std.proofs.lemmas.List.Folds.{list_any-append}
 use Rattle.std.proofs.lemmas.List.Sums.{fold-append}
 use Rattle.std.specs.BTreeMap as tree
 use Rattle.std.specs.BTreeMap.{BTreeMap}
-use Rattle.std.specs.List.{IsAmong, IsDistinct, fold}
+use Rattle.std.specs.List.{IsAmong, IsDistinct, fold, slice_get}
 use Rattle.std.specs.Ordering.{eq_by_cmp}
-use Rattle.std.specs.Prelude.{Bool, List, None, Option, Some, [], cond, false, length, map, slice_index_or, suc, take, true, unwrap_or, zero, ℕ, ◌++◌, ◌+◌, ◌<◌}
-use Rattle.std.specs.Prelude.{◌==◌, ◌∷◌, ◌≡◌, ◌≢◌}
+use Rattle.std.specs.Prelude.{Bool, List, None, Option, Some, [], cond, false, length, map, slice_index_or, suc, take, true, unwrap_or, zero, ℕ, ◌++◌, ◌+◌, ◌-◌, ◌<◌}
+use Rattle.std.specs.Prelude.{◌∷◌, ◌≡◌, ◌≢◌}
 
 -- one set of a map is changed
 module _ (origin : NameValue) (class : DNSClass) (k : RrKey) (xs : List (Record RData)) (m n : BTreeMap RrKey SetValue) (h : IsSetTo class k xs m n) where
@@ -54,6 +54,10 @@ module _ (origin : NameValue) (class : DNSClass) (k : RrKey) (xs : List (Record 
   records_put true o = h.records
   records_put false o = refl
 
+  ttl_at : (b : Bool) (q : RrKey) (s : SetValue) → cond b h.set (tree.get key_cmp m q) ≡ Some s → (tree.get key_cmp m q ≡ Some s) ⊎ (s.ttl ≡ last_ttl s.records)
+  ttl_at true q s e = inr (h.ttl s e)
+  ttl_at false q s e = inl e
+
   pub set_after : (r : Record RData) → IsZoneMap class m → is_owned r.name k ≡ true → From r (records_at m k) xs
       → update (zone_of_map origin class m) r ≡ put (zone_of_map origin class m) k (map datum_of xs)
       → ((q : RrKey) → after_update (zone_of_map origin class m) r q (records_at m q) ≡ cond (eq_by_cmp key_cmp k q) xs (records_at m q))
@@ -63,6 +67,7 @@ module _ (origin : NameValue) (class : DNSClass) (k : RrKey) (xs : List (Record 
     is_map = kept_after old;
     others = λ q no. h.puts q ∙ other_after r owned (eq_by_cmp key_cmp k q) q refl ((or_parts (is_owned r.name q) false no).0);
     taken = λ q v a. taken_at r from (eq_by_cmp key_cmp k q) q refl v (subst (λ o. IsAmong (records_in o) v) (h.puts q) a);
+    ttls = λ q s e. ttl_at (eq_by_cmp key_cmp k q) q s (sym (h.puts q) ∙ e);
     exact = λ q. ap records_in (h.puts q) ∙ records_put (eq_by_cmp key_cmp k q) (tree.get key_cmp m q) ∙ sym (spelled q);
   }
 
@@ -71,11 +76,11 @@ pub same_after : (origin : NameValue) (class : DNSClass) (m : BTreeMap RrKey Set
     → update (zone_of_map origin class m) r ≡ zone_of_map origin class m
     → ((q : RrKey) → after_update (zone_of_map origin class m) r q (records_at m q) ≡ records_at m q) → IsAfter origin class (r ∷ []) m m
 same_after origin class m r old step spelled =
-    record { zone = sym step; is_map = old; others = λ q no. refl; taken = λ q v a. inl a; exact = λ q. sym (spelled q) }
+    record { zone = sym step; is_map = old; others = λ q no. refl; taken = λ q v a. inl a; ttls = λ q s e. inl e; exact = λ q. sym (spelled q) }
 
 -- no update
 pub none_after : (origin : NameValue) (class : DNSClass) (m : BTreeMap RrKey SetValue) → IsZoneMap class m → IsAfter origin class [] m m
-none_after origin class m old = record { zone = refl; is_map = old; others = λ q no. refl; taken = λ q v a. inl a; exact = λ q. refl }
+none_after origin class m old = record { zone = refl; is_map = old; others = λ q no. refl; taken = λ q v a. inl a; ttls = λ q s e. inl e; exact = λ q. refl }
 
 taken_chain : (rs : List (Record RData)) (r : Record RData) (m n : BTreeMap RrKey SetValue) (q : RrKey) (v : Record RData) → TakesFrom rs m n
     → IsAmong (records_at n q) v ⊎ IsAmong (r ∷ []) v → IsAmong (records_at m q) v ⊎ IsAmong (rs ++ r ∷ []) v
@@ -84,6 +89,11 @@ taken_chain rs r m n q v old (inl a) = front_of (old q v a) where
   front_of (inl a) = inl a
   front_of (inr a) = inr (front_among rs (r ∷ []) v a)
 taken_chain rs r m n q v old (inr a) = inr (back_among rs (r ∷ []) v a)
+
+ttls_chain : (m n : BTreeMap RrKey SetValue) (q : RrKey) (s : SetValue) → TakesTtls m n → (tree.get key_cmp n q ≡ Some s) ⊎ (s.ttl ≡ last_ttl s.records)
+    → (tree.get key_cmp m q ≡ Some s) ⊎ (s.ttl ≡ last_ttl s.records)
+ttls_chain m n q s old (inl e) = old q s e
+ttls_chain m n q s old (inr t) = inr t
 
 last_after : (z : Zone) (rs : List (Record RData)) (r : Record RData) (q : RrKey) (xs : List (Record RData))
     → records_after z (rs ++ r ∷ []) q xs ≡ after_update (fold update z rs) r q (records_after z rs q xs)
@@ -100,6 +110,7 @@ more_after origin class rs r m n p first next = record {
       let parts = or_parts (names_owner rs q) (names_owner (r ∷ []) q) (sym (list_any-append (λ (x : Record RData). is_owned x.name q) rs (r ∷ [])) ∙ no) in
       next.others q parts.1 ∙ first.others q parts.0;
   taken = λ q v a. taken_chain rs r m n q v first.taken (next.taken q v a);
+  ttls = λ q s e. ttls_chain m n q s first.ttls (next.ttls q s e);
   exact = λ q. next.exact q ∙ (λ i. after_update (first.zone i) r q (first.exact q i)) ∙ sym (last_after (zone_of_map origin class m) rs r q (records_at m q));
 }
 
@@ -107,18 +118,31 @@ more_after origin class rs r m n p first next = record {
 injected : (s p : SetValue) → Some s ≡ Some p → s ≡ p
 injected s p e = ap (λ o. unwrap_or o s) e
 
-pub some_filled : (xs : List (Record RData)) (n : ℕ) → n ≡ length xs → (n == 0) ≡ false → xs ≢ []
-some_filled [] n l e = absurd (true≢false (ap (λ k. k == 0) (sym l) ∙ e))
-some_filled (x ∷ xs) n l e = λ f. cc
+last_filled : (xs : List (Record RData)) (r : Record RData) → slice_get xs (length xs - 1) ≡ Some r → xs ≢ []
+last_filled [] r e = absurd cc
+last_filled (x ∷ xs) r e = λ f. cc
 
--- a set that was made of records is the set at its key
-pub made_set : {class : DNSClass} {k : RrKey} {owner : NameValue} {t : RecordType} {ttl : ℕ} {xs : List (Record RData)} {s : SetValue} {m n : BTreeMap RrKey SetValue}
-    → k ≡ key_of owner t → Distinct xs → xs ≢ []
-    → s ≡ record { name = owner; record_type = t; dns_class = class; ttl = ttl; records = xs; serial = 0 } → tree.Updates key_cmp m n k (Some s) → IsSetTo class k xs m n
-made_set {class} {k} {s = s} own apart full is h = record {
+-- the TTL of the record that stands last
+ttl_behind : (ttl : ℕ) (x : Record RData) (xs : List (Record RData)) (r : Record RData) → slice_get (x ∷ xs) (length xs) ≡ Some r
+    → fold (λ (t : ℕ) (y : Record RData). y.ttl) ttl (x ∷ xs) ≡ r.ttl
+ttl_behind ttl x [] r e = ap (λ (o : Option (Record RData)). (unwrap_or o x).ttl) e
+ttl_behind ttl x (y ∷ ys) r e = ttl_behind x.ttl y ys r e
+
+ttl_of_last : (xs : List (Record RData)) (r : Record RData) → slice_get xs (length xs - 1) ≡ Some r → last_ttl xs ≡ r.ttl
+ttl_of_last [] r e = absurd cc
+ttl_of_last (x ∷ xs) r e =
+    let same : length (x ∷ xs) - 1 ≡ length xs = omega arith in
+    ttl_behind 0 x xs r (subst (λ n. slice_get (x ∷ xs) n ≡ Some r) same e)
+
+-- a set that was made of records, with the TTL of the last, is the set at its key
+pub made_set : {class : DNSClass} {k : RrKey} {owner : NameValue} {t : RecordType} {last : Record RData} {xs : List (Record RData)} {s : SetValue} {m n : BTreeMap RrKey SetValue}
+    → k ≡ key_of owner t → Distinct xs → slice_get xs (length xs - 1) ≡ Some last
+    → s ≡ record { name = owner; record_type = t; dns_class = class; ttl = last.ttl; records = xs; serial = 0 } → tree.Updates key_cmp m n k (Some s) → IsSetTo class k xs m n
+made_set {class} {k} {last = last} {xs = xs} {s = s} own apart there is h = record {
   set = Some s;
   records = ap (λ (p : SetValue). p.records) is;
-  fits = λ p e. subst (λ q. IsZoneSet class k q) (sym is ∙ injected s p e) (record { own_key = sym own; own_class = refl; filled = full; distinct = apart });
+  fits = λ p e. subst (λ q. IsZoneSet class k q) (sym is ∙ injected s p e) (record { own_key = sym own; own_class = refl; filled = last_filled xs last there; distinct = apart });
+  ttl = λ p e. subst (λ (q : SetValue). q.ttl ≡ last_ttl q.records) (sym is ∙ injected s p e) (sym (ttl_of_last xs last there));
   puts = h.0;
 }
 
@@ -134,6 +158,7 @@ chained class k xs m n p first h = record {
   set = h.set;
   records = h.records;
   fits = h.fits;
+  ttl = h.ttl;
   puts = λ q. h.puts q ∙ ap (cond (eq_by_cmp key_cmp k q) h.set) (first.0 q) ∙ again (eq_by_cmp key_cmp k q) None h.set (tree.get key_cmp m q);
 }
 

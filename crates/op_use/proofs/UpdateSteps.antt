@@ -13,7 +13,7 @@ use Rattle.op_use.proofs.Origins.{from_joined, from_none, from_one, from_parted,
 use Rattle.op_use.proofs.SpelledSteps.{alias_comes, alias_kept_out, beside_kept_out, guarded_stays, name_goes}
 use Rattle.op_use.proofs.SpelledSteps.{needed_stays, nothing_changes, other_comes, other_parts, set_goes}
 use Rattle.op_use.proofs.ZoneSteps.{same_sets}
-use Rattle.op_use.specs.Applying.{IsZoneMap, IsZoneSet, data_of, records_at, records_in, zone_of_map}
+use Rattle.op_use.specs.Applying.{IsZoneMap, data_of, records_at, records_in, zone_of_map}
 use Rattle.op_use.specs.AppliedRecords.{is_needed, parted}
 use Rattle.op_use.specs.MapUpdates.{IsAfter, IsSetTo, Leaves}
 use Rattle.op_use.specs.NamedChanges.{datum_of, is_left}
@@ -96,9 +96,9 @@ module _ (origin : NameValue) (class : DNSClass) (m n : BTreeMap RrKey SetValue)
   mapped_cond true o = refl
   mapped_cond false o = refl
 
-  left_kept : (b : Bool) (q : RrKey) (s : SetValue) → cond b (tree.get key_cmp m q) None ≡ Some s → IsZoneSet class q s
-  left_kept true q s e = old q s e
-  left_kept false q s e = absurd cc
+  left_there : (b : Bool) (q : RrKey) (s : SetValue) → cond b (tree.get key_cmp m q) None ≡ Some s → tree.get key_cmp m q ≡ Some s
+  left_there true q s e = e
+  left_there false q s e = absurd cc
 
   left_same : (a g : Bool) (o : Option SetValue) → a ≡ false → cond (not a || g) o None ≡ o
   left_same a g o e = ap (λ b. cond (not b || g) o None) e
@@ -119,9 +119,10 @@ module _ (origin : NameValue) (class : DNSClass) (m n : BTreeMap RrKey SetValue)
         ∙ sym (fin.get-retain_keys (zone_of_map origin class m).sets (is_left (zone_of_map origin class m) r.name) q
         (λ x e. ap (is_left (zone_of_map origin class m) r.name) (sym (key_cmp-exact q x e))))))
         ∙ sym (ap (λ how. update_by how (zone_of_map origin class m) r) u ∙ cond-true _ _ _ c);
-    is_map = λ q s e. left_kept (is_left (zone_of_map origin class m) r.name q) q s (sym (h q) ∙ e);
+    is_map = λ q s e. old q s (left_there (is_left (zone_of_map origin class m) r.name q) q s (sym (h q) ∙ e));
     others = λ q free. h q ∙ left_same (is_owned r.name q) _ (tree.get key_cmp m q) ((or_parts (is_owned r.name q) false free).0);
     taken = λ q v a. left_taken (is_left (zone_of_map origin class m) r.name q) q v (subst (λ o. IsAmong (records_in o) v) (h q) a);
+    ttls = λ q s e. inl (left_there (is_left (zone_of_map origin class m) r.name q) q s (sym (h q) ∙ e));
     exact = λ q. ap records_in (h q) ∙ left_records (is_left (zone_of_map origin class m) r.name q) (tree.get key_cmp m q)
         ∙ sym (name_goes (zone_of_map origin class m) r (records_at m) q u c);
   }

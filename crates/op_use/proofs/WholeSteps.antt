@@ -11,7 +11,7 @@ use Rattle.op.specs.declared.response_code.ResponseCode.{ResponseCode}
 use Rattle.op_use.proofs.AppliedData.{any_data}
 use Rattle.op_use.proofs.MapZones.{data_at, set_at, types_at}
 use Rattle.op_use.specs.AppliedRecords.{records_after, records_answered}
-use Rattle.op_use.specs.Applying.{entry_of, IsApplied, IsZoneMap, applied, is_all_served, records_applied, records_at, records_in, zone_of_map}
+use Rattle.op_use.specs.Applying.{entry_of, IsApplied, IsZoneMap, applied, is_all_served, last_ttl, records_applied, records_at, records_in, zone_of_map}
 use Rattle.op_use.specs.MapFaults.{all_met, fault_at, fault_by, fault_here, found_in, met_at}
 use Rattle.op_use.specs.MapUpdates.{IsAfter}
 use Rattle.op_use.specs.NamedChanges.{datum_of, is_data_of}
@@ -125,6 +125,7 @@ module _ (origin : NameValue) (class : DNSClass) (m n : BTreeMap RrKey SetValue)
     is_map = map_copy old;
     others = (λ q free. get_copy q, λ e. same);
     taken = λ q v a. inl (subst (λ o. IsAmong (records_in o) v) (get_copy q) a);
+    ttls = λ q s e. inl (sym (get_copy q) ∙ e);
     exact = λ q. ap records_in (get_copy q) ∙ sym (spelled q);
   }
 
@@ -142,6 +143,7 @@ module _ (origin : NameValue) (class : DNSClass) (m n : BTreeMap RrKey SetValue)
     is_map = after.is_map;
     others = λ q free. after.others q free ∙ get_copy q;
     taken = λ q v a. subst (λ o. IsAmong (records_in o) v ⊎ IsAmong rs v) (get_copy q) (after.taken q v a);
+    ttls = λ q s e. subst (λ o. (o ≡ Some s) ⊎ (s.ttl ≡ last_ttl s.records)) (get_copy q) (after.ttls q s e);
     exact = λ q. after.exact q ∙ (λ i. records_after (zone_copy i) rs q (records_in (get_copy q i)));
   }
 
@@ -153,5 +155,6 @@ applied_all origin class m p s h f after = record {
   is_map = after.is_map;
   others = (after.others, λ e. absurd (e refl));
   taken = after.taken;
+  ttls = after.ttls;
   exact = λ q. after.exact q ∙ sym (spelled_as origin class m s q None h f);
 }

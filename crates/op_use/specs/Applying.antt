@@ -18,9 +18,9 @@ use Rattle.rr.specs.declared.record.Record.{Record}
 use Rattle.std.specs.BTreeMap as tree
 use Rattle.std.specs.BTreeMap.{BTreeMap}
 use Rattle.std.specs.FinMap as fin
-use Rattle.std.specs.List.{IsAmong, IsDistinct, list_all, list_any}
+use Rattle.std.specs.List.{IsAmong, IsDistinct, fold, list_all, list_any}
 use Rattle.std.specs.Ordering.{on}
-use Rattle.std.specs.Prelude.{Bool, List, None, Option, Some, [], false, if◌then◌else◌, map, true, ◌&&◌, ◌||◌, ◌≡◌, ◌≢◌, ◌⊎◌}
+use Rattle.std.specs.Prelude.{Bool, List, None, Option, Some, [], false, if◌then◌else◌, map, true, ◌&&◌, ◌||◌, ◌≡◌, ◌≢◌, ◌⊎◌, ℕ}
 
 -- the data of a set
 abbrev pub data_of : SetValue → List Datum
@@ -102,12 +102,22 @@ records_at m k = records_in (tree.get key_cmp m k)
 abbrev pub TakesFrom : List (Record RData) → BTreeMap RrKey SetValue → BTreeMap RrKey SetValue → Type 0
 TakesFrom rs old new = (k : RrKey) (x : Record RData) → IsAmong (records_at new k) x → IsAmong (records_at old k) x ⊎ IsAmong rs x
 
+-- the TTL of the last of these records, 0 of none
+abbrev pub last_ttl : List (Record RData) → ℕ
+last_ttl rs = fold (λ ttl (r : Record RData). r.ttl) 0 rs
+
+-- each set of the new map is the one that the old map has under that key, or has the TTL of the last of its records
+abbrev pub TakesTtls : BTreeMap RrKey SetValue → BTreeMap RrKey SetValue → Type 0
+TakesTtls old new = (k : RrKey) (s : SetValue) → tree.get key_cmp new k ≡ Some s → (tree.get key_cmp old k ≡ Some s) ⊎ (s.ttl ≡ last_ttl s.records)
+
 -- The code and the new map are those that a server makes of the zone; the new map may be updated again; what no update
--- names stays; each record was there or came with the updates; and which, how spelled and in which order is told too.
+-- names stays; each record was there or came with the updates; each set was there or has the TTL of the last of its
+-- records; and which records, how spelled and in which order is told too.
 pub record IsApplied (origin : NameValue) (class : DNSClass) (s : Sections) (old : BTreeMap RrKey SetValue) (code : ResponseCode) (new : BTreeMap RrKey SetValue)
     : Type 0 where
   pub served : (code, zone_of_map origin class new) ≡ applied (zone_of_map origin class old) s
   pub is_map : IsZoneMap class new
   pub others : KeepsUnnamed code s.updates old new
   pub taken : TakesFrom s.updates old new
+  pub ttls : TakesTtls old new
   pub exact : (k : RrKey) → records_at new k ≡ records_applied (zone_of_map origin class old) s k (records_at old k)

@@ -6,7 +6,7 @@ use Rattle.base.specs.declared.dns_class.DNSClass.{DNSClass}
 use Rattle.base.specs.declared.rr_key.RrKey.{RrKey}
 use Rattle.base_data.specs.declared.rdata.RData.{RData}
 use Rattle.op_use.specs.AppliedRecords.{records_after}
-use Rattle.op_use.specs.Applying.{records_at, IsZoneMap, IsZoneSet, TakesFrom, names_owner, records_in, zone_of_map}
+use Rattle.op_use.specs.Applying.{records_at, IsZoneMap, IsZoneSet, TakesFrom, TakesTtls, last_ttl, names_owner, records_in, zone_of_map}
 use Rattle.op_use.specs.Server.{record_key, type_of_record, OfAny, OfNone, OfNothing, OfZone, Use as UseValue, update}
 use Rattle.op_use.specs.Zone.{is_owned}
 use Rattle.op_use.specs.declared.apply.class_use.Use.TheVariants as uses
@@ -25,17 +25,20 @@ pub record IsAfter (origin : NameValue) (class : DNSClass) (rs : List (Record RD
   pub is_map : IsZoneMap class new
   pub others : (k : RrKey) → names_owner rs k ≡ false → tree.get key_cmp new k ≡ tree.get key_cmp old k
   pub taken : TakesFrom rs old new
+  pub ttls : TakesTtls old new
   pub exact : (k : RrKey) → records_at new k ≡ records_after (zone_of_map origin class old) rs k (records_at old k)
 
 -- the new map has o under a key, and else what the old one has
 abbrev pub Puts : RrKey → Option SetValue → BTreeMap RrKey SetValue → BTreeMap RrKey SetValue → Type 0
 Puts k o old new = (q : RrKey) → tree.get key_cmp new q ≡ cond (eq_by_cmp key_cmp k q) o (tree.get key_cmp old q)
 
--- the new map has a set of these records under a key, none where there are none, and else what the old one has
+-- the new map has a set of these records under a key, with the TTL of the last, none where there are none, and else what
+-- the old one has
 pub record IsSetTo (class : DNSClass) (k : RrKey) (xs : List (Record RData)) (old new : BTreeMap RrKey SetValue) : Type 0 where
   pub set : Option SetValue
   pub records : records_in set ≡ xs
   pub fits : (s : SetValue) → set ≡ Some s → IsZoneSet class k s
+  pub ttl : (s : SetValue) → set ≡ Some s → s.ttl ≡ last_ttl s.records
   pub puts : Puts k set old new
 
 -- whether a record stays in spite of an update: an SOA, and the last name server of the zone (RFC 2136, 3.4.2.4)

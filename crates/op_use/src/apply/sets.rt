@@ -60,16 +60,7 @@ pub(crate) fn add_data(
     let key = key_of(&entry.name, entry.record_type())?;
     let mut records = take_records(alloc, sets, &key);
     join(&mut records, entry)?;
-    put_records(
-        alloc,
-        sets,
-        key,
-        &entry.name,
-        entry.record_type(),
-        class,
-        entry.ttl,
-        records,
-    )?;
+    put_records(alloc, sets, key, entry, class, records)?;
     Ok(())
 }
 
@@ -86,16 +77,7 @@ pub(crate) fn put_alone(
     let mut records = Vec::new(alloc);
     let copy = entry.clone()?;
     records.push(copy)?;
-    put_records(
-        alloc,
-        sets,
-        key,
-        &entry.name,
-        entry.record_type(),
-        class,
-        entry.ttl,
-        records,
-    )?;
+    put_records(alloc, sets, key, entry, class, records)?;
     Ok(())
 }
 
@@ -112,16 +94,7 @@ pub(crate) fn take_data(
     let key = key_of(&entry.name, entry.record_type())?;
     let mut records = take_records(alloc, sets, &key);
     part(&mut records, entry);
-    put_records(
-        alloc,
-        sets,
-        key,
-        &entry.name,
-        entry.record_type(),
-        class,
-        entry.ttl,
-        records,
-    )?;
+    put_records(alloc, sets, key, entry, class, records)?;
     Ok(())
 }
 
@@ -143,26 +116,26 @@ fn take_records(alloc: Global, sets: &mut BTreeMap<RrKey, RecordSet>, key: &RrKe
     }
 }
 
-// Puts a set of these records under its key, or nothing where there are none.
+// Puts a set of these records under the key of an entry, or nothing where there are none. An entry that deletes has the
+// TTL 0, so a set's is that of its records (RFC 2181, 5.2).
 fn put_records(
     alloc: Global,
     sets: &mut BTreeMap<RrKey, RecordSet>,
     key: RrKey,
-    owner: &Name,
-    record_type: RecordType,
+    entry: &Record,
     class: DNSClass,
-    ttl: u32,
     records: Vec<Record>,
 ) -> Result<(), AllocError>
-    requires own_key { key ≡ the_key owner.now record_type }
+    requires own_key { key ≡ record_key entry.now }
     requires distinct { IsDistinct (on (λ (r : Entry RData). r.rdata) same_data) records.items }
     ensures { OnOk result (IsSetTo class key records.items sets.old sets.new) }
 {
-    if records.is_empty() {
+    let Some(last) = records.last() else {
         sets.remove(&key);
         return Ok(());
-    }
-    let set = set_of(alloc, owner, record_type, class, ttl, records)?;
+    };
+    let ttl = last.ttl;
+    let set = set_of(alloc, &entry.name, entry.record_type(), class, ttl, records)?;
     put_set(sets, key, set)?;
     Ok(())
 }
