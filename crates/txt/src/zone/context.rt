@@ -276,7 +276,7 @@ impl Context {
         let Some(origin) = origin else {
             return Err(ParseError::Message("$ORIGIN was not specified"));
         };
-        Ok((origin, sets.into_map()))
+        Ok((origin, sets.into_map()?))
     }
 
     /// The origin, copied.
