@@ -184,6 +184,20 @@ labels_cmp-step {us} {vs} {x} {y} {xs} {ys} {label} {next} order us_is vs_is sam
     ∙ ap (λ (zs : List (List ℕ)). ordering_then (labels_cmp (folded_labels zs) (folded_labels (y ∷ ys))) order) (sym us_is)
     ∙ ap (λ (zs : List (List ℕ)). ordering_then (labels_cmp (folded_labels us) (folded_labels zs)) order) (sym vs_is)
 
+pub longer : {us vs : List (List ℕ)} {x y : List ℕ} {xs ys : List (List ℕ)} → us ≡ x ∷ xs → vs ≡ y ∷ ys → length xs ≡ length ys → length us ≡ length vs
+longer us_is vs_is same = omega (arith, ap length us_is, ap length vs_is, same)
+
+pub step_count : {us vs : List (List ℕ)} {x y : List ℕ} {xs ys : List (List ℕ)} → us ≡ x ∷ xs → vs ≡ y ∷ ys → length us ≡ length vs → length xs ≡ length ys
+step_count us_is vs_is same = omega (arith, ap length us_is, ap length vs_is, same)
+
+pub apart : {us vs : List (List ℕ)} {x : List ℕ} {xs : List (List ℕ)} → us ≡ x ∷ xs → vs ≡ [] → length us ≡ length vs → ⊥
+apart us_is vs_is same = omega (arith, ap length us_is, ap length vs_is, same)
+
+pub then_Equal : (o : Ordering) → ordering_then o Equal ≡ o
+then_Equal Less = refl
+then_Equal Equal = refl
+then_Equal Greater = refl
+
 -- labels that are the same are in one place
 labels_cmp-itself : (xs : List (List ℕ)) → labels_cmp xs xs ≡ Equal
 labels_cmp-itself xs = (Equal-is (labels_cmp xs xs)).0 (sym (labels_tie xs xs) ∙ (labels_decide xs xs).1 refl)

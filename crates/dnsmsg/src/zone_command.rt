@@ -79,23 +79,17 @@ pub(crate) fn zone_lines(
 {
     let mut lines = format!(in alloc; "$ORIGIN {name}\n")?;
     for (_key, set) in sets {
-        add_records(alloc, set.into_parts().records, &mut lines)?;
+        add_records(set.into_parts().records, &mut lines)?;
     }
     Ok(lines)
 }
 
 // Adds the records, a line each.
-fn add_records(alloc: Global, records: Vec<Record>, lines: &mut String) -> Result<(), AllocError>
+fn add_records(records: Vec<Record>, lines: &mut String) -> Result<(), AllocError>
     ensures { OnOk result (string_bytes lines.new ≡ string_bytes lines.old ++ record_lines records.items) }
 {
     for entry in records {
-        lines.push_str(&record_line(alloc, &entry)?)?;
+        writeln!(lines, "{entry}")?;
     }
     Ok(())
-}
-
-fn record_line(alloc: Global, entry: &Record) -> Result<String, AllocError>
-    ensures { IfOk result (λ text. string_bytes text ≡ line (record_text entry.now)) }
-{
-    format!(in alloc; "{entry}\n")
 }

@@ -1,5 +1,5 @@
 -- The sets of a zone stay as they stand under their keys.
-use Rattle.std.proofs.Common.{◌≡◌, ◌≢◌, ◌≤◌, List, [], ◌∷◌, length, refl, ap, sym, ◌∙◌, subst, arith, Bool, true, false, Some, Ok}
+use Rattle.std.proofs.Common.{◌≡◌, ◌≢◌, ◌≤◌, List, [], ◌∷◌, length, refl, ap, sym, ◌∙◌, subst, arith, Bool, true, false, Some, Ok, Result}
 use Rattle.std.specs.BTreeMap.{insert_entry, is_at}
 use Rattle.std.specs.Bool.{beq}
 use Rattle.std.specs.Map.{set_value}
@@ -12,6 +12,8 @@ use Rattle.base.specs.Labels.{NameValue}
 use Rattle.base.specs.NameOrder.{folded, lowered, same_labels, same_name}
 use Rattle.base.specs.NameOrderLaws.{same_by-equiv}
 use Rattle.base.specs.RrKey.{key_cmp, key_of}
+use Rattle.base.specs.TextFaults.{Fault}
+use Rattle.base.specs.declared.error.parse_error.ParseError.{ParseError}
 use Rattle.base.specs.declared.rr_key.RrKey.{RrKey}
 use Rattle.base_data.specs.Kinds.{type_of_data}
 use Rattle.base_data.specs.declared.rdata.RData.{RData}
@@ -19,6 +21,7 @@ use Rattle.rr.proofs.SetTidy.{insert_keeps_tidy, one_is_tidy}
 use Rattle.rr.specs.RecordSet.{SetValue, is_soa, set_of}
 use Rattle.rr.specs.SetChanges.{MayEnter, beside, holds_one, insert, is_left, joined}
 use Rattle.rr.specs.declared.record.Record.{Record}
+use Rattle.txt.specs.Steps.{Adds}
 use Rattle.txt.specs.ZoneSets.{AreKept, IsKept, ZoneSets, added, added_to, record_key, set_at}
 
 -- what ties is the same key
@@ -121,3 +124,12 @@ pub added_there : (sets : ZoneSets) (key : RrKey) (set : SetValue) (r : Record R
     → added sets r ≡ Ok (set_value (is_at (key_cmp key)) sets (insert set r 0).1)
 added_there sets key set r is there other =
     ap (added_to sets r) (ap (set_at sets) (sym is) ∙ there) ∙ rw other (ap (λ (k : RrKey). Ok (set_value (is_at (key_cmp k)) sets (insert set r 0).1)) (sym is))
+
+-- an answer about sets is one about the same sets
+pub adds_same : {X : Type 0} (result : Result X ParseError) (a b : ZoneSets) (p q : Result ZoneSets Fault) → a ≡ b → p ≡ q → Adds result a p → Adds result b q
+adds_same result a b p q sets made h = subst (λ (zs : ZoneSets). Adds result zs q) sets (subst (Adds result a) made h)
+
+-- what a record makes of the set that is found is what it makes of the sets
+pub added_found : (sets : ZoneSets) (key : RrKey) (set : SetValue) (r : Record RData) → key ≡ record_key r → set_at sets key ≡ Some set
+    → added_to sets r (Some set) ≡ added sets r
+added_found sets key set r is there = ap (added_to sets r) (sym there ∙ ap (set_at sets) is)

@@ -1,5 +1,6 @@
 pub mod Joined
 pub mod KeptSets
+pub mod SetsInOrder
 pub mod Stack
 pub mod Taking
 pub mod TextsLemmas

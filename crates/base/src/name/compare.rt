@@ -1,6 +1,6 @@
 //! Comparing names: ASCII letters are the same in either case (RFC 4343, 3; RFC 4034, 6.1).
 
-ghost use Rattle.std.specs.Prelude.{◌≡◌, ◌≤◌, ◌↔◌, ◌++◌, ℕ, List, IfOk, IsTrue, true, false, take, drop, length, map, refl};
+ghost use Rattle.std.specs.Prelude.{◌≡◌, ◌≢◌, ◌≤◌, ◌↔◌, ◌++◌, ℕ, List, IfNone, IfOk, IfSome, IsTrue, true, false, take, drop, length, map, refl};
 ghost use Rattle.std.specs.Char.{to_ascii_lowercase};
 ghost use Rattle.std.specs.Cmp.{partial_equiv_from_equiv};
 ghost use Rattle.std.specs.Cmp.Lexicographic.{slice_cmp};
@@ -91,12 +91,16 @@ impl Ord for Name {
     /// Relative names first; then by the labels from the last to the first, each by its bytes in lower
     /// case, what is a beginning before what it begins; then the fewer labels first (RFC 4034, 6.1).
     fn cmp(&self, other: &Name) -> Ordering {
+        let flags = self.is_fqdn().cmp(&other.is_fqdn());
+        let (left, right) = (self.as_wire(), other.as_wire());
+        if let Some(order) = cmp_labels(left, right) {
+            return flags.then(order);
+        }
         let (count, others) = (self.label_count(), other.label_count());
-        let behind = past_labels(self.as_wire(), count.saturating_sub(others));
-        let others_behind = past_labels(other.as_wire(), others.saturating_sub(count));
-        self.is_fqdn()
-            .cmp(&other.is_fqdn())
-            .then(cmp_labels(behind, others_behind))
+        let behind = past_labels(left, count.saturating_sub(others));
+        let others_behind = past_labels(right, others.saturating_sub(count));
+        flags
+            .then(cmp_labels(behind, others_behind).unwrap_or(Ordering::Equal))
             .then(count.cmp(&others))
     }
 }
@@ -170,29 +174,32 @@ fn cmp_label(left: &[u8], right: &[u8]) -> Ordering
     rest.len().cmp(&others.len())
 }
 
-/// The order of as many labels from the last on, their ASCII letters in lower case.
-fn cmp_labels(left: &[u8], right: &[u8]) -> Ordering
+/// The order of labels from the last on, their ASCII letters in lower case; none where one side has more labels.
+fn cmp_labels(left: &[u8], right: &[u8]) -> Option<Ordering>
     requires left { IsLabelRun left.now }
     requires right { IsLabelRun right.now }
-    requires same_count { length (labels_of left.now) ≡ length (labels_of right.now) }
-    ensures { result ≡ labels_cmp (folded_labels (labels_of left.now)) (folded_labels (labels_of right.now)) }
+    ensures some { IfSome result (λ order. (length (labels_of left.now) ≡ length (labels_of right.now)) × (order ≡ labels_cmp (folded_labels (labels_of left.now)) (folded_labels (labels_of right.now)))) }
+    ensures none { IfNone result (length (labels_of left.now) ≢ length (labels_of right.now)) }
 {
     let mut order = Ordering::Equal;
     let mut rest = left;
     let mut others = right;
     while let Some((x, xs)) = first_label(rest) {
         let Some((y, ys)) = first_label(others) else {
-            return order;
+            return None;
         };
         order = cmp_label(x, y).then(order);
         // Names of one zone mostly end in the same labels.
         if *xs == *ys {
-            return order;
+            return Some(order);
         }
         rest = xs;
         others = ys;
     }
-    order
+    match first_label(others) {
+        None => Some(order),
+        Some(_) => None,
+    }
 }
 
 /// Names are equal, and tie in the order, exactly where they have the same flag and the same labels in

@@ -1,10 +1,10 @@
 //! The text of names (RFC 1035, 5.1).
 
-ghost use Rattle.std.specs.Prelude.{◌≡◌, ◌++◌, [], ◌∷◌, Some, if◌then◌else◌};
+ghost use Rattle.std.specs.Prelude.{◌≡◌, ◌++◌, [], ◌∷◌, IfSome, IsTrue, Some, if◌then◌else◌};
 ghost use Rattle.base.specs.NameText.{byte_text, is_special, label_text, name_text};
 
 use crate::name::{Name, first_label};
-use std::fmt;
+use std::{fmt, str};
 
 /// The text of a byte of a label.
 #[derive(Drop)]
@@ -32,6 +32,25 @@ fn is_special(b: u8) -> bool
     matches!(b, b'.' | b'\\' | b'"' | b'(' | b')' | b';' | b'@' | b'$')
 }
 
+/// Whether a byte prints as itself.
+fn is_plain(b: u8) -> bool
+    ensures { IsTrue result → byte_text b ≡ b ∷ [] }
+{
+    b.is_ascii_graphic() && !is_special(b)
+}
+
+/// The text of a label whose bytes all print as themselves, as the labels of most names do.
+fn plain_text(label: &[u8]) -> Option<&str>
+    ensures { IfSome result (λ text. text.now ≡ label_text label.now) }
+{
+    for b in label {
+        if !is_plain(*b) {
+            return None;
+        }
+    }
+    str::from_utf8(label).ok()
+}
+
 /// A dot, or nothing.
 fn dot_if(is_wanted: bool) -> &'static str
     ensures { result.now ≡ (if is_wanted then 46 ∷ [] else []) }
@@ -50,6 +69,10 @@ impl<'a> fmt::Display for LabelText<'a> {
     ghost output = { λ t. Some (label_text t.label.now ++ (if t.is_last then [] else 46 ∷ [])) };
 
     fn fmt<W: fmt::Write>(&self, f: &mut fmt::Formatter<W>) -> fmt::Result {
+        if let Some(text) = plain_text(self.label) {
+            f.write_str(text)?;
+            return f.write_str(dot_if(!self.is_last));
+        }
         for b in self.label {
             fmt::Display::fmt(&ByteText(*b), f)?;
         }

@@ -101,7 +101,7 @@ impl Room {
     pub(crate) fn make_ascii_lowercase(&mut self)
         ensures { self.new ≡ lower_octets self.old }
     {
-        self.bytes.make_ascii_lowercase();
+        self.bytes[..usize::from(self.len)].make_ascii_lowercase();
     }
 
     /// The mark.

@@ -1,6 +1,7 @@
 //! What is in force between the entries of a text, and how an entry changes it.
 
-ghost use Rattle.std.specs.Prelude.{◌≡◌, IfOk, OnOk, Ok, Some};
+ghost use Rattle.std.specs.Prelude.{◌≡◌, ℕ, List, IfOk, OnOk, Ok, Some, map};
+ghost use Rattle.std.specs.Str.{str_to_ascii_uppercase};
 ghost use Rattle.std.specs.String.{string_bytes};
 ghost use Rattle.base.specs.NameOf.{name_of};
 ghost use Rattle.base.specs.TextFaults.{Gives};
@@ -180,10 +181,10 @@ impl Context {
             match token {
                 Token::EOL => return Ok(()),
                 Token::CharData(word) => {
-                    let Some(setting) = setting_of(self.alloc, word.as_str())? else {
-                        return self.take_record(word, lexer);
-                    };
-                    self.set(setting);
+                    match setting_of(word) {
+                        Ok(setting) => self.set(setting),
+                        Err(raised) => return self.take_record(raised, lexer),
+                    }
                 }
                 other => return Err(ParseError::UnexpectedToken(other)),
             }
@@ -200,11 +201,11 @@ impl Context {
         }
     }
 
-    /// Behind the type's text: the items of the data, and then the record.
-    fn take_record(&mut self, word: String, lexer: &mut Lexer<'_>) -> Result<(), ParseError>
-        ensures { Goes result self.new (symbols lexer.new) (took_typed self.old (string_bytes word) (symbols lexer.old)) }
+    /// Behind the type's text, its ASCII letters raised: the items of the data, and then the record.
+    fn take_record(&mut self, raised: String, lexer: &mut Lexer<'_>) -> Result<(), ParseError>
+        ensures { (word : List ℕ) → string_bytes raised ≡ str_to_ascii_uppercase word → Goes result self.new (symbols lexer.new) (took_typed self.old word (symbols lexer.old)) }
     {
-        let record_type = type_of_text(word)?;
+        let record_type = type_of_text(raised)?;
         let items = read_items(self.alloc, lexer)?;
         let rdata = self.data(record_type, items)?;
         self.record(rdata)?;
@@ -215,8 +216,19 @@ impl Context {
     fn data(&self, record_type: RecordType, items: Vec<String>) -> Result<RData, ParseError>
         ensures { Gives (λ d. d) result (data_of record_type (texts items.items) self.now.origin) }
     {
+        // The data of most records is one item, which needs no list of its own.
+        if let [item] = items.as_slice() {
+            return self.data_of(record_type, &[item.as_str()]);
+        }
         let texts = texts_of(self.alloc, &items)?;
-        RData::from_items(self.alloc, record_type, &texts, self.origin.as_ref())
+        self.data_of(record_type, &texts)
+    }
+
+    /// The data of a type that texts name, under the origin.
+    fn data_of(&self, record_type: RecordType, items: &[&str]) -> Result<RData, ParseError>
+        ensures { Gives (λ d. d) result (data_of record_type (map (λ item. item.now) items.now) self.now.origin) }
+    {
+        RData::from_items(self.alloc, record_type, items, self.origin.as_ref())
     }
 
     /// Makes a record of data, with what is in force.
@@ -276,7 +288,7 @@ impl Context {
         let Some(origin) = origin else {
             return Err(ParseError::Message("$ORIGIN was not specified"));
         };
-        Ok((origin, sets.into_map()))
+        Ok((origin, sets.into_map()?))
     }
 
     /// The origin, copied.

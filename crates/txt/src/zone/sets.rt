@@ -1,32 +1,47 @@
 //! The record sets of a zone, by owner and type.
 
-ghost use Rattle.std.specs.Prelude.{◌≡◌, [], Ok};
+ghost use Rattle.std.specs.BTreeMap.{IsOrdered, is_at};
+ghost use Rattle.std.specs.List.{AllByRecursion};
+ghost use Rattle.std.specs.List.Sorted.{IsStrictlySortedBy};
+ghost use Rattle.std.specs.Map.{keys_of, set_value};
+ghost use Rattle.std.specs.Prelude.{◌≡◌, ◌++◌, ◌-◌, [], IfOk, Ok, Some, length, slice_get};
+ghost use Rattle.std.specs.declared.cmp.Ordering.TheVariants.{Equal, Greater};
+ghost use Rattle.base.specs.RrKey.{key_cmp};
 ghost use Rattle.base.specs.TextFaults.{Gives};
-ghost use Rattle.rr.specs.RecordSet.{set_of};
+ghost use Rattle.rr.specs.RecordSet.{SetValue, set_of};
 ghost use Rattle.txt.specs.Steps.{Adds};
-ghost use Rattle.txt.specs.ZoneSets.{AreKept, added};
+ghost use Rattle.txt.specs.ZoneSets.{AreKept, IsKept, ZoneSets as Sets, added, added_to, record_key};
 
 use base::{LowerName, ParseError, RecordType, RrKey};
 use base_data::RecordData;
 use rr::{Record, RecordSet};
-use std::alloc::Global;
+use std::alloc::{AllocError, Global};
+use std::cmp::Ordering;
 use std::collections::BTreeMap;
 use std::marker::Model;
+use std::mem::replace;
 
 /// The record sets of a zone, each under its owner in lower case and its type.
 #[derive(Drop)]
 pub(super) struct ZoneSets {
     sets: BTreeMap<RrKey, RecordSet>,
+    /// Further sets, in the order of their keys, which are above all of the map: the sets of a zone in order come in
+    /// turn, and go into the map together.
+    run: Vec<(RrKey, RecordSet)>,
 }
 
 impl Model for ZoneSets {
+    ghost use Rattle.std.specs.List.Sorted.{IsStrictlySortedBy};
+    ghost use Rattle.std.specs.Map.{keys_of};
+    ghost use Rattle.std.specs.Prelude.{◌++◌};
+    ghost use Rattle.base.specs.RrKey.{key_cmp};
     ghost use Rattle.txt.specs.ZoneSets.{AreKept, ZoneSets as Sets};
 
     ghost Value = { Sets };
 
-    ghost view = { λ z. z.sets.entries };
+    ghost view = { λ z. z.sets.entries ++ z.run.items };
 
-    ghost invariant = { λ z. AreKept z.sets.entries };
+    ghost invariant = { λ z. AreKept (z.sets.entries ++ z.run.items) × IsStrictlySortedBy key_cmp (keys_of (z.sets.entries ++ z.run.items)) };
 }
 
 impl ZoneSets {
@@ -36,6 +51,7 @@ impl ZoneSets {
     {
         ZoneSets {
             sets: BTreeMap::new(alloc),
+            run: Vec::new(alloc),
         }
     }
 
@@ -45,28 +61,112 @@ impl ZoneSets {
     pub(super) fn add(&mut self, entry: Record) -> Result<(), ParseError>
         ensures { Adds result self.new (added self.old entry) }
     {
-        let seen = &entry;
-        let record_type = seen.record_type();
-        let key = RrKey::new(LowerName::new(&seen.name)?, record_type);
-        if let Some(set) = self.sets.get_mut(&key) {
-            if record_type == RecordType::SOA {
-                return Err(ParseError::Message("SOA is already specified"));
+        let key = key_for(&entry)?;
+        match order_to_last(&self.sets, &self.run, &key) {
+            Ordering::Less => self.add_within(key, entry),
+            Ordering::Equal => {
+                let Some((_, mut set)) = self.run.pop() else {
+                    return Ok(());
+                };
+                enter(&mut set, entry)?;
+                self.run.push((key, set))?;
+                Ok(())
             }
-            set.insert(entry, 0)?;
-            return Ok(());
+            Ordering::Greater => {
+                self.run.push((key, set_of(entry)?))?;
+                Ok(())
+            }
         }
-        self.sets.insert(key, set_of(entry)?)?;
-        Ok(())
     }
 
-    /// The map of the sets.
-    pub(super) fn into_map(self) -> BTreeMap<RrKey, RecordSet>
-        ensures entries { result.entries ≡ self }
-        ensures kept { AreKept result.entries }
+    /// The same, by a look-up in the map, into which the run goes first.
+    fn add_within(&mut self, key: RrKey, entry: Record) -> Result<(), ParseError>
+        requires { key ≡ record_key entry }
+        ensures { Adds result self.new (added self.old entry) }
     {
-        let ZoneSets { sets } = self;
-        sets
+        let alloc = *self.run.allocator();
+        let sets = replace(&mut self.sets, BTreeMap::new(alloc));
+        let run = replace(&mut self.run, Vec::new(alloc));
+        self.sets = joined(sets, run)?;
+        put(&mut self.sets, key, entry)
     }
+
+    /// The map of the sets. Refused for want of memory.
+    pub(super) fn into_map(self) -> Result<BTreeMap<RrKey, RecordSet>, AllocError>
+        ensures entries { IfOk result (λ sets. sets.entries ≡ self) }
+        ensures kept { IfOk result (λ sets. AreKept sets.entries) }
+    {
+        let ZoneSets { sets, run } = self;
+        joined(sets, run)
+    }
+}
+
+/// The key of a record's owner and type.
+fn key_for(entry: &Record) -> Result<RrKey, AllocError>
+    ensures { IfOk result (λ key. key ≡ record_key entry.now) }
+{
+    Ok(RrKey::new(LowerName::new(&entry.name)?, entry.record_type()))
+}
+
+/// The order of a key to the last one; less as well where it is the last one of the map.
+fn order_to_last(
+    sets: &BTreeMap<RrKey, RecordSet>,
+    run: &[(RrKey, RecordSet)],
+    key: &RrKey,
+) -> Ordering
+    requires { IsStrictlySortedBy key_cmp (keys_of (sets.now.entries ++ run.now)) }
+    ensures last { result ≡ Equal → (set : SetValue) × (slice_get run.now (length run.now - 1) ≡ Some (key.now, set)) }
+    ensures above { result ≡ Greater → AllByRecursion (λ e. key_cmp key.now e.0 ≡ Greater) (sets.now.entries ++ run.now) }
+{
+    if let Some(last) = run.last() {
+        return key.cmp(&last.0);
+    }
+    match sets.last_key_value() {
+        Some((last, _)) => key.cmp(last).then(Ordering::Less),
+        None => Ordering::Greater,
+    }
+}
+
+/// The map with the sets of a run, whose keys are above all of the map. Refused for want of memory.
+fn joined(
+    sets: BTreeMap<RrKey, RecordSet>,
+    run: Vec<(RrKey, RecordSet)>,
+) -> Result<BTreeMap<RrKey, RecordSet>, AllocError>
+    requires { IsStrictlySortedBy key_cmp (keys_of (sets.entries ++ run.items)) }
+    ensures { IfOk result (λ whole. whole.entries ≡ sets.entries ++ run.items) }
+{
+    let mut whole = sets;
+    let mut others = BTreeMap::from_iter(*run.allocator(), run)?;
+    whole.append(&mut others)?;
+    Ok(whole)
+}
+
+/// Puts a record into the set under its key, or into a new one.
+fn put(sets: &mut BTreeMap<RrKey, RecordSet>, key: RrKey, entry: Record) -> Result<(), ParseError>
+    requires key { key ≡ record_key entry }
+    requires kept { AreKept sets.old.entries }
+    ensures value { Adds result sets.new.entries (added sets.old.entries entry) }
+    ensures kept { AreKept sets.new.entries }
+    ensures ordered { IsOrdered key_cmp sets.new }
+{
+    if let Some(set) = sets.get_mut(&key) {
+        return enter(set, entry);
+    }
+    sets.insert(key, set_of(entry)?)?;
+    Ok(())
+}
+
+/// Puts a record into the set of its key. Refused with `Message` for a second SOA.
+fn enter(set: &mut RecordSet, entry: Record) -> Result<(), ParseError>
+    requires { IsKept (record_key entry) set.old }
+    ensures value { (sets : Sets) → Adds result (set_value (is_at (key_cmp (record_key entry))) sets set.new) (added_to sets entry (Some set.old)) }
+    ensures kept { IsKept (record_key entry) set.new }
+{
+    if entry.record_type() == RecordType::SOA {
+        return Err(ParseError::Message("SOA is already specified"));
+    }
+    set.insert(entry, 0)?;
+    Ok(())
 }
 
 /// The set of one record.

@@ -1,16 +1,14 @@
 //! What the items before a type state.
 
-ghost use Rattle.std.specs.Option.{option_map};
-ghost use Rattle.std.specs.Prelude.{◌≡◌, IfErr, IfOk, Some, None};
+ghost use Rattle.std.specs.Prelude.{◌≡◌, ℕ, List, IfErr, IfOk, Some, None};
+ghost use Rattle.std.specs.Str.{str_to_ascii_uppercase};
 ghost use Rattle.std.specs.String.{string_bytes};
 ghost use Rattle.base.specs.TextFaults.{Gives};
-ghost use Rattle.base.specs.declared.error.parse_error.ParseError.TheVariants as refusals;
 ghost use Rattle.txt.specs.Entries.{setting_of};
 ghost use Rattle.txt.specs.Steps.{setting_value};
 ghost use Rattle.txt.specs.Zone.{type_named};
 
 use base::{DNSClass, ParseError, RecordType, parse_ttl};
-use std::alloc::Global;
 
 /// What an item states before the type.
 #[derive(Drop)]
@@ -21,28 +19,29 @@ pub(super) enum Setting {
     Class(DNSClass),
 }
 
-/// What an item states before the type: a TTL, else a class, its ASCII letters raised; none where it is neither.
+/// What an item states before the type: a TTL, else a class, its ASCII letters raised. Where it is neither, the item
+/// comes back with its letters raised.
 #[tactic(auto, unfolding(crate::specs::Entries::setting_of))]
-pub(super) fn setting_of(alloc: Global, word: &str) -> Result<Option<Setting>, ParseError>
-    ensures value { IfOk result (λ found. option_map setting_value found ≡ setting_of word.now) }
-    ensures memory { IfErr result (λ e. e ≡ refusals.Memory) }
+pub(super) fn setting_of(word: String) -> Result<Setting, String>
+    ensures setting { IfOk result (λ setting. setting_of (string_bytes word) ≡ Some (setting_value setting)) }
+    ensures none { IfErr result (λ _. setting_of (string_bytes word) ≡ None) }
+    ensures raised { IfErr result (λ raised. string_bytes raised ≡ str_to_ascii_uppercase (string_bytes word)) }
 {
-    if let Ok(ttl) = parse_ttl(word) {
-        return Ok(Some(Setting::Ttl(ttl)));
+    if let Ok(ttl) = parse_ttl(word.as_str()) {
+        return Ok(Setting::Ttl(ttl));
     }
-    let raised = word.to_ascii_uppercase(alloc)?;
+    let mut raised = word;
+    raised.make_ascii_uppercase();
     match DNSClass::from_text(raised.as_str()) {
-        Some(dns_class) => Ok(Some(Setting::Class(dns_class))),
-        None => Ok(None),
+        Some(dns_class) => Ok(Setting::Class(dns_class)),
+        None => Err(raised),
     }
 }
 
-/// The type that a text names, its ASCII letters raised.
-pub(super) fn type_of_text(word: String) -> Result<RecordType, ParseError>
-    ensures { Gives (λ t. t) result (type_named (string_bytes word)) }
+/// The type that a text names whose ASCII letters are raised.
+pub(super) fn type_of_text(raised: String) -> Result<RecordType, ParseError>
+    ensures { (word : List ℕ) → string_bytes raised ≡ str_to_ascii_uppercase word → Gives (λ t. t) result (type_named word) }
 {
-    let mut raised = word;
-    raised.make_ascii_uppercase();
     match RecordType::from_text(raised.as_str()) {
         Some(record_type) => Ok(record_type),
         None => Err(ParseError::UnknownRecordType(raised)),

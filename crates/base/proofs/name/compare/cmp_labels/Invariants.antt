@@ -8,8 +8,9 @@ abbrev pub invariant-loop-x : goal.invariant-loop-x
 invariant-loop-x l = record {
   whole : wire_of (labels_of l.rest) ≡ l.rest;
   other_whole : wire_of (labels_of l.others) ≡ l.others;
-  same_count : length (labels_of l.rest) ≡ length (labels_of l.others);
-  so_far : ordering_then (labels_cmp (folded_labels (labels_of l.rest)) (folded_labels (labels_of l.others))) l.order
+  same_count : length (labels_of l.rest) ≡ length (labels_of l.others) → length (labels_of l.fn.left) ≡ length (labels_of l.fn.right);
+  count_kept : length (labels_of l.fn.left) ≡ length (labels_of l.fn.right) → length (labels_of l.rest) ≡ length (labels_of l.others);
+  so_far : length (labels_of l.rest) ≡ length (labels_of l.others) → ordering_then (labels_cmp (folded_labels (labels_of l.rest)) (folded_labels (labels_of l.others))) l.order
       ≡ labels_cmp (folded_labels (labels_of l.fn.left)) (folded_labels (labels_of l.fn.right));
 }
 

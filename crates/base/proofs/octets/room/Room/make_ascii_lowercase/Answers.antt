@@ -1,10 +1,14 @@
-use Rattle.std.proofs.Common.{ℕ, List, take, ap, ◌∙◌}
-use Rattle.std.proofs.lemmas.List.{take-map}
+use Rattle.std.proofs.Common.{◌≡◌, ℕ, List, length, map, take, ap, ◌∙◌, arith}
+use Rattle.std.proofs.lemmas.List.{length-map, length-take-le, take_at}
 use Rattle.std.specs.Char.{to_ascii_lowercase}
 use Rattle.base.specs.Octets.{lower_octets}
 use Rattle.base.proofs.octets.room.Room.make_ascii_lowercase.Goals as goal
 
 pub returns : goal.returns
 returns c =
-    let lower = ap (take c.self.inside.len) c.make_ascii_lowercase.ensures.after ∙ take-map to_ascii_lowercase c.self.inside.len c.self.inside.bytes in
+    let after = c.make_ascii_lowercase.ensures.after in
+    let front = length-take-le c.from.result c.self.inside.bytes (omega (arith, c.self.invariant, c.self.told, c.from.ensures)) in
+    let len : length c.make_ascii_lowercase.new.self ≡ c.self.inside.len =
+    omega (arith, ap length after, length-map (take c.from.result c.self.inside.bytes) to_ascii_lowercase, front, c.from.ensures) in
+    let lower = take_at c.make_ascii_lowercase.new.self _ c.self.inside.len len ∙ after ∙ ap (λ (n : ℕ). map to_ascii_lowercase (take n c.self.inside.bytes)) c.from.ensures in
     ap (λ (items : List ℕ). record { items = items; mark = c.self.inside.mark }) lower ∙ ap lower_octets c.self.view_is

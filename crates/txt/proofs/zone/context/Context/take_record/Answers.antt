@@ -1,6 +1,5 @@
 use Rattle.std.proofs.Common.{ap, ◌∙◌, Result}
 use Rattle.std.proofs.lemmas.Result.{err_from_is_err_and}
-use Rattle.std.specs.String.{string_bytes}
 use Rattle.base.specs.TextFaults.{Fault}
 use Rattle.base.specs.TokenList.{symbols}
 use Rattle.base.specs.Tokens.{texts}
@@ -11,30 +10,30 @@ use Rattle.txt.proofs.Taking.{typed_unnamed, typed_stopped, typed_unsaid, typed_
 use Rattle.txt.proofs.zone.context.Context.take_record.Goals as goal
 
 pub returns-in_err-record_type : goal.returns-in_err-record_type
-returns-in_err-record_type c =
+returns-in_err-record_type c = λ word raised.
     let p = err_from_is_err_and c.from_residual.result c.from_residual.ensures.1 in
-    rw (p.1, p.2) (Fails-through c.in_err-record_type.field-0.0 (λ fault is. typed_unnamed c.args.self.now (string_bytes c.args.word) (symbols c.args.lexer.now) fault is) c.in_err-record_type.ensures)
+    rw (p.1, p.2) (Fails-through c.in_err-record_type.field-0.0 (λ fault is. typed_unnamed c.args.self.now word (symbols c.args.lexer.now) fault is) (c.in_err-record_type.ensures word raised))
 
 pub returns-in_err-items : goal.returns-in_err-items
-returns-in_err-items c =
+returns-in_err-items c = λ word raised.
     let p = err_from_is_err_and c.from_residual-in_err-items.result c.from_residual-in_err-items.ensures.1 in
     rw (p.1, p.2) (Fails-through c.in_err-items.field-0.0
-    (λ fault is. typed_stopped c.args.self.now (string_bytes c.args.word) (symbols c.args.lexer.now) c.in_ok-record_type.record_type fault c.in_ok-record_type.ensures is) c.in_err-items.ensures)
+    (λ fault is. typed_stopped c.args.self.now word (symbols c.args.lexer.now) c.in_ok-record_type.record_type fault (c.in_ok-record_type.ensures word raised) is) c.in_err-items.ensures)
 
 pub returns-in_err-rdata : goal.returns-in_err-rdata
-returns-in_err-rdata c =
+returns-in_err-rdata c = λ word raised.
     let p = err_from_is_err_and c.from_residual-in_err-rdata.result c.from_residual-in_err-rdata.ensures.1 in
-    rw (p.1, p.2) (Fails-through c.in_err-rdata.field-0.0 (λ fault is. typed_unsaid c.args.self.now (string_bytes c.args.word) (symbols c.args.lexer.now)
-    c.in_ok-record_type.record_type (texts c.in_ok-items.items.items) (symbols c.read_items.new.lexer) fault c.in_ok-record_type.ensures c.in_ok-items.ensures is) c.in_err-rdata.ensures)
+    rw (p.1, p.2) (Fails-through c.in_err-rdata.field-0.0 (λ fault is. typed_unsaid c.args.self.now word (symbols c.args.lexer.now)
+    c.in_ok-record_type.record_type (texts c.in_ok-items.items.items) (symbols c.read_items.new.lexer) fault (c.in_ok-record_type.ensures word raised) c.in_ok-items.ensures is) c.in_err-rdata.ensures)
 
 pub returns-in_err-record : goal.returns-in_err-record
-returns-in_err-record c =
+returns-in_err-record c = λ word raised.
     let p = err_from_is_err_and c.from_residual-in_err-record.result c.from_residual-in_err-record.ensures.1 in
-    rw (p.1, p.2) (Fails-through c.in_err-record.field-0.0 (λ fault is. typed_said c.args.self.now (string_bytes c.args.word) (symbols c.args.lexer.now)
-    c.in_ok-record_type.record_type (texts c.in_ok-items.items.items) (symbols c.read_items.new.lexer) c.in_ok-rdata.rdata c.in_ok-record_type.ensures
+    rw (p.1, p.2) (Fails-through c.in_err-record.field-0.0 (λ fault is. typed_said c.args.self.now word (symbols c.args.lexer.now)
+    c.in_ok-record_type.record_type (texts c.in_ok-items.items.items) (symbols c.read_items.new.lexer) c.in_ok-rdata.rdata (c.in_ok-record_type.ensures word raised)
     c.in_ok-items.ensures c.in_ok-rdata.ensures ∙ ap (λ (made : Result State Fault). went_on made (symbols c.read_items.new.lexer)) is) c.in_err-record.ensures)
 
 pub returns : goal.returns
-returns c = typed_said c.args.self.now (string_bytes c.args.word) (symbols c.args.lexer.now) c.in_ok-record_type.record_type
-    (texts c.in_ok-items.items.items) (symbols c.read_items.new.lexer) c.in_ok-rdata.rdata c.in_ok-record_type.ensures c.in_ok-items.ensures c.in_ok-rdata.ensures
+returns c = λ word raised. typed_said c.args.self.now word (symbols c.args.lexer.now) c.in_ok-record_type.record_type
+    (texts c.in_ok-items.items.items) (symbols c.read_items.new.lexer) c.in_ok-rdata.rdata (c.in_ok-record_type.ensures word raised) c.in_ok-items.ensures c.in_ok-rdata.ensures
     ∙ ap (λ (made : Result State Fault). went_on made (symbols c.read_items.new.lexer)) c.in_ok-record.ensures

@@ -1,58 +1,81 @@
-use Rattle.std.proofs.Common.{rules, ◌≡◌, ap, sym, ◌∙◌, subst, Some, Ok}
-use Rattle.std.specs.BTreeMap.{is_at}
-use Rattle.std.specs.Map.{set_value}
-use Rattle.base.specs.RrKey.{key_cmp}
-use Rattle.base.specs.declared.rr_key.RrKey.{RrKey}
+use Rattle.std.proofs.Common.{refl, ap, sym, ◌∙◌, subst, [], ◌∷◌, ◌++◌, ◌≡◌, Ok}
+use Rattle.std.proofs.lemmas.Result.{err_from_is_err_and}
+use Rattle.base.specs.TextFaults.{Fails}
 use Rattle.rr.specs.RecordSet.{set_of}
-use Rattle.rr.specs.SetChanges.{insert}
-use Rattle.txt.specs.ZoneSets.{AreKept, IsKept, record_key, set_at}
-use Rattle.txt.proofs.KeptSets.{enters, found_for, insert_kept, kept_with, key_made, new_kept, put_kept, added_there}
+use Rattle.base.specs.declared.rr_key.RrKey.{RrKey}
+use Rattle.txt.specs.ZoneSets.{AreKept, IsKept, ZoneSets, added, record_key}
+use Rattle.txt.proofs.KeptSets.{new_kept}
+use Rattle.txt.proofs.SetsInOrder.{AreInOrder, IsAbove, added_behind, added_last, changed_last, kept_before, kept_behind, kept_last, last_in_order, last_run, order_before, order_behind}
 use Rattle.txt.proofs.zone.sets.ZoneSets.add.Goals as goal
 
-pub invariant_of-self : goal.invariant_of-self
-invariant_of-self c =
-    let key = key_made c.new-key.result c.args.entry (c.new-key.ensures.name ∙ c.in_ok-new.ensures) (c.new-key.ensures.record_type ∙ c.record_type-record_type.ensures) in
-    let there : set_at c.self.inside.sets.entries c.new-key.result ≡ Some c.in-Some.set.now = search rules in
-    kept_with c.self.inside.sets.entries _ c.new-key.result c.in-Some.set.now c.args.entry key c.self.invariant
-    (found_for c.self.inside.sets.entries c.new-key.result c.in-Some.set.now c.args.entry key c.self.invariant there) (c.get_mut.follows.holds c.in-Some.set.now).0
+pub enter-requires : goal.enter-requires
+enter-requires c =
+    let run = last_run c.self.inside.run.items c.deref.result.now c.pop.new.self.items (c.in-Some.field-0-0, c.in-Some.set) c.in_ok-key.key
+    c.deref.ensures.value c.in-Some.ensures.items (c.in-Equal.ensures.last refl) in
+    let kept = subst AreKept (ap (λ (zs : ZoneSets). c.self.inside.sets.entries ++ zs) run) c.self.invariant.0 in
+    subst (λ (k : RrKey). IsKept k c.in-Some.set) c.in_ok-key.ensures (kept_last c.self.inside.sets.entries c.pop.new.self.items (c.in_ok-key.key, c.in-Some.set) kept)
 
-pub insert-requires : goal.insert-requires
-insert-requires c =
-    let key = key_made c.new-key.result c.args.entry (c.new-key.ensures.name ∙ c.in_ok-new.ensures) (c.new-key.ensures.record_type ∙ c.record_type-record_type.ensures) in
-    let there : set_at c.self.inside.sets.entries c.new-key.result ≡ Some c.in-Some.set.now = search rules in
-    enters c.in-Some.set.now c.args.entry (found_for c.self.inside.sets.entries c.new-key.result c.in-Some.set.now c.args.entry key c.self.invariant there)
+pub invariant_of-self-in_err-enter-in-Equal : goal.invariant_of-self-in_err-enter-in-Equal
+invariant_of-self-in_err-enter-in-Equal c =
+    let whole = ap (λ (zs : ZoneSets). c.self.inside.sets.entries ++ zs) c.in-Some.ensures.items in (
+      kept_before c.self.inside.sets.entries c.pop.new.self.items (c.in-Some.field-0-0, c.in-Some.set) (subst AreKept whole c.self.invariant.0),
+      order_before c.self.inside.sets.entries c.pop.new.self.items (c.in-Some.field-0-0, c.in-Some.set) (subst AreInOrder whole c.self.invariant.1),
+    )
 
-pub invariant_of-self-in_err-insert : goal.invariant_of-self-in_err-insert
-invariant_of-self-in_err-insert c =
-    let key = key_made c.new-key.result c.args.entry (c.new-key.ensures.name ∙ c.in_ok-new.ensures) (c.new-key.ensures.record_type ∙ c.record_type-record_type.ensures) in
-    let there : set_at c.self.inside.sets.entries c.new-key.result ≡ Some c.in-Some.set.now = search rules in
-    let same : c.insert.new.self ≡ c.in-Some.set.now = c.in_err-insert.ensures.err in
-    kept_with c.self.inside.sets.entries _ c.new-key.result c.insert.new.self c.args.entry key c.self.invariant
-    (subst (IsKept (record_key c.args.entry)) (sym same) (found_for c.self.inside.sets.entries c.new-key.result c.in-Some.set.now c.args.entry key c.self.invariant there))
-    (c.get_mut.follows.holds c.insert.new.self).0
+pub returns-in_err-enter-in-Equal : goal.returns-in_err-enter-in-Equal
+returns-in_err-enter-in-Equal c =
+    let run = last_run c.self.inside.run.items c.deref.result.now c.pop.new.self.items (c.in-Some.field-0-0, c.in-Some.set) c.in_ok-key.key
+    c.deref.ensures.value c.in-Some.ensures.items (c.in-Equal.ensures.last refl) in
+    let whole = ap (λ (zs : ZoneSets). c.self.inside.sets.entries ++ zs) run in
+    let made = added_last c.self.inside.sets.entries c.pop.new.self.items c.in_ok-key.key c.in-Some.set c.args.entry c.in_ok-key.ensures (subst AreInOrder whole c.self.invariant.1) in
+    let fails : Fails c.in_err-enter-in-Equal.field-0.0 (added c.args.self.now c.args.entry) =
+    subst (Fails c.in_err-enter-in-Equal.field-0.0) (made ∙ ap (λ (zs : ZoneSets). added zs c.args.entry) (sym whole ∙ c.self.view_is))
+    (c.in_err-enter-in-Equal.ensures.value (c.self.inside.sets.entries ++ (c.pop.new.self.items ++ (c.in_ok-key.key, c.in-Some.set) ∷ []))) in
+    let p = err_from_is_err_and c.from_residual-in_err-enter-in-Equal.result c.from_residual-in_err-enter-in-Equal.ensures.1 in
+    rw (p.1, p.2) fails
 
-pub invariant_of-self-in-Some : goal.invariant_of-self-in-Some
-invariant_of-self-in-Some c =
-    let key = key_made c.new-key.result c.args.entry (c.new-key.ensures.name ∙ c.in_ok-new.ensures) (c.new-key.ensures.record_type ∙ c.record_type-record_type.ensures) in
-    let there : set_at c.self.inside.sets.entries c.new-key.result ≡ Some c.in-Some.set.now = search rules in
-    let grown : c.insert.new.self ≡ (insert c.in-Some.set.now c.args.entry 0).1 = ap (λ p. p.1) c.in_ok-insert.ensures.ok in
-    kept_with c.self.inside.sets.entries _ c.new-key.result c.insert.new.self c.args.entry key c.self.invariant
-    (subst (IsKept (record_key c.args.entry)) (sym grown) (insert_kept c.in-Some.set.now c.args.entry
-    (found_for c.self.inside.sets.entries c.new-key.result c.in-Some.set.now c.args.entry key c.self.invariant there))) (c.get_mut.follows.holds c.insert.new.self).0
+pub invariant_of-self-in-Equal : goal.invariant_of-self-in-Equal
+invariant_of-self-in-Equal c =
+    let run = last_run c.self.inside.run.items c.deref.result.now c.pop.new.self.items (c.in-Some.field-0-0, c.in-Some.set) c.in_ok-key.key
+    c.deref.ensures.value c.in-Some.ensures.items (c.in-Equal.ensures.last refl) in
+    let whole = ap (λ (zs : ZoneSets). c.self.inside.sets.entries ++ zs) run in
+    let order = subst AreInOrder whole c.self.invariant.1 in
+    let kept : IsKept c.in_ok-key.key c.enter.new.set = subst (λ (k : RrKey). IsKept k c.enter.new.set) (sym c.in_ok-key.ensures) c.enter.ensures.kept in
+    let pushed = ap (λ (zs : ZoneSets). c.self.inside.sets.entries ++ zs) (sym c.in_ok-push-in-Equal.ensures.items) in (
+      subst AreKept pushed (kept_behind c.self.inside.sets.entries c.pop.new.self.items c.in_ok-key.key c.enter.new.set
+          (kept_before c.self.inside.sets.entries c.pop.new.self.items (c.in_ok-key.key, c.in-Some.set) (subst AreKept whole c.self.invariant.0)) kept),
+      subst AreInOrder pushed (order_behind c.self.inside.sets.entries c.pop.new.self.items c.in_ok-key.key c.enter.new.set
+          (order_before c.self.inside.sets.entries c.pop.new.self.items (c.in_ok-key.key, c.in-Some.set) order)
+          (last_in_order c.self.inside.sets.entries c.pop.new.self.items c.in_ok-key.key c.in-Some.set order)),
+    )
 
-pub returns-in-Some : goal.returns-in-Some
-returns-in-Some c =
-    let key = key_made c.new-key.result c.args.entry (c.new-key.ensures.name ∙ c.in_ok-new.ensures) (c.new-key.ensures.record_type ∙ c.record_type-record_type.ensures) in
-    let there : set_at c.self.inside.sets.entries c.new-key.result ≡ Some c.in-Some.set.now = search rules in
-    let grown : c.insert.new.self ≡ (insert c.in-Some.set.now c.args.entry 0).1 = ap (λ p. p.1) c.in_ok-insert.ensures.ok in
-    added_there c.args.self.now c.new-key.result c.in-Some.set.now c.args.entry key (ap (λ sets. set_at sets c.new-key.result) (sym c.self.view_is) ∙ there) (search rules)
-    ∙ ap Ok (ap (set_value (is_at (key_cmp c.new-key.result)) c.args.self.now) (sym grown)
-    ∙ ap (λ sets. set_value (is_at (key_cmp c.new-key.result)) sets c.insert.new.self) (sym c.self.view_is) ∙ sym (c.get_mut.follows.holds c.insert.new.self).0)
+pub invariant_of-self-in-Greater : goal.invariant_of-self-in-Greater
+invariant_of-self-in-Greater c =
+    let above = subst (λ (zs : ZoneSets). IsAbove c.in_ok-key.key (c.self.inside.sets.entries ++ zs)) c.deref.ensures.value (c.in-Greater.ensures.above refl) in
+    let one : set_of c.args.entry ≡ c.in_ok-set_of-in-Greater.field-0 = cc (c.in_ok-set_of-in-Greater.ensures) in
+    let kept : IsKept c.in_ok-key.key c.in_ok-set_of-in-Greater.field-0 =
+    subst (λ (k : RrKey). IsKept k c.in_ok-set_of-in-Greater.field-0) (sym c.in_ok-key.ensures) (subst (IsKept (record_key c.args.entry)) one (new_kept c.args.entry)) in
+    let pushed = ap (λ (zs : ZoneSets). c.self.inside.sets.entries ++ zs) (sym c.in_ok-push-in-Greater.ensures.items) in (
+      subst AreKept pushed (kept_behind c.self.inside.sets.entries c.self.inside.run.items c.in_ok-key.key c.in_ok-set_of-in-Greater.field-0 c.self.invariant.0 kept),
+      subst AreInOrder pushed (order_behind c.self.inside.sets.entries c.self.inside.run.items c.in_ok-key.key c.in_ok-set_of-in-Greater.field-0 c.self.invariant.1 above),
+    )
 
-pub invariant_of-self-2 : goal.invariant_of-self-2
-invariant_of-self-2 c =
-    let key = key_made c.new-key.result c.args.entry (c.new-key.ensures.name ∙ c.in_ok-new.ensures) (c.new-key.ensures.record_type ∙ c.record_type-record_type.ensures) in
-    let same : c.self.inside.sets.entries ≡ c.get_mut.follows.lender-at-none.entries = search rules in
-    let one : set_of c.args.entry ≡ c.in_ok-set_of.field-0 = cc (c.in_ok-set_of.ensures) in
-    subst AreKept (sym c.in_ok-insert-2.ensures.entries) (put_kept c.get_mut.follows.lender-at-none.entries c.new-key.result c.in_ok-set_of.field-0 (subst AreKept same c.self.invariant)
-    (subst (λ (k : RrKey). IsKept k c.in_ok-set_of.field-0) (sym key) (subst (IsKept (record_key c.args.entry)) one (new_kept c.args.entry))))
+pub returns-in_ok-push-in-Equal : goal.returns-in_ok-push-in-Equal
+returns-in_ok-push-in-Equal c =
+    let run = last_run c.self.inside.run.items c.deref.result.now c.pop.new.self.items (c.in-Some.field-0-0, c.in-Some.set) c.in_ok-key.key
+    c.deref.ensures.value c.in-Some.ensures.items (c.in-Equal.ensures.last refl) in
+    let whole = ap (λ (zs : ZoneSets). c.self.inside.sets.entries ++ zs) run in
+    let order = subst AreInOrder whole c.self.invariant.1 in
+    let made = added_last c.self.inside.sets.entries c.pop.new.self.items c.in_ok-key.key c.in-Some.set c.args.entry c.in_ok-key.ensures order in
+    let changed = changed_last c.self.inside.sets.entries c.pop.new.self.items c.in_ok-key.key c.in-Some.set c.enter.new.set c.args.entry c.in_ok-key.ensures order in
+    ap (λ (zs : ZoneSets). added zs c.args.entry) (sym c.self.view_is ∙ whole) ∙ sym made
+    ∙ c.in_ok-enter-in-Equal.ensures.value (c.self.inside.sets.entries ++ (c.pop.new.self.items ++ (c.in_ok-key.key, c.in-Some.set) ∷ []))
+    ∙ ap Ok (changed ∙ ap (λ (zs : ZoneSets). c.self.inside.sets.entries ++ zs) (sym c.in_ok-push-in-Equal.ensures.items))
+
+pub returns-in_ok-push-in-Greater : goal.returns-in_ok-push-in-Greater
+returns-in_ok-push-in-Greater c =
+    let above = subst (λ (zs : ZoneSets). IsAbove c.in_ok-key.key (c.self.inside.sets.entries ++ zs)) c.deref.ensures.value (c.in-Greater.ensures.above refl) in
+    let one : set_of c.args.entry ≡ c.in_ok-set_of-in-Greater.field-0 = cc (c.in_ok-set_of-in-Greater.ensures) in
+    ap (λ (zs : ZoneSets). added zs c.args.entry) (sym c.self.view_is)
+    ∙ added_behind c.self.inside.sets.entries c.self.inside.run.items c.in_ok-key.key c.in_ok-set_of-in-Greater.field-0 c.args.entry c.in_ok-key.ensures one above
+    ∙ ap Ok (ap (λ (zs : ZoneSets). c.self.inside.sets.entries ++ zs) (sym c.in_ok-push-in-Greater.ensures.items))

@@ -1,0 +1,264 @@
+-- Sets in the order of their keys: what stands behind them, the last one, and a run that goes into a map.
+use Rattle.std.proofs.Common.{◌≡◌, ◌-◌, [], ◌∷◌, ◌++◌, length, refl, ap, sym, ◌∙◌, subst, arith, append_assoc, length-append, Bool, true, false, suc, Option, Some, None, Ok}
+use Rattle.std.proofs.lemmas.List.{append-nil}
+use Rattle.std.proofs.lemmas.Map.{lookup-none}
+use Rattle.std.proofs.lemmas.Map.Entries.{lookup_tail, none_below_head, none_past_head}
+use Rattle.std.proofs.lemmas.Map.Keys.{IsDistinct-from_sorted, sorted_tail}
+use Rattle.std.proofs.lemmas.Map.Made.{update_all_none}
+use Rattle.std.specs.BTreeMap.{BTreeMap, InsertsAll, IsFromIterResult, get, insert_entry, is_at}
+use Rattle.std.specs.Cmp.{IsEquivalence, eq_by_cmp_equiv, tied_itself}
+use Rattle.std.specs.List.{AllByRecursion, slice_get}
+use Rattle.std.specs.List.Sorted.{IsStrictlySortedBy}
+use Rattle.std.specs.Map.{keys_of, set_value, update, update_all}
+use Rattle.std.specs.Ordering.{eq_by_cmp, is_eq, ordering_reverse}
+use Rattle.std.specs.declared.cmp.Ordering.{Ordering}
+use Rattle.std.specs.declared.cmp.Ordering.TheVariants.{Less, Equal, Greater}
+use Rattle.base.proofs.KeyLemmas.{key_cmp-exact, key_cmp-total}
+use Rattle.base.specs.RrKey.{key_cmp}
+use Rattle.base.specs.declared.rr_key.RrKey.{RrKey}
+use Rattle.base_data.specs.declared.rdata.RData.{RData}
+use Rattle.rr.specs.RecordSet.{SetValue, set_of}
+use Rattle.rr.specs.declared.record.Record.{Record}
+use Rattle.txt.specs.ZoneSets.{AreKept, IsKept, ZoneSets, added, added_to, record_key, set_at}
+
+abbrev pub AreInOrder : ZoneSets → Type 0
+AreInOrder sets = IsStrictlySortedBy key_cmp (keys_of sets)
+
+abbrev pub IsAbove : RrKey → ZoneSets → Type 0
+IsAbove key sets = AllByRecursion (λ (e : RrKey × SetValue). key_cmp key e.0 ≡ Greater) sets
+
+flipped : (a b : RrKey) → key_cmp a b ≡ Less → key_cmp b a ≡ Greater
+flipped a b less = key_cmp-total.antisymm b a ∙ ap ordering_reverse less
+
+flipped_back : (a b : RrKey) → key_cmp a b ≡ Greater → key_cmp b a ≡ Less
+flipped_back a b greater = key_cmp-total.antisymm b a ∙ ap ordering_reverse greater
+
+-- ---- what holds of all
+front_keys : (P : RrKey → Type 0) (es fs : ZoneSets) → AllByRecursion P (keys_of (es ++ fs)) → AllByRecursion P (keys_of es)
+front_keys P [] fs h = tt
+front_keys P (e ∷ es) fs h = (h.0, front_keys P es fs h.1)
+
+back_keys : (P : RrKey → Type 0) (es fs : ZoneSets) → AllByRecursion P (keys_of (es ++ fs)) → AllByRecursion P (keys_of fs)
+back_keys P [] fs h = h
+back_keys P (e ∷ es) fs h = back_keys P es fs h.1
+
+push_key : (P : RrKey → Type 0) (es : ZoneSets) (key : RrKey) (set : SetValue) → AllByRecursion P (keys_of es) → P key → AllByRecursion P (keys_of (es ++ (key, set) ∷ []))
+push_key P [] key set h k = (k, tt)
+push_key P (e ∷ es) key set h k = (h.0, push_key P es key set h.1 k)
+
+pub kept_front : (es fs : ZoneSets) → AreKept (es ++ fs) → AreKept es
+kept_front [] fs h = tt
+kept_front (e ∷ es) fs h = (h.0, kept_front es fs h.1)
+
+pub kept_back : (es fs : ZoneSets) → AreKept (es ++ fs) → AreKept fs
+kept_back [] fs h = h
+kept_back (e ∷ es) fs h = kept_back es fs h.1
+
+pub kept_push : (es : ZoneSets) (key : RrKey) (set : SetValue) → AreKept es → IsKept key set → AreKept (es ++ (key, set) ∷ [])
+kept_push [] key set h k = (k, tt)
+kept_push (e ∷ es) key set h k = (h.0, kept_push es key set h.1 k)
+
+-- ---- in order
+pub order_front : (es fs : ZoneSets) → AreInOrder (es ++ fs) → AreInOrder es
+unfolding IsStrictlySortedBy
+order_front [] fs h = tt
+order_front (e ∷ es) fs h = (front_keys (λ k. key_cmp e.0 k ≡ Less) es fs h.0, order_front es fs h.1)
+
+pub order_back : (es fs : ZoneSets) → AreInOrder (es ++ fs) → AreInOrder fs
+unfolding IsStrictlySortedBy
+order_back [] fs h = h
+order_back (e ∷ es) fs h = order_back es fs h.1
+
+pub order_push : (es : ZoneSets) (key : RrKey) (set : SetValue) → AreInOrder es → IsAbove key es → AreInOrder (es ++ (key, set) ∷ [])
+unfolding IsStrictlySortedBy
+order_push [] key set h k = (tt, tt)
+order_push (e ∷ es) key set h k = (push_key (λ q. key_cmp e.0 q ≡ Less) es key set h.0 (flipped_back key e.0 k.0), order_push es key set h.1 k.1)
+
+-- the last key is above those before it
+pub last_above : (es : ZoneSets) (key : RrKey) (set : SetValue) → AreInOrder (es ++ (key, set) ∷ []) → IsAbove key es
+unfolding IsStrictlySortedBy
+last_above [] key set h = tt
+last_above (e ∷ es) key set h = (flipped e.0 key (back_keys (λ k. key_cmp e.0 k ≡ Less) es ((key, set) ∷ []) h.0).0, last_above es key set h.1)
+
+-- what is above the last key is above all
+pub above_all : (k : RrKey) (es : ZoneSets) (key : RrKey) (set : SetValue) → AreInOrder (es ++ (key, set) ∷ []) → key_cmp k key ≡ Greater → IsAbove k (es ++ (key, set) ∷ [])
+unfolding IsStrictlySortedBy
+above_all k [] key set h g = (g, tt)
+above_all k (e ∷ es) key set h g =
+    let below : key_cmp e.0 key ≡ Less = (back_keys (λ q. key_cmp e.0 q ≡ Less) es ((key, set) ∷ []) h.0).0 in
+    (flipped e.0 k (key_cmp-total.trans e.0 key k below (flipped_back k key g)), above_all k es key set h.1 g)
+
+-- the last of a list, and those before it
+pub split_last : (es : ZoneSets) (e : RrKey × SetValue) → slice_get es (length es - 1) ≡ Some e → (front : ZoneSets) × (es ≡ front ++ e ∷ [])
+split_last [] e is = absurd cc
+split_last (x ∷ []) e is = ([], cc)
+split_last (x ∷ y ∷ ys) e is =
+    let at : length (x ∷ y ∷ ys) - 1 ≡ suc (length (y ∷ ys) - 1) = omega arith in
+    behind (split_last (y ∷ ys) e (ap (slice_get (x ∷ y ∷ ys)) (sym at) ∙ is)) where
+      behind : (front : ZoneSets) × (y ∷ ys ≡ front ++ e ∷ []) → (front : ZoneSets) × (x ∷ y ∷ ys ≡ front ++ e ∷ [])
+      behind (front, split) = (x ∷ front, ap (λ (zs : ZoneSets). x ∷ zs) split)
+
+last_of : (es : ZoneSets) (e : RrKey × SetValue) → slice_get (es ++ e ∷ []) (length (es ++ e ∷ []) - 1) ≡ Some e
+last_of [] e = refl
+last_of (x ∷ es) e =
+    let at : length (x ∷ (es ++ e ∷ [])) - 1 ≡ suc (length (es ++ e ∷ []) - 1) = omega (arith, length-append es (e ∷ [])) in
+    ap (slice_get (x ∷ (es ++ e ∷ []))) at ∙ last_of es e
+
+-- the entry that stands behind the others is the last one
+one_last : (fs front : ZoneSets) (e : RrKey × SetValue) (key : RrKey) (set : SetValue) → fs ≡ front ++ e ∷ [] → slice_get fs (length fs - 1) ≡ Some (key, set)
+    → fs ≡ front ++ (key, e.1) ∷ []
+one_last fs front e key set is at =
+    let same : Some e ≡ Some (key, set) = sym (last_of front e) ∙ ap (λ (zs : ZoneSets). slice_get zs (length zs - 1)) (sym is) ∙ at in
+    let one : e.0 ≡ key = cc in
+    is ∙ ap (λ (k : RrKey). front ++ (k, e.1) ∷ []) one
+
+-- the same of a run as it was lent
+pub last_run : (fs lent front : ZoneSets) (e : RrKey × SetValue) (key : RrKey) → lent ≡ fs → fs ≡ front ++ e ∷ []
+    → (set : SetValue) × (slice_get lent (length lent - 1) ≡ Some (key, set)) → fs ≡ front ++ (key, e.1) ∷ []
+last_run fs lent front e key same is at = one_last fs front e key at.0 is (ap (λ (zs : ZoneSets). slice_get zs (length zs - 1)) (sym same) ∙ at.1)
+
+none_last : (es : ZoneSets) → slice_get es (length es - 1) ≡ None → es ≡ []
+none_last [] is = refl
+none_last (e ∷ es) is = absurd (later e es is) where
+  later : (x : RrKey × SetValue) (xs : ZoneSets) → slice_get (x ∷ xs) (length (x ∷ xs) - 1) ≡ None → ⊥
+  later x [] is = let no : Some x ≡ None = is in cc
+  later x (y ∷ ys) is = let at : length (x ∷ y ∷ ys) - 1 ≡ suc (length (y ∷ ys) - 1) = omega arith in later y ys (ap (slice_get (x ∷ y ∷ ys)) (sym at) ∙ is)
+
+-- what is above the last one is above all of a list
+pub above_by_last : (k : RrKey) (es fs : ZoneSets) (e : RrKey × SetValue) → AreInOrder (es ++ fs) → slice_get fs (length fs - 1) ≡ Some e → key_cmp k e.0 ≡ Greater → IsAbove k (es ++ fs)
+above_by_last k es fs e order at g =
+    let parts = split_last fs e at in
+    let whole : es ++ fs ≡ (es ++ parts.0) ++ e ∷ [] = ap (λ (zs : ZoneSets). es ++ zs) parts.1 ∙ sym (append_assoc es parts.0 (e ∷ [])) in
+    subst (IsAbove k) (sym whole) (above_all k (es ++ parts.0) e.0 e.1 (subst AreInOrder whole order) g)
+
+-- the same where there is no run
+pub above_map : (k : RrKey) (es fs : ZoneSets) (e : RrKey × SetValue) → AreInOrder (es ++ fs) → slice_get fs (length fs - 1) ≡ None → slice_get es (length es - 1) ≡ Some e
+    → key_cmp k e.0 ≡ Greater → IsAbove k (es ++ fs)
+above_map k es fs e order none at g =
+    let alone : es ≡ es ++ fs = sym (append-nil es) ∙ ap (λ (zs : ZoneSets). es ++ zs) (sym (none_last fs none)) in
+    subst (IsAbove k) alone (above_by_last k [] es e (order_front es fs order) at g)
+
+pub above_none : (k : RrKey) (es fs : ZoneSets) → slice_get fs (length fs - 1) ≡ None → es ≡ [] → IsAbove k (es ++ fs)
+above_none k es fs none empty =
+    let nothing : es ++ fs ≡ [] = ap (λ (zs : ZoneSets). zs ++ fs) empty ∙ none_last fs none in
+    subst (IsAbove k) (sym nothing) tt
+
+-- ---- a key above all
+none_there : (es : ZoneSets) (key : RrKey) → IsAbove key es → set_at es key ≡ None
+none_there [] key h = refl
+none_there (e ∷ es) key h = rw h.0 (none_there es key h.1)
+
+inserted_behind : (es : ZoneSets) (key : RrKey) (set : SetValue) → IsAbove key es → insert_entry key_cmp es key set ≡ es ++ (key, set) ∷ []
+inserted_behind [] key set h = refl
+inserted_behind (e ∷ es) key set h = rw h.0 (ap (λ (zs : ZoneSets). e ∷ zs) (inserted_behind es key set h.1))
+
+-- the set of a record above all stands behind them
+pub added_behind : (es fs : ZoneSets) (key : RrKey) (set : SetValue) (r : Record RData) → key ≡ record_key r → set_of r ≡ set → IsAbove key (es ++ fs)
+    → added (es ++ fs) r ≡ Ok (es ++ (fs ++ (key, set) ∷ []))
+added_behind es fs key set r is one above =
+    ap (added_to (es ++ fs) r) (ap (set_at (es ++ fs)) (sym is) ∙ none_there (es ++ fs) key above)
+    ∙ ap Ok (ap (λ (k : RrKey). insert_entry key_cmp (es ++ fs) k (set_of r)) (sym is) ∙ ap (insert_entry key_cmp (es ++ fs) key) one
+    ∙ inserted_behind (es ++ fs) key set above ∙ append_assoc es fs ((key, set) ∷ []))
+
+-- ---- the last key
+found_last : (es : ZoneSets) (key : RrKey) (set : SetValue) → IsAbove key es → set_at (es ++ (key, set) ∷ []) key ≡ Some set
+found_last [] key set h = let own : key_cmp key key ≡ Equal = tied_itself key_cmp-total key in rw own refl
+found_last (e ∷ es) key set h = rw h.0 (found_last es key set h.1)
+
+set_last : (es : ZoneSets) (key : RrKey) (set new : SetValue) → IsAbove key es → set_value (is_at (key_cmp key)) (es ++ (key, set) ∷ []) new ≡ es ++ (key, new) ∷ []
+set_last [] key set new h = let own : key_cmp key key ≡ Equal = tied_itself key_cmp-total key in rw own refl
+set_last (e ∷ es) key set new h = rw h.0 (ap (λ (zs : ZoneSets). e ∷ zs) (set_last es key set new h.1))
+
+whole_of : (es fs : ZoneSets) (e : RrKey × SetValue) → es ++ (fs ++ e ∷ []) ≡ (es ++ fs) ++ e ∷ []
+whole_of es fs e = sym (append_assoc es fs (e ∷ []))
+
+pub last_in_order : (es fs : ZoneSets) (key : RrKey) (set : SetValue) → AreInOrder (es ++ (fs ++ (key, set) ∷ [])) → IsAbove key (es ++ fs)
+last_in_order es fs key set order = last_above (es ++ fs) key set (subst AreInOrder (whole_of es fs (key, set)) order)
+
+-- a record of the last key goes into the last set
+pub added_last : (es fs : ZoneSets) (key : RrKey) (set : SetValue) (r : Record RData) → key ≡ record_key r → AreInOrder (es ++ (fs ++ (key, set) ∷ []))
+    → added_to (es ++ (fs ++ (key, set) ∷ [])) r (Some set) ≡ added (es ++ (fs ++ (key, set) ∷ [])) r
+added_last es fs key set r is order =
+    let sets : ZoneSets = es ++ (fs ++ (key, set) ∷ []) in
+    let there : set_at sets key ≡ Some set = ap (λ (zs : ZoneSets). set_at zs key) (whole_of es fs (key, set)) ∙ found_last (es ++ fs) key set (last_in_order es fs key set order) in
+    ap (added_to sets r) (sym there ∙ ap (set_at sets) is)
+
+pub changed_last : (es fs : ZoneSets) (key : RrKey) (set new : SetValue) (r : Record RData) → key ≡ record_key r → AreInOrder (es ++ (fs ++ (key, set) ∷ []))
+    → set_value (is_at (key_cmp (record_key r))) (es ++ (fs ++ (key, set) ∷ [])) new ≡ es ++ (fs ++ (key, new) ∷ [])
+changed_last es fs key set new r is order =
+    ap (λ (k : RrKey). set_value (is_at (key_cmp k)) (es ++ (fs ++ (key, set) ∷ [])) new) (sym is)
+    ∙ ap (λ (zs : ZoneSets). set_value (is_at (key_cmp key)) zs new) (whole_of es fs (key, set))
+    ∙ set_last (es ++ fs) key set new (last_in_order es fs key set order) ∙ sym (whole_of es fs (key, new))
+
+-- ---- what the fields of the sets keep
+pub order_behind : (es fs : ZoneSets) (key : RrKey) (set : SetValue) → AreInOrder (es ++ fs) → IsAbove key (es ++ fs) → AreInOrder (es ++ (fs ++ (key, set) ∷ []))
+order_behind es fs key set order above = subst AreInOrder (sym (whole_of es fs (key, set))) (order_push (es ++ fs) key set order above)
+
+pub kept_behind : (es fs : ZoneSets) (key : RrKey) (set : SetValue) → AreKept (es ++ fs) → IsKept key set → AreKept (es ++ (fs ++ (key, set) ∷ []))
+kept_behind es fs key set kept one = subst AreKept (sym (whole_of es fs (key, set))) (kept_push (es ++ fs) key set kept one)
+
+pub order_before : (es fs : ZoneSets) (e : RrKey × SetValue) → AreInOrder (es ++ (fs ++ e ∷ [])) → AreInOrder (es ++ fs)
+order_before es fs e order = order_front (es ++ fs) (e ∷ []) (subst AreInOrder (whole_of es fs e) order)
+
+pub kept_before : (es fs : ZoneSets) (e : RrKey × SetValue) → AreKept (es ++ (fs ++ e ∷ [])) → AreKept (es ++ fs)
+kept_before es fs e kept = kept_front (es ++ fs) (e ∷ []) (subst AreKept (whole_of es fs e) kept)
+
+pub kept_last : (es fs : ZoneSets) (e : RrKey × SetValue) → AreKept (es ++ (fs ++ e ∷ [])) → IsKept e.0 e.1
+kept_last es fs e kept = (kept_back (es ++ fs) (e ∷ []) (subst AreKept (whole_of es fs e) kept)).0
+
+-- ---- a run that goes into a map
+laws : IsEquivalence (eq_by_cmp key_cmp)
+laws = eq_by_cmp_equiv key_cmp-total
+
+found_first : (e : RrKey × SetValue) (es : ZoneSets) → set_at (e ∷ es) e.0 ≡ Some e.1
+found_first e es = let own : key_cmp e.0 e.0 ≡ Equal = tied_itself key_cmp-total e.0 in rw own refl
+
+-- sets in order that have the same at each key are the same
+same_sets : (es fs : ZoneSets) → AreInOrder es → AreInOrder fs → ((q : RrKey) → set_at es q ≡ set_at fs q) → es ≡ fs
+same_sets [] [] s t h = refl
+same_sets [] (f ∷ fs) s t h = let no : None ≡ Some f.1 = h f.0 ∙ found_first f fs in absurd cc
+same_sets (e ∷ es) [] s t h = let no : Some e.1 ≡ None = sym (found_first e es) ∙ h e.0 in absurd cc
+same_sets (e ∷ es) (f ∷ fs) s t h =
+    go (key_cmp e.0 f.0) refl (same_sets es fs (sorted_tail key_cmp e.0 (keys_of es) s) (sorted_tail key_cmp f.0 (keys_of fs) t)) where
+      below : (x y : RrKey × SetValue) (ys : ZoneSets) → AreInOrder (y ∷ ys) → key_cmp x.0 y.0 ≡ Less → set_at (y ∷ ys) x.0 ≡ None
+      below x y ys o less = lookup-none (is_at (key_cmp x.0)) (y ∷ ys) (none_below_head key_cmp-total x.0 y ys o less)
+
+      later : e.0 ≡ f.0 → e.1 ≡ f.1 → (q : RrKey) → set_at es q ≡ set_at fs q
+      later k v q = by_test (is_eq (key_cmp q e.0)) refl where
+        by_test : (b : Bool) → is_eq (key_cmp q e.0) ≡ b → set_at es q ≡ set_at fs q
+        by_test true is =
+            lookup-none (is_at (key_cmp q)) es (none_past_head laws q e es (IsDistinct-from_sorted key_cmp (keys_of (e ∷ es)) s) is)
+            ∙ sym (lookup-none (is_at (key_cmp q)) fs (none_past_head laws q f fs (IsDistinct-from_sorted key_cmp (keys_of (f ∷ fs)) t) (subst (λ (x : RrKey). is_eq (key_cmp q x) ≡ true) k is)))
+        by_test false is =
+            sym (lookup_tail (is_at (key_cmp q)) e es is) ∙ h q ∙ lookup_tail (is_at (key_cmp q)) f fs (subst (λ (x : RrKey). is_eq (key_cmp q x) ≡ false) k is)
+
+      go : (o : Ordering) → key_cmp e.0 f.0 ≡ o → (((q : RrKey) → set_at es q ≡ set_at fs q) → es ≡ fs) → (e ∷ es) ≡ (f ∷ fs)
+      go Less is again = let no : Some e.1 ≡ None = sym (found_first e es) ∙ h e.0 ∙ below e f fs t is in absurd cc
+      go Greater is again = let no : Some f.1 ≡ None = sym (found_first f fs) ∙ sym (h f.0) ∙ below f e es s (flipped_back e.0 f.0 is) in absurd cc
+      go Equal is again =
+          let k : e.0 ≡ f.0 = key_cmp-exact e.0 f.0 is in
+          let v : Some e.1 ≡ Some f.1 = sym (found_first e es) ∙ h e.0 ∙ ap (set_at (f ∷ fs)) k ∙ found_first f fs in
+          let w : e.1 ≡ f.1 = cc in
+          let rest : es ≡ fs = again (later k w) in
+          ap (λ (x : RrKey). (x, e.1) ∷ es) k ∙ ap (λ (x : SetValue). (f.0, x) ∷ es) w ∙ ap (λ (xs : ZoneSets). f ∷ xs) rest
+
+updated_twice : (f : RrKey → Option SetValue) (es fs : ZoneSets) → update_all (eq_by_cmp key_cmp) (update_all (eq_by_cmp key_cmp) f es) fs ≡ update_all (eq_by_cmp key_cmp) f (es ++ fs)
+updated_twice f [] fs = refl
+updated_twice f (e ∷ es) fs = updated_twice (update (eq_by_cmp key_cmp) f e.0 (Some e.1)) es fs
+
+-- what all the pairs of sets in order make is what these have
+made_of : (es : ZoneSets) (q : RrKey) → AreInOrder es → update_all (eq_by_cmp key_cmp) (λ _. None) es q ≡ set_at es q
+made_of es q order = update_all_none laws (eq_by_cmp key_cmp) (λ x y. refl) es q (IsDistinct-from_sorted key_cmp (keys_of es) order)
+
+pub run_joined : (sets others whole : BTreeMap RrKey SetValue) (run : ZoneSets) → AreInOrder (sets.entries ++ run) → IsFromIterResult key_cmp run others
+    → InsertsAll key_cmp sets others.entries whole → whole.entries ≡ sets.entries ++ run
+run_joined sets others whole run order from all =
+    let behind : AreInOrder run = order_back sets.entries run order in
+    let before : AreInOrder sets.entries = order_front sets.entries run order in
+    let run_is : others.entries ≡ run = same_sets others.entries run from.1 behind (λ q. from.0 q ∙ made_of run q behind) in
+    let made : update_all (eq_by_cmp key_cmp) (λ _. None) sets.entries ≡ get key_cmp sets = λ i q. made_of sets.entries q before i in
+    same_sets whole.entries (sets.entries ++ run) all.1 order (λ q.
+    all.0 q ∙ ap (λ (xs : ZoneSets). update_all (eq_by_cmp key_cmp) (get key_cmp sets) xs q) run_is
+    ∙ ap (λ (f : RrKey → Option SetValue). update_all (eq_by_cmp key_cmp) f run q) (sym made)
+    ∙ ap (λ (f : RrKey → Option SetValue). f q) (updated_twice (λ _. None) sets.entries run)
+    ∙ made_of (sets.entries ++ run) q order)
