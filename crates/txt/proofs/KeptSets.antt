@@ -1,8 +1,8 @@
 -- The sets of a zone stay as they stand under their keys.
-use Rattle.std.proofs.Common.{◌≡◌, ◌≢◌, ◌≤◌, List, [], ◌∷◌, length, refl, ap, sym, ◌∙◌, subst, arith, Bool, true, false, Some, Ok, Result}
+use Rattle.std.proofs.Common.{◌≡◌, ◌≢◌, ◌≤◌, List, [], ◌∷◌, length, refl, ap, sym, ◌∙◌, subst, arith, Bool, true, false, Some, Ok, Err, Result}
+use Rattle.std.specs.Result.{OnOk}
 use Rattle.std.specs.BTreeMap.{insert_entry, is_at}
 use Rattle.std.specs.Bool.{beq}
-use Rattle.std.specs.Map.{set_value}
 use Rattle.std.specs.Ordering.{is_eq}
 use Rattle.std.specs.Prelude.{◌&&◌, if◌then◌else◌}
 use Rattle.std.specs.declared.cmp.Ordering.{Ordering}
@@ -15,10 +15,9 @@ use Rattle.base.specs.RrKey.{key_cmp, key_of}
 use Rattle.base.specs.TextFaults.{Fault}
 use Rattle.base.specs.declared.error.parse_error.ParseError.{ParseError}
 use Rattle.base.specs.declared.rr_key.RrKey.{RrKey}
-use Rattle.base_data.specs.Kinds.{type_of_data}
 use Rattle.base_data.specs.declared.rdata.RData.{RData}
 use Rattle.rr.proofs.SetTidy.{insert_keeps_tidy, one_is_tidy}
-use Rattle.rr.specs.RecordSet.{SetValue, is_soa, set_of}
+use Rattle.rr.specs.RecordSet.{SetValue, set_of}
 use Rattle.rr.specs.SetChanges.{MayEnter, beside, holds_one, insert, is_left, joined}
 use Rattle.rr.specs.declared.record.Record.{Record}
 use Rattle.txt.specs.Steps.{Adds}
@@ -41,14 +40,6 @@ found_kept (e ∷ es) key set kept found = go (is_at (key_cmp key) e.0) refl (λ
       let here : e.1 ≡ set = cc (is, found) in
       subst (λ (k : RrKey). IsKept k set) (sym (same_key key e.0 is)) (subst (IsKept e.0) here kept.0)
   go false is later = later (let same : set_at (e ∷ es) key ≡ set_at es key = rw is refl in sym same ∙ found)
-
--- another set of the same key in its place
-pub changed_kept : (sets : ZoneSets) (key : RrKey) (set : SetValue) → AreKept sets → IsKept key set → AreKept (set_value (is_at (key_cmp key)) sets set)
-changed_kept [] key set kept is = tt
-changed_kept (e ∷ es) key set kept is = go (is_at (key_cmp key) e.0) refl (changed_kept es key set kept.1 is) where
-  go : (b : Bool) → is_at (key_cmp key) e.0 ≡ b → AreKept (set_value (is_at (key_cmp key)) es set) → AreKept (set_value (is_at (key_cmp key)) (e ∷ es) set)
-  go true here again = rw here (subst (λ (k : RrKey). IsKept k set) (same_key key e.0 here) is, kept.1)
-  go false here again = rw here (kept.0, again)
 
 -- a set under a new key, or under one that is there
 pub put_kept : (sets : ZoneSets) (key : RrKey) (set : SetValue) → AreKept sets → IsKept key set → AreKept (insert_entry key_cmp sets key set)
@@ -106,24 +97,9 @@ new_kept r = record {
   single = λ holds. omega arith;
 }
 
--- the key that was made is the record's
-pub key_made : (key : RrKey) (r : Record RData) → key.name ≡ lowered r.name → key.record_type ≡ type_of_data r.rdata → key ≡ record_key r
-key_made key r name type = λ i. record { name = name i; record_type = type i }
-
 -- the set that is found for a record is kept under its key
 pub found_for : (sets : ZoneSets) (key : RrKey) (set : SetValue) (r : Record RData) → key ≡ record_key r → AreKept sets → set_at sets key ≡ Some set → IsKept (record_key r) set
 found_for sets key set r is kept found = subst (λ (k : RrKey). IsKept k set) is (found_kept sets key set kept found)
-
--- the sets are kept with this one in the place of the one that was found
-pub kept_with : (sets entries : ZoneSets) (key : RrKey) (set : SetValue) (r : Record RData) → key ≡ record_key r → AreKept sets → IsKept (record_key r) set
-    → entries ≡ set_value (is_at (key_cmp key)) sets set → AreKept entries
-kept_with sets entries key set r is kept one made = subst AreKept (sym made) (changed_kept sets key set kept (subst (λ (k : RrKey). IsKept k set) (sym is) one))
-
--- a record of a key that is there goes into its set
-pub added_there : (sets : ZoneSets) (key : RrKey) (set : SetValue) (r : Record RData) → key ≡ record_key r → set_at sets key ≡ Some set → is_soa (type_of_data r.rdata) ≡ false
-    → added sets r ≡ Ok (set_value (is_at (key_cmp key)) sets (insert set r 0).1)
-added_there sets key set r is there other =
-    ap (added_to sets r) (ap (set_at sets) (sym is) ∙ there) ∙ rw other (ap (λ (k : RrKey). Ok (set_value (is_at (key_cmp k)) sets (insert set r 0).1)) (sym is))
 
 -- an answer about sets is one about the same sets
 pub adds_same : {X : Type 0} (result : Result X ParseError) (a b : ZoneSets) (p q : Result ZoneSets Fault) → a ≡ b → p ≡ q → Adds result a p → Adds result b q
@@ -133,3 +109,10 @@ adds_same result a b p q sets made h = subst (λ (zs : ZoneSets). Adds result zs
 pub added_found : (sets : ZoneSets) (key : RrKey) (set : SetValue) (r : Record RData) → key ≡ record_key r → set_at sets key ≡ Some set
     → added_to sets r (Some set) ≡ added sets r
 added_found sets key set r is there = ap (added_to sets r) (sym there ∙ ap (set_at sets) is)
+
+-- the sets are kept with one that was put under its key
+pub placed_kept : {X : Type 0} (result : Result X ParseError) (sets after : ZoneSets) (key : RrKey) (set : SetValue) (r : Record RData) → key ≡ record_key r → AreKept sets
+    → IsKept (record_key r) set → after ≡ insert_entry key_cmp sets key set → OnOk result (AreKept after)
+placed_kept (Ok x) sets after key set r is kept one made =
+    subst AreKept (sym made) (put_kept sets key set kept (subst (λ (k : RrKey). IsKept k set) (sym is) one))
+placed_kept (Err e) sets after key set r is kept one made = tt

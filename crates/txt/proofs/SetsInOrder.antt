@@ -138,11 +138,6 @@ above_map k es fs e order none at g =
     let alone : es ≡ es ++ fs = sym (append-nil es) ∙ ap (λ (zs : ZoneSets). es ++ zs) (sym (none_last fs none)) in
     subst (IsAbove k) alone (above_by_last k [] es e (order_front es fs order) at g)
 
-pub above_none : (k : RrKey) (es fs : ZoneSets) → slice_get fs (length fs - 1) ≡ None → es ≡ [] → IsAbove k (es ++ fs)
-above_none k es fs none empty =
-    let nothing : es ++ fs ≡ [] = ap (λ (zs : ZoneSets). zs ++ fs) empty ∙ none_last fs none in
-    subst (IsAbove k) (sym nothing) tt
-
 -- ---- a key above all
 none_there : (es : ZoneSets) (key : RrKey) → IsAbove key es → set_at es key ≡ None
 none_there [] key h = refl
@@ -241,6 +236,18 @@ same_sets (e ∷ es) (f ∷ fs) s t h =
           let w : e.1 ≡ f.1 = cc in
           let rest : es ≡ fs = again (later k w) in
           ap (λ (x : RrKey). (x, e.1) ∷ es) k ∙ ap (λ (x : SetValue). (f.0, x) ∷ es) w ∙ ap (λ (xs : ZoneSets). f ∷ xs) rest
+
+-- a set under a key that is there takes the place of the one there
+pub put_there : (es : ZoneSets) (key : RrKey) (old new : SetValue) → AreInOrder es → set_at es key ≡ Some old → insert_entry key_cmp es key new ≡ set_value (is_at (key_cmp key)) es new
+put_there [] key old new order there = absurd cc
+put_there (e ∷ es) key old new order there = go (key_cmp key e.0) refl (put_there es key old new (sorted_tail key_cmp e.0 (keys_of es) order)) where
+  go : (o : Ordering) → key_cmp key e.0 ≡ o → (set_at es key ≡ Some old → insert_entry key_cmp es key new ≡ set_value (is_at (key_cmp key)) es new)
+      → insert_entry key_cmp (e ∷ es) key new ≡ set_value (is_at (key_cmp key)) (e ∷ es) new
+  go Less is again = let no : None ≡ Some old = sym (lookup-none (is_at (key_cmp key)) (e ∷ es) (none_below_head key_cmp-total key e es order is)) ∙ there in absurd cc
+  go Equal is again = rw is refl
+  go Greater is again =
+      let later = sym (lookup_tail (is_at (key_cmp key)) e es (ap is_eq is)) ∙ there in
+      rw is (ap (λ (zs : ZoneSets). e ∷ zs) (again later))
 
 updated_twice : (f : RrKey → Option SetValue) (es fs : ZoneSets) → update_all (eq_by_cmp key_cmp) (update_all (eq_by_cmp key_cmp) f es) fs ≡ update_all (eq_by_cmp key_cmp) f (es ++ fs)
 updated_twice f [] fs = refl

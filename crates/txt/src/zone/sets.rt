@@ -4,7 +4,7 @@ ghost use Rattle.std.specs.BTreeMap.{IsOrdered, is_at};
 ghost use Rattle.std.specs.List.{AllByRecursion};
 ghost use Rattle.std.specs.List.Sorted.{IsStrictlySortedBy};
 ghost use Rattle.std.specs.Map.{keys_of, set_value};
-ghost use Rattle.std.specs.Prelude.{◌≡◌, ◌++◌, ◌-◌, [], IfOk, Ok, Some, length, slice_get};
+ghost use Rattle.std.specs.Prelude.{◌≡◌, ◌++◌, ◌-◌, [], IfOk, OnOk, Ok, Some, length, slice_get};
 ghost use Rattle.std.specs.declared.cmp.Ordering.TheVariants.{Equal, Greater};
 ghost use Rattle.base.specs.RrKey.{key_cmp};
 ghost use Rattle.base.specs.TextFaults.{Gives};
@@ -18,6 +18,7 @@ use rr::{Record, RecordSet};
 use std::alloc::{AllocError, Global};
 use std::cmp::Ordering;
 use std::collections::BTreeMap;
+use std::collections::btree_map::Entry;
 use std::marker::Model;
 use std::mem::replace;
 
@@ -87,8 +88,10 @@ impl ZoneSets {
         let alloc = *self.run.allocator();
         let sets = replace(&mut self.sets, BTreeMap::new(alloc));
         let run = replace(&mut self.run, Vec::new(alloc));
-        self.sets = joined(sets, run)?;
-        put(&mut self.sets, key, entry)
+        let mut whole = joined(sets, run)?;
+        put(&mut whole, key, entry)?;
+        self.sets = whole;
+        Ok(())
     }
 
     /// The map of the sets. Refused for want of memory.
@@ -146,14 +149,16 @@ fn put(sets: &mut BTreeMap<RrKey, RecordSet>, key: RrKey, entry: Record) -> Resu
     requires key { key ≡ record_key entry }
     requires kept { AreKept sets.old.entries }
     ensures value { Adds result sets.new.entries (added sets.old.entries entry) }
-    ensures kept { AreKept sets.new.entries }
-    ensures ordered { IsOrdered key_cmp sets.new }
+    ensures kept { OnOk result (AreKept sets.new.entries) }
+    ensures ordered { OnOk result (IsOrdered key_cmp sets.new) }
 {
-    if let Some(set) = sets.get_mut(&key) {
-        return enter(set, entry);
+    match sets.entry(key)? {
+        Entry::Occupied(place) => enter(place.into_mut(), entry),
+        Entry::Vacant(place) => {
+            place.insert(set_of(entry)?);
+            Ok(())
+        }
     }
-    sets.insert(key, set_of(entry)?)?;
-    Ok(())
 }
 
 /// Puts a record into the set of its key. Refused with `Message` for a second SOA.
