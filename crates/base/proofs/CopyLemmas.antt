@@ -1,6 +1,6 @@
 -- Copies into a room.
-use Rattle.std.proofs.Common.{◌≡◌, ◌∙◌, ℕ, ◌+◌, ◌-◌, ◌≤◌, List, [], ◌∷◌, ◌++◌, length, take, drop, suc, ap, sym, arith, length-take}
-use Rattle.std.proofs.lemmas.List.{take-take}
+use Rattle.std.proofs.Common.{◌≡◌, ◌∙◌, ℕ, ◌+◌, ◌-◌, ◌≤◌, List, [], ◌∷◌, ◌++◌, length, take, drop, suc, ap, sym, arith, length-take, length-drop, length-append}
+use Rattle.std.proofs.lemmas.List.{take-take, take-append-le, take-append-drop}
 use Rattle.std.proofs.lemmas.Slice.{take-put_mid}
 use Rattle.std.specs.Prelude.{slice_range}
 use borrow.Rule.Slice.PartMut.{put_mid}
@@ -26,3 +26,15 @@ copied_behind buffer room at {copied} {size} {piece} {used} fits len few is =
     ∙ take_behind (take used room) copied (used + size) size (omega arith)
     ∙ ap (λ (xs : List ℕ). take used room ++ take size xs) (is ∙ ap (λ (k : ℕ). take k (drop at buffer)) (sym some))
     ∙ ap (λ (xs : List ℕ). take used room ++ xs) (take-take size piece (drop at buffer) few ∙ ap (λ (k : ℕ). take k (drop at buffer)) same)
+
+-- what a room begins with where the first piece of a list and its last one were copied, which are all of it
+pub copied_ends : (xs first rest last : List ℕ) (piece k : ℕ) → piece ≤ length xs → length xs ≤ piece + piece → first ≡ take piece xs → last ≡ drop (length xs - piece) xs
+    → take (length xs) (put_mid (length xs - piece) k (first ++ rest) last) ≡ xs
+copied_ends xs first rest last piece k long short front back =
+    let at = length xs - piece in
+    let len_first : length first ≡ piece = omega (arith, ap length front, length-take piece xs) in
+    let len_last : length last ≡ piece = omega (arith, ap length back, length-drop at xs) in
+    take-put_mid at k (first ++ rest) last (length xs) (omega (arith, len_last)) (omega (arith, length-append first rest, len_first))
+    ∙ ap (λ (ys : List ℕ). ys ++ last) (take-append-le at first rest (omega (arith, len_first)) ∙ ap (take at) front ∙ take-take at piece xs (omega arith))
+    ∙ ap (λ (ys : List ℕ). take at xs ++ ys) back
+    ∙ take-append-drop at xs

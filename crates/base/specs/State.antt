@@ -1,5 +1,6 @@
 -- An encoder as its contracts see it.
 use Rattle.std.specs.Prelude.{ℕ, ◌+◌, List, [], ◌∷◌, ◌++◌, length, take, drop, nat_le, if◌then◌else◌}
+use Rattle.std.specs.Int.{w32, from_be_bytes}
 
 -- a suffix of a name, and where it is spelled
 pub record Stored : Type 0 where
@@ -29,3 +30,8 @@ cut len count s = record s { bytes = take len s.bytes; suffixes = take count s.s
 -- with a suffix that was written at a place, unless the place is too far for a pointer (RFC 1035, 4.1.4)
 abbrev pub stored : List (List ℕ) → ℕ → State → State
 stored labels at s = if nat_le 16384 at then s else record s { suffixes = s.suffixes ++ record { labels = labels; offset = at } ∷ [] }
+
+-- the first four bytes as a number, the highest first; 0 where there are fewer
+abbrev pub front_number : List ℕ → ℕ
+front_number (a ∷ b ∷ c ∷ d ∷ rest) = from_be_bytes w32 (a ∷ b ∷ c ∷ d ∷ [])
+front_number bytes = 0

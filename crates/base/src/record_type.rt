@@ -197,6 +197,7 @@ impl From<u16> for RecordType {
     ghost from_gives = { λ number t. t ≡ type_of number };
 
     /// The named type of this number, else `Unknown` (RFC 3597, 2).
+    #[inline(always)]
     fn from(number: u16) -> RecordType {
         match number {
             0 => RecordType::ZERO,

@@ -1,6 +1,6 @@
 //! Reads a name (RFC 1035, 4.1.4).
 
-ghost use Rattle.std.specs.Prelude.{◌≡◌, ℕ, ◌<◌, ◌≤◌, ◌+◌, ◌++◌, [], Ok, Err, length, take, slice_range, IfOk, OnOk, OnErr, IsOkUnless, MatchResult};
+ghost use Rattle.std.specs.Prelude.{◌≡◌, ℕ, ◌<◌, ◌≤◌, ◌+◌, ◌++◌, [], Ok, Err, length, take, slice_range, IfOk, IfSome, OnOk, OnErr, IsOkUnless, MatchResult};
 ghost use Rattle.std.specs.FinSet as set;
 ghost use Rattle.base.specs.Counts.{Counts};
 ghost use Rattle.base.specs.Labels.{IsWire, labels_of};
@@ -157,6 +157,26 @@ fn keep_all(decoder: &mut BinDecoder<'_>, labels: &[u8], passed: &Trail) -> Resu
     Ok(())
 }
 
+/// What a name has that is a pointer alone, to an offset whose labels are kept: bytes that begin with its labels, each with
+/// its length before it, how many bytes these are, and the place behind the name.
+fn kept_name<'d>(decoder: &'d BinDecoder<'_>) -> Option<(&'d [u8], usize, usize)>
+    ensures enough { IfSome result (λ r. r.1 ≤ length r.0.now) }
+    ensures read { IfSome result (λ r. labels_at decoder.now.bytes decoder.now.index decoder.now.index 0 ≡ Ok (labels_of (take r.1 r.0.now), r.2)) }
+    ensures wire { IfSome result (λ r. IsWire (take r.1 r.0.now)) }
+    ensures end { IfSome result (λ r. r.2 ≤ length decoder.now.bytes) }
+    ensures these { IfSome result (λ _. PassesThese decoder.now.bytes decoder.now.kept decoder.now.index []) }
+{
+    let at = decoder.index();
+    let Ok(Part::Pointer(target)) = part_of(decoder.buffer(), at) else {
+        return None;
+    };
+    if usize::from(target) >= at {
+        return None;
+    }
+    let (front, len) = decoder.kept_front(target)?;
+    Some((front, len, at + 2))
+}
+
 impl BinDecodable for Name {
     ghost read_at = { name_at };
 
@@ -174,6 +194,11 @@ impl BinDecodable for Name {
         ensures passes { IfOk result (λ n. (h : Spelled decoder.old.bytes n.labels decoder.old.index decoder.old.index decoder.new.index)
             → decoder.new.kept ≡ set.union decoder.old.kept (set.from_list (passed h))) }
     {
+        if let Some((front, len, behind)) = kept_name(decoder) {
+            let octets = Octets::from_front(decoder.allocator(), front, len, true)?;
+            decoder.move_to(behind);
+            return Ok(Name { octets });
+        }
         let mut room = [0; ROOM];
         let mut passed = Trail::new(decoder.allocator());
         let (used, end) = gather(

@@ -1,6 +1,6 @@
 //! Reads a message's bytes.
 
-ghost use Rattle.std.specs.Prelude.{◌≡◌, ℕ, true, ◌+◌, ◌-◌, ◌^◌, ◌<◌, ◌≤◌, length, min, nat_le, is_some, IfSome, OnOk, OnErr, IsOkUnless};
+ghost use Rattle.std.specs.Prelude.{◌≡◌, ℕ, true, ◌+◌, ◌-◌, ◌^◌, ◌<◌, ◌≤◌, length, min, take, nat_le, is_some, IfSome, OnOk, OnErr, IsOkUnless};
 ghost use Rattle.std.specs.FinSet as set;
 ghost use Rattle.std.specs.Int.{w16, w32};
 ghost use Rattle.base.specs.Counts.{Counts};
@@ -112,9 +112,24 @@ impl<'a> BinDecoder<'a> {
         ensures spelled { IfSome result (λ labels. IsKept self.now.bytes target labels.now) }
         ensures closed { IsClosed self.now.bytes self.now.kept }
     {
+        let (front, len) = self.kept_front(target)?;
+        Some(&front[..len])
+    }
+
+    /// Bytes that begin with those labels, and how many bytes the labels are.
+    pub(crate) fn kept_front(&self, target: u16) -> Option<(&[u8], usize)>
+        ensures is { is_some result ≡ set.contains self.now.kept target }
+        ensures near { (q : ℕ) → set.contains self.now.kept q ≡ true → q < 16384 }
+        ensures enough { IfSome result (λ r. r.1 ≤ length r.0.now) }
+        ensures spelled { IfSome result (λ r. IsKept self.now.bytes target (take r.1 r.0.now)) }
+        ensures closed { IsClosed self.now.bytes self.now.kept }
+    {
         match self.others.find(target) {
-            Some(labels) => Some(labels),
-            None => self.plain.find(self.buffer, target),
+            Some(labels) => Some((labels, labels.len())),
+            None => {
+                let labels = self.plain.find(self.buffer, target)?;
+                Some((&self.buffer[usize::from(target)..], labels.len()))
+            }
         }
     }
 

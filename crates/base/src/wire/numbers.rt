@@ -20,6 +20,7 @@ impl BinEncodable for RecordType {
 
     ghost plain_len = { λ _. 2 };
 
+    #[inline(always)]
     fn emit(&self, encoder: &mut BinEncoder<'_>) -> Result<(), ProtoError> {
         u16::from(*self).emit(encoder)
     }
@@ -30,6 +31,7 @@ impl BinDecodable for RecordType {
 
     /// Reads a type at the decoder's place, and moves behind it. Refused with `InsufficientBytes` where
     /// less than two bytes are left.
+    #[inline(always)]
     fn read(decoder: &mut BinDecoder<'_>) -> Result<RecordType, DecodeError> {
         Ok(RecordType::from(decoder.read_u16()?))
     }

@@ -2,6 +2,7 @@
 
 ghost use Rattle.std.specs.Prelude.{◌≡◌, ◌<◌, ◌↔◌, IfOk, IsTrue};
 ghost use Rattle.base.specs.Labels.{IsLabelRun, wire_of, labels_of, IsWire};
+ghost use Rattle.base.specs.State.{front_number};
 
 use crate::octets::Octets;
 use std::alloc::{AllocError, Global};
@@ -13,18 +14,30 @@ pub struct Suffix {
     /// The labels, each with its length before it.
     labels: Octets,
     offset: u16,
+    /// The first bytes of the labels as a number.
+    front: u32,
+}
+
+/// The first four bytes as a number, by which most labels are told from others; 0 where there are fewer.
+pub(crate) fn front_number(wire: &[u8]) -> u32
+    ensures { result ≡ front_number wire.now }
+{
+    match wire {
+        [highest, high, low, lowest, ..] => u32::from_be_bytes([*highest, *high, *low, *lowest]),
+        _ => 0,
+    }
 }
 
 impl Model for Suffix {
-    ghost use Rattle.std.specs.Prelude.{◌<◌};
-    ghost use Rattle.base.specs.State.{Stored};
+    ghost use Rattle.std.specs.Prelude.{◌≡◌, ◌<◌};
+    ghost use Rattle.base.specs.State.{Stored, front_number};
     ghost use Rattle.base.specs.Labels.{labels_of, IsWire};
 
     ghost Value = { Stored };
 
     ghost view = { λ s. record { labels = labels_of s.labels.items; offset = s.offset } };
 
-    ghost invariant = { λ s. IsWire s.labels.items × (s.offset < 16384) };
+    ghost invariant = { λ s. IsWire s.labels.items × ((s.offset < 16384) × (s.front ≡ front_number s.labels.items)) };
 }
 
 impl Suffix {
@@ -37,6 +50,7 @@ impl Suffix {
         Ok(Suffix {
             labels: Octets::from_slice(alloc, wire, false)?,
             offset,
+            front: front_number(wire),
         })
     }
 
@@ -48,11 +62,12 @@ impl Suffix {
     }
 
     /// Whether the suffix has these labels, each with its length before it, byte for byte.
-    pub(crate) fn is(&self, wire: &[u8]) -> bool
-        requires { IsLabelRun wire.now }
+    pub(crate) fn is(&self, wire: &[u8], front: u32) -> bool
+        requires run { IsLabelRun wire.now }
+        requires front { front ≡ front_number wire.now }
         ensures { IsTrue result ↔ (self.now.labels ≡ labels_of wire.now) }
     {
-        self.labels.as_slice() == wire
+        self.front == front && self.labels.as_slice() == wire
     }
 
     /// The offset.

@@ -4,7 +4,7 @@ ghost use Rattle.std.specs.Prelude.{◌≡◌, ◌≢◌, ◌<◌, ◌++◌, ◌
 ghost use Rattle.base.specs.Labels.{IsLabelRun, labels_of, IsWire};
 
 use crate::error::ProtoError;
-use crate::wire::suffix::Suffix;
+use crate::wire::suffix::{Suffix, front_number};
 use std::alloc::Global;
 use std::collections::BTreeMap;
 use std::marker::Model;
@@ -75,8 +75,9 @@ impl SuffixTable {
             (λ offset. Any (λ t. (t.labels ≡ labels_of wire.now) × (t.offset ≡ offset)) self.now) }
         ensures near { IfSome result (λ offset. offset < 16384) }
     {
+        let front = front_number(wire);
         for suffix in &self.first {
-            if suffix.is(wire) {
+            if suffix.is(wire, front) {
                 return Some(suffix.offset());
             }
         }

@@ -84,7 +84,12 @@ impl TargetTable {
         ensures err { OnErr result (self.new ≡ self.old) }
     {
         let target = usize::from(target);
-        self.kept.reserve(LONGEST)?;
+        let room = if self.kept.is_empty() {
+            LONGEST
+        } else {
+            1 + labels.len()
+        };
+        self.kept.reserve(room)?;
         reach(&mut self.places, target, usize::from(most))?;
         self.kept.push(labels.len() as u8)?;
         self.places[target] = self.kept.len();

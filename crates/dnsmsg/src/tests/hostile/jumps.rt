@@ -12,12 +12,24 @@ const REFUSED: usize = 100_000;
 /// Messages in hexadecimal, with how many pointers are followed in reading them.
 const ROWS: &[(usize, &'static str)] = &[
     (0, "0110 0000 0000 0000 0000 0000"),
-    (1, "1000 8180 0001 0001 0000 0000 03777777 076578616D706C65 03636F6D 00 0001 0001 C00C 0001 0001 00000002 0004 5DB8D70E"),
-    (1, "0009 8180 0001 0001 0000 0000 076578616D706C65 00 000F 0001 C00C 000F 0001 0000012C 0009 000A 046D61696C C00C"),
+    (
+        1,
+        "1000 8180 0001 0001 0000 0000 03777777 076578616D706C65 03636F6D 00 0001 0001 C00C 0001 0001 00000002 0004 5DB8D70E",
+    ),
+    (
+        1,
+        "0009 8180 0001 0001 0000 0000 076578616D706C65 00 000F 0001 C00C 000F 0001 0000012C 0009 000A 046D61696C C00C",
+    ),
     // two pointers to one target, and one through it to another
-    (2, "0007 0100 0004 0000 0000 0000 0161 0162 00 0001 0001 0163 C00E 0001 0001 C015 0001 0001 C015 0001 0001"),
+    (
+        2,
+        "0007 0100 0004 0000 0000 0000 0161 0162 00 0001 0001 0163 C00E 0001 0001 C015 0001 0001 C015 0001 0001",
+    ),
     // target 4 is kept, but the piece begun at 0 points forward to it
-    (REFUSED, "C004 0000 0002 0000 0000 0000 C004 0001 0001 C000 0001 0001"),
+    (
+        REFUSED,
+        "C004 0000 0002 0000 0000 0000 C004 0001 0001 C000 0001 0001",
+    ),
 ];
 
 /// How many pointers are followed in reading a message, whose questions are all the root where that is asked for.
