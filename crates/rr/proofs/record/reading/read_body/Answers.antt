@@ -16,7 +16,7 @@ returns-in_err-ttl-clause-read c =
     let second = c.read_u16.new.self in
     let class = c.in_ok-read_u16.ensures.read in
     rw (p.1, p.2) (ttl_fails c.args.name c.args.record_type at.bytes at.index c.in_ok-read_u16.field-0
-          second.index class.0 second.bytes class.1 c.in_err-ttl.field-0.0 c.in_err-ttl.ensures.read)
+    second.index class.0 second.bytes class.1 c.in_err-ttl.field-0.0 c.in_err-ttl.ensures.read)
 
 pub returns-in_err-len-clause-read : goal.returns-in_err-len-clause-read
 returns-in_err-len-clause-read c =
@@ -27,8 +27,8 @@ returns-in_err-len-clause-read c =
     let class = c.in_ok-read_u16.ensures.read in
     let ttl = c.in_ok-ttl.ensures.read in
     rw (p.1, p.2) (len_fails c.args.name c.args.record_type at.bytes at.index c.in_ok-read_u16.field-0
-          second.index class.0 second.bytes class.1 c.in_ok-ttl.ttl third.index ttl.0 third.bytes ttl.1
-          c.in_err-len.field-0.0 c.in_err-len.ensures.read)
+    second.index class.0 second.bytes class.1 c.in_ok-ttl.ttl third.index ttl.0 third.bytes ttl.1
+    c.in_err-len.field-0.0 c.in_err-len.ensures.read)
 
 pub returns-then-left-from-clause-read : goal.returns-then-left-from-clause-read
 returns-then-left-from-clause-read c =
@@ -41,7 +41,7 @@ returns-then-left-from-clause-read c =
     let len = c.in_ok-len.ensures.read in
     let short : c.len-left.result < c.from-then-left-from.result = omega (arith, c.if-left-from.true, c.from.ensures, c.from-then-left-from.ensures) in
     data_cut c.args.name c.args.record_type at.bytes at.index c.in_ok-read_u16.field-0 second.index class.0 second.bytes class.1 c.in_ok-ttl.ttl third.index ttl.0 third.bytes ttl.1
-          c.in_ok-len.len last.index len.0 last.bytes len.1 c.len-left.result c.from-then-left-from.result c.len-left.ensures c.from-then-left-from.ensures short
+    c.in_ok-len.len last.index len.0 last.bytes len.1 c.len-left.result c.from-then-left-from.result c.len-left.ensures c.from-then-left-from.ensures short
 
 pub returns-in_err-rdata-clause-read : goal.returns-in_err-rdata-clause-read
 returns-in_err-rdata-clause-read c =
@@ -54,9 +54,9 @@ returns-in_err-rdata-clause-read c =
     let ttl = c.in_ok-ttl.ensures.read in
     let len = c.in_ok-len.ensures.read in
     rw (p.1, p.2) (data_fails c.args.name c.args.record_type at.bytes at.index c.in_ok-read_u16.field-0
-          second.index class.0 second.bytes class.1 c.in_ok-ttl.ttl third.index ttl.0 third.bytes ttl.1
-          c.in_ok-len.len last.index len.0 last.bytes len.1 c.len-left.result c.from.result
-          c.len-left.ensures c.from.ensures c.if-left-from.false c.in_err-rdata.field-0.0 c.in_err-rdata.ensures.read)
+    second.index class.0 second.bytes class.1 c.in_ok-ttl.ttl third.index ttl.0 third.bytes ttl.1
+    c.in_ok-len.len last.index len.0 last.bytes len.1 c.len-left.result c.from.result
+    c.len-left.ensures c.from.ensures c.if-left-from.false c.in_err-rdata.field-0.0 c.in_err-rdata.ensures.read)
 
 pub returns-clause-read : goal.returns-clause-read
 returns-clause-read c =
@@ -68,11 +68,10 @@ returns-clause-read c =
     let ttl = c.in_ok-ttl.ensures.read in
     let len = c.in_ok-len.ensures.read in
     let rdata = c.in_ok-rdata.ensures.read in
-    let kind = c.class_of_field-dns_class in
-    (
-        body_read c.args.name c.args.record_type at.bytes at.index c.in_ok-read_u16.field-0 second.index class.0 second.bytes class.1 c.in_ok-ttl.ttl third.index ttl.0 third.bytes ttl.1
-            c.in_ok-len.len last.index len.0 last.bytes len.1 c.len-left.result c.from.result
-            c.len-left.ensures c.from.ensures c.if-left-from.false c.in_ok-rdata.rdata c.read.new.decoder.index rdata.0
-            kind.result.0 kind.result.1 kind.ensures.class kind.ensures.flush,
-        rdata.1 ∙ (len.1 ∙ (ttl.1 ∙ class.1)),
-      )
+    let kind = c.class_of_field-dns_class in (
+      body_read c.args.name c.args.record_type at.bytes at.index c.in_ok-read_u16.field-0 second.index class.0 second.bytes class.1 c.in_ok-ttl.ttl third.index ttl.0 third.bytes ttl.1
+          c.in_ok-len.len last.index len.0 last.bytes len.1 c.len-left.result c.from.result
+          c.len-left.ensures c.from.ensures c.if-left-from.false c.in_ok-rdata.rdata c.read.new.decoder.index rdata.0
+          kind.result.0 kind.result.1 kind.ensures.class kind.ensures.flush,
+      rdata.1 ∙ (len.1 ∙ (ttl.1 ∙ class.1)),
+    )
