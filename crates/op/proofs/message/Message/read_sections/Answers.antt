@@ -17,7 +17,7 @@ returns-in_err-authorities-clause-read c =
     let next = c.read_section.new.decoder in
     let first = c.in_ok-answers.ensures.read in
     rw (p.1, p.2) (authorities_fail c.args.op_code c.args.counts at.bytes at.index c.from.result (section_value c.in_ok-answers.answers) next.index c.from.ensures first.0
-          next.bytes c.from-2.result c.in_err-authorities.field-0.0 first.1 c.from-2.ensures c.in_err-authorities.ensures.read)
+    next.bytes c.from-2.result c.in_err-authorities.field-0.0 first.1 c.from-2.ensures c.in_err-authorities.ensures.read)
 
 pub returns-in_err-additionals-clause-read : goal.returns-in_err-additionals-clause-read
 returns-in_err-additionals-clause-read c =
@@ -28,8 +28,8 @@ returns-in_err-additionals-clause-read c =
     let first = c.in_ok-answers.ensures.read in
     let second = c.in_ok-authorities.ensures.read in
     rw (p.1, p.2) (additionals_fail c.args.op_code c.args.counts at.bytes at.index c.from.result (section_value c.in_ok-answers.answers) next.index c.from.ensures first.0
-          next.bytes c.from-2.result (section_value c.in_ok-authorities.authorities) last.index first.1 c.from-2.ensures second.0
-          last.bytes c.from-3.result c.in_err-additionals.field-0.0 second.1 c.from-3.ensures c.in_err-additionals.ensures.read)
+    next.bytes c.from-2.result (section_value c.in_ok-authorities.authorities) last.index first.1 c.from-2.ensures second.0
+    last.bytes c.from-3.result c.in_err-additionals.field-0.0 second.1 c.from-3.ensures c.in_err-additionals.ensures.read)
 
 pub returns-clause-read : goal.returns-clause-read
 returns-clause-read c =
@@ -38,10 +38,9 @@ returns-clause-read c =
     let last = c.read_section-2.new.decoder in
     let first = c.in_ok-answers.ensures.read in
     let second = c.in_ok-authorities.ensures.read in
-    let third = c.in_ok-additionals.ensures.read in
-    (
-        sections_read c.args.op_code c.args.counts at.bytes at.index c.from.result (section_value c.in_ok-answers.answers) next.index c.from.ensures first.0
-            next.bytes c.from-2.result (section_value c.in_ok-authorities.authorities) last.index first.1 c.from-2.ensures second.0
-            last.bytes c.from-3.result (section_value c.in_ok-additionals.additionals) c.read_section-3.new.decoder.index second.1 c.from-3.ensures third.0,
-        third.1 ∙ (second.1 ∙ first.1),
-      )
+    let third = c.in_ok-additionals.ensures.read in (
+      sections_read c.args.op_code c.args.counts at.bytes at.index c.from.result (section_value c.in_ok-answers.answers) next.index c.from.ensures first.0
+          next.bytes c.from-2.result (section_value c.in_ok-authorities.authorities) last.index first.1 c.from-2.ensures second.0
+          last.bytes c.from-3.result (section_value c.in_ok-additionals.additionals) c.read_section-3.new.decoder.index second.1 c.from-3.ensures third.0,
+      third.1 ∙ (second.1 ∙ first.1),
+    )
