@@ -19,81 +19,49 @@ use Rattle.base_data.specs.declared.rdata.RData.{RData}
 use Rattle.rr.specs.Record.{body_at, class_value, flush_value, is_opt_type, record_at}
 use Rattle.rr.specs.declared.record.Record.{Record}
 
--- what is read over the same bytes
-number_same : (w : Width) (again B : List ℕ) (i : ℕ) (r : Read ℕ) → again ≡ B → number_at w again i ≡ r → number_at w B i ≡ r
-number_same w again B i r same is = subst (λ (bytes : List ℕ). number_at w bytes i ≡ r) same is
+-- ---- what comes behind the type, field by field, over one buffer
 
--- ---- what comes behind the type, field by field
+-- a clause over the bytes that a decoder holds is one over the buffer
+pub over : {again B : List ℕ} (P : List ℕ → Type 0) → again ≡ B → P again → P B
+over P same holds = subst P same holds
 
 pub class_fails : (owner : NameValue) (type : RecordType) (B : List ℕ) (i : ℕ) (f : DecodeError) → Fails f (number_at w16 B i) → Fails f (body_at owner type B i)
 unfolding body_at
 class_fails owner type B i f fails = Fails-through f (number_at w16 B i) (body_at owner type B i) (λ no. rw no refl) fails
 
-module _ (owner : NameValue) (type : RecordType) (B : List ℕ) (i class ttl_at : ℕ) (class_is : number_at w16 B i ≡ Ok (class, ttl_at)) (second : List ℕ) (same : second ≡ B) where
-  pub ttl_fails : (f : DecodeError) → Fails f (number_at w32 second ttl_at) → Fails f (body_at owner type B i)
+module _ (owner : NameValue) (type : RecordType) (B : List ℕ) (i : ℕ) {class j : ℕ} (class_is : number_at w16 B i ≡ Ok (class, j)) where
+  pub ttl_fails : (f : DecodeError) → Fails f (number_at w32 B j) → Fails f (body_at owner type B i)
   unfolding body_at
-  ttl_fails f fails = Fails-through f (number_at w32 second ttl_at) (body_at owner type B i) (λ no. rw (class_is, number_same w32 second B ttl_at (Err f) same no) refl) fails
+  ttl_fails f fails = Fails-through f (number_at w32 B j) (body_at owner type B i) (λ no. rw (class_is, no) refl) fails
 
-  module _ (ttl len_at : ℕ) (ttl_is : number_at w32 second ttl_at ≡ Ok (ttl, len_at)) (third : List ℕ) (same_again : third ≡ second) where
-    pub len_fails : (f : DecodeError) → Fails f (number_at w16 third len_at) → Fails f (body_at owner type B i)
+  module _ {ttl k : ℕ} (ttl_is : number_at w32 B j ≡ Ok (ttl, k)) where
+    pub len_fails : (f : DecodeError) → Fails f (number_at w16 B k) → Fails f (body_at owner type B i)
     unfolding body_at
-    len_fails f fails =
-        Fails-through f (number_at w16 third len_at) (body_at owner type B i) (λ no. rw (
-          class_is,
-          number_same w32 second B ttl_at (Ok (ttl, len_at)) same ttl_is,
-          number_same w16 third B len_at (Err f) (same_again ∙ same) no,
-        ) refl) fails
+    len_fails f fails = Fails-through f (number_at w16 B k) (body_at owner type B i) (λ no. rw (class_is, ttl_is, no) refl) fails
 
-    module _ (len data_at : ℕ) (len_is : number_at w16 third len_at ≡ Ok (len, data_at)) (last : List ℕ)
-        (same_last : last ≡ third) (left asked : ℕ) (left_is : left ≡ length last - data_at) (asked_is : asked ≡ len) where
-      same_bytes : last ≡ B
-      same_bytes = same_last ∙ (same_again ∙ same)
-
-      pub data_cut : left < asked → body_at owner type B i ≡ Err (faults.IncorrectRDataLengthRead left asked)
+    module _ {len l : ℕ} (len_is : number_at w16 B k ≡ Ok (len, l)) where
+      pub data_cut : {left asked : ℕ} → left ≡ length B - l → asked ≡ len → left < asked → body_at owner type B i ≡ Err (faults.IncorrectRDataLengthRead left asked)
       unfolding body_at
-      data_cut short =
-          let left_in : left ≡ length B - data_at = left_is ∙ ap (λ (bytes : List ℕ). length bytes - data_at) same_bytes in
-          let test : nat_lt (length B) (data_at + len) ≡ true = lt-ltb (length B) (data_at + len) (omega (arith, short, left_in, asked_is)) in
-          rw (
-            class_is,
-            number_same w32 second B ttl_at (Ok (ttl, len_at)) same ttl_is,
-            number_same w16 third B len_at (Ok (len, data_at)) (same_again ∙ same) len_is,
-            test,
-            left_in,
-            asked_is,
-          ) refl
+      data_cut left_is asked_is short =
+          let test : nat_lt (length B) (l + len) ≡ true = lt-ltb (length B) (l + len) (omega (arith, short, left_is, asked_is)) in
+          rw (class_is, ttl_is, len_is, test, left_is, asked_is) refl
 
-      room : asked ≤ left → nat_lt (length B) (data_at + len) ≡ false
-      room fits =
-          let left_in : left ≡ length B - data_at = left_is ∙ ap (λ (bytes : List ℕ). length bytes - data_at) same_bytes in
-          let counted = number_is w16 third len_at (len, data_at) len_is in
-          let inside : data_at ≤ length B = omega (arith, counted.behind, counted.stands.inside, ap length (same_again ∙ same)) in
-          le-ltb (length B) (data_at + len) (omega (arith, fits, left_in, asked_is, inside))
+      -- the data has room where as many bytes are left
+      pub room : {left asked : ℕ} → left ≡ length B - l → asked ≡ len → asked ≤ left → nat_lt (length B) (l + len) ≡ false
+      room left_is asked_is fits =
+          let counted = number_is w16 B k (len, l) len_is in
+          let inside : l ≤ length B = omega (arith, counted.behind, counted.stands.inside) in
+          le-ltb (length B) (l + len) (omega (arith, fits, left_is, asked_is, inside))
 
-      pub data_fails : asked ≤ left → (f : DecodeError) → Fails f (rdata_at type len last data_at) → Fails f (body_at owner type B i)
+      pub data_fails : nat_lt (length B) (l + len) ≡ false → (f : DecodeError) → Fails f (rdata_at type len B l) → Fails f (body_at owner type B i)
       unfolding body_at
-      data_fails fits f fails =
-          Fails-through f (rdata_at type len last data_at) (body_at owner type B i) (λ no. rw (
-            class_is,
-            number_same w32 second B ttl_at (Ok (ttl, len_at)) same ttl_is,
-            number_same w16 third B len_at (Ok (len, data_at)) (same_again ∙ same) len_is,
-            room fits,
-            subst (λ (bytes : List ℕ). rdata_at type len bytes data_at ≡ Err f) same_bytes no,
-          ) refl) fails
+      data_fails fits f fails = Fails-through f (rdata_at type len B l) (body_at owner type B i) (λ no. rw (class_is, ttl_is, len_is, fits, no) refl) fails
 
-      pub body_read : asked ≤ left → (rdata : RData) (end : ℕ) → rdata_at type len last data_at ≡ Ok (rdata, end)
-          → (dns_class : DNSClass) (flush : Bool) → dns_class ≡ class_value type class → flush ≡ flush_value type class
+      pub body_read : {rdata : RData} {end : ℕ} {dns_class : DNSClass} {flush : Bool} → nat_lt (length B) (l + len) ≡ false → rdata_at type len B l ≡ Ok (rdata, end)
+          → dns_class ≡ class_value type class → flush ≡ flush_value type class
           → body_at owner type B i ≡ Ok (record { name = owner; dns_class = dns_class; ttl = ttl; rdata = rdata; mdns_cache_flush = flush }, end)
       unfolding body_at
-      body_read fits rdata end rdata_is dns_class flush dns_class_is flush_is = rw (
-        class_is,
-        number_same w32 second B ttl_at (Ok (ttl, len_at)) same ttl_is,
-        number_same w16 third B len_at (Ok (len, data_at)) (same_again ∙ same) len_is,
-        room fits,
-        subst (λ (bytes : List ℕ). rdata_at type len bytes data_at ≡ Ok (rdata, end)) same_bytes rdata_is,
-        dns_class_is,
-        flush_is,
-      ) refl
+      body_read fits rdata_is dns_class_is flush_is = rw (class_is, ttl_is, len_is, fits, rdata_is, dns_class_is, flush_is) refl
 
 -- ---- the record
 

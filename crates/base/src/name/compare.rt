@@ -178,7 +178,8 @@ fn cmp_label(left: &[u8], right: &[u8]) -> Ordering
 fn cmp_labels(left: &[u8], right: &[u8]) -> Option<Ordering>
     requires left { IsLabelRun left.now }
     requires right { IsLabelRun right.now }
-    ensures some { IfSome result (λ order. (length (labels_of left.now) ≡ length (labels_of right.now)) × (order ≡ labels_cmp (folded_labels (labels_of left.now)) (folded_labels (labels_of right.now)))) }
+    ensures some { IfSome result (λ order. (length (labels_of left.now) ≡ length (labels_of right.now))
+        × (order ≡ labels_cmp (folded_labels (labels_of left.now)) (folded_labels (labels_of right.now)))) }
     ensures none { IfNone result (length (labels_of left.now) ≢ length (labels_of right.now)) }
 {
     let mut order = Ordering::Equal;

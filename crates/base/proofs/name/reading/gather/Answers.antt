@@ -168,7 +168,8 @@ returns-in-Some-clause-kept c =
     (omega (arith, ap length copied, c.parts.invariant.gathers.len, length-take used room)) in
     let whole = next ∙ ap (λ (xs : List ℕ). take used room ++ xs) copied in
     All-weaker _ (Ends c.args.buffer.now _)
-    (λ p tail. Tail-kept {start = c.parts.start} {used = used} is (omega arith) (kept_is _ _ _ _ bytes c.in-Some.ensures.spelled) (omega arith) whole (omega (arith, c.parts.invariant.gathers.len)) tail)
+    (λ p tail. Tail-kept {start = c.parts.start} {used = used} is (omega arith) (kept_is _ _ _ _ bytes c.in-Some.ensures.spelled) (omega arith) whole
+    (omega (arith, c.parts.invariant.gathers.len)) tail)
     c.parts.passed c.parts.invariant.tails
 
 pub returns-in-Root-clause-kept : goal.returns-in-Root-clause-kept

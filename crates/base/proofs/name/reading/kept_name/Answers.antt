@@ -23,7 +23,8 @@ returns-clause-read c =
     let old = c.args.decoder.now in
     let labels = take c.in_ok-front.len c.in_ok-front.front.now in
     let kept : IsKept old.bytes c.in-Ok-Pointer.target labels = c.in_ok-front.ensures.spelled in
-    let is = there old.bytes c.buffer.result.now old.index c.index-at.result c.in-Ok-Pointer.target c.buffer.ensures c.index-at.ensures.value (c.in-Ok-Pointer.ensures.value ∙ ap found c.in-Ok-Pointer.field-0-is) in
+    let is = there old.bytes c.buffer.result.now old.index c.index-at.result c.in-Ok-Pointer.target c.buffer.ensures c.index-at.ensures.value
+    (c.in-Ok-Pointer.ensures.value ∙ ap found c.in-Ok-Pointer.field-0-is) in
     let gathers = gathers_none old.bytes old.index 0 (omega (arith, c.index-at.ensures.value, c.index-at.ensures.inside)) (omega arith) in
     let below : c.in-Ok-Pointer.target < old.index = omega (arith, c.from.ensures, c.if-from-at.false, c.index-at.ensures.value) in
     at_kept gathers is below kept (omega (arith, kept.wire.short))
@@ -33,7 +34,8 @@ pub returns-clause-end : goal.returns-clause-end
 returns-clause-end c =
     let old = c.args.decoder.now in
     let labels = take c.in_ok-front.len c.in_ok-front.front.now in
-    let is = there old.bytes c.buffer.result.now old.index c.index-at.result c.in-Ok-Pointer.target c.buffer.ensures c.index-at.ensures.value (c.in-Ok-Pointer.ensures.value ∙ ap found c.in-Ok-Pointer.field-0-is) in
+    let is = there old.bytes c.buffer.result.now old.index c.index-at.result c.in-Ok-Pointer.target c.buffer.ensures c.index-at.ensures.value
+    (c.in-Ok-Pointer.ensures.value ∙ ap found c.in-Ok-Pointer.field-0-is) in
     let gathers = gathers_none old.bytes old.index 0 (omega (arith, c.index-at.ensures.value, c.index-at.ensures.inside)) (omega arith) in
     let below : c.in-Ok-Pointer.target < old.index = omega (arith, c.from.ensures, c.if-from-at.false, c.index-at.ensures.value) in
     let inside = kept_end gathers is below c.in_ok-front.ensures.spelled in
@@ -42,6 +44,7 @@ returns-clause-end c =
 pub returns-clause-these : goal.returns-clause-these
 returns-clause-these c =
     let old = c.args.decoder.now in
-    let is = there old.bytes c.buffer.result.now old.index c.index-at.result c.in-Ok-Pointer.target c.buffer.ensures c.index-at.ensures.value (c.in-Ok-Pointer.ensures.value ∙ ap found c.in-Ok-Pointer.field-0-is) in
+    let is = there old.bytes c.buffer.result.now old.index c.index-at.result c.in-Ok-Pointer.target c.buffer.ensures c.index-at.ensures.value
+    (c.in-Ok-Pointer.ensures.value ∙ ap found c.in-Ok-Pointer.field-0-is) in
     Leads-kept (Leads-none old.bytes old.index) old.kept is
     (sym c.in_ok-front.ensures.is) c.kept_front.ensures.closed

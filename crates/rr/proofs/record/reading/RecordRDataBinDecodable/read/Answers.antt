@@ -29,7 +29,7 @@ returns-then-not-is_root-clause-read c =
     let type = c.in_ok-record_type.ensures.read in
     let labelled = not_root at.bytes at.index c.in_ok-name.name next.index c.is_root.result name.0 c.is_root.ensures c.if-not-is_root.true in
     wrong_owner at.bytes at.index c.in_ok-name.name next.index name.0 next.bytes name.1
-          c.in_ok-record_type.record_type c.read-2.new.decoder.index type.0 (sym c.is_opt.ensures ∙ c.if-is_opt.true) labelled
+    c.in_ok-record_type.record_type c.read-2.new.decoder.index type.0 (sym c.is_opt.ensures ∙ c.if-is_opt.true) labelled
 
 pub returns-clause-read : goal.returns-clause-read
 returns-clause-read c =
@@ -46,4 +46,4 @@ returns-clause-read c =
     ] in
     let same = type.1 ∙ name.1 in
     record_read at.bytes at.index owner next.index name.0 next.bytes name.1 kind last.index type.0 at last c.read_body.new.decoder c.read_body.result same
-          (subst (λ (bytes : List ℕ). Reads (λ x. x) last c.read_body.new.decoder c.read_body.result (body_at owner kind bytes last.index)) same c.read_body.ensures.read) is
+    (subst (λ (bytes : List ℕ). Reads (λ x. x) last c.read_body.new.decoder c.read_body.result (body_at owner kind bytes last.index)) same c.read_body.ensures.read) is
