@@ -1,9 +1,9 @@
 -- What the names that are spelled at offsets pass.
-use Rattle.std.proofs.Common.{◌≡◌, ℕ, zero, suc, ◌+◌, ◌-◌, ◌<◌, ◌≤◌, List, [], ◌∷◌, ◌++◌, length, drop, Bool, true, false, Ok, Result, refl, ap, sym, ◌∙◌, subst, arith, append_assoc, inl, inr}
-use Rattle.std.specs.Prelude.{Option, Some, None, get_or, nat_eq, map, ◌||◌}
+use Rattle.std.proofs.Common.{◌≡◌, ℕ, zero, suc, ◌+◌, ◌<◌, List, [], ◌∷◌, ◌++◌, length, drop, Bool, true, false, Ok, Result, refl, ap, sym, ◌∙◌, subst, arith, append_assoc}
+use Rattle.std.specs.Prelude.{Option, Some, None, get_or, nat_eq, ◌||◌}
 use Rattle.std.specs.FinSet as set
 use Rattle.std.specs.Ordering.{nat_cmp}
-use Rattle.std.proofs.lemmas.Bool.{cases_Bool, eqb-true, false≢true}
+use Rattle.std.proofs.lemmas.Bool.{eqb-true, false≢true}
 use Rattle.std.proofs.lemmas.List.{append-nil, map_push}
 use Rattle.std.proofs.lemmas.List.Folds.{list_any-append}
 use Rattle.base.specs.declared.error.decode_error.DecodeError.{DecodeError}
@@ -11,7 +11,7 @@ use Rattle.base.specs.declared.name.trail.Passed.{Passed}
 use Rattle.base.specs.Kept.{AreKept, ArePlain, targets_of}
 use Rattle.base.specs.Names.{NamePart, zero_byte, label_of, pointer_to, part_at}
 use Rattle.base.specs.Passed.{PassLater, PassesThese, targets}
-use Rattle.base.specs.Passing.{AreIn, IsClosed, PassesKept, among, inserted, passed}
+use Rattle.base.specs.Passing.{IsClosed, PassesKept, among, inserted, passed}
 use Rattle.base.specs.Spelling.{Spelled, ends, label, pointer, target}
 use Rattle.base.proofs.CountLemmas.{contains-inserted, contains-one_more, same_members}
 use Rattle.base.proofs.WalkLemmas.{part_at-label, part_at-pointer, part_at-root}

@@ -1,9 +1,10 @@
 -- The labels that a table keeps by offset, where more are kept.
-use Rattle.std.proofs.Common.{◌≡◌, ◌≢◌, ℕ, zero, suc, ◌+◌, ◌-◌, ◌<◌, ◌≤◌, List, [], ◌∷◌, ◌++◌, length, take, drop, Option, Some, None, Bool, true, false, refl, ap, sym, ◌∙◌, subst, arith, length-append, length-drop, inl, inr}
-use Rattle.std.specs.Prelude.{All, get_or, map, nat_eq, nat_lt, replicate, ◌==◌, if◌then◌else◌}
-use Rattle.std.specs.List.{slice_range, list_any}
+use Rattle.std.proofs.Common.{◌≡◌, ◌≢◌, ℕ, zero, suc, ◌+◌, ◌-◌, ◌<◌, ◌≤◌, List, [], ◌∷◌, ◌++◌, length, take, drop}
+use Rattle.std.proofs.Common.{Some, None, refl, ap, sym, ◌∙◌, subst, arith, length-append, length-drop, inl, inr}
+use Rattle.std.specs.Prelude.{All, get_or, map, nat_eq, nat_lt, replicate, ◌==◌}
+use Rattle.std.specs.List.{slice_range}
 use Rattle.std.proofs.lemmas.Bool.{cases_Bool, cond-false, eqb-true, eqb-false, eq-eqb, ne_eqb, false≢true, ltb-true, ltb-false}
-use Rattle.std.proofs.lemmas.List.{drop-append-le, take-append-le, take_all, drop_all, drop-drop, get_or_append_left, get_or-append_right, get_or-replicate, get_or_past, get_or_default}
+use Rattle.std.proofs.lemmas.List.{drop-append-le, take-append-le, take_all, drop_all, drop-drop, get_or_append_left, get_or-append_right, get_or_past, get_or_default}
 use Rattle.base.specs.Targets.{len_at, labels_in, IsInside}
 
 -- ---- a place whose labels are there keeps them, where more is kept behind

@@ -1,5 +1,4 @@
 -- What reading a name finds at a place.
-use Rattle.std.specs.Prelude.{ℕ}
 use Rattle.base.specs.declared.name.reading.Part.{Part}
 use Rattle.base.specs.declared.name.reading.Part.TheVariants.{Root, Label, Pointer}
 use Rattle.base.specs.Names.{NamePart, zero_byte, label_of, pointer_to}

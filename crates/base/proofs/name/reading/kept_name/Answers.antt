@@ -1,4 +1,4 @@
-use Rattle.std.proofs.Common.{◌≡◌, ◌∙◌, ℕ, ◌+◌, ◌<◌, List, [], None, Ok, Result, length, take, ap, sym, subst, arith}
+use Rattle.std.proofs.Common.{◌≡◌, ◌∙◌, ℕ, ◌+◌, ◌<◌, List, Ok, Result, take, ap, sym, subst, arith}
 use Rattle.base.specs.Kept.{IsKept}
 use Rattle.base.specs.Labels.{labels_of}
 use Rattle.base.specs.Names.{NamePart, part_at, pointer_to}

@@ -1,5 +1,5 @@
-use Rattle.std.proofs.Common.{rules, ◌≡◌, ℕ, List, ◌∙◌, ◌++◌, ap, arith}
-use Rattle.std.specs.Prelude.{get_or, replicate}
+use Rattle.std.proofs.Common.{ℕ, List, ◌∙◌, ap, arith}
+use Rattle.std.specs.Prelude.{get_or}
 use Rattle.base.proofs.TargetLemmas.{zeros_behind}
 use Rattle.base.proofs.wire.target_table.reach.Goals as goal
 

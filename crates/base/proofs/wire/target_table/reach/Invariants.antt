@@ -1,4 +1,4 @@
-use Rattle.std.proofs.Common.{◌≡◌, ℕ, ◌<◌, ◌≤◌, length, get_or, ◌+◌, ◌-◌}
+use Rattle.std.proofs.Common.{◌≡◌, ℕ, ◌≤◌, length, get_or, ◌+◌, ◌-◌}
 use Rattle.std.specs.Vec.{vec_capacity}
 use Rattle.base.proofs.wire.target_table.reach.Given as goal
 

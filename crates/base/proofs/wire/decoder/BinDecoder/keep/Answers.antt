@@ -1,11 +1,10 @@
-use Rattle.std.proofs.Common.{refl, ◌≡◌, ◌≢◌, ℕ, true, ◌+◌, ◌++◌, ◌∷◌, [], None, Some, List, length, sym, ap, ◌∙◌, subst, arith}
-use Rattle.std.specs.Prelude.{All, get_or, Option}
+use Rattle.std.proofs.Common.{refl, ◌≡◌, ℕ, ◌++◌, ◌∷◌, [], List, length, sym, ap, ◌∙◌, subst}
+use Rattle.std.specs.Prelude.{All}
 use Rattle.std.specs.FinSet as set
-use Rattle.std.specs.List.{slice_range}
 use Rattle.std.specs.Ordering.{nat_cmp}
 use Rattle.std.proofs.lemmas.List.Elements.{All-same, All-push}
 use Rattle.base.specs.declared.wire.plain.Plain.{Plain}
-use Rattle.base.specs.Kept.{AreKept, IsKept, IsPlain, targets_of}
+use Rattle.base.specs.Kept.{IsKept, IsPlain, targets_of}
 use Rattle.base.specs.Passing.{IsClosed, PassesKept}
 use Rattle.base.specs.Reader.{Reader}
 use Rattle.base.proofs.CountLemmas.{kept_are, kept_inserted, plain_inserted}
