@@ -1,6 +1,7 @@
 -- Labels in lower case, and the order of labels from the last on.
 use Rattle.std.proofs.Common.{◌≡◌, ℕ, zero, suc, ◌+◌, ◌-◌, ◌≤◌, ◌⊎◌, inl, inr, List, [], ◌∷◌, ◌++◌}
-use Rattle.std.proofs.Common.{length, map, reverse, take, drop, refl, ap, sym, ◌∙◌, arith, Bool, true, length-append, length-drop}
+use Rattle.std.proofs.Common.{length, map, reverse, take, drop, refl, ap, sym, ◌∙◌, arith, Bool, true, length-append, length-drop, min, subst}
+use Rattle.std.proofs.Math.Nat.{min-le_left, min-le_right, min-eq_left, min-eq_right}
 use Rattle.std.proofs.lemmas.Bool.Decides.{nat_tests}
 use Rattle.std.specs.declared.cmp.Ordering.{Ordering}
 use Rattle.std.specs.declared.cmp.Ordering.TheVariants.{Less, Equal, Greater}
@@ -173,6 +174,26 @@ ended_folded xs ys one =
     ended nat_cmp (map to_ascii_lowercase xs) (map to_ascii_lowercase ys)
     (elim one [ inl none ↦ inl (length-map xs to_ascii_lowercase ∙ none) | inr none ↦ inr (length-map ys to_ascii_lowercase ∙ none) ])
     ∙ ap (λ (n : ℕ). nat_cmp n (length (map to_ascii_lowercase ys))) (length-map xs to_ascii_lowercase) ∙ ap (nat_cmp (length xs)) (length-map ys to_ascii_lowercase)
+
+-- as many bytes less on either side
+cmp_less : (m n i : ℕ) → i ≤ m → i ≤ n → nat_cmp (m - i) (n - i) ≡ nat_cmp m n
+cmp_less m n i in_m in_n = grind (arith, nat_tests)
+
+-- at the shorter length one of two lists has ended
+shorter_ended : (m n i : ℕ) → i ≡ min m n → m - i ≡ 0 ⊎ n - i ≡ 0
+shorter_ended m n i is = elim (one_ended m n) [ inl below ↦ inl (omega (arith, below, is ∙ min-eq_left (omega (arith, below)))) | inr above ↦ inr (omega (arith, is ∙ min-eq_right (omega (arith, above)))) ]
+
+-- where the shorter list has ended, the longer is the greater
+pub ended_behind : (xs ys : List ℕ) (i : ℕ) → i ≡ min (length xs) (length ys)
+    → slice_cmp nat_cmp (map to_ascii_lowercase (drop i xs)) (map to_ascii_lowercase (drop i ys)) ≡ nat_cmp (length xs) (length ys)
+ended_behind xs ys i is =
+    let m = length xs in
+    let n = length ys in
+    let one : length (drop i xs) ≡ 0 ⊎ length (drop i ys) ≡ 0 =
+    elim (shorter_ended m n i is) [ inl none ↦ inl (length-drop i xs ∙ none) | inr none ↦ inr (length-drop i ys ∙ none) ] in
+    ended_folded (drop i xs) (drop i ys) one
+    ∙ ap (λ (k : ℕ). nat_cmp k (length (drop i ys))) (length-drop i xs) ∙ ap (nat_cmp (m - i)) (length-drop i ys)
+    ∙ cmp_less m n i (subst (λ (k : ℕ). k ≤ m) (sym is) (min-le_left m n)) (subst (λ (k : ℕ). k ≤ n) (sym is) (min-le_right m n))
 
 -- one more label from the left
 pub labels_cmp-step : {us vs : List (List ℕ)} {x y : List ℕ} {xs ys : List (List ℕ)} {label next : Ordering} (order : Ordering) → us ≡ x ∷ xs → vs ≡ y ∷ ys → length xs ≡ length ys

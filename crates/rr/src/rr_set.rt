@@ -155,6 +155,8 @@ impl TryFrom<Record> for RecordSet {
         let name = entry.name.clone()?;
         let mut set = RecordSet::with_ttl(name.allocator(), name, entry.record_type(), entry.ttl);
         set.dns_class = entry.dns_class;
+        // Most sets stay with one record.
+        set.records.reserve_exact(1)?;
         set.records.push(entry)?;
         Ok(set)
     }

@@ -4,8 +4,7 @@ use Rattle.std.proofs.lemmas.List.{append-nil}
 use Rattle.std.proofs.lemmas.Map.{lookup-none}
 use Rattle.std.proofs.lemmas.Map.Entries.{lookup_tail, none_below_head, none_past_head}
 use Rattle.std.proofs.lemmas.Map.Keys.{IsDistinct-from_sorted, sorted_tail}
-use Rattle.std.proofs.lemmas.Map.Made.{update_all_none}
-use Rattle.std.specs.BTreeMap.{BTreeMap, InsertsAll, IsFromIterResult, get, insert_entry, is_at}
+use Rattle.std.specs.BTreeMap.{insert_entry, is_at}
 use Rattle.std.specs.Cmp.{IsEquivalence, eq_by_cmp_equiv, tied_itself}
 use Rattle.std.specs.List.{AllByRecursion, slice_get}
 use Rattle.std.specs.List.Sorted.{IsStrictlySortedBy}
@@ -202,40 +201,44 @@ pub kept_last : (es fs : ZoneSets) (e : RrKey × SetValue) → AreKept (es ++ (f
 kept_last es fs e kept = (kept_back (es ++ fs) (e ∷ []) (subst AreKept (whole_of es fs e) kept)).0
 
 -- ---- a run that goes into a map
-laws : IsEquivalence (eq_by_cmp key_cmp)
-laws = eq_by_cmp_equiv key_cmp-total
+-- a set goes between those below it and those above it
+pub put_between : (es fs : ZoneSets) (key : RrKey) (set : SetValue) → AreInOrder (es ++ (key, set) ∷ fs) → insert_entry key_cmp (es ++ fs) key set ≡ es ++ (key, set) ∷ fs
+unfolding IsStrictlySortedBy
+put_between [] [] key set order = refl
+put_between [] (f ∷ fs) key set order = rw order.0.0 refl
+put_between (e ∷ es) fs key set order =
+    let above : key_cmp key e.0 ≡ Greater = flipped e.0 key (back_keys (λ k. key_cmp e.0 k ≡ Less) es ((key, set) ∷ fs) order.0).0 in
+    rw above (ap (λ (zs : ZoneSets). e ∷ zs) (put_between es fs key set order.1))
 
-found_first : (e : RrKey × SetValue) (es : ZoneSets) → set_at (e ∷ es) e.0 ≡ Some e.1
-found_first e es = let own : key_cmp e.0 e.0 ≡ Equal = tied_itself key_cmp-total e.0 in rw own refl
+-- the keys that are left where some are taken out
+keys_without : (P : RrKey → Type 0) (es ms fs : ZoneSets) → AllByRecursion P (keys_of (es ++ (ms ++ fs))) → AllByRecursion P (keys_of (es ++ fs))
+keys_without P [] ms fs h = back_keys P ms fs h
+keys_without P (e ∷ es) ms fs h = (h.0, keys_without P es ms fs h.1)
 
--- sets in order that have the same at each key are the same
-same_sets : (es fs : ZoneSets) → AreInOrder es → AreInOrder fs → ((q : RrKey) → set_at es q ≡ set_at fs q) → es ≡ fs
-same_sets [] [] s t h = refl
-same_sets [] (f ∷ fs) s t h = let no : None ≡ Some f.1 = h f.0 ∙ found_first f fs in absurd cc
-same_sets (e ∷ es) [] s t h = let no : Some e.1 ≡ None = sym (found_first e es) ∙ h e.0 in absurd cc
-same_sets (e ∷ es) (f ∷ fs) s t h =
-    go (key_cmp e.0 f.0) refl (same_sets es fs (sorted_tail key_cmp e.0 (keys_of es) s) (sorted_tail key_cmp f.0 (keys_of fs) t)) where
-      below : (x y : RrKey × SetValue) (ys : ZoneSets) → AreInOrder (y ∷ ys) → key_cmp x.0 y.0 ≡ Less → set_at (y ∷ ys) x.0 ≡ None
-      below x y ys o less = lookup-none (is_at (key_cmp x.0)) (y ∷ ys) (none_below_head key_cmp-total x.0 y ys o less)
+order_without : (es ms fs : ZoneSets) → AreInOrder (es ++ (ms ++ fs)) → AreInOrder (es ++ fs)
+unfolding IsStrictlySortedBy
+order_without [] ms fs h = order_back ms fs h
+order_without (e ∷ es) ms fs h = (keys_without (λ k. key_cmp e.0 k ≡ Less) es ms fs h.0, order_without es ms fs h.1)
 
-      later : e.0 ≡ f.0 → e.1 ≡ f.1 → (q : RrKey) → set_at es q ≡ set_at fs q
-      later k v q = by_test (is_eq (key_cmp q e.0)) refl where
-        by_test : (b : Bool) → is_eq (key_cmp q e.0) ≡ b → set_at es q ≡ set_at fs q
-        by_test true is =
-            lookup-none (is_at (key_cmp q)) es (none_past_head laws q e es (IsDistinct-from_sorted key_cmp (keys_of (e ∷ es)) s) is)
-            ∙ sym (lookup-none (is_at (key_cmp q)) fs (none_past_head laws q f fs (IsDistinct-from_sorted key_cmp (keys_of (f ∷ fs)) t) (subst (λ (x : RrKey). is_eq (key_cmp q x) ≡ true) k is)))
-        by_test false is =
-            sym (lookup_tail (is_at (key_cmp q)) e es is) ∙ h q ∙ lookup_tail (is_at (key_cmp q)) f fs (subst (λ (x : RrKey). is_eq (key_cmp q x) ≡ false) k is)
+-- Of a run that stood behind these sets, those left are still before those that were put into the map.
+pub record AreBetween (sets run whole left : ZoneSets) : Type 0 where
+  pub put : ZoneSets
+  pub all : left ++ put ≡ run
+  pub have : whole ≡ sets ++ put
 
-      go : (o : Ordering) → key_cmp e.0 f.0 ≡ o → (((q : RrKey) → set_at es q ≡ set_at fs q) → es ≡ fs) → (e ∷ es) ≡ (f ∷ fs)
-      go Less is again = let no : Some e.1 ≡ None = sym (found_first e es) ∙ h e.0 ∙ below e f fs t is in absurd cc
-      go Greater is again = let no : Some f.1 ≡ None = sym (found_first f fs) ∙ sym (h f.0) ∙ below f e es s (flipped_back e.0 f.0 is) in absurd cc
-      go Equal is again =
-          let k : e.0 ≡ f.0 = key_cmp-exact e.0 f.0 is in
-          let v : Some e.1 ≡ Some f.1 = sym (found_first e es) ∙ h e.0 ∙ ap (set_at (f ∷ fs)) k ∙ found_first f fs in
-          let w : e.1 ≡ f.1 = cc in
-          let rest : es ≡ fs = again (later k w) in
-          ap (λ (x : RrKey). (x, e.1) ∷ es) k ∙ ap (λ (x : SetValue). (f.0, x) ∷ es) w ∙ ap (λ (xs : ZoneSets). f ∷ xs) rest
+pub one_more_put : {sets run whole left : ZoneSets} (e : RrKey × SetValue) (rest more : ZoneSets) → AreInOrder (sets ++ run) → AreBetween sets run whole left
+    → left ≡ rest ++ e ∷ [] → more ≡ insert_entry key_cmp whole e.0 e.1 → AreBetween sets run more rest
+one_more_put {sets} {run} {whole} {left} e rest more order is last put =
+    let all : rest ++ e ∷ is.put ≡ run = sym (append_assoc rest (e ∷ []) is.put) ∙ ap (λ (zs : ZoneSets). zs ++ is.put) (sym last) ∙ is.all in
+    let above : AreInOrder (sets ++ e ∷ is.put) = order_without sets rest (e ∷ is.put) (subst (λ (zs : ZoneSets). AreInOrder (sets ++ zs)) (sym all) order) in
+    record {
+      put = e ∷ is.put;
+      all = all;
+      have = put ∙ ap (λ (zs : ZoneSets). insert_entry key_cmp zs e.0 e.1) is.have ∙ put_between sets is.put e.0 e.1 above;
+    }
+
+pub all_put : {sets run whole left : ZoneSets} → left ≡ [] → AreBetween sets run whole left → whole ≡ sets ++ run
+all_put {sets} none is = is.have ∙ ap (λ (zs : ZoneSets). sets ++ zs) (ap (λ (zs : ZoneSets). zs ++ is.put) (sym none) ∙ is.all)
 
 -- a set under a key that is there takes the place of the one there
 pub put_there : (es : ZoneSets) (key : RrKey) (old new : SetValue) → AreInOrder es → set_at es key ≡ Some old → insert_entry key_cmp es key new ≡ set_value (is_at (key_cmp key)) es new
@@ -248,24 +251,3 @@ put_there (e ∷ es) key old new order there = go (key_cmp key e.0) refl (put_th
   go Greater is again =
       let later = sym (lookup_tail (is_at (key_cmp key)) e es (ap is_eq is)) ∙ there in
       rw is (ap (λ (zs : ZoneSets). e ∷ zs) (again later))
-
-updated_twice : (f : RrKey → Option SetValue) (es fs : ZoneSets) → update_all (eq_by_cmp key_cmp) (update_all (eq_by_cmp key_cmp) f es) fs ≡ update_all (eq_by_cmp key_cmp) f (es ++ fs)
-updated_twice f [] fs = refl
-updated_twice f (e ∷ es) fs = updated_twice (update (eq_by_cmp key_cmp) f e.0 (Some e.1)) es fs
-
--- what all the pairs of sets in order make is what these have
-made_of : (es : ZoneSets) (q : RrKey) → AreInOrder es → update_all (eq_by_cmp key_cmp) (λ _. None) es q ≡ set_at es q
-made_of es q order = update_all_none laws (eq_by_cmp key_cmp) (λ x y. refl) es q (IsDistinct-from_sorted key_cmp (keys_of es) order)
-
-pub run_joined : (sets others whole : BTreeMap RrKey SetValue) (run : ZoneSets) → AreInOrder (sets.entries ++ run) → IsFromIterResult key_cmp run others
-    → InsertsAll key_cmp sets others.entries whole → whole.entries ≡ sets.entries ++ run
-run_joined sets others whole run order from all =
-    let behind : AreInOrder run = order_back sets.entries run order in
-    let before : AreInOrder sets.entries = order_front sets.entries run order in
-    let run_is : others.entries ≡ run = same_sets others.entries run from.1 behind (λ q. from.0 q ∙ made_of run q behind) in
-    let made : update_all (eq_by_cmp key_cmp) (λ _. None) sets.entries ≡ get key_cmp sets = λ i q. made_of sets.entries q before i in
-    same_sets whole.entries (sets.entries ++ run) all.1 order (λ q.
-    all.0 q ∙ ap (λ (xs : ZoneSets). update_all (eq_by_cmp key_cmp) (get key_cmp sets) xs q) run_is
-    ∙ ap (λ (f : RrKey → Option SetValue). update_all (eq_by_cmp key_cmp) f run q) (sym made)
-    ∙ ap (λ (f : RrKey → Option SetValue). f q) (updated_twice (λ _. None) sets.entries run)
-    ∙ made_of (sets.entries ++ run) q order)

@@ -156,22 +156,19 @@ fn past_labels(wire: &[u8], count: usize) -> &[u8]
 fn cmp_label(left: &[u8], right: &[u8]) -> Ordering
     ensures { result ≡ slice_cmp nat_cmp (map to_ascii_lowercase left.now) (map to_ascii_lowercase right.now) }
 {
-    let mut rest = left;
-    let mut others = right;
-    while let [x, xs @ ..] = rest {
-        let [y, ys @ ..] = others else {
-            break;
-        };
-        if *x != *y {
-            let order = x.to_ascii_lowercase().cmp(&y.to_ascii_lowercase());
+    let shared = left.len().min(right.len());
+    let (front, others) = (&left[..shared], &right[..shared]);
+    for i in 0..shared {
+        if front[i] != others[i] {
+            let order = front[i]
+                .to_ascii_lowercase()
+                .cmp(&others[i].to_ascii_lowercase());
             if order.is_ne() {
                 return order;
             }
         }
-        rest = xs;
-        others = ys;
     }
-    rest.len().cmp(&others.len())
+    left.len().cmp(&right.len())
 }
 
 /// The order of labels from the last on, their ASCII letters in lower case; none where one side has more labels.

@@ -32,10 +32,13 @@ fn is_special(b: u8) -> bool
     matches!(b, b'.' | b'\\' | b'"' | b'(' | b')' | b';' | b'@' | b'$')
 }
 
-/// Whether a byte prints as itself.
+/// Whether a byte prints as itself. Nearly all that do are above the special ones but for the backslash.
 fn is_plain(b: u8) -> bool
     ensures { IsTrue result → byte_text b ≡ b ∷ [] }
 {
+    if b > b'@' {
+        return b < 127 && b != b'\\';
+    }
     b.is_ascii_graphic() && !is_special(b)
 }
 
@@ -71,12 +74,15 @@ impl<'a> fmt::Display for LabelText<'a> {
     fn fmt<W: fmt::Write>(&self, f: &mut fmt::Formatter<W>) -> fmt::Result {
         if let Some(text) = plain_text(self.label) {
             f.write_str(text)?;
-            return f.write_str(dot_if(!self.is_last));
+        } else {
+            for b in self.label {
+                fmt::Display::fmt(&ByteText(*b), f)?;
+            }
         }
-        for b in self.label {
-            fmt::Display::fmt(&ByteText(*b), f)?;
+        if self.is_last {
+            return Ok(());
         }
-        f.write_str(dot_if(!self.is_last))
+        f.write_str(".")
     }
 }
 

@@ -14,11 +14,14 @@ use crate::error::ParseError;
 use crate::text::Token;
 use std::alloc::Global;
 
-/// Whether an item ends before this byte.
+/// Whether an item ends before this byte. Most bytes of an item are above all but one of those that end it.
 fn ends_item(c: u8) -> bool
     ensures { result ≡ ends_item c }
 {
-    matches!(c, b' ' | b'\t' | b'\n' | b'\r' | b';' | b'(' | b')' | b'"')
+    if c > b')' {
+        return c == b';';
+    }
+    matches!(c, b' ' | b'\t' | b'\n' | b'\r' | b'(' | b')' | b'"')
 }
 
 /// How many bytes the item has that a text begins with; none where a backslash ends the text.
@@ -27,15 +30,19 @@ fn item_len(text: &[u8]) -> Option<usize>
     ensures value { option_map (λ n. (take n text.now, drop n text.now)) result ≡ item false text.now }
     ensures boundary { IfSome result (λ n. IsCharBoundary text.now n) }
 {
-    let mut kept = false;
-    for (i, c) in text.iter().enumerate() {
-        if !kept && ends_item(*c) {
-            return Some(i);
+    let mut at = 0;
+    'bytes: while at < text.len() {
+        let c = text[at];
+        if ends_item(c) {
+            return Some(at);
         }
-        kept = !kept && *c == b'\\';
-    }
-    if kept {
-        return None;
+        at += 1;
+        if c == b'\\' {
+            if at == text.len() {
+                return None;
+            }
+            at += 1;
+        }
     }
     Some(text.len())
 }
@@ -232,6 +239,17 @@ pub(super) fn past_line_end(text: &str) -> &str
 
 /// The token that an item is outside parentheses.
 pub(super) fn token_of(word: String) -> Result<Token, ParseError>
+    ensures { AnswersItem result (string_bytes word) }
+{
+    match first_byte(word.as_str()) {
+        Some(b'@') => sign_of(word),
+        Some(b'$') => sign_of(word),
+        _ => Ok(Token::CharData(word)),
+    }
+}
+
+/// The same for an item that begins as signs do.
+fn sign_of(word: String) -> Result<Token, ParseError>
     ensures { AnswersItem result (string_bytes word) }
 {
     if word.as_str() == "@" {

@@ -21,6 +21,7 @@ use rr::{Record, RecordSet};
 use std::alloc::{AllocError, Global};
 use std::collections::BTreeMap;
 use std::marker::Model;
+use std::mem::replace;
 
 /// What is in force between entries.
 #[derive(Drop)]
@@ -33,6 +34,8 @@ pub(super) struct Context {
     default_ttl: Option<u32>,
     last_ttl: Option<u32>,
     sets: ZoneSets,
+    /// The items of the data that was read last, whose list serves again.
+    items: Vec<String>,
 }
 
 impl Model for Context {
@@ -68,6 +71,7 @@ impl Context {
             default_ttl: None,
             last_ttl: None,
             sets: ZoneSets::new(alloc),
+            items: Vec::new(alloc),
         }
     }
 
@@ -206,21 +210,23 @@ impl Context {
         ensures { (word : List ℕ) → string_bytes raised ≡ str_to_ascii_uppercase word → Goes result self.new (symbols lexer.new) (took_typed self.old word (symbols lexer.old)) }
     {
         let record_type = type_of_text(raised)?;
-        let items = read_items(self.alloc, lexer)?;
-        let rdata = self.data(record_type, items)?;
+        let mut items = replace(&mut self.items, Vec::new(self.alloc));
+        read_items(&mut items, lexer)?;
+        let rdata = self.data(record_type, &items)?;
+        self.items = items;
         self.record(rdata)?;
         Ok(())
     }
 
     /// The data of a type that items name, under the origin.
-    fn data(&self, record_type: RecordType, items: Vec<String>) -> Result<RData, ParseError>
-        ensures { Gives (λ d. d) result (data_of record_type (texts items.items) self.now.origin) }
+    fn data(&self, record_type: RecordType, items: &[String]) -> Result<RData, ParseError>
+        ensures { Gives (λ d. d) result (data_of record_type (texts items.now) self.now.origin) }
     {
         // The data of most records is one item, which needs no list of its own.
-        if let [item] = items.as_slice() {
+        if let [item] = items {
             return self.data_of(record_type, &[item.as_str()]);
         }
-        let texts = texts_of(self.alloc, &items)?;
+        let texts = texts_of(self.alloc, items)?;
         self.data_of(record_type, &texts)
     }
 

@@ -131,6 +131,8 @@ fn order_to_last(
 }
 
 /// The map with the sets of a run, whose keys are above all of the map. Refused for want of memory.
+///
+/// The last one goes in first: so each is below those before it, and a map looks for its place from the lowest key on.
 fn joined(
     sets: BTreeMap<RrKey, RecordSet>,
     run: Vec<(RrKey, RecordSet)>,
@@ -139,8 +141,10 @@ fn joined(
     ensures { IfOk result (λ whole. whole.entries ≡ sets.entries ++ run.items) }
 {
     let mut whole = sets;
-    let mut others = BTreeMap::from_iter(*run.allocator(), run)?;
-    whole.append(&mut others)?;
+    let mut left = run;
+    'sets: while let Some((key, set)) = left.pop() {
+        whole.insert(key, set)?;
+    }
     Ok(whole)
 }
 

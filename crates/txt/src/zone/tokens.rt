@@ -15,17 +15,17 @@ pub(super) fn read_token(lexer: &mut Lexer<'_>) -> Result<Option<Token>, ParseEr
     lexer.next_token()
 }
 
-/// The items of the data, up to the end of the line or of the text.
-pub(super) fn read_items(alloc: Global, lexer: &mut Lexer<'_>) -> Result<Vec<String>, ParseError>
-    ensures { Reads (λ items. texts items.items) result (symbols lexer.new) (took_items (symbols lexer.old)) }
+/// Puts the items of the data, up to the end of the line or of the text, in the place of others.
+pub(super) fn read_items(items: &mut Vec<String>, lexer: &mut Lexer<'_>) -> Result<(), ParseError>
+    ensures { Reads (λ _. texts items.new.items) result (symbols lexer.new) (took_items (symbols lexer.old)) }
 {
-    let mut items = Vec::new(alloc);
+    items.clear();
     'items: loop {
         let Some(token) = read_token(lexer)? else {
-            return Ok(items);
+            return Ok(());
         };
         match token {
-            Token::EOL => return Ok(items),
+            Token::EOL => return Ok(()),
             Token::CharData(word) => items.push(word)?,
             Token::List(mut words) => items.append(&mut words)?,
             other => return Err(ParseError::UnexpectedToken(other)),

@@ -1,16 +1,16 @@
-use Rattle.std.proofs.Common.{◌≡◌, false, get_or, arith}
+use Rattle.std.proofs.Common.{◌≡◌, ◌+◌, ◌<◌, true, false, length, take, drop, get_or, Bool, refl, subst, sym, ◌∙◌, arith}
 use Rattle.std.specs.Prelude.{not, ◌&&◌, ◌==◌}
-use Rattle.std.proofs.lemmas.Bool.Decides.{nat_tests}
-use Rattle.base.specs.Tokens.{ends_item}
+use Rattle.base.specs.Tokens.{before, ends_item, item}
 use Rattle.base.proofs.Cutting.{item_more}
 use Rattle.base.proofs.text.cutting.item_len.Goals as goal
-use Rattle.base.proofs.text.cutting.item_len.Goals.{else-not-kept-via-then-not-kept+else-ends_item, else-not-kept-via-else-not-kept, then-not-kept-2, else-not-kept-2}
 
-pub loop-i-preserved : goal.loop-i-preserved
-loop-i-preserved c =
+-- a backslash, and what it keeps, belong to the item
+pub bytes-preserved-then-c-eq92 : goal.bytes-preserved-then-c-eq92
+bytes-preserved-then-c-eq92 c =
     let text = c.args.text.now in
-    let goes : (not c.loop-i.kept && ends_item (get_or text c.loop-i.i 0)) ≡ false =
-    elim c.else-not-kept.branch [ else-not-kept-via-then-not-kept+else-ends_item w ↦ grind (arith, nat_tests) | else-not-kept-via-else-not-kept w ↦ grind (arith, nat_tests) ] in
-    let now : c.if-not-kept-2.kept ≡ (not c.loop-i.kept && (get_or text c.loop-i.i 0 == 92)) =
-    elim c.if-not-kept-2.branch [ then-not-kept-2 w ↦ grind (arith, nat_tests) | else-not-kept-2 w ↦ grind (arith, nat_tests) ] in
-    rw (now) (item_more text c.loop-i.i c.loop-i.kept c.loop-i-test.true goes c.loop-i.invariant)
+    let at = c.bytes.at in
+    let inside : at + 1 < length text = omega (arith, c.bytes-test.true, c.if-at-text.false) in
+    let sign : (not false && (get_or text at 0 == 92)) ≡ true = rw c.if-c-eq92.true refl in
+    let one = item_more text at false c.bytes-test.true (sym c.ends_item.ensures ∙ c.if-ends_item.false) c.bytes.invariant.1 in
+    let kept = subst (λ (k : Bool). before (take (at + 1) text) (item k (drop (at + 1) text)) ≡ item false text) sign one in
+    (omega (arith, inside), item_more text (at + 1) true inside refl kept)

@@ -1,0 +1,9 @@
+use Rattle.std.proofs.Common.{length}
+use Rattle.txt.proofs.SetsInOrder.{AreBetween}
+use Rattle.txt.proofs.zone.sets.joined.Given as goal
+
+abbrev pub invariant-sets : goal.invariant-sets
+invariant-sets l = AreBetween l.fn.sets.entries l.fn.run.items l.whole.entries l.left.items
+
+abbrev pub decreases-sets : goal.decreases-sets
+decreases-sets l = length l.left.items
