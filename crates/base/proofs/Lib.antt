@@ -22,6 +22,7 @@ pub mod NamedLemmas
 pub mod ParseLemmas
 pub mod PassLemmas
 pub mod PatchLemmas
+pub mod PieceLemmas
 pub mod PointerLemmas
 pub mod ProgressLemmas
 pub mod ReadLemmas

@@ -1,6 +1,6 @@
 //! Short lists of bytes, kept inside the value.
 
-ghost use Rattle.std.specs.Prelude.{◌≡◌, ◌≤◌, [], length, map, take, IfOk};
+ghost use Rattle.std.specs.Prelude.{◌≡◌, ◌≤◌, ◌++◌, [], length, map, take, IfOk};
 ghost use Rattle.std.specs.Char.{to_ascii_lowercase};
 ghost use Rattle.base.specs.Octets.{lower_octets};
 
@@ -77,6 +77,39 @@ impl Octets {
             });
         }
         Octets::from_slice(alloc, &bytes[..used], mark)
+    }
+
+    /// As many of the first of these bytes, and behind them as many of the first of those. Refused for want of memory,
+    /// where they aren't few.
+    pub(crate) fn from_fronts(
+        alloc: Global,
+        bytes: &[u8],
+        used: usize,
+        others: &[u8],
+        len: usize,
+        mark: bool,
+    ) -> Result<Octets, AllocError>
+        requires enough { used ≤ length bytes.now }
+        requires others { len ≤ length others.now }
+        ensures { IfOk result (λ o. o ≡ record { items = take used bytes.now ++ take len others.now; mark = mark }) }
+    {
+        if len == 0 {
+            return Octets::from_front(alloc, bytes, used, mark);
+        }
+        if used == 0 {
+            return Octets::from_front(alloc, others, len, mark);
+        }
+        if used + len <= INSIDE {
+            return Ok(Octets {
+                held: Held::Inside(Room::from_slices(alloc, &bytes[..used], &others[..len], mark)),
+            });
+        }
+        let mut both = Vec::with_capacity(alloc, used + len)?;
+        both.extend_from_slice(&bytes[..used])?;
+        both.extend_from_slice(&others[..len])?;
+        Ok(Octets {
+            held: Held::Outside { mark, bytes: both },
+        })
     }
 
     /// The allocator.

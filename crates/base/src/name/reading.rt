@@ -157,24 +157,74 @@ fn keep_all(decoder: &mut BinDecoder<'_>, labels: &[u8], passed: &Trail) -> Resu
     Ok(())
 }
 
-/// What a name has that is a pointer alone, to an offset whose labels are kept: bytes that begin with its labels, each with
-/// its length before it, how many bytes these are, and the place behind the name.
-fn kept_name<'d>(decoder: &'d BinDecoder<'_>) -> Option<(&'d [u8], usize, usize)>
-    ensures enough { IfSome result (λ r. r.1 ≤ length r.0.now) }
-    ensures read { IfSome result (λ r. labels_at decoder.now.bytes decoder.now.index decoder.now.index 0 ≡ Ok (labels_of (take r.1 r.0.now), r.2)) }
-    ensures wire { IfSome result (λ r. IsWire (take r.1 r.0.now)) }
-    ensures end { IfSome result (λ r. r.2 ≤ length decoder.now.bytes) }
+/// The labels of a name that stands in one piece: its own, and behind them those that its pointer leads to, where it has
+/// one and they are kept.
+#[derive(Drop)]
+struct Piece<'d> {
+    /// Bytes that begin with its own labels, each with its length before it.
+    own: &'d [u8],
+    /// How many bytes its own labels are.
+    used: usize,
+    /// Bytes that begin with the kept labels.
+    kept: &'d [u8],
+    /// How many bytes the kept labels are.
+    len: usize,
+    /// The place behind the name.
+    behind: usize,
+}
+
+/// The name at the decoder's place, if it stands in one piece and is a name: most names do, and are read without a walk
+/// behind pointers.
+fn one_piece<'d>(decoder: &'d BinDecoder<'_>) -> Option<Piece<'d>>
+    ensures own { IfSome result (λ p. p.used ≤ length p.own.now) }
+    ensures kept { IfSome result (λ p. p.len ≤ length p.kept.now) }
+    ensures read { IfSome result (λ p. labels_at decoder.now.bytes decoder.now.index decoder.now.index 0
+        ≡ Ok (labels_of (take p.used p.own.now ++ take p.len p.kept.now), p.behind)) }
+    ensures wire { IfSome result (λ p. IsWire (take p.used p.own.now ++ take p.len p.kept.now)) }
+    ensures end { IfSome result (λ p. p.behind ≤ length decoder.now.bytes) }
     ensures these { IfSome result (λ _. PassesThese decoder.now.bytes decoder.now.kept decoder.now.index []) }
 {
-    let at = decoder.index();
-    let Ok(Part::Pointer(target)) = part_of(decoder.buffer(), at) else {
-        return None;
-    };
-    if usize::from(target) >= at {
-        return None;
+    let buffer = decoder.buffer();
+    let first = decoder.index();
+    let own = &buffer[first..];
+    let mut used = 0;
+    'labels: loop {
+        match part_of(buffer, first + used) {
+            Err(_) => return None,
+            Ok(Part::Root) => {
+                return Some(Piece {
+                    own,
+                    used,
+                    kept: own,
+                    len: 0,
+                    behind: first + used + 1,
+                });
+            }
+            Ok(Part::Label(len)) => {
+                let size = 1 + usize::from(len);
+                if used + size + 1 > LONGEST {
+                    return None;
+                }
+                used += size;
+            }
+            Ok(Part::Pointer(target)) => {
+                if usize::from(target) >= first {
+                    return None;
+                }
+                let (kept, len) = decoder.kept_front(target)?;
+                if used + len + 1 > LONGEST {
+                    return None;
+                }
+                return Some(Piece {
+                    own,
+                    used,
+                    kept,
+                    len,
+                    behind: first + used + 2,
+                });
+            }
+        }
     }
-    let (front, len) = decoder.kept_front(target)?;
-    Some((front, len, at + 2))
 }
 
 impl BinDecodable for Name {
@@ -194,8 +244,17 @@ impl BinDecodable for Name {
         ensures passes { IfOk result (λ n. (h : Spelled decoder.old.bytes n.labels decoder.old.index decoder.old.index decoder.new.index)
             → decoder.new.kept ≡ set.union decoder.old.kept (set.from_list (passed h))) }
     {
-        if let Some((front, len, behind)) = kept_name(decoder) {
-            let octets = Octets::from_front(decoder.allocator(), front, len, true)?;
+        if let Some(
+            Piece {
+                own,
+                used,
+                kept,
+                len,
+                behind,
+            },
+        ) = one_piece(decoder)
+        {
+            let octets = Octets::from_fronts(decoder.allocator(), own, used, kept, len, true)?;
             decoder.move_to(behind);
             return Ok(Name { octets });
         }

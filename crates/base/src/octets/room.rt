@@ -1,6 +1,6 @@
 //! Room for a few bytes.
 
-ghost use Rattle.std.specs.Prelude.{◌≡◌, ◌≤◌, ◌+◌, [], length, take};
+ghost use Rattle.std.specs.Prelude.{◌≡◌, ◌≤◌, ◌+◌, ◌++◌, [], length, take};
 ghost use Rattle.base.specs.Octets.{lower_octets};
 
 use std::alloc::Global;
@@ -81,6 +81,23 @@ impl Room {
             alloc,
             mark,
             len: used as u8,
+            bytes,
+        }
+    }
+
+    /// These bytes, and others behind them.
+    pub(crate) fn from_slices(alloc: Global, slice: &[u8], others: &[u8], mark: bool) -> Room
+        requires { length slice.now + length others.now ≤ 29 }
+        ensures { result ≡ record { items = slice.now ++ others.now; mark = mark } }
+    {
+        let len = slice.len() + others.len();
+        let mut bytes = [0; INSIDE];
+        bytes[..slice.len()].copy_from_slice(slice);
+        bytes[slice.len()..len].copy_from_slice(others);
+        Room {
+            alloc,
+            mark,
+            len: len as u8,
             bytes,
         }
     }

@@ -1,4 +1,4 @@
-use Rattle.std.proofs.Common.{sym, ◌∙◌, arith, ◌≡◌, length}
+use Rattle.std.proofs.Common.{sym, ◌∙◌, arith, ◌≡◌}
 use Rattle.base.proofs.CompareLemmas.{ended_behind}
 use Rattle.base.proofs.name.compare.cmp_label.Goals as goal
 

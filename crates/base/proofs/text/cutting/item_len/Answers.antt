@@ -1,6 +1,6 @@
 use Rattle.std.proofs.Common.{◌≡◌, ◌+◌, ◌<◌, true, false, length, take, drop, get_or, Bool, refl, subst, sym, ◌∙◌, arith}
 use Rattle.std.specs.Prelude.{not, ◌&&◌, ◌==◌}
-use Rattle.base.specs.Tokens.{before, ends_item, item}
+use Rattle.base.specs.Tokens.{before, item}
 use Rattle.base.proofs.Cutting.{item_more}
 use Rattle.base.proofs.text.cutting.item_len.Goals as goal
 

@@ -1,4 +1,4 @@
-use Rattle.std.proofs.Common.{◌≡◌, ◌∙◌, ℕ, List, ap, arith, subst, sym, take, []}
+use Rattle.std.proofs.Common.{◌≡◌, ◌∙◌, ◌++◌, ℕ, List, ap, arith, subst, sym, take, []}
 use Rattle.std.specs.FinSet as set
 use Rattle.std.specs.Ordering.{nat_cmp}
 use Rattle.base.specs.Labels.{labels_of}
@@ -50,7 +50,7 @@ returns-clause-counts c = λ counted.
       passes = passes c labels e h;
     }) followed counted
 
--- ---- a pointer alone, to a kept offset
+-- ---- a name of one piece
 
 pub returns-in-Some-clause-passes : goal.returns-in-Some-clause-passes
 returns-in-Some-clause-passes c = λ h.
@@ -60,8 +60,9 @@ returns-in-Some-clause-passes c = λ h.
 pub returns-in-Some-clause-counts : goal.returns-in-Some-clause-counts
 returns-in-Some-clause-counts c = λ counted.
     let old = c.args.decoder.now in
-    let bytes = take c.in-Some.len c.in-Some.front.now in
-    let e = c.in-Some.behind in
+    let piece = c.in-Some.field-0 in
+    let bytes = take piece.used piece.own.now ++ take piece.len piece.kept.now in
+    let e = piece.behind in
     let h = spelled_is old.bytes old.index 0 e bytes (omega arith) c.in-Some.ensures.read in
     let f = Follows-none 0 old in
     let followed : Followed [] old old = record { now = f.now; jumps = f.jumps; all = f.all; few = f.few } in
