@@ -1,3 +1,4 @@
+pub mod AddsLemmas
 pub mod CharLemmas
 pub mod ClassTexts
 pub mod CompareLemmas

@@ -1,3 +1,4 @@
+pub mod AddsMessage
 pub mod BitLemmas
 pub mod EdnsEquals
 pub mod EdnsLemmas
