@@ -20,6 +20,7 @@ pub mod ManyLemmas
 pub mod NameOfLaws
 pub mod NameOfLemmas
 pub mod NamedLemmas
+pub mod NamesLemmas
 pub mod ParseLemmas
 pub mod PassLemmas
 pub mod PatchLemmas

@@ -26,6 +26,7 @@ a_kind x = record {
   readable = length x.octets ≡ 4;
   text = ipv4_text x.octets;
   canonical = x.octets;
+  held = [];
   places = no_places;
   flags = [];
   fits = Unit {0};

@@ -42,6 +42,7 @@ aaaa_kind x = record {
   readable = length x.octets ≡ 16;
   text = aaaa_text x.octets;
   canonical = x.octets;
+  held = [];
   places = no_places;
   flags = [];
   fits = Unit {0};

@@ -19,7 +19,9 @@ pub record Kind : Type 1 where
   pub text : List ℕ
   -- the bytes of its canonical form (RFC 4034, 6.2)
   pub canonical : List ℕ
-  -- the places of its names, where it begins at a place of a buffer
+  -- its names, from the left
+  pub held : List NameValue
+  -- the places of these, where it begins at a place of a buffer
   pub places : List ℕ → ℕ → List ℕ
   -- whether each of its names is absolute, from the left
   pub flags : List Bool

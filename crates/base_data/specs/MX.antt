@@ -57,6 +57,7 @@ mx_kind x = record {
   readable = x.exchange.absolute ≡ true;
   text = mx_text x;
   canonical = to_be_bytes w16 x.preference ++ name_octets x.exchange;
+  held = x.exchange ∷ [];
   places = mx_places;
   flags = x.exchange.absolute ∷ [];
   fits = (x.preference < 2 ^ 16) × AreLabels x.exchange.labels;

@@ -92,6 +92,7 @@ opt_kind x = record {
   readable = x ≢ [];
   text = opaque_text (options_wire x);
   canonical = options_wire x;
+  held = [];
   places = no_places;
   flags = [];
   fits = All FitsOption x;

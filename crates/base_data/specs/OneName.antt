@@ -33,6 +33,7 @@ name_kind rank name names = record {
   readable = name.absolute ≡ true;
   text = name_text name;
   canonical = name_octets name;
+  held = name ∷ [];
   places = own_place;
   flags = name.absolute ∷ [];
   fits = AreLabels name.labels;

@@ -39,6 +39,7 @@ bytes_kind rank readable x = record {
   readable = readable;
   text = opaque_text x;
   canonical = x;
+  held = [];
   places = no_places;
   flags = [];
   fits = Unit {0};

@@ -90,6 +90,7 @@ soa_kind x = record {
   text = soa_text x;
   canonical = name_octets x.mname ++ name_octets x.rname ++ to_be_bytes w32 x.serial ++ to_be_bytes w32 x.refresh ++ to_be_bytes w32 x.retry
       ++ to_be_bytes w32 x.expire ++ to_be_bytes w32 x.minimum;
+  held = x.mname ∷ x.rname ∷ [];
   places = soa_places;
   flags = x.mname.absolute ∷ x.rname.absolute ∷ [];
   fits = AreLabels x.mname.labels × AreLabels x.rname.labels × SOAFits x;

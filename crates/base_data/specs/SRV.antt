@@ -70,6 +70,7 @@ srv_kind x = record {
   readable = x.target.absolute ≡ true;
   text = srv_text x;
   canonical = to_be_bytes w16 x.priority ++ to_be_bytes w16 x.weight ++ to_be_bytes w16 x.port ++ name_octets x.target;
+  held = x.target ∷ [];
   places = srv_places;
   flags = x.target.absolute ∷ [];
   fits = SRVFits x × AreLabels x.target.labels;

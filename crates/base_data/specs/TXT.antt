@@ -71,6 +71,7 @@ txt_kind x = record {
   readable = x ≢ [];
   text = txt_text x;
   canonical = wire_of x;
+  held = [];
   places = no_places;
   flags = [];
   fits = Unit {0};

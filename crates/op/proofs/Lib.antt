@@ -1,3 +1,4 @@
+mod MessageNames
 pub mod AddsMessage
 pub mod BitLemmas
 pub mod EdnsEquals

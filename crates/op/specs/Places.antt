@@ -1,11 +1,15 @@
 -- The places of the names of questions, records and messages (RFC 1035, 4.1).
 use Rattle.std.specs.Prelude.{ℕ, ◌+◌, List, [], ◌∷◌, ◌++◌, Ok, Err}
+use Rattle.std.specs.List.{flat_map}
+use Rattle.base.specs.Labels.{NameValue}
 use Rattle.base.specs.Many.{many_at, many_names}
 use Rattle.base.specs.Reading.{Read, behind}
 use Rattle.op.specs.Header.{header_at}
+use Rattle.op.specs.Message.{IsMessageAt, MessageValue}
 use Rattle.op.specs.Query.{query_at}
 use Rattle.op.specs.declared.header.Header.{Header}
-use Rattle.rr.specs.Record.{record_at, record_places}
+use Rattle.op.specs.declared.query.Query.{Query}
+use Rattle.rr.specs.Record.{record_at, record_names, record_places}
 
 -- the name of a question stands at its place (RFC 1035, 4.1.2)
 abbrev pub query_places : List ℕ → ℕ → List ℕ
@@ -28,3 +32,7 @@ counted_places (Err e) bytes = []
 -- the places of the names of the message that stands at i, of questions and records
 abbrev pub message_places : List ℕ → ℕ → List ℕ
 message_places bytes i = counted_places (header_at bytes i) bytes
+
+-- the names of the message whose word stands there: of its questions, and then those of each of its records
+abbrev pub message_names : {B : List ℕ} {i : ℕ} {m : MessageValue} {e : ℕ} → IsMessageAt B i m e → List NameValue
+message_names {m = m} w = flat_map (λ (q : Query). q.name ∷ []) m.queries ++ flat_map record_names (w.answers ++ (w.authorities ++ w.additionals))

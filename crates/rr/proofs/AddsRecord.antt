@@ -1,5 +1,5 @@
 -- The places of the names of a record.
-use Rattle.std.proofs.Common.{◌≡◌, ◌∙◌, ℕ, ◌+◌, List, [], ◌∷◌, Ok, Err, Result, ap, sym, subst, arith}
+use Rattle.std.proofs.Common.{◌≡◌, ◌∙◌, ℕ, ◌+◌, List, [], ◌∷◌, Ok, Err, Result, ap, sym, subst, arith, refl}
 use Rattle.std.specs.Prelude.{IfOk}
 use Rattle.std.specs.Int.{w16, w32}
 use Rattle.base.specs.Labels.{NameValue}
@@ -8,15 +8,19 @@ use Rattle.base.specs.Passing.{AddsPassed}
 use Rattle.base.specs.Reader.{Reader}
 use Rattle.base.specs.Reading.{Read, Reads, behind, number_at}
 use Rattle.base.specs.RecordType.{type_of}
+use Rattle.base.specs.Spelling.{IsNameAt, NamesStand, one_more}
 use Rattle.base.specs.declared.error.decode_error.DecodeError.{DecodeError}
 use Rattle.base.specs.declared.record_type.RecordType.{RecordType}
 use Rattle.base.proofs.AddsLemmas.{adds_both}
 use Rattle.base.proofs.ReadLemmas.{bind_ok, number_is}
+use Rattle.base.proofs.ReadingLemmas.{name_again}
+use Rattle.base_data.proofs.EachKind.{names_stand}
 use Rattle.base_data.proofs.Tells.{same_ok}
-use Rattle.base_data.specs.Kinds.{data_places}
+use Rattle.base_data.specs.Kinds.{DataWord, data_names, data_places}
 use Rattle.base_data.specs.declared.rdata.RData.{RData}
+use Rattle.rr.proofs.ReadRecords.{reads_record}
 use Rattle.rr.proofs.ReadSteps.{type_at, typed}
-use Rattle.rr.specs.Record.{places_in, record_at, record_places}
+use Rattle.rr.specs.Record.{places_in, record_at, record_names, record_places}
 use Rattle.rr.specs.declared.record.Record.{Record}
 
 -- what comes behind a type is two bytes on
@@ -47,3 +51,16 @@ record_adds {old} {third} {owner} {type} second new (Ok r) owner_is type_is firs
     ∙ sym (ap (λ (read : Read (Record RData)). places_in read old.bytes (behind (name_at old.bytes old.index) + 10)) reads.0) in
     subst (λ (places : List ℕ). AddsPassed (old.index ∷ places) old new) there (adds_both first names)
 record_adds second new (Err e) owner_is type_is first reads names = tt
+
+-- a record's names stand at their places
+pub record_names_stand : (B : List ℕ) (i : ℕ) (r : Record RData) (e : ℕ) → record_at B i ≡ Ok (r, e) → NamesStand B (record_places B i) (record_names r)
+record_names_stand B i r e is =
+    let at = (reads_record B i r e).0 is in
+    let data_begins = at.word.owner_end + 10 in
+    let owner : IsNameAt B i r.name at.word.owner_end = subst (λ (name : NameValue). IsNameAt B i name at.word.owner_end) (sym at.value.owner)
+    (record { spelled = at.word.owner.0; short = at.word.owner.1; absolute = refl }) in
+    let word : DataWord r.rdata B data_begins e = subst (λ (d : RData). DataWord d B data_begins e) (sym at.value.rdata) at.word.rdata_stands in
+    let begins : data_begins ≡ behind (name_at B i) + 10 = ap (λ (k : ℕ). k + 10) (sym (ap behind (name_again B i r.name at.word.owner_end owner))) in
+    let there : data_places r.rdata B data_begins ≡ places_in (record_at B i) B (behind (name_at B i) + 10) =
+    ap (data_places r.rdata B) begins ∙ sym (ap (λ (read : Read (Record RData)). places_in read B (behind (name_at B i) + 10)) is) in
+    one_more owner (subst (λ (places : List ℕ). NamesStand B places (data_names r.rdata)) there (names_stand r.rdata B data_begins e word at.value.readable))

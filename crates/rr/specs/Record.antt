@@ -16,7 +16,7 @@ use Rattle.base.specs.declared.error.decode_error.DecodeError.{DecodeError}
 use Rattle.base.specs.declared.error.decode_error.DecodeError.TheVariants as faults
 use Rattle.base.specs.declared.record_type.RecordType.{RecordType}
 use Rattle.base.specs.declared.record_type.RecordType.TheVariants as types
-use Rattle.base_data.specs.Kinds.{IsReadable, DataWord, data_places, data_text, plain_data, type_of_data}
+use Rattle.base_data.specs.Kinds.{IsReadable, DataWord, data_names, data_places, data_text, plain_data, type_of_data}
 use Rattle.base_data.specs.DataAt.{IsDataAt}
 use Rattle.base_data.specs.RData.{rdata_at}
 use Rattle.base_data.specs.declared.rdata.RData.{RData}
@@ -146,6 +146,10 @@ record_at bytes i = do
   owner ← name_at bytes i
   type ← number_at w16 bytes owner.1
   if is_opt_type (type_of type.0) && not (length owner.0.labels == 0) then Err (faults.EdnsNameNotRoot owner.0) else body_at owner.0 (type_of type.0) bytes type.1
+
+-- the names of a record: its owner's, and those of its data from the left
+abbrev pub record_names : Record RData → List NameValue
+record_names r = r.name ∷ data_names r.rdata
 
 -- the places of the names of the data of a record that was read, where that begins at a place
 abbrev pub places_in : Read (Record RData) → List ℕ → ℕ → List ℕ
