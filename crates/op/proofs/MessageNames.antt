@@ -8,7 +8,7 @@ use Rattle.base.proofs.ManyLemmas.{many_again}
 use Rattle.base.proofs.NamesLemmas.{back_to_back, names_both, names_of_many}
 use Rattle.rr.proofs.AddsRecord.{record_names_stand}
 use Rattle.rr.proofs.ReadRecords.{reads_record}
-use Rattle.rr.specs.Record.{IsRecordAt, record_at, record_names, record_places}
+use Rattle.rr.specs.Record.{record_at, record_names, record_places}
 use Rattle.op.specs.Header.{header_at}
 use Rattle.op.specs.Message.{IsMessageAt, MessageValue}
 use Rattle.op.specs.Places.{counted_places, message_names, message_places, queries_places, query_places, records_places}
@@ -30,9 +30,8 @@ pub names_of_message : (B : List ℕ) (i : ℕ) (m : MessageValue) (e : ℕ) (w 
 names_of_message B i m e w =
     let records = w.answers ++ (w.authorities ++ w.additionals) in
     let stand = back_to_back w.answers_stand (back_to_back w.authorities_stand w.additionals_stand) in
-    let owners = names_of_many (IsRecordAt B) record_at record_places record_names B (λ j r k. (reads_record B j r k).1) (record_names_stand B) w.queries_end records e stand in
-    let asked = names_of_many (IsQueryAt B) query_at query_places (λ (q : Query). q.name ∷ []) B (λ j q k. (reads_question B j q k).1) (question_names_stand B) (i + 12) m.queries
-    w.queries_end w.queries_stand in
+    let owners = names_of_many record_at record_places record_names B (λ j r k. (reads_record B j r k).1) (record_names_stand B) stand in
+    let asked = names_of_many query_at query_places (λ (q : Query). q.name ∷ []) B (λ j q k. (reads_question B j q k).1) (question_names_stand B) w.queries_stand in
     let header_is : header_at B i ≡ Ok (w.header, i + 12) = (reads_word B i w.header (i + 12)).1 (w.header_stands, refl) in
     let questions_are : many_at query_at (length m.queries) B (i + 12) ≡ Ok (m.queries, w.queries_end) =
     many_again (IsQueryAt B) query_at B (λ j q k. (reads_question B j q k).1) (i + 12) m.queries w.queries_end w.queries_stand in
