@@ -1,3 +1,4 @@
+pub mod AddsLemmas
 pub mod CharLemmas
 pub mod ClassTexts
 pub mod CompareLemmas
@@ -19,6 +20,7 @@ pub mod ManyLemmas
 pub mod NameOfLaws
 pub mod NameOfLemmas
 pub mod NamedLemmas
+pub mod NamesLemmas
 pub mod ParseLemmas
 pub mod PassLemmas
 pub mod PatchLemmas

@@ -14,6 +14,11 @@ abbrev pub ◌>>=◌ : {A B : Type 0} → Result A DecodeError → (A → Result
 (Ok x) >>= f = f x
 (Err e) >>= f = Err e
 
+-- the place behind what was read
+abbrev pub behind : {A : Type 0} → Read A → ℕ
+behind (Ok r) = r.1
+behind (Err e) = 0
+
 -- a call was refused: for want of memory, or with the fault that reading meets
 abbrev pub Fails : {Y : Type 0} → DecodeError → Result Y DecodeError → Type 0
 Fails faults.Memory read = Unit {0}

@@ -53,3 +53,8 @@ pub record IsNameAt (bytes : List ℕ) (i : ℕ) (name : NameValue) (e : ℕ) : 
   pub spelled : Spelled bytes name.labels i i e
   pub short : plain_len name.labels ≤ 255
   pub absolute : name.absolute ≡ true
+
+-- these names stand at these places
+pub data NamesStand (bytes : List ℕ) : List ℕ → List NameValue → Type 0 where
+  no_more : NamesStand bytes [] []
+  one_more : {i e : ℕ} {name : NameValue} {places : List ℕ} {names : List NameValue} → IsNameAt bytes i name e → NamesStand bytes places names → NamesStand bytes (i ∷ places) (name ∷ names)

@@ -3,15 +3,16 @@ use Rattle.std.proofs.Common.{Err, List, Ok, [], ap, arith, length, length-appen
 use Rattle.std.specs.Prelude.{◌↔◌}
 use Rattle.base.specs.Laws.{Holds, Keeps, Writes}
 use Rattle.base.specs.Reading.{Read}
+use Rattle.base.specs.Spelling.{NamesStand}
 use Rattle.base.specs.State.{State}
 use Rattle.base.specs.declared.error.decode_error.DecodeError.TheVariants as faults
 use Rattle.base.specs.declared.error.decode_error.DecodeError.{DecodeError}
 use Rattle.base.specs.declared.record_type.RecordType.{RecordType}
-use Rattle.base_data.proofs.EachKind.{kind_again, kind_row, none_again}
+use Rattle.base_data.proofs.EachKind.{kind_again, kind_row, names_stand, none_again}
 use Rattle.base_data.proofs.FillLemmas.{filling_of}
 use Rattle.base_data.proofs.Tells.{same_ok}
 use Rattle.base_data.specs.DataAt.{IsDataAt}
-use Rattle.base_data.specs.Kinds.{DataWord, IsReadable, kind_at, plain_data, type_of_data}
+use Rattle.base_data.specs.Kinds.{DataWord, IsReadable, data_names, data_places, kind_at, plain_data, type_of_data}
 use Rattle.base_data.specs.RData.{filling, rdata_at}
 use Rattle.base_data.specs.declared.rdata.RData.TheVariants as kinds
 use Rattle.base_data.specs.declared.rdata.RData.{RData}
@@ -45,6 +46,12 @@ pub reads_data : (B : List ℕ) (i : ℕ) (type : RecordType) (len : ℕ) (d : R
 reads_data B i type len d e = (data_says type len B i (d, e), λ is. stands_again B i type len d is.0 ∙ ap (λ (m : ℕ). ok (d, m)) (sym is.1)) where
   ok : RData × ℕ → Read RData
   ok z = Ok z
+
+-- the names of data that is read stand at their places
+pub read_names_stand : (B : List ℕ) (i : ℕ) (type : RecordType) (len : ℕ) (d : RData) (e : ℕ) → rdata_at type len B i ≡ Ok (d, e) → NamesStand B (data_places d B i) (data_names d)
+read_names_stand B i type len d e is =
+    let stands = ((reads_data B i type len d e).0 is).0 in
+    names_stand d B i (i + len) stands.word stands.readable
 
 not_both : (r : Read RData) (x : RData × ℕ) (f : DecodeError) → r ≡ Ok x → r ≡ Err f → ⊥
 not_both r x f read refused = cc

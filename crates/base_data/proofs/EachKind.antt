@@ -1,18 +1,21 @@
 -- What is proved of data by going through its kinds: each line takes what stands in the files of the kind.
-use Rattle.std.proofs.Common.{IsTrue, List, Ok, [], ap, arith, length, refl, true, ℕ, ◌+◌, ◌∙◌, ◌∷◌, ◌≡◌, ◌≤◌}
+use Rattle.std.proofs.Common.{IsTrue, List, Ok, [], ap, arith, length, refl, true, ℕ, ◌+◌, ◌∙◌, ◌∷◌, ◌≡◌, ◌≤◌, sym, subst}
 use Rattle.std.specs.Cmp.Lexicographic.{bytes_decides}
 use Rattle.std.specs.Cmp.{first_so, second_so}
 use Rattle.std.specs.Prelude.{◌↔◌}
 use Rattle.base.specs.Labels.{wire_of}
-use Rattle.base.specs.Reading.{bytes_at}
+use Rattle.base.specs.Names.{name_at}
+use Rattle.base.specs.Reading.{behind, bytes_at}
 use Rattle.base.specs.RecordType.{same_type}
+use Rattle.base.specs.Spelling.{NamesStand, no_more, one_more}
 use Rattle.base.specs.declared.record_type.RecordType.TheVariants as types
 use Rattle.base.specs.declared.record_type.RecordType.{RecordType}
+use Rattle.base.proofs.ReadingLemmas.{name_again}
 use Rattle.base_data.proofs.AddressWords.{fills_a, fills_aaaa}
 use Rattle.base_data.proofs.ByteWords.{bytes_inside, some_bytes}
 use Rattle.base_data.proofs.FieldLemmas.{both}
 use Rattle.base_data.proofs.MXLemmas.{mx_inside, mx_is, mx_longer, tells_mx}
-use Rattle.base_data.proofs.NameWords.{name_inside, name_longer}
+use Rattle.base_data.proofs.NameWords.{here_name, name_inside, name_longer}
 use Rattle.base_data.proofs.OneNameLemmas.{tells_aname, tells_cname, tells_ns, tells_ptr}
 use Rattle.base_data.proofs.OptionWords.{fills_options, options_inside, options_same, options_some}
 use Rattle.base_data.proofs.ReadRows.{IsRow, again_of, no_row, row_of}
@@ -21,7 +24,7 @@ use Rattle.base_data.proofs.SRVLemmas.{srv_inside, srv_is, srv_longer, tells_srv
 use Rattle.base_data.proofs.SameData.{IsSame, apart, as_bytes, as_name, flag_of, types_Decide}
 use Rattle.base_data.proofs.Tells.{fills_bytes, fills_from}
 use Rattle.base_data.proofs.TextWords.{fills_txt, some_strings}
-use Rattle.base_data.specs.Kinds.{DataWord, FitsTypes, IsReadable, as_any, is_carried, kind_at, type_of_data}
+use Rattle.base_data.specs.Kinds.{DataWord, FitsTypes, IsReadable, as_any, data_names, data_places, is_carried, kind_at, type_of_data}
 use Rattle.base_data.specs.OPT.{options_wire}
 use Rattle.base_data.specs.RData.{filling, is_signature_data, signature_in}
 use Rattle.base_data.specs.contracts.rdata.RDataPartialEq.TheImpl.{ghosts as equality}
@@ -130,6 +133,30 @@ data_inside (kinds.OPT x) B i e inside h = options_inside inside h
 data_inside (kinds.TSIG x) B i e inside h = bytes_inside x B i e inside h
 data_inside (kinds.Update0 type) B i e inside h = bytes_inside [] B i e inside h
 data_inside (kinds.Unknown code x) B i e inside h = bytes_inside x B i e inside h
+
+-- its names stand at the places that are said to be theirs
+pub names_stand : (d : RData) (B : List ℕ) (i e : ℕ) → DataWord d B i e → IsReadable d → NamesStand B (data_places d B i) (data_names d)
+names_stand (kinds.A x) B i e word readable = no_more
+names_stand (kinds.AAAA x) B i e word readable = no_more
+names_stand (kinds.NS x) B i e word readable = one_more (here_name B i x.name e word readable) no_more
+names_stand (kinds.CNAME x) B i e word readable = one_more (here_name B i x.name e word readable) no_more
+names_stand (kinds.PTR x) B i e word readable = one_more (here_name B i x.name e word readable) no_more
+names_stand (kinds.ANAME x) B i e word readable = one_more (here_name B i x.name e word readable) no_more
+names_stand (kinds.MX x) B i e (m, preference, exchange) readable =
+    subst (λ (k : ℕ). NamesStand B (k ∷ []) (x.exchange ∷ [])) preference.1 (one_more (here_name B m x.exchange e exchange readable) no_more)
+names_stand (kinds.SOA x) B i e (m, mname, (n, rname, numbers)) (first, second) =
+    let stands = here_name B i x.mname m mname first in
+    let at : m ≡ behind (name_at B i) = sym (ap behind (name_again B i x.mname m stands)) in
+    one_more stands (subst (λ (k : ℕ). NamesStand B (k ∷ []) (x.rname ∷ [])) at (one_more (here_name B m x.rname n rname second) no_more))
+names_stand (kinds.SRV x) B i e (second, priority, (third, weight, (fourth, port, target))) readable =
+    let at : fourth ≡ i + 6 = omega (arith, priority.1, weight.1, port.1) in
+    subst (λ (k : ℕ). NamesStand B (k ∷ []) (x.target ∷ [])) at (one_more (here_name B fourth x.target e target readable) no_more)
+names_stand (kinds.TXT x) B i e word readable = no_more
+names_stand (kinds.NULL x) B i e word readable = no_more
+names_stand (kinds.OPT x) B i e word readable = no_more
+names_stand (kinds.TSIG x) B i e word readable = no_more
+names_stand (kinds.Update0 type) B i e word readable = no_more
+names_stand (kinds.Unknown code x) B i e word readable = no_more
 
 -- ---- signatures
 

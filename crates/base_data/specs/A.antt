@@ -3,7 +3,7 @@ use Rattle.std.specs.Prelude.{◌≡◌, ℕ, List, [], ◌∷◌, length, Ok, O
 use Rattle.base.specs.Reading.{Read, bytes_at, ◌>>=◌}
 use Rattle.base_data.specs.declared.rdata.a.A.{A}
 use Rattle.base_data.specs.Fields.{ipv4_item}
-use Rattle.base_data.specs.Kind.{AnyNames, AreOctets, Kind, bare}
+use Rattle.base_data.specs.Kind.{AnyNames, AreOctets, Kind, bare, no_places}
 use Rattle.std.specs.Net.Text.{ipv4_text}
 use Rattle.base.specs.Words.{Bytes}
 
@@ -26,6 +26,8 @@ a_kind x = record {
   readable = length x.octets ≡ 4;
   text = ipv4_text x.octets;
   canonical = x.octets;
+  held = [];
+  places = no_places;
   flags = [];
   fits = Unit {0};
   items = Some (ipv4_text x.octets ∷ []);

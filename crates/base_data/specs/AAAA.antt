@@ -5,7 +5,7 @@ use Rattle.std.specs.Net.Text.{hex_groups_text}
 use Rattle.base.specs.Reading.{Read, bytes_at, ◌>>=◌}
 use Rattle.base_data.specs.declared.rdata.aaaa.AAAA.{AAAA}
 use Rattle.base_data.specs.Fields.{ipv6_item}
-use Rattle.base_data.specs.Kind.{AnyNames, AreOctets, Kind, bare}
+use Rattle.base_data.specs.Kind.{AnyNames, AreOctets, Kind, bare, no_places}
 use Rattle.base.specs.Words.{Bytes}
 
 -- the address at a place
@@ -42,6 +42,8 @@ aaaa_kind x = record {
   readable = length x.octets ≡ 16;
   text = aaaa_text x.octets;
   canonical = x.octets;
+  held = [];
+  places = no_places;
   flags = [];
   fits = Unit {0};
   items = Some (aaaa_text x.octets ∷ []);

@@ -19,6 +19,10 @@ pub record Kind : Type 1 where
   pub text : List ℕ
   -- the bytes of its canonical form (RFC 4034, 6.2)
   pub canonical : List ℕ
+  -- its names, from the left
+  pub held : List NameValue
+  -- the places of these, where it begins at a place of a buffer
+  pub places : List ℕ → ℕ → List ℕ
   -- whether each of its names is absolute, from the left
   pub flags : List Bool
   -- whether its fields are such as the program's types hold
@@ -33,6 +37,10 @@ pub record Kind : Type 1 where
 -- data without names: its names are written by any change
 abbrev pub AnyNames : State → State → Type 0
 AnyNames old new = Unit {0}
+
+-- data without names has no place of one
+abbrev pub no_places : List ℕ → ℕ → List ℕ
+no_places bytes i = []
 
 -- an item that stands as it is
 abbrev pub bare : List ℕ → List ℕ

@@ -167,6 +167,14 @@ canonical_data d = (kind_of d).canonical
 abbrev pub kind_rank : RData → ℕ
 kind_rank d = (kind_of d).rank
 
+-- the names of data, from the left
+abbrev pub data_names : RData → List NameValue
+data_names d = (kind_of d).held
+
+-- the places of the names of data, where it begins at a place of a buffer
+abbrev pub data_places : RData → List ℕ → ℕ → List ℕ
+data_places d = (kind_of d).places
+
 -- whether each name is absolute, from the left
 abbrev pub name_flags : RData → List Bool
 name_flags d = (kind_of d).flags

@@ -43,6 +43,10 @@ mx_text x = decimal x.preference ++ (codes " " ++ (name_text x.exchange))
 abbrev pub CompressesMX : MX → State → State → Type 0
 CompressesMX x old new = IsCompressed x.exchange.labels (appended (to_be_bytes w16 x.preference) old) new
 
+-- its name stands behind two bytes (RFC 1035, 3.3.9)
+abbrev pub mx_places : List ℕ → ℕ → List ℕ
+mx_places bytes i = (i + 2) ∷ []
+
 -- what is known of the data
 abbrev pub mx_kind : MX → Kind
 mx_kind x = record {
@@ -53,6 +57,8 @@ mx_kind x = record {
   readable = x.exchange.absolute ≡ true;
   text = mx_text x;
   canonical = to_be_bytes w16 x.preference ++ name_octets x.exchange;
+  held = x.exchange ∷ [];
+  places = mx_places;
   flags = x.exchange.absolute ∷ [];
   fits = (x.preference < 2 ^ 16) × AreLabels x.exchange.labels;
   items = Some (decimal x.preference ∷ name_text x.exchange ∷ []);

@@ -7,7 +7,7 @@ use Rattle.std.specs.Ordering.{eq_of_both, on}
 use Rattle.base.specs.Reading.{Read, bytes_at, number_at, ◌>>=◌}
 use Rattle.base.specs.Words.{BackToBack, Bytes, Number, Then}
 use Rattle.base_data.specs.Opaque.{opaque_text, same_bytes}
-use Rattle.base_data.specs.Kind.{AnyNames, Kind, bare}
+use Rattle.base_data.specs.Kind.{AnyNames, Kind, bare, no_places}
 
 -- an option's code and bytes
 pub record OptionValue : Type 0 where
@@ -92,6 +92,8 @@ opt_kind x = record {
   readable = x ≢ [];
   text = opaque_text (options_wire x);
   canonical = options_wire x;
+  held = [];
+  places = no_places;
   flags = [];
   fits = All FitsOption x;
   items = None;

@@ -19,6 +19,10 @@ abbrev pub one_name_of : {X : Type 0} → (NameValue → X) → List (List ℕ) 
 one_name_of of (name ∷ []) origin = option_map of (name_item name origin)
 one_name_of of _ origin = None
 
+-- the place of its name is its own (RFC 1035, 3.3.1, 3.3.11 and 3.3.12)
+abbrev pub own_place : List ℕ → ℕ → List ℕ
+own_place bytes i = i ∷ []
+
 -- what is known of data that is a name; how the name is written is its kind's
 abbrev pub name_kind : ℕ → NameValue → (State → State → Type 0) → Kind
 name_kind rank name names = record {
@@ -29,6 +33,8 @@ name_kind rank name names = record {
   readable = name.absolute ≡ true;
   text = name_text name;
   canonical = name_octets name;
+  held = name ∷ [];
+  places = own_place;
   flags = name.absolute ∷ [];
   fits = AreLabels name.labels;
   items = Some (name_text name ∷ []);

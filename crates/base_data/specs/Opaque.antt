@@ -6,7 +6,7 @@ use Rattle.std.specs.Fmt.{decimal}
 use Rattle.std.specs.List.{flat_map}
 use Rattle.std.specs.Ordering.{nat_cmp}
 use Rattle.std.specs.declared.cmp.Ordering.{Ordering}
-use Rattle.base_data.specs.Kind.{AnyNames, Kind, bare}
+use Rattle.base_data.specs.Kind.{AnyNames, Kind, bare, no_places}
 use Rattle.base.specs.Words.{Bytes}
 
 -- a byte in two hexadecimal digits, in lower case
@@ -39,6 +39,8 @@ bytes_kind rank readable x = record {
   readable = readable;
   text = opaque_text x;
   canonical = x;
+  held = [];
+  places = no_places;
   flags = [];
   fits = Unit {0};
   items = None;

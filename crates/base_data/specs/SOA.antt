@@ -2,7 +2,7 @@
 use Rattle.std.specs.Prelude.{ℕ, List, Ok, ◌+◌, ◌^◌, ◌<◌, ◌++◌, codes, [], ◌∷◌, ◌≡◌, true, Option, Some, None}
 use Rattle.std.specs.Int.{w32, to_be_bytes}
 use Rattle.base.specs.Names.{name_at}
-use Rattle.base.specs.Reading.{Read, number_at, ◌>>=◌}
+use Rattle.base.specs.Reading.{Read, behind, number_at, ◌>>=◌}
 use Rattle.base.specs.Labels.{AreLabels, NameValue, plain_len}
 use Rattle.base.specs.NameText.{name_text}
 use Rattle.base.specs.Words.{NameAt, Number, Then}
@@ -75,6 +75,10 @@ pub record CompressesSOA (x : SOA) (old new : State) : Type 0 where
   pub second : IsCompressed x.rname.labels behind_first behind_second
   pub numbers : new ≡ appended (soa_numbers x) behind_second
 
+-- its first name stands at its place, and the second one behind that (RFC 1035, 3.3.13)
+abbrev pub soa_places : List ℕ → ℕ → List ℕ
+soa_places bytes i = i ∷ behind (name_at bytes i) ∷ []
+
 -- what is known of the data
 abbrev pub soa_kind : SOA → Kind
 soa_kind x = record {
@@ -86,6 +90,8 @@ soa_kind x = record {
   text = soa_text x;
   canonical = name_octets x.mname ++ name_octets x.rname ++ to_be_bytes w32 x.serial ++ to_be_bytes w32 x.refresh ++ to_be_bytes w32 x.retry
       ++ to_be_bytes w32 x.expire ++ to_be_bytes w32 x.minimum;
+  held = x.mname ∷ x.rname ∷ [];
+  places = soa_places;
   flags = x.mname.absolute ∷ x.rname.absolute ∷ [];
   fits = AreLabels x.mname.labels × AreLabels x.rname.labels × SOAFits x;
   items = Some (name_text x.mname ∷ name_text x.rname ∷ decimal x.serial ∷ decimal x.refresh ∷ decimal x.retry

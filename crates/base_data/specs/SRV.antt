@@ -56,6 +56,10 @@ plain_srv x = 2 + (2 + (2 + (plain_len x.target.labels)))
 abbrev pub srv_text : SRV → List ℕ
 srv_text x = decimal x.priority ++ (codes " " ++ (decimal x.weight ++ (codes " " ++ (decimal x.port ++ (codes " " ++ (name_text x.target))))))
 
+-- its name stands behind six bytes (RFC 2782)
+abbrev pub srv_places : List ℕ → ℕ → List ℕ
+srv_places bytes i = (i + 6) ∷ []
+
 -- what is known of the data
 abbrev pub srv_kind : SRV → Kind
 srv_kind x = record {
@@ -66,6 +70,8 @@ srv_kind x = record {
   readable = x.target.absolute ≡ true;
   text = srv_text x;
   canonical = to_be_bytes w16 x.priority ++ to_be_bytes w16 x.weight ++ to_be_bytes w16 x.port ++ name_octets x.target;
+  held = x.target ∷ [];
+  places = srv_places;
   flags = x.target.absolute ∷ [];
   fits = SRVFits x × AreLabels x.target.labels;
   items = Some (decimal x.priority ∷ decimal x.weight ∷ decimal x.port ∷ name_text x.target ∷ []);

@@ -8,7 +8,7 @@ use Rattle.base.specs.NameText.{decimal_text}
 use Rattle.base.specs.Reading.{Read, bytes_at, ◌>>=◌}
 use Rattle.base.specs.declared.error.decode_error.DecodeError.TheVariants as faults
 use Rattle.base_data.specs.Opaque.{same_bytes}
-use Rattle.base_data.specs.Kind.{AnyNames, Kind}
+use Rattle.base_data.specs.Kind.{AnyNames, Kind, no_places}
 use Rattle.base_data.specs.StringItems.{string_items}
 use Rattle.base.specs.Words.{Bytes}
 
@@ -71,6 +71,8 @@ txt_kind x = record {
   readable = x ≢ [];
   text = txt_text x;
   canonical = wire_of x;
+  held = [];
+  places = no_places;
   flags = [];
   fits = Unit {0};
   items = Some (map (flat_map string_byte) x);

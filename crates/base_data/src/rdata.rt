@@ -1,11 +1,12 @@
 //! The kinds of record data, each in a file of its own, and the data of any record: what goes through all kinds
 //! stands here.
 
-ghost use Rattle.std.specs.Prelude.{◌≡◌, ◌<◌, ◌≤◌, [], Some, take};
+ghost use Rattle.std.specs.Prelude.{◌≡◌, ◌<◌, ◌≤◌, [], IfOk, Some, take};
 ghost use Rattle.base.specs.Counts.{Counts};
 ghost use Rattle.base.specs.Laws.{Writes};
+ghost use Rattle.base.specs.Passing.{AddsPassed};
 ghost use Rattle.base.specs.Reading.{Reads};
-ghost use Rattle.base_data.specs.Kinds.{DataWord, WritesNames, canonical_data, data_text, kind_at, kind_rank, name_flags, plain_data, type_of_data};
+ghost use Rattle.base_data.specs.Kinds.{DataWord, WritesNames, canonical_data, data_places, data_text, kind_at, kind_rank, name_flags, plain_data, type_of_data};
 ghost use Rattle.base_data.specs.RData.{is_empty_data};
 
 pub mod a;
@@ -132,6 +133,7 @@ impl RData {
         requires { 0 < len }
         ensures read { Reads (λ x. x) decoder.old decoder.new result (kind_at record_type len decoder.old.bytes decoder.old.index) }
         ensures counts { Counts decoder.old decoder.new result }
+        ensures adds { IfOk result (λ d. AddsPassed (data_places d decoder.old.bytes decoder.old.index) decoder.old decoder.new) }
     {
         match record_type {
             RecordType::A => read_as::<A>(decoder),

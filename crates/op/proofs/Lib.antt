@@ -1,3 +1,5 @@
+mod MessageNames
+pub mod AddsMessage
 pub mod BitLemmas
 pub mod EdnsEquals
 pub mod EdnsLemmas

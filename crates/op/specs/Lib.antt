@@ -16,6 +16,7 @@ pub mod MessageType
 pub mod Metadata
 pub mod OpCode
 pub mod Parts
+pub mod Places
 pub mod Query
 pub mod ReadsOrDecodes
 pub mod ResponseCode

@@ -2,6 +2,7 @@
 
 ghost use Rattle.std.specs.Prelude.{◌≡◌, ◌↔◌, ◌<◌, ◌+◌, ◌%◌, ◌||◌, ◌^◌, ℕ, List, [], length, Ok, Err, IfOk, OnOk, OnErr, IsOkUnless, IsErrOf};
 ghost use Rattle.base.specs.Counts.{Counts};
+ghost use Rattle.base.specs.Passing.{AddsPassed};
 ghost use Rattle.base.specs.Reading.{Reads};
 ghost use Rattle.base.specs.State.{appended};
 ghost use Rattle.base.specs.Laws.{Keeps, Writes};
@@ -137,10 +138,11 @@ impl BinDecodable for Header {
     /// the fourth is not looked at. Takes no memory.
     ///
     /// Refused with `InsufficientBytes` where fewer than twelve bytes are left.
-    #[tactic(auto, unfolding(crate::specs::Header::header_at))]
+    #[tactic(auto, using(base::proofs::AddsLemmas::adds_none), unfolding(crate::specs::Header::header_at))]
     fn read(decoder: &mut BinDecoder<'_>) -> Result<Header, DecodeError>
         ensures read { Reads (λ x. x) decoder.old decoder.new result (header_at decoder.old.bytes decoder.old.index) }
         ensures counts { Counts decoder.old decoder.new result }
+        ensures adds { IfOk result (λ _. AddsPassed [] decoder.old decoder.new) }
         ensures found { IfOk result (λ h. IsHeaderAt decoder.old.bytes decoder.old.index h × (decoder.new.index ≡ decoder.old.index + 12)) }
         ensures only { IsOkUnless result DecodeError.InsufficientBytes }
         ensures short { length decoder.old.bytes < decoder.old.index + 12 ↔ IsErrOf result DecodeError.InsufficientBytes }

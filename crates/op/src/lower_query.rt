@@ -6,6 +6,7 @@ ghost use Rattle.std.specs.Cmp.{partial_equiv_from_equiv};
 ghost use Rattle.base.specs.NameOrder.{lowered};
 ghost use Rattle.op.specs.contracts.query.QueryEq.TheImpl.Laws.{laws-law as query_laws};
 ghost use Rattle.op.specs.LowerQuery.{lower_query_text};
+ghost use Rattle.op.specs.Places.{query_places};
 ghost use Rattle.op.specs.Query.{QueryWord, plain_query, query_at};
 
 use crate::query::Query;
@@ -132,6 +133,8 @@ impl BinEncodable for LowerQuery {
 
 impl BinDecodable for LowerQuery {
     ghost read_at = { query_at };
+
+    ghost names_at = { query_places };
 
     /// Reads a question at the decoder's place, and moves behind it (RFC 1035, 4.1.2).
     ///

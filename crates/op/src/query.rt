@@ -2,6 +2,7 @@
 
 ghost use Rattle.std.specs.Prelude.{◌≡◌, ◌↔◌, ℕ, List, Ok, Err, Some, IsTrue, [], true};
 ghost use Rattle.base.specs.NameOrder.{same_name};
+ghost use Rattle.op.specs.Places.{query_places};
 ghost use Rattle.op.specs.Query.{FitsQuery, IsQueryAt, IsQueryFault, QueryWord, plain_query, plain_question, query_at, query_text, query_value, raw_query};
 ghost use Rattle.op.specs.declared.query.Query.{Query};
 
@@ -148,6 +149,8 @@ impl BinEncodable for Query {
 
 impl BinDecodable for Query {
     ghost read_at = { query_at };
+
+    ghost names_at = { query_places };
 
     /// Reads a question at the decoder's place, and moves behind it. The top bit of the class field is the unicast bit
     /// (RFC 1035, 4.1.2; RFC 6762, 5.4).

@@ -1,3 +1,4 @@
+pub mod AddsRecord
 pub mod EqualRecords
 pub mod OrderRecords
 pub mod ReadRecords

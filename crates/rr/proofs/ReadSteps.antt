@@ -2,7 +2,7 @@
 use Rattle.std.proofs.Common.{◌≡◌, ℕ, ◌+◌, ◌-◌, ◌<◌, ◌≤◌, ◌==◌, Bool, true, false, cond, not, ◌&&◌, List, [], length, refl, ap, sym, ◌∙◌, subst, arith, Result, Ok, Err}
 use Rattle.std.proofs.lemmas.Bool.{eq-eqb, le-ltb, lt-ltb}
 use Rattle.std.specs.Prelude.{nat_lt, if◌then◌else◌}
-use Rattle.std.specs.Int.{Width, w16, w32}
+use Rattle.std.specs.Int.{w16, w32}
 use Rattle.base.specs.Labels.{NameValue}
 use Rattle.base.specs.Names.{name_at}
 use Rattle.base.specs.Reading.{Fails, Read, Reads, ◌>>=◌, number_at}
@@ -66,11 +66,11 @@ module _ (owner : NameValue) (type : RecordType) (B : List ℕ) (i : ℕ) {class
 -- ---- the record
 
 -- a number as a type
-abbrev typed : ℕ × ℕ → Read RecordType
+abbrev pub typed : ℕ × ℕ → Read RecordType
 typed n = Ok (type_of n.0, n.1)
 
 -- the type at a place
-abbrev type_at : List ℕ → ℕ → Read RecordType
+abbrev pub type_at : List ℕ → ℕ → Read RecordType
 type_at bytes i = number_at w16 bytes i >>= typed
 
 -- what goes on with the type that was read, or fails with it

@@ -1,5 +1,5 @@
 -- The record word (RFC 1035, 4.1.3; an OPT record: RFC 6891, 6.1.2; the top bit of the class: RFC 6762, 10.2).
-use Rattle.std.specs.Prelude.{◌≡◌, ◌≢◌, ◌≤◌, ℕ, ◌+◌, ◌-◌, ◌<◌, ◌==◌, length, List, [], ◌++◌, codes, true, false, not, ◌&&◌, Bool, if◌then◌else◌, nat_lt, Ok, Err}
+use Rattle.std.specs.Prelude.{◌≡◌, ◌≢◌, ◌≤◌, ℕ, ◌+◌, ◌-◌, ◌<◌, ◌==◌, length, List, [], ◌∷◌, ◌++◌, codes, true, false, not, ◌&&◌, Bool, if◌then◌else◌, nat_lt, Ok, Err}
 use Rattle.std.specs.Fmt.{decimal}
 use Rattle.std.specs.Int.{w16, w32}
 use Rattle.base.specs.DNSClass.{class_field, class_number, class_text, class_of, field_class, field_top, opt_class}
@@ -7,7 +7,7 @@ use Rattle.base.specs.Faults.{IsFaulty}
 use Rattle.base.specs.Labels.{NameValue, plain_len}
 use Rattle.base.specs.NameText.{name_text}
 use Rattle.base.specs.Names.{name_at}
-use Rattle.base.specs.Reading.{Read, ◌>>=◌, number_at}
+use Rattle.base.specs.Reading.{Read, ◌>>=◌, behind, number_at}
 use Rattle.base.specs.RecordType.{type_number, type_of, type_text}
 use Rattle.base.specs.Spelling.{IsNameAt}
 use Rattle.base.specs.Words.{IsNumberAt, NameAt}
@@ -16,7 +16,7 @@ use Rattle.base.specs.declared.error.decode_error.DecodeError.{DecodeError}
 use Rattle.base.specs.declared.error.decode_error.DecodeError.TheVariants as faults
 use Rattle.base.specs.declared.record_type.RecordType.{RecordType}
 use Rattle.base.specs.declared.record_type.RecordType.TheVariants as types
-use Rattle.base_data.specs.Kinds.{IsReadable, DataWord, data_text, plain_data, type_of_data}
+use Rattle.base_data.specs.Kinds.{IsReadable, DataWord, data_names, data_places, data_text, plain_data, type_of_data}
 use Rattle.base_data.specs.DataAt.{IsDataAt}
 use Rattle.base_data.specs.RData.{rdata_at}
 use Rattle.base_data.specs.declared.rdata.RData.{RData}
@@ -146,6 +146,20 @@ record_at bytes i = do
   owner ← name_at bytes i
   type ← number_at w16 bytes owner.1
   if is_opt_type (type_of type.0) && not (length owner.0.labels == 0) then Err (faults.EdnsNameNotRoot owner.0) else body_at owner.0 (type_of type.0) bytes type.1
+
+-- the names of a record: its owner's, and those of its data from the left
+abbrev pub record_names : Record RData → List NameValue
+record_names r = r.name ∷ data_names r.rdata
+
+-- the places of the names of the data of a record that was read, where that begins at a place
+abbrev pub places_in : Read (Record RData) → List ℕ → ℕ → List ℕ
+places_in (Ok r) bytes i = data_places r.0.rdata bytes i
+places_in (Err e) bytes i = []
+
+-- The places of the names of the record that stands at i: its owner's, and those of its data, ten bytes behind the owner
+-- (RFC 1035, 4.1.3).
+abbrev pub record_places : List ℕ → ℕ → List ℕ
+record_places bytes i = i ∷ places_in (record_at bytes i) bytes (behind (name_at bytes i) + 10)
 
 -- a name and a type stand at i, and the owner of an OPT record is the root
 pub record HasHead (B : List ℕ) (i : ℕ) (owner : NameValue) (type m : ℕ) : Type 0 where

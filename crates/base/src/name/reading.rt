@@ -1,13 +1,13 @@
 //! Reads a name (RFC 1035, 4.1.4).
 
-ghost use Rattle.std.specs.Prelude.{◌≡◌, ℕ, ◌<◌, ◌≤◌, ◌+◌, ◌++◌, [], Ok, Err, length, take, slice_range, IfOk, IfSome, OnOk, OnErr, IsOkUnless, MatchResult};
+ghost use Rattle.std.specs.Prelude.{◌≡◌, ℕ, ◌<◌, ◌≤◌, ◌+◌, ◌++◌, ◌∷◌, [], Ok, Err, length, take, slice_range, IfOk, IfSome, OnOk, OnErr, IsOkUnless, MatchResult};
 ghost use Rattle.std.specs.FinSet as set;
 ghost use Rattle.base.specs.Counts.{Counts};
 ghost use Rattle.base.specs.Labels.{IsWire, labels_of};
 ghost use Rattle.base.specs.Names.{part_at, pointer_to, labels_at, name_at};
 ghost use Rattle.base.specs.PartOf.{part};
 ghost use Rattle.base.specs.Passed.{AreSpelled, Followed, PassLater, PassesThese, targets};
-ghost use Rattle.base.specs.Passing.{inserted, passed};
+ghost use Rattle.base.specs.Passing.{AddsPassed, inserted, passed};
 ghost use Rattle.base.specs.Reading.{Fails, Reads};
 ghost use Rattle.base.specs.Spelling.{Spelled};
 
@@ -230,6 +230,8 @@ fn one_piece<'d>(decoder: &'d BinDecoder<'_>) -> Option<Piece<'d>>
 impl BinDecodable for Name {
     ghost read_at = { name_at };
 
+    ghost names_at = { λ _ i. i ∷ [] };
+
     /// Reads an absolute name at the decoder's place, its pointers followed, and moves behind it
     /// (RFC 1035, 4.1.4). Grows memory once for a name whose labels take more than 29 bytes, and to keep the labels of each
     /// pointer target that it follows. A target that is kept already ends the walk.
@@ -243,6 +245,7 @@ impl BinDecodable for Name {
         ensures counts { Counts decoder.old decoder.new result }
         ensures passes { IfOk result (λ n. (h : Spelled decoder.old.bytes n.labels decoder.old.index decoder.old.index decoder.new.index)
             → decoder.new.kept ≡ set.union decoder.old.kept (set.from_list (passed h))) }
+        ensures adds { IfOk result (λ _. AddsPassed (decoder.old.index ∷ []) decoder.old decoder.new) }
     {
         if let Some(
             Piece {

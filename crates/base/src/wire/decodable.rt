@@ -8,25 +8,31 @@ use crate::wire::decoder::BinDecoder;
 
 /// A value that can be read.
 ///
-/// `read_at` is what a buffer spells at a place: the value and the place behind it, or the first fault.
+/// `read_at` is what a buffer spells at a place: the value and the place behind it, or the first fault. `names_at` are the
+/// places of the names of the value that is read there.
 pub trait BinDecodable: Drop {
-    ghost use Rattle.std.specs.Prelude.{ℕ, List};
+    ghost use Rattle.std.specs.Prelude.{ℕ, List, [], IfOk};
     ghost use Rattle.base.specs.Counts.{Counts};
+    ghost use Rattle.base.specs.Passing.{AddsPassed};
     ghost use Rattle.base.specs.Reading.{Read, Reads};
 
     ghost read_at: { List ℕ → ℕ → Read Self };
+
+    ghost names_at: { List ℕ → ℕ → List ℕ } = { λ _ _. [] };
 
     /// Reads the value at the decoder's place, and moves behind it.
     ///
     /// Refused with the first fault, and with `Memory` for want of it. A decoder that refused isn't used again.
     fn read(decoder: &mut BinDecoder<'_>) -> Result<Self, DecodeError>
         ensures read { Reads (λ x. x) decoder.old decoder.new result (read_at decoder.old.bytes decoder.old.index) }
-        ensures counts { Counts decoder.old decoder.new result };
+        ensures counts { Counts decoder.old decoder.new result }
+        ensures adds { IfOk result (λ _. AddsPassed (names_at decoder.old.bytes decoder.old.index) decoder.old decoder.new) };
 }
 
 impl BinDecodable for u16 {
     ghost read_at = { number_at w16 };
 
+    #[tactic(auto, using(crate::proofs::AddsLemmas::adds_none))]
     fn read(decoder: &mut BinDecoder<'_>) -> Result<u16, DecodeError> {
         decoder.read_u16()
     }

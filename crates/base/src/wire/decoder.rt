@@ -169,6 +169,7 @@ impl<'a> BinDecoder<'a> {
         ensures only { IsOkUnless result DecodeError.InsufficientBytes }
         ensures read { Reads (λ b. b) self.old self.new result (byte_at self.old.bytes self.old.index) }
         ensures counts { Counts self.old self.new result }
+        ensures kept { self.new.kept ≡ self.old.kept }
     {
         match self.buffer.get(self.index) {
             Some(byte) => {
@@ -185,6 +186,7 @@ impl<'a> BinDecoder<'a> {
         ensures only { IsOkUnless result DecodeError.InsufficientBytes }
         ensures read { Reads (λ n. n) self.old self.new result (number_at w16 self.old.bytes self.old.index) }
         ensures counts { Counts self.old self.new result }
+        ensures kept { self.new.kept ≡ self.old.kept }
     {
         match &self.buffer[self.index..] {
             [high, low, ..] => {
@@ -201,6 +203,7 @@ impl<'a> BinDecoder<'a> {
         ensures only { IsOkUnless result DecodeError.InsufficientBytes }
         ensures read { Reads (λ n. n) self.old self.new result (number_at w32 self.old.bytes self.old.index) }
         ensures counts { Counts self.old self.new result }
+        ensures kept { self.new.kept ≡ self.old.kept }
     {
         match &self.buffer[self.index..] {
             [highest, high, low, lowest, ..] => {
@@ -216,6 +219,7 @@ impl<'a> BinDecoder<'a> {
         ensures only { IsOkUnless result DecodeError.InsufficientBytes }
         ensures read { Reads (λ bytes. bytes.now) self.old self.new result (bytes_at len self.old.bytes self.old.index) }
         ensures counts { Counts self.old self.new result }
+        ensures kept { self.new.kept ≡ self.old.kept }
     {
         let start = self.index;
         if len > self.buffer.len() - start {

@@ -31,6 +31,7 @@ impl BinDecodable for RecordType {
 
     /// Reads a type at the decoder's place, and moves behind it. Refused with `InsufficientBytes` where
     /// less than two bytes are left.
+    #[tactic(auto, using(crate::proofs::AddsLemmas::adds_none))]
     #[inline(always)]
     fn read(decoder: &mut BinDecoder<'_>) -> Result<RecordType, DecodeError> {
         Ok(RecordType::from(decoder.read_u16()?))
@@ -52,6 +53,7 @@ impl BinDecodable for DNSClass {
 
     /// Reads a class at the decoder's place, and moves behind it; never `OPT`. Refused with
     /// `InsufficientBytes` where less than two bytes are left.
+    #[tactic(auto, using(crate::proofs::AddsLemmas::adds_none))]
     fn read(decoder: &mut BinDecoder<'_>) -> Result<DNSClass, DecodeError> {
         Ok(DNSClass::from(decoder.read_u16()?))
     }

@@ -71,6 +71,7 @@ impl BinDecodable for A {
     ghost read_at = { a_at };
 
     /// Reads four bytes. Refused with `InsufficientBytes` where fewer are left.
+    #[tactic(auto, using(base::proofs::AddsLemmas::adds_none))]
     fn read(decoder: &mut BinDecoder<'_>) -> Result<A, DecodeError> {
         match decoder.read_slice(4)? {
             [a, b, c, d] => Ok(A {

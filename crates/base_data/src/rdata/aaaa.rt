@@ -73,6 +73,7 @@ impl BinDecodable for AAAA {
     ghost read_at = { aaaa_at };
 
     /// Reads sixteen bytes. Refused with `InsufficientBytes` where fewer are left.
+    #[tactic(auto, using(base::proofs::AddsLemmas::adds_none))]
     fn read(decoder: &mut BinDecoder<'_>) -> Result<AAAA, DecodeError> {
         let mut octets = [0; 16];
         octets.copy_from_slice(decoder.read_slice(16)?);

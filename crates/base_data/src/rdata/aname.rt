@@ -4,6 +4,7 @@ ghost use Rattle.std.specs.Prelude.{◌≡◌, Some, refl};
 ghost use Rattle.base.specs.Laws.{Writes};
 ghost use Rattle.base_data.specs.ANAME.{aname_at, aname_kind, aname_of};
 ghost use Rattle.base_data.specs.Kinds.{aname_in};
+ghost use Rattle.base_data.specs.OneName.{own_place};
 ghost use Rattle.base_data.specs.declared.rdata.RData.TheVariants as kinds;
 
 use crate::rdata::RData;
@@ -51,6 +52,8 @@ impl Clone for ANAME {
 
 impl BinDecodable for ANAME {
     ghost read_at = { aname_at };
+
+    ghost names_at = { own_place };
 
     /// Reads the name, its pointers followed (RFC 1035, 4.1.4).
     ///

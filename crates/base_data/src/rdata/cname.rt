@@ -4,6 +4,7 @@ ghost use Rattle.std.specs.Prelude.{◌≡◌, Some, refl};
 ghost use Rattle.base.specs.Laws.{Writes};
 ghost use Rattle.base_data.specs.CNAME.{cname_at, cname_kind, cname_of};
 ghost use Rattle.base_data.specs.Kinds.{cname_in};
+ghost use Rattle.base_data.specs.OneName.{own_place};
 ghost use Rattle.base_data.specs.declared.rdata.RData.TheVariants as kinds;
 
 use crate::rdata::RData;
@@ -51,6 +52,8 @@ impl Clone for CNAME {
 
 impl BinDecodable for CNAME {
     ghost read_at = { cname_at };
+
+    ghost names_at = { own_place };
 
     /// Reads the name, its pointers followed (RFC 1035, 3.3.1 and 4.1.4).
     ///

@@ -2,7 +2,7 @@
 
 ghost use Rattle.std.specs.Prelude.{◌≡◌, Some, refl};
 ghost use Rattle.base.specs.Laws.{Writes};
-ghost use Rattle.base_data.specs.MX.{MXWord, mx_at, plain_mx, mx_text, CompressesMX, mx_of};
+ghost use Rattle.base_data.specs.MX.{CompressesMX, MXWord, mx_at, mx_of, mx_places, mx_text, plain_mx};
 ghost use Rattle.base_data.specs.Kinds.{mx_in};
 ghost use Rattle.base_data.specs.declared.rdata.RData.TheVariants as kinds;
 
@@ -65,6 +65,8 @@ impl Clone for MX {
 
 impl BinDecodable for MX {
     ghost read_at = { mx_at };
+
+    ghost names_at = { mx_places };
 
     /// Reads the fields one behind the other, names with their pointers followed (RFC 1035, 3.3.9 and 4.1.4).
     ///

@@ -4,6 +4,7 @@ ghost use Rattle.std.specs.Prelude.{◌≡◌, Some, refl};
 ghost use Rattle.base.specs.Laws.{Writes};
 ghost use Rattle.base_data.specs.PTR.{ptr_at, ptr_kind, ptr_of};
 ghost use Rattle.base_data.specs.Kinds.{ptr_in};
+ghost use Rattle.base_data.specs.OneName.{own_place};
 ghost use Rattle.base_data.specs.declared.rdata.RData.TheVariants as kinds;
 
 use crate::rdata::RData;
@@ -51,6 +52,8 @@ impl Clone for PTR {
 
 impl BinDecodable for PTR {
     ghost read_at = { ptr_at };
+
+    ghost names_at = { own_place };
 
     /// Reads the name, its pointers followed (RFC 1035, 3.3.12 and 4.1.4).
     ///

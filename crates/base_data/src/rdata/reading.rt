@@ -1,9 +1,10 @@
 //! Reads data by type and length.
 
-ghost use Rattle.std.specs.Prelude.{◌≡◌, ◌<◌};
+ghost use Rattle.std.specs.Prelude.{◌≡◌, ◌<◌, IfOk, []};
 ghost use Rattle.base.specs.Counts.{Counts};
+ghost use Rattle.base.specs.Passing.{AddsPassed};
 ghost use Rattle.base.specs.Reading.{Reads, bytes_at};
-ghost use Rattle.base_data.specs.Kinds.{as_any};
+ghost use Rattle.base_data.specs.Kinds.{as_any, data_places};
 ghost use Rattle.base_data.specs.RData.{in_data, rdata_at};
 ghost use Rattle.base_data.specs.declared.rdata.RData.TheVariants as kinds;
 
@@ -25,6 +26,7 @@ impl RData {
     ) -> Result<RData, DecodeError>
         ensures read { Reads (λ x. x) decoder.old decoder.new result (rdata_at record_type len decoder.old.bytes decoder.old.index) }
         ensures counts { Counts decoder.old decoder.new result }
+        ensures adds { IfOk result (λ d. AddsPassed (data_places d decoder.old.bytes decoder.old.index) decoder.old decoder.new) }
     {
         if len == 0 {
             return Ok(RData::Update0(record_type));
@@ -55,8 +57,9 @@ fn inside(record_type: RecordType, fault: DecodeError) -> DecodeError
 
 /// Data whose end is told by its length alone.
 pub(crate) trait SizedData: RecordData {
-    ghost use Rattle.std.specs.Prelude.{◌<◌, ℕ, List};
+    ghost use Rattle.std.specs.Prelude.{◌<◌, ℕ, List, [], IfOk};
     ghost use Rattle.base.specs.Counts.{Counts};
+    ghost use Rattle.base.specs.Passing.{AddsPassed};
     ghost use Rattle.base.specs.Reading.{Read, Reads};
 
     ghost sized_at: { ℕ → List ℕ → ℕ → Read Self };
@@ -67,7 +70,8 @@ pub(crate) trait SizedData: RecordData {
     fn read(decoder: &mut BinDecoder<'_>, len: u16) -> Result<Self, DecodeError>
         requires { 0 < len }
         ensures read { Reads (λ x. x) decoder.old decoder.new result (sized_at len decoder.old.bytes decoder.old.index) }
-        ensures counts { Counts decoder.old decoder.new result };
+        ensures counts { Counts decoder.old decoder.new result }
+        ensures adds { IfOk result (λ _. AddsPassed [] decoder.old decoder.new) };
 }
 
 /// Reads the data of a kind that ends by itself.
@@ -76,6 +80,7 @@ pub(crate) fn read_as<R: BinDecodable + RecordData>(
 ) -> Result<RData, DecodeError>
     ensures read { Reads (λ x. x) decoder.old decoder.new result (as_any R.as_rdata (R.read_at decoder.old.bytes decoder.old.index)) }
     ensures counts { Counts decoder.old decoder.new result }
+    ensures adds { IfOk result (λ _. AddsPassed (R.names_at decoder.old.bytes decoder.old.index) decoder.old decoder.new) }
 {
     Ok(R::read(decoder)?.into_rdata())
 }
@@ -88,6 +93,7 @@ pub(crate) fn read_sized<R: SizedData>(
     requires { 0 < len }
     ensures read { Reads (λ x. x) decoder.old decoder.new result (as_any R.as_rdata (R.sized_at len decoder.old.bytes decoder.old.index)) }
     ensures counts { Counts decoder.old decoder.new result }
+    ensures adds { IfOk result (λ _. AddsPassed [] decoder.old decoder.new) }
 {
     Ok(R::read(decoder, len)?.into_rdata())
 }
@@ -101,6 +107,7 @@ pub(crate) fn read_carried(
     requires { 0 < len }
     ensures read { Reads (λ x. x) decoder.old decoder.new result (as_any (kinds.Unknown code) (bytes_at len decoder.old.bytes decoder.old.index)) }
     ensures counts { Counts decoder.old decoder.new result }
+    ensures adds { IfOk result (λ _. AddsPassed [] decoder.old decoder.new) }
 {
     let rdata = NULL::read(decoder, len)?;
     Ok(RData::Unknown { code, rdata })

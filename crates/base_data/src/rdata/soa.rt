@@ -2,7 +2,7 @@
 
 ghost use Rattle.std.specs.Prelude.{◌≡◌, Some, refl};
 ghost use Rattle.base.specs.Laws.{Writes};
-ghost use Rattle.base_data.specs.SOA.{SOAFits, SOAWord, soa_at, plain_soa, soa_numbers, soa_text, CompressesSOA, soa_of};
+ghost use Rattle.base_data.specs.SOA.{CompressesSOA, SOAFits, SOAWord, plain_soa, soa_at, soa_numbers, soa_of, soa_places, soa_text};
 ghost use Rattle.base_data.specs.Kinds.{soa_in};
 ghost use Rattle.base_data.specs.declared.rdata.RData.TheVariants as kinds;
 
@@ -128,6 +128,8 @@ impl Clone for SOA {
 
 impl BinDecodable for SOA {
     ghost read_at = { soa_at };
+
+    ghost names_at = { soa_places };
 
     /// Reads the fields one behind the other, names with their pointers followed (RFC 1035, 3.3.13 and 4.1.4).
     ///

@@ -2,7 +2,7 @@
 
 ghost use Rattle.std.specs.Prelude.{◌≡◌, Some, refl};
 ghost use Rattle.base.specs.Laws.{Writes};
-ghost use Rattle.base_data.specs.SRV.{SRVFits, SRVWord, srv_at, plain_srv, srv_kind, srv_numbers, srv_text, srv_of};
+ghost use Rattle.base_data.specs.SRV.{SRVFits, SRVWord, plain_srv, srv_at, srv_kind, srv_numbers, srv_of, srv_places, srv_text};
 ghost use Rattle.base_data.specs.Kinds.{srv_in};
 ghost use Rattle.base_data.specs.declared.rdata.RData.TheVariants as kinds;
 
@@ -87,6 +87,8 @@ impl Clone for SRV {
 
 impl BinDecodable for SRV {
     ghost read_at = { srv_at };
+
+    ghost names_at = { srv_places };
 
     /// Reads the fields one behind the other, names with their pointers followed (RFC 2782; RFC 1035, 4.1.4).
     ///

@@ -57,6 +57,7 @@ impl SizedData for TSIG {
     ghost sized_at = { bytes_at };
 
     /// Reads the bytes. Refused with `InsufficientBytes` where fewer are left, and with `Memory` for want of it.
+    #[tactic(auto, using(base::proofs::AddsLemmas::adds_none))]
     fn read(decoder: &mut BinDecoder<'_>, len: u16) -> Result<TSIG, DecodeError> {
         let bytes = decoder.read_slice(usize::from(len))?;
         Ok(TSIG::new(Vec::from_slice(decoder.allocator(), bytes)?))

@@ -109,6 +109,7 @@ impl SizedData for TXT {
     ///
     /// Refused with `InsufficientBytes` where fewer are left or the last string doesn't end with them, and with
     /// `Memory` for want of it.
+    #[tactic(auto, using(base::proofs::AddsLemmas::adds_none))]
     fn read(decoder: &mut BinDecoder<'_>, len: u16) -> Result<TXT, DecodeError> {
         let bytes = decoder.read_slice(usize::from(len))?;
         if !are_strings(bytes) {

@@ -2,12 +2,13 @@
 
 ghost use Rattle.std.specs.Prelude.{◌≡◌, ◌↔◌, ℕ, ◌+◌, ◌-◌, ◌<◌, All, List, [], length, Ok, Err};
 ghost use Rattle.base.specs.Laws.{Holds, Keeps, Writes};
+ghost use Rattle.base.specs.Spelling.{NamesStand};
 ghost use Rattle.base.specs.State.{State};
 ghost use Rattle.base.specs.declared.error.decode_error.DecodeError.{DecodeError};
 ghost use Rattle.base.specs.declared.error.decode_error.DecodeError.TheVariants as faults;
 ghost use Rattle.base.specs.declared.record_type.RecordType.{RecordType};
 ghost use Rattle.base.specs.declared.record_type.RecordType.TheVariants as types;
-ghost use Rattle.base_data.specs.Kinds.{IsReadable, DataWord, plain_data, type_of_data};
+ghost use Rattle.base_data.specs.Kinds.{DataWord, IsReadable, data_names, data_places, plain_data, type_of_data};
 ghost use Rattle.base_data.specs.DataAt.{IsDataAt};
 ghost use Rattle.base_data.specs.RData.{rdata_at};
 ghost use Rattle.base_data.specs.TXT.{AreShort};
@@ -30,4 +31,10 @@ pub fn reading_is_the_data_word()
 pub fn written_data_is_read()
     ensures { (old new : State) (d : RData) → Keeps old new → Writes (DataWord d) (plain_data d) [] old new → IsReadable d → (B : List ℕ) → Holds old new B
         → rdata_at (type_of_data d) (length new.bytes - length old.bytes) B (length old.bytes) ≡ Ok (d, length new.bytes) }
+{}
+
+/// The names of data that is read stand at the places that are said to be theirs, from the left
+/// (RFC 1035, 3.3; RFC 2782).
+pub fn names_of_data_stand_at_their_places()
+    ensures { (B : List ℕ) (i : ℕ) (type : RecordType) (len : ℕ) (d : RData) (e : ℕ) → rdata_at type len B i ≡ Ok (d, e) → NamesStand B (data_places d B i) (data_names d) }
 {}

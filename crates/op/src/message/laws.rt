@@ -5,11 +5,13 @@ ghost use Rattle.std.specs.Cmp.{IsEquivalence};
 ghost use Rattle.std.specs.Cmp.Lexicographic.{pointwise};
 ghost use Rattle.std.specs.Option.{option_eq, option_map};
 ghost use Rattle.base.specs.Many.{many_at};
+ghost use Rattle.base.specs.Spelling.{NamesStand};
 ghost use Rattle.base.specs.Words.{BackToBack};
 ghost use Rattle.op.specs.Cut.{IsCut, IsUncut, as_written};
 ghost use Rattle.op.specs.Fault.{IsMessageFault, IsQueriesFault, IsSectionFault};
 ghost use Rattle.op.specs.Fits.{Fits};
 ghost use Rattle.op.specs.Message.{IsMessageAt, MessageValue, message_at};
+ghost use Rattle.op.specs.Places.{message_names, message_places};
 ghost use Rattle.op.specs.Query.{IsQueryAt, query_at};
 ghost use Rattle.op.specs.Section.{IsSectionAt, SectionValue, section_at};
 ghost use Rattle.op.specs.declared.message.Message.{Message};
@@ -35,6 +37,12 @@ pub fn reading_is_the_message_word()
     ensures section_fault { (is_additional : Bool) (op : _) (count : ℕ) (B : List ℕ) (i : ℕ) (f : DecodeError)
         → (section_at is_additional op count B i ≡ Err f) ↔ IsSectionFault is_additional op count B i f }
     ensures questions_fault { (count : ℕ) (B : List ℕ) (i : ℕ) (f : DecodeError) → (many_at query_at count B i ≡ Err f) ↔ IsQueriesFault count B i f }
+{}
+
+/// The names of a message stand at the places that are said to be theirs: those of its questions, and then those of the
+/// records of its three sections (RFC 1035, 4.1).
+pub fn names_of_a_message_stand_at_their_places()
+    ensures { (B : List ℕ) (i : ℕ) (m : MessageValue) (e : ℕ) (word : IsMessageAt B i m e) → NamesStand B (message_places B i) (message_names word) }
 {}
 
 /// A message that was read fits, and an uncut cut of it is the same message.

@@ -1,12 +1,14 @@
 //! Reads messages (RFC 1035, 4.1).
 
-ghost use Rattle.std.specs.Prelude.{◌≡◌, ◌⊎◌, ℕ, IfErr, IfOk, MatchResult};
+ghost use Rattle.std.specs.Prelude.{◌≡◌, ◌⊎◌, ◌+◌, ℕ, IfErr, IfOk, MatchResult};
 ghost use Rattle.base.specs.Counts.{Counts};
 ghost use Rattle.base.specs.Many.{many_at};
+ghost use Rattle.base.specs.Passing.{AddsPassed};
 ghost use Rattle.base.specs.Reading.{Fails, Reads};
 ghost use Rattle.op.specs.Fault.{IsMessageFault};
 ghost use Rattle.op.specs.Fits.{Fits};
 ghost use Rattle.op.specs.Message.{IsMessageAt, MessageValue, high_code, message_at, message_value};
+ghost use Rattle.op.specs.Places.{message_places, queries_places, records_places};
 ghost use Rattle.op.specs.Query.{query_at};
 ghost use Rattle.op.specs.ReadsOrDecodes.{ReadsOrDecodes};
 ghost use Rattle.op.specs.Section.{parts_value, section_at, section_value, sections_at, sections_value};
@@ -35,6 +37,7 @@ impl Message {
     ) -> Result<Vec<Query>, ProtoError>
         ensures read { ReadsOrDecodes (λ v. v.items) decoder.old decoder.new result (many_at query_at count decoder.old.bytes decoder.old.index) }
         ensures counts { Counts decoder.old decoder.new result }
+        ensures adds { IfOk result (λ _. AddsPassed (queries_places count decoder.old.bytes decoder.old.index) decoder.old decoder.new) }
     {
         Ok(read_many::<Query>(decoder, count)?)
     }
@@ -55,6 +58,7 @@ impl Message {
     ) -> Result<(Vec<Record>, Option<Edns>, Option<Box<Record<TSIG>>>), DecodeError>
         ensures read { Reads parts_value decoder.old decoder.new result (section_at is_additional op_code count decoder.old.bytes decoder.old.index) }
         ensures counts { Counts decoder.old decoder.new result }
+        ensures adds { IfOk result (λ _. AddsPassed (records_places count decoder.old.bytes decoder.old.index) decoder.old decoder.new) }
     {
         let section = Message::read_section(decoder, count, is_additional, op_code)?;
         Ok((section.records, section.edns, section.signature))
@@ -68,6 +72,7 @@ impl Message {
     ) -> Result<Section, DecodeError>
         ensures read { Reads section_value decoder.old decoder.new result (section_at is_additional op_code count decoder.old.bytes decoder.old.index) }
         ensures counts { Counts decoder.old decoder.new result }
+        ensures adds { IfOk result (λ _. AddsPassed (records_places count decoder.old.bytes decoder.old.index) decoder.old decoder.new) }
     {
         let mut section = Section::new(decoder.allocator());
         // a count that lies takes no more room than the bytes that are left could fill
@@ -89,6 +94,7 @@ impl Message {
     ) -> Result<Sections, DecodeError>
         ensures read { Reads sections_value decoder.old decoder.new result (sections_at op_code counts decoder.old.bytes decoder.old.index) }
         ensures counts { Counts decoder.old decoder.new result }
+        ensures adds { IfOk result (λ _. AddsPassed (records_places (counts.answers + counts.authorities + counts.additionals) decoder.old.bytes decoder.old.index) decoder.old decoder.new) }
     {
         let answers = Message::read_section(decoder, usize::from(counts.answers), false, op_code)?;
         let authorities = Message::read_section(
@@ -119,6 +125,7 @@ impl Message {
     pub fn read(decoder: &mut BinDecoder<'_>) -> Result<Message, DecodeError>
         ensures read { Reads message_value decoder.old decoder.new result (message_at decoder.old.bytes decoder.old.index) }
         ensures counts { Counts decoder.old decoder.new result }
+        ensures adds { IfOk result (λ _. AddsPassed (message_places decoder.old.bytes decoder.old.index) decoder.old decoder.new) }
     {
         let header = Header::read(decoder)?;
         let queries = read_many::<Query>(decoder, usize::from(header.counts.queries))?;

@@ -3,10 +3,11 @@
 ghost use Rattle.std.specs.Prelude.{◌≡◌, ◌+◌, ◌↔◌, ℕ, List, Ok, Err, IsTrue};
 ghost use Rattle.std.specs.Cmp.{IsEquivalence, IsTotalOrder};
 ghost use Rattle.base.specs.NameOrder.{same_name};
+ghost use Rattle.base.specs.Spelling.{NamesStand};
 ghost use Rattle.base.specs.declared.error.decode_error.DecodeError.{DecodeError};
 ghost use Rattle.base_data.specs.Kinds.{FitsTypes, type_of_data};
 ghost use Rattle.base_data.specs.declared.rdata.RData.{RData};
-ghost use Rattle.rr.specs.Record.{FitsRecord, IsReadableRecord, IsRecordAt, IsRecordFault, RecordWord, decremented, raw_record, record_at, record_value};
+ghost use Rattle.rr.specs.Record.{FitsRecord, IsReadableRecord, IsRecordAt, IsRecordFault, RecordWord, decremented, raw_record, record_at, record_names, record_places, record_value};
 ghost use Rattle.rr.specs.RecordOrder.{record_cmp};
 ghost use Rattle.rr.specs.declared.record.Record.{Record as Entry};
 
@@ -22,6 +23,12 @@ pub fn reading_is_the_record_word()
     ensures fault { (B : List ℕ) (i : ℕ) (f : DecodeError) → (record_at B i ≡ Err f) ↔ IsRecordFault B i f }
     ensures written { (B : List ℕ) (i : ℕ) (r : Entry RData) (e : ℕ) → RecordWord r B i e → IsReadableRecord r → IsRecordAt B i (record_value (raw_record r)) e }
     ensures same { (r : Entry RData) → FitsRecord r → record_value (raw_record r) ≡ r }
+{}
+
+/// The names of a record that is read stand at the places that are said to be theirs: its owner, and then those of its
+/// data from the left (RFC 1035, 4.1.3).
+pub fn names_of_a_record_stand_at_their_places()
+    ensures { (B : List ℕ) (i : ℕ) (r : Entry RData) (e : ℕ) → record_at B i ≡ Ok (r, e) → NamesStand B (record_places B i) (record_names r) }
 {}
 
 /// Records are equal where their names are, letters folded, their classes are the same and their data is equal; and

@@ -1,9 +1,11 @@
 //! Reads records.
 
-ghost use Rattle.std.specs.Prelude.{◌≡◌};
+ghost use Rattle.std.specs.Prelude.{◌≡◌, ◌+◌, IfOk};
 ghost use Rattle.base.specs.Counts.{Counts};
+ghost use Rattle.base.specs.Passing.{AddsPassed};
 ghost use Rattle.base.specs.Reading.{Reads};
-ghost use Rattle.rr.specs.Record.{body_at, class_value, flush_value, is_opt_type, record_at};
+ghost use Rattle.base_data.specs.Kinds.{data_places};
+ghost use Rattle.rr.specs.Record.{body_at, class_value, flush_value, is_opt_type, record_at, record_places};
 
 use crate::record::Record;
 use base::{BinDecodable, BinDecoder, DNSClass, DecodeError, Name, RecordType};
@@ -11,6 +13,8 @@ use base_data::RData;
 
 impl BinDecodable for Record<RData> {
     ghost read_at = { record_at };
+
+    ghost names_at = { record_places };
 
     /// Reads a record at the decoder's place, and moves behind it. Class and cache-flush bit of an OPT record are
     /// its payload size, of 512 at least, and false.
@@ -59,6 +63,7 @@ fn read_body(
 ) -> Result<Record<RData>, DecodeError>
     ensures read { Reads (λ x. x) decoder.old decoder.new result (body_at name record_type decoder.old.bytes decoder.old.index) }
     ensures counts { Counts decoder.old decoder.new result }
+    ensures adds { IfOk result (λ r. AddsPassed (data_places r.rdata decoder.old.bytes (decoder.old.index + 8)) decoder.old decoder.new) }
 {
     let (dns_class, mdns_cache_flush) = class_of_field(record_type, decoder.read_u16()?);
     let ttl = decoder.read_u32()?;

@@ -99,6 +99,7 @@ impl BinDecodable for EdnsOption {
 
     /// Reads a code, a number, and as many bytes (RFC 6891, 6.1.2). Refused with `InsufficientBytes` where the buffer
     /// ends before, and with `Memory` for want of it.
+    #[tactic(auto, using(base::proofs::AddsLemmas::adds_none))]
     fn read(decoder: &mut BinDecoder<'_>) -> Result<EdnsOption, DecodeError> {
         let code = decoder.read_u16()?;
         let len = decoder.read_u16()?;

@@ -1,9 +1,13 @@
 use Rattle.std.proofs.Common.{◌≡◌, ◌+◌, refl, arith}
+use Rattle.base.proofs.AddsLemmas.{adds_itself}
 use Rattle.base_data.proofs.FillLemmas.{data_does_not_fill, data_fills, no_data}
 use Rattle.base_data.proofs.rdata.RData.read.Goals as goal
 
 pub returns-then-len-eq0-clause-read : goal.returns-then-len-eq0-clause-read
 returns-then-len-eq0-clause-read c = (no_data c.args.record_type c.args.len c.args.decoder.now.bytes c.args.decoder.now.index c.if-len-eq0.true, refl)
+
+pub returns-then-len-eq0-clause-adds : goal.returns-then-len-eq0-clause-adds
+returns-then-len-eq0-clause-adds c = adds_itself c.args.decoder.now
 
 pub returns-then-index-end-clause-read : goal.returns-then-index-end-clause-read
 returns-then-index-end-clause-read c =

@@ -1,4 +1,6 @@
 use Rattle.base.specs.Counts.{IsCounted}
+use Rattle.base.proofs.AddsLemmas.{AddsMany}
+use Rattle.rr.specs.Record.{record_at, record_places}
 use Rattle.op.proofs.SectionLemmas.{Takes}
 use Rattle.op.specs.Section.{section_value}
 use Rattle.op.proofs.message.Message.read_section.Given as goal
@@ -7,4 +9,5 @@ abbrev pub invariant-loop : goal.invariant-loop
 invariant-loop l = record {
   takes : Takes l.is_additional l.op_code l.count l.counter l.fn.decoder.bytes l.decoder.bytes l.fn.decoder.index l.decoder.index (section_value l.section);
   counted : IsCounted l.fn.decoder → IsCounted l.decoder;
+  adds : AddsMany record_at record_places l.count l.counter l.fn.decoder l.decoder;
 }

@@ -1,7 +1,10 @@
-use Rattle.std.proofs.Common.{◌≡◌, ◌∙◌, ℕ, Ok, true, false, refl}
+use Rattle.std.proofs.Common.{◌≡◌, ◌∙◌, ℕ, ◌+◌, Ok, true, false, refl, arith, subst}
 use Rattle.std.proofs.lemmas.Result.{err_from_is_err_and}
+use Rattle.base.specs.Passing.{AddsPassed}
 use Rattle.base.specs.Reading.{Fails, Read}
+use Rattle.op.proofs.AddsMessage.{adds_sections}
 use Rattle.op.proofs.SectionLemmas.{additionals_fail, answers_fail, authorities_fail, of_counts, sections_read}
+use Rattle.op.specs.Places.{records_places}
 use Rattle.op.specs.Section.{SectionValue, section_value}
 use Rattle.op.proofs.message.Message.read_sections.Goals as goal
 
@@ -57,3 +60,13 @@ returns-clause-read c =
     let additionals = of_counts true op last.index (answered (section_value c.in_ok-additionals.additionals) c.read_section-3.new.decoder.index)
     c.from-3.ensures (second.1 ∙ first.1) third.0 in
     (sections_read op c.args.counts at.bytes at.index answers authorities additionals, third.1 ∙ (second.1 ∙ first.1))
+
+pub returns-clause-adds : goal.returns-clause-adds
+returns-clause-adds c =
+    let old = c.args.decoder.now in
+    let answers = c.in_ok-answers.ensures in
+    let authorities = c.in_ok-authorities.ensures in
+    let all = adds_sections c.from.result c.from-2.result c.from-3.result c.args.op_code answers.read.0 authorities.read.0 answers.adds authorities.adds c.in_ok-additionals.ensures.adds in
+    let counted : c.from.result + c.from-2.result + c.from-3.result ≡ c.args.counts.answers + c.args.counts.authorities + c.args.counts.additionals =
+    omega (arith, c.from.ensures, c.from-2.ensures, c.from-3.ensures) in
+    subst (λ (n : ℕ). AddsPassed (records_places n old.bytes old.index) old c.read_section-3.new.decoder) counted all

@@ -1,8 +1,12 @@
 use Rattle.std.proofs.Common.{◌≡◌, ℕ, List, length, ◌-◌, ◌<◌, ◌∙◌, Ok, ap, arith}
 use Rattle.std.specs.Int.{w16, w32}
 use Rattle.std.proofs.lemmas.Result.{err_from_is_err_and}
+use Rattle.base.specs.Passing.{AddsPassed}
 use Rattle.base.specs.Reading.{Fails, number_at}
+use Rattle.base_data.specs.Kinds.{data_places}
 use Rattle.base_data.specs.RData.{rdata_at}
+use Rattle.base.proofs.AddsLemmas.{adds_none}
+use Rattle.rr.proofs.AddsRecord.{body_adds}
 use Rattle.rr.proofs.ReadSteps.{body_read, class_fails, data_cut, data_fails, len_fails, over, room, ttl_fails}
 use Rattle.rr.proofs.record.reading.read_body.Goals as goal
 
@@ -86,3 +90,20 @@ returns-clause-read c =
     let fits = room c.args.name c.args.record_type at.bytes at.index class.0 ttl_is len_is left c.from.ensures c.if-left-from.false in
     let rdata_is = over (λ (B : List ℕ). rdata_at c.args.record_type c.in_ok-len.len B last.index ≡ Ok (c.in_ok-rdata.rdata, c.read.new.decoder.index)) same rdata.0 in
     (body_read c.args.name c.args.record_type at.bytes at.index class.0 ttl_is len_is fits rdata_is kind.ensures.class kind.ensures.flush, rdata.1 ∙ same)
+
+pub returns-clause-adds : goal.returns-clause-adds
+returns-clause-adds c =
+    let old = c.args.decoder.now in
+    let second = c.read_u16.new.self in
+    let third = c.read_u32.new.self in
+    let last = c.read_u16-2.new.self in
+    let class = c.in_ok-read_u16.ensures in
+    let ttl = c.in_ok-ttl.ensures in
+    let len = c.in_ok-len.ensures in
+    let ttl_is = over (λ (B : List ℕ). number_at w32 B second.index ≡ Ok (c.in_ok-ttl.ttl, third.index)) class.read.1 ttl.read.0 in
+    let len_is = over (λ (B : List ℕ). number_at w16 B third.index ≡ Ok (c.in_ok-len.len, last.index)) (ttl.read.1 ∙ class.read.1) len.read.0 in
+    let same = len.read.1 ∙ (ttl.read.1 ∙ class.read.1) in
+    let fields = adds_none {old = old} {new = last} same (len.kept ∙ (ttl.kept ∙ class.kept)) in
+    let places = data_places c.in_ok-rdata.rdata old.bytes in
+    let names = over (λ (B : List ℕ). AddsPassed (data_places c.in_ok-rdata.rdata B last.index) last c.read.new.decoder) same c.in_ok-rdata.ensures.adds in
+    body_adds places class.read.0 ttl_is len_is fields names

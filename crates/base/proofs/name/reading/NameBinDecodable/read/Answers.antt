@@ -6,6 +6,7 @@ use Rattle.base.specs.Passed.{Followed, PassesThese, targets}
 use Rattle.base.specs.Passing.{inserted, passed}
 use Rattle.base.specs.Reader.{Reader}
 use Rattle.base.specs.Spelling.{Spelled}
+use Rattle.base.proofs.AddsLemmas.{adds_name}
 use Rattle.base.proofs.CountLemmas.{Follows-none, counted_after, inserted-none}
 use Rattle.base.proofs.GatherLemmas.{spelled_is}
 use Rattle.base.proofs.PassLemmas.{passes_are_kept}
@@ -31,19 +32,34 @@ passes c xs e h =
 pub returns-clause-passes : goal.returns-clause-passes
 returns-clause-passes c = λ h. passes c _ _ h
 
-pub returns-clause-counts : goal.returns-clause-counts
-returns-clause-counts c = λ counted.
+spelled : (c : goal.After-drop-passed-inside-2) → Spelled c.args.decoder.now.bytes (labels_of (take c.in_ok-used.used c.gather.new.room)) c.args.decoder.now.index c.args.decoder.now.index c.in_ok-used.end
+spelled c =
     let old = c.args.decoder.now in
     let labels = labels_of (take c.in_ok-used.used c.gather.new.room) in
     let e = c.in_ok-used.end in
     let there = spelled_is c.buffer.result.now c.index.result 0 e (take c.in_ok-used.used c.gather.new.room) (omega arith) c.in_ok-used.ensures.read in
-    let h : Spelled old.bytes labels old.index old.index e = subst (λ (bs : List ℕ). Spelled bs labels old.index old.index e) c.buffer.ensures
-    (subst (λ (i : ℕ). Spelled c.buffer.result.now labels i i e) c.index.ensures.value there) in
+    subst (λ (bs : List ℕ). Spelled bs labels old.index old.index e) c.buffer.ensures
+    (subst (λ (i : ℕ). Spelled c.buffer.result.now labels i i e) c.index.ensures.value there)
+
+bytes_now : (c : goal.After-drop-passed-inside-2) → c.move_to-2.new.self.bytes ≡ c.args.decoder.now.bytes
+bytes_now c =
+    ap (λ (r : Reader). r.bytes) c.move_to-2.ensures
+    ∙ ap (λ (r : Reader). r.bytes) c.in_ok-keep_all.ensures.ok
+    ∙ ap (λ (r : Reader). r.bytes) c.in_ok-used.ensures.followed.now
+
+pub returns-clause-adds : goal.returns-clause-adds
+returns-clause-adds c = adds_name (spelled c) (bytes_now c) (passes c _ _ (spelled c))
+
+pub returns-clause-counts : goal.returns-clause-counts
+returns-clause-counts c = λ counted.
+    let labels = labels_of (take c.in_ok-used.used c.gather.new.room) in
+    let e = c.in_ok-used.end in
+    let h = spelled c in
     let followed = c.in_ok-used.ensures.followed in
     let moved = c.move_to-2.ensures in
     let all = c.in_ok-keep_all.ensures.ok in
     counted_after h (record {
-      bytes = ap (λ (r : Reader). r.bytes) moved ∙ ap (λ (r : Reader). r.bytes) all ∙ ap (λ (r : Reader). r.bytes) followed.now;
+      bytes = bytes_now c;
       index = ap (λ (r : Reader). r.index) moved;
       jumps = ap (λ (r : Reader). r.jumps) moved ∙ ap (λ (r : Reader). r.jumps) all;
       kept = kept_now c;
@@ -52,26 +68,40 @@ returns-clause-counts c = λ counted.
 
 -- ---- a name of one piece
 
-pub returns-in-Some-clause-passes : goal.returns-in-Some-clause-passes
-returns-in-Some-clause-passes c = λ h.
+passes_piece : (c : goal.After-move_to) (xs : List (List ℕ)) (e : ℕ) (h : Spelled c.args.decoder.now.bytes xs c.args.decoder.now.index c.args.decoder.now.index e)
+    → c.move_to.new.self.kept ≡ inserted (passed h) c.args.decoder.now.kept
+passes_piece c xs e h =
     let old = c.args.decoder.now in
-    ap (λ (r : Reader). r.kept) c.move_to.ensures ∙ sym (inserted-none old.kept) ∙ passes_are_kept old.bytes old.kept old.index [] c.in-Some.ensures.these _ _ h
+    ap (λ (r : Reader). r.kept) c.move_to.ensures ∙ sym (inserted-none old.kept) ∙ passes_are_kept old.bytes old.kept old.index [] c.in-Some.ensures.these xs e h
+
+pub returns-in-Some-clause-passes : goal.returns-in-Some-clause-passes
+returns-in-Some-clause-passes c = λ h. passes_piece c _ _ h
+
+-- the labels of the piece and those that are kept
+abbrev labels : goal.After-move_to → List ℕ
+labels c = take c.in-Some.field-0.used c.in-Some.field-0.own.now ++ take c.in-Some.field-0.len c.in-Some.field-0.kept.now
+
+spelled_piece : (c : goal.After-move_to) → Spelled c.args.decoder.now.bytes (labels_of (labels c)) c.args.decoder.now.index c.args.decoder.now.index c.in-Some.field-0.behind
+spelled_piece c = spelled_is c.args.decoder.now.bytes c.args.decoder.now.index 0 c.in-Some.field-0.behind (labels c) (omega arith) c.in-Some.ensures.read
+
+pub returns-in-Some-clause-adds : goal.returns-in-Some-clause-adds
+returns-in-Some-clause-adds c =
+    let h = spelled_piece c in
+    adds_name h (ap (λ (r : Reader). r.bytes) c.move_to.ensures) (passes_piece c _ _ h)
 
 pub returns-in-Some-clause-counts : goal.returns-in-Some-clause-counts
 returns-in-Some-clause-counts c = λ counted.
     let old = c.args.decoder.now in
-    let piece = c.in-Some.field-0 in
-    let bytes = take piece.used piece.own.now ++ take piece.len piece.kept.now in
-    let e = piece.behind in
-    let h = spelled_is old.bytes old.index 0 e bytes (omega arith) c.in-Some.ensures.read in
+    let bytes = labels c in
+    let e = c.in-Some.field-0.behind in
+    let h = spelled_piece c in
     let f = Follows-none 0 old in
     let followed : Followed [] old old = record { now = f.now; jumps = f.jumps; all = f.all; few = f.few } in
     let moved = c.move_to.ensures in
-    let kept = ap (λ (r : Reader). r.kept) moved ∙ sym (inserted-none old.kept) in
     counted_after h (record {
       bytes = ap (λ (r : Reader). r.bytes) moved;
       index = ap (λ (r : Reader). r.index) moved;
       jumps = ap (λ (r : Reader). r.jumps) moved;
-      kept = kept;
-      passes = kept ∙ passes_are_kept old.bytes old.kept old.index [] c.in-Some.ensures.these (labels_of bytes) e h;
+      kept = ap (λ (r : Reader). r.kept) moved ∙ sym (inserted-none old.kept);
+      passes = passes_piece c (labels_of bytes) e h;
     }) followed counted

@@ -1,5 +1,6 @@
-use Rattle.std.proofs.Common.{◌≡◌, ◌+◌, ◌∙◌, arith}
+use Rattle.std.proofs.Common.{◌≡◌, ◌+◌, ◌∙◌, arith, rules}
 use Rattle.std.proofs.lemmas.Result.{err_from_is_err_and}
+use Rattle.base.proofs.AddsLemmas.{adds_both, adds_itself}
 use Rattle.base_data.proofs.OptionLemmas.{gathered_more, gathered_fault, gathered_all, opt_at-to}
 use Rattle.base_data.proofs.rdata.opt.OPTSizedData.read.Goals as goal
 
@@ -12,6 +13,9 @@ returns-in_err-read-clause-read c =
     rw (p.1, p.2, opt_at-to c.args.len (c.index.result + c.from.result) old.bytes old.index end)
     (gathered_fault c.in_err-read.field-0.0 (omega (arith, c.options-test.true, begins)) c.in_err-read.ensures.read c.options.invariant.gathered)
 
+pub options-init : goal.options-init
+options-init c = record { gathered = search rules; counted = λ counted. counted; adds = adds_itself c.args.decoder.now }
+
 pub options-preserved : goal.options-preserved
 options-preserved c =
     let begins = c.index-in-options.ensures.value in
@@ -19,6 +23,7 @@ options-preserved c =
       gathered = rw (c.in_ok-push.ensures.items, c.in_ok-read.ensures.read.1)
           (gathered_more (omega (arith, c.options-test.true, begins)) c.in_ok-read.ensures.read.0 c.options.invariant.gathered);
       counted = λ counted. c.in_ok-read.ensures.counts (c.options.invariant.counted counted);
+      adds = adds_both c.options.invariant.adds c.in_ok-read.ensures.adds;
     }
 
 pub returns-clause-read : goal.returns-clause-read

@@ -2,6 +2,8 @@ use Rattle.std.proofs.Common.{◌≡◌, sym, ◌∙◌, subst, List, ℕ}
 use Rattle.std.proofs.lemmas.Result.{err_from_is_err_and}
 use Rattle.base.specs.Reading.{Reads}
 use Rattle.rr.specs.Record.{body_at, record_at}
+use Rattle.base.proofs.AddsLemmas.{adds_both}
+use Rattle.rr.proofs.AddsRecord.{record_adds}
 use Rattle.rr.proofs.ReadSteps.{name_fails, other_type, record_read, root_owner, type_fails, wrong_owner}
 use Rattle.rr.proofs.RecordLemmas.{not_root}
 use Rattle.rr.proofs.record.reading.RecordRDataBinDecodable.read.Goals as goal
@@ -47,3 +49,9 @@ returns-clause-read c =
     let same = type.1 ∙ name.1 in
     record_read at.bytes at.index owner next.index name.0 next.bytes name.1 kind last.index type.0 at last c.read_body.new.decoder c.read_body.result same
     (subst (λ (bytes : List ℕ). Reads (λ x. x) last c.read_body.new.decoder c.read_body.result (body_at owner kind bytes last.index)) same c.read_body.ensures.read) is
+
+pub returns-clause-adds : goal.returns-clause-adds
+returns-clause-adds c =
+    let type = c.in_ok-record_type.ensures in
+    let head = adds_both c.in_ok-name.ensures.adds type.adds in
+    record_adds c.read.new.decoder c.read_body.new.decoder c.read_body.result c.in_ok-name.ensures.read.0 type.read.0 head (returns-clause-read c) c.read_body.ensures.adds
