@@ -39,5 +39,10 @@ options_plain (option ∷ options) = refl
 pub edns_word : (e : Edns) (class ttl : ℕ) → class ≡ class_number (opt_class e.max_payload) → ttl ≡ opt_ttl e → (B : List ℕ) (i j : ℕ)
     → Then (NameAt []) (Then (Number w16 (type_number types.OPT)) (Then (Number w16 class) (Then (Number w32 ttl) (Sized (options_word e.options))))) B i j → EdnsWord e B i j
 edns_word e class ttl class_is ttl_is B i j h =
+    let all : Then (NameAt []) (Then (Number w16 (type_number types.OPT)) (Then (Number w16 class) (Then (Number w32 (opt_ttl e)) (Sized (options_word e.options))))) B i j =
+    subst (λ n. Then (NameAt []) (Then (Number w16 (type_number types.OPT)) (Then (Number w16 class) (Then (Number w32 n) (Sized (options_word e.options))))) B i j) ttl_is h in
+    let type = all.2 in
+    let field = type.2 in
+    let last = field.2 in
     record_word (edns_record e) (opt_type e.options) class_is (options_word e.options) (options_are_data e.options) B i j
-    (subst (λ n. Then (NameAt []) (Then (Number w16 (type_number types.OPT)) (Then (Number w16 class) (Then (Number w32 n) (Sized (options_word e.options))))) B i j) ttl_is h)
+    (all.0, all.1, (last.0, (type.0, type.1, (field.0, field.1, last.1)), last.2))

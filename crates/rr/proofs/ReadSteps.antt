@@ -2,7 +2,7 @@
 use Rattle.std.proofs.Common.{◌≡◌, ℕ, ◌+◌, ◌-◌, ◌<◌, ◌≤◌, ◌==◌, Bool, true, false, cond, not, ◌&&◌, List, [], length, refl, ap, sym, ◌∙◌, subst, arith, Result, Ok, Err}
 use Rattle.std.proofs.lemmas.Bool.{eq-eqb, le-ltb, lt-ltb}
 use Rattle.std.specs.Prelude.{nat_lt, if◌then◌else◌}
-use Rattle.std.specs.Int.{Width, w16, w32}
+use Rattle.std.specs.Int.{w16, w32}
 use Rattle.base.specs.Labels.{NameValue}
 use Rattle.base.specs.Names.{name_at}
 use Rattle.base.specs.Reading.{Fails, Read, Reads, ◌>>=◌, number_at}
