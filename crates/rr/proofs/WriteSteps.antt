@@ -28,12 +28,10 @@ fields_listed type class ttl types classes ttls r a b type_is class_is ttl_is ok
     (subst (λ (xs : List ℕ). OnOk r (b ≡ appended (listed (to_be_bytes w16 type) xs ttls) a)) class_is
     (subst (λ (xs : List ℕ). OnOk r (b ≡ appended (listed xs classes ttls) a)) type_is ok))
 
--- type, class and TTL that were appended
-pub fields_written : {X : Type 0} (type class ttl : ℕ) (r : Result X ProtoError) (a b : State) → type < 2 ^ 16 → class < 2 ^ 16 → ttl < 2 ^ 32 → OnOk r (b ≡ appended (field_bytes type class ttl) a)
-    → OnOk r (Writes (Then (Number w16 type) (Then (Number w16 class) (Number w32 ttl))) 8 [] a b)
-fields_written type class ttl r a b type_small class_small ttl_small ok =
-    Writes-either r (Then (Number w16 type) (Then (Number w16 class) (Number w32 ttl))) 8 (field_bytes type class ttl) a b ok (omega arith) (λ B stands.
-    let i = length a.bytes in
+-- type, class and TTL where their bytes stand
+pub fields_stand : (type class ttl : ℕ) (B : List ℕ) (i : ℕ) → type < 2 ^ 16 → class < 2 ^ 16 → ttl < 2 ^ 32 → Stands (field_bytes type class ttl) B i
+    → Then (Number w16 type) (Then (Number w16 class) (Number w32 ttl)) B i (i + 8)
+fields_stand type class ttl B i type_small class_small ttl_small stands =
     let behind = stands_part (to_be_bytes w16 type) (to_be_bytes w16 class ++ to_be_bytes w32 ttl) [] B i (subst (λ (xs : List ℕ). Stands (to_be_bytes w16 type ++ xs) B i) (sym (append-nil (to_be_bytes w16 class ++ to_be_bytes w32 ttl))) stands) in
     let last = stands_part (to_be_bytes w16 class) (to_be_bytes w32 ttl) [] B (i + 2) (subst (λ (xs : List ℕ). Stands (to_be_bytes w16 class ++ xs) B (i + 2)) (sym (append-nil (to_be_bytes w32 ttl))) behind) in (
       i + 2,
@@ -43,7 +41,14 @@ fields_written type class ttl r a b type_small class_small ttl_small ok =
         (number16_stands class B (i + 2) class_small (first_stands (to_be_bytes w16 class) (to_be_bytes w32 ttl) B (i + 2) behind), refl),
         (number32_stands ttl B (i + 2 + 2) ttl_small last, omega arith),
       ),
-    ))
+    )
+
+-- and where they were appended
+pub fields_written : {X : Type 0} (type class ttl : ℕ) (r : Result X ProtoError) (a b : State) → type < 2 ^ 16 → class < 2 ^ 16 → ttl < 2 ^ 32 → OnOk r (b ≡ appended (field_bytes type class ttl) a)
+    → OnOk r (Writes (Then (Number w16 type) (Then (Number w16 class) (Number w32 ttl))) 8 [] a b)
+fields_written type class ttl r a b type_small class_small ttl_small ok =
+    Writes-either r (Then (Number w16 type) (Then (Number w16 class) (Number w32 ttl))) 8 (field_bytes type class ttl) a b ok (omega arith)
+    (λ B stands. fields_stand type class ttl B (length a.bytes) type_small class_small ttl_small stands)
 
 -- the bytes of the fields, and those of the record
 pub whole_record : (name rdata len : ℕ) → rdata ≡ len → name + (8 + (2 + len)) ≤ name + (10 + rdata)
