@@ -32,13 +32,16 @@ fields_listed type class ttl types classes ttls r a b type_is class_is ttl_is ok
 pub fields_stand : (type class ttl : ℕ) (B : List ℕ) (i : ℕ) → type < 2 ^ 16 → class < 2 ^ 16 → ttl < 2 ^ 32 → Stands (field_bytes type class ttl) B i
     → Then (Number w16 type) (Then (Number w16 class) (Number w32 ttl)) B i (i + 8)
 fields_stand type class ttl B i type_small class_small ttl_small stands =
-    let behind = stands_part (to_be_bytes w16 type) (to_be_bytes w16 class ++ to_be_bytes w32 ttl) [] B i (subst (λ (xs : List ℕ). Stands (to_be_bytes w16 type ++ xs) B i) (sym (append-nil (to_be_bytes w16 class ++ to_be_bytes w32 ttl))) stands) in
-    let last = stands_part (to_be_bytes w16 class) (to_be_bytes w32 ttl) [] B (i + 2) (subst (λ (xs : List ℕ). Stands (to_be_bytes w16 class ++ xs) B (i + 2)) (sym (append-nil (to_be_bytes w32 ttl))) behind) in (
+    let types = to_be_bytes w16 type in
+    let classes = to_be_bytes w16 class in
+    let ttls = to_be_bytes w32 ttl in
+    let behind = stands_part types (classes ++ ttls) [] B i (subst (λ (xs : List ℕ). Stands (types ++ xs) B i) (sym (append-nil (classes ++ ttls))) stands) in
+    let last = stands_part classes ttls [] B (i + 2) (subst (λ (xs : List ℕ). Stands (classes ++ xs) B (i + 2)) (sym (append-nil ttls)) behind) in (
       i + 2,
-      (number16_stands type B i type_small (first_stands (to_be_bytes w16 type) (to_be_bytes w16 class ++ to_be_bytes w32 ttl) B i stands), refl),
+      (number16_stands type B i type_small (first_stands types (classes ++ ttls) B i stands), refl),
       (
         i + 2 + 2,
-        (number16_stands class B (i + 2) class_small (first_stands (to_be_bytes w16 class) (to_be_bytes w32 ttl) B (i + 2) behind), refl),
+        (number16_stands class B (i + 2) class_small (first_stands classes ttls B (i + 2) behind), refl),
         (number32_stands ttl B (i + 2 + 2) ttl_small last, omega arith),
       ),
     )
