@@ -6,6 +6,7 @@ use Rattle.std.specs.Int.{w16, w32, from_be_bytes}
 use Rattle.std.specs.Prelude.{nat_lt}
 use Rattle.base.proofs.ReadLemmas.{guard_ok}
 use Rattle.base.specs.Reading.{bytes_at}
+use Rattle.base.specs.Spelling.{ByteAt, anywhere}
 use Rattle.base.specs.Words.{IsNumberAt}
 use Rattle.base.specs.declared.error.decode_error.DecodeError.TheVariants as faults
 
@@ -50,6 +51,13 @@ module _ {len : ℕ} {B : List ℕ} {i : ℕ} {r : List ℕ × ℕ} (s : ReadsBy
 
   room : (k n : ℕ) → k + n ≤ len → n ≤ length (drop (i + k) B)
   room k n fits = omega (arith, fits, s.inside, length-drop (i + k) B)
+
+  pub byte_among : (k : ℕ) → k < len → ByteAt anywhere B (i + k) (get_or r.0 k 0)
+  byte_among k below = record {
+    inside = omega (arith, below, s.inside);
+    is = sym (ap (λ (ys : List ℕ). get_or ys k 0) s.is ∙ get_or-take len (drop i B) k 0 below ∙ get_or-drop i B k 0);
+    seen = tt;
+  }
 
   pub number16_among : (k : ℕ) → k + 2 ≤ len → IsNumberAt w16 B (i + k) (from_be_bytes w16 (get_or r.0 (k + 0) 0 ∷ get_or r.0 (k + 1) 0 ∷ []))
   number16_among k fits =
