@@ -1,6 +1,6 @@
 -- An encoder as its contracts see it.
-use Rattle.std.specs.Prelude.{ℕ, ◌+◌, List, [], ◌∷◌, ◌++◌, length, take, drop, nat_le, if◌then◌else◌}
-use Rattle.std.specs.Int.{w32, from_be_bytes}
+use Rattle.std.specs.Prelude.{ℕ, ◌+◌, ◌%◌, ◌^◌, List, [], ◌∷◌, ◌++◌, length, take, drop, nat_le, if◌then◌else◌}
+use Rattle.std.specs.Int.{w32, from_le_bytes}
 
 -- a suffix of a name, and where it is spelled
 pub record Stored : Type 0 where
@@ -31,7 +31,9 @@ cut len count s = record s { bytes = take len s.bytes; suffixes = take count s.s
 abbrev pub stored : List (List ℕ) → ℕ → State → State
 stored labels at s = if nat_le 16384 at then s else record s { suffixes = s.suffixes ++ record { labels = labels; offset = at } ∷ [] }
 
--- the first four bytes as a number, the highest first; 0 where there are fewer
+-- the first four bytes and the next four as numbers, the lowest first, added in four bytes; the first four where there are fewer than eight,
+-- and 0 where there are fewer than four
 abbrev pub front_number : List ℕ → ℕ
-front_number (a ∷ b ∷ c ∷ d ∷ rest) = from_be_bytes w32 (a ∷ b ∷ c ∷ d ∷ [])
+front_number (a ∷ b ∷ c ∷ d ∷ e ∷ f ∷ g ∷ h ∷ rest) = (from_le_bytes w32 (a ∷ b ∷ c ∷ d ∷ []) + from_le_bytes w32 (e ∷ f ∷ g ∷ h ∷ [])) % 2 ^ 32
+front_number (a ∷ b ∷ c ∷ d ∷ rest) = from_le_bytes w32 (a ∷ b ∷ c ∷ d ∷ [])
 front_number bytes = 0

@@ -1,12 +1,19 @@
 -- What is written of EDNS is the word of its OPT record.
-use Rattle.std.proofs.Common.{◌≡◌, ℕ, ◌+◌, List, [], ◌∷◌, refl, subst, arith}
-use Rattle.std.specs.Int.{w16, w32}
+use Rattle.std.proofs.Common.{◌≡◌, ℕ, ◌+◌, ◌^◌, ◌<◌, List, [], ◌∷◌, ◌++◌, length, refl, subst, sym, arith, Result}
+use Rattle.std.proofs.lemmas.List.{append-nil}
+use Rattle.std.specs.Prelude.{OnOk}
+use Rattle.std.specs.Int.{w16, w32, to_be_bytes}
+use Rattle.base.specs.declared.error.proto_error.ProtoError.{ProtoError}
+use Rattle.base.specs.Laws.{Writes}
+use Rattle.base.specs.State.{State, appended}
+use Rattle.base.proofs.LawLemmas.{Writes-either}
+use Rattle.rr.proofs.WriteSteps.{field_bytes, fields_stand, listed}
 use Rattle.base.specs.DNSClass.{class_number, opt_class}
 use Rattle.base.specs.RecordType.{type_number}
 use Rattle.base.specs.Spelling.{ByteAt, anywhere, ends}
 use Rattle.base.specs.Words.{NameAt, Number, Sized, Stands, Then, none}
 use Rattle.base.specs.declared.record_type.RecordType.TheVariants as types
-use Rattle.base.proofs.WordLemmas.{stands_byte}
+use Rattle.base.proofs.WordLemmas.{first_stands, stands_byte, stands_part}
 use Rattle.base_data.specs.Kinds.{DataWord, plain_data, type_of_data}
 use Rattle.base_data.specs.OPT.{OptionValue, options_len, options_word}
 use Rattle.rr.proofs.RecordLemmas.{record_word}
@@ -35,9 +42,40 @@ pub options_plain : (options : List OptionValue) → plain_data (opt_data option
 options_plain [] = refl
 options_plain (option ∷ options) = refl
 
+-- the bytes of the root, the type, the payload size and the TTL
+abbrev pub front_bytes : ℕ → ℕ → List ℕ
+front_bytes payload ttl = 0 ∷ field_bytes (type_number types.OPT) payload ttl
+
+-- their bytes one by one
+pub front_listed : {X : Type 0} (payload ttl : ℕ) (types payloads ttls : List ℕ) (r : Result X ProtoError) (a b : State) → types ≡ to_be_bytes w16 41
+    → payloads ≡ to_be_bytes w16 payload → ttls ≡ to_be_bytes w32 ttl → OnOk r (b ≡ appended (0 ∷ listed types payloads ttls) a) → OnOk r (b ≡ appended (front_bytes payload ttl) a)
+front_listed payload ttl types payloads ttls r a b type_is payload_is ttl_is ok =
+    subst (λ (xs : List ℕ). OnOk r (b ≡ appended (0 ∷ listed (to_be_bytes w16 41) (to_be_bytes w16 payload) xs) a)) ttl_is
+    (subst (λ (xs : List ℕ). OnOk r (b ≡ appended (0 ∷ listed (to_be_bytes w16 41) xs ttls) a)) payload_is
+    (subst (λ (xs : List ℕ). OnOk r (b ≡ appended (0 ∷ listed xs payloads ttls) a)) type_is ok))
+
+-- what stands before the options
+abbrev pub Front : ℕ → ℕ → List ℕ → ℕ → ℕ → Type 0
+Front payload ttl = Then (NameAt []) (Then (Number w16 (type_number types.OPT)) (Then (Number w16 payload) (Number w32 ttl)))
+
+pub front_written : {X : Type 0} (payload ttl : ℕ) (r : Result X ProtoError) (a b : State) → payload < 2 ^ 16 → ttl < 2 ^ 32 → OnOk r (b ≡ appended (front_bytes payload ttl) a)
+    → OnOk r (Writes (Front payload ttl) 9 [] a b)
+front_written payload ttl r a b payload_small ttl_small ok =
+    Writes-either r (Front payload ttl) 9 (front_bytes payload ttl) a b ok (omega arith) (λ B stands.
+    let i = length a.bytes in
+    let fields = field_bytes (type_number types.OPT) payload ttl in
+    let behind = stands_part (0 ∷ []) fields [] B i (subst (λ (xs : List ℕ). Stands ((0 ∷ []) ++ xs) B i) (sym (append-nil fields)) stands) in
+    let end : i + 1 + 8 ≡ i + 9 = omega arith in (
+      i + 1,
+      root_stands B i (first_stands (0 ∷ []) fields B i stands),
+      subst (λ k. Then (Number w16 41) (Then (Number w16 payload) (Number w32 ttl)) B (i + 1) k) end
+          (fields_stand (type_number types.OPT) payload ttl B (i + 1) (omega arith) payload_small ttl_small behind),
+    ))
+
 -- what is written one behind the other is the OPT record
 pub edns_word : (e : Edns) (class ttl : ℕ) → class ≡ class_number (opt_class e.max_payload) → ttl ≡ opt_ttl e → (B : List ℕ) (i j : ℕ)
-    → Then (NameAt []) (Then (Number w16 (type_number types.OPT)) (Then (Number w16 class) (Then (Number w32 ttl) (Sized (options_word e.options))))) B i j → EdnsWord e B i j
+    → Then (Front class ttl) (Sized (options_word e.options)) B i j → EdnsWord e B i j
 edns_word e class ttl class_is ttl_is B i j h =
+    let all : Then (Front class (opt_ttl e)) (Sized (options_word e.options)) B i j = subst (λ n. Then (Front class n) (Sized (options_word e.options)) B i j) ttl_is h in
     record_word (edns_record e) (opt_type e.options) class_is (options_word e.options) (options_are_data e.options) B i j
-    (subst (λ n. Then (NameAt []) (Then (Number w16 (type_number types.OPT)) (Then (Number w16 class) (Then (Number w32 n) (Sized (options_word e.options))))) B i j) ttl_is h)
+    (all.1.0, all.1.1, (all.0, all.1.2, all.2))

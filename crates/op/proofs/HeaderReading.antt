@@ -151,6 +151,35 @@ reads_word B i h e = (
   λ is. header_again B i h is.0 ∙ ap (λ (k : ℕ). Ok (h, k)) (sym is.1),
 )
 
+-- the header of fields that stand there
+pub header_there : {B : List ℕ} {i id high low : ℕ} (counts : HeaderCounts) → IsNumberAt w16 B i id → ByteAt anywhere B (i + 2) high → ByteAt anywhere B (i + 3) low
+    → IsNumberAt w16 B (i + 4) counts.queries → IsNumberAt w16 B (i + 6) counts.answers → IsNumberAt w16 B (i + 8) counts.authorities → IsNumberAt w16 B (i + 10) counts.additionals
+    → IsHeaderAt B i (record { metadata = metadata_of_bytes id high low; counts = counts })
+header_there {B} {i} {id} {high} {low} counts id_stands high_stands low_stands queries answers authorities additionals = record {
+  raw = raw_of id high low counts;
+  word = record {
+    id = id_stands;
+    high = high;
+    high_stands = high_stands;
+    response = refl;
+    opcode = refl;
+    authoritative = refl;
+    truncation = refl;
+    recursion_desired = refl;
+    low = low;
+    low_stands = low_stands;
+    recursion_available = refl;
+    authentic_data = refl;
+    checking_disabled = refl;
+    code = refl;
+    queries = queries;
+    answers = answers;
+    authorities = authorities;
+    additionals = additionals;
+  };
+  value = refl;
+}
+
 -- a header needs twelve bytes
 header_inside : (B : List ℕ) (i : ℕ) (h : Header) → IsHeaderAt B i h → i + 12 ≤ length B
 header_inside B i h s = omega (arith, s.word.additionals.inside)

@@ -1,31 +1,80 @@
 -- Questions that stand are questions that are read.
-use Rattle.std.proofs.Common.{◌≡◌, ℕ, ◌+◌, ◌%◌, ◌<◌, Bool, true, false, List, refl, ap, sym, ◌∙◌, subst, arith, inl, inr, Result, Ok, Err}
-use Rattle.std.specs.Prelude.{◌↔◌}
-use Rattle.std.specs.Int.{w16}
+use Rattle.std.proofs.Common.{◌≡◌, ℕ, ◌+◌, ◌%◌, ◌^◌, ◌<◌, Bool, true, false, List, [], ◌∷◌, ◌++◌, get_or, length, refl, ap, sym, ◌∙◌, subst, arith, inl, inr, Result, Ok, Err}
+use Rattle.std.proofs.lemmas.List.{append-nil}
+use Rattle.std.specs.Prelude.{◌↔◌, OnOk}
+use Rattle.std.specs.Int.{w16, to_be_bytes}
 use Rattle.std.proofs.lemmas.Bool.{le-leb, lt-leb}
 use Rattle.base.specs.DNSClass.{class_field, class_number, class_of, field_class, field_top}
 use Rattle.base.specs.Labels.{NameValue}
 use Rattle.base.specs.Names.{name_at}
+use Rattle.base.specs.Laws.{Writes}
+use Rattle.base.specs.State.{State, appended}
+use Rattle.base.specs.declared.error.proto_error.ProtoError.{ProtoError}
 use Rattle.base.specs.Reading.{Read, number_at}
+use Rattle.base.proofs.LawLemmas.{Writes-either}
+use Rattle.base.proofs.WordLemmas.{first_stands, number16_stands, stands_part}
 use Rattle.base.specs.RecordType.{type_number, type_of}
 use Rattle.base.specs.Spelling.{IsNameAt}
-use Rattle.base.specs.Words.{IsNumberAt, NameAt, Number, Then}
+use Rattle.base.specs.Words.{IsNumberAt, NameAt, Number, Stands, Then}
+use Rattle.base.specs.declared.dns_class.DNSClass.{DNSClass}
 use Rattle.base.specs.declared.error.decode_error.DecodeError.{DecodeError}
+use Rattle.base.specs.declared.record_type.RecordType.{RecordType}
 use Rattle.base.proofs.ReadLemmas.{bind_ok, bind_err, number_is, number_again, number_short}
 use Rattle.base.proofs.ReadingLemmas.{name_is, name_fault, name_again, fault_again}
 use Rattle.op.specs.Query.{FitsQuery, IsQueryAt, IsQueryFault, IsRawQueryAt, QueryWord, RawQuery, query_at, query_value, raw_query}
 use Rattle.op.specs.declared.query.Query.{Query}
 
+-- the bytes of type and class
+abbrev field_bytes : ℕ → ℕ → List ℕ
+field_bytes type class = to_be_bytes w16 type ++ to_be_bytes w16 class
+
+-- their bytes one by one
+abbrev listed : List ℕ → List ℕ → List ℕ
+listed type class = get_or type 0 0 ∷ get_or type 1 0 ∷ get_or class 0 0 ∷ get_or class 1 0 ∷ []
+
+pub fields_listed : {X : Type 0} (type class : ℕ) (types classes : List ℕ) (r : Result X ProtoError) (a b : State) → types ≡ to_be_bytes w16 type → classes ≡ to_be_bytes w16 class
+    → OnOk r (b ≡ appended (listed types classes) a) → OnOk r (b ≡ appended (field_bytes type class) a)
+fields_listed type class types classes r a b type_is class_is ok =
+    subst (λ (xs : List ℕ). OnOk r (b ≡ appended (listed (to_be_bytes w16 type) xs) a)) class_is
+    (subst (λ (xs : List ℕ). OnOk r (b ≡ appended (listed xs classes) a)) type_is ok)
+
+-- type and class that were appended
+pub fields_written : {X : Type 0} (type class : ℕ) (r : Result X ProtoError) (a b : State) → type < 2 ^ 16 → class < 2 ^ 16 → OnOk r (b ≡ appended (field_bytes type class) a)
+    → OnOk r (Writes (Then (Number w16 type) (Number w16 class)) 4 [] a b)
+fields_written type class r a b type_small class_small ok =
+    Writes-either r (Then (Number w16 type) (Number w16 class)) 4 (field_bytes type class) a b ok (omega arith) (λ B stands.
+    let i = length a.bytes in
+    let behind = stands_part (to_be_bytes w16 type) (to_be_bytes w16 class) [] B i (subst (λ (xs : List ℕ). Stands (to_be_bytes w16 type ++ xs) B i) (sym (append-nil (to_be_bytes w16 class))) stands) in (
+      i + 2,
+      (number16_stands type B i type_small (first_stands (to_be_bytes w16 type) (to_be_bytes w16 class) B i stands), refl),
+      (number16_stands class B (i + 2) class_small behind, omega arith),
+    ))
+
 -- name, type and class one behind the other are the fields of a question
-pub question_word : (q : Query) (field : ℕ) → field ≡ class_field q.mdns_unicast_response (class_number q.query_class) → (B : List ℕ) (i e : ℕ)
-    → Then (NameAt q.name.labels) (Then (Number w16 (type_number q.query_type)) (Number w16 field)) B i e → QueryWord q B i e
-question_word q field is B i e h = record {
+pub question_word : {type field : ℕ} (q : Query) → type ≡ type_number q.query_type → field ≡ class_field q.mdns_unicast_response (class_number q.query_class) → (B : List ℕ) (i e : ℕ)
+    → Then (NameAt q.name.labels) (Then (Number w16 type) (Number w16 field)) B i e → QueryWord q B i e
+question_word q type_is is B i e h = record {
   owner_end = h.0;
   owner = h.1;
-  type_stands = h.2.1.0;
+  type_stands = subst (IsNumberAt w16 B h.0) type_is h.2.1.0;
   class_stands = subst (λ k. IsNumberAt w16 B k (class_field q.mdns_unicast_response (class_number q.query_class))) h.2.1.1 (subst (λ n. IsNumberAt w16 B h.2.0 n) is h.2.2.0);
   end = omega (arith, h.2.1.1, h.2.2.1);
 }
+
+-- the same question, field by field
+pub same_query : {a b : RecordType} {c d : DNSClass} {e f : Bool} (name : NameValue) → a ≡ b → c ≡ d → e ≡ f
+    → ◌≡◌ {A = Query} (record { name = name; query_type = a; query_class = c; mdns_unicast_response = e }) (record { name = name; query_type = b; query_class = d; mdns_unicast_response = f })
+same_query name type class top = rw (type, class, top) refl
+
+-- a question is read where its name is, and type and class stand behind it
+pub query_read : {owner : NameValue} {m type class : ℕ} {q : Query} {e : ℕ} (B : List ℕ) (i : ℕ) → name_at B i ≡ Ok (owner, m) → IsNumberAt w16 B m type → IsNumberAt w16 B (m + 2) class
+    → q ≡ record { name = owner; query_type = type_of type; query_class = field_class class; mdns_unicast_response = field_top class } → e ≡ m + 4 → query_at B i ≡ Ok (q, e)
+unfolding query_at
+query_read {owner} {m} {type} {class} B i owner_is type_stands class_stands q_is e_is =
+    let type_is : number_at w16 B m ≡ Ok (type, m + 2) = number_again w16 B m type type_stands in
+    let class_is : number_at w16 B (m + 2) ≡ Ok (class, m + 2 + 2) = number_again w16 B (m + 2) class class_stands in
+    let end : m + 2 + 2 ≡ m + 4 = omega arith in
+    rw (owner_is, type_is, class_is, end, q_is, e_is) refl
 
 -- a question that was read, and the place behind it
 record IsReadQuery (B : List ℕ) (i : ℕ) (r : Query × ℕ) : Type 0 where

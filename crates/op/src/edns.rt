@@ -18,6 +18,7 @@ pub use edns_flags::{EdnsFlags, flags_are_their_number};
 use rr::Record;
 use std::alloc::{AllocError, Global};
 use std::fmt;
+pub(crate) use writing::RaisedEdns;
 
 /// The payload size that is asked for by default: what passes most networks unfragmented, in bytes (RFC 6891, 6.2.3 and
 /// 6.2.5).

@@ -1,7 +1,12 @@
 //! Questions (RFC 1035, 4.1.2).
 
-ghost use Rattle.std.specs.Prelude.{◌≡◌, ◌↔◌, ℕ, List, Ok, Err, Some, IsTrue, [], true};
+ghost use Rattle.std.specs.Prelude.{◌≡◌, ◌↔◌, ◌+◌, ◌<◌, ℕ, List, length, Ok, Err, Some, IfErr, IfOk, OnOk, IsTrue, [], true};
+ghost use Rattle.std.specs.Int.{w16};
+ghost use Rattle.base.specs.Counts.{Counts};
+ghost use Rattle.base.specs.Laws.{Keeps, Writes};
 ghost use Rattle.base.specs.NameOrder.{same_name};
+ghost use Rattle.base.specs.Wire.{state_of, Refuses};
+ghost use Rattle.base.specs.Words.{IsNumberAt, Number, Then};
 ghost use Rattle.op.specs.Places.{query_places};
 ghost use Rattle.op.specs.Query.{FitsQuery, IsQueryAt, IsQueryFault, QueryWord, plain_query, plain_question, query_at, query_text, query_value, raw_query};
 ghost use Rattle.op.specs.declared.query.Query.{Query};
@@ -141,9 +146,45 @@ impl BinEncodable for Query {
     /// Refused with `MaxBufferSizeExceeded` where a byte would pass the limit, and with `Memory` for want of it.
     fn emit(&self, encoder: &mut BinEncoder<'_>) -> Result<(), ProtoError> {
         self.name.emit(encoder)?;
-        self.query_type.emit(encoder)?;
         let class = self.query_class.to_field(self.mdns_unicast_response);
-        class.emit(encoder)
+        emit_fields(u16::from(self.query_type), class, encoder)
+    }
+}
+
+// Writes type and class, the high byte of each first. They are written at once, since that is faster.
+fn emit_fields(query_type: u16, class: u16, encoder: &mut BinEncoder<'_>) -> Result<(), ProtoError>
+    ensures keeps { Keeps (state_of encoder.old) (state_of encoder.new) }
+    ensures writes { OnOk result (Writes (Then (Number w16 query_type) (Number w16 class)) 4 []
+        (state_of encoder.old) (state_of encoder.new)) }
+    ensures refuses { Refuses 4 (state_of encoder.old) result }
+{
+    let [type_high, type_low] = query_type.to_be_bytes();
+    let [class_high, class_low] = class.to_be_bytes();
+    encoder.emit_slice(&[type_high, type_low, class_high, class_low])
+}
+
+// What stands behind the name of a question.
+#[derive(Clone, Copy, Drop)]
+struct Fields {
+    query_type: u16,
+    class: u16,
+}
+
+// Reads type and class. They are read at once, since that is faster.
+fn read_fields(decoder: &mut BinDecoder<'_>) -> Result<Fields, DecodeError>
+    ensures found { let B = decoder.old.bytes in let i = decoder.old.index in
+        IfOk result (λ f. IsNumberAt w16 B i f.query_type × IsNumberAt w16 B (i + 2) f.class) }
+    ensures behind { OnOk result ((decoder.new.index ≡ decoder.old.index + 4) × (decoder.new.bytes ≡ decoder.old.bytes)) }
+    ensures short { IfErr result (λ e. (e ≡ DecodeError.InsufficientBytes) × (length decoder.old.bytes < decoder.old.index + 4)) }
+    ensures kept { decoder.new.kept ≡ decoder.old.kept }
+    ensures counts { Counts decoder.old decoder.new result }
+{
+    match decoder.read_slice(4)? {
+        [type_high, type_low, class_high, class_low] => Ok(Fields {
+            query_type: u16::from_be_bytes([*type_high, *type_low]),
+            class: u16::from_be_bytes([*class_high, *class_low]),
+        }),
+        _ => Err(DecodeError::InsufficientBytes),
     }
 }
 
@@ -160,11 +201,11 @@ impl BinDecodable for Query {
     #[tactic(auto, unfolding(crate::specs::Query::query_at))]
     fn read(decoder: &mut BinDecoder<'_>) -> Result<Query, DecodeError> {
         let name = Name::read(decoder)?;
-        let query_type = RecordType::read(decoder)?;
-        let (query_class, mdns_unicast_response) = DNSClass::from_field(decoder.read_u16()?);
+        let fields = read_fields(decoder)?;
+        let (query_class, mdns_unicast_response) = DNSClass::from_field(fields.class);
         Ok(Query {
             name,
-            query_type,
+            query_type: RecordType::from(fields.query_type),
             query_class,
             mdns_unicast_response,
         })

@@ -1,7 +1,7 @@
 -- The places of the names of a record.
 use Rattle.std.proofs.Common.{◌≡◌, ◌∙◌, ℕ, ◌+◌, List, [], ◌∷◌, Ok, Err, Result, ap, sym, subst, arith, refl}
 use Rattle.std.specs.Prelude.{IfOk}
-use Rattle.std.specs.Int.{w16, w32}
+use Rattle.std.specs.Int.{w16}
 use Rattle.base.specs.Labels.{NameValue}
 use Rattle.base.specs.Names.{name_at}
 use Rattle.base.specs.Passing.{AddsPassed}
@@ -28,16 +28,6 @@ type_behind : (B : List ℕ) (i : ℕ) (type : RecordType) (e : ℕ) → type_at
 type_behind B i type e is =
     let read = bind_ok (number_at w16 B i) typed (type, e) is in
     sym (ap (λ (x : RecordType × ℕ). x.1) (same_ok (type_of read.value.0, read.value.1) (type, e) read.second)) ∙ (number_is w16 B i read.value read.first).behind
-
--- data stands eight bytes behind its record's type
-pub body_adds : (places : ℕ → List ℕ) {second third : ℕ} {old mid new : Reader} {class ttl len : ℕ} → number_at w16 old.bytes old.index ≡ Ok (class, second) → number_at w32 old.bytes second ≡ Ok (ttl, third)
-    → number_at w16 old.bytes third ≡ Ok (len, mid.index) → AddsPassed [] old mid → AddsPassed (places mid.index) mid new → AddsPassed (places (old.index + 8)) old new
-body_adds places {second} {third} {old} {mid} {new} {class} {ttl} {len} class_is ttl_is len_is fields adds =
-    let first = (number_is w16 old.bytes old.index (class, second) class_is).behind in
-    let next = (number_is w32 old.bytes second (ttl, third) ttl_is).behind in
-    let last = (number_is w16 old.bytes third (len, mid.index) len_is).behind in
-    let at : mid.index ≡ old.index + 8 = omega (arith, first, next, last) in
-    subst (λ (i : ℕ). AddsPassed (places i) old new) at (adds_both fields adds)
 
 -- a record's owner, and then the names of its data
 pub record_adds : {old third : Reader} {owner : NameValue} {type : RecordType} (second new : Reader) (result : Result (Record RData) DecodeError)

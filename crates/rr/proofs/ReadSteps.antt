@@ -12,56 +12,60 @@ use Rattle.base.specs.declared.dns_class.DNSClass.{DNSClass}
 use Rattle.base.specs.declared.error.decode_error.DecodeError.{DecodeError}
 use Rattle.base.specs.declared.error.decode_error.DecodeError.TheVariants as faults
 use Rattle.base.specs.declared.record_type.RecordType.{RecordType}
-use Rattle.base.proofs.ReadLemmas.{Fails-through, number_is}
+use Rattle.base.specs.Words.{IsNumberAt}
+use Rattle.base.proofs.ReadLemmas.{Fails-through, number_again}
 use Rattle.base_data.proofs.Tells.{same_ok}
 use Rattle.base_data.specs.RData.{rdata_at}
 use Rattle.base_data.specs.declared.rdata.RData.{RData}
 use Rattle.rr.specs.Record.{body_at, class_value, flush_value, is_opt_type, record_at}
 use Rattle.rr.specs.declared.record.Record.{Record}
 
--- ---- what comes behind the type, field by field, over one buffer
+-- ---- what comes behind the type, over one buffer
 
--- a clause over the bytes that a decoder holds is one over the buffer
-pub over : {again B : List ℕ} (P : List ℕ → Type 0) → again ≡ B → P again → P B
-over P same holds = subst P same holds
+-- what is computed of the bytes that a decoder holds and of its place
+pub placed : {A : Type 0} {again B : List ℕ} {k i : ℕ} → again ≡ B → k ≡ i → (f : List ℕ → ℕ → A) → f again k ≡ f B i
+placed same there f = rw (same, there) refl
 
-pub class_fails : (owner : NameValue) (type : RecordType) (B : List ℕ) (i : ℕ) (f : DecodeError) → Fails f (number_at w16 B i) → Fails f (body_at owner type B i)
-unfolding body_at
-class_fails owner type B i f fails = Fails-through f (number_at w16 B i) (body_at owner type B i) (λ no. rw no refl) fails
+-- a clause over them is one over the buffer and the place there
+pub over_both : {again B : List ℕ} {k i : ℕ} → again ≡ B → k ≡ i → (P : List ℕ → ℕ → Type 0) → P again k → P B i
+over_both {again} {B} {k} {i} same there P holds = subst (P B) there (subst (λ (bytes : List ℕ). P bytes k) same holds)
 
-module _ (owner : NameValue) (type : RecordType) (B : List ℕ) (i : ℕ) {class j : ℕ} (class_is : number_at w16 B i ≡ Ok (class, j)) where
-  pub ttl_fails : (f : DecodeError) → Fails f (number_at w32 B j) → Fails f (body_at owner type B i)
+module _ (owner : NameValue) (type : RecordType) (B : List ℕ) (i : ℕ) {class ttl len : ℕ} (class_stands : IsNumberAt w16 B i class) (ttl_stands : IsNumberAt w32 B (i + 2) ttl)
+    (len_stands : IsNumberAt w16 B (i + 6) len) where
+  class_is : number_at w16 B i ≡ Ok (class, i + 2)
+  class_is = number_again w16 B i class class_stands
+
+  ttl_is : number_at w32 B (i + 2) ≡ Ok (ttl, i + 2 + 4)
+  ttl_is = number_again w32 B (i + 2) ttl ttl_stands
+
+  at_len : i + 2 + 4 ≡ i + 6
+  at_len = omega arith
+
+  len_is : number_at w16 B (i + 6) ≡ Ok (len, i + 6 + 2)
+  len_is = number_again w16 B (i + 6) len len_stands
+
+  at_data : i + 6 + 2 ≡ i + 8
+  at_data = omega arith
+
+  pub data_cut : {left asked : ℕ} → left ≡ length B - (i + 8) → asked ≡ len → left < asked → body_at owner type B i ≡ Err (faults.IncorrectRDataLengthRead left asked)
   unfolding body_at
-  ttl_fails f fails = Fails-through f (number_at w32 B j) (body_at owner type B i) (λ no. rw (class_is, no) refl) fails
+  data_cut left_is asked_is short =
+      let test : nat_lt (length B) (i + 8 + len) ≡ true = lt-ltb (length B) (i + 8 + len) (omega (arith, short, left_is, asked_is)) in
+      rw (class_is, ttl_is, at_len, len_is, at_data, test, left_is, asked_is) refl
 
-  module _ {ttl k : ℕ} (ttl_is : number_at w32 B j ≡ Ok (ttl, k)) where
-    pub len_fails : (f : DecodeError) → Fails f (number_at w16 B k) → Fails f (body_at owner type B i)
-    unfolding body_at
-    len_fails f fails = Fails-through f (number_at w16 B k) (body_at owner type B i) (λ no. rw (class_is, ttl_is, no) refl) fails
+  -- the data has room where as many bytes are left
+  pub room : {left asked : ℕ} → left ≡ length B - (i + 8) → asked ≡ len → asked ≤ left → nat_lt (length B) (i + 8 + len) ≡ false
+  room left_is asked_is fits = le-ltb (length B) (i + 8 + len) (omega (arith, fits, left_is, asked_is, len_stands.inside))
 
-    module _ {len l : ℕ} (len_is : number_at w16 B k ≡ Ok (len, l)) where
-      pub data_cut : {left asked : ℕ} → left ≡ length B - l → asked ≡ len → left < asked → body_at owner type B i ≡ Err (faults.IncorrectRDataLengthRead left asked)
-      unfolding body_at
-      data_cut left_is asked_is short =
-          let test : nat_lt (length B) (l + len) ≡ true = lt-ltb (length B) (l + len) (omega (arith, short, left_is, asked_is)) in
-          rw (class_is, ttl_is, len_is, test, left_is, asked_is) refl
+  pub data_fails : nat_lt (length B) (i + 8 + len) ≡ false → (f : DecodeError) → Fails f (rdata_at type len B (i + 8)) → Fails f (body_at owner type B i)
+  unfolding body_at
+  data_fails fits f fails = Fails-through f (rdata_at type len B (i + 8)) (body_at owner type B i) (λ no. rw (class_is, ttl_is, at_len, len_is, at_data, fits, no) refl) fails
 
-      -- the data has room where as many bytes are left
-      pub room : {left asked : ℕ} → left ≡ length B - l → asked ≡ len → asked ≤ left → nat_lt (length B) (l + len) ≡ false
-      room left_is asked_is fits =
-          let counted = number_is w16 B k (len, l) len_is in
-          let inside : l ≤ length B = omega (arith, counted.behind, counted.stands.inside) in
-          le-ltb (length B) (l + len) (omega (arith, fits, left_is, asked_is, inside))
-
-      pub data_fails : nat_lt (length B) (l + len) ≡ false → (f : DecodeError) → Fails f (rdata_at type len B l) → Fails f (body_at owner type B i)
-      unfolding body_at
-      data_fails fits f fails = Fails-through f (rdata_at type len B l) (body_at owner type B i) (λ no. rw (class_is, ttl_is, len_is, fits, no) refl) fails
-
-      pub body_read : {rdata : RData} {end : ℕ} {dns_class : DNSClass} {flush : Bool} → nat_lt (length B) (l + len) ≡ false → rdata_at type len B l ≡ Ok (rdata, end)
-          → dns_class ≡ class_value type class → flush ≡ flush_value type class
-          → body_at owner type B i ≡ Ok (record { name = owner; dns_class = dns_class; ttl = ttl; rdata = rdata; mdns_cache_flush = flush }, end)
-      unfolding body_at
-      body_read fits rdata_is dns_class_is flush_is = rw (class_is, ttl_is, len_is, fits, rdata_is, dns_class_is, flush_is) refl
+  pub body_read : {rdata : RData} {end : ℕ} {dns_class : DNSClass} {flush : Bool} → nat_lt (length B) (i + 8 + len) ≡ false → rdata_at type len B (i + 8) ≡ Ok (rdata, end)
+      → dns_class ≡ class_value type class → flush ≡ flush_value type class
+      → body_at owner type B i ≡ Ok (record { name = owner; dns_class = dns_class; ttl = ttl; rdata = rdata; mdns_cache_flush = flush }, end)
+  unfolding body_at
+  body_read fits rdata_is dns_class_is flush_is = rw (class_is, ttl_is, at_len, len_is, at_data, fits, rdata_is, dns_class_is, flush_is) refl
 
 -- ---- the record
 

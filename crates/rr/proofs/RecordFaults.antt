@@ -105,7 +105,7 @@ number_of w B i = from_be_bytes w (take (byte_len w) (drop i B))
 number_there : (w : Width) (B : List ℕ) (i : ℕ) → i + byte_len w ≤ length B → number_at w B i ≡ Ok (number_of w B i, i + byte_len w)
 number_there w B i inside = number_again w B i (number_of w B i) (record { inside = inside; is = refl })
 
-body_cut : (owner : NameValue) (type : RecordType) (B : List ℕ) (i : ℕ) → length B < i + 8 → body_at owner type B i ≡ Err faults.InsufficientBytes
+pub body_cut : (owner : NameValue) (type : RecordType) (B : List ℕ) (i : ℕ) → length B < i + 8 → body_at owner type B i ≡ Err faults.InsufficientBytes
 unfolding body_at
 body_cut owner type B i short = cases (nat_lt (length B) (i + 2)) refl (nat_lt (length B) (i + 2 + 4)) refl where
   cases : (class : Bool) → nat_lt (length B) (i + 2) ≡ class → (ttl : Bool) → nat_lt (length B) (i + 2 + 4) ≡ ttl → body_at owner type B i ≡ Err faults.InsufficientBytes

@@ -14,16 +14,21 @@ pub struct Suffix {
     /// The labels, each with its length before it.
     labels: Octets,
     offset: u16,
-    /// The first bytes of the labels as a number.
+    /// A number of the first bytes of the labels.
     front: u32,
 }
 
-/// The first four bytes as a number, by which most labels are told from others; 0 where there are fewer.
+/// A number of the first eight bytes, by which most labels are told from others; of the first four where there are fewer
+/// than eight, and 0 where there are fewer than four.
 pub(crate) fn front_number(wire: &[u8]) -> u32
     ensures { result ≡ front_number wire.now }
 {
     match wire {
-        [highest, high, low, lowest, ..] => u32::from_be_bytes([*highest, *high, *low, *lowest]),
+        [a, b, c, d, e, f, g, h, ..] => {
+            let first = u32::from_le_bytes([*a, *b, *c, *d]);
+            first.wrapping_add(u32::from_le_bytes([*e, *f, *g, *h]))
+        }
+        [a, b, c, d, ..] => u32::from_le_bytes([*a, *b, *c, *d]),
         _ => 0,
     }
 }

@@ -1,10 +1,11 @@
 //! Writes EDNS as an OPT record (RFC 6891, 6.1.2 and 6.1.3).
 
 ghost use Rattle.std.specs.Prelude.{◌≡◌, ◌+◌, ◌*◌, [], MatchResult, OnOk};
-ghost use Rattle.std.specs.Int.{w32};
+ghost use Rattle.std.specs.Int.{w16, w32};
 ghost use Rattle.base.specs.Laws.{Keeps, Writes};
+ghost use Rattle.base.specs.RecordType.{type_number};
 ghost use Rattle.base.specs.Wire.{state_of, Refuses};
-ghost use Rattle.base.specs.Words.{NameAt, Number};
+ghost use Rattle.base.specs.Words.{NameAt, Number, Then};
 ghost use Rattle.base.specs.declared.error.proto_error.ProtoError.TheVariants as refusals;
 ghost use Rattle.op.specs.EdnsRecord.{EdnsWord, edns_record, plain_edns};
 
@@ -49,14 +50,41 @@ impl BinEncodable for Edns {
     ///
     /// Refused with `MaxBufferSizeExceeded` where a byte would pass the limit, and with `Memory` for want of it.
     fn emit(&self, encoder: &mut BinEncoder<'_>) -> Result<(), ProtoError> {
-        emit_root(encoder)?;
-        RecordType::OPT.emit(encoder)?;
-        let payload = u16::from(DNSClass::for_opt(self.max_payload));
-        payload.emit(encoder)?;
-        let ttl = ttl_of(self.rcode_high, self.version, u16::from(self.flags));
-        emit_ttl(ttl, encoder)?;
-        emit_sized(&self.options, encoder)
+        emit_raised(self, self.rcode_high, encoder)
     }
+}
+
+/// EDNS with other high bits of the response code than its own, as a message writes it. It is lent, and not copied.
+#[derive(Drop)]
+pub(crate) struct RaisedEdns<'a> {
+    pub(crate) edns: &'a Edns,
+    pub(crate) rcode_high: u8,
+}
+
+impl<'a> BinEncodable for RaisedEdns<'a> {
+    ghost word = { λ r. EdnsWord (record r.edns.now { rcode_high = r.rcode_high }) };
+
+    ghost plain_len = { λ r. plain_edns (record r.edns.now { rcode_high = r.rcode_high }) };
+
+    /// Writes the OPT record, as that of EDNS with these high bits.
+    ///
+    /// Refused with `MaxBufferSizeExceeded` where a byte would pass the limit, and with `Memory` for want of it.
+    fn emit(&self, encoder: &mut BinEncoder<'_>) -> Result<(), ProtoError> {
+        emit_raised(self.edns, self.rcode_high, encoder)
+    }
+}
+
+// Writes the OPT record of EDNS with these high bits of the response code.
+fn emit_raised(edns: &Edns, rcode_high: u8, encoder: &mut BinEncoder<'_>) -> Result<(), ProtoError>
+    ensures keeps { Keeps (state_of encoder.old) (state_of encoder.new) }
+    ensures writes { let raised = record edns.now { rcode_high = rcode_high } in
+        OnOk result (Writes (EdnsWord raised) (plain_edns raised) [] (state_of encoder.old) (state_of encoder.new)) }
+    ensures refuses { Refuses (plain_edns (record edns.now { rcode_high = rcode_high })) (state_of encoder.old) result }
+{
+    let payload = u16::from(DNSClass::for_opt(edns.max_payload));
+    let ttl = ttl_of(rcode_high, edns.version, u16::from(edns.flags));
+    emit_front(payload, ttl, encoder)?;
+    emit_sized(&edns.options, encoder)
 }
 
 // The high code, the version and the flags, from the highest byte on.
@@ -66,20 +94,26 @@ fn ttl_of(rcode_high: u8, version: u8, flags: u16) -> u32
     0x100_0000 * u32::from(rcode_high) + (0x1_0000 * u32::from(version) + u32::from(flags))
 }
 
-// Writes the name of the root.
-fn emit_root(encoder: &mut BinEncoder<'_>) -> Result<(), ProtoError>
+// Writes the name of the root, the type, the payload size and a TTL, the highest byte of each first. They are written
+// at once, since that is faster.
+fn emit_front(payload: u16, ttl: u32, encoder: &mut BinEncoder<'_>) -> Result<(), ProtoError>
     ensures keeps { Keeps (state_of encoder.old) (state_of encoder.new) }
-    ensures writes { OnOk result (Writes (NameAt []) 1 [] (state_of encoder.old) (state_of encoder.new)) }
-    ensures refuses { Refuses 1 (state_of encoder.old) result }
+    ensures writes { OnOk result (Writes (Then (NameAt []) (Then (Number w16 (type_number RecordType.OPT)) (Then (Number w16 payload) (Number w32 ttl)))) 9 []
+        (state_of encoder.old) (state_of encoder.new)) }
+    ensures refuses { Refuses 9 (state_of encoder.old) result }
 {
-    encoder.emit(0)
-}
-
-// Writes a TTL, the highest byte first.
-fn emit_ttl(ttl: u32, encoder: &mut BinEncoder<'_>) -> Result<(), ProtoError>
-    ensures keeps { Keeps (state_of encoder.old) (state_of encoder.new) }
-    ensures writes { OnOk result (Writes (Number w32 ttl) 4 [] (state_of encoder.old) (state_of encoder.new)) }
-    ensures refuses { Refuses 4 (state_of encoder.old) result }
-{
-    encoder.emit_u32(ttl)
+    let [type_high, type_low] = u16::from(RecordType::OPT).to_be_bytes();
+    let [payload_high, payload_low] = payload.to_be_bytes();
+    let [highest, high, low, lowest] = ttl.to_be_bytes();
+    encoder.emit_slice(&[
+        0,
+        type_high,
+        type_low,
+        payload_high,
+        payload_low,
+        highest,
+        high,
+        low,
+        lowest,
+    ])
 }

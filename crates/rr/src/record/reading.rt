@@ -1,9 +1,11 @@
 //! Reads records.
 
-ghost use Rattle.std.specs.Prelude.{◌≡◌, ◌+◌, IfOk};
+ghost use Rattle.std.specs.Prelude.{◌≡◌, ◌+◌, ◌<◌, length, IfErr, IfOk, OnOk};
+ghost use Rattle.std.specs.Int.{w16, w32};
 ghost use Rattle.base.specs.Counts.{Counts};
 ghost use Rattle.base.specs.Passing.{AddsPassed};
 ghost use Rattle.base.specs.Reading.{Reads};
+ghost use Rattle.base.specs.Words.{IsNumberAt};
 ghost use Rattle.base_data.specs.Kinds.{data_places};
 ghost use Rattle.rr.specs.Record.{body_at, class_value, flush_value, is_opt_type, record_at, record_places};
 
@@ -54,6 +56,42 @@ fn class_of_field(record_type: RecordType, field: u16) -> (DNSClass, bool)
     }
 }
 
+/// What stands between the type of a record and its data.
+#[derive(Clone, Copy, Drop)]
+struct Fields {
+    class: u16,
+    ttl: u32,
+    len: u16,
+}
+
+/// Reads class, TTL and length. They are read at once, since that is faster.
+fn read_fields(decoder: &mut BinDecoder<'_>) -> Result<Fields, DecodeError>
+    ensures found { let B = decoder.old.bytes in let i = decoder.old.index in
+        IfOk result (λ f. IsNumberAt w16 B i f.class × IsNumberAt w32 B (i + 2) f.ttl × IsNumberAt w16 B (i + 6) f.len) }
+    ensures behind { OnOk result ((decoder.new.index ≡ decoder.old.index + 8) × (decoder.new.bytes ≡ decoder.old.bytes)) }
+    ensures short { IfErr result (λ e. (e ≡ DecodeError.InsufficientBytes) × (length decoder.old.bytes < decoder.old.index + 8)) }
+    ensures kept { decoder.new.kept ≡ decoder.old.kept }
+    ensures counts { Counts decoder.old decoder.new result }
+{
+    match decoder.read_slice(8)? {
+        [
+            class_high,
+            class_low,
+            highest,
+            high,
+            low,
+            lowest,
+            len_high,
+            len_low,
+        ] => Ok(Fields {
+            class: u16::from_be_bytes([*class_high, *class_low]),
+            ttl: u32::from_be_bytes([*highest, *high, *low, *lowest]),
+            len: u16::from_be_bytes([*len_high, *len_low]),
+        }),
+        _ => Err(DecodeError::InsufficientBytes),
+    }
+}
+
 /// Reads what comes behind the type of a record.
 #[tactic(auto, unfolding(crate::specs::Record::body_at))]
 fn read_body(
@@ -65,9 +103,8 @@ fn read_body(
     ensures counts { Counts decoder.old decoder.new result }
     ensures adds { IfOk result (λ r. AddsPassed (data_places r.rdata decoder.old.bytes (decoder.old.index + 8)) decoder.old decoder.new) }
 {
-    let (dns_class, mdns_cache_flush) = class_of_field(record_type, decoder.read_u16()?);
-    let ttl = decoder.read_u32()?;
-    let len = decoder.read_u16()?;
+    let Fields { class, ttl, len } = read_fields(decoder)?;
+    let (dns_class, mdns_cache_flush) = class_of_field(record_type, class);
     let left = decoder.len();
     if left < usize::from(len) {
         return Err(DecodeError::IncorrectRDataLengthRead {

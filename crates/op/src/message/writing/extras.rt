@@ -7,7 +7,7 @@ ghost use Rattle.op.specs.Composition.{WritesExtras, WritesRecordItems};
 ghost use Rattle.op.specs.Fits.{opt_records, signature_records};
 
 use super::parts::{Written, added, emit_item};
-use crate::edns::Edns;
+use crate::edns::{Edns, RaisedEdns};
 use crate::response_code::ResponseCode;
 use base::{BinEncoder, ProtoError};
 use base_data::TSIG;
@@ -43,8 +43,10 @@ fn emit_edns(
     let Some(edns) = edns else {
         return Ok(NOTHING);
     };
-    let mut raised = edns.clone()?;
-    raised.rcode_high = response_code.high();
+    let raised = RaisedEdns {
+        edns,
+        rcode_high: response_code.high(),
+    };
     emit_item(&raised, encoder)
 }
 

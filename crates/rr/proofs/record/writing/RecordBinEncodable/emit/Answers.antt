@@ -1,4 +1,4 @@
-use Rattle.std.proofs.Common.{ℕ, ◌+◌, List, Err, ap, arith}
+use Rattle.std.proofs.Common.{ℕ, ◌+◌, ◌∙◌, List, Err, ap, arith}
 use Rattle.std.proofs.lemmas.Result.{err_from_is_err_and, on_ok_weaker}
 use Rattle.base.proofs.LawLemmas.{Keeps-then, Writes-then, Writes-weaker}
 use Rattle.base.specs.Labels.{plain_len}
@@ -23,70 +23,36 @@ returns-in_err-emit-clause-refuses g c =
     rw (p.1, p.2) (name_refused {X = Unit {0}} (plain_len r.name.labels) (plain_data (g.R.RecordData.as_rdata r.rdata))
     (state_of c.args.encoder.now) (Err c.in_err-emit.field-0.0) c.in_err-emit.ensures.refuses)
 
-pub returns-in_err-emit-2-clause-keeps : goal.returns-in_err-emit-2-clause-keeps
-returns-in_err-emit-2-clause-keeps g c = Keeps-then c.emit.ensures.keeps c.emit-2.ensures.keeps
+pub returns-in_err-emit_fields-clause-keeps : goal.returns-in_err-emit_fields-clause-keeps
+returns-in_err-emit_fields-clause-keeps g c = Keeps-then c.emit.ensures.keeps c.emit_fields.ensures.keeps
 
-pub returns-in_err-emit-2-clause-writes : goal.returns-in_err-emit-2-clause-writes
-returns-in_err-emit-2-clause-writes g c = let p = err_from_is_err_and c.from_residual-in_err-emit-2.result c.from_residual-in_err-emit-2.ensures.1 in rw p.1 tt
+pub returns-in_err-emit_fields-clause-writes : goal.returns-in_err-emit_fields-clause-writes
+returns-in_err-emit_fields-clause-writes g c = let p = err_from_is_err_and c.from_residual-in_err-emit_fields.result c.from_residual-in_err-emit_fields.ensures.1 in rw p.1 tt
 
-pub returns-in_err-emit-2-clause-refuses : goal.returns-in_err-emit-2-clause-refuses
-returns-in_err-emit-2-clause-refuses g c =
-    let p = err_from_is_err_and c.from_residual-in_err-emit-2.result c.from_residual-in_err-emit-2.ensures.1 in
+pub returns-in_err-emit_fields-clause-refuses : goal.returns-in_err-emit_fields-clause-refuses
+returns-in_err-emit_fields-clause-refuses g c =
+    let p = err_from_is_err_and c.from_residual-in_err-emit_fields.result c.from_residual-in_err-emit_fields.ensures.1 in
     let r = c.args.self.now in
     let whole = plain_len r.name.labels + (10 + plain_data (g.R.RecordData.as_rdata r.rdata)) in
-    rw (p.1, p.2) (refused_behind {X = Unit {0}} (Err c.in_err-emit-2.field-0.0) 2 whole
-    (took c.emit.ensures.keeps c.in_ok-emit.ensures.writes) (omega arith) c.in_err-emit-2.ensures.refuses)
-
-pub returns-in_err-emit-3-clause-keeps : goal.returns-in_err-emit-3-clause-keeps
-returns-in_err-emit-3-clause-keeps g c = Keeps-then c.emit.ensures.keeps (Keeps-then c.emit-2.ensures.keeps c.emit-3.ensures.keeps)
-
-pub returns-in_err-emit-3-clause-writes : goal.returns-in_err-emit-3-clause-writes
-returns-in_err-emit-3-clause-writes g c = let p = err_from_is_err_and c.from_residual-in_err-emit-3.result c.from_residual-in_err-emit-3.ensures.1 in rw p.1 tt
-
-pub returns-in_err-emit-3-clause-refuses : goal.returns-in_err-emit-3-clause-refuses
-returns-in_err-emit-3-clause-refuses g c =
-    let p = err_from_is_err_and c.from_residual-in_err-emit-3.result c.from_residual-in_err-emit-3.ensures.1 in
-    let r = c.args.self.now in
-    let whole = plain_len r.name.labels + (10 + plain_data (g.R.RecordData.as_rdata r.rdata)) in
-    rw (p.1, p.2) (refused_behind {X = Unit {0}} (Err c.in_err-emit-3.field-0.0) 2 whole
-    (took_more (took c.emit.ensures.keeps c.in_ok-emit.ensures.writes)
-    (took c.emit-2.ensures.keeps c.in_ok-emit-2.ensures.writes)) (omega arith) c.in_err-emit-3.ensures.refuses)
-
-pub returns-in_err-emit_ttl-clause-keeps : goal.returns-in_err-emit_ttl-clause-keeps
-returns-in_err-emit_ttl-clause-keeps g c = Keeps-then c.emit.ensures.keeps (Keeps-then c.emit-2.ensures.keeps (Keeps-then c.emit-3.ensures.keeps c.emit_ttl.ensures.keeps))
-
-pub returns-in_err-emit_ttl-clause-writes : goal.returns-in_err-emit_ttl-clause-writes
-returns-in_err-emit_ttl-clause-writes g c = let p = err_from_is_err_and c.from_residual-in_err-emit_ttl.result c.from_residual-in_err-emit_ttl.ensures.1 in rw p.1 tt
-
-pub returns-in_err-emit_ttl-clause-refuses : goal.returns-in_err-emit_ttl-clause-refuses
-returns-in_err-emit_ttl-clause-refuses g c =
-    let p = err_from_is_err_and c.from_residual-in_err-emit_ttl.result c.from_residual-in_err-emit_ttl.ensures.1 in
-    let r = c.args.self.now in
-    let whole = plain_len r.name.labels + (10 + plain_data (g.R.RecordData.as_rdata r.rdata)) in
-    rw (p.1, p.2) (refused_behind {X = Unit {0}} (Err c.in_err-emit_ttl.field-0.0) 4 whole
-    (took_more (took c.emit.ensures.keeps c.in_ok-emit.ensures.writes)
-    (took_more (took c.emit-2.ensures.keeps c.in_ok-emit-2.ensures.writes)
-    (took c.emit-3.ensures.keeps c.in_ok-emit-3.ensures.writes))) (omega arith) c.in_err-emit_ttl.ensures.refuses)
+    rw (p.1, p.2) (refused_behind {X = Unit {0}} (Err c.in_err-emit_fields.field-0.0) 8 whole
+    (took c.emit.ensures.keeps c.in_ok-emit.ensures.writes) (omega arith) c.in_err-emit_fields.ensures.refuses)
 
 pub returns-clause-keeps : goal.returns-clause-keeps
-returns-clause-keeps g c = Keeps-then c.emit.ensures.keeps (Keeps-then c.emit-2.ensures.keeps (Keeps-then c.emit-3.ensures.keeps (Keeps-then c.emit_ttl.ensures.keeps c.emit_sized.ensures.keeps)))
+returns-clause-keeps g c = Keeps-then c.emit.ensures.keeps (Keeps-then c.emit_fields.ensures.keeps c.emit_sized.ensures.keeps)
 
 pub returns-clause-writes : goal.returns-clause-writes
 returns-clause-writes g c =
     let r = c.args.self.now in
     let law = g.met.R.RecordData in
-    let keeps_4 = c.emit_sized.ensures.keeps in
-    let keeps_3 = Keeps-then c.emit_ttl.ensures.keeps keeps_4 in
-    let keeps_2 = Keeps-then c.emit-3.ensures.keeps keeps_3 in
-    let keeps_1 = Keeps-then c.emit-2.ensures.keeps keeps_2 in
+    let keeps_2 = c.emit_sized.ensures.keeps in
+    let keeps_1 = Keeps-then c.emit_fields.ensures.keeps keeps_2 in
     let as_data = λ (B : List ℕ) (i e : ℕ). (law.keeps_word r.rdata B i e).1 in
     let fits = whole_record (plain_len r.name.labels) _ _ (law.keeps_len r.rdata) in
+    let type = c.from.ensures ∙ ap type_number c.record_type.ensures in
     on_ok_weaker c.emit_sized.result (λ w. Writes-weaker
-    (record_word (with_data g.R.RecordData.as_rdata r) (ap type_number c.record_type.ensures) c.to_field-class.ensures (g.R.BinEncodable.word r.rdata) as_data) fits
+    (record_word (with_data g.R.RecordData.as_rdata r) type c.to_field-class.ensures (g.R.BinEncodable.word r.rdata) as_data) fits
     (Writes-then c.emit.ensures.keeps keeps_1 c.in_ok-emit.ensures.writes
-    (Writes-then c.emit-2.ensures.keeps keeps_2 c.in_ok-emit-2.ensures.writes
-    (Writes-then c.emit-3.ensures.keeps keeps_3 c.in_ok-emit-3.ensures.writes
-    (Writes-then c.emit_ttl.ensures.keeps keeps_4 c.in_ok-emit_ttl.ensures.writes w))))) c.emit_sized.ensures.writes
+    (Writes-then c.emit_fields.ensures.keeps keeps_2 c.in_ok-emit_fields.ensures.writes w))) c.emit_sized.ensures.writes
 
 pub returns-clause-refuses : goal.returns-clause-refuses
 returns-clause-refuses g c =
@@ -94,7 +60,5 @@ returns-clause-refuses g c =
     let whole = plain_len r.name.labels + (10 + plain_data (g.R.RecordData.as_rdata r.rdata)) in
     refused_behind c.emit_sized.result (2 + g.R.BinEncodable.plain_len r.rdata) whole
     (took_more (took c.emit.ensures.keeps c.in_ok-emit.ensures.writes)
-    (took_more (took c.emit-2.ensures.keeps c.in_ok-emit-2.ensures.writes)
-    (took_more (took c.emit-3.ensures.keeps c.in_ok-emit-3.ensures.writes)
-    (took c.emit_ttl.ensures.keeps c.in_ok-emit_ttl.ensures.writes))))
+    (took c.emit_fields.ensures.keeps c.in_ok-emit_fields.ensures.writes))
     (omega (arith, g.met.R.RecordData.keeps_len r.rdata)) c.emit_sized.ensures.refuses

@@ -1,0 +1,14 @@
+use Rattle.std.proofs.Common.{◌≡◌, ◌+◌, sym, subst, arith}
+use Rattle.std.specs.Int.{w16}
+use Rattle.base.specs.Words.{IsNumberAt}
+use Rattle.base_data.proofs.BytesRead.{bytes_is, number16_among}
+use Rattle.op.proofs.query.read_fields.Goals as goal
+
+pub returns-in-len4-clause-found : goal.returns-in-len4-clause-found
+returns-in-len4-clause-found c =
+    let at = c.args.decoder.now in
+    let s = bytes_is 4 at.bytes at.index _ c.in_ok-read_slice.ensures.read.0 in
+    let here : at.index + 0 ≡ at.index = omega arith in (
+      subst (λ k. IsNumberAt w16 at.bytes k c.from_be_bytes.result) here (subst (IsNumberAt w16 at.bytes (at.index + 0)) (sym c.from_be_bytes.ensures) (number16_among s 0 (omega arith))),
+      subst (IsNumberAt w16 at.bytes (at.index + 2)) (sym c.from_be_bytes-in-len4.ensures) (number16_among s 2 (omega arith)),
+    )
