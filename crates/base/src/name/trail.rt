@@ -1,6 +1,6 @@
 //! The pointers that are followed in reading a name.
 
-ghost use Rattle.std.specs.Prelude.{◌≡◌, ◌<◌, ◌++◌, ◌∷◌, [], Some, length, get_or, OnOk, OnErr};
+ghost use Rattle.std.specs.Prelude.{◌≡◌, ◌<◌, ◌≤◌, ◌++◌, ◌∷◌, [], None, Some, length, get_or, OnOk, OnErr};
 ghost use Rattle.base.specs.declared.name.trail.Passed.{Passed as Pointer};
 
 use std::alloc::{AllocError, Global};
@@ -55,7 +55,8 @@ impl Trail {
 
     /// The pointer that was followed behind as many others.
     pub(crate) fn at(&self, i: usize) -> Option<Passed>
-        ensures { (d : Pointer) → i < length self.now → result ≡ Some (get_or self.now i d) }
+        ensures there { (d : Pointer) → i < length self.now → result ≡ Some (get_or self.now i d) }
+        ensures past { length self.now ≤ i → result ≡ None }
     {
         if i == 0 {
             return self.first;
