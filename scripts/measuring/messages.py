@@ -193,6 +193,11 @@ def plain(size):
     return questions(size, lambda i, at: b"".join(bytes([1, 97 + (i + k) % 26]) for k in range(120)) + b"\0")
 
 
+def single(size):
+    """Names of one label each, without a pointer."""
+    return questions(size, lambda i, at: b"\1" + bytes([97 + i % 26]) + b"\0")
+
+
 def owners(size):
     """Names without shared ends."""
     return questions(size, lambda i, at: bytes([8]) + f"h{i:07}".encode() + bytes([8]) + f"e{i:07}".encode() + b"\0")
@@ -204,7 +209,7 @@ def siblings(size):
 
 
 ORDINARY = [small_query, edns, answer_cname, answer30, referral, dnssec_answer, txt_heavy, update, many_questions]
-GROWING = [(chained, (16, 32, 64)), (bare, (16, 32, 64)), (plain, (16, 32, 64)), (owners, (4, 8, 16)), (siblings, (4, 8, 16))]
+GROWING = [(chained, (16, 32, 64)), (bare, (16, 32, 64)), (plain, (16, 32, 64)), (single, (16, 32, 64)), (owners, (4, 8, 16)), (siblings, (4, 8, 16))]
 
 
 def all_messages():

@@ -16,7 +16,7 @@ use Rattle.std.proofs.lemmas.List.Quantifiers.{Any-push, all_pairs_push}
 use Rattle.std.proofs.lemmas.Map.Text.{is_eq-slice_cmp}
 use Rattle.base.specs.Labels.{wire_of, labels_of}
 use Rattle.base.specs.State.{Stored}
-use Rattle.base.specs.Suffixes.{offset_in, IsIndexed, IsTable}
+use Rattle.base.specs.Suffixes.{index_key, offset_at, IsIndexed, IsTable}
 use Rattle.base.proofs.LabelLemmas.{labels_of-wire_of}
 use Rattle.base.proofs.LawLemmas.{any_append}
 
@@ -38,12 +38,16 @@ module _ (bs : List ℕ) (m n : BTreeMap (Vec ℕ Global) ℕ) (w : Option ℕ)
     | inl equal ↦ absurd (other ((bytes_decides cs k.items).0 (sym (is_eq-slice_cmp cs k.items) ∙ equal) ∙ sym ((bytes_decides bs k.items).0 (sym (is_eq-slice_cmp bs k.items) ∙ at))))
   ]
 
-  pub index_others : (cs : List ℕ) → cs ≢ bs → offset_in n cs ≡ offset_in m cs
+  pub index_others : (cs : List ℕ) → cs ≢ bs → offset_at n cs ≡ offset_at m cs
   unfolding KeepsOthers
   index_others cs other = h.3 (λ k. is_eq (slice_cmp nat_cmp cs k.items)) (λ x y. (eq_by_cmp_equiv nat_list_cmp_total).congr cs x.items y.items) (apart cs other)
 
-  pub index_here : offset_in n bs ≡ w
+  pub index_here : offset_at n bs ≡ w
   index_here = h.1
+
+-- suffixes of one key are the same
+pub one_key : (xs ys : List ℕ) → index_key xs ≡ index_key ys → xs ≡ ys
+one_key xs ys same = ap (drop 4) same
 
 -- the labels of a key
 key_labels : (t : Stored) (bytes : List ℕ) → wire_of t.labels ≡ bytes → t.labels ≡ labels_of bytes

@@ -2,15 +2,24 @@
 use Rattle.std.specs.Prelude.{◌≡◌, ◌≢◌, ℕ, ◌<◌, ◌++◌, List, Option, Some, Vec, All, Any}
 use Rattle.std.specs.BTreeMap.{BTreeMap, get_by}
 use Rattle.std.specs.Cmp.Lexicographic.{slice_cmp}
+use Rattle.std.specs.Int.{w32, to_be_bytes}
 use Rattle.std.specs.List.{AllPairs}
 use Rattle.std.specs.Ordering.{nat_cmp}
 use Rattle.std.specs.declared.alloc.Global.{Global}
 use Rattle.base.specs.Labels.{wire_of}
-use Rattle.base.specs.State.{Stored}
+use Rattle.base.specs.State.{Stored, front_number}
+
+-- the offset that the index has at a key
+abbrev pub offset_at : BTreeMap (Vec ℕ Global) ℕ → List ℕ → Option ℕ
+offset_at index key = get_by (λ k. slice_cmp nat_cmp key k.items) index
+
+-- the key of a suffix of these bytes: the number of the first of them, the highest byte first, and all of them
+abbrev pub index_key : List ℕ → List ℕ
+index_key bytes = to_be_bytes w32 (front_number bytes) ++ bytes
 
 -- the offset that the index has for a suffix of these bytes
 abbrev pub offset_in : BTreeMap (Vec ℕ Global) ℕ → List ℕ → Option ℕ
-offset_in index bytes = get_by (λ k. slice_cmp nat_cmp bytes k.items) index
+offset_in index bytes = offset_at index (index_key bytes)
 
 -- The suffixes stand in order of offset, each once; the index finds each at its bytes, and nothing else.
 pub record IsIndexed (find : List ℕ → Option ℕ) (list : List Stored) : Type 0 where

@@ -61,9 +61,17 @@ impl Suffix {
 
     /// The labels, each with its length before it.
     pub(crate) fn as_wire(&self) -> &[u8]
-        ensures { result.now ≡ wire_of self.now.labels }
+        ensures value { result.now ≡ wire_of self.now.labels }
+        ensures wire { IsWire result.now }
     {
         self.labels.as_slice()
+    }
+
+    /// The number of the first bytes of the labels.
+    pub(crate) fn front(&self) -> u32
+        ensures { result ≡ front_number (wire_of self.now.labels) }
+    {
+        self.front
     }
 
     /// Whether the suffix has these labels, each with its length before it, byte for byte.

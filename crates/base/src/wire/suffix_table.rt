@@ -1,7 +1,9 @@
 //! The suffixes of names that were written, with an index of them (RFC 1035, 4.1.4).
 
-ghost use Rattle.std.specs.Prelude.{◌≡◌, ◌≢◌, ◌<◌, ◌++◌, ◌∷◌, [], length, take, All, Any, MatchOption, OnOk, OnErr, IfSome};
-ghost use Rattle.base.specs.Labels.{IsLabelRun, labels_of, IsWire};
+ghost use Rattle.std.specs.Prelude.{◌≡◌, ◌≢◌, ◌<◌, ◌≤◌, ◌++◌, ◌∷◌, [], length, take, All, Any, MatchOption, OnOk, OnErr, IfSome};
+ghost use Rattle.base.specs.Labels.{labels_of, IsWire};
+ghost use Rattle.base.specs.State.{front_number};
+ghost use Rattle.base.specs.Suffixes.{index_key};
 
 use crate::error::ProtoError;
 use crate::wire::suffix::{Suffix, front_number};
@@ -20,6 +22,23 @@ pub trait HasSuffixes {
 /// How many suffixes are looked up one by one.
 const FIRST: usize = 24;
 
+/// Room for the key of the longest suffix: a number of four bytes, and the labels of a name (RFC 1035, 2.3.4).
+const KEY: usize = 258;
+
+/// Puts the key of a suffix of these labels at the front of the room, and answers how many bytes it has. The number of
+/// their first bytes stands before the labels, so that most keys differ early.
+fn key_into(wire: &[u8], front: u32, room: &mut [u8; KEY]) -> usize
+    requires short { length wire.now ≤ 254 }
+    requires front { front ≡ front_number wire.now }
+    ensures len { result ≤ 258 }
+    ensures key { take result room.new ≡ index_key wire.now }
+{
+    let len = 4 + wire.len();
+    room[..4].copy_from_slice(&front.to_be_bytes());
+    room[4..len].copy_from_slice(wire);
+    len
+}
+
 /// The suffixes that a later name may point to, in order of offset, each once.
 ///
 /// The first ones are looked up one by one, so that a message with few names pays for no index.
@@ -27,7 +46,7 @@ const FIRST: usize = 24;
 pub struct SuffixTable {
     first: Vec<Suffix>,
     others: Vec<Suffix>,
-    /// The offset of each of the others, by its labels with their lengths before them.
+    /// The offset of each of the others, by its key.
     index: BTreeMap<Vec<u8>, u16>,
 }
 
@@ -70,7 +89,7 @@ impl SuffixTable {
 
     /// Where the suffix of these labels, each with its length before it, is spelled. Letters are compared as they are.
     pub(crate) fn find(&self, wire: &[u8]) -> Option<u16>
-        requires { IsLabelRun wire.now }
+        requires { IsWire wire.now }
         ensures found { MatchOption result (All (λ t. t.labels ≢ labels_of wire.now) self.now)
             (λ offset. Any (λ t. (t.labels ≡ labels_of wire.now) × (t.offset ≡ offset)) self.now) }
         ensures near { IfSome result (λ offset. offset < 16384) }
@@ -84,7 +103,9 @@ impl SuffixTable {
         if self.others.is_empty() {
             return None;
         }
-        self.index.get(wire).copied()
+        let mut room = [0; KEY];
+        let len = key_into(wire, front, &mut room);
+        self.index.get(&room[..len]).copied()
     }
 
     /// Stores a suffix of these labels, each with its length before it, that isn't stored yet, behind all others.
@@ -105,7 +126,9 @@ impl SuffixTable {
             SuffixTable::push_first(&mut self.first, suffix)?;
             return Ok(());
         }
-        let key = Vec::from_slice(alloc, wire)?;
+        let mut room = [0; KEY];
+        let len = key_into(wire, suffix.front(), &mut room);
+        let key = Vec::from_slice(alloc, &room[..len])?;
         self.others.reserve(1)?;
         self.index.insert(key, at)?;
         self.others.push(suffix)?;
@@ -119,7 +142,9 @@ impl SuffixTable {
         let behind = count.saturating_sub(self.first.len());
         while self.others.len() > behind {
             if let Some(suffix) = self.others.pop() {
-                self.index.remove(suffix.as_wire());
+                let mut room = [0; KEY];
+                let len = key_into(suffix.as_wire(), suffix.front(), &mut room);
+                self.index.remove(&room[..len]);
             }
         }
         self.first.truncate(count);

@@ -1,7 +1,7 @@
 //! The suffixes that were written, and where (RFC 1035, 4.1.4).
 
 ghost use Rattle.std.specs.Prelude.{◌≡◌, ◌<◌, ◌≢◌, length, All, Any, MatchOption, OnOk, OnErr, IfSome};
-ghost use Rattle.base.specs.Labels.{IsLabelRun, labels_of, IsWire};
+ghost use Rattle.base.specs.Labels.{labels_of, IsWire};
 ghost use Rattle.base.specs.State.{stored};
 ghost use Rattle.base.specs.Wire.{state_of, IsMemory};
 
@@ -15,7 +15,7 @@ impl<'a> BinEncoder<'a> {
     /// Where a stored suffix of these labels, each with its length before it, is spelled. Letters are compared as they
     /// are.
     pub(crate) fn find(&self, wire: &[u8]) -> Option<u16>
-        requires { IsLabelRun wire.now }
+        requires { IsWire wire.now }
         ensures found { MatchOption result (All (λ t. t.labels ≢ labels_of wire.now) (state_of self.now).suffixes)
             (λ offset. Any (λ t. (t.labels ≡ labels_of wire.now) × (t.offset ≡ offset)) (state_of self.now).suffixes) }
         ensures near { IfSome result (λ offset. offset < 16384) }

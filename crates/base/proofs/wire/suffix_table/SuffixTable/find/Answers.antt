@@ -4,7 +4,7 @@ use Rattle.std.proofs.lemmas.List.{take_all}
 use Rattle.std.proofs.lemmas.List.Elements.{All-more, All-append}
 use Rattle.base.specs.Labels.{labels_of}
 use Rattle.base.specs.State.{Stored}
-use Rattle.base.specs.Suffixes.{offset_in}
+use Rattle.base.specs.Suffixes.{offset_at, offset_in}
 use Rattle.base.proofs.SuffixLemmas.{IsTable-finds, IsIndexed-near}
 use Rattle.base.proofs.wire.suffix_table.SuffixTable.find.Goals as goal
 
@@ -29,7 +29,8 @@ returns-clause-found c =
     let first = subst (All others) (take_all c.loop-suffix.suffix-index c.self.inside.first.items (omega arith)) c.loop-suffix.invariant in
     subst (λ (ts : List Stored). MatchOption c.copied.result (All others ts) (λ (offset : ℕ). Any (λ (t : Stored). (t.labels ≡ labels_of c.args.wire.now) × (t.offset ≡ offset)) ts)) c.self.view_is
     (IsTable-finds (offset_in c.self.inside.index) c.self.inside.first.items c.self.inside.others.items c.args.wire.now c.copied.result first
-    c.self.invariant.behind c.requires (c.copied.ensures ∙ c.get.ensures.value))
+    c.self.invariant.behind c.requires.whole (c.copied.ensures ∙ c.get.ensures.value ∙ ap (offset_at c.self.inside.index) c.key_into-len.ensures.key))
 
 pub returns-clause-near : goal.returns-clause-near
-returns-clause-near c = IsIndexed-near (offset_in c.self.inside.index) c.self.inside.others.items c.args.wire.now c.copied.result c.self.invariant.behind (c.copied.ensures ∙ c.get.ensures.value)
+returns-clause-near c = IsIndexed-near (offset_in c.self.inside.index) c.self.inside.others.items c.args.wire.now c.copied.result c.self.invariant.behind
+    (c.copied.ensures ∙ c.get.ensures.value ∙ ap (offset_at c.self.inside.index) c.key_into-len.ensures.key)

@@ -2,8 +2,8 @@ use Rattle.std.proofs.Common.{rules, ◌≡◌, ◌≢◌, ◌∙◌, ◌++◌, 
 use Rattle.std.specs.Prelude.{All}
 use Rattle.base.specs.Labels.{labels_of}
 use Rattle.base.specs.State.{Stored}
-use Rattle.base.specs.Suffixes.{offset_in, IsTable}
-use Rattle.base.proofs.SuffixLemmas.{IsTable-first, IsTable-others, index_here, index_others}
+use Rattle.base.specs.Suffixes.{index_key, offset_at, offset_in, IsTable}
+use Rattle.base.proofs.SuffixLemmas.{IsTable-first, IsTable-others, index_here, index_others, one_key}
 use Rattle.base.proofs.wire.suffix_table.SuffixTable.store.Goals as goal
 
 pub invariant_of-self-then-is_empty : goal.invariant_of-self-then-is_empty
@@ -17,13 +17,13 @@ invariant_of-self-then-is_empty c =
 pub invariant_of-self-2 : goal.invariant_of-self-2
 invariant_of-self-2 c =
     let t : Stored = record { labels = labels_of c.args.wire.now; offset = c.args.at } in
-    let key : c.in_ok-key.key.items ≡ c.args.wire.now = c.in_ok-key.ensures.items in
+    let key : c.in_ok-key.key.items ≡ index_key c.args.wire.now = c.in_ok-key.ensures.items ∙ c.key_into-len.ensures.key in
     let after = offset_in c.insert.new.self in
     let updates = c.in_ok-insert.ensures.updates in
-    let here = ap after (sym key) ∙ index_here c.in_ok-key.key.items c.self.inside.index c.insert.new.self _ updates in
+    let here = ap (offset_at c.insert.new.self) (sym key) ∙ index_here c.in_ok-key.key.items c.self.inside.index c.insert.new.self _ updates in
     let pushed = IsTable-others
     (offset_in c.self.inside.index) after c.self.inside.first.items c.self.inside.others.items c.args.wire.now c.args.at c.self.invariant c.requires.wire.whole c.requires.near
     (subst (All (λ (s : Stored). s.labels ≢ t.labels)) (sym c.self.view_is) c.requires.absent) (subst (All (λ (s : Stored). s.offset < t.offset)) (sym c.self.view_is) c.requires.later) here
-    (λ cs other. index_others c.in_ok-key.key.items c.self.inside.index c.insert.new.self _ updates cs (λ same. other (same ∙ key))) in
+    (λ cs other. index_others c.in_ok-key.key.items c.self.inside.index c.insert.new.self _ updates (index_key cs) (λ same. other (one_key cs c.args.wire.now (same ∙ key)))) in
     let is : c.self.inside.others.items ++ t ∷ [] ≡ c.push.new.self.items = search rules in
     subst (IsTable after c.self.inside.first.items) is pushed
