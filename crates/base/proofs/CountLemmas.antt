@@ -7,6 +7,7 @@ use Rattle.std.specs.FinSet as set
 use Rattle.std.specs.FinSet.{nat_cmp-IsAntisymmetric}
 use Rattle.std.specs.List.{list_any}
 use Rattle.std.specs.Ordering.{nat_cmp, is_eq, eq_by_cmp}
+use Rattle.std.proofs.Math.Bool.{or-false, or_comm}
 use Rattle.std.proofs.lemmas.Bool.{cases_Bool, cond-true, cond-false, eq-eqb, eqb-true, eqb-false, false≢true, ne_eqb}
 use Rattle.std.proofs.lemmas.List.Folds.{list_any-append}
 use Rattle.std.proofs.lemmas.Map.Lookups.{exact_unsigned}
@@ -174,12 +175,8 @@ contains-inserted ts s q = set.contains-union nat_cmp_total s (set.from_list ts)
 pub contains-one_more : (s : set.FinSet nat_cmp) (t q : ℕ) → set.contains (set.insert s t) q ≡ (nat_eq t q || set.contains s q)
 contains-one_more s t q = set.contains-insert nat_cmp_total s t q ∙ ap (λ (b : Bool). b || set.contains s q) (sym (unsigned_ties t q ∙ (eq_by_cmp_equiv nat_cmp_total).symm t q))
 
-pub or_false : (b : Bool) → (b || false) ≡ b
-or_false true = refl
-or_false false = refl
-
 pub inserted-none : (s : set.FinSet nat_cmp) → inserted [] s ≡ s
-inserted-none s = same_members (inserted [] s) s (λ q. contains-inserted [] s q ∙ or_false (set.contains s q))
+inserted-none s = same_members (inserted [] s) s (λ q. contains-inserted [] s q ∙ or-false (set.contains s q))
 
 behind_all : (a b c : Bool) → (a || (b || (c || false))) ≡ (c || (a || b))
 behind_all true true true = refl
@@ -270,18 +267,12 @@ ends_behind (ends h) = omega arith
 ends_behind (label h some small at rest) = omega (arith, ends_behind rest)
 ends_behind (pointer h next high below rest) = omega arith
 
-or_either : (a b : Bool) → (a || b) ≡ (b || a)
-or_either true true = refl
-or_either true false = refl
-or_either false true = refl
-or_either false false = refl
-
 -- with the offsets of one more name
 pub both_lists : (ts us : List ℕ) → inserted ts (set.from_list us) ≡ set.from_list (ts ++ us)
 both_lists ts us = same_members _ _ (λ q.
     contains-inserted ts (set.from_list us) q
     ∙ ap (λ (b : Bool). b || among ts q) (set.contains-from_list_nat us q)
-    ∙ or_either (among us q) (among ts q)
+    ∙ or_comm (among us q) (among ts q)
     ∙ sym (list_any-append (λ (y : ℕ). nat_eq y q) ts us)
     ∙ sym (set.contains-from_list_nat (ts ++ us) q))
 

@@ -1,6 +1,6 @@
 -- The laws of writing, for what appends bytes and for what is written in parts.
-use Rattle.std.proofs.Common.{◌≡◌, ℕ, ◌+◌, ◌≤◌, List, [], ◌++◌, length, drop, get_or, refl, ap, sym, ◌∙◌, subst, append_assoc, arith, Result, Ok, Err, length-append}
-use Rattle.std.specs.Prelude.{OnOk, OnErr, All, Any}
+use Rattle.std.proofs.Common.{rules, ◌≡◌, ℕ, ◌+◌, ◌≤◌, List, [], ◌++◌, length, drop, get_or, refl, ap, sym, ◌∙◌, subst, append_assoc, arith, Result, Ok, Err, length-append}
+use Rattle.std.specs.Prelude.{OnOk, OnErr, All, Any, Option, Some, None}
 use Rattle.std.proofs.lemmas.List.{append-nil, get_or_append_left}
 use Rattle.std.proofs.lemmas.List.Elements.{All-nil, All-append, All-weaker}
 use Rattle.std.proofs.Math.Seq.{drop-append_seam, take-length}
@@ -9,6 +9,9 @@ use Rattle.base.specs.State.{State, Stored, appended}
 use Rattle.base.specs.Words.{Stands, Then}
 use Rattle.base.specs.Laws.{IsSpelled, IsValid, Holds, Keeps, Writes}
 use Rattle.base.proofs.WordLemmas.{first_stands, stands_part}
+
+pub none_is_not : {A : Type 0} (x : A) → ◌≡◌ {A = Option A} None (Some x) → ⊥
+none_is_not x same = search rules
 
 -- nothing was written
 pub Keeps-same : (a b : State) → b ≡ a → Keeps a b

@@ -1,6 +1,6 @@
 -- What the names that are spelled at offsets pass.
 use Rattle.std.proofs.Common.{◌≡◌, ℕ, zero, suc, ◌+◌, ◌<◌, List, [], ◌∷◌, ◌++◌, length, drop, Bool, true, false, Ok, Result, refl, ap, sym, ◌∙◌, subst, arith, append_assoc}
-use Rattle.std.specs.Prelude.{Option, Some, None, get_or, nat_eq, ◌||◌}
+use Rattle.std.specs.Prelude.{get_or, nat_eq, ◌||◌}
 use Rattle.std.specs.FinSet as set
 use Rattle.std.specs.Ordering.{nat_cmp}
 use Rattle.std.proofs.lemmas.Bool.{eqb-true, false≢true}
@@ -14,6 +14,7 @@ use Rattle.base.specs.Passed.{PassLater, PassesThese, targets}
 use Rattle.base.specs.Passing.{IsClosed, PassesKept, among, inserted, passed}
 use Rattle.base.specs.Spelling.{Spelled, ends, label, pointer, target}
 use Rattle.base.proofs.CountLemmas.{contains-inserted, contains-one_more, same_members}
+use Rattle.base.proofs.LawLemmas.{none_is_not}
 use Rattle.base.proofs.WalkLemmas.{part_at-label, part_at-pointer, part_at-root}
 
 -- ---- sets that hold more
@@ -49,9 +50,7 @@ nothing_kept bytes = (
     λ t items is. absurd (none_is_not items is),
     λ t has. absurd (false≢true (sym (set.contains-empty nat_cmp t) ∙ has)),
   ),
-) where
-  none_is_not : (items : List ℕ) → ◌≡◌ {A = Option (List ℕ)} None (Some items) → ⊥
-  none_is_not items same = absurd cc
+)
 
 -- ---- the rest of a spelling
 

@@ -7,12 +7,18 @@ use Rattle.std.specs.List.{slice_range}
 use Rattle.base.specs.Kept.{IsKept}
 use Rattle.base.specs.Labels.{IsWire, labels_of}
 use Rattle.base.specs.Names.{NamePart, label_of, labels_at, part_at, pointer_to, zero_byte}
+use Rattle.base.specs.PartOf.{part}
 use Rattle.base.specs.Passed.{PassesThese}
 use Rattle.base.specs.Passing.{IsClosed}
 use Rattle.base.specs.Reader.{Reader}
 use Rattle.base.specs.declared.error.decode_error.DecodeError.{DecodeError}
+use Rattle.base.specs.declared.name.reading.Part.{Part}
 use Rattle.base.proofs.GatherLemmas.{Gathers, IsWire-append, at_kept, at_root, gathers_label, gathers_none, kept_end, label_fits, root_inside}
 use Rattle.base.proofs.PassLemmas.{Leads, Leads-kept, Leads-label, Leads-none, Leads-root}
+
+-- what stands at a place, where something does
+abbrev pub found : Part → Result NamePart DecodeError
+found p = Ok (part p)
 
 -- the labels of a piece, as many bytes
 abbrev pub own : Reader → ℕ → List ℕ

@@ -1,5 +1,5 @@
 -- The table of suffixes, and what storing one and forgetting the last does to it.
-use Rattle.std.proofs.Common.{rules, ◌≡◌, ◌≢◌, ℕ, ◌+◌, ◌-◌, ◌<◌, ◌≤◌, ◌⊎◌, inl, inr, List, [], ◌∷◌, ◌++◌, length, get_or, take, drop, refl, ap, sym, ◌∙◌, subst, arith, length-append}
+use Rattle.std.proofs.Common.{◌≡◌, ◌≢◌, ℕ, ◌+◌, ◌-◌, ◌<◌, ◌≤◌, ◌⊎◌, inl, inr, List, [], ◌∷◌, ◌++◌, length, get_or, take, drop, refl, ap, sym, ◌∙◌, subst, arith, length-append}
 use Rattle.std.specs.Prelude.{All, Any, Vec, Option, Some, None, IfSome, MatchOption}
 use Rattle.std.specs.BTreeMap.{BTreeMap, UpdatesBy}
 use Rattle.std.specs.Cmp.{eq_by_cmp_equiv}
@@ -18,10 +18,7 @@ use Rattle.base.specs.Labels.{wire_of, labels_of}
 use Rattle.base.specs.State.{Stored}
 use Rattle.base.specs.Suffixes.{index_key, offset_at, IsIndexed, IsTable}
 use Rattle.base.proofs.LabelLemmas.{labels_of-wire_of}
-use Rattle.base.proofs.LawLemmas.{any_append}
-
-none_is_not : {A : Type 0} (x : A) → ◌≡◌ {A = Option A} None (Some x) → ⊥
-none_is_not x same = search rules
+use Rattle.base.proofs.LawLemmas.{any_append, none_is_not}
 
 same_or_not : (xs ys : List ℕ) → (xs ≡ ys) ⊎ (xs ≢ ys)
 same_or_not xs ys = elim (cases_Bool (bytes_eq xs ys)) [

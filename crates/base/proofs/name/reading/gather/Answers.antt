@@ -1,16 +1,13 @@
-use Rattle.std.proofs.Common.{◌≡◌, ℕ, ◌+◌, ◌-◌, ◌<◌, true, false, List, [], ◌∷◌, ◌++◌, length, take, Result, Ok, Err, ap, sym, subst, ◌∙◌, arith, length-take}
+use Rattle.std.proofs.Common.{◌≡◌, ℕ, ◌+◌, ◌-◌, ◌<◌, true, false, List, [], ◌∷◌, ◌++◌, length, take, Ok, Err, ap, sym, subst, ◌∙◌, arith, length-take}
 use Rattle.std.proofs.lemmas.Result.{err_from_is_err_and}
 use Rattle.std.proofs.lemmas.Slice.{take-put_mid}
-use Rattle.base.specs.declared.name.reading.Part.{Part}
 use Rattle.base.specs.declared.name.trail.Passed.{Passed}
 use Rattle.base.specs.Kept.{IsKept}
 use Rattle.base.specs.Labels.{IsWire, labels_of}
 use Rattle.base.specs.Passed.{targets}
 use Rattle.base.specs.Reader.{Reader}
 use Rattle.base.proofs.CountLemmas.{Follows, Follows-none, Follows-push}
-use Rattle.base.specs.Names.{NamePart, label_of, part_at, pointer_to, zero_byte}
-use Rattle.base.specs.PartOf.{part}
-use Rattle.base.specs.declared.error.decode_error.DecodeError.{DecodeError}
+use Rattle.base.specs.Names.{label_of, part_at, pointer_to, zero_byte}
 use Rattle.std.specs.FinSet as set
 use Rattle.std.specs.Ordering.{nat_cmp}
 use Rattle.base.specs.Passing.{IsClosed}
@@ -19,11 +16,8 @@ use Rattle.std.proofs.lemmas.List.Elements.{All-nil, All-same, All-weaker, All-p
 use Rattle.base.proofs.TailLemmas.{Tail, Ends, Tail-new, Tail-label, Tail-pointer, Tail-root, Tail-kept}
 use Rattle.base.proofs.PassLemmas.{Lead, Lead-kept, Lead-label, Lead-pointer, Lead-root, Leads, Leads-kept, Leads-label, Leads-none, Leads-pointer, Leads-root}
 use Rattle.base.proofs.GatherLemmas.{gathers_none, at_fault, at_long, at_forward, at_root, root_inside, label_fits, gathers_label, gathers_pointer, fails_is, at_kept, at_kept_long, kept_end, IsWire-append}
+use Rattle.base.proofs.PieceLemmas.{found}
 use Rattle.base.proofs.name.reading.gather.Goals as goal
-
--- what stands at a place, where something does
-abbrev found : Part → Result NamePart DecodeError
-found p = Ok (part p)
 
 pub parts-init : goal.parts-init
 parts-init c = record {

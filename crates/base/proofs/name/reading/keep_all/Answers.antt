@@ -1,4 +1,4 @@
-use Rattle.std.proofs.Common.{rules, ◌≡◌, ◌∙◌, ◌∷◌, [], ℕ, ◌+◌, ◌-◌, ◌<◌, List, Option, Some, None, length, length-drop, get_or, take, drop, ap, sym, subst, arith}
+use Rattle.std.proofs.Common.{◌≡◌, ◌∙◌, ◌∷◌, [], ℕ, ◌+◌, ◌-◌, ◌<◌, List, Option, Some, length, length-drop, get_or, take, drop, ap, sym, subst, arith}
 use Rattle.std.specs.FinSet as set
 use Rattle.std.specs.Ordering.{nat_cmp}
 use Rattle.std.proofs.lemmas.List.{drop_all, drop_more, take_all}
@@ -8,6 +8,7 @@ use Rattle.base.specs.Passed.{targets}
 use Rattle.base.specs.Passing.{PassesKept, inserted}
 use Rattle.base.specs.Reader.{Reader}
 use Rattle.base.proofs.CountLemmas.{inserted-first, inserted-none}
+use Rattle.base.proofs.LawLemmas.{none_is_not}
 use Rattle.base.proofs.PassLemmas.{later_at}
 use Rattle.base.proofs.name.reading.keep_all.Goals as goal
 
@@ -17,9 +18,6 @@ none = record { target = 0; from = 0 }
 -- the pointer that is kept now is the one before those that are kept
 same_pointer : (p q : Passed) → ◌≡◌ {A = Option Passed} (Some p) (Some q) → p ≡ q
 same_pointer p q is = cc
-
-none_is_not : (p : Passed) → ◌≡◌ {A = Option Passed} None (Some p) → ⊥
-none_is_not p same = search rules
 
 pub loop-i-init : goal.loop-i-init
 loop-i-init c =

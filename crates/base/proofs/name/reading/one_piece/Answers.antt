@@ -1,16 +1,8 @@
-use Rattle.std.proofs.Common.{◌≡◌, ◌∙◌, ℕ, ◌+◌, ◌-◌, ◌<◌, ◌++◌, List, length, Ok, Result, take, drop, ap, sym, subst, arith, length-take, []}
+use Rattle.std.proofs.Common.{◌≡◌, ◌∙◌, ℕ, ◌+◌, ◌-◌, ◌<◌, ◌++◌, List, length, take, drop, ap, sym, subst, arith, length-take, []}
 use Rattle.base.specs.Kept.{IsKept}
-use Rattle.base.specs.Names.{NamePart}
-use Rattle.base.specs.PartOf.{part}
 use Rattle.base.specs.Reader.{Reader}
-use Rattle.base.specs.declared.error.decode_error.DecodeError.{DecodeError}
-use Rattle.base.specs.declared.name.reading.Part.{Part}
-use Rattle.base.proofs.PieceLemmas.{IsName, name_kept, name_root, part_is_there, rest_is, walked_label, walked_none}
+use Rattle.base.proofs.PieceLemmas.{IsName, found, name_kept, name_root, part_is_there, rest_is, walked_label, walked_none}
 use Rattle.base.proofs.name.reading.one_piece.Goals as goal
-
--- what stands at a place, where something does
-abbrev found : Part → Result NamePart DecodeError
-found p = Ok (part p)
 
 -- a buffer from a place on, as it is lent
 abbrev from : List ℕ → ℕ → List ℕ

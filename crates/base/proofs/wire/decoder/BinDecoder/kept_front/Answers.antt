@@ -2,10 +2,11 @@ use Rattle.std.proofs.Common.{◌≡◌, ◌∙◌, ℕ, ◌<◌, Bool, true, fa
 use Rattle.std.proofs.Math.Bool.{or-true}
 use Rattle.std.specs.FinSet as set
 use Rattle.std.specs.Prelude.{is_some, ◌||◌}
+use Rattle.std.proofs.Math.Bool.{or-false}
 use Rattle.base.specs.Kept.{is_target}
 use Rattle.base.specs.Passing.{IsClosed}
 use Rattle.base.specs.Reader.{Reader}
-use Rattle.base.proofs.CountLemmas.{contains_all, kept_at, kept_near, or_false}
+use Rattle.base.proofs.CountLemmas.{contains_all, kept_at, kept_near}
 use Rattle.base.proofs.wire.decoder.BinDecoder.kept_front.Goals as goal
 
 pub returns-in-Some-clause-near : goal.returns-in-Some-clause-near
@@ -38,7 +39,7 @@ returns-in_ok-labels-in-None-clause-is c =
     let t = c.args.target in
     let none : kept_at others t ≡ false = ap is_some (sym c.in-None.ensures) in
     c.in_ok-labels-in-None.ensures.is ∙ sym (sym (ap (λ (r : Reader). set.contains r.kept t) c.self.view_is) ∙ contains_all plain others t
-    ∙ ap (λ (b : Bool). is_target plain t || b) none ∙ or_false (is_target plain t))
+    ∙ ap (λ (b : Bool). is_target plain t || b) none ∙ or-false (is_target plain t))
 
 pub returns-in_err-labels-in-None-clause-is : goal.returns-in_err-labels-in-None-clause-is
 returns-in_err-labels-in-None-clause-is c =
@@ -47,7 +48,7 @@ returns-in_err-labels-in-None-clause-is c =
     let t = c.args.target in
     let none : kept_at others t ≡ false = ap is_some (sym c.in-None.ensures) in
     ap is_some c.from_residual.ensures ∙ c.in_err-labels-in-None.ensures.is ∙ sym (sym (ap (λ (r : Reader). set.contains r.kept t) c.self.view_is) ∙ contains_all plain others t
-    ∙ ap (λ (b : Bool). is_target plain t || b) none ∙ or_false (is_target plain t))
+    ∙ ap (λ (b : Bool). is_target plain t || b) none ∙ or-false (is_target plain t))
 
 pub returns-in-Some-clause-closed : goal.returns-in-Some-clause-closed
 returns-in-Some-clause-closed c = subst (λ (r : Reader). IsClosed r.bytes r.kept) c.self.view_is c.self.invariant.1.1.1

@@ -19,7 +19,8 @@ loop-self-preserved-in-Some c =
     let behind = c.loop-self.invariant.behind in
     let fits : c.args.count ≤ length first + length front = omega (arith, ap length is, length-append front (c.in-Some.suffix ∷ []), behind) in
     record {
-      table = IsIndexed-pop _ after front c.in-Some.suffix h here (λ cs other. index_others bytes c.loop-self.self-inside.index c.remove.new.self _ updates (index_key cs) (λ same. other (one_key cs (wire_of c.in-Some.suffix.labels) (same ∙ key))));
+      table = IsIndexed-pop _ after front c.in-Some.suffix h here
+          (λ cs other. index_others bytes c.loop-self.self-inside.index c.remove.new.self _ updates (index_key cs) (λ same. other (one_key cs (wire_of c.in-Some.suffix.labels) (same ∙ key))));
       front = sym (cut_last c.args.count first front c.in-Some.suffix fits) ∙ ap (λ (zs : List Stored). take c.args.count (first ++ zs)) (sym is) ∙ c.loop-self.invariant.front;
       behind = behind;
     }
