@@ -1,12 +1,20 @@
-"""Random messages of dnspython's, and what it makes of bytes."""
+"""Random messages of dnspython's, and what it makes of bytes.
+
+What dnspython does otherwise than RFC 1035 is put right first (`name_end`), and data that it knows beyond is left as it is
+(`data_class`).
+"""
+import contextlib
 import random
 
 import dns.edns
+import dns.exception
 import dns.message
 import dns.name
+import dns.rdata
 import dns.rdataclass
 import dns.rdatatype
 import dns.rrset
+import dns.wire
 from dns.rdtypes.ANY.CNAME import CNAME
 from dns.rdtypes.ANY.MX import MX
 from dns.rdtypes.ANY.NS import NS
@@ -77,15 +85,64 @@ def message():
     return made.to_wire(max_size=65535)
 
 
+def changed(wire):
+    """The same with other bytes here and there behind the flags, or without its end; without a TSIG, which wants a key."""
+    other = bytearray(wire)
+    for _ in range(random.choice([1, 1, 1, 2, 3])):
+        other[random.randrange(4, len(other))] = random.choice([0, 0x3F, 0x40, 0xC0, 0xFF, random.randrange(250)])
+    return bytes(other[: random.randrange(12, len(other) + 1)] if random.random() < 0.1 else other)
+
+
+def data_class(of_class, kind, *further, known=dns.rdata.get_rdata_class):
+    """Data of a type has one form in every class, and is opaque where its type is none of these."""
+    return known(dns.rdataclass.IN, kind) if dns.rdatatype.to_text(kind) in [*KINDS, "OPT"] else dns.rdata.GenericRdata
+
+
+@contextlib.contextmanager
+def name_end(parser):
+    """A name ends behind its first pointer, even where the bytes that this leads to run on beyond it or beyond the data."""
+    seek, end, behind = parser.seek, parser.end, []
+
+    def follow(place):
+        behind.append(parser.current)
+        parser.end = len(parser.wire)
+        seek(place)
+
+    parser.seek = follow
+    try:
+        yield
+    finally:
+        parser.seek, parser.end = seek, end
+        parser.current = (behind or [parser.current])[0]
+
+
+dns.rdata.get_rdata_class = data_class
+dns.wire.Parser.restore_furthest = name_end
+
+
+def read(wire):
+    """The message that the bytes begin with, or nothing."""
+    try:
+        return dns.message.from_wire(wire, one_rr_per_rrset=True, ignore_trailing=True)
+    except dns.exception.DNSException:
+        return None
+
+
+def is_asked(read):
+    """Whether it is as this library asks beyond: each record has data, none is of type 0, a SIG stands in additionals alone."""
+    before = [*read.answer, *read.authority]
+    full = all(it.rdtype != 0 and data.to_wire() for it in [*before, *read.additional] for data in it)
+    return full and all(it.rdtype != dns.rdatatype.SIG for it in before)
+
+
 def records(section):
     """Names in the case of their letters, data by what it says."""
     return [(str(it.name), it.rdclass, it.rdtype, it.ttl, [data.to_text() for data in it]) for it in section]
 
 
-def meaning(wire):
-    """What the bytes of a message say: the head, and the four sections."""
-    read = dns.message.from_wire(wire, one_rr_per_rrset=True)
+def meaning(read):
+    """What a message says: the head, and the four sections. A payload below 512 is 512 (RFC 6891, 6.2.3)."""
     options = sorted((int(it.otype), it.to_wire()) for it in read.options)
-    head = (read.id, read.flags & ~0x0200, read.edns, read.ednsflags & 0xFFFFFF, read.payload, options)
+    head = (read.id, read.flags & ~0x0200, read.edns, read.ednsflags & 0xFFFFFF, max(read.payload, 512), options)
     questions = [(str(it.name), it.rdclass, it.rdtype) for it in read.question]
     return head, [questions, records(read.answer), records(read.authority), records(read.additional)]
