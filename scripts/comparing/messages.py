@@ -135,6 +135,11 @@ def is_asked(read):
     return full and all(it.rdtype != dns.rdatatype.SIG for it in before)
 
 
+def room(read):
+    """The bytes that header and questions take at most, without compression."""
+    return 12 + sum(len(it.name.to_wire()) + 4 for it in read.question)
+
+
 def records(section):
     """Names in the case of their letters, data by what it says."""
     return [(str(it.name), it.rdclass, it.rdtype, it.ttl, [data.to_text() for data in it]) for it in section]

@@ -5,7 +5,8 @@ import dns.name
 import dns.rdata
 import dns.rdataclass
 import dns.rdatatype
-import dns.zone
+import dns.tokenizer
+import dns.zonefile
 
 LABELS = ["a", "b", "www", "WWW", "mail", "x-1", "_sip", "_tcp", "n2", "Ab"]
 LABELS += [r"a\.b", r"a\032b", r"\065z", r"q\"r", r"s\;t", r"u\(v"]
@@ -77,24 +78,41 @@ def zone():
     return "".join(it + "\n" for it in head + [line() for _ in range(random.randrange(1, 12))])
 
 
+class Added:
+    """Takes what dnspython's reader adds. Of equal data the last TTL stands, in the spelling that came with it first."""
+
+    def __init__(self):
+        self.manager, self.data = self, {}
+
+    # what else the reader asks of a transaction
+    def origin_information(self):
+        return ORIGIN, False, ORIGIN
+
+    def check_put_rdataset(self, check):
+        pass
+
+    _set_origin = check_put_rdataset
+
+    def add(self, owner, ttl, data):
+        key = owner.canonicalize().to_text(), data.rdtype, data.to_digestable()
+        if key not in self.data or self.data[key][0] != ttl:
+            self.data[key] = ttl, data.to_wire()
+
+
 def meaning(text):
-    """The data under each owner and type, of owners in the zone: dnspython keeps no others."""
-    read = dns.zone.from_text(text, origin=ORIGIN, relativize=False, check_origin=False)
-    return {
-        (owner.canonicalize().to_text(), data.rdtype, data.to_digestable())
-        for owner, node in read.nodes.items()
-        for found in node.rdatasets
-        for data in found
-    }
+    """TTL and bytes of the data under each owner and type, of owners in the zone: dnspython keeps no others."""
+    added = Added()
+    dns.zonefile.Reader(dns.tokenizer.Tokenizer(text), dns.rdataclass.IN, added).read()
+    return added.data
 
 
 def printed(text):
     """The same of a zone that `dnsmsg zone` printed."""
-    found = set()
-    for owner, _, _, kind, items in (it.split(" ", 4) for it in text.splitlines()[1:]):
+    found = Added()
+    for owner, ttl, _, kind, items in (it.split(" ", 4) for it in text.splitlines()[1:]):
         kind = dns.rdatatype.from_text(kind)
         data = dns.rdata.from_text(dns.rdataclass.IN, kind, items, origin=dns.name.root, relativize=False)
         owner = dns.name.from_text(owner)
         if owner.is_subdomain(ORIGIN):
-            found.add((owner.canonicalize().to_text(), kind, data.to_digestable()))
-    return found
+            found.add(owner, int(ttl), data)
+    return found.data
