@@ -159,21 +159,32 @@ def questions(size, owner):
         body, count = body + one, count + 1
 
 
-def chained(size):
-    """Each name is a label and a pointer to the name before it, up to 120 labels; far ones point to near ones."""
+def chained(size, letters=1):
+    """Each name is a label and a pointer to the name before it, up to 240 bytes of labels; far ones point to near ones."""
+    most = 240 // (1 + letters)
     near, last = [], [None]
 
     def owner(i, at):
-        if at < 16384 and i % 120 == 0:
+        if at < 16384 and i % most == 0:
             last[0] = at
-            return b"\1a\0"
+            return bytes([letters]) + b"a" * letters + b"\0"
         target = last[0] if at < 16384 else near[i % len(near)]
         last[0] = at if at < 16384 else last[0]
-        if at < 16384 and i % 120 == 118:
+        if at < 16384 and i % most == most - 2:
             near.append(at)
-        return b"\1" + bytes([97 + i % 26]) + struct.pack(">H", 0xC000 + target)
+        return bytes([letters]) + bytes([97 + i % 26]) * letters + struct.pack(">H", 0xC000 + target)
 
     return questions(size, owner)
+
+
+def chained_8_(size):
+    """The same of labels of 8 letters."""
+    return chained(size, 8)
+
+
+def chained_16_(size):
+    """The same of labels of 16 letters."""
+    return chained(size, 16)
 
 
 def bare(size):
@@ -209,7 +220,8 @@ def siblings(size):
 
 
 ORDINARY = [small_query, edns, answer_cname, answer30, referral, dnssec_answer, txt_heavy, update, many_questions]
-GROWING = [(chained, (16, 32, 64)), (bare, (16, 32, 64)), (plain, (16, 32, 64)), (single, (16, 32, 64)), (owners, (4, 8, 16)), (siblings, (4, 8, 16))]
+GROWING = [(chained, (16, 32, 64)), (chained_8_, (64,)), (chained_16_, (64,)), (bare, (16, 32, 64)), (plain, (16, 32, 64))]
+GROWING += [(single, (16, 32, 64)), (owners, (4, 8, 16)), (siblings, (4, 8, 16))]
 
 
 def all_messages():
