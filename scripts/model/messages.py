@@ -1,4 +1,4 @@
-"""Messages: read from bytes, and their texts."""
+"""Messages (RFC 1035, 4; RFC 6891, 6): read from bytes, and their texts."""
 from dataclasses import dataclass, field
 from typing import NamedTuple
 

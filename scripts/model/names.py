@@ -1,4 +1,4 @@
-"""Names: their texts, their order, and what is refused."""
+"""Names (RFC 1035, 3.1 and 5.1): their texts, their order, and what is refused."""
 from typing import NamedTuple
 
 

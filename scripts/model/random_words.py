@@ -6,7 +6,8 @@ from random_messages import chance, message
 LIMITS = ["0", "49", "007", "65535", "65536", "-1", "+5", "", "x", "1e3", "99999999999999999999", "٣", " 5"]
 ORIGINS = ["example.", "a", "-", ".", "@", "", "a..b", "é", "a" * 64, r"\065", r"\300", "--"]
 INCLUDED = ["f=x 5 A 1.2.3.4\n", "f=", "=", "f", "", "f=a=b", "g= 5\n", "f=$TTL 5\n"]
-TEXTS = [b"", b"a 60 A 192.0.2.1\n", b"$INCLUDE f\nb 60 A 192.0.2.2\n", b"\xff\n", b"a 60 TXT \xc3\xa9\n", b"a 60 TXT \xc3\n", b"\xef\xbb\xbf\n"]
+TEXTS = [b"", b"a 60 A 192.0.2.1\n", b"$INCLUDE f\nb 60 A 192.0.2.2\n"]
+TEXTS += [b"\xff\n", b"a 60 TXT \xc3\xa9\n", b"a 60 TXT \xc3\n", b"\xef\xbb\xbf\n"]
 
 
 def octets():

@@ -1,4 +1,4 @@
-"""Messages, written under a limit."""
+"""Messages, written under a limit (RFC 1035, 4.1.4; RFC 6891, 6)."""
 from data import ANAME, FIELDS, OPT, SRV, TXT, Data
 from messages import FLAGS, Record
 from names import ROOT, Refused

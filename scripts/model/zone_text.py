@@ -112,6 +112,18 @@ def item(tokens):
     return text
 
 
+def items_of_data(tokens):
+    """The items up to the line's end, or to the text's."""
+    found = []
+    for sign, text in tokens:
+        if sign == LINE_END:
+            break
+        if sign not in (ITEM, LIST):
+            raise Refused(NO_PLACE)
+        found += text if sign == LIST else [text]
+    return found
+
+
 def upper(text):
     return "".join(it.upper() if it.isascii() else it for it in text)
 
@@ -180,17 +192,7 @@ class Zone:
                 break
             else:
                 raise Refused(UNKNOWN_TYPE)
-        kind, items = TYPE_NUMBERS[upper(text)], []
-        try:
-            sign, text = token(tokens)
-            while sign != LINE_END:
-                if sign not in (ITEM, LIST):
-                    raise Refused(NO_PLACE)
-                items += text if sign == LIST else [text]
-                sign, text = token(tokens)
-        except Ended:
-            pass
-        self.add(kind, items)
+        self.add(TYPE_NUMBERS[upper(text)], items_of_data(tokens))
 
     def ttl(self):
         if self.pending is not None:
