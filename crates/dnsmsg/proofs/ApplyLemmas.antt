@@ -31,7 +31,7 @@ use Rattle.txt.specs.ZoneSets.{AreKept, IsKept, ZoneSets}
 use Rattle.dnsmsg.proofs.AppliedLines.{lines_applied}
 use Rattle.dnsmsg.specs.Answer.{Answer, done, refused}
 use Rattle.dnsmsg.specs.Answering.{Answers}
-use Rattle.dnsmsg.specs.ApplyCommand.{answer_to_parsed, answer_to_received, answer_to_text, answer_to_update, answer_to_word, apply_answer}
+use Rattle.dnsmsg.specs.ApplyCommand.{answer_to_parsed, answer_to_text, answer_to_update, message_read, message_spelled, update_of}
 use Rattle.dnsmsg.specs.ApplyCommand.{are_sets_in, first_word, is_in, is_set_in, update_lines}
 use Rattle.dnsmsg.specs.HexInput.{bytes_of}
 use Rattle.dnsmsg.specs.ParsedZone.{AreOfClass}
@@ -94,11 +94,9 @@ text_answers m origin input made is_text is = rw (is_utf8-from_IsUtf8 input is_t
 pub text_not_utf8 : (m : MessageValue) (origin : Option NameValue) (input : List ℕ) → is_utf8 input ≡ false → answer_to_text m origin input ≡ refused 24
 text_not_utf8 m origin input is = cond-false _ _ _ is
 
--- the answer to a message that was read is that to its word
-pub word_answers : (origin : Option NameValue) (words : List (List ℕ)) (input bytes : List ℕ) (m : MessageValue) (e : ℕ) → bytes_of (first_word words) ≡ Ok bytes → IsMessageAt bytes 0 m e
-    → apply_answer origin words input ≡ answer_to_text m origin input
-word_answers origin words input bytes m e spelled stands =
-    ap (answer_to_word origin input) spelled ∙ ap (answer_to_received origin input) (message_again bytes 0 m e stands)
+-- a word spells the message that was read
+pub update_read : (words : List (List ℕ)) (bytes : List ℕ) (m : MessageValue) (e : ℕ) → bytes_of (first_word words) ≡ Ok bytes → IsMessageAt bytes 0 m e → update_of words ≡ Ok m
+update_read words bytes m e spelled stands = ap message_spelled spelled ∙ ap message_read (message_again bytes 0 m e stands)
 
 -- what is said of an answer is said of its equal
 pub answers_same : (answer answered : Answer) (result : Result (String Global) Refusal) → answer ≡ answered

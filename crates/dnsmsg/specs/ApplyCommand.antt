@@ -78,20 +78,29 @@ answer_to_parsed m (Err fault) = refused (fault_number fault)
 abbrev pub answer_to_text : MessageValue → Option NameValue → List ℕ → Answer
 answer_to_text m origin input = if is_utf8 input then answer_to_parsed m (zone_of (text_named []) origin input) else refused 24
 
--- the answer where a message was read, or the number of the fault that reading met
-abbrev pub answer_to_received : Option NameValue → List ℕ → Read MessageValue → Answer
-answer_to_received origin input (Ok (message, end)) = answer_to_text message origin input
-answer_to_received origin input (Err fault) = refused (decode_number fault)
+-- the message that was read, or the number of the fault that reading met
+abbrev pub message_read : Read MessageValue → Result MessageValue ℕ
+message_read (Ok (message, end)) = Ok message
+message_read (Err fault) = Err (decode_number fault)
 
--- the answer where a word is hexadecimal, or refusal 24
-abbrev pub answer_to_word : Option NameValue → List ℕ → Result (List ℕ) FromHexError → Answer
-answer_to_word origin input (Ok bytes) = answer_to_received origin input (message_at bytes 0)
-answer_to_word origin input (Err fault) = refused 24
+-- the message whose bytes a word spells, or the number of the refusal: 24 for a word that isn't hexadecimal
+abbrev pub message_spelled : Result (List ℕ) FromHexError → Result MessageValue ℕ
+message_spelled (Ok bytes) = message_read (message_at bytes 0)
+message_spelled (Err fault) = Err 24
 
 abbrev pub first_word : List (List ℕ) → List ℕ
 first_word [] = []
 first_word (word ∷ words) = word
 
+-- the update whose bytes the first word spells in hexadecimal, or the number of the refusal
+abbrev pub update_of : List (List ℕ) → Result MessageValue ℕ
+update_of words = message_spelled (bytes_of (first_word words))
+
+-- the answer to zone text under an origin, and to an update or the number of its refusal
+abbrev pub answer_after : Option NameValue → List ℕ → Result MessageValue ℕ → Answer
+answer_after origin input (Ok message) = answer_to_text message origin input
+answer_after origin input (Err number) = refused number
+
 -- the answer to zone text under an origin, and to an update whose bytes the first word spells in hexadecimal
 abbrev pub apply_answer : Option NameValue → List (List ℕ) → List ℕ → Answer
-apply_answer origin words input = answer_to_word origin input (bytes_of (first_word words))
+apply_answer origin words input = answer_after origin input (update_of words)

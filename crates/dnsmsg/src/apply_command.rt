@@ -2,13 +2,14 @@
 
 ghost use Rattle.std.specs.BTreeMap.{IsOrdered};
 ghost use Rattle.std.specs.List.{list_all};
-ghost use Rattle.std.specs.Prelude.{◌≡◌, IfOk};
+ghost use Rattle.std.specs.Prelude.{◌≡◌, ◌⊎◌, Err, IfErr, IfOk, Ok};
 ghost use Rattle.std.specs.String.{string_bytes};
 ghost use Rattle.base.specs.RrKey.{key_cmp};
 ghost use Rattle.base_data.specs.declared.rdata.RData.{RData};
 ghost use Rattle.dnsmsg.specs.Answering.{Answers};
-ghost use Rattle.dnsmsg.specs.ApplyCommand.{answer_to_text, answer_to_update, apply_answer, update_lines};
+ghost use Rattle.dnsmsg.specs.ApplyCommand.{answer_to_text, answer_to_update, update_lines, update_of};
 ghost use Rattle.dnsmsg.specs.ApplyCommand.{are_sets_in, first_word, is_in as is_in_class, is_set_in};
+ghost use Rattle.dnsmsg.specs.Refusal.{refusal_number};
 ghost use Rattle.dnsmsg.specs.Words.{texts};
 ghost use Rattle.op.specs.Message.{message_value};
 ghost use Rattle.rr.specs.declared.record.Record.{Record as Entry};
@@ -26,23 +27,18 @@ use std::collections::BTreeMap;
 use std::str;
 use txt::Parser;
 
-/// What is printed of an update, whose bytes the first word spells in hexadecimal, and of the zone whose text this is:
-/// the name of the server's code, and the zone then, as `zone` prints it (RFC 2136, 3). No text is there to be included.
+/// The update whose bytes the first word spells in hexadecimal.
 ///
-/// Refused with 24 for a word that isn't hexadecimal, with the number of the first fault of bytes that begin with no
-/// message, with 24 for a text that isn't UTF-8, with the number of what the parser refuses, with 25 for a set or a record
-/// of another class than IN, and for want of memory.
-pub fn apply(
-    alloc: Global,
-    origin: Option<Name>,
-    words: &[String],
-    text: &[u8],
-) -> Result<String, Refusal>
-    ensures { Answers string_bytes (apply_answer origin (texts words.now) text.now) result }
+/// # Errors
+///
+/// 24 for a word that isn't hexadecimal, the number of the first fault of bytes that begin with no message, and 3 if
+/// memory runs out.
+pub fn update(alloc: Global, words: &[String]) -> Result<Message, Refusal>
+    ensures read { IfOk result (λ m. update_of (texts words.now) ≡ Ok (message_value m)) }
+    ensures refused { IfErr result (λ e. (refusal_number e ≡ 3) ⊎ (update_of (texts words.now) ≡ Err (refusal_number e))) }
 {
     let bytes = decoded(alloc, first_word(words).as_bytes())?;
-    let message = Message::from_vec(alloc, &bytes)?;
-    apply_to_text(alloc, &message, origin, text)
+    Ok(Message::from_vec(alloc, &bytes)?)
 }
 
 fn first_word(words: &[String]) -> &str
@@ -54,7 +50,14 @@ fn first_word(words: &[String]) -> &str
     }
 }
 
-fn apply_to_text(
+/// What is printed of an update and of the zone whose text this is: the name of the server's code, and the zone then, as
+/// `zone` prints it (RFC 2136, 3). No text is there to be included.
+///
+/// # Errors
+///
+/// 24 for a text that isn't UTF-8, the number of what the parser refuses, 25 for a set or a record of another class than
+/// IN, and 3 if memory runs out.
+pub fn apply(
     alloc: Global,
     message: &Message,
     origin: Option<Name>,

@@ -7,6 +7,7 @@ mod command;
 mod cut_command;
 mod header_command;
 mod hex_input;
+mod input;
 mod laws;
 mod limit;
 mod read_command;
