@@ -1,0 +1,17 @@
+//! Tests of `base`: names, the wire, tokens, types and classes, refusals and their texts.
+#![tactic(auto)]
+
+#[cfg(test)]
+mod errors;
+#[cfg(test)]
+mod hashes;
+#[cfg(test)]
+mod names;
+#[cfg(test)]
+mod texts;
+#[cfg(test)]
+mod tokens;
+#[cfg(test)]
+mod types;
+#[cfg(test)]
+mod wire;
