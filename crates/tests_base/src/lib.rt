@@ -4,11 +4,7 @@
 #[cfg(test)]
 mod errors;
 #[cfg(test)]
-mod hashes;
-#[cfg(test)]
 mod names;
-#[cfg(test)]
-mod texts;
 #[cfg(test)]
 mod tokens;
 #[cfg(test)]

@@ -1,8 +1,10 @@
+//! Names on the wire.
+
 mod text;
 
 use base::{BinDecodable, BinDecoder, DecodeError, Name};
 use std::alloc::{AllocError, Global};
-use std::test::Fail;
+use test_tools::forms::has_text;
 
 /// Reads a name behind as many bytes, and the place behind it.
 fn read_at(alloc: Global, bytes: &[u8], at: usize) -> Result<(Name, usize), DecodeError> {
@@ -14,15 +16,15 @@ fn read_at(alloc: Global, bytes: &[u8], at: usize) -> Result<(Name, usize), Deco
     Ok((name, decoder.index()))
 }
 
-/// The number of the refusal; 0 where a name is read.
-fn refusal(alloc: Global, bytes: &[u8], at: usize) -> u8 {
+/// The number of the refusal, 0 where a name is read; then how many labels it has, and where it ends.
+fn extent(alloc: Global, bytes: &[u8], at: usize) -> (u8, usize, usize) {
     let found = read_at(alloc, bytes, at);
-    let number = match &found {
-        Ok(_) => 0,
-        Err(e) => e.number(),
+    let extent = match &found {
+        Ok((name, behind)) => (0, name.label_count(), *behind),
+        Err(e) => (e.number(), 0, 0),
     };
     drop(found);
-    number
+    extent
 }
 
 /// Whether a name has these labels and no more.
@@ -35,203 +37,155 @@ fn has_labels(name: &Name, labels: &[&[u8]]) -> bool {
     name.label_count() == labels.len() && name.label(labels.len()) == None
 }
 
-/// Whether a complete name of these labels is read at this place, up to this end.
+/// Whether a complete name of these labels, the root if there are none, is read at this place, up to this end.
 fn reads_as(alloc: Global, bytes: &[u8], at: usize, labels: &[&[u8]], end: usize) -> bool {
     let found = read_at(alloc, bytes, at);
     let is_read = match &found {
-        Ok((name, behind)) => *behind == end && name.is_fqdn() && has_labels(name, labels),
+        Ok((name, behind)) => {
+            let is_complete = name.is_fqdn() && name.is_root() == labels.is_empty();
+            *behind == end && is_complete && has_labels(name, labels)
+        }
         Err(_) => false,
     };
     drop(found);
     is_read
 }
 
-/// Where the root ends that is read at this place.
-fn end_of_root(alloc: Global, bytes: &[u8], at: usize) -> Option<usize> {
-    let found = read_at(alloc, bytes, at);
-    let end = match &found {
-        Ok((name, behind)) => { if name.is_root() { Some(*behind) } else { None } }
-        Err(_) => None,
-    };
-    drop(found);
-    end
-}
+/// A zero byte at 2; `com.` at 3, `example.com.` at 8, `www.example.com.` at 18.
+const POINTERS: &[u8] = b"\x00\x01\x00\x03com\0\x07example\xC0\x03\x03www\xC0\x08\xC0\x12\xC0\x02";
 
-/// How many labels a name has that is read at this place, and where it ends.
-fn extent(alloc: Global, bytes: &[u8], at: usize) -> Option<(usize, usize)> {
-    let found = read_at(alloc, bytes, at);
-    let extent = match &found {
-        Ok((name, behind)) => Some((name.label_count(), *behind)),
-        Err(_) => None,
-    };
-    drop(found);
-    extent
-}
+/// A question whose name points into the header.
+const OF_THE_HEADER: &[u8] = &[0, 0, 0, 0, 0, 1, 0, 0, 0, 0, 0, 0, 0xC0, 0x04, 0, 1, 0, 1];
 
-/// Appends a label of as many bytes `a`.
-fn push_label(message: &mut Vec<u8>, len: u8) -> Result<(), AllocError> {
-    message.push(len)?;
-    for _ in 0..len {
-        message.push(b'a')?;
+/// Bytes, a place, the labels of the name there, and where it ends.
+const READ: &[(&'static [u8], usize, &'static [&'static [u8]], usize)] = &[
+    (
+        b"\x03WWW\x07example\x03com\0\x01a",
+        0,
+        &[b"WWW", b"example", b"com"],
+        17,
+    ),
+    (POINTERS, 18, &[b"www", b"example", b"com"], 24),
+    (POINTERS, 24, &[b"www", b"example", b"com"], 26),
+    (POINTERS, 26, &[], 28),
+    (OF_THE_HEADER, 12, &[], 14),
+    (b"\x01*\x03com\0", 0, &[b"*", b"com"], 7),
+];
+
+/// Bytes, a place, and the number of the refusal of the name there.
+const REFUSED: &[(&'static [u8], usize, u8)] = &[
+    // nothing; inside a label; before the zero byte; inside a pointer
+    (b"", 0, 4),
+    (b"\x03\x77\x77", 0, 4),
+    (b"\x01\x77", 0, 4),
+    (b"\x00\xC0", 1, 4),
+    // reserved top bits
+    (b"\x40\x00", 0, 5),
+    (b"\x80\x00", 0, 5),
+    // pointers to themselves; forward; to their own piece; to one that goes forward
+    (b"\xC0\x00", 0, 5),
+    (b"\xC0\x02\x00", 0, 5),
+    (b"\x01a\xC0\x00", 0, 5),
+    (b"\x00\xC0\x02\xC0\x01", 3, 5),
+    // behind a header: a pointer to itself, reserved bits, a cut label
+    (b"\0\0\0\0\0\x01\0\0\0\0\0\0\xC0\x0C\0\x01\0\x01", 12, 5),
+    (b"\0\0\0\0\0\x01\0\0\0\0\0\0\x40\0\x01\0\x01", 12, 5),
+    (b"\0\0\0\0\0\x01\0\0\0\0\0\0\x03\x77\x77", 12, 4),
+];
+
+#[test]
+fn names_on_the_wire(rt: HostRuntime) {
+    for &(bytes, at, labels, end) in READ {
+        assert!(rt; reads_as(rt.alloc(), bytes, at, labels, end), "{bytes:?}");
     }
-    Ok(())
+    for &(bytes, at, number) in REFUSED {
+        assert!(rt; extent(rt.alloc(), bytes, at).0 == number, "{bytes:?}");
+    }
 }
 
-/// Twelve zero bytes, behind them labels of as many bytes, and then these bytes.
+/// Twelve zero bytes, behind them labels of as many bytes `a`, and then these bytes.
 fn message_of(alloc: Global, lens: &[u8], end: &[u8]) -> Result<Vec<u8>, AllocError> {
     let mut message = Vec::new(alloc);
     message.resize(12, 0)?;
     for len in lens {
-        push_label(&mut message, *len)?;
+        message.push(*len)?;
+        message.resize(message.len().saturating_add(usize::from(*len)), b'a')?;
     }
     message.extend_from_slice(end)?;
     Ok(message)
 }
 
-#[test]
-fn reads_labels(rt: HostRuntime) {
-    let bytes = b"\x03WWW\x07example\x03com\0\x01a";
-    assert!(rt; reads_as(rt.alloc(), bytes, 0, &[b"WWW", b"example", b"com"], 17));
-}
-
-#[test]
-fn follows_pointers(rt: HostRuntime) {
-    // a zero byte at 2; `com.` at 3, `example.com.` at 8, `www.example.com.` at 18
-    let bytes = b"\x00\x01\x00\x03com\0\x07example\xC0\x03\x03www\xC0\x08\xC0\x12\xC0\x02";
-    assert!(rt; reads_as(rt.alloc(), bytes, 18, &[b"www", b"example", b"com"], 24));
-    assert!(rt; reads_as(rt.alloc(), bytes, 24, &[b"www", b"example", b"com"], 26));
-    assert!(rt; end_of_root(rt.alloc(), bytes, 26) == Some(28));
-}
-
-#[test]
-fn refuses_what_is_cut(rt: HostRuntime) {
-    let alloc = rt.alloc();
-    // nothing; inside a label; before the zero byte; inside a pointer
-    assert!(rt; refusal(alloc, b"", 0) == 4);
-    assert!(rt; refusal(alloc, b"\x03\x77\x77", 0) == 4);
-    assert!(rt; refusal(alloc, b"\x01\x77", 0) == 4);
-    assert!(rt; refusal(alloc, b"\x00\xC0", 1) == 4);
-}
-
-#[test]
-fn refuses_reserved_top_bits(rt: HostRuntime) {
-    assert!(rt; refusal(rt.alloc(), b"\x40\x00", 0) == 5);
-    assert!(rt; refusal(rt.alloc(), b"\x80\x00", 0) == 5);
-}
-
-#[test]
-fn refuses_pointers_that_go_nowhere_earlier(rt: HostRuntime) {
-    let alloc = rt.alloc();
-    // to itself; forward; to its own piece; to one that goes forward
-    assert!(rt; refusal(alloc, b"\xC0\x00", 0) == 5);
-    assert!(rt; refusal(alloc, b"\xC0\x02\x00", 0) == 5);
-    assert!(rt; refusal(alloc, b"\x01a\xC0\x00", 0) == 5);
-    assert!(rt; refusal(alloc, b"\x00\xC0\x02\xC0\x01", 3) == 5);
-}
-
-// Questions behind a header that announces one.
-const OF_ITSELF: [u8; 18] = [0, 0, 0, 0, 0, 1, 0, 0, 0, 0, 0, 0, 0xC0, 0x0C, 0, 1, 0, 1];
-
-const OF_RESERVED_BITS: [u8; 17] = [0, 0, 0, 0, 0, 1, 0, 0, 0, 0, 0, 0, 0x40, 0, 1, 0, 1];
-
-const CUT: [u8; 15] = [0, 0, 0, 0, 0, 1, 0, 0, 0, 0, 0, 0, 0x03, 0x77, 0x77];
-
-const OF_THE_HEADER: [u8; 18] = [0, 0, 0, 0, 0, 1, 0, 0, 0, 0, 0, 0, 0xC0, 0x04, 0, 1, 0, 1];
-
-#[test]
-fn refuses_faults_behind_a_header(rt: HostRuntime) {
-    assert!(rt; refusal(rt.alloc(), &OF_ITSELF, 12) == 5);
-    assert!(rt; refusal(rt.alloc(), &OF_RESERVED_BITS, 12) == 5);
-    assert!(rt; refusal(rt.alloc(), &CUT, 12) == 4);
-}
-
-#[test]
-fn reads_through_the_header(rt: HostRuntime) {
-    assert!(rt; end_of_root(rt.alloc(), &OF_THE_HEADER, 12) == Some(14));
-}
-
-#[test]
-fn reads_a_name_of_255_bytes(rt: HostRuntime) -> Result<(), Fail> {
-    let message = message_of(rt.alloc(), &[63, 63, 63, 61], &[0])?;
-    assert!(rt; extent(rt.alloc(), &message, 12) == Some((4, 267)));
+/// What a name at this place is, where as many bytes are left of such a message.
+fn extent_of(
+    alloc: Global,
+    (lens, end): (&[u8], &[u8]),
+    left: usize,
+    at: usize,
+) -> Result<(u8, usize, usize), AllocError> {
+    let message = message_of(alloc, lens, end)?;
+    let found = extent(alloc, message.get(..left).unwrap_or(&message), at);
     drop(message);
-    Ok(())
+    Ok(found)
 }
 
-/// The number of the refusal where as many bytes are left of a message.
-fn cut_refusal(alloc: Global, message: &[u8], len: usize) -> u8 {
-    refusal(alloc, message.get(..len).unwrap_or(&[]), 12)
-}
+const WHOLE: usize = usize::MAX;
 
-#[test]
-fn refuses_a_name_of_256_bytes(rt: HostRuntime) -> Result<(), Fail> {
-    let message = message_of(rt.alloc(), &[63, 63, 63, 62], &[0])?;
-    assert!(rt; refusal(rt.alloc(), &message, 12) == 5);
+/// The lengths of the labels and what stands behind them, how many bytes are left, a place, and the name there: the number
+/// of its refusal, 0 for none, its labels and its end.
+const LONG: &[(
+    &'static [u8],
+    &'static [u8],
+    usize,
+    usize,
+    (u8, usize, usize),
+)] = &[
+    (&[63, 63, 63, 61], &[0], WHOLE, 12, (0, 4, 267)),
+    (&[63, 63, 63, 62], &[0], WHOLE, 12, (5, 0, 0)),
     // where the buffer ends inside the last label, that comes first
-    assert!(rt; cut_refusal(rt.alloc(), &message, 266) == 4);
-    assert!(rt; cut_refusal(rt.alloc(), &message, 267) == 5);
-    drop(message);
+    (&[63, 63, 63, 62], &[0], 266, 12, (4, 0, 0)),
+    (&[63, 63, 63, 62], &[0], 267, 12, (5, 0, 0)),
+    // behind a name of three long labels, a label and a pointer to that name
+    (&[63, 63, 63, 0, 61], &[0xC0, 0x0C], WHOLE, 12, (0, 3, 205)),
+    (&[63, 63, 63, 0, 61], &[0xC0, 0x0C], WHOLE, 205, (0, 4, 269)),
+    (&[63, 63, 63, 0, 62], &[0xC0, 0x0C], WHOLE, 12, (0, 3, 205)),
+    (&[63, 63, 63, 0, 62], &[0xC0, 0x0C], WHOLE, 205, (5, 0, 0)),
+];
+
+#[test]
+fn names_of_255_bytes_at_most(rt: HostRuntime) -> Result<(), AllocError> {
+    for &(lens, end, left, at, wanted) in LONG {
+        assert!(rt;
+            extent_of(rt.alloc(), (lens, end), left, at)? == wanted,
+            "{lens:?} {end:?} {left} {at}"
+        );
+    }
     Ok(())
 }
 
-/// Whether a name of three long labels ends at 205, and a name there of a label of as many bytes that points at them is
-/// refused by this number, 0 being none.
-fn is_refused_behind(alloc: Global, len: u8, number: u8) -> bool {
-    // the root behind the three labels is a label of no bytes
-    let message = message_of(alloc, &[63, 63, 63, 0, len], &[0xC0, 0x0C]);
-    let is_refused = match &message {
-        Ok(message) => {
-            let name_end = extent(alloc, message, 12);
-            name_end == Some((3, 205)) && refusal(alloc, message, 205) == number
-        }
-        Err(_) => false,
-    };
-    drop(message);
-    is_refused
-}
-
 #[test]
-fn limits_length_behind_a_pointer(rt: HostRuntime) {
-    assert!(rt; is_refused_behind(rt.alloc(), 61, 0));
-    assert!(rt; is_refused_behind(rt.alloc(), 62, 5));
-}
-
-#[test]
-fn the_root_has_no_label(rt: HostRuntime) {
-    let name = Name::root(rt.alloc());
-    assert!(rt; name.is_root() && has_labels(&name, &[]));
-}
-
-#[test]
-fn a_relative_name_without_labels_is_no_root(rt: HostRuntime) {
+fn names_without_labels(rt: HostRuntime) {
     let mut name = Name::root(rt.alloc());
+    assert!(rt; name.is_root() && has_labels(&name, &[]));
     name.set_fqdn(false);
-    assert!(rt; !name.is_fqdn());
-    assert!(rt; !name.is_root());
+    assert!(rt; !name.is_fqdn() && !name.is_root());
+    assert!(rt; has_text(rt.alloc(), &name, ""));
+    drop(name);
 }
 
-#[test]
-fn a_name_with_labels_is_no_root(rt: HostRuntime) {
-    let bytes = b"\x01*\x03com\0";
-    assert!(rt; extent(rt.alloc(), bytes, 0) == Some((2, 7)));
-    assert!(rt; end_of_root(rt.alloc(), bytes, 0) == None);
-}
-
-/// The copy of a name that is read from these bytes and made relative.
-fn relative_copy(alloc: Global, bytes: &[u8]) -> Result<Name, DecodeError> {
+/// Whether the copy of a name that is read from these bytes and made relative is relative, of these labels.
+fn is_copied_relative(alloc: Global, bytes: &[u8], labels: &[&[u8]]) -> Result<bool, DecodeError> {
     let (mut name, _) = read_at(alloc, bytes, 0)?;
     name.set_fqdn(false);
     let copied: Result<Name, AllocError> = name.clone();
     drop(name);
-    Ok(copied?)
+    let copy = copied?;
+    let same = !copy.is_fqdn() && has_labels(&copy, labels);
+    drop(copy);
+    Ok(same)
 }
 
 #[test]
-fn a_copy_has_the_flag_and_the_labels(rt: HostRuntime) -> Result<(), Fail> {
-    let copy = relative_copy(rt.alloc(), b"\x01*\x03com\0")?;
-    assert!(rt; !copy.is_fqdn());
-    assert!(rt; copy.label_count() == 2);
-    assert!(rt; copy.label(0) == Some(b"*".as_slice()));
-    drop(copy);
+fn a_copy_has_the_flag_and_the_labels(rt: HostRuntime) -> Result<(), DecodeError> {
+    assert!(rt; is_copied_relative(rt.alloc(), b"\x01*\x03com\0", &[b"*", b"com"])?);
     Ok(())
 }

@@ -5,7 +5,6 @@
 
 use base::{Lexer, ParseError, Token, parse_ttl};
 use std::alloc::{AllocError, Global};
-use std::process::Abort;
 
 // More tokens than any row has.
 const ENOUGH: usize = 16;
@@ -17,25 +16,27 @@ fn show_item(shown: &mut String, item: &str) -> Result<(), AllocError> {
     shown.push_str("]")
 }
 
-// A token, as rows show it.
-fn show(shown: &mut String, token: &Token) -> Result<(), AllocError> {
-    match token {
-        Token::CharData(item) => show_item(shown, item.as_str())?,
-        Token::List(items) => {
-            shown.push_str("(")?;
-            for item in items.iter() {
-                show_item(shown, item.as_str())?;
-            }
-            shown.push_str(")")?;
-        }
-        Token::Blank => shown.push_str("_")?,
-        Token::EOL => shown.push_str("/")?,
-        Token::At => shown.push_str("@")?,
-        Token::Origin => shown.push_str("$ORIGIN")?,
-        Token::Include => shown.push_str("$INCLUDE")?,
-        Token::Ttl => shown.push_str("$TTL")?,
+fn show_list(shown: &mut String, items: &[String]) -> Result<(), AllocError> {
+    shown.push_str("(")?;
+    for item in items {
+        show_item(shown, item)?;
     }
-    shown.push_str(" ")
+    shown.push_str(")")
+}
+
+// A token, as rows show it, but for the space behind it.
+fn show(shown: &mut String, token: &Token) -> Result<(), AllocError> {
+    let sign = match token {
+        Token::CharData(item) => return show_item(shown, item),
+        Token::List(items) => return show_list(shown, items),
+        Token::Blank => "_",
+        Token::EOL => "/",
+        Token::At => "@",
+        Token::Origin => "$ORIGIN",
+        Token::Include => "$INCLUDE",
+        Token::Ttl => "$TTL",
+    };
+    shown.push_str(sign)
 }
 
 // How a lexer ends: at the text's end, or by its fault.
@@ -55,6 +56,7 @@ fn tokens_of(alloc: Global, text: &str) -> Result<String, AllocError> {
         let read = lexer.next_token();
         if let Ok(Some(token)) = &read {
             show(&mut shown, token)?;
+            shown.push_str(" ")?;
         } else {
             let ended = shown_end(&read);
             let again = lexer.next_token();
@@ -67,179 +69,133 @@ fn tokens_of(alloc: Global, text: &str) -> Result<String, AllocError> {
     Ok(shown)
 }
 
-// Each text gives its tokens.
-fn all_give(
-    rt: &(impl Abort + AllocGlobal),
-    rows: &[(&'static str, &'static str)],
-) -> Result<(), AllocError> {
-    for &(text, expected) in rows {
+// Each text, and its tokens.
+const ROWS: &[(&'static str, &'static str)] = &[
+    // lines and blanks
+    ("", "end"),
+    ("\n", "/ end"),
+    ("\r", "/ end"),
+    ("\r\n", "/ end"),
+    ("\n\r", "/ / end"),
+    ("\r\r\n\n", "/ / / end"),
+    (" ", "_ end"),
+    ("\t \t", "_ end"),
+    ("a", "[a] end"),
+    ("a ", "[a] end"),
+    (" a", "_ [a] end"),
+    ("a\tb", "[a] [b] end"),
+    ("a \t b", "[a] [b] end"),
+    ("a\n b", "[a] / _ [b] end"),
+    ("a\r\n\tb", "[a] / _ [b] end"),
+    ("a\n\nb", "[a] / / [b] end"),
+    (" \n", "_ / end"),
+    ("a \r\nb\r", "[a] / [b] / end"),
+    // comments
+    (";", "end"),
+    ("; a b", "end"),
+    ("; a\nb", "/ [b] end"),
+    (" ; a\nb", "_ / [b] end"),
+    ("a;b\nc", "[a] / [c] end"),
+    ("a ; say \"b\nc", "[a] / [c] end"),
+    (";(\n", "/ end"),
+    ("; \\\nb", "/ [b] end"),
+    (";\r\nb", "/ [b] end"),
+    ("\";\" b", "[;] [b] end"),
+    ("a\\;b c", "[a\\;b] [c] end"),
+    ("; é\nb", "/ [b] end"),
+    // quoted texts
+    ("\"\"", "[] end"),
+    ("\"a b\"", "[a b] end"),
+    ("\"a\nb\"", "[a\nb] end"),
+    ("\"a\r\nb\" c", "[a\r\nb] [c] end"),
+    ("\"a\\\"b\"", "[a\\\"b] end"),
+    ("\"a\\\\\"b", "[a\\\\] [b] end"),
+    ("\"a\"\"b\"", "[a] [b] end"),
+    ("a\"b\"c", "[a] [b] [c] end"),
+    ("\"@\"", "[@] end"),
+    ("\"$x\"", "[$x] end"),
+    ("\"$TTL\"", "[$TTL] end"),
+    ("\"(\"", "[(] end"),
+    ("\"a\n\" b", "[a\n] [b] end"),
+    ("\"", "fault"),
+    ("\"a", "fault"),
+    ("\"a\\\"", "fault"),
+    ("a \"b\n", "[a] fault"),
+    // escapes
+    ("a\\ b", "[a\\ b] end"),
+    ("\\(a", "[\\(a] end"),
+    ("\\@", "[\\@] end"),
+    ("\\$x", "[\\$x] end"),
+    ("\\\"a", "[\\\"a] end"),
+    ("a\\\\ b", "[a\\\\] [b] end"),
+    ("a\\000b", "[a\\000b] end"),
+    ("a\\\nb", "[a\\\nb] end"),
+    ("a\\\r\nb", "[a\\\r] / [b] end"),
+    ("\\é", "[\\é] end"),
+    ("\\", "fault"),
+    ("a\\", "fault"),
+    ("(a\\", "fault"),
+    // lists
+    ("()", "() end"),
+    ("( )", "() end"),
+    ("(a b)", "([a][b]) end"),
+    ("( a\nb ) c", "([a][b]) [c] end"),
+    ("(a ; b )\nc)", "([a][c]) end"),
+    ("(a ; b \" (\r\n\"c d\")", "([a][c d]) end"),
+    ("(\"\")", "([]) end"),
+    ("(@)", "([@]) end"),
+    ("a(b)c", "[a] ([b]) [c] end"),
+    ("(a)\n b", "([a]) / _ [b] end"),
+    ("(a\n) b", "([a]) [b] end"),
+    ("(\n)\nb", "() / [b] end"),
+    ("(a)(b)", "([a]) ([b]) end"),
+    ("(a\\) b)", "([a\\)][b]) end"),
+    ("(\"$x\")", "([$x]) end"),
+    ("(a$x)", "([a$x]) end"),
+    ("(", "fault"),
+    ("(a", "fault"),
+    ("(a;)", "fault"),
+    ("(a(b))", "fault"),
+    ("(\"a)", "fault"),
+    ("($x)", "fault"),
+    ("($TTL)", "fault"),
+    ("($ORIGIN)", "fault"),
+    ("($INCLUDE)", "fault"),
+    (")", "fault"),
+    ("a)", "[a] fault"),
+    ("(a))", "([a]) fault"),
+    // items of their own
+    ("@", "@ end"),
+    ("@ A", "@ [A] end"),
+    ("@a", "[@a] end"),
+    ("a@", "[a@] end"),
+    ("@(", "@ fault"),
+    ("$ORIGIN a.", "$ORIGIN [a.] end"),
+    ("$INCLUDE f", "$INCLUDE [f] end"),
+    ("$TTL 5\n", "$TTL [5] / end"),
+    ("a $TTL", "[a] $TTL end"),
+    (" $ORIGIN", "_ $ORIGIN end"),
+    ("$TTL;5", "$TTL end"),
+    ("$TTL\"5\"", "$TTL [5] end"),
+    ("$ttl 5", "fault"),
+    ("$Origin a.", "fault"),
+    ("$TTLS", "fault"),
+    ("$", "fault"),
+    ("$X y", "fault"),
+    ("a $", "[a] fault"),
+    ("a$", "[a$] end"),
+    ("a\u{0}b\u{c}c\u{feff}", "[a\u{0}b\u{c}c\u{feff}] end"),
+    ("a\u{2028}b", "[a\u{2028}b] end"),
+];
+
+#[test]
+fn rows_of_tokens(rt: HostRuntime) -> Result<(), AllocError> {
+    for &(text, expected) in ROWS {
         let shown = tokens_of(rt.alloc(), text)?;
         assert!(rt; shown.as_str() == expected, "{} gives {}", text, shown);
+        drop(shown);
     }
     Ok(())
-}
-
-#[test]
-fn lines_and_blanks(rt: HostRuntime) -> Result<(), AllocError> {
-    all_give(
-        &rt,
-        &[
-            ("", "end"),
-            ("\n", "/ end"),
-            ("\r", "/ end"),
-            ("\r\n", "/ end"),
-            ("\n\r", "/ / end"),
-            ("\r\r\n\n", "/ / / end"),
-            (" ", "_ end"),
-            ("\t \t", "_ end"),
-            ("a", "[a] end"),
-            ("a ", "[a] end"),
-            (" a", "_ [a] end"),
-            ("a\tb", "[a] [b] end"),
-            ("a \t b", "[a] [b] end"),
-            ("a\n b", "[a] / _ [b] end"),
-            ("a\r\n\tb", "[a] / _ [b] end"),
-            ("a\n\nb", "[a] / / [b] end"),
-            (" \n", "_ / end"),
-            ("a \r\nb\r", "[a] / [b] / end"),
-        ],
-    )
-}
-
-#[test]
-fn comments(rt: HostRuntime) -> Result<(), AllocError> {
-    all_give(
-        &rt,
-        &[
-            (";", "end"),
-            ("; a b", "end"),
-            ("; a\nb", "/ [b] end"),
-            (" ; a\nb", "_ / [b] end"),
-            ("a;b\nc", "[a] / [c] end"),
-            ("a ; say \"b\nc", "[a] / [c] end"),
-            (";(\n", "/ end"),
-            ("; \\\nb", "/ [b] end"),
-            (";\r\nb", "/ [b] end"),
-            ("\";\" b", "[;] [b] end"),
-            ("a\\;b c", "[a\\;b] [c] end"),
-            ("; é\nb", "/ [b] end"),
-        ],
-    )
-}
-
-#[test]
-fn quoted_texts(rt: HostRuntime) -> Result<(), AllocError> {
-    all_give(
-        &rt,
-        &[
-            ("\"\"", "[] end"),
-            ("\"a b\"", "[a b] end"),
-            ("\"a\nb\"", "[a\nb] end"),
-            ("\"a\r\nb\" c", "[a\r\nb] [c] end"),
-            ("\"a\\\"b\"", "[a\\\"b] end"),
-            ("\"a\\\\\"b", "[a\\\\] [b] end"),
-            ("\"a\"\"b\"", "[a] [b] end"),
-            ("a\"b\"c", "[a] [b] [c] end"),
-            ("\"@\"", "[@] end"),
-            ("\"$x\"", "[$x] end"),
-            ("\"$TTL\"", "[$TTL] end"),
-            ("\"(\"", "[(] end"),
-            ("\"a\n\" b", "[a\n] [b] end"),
-            ("\"", "fault"),
-            ("\"a", "fault"),
-            ("\"a\\\"", "fault"),
-            ("a \"b\n", "[a] fault"),
-        ],
-    )
-}
-
-#[test]
-fn escapes(rt: HostRuntime) -> Result<(), AllocError> {
-    all_give(
-        &rt,
-        &[
-            ("a\\ b", "[a\\ b] end"),
-            ("\\(a", "[\\(a] end"),
-            ("\\@", "[\\@] end"),
-            ("\\$x", "[\\$x] end"),
-            ("\\\"a", "[\\\"a] end"),
-            ("a\\\\ b", "[a\\\\] [b] end"),
-            ("a\\000b", "[a\\000b] end"),
-            ("a\\\nb", "[a\\\nb] end"),
-            ("a\\\r\nb", "[a\\\r] / [b] end"),
-            ("\\é", "[\\é] end"),
-            ("\\", "fault"),
-            ("a\\", "fault"),
-            ("(a\\", "fault"),
-        ],
-    )
-}
-
-#[test]
-fn lists(rt: HostRuntime) -> Result<(), AllocError> {
-    all_give(
-        &rt,
-        &[
-            ("()", "() end"),
-            ("( )", "() end"),
-            ("(a b)", "([a][b]) end"),
-            ("( a\nb ) c", "([a][b]) [c] end"),
-            ("(a ; b )\nc)", "([a][c]) end"),
-            ("(a ; b \" (\r\n\"c d\")", "([a][c d]) end"),
-            ("(\"\")", "([]) end"),
-            ("(@)", "([@]) end"),
-            ("a(b)c", "[a] ([b]) [c] end"),
-            ("(a)\n b", "([a]) / _ [b] end"),
-            ("(a\n) b", "([a]) [b] end"),
-            ("(\n)\nb", "() / [b] end"),
-            ("(a)(b)", "([a]) ([b]) end"),
-            ("(a\\) b)", "([a\\)][b]) end"),
-            ("(\"$x\")", "([$x]) end"),
-            ("(a$x)", "([a$x]) end"),
-            ("(", "fault"),
-            ("(a", "fault"),
-            ("(a;)", "fault"),
-            ("(a(b))", "fault"),
-            ("(\"a)", "fault"),
-            ("($x)", "fault"),
-            ("($TTL)", "fault"),
-            ("($ORIGIN)", "fault"),
-            ("($INCLUDE)", "fault"),
-            (")", "fault"),
-            ("a)", "[a] fault"),
-            ("(a))", "([a]) fault"),
-        ],
-    )
-}
-
-#[test]
-fn items_of_their_own(rt: HostRuntime) -> Result<(), AllocError> {
-    all_give(
-        &rt,
-        &[
-            ("@", "@ end"),
-            ("@ A", "@ [A] end"),
-            ("@a", "[@a] end"),
-            ("a@", "[a@] end"),
-            ("@(", "@ fault"),
-            ("$ORIGIN a.", "$ORIGIN [a.] end"),
-            ("$INCLUDE f", "$INCLUDE [f] end"),
-            ("$TTL 5\n", "$TTL [5] / end"),
-            ("a $TTL", "[a] $TTL end"),
-            (" $ORIGIN", "_ $ORIGIN end"),
-            ("$TTL;5", "$TTL end"),
-            ("$TTL\"5\"", "$TTL [5] end"),
-            ("$ttl 5", "fault"),
-            ("$Origin a.", "fault"),
-            ("$TTLS", "fault"),
-            ("$", "fault"),
-            ("$X y", "fault"),
-            ("a $", "[a] fault"),
-            ("a$", "[a$] end"),
-            ("a\u{0}b\u{c}c\u{feff}", "[a\u{0}b\u{c}c\u{feff}] end"),
-            ("a\u{2028}b", "[a\u{2028}b] end"),
-        ],
-    )
 }
 
 // Whether a text says so many seconds, or none.

@@ -1,46 +1,100 @@
+//! What encoders write and decoders read.
+
 mod items;
 mod names;
 mod numbers;
-mod numbers_read;
-mod suffixes;
+mod reading;
 
 use base::{
     BinDecodable, BinDecoder, BinEncodable, BinEncoder, DNSClass, DecodeError, Name, ProtoError,
     RecordType, emit_sized,
 };
 use std::alloc::Global;
-use test_tools::forms::is_emitted;
 
 /// The name that these bytes spell.
 fn name_of(alloc: Global, bytes: &[u8]) -> Result<Name, DecodeError> {
     Name::read(&mut BinDecoder::new(alloc, bytes))
 }
 
-/// Writes the name that these bytes spell.
-fn emit_name(alloc: Global, name: &[u8], encoder: &mut BinEncoder<'_>) -> Result<(), ProtoError> {
+/// What an encoder is asked for.
+#[derive(Clone, Copy)]
+enum Step {
+    /// Takes as many bytes from here on.
+    Limit(u16),
+    Byte(u8),
+    U16(u16),
+    U32(u32),
+    Bytes(&'static [u8]),
+    /// As many zeros.
+    Zeros(usize),
+    /// The name that these bytes spell, and the same with no pointer.
+    Name(&'static [u8]),
+    Plain(&'static [u8]),
+    /// That name behind its length.
+    SizedName(&'static [u8]),
+    /// A number as a value, and behind its length.
+    Value(u16),
+    SizedValue(u16),
+    Type(RecordType),
+    Class(DNSClass),
+    /// As many names of two letters, each another.
+    Letters(u8),
+}
+
+/// Writes a name.
+fn emit_name(
+    alloc: Global,
+    step: Step,
+    name: &[u8],
+    encoder: &mut BinEncoder<'_>,
+) -> Result<(), ProtoError> {
     let name = name_of(alloc, name)?;
-    let emitted = name.emit(encoder);
+    let emitted = match step {
+        Step::Plain(_) => name.emit_plain(encoder),
+        Step::SizedName(_) => emit_sized(&name, encoder),
+        _ => name.emit(encoder),
+    };
     drop(name);
     emitted
 }
 
-/// Writes these names, one after another.
-fn emit_names(
-    alloc: Global,
-    names: &[&[u8]],
-    encoder: &mut BinEncoder<'_>,
-) -> Result<(), ProtoError> {
-    for name in names {
-        emit_name(alloc, *name, encoder)?;
+/// Writes as many zeros.
+fn emit_zeros(count: usize, encoder: &mut BinEncoder<'_>) -> Result<(), ProtoError> {
+    for _ in 0..count {
+        encoder.emit(0)?;
     }
     Ok(())
 }
 
-/// Whether there is a part, and it has these bytes.
-fn part_is(part: Option<&[u8]>, wanted: &[u8]) -> bool {
-    match part {
-        Some(part) => part == wanted,
-        None => false,
+/// Writes names of one label, whose two letters tell a number, for as many numbers, from 0 on.
+fn emit_letters(alloc: Global, count: u8, encoder: &mut BinEncoder<'_>) -> Result<(), ProtoError> {
+    for number in 0..count {
+        let name = [2, b'a' + number / 26, b'a' + number % 26, 0];
+        emit_name(alloc, Step::Letters(number), &name, encoder)?;
+    }
+    Ok(())
+}
+
+/// Does a step.
+fn take(alloc: Global, step: Step, encoder: &mut BinEncoder<'_>) -> Result<(), ProtoError> {
+    match step {
+        Step::Limit(limit) => {
+            encoder.set_max_size(limit);
+            Ok(())
+        }
+        Step::Byte(byte) => encoder.emit(byte),
+        Step::U16(number) => encoder.emit_u16(number),
+        Step::U32(number) => encoder.emit_u32(number),
+        Step::Bytes(bytes) => encoder.emit_slice(bytes),
+        Step::Zeros(count) => emit_zeros(count, encoder),
+        Step::Name(name) | Step::Plain(name) | Step::SizedName(name) => {
+            emit_name(alloc, step, name, encoder)
+        }
+        Step::Value(number) => number.emit(encoder),
+        Step::SizedValue(number) => emit_sized(&number, encoder),
+        Step::Type(record_type) => record_type.emit(encoder),
+        Step::Class(class) => class.emit(encoder),
+        Step::Letters(count) => emit_letters(alloc, count, encoder),
     }
 }
 
@@ -54,83 +108,26 @@ fn refusal(answer: Result<(), ProtoError>) -> u8 {
     number
 }
 
-/// Whether types and classes are written.
-fn are_emitted(encoder: &mut BinEncoder<'_>) -> bool {
-    is_emitted(encoder, &RecordType::MX)
-        && is_emitted(encoder, &RecordType::ANAME)
-        && is_emitted(encoder, &RecordType::Unknown(1000))
-        && is_emitted(encoder, &DNSClass::IN)
-        && is_emitted(encoder, &DNSClass::for_opt(1232))
+/// Whether each step is refused by its number, where 0 is none.
+fn are_taken(alloc: Global, steps: &[(Step, u8)], encoder: &mut BinEncoder<'_>) -> bool {
+    for &(step, number) in steps {
+        if refusal(take(alloc, step, encoder)) != number {
+            return false;
+        }
+    }
+    true
 }
 
-/// Whether types and classes, one behind the other, are written so.
-fn are_written(alloc: Global, wanted: &[u8]) -> bool {
+/// Whether the steps are taken so, and leave these bytes from a place on.
+fn leave(alloc: Global, steps: &[(Step, u8)], from: usize, wanted: &[u8]) -> bool {
     let mut bytes = Vec::new(alloc);
     let mut encoder = BinEncoder::new(&mut bytes);
-    let are_emitted = are_emitted(&mut encoder);
+    let are_taken = are_taken(alloc, steps, &mut encoder);
     drop(encoder);
-    let same = are_emitted && bytes.as_slice() == wanted;
+    let same = are_taken && bytes.get(from..) == Some(wanted);
     drop(bytes);
     same
 }
 
-/// Whether this value is read next.
-fn is_next<T: BinDecodable + PartialEq>(decoder: &mut BinDecoder<'_>, wanted: &T) -> bool {
-    let found = T::read(decoder);
-    let is_next = match &found {
-        Ok(found) => *found == *wanted,
-        Err(_) => false,
-    };
-    drop(found);
-    is_next
-}
-
-#[test]
-fn numbers_of_types_and_classes(rt: HostRuntime) {
-    let wanted = b"\x00\x0F\xFF\x19\x03\xE8\x00\x01\x04\xD0";
-    assert!(rt; are_written(rt.alloc(), wanted.as_slice()));
-}
-
-#[test]
-fn types_and_classes_of_numbers(rt: HostRuntime) {
-    let bytes = b"\x00\x0F\xFF\x19\x03\xE8\x00\x01\x04\xD0";
-    let mut decoder = BinDecoder::new(rt.alloc(), bytes.as_slice());
-    assert!(rt; is_next(&mut decoder, &RecordType::MX));
-    assert!(rt; is_next(&mut decoder, &RecordType::ANAME));
-    assert!(rt; is_next(&mut decoder, &RecordType::Unknown(1000)));
-    assert!(rt; is_next(&mut decoder, &DNSClass::IN));
-    assert!(rt; is_next(&mut decoder, &DNSClass::Unknown(1232)));
-    assert!(rt; DNSClass::read(&mut decoder).is_err());
-}
-
-/// Whether the name twice and a number are written, and a number past the limit is refused.
-fn write_sized(name: &Name, encoder: &mut BinEncoder<'_>) -> bool {
-    let first = refusal(emit_sized(name, encoder));
-    let second = refusal(emit_sized(name, encoder));
-    let number = refusal(emit_sized(&7u16, encoder));
-    encoder.set_max_size(18);
-    let past = refusal(emit_sized(&7u16, encoder));
-    first == 0 && second == 0 && number == 0 && past == 1
-}
-
-/// Whether the name could be made, and such a name and number are written so.
-fn are_sized(alloc: Global, name: Result<Name, DecodeError>, wanted: &[u8]) -> bool {
-    let mut bytes = Vec::new(alloc);
-    let mut encoder = BinEncoder::new(&mut bytes);
-    let are_sized = match &name {
-        Ok(name) => write_sized(name, &mut encoder),
-        Err(_) => false,
-    };
-    drop(encoder);
-    drop(name);
-    let same = are_sized && bytes.as_slice() == wanted;
-    drop(bytes);
-    same
-}
-
-#[test]
-fn sized_counts_what_is_written(rt: HostRuntime) {
-    let wanted = b"\x00\x09\x03www\x03org\0\x00\x02\xC0\x02\x00\x02\x00\x07";
-    let name = name_of(rt.alloc(), b"\x03www\x03org\0");
-    assert!(rt; are_sized(rt.alloc(), name, wanted.as_slice()));
-}
+/// Steps with the numbers of their refusals, a place, and what stands there in the end.
+type Row = (&'static [(Step, u8)], usize, &'static [u8]);

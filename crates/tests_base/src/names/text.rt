@@ -1,10 +1,15 @@
+//! Names in texts, and names compared.
+
 use super::has_labels;
 use base::{LowerName, Name, ParseError, RecordType, RrKey};
 use std::alloc::{AllocError, Global};
 use std::cmp::Ordering;
-use std::test::Fail;
-use test_tools::forms::{equals_its_copy, has_text};
-use test_tools::hashes::hash_of;
+use test_tools::forms::{has_text, is_copied};
+use test_tools::hashes::hash_alike;
+
+fn name(alloc: Global, text: &str) -> Result<Name, ParseError> {
+    Name::parse(alloc, text, None)
+}
 
 /// The number of the refusal; 0 where a name is read.
 fn refusal(alloc: Global, text: &str, origin: Option<&Name>) -> u8 {
@@ -15,28 +20,6 @@ fn refusal(alloc: Global, text: &str, origin: Option<&Name>) -> u8 {
     };
     drop(found);
     number
-}
-
-fn name(alloc: Global, text: &str) -> Result<Name, ParseError> {
-    Name::parse(alloc, text, None)
-}
-
-/// Appends a label of as many letters.
-fn push_label(text: &mut String, len: usize) -> Result<(), AllocError> {
-    for _ in 0..len {
-        text.push('a')?;
-    }
-    Ok(())
-}
-
-/// Labels of as many letters, with a dot behind each.
-fn long_text(alloc: Global, lens: &[usize]) -> Result<String, AllocError> {
-    let mut text = String::new(alloc);
-    for len in lens {
-        push_label(&mut text, *len)?;
-        text.push('.')?;
-    }
-    Ok(text)
 }
 
 /// Whether a text is read and prints as another.
@@ -50,45 +33,76 @@ fn prints(alloc: Global, text: &str, origin: Option<&Name>, printed: &str) -> bo
     is_printed
 }
 
+/// Texts, and how the names print that are read of them.
+const PRINTED: &[(&'static str, &'static str)] = &[
+    ("www.example.com.", "www.example.com."),
+    ("WWW.Example.com", "WWW.Example.com"),
+    (".", "."),
+    ("a", "a"),
+    ("a.", "a."),
+    (r"a\.b.c.", r"a\.b.c."),
+    (r"\065.", "A."),
+    (r"\000.", r"\000."),
+    (r"\255\127\032\033\126", r"\255\127\032!~"),
+    (r"a\ b.", r"a\032b."),
+    (r"\@", r"\@"),
+    ("a@b.", r"a\@b."),
+    ("@.", r"\@."),
+    ("a;b.$x.\"y\".(z).", r#"a\;b.\$x.\"y\".\(z\)."#),
+    (r"a\\b.", r"a\\b."),
+    (r"\a\-", "a-"),
+    ("*._sip._tcp.", "*._sip._tcp."),
+    (r"\092.\046.", r"\\.\.."),
+];
+
+const REFUSED: &[&'static str] = &[
+    "", "..", "a..b", ".a", "a..", r"\25", r"\2", r"\256", r"\999", r"\2a5", r"a\", "@", "a b",
+    " ", "a\tb", "\u{7F}", "\u{E9}", "\\\u{E9}", r"\1 2",
+];
+
 #[test]
-fn prints_what_it_reads(rt: HostRuntime) {
-    for &(text, printed) in &[
-        ("www.example.com.", "www.example.com."),
-        ("WWW.Example.com", "WWW.Example.com"),
-        (".", "."),
-        ("a", "a"),
-        ("a.", "a."),
-        (r"a\.b.c.", r"a\.b.c."),
-        (r"\065.", "A."),
-        (r"\000.", r"\000."),
-        (r"\255\127\032\033\126", r"\255\127\032!~"),
-        (r"a\ b.", r"a\032b."),
-        (r"\@", r"\@"),
-        ("a@b.", r"a\@b."),
-        ("@.", r"\@."),
-        ("a;b.$x.\"y\".(z).", r#"a\;b.\$x.\"y\".\(z\)."#),
-        (r"a\\b.", r"a\\b."),
-        (r"\a\-", "a-"),
-        ("*._sip._tcp.", "*._sip._tcp."),
-        (r"\092.\046.", r"\\.\.."),
-    ] {
-        assert!(rt; prints(rt.alloc(), text, None, printed));
+fn names_of_texts(rt: HostRuntime) {
+    for &(text, printed) in PRINTED {
+        assert!(rt; prints(rt.alloc(), text, None, printed), "{text}");
+    }
+    for &text in REFUSED {
+        assert!(rt; refusal(rt.alloc(), text, None) == 23, "{text}");
     }
 }
 
+/// Texts under the origin `Example.com.`, and how the names print that are read of them.
+const COMPLETED: &[(&'static str, &'static str)] = &[
+    ("www", "www.Example.com."),
+    ("a.b", "a.b.Example.com."),
+    ("www.", "www."),
+    (".", "."),
+    ("@", "Example.com."),
+    ("@.", r"\@."),
+    (r"\@", r"\@.Example.com."),
+];
+
 #[test]
-fn a_relative_name_without_labels_prints_as_nothing(rt: HostRuntime) {
-    let mut nameless = Name::root(rt.alloc());
-    nameless.set_fqdn(false);
-    assert!(rt; has_text(rt.alloc(), &nameless, ""));
-    drop(nameless);
+fn names_under_an_origin(rt: HostRuntime) -> Result<(), ParseError> {
+    let origin = name(rt.alloc(), "Example.com.")?;
+    for &(text, printed) in COMPLETED {
+        assert!(rt; prints(rt.alloc(), text, Some(&origin), printed), "{text}");
+    }
+    assert!(rt; refusal(rt.alloc(), "", Some(&origin)) == 23);
+    drop(origin);
+    let root = Name::root(rt.alloc());
+    assert!(rt; prints(rt.alloc(), "a", Some(&root), "a."));
+    drop(root);
+    Ok(())
 }
 
-/// Whether a text is read as a relative name of these labels.
-fn reads_as(alloc: Global, text: &str, labels: &[&[u8]]) -> bool {
+/// Whether a text is read as a name of these labels, as the root if it is complete.
+fn reads_as(alloc: Global, text: &str, is_complete: bool, labels: &[&[u8]]) -> bool {
     let found = name(alloc, text);
     let is_read = match &found {
-        Ok(read) => !read.is_fqdn() && has_labels(read, labels),
+        Ok(read) => {
+            let flags = read.is_fqdn() == is_complete && read.is_root() == is_complete;
+            flags && has_labels(read, labels)
+        }
         Err(_) => false,
     };
     drop(found);
@@ -96,128 +110,87 @@ fn reads_as(alloc: Global, text: &str, labels: &[&[u8]]) -> bool {
 }
 
 #[test]
-fn reads_labels_of_bytes(rt: HostRuntime) {
-    assert!(rt; reads_as(rt.alloc(), r"\065b\.\255.\@.c", &[b"Ab.\xFF", b"@", b"c"]));
+fn labels_of_texts(rt: HostRuntime) {
+    let labels = [b"Ab.\xFF".as_slice(), b"@".as_slice(), b"c".as_slice()];
+    assert!(rt; reads_as(rt.alloc(), r"\065b\.\255.\@.c", false, &labels));
+    assert!(rt; reads_as(rt.alloc(), ".", true, &[]));
 }
 
-/// Whether a text is read as the root.
-fn reads_as_root(alloc: Global, text: &str) -> bool {
-    let found = name(alloc, text);
-    let is_root = match &found {
-        Ok(read) => read.is_root(),
-        Err(_) => false,
-    };
-    drop(found);
-    is_root
-}
-
-#[test]
-fn a_dot_reads_as_the_root(rt: HostRuntime) {
-    assert!(rt; reads_as_root(rt.alloc(), "."));
-}
-
-#[test]
-fn refuses_texts(rt: HostRuntime) {
-    for &text in &[
-        "", "..", "a..b", ".a", "a..", r"\25", r"\2", r"\256", r"\999", r"\2a5", r"a\", "@", "a b",
-        " ", "a\tb", "\u{7F}", "\u{E9}", "\\\u{E9}", r"\1 2",
-    ] {
-        assert!(rt; refusal(rt.alloc(), text, None) == 23);
+/// Appends labels of as many letters, with a dot behind each.
+fn push_labels(text: &mut String, lens: &[usize]) -> Result<(), AllocError> {
+    for len in lens {
+        for _ in 0..*len {
+            text.push('a')?;
+        }
+        text.push('.')?;
     }
-}
-
-/// Whether labels of as many letters are refused by this number; 0 where they are read.
-fn is_length_refused(alloc: Global, lens: &[usize], number: u8) -> bool {
-    let text = long_text(alloc, lens);
-    let is_refused = match &text {
-        Ok(text) => refusal(alloc, text, None) == number,
-        Err(_) => false,
-    };
-    drop(text);
-    is_refused
-}
-
-#[test]
-fn limits_the_length_of_a_label(rt: HostRuntime) {
-    assert!(rt; is_length_refused(rt.alloc(), &[63], 0));
-    assert!(rt; is_length_refused(rt.alloc(), &[64], 23));
-}
-
-#[test]
-fn limits_the_length_of_a_name(rt: HostRuntime) {
-    assert!(rt; is_length_refused(rt.alloc(), &[63, 63, 63, 61], 0));
-    assert!(rt; is_length_refused(rt.alloc(), &[63, 63, 63, 62], 23));
-    assert!(rt; is_length_refused(rt.alloc(), &[63, 63, 63, 63], 23));
-}
-
-#[test]
-fn completes_by_the_origin(rt: HostRuntime) -> Result<(), Fail> {
-    let origin = name(rt.alloc(), "Example.com.")?;
-    for &(text, printed) in &[
-        ("www", "www.Example.com."),
-        ("a.b", "a.b.Example.com."),
-        ("www.", "www."),
-        (".", "."),
-        ("@", "Example.com."),
-        ("@.", r"\@."),
-        (r"\@", r"\@.Example.com."),
-    ] {
-        assert!(rt; prints(rt.alloc(), text, Some(&origin), printed));
-    }
-    drop(origin);
     Ok(())
 }
 
-/// Whether a text before this origin is refused by this number; 0 where it is read.
-fn is_refused(alloc: Global, text: &str, origin: Result<Name, ParseError>, number: u8) -> bool {
-    let is_refused = match &origin {
-        Ok(origin) => refusal(alloc, text, Some(origin)) == number,
-        Err(_) => false,
-    };
-    drop(origin);
-    is_refused
-}
-
-#[test]
-fn an_empty_text_is_refused_with_an_origin_too(rt: HostRuntime) {
-    assert!(rt; is_refused(rt.alloc(), "", name(rt.alloc(), "Example.com."), 23));
-}
-
-#[test]
-fn completes_by_the_root(rt: HostRuntime) {
-    let root = Name::root(rt.alloc());
-    assert!(rt; prints(rt.alloc(), "a", Some(&root), "a."));
-    drop(root);
-}
-
-/// A name of three long labels.
-fn long_name(alloc: Global) -> Result<Name, ParseError> {
-    let text = long_text(alloc, &[63, 63, 63])?;
-    let long = name(alloc, &text);
-    drop(text);
-    long
-}
-
-/// Whether a label of as many letters before an origin of three long ones is refused by this number.
-fn is_completed_refused(alloc: Global, len: usize, number: u8) -> bool {
+/// The number of the refusal of labels of as many letters; 0 where they are read.
+fn refusal_of_long(alloc: Global, lens: &[usize]) -> Result<u8, AllocError> {
     let mut text = String::new(alloc);
-    let pushed = push_label(&mut text, len);
-    let is_refused = pushed.is_ok() && is_refused(alloc, &text, long_name(alloc), number);
+    push_labels(&mut text, lens)?;
+    let number = refusal(alloc, &text, None);
     drop(text);
-    is_refused
+    Ok(number)
 }
+
+/// The same of one label under an origin of three long ones.
+fn refusal_under_long(alloc: Global, label: &str) -> Result<u8, ParseError> {
+    let mut text = String::new(alloc);
+    push_labels(&mut text, &[63, 63, 63])?;
+    let origin = name(alloc, &text);
+    drop(text);
+    let origin = origin?;
+    let number = refusal(alloc, label, Some(&origin));
+    drop(origin);
+    Ok(number)
+}
+
+/// Lengths of labels, and the number of the refusal; 0 where they are read.
+const LONG: &[(&'static [usize], u8)] = &[
+    (&[63], 0),
+    (&[64], 23),
+    (&[63, 63, 63, 61], 0),
+    (&[63, 63, 63, 62], 23),
+    (&[63, 63, 63, 63], 23),
+];
+
+/// Labels of 61 and of 62 letters.
+const LABELS: [&str; 2] = [
+    "aaaaaaaaaaaaaaaaaaaaaaaaaaaaaaaaaaaaaaaaaaaaaaaaaaaaaaaaaaaaa",
+    "aaaaaaaaaaaaaaaaaaaaaaaaaaaaaaaaaaaaaaaaaaaaaaaaaaaaaaaaaaaaaa",
+];
 
 #[test]
-fn limits_the_length_with_the_origin(rt: HostRuntime) {
-    assert!(rt; is_completed_refused(rt.alloc(), 61, 0));
-    assert!(rt; is_completed_refused(rt.alloc(), 62, 23));
+fn lengths_of_names(rt: HostRuntime) -> Result<(), ParseError> {
+    for &(lens, number) in LONG {
+        assert!(rt; refusal_of_long(rt.alloc(), lens)? == number, "{lens:?}");
+    }
+    assert!(rt; LABELS[0].len() == 61 && LABELS[1].len() == 62);
+    assert!(rt; refusal_under_long(rt.alloc(), LABELS[0])? == 0);
+    assert!(rt; refusal_under_long(rt.alloc(), LABELS[1])? == 23);
+    Ok(())
 }
 
-/// The names that two texts read as.
-fn both(alloc: Global, one: &str, other: &str) -> Result<(Name, Name), ParseError> {
+/// How the names of two texts stand to each other: their order, whether they are equal, whether they hash alike, and
+/// whether the first is a zone of the second.
+fn compared(
+    alloc: Global,
+    one: &str,
+    other: &str,
+) -> Result<(Ordering, bool, bool, bool), ParseError> {
     let first = name(alloc, one)?;
     match name(alloc, other) {
-        Ok(second) => Ok((first, second)),
+        Ok(second) => {
+            let order = first.cmp(&second);
+            let alike = hash_alike(&first, &second);
+            let said = (order, first == second, alike, first.zone_of(&second));
+            drop(first);
+            drop(second);
+            Ok(said)
+        }
         Err(e) => {
             drop(first);
             Err(e)
@@ -225,74 +198,37 @@ fn both(alloc: Global, one: &str, other: &str) -> Result<(Name, Name), ParseErro
     }
 }
 
-/// Whether two texts read as names that are equal, or as names that are not, as is expected.
-fn compare(alloc: Global, one: &str, other: &str, expected: bool) -> bool {
-    let names = both(alloc, one, other);
-    let as_expected = match &names {
-        Ok((first, second)) => (*first == *second) == expected,
-        Err(_) => false,
-    };
-    drop(names);
-    as_expected
-}
+/// Texts of names that aren't equal.
+const UNEQUAL: &[(&'static str, &'static str)] = &[
+    ("a.", "a"),
+    ("a.", "b."),
+    ("a.b.", r"a\.b."),
+    ("[.", "{."),
+    ("@.", "`."),
+    (r"\192.", r"\224."),
+    ("a.", "a.a."),
+];
 
-/// Whether two texts read as names of one hash.
-fn hash_alike(alloc: Global, one: &str, other: &str) -> bool {
-    let names = both(alloc, one, other);
-    let alike = match &names {
-        Ok((first, second)) => hash_of(first) == hash_of(second),
-        Err(_) => false,
-    };
-    drop(names);
-    alike
-}
-
-#[test]
-fn equal_in_any_case(rt: HostRuntime) {
-    assert!(rt; compare(rt.alloc(), "WWW.a.", "www.A.", true));
-    assert!(rt; hash_alike(rt.alloc(), "WWW.a.", "www.A."));
-}
-
-#[test]
-fn other_names_are_unequal(rt: HostRuntime) {
-    for &(one, other) in &[
-        ("a.", "a"),
-        ("a.", "b."),
-        ("a.b.", r"a\.b."),
-        ("[.", "{."),
-        ("@.", "`."),
-        (r"\192.", r"\224."),
-        ("a.", "a.a."),
-    ] {
-        assert!(rt; compare(rt.alloc(), one, other, false));
-    }
-}
-
-/// Whether the names that two texts read as have this order.
-fn are_ordered(alloc: Global, one: &str, other: &str, wanted: Ordering) -> bool {
-    let names = both(alloc, one, other);
-    let are_ordered = match &names {
-        Ok((first, second)) => first.cmp(second) == wanted,
-        Err(_) => false,
-    };
-    drop(names);
-    are_ordered
-}
-
-/// Whether the names that the texts read as ascend.
-fn names_ascend(alloc: Global, texts: &[&str]) -> bool {
-    for (i, one) in texts.iter().enumerate() {
-        for (j, other) in texts.iter().enumerate() {
-            if !are_ordered(alloc, one, other, i.cmp(&j)) {
-                return false;
-            }
-        }
-    }
-    true
-}
+/// Zones, names, and whether these lie in those.
+const ZONES: &[(&'static str, &'static str, bool)] = &[
+    ("com.", "www.example.COM.", true),
+    ("Example.com.", "www.example.COM.", true),
+    ("www.example.com.", "www.example.com.", true),
+    ("www.example.com.", "com.", false),
+    (".", "a.", true),
+    (".", ".", true),
+    (".", "a", true),
+    ("a.", ".", false),
+    ("com", "example.com.", true),
+    ("com.", "example.com", true),
+    ("ple.com.", "example.com.", false),
+    ("www.", "www.com.", false),
+    ("a.com.", "b.com.", false),
+    ("b.com.", r"a\.b.com.", false),
+];
 
 /// Relative names first; then the example of RFC 4034, 6.1.
-const ASCENDING: [&str; 17] = [
+const ASCENDING: &[&'static str] = &[
     "a",
     "z.a",
     "b",
@@ -313,42 +249,28 @@ const ASCENDING: [&str; 17] = [
 ];
 
 #[test]
-fn orders_names(rt: HostRuntime) {
-    assert!(rt; are_ordered(rt.alloc(), "A.b.", "a.B.", Ordering::Equal));
-    assert!(rt; names_ascend(rt.alloc(), &ASCENDING));
-}
-
-/// Whether the zone that a text reads as holds the name that another reads as, or doesn't, as is expected.
-fn holds(alloc: Global, zone: &str, inner: &str, expected: bool) -> bool {
-    let names = both(alloc, zone, inner);
-    let as_expected = match &names {
-        Ok((outer, owner)) => outer.zone_of(owner) == expected,
-        Err(_) => false,
-    };
-    drop(names);
-    as_expected
-}
-
-#[test]
-fn zones(rt: HostRuntime) {
-    for &(zone, inner, expected) in &[
-        ("com.", "www.example.COM.", true),
-        ("Example.com.", "www.example.COM.", true),
-        ("www.example.com.", "www.example.com.", true),
-        ("www.example.com.", "com.", false),
-        (".", "a.", true),
-        (".", ".", true),
-        (".", "a", true),
-        ("a.", ".", false),
-        ("com", "example.com.", true),
-        ("com.", "example.com", true),
-        ("ple.com.", "example.com.", false),
-        ("www.", "www.com.", false),
-        ("a.com.", "b.com.", false),
-        ("b.com.", r"a\.b.com.", false),
-    ] {
-        assert!(rt; holds(rt.alloc(), zone, inner, expected));
+fn names_compared(rt: HostRuntime) -> Result<(), ParseError> {
+    let same = compared(rt.alloc(), "WWW.a.", "www.A.")?;
+    assert!(rt; same.1 && same.2);
+    assert!(rt; compared(rt.alloc(), "A.b.", "a.B.")?.0 == Ordering::Equal);
+    for &(one, other) in UNEQUAL {
+        assert!(rt; !compared(rt.alloc(), one, other)?.1, "{one} {other}");
     }
+    for &(zone, inner, holds) in ZONES {
+        assert!(rt;
+            compared(rt.alloc(), zone, inner)?.3 == holds,
+            "{zone} {inner}"
+        );
+    }
+    for (i, one) in ASCENDING.iter().enumerate() {
+        for (j, other) in ASCENDING.iter().enumerate() {
+            assert!(rt;
+                compared(rt.alloc(), one, other)?.0 == i.cmp(&j),
+                "{one} {other}"
+            );
+        }
+    }
+    Ok(())
 }
 
 /// The lowered name that a text reads as.
@@ -359,30 +281,30 @@ fn lower(alloc: Global, text: &str) -> Result<LowerName, ParseError> {
     Ok(lowered?)
 }
 
-fn key(alloc: Global, text: &str, record_type: RecordType) -> Result<RrKey, ParseError> {
-    Ok(RrKey::new(lower(alloc, text)?, record_type))
-}
-
-/// Whether the keys of two texts and types could be made and have this order.
-fn keys_are_ordered(
+/// The order of the keys of two texts and types, and whether they are equal.
+fn keys_compared(
     alloc: Global,
     one: (&str, RecordType),
     other: (&str, RecordType),
-    wanted: Ordering,
-) -> bool {
-    let first = key(alloc, one.0, one.1);
-    let second = key(alloc, other.0, other.1);
-    let are_ordered = match (&first, &second) {
-        (Ok(first), Ok(second)) => first.cmp(second) == wanted,
-        _ => false,
-    };
-    drop(first);
-    drop(second);
-    are_ordered
+) -> Result<(Ordering, bool), ParseError> {
+    let first = RrKey::new(lower(alloc, one.0)?, one.1);
+    match lower(alloc, other.0) {
+        Ok(owner) => {
+            let second = RrKey::new(owner, other.1);
+            let said = (first.cmp(&second), first == second);
+            drop(first);
+            drop(second);
+            Ok(said)
+        }
+        Err(e) => {
+            drop(first);
+            Err(e)
+        }
+    }
 }
 
 /// Keys in their order.
-const ASCENDING_KEYS: [(&str, RecordType); 5] = [
+const ASCENDING_KEYS: &[(&'static str, RecordType)] = &[
     ("z", RecordType::ANY),
     ("A.", RecordType::A),
     ("a.", RecordType::NS),
@@ -391,49 +313,26 @@ const ASCENDING_KEYS: [(&str, RecordType); 5] = [
 ];
 
 #[test]
-fn orders_keys(rt: HostRuntime) {
-    for (i, one) in ASCENDING_KEYS.iter().enumerate() {
-        for (j, other) in ASCENDING_KEYS.iter().enumerate() {
-            assert!(rt; keys_are_ordered(rt.alloc(), *one, *other, i.cmp(&j)));
+fn keys(rt: HostRuntime) -> Result<(), ParseError> {
+    for (i, &one) in ASCENDING_KEYS.iter().enumerate() {
+        for (j, &other) in ASCENDING_KEYS.iter().enumerate() {
+            assert!(rt;
+                keys_compared(rt.alloc(), one, other)?.0 == i.cmp(&j),
+                "{} {}",
+                one.0,
+                other.0
+            );
         }
     }
-}
-
-/// Whether two keys could be made and are equal.
-fn are_equal(one: Result<RrKey, ParseError>, other: Result<RrKey, ParseError>) -> bool {
-    let are_equal = match (&one, &other) {
-        (Ok(one), Ok(other)) => *one == *other,
-        _ => false,
-    };
-    drop(one);
-    drop(other);
-    are_equal
+    let (one, other) = (("A.b.", RecordType::MX), ("a.B.", RecordType::MX));
+    assert!(rt; keys_compared(rt.alloc(), one, other)?.1);
+    Ok(())
 }
 
 #[test]
-fn keys_are_equal_in_any_case(rt: HostRuntime) {
-    let alloc = rt.alloc();
-    let one = key(alloc, "A.b.", RecordType::MX);
-    assert!(rt; are_equal(one, key(alloc, "a.B.", RecordType::MX)));
-}
-
-/// Whether a lowered name could be made and prints as this text.
-fn prints_lowered(alloc: Global, made: Result<LowerName, ParseError>, printed: &str) -> bool {
-    let is_printed = match &made {
-        Ok(lowered) => has_text(alloc, lowered, printed),
-        Err(_) => false,
-    };
-    drop(made);
-    is_printed
-}
-
-#[test]
-fn prints_a_lowered_name(rt: HostRuntime) {
-    let alloc = rt.alloc();
-    assert!(rt; prints_lowered(alloc, lower(alloc, "WWW.Example.Com"), "www.example.com"));
-}
-
-#[test]
-fn copies_a_lowered_name(rt: HostRuntime) {
-    assert!(rt; equals_its_copy(lower(rt.alloc(), "WWW.Example.Com")));
+fn lowered_names(rt: HostRuntime) -> Result<(), ParseError> {
+    let lowered = lower(rt.alloc(), "WWW.Example.Com")?;
+    assert!(rt; has_text(rt.alloc(), &lowered, "www.example.com"));
+    assert!(rt; is_copied(lowered));
+    Ok(())
 }
