@@ -4,6 +4,4 @@
 #[cfg(test)]
 mod data;
 #[cfg(test)]
-mod data_texts;
-#[cfg(test)]
 mod texts;
