@@ -1,8 +1,7 @@
 -- What the command `apply` prints.
 use Rattle.std.specs.FinMap as fin
-use Rattle.std.specs.List.{flat_map, list_all}
-use Rattle.std.specs.Map.{values_of}
-use Rattle.std.specs.Prelude.{Bool, Err, List, None, Ok, Option, Result, Some, [], false, if◌then◌else◌, true, ℕ, ◌&&◌, ◌++◌, ◌∷◌}
+use Rattle.std.specs.List.{flat_map}
+use Rattle.std.specs.Prelude.{Err, List, None, Ok, Option, Result, Some, [], if◌then◌else◌, ℕ, ◌++◌, ◌∷◌}
 use Rattle.std.specs.Str.{is_utf8}
 use Rattle.hex.specs.declared.error.FromHexError.{FromHexError}
 use Rattle.base.specs.DecodeError.{decode_number}
@@ -10,9 +9,7 @@ use Rattle.base.specs.Labels.{NameValue}
 use Rattle.base.specs.Reading.{Read}
 use Rattle.base.specs.TextFaults.{Fault}
 use Rattle.base.specs.declared.dns_class.DNSClass.TheVariants as classes
-use Rattle.base.specs.declared.dns_class.DNSClass.{DNSClass}
 use Rattle.base.specs.declared.rr_key.RrKey.{RrKey}
-use Rattle.base_data.specs.declared.rdata.RData.{RData}
 use Rattle.op.specs.Message.{MessageValue, message_at}
 use Rattle.op.specs.MessageText.{line, record_lines}
 use Rattle.op.specs.ResponseCode.{code_name}
@@ -20,25 +17,13 @@ use Rattle.op.specs.declared.response_code.ResponseCode.{ResponseCode}
 use Rattle.op_use.specs.Applying.{applied, records_applied, records_in, zone_of_sets}
 use Rattle.op_use.specs.Server.{Sections, sections_of}
 use Rattle.op_use.specs.Zone.{Zone}
-use Rattle.rr.specs.RecordSet.{SetValue}
-use Rattle.rr.specs.declared.record.Record.{Record}
 use Rattle.txt.specs.Zone.{zone_of}
 use Rattle.txt.specs.ZoneSets.{ZoneSets, set_at}
+use Rattle.parsed_zone.specs.Classes.{are_sets_in}
+use Rattle.parsed_zone.specs.Faults.{fault_number}
 use Rattle.dnsmsg.specs.Answer.{Answer, done, refused}
 use Rattle.dnsmsg.specs.HexInput.{bytes_of}
-use Rattle.dnsmsg.specs.ZoneCommand.{fault_number, origin_line, text_named, zone_lines}
-
-abbrev pub is_in : DNSClass → Bool
-is_in classes.IN = true
-is_in _ = false
-
--- whether a set and each of its records are of the class IN
-abbrev pub is_set_in : SetValue → Bool
-is_set_in s = is_in s.dns_class && list_all (λ (r : Record RData). is_in r.dns_class) s.records
-
--- whether all sets are
-abbrev pub are_sets_in : ZoneSets → Bool
-are_sets_in sets = list_all is_set_in (values_of sets)
+use Rattle.dnsmsg.specs.ZoneCommand.{origin_line, text_named, zone_lines}
 
 -- the name of a code, and nothing for one without a name, which no update is answered with
 abbrev pub code_word : Option (List ℕ) → List ℕ

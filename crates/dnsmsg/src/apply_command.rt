@@ -1,18 +1,14 @@
 //! The command `apply`.
 
 ghost use Rattle.std.specs.BTreeMap.{IsOrdered};
-ghost use Rattle.std.specs.List.{list_all};
 ghost use Rattle.std.specs.Prelude.{◌≡◌, ◌⊎◌, Err, IfErr, IfOk, Ok};
 ghost use Rattle.std.specs.String.{string_bytes};
 ghost use Rattle.base.specs.RrKey.{key_cmp};
-ghost use Rattle.base_data.specs.declared.rdata.RData.{RData};
 ghost use Rattle.dnsmsg.specs.Answering.{Answers};
-ghost use Rattle.dnsmsg.specs.ApplyCommand.{answer_to_text, answer_to_update, update_lines, update_of};
-ghost use Rattle.dnsmsg.specs.ApplyCommand.{are_sets_in, first_word, is_in as is_in_class, is_set_in};
+ghost use Rattle.dnsmsg.specs.ApplyCommand.{answer_to_text, answer_to_update, first_word, update_lines, update_of};
 ghost use Rattle.dnsmsg.specs.Refusal.{refusal_number};
 ghost use Rattle.dnsmsg.specs.Words.{texts};
 ghost use Rattle.op.specs.Message.{message_value};
-ghost use Rattle.rr.specs.declared.record.Record.{Record as Entry};
 ghost use Rattle.txt.specs.ZoneSets.{AreKept};
 
 use crate::hex_input::decoded;
@@ -21,7 +17,8 @@ use crate::zone_command::{included_texts, zone_lines};
 use base::{DNSClass, Name, RrKey};
 use op::{Message, ResponseCode};
 use op_use::apply_update;
-use rr::{Record, RecordSet};
+use parsed_zone::are_sets_in;
+use rr::RecordSet;
 use std::alloc::{AllocError, Global};
 use std::collections::BTreeMap;
 use std::str;
@@ -87,41 +84,6 @@ fn apply_to_sets(
     }
     let (code, changed) = apply_update(alloc, sets, name, DNSClass::IN, message)?;
     Ok(update_lines(alloc, code, name, changed)?)
-}
-
-// Whether each set and each record is of the class IN.
-pub(crate) fn are_sets_in(sets: &BTreeMap<RrKey, RecordSet>) -> bool
-    ensures { result ≡ are_sets_in sets.now.entries }
-{
-    for set in sets.values() {
-        if !is_set_in(set) {
-            return false;
-        }
-    }
-    true
-}
-
-fn is_set_in(set: &RecordSet) -> bool
-    ensures { result ≡ is_set_in set.now }
-{
-    is_in(set.dns_class()) && are_records_in(set)
-}
-
-fn are_records_in(set: &RecordSet) -> bool
-    ensures { result ≡ list_all (λ (r : Entry RData). is_in_class r.dns_class) set.now.records }
-{
-    for entry in set.records_without_rrsigs() {
-        if !is_in(entry.dns_class) {
-            return false;
-        }
-    }
-    true
-}
-
-fn is_in(class: DNSClass) -> bool
-    ensures { result ≡ is_in_class class }
-{
-    matches!(class, DNSClass::IN)
 }
 
 // The code and the zone.

@@ -2,13 +2,11 @@
 #![tactic(auto)]
 
 mod apply_command;
-mod callers;
 mod command;
 mod cut_command;
 mod header_command;
 mod hex_input;
 mod input;
-mod laws;
 mod limit;
 mod read_command;
 mod refusal;
