@@ -1,6 +1,7 @@
 mod AppliedLines
 mod ApplyLemmas
 mod CutLemmas
+mod InputLemmas
 mod LimitLemmas
 mod RunLemmas
 mod WordLemmas

@@ -3,12 +3,9 @@ use Rattle.std.proofs.Common.{◌≡◌, ◌⊎◌, ℕ, ◌≤◌, List, ap, sy
 use Rattle.std.specs.Prelude.{IfSome, String, ◌≢◌}
 use Rattle.std.specs.String.{string_bytes}
 use Rattle.std.specs.declared.alloc.Global.{Global}
-use Rattle.base.specs.Labels.{NameValue}
-use Rattle.base.specs.declared.error.proto_error.ProtoError.TheVariants as protos
-use Rattle.op.specs.Message.{MessageValue}
 use Rattle.dnsmsg.specs.Answer.{Answer, IsAnswered, IsGivenBy, IsPrinted, broken, done, refused, usage}
-use Rattle.dnsmsg.specs.ApplyCommand.{answer_after, answer_to_text, apply_answer, update_of}
-use Rattle.dnsmsg.specs.Command.{CommandAnswers, Gives, IsGiven, IsRefused, number_refused, refused_word}
+use Rattle.dnsmsg.specs.ApplyCommand.{apply_answer}
+use Rattle.dnsmsg.specs.Command.{CommandAnswers, Gives, IsGiven, IsRefused, refused_word}
 use Rattle.dnsmsg.specs.CutCommand.{IsCutAnswer}
 use Rattle.dnsmsg.specs.HeaderCommand.{header_answer}
 use Rattle.dnsmsg.specs.ReadCommand.{read_answer}
@@ -21,7 +18,6 @@ use Rattle.dnsmsg.specs.declared.command.MessageCommand.TheVariants as messages
 use Rattle.dnsmsg.specs.declared.refusal.Failure.{Failure}
 use Rattle.dnsmsg.specs.declared.refusal.Failure.TheVariants as failures
 use Rattle.dnsmsg.specs.declared.refusal.Refusal.{Refusal}
-use Rattle.dnsmsg.specs.declared.refusal.Refusal.TheVariants as refusals
 
 pub some_and_none : {Y : Type 0} (command : Command) (words : Option Command) → Some command ≡ words → words ≡ None → Y
 some_and_none command words named is = absurd (let both : Some command ≡ None = named ∙ is in cc)
@@ -111,93 +107,23 @@ module _ (status : ℕ) (old new remaining : Option (List ℕ)) (words : List (L
       each remaining (λ input here. lines_answer status old new words input command lines here
       (subst (λ line. IsPrinted (done line) status old new) same (given status old new (done shown) printed whole))) says
 
-  pub refusal_given : (refusal : Refusal) (number : ℕ) → Gives command words remaining (Err (failures.Refused refusal)) → number ≡ refusal_number refusal
+  pub refusal_given : (e : Failure) (refusal : Refusal) (number : ℕ) → Gives command words remaining (Err e) → e ≡ failures.Refused refusal → number ≡ refusal_number refusal
       → (status ≡ 3) ⊎ IsPrinted (refused number) status old new → status ≢ broken → IfSome remaining (λ input. IsGiven command words input status old new)
-  refusal_given refusal number says same printed whole =
+  refusal_given e refusal number says is same printed whole =
       each remaining (λ input here. refusal_answers status old new words input command refusal here
-      (subst (λ n. IsPrinted (refused n) status old new) same (given status old new (refused number) printed whole))) says
+      (subst (λ n. IsPrinted (refused n) status old new) same (given status old new (refused number) printed whole)))
+      (subst (λ f. Gives command words remaining (Err f)) is says)
 
 -- what was printed answers words that are refused before the input is read
-module _ {S : Type 0} (status : ℕ) (old new : Option (List ℕ)) (words : List (List ℕ)) (command : Command) (unread : S) where
-  pub memory_judged : (status ≡ 3) ⊎ IsPrinted (refused 3) status old new
-      → IfSome (refused_word command words) (λ n. S × (status ≢ broken → IsAnswered (refused n) status old new))
-  memory_judged printed = every (refused_word command words) (λ n. (unread, λ whole. inr (given status old new (refused 3) printed whole)))
-
-module _ {S : Type 0} (status : ℕ) (old new : Option (List ℕ)) (words : List (List ℕ)) (command : Command) where
-  pub lines_judged : (lines : String Global) → IfSome (refused_word command words) (λ n. S × IsRefused n (Ok lines))
-      → IfSome (refused_word command words) (λ n. S × (status ≢ broken → IsAnswered (refused n) status old new))
-  lines_judged lines says = each (refused_word command words) (λ n here. absurd here.1) says
-
-  pub broken_judged : IfSome (refused_word command words) (λ n. S × IsRefused n (Err failures.Broken))
-      → IfSome (refused_word command words) (λ n. S × (status ≢ broken → IsAnswered (refused n) status old new))
-  broken_judged says = each (refused_word command words) (λ n here. absurd here.1) says
-
+module _ (S : Type 0) (status : ℕ) (old new : Option (List ℕ)) (words : List (List ℕ)) (command : Command) where
   told : (n number : ℕ) (refusal : Refusal) → number ≡ refusal_number refusal → IsRefused n (Err (failures.Refused refusal)) → IsPrinted (refused number) status old new
       → IsAnswered (refused n) status old new
   told n number refusal same (inl memory) shown = inr (subst (λ m. IsPrinted (refused m) status old new) (same ∙ memory) shown)
   told n number refusal same (inr is) shown = inl (subst (λ m. IsPrinted (refused m) status old new) (same ∙ is) shown)
 
-  pub refusal_judged : (refusal : Refusal) (number : ℕ) → IfSome (refused_word command words) (λ n. S × IsRefused n (Err (failures.Refused refusal)))
-      → number ≡ refusal_number refusal → (status ≡ 3) ⊎ IsPrinted (refused number) status old new
+  pub refusal_judged : (e : Failure) (refusal : Refusal) (number : ℕ) → IfSome (refused_word command words) (λ n. S × IsRefused n (Err e))
+      → e ≡ failures.Refused refusal → number ≡ refusal_number refusal → (status ≡ 3) ⊎ IsPrinted (refused number) status old new
       → IfSome (refused_word command words) (λ n. S × (status ≢ broken → IsAnswered (refused n) status old new))
-  refusal_judged refusal number says same printed =
-      each (refused_word command words) (λ n here. (here.0, λ whole. told n number refusal same here.1 (given status old new (refused number) printed whole))) says
-
--- ---- what a command gives
-
-memory : Refusal
-memory = refusals.Proto protos.Memory
-
--- any command may be refused because memory ran out
-memory_gives : (command : Command) (words : List (List ℕ)) (remaining : Option (List ℕ)) → Gives command words remaining (Err (failures.Refused memory))
-memory_gives (commands.OnMessage messages.Header) words remaining = every remaining (λ text. inl refl)
-memory_gives (commands.OnMessage messages.Read) words remaining = every remaining (λ text. inl refl)
-memory_gives (commands.OnMessage (messages.Cut limit)) words remaining = every remaining (λ text. inl refl)
-memory_gives (commands.Zone origin) words remaining = every remaining (λ text. inl refl)
-memory_gives (commands.Apply origin) words remaining = every remaining (λ text. inl refl)
-
-pub unread_gives : (command : Command) (words : List (List ℕ)) (remaining : Option (List ℕ)) (e : Failure) → (e ≡ failures.Broken) ⊎ (e ≡ failures.Refused memory)
-    → Gives command words remaining (Err e)
-unread_gives command words remaining e (inl broke) = subst (λ f. Gives command words remaining (Err f)) (sym broke) tt
-unread_gives command words remaining e (inr ran_out) = subst (λ f. Gives command words remaining (Err f)) (sym ran_out) (memory_gives command words remaining)
-
--- what answers the text that was read answers all that remained
-module _ (command : Command) (words : List (List ℕ)) (remaining : Option (List ℕ)) (text : List ℕ) (all : IfSome remaining (λ rest. text ≡ rest)) where
-  pub lines_give : (lines : String Global) → CommandAnswers command words text (Ok lines) → Gives command words remaining (Ok lines)
-  lines_give lines says = each remaining (λ rest same. subst (λ read. CommandAnswers command words read (Ok lines)) same says) all
-
-  pub refusal_gives : (refusal : Refusal) (e : Failure) → e ≡ failures.Refused refusal → CommandAnswers command words text (Err refusal) → Gives command words remaining (Err e)
-  refusal_gives refusal e is says =
-      subst (λ f. Gives command words remaining (Err f)) (sym is)
-      (each remaining (λ rest same. subst (λ read. CommandAnswers command words read (Err refusal)) same says) all)
-
--- ---- the update among the words
-
--- an update that is refused
-module _ (origin : Option NameValue) (words : List (List ℕ)) (remaining : Option (List ℕ)) (refusal : Refusal)
-    (says : (refusal_number refusal ≡ 3) ⊎ (update_of (behind_origin words) ≡ Err (refusal_number refusal))) where
-  answers : (text : List ℕ) → CommandAnswers (commands.Apply origin) words text (Err refusal)
-  answers text = answers_by says where
-    answers_by : (refusal_number refusal ≡ 3) ⊎ (update_of (behind_origin words) ≡ Err (refusal_number refusal)) → CommandAnswers (commands.Apply origin) words text (Err refusal)
-    answers_by (inl three) = inl three
-    answers_by (inr faulty) = inr (ap (answer_after origin text) faulty)
-
-  pub update_gives : (e : Failure) → e ≡ failures.Refused refusal → Gives (commands.Apply origin) words remaining (Err e)
-  update_gives e is = subst (λ f. Gives (commands.Apply origin) words remaining (Err f)) (sym is) (every remaining answers)
-
-  pub update_judged : {S : Type 0} (e : Failure) → e ≡ failures.Refused refusal → S
-      → IfSome (refused_word (commands.Apply origin) words) (λ n. S × IsRefused n (Err e))
-  update_judged {S} e is unread = subst (λ f. IfSome (refused_word (commands.Apply origin) words) (λ n. S × IsRefused n (Err f))) (sym is) (by says) where
-    by : (refusal_number refusal ≡ 3) ⊎ (update_of (behind_origin words) ≡ Err (refusal_number refusal))
-        → IfSome (refused_word (commands.Apply origin) words) (λ n. S × IsRefused n (Err (failures.Refused refusal)))
-    by (inl three) = every (refused_word (commands.Apply origin) words) (λ n. (unread, inl three))
-    by (inr faulty) = subst (λ found. IfSome (number_refused found) (λ n. S × IsRefused n (Err (failures.Refused refusal)))) (sym faulty) (unread, inr refl)
-
--- an update that is read: nothing of the words is refused, and the answer is that to its message
-pub not_judged : (origin : Option NameValue) (words : List (List ℕ)) (m : MessageValue) (P : ℕ → Type 0) → update_of (behind_origin words) ≡ Ok m
-    → IfSome (refused_word (commands.Apply origin) words) P
-not_judged origin words m P read = subst (λ found. IfSome (number_refused found) P) (sym read) tt
-
-pub answer_is : (origin : Option NameValue) (words : List (List ℕ)) (text : List ℕ) (m : MessageValue) → update_of (behind_origin words) ≡ Ok m
-    → apply_answer origin (behind_origin words) text ≡ answer_to_text m origin text
-answer_is origin words text m read = ap (answer_after origin text) read
+  refusal_judged e refusal number says is same printed =
+      each (refused_word command words) (λ n here. (here.0, λ whole. told n number refusal same here.1 (given status old new (refused number) printed whole)))
+      (subst (λ f. IfSome (refused_word command words) (λ n. S × IsRefused n (Err f))) is says)
