@@ -24,6 +24,15 @@ fn shown(alloc: Global, found: Result<RData, ParseError>) -> Result<String, Allo
     shown
 }
 
+/// The items, each in a text of its own.
+fn words_of(alloc: Global, items: &[&str]) -> Result<Vec<String>, AllocError> {
+    let mut words = Vec::new(alloc);
+    for item in items {
+        words.push(String::from_str(alloc, item)?)?;
+    }
+    Ok(words)
+}
+
 /// Whether the items are read as data of this text, or refused so.
 fn give(
     alloc: Global,
@@ -32,7 +41,9 @@ fn give(
     origin: Option<&Name>,
     expected: &str,
 ) -> Result<bool, AllocError> {
-    let found = RData::from_tokens(alloc, record_type, items.iter().copied(), origin);
+    let words = words_of(alloc, items)?;
+    let found = RData::from_tokens(alloc, record_type, words.iter(), origin);
+    drop(words);
     let shown = shown(alloc, found)?;
     let same = shown.as_str() == expected;
     drop(shown);
@@ -136,11 +147,9 @@ fn rows_of_items(rt: HostRuntime) -> Result<(), Fail> {
     Ok(())
 }
 
-/// Data of two items that are given away.
-fn read_of_words(alloc: Global, first: &str, second: &str) -> Result<RData, ParseError> {
-    let mut words = Vec::new(alloc);
-    words.push(String::from_str(alloc, first)?)?;
-    words.push(String::from_str(alloc, second)?)?;
+/// Data of items that are given away.
+fn read_of_words(alloc: Global, items: &[&str]) -> Result<RData, ParseError> {
+    let words = words_of(alloc, items)?;
     RData::from_tokens(alloc, RecordType::MX, words.into_iter(), None)
 }
 
@@ -157,7 +166,7 @@ fn prints(alloc: Global, found: Result<RData, ParseError>, text: &str) -> bool {
 #[test]
 fn items_come_in_each_form(rt: HostRuntime) {
     let alloc = rt.alloc();
-    assert!(rt; prints(alloc, read_of_words(alloc, "10", "mail."), "10 mail."));
+    assert!(rt; prints(alloc, read_of_words(alloc, &["10", "mail."]), "10 mail."));
     let array = RData::from_tokens(alloc, RecordType::MX, ["10", "mail."].into_iter(), None);
     assert!(rt; prints(alloc, array, "10 mail."));
     let slice = RData::from_items(alloc, RecordType::MX, &["10", "mail."], None);
