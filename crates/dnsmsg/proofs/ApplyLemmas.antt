@@ -20,6 +20,7 @@ use Rattle.op_use.specs.Applying.{IsApplied}
 use Rattle.op_use.specs.Server.{sections_of}
 use Rattle.rr.specs.RecordSet.{SetValue}
 use Rattle.txt.specs.Zone.{zone_of}
+use Rattle.txt.specs.ZoneSets.{ZoneSets}
 use Rattle.parsed_zone.specs.Classes.{are_sets_in}
 use Rattle.dnsmsg.proofs.AppliedLines.{lines_applied}
 use Rattle.dnsmsg.specs.Answer.{Answer, done, refused}
