@@ -5,10 +5,17 @@ mod addresses;
 mod fields;
 mod strings;
 
+use addresses::{DOTTED, GROUPS, GROUPS_LEFT_OUT};
 use base::{Name, ParseError, RecordType};
 use base_data::RData;
+use fields::{
+    MAIL, MAIL_UNDER, NAMES, NAMES_UNDER_A_RELATIVE_ORIGIN, NAMES_UNDER_AN_ORIGIN, SERVICES,
+    SERVICES_UNDER, STARTS, STARTS_UNDER,
+};
 use std::alloc::{AllocError, Global};
+use std::process::Abort;
 use std::test::Fail;
+use strings::{QUOTES, STRINGS};
 use test_tools::forms::has_text;
 
 /// The items of a text, and the text of the data that they name or the refusal.
@@ -24,6 +31,15 @@ fn shown(alloc: Global, found: Result<RData, ParseError>) -> Result<String, Allo
     shown
 }
 
+/// The items, each in a text of its own.
+fn words_of(alloc: Global, items: &[&str]) -> Result<Vec<String>, AllocError> {
+    let mut words = Vec::new(alloc);
+    for item in items {
+        words.push(String::from_str(alloc, item)?)?;
+    }
+    Ok(words)
+}
+
 /// Whether the items are read as data of this text, or refused so.
 fn give(
     alloc: Global,
@@ -32,7 +48,9 @@ fn give(
     origin: Option<&Name>,
     expected: &str,
 ) -> Result<bool, AllocError> {
-    let found = RData::from_tokens(alloc, record_type, items.iter().copied(), origin);
+    let words = words_of(alloc, items)?;
+    let found = RData::from_tokens(alloc, record_type, words.iter(), origin);
+    drop(words);
     let shown = shown(alloc, found)?;
     let same = shown.as_str() == expected;
     drop(shown);
@@ -61,86 +79,96 @@ fn first_fault(
 }
 
 /// Items of the types without a text form.
-const WITHOUT_TEXT: &[Row] = &[
+const NO_TEXTS: &[Row] = &[
     (&[], "refused 22"),
     (&["192.0.2.1"], "refused 22"),
     (&[r"\#", "0"], "refused 22"),
     (&["10", "mail."], "refused 22"),
 ];
 
-/// A type, the origin, none if it is empty, and rows of the type.
-const TABLES: &[(RecordType, &'static str, &'static [Row])] = &[
-    (RecordType::A, "", addresses::DOTTED),
-    (RecordType::AAAA, "", addresses::GROUPS),
-    (RecordType::AAAA, "", addresses::GROUPS_LEFT_OUT),
-    (RecordType::NS, "", fields::NAMES),
-    (
+/// Asks that each row gives its text under an origin, where the empty text is none.
+fn all_give(
+    rt: &(impl Abort + AllocGlobal),
+    record_type: RecordType,
+    origin: &str,
+    rows: &[Row],
+) -> Result<(), Fail> {
+    let fault = first_fault(rt.alloc(), record_type, origin, rows)?;
+    assert!(rt; fault == None, "{record_type} {origin}: row {fault:?}");
+    Ok(())
+}
+
+#[test]
+fn items_of_addresses(rt: HostRuntime) -> Result<(), Fail> {
+    all_give(&rt, RecordType::A, "", DOTTED)?;
+    all_give(&rt, RecordType::AAAA, "", GROUPS)?;
+    all_give(&rt, RecordType::AAAA, "", GROUPS_LEFT_OUT)
+}
+
+#[test]
+fn items_of_names(rt: HostRuntime) -> Result<(), Fail> {
+    for &record_type in &[
         RecordType::NS,
-        "sub.example.",
-        fields::NAMES_UNDER_AN_ORIGIN,
-    ),
-    (RecordType::CNAME, "", fields::NAMES),
-    (
         RecordType::CNAME,
-        "sub.example.",
-        fields::NAMES_UNDER_AN_ORIGIN,
-    ),
-    (RecordType::PTR, "", fields::NAMES),
-    (
         RecordType::PTR,
-        "sub.example.",
-        fields::NAMES_UNDER_AN_ORIGIN,
-    ),
-    (RecordType::ANAME, "", fields::NAMES),
-    (
         RecordType::ANAME,
-        "sub.example.",
-        fields::NAMES_UNDER_AN_ORIGIN,
-    ),
-    (RecordType::NS, "sub", fields::NAMES_UNDER_A_RELATIVE_ORIGIN),
-    (RecordType::MX, "", fields::MAIL),
-    (RecordType::MX, "example.", fields::MAIL_UNDER),
-    (RecordType::SRV, "", fields::SERVICES),
-    (RecordType::SRV, "example.", fields::SERVICES_UNDER),
-    (RecordType::SOA, "", fields::STARTS),
-    (RecordType::SOA, "example.", fields::STARTS_UNDER),
-    (RecordType::TXT, "", strings::STRINGS),
-    (RecordType::TXT, "", strings::QUOTES),
-    (RecordType::ZERO, "", WITHOUT_TEXT),
-    (RecordType::NULL, "", WITHOUT_TEXT),
-    (RecordType::SIG, "", WITHOUT_TEXT),
-    (RecordType::KEY, "", WITHOUT_TEXT),
-    (RecordType::OPT, "", WITHOUT_TEXT),
-    (RecordType::DS, "", WITHOUT_TEXT),
-    (RecordType::RRSIG, "", WITHOUT_TEXT),
-    (RecordType::NSEC, "", WITHOUT_TEXT),
-    (RecordType::DNSKEY, "", WITHOUT_TEXT),
-    (RecordType::NSEC3, "", WITHOUT_TEXT),
-    (RecordType::NSEC3PARAM, "", WITHOUT_TEXT),
-    (RecordType::CDS, "", WITHOUT_TEXT),
-    (RecordType::CDNSKEY, "", WITHOUT_TEXT),
-    (RecordType::TSIG, "", WITHOUT_TEXT),
-    (RecordType::IXFR, "", WITHOUT_TEXT),
-    (RecordType::AXFR, "", WITHOUT_TEXT),
-    (RecordType::ANY, "", WITHOUT_TEXT),
-    (RecordType::Unknown(11), "", WITHOUT_TEXT),
-    (RecordType::Unknown(65_280), "", WITHOUT_TEXT),
+    ] {
+        all_give(&rt, record_type, "", NAMES)?;
+        all_give(&rt, record_type, "sub.example.", NAMES_UNDER_AN_ORIGIN)?;
+    }
+    all_give(&rt, RecordType::NS, "sub", NAMES_UNDER_A_RELATIVE_ORIGIN)
+}
+
+#[test]
+fn items_of_names_and_numbers(rt: HostRuntime) -> Result<(), Fail> {
+    all_give(&rt, RecordType::MX, "", MAIL)?;
+    all_give(&rt, RecordType::MX, "example.", MAIL_UNDER)?;
+    all_give(&rt, RecordType::SRV, "", SERVICES)?;
+    all_give(&rt, RecordType::SRV, "example.", SERVICES_UNDER)?;
+    all_give(&rt, RecordType::SOA, "", STARTS)?;
+    all_give(&rt, RecordType::SOA, "example.", STARTS_UNDER)
+}
+
+#[test]
+fn items_of_strings(rt: HostRuntime) -> Result<(), Fail> {
+    all_give(&rt, RecordType::TXT, "", STRINGS)?;
+    all_give(&rt, RecordType::TXT, "", QUOTES)
+}
+
+// The types without a text form.
+const WITHOUT_TEXT: &[RecordType] = &[
+    RecordType::ZERO,
+    RecordType::NULL,
+    RecordType::SIG,
+    RecordType::KEY,
+    RecordType::OPT,
+    RecordType::DS,
+    RecordType::RRSIG,
+    RecordType::NSEC,
+    RecordType::DNSKEY,
+    RecordType::NSEC3,
+    RecordType::NSEC3PARAM,
+    RecordType::CDS,
+    RecordType::CDNSKEY,
+    RecordType::TSIG,
+    RecordType::IXFR,
+    RecordType::AXFR,
+    RecordType::ANY,
+    RecordType::Unknown(11),
+    RecordType::Unknown(65_280),
 ];
 
 #[test]
-fn rows_of_items(rt: HostRuntime) -> Result<(), Fail> {
-    for &(record_type, origin, rows) in TABLES {
-        let fault = first_fault(rt.alloc(), record_type, origin, rows)?;
-        assert!(rt; fault == None, "{record_type} {origin}: row {fault:?}");
+fn types_without_a_text_form(rt: HostRuntime) -> Result<(), Fail> {
+    for &record_type in WITHOUT_TEXT {
+        all_give(&rt, record_type, "", NO_TEXTS)?;
     }
     Ok(())
 }
 
-/// Data of two items that are given away.
-fn read_of_words(alloc: Global, first: &str, second: &str) -> Result<RData, ParseError> {
-    let mut words = Vec::new(alloc);
-    words.push(String::from_str(alloc, first)?)?;
-    words.push(String::from_str(alloc, second)?)?;
+/// Data of items that are given away.
+fn read_of_words(alloc: Global, items: &[&str]) -> Result<RData, ParseError> {
+    let words = words_of(alloc, items)?;
     RData::from_tokens(alloc, RecordType::MX, words.into_iter(), None)
 }
 
@@ -157,7 +185,7 @@ fn prints(alloc: Global, found: Result<RData, ParseError>, text: &str) -> bool {
 #[test]
 fn items_come_in_each_form(rt: HostRuntime) {
     let alloc = rt.alloc();
-    assert!(rt; prints(alloc, read_of_words(alloc, "10", "mail."), "10 mail."));
+    assert!(rt; prints(alloc, read_of_words(alloc, &["10", "mail."]), "10 mail."));
     let array = RData::from_tokens(alloc, RecordType::MX, ["10", "mail."].into_iter(), None);
     assert!(rt; prints(alloc, array, "10 mail."));
     let slice = RData::from_items(alloc, RecordType::MX, &["10", "mail."], None);

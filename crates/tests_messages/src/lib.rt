@@ -2,12 +2,8 @@
 #![tactic(auto)]
 
 #[cfg(test)]
-mod hashes;
-#[cfg(test)]
 mod hostile;
 #[cfg(test)]
 mod messages;
 #[cfg(test)]
 mod refused_memory;
-#[cfg(test)]
-mod texts;

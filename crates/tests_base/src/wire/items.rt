@@ -2,7 +2,7 @@
 
 ghost use Rattle.std.specs.Prelude.{◌≡◌, Ok};
 
-use super::Step::{Letters, Limit, Name as Named};
+use super::Step::{self, Letters, Limit, Name as Named};
 use super::{are_taken, name_of};
 use base::{BinEncoder, DecodeError, EmitAndCount, Name, ProtoError};
 use std::alloc::Global;
@@ -43,14 +43,20 @@ fn counted<P: EmitAndCount>(part: &mut P, encoder: &mut BinEncoder<'_>) -> (usiz
     count_of(part.emit(encoder))
 }
 
-/// Writes parts that fit and one that is cut, and answers whether they count right.
-fn parts_are_counted(encoder: &mut BinEncoder<'_>) -> bool {
+/// Writes parts that fit, and answers whether they count right.
+fn whole_parts_count(encoder: &mut BinEncoder<'_>) -> bool {
     let careless = counted(&mut Careless { number: 7 }, encoder);
     let before = encoder.len();
     let whole = counted(&mut [1u16, 2, 3].iter(), encoder);
+    careless == (7, true) && before == 0 && whole == (3, true)
+}
+
+/// Writes parts that fit and one that is cut, and answers whether they count right.
+fn parts_are_counted(encoder: &mut BinEncoder<'_>) -> bool {
+    let whole = whole_parts_count(encoder);
     encoder.set_max_size(9);
     let cut = counted(&mut [4u16, 5, 6].iter(), encoder);
-    careless == (7, true) && before == 0 && whole == (3, true) && cut == (1, false)
+    whole && cut == (1, false)
 }
 
 /// Whether parts count right and are written so.
@@ -69,16 +75,20 @@ fn parts_count(rt: HostRuntime) {
     assert!(rt; parts_are_written(rt.alloc(), b"\x00\x01\x00\x02\x00\x03\x00\x04"));
 }
 
-/// Whether two numbers fit and the third, which doesn't, is taken; none of none, and none where no byte fits.
+/// Whether two numbers fit and the third, which doesn't, is taken.
 fn two_fit(numbers: &[u16], encoder: &mut BinEncoder<'_>) -> bool {
     let mut items = numbers.iter();
     encoder.set_max_size(5);
     let two = count_of(encoder.emit_all(&mut items));
-    let is_taken = items.len() == 0 && encoder.len() == 4;
+    two == (2, false) && items.len() == 0 && encoder.len() == 4
+}
+
+/// Whether none of no numbers are written, and none where no byte fits.
+fn none_fit(numbers: &[u16], encoder: &mut BinEncoder<'_>) -> bool {
     let none = count_of(encoder.emit_all(&mut [].iter() as &mut std::slice::Iter<'_, u16>));
     encoder.set_max_size(0);
     let without_room = count_of(encoder.emit_all(&mut numbers.iter()));
-    two == (2, false) && is_taken && none == (0, true) && without_room == (0, false)
+    none == (0, true) && without_room == (0, false)
 }
 
 /// Whether what fits of the numbers is written so.
@@ -86,8 +96,9 @@ fn fitting_are_written(alloc: Global, numbers: &[u16], wanted: &[u8]) -> bool {
     let mut bytes = Vec::new(alloc);
     let mut encoder = BinEncoder::new(&mut bytes);
     let two = two_fit(numbers, &mut encoder);
+    let none = none_fit(numbers, &mut encoder);
     drop(encoder);
-    let same = two && bytes.as_slice() == wanted;
+    let same = two && none && bytes.as_slice() == wanted;
     drop(bytes);
     same
 }
@@ -110,6 +121,15 @@ fn three_names(alloc: Global) -> Result<Vec<Name>, DecodeError> {
     Ok(names)
 }
 
+/// Names that are written again.
+const AGAIN: &[(Step, u8)] = &[
+    (Limit(1000), 0),
+    (Named(b"\x01d\x01e\0"), 0),
+    (Named(b"\x01d\x01e\0"), 0),
+    (Named(b"\x01c\x01b\0"), 0),
+    (Named(b"\x01e\0"), 0),
+];
+
 /// Whether the first two of the names fit behind as many others, and the bytes of the third are taken back: the suffixes
 /// that were stored with them are not pointed at when names are written again.
 fn write_again(alloc: Global, count: u8, names: &[Name], encoder: &mut BinEncoder<'_>) -> bool {
@@ -118,14 +138,7 @@ fn write_again(alloc: Global, count: u8, names: &[Name], encoder: &mut BinEncode
     let filled = are_taken(alloc, &letters, encoder);
     let two = count_of(encoder.emit_all(&mut names.iter()));
     let is_taken_back = encoder.len() == start + 9;
-    let again = [
-        (Limit(1000), 0),
-        (Named(b"\x01d\x01e\0"), 0),
-        (Named(b"\x01d\x01e\0"), 0),
-        (Named(b"\x01c\x01b\0"), 0),
-        (Named(b"\x01e\0"), 0),
-    ];
-    filled && two == (2, false) && is_taken_back && are_taken(alloc, &again, encoder)
+    filled && two == (2, false) && is_taken_back && are_taken(alloc, AGAIN, encoder)
 }
 
 /// Whether that is so, and what is written behind as many others ends so.

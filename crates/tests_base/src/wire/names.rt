@@ -1,6 +1,6 @@
 //! Names that are written: what is pointed at, and what isn't.
 
-use super::Step::{Bytes, Letters, Limit, Name, Plain, SizedName, SizedValue, Zeros};
+use super::Step::{self, Bytes, Letters, Limit, Name, Plain, SizedName, SizedValue, Zeros};
 use super::{Row, are_taken, leave};
 use base::BinEncoder;
 use std::alloc::Global;
@@ -176,17 +176,19 @@ fn rows_of_names(rt: HostRuntime) {
     }
 }
 
+/// A name that fits, and two that don't.
+const FIRST_ALONE: &[(Step, u8)] = &[
+    (Limit(8), 0),
+    (Name(AB), 0),
+    (Name(b"\x01c\x01b\0"), 1),
+    (Plain(AB), 1),
+];
+
 /// Whether a second name and a plain one are refused, where only the first fits in eight bytes, and no more are written.
 fn is_first_alone(alloc: Global) -> bool {
     let mut bytes = Vec::new(alloc);
     let mut encoder = BinEncoder::new(&mut bytes);
-    let steps = [
-        (Limit(8), 0),
-        (Name(AB), 0),
-        (Name(b"\x01c\x01b\0"), 1),
-        (Plain(AB), 1),
-    ];
-    let are_taken = are_taken(alloc, &steps, &mut encoder);
+    let are_taken = are_taken(alloc, FIRST_ALONE, &mut encoder);
     drop(encoder);
     let is_first = bytes.get(..5) == Some(AB) && bytes.len() <= 8;
     drop(bytes);

@@ -1,7 +1,7 @@
 //! Numbers that are written, and limits.
 
-use super::Step::{Byte, Bytes, Class, Limit, Type, U16, U32, Value};
-use super::{Row, leave, refusal};
+use super::Step::{self, Byte, Bytes, Class, Limit, Type, U16, U32, Value};
+use super::{Row, are_taken, leave, refusal};
 use base::{BinEncoder, DNSClass, ProtoError, RecordType};
 use std::alloc::{AllocError, Global};
 
@@ -40,18 +40,20 @@ fn rows_of_numbers(rt: HostRuntime) {
     }
 }
 
+/// Numbers of each width.
+const NUMBERS: &[(Step, u8)] = &[
+    (Byte(0x01), 0),
+    (U16(0x0203), 0),
+    (U32(0x0405_0607), 0),
+    (Bytes(&[8, 9]), 0),
+    (Value(0x0A0B), 0),
+];
+
 /// Whether the encoder is empty over what stands, and then as long as what is written.
 fn fill(alloc: Global, bytes: &mut Vec<u8>) -> bool {
     let mut encoder = BinEncoder::new(bytes);
     let empty = encoder.is_empty();
-    let steps = [
-        (Byte(0x01), 0),
-        (U16(0x0203), 0),
-        (U32(0x0405_0607), 0),
-        (Bytes(&[8, 9]), 0),
-        (Value(0x0A0B), 0),
-    ];
-    let taken = super::are_taken(alloc, &steps, &mut encoder);
+    let taken = are_taken(alloc, NUMBERS, &mut encoder);
     empty && taken && encoder.len() == 11
 }
 

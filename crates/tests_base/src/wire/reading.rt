@@ -15,36 +15,58 @@ fn is_cut<T: Drop>(answer: Result<T, DecodeError>) -> bool {
     is_cut
 }
 
-/// A byte, numbers of two, four and two bytes, and then nothing more.
-#[test]
-fn numbers_are_read_high_byte_first(rt: HostRuntime) -> Result<(), DecodeError> {
-    let numbers = [1, 2, 3, 4, 5, 6, 7, 8, 9];
-    let mut decoder = BinDecoder::new(rt.alloc(), &numbers);
-    assert!(rt; decoder.len() == 9);
-    assert!(rt; decoder.pop()? == 1);
-    assert!(rt; decoder.read_u16()? == 0x0203);
-    assert!(rt; decoder.read_u32()? == 0x0405_0607);
-    assert!(rt; decoder.index() == 7);
-    assert!(rt; u16::read(&mut decoder)? == 0x0809);
-    assert!(rt; decoder.is_empty());
-    assert!(rt; is_cut(decoder.pop()));
-    assert!(rt; is_cut(BinDecoder::new(rt.alloc(), &[1]).read_u16()));
-    assert!(rt; is_cut(BinDecoder::new(rt.alloc(), &[1, 2, 3]).read_u32()));
-    assert!(rt; is_cut(BinDecoder::new(rt.alloc(), &[]).pop()));
-    Ok(())
+/// Whether a value was read, and is this.
+fn is_this<T: PartialEq + Drop>(read: Result<T, DecodeError>, wanted: &T) -> bool {
+    let same = match &read {
+        Ok(value) => *value == *wanted,
+        Err(_) => false,
+    };
+    drop(read);
+    same
+}
+
+/// Whether a number of one byte, of two and of four are read, in this order.
+fn each_is_read(decoder: &mut BinDecoder<'_>) -> bool {
+    let one = is_this(decoder.pop(), &1);
+    let two = is_this(decoder.read_u16(), &0x0203);
+    let four = is_this(decoder.read_u32(), &0x0405_0607);
+    one && two && four
 }
 
 #[test]
-fn types_and_classes_of_numbers(rt: HostRuntime) -> Result<(), DecodeError> {
+fn numbers_are_read_high_byte_first(rt: HostRuntime) {
+    let mut decoder = BinDecoder::new(rt.alloc(), &[1, 2, 3, 4, 5, 6, 7, 8, 9]);
+    assert!(rt; decoder.len() == 9);
+    assert!(rt; each_is_read(&mut decoder));
+    assert!(rt; decoder.index() == 7);
+    assert!(rt; is_this(u16::read(&mut decoder), &0x0809));
+    assert!(rt; decoder.is_empty());
+    assert!(rt; is_cut(decoder.pop()));
+}
+
+/// Whether each number is cut by the end of bytes that are one too few.
+fn each_is_cut(alloc: Global) -> bool {
+    let one = is_cut(BinDecoder::new(alloc, &[]).pop());
+    let two = is_cut(BinDecoder::new(alloc, &[1]).read_u16());
+    let four = is_cut(BinDecoder::new(alloc, &[1, 2, 3]).read_u32());
+    one && two && four
+}
+
+#[test]
+fn a_number_that_the_end_cuts_is_refused(rt: HostRuntime) {
+    assert!(rt; each_is_cut(rt.alloc()));
+}
+
+#[test]
+fn types_and_classes_of_numbers(rt: HostRuntime) {
     let bytes = b"\x00\x0F\xFF\x19\x03\xE8\x00\x01\x04\xD0";
     let mut decoder = BinDecoder::new(rt.alloc(), bytes.as_slice());
-    assert!(rt; RecordType::read(&mut decoder)? == RecordType::MX);
-    assert!(rt; RecordType::read(&mut decoder)? == RecordType::ANAME);
-    assert!(rt; RecordType::read(&mut decoder)? == RecordType::Unknown(1000));
-    assert!(rt; DNSClass::read(&mut decoder)? == DNSClass::IN);
-    assert!(rt; DNSClass::read(&mut decoder)? == DNSClass::Unknown(1232));
+    assert!(rt; is_this(RecordType::read(&mut decoder), &RecordType::MX));
+    assert!(rt; is_this(RecordType::read(&mut decoder), &RecordType::ANAME));
+    assert!(rt; is_this(RecordType::read(&mut decoder), &RecordType::Unknown(1000)));
+    assert!(rt; is_this(DNSClass::read(&mut decoder), &DNSClass::IN));
+    assert!(rt; is_this(DNSClass::read(&mut decoder), &DNSClass::Unknown(1232)));
     assert!(rt; is_cut(DNSClass::read(&mut decoder)));
-    Ok(())
 }
 
 /// Whether as many numbers as these are read, and are these.

@@ -73,12 +73,13 @@ fn is_data<R: RecordData, E: Drop>(
     }
 }
 
-fn null(alloc: Global, bytes: &[u8]) -> Result<NULL, AllocError> {
+/// These bytes as data.
+pub(super) fn null(alloc: Global, bytes: &[u8]) -> Result<NULL, AllocError> {
     Ok(NULL::new(Vec::from_slice(alloc, bytes)?))
 }
 
 /// A signature of one byte.
-fn signature(alloc: Global, byte: u8) -> Result<TSIG, AllocError> {
+pub(super) fn signature(alloc: Global, byte: u8) -> Result<TSIG, AllocError> {
     Ok(TSIG::new(vec![in alloc; byte]?))
 }
 

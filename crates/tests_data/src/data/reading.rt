@@ -1,10 +1,10 @@
 //! Data that is read, of so many bytes.
 
 use super::Datum::{self, Carried, Empty, Text, Wire};
-use super::kinds::holds;
+use super::kinds::{holds, null, signature};
 use super::made;
 use base::{BinDecodable, BinDecoder, DecodeError, RecordType};
-use base_data::{A, NULL, RData, RecordData, SRV, TSIG};
+use base_data::{A, RData, RecordData, SRV};
 use std::alloc::{AllocError, Global};
 use std::net::Ipv4Addr;
 use std::test::Fail;
@@ -188,14 +188,6 @@ fn is_next<R: RecordData>(
         }
         Err(_) => false,
     }
-}
-
-fn null(alloc: Global, bytes: &[u8]) -> Result<NULL, AllocError> {
-    Ok(NULL::new(Vec::from_slice(alloc, bytes)?))
-}
-
-fn signature(alloc: Global, byte: u8) -> Result<TSIG, AllocError> {
-    Ok(TSIG::new(vec![in alloc; byte]?))
 }
 
 #[test]

@@ -1,3 +1,5 @@
+//! Headers on the wire.
+
 use base::{BinEncodable, BinEncoder, DecodeError, EncodedSize, ProtoError};
 use op::{Header, HeaderCounts, MessageType, Metadata, OpCode, ResponseCode};
 use std::alloc::Global;
@@ -23,83 +25,65 @@ fn header() -> Header {
     }
 }
 
-#[test]
-fn a_header_is_read_and_written_as_the_same_bytes(rt: HostRuntime) {
-    assert!(rt; is_read_as(rt.alloc(), &BYTES, &header()));
-    assert!(rt; is_read_to::<Header>(rt.alloc(), &BYTES, 12));
-    assert!(rt; is_written_back::<Header>(rt.alloc(), &BYTES));
-    assert!(rt; is_filled_as(&header(), &BYTES));
-}
-
-#[test]
-fn eleven_bytes_are_no_header(rt: HostRuntime) {
-    for len in 0..12usize {
-        assert!(rt; is_cut::<Header>(rt.alloc(), &BYTES[..len]), "{len}");
-    }
-}
-
 // Whether the header's bytes are these.
 fn is_filled_as(header: &Header, bytes: &[u8; 12]) -> bool {
     header.to_bytes().as_slice() == bytes.as_slice()
 }
 
-// Whether a header with these two bytes of codes and flags has this text, and is written as the same bytes.
-fn is_shown_as(alloc: Global, high: u8, low: u8, text: &str) -> bool {
+// Whether a header with these two bytes of codes and flags has this text, and is written with these.
+fn is_shown_as(alloc: Global, (high, low): (u8, u8), again: (u8, u8), text: &str) -> bool {
     let bytes = [0, 0, high, low, 0, 0, 0, 0, 0, 0, 0, 0];
+    let written = [0, 0, again.0, again.1, 0, 0, 0, 0, 0, 0, 0, 0];
     let found: Result<Header, DecodeError> = read(alloc, &bytes);
     let is_shown = match &found {
-        Ok(found) => is_filled_as(found, &bytes) && has_text(alloc, &found.metadata, text),
+        Ok(found) => is_filled_as(found, &written) && has_text(alloc, &found.metadata, text),
         Err(_) => false,
     };
     drop(found);
     is_shown
 }
 
+// The bytes of codes and flags, and the text of the header.
+const FLAGS: &[(u8, u8, &'static str)] = &[
+    (0x80, 0x00, "0:RESPONSE::NoError:QUERY"),
+    (0x04, 0x00, "0:QUERY:AA:NoError:QUERY"),
+    (0x02, 0x00, "0:QUERY:TC:NoError:QUERY"),
+    (0x01, 0x00, "0:QUERY:RD:NoError:QUERY"),
+    (0x00, 0x80, "0:QUERY:RA:NoError:QUERY"),
+    (0x00, 0x20, "0:QUERY:AD:NoError:QUERY"),
+    (0x00, 0x10, "0:QUERY:CD:NoError:QUERY"),
+    (0x10, 0x00, "0:QUERY::NoError:STATUS"),
+    (0x20, 0x00, "0:QUERY::NoError:NOTIFY"),
+    (0x00, 0x05, "0:QUERY::Refused:QUERY"),
+];
+
 #[test]
-fn each_flag_has_its_bit(rt: HostRuntime) {
-    for &(high, low, text) in &[
-        (0x80, 0x00, "0:RESPONSE::NoError:QUERY"),
-        (0x04, 0x00, "0:QUERY:AA:NoError:QUERY"),
-        (0x02, 0x00, "0:QUERY:TC:NoError:QUERY"),
-        (0x01, 0x00, "0:QUERY:RD:NoError:QUERY"),
-        (0x00, 0x80, "0:QUERY:RA:NoError:QUERY"),
-        (0x00, 0x20, "0:QUERY:AD:NoError:QUERY"),
-        (0x00, 0x10, "0:QUERY:CD:NoError:QUERY"),
-        (0x10, 0x00, "0:QUERY::NoError:STATUS"),
-        (0x20, 0x00, "0:QUERY::NoError:NOTIFY"),
-        (0x00, 0x05, "0:QUERY::Refused:QUERY"),
-    ] {
-        assert!(rt; is_shown_as(rt.alloc(), high, low, text), "{text}");
+fn headers_on_the_wire(rt: HostRuntime) {
+    assert!(rt; is_read_as(rt.alloc(), &BYTES, &header()));
+    assert!(rt; is_read_to::<Header>(rt.alloc(), &BYTES, 12));
+    assert!(rt; is_written_back::<Header>(rt.alloc(), &BYTES));
+    assert!(rt; is_filled_as(&header(), &BYTES));
+    assert!(rt; Header::LEN == 12);
+    for len in 0..12usize {
+        assert!(rt; is_cut::<Header>(rt.alloc(), &BYTES[..len]), "{len}");
     }
-}
-
-// Whether the header of these bytes has those.
-fn is_filled_again(alloc: Global, bytes: &[u8], again: &[u8; 12]) -> bool {
-    let found: Result<Header, DecodeError> = read(alloc, bytes);
-    let is_filled = match &found {
-        Ok(found) => is_filled_as(found, again),
-        Err(_) => false,
-    };
-    drop(found);
-    is_filled
-}
-
-#[test]
-fn the_reserved_bit_is_dropped(rt: HostRuntime) {
-    let bytes = [0, 0, 0, 0x40, 0, 0, 0, 0, 0, 0, 0, 0];
-    assert!(rt; is_filled_again(rt.alloc(), &bytes, &[0; 12]));
-}
-
-#[test]
-fn large_codes_are_cut(rt: HostRuntime) {
+    for &(high, low, text) in FLAGS {
+        assert!(rt;
+            is_shown_as(rt.alloc(), (high, low), (high, low), text),
+            "{text}"
+        );
+    }
+    // the reserved bit is dropped
+    let text = "0:QUERY::NoError:QUERY";
+    assert!(rt; is_shown_as(rt.alloc(), (0, 0x40), (0, 0), text));
+    // large codes are cut
     let mut metadata = Metadata::new(0, MessageType::Query, OpCode::Unknown(16));
     metadata.response_code = ResponseCode::BADVERS;
     let large = Header {
         metadata,
         counts: HeaderCounts::default(),
     };
-    let written = [0, 0, 0x80, 0, 0, 0, 0, 0, 0, 0, 0, 0];
-    assert!(rt; is_filled_as(&large, &written));
+    assert!(rt; is_filled_as(&large, &[0, 0, 0x80, 0, 0, 0, 0, 0, 0, 0, 0, 0]));
 }
 
 // Whether no header is written behind thirteen bytes of twenty-four, and none of its bytes.
@@ -136,5 +120,4 @@ fn is_filled_in(alloc: Global) -> bool {
 #[test]
 fn a_header_fills_its_room_or_is_refused(rt: HostRuntime) {
     assert!(rt; is_filled_in(rt.alloc()));
-    assert!(rt; Header::LEN == 12);
 }

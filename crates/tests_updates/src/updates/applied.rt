@@ -43,20 +43,19 @@ fn addresses_after(alloc: Global, change: &str) -> Result<Option<(u32, usize)>, 
     Ok(sets.get(&key).map(|set| (set.ttl(), set.records_count())))
 }
 
+/// The TTL of a set is that of its last record: where an address is deleted, and where one is added or given anew.
 #[test]
-fn a_set_that_is_left_has_the_ttl_of_its_last_record(rt: HostRuntime) -> Result<(), Fail> {
-    let first = addresses_after(rt.alloc(), " 00FE 00000000 0004 C0000201")?;
-    assert!(rt; first == Some((600, 1)));
-    let second = addresses_after(rt.alloc(), " 00FE 00000000 0004 C0000202")?;
-    assert!(rt; second == Some((300, 1)));
-    Ok(())
-}
-
-#[test]
-fn an_added_record_gives_its_ttl_where_it_stands_last(rt: HostRuntime) -> Result<(), Fail> {
-    let third = addresses_after(rt.alloc(), " 0001 0000003C 0004 C0000203")?;
-    assert!(rt; third == Some((60, 3)));
-    let again = addresses_after(rt.alloc(), " 0001 0000003C 0004 C0000201")?;
-    assert!(rt; again == Some((600, 2)));
+fn a_set_has_the_ttl_of_its_last_record(rt: HostRuntime) -> Result<(), Fail> {
+    for &(change, wanted) in &[
+        (" 00FE 00000000 0004 C0000201", (600, 1)),
+        (" 00FE 00000000 0004 C0000202", (300, 1)),
+        (" 0001 0000003C 0004 C0000203", (60, 3)),
+        (" 0001 0000003C 0004 C0000201", (600, 2)),
+    ] {
+        assert!(rt;
+            addresses_after(rt.alloc(), change)? == Some(wanted),
+            "{change}"
+        );
+    }
     Ok(())
 }

@@ -17,12 +17,6 @@ pub(crate) fn created(alloc: Global) -> Result<Message, Fail> {
     Ok(create(alloc, 1, set, origin, true)?)
 }
 
-#[test]
-fn a_set_is_created(rt: HostRuntime) -> Result<(), Fail> {
-    assert!(rt; is_sent_as(rt.alloc(), created(rt.alloc())?, CREATED));
-    Ok(())
-}
-
 pub(crate) const APPENDED: &[u8] =
     b"\x00\x03\x28\x00\x00\x01\x00\x01\x00\x01\x00\x00\x07example\x00\x00\x06\x00\x01\x03www\xC0\x0C\x00\x01\x00\xFF\x00\x00\x00\x00\x00\x00\
       \xC0\x19\x00\x01\x00\x01\x00\x00\x00\x3C\x00\x04\xC0\x00\x02\x01";
@@ -30,13 +24,6 @@ pub(crate) const APPENDED: &[u8] =
 pub(crate) fn appended(alloc: Global) -> Result<Message, Fail> {
     let (origin, set) = zone_and_addresses(alloc, 60, 1)?;
     Ok(append(alloc, 3, set, origin, true, false)?)
-}
-
-#[test]
-fn a_set_that_exists_gets_more_records(rt: HostRuntime) -> Result<(), Fail> {
-    assert!(rt; APPENDED.len() == 57);
-    assert!(rt; is_sent_as(rt.alloc(), appended(rt.alloc())?, APPENDED));
-    Ok(())
 }
 
 pub(crate) const SWAPPED: &[u8] =
@@ -59,25 +46,12 @@ pub(crate) fn swapped(alloc: Global) -> Result<Message, Fail> {
     }
 }
 
-#[test]
-fn a_set_is_swapped_for_another(rt: HostRuntime) -> Result<(), Fail> {
-    assert!(rt; SWAPPED.len() == 93);
-    assert!(rt; is_sent_as(rt.alloc(), swapped(rt.alloc())?, SWAPPED));
-    Ok(())
-}
-
 pub(crate) const WITHOUT_DATA: &[u8] =
     b"\x00\x04\x28\x00\x00\x01\x00\x00\x00\x01\x00\x00\x07example\x00\x00\x06\x00\x01\x03www\xC0\x0C\x00\x01\x00\xFE\x00\x00\x00\x00\x00\x04\xC0\x00\x02\x01";
 
 pub(crate) fn without_data(alloc: Global) -> Result<Message, Fail> {
     let (origin, set) = zone_and_addresses(alloc, 60, 1)?;
     Ok(delete_by_rdata(alloc, 4, set, origin, false)?)
-}
-
-#[test]
-fn data_is_deleted(rt: HostRuntime) -> Result<(), Fail> {
-    assert!(rt; is_sent_as(rt.alloc(), without_data(rt.alloc())?, WITHOUT_DATA));
-    Ok(())
 }
 
 pub(crate) const WITHOUT_SET: &[u8] =
@@ -90,12 +64,6 @@ pub(crate) fn without_set(alloc: Global) -> Result<Message, Fail> {
         return Ok(delete_rrset(alloc, 5, gone, origin, false)?);
     }
     Err(base::ProtoError::Message("a record outside the zone").into())
-}
-
-#[test]
-fn a_set_is_deleted(rt: HostRuntime) -> Result<(), Fail> {
-    assert!(rt; is_sent_as(rt.alloc(), without_set(rt.alloc())?, WITHOUT_SET));
-    Ok(())
 }
 
 pub(crate) const WITHOUT_NAME: &[u8] =
@@ -112,14 +80,16 @@ pub(crate) fn without_name(alloc: Global, owner: &str) -> Result<Message, Fail> 
 }
 
 #[test]
-fn a_name_is_deleted(rt: HostRuntime) -> Result<(), Fail> {
-    assert!(rt;
-        is_sent_as(
-            rt.alloc(),
-            without_name(rt.alloc(), "example.")?,
-            WITHOUT_NAME
-        )
-    );
+fn updates_as_they_are_sent(rt: HostRuntime) -> Result<(), Fail> {
+    let alloc = rt.alloc();
+    assert!(rt; is_sent_as(alloc, created(alloc)?, CREATED));
+    assert!(rt; APPENDED.len() == 57);
+    assert!(rt; is_sent_as(alloc, appended(alloc)?, APPENDED));
+    assert!(rt; SWAPPED.len() == 93);
+    assert!(rt; is_sent_as(alloc, swapped(alloc)?, SWAPPED));
+    assert!(rt; is_sent_as(alloc, without_data(alloc)?, WITHOUT_DATA));
+    assert!(rt; is_sent_as(alloc, without_set(alloc)?, WITHOUT_SET));
+    assert!(rt; is_sent_as(alloc, without_name(alloc, "example.")?, WITHOUT_NAME));
     Ok(())
 }
 

@@ -10,14 +10,6 @@ fn whole(alloc: Global) -> Result<Message, Fail> {
     Ok(zone_transfer(alloc, 6, name(alloc, "example.")?, None)?)
 }
 
-#[test]
-fn the_question_for_a_whole_zone(rt: HostRuntime) -> Result<(), Fail> {
-    let wire =
-        b"\x00\x06\x00\x00\x00\x01\x00\x00\x00\x00\x00\x01\x07example\x00\x00\xFC\x00\x01\x00\x00\x29\x04\xD0\x00\x00\x00\x00\x00\x00";
-    assert!(rt; is_sent_as(rt.alloc(), whole(rt.alloc())?, wire));
-    Ok(())
-}
-
 fn start(alloc: Global) -> Result<SOA, Fail> {
     let server = name(alloc, "ns.example.")?;
     match name(alloc, "hostmaster.example.") {
@@ -42,7 +34,10 @@ fn changes(alloc: Global) -> Result<Message, Fail> {
 }
 
 #[test]
-fn the_question_for_what_changed_in_a_zone(rt: HostRuntime) -> Result<(), Fail> {
+fn questions_for_transfers(rt: HostRuntime) -> Result<(), Fail> {
+    let wire =
+        b"\x00\x06\x00\x00\x00\x01\x00\x00\x00\x00\x00\x01\x07example\x00\x00\xFC\x00\x01\x00\x00\x29\x04\xD0\x00\x00\x00\x00\x00\x00";
+    assert!(rt; is_sent_as(rt.alloc(), whole(rt.alloc())?, wire));
     let wire = b"\x00\x06\x00\x00\x00\x01\x00\x00\x00\x01\x00\x01\x07example\x00\x00\xFB\x00\x01\
           \xC0\x0C\x00\x06\x00\x01\x00\x00\x00\x00\x00\x26\x02ns\xC0\x0C\x0Ahostmaster\xC0\x0C\x00\x00\x00\x01\x00\x00\x1C\x20\x00\x00\x0E\x10\x00\x12\x75\x00\x00\x00\x01\x2C\
           \x00\x00\x29\x04\xD0\x00\x00\x00\x00\x00\x00";

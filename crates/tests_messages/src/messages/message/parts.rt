@@ -5,8 +5,9 @@ use base::{DNSClass, Name, RecordType};
 use base_data::RData;
 use op::{Edns, Message, OpCode, Query};
 use rr::Record;
-use std::alloc::{AllocError, Global};
+use std::alloc::Global;
 use std::test::Fail;
+use test_tools::bytes::decoded;
 use test_tools::forms::are_bytes;
 
 // A response with a question, an answer, an additional record, EDNS with an option, and a signature.
@@ -19,10 +20,10 @@ const SIGNED: &str = "000780000001000100000003\
     0000fa00ff000000000001aa";
 
 pub(crate) fn signed(alloc: Global) -> Result<Message, Fail> {
-    let Ok(bytes) = hex::decode(alloc, SIGNED) else {
-        return Err(AllocError.into());
-    };
-    Ok(Message::from_vec(alloc, &bytes)?)
+    let bytes = decoded(alloc, SIGNED)?;
+    let message = Message::from_vec(alloc, &bytes);
+    drop(bytes);
+    Ok(message?)
 }
 
 // The bytes of the message without its records and its signature.
