@@ -1,4 +1,4 @@
-use Rattle.std.proofs.Common.{rules, ◌≡◌, ◌≢◌, List, ℕ, Bool, false, refl}
+use Rattle.std.proofs.Common.{rules, ◌≡◌, ◌≢◌, List, ℕ, false, refl}
 use Rattle.base_data.specs.RData.{is_signature_data}
 use Rattle.base_data.specs.declared.rdata.RData.{RData}
 use Rattle.base_data.specs.declared.rdata.RData.TheVariants as kinds

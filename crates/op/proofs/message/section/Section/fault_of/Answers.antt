@@ -1,6 +1,5 @@
-use Rattle.std.proofs.Common.{rules, arith, ◌≡◌, Bool, false, not, ◌&&◌, ◌||◌, None, refl}
+use Rattle.std.proofs.Common.{rules, ◌≡◌, Bool, false, not, ◌&&◌, ◌||◌, None, refl}
 use Rattle.std.specs.Option.{is_some}
-use Rattle.std.proofs.lemmas.Grind.{common_steps}
 use Rattle.base_data.specs.RData.{is_empty_data}
 use Rattle.base_data.specs.declared.rdata.RData.{RData}
 use Rattle.rr.specs.declared.record.Record.{Record}
