@@ -39,7 +39,7 @@ fn a_deletion_of_data_is_built(rt: HostRuntime) -> Result<(), Fail> {
 
 #[test]
 fn a_deletion_of_a_set_is_built(rt: HostRuntime) -> Result<(), Fail> {
-    assert!(rt; is_sent_as(without_set(rt.alloc()), WITHOUT_SET)?);
+    assert!(rt; is_sent_as(without_set(rt.alloc(), false), WITHOUT_SET)?);
     Ok(())
 }
 

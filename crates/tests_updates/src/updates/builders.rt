@@ -57,14 +57,19 @@ pub(crate) fn without_data(alloc: Global) -> Result<Message, Fail> {
 pub(crate) const WITHOUT_SET: &[u8] =
     b"\x00\x05\x28\x00\x00\x01\x00\x00\x00\x01\x00\x00\x07example\x00\x00\x06\x00\x01\x03www\xC0\x0C\x00\x01\x00\xFF\x00\x00\x00\x00\x00\x00";
 
-pub(crate) fn without_set(alloc: Global) -> Result<Message, Fail> {
-    let gone = host(alloc, 60, 1)?;
+pub(crate) fn without_set(alloc: Global, flush: bool) -> Result<Message, Fail> {
+    let mut gone = host(alloc, 60, 1)?;
+    gone.mdns_cache_flush = flush;
     let origin = name(alloc, "example.")?;
     if origin.zone_of(&gone.name) {
         return Ok(delete_rrset(alloc, 5, gone, origin, false)?);
     }
     Err(base::ProtoError::Message("a record outside the zone").into())
 }
+
+// The same of a record with the cache-flush bit.
+const WITHOUT_FLUSHED_SET: &[u8] =
+    b"\x00\x05\x28\x00\x00\x01\x00\x00\x00\x01\x00\x00\x07example\x00\x00\x06\x00\x01\x03www\xC0\x0C\x00\x01\x80\xFF\x00\x00\x00\x00\x00\x00";
 
 pub(crate) const WITHOUT_NAME: &[u8] =
     b"\x00\x02\x28\x00\x00\x01\x00\x00\x00\x01\x00\x00\x07example\x00\x00\x06\x00\x01\xC0\x0C\x00\xFF\x00\xFF\x00\x00\x00\x00\x00\x00";
@@ -88,7 +93,8 @@ fn updates_as_they_are_sent(rt: HostRuntime) -> Result<(), Fail> {
     assert!(rt; SWAPPED.len() == 93);
     assert!(rt; is_sent_as(alloc, swapped(alloc)?, SWAPPED));
     assert!(rt; is_sent_as(alloc, without_data(alloc)?, WITHOUT_DATA));
-    assert!(rt; is_sent_as(alloc, without_set(alloc)?, WITHOUT_SET));
+    assert!(rt; is_sent_as(alloc, without_set(alloc, false)?, WITHOUT_SET));
+    assert!(rt; is_sent_as(alloc, without_set(alloc, true)?, WITHOUT_FLUSHED_SET));
     assert!(rt; is_sent_as(alloc, without_name(alloc, "example.")?, WITHOUT_NAME));
     Ok(())
 }
