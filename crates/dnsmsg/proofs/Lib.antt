@@ -1,9 +1,8 @@
 mod AppliedLines
 mod ApplyLemmas
-mod CallerLemmas
 mod CutLemmas
+mod InputLemmas
 mod LimitLemmas
 mod RunLemmas
 mod WordLemmas
-pub mod SetCalls
 pub mod ZoneLemmas

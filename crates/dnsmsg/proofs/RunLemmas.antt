@@ -1,11 +1,11 @@
 -- What a run of the program gives.
-use Rattle.std.proofs.Common.{◌≡◌, ◌⊎◌, ℕ, ◌≤◌, List, ap, sym, ◌∙◌, subst, inl, inr, [], ◌++◌, arith, Option, Some, None, Ok, Err}
+use Rattle.std.proofs.Common.{◌≡◌, ◌⊎◌, ℕ, ◌≤◌, List, ap, sym, ◌∙◌, subst, inl, inr, refl, arith, Option, Some, None, Ok, Err}
 use Rattle.std.specs.Prelude.{IfSome, String, ◌≢◌}
 use Rattle.std.specs.String.{string_bytes}
 use Rattle.std.specs.declared.alloc.Global.{Global}
 use Rattle.dnsmsg.specs.Answer.{Answer, IsAnswered, IsGivenBy, IsPrinted, broken, done, refused, usage}
 use Rattle.dnsmsg.specs.ApplyCommand.{apply_answer}
-use Rattle.dnsmsg.specs.Command.{CommandAnswers, IsGiven}
+use Rattle.dnsmsg.specs.Command.{CommandAnswers, Gives, IsGiven, IsRefused, refused_word}
 use Rattle.dnsmsg.specs.CutCommand.{IsCutAnswer}
 use Rattle.dnsmsg.specs.HeaderCommand.{header_answer}
 use Rattle.dnsmsg.specs.ReadCommand.{read_answer}
@@ -15,6 +15,8 @@ use Rattle.dnsmsg.specs.ZoneWords.{behind_origin}
 use Rattle.dnsmsg.specs.declared.command.Command.{Command}
 use Rattle.dnsmsg.specs.declared.command.Command.TheVariants as commands
 use Rattle.dnsmsg.specs.declared.command.MessageCommand.TheVariants as messages
+use Rattle.dnsmsg.specs.declared.refusal.Failure.{Failure}
+use Rattle.dnsmsg.specs.declared.refusal.Failure.TheVariants as failures
 use Rattle.dnsmsg.specs.declared.refusal.Refusal.{Refusal}
 
 pub some_and_none : {Y : Type 0} (command : Command) (words : Option Command) → Some command ≡ words → words ≡ None → Y
@@ -25,19 +27,14 @@ same_command a b words named is = some_once (named ∙ is) where
   some_once : Some a ≡ Some b → a ≡ b
   some_once h = cc
 
--- the text that was read is all that remained
-pub read_is_all : (remaining : Option (List ℕ)) (text read start : List ℕ) → IfSome remaining (λ xs. read ≡ start ++ xs) → start ≡ [] → text ≡ read → IfSome remaining (λ input. text ≡ input)
-read_is_all None text read start holds empty taken = tt
-read_is_all (Some xs) text read start holds empty taken = taken ∙ holds ∙ ap (λ ys. ys ++ xs) empty
+-- what holds of what remained holds, if one follows from the other, and if it holds of any
+each : {X : Type 0} {P Q : X → Type 0} (remaining : Option X) → ((x : X) → P x → Q x) → IfSome remaining P → IfSome remaining Q
+each None then here = tt
+each (Some x) then here = then x here
 
--- what holds of the text that was read holds of what remained
-of_all : (P : List ℕ → Type 0) (remaining : Option (List ℕ)) (text : List ℕ) → IfSome remaining (λ input. text ≡ input) → P text → IfSome remaining P
-of_all P None text same here = tt
-of_all P (Some xs) text same here = subst P same here
-
-of_any : (P : List ℕ → Type 0) (remaining : Option (List ℕ)) → ((input : List ℕ) → P input) → IfSome remaining P
-of_any P None every = tt
-of_any P (Some xs) every = every xs
+every : {X : Type 0} {P : X → Type 0} (remaining : Option X) → ((x : X) → P x) → IfSome remaining P
+every None here = tt
+every (Some x) here = here x
 
 module _ (status : ℕ) (old new : Option (List ℕ)) where
   pub given : (answer : Answer) → (status ≡ 3) ⊎ IsPrinted answer status old new → status ≢ broken → IsPrinted answer status old new
@@ -102,18 +99,31 @@ module _ (status : ℕ) (old new : Option (List ℕ)) (words : List (List ℕ)) 
 -- what was printed answers what remained of the input
 module _ (status : ℕ) (old new remaining : Option (List ℕ)) (words : List (List ℕ)) (command : Command) where
   pub memory_given : (status ≡ 3) ⊎ IsPrinted (refused 3) status old new → status ≢ broken → IfSome remaining (λ input. IsGiven command words input status old new)
-  memory_given printed whole = of_any (λ input. IsGiven command words input status old new) remaining
-      (λ input. memory_answers status old new words input command (given status old new (refused 3) printed whole))
+  memory_given printed whole = every remaining (λ input. memory_answers status old new words input command (given status old new (refused 3) printed whole))
 
-  module _ (text : List ℕ) (all : IfSome remaining (λ input. text ≡ input)) where
-    pub lines_given : (lines : String Global) (shown : List ℕ) → CommandAnswers command words text (Ok lines) → shown ≡ string_bytes lines
-        → (status ≡ 3) ⊎ IsPrinted (done shown) status old new → status ≢ broken → IfSome remaining (λ input. IsGiven command words input status old new)
-    lines_given lines shown says same printed whole =
-        of_all (λ input. IsGiven command words input status old new) remaining text all
-        (lines_answer status old new words text command lines says (subst (λ line. IsPrinted (done line) status old new) same (given status old new (done shown) printed whole)))
+  pub lines_given : (lines : String Global) (shown : List ℕ) → Gives command words remaining (Ok lines) → shown ≡ string_bytes lines
+      → (status ≡ 3) ⊎ IsPrinted (done shown) status old new → status ≢ broken → IfSome remaining (λ input. IsGiven command words input status old new)
+  lines_given lines shown says same printed whole =
+      each remaining (λ input here. lines_answer status old new words input command lines here
+      (subst (λ line. IsPrinted (done line) status old new) same (given status old new (done shown) printed whole))) says
 
-    pub refusal_given : (refusal : Refusal) (number : ℕ) → CommandAnswers command words text (Err refusal) → number ≡ refusal_number refusal
-        → (status ≡ 3) ⊎ IsPrinted (refused number) status old new → status ≢ broken → IfSome remaining (λ input. IsGiven command words input status old new)
-    refusal_given refusal number says same printed whole =
-        of_all (λ input. IsGiven command words input status old new) remaining text all
-        (refusal_answers status old new words text command refusal says (subst (λ n. IsPrinted (refused n) status old new) same (given status old new (refused number) printed whole)))
+  pub refusal_given : (e : Failure) (refusal : Refusal) (number : ℕ) → Gives command words remaining (Err e) → e ≡ failures.Refused refusal → number ≡ refusal_number refusal
+      → (status ≡ 3) ⊎ IsPrinted (refused number) status old new → status ≢ broken → IfSome remaining (λ input. IsGiven command words input status old new)
+  refusal_given e refusal number says is same printed whole =
+      each remaining (λ input here. refusal_answers status old new words input command refusal here
+      (subst (λ n. IsPrinted (refused n) status old new) same (given status old new (refused number) printed whole)))
+      (subst (λ f. Gives command words remaining (Err f)) is says)
+
+-- what was printed answers words that are refused before the input is read
+module _ (S : Type 0) (status : ℕ) (old new : Option (List ℕ)) (words : List (List ℕ)) (command : Command) where
+  told : (n number : ℕ) (refusal : Refusal) → number ≡ refusal_number refusal → IsRefused n (Err (failures.Refused refusal)) → IsPrinted (refused number) status old new
+      → IsAnswered (refused n) status old new
+  told n number refusal same (inl memory) shown = inr (subst (λ m. IsPrinted (refused m) status old new) (same ∙ memory) shown)
+  told n number refusal same (inr is) shown = inl (subst (λ m. IsPrinted (refused m) status old new) (same ∙ is) shown)
+
+  pub refusal_judged : (e : Failure) (refusal : Refusal) (number : ℕ) → IfSome (refused_word command words) (λ n. S × IsRefused n (Err e))
+      → e ≡ failures.Refused refusal → number ≡ refusal_number refusal → (status ≡ 3) ⊎ IsPrinted (refused number) status old new
+      → IfSome (refused_word command words) (λ n. S × (status ≢ broken → IsAnswered (refused n) status old new))
+  refusal_judged e refusal number says is same printed =
+      each (refused_word command words) (λ n here. (here.0, λ whole. told n number refusal same here.1 (given status old new (refused number) printed whole)))
+      (subst (λ f. IfSome (refused_word command words) (λ n. S × IsRefused n (Err f))) is says)

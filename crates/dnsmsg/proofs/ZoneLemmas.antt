@@ -19,7 +19,8 @@ use Rattle.txt.specs.Steps.{texts_in}
 use Rattle.txt.specs.Zone.{Texts, zone_of}
 use Rattle.txt.specs.ZoneSets.{ZoneSets}
 use Rattle.dnsmsg.specs.Answer.{Answer, refused}
-use Rattle.dnsmsg.specs.ZoneCommand.{answer_to_zone, fault_number, is_equals, or_else, text_in, text_named, zone_answer}
+use Rattle.parsed_zone.specs.Faults.{fault_number}
+use Rattle.dnsmsg.specs.ZoneCommand.{answer_to_zone, is_equals, or_else, text_in, text_named, zone_answer}
 
 else_none : (text : Option (List ℕ)) → text ≡ or_else text None
 else_none None = refl

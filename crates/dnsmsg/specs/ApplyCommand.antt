@@ -1,8 +1,7 @@
 -- What the command `apply` prints.
 use Rattle.std.specs.FinMap as fin
-use Rattle.std.specs.List.{flat_map, list_all}
-use Rattle.std.specs.Map.{values_of}
-use Rattle.std.specs.Prelude.{Bool, Err, List, None, Ok, Option, Result, Some, [], false, if◌then◌else◌, true, ℕ, ◌&&◌, ◌++◌, ◌∷◌}
+use Rattle.std.specs.List.{flat_map}
+use Rattle.std.specs.Prelude.{Err, List, None, Ok, Option, Result, Some, [], if◌then◌else◌, ℕ, ◌++◌, ◌∷◌}
 use Rattle.std.specs.Str.{is_utf8}
 use Rattle.hex.specs.declared.error.FromHexError.{FromHexError}
 use Rattle.base.specs.DecodeError.{decode_number}
@@ -10,9 +9,7 @@ use Rattle.base.specs.Labels.{NameValue}
 use Rattle.base.specs.Reading.{Read}
 use Rattle.base.specs.TextFaults.{Fault}
 use Rattle.base.specs.declared.dns_class.DNSClass.TheVariants as classes
-use Rattle.base.specs.declared.dns_class.DNSClass.{DNSClass}
 use Rattle.base.specs.declared.rr_key.RrKey.{RrKey}
-use Rattle.base_data.specs.declared.rdata.RData.{RData}
 use Rattle.op.specs.Message.{MessageValue, message_at}
 use Rattle.op.specs.MessageText.{line, record_lines}
 use Rattle.op.specs.ResponseCode.{code_name}
@@ -20,25 +17,13 @@ use Rattle.op.specs.declared.response_code.ResponseCode.{ResponseCode}
 use Rattle.op_use.specs.Applying.{applied, records_applied, records_in, zone_of_sets}
 use Rattle.op_use.specs.Server.{Sections, sections_of}
 use Rattle.op_use.specs.Zone.{Zone}
-use Rattle.rr.specs.RecordSet.{SetValue}
-use Rattle.rr.specs.declared.record.Record.{Record}
 use Rattle.txt.specs.Zone.{zone_of}
 use Rattle.txt.specs.ZoneSets.{ZoneSets, set_at}
+use Rattle.parsed_zone.specs.Classes.{are_sets_in}
+use Rattle.parsed_zone.specs.Faults.{fault_number}
 use Rattle.dnsmsg.specs.Answer.{Answer, done, refused}
 use Rattle.dnsmsg.specs.HexInput.{bytes_of}
-use Rattle.dnsmsg.specs.ZoneCommand.{fault_number, origin_line, text_named, zone_lines}
-
-abbrev pub is_in : DNSClass → Bool
-is_in classes.IN = true
-is_in _ = false
-
--- whether a set and each of its records are of the class IN
-abbrev pub is_set_in : SetValue → Bool
-is_set_in s = is_in s.dns_class && list_all (λ (r : Record RData). is_in r.dns_class) s.records
-
--- whether all sets are
-abbrev pub are_sets_in : ZoneSets → Bool
-are_sets_in sets = list_all is_set_in (values_of sets)
+use Rattle.dnsmsg.specs.ZoneCommand.{origin_line, text_named, zone_lines}
 
 -- the name of a code, and nothing for one without a name, which no update is answered with
 abbrev pub code_word : Option (List ℕ) → List ℕ
@@ -78,20 +63,29 @@ answer_to_parsed m (Err fault) = refused (fault_number fault)
 abbrev pub answer_to_text : MessageValue → Option NameValue → List ℕ → Answer
 answer_to_text m origin input = if is_utf8 input then answer_to_parsed m (zone_of (text_named []) origin input) else refused 24
 
--- the answer where a message was read, or the number of the fault that reading met
-abbrev pub answer_to_received : Option NameValue → List ℕ → Read MessageValue → Answer
-answer_to_received origin input (Ok (message, end)) = answer_to_text message origin input
-answer_to_received origin input (Err fault) = refused (decode_number fault)
+-- the message that was read, or the number of the fault that reading met
+abbrev pub message_read : Read MessageValue → Result MessageValue ℕ
+message_read (Ok (message, end)) = Ok message
+message_read (Err fault) = Err (decode_number fault)
 
--- the answer where a word is hexadecimal, or refusal 24
-abbrev pub answer_to_word : Option NameValue → List ℕ → Result (List ℕ) FromHexError → Answer
-answer_to_word origin input (Ok bytes) = answer_to_received origin input (message_at bytes 0)
-answer_to_word origin input (Err fault) = refused 24
+-- the message whose bytes a word spells, or the number of the refusal: 24 for a word that isn't hexadecimal
+abbrev pub message_spelled : Result (List ℕ) FromHexError → Result MessageValue ℕ
+message_spelled (Ok bytes) = message_read (message_at bytes 0)
+message_spelled (Err fault) = Err 24
 
 abbrev pub first_word : List (List ℕ) → List ℕ
 first_word [] = []
 first_word (word ∷ words) = word
 
+-- the update whose bytes the first word spells in hexadecimal, or the number of the refusal
+abbrev pub update_of : List (List ℕ) → Result MessageValue ℕ
+update_of words = message_spelled (bytes_of (first_word words))
+
+-- the answer to zone text under an origin, and to an update or the number of its refusal
+abbrev pub answer_after : Option NameValue → List ℕ → Result MessageValue ℕ → Answer
+answer_after origin input (Ok message) = answer_to_text message origin input
+answer_after origin input (Err number) = refused number
+
 -- the answer to zone text under an origin, and to an update whose bytes the first word spells in hexadecimal
 abbrev pub apply_answer : Option NameValue → List (List ℕ) → List ℕ → Answer
-apply_answer origin words input = answer_to_word origin input (bytes_of (first_word words))
+apply_answer origin words input = answer_after origin input (update_of words)

@@ -1,18 +1,21 @@
 -- The commands, as the words after the program's name name them, and what each answers.
-use Rattle.std.specs.Prelude.{◌≡◌, ◌⊎◌, ℕ, true, List, [], ◌∷◌, codes, if◌then◌else◌, Option, Some, None, Result, String}
+use Rattle.std.specs.Prelude.{◌≡◌, ◌⊎◌, ℕ, ⊤, true, IfSome, List, [], ◌∷◌, codes, if◌then◌else◌, Option, Some, None, Ok, Err, Result, String}
 use Rattle.std.specs.Option.{option_map}
 use Rattle.std.specs.declared.alloc.Global.{Global}
 use Rattle.std.specs.String.{string_bytes}
 use Rattle.std.specs.Str.{bytes_eq}
 use Rattle.dnsmsg.specs.Answer.{IsAnswered, IsPrinted, refused, usage}
 use Rattle.dnsmsg.specs.Answering.{Answers}
-use Rattle.dnsmsg.specs.ApplyCommand.{apply_answer}
+use Rattle.dnsmsg.specs.ApplyCommand.{apply_answer, update_of}
 use Rattle.dnsmsg.specs.CutCommand.{CutAnswers, IsCutGiven}
 use Rattle.dnsmsg.specs.HeaderCommand.{header_answer}
 use Rattle.dnsmsg.specs.Limit.{limit_of}
 use Rattle.dnsmsg.specs.ReadCommand.{read_answer}
 use Rattle.dnsmsg.specs.ZoneCommand.{zone_answer}
-use Rattle.dnsmsg.specs.ZoneWords.{apply_named, behind_origin, has_origin, zone_named}
+use Rattle.dnsmsg.specs.ZoneWords.{apply_named, behind_origin, parses_origin, zone_named}
+use Rattle.dnsmsg.specs.Refusal.{refusal_number}
+use Rattle.dnsmsg.specs.declared.refusal.Failure.{Failure}
+use Rattle.dnsmsg.specs.declared.refusal.Failure.TheVariants as failures
 use Rattle.dnsmsg.specs.declared.refusal.Refusal.{Refusal}
 use Rattle.dnsmsg.specs.declared.command.Command.{Command}
 use Rattle.dnsmsg.specs.declared.command.Command.TheVariants as command
@@ -51,7 +54,30 @@ IsGiven (command.OnMessage (on_message.Cut limit)) words text status old new = I
 IsGiven (command.Zone origin) words text status old new = IsAnswered (zone_answer origin (behind_origin words) text) status old new
 IsGiven (command.Apply origin) words text status old new = IsAnswered (apply_answer origin (behind_origin words) text) status old new
 
--- What a run of words that name no command gives: the usage line, or, where they have an origin to be read, the refusal
--- for want of memory.
+-- the number of a refusal, where there is one
+abbrev pub number_refused : {X : Type 0} → Result X ℕ → Option ℕ
+number_refused (Ok x) = None
+number_refused (Err number) = Some number
+
+-- the number that the words of a command are refused with before the input is read, if they are: that of a faulty update
+abbrev pub refused_word : Command → List (List ℕ) → Option ℕ
+refused_word (command.Apply origin) words = number_refused (update_of (behind_origin words))
+refused_word (command.Zone origin) words = None
+refused_word (command.OnMessage message) words = None
+
+-- What a command answers, over the input as far as it is known; nothing is said where the input failed.
+abbrev pub Gives : Command → List (List ℕ) → Option (List ℕ) → Result (String Global) Failure → Type 0
+Gives command words input (Ok lines) = IfSome input (λ text. CommandAnswers command words text (Ok lines))
+Gives command words input (Err (failures.Refused refusal)) = IfSome input (λ text. CommandAnswers command words text (Err refusal))
+Gives command words input (Err failures.Broken) = ⊤
+
+-- It is refused with this number, or with 3 because memory ran out.
+abbrev pub IsRefused : ℕ → Result (String Global) Failure → Type 0
+IsRefused number (Ok lines) = ⊥
+IsRefused number (Err (failures.Refused refusal)) = (refusal_number refusal ≡ 3) ⊎ (refusal_number refusal ≡ number)
+IsRefused number (Err failures.Broken) = ⊥
+
+-- What a run of words that name no command gives: the usage line, or, where they have an origin that has to be parsed, the
+-- refusal because memory ran out.
 abbrev pub IsTurnedAway : List (List ℕ) → ℕ → Option (List ℕ) → Option (List ℕ) → Type 0
-IsTurnedAway words status old new = IsPrinted usage status old new ⊎ ((has_origin words ≡ true) × IsPrinted (refused 3) status old new)
+IsTurnedAway words status old new = IsPrinted usage status old new ⊎ ((parses_origin words ≡ true) × IsPrinted (refused 3) status old new)

@@ -1,13 +1,11 @@
 pub mod Answer
 pub mod Answering
 pub mod ApplyCommand
-pub mod Callers
 pub mod Command
 pub mod CutCommand
 pub mod HeaderCommand
 pub mod HexInput
 pub mod Limit
-pub mod ParsedZone
 pub mod ReadCommand
 pub mod Refusal
 pub mod Words

@@ -4,12 +4,13 @@ use Rattle.std.specs.Prelude.{ℕ, Bool, ◌==◌, List, [], ◌∷◌, ◌++◌
 use Rattle.std.specs.Str.{bytes_eq, is_utf8}
 use Rattle.base.specs.Labels.{NameValue}
 use Rattle.base.specs.NameText.{name_text}
-use Rattle.base.specs.TextFaults.{Fault, unexpected, lexer, says, not_found, unknown_type, unsupported_type, bad_data, bad_name, bad_ttl}
+use Rattle.base.specs.TextFaults.{Fault}
 use Rattle.base.specs.declared.rr_key.RrKey.{RrKey}
 use Rattle.op.specs.MessageText.{line, record_lines}
 use Rattle.rr.specs.RecordSet.{SetValue}
 use Rattle.txt.specs.Zone.{Texts, zone_of}
 use Rattle.txt.specs.ZoneSets.{ZoneSets}
+use Rattle.parsed_zone.specs.Faults.{fault_number}
 use Rattle.dnsmsg.specs.Answer.{Answer, done, refused}
 
 -- ---- included texts, NAME=TEXT each
@@ -46,18 +47,6 @@ origin_line origin = line (codes "$ORIGIN " ++ name_text origin)
 -- the origin and the records of a zone
 abbrev pub zone_lines : NameValue × ZoneSets → List ℕ
 zone_lines zone = origin_line zone.0 ++ set_lines zone.1
-
--- the number of a fault of zone text
-abbrev pub fault_number : Fault → ℕ
-fault_number (unexpected token) = 17
-fault_number lexer = 18
-fault_number (says text) = 19
-fault_number (not_found name) = 20
-fault_number (unknown_type text) = 21
-fault_number (unsupported_type type) = 22
-fault_number (bad_data type) = 23
-fault_number bad_name = 23
-fault_number bad_ttl = 23
 
 -- the lines of a zone that was read, or the number of the fault
 abbrev pub answer_to_zone : Result (NameValue × ZoneSets) Fault → Answer

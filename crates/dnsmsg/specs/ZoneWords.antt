@@ -1,6 +1,6 @@
 -- The words of the commands with an origin, `zone` and `apply`.
 use Rattle.std.specs.Option.{option_map}
-use Rattle.std.specs.Prelude.{ℕ, Bool, false, ◌||◌, List, [], ◌∷◌, codes, if◌then◌else◌, Option, Some, None, Result, Ok, Err}
+use Rattle.std.specs.Prelude.{ℕ, Bool, false, true, not, ◌&&◌, List, [], ◌∷◌, codes, if◌then◌else◌, Option, Some, None, Result, Ok, Err}
 use Rattle.std.specs.Str.{bytes_eq}
 use Rattle.base.specs.Labels.{NameValue}
 use Rattle.base.specs.NameOf.{name_of}
@@ -27,14 +27,21 @@ apply_named origin [] = None
 apply_named origin (update ∷ []) = option_map command.Apply (origin_named origin)
 apply_named origin (update ∷ (word ∷ words)) = None
 
--- whether the words begin with this one
-abbrev pub begins_with : List ℕ → List (List ℕ) → Bool
-begins_with name [] = false
-begins_with name (word ∷ words) = bytes_eq word name
+-- whether words have one item
+abbrev pub is_one : List (List ℕ) → Bool
+is_one [] = false
+is_one (word ∷ []) = true
+is_one (word ∷ (next ∷ words)) = false
 
--- whether the words begin with a command that has an origin
-abbrev pub has_origin : List (List ℕ) → Bool
-has_origin words = begins_with (codes "zone") words || begins_with (codes "apply") words
+-- whether the words after the origin are those that a command with an origin takes
+abbrev pub are_taken : List ℕ → List (List ℕ) → Bool
+are_taken name words = if bytes_eq name (codes "zone") then are_texts words else (bytes_eq name (codes "apply") && is_one words)
+
+-- whether the words have an origin that is parsed: any but `-`, of a command that takes the words after it
+abbrev pub parses_origin : List (List ℕ) → Bool
+parses_origin [] = false
+parses_origin (name ∷ []) = false
+parses_origin (name ∷ (origin ∷ words)) = are_taken name words && not (bytes_eq origin (codes "-"))
 
 -- the words behind the command and the origin
 abbrev pub behind_origin : List (List ℕ) → List (List ℕ)

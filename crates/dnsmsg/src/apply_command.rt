@@ -1,17 +1,14 @@
 //! The command `apply`.
 
 ghost use Rattle.std.specs.BTreeMap.{IsOrdered};
-ghost use Rattle.std.specs.List.{list_all};
-ghost use Rattle.std.specs.Prelude.{◌≡◌, IfOk};
+ghost use Rattle.std.specs.Prelude.{◌≡◌, ◌⊎◌, Err, IfErr, IfOk, Ok};
 ghost use Rattle.std.specs.String.{string_bytes};
 ghost use Rattle.base.specs.RrKey.{key_cmp};
-ghost use Rattle.base_data.specs.declared.rdata.RData.{RData};
 ghost use Rattle.dnsmsg.specs.Answering.{Answers};
-ghost use Rattle.dnsmsg.specs.ApplyCommand.{answer_to_text, answer_to_update, apply_answer, update_lines};
-ghost use Rattle.dnsmsg.specs.ApplyCommand.{are_sets_in, first_word, is_in as is_in_class, is_set_in};
+ghost use Rattle.dnsmsg.specs.ApplyCommand.{answer_to_text, answer_to_update, first_word, update_lines, update_of};
+ghost use Rattle.dnsmsg.specs.Refusal.{refusal_number};
 ghost use Rattle.dnsmsg.specs.Words.{texts};
 ghost use Rattle.op.specs.Message.{message_value};
-ghost use Rattle.rr.specs.declared.record.Record.{Record as Entry};
 ghost use Rattle.txt.specs.ZoneSets.{AreKept};
 
 use crate::hex_input::decoded;
@@ -20,29 +17,25 @@ use crate::zone_command::{included_texts, zone_lines};
 use base::{DNSClass, Name, RrKey};
 use op::{Message, ResponseCode};
 use op_use::apply_update;
-use rr::{Record, RecordSet};
+use parsed_zone::are_sets_in;
+use rr::RecordSet;
 use std::alloc::{AllocError, Global};
 use std::collections::BTreeMap;
 use std::str;
 use txt::Parser;
 
-/// What is printed of an update, whose bytes the first word spells in hexadecimal, and of the zone whose text this is:
-/// the name of the server's code, and the zone then, as `zone` prints it (RFC 2136, 3). No text is there to be included.
+/// The update whose bytes the first word spells in hexadecimal.
 ///
-/// Refused with 24 for a word that isn't hexadecimal, with the number of the first fault of bytes that begin with no
-/// message, with 24 for a text that isn't UTF-8, with the number of what the parser refuses, with 25 for a set or a record
-/// of another class than IN, and for want of memory.
-pub fn apply(
-    alloc: Global,
-    origin: Option<Name>,
-    words: &[String],
-    text: &[u8],
-) -> Result<String, Refusal>
-    ensures { Answers string_bytes (apply_answer origin (texts words.now) text.now) result }
+/// # Errors
+///
+/// 24 for a word that isn't hexadecimal, the number of the first fault of bytes that begin with no message, and 3 if
+/// memory runs out.
+pub fn update(alloc: Global, words: &[String]) -> Result<Message, Refusal>
+    ensures read { IfOk result (λ m. update_of (texts words.now) ≡ Ok (message_value m)) }
+    ensures refused { IfErr result (λ e. (refusal_number e ≡ 3) ⊎ (update_of (texts words.now) ≡ Err (refusal_number e))) }
 {
     let bytes = decoded(alloc, first_word(words).as_bytes())?;
-    let message = Message::from_vec(alloc, &bytes)?;
-    apply_to_text(alloc, &message, origin, text)
+    Ok(Message::from_vec(alloc, &bytes)?)
 }
 
 fn first_word(words: &[String]) -> &str
@@ -54,7 +47,14 @@ fn first_word(words: &[String]) -> &str
     }
 }
 
-fn apply_to_text(
+/// What is printed of an update and of the zone whose text this is: the name of the server's code, and the zone then, as
+/// `zone` prints it (RFC 2136, 3). No text is there to be included.
+///
+/// # Errors
+///
+/// 24 for a text that isn't UTF-8, the number of what the parser refuses, 25 for a set or a record of another class than
+/// IN, and 3 if memory runs out.
+pub fn apply(
     alloc: Global,
     message: &Message,
     origin: Option<Name>,
@@ -84,41 +84,6 @@ fn apply_to_sets(
     }
     let (code, changed) = apply_update(alloc, sets, name, DNSClass::IN, message)?;
     Ok(update_lines(alloc, code, name, changed)?)
-}
-
-// Whether each set and each record is of the class IN.
-pub(crate) fn are_sets_in(sets: &BTreeMap<RrKey, RecordSet>) -> bool
-    ensures { result ≡ are_sets_in sets.now.entries }
-{
-    for set in sets.values() {
-        if !is_set_in(set) {
-            return false;
-        }
-    }
-    true
-}
-
-fn is_set_in(set: &RecordSet) -> bool
-    ensures { result ≡ is_set_in set.now }
-{
-    is_in(set.dns_class()) && are_records_in(set)
-}
-
-fn are_records_in(set: &RecordSet) -> bool
-    ensures { result ≡ list_all (λ (r : Entry RData). is_in_class r.dns_class) set.now.records }
-{
-    for entry in set.records_without_rrsigs() {
-        if !is_in(entry.dns_class) {
-            return false;
-        }
-    }
-    true
-}
-
-fn is_in(class: DNSClass) -> bool
-    ensures { result ≡ is_in_class class }
-{
-    matches!(class, DNSClass::IN)
 }
 
 // The code and the zone.

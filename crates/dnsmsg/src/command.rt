@@ -1,11 +1,12 @@
 //! What the words after the program's name ask for.
 
-ghost use Rattle.std.specs.Prelude.{◌≡◌, IfErr, IfOk, codes, true};
+ghost use Rattle.std.specs.Prelude.{◌≡◌, IfErr, IfOk, codes, false, true};
 ghost use Rattle.std.specs.List.{list_any};
+ghost use Rattle.std.specs.Str.{bytes_eq};
 ghost use Rattle.dnsmsg.specs.Command.{command_of, message_command};
 ghost use Rattle.dnsmsg.specs.Words.{texts};
 ghost use Rattle.dnsmsg.specs.ZoneCommand.{are_texts, is_equals};
-ghost use Rattle.dnsmsg.specs.ZoneWords.{apply_named, has_origin, origin_named, zone_named};
+ghost use Rattle.dnsmsg.specs.ZoneWords.{apply_named, is_one, origin_named, parses_origin, zone_named};
 
 use crate::limit::limit;
 use base::{Name, ParseError};
@@ -18,7 +19,7 @@ pub enum Command {
     OnMessage(MessageCommand),
     /// Zone text under an origin, if one is given: the origin at its end, and its records.
     Zone(Option<Name>),
-    /// An update in hexadecimal, and zone text under an origin, if one is given: the zone behind the update.
+    /// An update in hexadecimal, and zone text under an origin, if one is given: the zone after the update.
     Apply(Option<Name>),
 }
 
@@ -50,10 +51,14 @@ impl MessageCommand {
 }
 
 impl Command {
-    /// The command that the words name, if they name one. Refused for want of memory where they have an origin.
+    /// The command that the words name, if they name one.
+    ///
+    /// # Errors
+    ///
+    /// If memory runs out while an origin is parsed.
     pub fn from_words(alloc: Global, words: &[String]) -> Result<Option<Command>, AllocError>
         ensures value { IfOk result (λ command. command ≡ command_of (texts words.now)) }
-        ensures memory { IfErr result (λ _. has_origin (texts words.now) ≡ true) }
+        ensures memory { IfErr result (λ _. parses_origin (texts words.now) ≡ true) }
     {
         if let [word, origin, others @ ..] = words {
             if word.as_str() == "zone" {
@@ -70,7 +75,9 @@ impl Command {
 // The command of an origin and of included texts, NAME=TEXT each.
 #[tactic(auto, unfolding(crate::specs::ZoneWords::zone_named))]
 fn zone(alloc: Global, origin: &str, included: &[String]) -> Result<Option<Command>, AllocError>
-    ensures { IfOk result (λ command. command ≡ zone_named origin.now (texts included.now)) }
+    ensures value { IfOk result (λ command. command ≡ zone_named origin.now (texts included.now)) }
+    ensures memory { IfErr result (λ _. are_texts (texts included.now) ≡ true) }
+    ensures parsed { IfErr result (λ _. bytes_eq origin.now (codes "-") ≡ false) }
 {
     if !are_texts(included) {
         return Ok(None);
@@ -83,7 +90,9 @@ fn zone(alloc: Global, origin: &str, included: &[String]) -> Result<Option<Comma
 
 // The command of an origin and of an update, one word.
 fn apply(alloc: Global, origin: &str, others: &[String]) -> Result<Option<Command>, AllocError>
-    ensures { IfOk result (λ command. command ≡ apply_named origin.now (texts others.now)) }
+    ensures value { IfOk result (λ command. command ≡ apply_named origin.now (texts others.now)) }
+    ensures memory { IfErr result (λ _. is_one (texts others.now) ≡ true) }
+    ensures parsed { IfErr result (λ _. bytes_eq origin.now (codes "-") ≡ false) }
 {
     let [_update] = others else {
         return Ok(None);
@@ -96,7 +105,8 @@ fn apply(alloc: Global, origin: &str, others: &[String]) -> Result<Option<Comman
 
 // The origin that a word names, if it names one: `-` for none, else a name.
 fn named_origin(alloc: Global, word: &str) -> Result<Option<Option<Name>>, AllocError>
-    ensures { IfOk result (λ origin. origin ≡ origin_named word.now) }
+    ensures value { IfOk result (λ origin. origin ≡ origin_named word.now) }
+    ensures parsed { IfErr result (λ _. bytes_eq word.now (codes "-") ≡ false) }
 {
     if word == "-" {
         return Ok(Some(None));

@@ -2,12 +2,11 @@
 #![tactic(auto)]
 
 mod apply_command;
-mod callers;
 mod command;
 mod cut_command;
 mod header_command;
 mod hex_input;
-mod laws;
+mod input;
 mod limit;
 mod read_command;
 mod refusal;

@@ -1,5 +1,9 @@
+//! Why a command prints no answer.
+
 ghost use Rattle.std.specs.Prelude.{◌≡◌};
+ghost use Rattle.base.specs.declared.error.proto_error.ProtoError.TheVariants as protos;
 ghost use Rattle.dnsmsg.specs.Refusal.{refusal_number};
+ghost use Rattle.dnsmsg.specs.declared.refusal.Failure.TheVariants as failures;
 ghost use Rattle.dnsmsg.specs.declared.refusal.Refusal.TheVariants as refusals;
 
 use base::{DecodeError, ParseError, ProtoError};
@@ -64,5 +68,30 @@ impl From<ParseError> for Refusal {
 
     fn from(e: ParseError) -> Refusal {
         Refusal::Parse(e)
+    }
+}
+
+/// Why a run of a command has no answer.
+#[derive(Debug, Drop)]
+pub enum Failure {
+    /// The command refuses: the number of the refusal is printed.
+    Refused(Refusal),
+    /// The input can't be read: nothing is printed.
+    Broken,
+}
+
+impl From<Refusal> for Failure {
+    ghost from_gives = { λ refusal e. e ≡ failures.Refused refusal };
+
+    fn from(refusal: Refusal) -> Failure {
+        Failure::Refused(refusal)
+    }
+}
+
+impl From<AllocError> for Failure {
+    ghost from_gives = { λ _ e. e ≡ failures.Refused (refusals.Proto protos.Memory) };
+
+    fn from(_e: AllocError) -> Failure {
+        Failure::Refused(Refusal::Proto(ProtoError::Memory))
     }
 }

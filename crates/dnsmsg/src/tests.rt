@@ -1,35 +1,14 @@
-//! Rows of input and output through `run`, and the tests of `base`, `base_data`, `rr` and `op`, which stand above those
-//! crates so that each of them is proved once.
+//! Rows of input and output through `run`. The libraries have crates of tests of their own, `tests_base` and so on.
 //!
 //! Each test is proved, which costs most where a function lets go of several values: so the runs are made in small
 //! functions, and a test goes over plain rows.
 
 mod applies;
 mod broken_streams;
-mod callers;
-mod cut_rows;
-mod cut_tables;
-mod data;
-mod data_texts;
-mod errors;
-mod forms;
-mod hashes;
-mod header_rows;
-mod hostile;
-mod messages;
-mod names;
-mod read_refusals;
-mod read_rows;
-mod records;
-mod refused_memory;
-mod responses;
-mod sets;
-mod texts;
-mod tokens;
-mod types;
-mod updates;
-mod wire;
-mod zone_includes;
+mod cuts;
+mod headers;
+mod includes;
+mod reads;
 mod zones;
 
 use crate::run::run;
@@ -54,6 +33,15 @@ fn ran<R: Read>(alloc: Global, words: &[&str], input: &mut R) -> Result<(u8, Vec
     Ok((status, output))
 }
 
+// Parts of a text.
+type Parts = &'static [&'static str];
+
+// The words, the parts of the input, the status, and the parts of what is printed.
+type Row = (&'static [&'static str], Parts, u8, Parts);
+
+// What is printed where the words name no command.
+const USAGE: Parts = &["usage: dnsmsg COMMAND [WORDS]\n"];
+
 // A run ends with this status and prints this.
 fn gives(
     rt: &(impl Abort + AllocGlobal),
@@ -63,48 +51,31 @@ fn gives(
     printed: &str,
 ) -> Result<(), AllocError> {
     let (ended, output) = ran(rt.alloc(), words, &mut input.as_bytes())?;
-    let given = (ended, output.as_slice());
-    assert_given(rt, words, input, given, (status, printed.as_bytes()));
+    assert_eq!(rt;
+        (ended, output.as_slice()),
+        (status, printed.as_bytes()),
+        "{words:?}: {input}"
+    );
     Ok(())
 }
 
-fn assert_given(
-    rt: &impl Abort,
-    words: &[&str],
-    input: &str,
-    given: (u8, &[u8]),
-    wanted: (u8, &[u8]),
-) {
-    assert_eq!(rt; given, wanted, "{words:?}: {input}");
-}
-
-// A run prints this line, and an end of the line.
-fn prints_line(
+// The same of an input and a text in parts.
+fn parts_give(
     rt: &(impl Abort + AllocGlobal),
     words: &[&str],
-    input: &str,
-    line: &str,
+    input: &[&str],
+    status: u8,
+    printed: &[&str],
 ) -> Result<(), AllocError> {
-    let printed = format!(in rt.alloc(); "{line}\n")?;
-    gives(rt, words, input, 0, &printed)
+    let input = input.concat(rt.alloc())?;
+    let printed = printed.concat(rt.alloc())?;
+    gives(rt, words, &input, status, &printed)
 }
 
-// A run is refused with this number.
-fn refuses(
-    rt: &(impl Abort + AllocGlobal),
-    words: &[&str],
-    input: &str,
-    number: u8,
-) -> Result<(), AllocError> {
-    let printed = format!(in rt.alloc(); "refused {number}\n")?;
-    gives(rt, words, input, 1, &printed)
-}
-
-// The words name no command.
-fn prints_usage(
-    rt: &(impl Abort + AllocGlobal),
-    words: &[&str],
-    input: &str,
-) -> Result<(), AllocError> {
-    gives(rt, words, input, 2, "usage: dnsmsg COMMAND [WORDS]\n")
+// Each row gives what it says.
+fn all_give(rt: &(impl Abort + AllocGlobal), rows: &[Row]) -> Result<(), AllocError> {
+    for &(words, input, status, printed) in rows {
+        parts_give(rt, words, input, status, printed)?;
+    }
+    Ok(())
 }

@@ -18,7 +18,7 @@ use Rattle.op_use.specs.Applying.{applied, is_all_served, is_class_any, is_class
 use Rattle.op_use.specs.AppliedMeaning.{AppendApplies, AppliesUncut, CreateApplies, DeleteDataApplies, DeleteNameApplies, DeleteSetApplies, MapsAreZones, SwapApplies}
 use Rattle.op_use.specs.Server.{is_any, is_cname, sections_of, serve, type_of_record}
 use Rattle.op_use.specs.SoundSet.{IsFor, IsGiven, IsSound, NoCname, is_ordinary, is_plain_class}
-use Rattle.op_use.specs.UpdateMessage.{append, empty_record, in_class, without_ttl}
+use Rattle.op_use.specs.UpdateMessage.{append, emptied, empty_record, in_class, without_ttl}
 use Rattle.op_use.specs.Zone.{IsZone, Zone}
 use Rattle.rr.specs.RecordSet.{SetValue, is_ns}
 use Rattle.rr.specs.declared.record.Record.{Record}
@@ -110,7 +110,7 @@ DeletesAt owner origin class z = IsZone z × IsFor z origin owner class × (is_p
 pub delete_set_applies : DeleteSetApplies
 delete_set_applies id r origin use_edns =
     applies _ _ _
-    (λ (z : Zone) (p : DeletesOf r origin z) i. served_one (type_of_data r.rdata) p.3 (empty_record r.name (type_of_data r.rdata) classes.ANY) refl i && true)
+    (λ (z : Zone) (p : DeletesOf r origin z) i. served_one (type_of_data r.rdata) p.3 (emptied r) refl i && true)
     (λ (z : Zone) (p : DeletesOf r origin z). delete_rrset_changes z r origin p.0 p.1 p.2 p.3)
 
 pub delete_name_applies : DeleteNameApplies

@@ -82,19 +82,24 @@ sent_type s sent plain = record { reads = sent.type_reads; not_opt = not_opt s.r
 no_opt : (t : RecordType) → is_opt_type t ≡ false → t ≢ types.OPT
 no_opt t h e = true≢false (sym (ap is_opt_type e) ∙ h)
 
-empty_fits : (owner : NameValue) (t : RecordType) (c : DNSClass) → owner.absolute ≡ true → IsSentType t → IsSentClass c → FitsPlain op_codes.Update (empty_record owner t c)
-empty_fits owner t c absolute type class = record {
+-- a record without data, whatever its cache-flush bit
+bare_fits : (owner : NameValue) (t : RecordType) (c : DNSClass) (flush : Bool) → owner.absolute ≡ true → IsSentType t → IsSentClass c
+    → FitsPlain op_codes.Update (record (empty_record owner t c) { mdns_cache_flush = flush })
+bare_fits owner t c flush absolute type class = record {
   fits = record {
     reads = record { type_reads = type.reads; root = λ e. absurd (no_opt t type.not_opt e); readable = tt };
     absolute = absolute;
     class_reads = λ _. class.reads;
     narrow = λ _. class.narrow;
     payload_reads = λ e. absurd (true≢false (sym e ∙ type.not_opt));
-    not_flushing = λ _. refl;
+    not_flushing = λ e. absurd (true≢false (sym e ∙ type.not_opt));
   };
   given = λ _. refl;
   placed = type.placed;
 }
+
+empty_fits : (owner : NameValue) (t : RecordType) (c : DNSClass) → owner.absolute ≡ true → IsSentType t → IsSentClass c → FitsPlain op_codes.Update (empty_record owner t c)
+empty_fits owner t c = bare_fits owner t c false
 
 none_class : IsSentClass classes.NONE
 none_class = record { reads = refl; narrow = omega arith }
@@ -201,7 +206,7 @@ pub delete_rrset_fits : (id : ℕ) (r : Record RData) (origin : NameValue) (use_
 delete_rrset_fits id r origin use_edns g =
     let t = type_of_data r.rdata in
     sections_fit id use_edns origin r.dns_class _ _ g.rooted g.sent_class (All-nil _)
-    (one_fits _ (empty_fits r.name t classes.ANY g.owned (record { reads = g.type_reads; not_opt = not_opt t g.ordinary; placed = not_additional t g.ordinary }) any_class))
+    (one_fits _ (bare_fits r.name t classes.ANY r.mdns_cache_flush g.owned (record { reads = g.type_reads; not_opt = not_opt t g.ordinary; placed = not_additional t g.ordinary }) any_class))
 
 pub delete_all_fits : (id : ℕ) (owner origin : NameValue) (class : DNSClass) (use_edns : Bool) → IsSendableOwner origin owner class
     → Fits (update_message id use_edns (delete_all owner origin class))

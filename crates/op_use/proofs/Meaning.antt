@@ -27,7 +27,7 @@ use Rattle.op_use.specs.Server.{Sections, Fault, and_then, unless, first_fault, 
 use Rattle.op_use.specs.Server.{collected, is_met, is_same_key, is_of_zone, use_of, is_any, is_meta, type_of_record, record_key, update, removed, answer, serve}
 use Rattle.op_use.specs.Server.{zone_fault}
 use Rattle.op_use.specs.SoundSet.{IsFor, IsGiven, NoCname, is_ordinary}
-use Rattle.op_use.specs.UpdateMessage.{append, compare_and_swap, create, delete_all, delete_by_rdata, delete_rrset, empty_record, in_class, without_ttl}
+use Rattle.op_use.specs.UpdateMessage.{append, compare_and_swap, create, delete_all, delete_by_rdata, delete_rrset, emptied, empty_record, in_class, without_ttl}
 use Rattle.op_use.proofs.Changes.{AppendChanges, CompareAndSwapChanges, CreateChanges, DeleteAllChanges, DeleteByRdataChanges, DeleteRrsetChanges}
 use Rattle.op_use.proofs.ZoneSteps.{at_put, put_put, put_same, tied, get_with_set}
 use Rattle.op_use.proofs.MergeSteps.{all_added, all_removed, none_left}
@@ -162,7 +162,7 @@ pub delete_rrset_changes : DeleteRrsetChanges
 delete_rrset_changes z r origin zone f p o =
     let t = type_of_data r.rdata in
     served z (delete_rrset r origin) None (zone_passes z origin r.name r.dns_class f) refl (
-    and_then_none _ ∙ ap (λ b. and_then (unless b NotZone) (prescan_by (use_of z.class classes.ANY) (empty_record r.name t classes.ANY))) (owner_inside z origin r.name r.dns_class f)
+    and_then_none _ ∙ ap (λ b. and_then (unless b NotZone) (prescan_by (use_of z.class classes.ANY) (emptied r))) (owner_inside z origin r.name r.dns_class f)
     ∙ ap (λ b. unless (not b || is_any t) FormErr) (no_meta t o)
     )
     ∙ ap (λ w. (NoError, w)) (cond-false (is_any t) _ _ (no_any t o) ∙ cond-false (is_guarded z r.name t) _ _ (not_guarded z r.name t o))

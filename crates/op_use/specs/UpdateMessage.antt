@@ -29,6 +29,10 @@ empty_record owner type class = record { name = owner; dns_class = class; ttl = 
 abbrev pub in_class : DNSClass → Record RData → Record RData
 in_class class r = record r { dns_class = class; ttl = 0 }
 
+-- the record without its data, in class ANY, with TTL 0 (RFC 2136, 2.5.2)
+abbrev pub emptied : Record RData → Record RData
+emptied r = record r { dns_class = classes.ANY; ttl = 0; rdata = rdata.Update0 (type_of_data r.rdata) }
+
 -- a record with time to live 0
 abbrev pub without_ttl : Record RData → Record RData
 without_ttl r = record r { ttl = 0 }
@@ -59,7 +63,7 @@ delete_by_rdata s origin = sections origin s.dns_class [] (map (in_class classes
 
 -- the set of the record goes (RFC 2136, 2.5.2)
 abbrev pub delete_rrset : Record RData → NameValue → Sections
-delete_rrset r origin = sections origin r.dns_class [] (empty_record r.name (type_of_data r.rdata) classes.ANY ∷ [])
+delete_rrset r origin = sections origin r.dns_class [] (emptied r ∷ [])
 
 -- all sets of the owner go (RFC 2136, 2.5.3)
 abbrev pub delete_all : NameValue → NameValue → DNSClass → Sections

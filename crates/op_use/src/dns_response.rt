@@ -7,7 +7,7 @@ ghost use Rattle.std.specs.Option.{option_map};
 ghost use Rattle.base.specs.NameOrder.{is_zone_of, same_name};
 ghost use Rattle.base.specs.declared.record_type.RecordType.TheVariants as types;
 ghost use Rattle.op.specs.Cut.{IsTooSmall, IsWritten};
-ghost use Rattle.op.specs.Emitted.{EmittedNew};
+ghost use Rattle.op.specs.Emitted.{EmittedNew, LeavesNew};
 ghost use Rattle.op.specs.Fits.{Fits, HasRoom};
 ghost use Rattle.op.specs.Message.{IsMessageAt, MessageValue, message_value};
 ghost use Rattle.op.specs.Parts.{all_records};
@@ -45,7 +45,7 @@ impl DnsResponse {
     /// The response that a message is, with the bytes that `Message::to_vec` writes of it.
     ///
     /// Refused with `NotAResponse` for a query, before anything is written; with `NotAllRecordsWritten` where the
-    /// questions don't fit 65,535 bytes; and for want of memory.
+    /// questions don't fit 65,535 bytes, with the number of those before the first that doesn't; and if memory runs out.
     pub fn from_message(alloc: Global, message: Message) -> Result<DnsResponse, ProtoError>
         ensures same { IfOk result (λ r. (r.message ≡ message_value message) × IsResponse (message_value message)) }
         ensures query { (result ≡ Err ProtoError.NotAResponse) ↔ IsQuery (message_value message) }
@@ -53,6 +53,7 @@ impl DnsResponse {
         ensures written { Fits (message_value message) → IfOk result (λ r. IsWritten (message_value message) 65535 r.buffer) }
         ensures emitted { IfOk result (λ r. EmittedNew (message_value message) 65535 r.buffer) }
         ensures refused { IsResponse (message_value message) → IfErr result (λ e. (e ≡ ProtoError.Memory) ⊎ IsTooSmall (message_value message) 65535 e) }
+        ensures left { IsResponse (message_value message) → IfErr result (λ e. (e ≡ ProtoError.Memory) ⊎ LeavesNew (message_value message) 65535 e) }
     {
         match message.metadata.message_type {
             MessageType::Query => Err(ProtoError::NotAResponse),
@@ -181,6 +182,7 @@ fn written(alloc: Global, message: &Message) -> Result<Vec<u8>, ProtoError>
     ensures written { Fits (message_value message.now) → IfOk result (λ bytes. IsWritten (message_value message.now) 65535 bytes.items) }
     ensures emitted { IfOk result (λ bytes. EmittedNew (message_value message.now) 65535 bytes.items) }
     ensures refused { IfErr result (λ e. (e ≡ ProtoError.Memory) ⊎ IsTooSmall (message_value message.now) 65535 e) }
+    ensures left { IfErr result (λ e. (e ≡ ProtoError.Memory) ⊎ LeavesNew (message_value message.now) 65535 e) }
 {
     let mut buffer = Vec::new(alloc);
     {

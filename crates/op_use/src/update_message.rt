@@ -8,6 +8,7 @@ ghost use Rattle.op.specs.Parts.{AddsGiven};
 
 mod builders;
 
+pub use crate::apply::apply_update;
 use base::ProtoError;
 use base_data::TSIG;
 pub use builders::{

@@ -165,13 +165,8 @@ impl TextData for SRV {
         let [priority, weight, port, target] = items else {
             return Ok(None);
         };
-        let Some(priority) = u16_item(priority) else {
-            return Ok(None);
-        };
-        let Some(weight) = u16_item(weight) else {
-            return Ok(None);
-        };
-        let Some(port) = u16_item(port) else {
+        let numbers = (u16_item(priority), u16_item(weight), u16_item(port));
+        let (Some(priority), Some(weight), Some(port)) = numbers else {
             return Ok(None);
         };
         let Some(target) = name_item(alloc, target, origin)? else {

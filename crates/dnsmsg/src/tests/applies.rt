@@ -1,8 +1,11 @@
 //! Rows of the command `apply`.
 
-use super::gives;
+use super::{Parts, Row, USAGE, all_give, parts_give};
 use std::alloc::AllocError;
 use std::process::Abort;
+
+// The parts of an update of `example.`, of the zone's text, and of what is printed.
+type Applied = (Parts, Parts, Parts);
 
 // The start of `example.` and its name server.
 const START: &str = "@ 3600 SOA ns hostmaster 1 2 3 4 5\n@ NS ns\n";
@@ -19,8 +22,14 @@ const SHOWN_WWW: &str = "www.example. 300 IN A 192.0.2.1\n";
 
 const SHOWN_ALIAS: &str = "www.example. 300 IN CNAME ns.example.\n";
 
-// The zone section of an update of `example.`.
-const ZONE: &str = "076578616D706C65 00 0006 0001";
+// An update of `example.` up to its one prerequisite, and up to its one change.
+const ASK: &str = "0007 2800 0001 0001 0000 0000 076578616D706C65 00 0006 0001";
+
+const CHANGE: &str = "0007 2800 0001 0000 0001 0000 076578616D706C65 00 0006 0001";
+
+const ADD_ALIAS: &str = "03777777 C00C 0005 0001 0000003C 0004 0178 C00C";
+
+const DELETE_SERVER: &str = "C00C 0002 00FE 00000000 0005 026E73 C00C";
 
 const SWAP: &str =
     "1234 2800 0001 0001 0003 0000 076578616D706C65 00 0006 0001 03777777 C00C 0001 0001 00000000 0004 C0000201 C019 \
@@ -40,97 +49,6 @@ const DELETE_DATA: &str =
 
 const DELETE_SET: &str =
     "0005 2800 0001 0000 0001 0000 076578616D706C65 00 0006 0001 03777777 C00C 0001 00FF 00000000 0000";
-
-// An update of `example.` whose prerequisites and updates these are, one of either or none.
-fn update(rt: &impl AllocGlobal, prerequisite: &str, change: &str) -> Result<String, AllocError> {
-    let some = if prerequisite.is_empty() {
-        "0000"
-    } else {
-        "0001"
-    };
-    let more = if change.is_empty() { "0000" } else { "0001" };
-    let parts = [
-        "0007 2800 0001",
-        some,
-        more,
-        "0000",
-        ZONE,
-        prerequisite,
-        change,
-    ];
-    parts.join(rt.alloc(), " ")
-}
-
-// The update applied to the zone of these two texts is answered with this code and leaves these lines.
-fn leaves(
-    rt: &(impl Abort + AllocGlobal),
-    update: &str,
-    texts: (&str, &str),
-    code: &str,
-    lines: (&str, &str),
-) -> Result<(), AllocError> {
-    let text = [texts.0, texts.1].concat(rt.alloc())?;
-    let printed = [code, "\n", lines.0, lines.1].concat(rt.alloc())?;
-    gives(rt, &["apply", "example.", update], &text, 0, &printed)
-}
-
-#[test]
-fn a_set_is_swapped_once(rt: HostRuntime) -> Result<(), AllocError> {
-    let swapped = "www.example. 60 IN A 192.0.2.1\nwww.example. 60 IN A 192.0.2.2\n";
-    let two = "www 60 A 192.0.2.1\nwww 60 A 192.0.2.2\n";
-    let three = "www.example. 60 IN A 192.0.2.1\nwww.example. 60 IN A 192.0.2.2\n";
-    leaves(&rt, SWAP, (START, WWW), "NoError", (SHOWN, swapped))?;
-    leaves(&rt, SWAP, (START, two), "NXRRSet", (SHOWN, three))
-}
-
-#[test]
-fn a_set_is_created_where_there_is_none(rt: HostRuntime) -> Result<(), AllocError> {
-    let new = "www.example. 60 IN A 192.0.2.1\n";
-    leaves(&rt, CREATE, (START, WWW), "YXRRSet", (SHOWN, SHOWN_WWW))?;
-    leaves(&rt, CREATE, (START, ""), "NoError", (SHOWN, new))
-}
-
-#[test]
-fn the_start_stays_where_all_is_deleted(rt: HostRuntime) -> Result<(), AllocError> {
-    let more = "@ 60 TXT x\nwww 300 A 192.0.2.1\n";
-    leaves(
-        &rt,
-        DELETE_ALL,
-        (START, more),
-        "NoError",
-        (SHOWN, SHOWN_WWW),
-    )
-}
-
-#[test]
-fn nothing_stands_beside_an_alias(rt: HostRuntime) -> Result<(), AllocError> {
-    let added = "03777777 C00C 0001 0001 0000003C 0004 C0000201";
-    let alias = "03777777 C00C 0005 0001 0000003C 0004 0178 C00C";
-    let add = update(&rt, "", added)?;
-    let add_alias = update(&rt, "", alias)?;
-    leaves(&rt, &add, (START, ALIAS), "NoError", (SHOWN, SHOWN_ALIAS))?;
-    leaves(&rt, APPEND, (START, ALIAS), "NXRRSet", (SHOWN, SHOWN_ALIAS))?;
-    leaves(&rt, &add_alias, (START, WWW), "NoError", (SHOWN, SHOWN_WWW))?;
-    let other = "www.example. 60 IN CNAME x.example.\n";
-    leaves(&rt, &add_alias, (START, ALIAS), "NoError", (SHOWN, other))
-}
-
-#[test]
-fn data_and_sets_are_deleted(rt: HostRuntime) -> Result<(), AllocError> {
-    leaves(&rt, DELETE_DATA, (START, WWW), "NoError", (SHOWN, ""))?;
-    leaves(&rt, DELETE_SET, (START, WWW), "NoError", (SHOWN, ""))
-}
-
-#[test]
-fn the_last_name_server_stays(rt: HostRuntime) -> Result<(), AllocError> {
-    let server = update(&rt, "", "C00C 0002 00FE 00000000 0005 026E73 C00C")?;
-    let servers = update(&rt, "", "C00C 0002 00FF 00000000 0000")?;
-    leaves(&rt, &server, (START, WWW), "NoError", (SHOWN, SHOWN_WWW))?;
-    leaves(&rt, &servers, (START, WWW), "NoError", (SHOWN, SHOWN_WWW))?;
-    let second =
-        "$ORIGIN example.\nexample. 3600 IN NS ns2.example.\nexample. 3600 IN SOA ns.example. hostmaster.example. 1 2 3 4 5\n";
-    leaves(&rt, &server, (START, "@ NS ns2\n"), "NoError", (second, ""))
-}
 
 // The zone before the update of ten.
 const TEN_TEXT: &str =
@@ -176,123 +94,246 @@ const TEN_LEFT: &str =
      ns.example. 3600 IN A 192.0.2.1\nns2.example. 3600 IN A 192.0.2.2\nwww.example. 60 IN A 192.0.2.4\n\
      www.example. 60 IN A 192.0.2.7\nwww.example. 60 IN AAAA 2001:db8::4\n";
 
-fn update_of_ten(rt: &impl AllocGlobal) -> Result<String, AllocError> {
-    let parts = [
-        TEN_START,
-        TEN_ASKED,
-        TEN_ASKED_MORE,
-        TEN_CHANGES,
-        TEN_CHANGES_MORE,
-    ];
-    parts.join(rt.alloc(), " ")
-}
-
-#[test]
-fn ten_changes_behind_ten_prerequisites(rt: HostRuntime) -> Result<(), AllocError> {
-    let update = update_of_ten(&rt)?;
-    leaves(
-        &rt,
-        &update,
-        (TEN_TEXT, TEN_MORE),
-        "NoError",
-        (SHOWN, TEN_LEFT),
-    )
-}
-
-// One prerequisite that fails, the last that is looked at among them, leaves all as it was.
-#[test]
-fn ten_changes_behind_one_that_fails(rt: HostRuntime) -> Result<(), AllocError> {
-    let update = update_of_ten(&rt)?;
-    let asked = [TEN_TEXT, "www A 192.0.2.9\n"].concat(rt.alloc())?;
-    let left = [TEN_SHOWN_MORE, "www.example. 300 IN A 192.0.2.9\n"].concat(rt.alloc())?;
-    leaves(
-        &rt,
-        &update,
-        (&asked, TEN_MORE),
-        "NXRRSet",
-        (TEN_SHOWN, &left),
-    )
-}
-
-// The update leaves the zone as it is, and is answered with this code.
-fn is_refused(rt: &(impl Abort + AllocGlobal), update: &str, code: &str) -> Result<(), AllocError> {
-    leaves(rt, update, (START, WWW), code, (SHOWN, SHOWN_WWW))
-}
-
-#[test]
-fn other_messages_are_answered_with_their_codes(rt: HostRuntime) -> Result<(), AllocError> {
-    for &(message, code) in &[
-        (
+// Updates, the texts of zones, and what is printed of them.
+const APPLIED: &[Applied] = &[
+    // a set is swapped once
+    (
+        &[SWAP],
+        &[START, WWW],
+        &[
+            "NoError\n",
+            SHOWN,
+            "www.example. 60 IN A 192.0.2.1\nwww.example. 60 IN A 192.0.2.2\n",
+        ],
+    ),
+    (
+        &[SWAP],
+        &[START, "www 60 A 192.0.2.1\nwww 60 A 192.0.2.2\n"],
+        &[
+            "NXRRSet\n",
+            SHOWN,
+            "www.example. 60 IN A 192.0.2.1\nwww.example. 60 IN A 192.0.2.2\n",
+        ],
+    ),
+    // a set is created where there is none
+    (&[CREATE], &[START, WWW], &["YXRRSet\n", SHOWN, SHOWN_WWW]),
+    (
+        &[CREATE],
+        &[START],
+        &["NoError\n", SHOWN, "www.example. 60 IN A 192.0.2.1\n"],
+    ),
+    // the SOA stays where all is deleted
+    (
+        &[DELETE_ALL],
+        &[START, "@ 60 TXT x\nwww 300 A 192.0.2.1\n"],
+        &["NoError\n", SHOWN, SHOWN_WWW],
+    ),
+    // nothing stands beside an alias
+    (
+        &[CHANGE, "03777777 C00C 0001 0001 0000003C 0004 C0000201"],
+        &[START, ALIAS],
+        &["NoError\n", SHOWN, SHOWN_ALIAS],
+    ),
+    (
+        &[APPEND],
+        &[START, ALIAS],
+        &["NXRRSet\n", SHOWN, SHOWN_ALIAS],
+    ),
+    (
+        &[CHANGE, ADD_ALIAS],
+        &[START, WWW],
+        &["NoError\n", SHOWN, SHOWN_WWW],
+    ),
+    (
+        &[CHANGE, ADD_ALIAS],
+        &[START, ALIAS],
+        &["NoError\n", SHOWN, "www.example. 60 IN CNAME x.example.\n"],
+    ),
+    // data and sets are deleted
+    (&[DELETE_DATA], &[START, WWW], &["NoError\n", SHOWN]),
+    (&[DELETE_SET], &[START, WWW], &["NoError\n", SHOWN]),
+    // the last name server stays
+    (
+        &[CHANGE, DELETE_SERVER],
+        &[START, WWW],
+        &["NoError\n", SHOWN, SHOWN_WWW],
+    ),
+    (
+        &[CHANGE, "C00C 0002 00FF 00000000 0000"],
+        &[START, WWW],
+        &["NoError\n", SHOWN, SHOWN_WWW],
+    ),
+    (
+        &[CHANGE, DELETE_SERVER],
+        &[START, "@ NS ns2\n"],
+        &[
+            "NoError\n$ORIGIN example.\nexample. 3600 IN NS ns2.example.\n",
+            "example. 3600 IN SOA ns.example. hostmaster.example. 1 2 3 4 5\n",
+        ],
+    ),
+    // ten changes behind ten prerequisites
+    (
+        &[
+            TEN_START,
+            TEN_ASKED,
+            TEN_ASKED_MORE,
+            TEN_CHANGES,
+            TEN_CHANGES_MORE,
+        ],
+        &[TEN_TEXT, TEN_MORE],
+        &["NoError\n", SHOWN, TEN_LEFT],
+    ),
+    // one prerequisite that fails, the last that is looked at among them, leaves all as it was
+    (
+        &[
+            TEN_START,
+            TEN_ASKED,
+            TEN_ASKED_MORE,
+            TEN_CHANGES,
+            TEN_CHANGES_MORE,
+        ],
+        &[TEN_TEXT, "www A 192.0.2.9\n", TEN_MORE],
+        &[
+            "NXRRSet\n",
+            TEN_SHOWN,
+            TEN_SHOWN_MORE,
+            "www.example. 300 IN A 192.0.2.9\n",
+        ],
+    ),
+    // other messages
+    (
+        &[
             "0004 2800 0001 0000 0001 0000 076578616D706C65 00 0006 0003 03777777 C00C 0001 00FE 00000000 0004 C0000201",
-            "NotAuth",
-        ),
-        (
+        ],
+        &[START, WWW],
+        &["NotAuth\n", SHOWN, SHOWN_WWW],
+    ),
+    (
+        &[
             "1000 8180 0001 0001 0000 0000 03777777 076578616D706C65 03636F6D 00 0001 0001 C00C 0001 0001 00000002 0004 5DB8D70E",
-            "FormErr",
-        ),
-        (
+        ],
+        &[START, WWW],
+        &["FormErr\n", SHOWN, SHOWN_WWW],
+    ),
+    (
+        &[
             "0006 0000 0001 0000 0001 0001 076578616D706C65 00 00FB 0001 C00C 0006 0001 00000000 0026 026E73 C00C \
              0A686F73746D6173746572 C00C 00000001 00001C20 00000E10 00127500 0000012C 00 0029 04D0 00000000 0000",
-            "NotImp",
-        ),
-        (
-            "0006 0000 0001 0000 0000 0001 076578616D706C65 00 00FC 0001 00 0029 04D0 00000000 0000",
-            "FormErr",
-        ),
-    ] {
-        is_refused(&rt, message, code)?;
+        ],
+        &[START, WWW],
+        &["NotImp\n", SHOWN, SHOWN_WWW],
+    ),
+    (
+        &["0006 0000 0001 0000 0000 0001 076578616D706C65 00 00FC 0001 00 0029 04D0 00000000 0000"],
+        &[START, WWW],
+        &["FormErr\n", SHOWN, SHOWN_WWW],
+    ),
+    // a prerequisite or a change that stands alone
+    (
+        &[ASK, "0178 C00C 00FF 00FF 00000000 0000"],
+        &[START, WWW],
+        &["NXDomain\n", SHOWN, SHOWN_WWW],
+    ),
+    (
+        &[ASK, "03777777 C00C 00FF 00FE 00000000 0000"],
+        &[START, WWW],
+        &["YXDomain\n", SHOWN, SHOWN_WWW],
+    ),
+    (
+        &[ASK, "03777777 C00C 0010 00FF 00000000 0000"],
+        &[START, WWW],
+        &["NXRRSet\n", SHOWN, SHOWN_WWW],
+    ),
+    (
+        &[ASK, "03777777 C00C 0001 0001 00000000 0004 C0000209"],
+        &[START, WWW],
+        &["NXRRSet\n", SHOWN, SHOWN_WWW],
+    ),
+    (
+        &[ASK, "03777777 C00C 0001 00FE 00000000 0000"],
+        &[START, WWW],
+        &["YXRRSet\n", SHOWN, SHOWN_WWW],
+    ),
+    (
+        &[ASK, "03777777 C00C 0001 00FF 00000001 0000"],
+        &[START, WWW],
+        &["FormErr\n", SHOWN, SHOWN_WWW],
+    ),
+    (
+        &[ASK, "0178 00 0001 00FF 00000000 0000"],
+        &[START, WWW],
+        &["NotZone\n", SHOWN, SHOWN_WWW],
+    ),
+    (
+        &[CHANGE, "0178 00 0001 0001 0000003C 0004 C0000201"],
+        &[START, WWW],
+        &["NotZone\n", SHOWN, SHOWN_WWW],
+    ),
+    (
+        &[CHANGE, "03777777 C00C 0001 00FE 0000003C 0004 C0000201"],
+        &[START, WWW],
+        &["FormErr\n", SHOWN, SHOWN_WWW],
+    ),
+    (
+        &[CHANGE, "C00C 0006 00FF 00000000 0000"],
+        &[START, WWW],
+        &["NotImp\n", SHOWN, SHOWN_WWW],
+    ),
+];
+
+// The update of a row leaves what the row says.
+fn leaves(
+    rt: &(impl Abort + AllocGlobal),
+    update: &[&str],
+    text: &[&str],
+    printed: &[&str],
+) -> Result<(), AllocError> {
+    let update = update.concat(rt.alloc())?;
+    parts_give(rt, &["apply", "example.", &update], text, 0, printed)
+}
+
+#[test]
+fn rows_of_updates(rt: HostRuntime) -> Result<(), AllocError> {
+    for &(update, text, printed) in APPLIED {
+        leaves(&rt, update, text, printed)?;
     }
     Ok(())
 }
 
-// A prerequisite or a change that stands alone is answered with this code.
-#[test]
-fn each_test_has_its_code(rt: HostRuntime) -> Result<(), AllocError> {
-    for &(prerequisite, change, code) in &[
-        ("0178 C00C 00FF 00FF 00000000 0000", "", "NXDomain"),
-        ("03777777 C00C 00FF 00FE 00000000 0000", "", "YXDomain"),
-        ("03777777 C00C 0010 00FF 00000000 0000", "", "NXRRSet"),
-        (
-            "03777777 C00C 0001 0001 00000000 0004 C0000209",
-            "",
-            "NXRRSet",
-        ),
-        ("03777777 C00C 0001 00FE 00000000 0000", "", "YXRRSet"),
-        ("03777777 C00C 0001 00FF 00000001 0000", "", "FormErr"),
-        ("0178 00 0001 00FF 00000000 0000", "", "NotZone"),
-        ("", "0178 00 0001 0001 0000003C 0004 C0000201", "NotZone"),
-        (
-            "",
-            "03777777 C00C 0001 00FE 0000003C 0004 C0000201",
-            "FormErr",
-        ),
-        ("", "C00C 0006 00FF 00000000 0000", "NotImp"),
-    ] {
-        let message = update(&rt, prerequisite, change)?;
-        is_refused(&rt, &message, code)?;
-    }
-    Ok(())
-}
+const REFUSED: &[Row] = &[
+    (
+        &["apply", "example.", "0g"],
+        &["$X\n"],
+        1,
+        &["refused 24\n"],
+    ),
+    (&["apply", "example.", "00"], &["$X\n"], 1, &["refused 4\n"]),
+    (
+        &["apply", "example.", DELETE_ALL],
+        &["$X\n"],
+        1,
+        &["refused 18\n"],
+    ),
+    (
+        &["apply", "example.", DELETE_ALL],
+        &["$INCLUDE f\n"],
+        1,
+        &["refused 20\n"],
+    ),
+    (
+        &["apply", "example.", DELETE_ALL],
+        &["www 300 CH A 192.0.2.1\n"],
+        1,
+        &["refused 25\n"],
+    ),
+    // words of updates
+    (&["apply"], &[""], 2, USAGE),
+    (&["apply", "example."], &[""], 2, USAGE),
+    (&["apply", "a..b", DELETE_ALL], &[""], 2, USAGE),
+    (&["apply", "example.", DELETE_ALL, "f=x"], &[""], 2, USAGE),
+];
 
 #[test]
-fn what_apply_refuses(rt: HostRuntime) -> Result<(), AllocError> {
-    for &(message, text, printed) in &[
-        ("0g", "$X\n", "refused 24\n"),
-        ("00", "$X\n", "refused 4\n"),
-        (DELETE_ALL, "$X\n", "refused 18\n"),
-        (DELETE_ALL, "$INCLUDE f\n", "refused 20\n"),
-        (DELETE_ALL, "www 300 CH A 192.0.2.1\n", "refused 25\n"),
-    ] {
-        gives(&rt, &["apply", "example.", message], text, 1, printed)?;
-    }
-    Ok(())
-}
-
-#[test]
-fn words_of_updates(rt: HostRuntime) -> Result<(), AllocError> {
-    let usage = "usage: dnsmsg COMMAND [WORDS]\n";
-    gives(&rt, &["apply"], "", 2, usage)?;
-    gives(&rt, &["apply", "example."], "", 2, usage)?;
-    gives(&rt, &["apply", "a..b", DELETE_ALL], "", 2, usage)?;
-    gives(&rt, &["apply", "example.", DELETE_ALL, "f=x"], "", 2, usage)
+fn rows_of_refused_updates(rt: HostRuntime) -> Result<(), AllocError> {
+    all_give(&rt, REFUSED)
 }

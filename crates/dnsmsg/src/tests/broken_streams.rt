@@ -5,16 +5,17 @@ use std::io::{self, ErrorKind, Read, Write};
 
 const HEADER: &[u8] = b"0110AA83 88776655 44332211\n";
 
-// Gives as many bytes of a header as it has left, and then fails.
+// Gives as many bytes of a header as it has left, and then fails with an error of this kind.
 #[derive(Drop)]
 struct BrokenReader {
     left: usize,
+    kind: ErrorKind,
 }
 
 impl Read for BrokenReader {
     fn read(&mut self, buf: &mut [u8]) -> io::Result<usize> {
         if self.left == 0 || buf.is_empty() {
-            return Err(io::Error::from(ErrorKind::ConnectionReset));
+            return Err(io::Error::from(self.kind));
         }
         self.left -= 1;
         buf[0] = b'0';
@@ -36,18 +37,42 @@ impl Write for BrokenWriter {
     }
 }
 
-// The status, and how many bytes are printed, where the reader fails behind so many bytes.
-fn cut_off(alloc: Global, words: &[&str], left: usize) -> Result<(u8, usize), AllocError> {
-    let (status, output) = ran(alloc, words, &mut BrokenReader { left })?;
+// The status, and how many bytes are printed, where the reader fails after so many bytes.
+fn cut_off(
+    alloc: Global,
+    words: &[&str],
+    left: usize,
+    kind: ErrorKind,
+) -> Result<(u8, usize), AllocError> {
+    let (status, output) = ran(alloc, words, &mut BrokenReader { left, kind })?;
     Ok((status, output.len()))
 }
 
 #[test]
 fn a_reader_that_fails_is_status_three(rt: HostRuntime) -> Result<(), AllocError> {
-    for &left in &[0, 5, 24] {
+    for &(left, kind) in &[
+        (0, ErrorKind::ConnectionReset),
+        (5, ErrorKind::ConnectionReset),
+        (24, ErrorKind::ConnectionReset),
+        (5, ErrorKind::OutOfMemory),
+    ] {
         assert!(rt;
-            cut_off(rt.alloc(), &["header"], left)? == (3, 0),
+            cut_off(rt.alloc(), &["header"], left, kind)? == (3, 0),
             "after {left} bytes"
+        );
+    }
+    Ok(())
+}
+
+#[test]
+fn an_update_is_judged_before_the_input_is_read(rt: HostRuntime) -> Result<(), AllocError> {
+    // `refused 24` for what isn't hexadecimal, `refused 4` for what is no whole message.
+    for &(update, printed) in &[("0g", 11), ("00", 10)] {
+        let words = ["apply", "example.", update];
+        let kind = ErrorKind::ConnectionReset;
+        assert!(rt;
+            cut_off(rt.alloc(), &words, 0, kind)? == (1, printed),
+            "{update}"
         );
     }
     Ok(())

@@ -150,14 +150,15 @@ pub fn delete_by_rdata(
     )
 }
 
-/// The update that takes the set of a record's owner and type out of a zone of the record's class (RFC 2136, 2.5.2). With
-/// `use_edns` it takes answers of up to 1232 bytes.
+/// The update that takes the set of a record's owner and type out of a zone of the record's class (RFC 2136, 2.5.2): it
+/// has the record with class ANY, TTL 0 and no data, and with its cache-flush bit. With `use_edns` it takes answers of up
+/// to 1232 bytes.
 ///
 /// The origin is the zone's, and the record's owner lies in that zone. Refused for want of memory.
 pub fn delete_rrset(
     alloc: Global,
     id: u16,
-    entry: Record,
+    mut entry: Record,
     origin: Name,
     use_edns: bool,
 ) -> Result<Message, ProtoError>
@@ -167,10 +168,11 @@ pub fn delete_rrset(
     ensures means { IfOk result (λ m. DeletesSet entry origin (message_value m)) }
     ensures only { IsOkUnless result ProtoError.Memory }
 {
-    let record_type = entry.record_type();
     let dns_class = entry.dns_class;
-    let gone = empty_record(entry.name, record_type, DNSClass::ANY);
-    let updates = vec![in alloc; gone]?;
+    entry.rdata = RData::Update0(entry.record_type());
+    entry.dns_class = DNSClass::ANY;
+    entry.ttl = 0;
+    let updates = vec![in alloc; entry]?;
     update(
         alloc,
         id,

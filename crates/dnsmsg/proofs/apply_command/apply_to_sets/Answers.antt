@@ -1,6 +1,7 @@
 use Rattle.std.proofs.Common.{sym, ◌∙◌}
 use Rattle.op.specs.Message.{message_value}
-use Rattle.dnsmsg.proofs.ApplyLemmas.{parsed_map, update_answered}
+use Rattle.parsed_zone.proofs.ZoneMaps.{parsed_map}
+use Rattle.dnsmsg.proofs.ApplyLemmas.{update_answered}
 use Rattle.dnsmsg.proofs.apply_command.apply_to_sets.Goals as goal
 
 pub apply_update-requires : goal.apply_update-requires

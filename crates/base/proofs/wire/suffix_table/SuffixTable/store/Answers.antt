@@ -1,4 +1,4 @@
-use Rattle.std.proofs.Common.{rules, ◌≡◌, ◌≢◌, ◌∙◌, ◌++◌, ◌∷◌, ◌<◌, [], length, sym, ap, subst}
+use Rattle.std.proofs.Common.{rules, ◌≡◌, ◌≢◌, ◌∙◌, ◌++◌, ◌∷◌, ◌<◌, [], length, sym, ap, subst, append_assoc, refl}
 use Rattle.std.specs.Prelude.{All}
 use Rattle.base.specs.Labels.{labels_of}
 use Rattle.base.specs.State.{Stored}
@@ -27,3 +27,12 @@ invariant_of-self-2 c =
     (λ cs other. index_others c.in_ok-key.key.items c.self.inside.index c.insert.new.self _ updates (index_key cs) (λ same. other (one_key cs c.args.wire.now (same ∙ key)))) in
     let is : c.self.inside.others.items ++ t ∷ [] ≡ c.push.new.self.items = search rules in
     subst (IsTable after c.self.inside.first.items) is pushed
+
+pub invariant_of-self-in_err-insert : goal.invariant_of-self-in_err-insert
+invariant_of-self-in_err-insert c = rw (c.in_err-insert.ensures.err, c.in_ok-reserve.ensures.items) c.self.invariant
+
+pub invariant_of-self-in_err-reserve : goal.invariant_of-self-in_err-reserve
+invariant_of-self-in_err-reserve c = rw c.in_err-reserve.ensures.items c.self.invariant
+
+pub returns-clause-ok : goal.returns-clause-ok
+returns-clause-ok c = rw (← c.self.view_is, append_assoc, c.in_ok-push.ensures.items, c.in_ok-reserve.ensures.items, c.in_ok-suffix.ensures) refl

@@ -1,9 +1,0 @@
-use Rattle.std.proofs.Common.{refl}
-use Rattle.base.proofs.LawLemmas.{Keeps-same}
-use Rattle.dnsmsg.proofs.tests.messages.message.CarelessEmitAndCount.emit.Goals as goal
-
-pub returns-then-self-clause-keeps : goal.returns-then-self-clause-keeps
-returns-then-self-clause-keeps c = Keeps-same _ _ refl
-
-pub returns-else-self-clause-keeps : goal.returns-else-self-clause-keeps
-returns-else-self-clause-keeps c = Keeps-same _ _ refl

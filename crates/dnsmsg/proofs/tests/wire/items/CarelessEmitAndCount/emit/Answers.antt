@@ -1,6 +1,0 @@
-use Rattle.std.proofs.Common.{refl}
-use Rattle.base.proofs.LawLemmas.{Keeps-same}
-use Rattle.dnsmsg.proofs.tests.wire.items.CarelessEmitAndCount.emit.Goals as goal
-
-pub returns-clause-keeps : goal.returns-clause-keeps
-returns-clause-keeps c = Keeps-same _ _ refl

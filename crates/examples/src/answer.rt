@@ -1,0 +1,57 @@
+//! Answers a query, as a server does for each that it receives.
+
+ghost use Rattle.std.specs.Prelude.{◌≡◌, ◌⊎◌, IfErr, IfOk};
+ghost use Rattle.base.specs.declared.error.proto_error.ProtoError.TheVariants as refusals;
+ghost use Rattle.op.specs.Cut.{IsTooSmall, IsWritten};
+ghost use Rattle.op.specs.Fits.{Fits};
+ghost use Rattle.op.specs.Message.{message_value};
+ghost use Rattle.examples.specs.Callers.{IsAnswered, IsUnanswered, response_to};
+
+use base::{BinEncoder, ProtoError};
+use op::{Edns, Message, Metadata};
+use rr::Record;
+use std::alloc::Global;
+
+/// The bytes of the response that has these answers to the query that was received, as much of it as the client takes
+/// (RFC 1035, 4.1.1; RFC 2181, 9; RFC 6891, 6.2.5).
+///
+/// Refused with `Decode` where no message begins what was received, with `NotAllRecordsWritten` where its questions have
+/// no room, and for want of memory.
+pub fn respond(alloc: Global, received: &[u8], answers: Vec<Record>) -> Result<Vec<u8>, ProtoError>
+    ensures sent { IfOk result (λ sent. IsAnswered received.now answers.items sent.items) }
+    ensures refused { IfErr result (λ e. IsUnanswered received.now answers.items e) }
+{
+    let query = Message::from_vec(alloc, received)?;
+    let limit = query.max_payload();
+    let response = response_to(alloc, query, answers);
+    sent(alloc, &response, limit)
+}
+
+// The response to a query that has these answers.
+fn response_to(alloc: Global, query: Message, answers: Vec<Record>) -> Message
+    ensures { message_value result ≡ response_to (message_value query) answers.items }
+{
+    let metadata = Metadata::response_from_request(&query.metadata);
+    let mut response = Message::response(alloc, metadata.id, metadata.op_code);
+    response.metadata = metadata;
+    response.queries = query.queries;
+    response.answers = answers;
+    if query.edns.is_some() {
+        response.set_edns(Edns::new(alloc));
+    }
+    response
+}
+
+// The bytes of a message, as much of it as the limit has room for.
+fn sent(alloc: Global, message: &Message, limit: u16) -> Result<Vec<u8>, ProtoError>
+    ensures written { Fits (message_value message.now) → IfOk result (λ bytes. IsWritten (message_value message.now) limit bytes.items) }
+    ensures refused { IfErr result (λ e. (e ≡ refusals.Memory) ⊎ IsTooSmall (message_value message.now) limit e) }
+{
+    let mut bytes = Vec::new(alloc);
+    {
+        let mut encoder = BinEncoder::new(&mut bytes);
+        encoder.set_max_size(limit);
+        message.emit(&mut encoder)?;
+    }
+    Ok(bytes)
+}

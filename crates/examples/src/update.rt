@@ -1,0 +1,82 @@
+//! Creates a record set in the zone of a text, by an update that is sent and received.
+
+ghost use Rattle.std.specs.Prelude.{◌≡◌, ◌⊎◌, IfErr, IfOk, true};
+ghost use Rattle.base.specs.NameOrder.{is_zone_of};
+ghost use Rattle.base.specs.declared.error.proto_error.ProtoError.TheVariants as refusals;
+ghost use Rattle.op.specs.Cut.{IsTooSmall, IsWritten};
+ghost use Rattle.op.specs.Message.{message_value};
+ghost use Rattle.op_use.specs.SoundSet.{IsSendable};
+ghost use Rattle.examples.specs.Callers.{IsCreated, IsNoZone, IsNotReceived, IsReceived, IsUnsent, IsZoneOfText, creating};
+
+use crate::refusal::Refusal;
+use base::{DNSClass, Name, ProtoError, RrKey};
+use op::{Message, ResponseCode};
+use op_use::apply::laws::built_updates_apply_as_named;
+use op_use::apply_update;
+use op_use::update_message::create;
+use parsed_zone::are_sets_in;
+use rr::RecordSet;
+use std::alloc::Global;
+use std::collections::BTreeMap;
+use txt::Parser;
+
+/// The zone of a text, of the class IN, behind the update that creates a set in it, with the server's code: the set is merged
+/// into the zone, or, where there is one of its owner and type, the zone is as it was and the code YXRRSet (RFC 2136, 3).
+///
+/// The set's owner lies in the zone of the origin. Refused with `Parse` for a text that is no zone's, with `Class` for a
+/// zone of another class, with `Input` for an update that doesn't fit a message, and for want of memory.
+pub fn create_in(
+    alloc: Global,
+    origin: &Name,
+    text: &str,
+    set: RecordSet,
+) -> Result<(ResponseCode, BTreeMap<RrKey, RecordSet>), Refusal>
+    requires { is_zone_of origin.now set.name ≡ true }
+    ensures created { IfOk result (λ r. IsCreated origin.now text.now set r.0 r.1) }
+    ensures refused { IfErr result (λ e. IsUnsent origin.now set e ⊎ IsNoZone origin.now text.now e) }
+{
+    built_updates_apply_as_named();
+    let bytes = sent(alloc, origin, set)?;
+    let update = received(alloc, &bytes)?;
+    let sets = zone_of_text(alloc, origin, text)?;
+    Ok(apply_update(alloc, &sets, origin, DNSClass::IN, &update)?)
+}
+
+// The bytes of the update that creates a set.
+fn sent(alloc: Global, origin: &Name, set: RecordSet) -> Result<Vec<u8>, ProtoError>
+    requires { is_zone_of origin.now set.name ≡ true }
+    ensures written { IfOk result (λ bytes. IsSendable origin.now set → IsWritten (creating origin.now set) 65535 bytes.items) }
+    ensures refused { IfErr result (λ e. (e ≡ refusals.Memory) ⊎ IsTooSmall (creating origin.now set) 65535 e) }
+{
+    let update = create(alloc, 1, set, origin.clone()?, false)?;
+    update.to_vec()
+}
+
+// The message that bytes begin with, if it was not cut.
+fn received(alloc: Global, bytes: &[u8]) -> Result<Message, Refusal>
+    ensures whole { IfOk result (λ m. IsReceived bytes.now (message_value m)) }
+    ensures refused { IfErr result (λ e. IsNotReceived bytes.now e) }
+{
+    let message = Message::from_vec(alloc, bytes)?;
+    if message.metadata.truncation {
+        return Err(Refusal::Input);
+    }
+    Ok(message)
+}
+
+// The sets of a zone of the class IN.
+fn zone_of_text(
+    alloc: Global,
+    origin: &Name,
+    text: &str,
+) -> Result<BTreeMap<RrKey, RecordSet>, Refusal>
+    ensures zone { IfOk result (λ sets. IsZoneOfText origin.now text.now sets) }
+    ensures refused { IfErr result (λ e. IsNoZone origin.now text.now e) }
+{
+    let includes = BTreeMap::new(alloc);
+    let (_, sets) = Parser::new(alloc, text, &includes, Some(origin.clone()?)).parse()?;
+    if !are_sets_in(&sets) {
+        return Err(Refusal::Class);
+    }
+    Ok(sets)
+}

@@ -1,0 +1,7 @@
+//! What the tests of several crates ask and make.
+#![tactic(auto)]
+
+pub mod bytes;
+pub mod forms;
+pub mod hashes;
+pub mod texts;

@@ -1,0 +1,254 @@
+//! The tokens of zone text and the texts of TTLs.
+//!
+//! A row has a text and what comes of it: the tokens with one space behind each, and then `end` or `fault`. Items stand
+//! in brackets, those of a list in parentheses beside; a blank is `_`, the end of a line `/`.
+
+use base::{Lexer, ParseError, Token, parse_ttl};
+use std::alloc::{AllocError, Global};
+
+// More tokens than any row has.
+const ENOUGH: usize = 16;
+
+// One item, as rows show it.
+fn show_item(shown: &mut String, item: &str) -> Result<(), AllocError> {
+    shown.push_str("[")?;
+    shown.push_str(item)?;
+    shown.push_str("]")
+}
+
+fn show_list(shown: &mut String, items: &[String]) -> Result<(), AllocError> {
+    shown.push_str("(")?;
+    for item in items {
+        show_item(shown, item)?;
+    }
+    shown.push_str(")")
+}
+
+// A token, as rows show it, but for the space behind it.
+fn show(shown: &mut String, token: &Token) -> Result<(), AllocError> {
+    let sign = match token {
+        Token::CharData(item) => return show_item(shown, item),
+        Token::List(items) => return show_list(shown, items),
+        Token::Blank => "_",
+        Token::EOL => "/",
+        Token::At => "@",
+        Token::Origin => "$ORIGIN",
+        Token::Include => "$INCLUDE",
+        Token::Ttl => "$TTL",
+    };
+    shown.push_str(sign)
+}
+
+// How a lexer ends: at the text's end, or by its fault.
+fn shown_end(read: &Result<Option<Token>, ParseError>) -> &'static str {
+    match read {
+        Ok(None) => "end",
+        Err(ParseError::Lexer) => "fault",
+        _ => "neither",
+    }
+}
+
+// What comes of a text. At its end, and at a fault, the lexer is asked a second time and answers the same.
+fn tokens_of(alloc: Global, text: &str) -> Result<String, AllocError> {
+    let mut shown = String::new(alloc);
+    let mut lexer = Lexer::new(alloc, text);
+    for _ in 0..ENOUGH {
+        let read = lexer.next_token();
+        if let Ok(Some(token)) = &read {
+            show(&mut shown, token)?;
+            shown.push_str(" ")?;
+        } else {
+            let ended = shown_end(&read);
+            let again = lexer.next_token();
+            if shown_end(&again) == ended {
+                shown.push_str(ended)?;
+            }
+            return Ok(shown);
+        }
+    }
+    Ok(shown)
+}
+
+// Each text, and its tokens.
+const ROWS: &[(&'static str, &'static str)] = &[
+    // lines and blanks
+    ("", "end"),
+    ("\n", "/ end"),
+    ("\r", "/ end"),
+    ("\r\n", "/ end"),
+    ("\n\r", "/ / end"),
+    ("\r\r\n\n", "/ / / end"),
+    (" ", "_ end"),
+    ("\t \t", "_ end"),
+    ("a", "[a] end"),
+    ("a ", "[a] end"),
+    (" a", "_ [a] end"),
+    ("a\tb", "[a] [b] end"),
+    ("a \t b", "[a] [b] end"),
+    ("a\n b", "[a] / _ [b] end"),
+    ("a\r\n\tb", "[a] / _ [b] end"),
+    ("a\n\nb", "[a] / / [b] end"),
+    (" \n", "_ / end"),
+    ("a \r\nb\r", "[a] / [b] / end"),
+    // comments
+    (";", "end"),
+    ("; a b", "end"),
+    ("; a\nb", "/ [b] end"),
+    (" ; a\nb", "_ / [b] end"),
+    ("a;b\nc", "[a] / [c] end"),
+    ("a ; say \"b\nc", "[a] / [c] end"),
+    (";(\n", "/ end"),
+    ("; \\\nb", "/ [b] end"),
+    (";\r\nb", "/ [b] end"),
+    ("\";\" b", "[;] [b] end"),
+    ("a\\;b c", "[a\\;b] [c] end"),
+    ("; é\nb", "/ [b] end"),
+    // quoted texts
+    ("\"\"", "[] end"),
+    ("\"a b\"", "[a b] end"),
+    ("\"a\nb\"", "[a\nb] end"),
+    ("\"a\r\nb\" c", "[a\r\nb] [c] end"),
+    ("\"a\\\"b\"", "[a\\\"b] end"),
+    ("\"a\\\\\"b", "[a\\\\] [b] end"),
+    ("\"a\"\"b\"", "[a] [b] end"),
+    ("a\"b\"c", "[a] [b] [c] end"),
+    ("\"@\"", "[@] end"),
+    ("\"$x\"", "[$x] end"),
+    ("\"$TTL\"", "[$TTL] end"),
+    ("\"(\"", "[(] end"),
+    ("\"a\n\" b", "[a\n] [b] end"),
+    ("\"", "fault"),
+    ("\"a", "fault"),
+    ("\"a\\\"", "fault"),
+    ("a \"b\n", "[a] fault"),
+    // escapes
+    ("a\\ b", "[a\\ b] end"),
+    ("\\(a", "[\\(a] end"),
+    ("\\@", "[\\@] end"),
+    ("\\$x", "[\\$x] end"),
+    ("\\\"a", "[\\\"a] end"),
+    ("a\\\\ b", "[a\\\\] [b] end"),
+    ("a\\000b", "[a\\000b] end"),
+    ("a\\\nb", "[a\\\nb] end"),
+    ("a\\\r\nb", "[a\\\r] / [b] end"),
+    ("\\é", "[\\é] end"),
+    ("\\", "fault"),
+    ("a\\", "fault"),
+    ("(a\\", "fault"),
+    // lists
+    ("()", "() end"),
+    ("( )", "() end"),
+    ("(a b)", "([a][b]) end"),
+    ("( a\nb ) c", "([a][b]) [c] end"),
+    ("(a ; b )\nc)", "([a][c]) end"),
+    ("(a ; b \" (\r\n\"c d\")", "([a][c d]) end"),
+    ("(\"\")", "([]) end"),
+    ("(@)", "([@]) end"),
+    ("a(b)c", "[a] ([b]) [c] end"),
+    ("(a)\n b", "([a]) / _ [b] end"),
+    ("(a\n) b", "([a]) [b] end"),
+    ("(\n)\nb", "() / [b] end"),
+    ("(a)(b)", "([a]) ([b]) end"),
+    ("(a\\) b)", "([a\\)][b]) end"),
+    ("(\"$x\")", "([$x]) end"),
+    ("(a$x)", "([a$x]) end"),
+    ("(", "fault"),
+    ("(a", "fault"),
+    ("(a;)", "fault"),
+    ("(a(b))", "fault"),
+    ("(\"a)", "fault"),
+    ("($x)", "fault"),
+    ("($TTL)", "fault"),
+    ("($ORIGIN)", "fault"),
+    ("($INCLUDE)", "fault"),
+    (")", "fault"),
+    ("a)", "[a] fault"),
+    ("(a))", "([a]) fault"),
+    // items of their own
+    ("@", "@ end"),
+    ("@ A", "@ [A] end"),
+    ("@a", "[@a] end"),
+    ("a@", "[a@] end"),
+    ("@(", "@ fault"),
+    ("$ORIGIN a.", "$ORIGIN [a.] end"),
+    ("$INCLUDE f", "$INCLUDE [f] end"),
+    ("$TTL 5\n", "$TTL [5] / end"),
+    ("a $TTL", "[a] $TTL end"),
+    (" $ORIGIN", "_ $ORIGIN end"),
+    ("$TTL;5", "$TTL end"),
+    ("$TTL\"5\"", "$TTL [5] end"),
+    ("$ttl 5", "fault"),
+    ("$Origin a.", "fault"),
+    ("$TTLS", "fault"),
+    ("$", "fault"),
+    ("$X y", "fault"),
+    ("a $", "[a] fault"),
+    ("a$", "[a$] end"),
+    ("a\u{0}b\u{c}c\u{feff}", "[a\u{0}b\u{c}c\u{feff}] end"),
+    ("a\u{2028}b", "[a\u{2028}b] end"),
+];
+
+#[test]
+fn rows_of_tokens(rt: HostRuntime) -> Result<(), AllocError> {
+    for &(text, expected) in ROWS {
+        let shown = tokens_of(rt.alloc(), text)?;
+        assert!(rt; shown.as_str() == expected, "{} gives {}", text, shown);
+        drop(shown);
+    }
+    Ok(())
+}
+
+// Whether a text says so many seconds, or none.
+fn says(text: &str, seconds: Option<u32>) -> bool {
+    match parse_ttl(text) {
+        Ok(read) => Some(read) == seconds,
+        Err(ParseError::BadTtl) => seconds.is_none(),
+        Err(_) => false,
+    }
+}
+
+#[test]
+fn ttl_texts(rt: HostRuntime) {
+    for &(text, seconds) in &[
+        ("0", 0),
+        ("00060", 60),
+        ("1h30", 3_630),
+        ("1w2d3h4m5s", 788_645),
+        ("1W2D3H4M5S", 788_645),
+        ("5s4m", 245),
+        ("1m1m", 120),
+        ("1s", 1),
+        ("1d", 86_400),
+        ("0000000000000000007", 7),
+        ("4294967295", 4_294_967_295),
+        ("4294967294s1s", 4_294_967_295),
+        ("7101w3d6h28m15s", 4_294_967_295),
+        ("7101w3d6h28m15", 4_294_967_295),
+        ("0w4294967295", 4_294_967_295),
+    ] {
+        assert!(rt; says(text, Some(seconds)), "{}", text);
+    }
+    for text in [
+        "",
+        "m",
+        "5x",
+        "x",
+        "1h m",
+        "1hm",
+        "-1",
+        "+1",
+        " 1",
+        "1 ",
+        "1.5h",
+        "4294967296",
+        "4294967295s1s",
+        "7101w3d6h28m16s",
+        "7102w",
+        "18446744073709551616",
+        "1w4294967295",
+        "٣",
+        "1\u{212a}",
+    ] {
+        assert!(rt; says(text, None), "{}", text);
+    }
+}

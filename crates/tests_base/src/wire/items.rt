@@ -1,0 +1,199 @@
+//! Items that are written one by one, and counted.
+
+ghost use Rattle.std.specs.Prelude.{◌≡◌, Ok};
+
+use super::Step::{self, Letters, Limit, Name as Named};
+use super::{are_taken, name_of};
+use base::{BinEncoder, DecodeError, EmitAndCount, Name, ProtoError};
+use std::alloc::Global;
+
+/// A part that answers a number and writes nothing.
+#[derive(Drop)]
+struct Careless {
+    number: usize,
+}
+
+impl EmitAndCount for Careless {
+    ghost use Rattle.std.specs.Prelude.{⊤};
+
+    ghost can_emit = { λ _. ⊤ };
+
+    ghost emits = { λ s a result t b. (result ≡ Ok s.number) × (b ≡ a) };
+
+    fn emit(&mut self, _encoder: &mut BinEncoder<'_>) -> Result<usize, ProtoError> {
+        Ok(self.number)
+    }
+}
+
+/// How many items are written, and whether that is all of them; 100 for another refusal.
+fn count_of(answer: Result<usize, ProtoError>) -> (usize, bool) {
+    let count = match &answer {
+        Ok(count) => (*count, true),
+        Err(ProtoError::NotAllRecordsWritten { count }) => (*count, false),
+        Err(_) => (100, false),
+    };
+    drop(answer);
+    count
+}
+
+/// What a part answers.
+fn counted<P: EmitAndCount>(part: &mut P, encoder: &mut BinEncoder<'_>) -> (usize, bool)
+    requires { P.can_emit part.old }
+{
+    count_of(part.emit(encoder))
+}
+
+/// Writes parts that fit, and answers whether they count right.
+fn whole_parts_count(encoder: &mut BinEncoder<'_>) -> bool {
+    let careless = counted(&mut Careless { number: 7 }, encoder);
+    let before = encoder.len();
+    let whole = counted(&mut [1u16, 2, 3].iter(), encoder);
+    careless == (7, true) && before == 0 && whole == (3, true)
+}
+
+/// Writes parts that fit and one that is cut, and answers whether they count right.
+fn parts_are_counted(encoder: &mut BinEncoder<'_>) -> bool {
+    let whole = whole_parts_count(encoder);
+    encoder.set_max_size(9);
+    let cut = counted(&mut [4u16, 5, 6].iter(), encoder);
+    whole && cut == (1, false)
+}
+
+/// Whether parts count right and are written so.
+fn parts_are_written(alloc: Global, wanted: &[u8]) -> bool {
+    let mut bytes = Vec::new(alloc);
+    let mut encoder = BinEncoder::new(&mut bytes);
+    let are_counted = parts_are_counted(&mut encoder);
+    drop(encoder);
+    let same = are_counted && bytes.as_slice() == wanted;
+    drop(bytes);
+    same
+}
+
+#[test]
+fn parts_count(rt: HostRuntime) {
+    assert!(rt; parts_are_written(rt.alloc(), b"\x00\x01\x00\x02\x00\x03\x00\x04"));
+}
+
+/// Whether two numbers fit and the third, which doesn't, is taken.
+fn two_fit(numbers: &[u16], encoder: &mut BinEncoder<'_>) -> bool {
+    let mut items = numbers.iter();
+    encoder.set_max_size(5);
+    let two = count_of(encoder.emit_all(&mut items));
+    two == (2, false) && items.len() == 0 && encoder.len() == 4
+}
+
+/// Whether none of no numbers are written, and none where no byte fits.
+fn none_fit(numbers: &[u16], encoder: &mut BinEncoder<'_>) -> bool {
+    let none = count_of(encoder.emit_all(&mut [].iter() as &mut std::slice::Iter<'_, u16>));
+    encoder.set_max_size(0);
+    let without_room = count_of(encoder.emit_all(&mut numbers.iter()));
+    none == (0, true) && without_room == (0, false)
+}
+
+/// Whether what fits of the numbers is written so.
+fn fitting_are_written(alloc: Global, numbers: &[u16], wanted: &[u8]) -> bool {
+    let mut bytes = Vec::new(alloc);
+    let mut encoder = BinEncoder::new(&mut bytes);
+    let two = two_fit(numbers, &mut encoder);
+    let none = none_fit(numbers, &mut encoder);
+    drop(encoder);
+    let same = two && none && bytes.as_slice() == wanted;
+    drop(bytes);
+    same
+}
+
+#[test]
+fn numbers_that_fit(rt: HostRuntime) {
+    assert!(rt; fitting_are_written(rt.alloc(), &[1, 2, 3], b"\x00\x01\x00\x02"));
+}
+
+/// `a.b.`, `c.b.` and `d.e.`.
+fn three_names(alloc: Global) -> Result<Vec<Name>, DecodeError> {
+    let mut names = Vec::new(alloc);
+    for &name in &[
+        b"\x01a\x01b\0".as_slice(),
+        b"\x01c\x01b\0".as_slice(),
+        b"\x01d\x01e\0".as_slice(),
+    ] {
+        names.push(name_of(alloc, name)?)?;
+    }
+    Ok(names)
+}
+
+/// Names that are written again.
+const AGAIN: &[(Step, u8)] = &[
+    (Limit(1000), 0),
+    (Named(b"\x01d\x01e\0"), 0),
+    (Named(b"\x01d\x01e\0"), 0),
+    (Named(b"\x01c\x01b\0"), 0),
+    (Named(b"\x01e\0"), 0),
+];
+
+/// Whether the first two of the names fit behind as many others, and the bytes of the third are taken back: the suffixes
+/// that were stored with them are not pointed at when names are written again.
+fn write_again(alloc: Global, count: u8, names: &[Name], encoder: &mut BinEncoder<'_>) -> bool {
+    let start = usize::from(count) * 4;
+    let letters = [(Letters(count), 0), (Limit(u16::from(count) * 4 + 12), 0)];
+    let filled = are_taken(alloc, &letters, encoder);
+    let two = count_of(encoder.emit_all(&mut names.iter()));
+    let is_taken_back = encoder.len() == start + 9;
+    filled && two == (2, false) && is_taken_back && are_taken(alloc, AGAIN, encoder)
+}
+
+/// Whether that is so, and what is written behind as many others ends so.
+fn ends_with(alloc: Global, count: u8, names: &[Name], wanted: &[u8]) -> bool {
+    let mut bytes = Vec::new(alloc);
+    let mut encoder = BinEncoder::new(&mut bytes);
+    let are_written = write_again(alloc, count, names, &mut encoder);
+    drop(encoder);
+    let same = are_written && bytes.get(usize::from(count) * 4..) == Some(wanted);
+    drop(bytes);
+    same
+}
+
+/// How many names stand before the three, and where `a.b.` begins.
+const STARTS: &[(u8, u8)] = &[
+    (0, 0),
+    (20, 80),
+    (21, 84),
+    (22, 88),
+    (23, 92),
+    (24, 96),
+    (40, 160),
+];
+
+#[test]
+fn suffixes_go_with_their_bytes(rt: HostRuntime) -> Result<(), DecodeError> {
+    let names = three_names(rt.alloc())?;
+    for &(count, start) in STARTS {
+        let wanted = [
+            1,
+            b'a',
+            1,
+            b'b',
+            0,
+            1,
+            b'c',
+            0xC0,
+            start.wrapping_add(2),
+            1,
+            b'd',
+            1,
+            b'e',
+            0,
+            0xC0,
+            start.wrapping_add(9),
+            0xC0,
+            start.wrapping_add(5),
+            0xC0,
+            start.wrapping_add(11),
+        ];
+        assert!(rt;
+            ends_with(rt.alloc(), count, &names, &wanted),
+            "behind {count}"
+        );
+    }
+    drop(names);
+    Ok(())
+}

@@ -1,0 +1,145 @@
+//! Texts of names and numbers.
+
+use super::Row;
+
+// Items of data that is one name.
+pub(super) const NAMES: &[Row] = &[
+    (&["ns.Example."], "ns.Example."),
+    (&["."], "."),
+    (&["ns"], "ns"),
+    (&["ns.sub"], "ns.sub"),
+    (&[r"a\.b.\065."], r"a\.b.A."),
+    (&["*.example."], "*.example."),
+    (&["@"], "refused 23"),
+    (&[""], "refused 23"),
+    (&["a..b"], "refused 23"),
+    (&[".a"], "refused 23"),
+    (&["a b."], "refused 23"),
+    (&[r"a\256."], "refused 23"),
+    (&[r"a\"], "refused 23"),
+    (&["é."], "refused 23"),
+    (
+        &["aaaaaaaaaaaaaaaaaaaaaaaaaaaaaaaaaaaaaaaaaaaaaaaaaaaaaaaaaaaaaaaa."],
+        "refused 23",
+    ),
+    (&[], "refused 23"),
+    (&["ns.", "ns."], "refused 23"),
+    (&["ns.", ""], "refused 23"),
+];
+
+// The same under the origin `sub.example.`.
+pub(super) const NAMES_UNDER_AN_ORIGIN: &[Row] = &[
+    (&["ns.Example."], "ns.Example."),
+    (&["ns"], "ns.sub.example."),
+    (&["a.b"], "a.b.sub.example."),
+    (&["@"], "sub.example."),
+    (&[r"\@"], r"\@.sub.example."),
+    (&["."], "."),
+    (&[""], "refused 23"),
+    (&["@."], r"\@."),
+    (&["@", "@"], "refused 23"),
+];
+
+// The same under the relative origin `sub`.
+pub(super) const NAMES_UNDER_A_RELATIVE_ORIGIN: &[Row] = &[
+    (&["ns"], "ns.sub."),
+    (&["@"], "sub"),
+    (&["ns."], "ns."),
+];
+
+pub(super) const MAIL: &[Row] = &[
+    (&["10", "mail.example."], "10 mail.example."),
+    (&["0", "."], "0 ."),
+    (&["65535", "mail"], "65535 mail"),
+    (&["000000000010", "mail."], "10 mail."),
+    (&["65536", "mail."], "refused 23"),
+    (&["18446744073709551626", "mail."], "refused 23"),
+    (&["+10", "mail."], "refused 23"),
+    (&["-0", "mail."], "refused 23"),
+    (&["1O", "mail."], "refused 23"),
+    (&["0x10", "mail."], "refused 23"),
+    (&[" 10", "mail."], "refused 23"),
+    (&["1h", "mail."], "refused 23"),
+    (&["٣", "mail."], "refused 23"),
+    (&["", "mail."], "refused 23"),
+    (&["10", ""], "refused 23"),
+    (&["10", "@"], "refused 23"),
+    (&["mail.", "10"], "refused 23"),
+    (&["10"], "refused 23"),
+    (&[], "refused 23"),
+    (&["10", "mail.", "mail."], "refused 23"),
+];
+
+pub(super) const MAIL_UNDER: &[Row] = &[
+    (&["10", "mail"], "10 mail.example."),
+    (&["10", "@"], "10 example."),
+    (&["10", "mail."], "10 mail."),
+];
+
+pub(super) const SERVICES: &[Row] = &[
+    (&["1", "2", "5060", "sip.example."], "1 2 5060 sip.example."),
+    (&["0", "0", "0", "."], "0 0 0 ."),
+    (&["65535", "65535", "65535", "sip"], "65535 65535 65535 sip"),
+    (&["01", "002", "0003", "sip."], "1 2 3 sip."),
+    (&["65536", "2", "3", "sip."], "refused 23"),
+    (&["1", "65536", "3", "sip."], "refused 23"),
+    (&["1", "2", "65536", "sip."], "refused 23"),
+    (&["+1", "2", "3", "sip."], "refused 23"),
+    (&["1", "+2", "3", "sip."], "refused 23"),
+    (&["1", "2", "+3", "sip."], "refused 23"),
+    (&["1", "2", "3", "a..b"], "refused 23"),
+    (&["1", "2", "3"], "refused 23"),
+    (&["1", "2", "sip."], "refused 23"),
+    (&[], "refused 23"),
+    (&["1", "2", "3", "sip.", "4"], "refused 23"),
+];
+
+pub(super) const SERVICES_UNDER: &[Row] = &[
+    (&["1", "2", "3", "sip"], "1 2 3 sip.example."),
+    (&["1", "2", "3", "."], "1 2 3 ."),
+];
+
+pub(super) const STARTS: &[Row] = &[
+    (&["m.", "r.", "1", "2", "3", "4", "5"], "m. r. 1 2 3 4 5"),
+    (&["m", "r.s", "0", "0", "0", "0", "0"], "m r.s 0 0 0 0 0"),
+    (
+        &["m.", "r.", "007", "1h30", "2M", "1w2d3h4m5s", "4294967295"],
+        "m. r. 7 3630 120 788645 4294967295",
+    ),
+    (
+        &["m.", "r.", "4294967295", "1s", "1m", "1d", "01w"],
+        "m. r. 4294967295 1 60 86400 604800",
+    ),
+    (
+        &["m.", "r.", "4294967296", "2", "3", "4", "5"],
+        "refused 23",
+    ),
+    (&["m.", "r.", "1h", "2", "3", "4", "5"], "refused 23"),
+    (&["m.", "r.", "+1", "2", "3", "4", "5"], "refused 23"),
+    (&["m.", "r.", "", "2", "3", "4", "5"], "refused 23"),
+    (&["m.", "r.", "1", "m", "3", "4", "5"], "refused 23"),
+    (&["m.", "r.", "1", "2", "5x", "4", "5"], "refused 23"),
+    (&["m.", "r.", "1", "2", "3", "", "5"], "refused 23"),
+    (
+        &["m.", "r.", "1", "2", "3", "4", "4294967296"],
+        "refused 23",
+    ),
+    (&["m.", "r.", "1", "+2", "3", "4", "5"], "refused 23"),
+    (&["a..b", "r.", "1", "2", "3", "4", "5"], "refused 23"),
+    (&["m.", "@", "1", "2", "3", "4", "5"], "refused 23"),
+    (&["m.", "r.", "1", "2", "3", "4"], "refused 23"),
+    (&["m.", "1", "2", "3", "4", "5"], "refused 23"),
+    (&[], "refused 23"),
+    (&["m.", "r.", "1", "2", "3", "4", "5", "6"], "refused 23"),
+];
+
+pub(super) const STARTS_UNDER: &[Row] = &[
+    (
+        &["ns", "admin", "1", "2", "3", "4", "5"],
+        "ns.example. admin.example. 1 2 3 4 5",
+    ),
+    (
+        &["@", "r.", "1", "2", "3", "4", "5"],
+        "example. r. 1 2 3 4 5",
+    ),
+];

@@ -1,0 +1,99 @@
+//! EDNS: its fields, its record and its options.
+
+use crate::messages::values::edns_with_option;
+use base::{ProtoError, RecordType};
+use op::{DEFAULT_MAX_PAYLOAD_LEN, Edns, EdnsFlags};
+use rr::Record;
+use std::alloc::{AllocError, Global};
+use test_tools::forms::{has_text, is_copied, is_written_as};
+
+// A number, and the flags that it stands for.
+const FLAGS: &[(u16, bool, u16)] = &[
+    (0, false, 0),
+    (0x8001, true, 1),
+    (0x7FFF, false, 0x7FFF),
+    (0xFFFF, true, 0x7FFF),
+];
+
+#[test]
+fn flags_are_read_and_written(rt: HostRuntime) {
+    for &(number, dnssec_ok, z) in FLAGS {
+        let flags = EdnsFlags::from(number);
+        assert!(rt; flags == EdnsFlags { dnssec_ok, z }, "{number}");
+        assert!(rt; u16::from(flags) == number, "{number}");
+    }
+    // there are fifteen bits beside DO
+    let wide = EdnsFlags {
+        dnssec_ok: false,
+        z: 0x8001,
+    };
+    assert!(rt; u16::from(wide) == 1);
+}
+
+fn edns(alloc: Global) -> Edns {
+    let mut edns = Edns::new(alloc);
+    edns.set_rcode_high(1).set_version(0x40).set_dnssec_ok(true);
+    edns.set_max_payload(0x8008);
+    edns.flags_mut().z = 1;
+    edns
+}
+
+// The payload of EDNS that was told these numbers, one after another.
+fn payload(alloc: Global, told: &[u16]) -> u16 {
+    let mut edns = Edns::new(alloc);
+    for number in told {
+        edns.set_max_payload(*number);
+    }
+    let payload = edns.max_payload();
+    drop(edns);
+    payload
+}
+
+#[test]
+fn the_fields_of_edns(rt: HostRuntime) {
+    let edns = edns(rt.alloc());
+    let text = "version: 64 dnssec_ok: true z_flags: 1 max_payload: 32776 opts: 0";
+    assert!(rt; has_text(rt.alloc(), &edns, text));
+    let bytes = b"\x00\x00\x29\x80\x08\x01\x40\x80\x01\x00\x00";
+    assert!(rt; is_written_as(rt.alloc(), &edns, bytes));
+    assert!(rt; (edns.rcode_high(), edns.version(), edns.flags().z) == (1, 64, 1));
+    assert!(rt; is_copied(edns));
+    assert!(rt; payload(rt.alloc(), &[]) == 512);
+    assert!(rt; payload(rt.alloc(), &[100]) == 512);
+    assert!(rt; payload(rt.alloc(), &[100, DEFAULT_MAX_PAYLOAD_LEN]) == 1232);
+}
+
+// Whether one option stands there, of this code and not of the other.
+fn has_option(edns: &Edns, code: u16, other: u16) -> bool {
+    let is_found = edns.option(code).is_some() && edns.option(other).is_none();
+    is_found && edns.options().as_ref().len() == 1
+}
+
+#[test]
+fn options_are_put_and_found(rt: HostRuntime) -> Result<(), AllocError> {
+    let edns = edns_with_option(rt.alloc())?;
+    assert!(rt; has_option(&edns, 65001, 65002));
+    drop(edns);
+    Ok(())
+}
+
+// Whether the record of that EDNS is an OPT record of this TTL, of which the same EDNS is made.
+fn is_of_record(edns: &Edns, ttl: u32) -> Result<bool, ProtoError> {
+    let record = Record::try_from(edns)?;
+    let is_opt = record.record_type() == RecordType::OPT && record.ttl == ttl;
+    let again = Edns::try_from(&record);
+    drop(record);
+    let again = again?;
+    let same = again == *edns;
+    drop(again);
+    Ok(is_opt && same)
+}
+
+#[test]
+fn a_record_is_made_of_edns(rt: HostRuntime) -> Result<(), ProtoError> {
+    let edns = edns(rt.alloc());
+    let is_of_record = is_of_record(&edns, 0x0140_8001);
+    drop(edns);
+    assert!(rt; is_of_record?);
+    Ok(())
+}

@@ -1,0 +1,9 @@
+//! Tests of `rr`: records and record sets.
+#![tactic(auto)]
+
+#[cfg(test)]
+mod records;
+#[cfg(test)]
+mod refused_memory;
+#[cfg(test)]
+mod sets;
