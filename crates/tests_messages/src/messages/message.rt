@@ -1,7 +1,9 @@
 ghost use Rattle.std.specs.Prelude.{◌≡◌};
 
+mod adding;
 pub(crate) mod parts;
 mod reading;
+mod refusals;
 mod written_rows;
 
 use crate::messages::values::{ask, if_filled, signature};

@@ -60,7 +60,7 @@ fn a_lower_question_keeps_the_one_that_was_asked(rt: HostRuntime) -> Result<(), 
     assert!(rt; keeps(rt.alloc(), read, names, RecordType::AAAA, DNSClass::IN));
     let made = lowered(rt.alloc())?;
     assert!(rt; is_read_as(rt.alloc(), WWW, &made));
-    drop(made);
+    assert!(rt; is_copied(made));
     Ok(())
 }
 
