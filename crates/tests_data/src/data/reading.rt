@@ -4,7 +4,7 @@ use super::Datum::{self, Carried, Empty, Text, Wire};
 use super::kinds::{holds, null, signature};
 use super::made;
 use base::{BinDecodable, BinDecoder, DecodeError, RecordType};
-use base_data::{A, RData, RecordData, SRV};
+use base_data::{A, MX, RData, RecordData, SOA, SRV};
 use std::alloc::{AllocError, Global};
 use std::net::Ipv4Addr;
 use std::test::Fail;
@@ -220,18 +220,59 @@ fn addresses_are_read_alone(rt: HostRuntime) -> Result<(), DecodeError> {
     Ok(())
 }
 
-/// Whether the host of a service has this priority, weight and port.
-fn has_numbers(alloc: Global, wire: &[u8], numbers: (u16, u16, u16)) -> bool {
+/// Whether the host of a service has this priority, weight, port and target.
+fn is_service(alloc: Global, wire: &[u8], numbers: (u16, u16, u16), target: &str) -> bool {
     let found: Result<SRV, DecodeError> = read(alloc, wire);
-    let has_numbers = match &found {
-        Ok(service) => (service.priority(), service.weight(), service.port()) == numbers,
+    let is_service = match &found {
+        Ok(service) => {
+            (service.priority(), service.weight(), service.port()) == numbers
+                && has_text(alloc, service.target(), target)
+        }
         Err(_) => false,
     };
     drop(found);
-    has_numbers
+    is_service
+}
+
+/// Whether the mail exchange has this preference and name.
+fn is_exchange(alloc: Global, wire: &[u8], preference: u16, exchange: &str) -> bool {
+    let found: Result<MX, DecodeError> = read(alloc, wire);
+    let is_exchange = match &found {
+        Ok(mail) => mail.preference() == preference && has_text(alloc, mail.exchange(), exchange),
+        Err(_) => false,
+    };
+    drop(found);
+    is_exchange
+}
+
+/// Whether the start of a zone has these names and numbers.
+fn is_start(alloc: Global, wire: &[u8], names: (&str, &str), numbers: [u32; 5]) -> bool {
+    let found: Result<SOA, DecodeError> = read(alloc, wire);
+    let is_start = match &found {
+        Ok(start) => {
+            let times = [
+                start.serial(),
+                start.refresh(),
+                start.retry(),
+                start.expire(),
+                start.minimum(),
+            ];
+            times == numbers
+                && has_text(alloc, start.mname(), names.0)
+                && has_text(alloc, start.rname(), names.1)
+        }
+        Err(_) => false,
+    };
+    drop(found);
+    is_start
 }
 
 #[test]
 fn fields_stand_in_their_order(rt: HostRuntime) {
-    assert!(rt; has_numbers(rt.alloc(), &[0, 1, 0, 2, 0, 3, 1, b't', 0], (1, 2, 3)));
+    let wire = [0, 1, 0, 2, 0, 3, 1, b't', 0];
+    assert!(rt; is_service(rt.alloc(), &wire, (1, 2, 3), "t."));
+    assert!(rt; is_exchange(rt.alloc(), b"\x01\x02\x01e\x00", 258, "e."));
+    let wire =
+        b"\x01m\x00\x01r\x00\x00\x00\x00\x01\x00\x00\x00\x02\x00\x00\x00\x03\x00\x00\x00\x04\x00\x00\x00\x05";
+    assert!(rt; is_start(rt.alloc(), wire, ("m.", "r."), [1, 2, 3, 4, 5]));
 }
