@@ -1,7 +1,7 @@
-use super::{address, empty, is_row, may_hold, record, records};
+use super::{Row, address, empty, is_row, may_hold, record, records};
 use base::{DNSClass, Name, RecordType};
 use base_data::{RData, SOA};
-use rr::{RecordSet, RecordSetParts, RrsetRecords};
+use rr::{Record, RecordSet, RecordSetParts, RrsetRecords};
 use std::alloc::Global;
 use std::test::Fail;
 use test_tools::forms::is_copied;
@@ -85,17 +85,38 @@ fn a_new_record_is_found_unless_it_was_refused(rt: HostRuntime) -> Result<(), Fa
     Ok(())
 }
 
+/// Two records of `example.`.
+const FOREIGN: [Row; 2] = [(24, DNSClass::CH, 1), (25, DNSClass::IN, 2)];
+
+/// Whether a record is the one of `example.` in this place.
+fn is_foreign(entry: &Record, place: usize) -> bool {
+    place < 2 && is_row(entry, &FOREIGN[place]) && entry.name.as_wire() == b"\x07example".as_slice()
+}
+
+/// Whether a set lends both records, and the first.
+fn foreign_records_are_lent(set: &RecordSet) -> bool {
+    let first = match set.record() {
+        Some(entry) => is_foreign(entry, 0),
+        None => false,
+    };
+    let mut right = first && set.records_count() == 2;
+    let mut place: usize = 0;
+    for entry in set.records_without_rrsigs() {
+        right = is_foreign(entry, place) && right;
+        place = place.saturating_add(1);
+    }
+    right && place == 2
+}
+
 /// Whether records of another name are given as they were handed in.
 fn foreign_records_are_given(alloc: Global) -> Result<bool, Fail> {
     let name = Name::parse(alloc, "other.", None)?;
     let mut set = RecordSet::new(alloc, name, RecordType::A, 0);
-    let rows = [(24, DNSClass::CH, 1), (25, DNSClass::IN, 2)];
-    set.set_records(records(alloc, &rows)?);
-    let counted = set.records_count() == 2;
-    let mut right = counted;
+    set.set_records(records(alloc, &FOREIGN)?);
+    let mut right = foreign_records_are_lent(&set);
     let mut place: usize = 0;
     for entry in set {
-        right = place < 2 && is_row(&entry, &rows[place]) && right;
+        right = is_foreign(&entry, place) && right;
         drop(entry);
         place = place.saturating_add(1);
     }
