@@ -115,6 +115,11 @@ const APPLIED: &[Applied] = &[
             "www.example. 60 IN A 192.0.2.1\nwww.example. 60 IN A 192.0.2.2\n",
         ],
     ),
+    (
+        &[SWAP],
+        &[START, "www 300 A 192.0.2.9\n"],
+        &["NXRRSet\n", SHOWN, "www.example. 300 IN A 192.0.2.9\n"],
+    ),
     // a set is created where there is none
     (&[CREATE], &[START, WWW], &["YXRRSet\n", SHOWN, SHOWN_WWW]),
     (
@@ -169,6 +174,15 @@ const APPLIED: &[Applied] = &[
         &[
             "NoError\n$ORIGIN example.\nexample. 3600 IN NS ns2.example.\n",
             "example. 3600 IN SOA ns.example. hostmaster.example. 1 2 3 4 5\n",
+        ],
+    ),
+    (
+        &[CHANGE, DELETE_SERVER],
+        &[START, "@ NS ns2\n", WWW],
+        &[
+            "NoError\n$ORIGIN example.\nexample. 3600 IN NS ns2.example.\n",
+            "example. 3600 IN SOA ns.example. hostmaster.example. 1 2 3 4 5\n",
+            SHOWN_WWW,
         ],
     ),
     // ten changes behind ten prerequisites
