@@ -172,6 +172,24 @@ fn a_change_leaves_the_bytes(rt: HostRuntime) -> Result<(), Fail> {
     Ok(())
 }
 
+// Whether a copy of a response has its bytes, and its message where that is taken out.
+fn is_copied(alloc: Global) -> Result<(bool, bool), Fail> {
+    let response = DnsResponse::from_buffer(alloc, Vec::from_slice(alloc, RESPONSE)?)?;
+    let copy = response.clone()?;
+    let has_bytes = copy.as_buffer() == RESPONSE;
+    let message = Message::from(copy);
+    let is_same = message == *response.message();
+    drop(message);
+    drop(response);
+    Ok((has_bytes, is_same))
+}
+
+#[test]
+fn a_copy_of_a_response_has_its_message_and_bytes(rt: HostRuntime) -> Result<(), Fail> {
+    assert!(rt; is_copied(rt.alloc())? == (true, true));
+    Ok(())
+}
+
 // The id of the message that bytes begin with, and whether the address is kept.
 fn of_bytes(alloc: Global) -> Result<(u16, bool), Fail> {
     let addr = SocketAddr::V4(SocketAddrV4::new(Ipv4Addr::new(192, 0, 2, 1), 53));
@@ -186,5 +204,23 @@ fn of_bytes(alloc: Global) -> Result<(u16, bool), Fail> {
 #[test]
 fn a_message_of_bytes_and_an_address(rt: HostRuntime) -> Result<(), Fail> {
     assert!(rt; of_bytes(rt.alloc())? == (1, true));
+    Ok(())
+}
+
+// Whether bytes and an address are lent, taken apart and put together again.
+fn goes_round(alloc: Global) -> Result<(bool, bool), Fail> {
+    let addr = SocketAddr::V4(SocketAddrV4::new(Ipv4Addr::new(192, 0, 2, 9), 5353));
+    let serial = SerialMessage::from_parts(Vec::from_slice(alloc, RESPONSE)?, addr);
+    let is_lent = serial.bytes() == RESPONSE && serial.addr() == addr;
+    let parts = <(Vec<u8>, SocketAddr)>::from(serial);
+    let again = SerialMessage::from(parts);
+    let is_kept = again.bytes() == RESPONSE && again.addr() == addr;
+    drop(again);
+    Ok((is_lent, is_kept))
+}
+
+#[test]
+fn bytes_and_an_address_go_round(rt: HostRuntime) -> Result<(), Fail> {
+    assert!(rt; goes_round(rt.alloc())? == (true, true));
     Ok(())
 }

@@ -2,6 +2,7 @@
 
 mod applied;
 pub(super) mod builders;
+mod sections;
 mod transfers;
 
 ghost use Rattle.std.specs.Prelude.{◌≡◌, IfOk, true};
