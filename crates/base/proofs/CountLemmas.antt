@@ -11,10 +11,10 @@ use Rattle.std.proofs.Math.Bool.{or-false, or_comm}
 use Rattle.std.proofs.lemmas.Bool.{cases_Bool, cond-true, cond-false, eq-eqb, eqb-true, eqb-false, false≢true, ne_eqb}
 use Rattle.std.proofs.lemmas.List.Folds.{list_any-append}
 use Rattle.std.proofs.lemmas.Map.Lookups.{exact_unsigned}
+use Rattle.base.specs.declared.wire.plain.Plain.{Plain}
 use Rattle.base.specs.Kept.{AreKept, ArePlain, IsKept, is_target, offsets, targets_of}
 use Rattle.std.specs.declared.cmp.Ordering.{Ordering}
 use Rattle.std.specs.declared.cmp.Ordering.TheVariants.{Less, Equal, Greater}
-use Rattle.base.specs.declared.wire.plain.Plain.{Plain}
 use Rattle.base.specs.Counts.{IsCounted, IsPassed}
 use Rattle.base.specs.Passed.{Followed}
 use Rattle.base.specs.Passing.{NamesPass, among, inserted, one_more, passed}
@@ -123,7 +123,7 @@ plain_near : (bytes : List ℕ) (ps : List Plain) → ArePlain bytes ps → (q :
 plain_near bytes [] are q is = absurd (false≢true is)
 plain_near bytes (p ∷ ps) are q is = go (plain_near bytes ps (λ k d inside. are (suc k) d (omega arith)) q) (p.target == q) refl is where
   go : (is_target ps q ≡ true → q < 16384) → (b : Bool) → (p.target == q) ≡ b → (b || is_target ps q) ≡ true → q < 16384
-  go rest true same all = omega (arith, eqb-true p.target q same, (are 0 p (omega arith)).kept.near)
+  go rest true same all = omega (arith, eqb-true p.target q same, (are 0 p (omega arith)).near)
   go rest false differ all = rest all
 
 pub kept_near : (bytes : List ℕ) (ps : List Plain) (kept : List (Option (List ℕ))) → ArePlain bytes ps → AreKept bytes kept → (q : ℕ) → set.contains (targets_of ps kept) q ≡ true → q < 16384

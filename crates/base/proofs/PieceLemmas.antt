@@ -1,20 +1,24 @@
 -- The labels of a name that stands in one piece.
-use Rattle.std.proofs.Common.{◌≡◌, ℕ, ◌+◌, ◌-◌, ◌<◌, ◌≤◌, List, [], ◌++◌, length, take, drop, None, Result, Ok, true, ap, sym, ◌∙◌, subst, arith}
+use Rattle.std.proofs.Common.{◌≡◌, ℕ, zero, suc, ◌+◌, ◌-◌, ◌<◌, ◌≤◌, List, [], ◌∷◌, ◌++◌, length, take, drop, get_or, None, Result, Ok, true, ap, sym, ◌∙◌, subst, arith, length-drop}
 use Rattle.std.proofs.Math.Seq.{take-add}
-use Rattle.std.proofs.lemmas.List.{append-nil, drop-drop, take_rest}
+use Rattle.std.specs.Prelude.{All}
+use Rattle.std.proofs.lemmas.List.{append-nil, drop-append-le, drop-drop, drop_all, get_or-drop}
 use Rattle.std.specs.FinSet as set
 use Rattle.std.specs.List.{slice_range}
 use Rattle.base.specs.Kept.{IsKept}
 use Rattle.base.specs.Labels.{IsWire, labels_of}
 use Rattle.base.specs.Names.{NamePart, label_of, labels_at, part_at, pointer_to, zero_byte}
 use Rattle.base.specs.PartOf.{part}
-use Rattle.base.specs.Passed.{PassesThese}
+use Rattle.base.specs.declared.name.trail.Passed.{Passed}
+use Rattle.base.specs.Passed.{IsLast, PassesThese}
+use Rattle.base.specs.Spelling.{ByteAt, anywhere}
 use Rattle.base.specs.Passing.{IsClosed}
 use Rattle.base.specs.Reader.{Reader}
 use Rattle.base.specs.declared.error.decode_error.DecodeError.{DecodeError}
 use Rattle.base.specs.declared.name.reading.Part.{Part}
 use Rattle.base.proofs.GatherLemmas.{Gathers, IsWire-append, at_kept, at_root, gathers_label, gathers_none, kept_end, label_fits, root_inside}
 use Rattle.base.proofs.PassLemmas.{Leads, Leads-kept, Leads-label, Leads-none, Leads-root}
+use Rattle.base.proofs.WalkLemmas.{PartIs, is_past, is_root, is_cut_label, is_label, is_bits, is_cut_pointer, is_pointer, part_is, part_at-past, part_at-root, part_at-cut_label, part_at-label, part_at-bits, part_at-cut_pointer, part_at-pointer}
 
 -- what stands at a place, where something does
 abbrev pub found : Part → Result NamePart DecodeError
@@ -78,12 +82,56 @@ module _ {r : Reader} {used : ℕ} (walked : Walked r used) where
     these = Leads-kept walked.leads r.kept is has closed;
   }
 
--- the rest of a buffer from a place on
-pub rest_is : (r : Reader) (buffer : List ℕ) (first : ℕ) → buffer ≡ r.bytes → first ≡ r.index → take (length buffer - first) (drop first buffer) ≡ drop r.index r.bytes
-rest_is r buffer first same here = take_rest buffer first ∙ ap (λ (k : ℕ). drop k buffer) here ∙ ap (drop r.index) same
+-- ---- what stands at a place of a piece stands in the buffer
 
--- what stands there
-pub part_is_there : (r : Reader) (buffer : List ℕ) (first used : ℕ) (part : Result NamePart DecodeError) → buffer ≡ r.bytes → first ≡ r.index → part_at buffer (first + used) ≡ part
-    → part_at r.bytes (r.index + used) ≡ part
-part_is_there r buffer first used part same here is =
-    sym (ap (λ (bytes : List ℕ). part_at bytes (r.index + used)) same) ∙ sym (ap (λ (k : ℕ). part_at buffer (k + used)) here) ∙ is
+in_buffer : (bytes : List ℕ) (s : ℕ) {k b : ℕ} → ByteAt anywhere (drop s bytes) k b → ByteAt anywhere bytes (s + k) b
+in_buffer bytes s {k} h = record {
+  inside = omega (arith, h.inside, length-drop s bytes);
+  is = sym (get_or-drop s bytes k 0) ∙ h.is;
+  seen = tt;
+}
+
+part_in_buffer : (bytes : List ℕ) (s k : ℕ) (read : Result NamePart DecodeError) → PartIs (drop s bytes) k read → part_at bytes (s + k) ≡ read
+part_in_buffer bytes s k _ (is_past h) = part_at-past bytes (s + k) (omega (arith, length-drop s bytes))
+part_in_buffer bytes s k _ (is_root h) = part_at-root bytes (s + k) (in_buffer bytes s h)
+part_in_buffer bytes s k _ (is_cut_label {n = n} h some small cut) = part_at-cut_label bytes (s + k) n (in_buffer bytes s h) some small (omega (arith, length-drop s bytes))
+part_in_buffer bytes s k _ (is_label {n = n} h some small fits) = part_at-label bytes (s + k) n (in_buffer bytes s h) some small (omega (arith, in_piece h fits)) where
+  in_piece : ByteAt anywhere (drop s bytes) k n → k + 1 + n ≤ length (drop s bytes) → s + k + 1 + n ≤ length bytes
+  in_piece b inside = omega (arith, inside, length-drop s bytes)
+part_in_buffer bytes s k _ (is_bits {b = b} h low high) = part_at-bits bytes (s + k) b (in_buffer bytes s h) low high
+part_in_buffer bytes s k _ (is_cut_pointer {b = b} h high cut) = part_at-cut_pointer bytes (s + k) b (in_buffer bytes s h) high (omega (arith, length-drop s bytes))
+part_in_buffer bytes s k _ (is_pointer {b = b} {c = c} h next high) =
+    let there : s + (k + 1) ≡ s + k + 1 = omega arith in
+    part_at-pointer bytes (s + k) b c (in_buffer bytes s h) (subst (λ (i : ℕ). ByteAt anywhere bytes i c) there (in_buffer bytes s next)) high
+
+-- what stands at a place of the bytes from s on
+pub part_is_there : (bytes piece : List ℕ) (s k : ℕ) (part : Result NamePart DecodeError) → piece ≡ drop s bytes → part_at piece k ≡ part → part_at bytes (s + k) ≡ part
+part_is_there bytes piece s k part same is =
+    part_in_buffer bytes s k (part_at (drop s bytes) k) (part_is (drop s bytes) k) ∙ ap (λ (xs : List ℕ). part_at xs k) (sym same) ∙ is
+
+-- the same bytes of a piece and of the buffer
+pub range_is_there : (bytes piece : List ℕ) (s i j : ℕ) → piece ≡ drop s bytes → slice_range piece i j ≡ slice_range bytes (s + i) (s + j)
+range_is_there bytes piece s i j same =
+    let len : j - i ≡ s + j - (s + i) = omega arith in
+    ap (λ (xs : List ℕ). take (j - i) (drop i xs)) same
+    ∙ ap (take (j - i)) (drop-drop i s bytes)
+    ∙ ap (λ (k : ℕ). take k (drop (s + i) bytes)) len
+
+-- ---- the labels that the last pointer led to
+
+pub last_more : (ps : List Passed) (lent labels more : List ℕ) → All (λ p. p.from ≤ length labels) ps → IsLast lent labels ps → IsLast (lent ++ more) (labels ++ more) ps
+last_more [] lent labels more inside is = tt
+last_more (p ∷ []) lent labels more inside is = ap (λ (xs : List ℕ). xs ++ more) is ∙ sym (drop-append-le p.from labels more (inside 0 p (omega arith)))
+last_more (p ∷ q ∷ ps) lent labels more inside is = last_more (q ∷ ps) lent labels more (λ k d small. inside (suc k) d (omega (arith, small))) is
+
+pub last_pushed : (ps : List Passed) (p : Passed) (labels : List ℕ) → p.from ≡ length labels → IsLast [] labels (ps ++ p ∷ [])
+last_pushed [] p labels from = sym (drop_all p.from labels (omega (arith, from)))
+last_pushed (q ∷ []) p labels from = last_pushed [] p labels from
+last_pushed (q ∷ r ∷ ps) p labels from = last_pushed (r ∷ ps) p labels from
+
+pub last_at : (ps : List Passed) (lent labels : List ℕ) (i : ℕ) (d : Passed) → i + 1 ≡ length ps → IsLast lent labels ps → lent ≡ drop (get_or ps i d).from labels
+last_at [] lent labels i d len is = absurd (omega (arith, len))
+last_at (p ∷ []) lent labels zero d len is = is
+last_at (p ∷ []) lent labels (suc i) d len is = absurd (omega (arith, len))
+last_at (p ∷ q ∷ ps) lent labels zero d len is = absurd (omega (arith, len))
+last_at (p ∷ q ∷ ps) lent labels (suc i) d len is = last_at (q ∷ ps) lent labels i d (omega (arith, len)) is

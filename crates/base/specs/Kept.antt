@@ -1,7 +1,7 @@
 -- The labels at offsets that pointers led to.
-use Rattle.std.specs.Prelude.{◌≡◌, ℕ, suc, Bool, ◌==◌, ◌+◌, ◌<◌, ◌≤◌, ◌++◌, List, [], ◌∷◌, Option, Some, None, All, length, map, get_or}
+use Rattle.std.specs.Prelude.{◌≡◌, ℕ, suc, Bool, ◌==◌, ◌<◌, ◌++◌, List, [], ◌∷◌, Option, Some, None, All, map, get_or}
 use Rattle.std.specs.FinSet as set
-use Rattle.std.specs.List.{slice_range, list_any}
+use Rattle.std.specs.List.{list_any}
 use Rattle.std.specs.Ordering.{nat_cmp}
 use Rattle.base.specs.declared.wire.plain.Plain.{Plain}
 use Rattle.base.specs.Labels.{IsWire, labels_of}
@@ -18,22 +18,18 @@ pub record IsKept (bytes : List ℕ) (t : ℕ) (items : List ℕ) : Type 0 where
 abbrev pub AreKept : List ℕ → List (Option (List ℕ)) → Type 0
 AreKept bytes kept = (t : ℕ) (items : List ℕ) → get_or kept t None ≡ Some items → IsKept bytes t items
 
--- the labels at the offset stand there in as many bytes, without a pointer
-pub record IsPlain (bytes : List ℕ) (p : Plain) : Type 0 where
-  pub inside : p.target + p.len ≤ length bytes
-  pub kept : IsKept bytes p.target (slice_range bytes p.target (p.target + p.len))
-
+-- these labels stand at their offsets
 abbrev pub ArePlain : List ℕ → List Plain → Type 0
-ArePlain bytes ps = All (IsPlain bytes) ps
+ArePlain bytes ps = All (λ p. IsKept bytes p.target p.labels.now) ps
 
 -- whether an offset is among these
 abbrev pub is_target : List Plain → ℕ → Bool
 is_target ps q = list_any (λ p. p.target == q) ps
 
--- these are the labels that stand at this offset
-pub record HasLabels (bytes : List ℕ) (target : ℕ) (labels : List ℕ) (p : Plain) : Type 0 where
+-- these are the labels that are kept for this offset
+pub record HasLabels (target : ℕ) (labels : List ℕ) (p : Plain) : Type 0 where
   pub there : p.target ≡ target
-  pub is : labels ≡ slice_range bytes target (target + p.len)
+  pub is : labels ≡ p.labels.now
 
 -- the offsets, counted from t on, at which labels are kept
 abbrev pub offsets : ℕ → List (Option (List ℕ)) → List ℕ

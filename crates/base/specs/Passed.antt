@@ -15,6 +15,12 @@ targets ps = map (λ p. p.target) ps
 abbrev pub AreSpelled : List ℕ → List ℕ → List Passed → Type 0
 AreSpelled bytes labels ps = All (λ p. (p.from ≤ length labels) × IsKept bytes p.target (drop p.from labels)) ps
 
+-- the labels that the last of these pointers led to
+abbrev pub IsLast : List ℕ → List ℕ → List Passed → Type 0
+IsLast lent labels [] = Unit {0}
+IsLast lent labels (p ∷ []) = lent ≡ drop p.from labels
+IsLast lent labels (p ∷ q ∷ ps) = IsLast lent labels (q ∷ ps)
+
 -- Behind each pointer kept offsets are passed, and those of the pointers that were followed later.
 abbrev pub PassLater : List ℕ → set.FinSet nat_cmp → List Passed → Type 0
 PassLater bytes kept [] = Unit {0}

@@ -79,34 +79,32 @@ impl Octets {
         Octets::from_slice(alloc, &bytes[..used], mark)
     }
 
-    /// As many of the first of these bytes, and behind them as many of the first of those. Refused for want of memory,
-    /// where they aren't few.
-    pub(crate) fn from_fronts(
+    /// The first `used` bytes of `bytes`, then `others`. Refused for want of memory, where they aren't few.
+    pub(crate) fn from_front_and(
         alloc: Global,
         bytes: &[u8],
         used: usize,
         others: &[u8],
-        len: usize,
         mark: bool,
     ) -> Result<Octets, AllocError>
-        requires enough { used ≤ length bytes.now }
-        requires others { len ≤ length others.now }
-        ensures { IfOk result (λ o. o ≡ record { items = take used bytes.now ++ take len others.now; mark = mark }) }
+        requires { used ≤ length bytes.now }
+        ensures { IfOk result (λ o. o ≡ record { items = take used bytes.now ++ others.now; mark = mark }) }
     {
-        if len == 0 {
+        if others.is_empty() {
             return Octets::from_front(alloc, bytes, used, mark);
         }
         if used == 0 {
-            return Octets::from_front(alloc, others, len, mark);
+            return Octets::from_slice(alloc, others, mark);
         }
-        if used + len <= INSIDE {
+        let len = used + others.len();
+        if len <= INSIDE {
             return Ok(Octets {
-                held: Held::Inside(Room::from_slices(alloc, &bytes[..used], &others[..len], mark)),
+                held: Held::Inside(Room::from_slices(alloc, &bytes[..used], others, mark)),
             });
         }
-        let mut both = Vec::with_capacity(alloc, used + len)?;
+        let mut both = Vec::with_capacity(alloc, len)?;
         both.extend_from_slice(&bytes[..used])?;
-        both.extend_from_slice(&others[..len])?;
+        both.extend_from_slice(others)?;
         Ok(Octets {
             held: Held::Outside { mark, bytes: both },
         })

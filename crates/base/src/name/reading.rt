@@ -6,7 +6,7 @@ ghost use Rattle.base.specs.Counts.{Counts};
 ghost use Rattle.base.specs.Labels.{IsWire, labels_of};
 ghost use Rattle.base.specs.Names.{part_at, pointer_to, labels_at, name_at};
 ghost use Rattle.base.specs.PartOf.{part};
-ghost use Rattle.base.specs.Passed.{AreSpelled, Followed, PassLater, PassesThese, targets};
+ghost use Rattle.base.specs.Passed.{AreSpelled, Followed, IsLast, PassLater, PassesThese, targets};
 ghost use Rattle.base.specs.Passing.{AddsPassed, inserted, passed};
 ghost use Rattle.base.specs.Reading.{Fails, Reads};
 ghost use Rattle.base.specs.Spelling.{Spelled};
@@ -79,42 +79,59 @@ fn copy_label(buffer: &[u8], at: usize, size: usize, room: &mut [u8; ROOM], used
     }
 }
 
-/// Gathers the labels of the name at the decoder's place, each with its length before it, in `room`, and the pointers
-/// that were followed. Answers how many bytes the labels are, and the place behind the name.
-fn gather(
-    buffer: &[u8],
-    first: usize,
-    decoder: &mut BinDecoder<'_>,
+/// What was gathered of a name: its labels stand in the room, each with its length before it.
+#[derive(Drop)]
+struct Gathered<'a> {
+    /// How many bytes the labels are.
+    used: usize,
+    /// The place after the name.
+    end: usize,
+    /// The labels that the last pointer led to, where they stand there without a further pointer.
+    last: Option<&'a [u8]>,
+}
+
+/// Gathers the labels of the name at the decoder's place in `room`, and the pointers that were followed.
+fn gather<'a>(
+    decoder: &mut BinDecoder<'a>,
     room: &mut [u8; ROOM],
     passed: &mut Trail,
-) -> Result<(usize, usize), DecodeError>
-    requires same { buffer.now ≡ decoder.old.bytes }
-    requires inside { first ≤ length buffer.now }
+) -> Result<Gathered<'a>, DecodeError>
     requires none { passed.old ≡ [] }
     ensures read { MatchResult result
-        (λ r. labels_at buffer.now first first 0 ≡ Ok (labels_of (take r.0 room.new), r.1))
-        (λ e. Fails e (labels_at buffer.now first first 0)) }
-    ensures used { IfOk result (λ r. r.0 ≤ 254) }
-    ensures end { IfOk result (λ r. r.1 ≤ length buffer.now) }
-    ensures wire { IfOk result (λ r. IsWire (take r.0 room.new)) }
-    ensures kept { IfOk result (λ r. AreSpelled buffer.now (take r.0 room.new) passed.new) }
+        (λ r. labels_at decoder.old.bytes decoder.old.index decoder.old.index 0
+        ≡ Ok (labels_of (take r.used room.new), r.end))
+        (λ e. Fails e (labels_at decoder.old.bytes decoder.old.index decoder.old.index 0)) }
+    ensures used { IfOk result (λ r. r.used ≤ 254) }
+    ensures end { IfOk result (λ r. r.end ≤ length decoder.old.bytes) }
+    ensures wire { IfOk result (λ r. IsWire (take r.used room.new)) }
+    ensures kept { IfOk result (λ r. AreSpelled decoder.old.bytes (take r.used room.new) passed.new) }
+    ensures last { IfOk result (λ r. IfSome r.last (λ labels. IsLast labels.now (take r.used room.new) passed.new)) }
     ensures followed { Followed (targets passed.new) decoder.old decoder.new }
-    ensures these { IfOk result (λ r. PassesThese buffer.now decoder.old.kept first (targets passed.new)) }
-    ensures later { IfOk result (λ r. PassLater buffer.now decoder.old.kept passed.new) }
+    ensures these { IfOk result (λ r.
+        PassesThese decoder.old.bytes decoder.old.kept decoder.old.index (targets passed.new)) }
+    ensures later { IfOk result (λ r. PassLater decoder.old.bytes decoder.old.kept passed.new) }
 {
-    let mut used = 0;
+    let first = decoder.index();
+    let mut piece = decoder.rest();
     let mut start = first;
-    let mut at = first;
+    let mut at = 0;
+    let mut used = 0;
     let mut end = None;
     'parts: loop {
-        match part_of(buffer, at)? {
-            Part::Root => return Ok((used, end.unwrap_or(at + 1))),
+        match part_of(piece, at)? {
+            Part::Root => {
+                return Ok(Gathered {
+                    used,
+                    end: end.unwrap_or(start + at + 1),
+                    last: Some(&piece[..at]),
+                });
+            }
             Part::Label(len) => {
                 let size = 1 + usize::from(len);
                 if used + size + 1 > LONGEST {
                     return Err(DecodeError::BadName);
                 }
-                copy_label(buffer, at, size, room, used);
+                copy_label(piece, at, size, room, used);
                 used += size;
                 at += size;
             }
@@ -122,19 +139,23 @@ fn gather(
                 if usize::from(target) >= start {
                     return Err(DecodeError::BadName);
                 }
-                let behind = end.unwrap_or(at + 2);
-                if let Some(labels) = decoder.kept(target) {
+                let after = end.unwrap_or(start + at + 2);
+                if let Some(labels) = decoder.labels_at(target) {
                     if used + labels.len() + 1 > LONGEST {
                         return Err(DecodeError::BadName);
                     }
                     room[used..used + labels.len()].copy_from_slice(labels);
-                    return Ok((used + labels.len(), behind));
+                    return Ok(Gathered {
+                        used: used + labels.len(),
+                        end: after,
+                        last: None,
+                    });
                 }
                 passed.push(Passed { target, from: used })?;
-                decoder.count_jump();
-                end = Some(behind);
+                piece = decoder.follow(target);
+                end = Some(after);
                 start = usize::from(target);
-                at = start;
+                at = 0;
             }
         }
     }
@@ -142,8 +163,14 @@ fn gather(
 
 /// Keeps the labels behind the pointers that were followed, the last of them first, so that those behind a kept one are
 /// kept at any time.
-fn keep_all(decoder: &mut BinDecoder<'_>, labels: &[u8], passed: &Trail) -> Result<(), DecodeError>
+fn keep_all<'a>(
+    decoder: &mut BinDecoder<'a>,
+    labels: &[u8],
+    passed: &Trail,
+    last: Option<&'a [u8]>,
+) -> Result<(), DecodeError>
     requires spelled { AreSpelled decoder.old.bytes labels.now passed.now }
+    requires last { IfSome last (λ lent. IsLast lent.now labels.now passed.now) }
     requires later { PassLater decoder.old.bytes decoder.old.kept passed.now }
     ensures ok { OnOk result (decoder.new ≡ record decoder.old { kept = inserted (targets passed.now) decoder.old.kept }) }
     ensures err { OnErr result (decoder.new.jumps ≡ decoder.old.jumps) }
@@ -151,13 +178,16 @@ fn keep_all(decoder: &mut BinDecoder<'_>, labels: &[u8], passed: &Trail) -> Resu
 {
     for i in (0..passed.len()).rev() {
         if let Some(pointer) = passed.at(i) {
-            decoder.keep(pointer.target, &labels[pointer.from..])?;
+            match last {
+                Some(lent) if i + 1 == passed.len() => decoder.keep_lent(pointer.target, lent)?,
+                _ => decoder.keep_copy(pointer.target, &labels[pointer.from..])?,
+            }
         }
     }
     Ok(())
 }
 
-/// The labels of a name that stands in one piece: its own, and behind them those that its pointer leads to, where it has
+/// The labels of a name that stands in one piece: its own, and after them those that its pointer leads to, where it has
 /// one and they are kept.
 #[derive(Drop)]
 struct Piece<'d> {
@@ -165,39 +195,34 @@ struct Piece<'d> {
     own: &'d [u8],
     /// How many bytes its own labels are.
     used: usize,
-    /// Bytes that begin with the kept labels.
+    /// The kept labels, none where it has no pointer.
     kept: &'d [u8],
-    /// How many bytes the kept labels are.
-    len: usize,
-    /// The place behind the name.
-    behind: usize,
+    /// The place after the name.
+    end: usize,
 }
 
 /// The name at the decoder's place, if it stands in one piece and is a name: most names do, and are read without a walk
-/// behind pointers.
+/// along pointers.
 fn one_piece<'d>(decoder: &'d BinDecoder<'_>) -> Option<Piece<'d>>
     ensures own { IfSome result (λ p. p.used ≤ length p.own.now) }
-    ensures kept { IfSome result (λ p. p.len ≤ length p.kept.now) }
     ensures read { IfSome result (λ p. labels_at decoder.now.bytes decoder.now.index decoder.now.index 0
-        ≡ Ok (labels_of (take p.used p.own.now ++ take p.len p.kept.now), p.behind)) }
-    ensures wire { IfSome result (λ p. IsWire (take p.used p.own.now ++ take p.len p.kept.now)) }
-    ensures end { IfSome result (λ p. p.behind ≤ length decoder.now.bytes) }
+        ≡ Ok (labels_of (take p.used p.own.now ++ p.kept.now), p.end)) }
+    ensures wire { IfSome result (λ p. IsWire (take p.used p.own.now ++ p.kept.now)) }
+    ensures end { IfSome result (λ p. p.end ≤ length decoder.now.bytes) }
     ensures these { IfSome result (λ _. PassesThese decoder.now.bytes decoder.now.kept decoder.now.index []) }
 {
-    let buffer = decoder.buffer();
     let first = decoder.index();
-    let own = &buffer[first..];
+    let own = decoder.rest();
     let mut used = 0;
     'labels: loop {
-        match part_of(buffer, first + used) {
+        match part_of(own, used) {
             Err(_) => return None,
             Ok(Part::Root) => {
                 return Some(Piece {
                     own,
                     used,
-                    kept: own,
-                    len: 0,
-                    behind: first + used + 1,
+                    kept: &own[..0],
+                    end: first + used + 1,
                 });
             }
             Ok(Part::Label(len)) => {
@@ -211,16 +236,15 @@ fn one_piece<'d>(decoder: &'d BinDecoder<'_>) -> Option<Piece<'d>>
                 if usize::from(target) >= first {
                     return None;
                 }
-                let (kept, len) = decoder.kept_front(target)?;
-                if used + len + 1 > LONGEST {
+                let kept = decoder.labels_at(target)?;
+                if used + kept.len() + 1 > LONGEST {
                     return None;
                 }
                 return Some(Piece {
                     own,
                     used,
                     kept,
-                    len,
-                    behind: first + used + 2,
+                    end: first + used + 2,
                 });
             }
         }
@@ -252,26 +276,19 @@ impl BinDecodable for Name {
                 own,
                 used,
                 kept,
-                len,
-                behind,
+                end,
             },
         ) = one_piece(decoder)
         {
-            let octets = Octets::from_fronts(decoder.allocator(), own, used, kept, len, true)?;
-            decoder.move_to(behind);
+            let octets = Octets::from_front_and(decoder.allocator(), own, used, kept, true)?;
+            decoder.move_to(end);
             return Ok(Name { octets });
         }
         let mut room = [0; ROOM];
         let mut passed = Trail::new(decoder.allocator());
-        let (used, end) = gather(
-            decoder.buffer(),
-            decoder.index(),
-            decoder,
-            &mut room,
-            &mut passed,
-        )?;
+        let Gathered { used, end, last } = gather(decoder, &mut room, &mut passed)?;
         let octets = Octets::from_front(decoder.allocator(), &room, used, true)?;
-        keep_all(decoder, &room[..used], &passed)?;
+        keep_all(decoder, &room[..used], &passed, last)?;
         decoder.move_to(end);
         Ok(Name { octets })
     }

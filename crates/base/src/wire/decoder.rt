@@ -1,6 +1,6 @@
 //! Reads a message's bytes.
 
-ghost use Rattle.std.specs.Prelude.{◌≡◌, ℕ, true, ◌+◌, ◌-◌, ◌^◌, ◌<◌, ◌≤◌, length, min, take, nat_le, is_some, IfSome, OnOk, OnErr, IsOkUnless};
+ghost use Rattle.std.specs.Prelude.{◌≡◌, ℕ, true, ◌+◌, ◌-◌, ◌^◌, ◌<◌, ◌≤◌, length, min, drop, nat_le, is_some, IfSome, OnOk, OnErr, IsOkUnless};
 ghost use Rattle.std.specs.FinSet as set;
 ghost use Rattle.std.specs.Int.{w16, w32};
 ghost use Rattle.base.specs.Counts.{Counts};
@@ -25,7 +25,7 @@ pub struct BinDecoder<'a> {
     buffer: &'a [u8],
     index: usize,
     /// The first offsets that pointers led to where the labels stand in the buffer as they are.
-    plain: PlainTargets,
+    plain: PlainTargets<'a>,
     /// The labels at each other offset that a pointer led to.
     others: TargetTable,
     jumps: usize,
@@ -55,7 +55,7 @@ impl<'a> BinDecoder<'a> {
             alloc,
             buffer,
             index: 0,
-            plain: PlainTargets::none(),
+            plain: PlainTargets::none(buffer),
             others: TargetTable::new(alloc),
             jumps: 0,
         }
@@ -89,11 +89,22 @@ impl<'a> BinDecoder<'a> {
         self.alloc
     }
 
-    /// The whole buffer, what is read already too.
-    pub(crate) fn buffer(&self) -> &'a [u8]
-        ensures { result.now ≡ self.now.bytes }
+    /// The bytes from the place on that is read next.
+    pub(crate) fn rest(&self) -> &'a [u8]
+        ensures { result.now ≡ drop self.now.index self.now.bytes }
     {
-        self.buffer
+        &self.buffer[self.index..]
+    }
+
+    /// Follows a pointer: lends the bytes from its target on, and counts it. No other call reads bytes before the place
+    /// that is read next.
+    pub(crate) fn follow(&mut self, target: u16) -> &'a [u8]
+        requires { target ≤ length self.old.bytes }
+        ensures lent { result.now ≡ drop target self.old.bytes }
+        ensures counted { self.new ≡ record self.old { jumps = min (self.old.jumps + 1) usize.MAX } }
+    {
+        self.jumps = self.jumps.saturating_add(1);
+        &self.buffer[usize::from(target)..]
     }
 
     /// How many pointers were followed into bytes. The labels that a pointer led to are read once and kept, so it is
@@ -106,54 +117,44 @@ impl<'a> BinDecoder<'a> {
     }
 
     /// The labels at an offset that a pointer led to, each with its length before it, where they are kept.
-    pub(crate) fn kept(&self, target: u16) -> Option<&[u8]>
+    pub(crate) fn labels_at(&self, target: u16) -> Option<&[u8]>
         ensures is { is_some result ≡ set.contains self.now.kept target }
         ensures near { (q : ℕ) → set.contains self.now.kept q ≡ true → q < 16384 }
         ensures spelled { IfSome result (λ labels. IsKept self.now.bytes target labels.now) }
         ensures closed { IsClosed self.now.bytes self.now.kept }
     {
-        let (front, len) = self.kept_front(target)?;
-        Some(&front[..len])
-    }
-
-    /// Bytes that begin with those labels, and how many bytes the labels are.
-    pub(crate) fn kept_front(&self, target: u16) -> Option<(&[u8], usize)>
-        ensures is { is_some result ≡ set.contains self.now.kept target }
-        ensures near { (q : ℕ) → set.contains self.now.kept q ≡ true → q < 16384 }
-        ensures enough { IfSome result (λ r. r.1 ≤ length r.0.now) }
-        ensures spelled { IfSome result (λ r. IsKept self.now.bytes target (take r.1 r.0.now)) }
-        ensures closed { IsClosed self.now.bytes self.now.kept }
-    {
         match self.others.find(target) {
-            Some(labels) => Some((labels, labels.len())),
-            None => {
-                let labels = self.plain.find(self.buffer, target)?;
-                Some((&self.buffer[usize::from(target)..], labels.len()))
-            }
+            Some(labels) => Some(labels),
+            None => self.plain.find(target),
         }
     }
 
-    /// Keeps the labels at an offset that a pointer led to, each with its length before it.
-    pub(crate) fn keep(&mut self, target: u16, labels: &[u8]) -> Result<(), DecodeError>
+    /// Keeps the labels at an offset that a pointer led to, which stand in the buffer as they are: they are lent, as long
+    /// as there is room, and else copied.
+    pub(crate) fn keep_lent(&mut self, target: u16, labels: &'a [u8]) -> Result<(), DecodeError>
         requires kept { IsKept self.old.bytes target labels.now }
         requires behind { PassesKept self.old.bytes self.old.kept target }
         ensures ok { OnOk result (self.new ≡ record self.old { kept = set.insert self.old.kept target }) }
         ensures err { OnErr result (self.new ≡ self.old) }
         ensures only { IsOkUnless result DecodeError.Memory }
     {
-        if self.plain.keep(self.buffer, target, labels) {
+        if self.plain.keep(target, labels) {
             return Ok(());
         }
+        self.keep_copy(target, labels)
+    }
+
+    /// Keeps a copy of the labels at an offset that a pointer led to.
+    pub(crate) fn keep_copy(&mut self, target: u16, labels: &[u8]) -> Result<(), DecodeError>
+        requires kept { IsKept self.old.bytes target labels.now }
+        requires behind { PassesKept self.old.bytes self.old.kept target }
+        ensures ok { OnOk result (self.new ≡ record self.old { kept = set.insert self.old.kept target }) }
+        ensures err { OnErr result (self.new ≡ self.old) }
+        ensures only { IsOkUnless result DecodeError.Memory }
+    {
         let most = self.buffer.len().min(FARTHEST) as u16;
         self.others.keep(target, labels, most)?;
         Ok(())
-    }
-
-    /// Counts a pointer that is followed into bytes.
-    pub(crate) fn count_jump(&mut self)
-        ensures { self.new ≡ record self.old { jumps = min (self.old.jumps + 1) usize.MAX } }
-    {
-        self.jumps = self.jumps.saturating_add(1);
     }
 
     /// Goes to a place inside the buffer or at its end.

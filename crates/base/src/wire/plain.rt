@@ -1,82 +1,75 @@
-//! Pointer targets whose labels stand in the buffer as they are.
+//! Pointer targets whose labels stand in the message as they are.
 
-ghost use Rattle.std.specs.Prelude.{◌≡◌, ◌≤◌, ◌+◌, ◌++◌, ◌∷◌, [], true, false, length, is_some, IfSome, All, Any};
-ghost use Rattle.std.specs.List.{slice_range};
+ghost use Rattle.std.specs.Prelude.{◌≡◌, ◌++◌, ◌∷◌, [], true, false, is_some, IfSome, Any};
 ghost use Rattle.base.specs.Kept.{is_target, HasLabels};
 
 use std::marker::Model;
 
-/// How many have room inside the value.
+/// How many targets have room inside the value.
 const ROOM: usize = 12;
 
-/// The offset that a pointer led to, where the labels are spelled without a pointer, in as many bytes.
+/// An offset that a pointer led to, and the labels there, each with its length before it.
 #[derive(Clone, Copy)]
-pub(crate) struct Plain {
+pub(crate) struct Plain<'a> {
     pub(crate) target: u16,
-    pub(crate) len: u8,
+    pub(crate) labels: &'a [u8],
 }
 
-/// The first such targets, which take no memory. What stands behind them in the room has no meaning.
+/// The first such targets, which take no memory. What stands after them in the room has no meaning.
 #[derive(Drop)]
-pub(crate) struct PlainTargets {
+pub(crate) struct PlainTargets<'a> {
     count: usize,
-    room: [Plain; ROOM],
+    room: [Plain<'a>; ROOM],
 }
 
-impl Model for PlainTargets {
-    ghost use Rattle.std.specs.Prelude.{◌≤◌, List, take};
+impl<'a> Model for PlainTargets<'a> {
+    ghost use Rattle.std.specs.Prelude.{◌≡◌, ◌≤◌, List, length, take};
     ghost use Rattle.base.specs.declared.wire.plain.Plain.{Plain as Target};
 
     ghost Value = { List Target };
 
     ghost view = { λ t. take t.count t.room };
 
-    ghost invariant = { λ t. t.count ≤ 12 };
+    ghost invariant = { λ t. (t.count ≤ 12) × (length t.room ≡ 12) };
 }
 
-impl PlainTargets {
+impl<'a> PlainTargets<'a> {
     /// No target. Takes no memory.
-    pub(crate) fn none() -> PlainTargets
+    pub(crate) fn none(buffer: &'a [u8]) -> PlainTargets<'a>
         ensures { result ≡ [] }
     {
+        let unused = Plain {
+            target: 0,
+            labels: &buffer[..0],
+        };
         PlainTargets {
             count: 0,
-            room: [Plain { target: 0, len: 0 }; ROOM],
+            room: [unused; ROOM],
         }
     }
 
-    /// The labels in the buffer at an offset, if it is one of these.
-    pub(crate) fn find<'a>(&self, buffer: &'a [u8], target: u16) -> Option<&'a [u8]>
-        requires { All (λ p. p.target + p.len ≤ length buffer.now) self.now }
+    /// The labels at an offset, if it is one of these.
+    pub(crate) fn find(&self, target: u16) -> Option<&'a [u8]>
         ensures is { is_some result ≡ is_target self.now target }
-        ensures there { IfSome result (λ labels. Any (HasLabels buffer.now target labels.now) self.now) }
+        ensures there { IfSome result (λ labels. Any (HasLabels target labels.now) self.now) }
     {
         for plain in &self.room[..self.count] {
             if plain.target == target {
-                let start = usize::from(target);
-                return Some(&buffer[start..start + usize::from(plain.len)]);
+                return Some(plain.labels);
             }
         }
         None
     }
 
-    /// Keeps an offset if its labels stand there in the buffer as they are, and there is room. Answers whether it did.
-    pub(crate) fn keep(&mut self, buffer: &[u8], target: u16, labels: &[u8]) -> bool
-        requires { length labels.now ≤ 254 }
-        ensures kept { result ≡ true → self.new ≡ self.old ++ record { target = target; len = length labels.now } ∷ [] }
-        ensures inside { result ≡ true → target + length labels.now ≤ length buffer.now }
-        ensures same { result ≡ true → slice_range buffer.now target (target + length labels.now) ≡ labels.now }
+    /// Keeps an offset with its labels, if there is room. Answers whether it did.
+    pub(crate) fn keep(&mut self, target: u16, labels: &'a [u8]) -> bool
+        ensures kept { result ≡ true → self.new ≡ self.old ++ record { target = target; labels = labels.entry } ∷ [] }
         ensures full { result ≡ false → self.new ≡ self.old }
     {
-        let start = usize::from(target);
-        let end = start + labels.len();
-        if self.count == ROOM || end > buffer.len() || &buffer[start..end] != labels {
+        if self.count == ROOM {
             return false;
         }
-        self.room[self.count] = Plain {
-            target,
-            len: labels.len() as u8,
-        };
+        self.room[self.count] = Plain { target, labels };
         self.count += 1;
         true
     }

@@ -1,6 +1,6 @@
-use Rattle.std.proofs.Common.{◌+◌, ◌-◌, take}
+use Rattle.std.proofs.Common.{◌≡◌, ◌+◌, ◌-◌, drop, take}
 use Rattle.std.specs.Prelude.{All}
-use Rattle.base.specs.Passed.{targets}
+use Rattle.base.specs.Passed.{IsLast, targets}
 use Rattle.base.proofs.CountLemmas.{Follows}
 use Rattle.base.proofs.GatherLemmas.{Gathers}
 use Rattle.base.proofs.PassLemmas.{Lead, Leads}
@@ -9,10 +9,12 @@ use Rattle.base.proofs.name.reading.gather.Given as goal
 
 abbrev pub invariant-parts : goal.invariant-parts
 invariant-parts l = record {
-  gathers : Gathers l.buffer l.first 0 l.start l.at l.used (take l.used l.room) l.end;
-  tails : All (Tail l.buffer l.start l.at l.used (take l.used l.room)) l.passed;
-  leads : Leads l.buffer l.first (targets l.passed) l.start l.at;
-  lead : Lead l.buffer l.passed l.start l.at;
+  piece : l.piece ≡ drop l.start l.fn.decoder.bytes;
+  gathers : Gathers l.fn.decoder.bytes l.fn.decoder.index 0 l.start (l.start + l.at) l.used (take l.used l.room) l.end;
+  tails : All (Tail l.fn.decoder.bytes l.start (l.start + l.at) l.used (take l.used l.room)) l.passed;
+  last : IsLast (take l.at l.piece) (take l.used l.room) l.passed;
+  leads : Leads l.fn.decoder.bytes l.fn.decoder.index (targets l.passed) l.start (l.start + l.at);
+  lead : Lead l.fn.decoder.bytes l.passed l.start (l.start + l.at);
   follows : Follows (targets l.passed) l.start l.fn.decoder l.decoder;
 }
 

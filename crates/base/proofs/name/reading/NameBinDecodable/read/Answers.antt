@@ -1,8 +1,8 @@
-use Rattle.std.proofs.Common.{◌≡◌, ◌∙◌, ◌++◌, ℕ, List, ap, arith, subst, sym, take, []}
+use Rattle.std.proofs.Common.{◌≡◌, ◌∙◌, ◌++◌, ℕ, List, ap, arith, sym, take, []}
 use Rattle.std.specs.FinSet as set
 use Rattle.std.specs.Ordering.{nat_cmp}
 use Rattle.base.specs.Labels.{labels_of}
-use Rattle.base.specs.Passed.{Followed, PassesThese, targets}
+use Rattle.base.specs.Passed.{Followed, targets}
 use Rattle.base.specs.Passing.{inserted, passed}
 use Rattle.base.specs.Reader.{Reader}
 use Rattle.base.specs.Spelling.{Spelled}
@@ -25,21 +25,15 @@ passes : (c : goal.After-drop-passed-inside-2) (xs : List (List ℕ)) (e : ℕ) 
 passes c xs e h =
     let old = c.args.decoder.now in
     let ts = targets c.gather.new.passed in
-    let these : PassesThese old.bytes old.kept old.index ts = subst (λ (bs : List ℕ). PassesThese bs old.kept old.index ts) c.buffer.ensures
-    (subst (λ (i : ℕ). PassesThese c.buffer.result.now old.kept i ts) c.index.ensures.value c.in_ok-used.ensures.these) in
-    kept_now c ∙ passes_are_kept old.bytes old.kept old.index ts these xs e h
+    kept_now c ∙ passes_are_kept old.bytes old.kept old.index ts c.in_ok-used.ensures.these xs e h
 
 pub returns-clause-passes : goal.returns-clause-passes
 returns-clause-passes c = λ h. passes c _ _ h
 
-spelled : (c : goal.After-drop-passed-inside-2) → Spelled c.args.decoder.now.bytes (labels_of (take c.in_ok-used.used c.gather.new.room)) c.args.decoder.now.index c.args.decoder.now.index c.in_ok-used.end
+spelled : (c : goal.After-drop-passed-inside-2) → Spelled c.args.decoder.now.bytes (labels_of (take c.in_ok-used.field-0.used c.gather.new.room)) c.args.decoder.now.index c.args.decoder.now.index c.in_ok-used.field-0.end
 spelled c =
     let old = c.args.decoder.now in
-    let labels = labels_of (take c.in_ok-used.used c.gather.new.room) in
-    let e = c.in_ok-used.end in
-    let there = spelled_is c.buffer.result.now c.index.result 0 e (take c.in_ok-used.used c.gather.new.room) (omega arith) c.in_ok-used.ensures.read in
-    subst (λ (bs : List ℕ). Spelled bs labels old.index old.index e) c.buffer.ensures
-    (subst (λ (i : ℕ). Spelled c.buffer.result.now labels i i e) c.index.ensures.value there)
+    spelled_is old.bytes old.index 0 c.in_ok-used.field-0.end (take c.in_ok-used.field-0.used c.gather.new.room) (omega arith) c.in_ok-used.ensures.read
 
 bytes_now : (c : goal.After-drop-passed-inside-2) → c.move_to-2.new.self.bytes ≡ c.args.decoder.now.bytes
 bytes_now c =
@@ -52,8 +46,8 @@ returns-clause-adds c = adds_name (spelled c) (bytes_now c) (passes c _ _ (spell
 
 pub returns-clause-counts : goal.returns-clause-counts
 returns-clause-counts c = λ counted.
-    let labels = labels_of (take c.in_ok-used.used c.gather.new.room) in
-    let e = c.in_ok-used.end in
+    let labels = labels_of (take c.in_ok-used.field-0.used c.gather.new.room) in
+    let e = c.in_ok-used.field-0.end in
     let h = spelled c in
     let followed = c.in_ok-used.ensures.followed in
     let moved = c.move_to-2.ensures in
@@ -79,10 +73,10 @@ returns-in-Some-clause-passes c = λ h. passes_piece c _ _ h
 
 -- the labels of the piece and those that are kept
 abbrev labels : goal.After-move_to → List ℕ
-labels c = take c.in-Some.field-0.used c.in-Some.field-0.own.now ++ take c.in-Some.field-0.len c.in-Some.field-0.kept.now
+labels c = take c.in-Some.field-0.used c.in-Some.field-0.own.now ++ c.in-Some.field-0.kept.now
 
-spelled_piece : (c : goal.After-move_to) → Spelled c.args.decoder.now.bytes (labels_of (labels c)) c.args.decoder.now.index c.args.decoder.now.index c.in-Some.field-0.behind
-spelled_piece c = spelled_is c.args.decoder.now.bytes c.args.decoder.now.index 0 c.in-Some.field-0.behind (labels c) (omega arith) c.in-Some.ensures.read
+spelled_piece : (c : goal.After-move_to) → Spelled c.args.decoder.now.bytes (labels_of (labels c)) c.args.decoder.now.index c.args.decoder.now.index c.in-Some.field-0.end
+spelled_piece c = spelled_is c.args.decoder.now.bytes c.args.decoder.now.index 0 c.in-Some.field-0.end (labels c) (omega arith) c.in-Some.ensures.read
 
 pub returns-in-Some-clause-adds : goal.returns-in-Some-clause-adds
 returns-in-Some-clause-adds c =
@@ -93,7 +87,7 @@ pub returns-in-Some-clause-counts : goal.returns-in-Some-clause-counts
 returns-in-Some-clause-counts c = λ counted.
     let old = c.args.decoder.now in
     let bytes = labels c in
-    let e = c.in-Some.field-0.behind in
+    let e = c.in-Some.field-0.end in
     let h = spelled_piece c in
     let f = Follows-none 0 old in
     let followed : Followed [] old old = record { now = f.now; jumps = f.jumps; all = f.all; few = f.few } in
