@@ -9,6 +9,7 @@ mod octets;
 pub mod record_type;
 pub mod rr_key;
 pub mod text;
+pub mod types;
 pub mod wire;
 
 pub use dns_class::DNSClass;

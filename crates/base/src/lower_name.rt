@@ -1,6 +1,6 @@
 //! Names in lower case, by which records are looked up (RFC 4343, 3).
 
-ghost use Rattle.std.specs.Prelude.{◌≡◌, IfOk, IsTrue, Some, refl};
+ghost use Rattle.std.specs.Prelude.{◌≡◌, IfOk, IsOkUnless, IsTrue, Some, refl};
 ghost use Rattle.std.specs.Cmp.{partial_equiv_from_equiv};
 ghost use Rattle.std.specs.Ordering.{as_partial_cmp};
 ghost use Rattle.base.specs.Labels.{NameValue};
@@ -8,8 +8,9 @@ ghost use Rattle.base.specs.NameText.{name_text};
 ghost use Rattle.base.specs.NameOrder.{exact, folded, lowered, same_lower, lower_cmp, lower_fed};
 ghost use Rattle.base.specs.NameOrderLaws.{same_by-equiv, same_by-tie, cmp_by-total, cmp_by-partial, fed_by-same};
 
+use crate::error::ProtoError;
 use crate::name::Name;
-use std::alloc::AllocError;
+use std::alloc::{AllocError, Global};
 use std::cmp::Ordering;
 use std::fmt;
 use std::hash::{Hash, Hasher};
@@ -37,12 +38,17 @@ impl Model for LowerName {
 
 impl LowerName {
     /// The name with its ASCII letters in lower case, and its flag. Grows memory once, and not at all for a name whose
-    /// labels take up to 29 bytes; refused for want of it.
-    pub fn new(name: &Name) -> Result<LowerName, AllocError>
-        ensures { IfOk result (λ lower. lower ≡ lowered name.now) }
+    /// labels take up to 29 bytes.
+    ///
+    /// # Errors
+    ///
+    /// `Memory` alone, if memory runs out.
+    pub fn new(alloc: Global, name: &Name) -> Result<LowerName, ProtoError>
+        ensures value { IfOk result (λ lower. lower ≡ lowered name.now) }
+        ensures only { IsOkUnless result ProtoError.Memory }
     {
         Ok(LowerName {
-            name: name.to_lowercase()?,
+            name: name.to_lowercase(alloc)?,
         })
     }
 

@@ -10,7 +10,8 @@ ghost use Rattle.base.specs.NameOrder.{canonical_cmp, is_zone_of, folded, folded
 ghost use Rattle.base.specs.NameOrderLaws.{same_by-equiv, same_by-tie, cmp_by-total, cmp_by-partial, fed_by-same};
 
 use crate::name::{Name, first_label};
-use std::alloc::AllocError;
+use crate::octets::Octets;
+use std::alloc::{AllocError, Global};
 use std::cmp::Ordering;
 use std::hash::{Hash, Hasher};
 
@@ -39,13 +40,13 @@ impl Name {
     }
 
     /// The name with its ASCII letters in lower case. Grows memory once, and not at all for a name whose labels take
-    /// up to 29 bytes; refused for want of it.
-    pub(crate) fn to_lowercase(&self) -> Result<Name, AllocError>
+    /// up to 29 bytes; refused if memory runs out.
+    pub(crate) fn to_lowercase(&self, alloc: Global) -> Result<Name, AllocError>
         ensures { IfOk result (λ n. n ≡ lowered self.now) }
     {
-        let mut name = self.clone()?;
-        name.octets.make_ascii_lowercase();
-        Ok(name)
+        let mut octets = Octets::from_slice(alloc, self.octets.as_slice(), self.octets.mark())?;
+        octets.make_ascii_lowercase();
+        Ok(Name { octets })
     }
 }
 
