@@ -14,7 +14,7 @@ use base::{
     BinDecodable, BinDecoder, BinEncodable, BinEncoder, DNSClass, DecodeError, LowerName,
     ProtoError, RecordType,
 };
-use std::alloc::AllocError;
+use std::alloc::{AllocError, Global};
 use std::fmt;
 use std::marker::Model;
 
@@ -38,13 +38,17 @@ impl Model for LowerQuery {
 }
 
 impl LowerQuery {
-    /// The question with its name in lower case beside it. Refused for want of memory.
-    pub fn query(query: Query) -> Result<LowerQuery, ProtoError>
+    /// The question with its name in lower case beside it.
+    ///
+    /// # Errors
+    ///
+    /// `Memory` alone, if memory runs out.
+    pub fn query(alloc: Global, query: Query) -> Result<LowerQuery, ProtoError>
         ensures value { IfOk result (λ lower. lower ≡ query) }
         ensures only { IsOkUnless result ProtoError.Memory }
     {
         Ok(LowerQuery {
-            name: LowerName::new(&query.name)?,
+            name: LowerName::new(alloc, &query.name)?,
             original: query,
         })
     }
@@ -86,7 +90,7 @@ impl TryFrom<Query> for LowerQuery {
     /// The question with its name in lower case beside it (RFC 4343, 3), as `query` answers it. Refused with `Memory`
     /// for want of it.
     fn try_from(query: Query) -> Result<LowerQuery, ProtoError> {
-        LowerQuery::query(query)
+        LowerQuery::query(query.name.allocator(), query)
     }
 }
 
@@ -141,7 +145,7 @@ impl BinDecodable for LowerQuery {
     /// Refused as `Query::read` is, with `Memory` also where there is none for the name in lower case.
     fn read(decoder: &mut BinDecoder<'_>) -> Result<LowerQuery, DecodeError> {
         let original = Query::read(decoder)?;
-        let name = LowerName::new(&original.name)?;
+        let name = LowerName::new(decoder.allocator(), &original.name).map_err(|_| DecodeError::Memory)?;
         Ok(LowerQuery { name, original })
     }
 }

@@ -129,7 +129,7 @@ fn a_message_is_truncated(rt: HostRuntime) -> Result<(), Fail> {
 /// Whether the question for a name, in lower case, has that name.
 fn is_lowered(alloc: Global, asked: &str, lower: &str) -> Result<bool, Fail> {
     let question = Query::query(Name::parse(alloc, asked, None)?, RecordType::AAAA);
-    let question = LowerQuery::query(question)?;
+    let question = LowerQuery::query(alloc, question)?;
     let shown = question.name().to_string(alloc);
     drop(question);
     Ok(shown?.as_str() == lower)

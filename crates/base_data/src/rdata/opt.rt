@@ -1,6 +1,6 @@
 //! EDNS options.
 
-ghost use Rattle.std.specs.Prelude.{◌≡◌, OnOk, OnErr, position, refl, Some};
+ghost use Rattle.std.specs.Prelude.{◌≡◌, IsOkUnless, OnOk, OnErr, position, refl, Some};
 ghost use Rattle.std.specs.Cmp.{partial_equiv_from_equiv};
 ghost use Rattle.std.specs.Option.{option_copied};
 ghost use Rattle.base.specs.Reading.{Reads};
@@ -59,10 +59,13 @@ impl OPT {
 
     /// Puts an option in the place of the first of its code, or behind all others where none has its code.
     ///
-    /// Refused for want of memory; the options stay as they were then.
-    pub fn insert(&mut self, option: EdnsOption) -> Result<(), AllocError>
+    /// # Errors
+    ///
+    /// `Memory` alone, if memory runs out; the options stay as they were then.
+    pub fn insert(&mut self, option: EdnsOption) -> Result<(), ProtoError>
         ensures ok { OnOk result (self.new ≡ with_option option self.old) }
         ensures err { OnErr result (self.new ≡ self.old) }
+        ensures only { IsOkUnless result ProtoError.Memory }
     {
         match self.position_of(option.code()) {
             Some(i) => self.options[i] = option,

@@ -1,6 +1,6 @@
 //! Texts.
 
-ghost use Rattle.std.specs.Prelude.{◌≡◌, ◌≢◌, ◌<◌, ◌≤◌, ◌↔◌, ℕ, List, [], ◌∷◌, ◌++◌, All, IfOk, IsTrue, OnOk, length, map, refl, Some};
+ghost use Rattle.std.specs.Prelude.{◌≡◌, ◌≢◌, ◌<◌, ◌≤◌, ◌↔◌, ℕ, List, [], ◌∷◌, ◌++◌, All, IfOk, IsOkUnless, IsTrue, OnOk, length, map, refl, Some};
 ghost use Rattle.std.specs.Cmp.{partial_equiv_from_equiv};
 ghost use Rattle.base.specs.Labels.{wire_of, labels_of};
 ghost use Rattle.base.specs.Reading.{Reads};
@@ -45,11 +45,16 @@ impl Model for TXT {
 }
 
 impl TXT {
-    /// The text of these strings, one at least, each of up to 255 bytes. Refused for want of memory.
-    pub fn new(alloc: Global, strings: &[&[u8]]) -> Result<TXT, AllocError>
+    /// The data of these character strings, one at least, each of up to 255 bytes (RFC 1035, 3.3.14).
+    ///
+    /// # Errors
+    ///
+    /// `Memory` alone, if memory runs out.
+    pub fn new(alloc: Global, strings: &[&[u8]]) -> Result<TXT, ProtoError>
         requires some { strings.now ≢ [] }
         requires short { All (λ string. length string.now ≤ 255) strings.now }
-        ensures { IfOk result (λ text. text ≡ map (λ string. string.now) strings.now) }
+        ensures value { IfOk result (λ text. text ≡ map (λ string. string.now) strings.now) }
+        ensures only { IsOkUnless result ProtoError.Memory }
     {
         let mut bytes = Vec::new(alloc);
         for string in strings {

@@ -276,9 +276,9 @@ fn names_compared(rt: HostRuntime) -> Result<(), ParseError> {
 /// The lowered name that a text reads as.
 fn lower(alloc: Global, text: &str) -> Result<LowerName, ParseError> {
     let read = name(alloc, text)?;
-    let lowered = LowerName::new(&read);
+    let lowered = LowerName::new(alloc, &read);
     drop(read);
-    Ok(lowered?)
+    lowered.map_err(|_| ParseError::Memory)
 }
 
 /// The order of the keys of two texts and types, and whether they are equal.

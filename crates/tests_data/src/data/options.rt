@@ -2,13 +2,13 @@
 
 ghost use Rattle.std.specs.Prelude.{◌≤◌, length};
 
-use base::{BinDecoder, DecodeError, RecordType};
+use base::{BinDecoder, DecodeError, ProtoError, RecordType};
 use base_data::{EdnsOption, OPT, RData};
 use std::alloc::{AllocError, Global};
 use test_tools::forms::{has_text, is_copied, is_written_as};
 
 /// Inserts an option of a code and of bytes.
-fn insert(options: &mut OPT, code: u16, bytes: &[u8]) -> Result<(), AllocError>
+fn insert(options: &mut OPT, code: u16, bytes: &[u8]) -> Result<(), ProtoError>
     requires { length bytes.now ≤ 65535 }
 {
     let alloc = options.allocator();
@@ -16,7 +16,7 @@ fn insert(options: &mut OPT, code: u16, bytes: &[u8]) -> Result<(), AllocError>
 }
 
 /// Two options, the first in the place of an earlier one of its code.
-fn two_options(alloc: Global) -> Result<OPT, AllocError> {
+fn two_options(alloc: Global) -> Result<OPT, ProtoError> {
     let mut options = OPT::new(Vec::new(alloc));
     insert(&mut options, 3, &[0xAA])?;
     insert(&mut options, 10, &[])?;
@@ -41,7 +41,7 @@ fn count_without(mut options: OPT, code: u16) -> usize {
 }
 
 #[test]
-fn two_options_of_three(rt: HostRuntime) -> Result<(), AllocError> {
+fn two_options_of_three(rt: HostRuntime) -> Result<(), ProtoError> {
     let alloc = rt.alloc();
     let options = two_options(alloc)?;
     assert!(rt; is_written_as(alloc, &options, &[0, 3, 0, 2, 0xBB, 0xCC, 0, 10, 0, 0]));

@@ -1,6 +1,6 @@
 //! Values that several tests write and read.
 
-use base::{DNSClass, Name, ParseError, RecordType};
+use base::{DNSClass, Name, ParseError, ProtoError, RecordType};
 use base_data::{A, EdnsOption, TSIG};
 use op::{Edns, Message, Query};
 use rr::Record;
@@ -9,7 +9,7 @@ use std::net::Ipv4Addr;
 use std::test::Fail;
 
 /// EDNS with one option, of code 65001 and two bytes.
-pub(crate) fn edns_with_option(alloc: Global) -> Result<Edns, AllocError> {
+pub(crate) fn edns_with_option(alloc: Global) -> Result<Edns, ProtoError> {
     let option = EdnsOption::new(65001, vec![in alloc; 1, 2]?);
     let mut edns = Edns::new(alloc);
     match edns.options_mut().insert(option) {

@@ -38,7 +38,7 @@ fn applied(alloc: Global, change: &str) -> Result<BTreeMap<RrKey, RecordSet>, Re
 // The TTL that the set of the addresses has then, and how many records.
 fn addresses_after(alloc: Global, change: &str) -> Result<Option<(u32, usize)>, Fail> {
     let owner = Name::parse(alloc, "www.example.", None)?;
-    let key = RrKey::new(LowerName::new(&owner)?, RecordType::A);
+    let key = RrKey::new(LowerName::new(alloc, &owner)?, RecordType::A);
     let sets = applied(alloc, change)?;
     Ok(sets.get(&key).map(|set| (set.ttl(), set.records_count())))
 }

@@ -4,7 +4,7 @@ ghost use Rattle.std.specs.BTreeMap.{IsOrdered, is_at};
 ghost use Rattle.std.specs.List.{AllByRecursion};
 ghost use Rattle.std.specs.List.Sorted.{IsStrictlySortedBy};
 ghost use Rattle.std.specs.Map.{keys_of, set_value};
-ghost use Rattle.std.specs.Prelude.{◌≡◌, ◌++◌, ◌-◌, [], IfOk, OnOk, Ok, Some, length, slice_get};
+ghost use Rattle.std.specs.Prelude.{◌≡◌, ◌++◌, ◌-◌, [], IfOk, IsOkUnless, OnOk, Ok, Some, length, slice_get};
 ghost use Rattle.std.specs.declared.cmp.Ordering.TheVariants.{Equal, Greater};
 ghost use Rattle.base.specs.RrKey.{key_cmp};
 ghost use Rattle.base.specs.TextFaults.{Gives};
@@ -62,7 +62,7 @@ impl ZoneSets {
     pub(super) fn add(&mut self, entry: Record) -> Result<(), ParseError>
         ensures { Adds result self.new (added self.old entry) }
     {
-        let key = key_for(&entry)?;
+        let key = key_for(*self.run.allocator(), &entry)?;
         match order_to_last(&self.sets, &self.run, &key) {
             Ordering::Less => self.add_within(key, entry),
             Ordering::Equal => {
@@ -105,10 +105,12 @@ impl ZoneSets {
 }
 
 /// The key of a record's owner and type.
-fn key_for(entry: &Record) -> Result<RrKey, AllocError>
-    ensures { IfOk result (λ key. key ≡ record_key entry.now) }
+fn key_for(alloc: Global, entry: &Record) -> Result<RrKey, ParseError>
+    ensures value { IfOk result (λ key. key ≡ record_key entry.now) }
+    ensures only { IsOkUnless result ParseError.Memory }
 {
-    Ok(RrKey::new(LowerName::new(&entry.name)?, entry.record_type()))
+    let owner = LowerName::new(alloc, &entry.name).map_err(|_| ParseError::Memory)?;
+    Ok(RrKey::new(owner, entry.record_type()))
 }
 
 /// The order of a key to the last one; less as well where it is the last one of the map.

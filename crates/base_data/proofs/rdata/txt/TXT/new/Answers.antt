@@ -13,5 +13,5 @@ loop-string-preserved c = grind (arith, common_steps, wire_of-next)
 pub invariant_of-result : goal.invariant_of-result
 invariant_of-result c = shown_text c.loop-string.bytes.items c.args.strings.now c.loop-string.string-index c.loop-string.invariant c.loop-string-test.false c.requires.some c.requires.short
 
-pub returns : goal.returns
-returns c = shown_strings c.loop-string.bytes.items c.args.strings.now c.loop-string.string-index c.loop-string.invariant c.loop-string-test.false
+pub returns-clause-value : goal.returns-clause-value
+returns-clause-value c = shown_strings c.loop-string.bytes.items c.args.strings.now c.loop-string.string-index c.loop-string.invariant c.loop-string-test.false
