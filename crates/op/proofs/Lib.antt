@@ -24,6 +24,7 @@ mod MessageFaults
 mod SectionFaults
 pub mod MessageEquals
 pub mod MessageStands
+pub mod MessageWrittenLemmas
 mod OwnerLemmas
 mod ReadFits
 mod SectionLemmas
