@@ -1,5 +1,6 @@
 mod MessageNames
 pub mod AddsMessage
+pub mod AnswerLemmas
 pub mod BitLemmas
 pub mod EdnsEquals
 pub mod EdnsLemmas

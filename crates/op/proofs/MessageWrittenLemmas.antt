@@ -134,10 +134,10 @@ module _ {E : Type 0} {word : E → List ℕ → ℕ → ℕ → Type 0} {plain 
   front_exact : b ≡ after (fitting f limit xs) a
   front_exact = w.exact ∙ ap (λ (ys : List E). after (in_turn f ys) a) (sym front_fits)
 
-  front_count : (p : Part E) → p ≡ part f limit xs (length a.bytes) a.suffixes → n ≡ length p.kept
+  pub front_count : (p : Part E) → p ≡ part f limit xs (length a.bytes) a.suffixes → n ≡ length p.kept
   front_count p is = w.counted ∙ ap length (sym front_fits) ∙ ap (λ (q : Part E). length q.kept) (sym is)
 
-  front_told : (p : Part E) → p ≡ part f limit xs (length a.bytes) a.suffixes → is_cut ≡ p.is_cut
+  pub front_told : (p : Part E) → p ≡ part f limit xs (length a.bytes) a.suffixes → is_cut ≡ p.is_cut
   front_told p is =
       let told : p.is_cut ≡ any_lost w.lost =
       ap (λ (q : Part E). q.is_cut) is
@@ -190,7 +190,7 @@ module _ (m : MessageValue) (old new : State) (h : Header) (e : Emitted m old ne
   w_sixth : length e.sixth.bytes ≤ old.limit
   w_sixth = omega (arith, (records_keep e.signature).within, w_fifth, l_fifth)
 
-  all_asked : that_fit query_written old.limit m.queries (length e.kept.bytes) e.kept.suffixes ≡ m.queries
+  pub all_asked : that_fit query_written old.limit m.queries (length e.kept.bytes) e.kept.suffixes ≡ m.queries
   all_asked = ap (λ (ys : List Query). that_fit query_written old.limit ys (length e.kept.bytes) e.kept.suffixes) (sym (append-nil m.queries))
       ∙ Fits-front query_written old.limit m.queries [] e.kept e.first e.asked w_first tt
 

@@ -1,7 +1,9 @@
 -- What is written of a message under a limit, as a function of both (RFC 1035, 4.1; RFC 2181, 9; RFC 6891, 6.1.3).
-use Rattle.std.specs.Prelude.{ℕ, Bool, ◌+◌, ◌||◌, List, [], length, nat_lt}
+use Rattle.std.specs.Prelude.{ℕ, Bool, ◌+◌, ◌||◌, List, [], length, nat_lt, if◌then◌else◌, Result, Ok, Err}
 use Rattle.std.specs.Option.{option_map}
 use Rattle.base.specs.State.{Stored}
+use Rattle.base.specs.declared.error.proto_error.ProtoError.{ProtoError}
+use Rattle.base.specs.declared.error.proto_error.ProtoError.TheVariants as refusals
 use Rattle.base.specs.Written.{Piece, Writing, both, in_turn, just, that_fit}
 use Rattle.base_data.specs.declared.rdata.RData.{RData}
 use Rattle.rr.specs.Record.{record_written}
@@ -90,3 +92,11 @@ message_written limit m at stored =
 -- the bytes of a message that a new encoder writes under a limit
 abbrev pub message_bytes : ℕ → MessageValue → List ℕ
 message_bytes limit m = (message_written limit m 0 []).bytes
+
+-- What a new encoder answers to a message under a limit, want of memory aside: its bytes; or that the header has no
+-- room; or that not all questions have, and how many of them do.
+abbrev pub message_answer : ℕ → MessageValue → Result (List ℕ) ProtoError
+message_answer limit m =
+    let asked = part query_written limit m.queries 12 [] in
+    if nat_lt limit 12 then Err refusals.MaxBufferSizeExceeded
+    else (if asked.is_cut then Err (refusals.NotAllRecordsWritten (length asked.kept)) else Ok (message_bytes limit m))
