@@ -26,7 +26,6 @@ pub mod PassLemmas
 pub mod PatchLemmas
 pub mod PieceLemmas
 pub mod PointerLemmas
-pub mod ProgressLemmas
 pub mod ReadLemmas
 pub mod ReadTexts
 pub mod ReadingLemmas
@@ -44,3 +43,5 @@ pub mod TtlLemmas
 pub mod TypeTexts
 pub mod WalkLemmas
 pub mod WordLemmas
+pub mod WrittenLaws
+pub mod WrittenLemmas

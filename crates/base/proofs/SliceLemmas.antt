@@ -1,12 +1,15 @@
 -- The elements of a slice that were written one behind the other.
-use Rattle.std.proofs.Common.{◌≡◌, ℕ, ◌+◌, ◌<◌, List, [], ◌∷◌, ◌++◌, length, map, refl, ap, sym, ◌∙◌, subst, arith, Ok, Err, Bor, Iter}
+use Rattle.std.proofs.Common.{◌≡◌, ℕ, ◌+◌, ◌<◌, ◌≤◌, List, [], ◌∷◌, ◌++◌, length, map, refl, ap, sym, ◌∙◌, subst, arith, Ok, Err, Bor, Iter}
 use Rattle.std.proofs.lemmas.List.{append-nil, length-map}
 use Rattle.std.proofs.iter.Yields.{fronts}
 use Rattle.std.specs.Iterator.{Yields}
 use Rattle.base.specs.declared.error.proto_error.ProtoError.TheVariants as refusals
 use Rattle.base.specs.State.{State}
 use Rattle.base.specs.Items.{EachWritten, EmitsAll}
-use Rattle.base.proofs.ItemLemmas.{Each-map}
+use Rattle.base.specs.Written.{Writing, piece_at, after, in_turn, that_fit, fitting, Passes}
+use Rattle.base.proofs.ItemLemmas.{Each-keeps, Each-map}
+use Rattle.base.proofs.WrittenLaws.{Fits-front}
+use Rattle.base.proofs.WrittenLemmas.{in_turn-map}
 
 -- the items that the iterator gave are the first elements of its slice
 pub Yields-slice : {E : Type 0} (s t : Iter E) (xs : List (Bor E)) → Yields fronts s xs t → s.rest.now ≡ map (λ x. x.now) xs ++ t.rest.now
@@ -18,17 +21,22 @@ nil : {E : Type 0} (xs : List E) → length xs ≡ 0 → xs ≡ []
 nil [] none = refl
 nil (x ∷ xs) none = absurd (omega arith)
 
-module _ {E : Type 0} (word : E → List ℕ → ℕ → ℕ → Type 0) (plain : E → ℕ) (owner : E → List (List ℕ)) (s t : Iter E) (a b : State) (n : ℕ) where
+module _ {E : Type 0} (word : E → List ℕ → ℕ → ℕ → Type 0) (plain : E → ℕ) (owner : E → List (List ℕ)) (written : E → Writing) (s t : Iter E) (a b : State) (n : ℕ) where
   -- all elements were written
-  pub Emits-slice : EmitsAll (λ (x : Bor E). word x.now) (λ x. plain x.now) (λ x. owner x.now) fronts s t a b (Ok n) → EachWritten word plain owner s.rest.now a b × (n ≡ length s.rest.now)
-  Emits-slice (xs, (u, yields, stop), each, counted) =
-      let all : s.rest.now ≡ map (λ x. x.now) xs = Yields-slice s u xs yields ∙ ap (λ rest. map (λ x. x.now) xs ++ rest) (nil u.rest.now stop.0) ∙ append-nil (map (λ x. x.now) xs) in
-      (subst (λ ys. EachWritten word plain owner ys a b) (sym all) (Each-map (λ x. x.now) word plain owner xs a b each), counted ∙ sym (length-map xs (λ x. x.now)) ∙ ap length (sym all))
+  pub Emits-slice : EmitsAll (λ (x : Bor E). word x.now) (λ x. plain x.now) (λ x. owner x.now) (λ x. written x.now) fronts s t a b (Ok n)
+      → EachWritten word plain owner s.rest.now a b × (n ≡ length s.rest.now) × (b ≡ after (in_turn written s.rest.now) a)
+  Emits-slice (xs, (u, yields, stop), each, counted, exact) =
+      let all : s.rest.now ≡ map (λ x. x.now) xs = Yields-slice s u xs yields ∙ ap (λ rest. map (λ x. x.now) xs ++ rest) (nil u.rest.now stop.0) ∙ append-nil (map (λ x. x.now) xs) in (
+        subst (λ ys. EachWritten word plain owner ys a b) (sym all) (Each-map (λ x. x.now) word plain owner xs a b each),
+        counted ∙ sym (length-map xs (λ x. x.now)) ∙ ap length (sym all),
+        exact ∙ ap (λ f. after f a) (in_turn-map (λ x. x.now) written xs ∙ ap (in_turn written) (sym all)),
+      )
 
   -- the elements before one that didn't fit were written
-  pub Emits-front : EmitsAll (λ (x : Bor E). word x.now) (λ x. plain x.now) (λ x. owner x.now) fronts s t a b (Err (refusals.NotAllRecordsWritten n))
+  pub Emits-front : EmitsAll (λ (x : Bor E). word x.now) (λ x. plain x.now) (λ x. owner x.now) (λ x. written x.now) fronts s t a b (Err (refusals.NotAllRecordsWritten n))
       → (xs : List E) × (x : E) × (rest : List E) × (s.rest.now ≡ xs ++ x ∷ rest) × EachWritten word plain owner xs a b × (n ≡ length xs) × (a.limit < length b.bytes + plain x)
-  Emits-front (xs, x, (u, yields, step), each, counted, full) = (
+      × (b ≡ after (in_turn written xs) a) × (a.limit < length b.bytes + length (piece_at (written x) b).bytes)
+  Emits-front (xs, x, (u, yields, step), each, counted, full, exact, passes) = (
     map (λ x. x.now) xs,
     x.now,
     t.rest.now,
@@ -37,4 +45,28 @@ module _ {E : Type 0} (word : E → List ℕ → ℕ → ℕ → Type 0) (plain 
     Each-map (λ x. x.now) word plain owner xs a b each,
     counted ∙ sym (length-map xs (λ x. x.now)),
     full,
+    exact ∙ ap (λ f. after f a) (in_turn-map (λ x. x.now) written xs),
+    passes,
   )
+
+-- What was written of a slice is a function of its elements, the place and the suffixes stored: as many of them as fit.
+module _ {E : Type 0} (word : E → List ℕ → ℕ → ℕ → Type 0) (plain : E → ℕ) (owner : E → List (List ℕ)) (written : E → Writing) (s t : Iter E) (a b : State) (n : ℕ) (begun : length a.bytes ≤ a.limit) where
+  abbrev pub Fitting : Type 0
+  Fitting = (b ≡ after (fitting written a.limit s.rest.now) a) × (n ≡ length (that_fit written a.limit s.rest.now (length a.bytes) a.suffixes))
+
+  are_fitting : (kept lost : List E) → s.rest.now ≡ kept ++ lost → EachWritten word plain owner kept a b → b ≡ after (in_turn written kept) a → n ≡ length kept → Passes written a.limit b lost → Fitting
+  are_fitting kept lost whole each exact counted full =
+      let within : length b.bytes ≤ a.limit = omega (arith, begun, (Each-keeps word plain owner kept a b each).within) in
+      let same : that_fit written a.limit s.rest.now (length a.bytes) a.suffixes ≡ kept =
+      ap (λ xs. that_fit written a.limit xs (length a.bytes) a.suffixes) whole ∙ Fits-front written a.limit kept lost a b exact within full in
+      (exact ∙ ap (λ xs. after (in_turn written xs) a) (sym same), counted ∙ ap length (sym same))
+
+  pub Emits-all-fitting : EmitsAll (λ (x : Bor E). word x.now) (λ x. plain x.now) (λ x. owner x.now) (λ x. written x.now) fronts s t a b (Ok n) → Fitting
+  Emits-all-fitting emits =
+      let all = Emits-slice word plain owner written s t a b n emits in
+      are_fitting s.rest.now [] (sym (append-nil s.rest.now)) all.0 all.2 all.1 tt
+
+  pub Emits-front-fitting : EmitsAll (λ (x : Bor E). word x.now) (λ x. plain x.now) (λ x. owner x.now) (λ x. written x.now) fronts s t a b (Err (refusals.NotAllRecordsWritten n)) → Fitting
+  Emits-front-fitting emits =
+      let front = Emits-front word plain owner written s t a b n emits in
+      are_fitting front.0 (front.1 ∷ front.2) front.3 front.4 front.7 front.5 front.8

@@ -5,6 +5,7 @@ use Rattle.base.specs.declared.error.proto_error.ProtoError.{ProtoError}
 use Rattle.base.specs.declared.error.proto_error.ProtoError.TheVariants as refusals
 use Rattle.base.specs.State.{State}
 use Rattle.base.specs.Laws.{IsValid, Holds, Keeps, Writes}
+use Rattle.base.specs.Written.{Writing, piece_at, after, in_turn}
 
 -- at most as many as a usize counts
 abbrev pub IsCountable : Count → Type 0
@@ -16,14 +17,19 @@ module _ {E : Type 0} (word : E → List ℕ → ℕ → ℕ → Type 0) (plain 
   EachWritten [] a b = b ≡ a
   EachWritten (x ∷ xs) a c = (b : State) × Keeps a b × Writes (word x) (plain x) (owner x) a b × EachWritten xs b c
 
-  -- Calls of an iterator gave items, and each was written: all of them, or those before one that didn't
-  -- fit, and nothing of that one.
-  abbrev pub EmitsAll : {S : Type 0} → (S → Option E → S → Type 0) → S → S → State → State → Result ℕ ProtoError → Type 0
-  EmitsAll steps s t a b (Ok n) = (xs : List E) × YieldsThen steps s xs None t × EachWritten xs a b × (n ≡ length xs)
-  EmitsAll steps s t a b (Err (refusals.NotAllRecordsWritten n)) =
+  -- Calls of an iterator gave items, and each was written, its bytes being those of `written`: all of them, or
+  -- those before one whose own bytes would have passed the limit, and nothing of that one.
+  abbrev pub EmitsAll : {S : Type 0} → (E → Writing) → (S → Option E → S → Type 0) → S → S
+      → State → State → Result ℕ ProtoError → Type 0
+  EmitsAll written steps s t a b (Ok n) =
+      (xs : List E) × YieldsThen steps s xs None t × EachWritten xs a b × (n ≡ length xs)
+      × (b ≡ after (in_turn written xs) a)
+  EmitsAll written steps s t a b (Err (refusals.NotAllRecordsWritten n)) =
       (xs : List E) × (x : E) × YieldsThen steps s xs (Some x) t × EachWritten xs a b × (n ≡ length xs) × (a.limit < length b.bytes + plain x)
-  EmitsAll steps s t a b (Err refusals.Memory) = Unit {0}
-  EmitsAll steps s t a b (Err _) = ⊥
+      × (b ≡ after (in_turn written xs) a)
+      × (a.limit < length b.bytes + length (piece_at (written x) b).bytes)
+  EmitsAll written steps s t a b (Err refusals.Memory) = Unit {0}
+  EmitsAll written steps s t a b (Err _) = ⊥
 
 -- After Ok, and where not all was written, every suffix is spelled in a buffer that holds what was written.
 abbrev pub StaysValid : {X : Type 0} → State → State → Result X ProtoError → Type 0

@@ -37,3 +37,4 @@ pub mod Trail
 pub mod Ttl
 pub mod Wire
 pub mod Words
+pub mod Written

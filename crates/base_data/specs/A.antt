@@ -6,6 +6,7 @@ use Rattle.base_data.specs.Fields.{ipv4_item}
 use Rattle.base_data.specs.Kind.{AnyNames, AreOctets, Kind, bare, no_places}
 use Rattle.std.specs.Net.Text.{ipv4_text}
 use Rattle.base.specs.Words.{Bytes}
+use Rattle.base.specs.Written.{just}
 
 -- the address at a place
 abbrev pub a_at : List ℕ → ℕ → Read A
@@ -22,6 +23,7 @@ a_kind x = record {
   rank = 0;
   word = Bytes x.octets;
   plain = 4;
+  written = just x.octets;
   names = AnyNames;
   readable = length x.octets ≡ 4;
   text = ipv4_text x.octets;

@@ -7,6 +7,7 @@ use Rattle.base_data.specs.declared.rdata.aaaa.AAAA.{AAAA}
 use Rattle.base_data.specs.Fields.{ipv6_item}
 use Rattle.base_data.specs.Kind.{AnyNames, AreOctets, Kind, bare, no_places}
 use Rattle.base.specs.Words.{Bytes}
+use Rattle.base.specs.Written.{just}
 
 -- the address at a place
 abbrev pub aaaa_at : List ℕ → ℕ → Read AAAA
@@ -38,6 +39,7 @@ aaaa_kind x = record {
   rank = 1;
   word = Bytes x.octets;
   plain = 16;
+  written = just x.octets;
   names = AnyNames;
   readable = length x.octets ≡ 16;
   text = aaaa_text x.octets;

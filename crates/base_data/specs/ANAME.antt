@@ -6,6 +6,7 @@ use Rattle.base.specs.State.{appended}
 use Rattle.base_data.specs.Kind.{Kind}
 use Rattle.base_data.specs.OneName.{name_kind, one_name_at, one_name_of}
 use Rattle.base_data.specs.declared.rdata.aname.ANAME.{ANAME}
+use Rattle.base.specs.Written.{plain_name}
 
 -- the data at a place
 unfoldable pub aname_at : List ℕ → ℕ → Read ANAME
@@ -21,4 +22,4 @@ aname_wire x = wire_of x.name.labels ++ 0 ∷ []
 
 -- what is known of the data
 abbrev pub aname_kind : ANAME → Kind
-aname_kind x = name_kind 5 x.name (λ old new. new ≡ appended (aname_wire x) old)
+aname_kind x = name_kind 5 x.name (plain_name x.name.labels) (λ old new. new ≡ appended (aname_wire x) old)

@@ -6,6 +6,7 @@ use Rattle.base_data.specs.Kind.{Kind}
 use Rattle.base_data.specs.NameData.{IsCompressed}
 use Rattle.base_data.specs.OneName.{name_kind, one_name_at, one_name_of}
 use Rattle.base_data.specs.declared.rdata.cname.CNAME.{CNAME}
+use Rattle.base.specs.Written.{name}
 
 -- the data at a place
 unfoldable pub cname_at : List ℕ → ℕ → Read CNAME
@@ -17,4 +18,4 @@ cname_of = one_name_of (λ name. record { name = name })
 
 -- what is known of the data
 abbrev pub cname_kind : CNAME → Kind
-cname_kind x = name_kind 3 x.name (IsCompressed x.name.labels)
+cname_kind x = name_kind 3 x.name (name x.name.labels) (IsCompressed x.name.labels)

@@ -2,6 +2,7 @@
 use Rattle.std.specs.Prelude.{◌≡◌, ◌≢◌, ℕ, ◌<◌, ◌≤◌, Bool, false, All, List, [], length, Option}
 use Rattle.base.specs.Labels.{AreLabels, NameValue, plain_len}
 use Rattle.base.specs.State.{State}
+use Rattle.base.specs.Written.{Writing}
 
 -- What is known of data, as a value of its kind.
 pub record Kind : Type 1 where
@@ -11,6 +12,8 @@ pub record Kind : Type 1 where
   pub word : List ℕ → ℕ → ℕ → Type 0
   -- how many bytes it is with its names uncompressed
   pub plain : ℕ
+  -- what is written of it
+  pub written : Writing
   -- how its names are written: with compression (RFC 1035, 4.1.4), or without it (RFC 3597, 4)
   pub names : State → State → Type 0
   -- whether it is read where its word stands

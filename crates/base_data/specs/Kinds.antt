@@ -4,6 +4,7 @@ use Rattle.std.specs.Option.{ok_or}
 use Rattle.base.specs.Labels.{NameValue}
 use Rattle.base.specs.Reading.{Read, bytes_at, ◌>>=◌}
 use Rattle.base.specs.State.{State}
+use Rattle.base.specs.Written.{Writing}
 use Rattle.base.specs.TextFaults.{Fault, bad_data, unsupported_type}
 use Rattle.base.specs.declared.error.decode_error.DecodeError.TheVariants as faults
 use Rattle.base.specs.declared.record_type.RecordType.{RecordType}
@@ -144,6 +145,10 @@ DataWord d = (kind_of d).word
 -- how many bytes data is with its names uncompressed
 abbrev pub plain_data : RData → ℕ
 plain_data d = (kind_of d).plain
+
+-- what is written of data
+abbrev pub data_written : RData → Writing
+data_written d = (kind_of d).written
 
 -- the text of data, that of its kind
 abbrev pub data_text : RData → List ℕ

@@ -12,6 +12,7 @@ use Rattle.base_data.specs.Fields.{number_item, name_item, ◌>>?◌}
 use Rattle.base_data.specs.Kind.{HasText, Kind, bare}
 use Rattle.base.specs.State.{State, appended}
 use Rattle.base_data.specs.NameData.{IsCompressed, name_octets}
+use Rattle.base.specs.Written.{both, just, name}
 
 -- the data at a place
 unfoldable pub mx_at : List ℕ → ℕ → Read MX
@@ -53,6 +54,7 @@ mx_kind x = record {
   rank = 6;
   word = MXWord x;
   plain = plain_mx x;
+  written = both (just (to_be_bytes w16 x.preference)) (name x.exchange.labels);
   names = CompressesMX x;
   readable = x.exchange.absolute ≡ true;
   text = mx_text x;

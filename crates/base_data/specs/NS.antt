@@ -6,6 +6,7 @@ use Rattle.base_data.specs.Kind.{Kind}
 use Rattle.base_data.specs.NameData.{IsCompressed}
 use Rattle.base_data.specs.OneName.{name_kind, one_name_at, one_name_of}
 use Rattle.base_data.specs.declared.rdata.ns.NS.{NS}
+use Rattle.base.specs.Written.{name}
 
 -- the data at a place
 unfoldable pub ns_at : List ℕ → ℕ → Read NS
@@ -17,4 +18,4 @@ ns_of = one_name_of (λ name. record { name = name })
 
 -- what is known of the data
 abbrev pub ns_kind : NS → Kind
-ns_kind x = name_kind 2 x.name (IsCompressed x.name.labels)
+ns_kind x = name_kind 2 x.name (name x.name.labels) (IsCompressed x.name.labels)

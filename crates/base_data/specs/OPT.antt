@@ -8,6 +8,7 @@ use Rattle.base.specs.Reading.{Read, bytes_at, number_at, ◌>>=◌}
 use Rattle.base.specs.Words.{BackToBack, Bytes, Number, Then}
 use Rattle.base_data.specs.Opaque.{opaque_text, same_bytes}
 use Rattle.base_data.specs.Kind.{AnyNames, Kind, bare, no_places}
+use Rattle.base.specs.Written.{Writing, just, both, in_turn}
 
 -- an option's code and bytes
 pub record OptionValue : Type 0 where
@@ -25,6 +26,10 @@ option_wire option = to_be_bytes w16 option.code ++ to_be_bytes w16 (length opti
 abbrev pub options_wire : List OptionValue → List ℕ
 options_wire [] = []
 options_wire (option ∷ options) = option_wire option ++ options_wire options
+
+-- what is written of an option: its code, the number of its bytes, and those
+abbrev pub option_written : OptionValue → Writing
+option_written option = both (just (to_be_bytes w16 option.code)) (both (just (to_be_bytes w16 (length option.bytes))) (just option.bytes))
 
 -- an option stands here
 abbrev pub option_word : OptionValue → List ℕ → ℕ → ℕ → Type 0
@@ -88,6 +93,7 @@ opt_kind x = record {
   rank = 11;
   word = options_word x;
   plain = options_len x;
+  written = in_turn option_written x;
   names = AnyNames;
   readable = x ≢ [];
   text = opaque_text (options_wire x);

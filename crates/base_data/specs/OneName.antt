@@ -9,6 +9,7 @@ use Rattle.base.specs.Words.{NameAt}
 use Rattle.base_data.specs.Fields.{name_item}
 use Rattle.base_data.specs.Kind.{HasText, Kind, bare}
 use Rattle.base_data.specs.NameData.{name_octets}
+use Rattle.base.specs.Written.{Writing}
 
 -- the data at a place, made of the name that is read there
 abbrev pub one_name_at : {X : Type 0} → (NameValue → X) → List ℕ → ℕ → Read X
@@ -24,11 +25,12 @@ abbrev pub own_place : List ℕ → ℕ → List ℕ
 own_place bytes i = i ∷ []
 
 -- what is known of data that is a name; how the name is written is its kind's
-abbrev pub name_kind : ℕ → NameValue → (State → State → Type 0) → Kind
-name_kind rank name names = record {
+abbrev pub name_kind : ℕ → NameValue → Writing → (State → State → Type 0) → Kind
+name_kind rank name written names = record {
   rank = rank;
   word = NameAt name.labels;
   plain = plain_len name.labels;
+  written = written;
   names = names;
   readable = name.absolute ≡ true;
   text = name_text name;

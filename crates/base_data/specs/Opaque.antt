@@ -8,6 +8,7 @@ use Rattle.std.specs.Ordering.{nat_cmp}
 use Rattle.std.specs.declared.cmp.Ordering.{Ordering}
 use Rattle.base_data.specs.Kind.{AnyNames, Kind, bare, no_places}
 use Rattle.base.specs.Words.{Bytes}
+use Rattle.base.specs.Written.{just}
 
 -- a byte in two hexadecimal digits, in lower case
 abbrev pub byte_hex : ℕ → List ℕ
@@ -35,6 +36,7 @@ bytes_kind rank readable x = record {
   rank = rank;
   word = Bytes x;
   plain = length x;
+  written = just x;
   names = AnyNames;
   readable = readable;
   text = opaque_text x;

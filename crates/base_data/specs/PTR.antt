@@ -6,6 +6,7 @@ use Rattle.base_data.specs.Kind.{Kind}
 use Rattle.base_data.specs.NameData.{IsCompressed}
 use Rattle.base_data.specs.OneName.{name_kind, one_name_at, one_name_of}
 use Rattle.base_data.specs.declared.rdata.ptr.PTR.{PTR}
+use Rattle.base.specs.Written.{name}
 
 -- the data at a place
 unfoldable pub ptr_at : List ℕ → ℕ → Read PTR
@@ -17,4 +18,4 @@ ptr_of = one_name_of (λ name. record { name = name })
 
 -- what is known of the data
 abbrev pub ptr_kind : PTR → Kind
-ptr_kind x = name_kind 4 x.name (IsCompressed x.name.labels)
+ptr_kind x = name_kind 4 x.name (name x.name.labels) (IsCompressed x.name.labels)

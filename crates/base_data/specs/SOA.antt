@@ -14,6 +14,7 @@ use Rattle.base_data.specs.Kind.{HasText, Kind, bare}
 use Rattle.base.specs.Laws.{Keeps}
 use Rattle.base.specs.State.{State, appended}
 use Rattle.base_data.specs.NameData.{IsCompressed, name_octets}
+use Rattle.base.specs.Written.{both, just, name}
 
 -- the data at a place
 unfoldable pub soa_at : List ℕ → ℕ → Read SOA
@@ -85,6 +86,7 @@ soa_kind x = record {
   rank = 7;
   word = SOAWord x;
   plain = plain_soa x;
+  written = both (name x.mname.labels) (both (name x.rname.labels) (just (soa_numbers x)));
   names = CompressesSOA x;
   readable = (x.mname.absolute ≡ true) × (x.rname.absolute ≡ true);
   text = soa_text x;

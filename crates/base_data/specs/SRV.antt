@@ -12,6 +12,7 @@ use Rattle.base_data.specs.Fields.{number_item, name_item, ◌>>?◌}
 use Rattle.base_data.specs.Kind.{HasText, Kind, bare}
 use Rattle.base.specs.State.{appended}
 use Rattle.base_data.specs.NameData.{name_octets}
+use Rattle.base.specs.Written.{both, just, plain_name}
 
 -- the data at a place
 unfoldable pub srv_at : List ℕ → ℕ → Read SRV
@@ -66,6 +67,7 @@ srv_kind x = record {
   rank = 8;
   word = SRVWord x;
   plain = plain_srv x;
+  written = both (just (srv_numbers x)) (plain_name x.target.labels);
   names = λ old new. new ≡ appended (srv_wire x) old;
   readable = x.target.absolute ≡ true;
   text = srv_text x;

@@ -11,6 +11,7 @@ use Rattle.base_data.specs.Opaque.{same_bytes}
 use Rattle.base_data.specs.Kind.{AnyNames, Kind, no_places}
 use Rattle.base_data.specs.StringItems.{string_items}
 use Rattle.base.specs.Words.{Bytes}
+use Rattle.base.specs.Written.{just}
 
 -- each string has up to 255 bytes
 abbrev pub AreShort : List (List ℕ) → Type 0
@@ -67,6 +68,7 @@ txt_kind x = record {
   rank = 9;
   word = Bytes (wire_of x);
   plain = length (wire_of x);
+  written = just (wire_of x);
   names = AnyNames;
   readable = x ≢ [];
   text = txt_text x;

@@ -6,7 +6,7 @@ ghost use Rattle.base.specs.Counts.{Counts};
 ghost use Rattle.base.specs.Laws.{Writes};
 ghost use Rattle.base.specs.Passing.{AddsPassed};
 ghost use Rattle.base.specs.Reading.{Reads};
-ghost use Rattle.base_data.specs.Kinds.{DataWord, WritesNames, canonical_data, data_places, data_text, kind_at, kind_rank, name_flags, plain_data, type_of_data};
+ghost use Rattle.base_data.specs.Kinds.{DataWord, WritesNames, canonical_data, data_places, data_text, data_written, kind_at, kind_rank, name_flags, plain_data, type_of_data};
 ghost use Rattle.base_data.specs.RData.{is_empty_data};
 
 pub mod a;
@@ -260,6 +260,8 @@ impl BinEncodable for RData {
     ghost word = { DataWord };
 
     ghost plain_len = { plain_data };
+
+    ghost written = { data_written };
 
     ghost names = { WritesNames };
 

@@ -12,7 +12,7 @@ use std::fmt;
 pub trait RecordData: Eq + Clone + BinEncodable + fmt::Display + Drop {
     ghost use Rattle.std.specs.Prelude.{◌≡◌, ◌↔◌, ℕ, List, Option, Some};
     ghost use Rattle.std.specs.Option.{option_copied};
-    ghost use Rattle.base_data.specs.Kinds.{DataWord, data_text, plain_data, type_of_data};
+    ghost use Rattle.base_data.specs.Kinds.{DataWord, data_text, data_written, plain_data, type_of_data};
     ghost use Rattle.base_data.specs.RData.{is_empty_data};
     ghost use Rattle.base_data.specs.declared.rdata.RData.{RData as AnyData};
 
@@ -44,6 +44,8 @@ pub trait RecordData: Eq + Clone + BinEncodable + fmt::Display + Drop {
 
     ghost keeps_len: { (r : Self) → plain_data (as_rdata r) ≡ Self.plain_len r };
 
+    ghost keeps_written: { (r : Self) → data_written (as_rdata r) ≡ Self.written r };
+
     /// And the text.
     ghost keeps_text: { (r : Self) → Some (data_text (as_rdata r)) ≡ Self.output r };
 
@@ -61,6 +63,8 @@ impl RecordData for RData {
     ghost keeps_word = { λ _ _ _ _. (λ h. h, λ h. h) };
 
     ghost keeps_len = { λ _. refl };
+
+    ghost keeps_written = { λ _. refl };
 
     ghost keeps_text = { λ _. refl };
 

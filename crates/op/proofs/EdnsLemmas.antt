@@ -1,5 +1,5 @@
 -- What is written of EDNS is the word of its OPT record.
-use Rattle.std.proofs.Common.{◌≡◌, ℕ, ◌+◌, ◌^◌, ◌<◌, List, [], ◌∷◌, ◌++◌, length, refl, subst, sym, arith, Result}
+use Rattle.std.proofs.Common.{◌≡◌, ℕ, ◌+◌, ◌^◌, ◌<◌, List, [], ◌∷◌, ◌++◌, length, refl, ap, ◌∙◌, append_assoc, subst, sym, arith, Result}
 use Rattle.std.proofs.lemmas.List.{append-nil}
 use Rattle.std.specs.Prelude.{OnOk}
 use Rattle.std.specs.Int.{w16, w32, to_be_bytes}
@@ -14,10 +14,13 @@ use Rattle.base.specs.Spelling.{ByteAt, anywhere, ends}
 use Rattle.base.specs.Words.{NameAt, Number, Sized, Stands, Then, none}
 use Rattle.base.specs.declared.record_type.RecordType.TheVariants as types
 use Rattle.base.proofs.WordLemmas.{first_stands, stands_byte, stands_part}
-use Rattle.base_data.specs.Kinds.{DataWord, plain_data, type_of_data}
-use Rattle.base_data.specs.OPT.{OptionValue, options_len, options_word}
+use Rattle.base.specs.Written.{Writing, after, both, in_turn, just, name, sized}
+use Rattle.base.proofs.WrittenLemmas.{after-both}
+use Rattle.base_data.specs.Kinds.{DataWord, data_written, plain_data, type_of_data}
+use Rattle.base_data.specs.OPT.{OptionValue, options_len, options_word, option_written}
+use Rattle.rr.specs.Record.{fields_of}
 use Rattle.rr.proofs.RecordLemmas.{record_word}
-use Rattle.op.specs.EdnsRecord.{EdnsWord, edns_record, opt_data, opt_ttl}
+use Rattle.op.specs.EdnsRecord.{EdnsWord, edns_record, edns_written, opt_data, opt_ttl}
 use Rattle.op.specs.declared.edns.Edns.{Edns}
 
 -- a zero byte is the root
@@ -79,3 +82,26 @@ edns_word e class ttl class_is ttl_is B i j h =
     let all : Then (Front class (opt_ttl e)) (Sized (options_word e.options)) B i j = subst (λ n. Then (Front class n) (Sized (options_word e.options)) B i j) ttl_is h in
     record_word (edns_record e) (opt_type e.options) class_is (options_word e.options) (options_are_data e.options) B i j
     (all.1.0, all.1.1, (all.0, all.1.2, all.2))
+
+-- ---- what is written of EDNS
+
+-- bytes in two parts
+split_after : (xs ys : List ℕ) (g : Writing) (s : State) → after (both (just (xs ++ ys)) g) s ≡ after (both (just xs) (both (just ys) g)) s
+split_after xs ys g s =
+    let joined : after (just (xs ++ ys)) s ≡ after (just ys) (after (just xs) s) = ap (λ (zs : List ℕ). record s { bytes = zs }) (sym (append_assoc s.bytes xs ys)) in
+    after-both (just (xs ++ ys)) g s ∙ ap (after g) joined ∙ sym (after-both (just ys) g (after (just xs) s)) ∙ sym (after-both (just xs) (both (just ys) g) s)
+
+opt_written : (options : List OptionValue) → in_turn option_written options ≡ data_written (opt_data options)
+opt_written [] = refl
+opt_written (option ∷ options) = refl
+
+-- the front and the options are the record
+pub edns_after : (e : Edns) (payload ttl : ℕ) → payload ≡ class_number (opt_class e.max_payload) → ttl ≡ opt_ttl e → (s : State)
+    → after (both (just (front_bytes payload ttl)) (sized (in_turn option_written e.options))) s ≡ after (edns_written e) s
+edns_after e payload ttl payload_is ttl_is s =
+    let whole : ℕ → ℕ → ℕ → Writing → State = λ type class ttl w. after (both (name []) (both (just (fields_of type class ttl)) (sized w))) s in
+    split_after (0 ∷ []) (fields_of 41 payload ttl) (sized (in_turn option_written e.options)) s
+    ∙ ap (λ (n : ℕ). whole 41 n ttl (in_turn option_written e.options)) payload_is
+    ∙ ap (λ (n : ℕ). whole 41 (class_number (opt_class e.max_payload)) n (in_turn option_written e.options)) ttl_is
+    ∙ ap (λ (n : ℕ). whole n (class_number (opt_class e.max_payload)) (opt_ttl e) (in_turn option_written e.options)) (opt_type e.options)
+    ∙ ap (λ (w : Writing). whole (type_number (type_of_data (opt_data e.options))) (class_number (opt_class e.max_payload)) (opt_ttl e) w) (opt_written e.options)

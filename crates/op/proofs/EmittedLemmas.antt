@@ -10,7 +10,7 @@ use Rattle.base.specs.declared.error.proto_error.ProtoError.{ProtoError}
 use Rattle.base.specs.declared.error.proto_error.ProtoError.TheVariants as refusals
 use Rattle.base.proofs.SliceLemmas.{Emits-front, Emits-slice}
 use Rattle.base_data.specs.declared.rdata.RData.{RData}
-use Rattle.rr.specs.Record.{RecordWord, plain_record}
+use Rattle.rr.specs.Record.{RecordWord, plain_record, record_written}
 use Rattle.rr.specs.declared.record.Record.{Record}
 use Rattle.op.specs.Composition.{Adds, AndThen, Composition, Counts, EmitsPart, EmitsSections, FillsIn, HasHeader, KeepsRoom, Tests, WritesExtras, WritesRecordItems}
 use Rattle.op.specs.Cut.{raised}
@@ -20,24 +20,25 @@ use Rattle.op.specs.Fits.{listed, opt_records, signature_record, with_high_bits}
 use Rattle.op.specs.Header.{header_bytes, raw_header}
 use Rattle.op.specs.Message.{MessageValue}
 use Rattle.op.specs.declared.edns.Edns.{Edns}
-use Rattle.op.specs.Query.{QueryWord, plain_query}
+use Rattle.op.specs.Query.{QueryWord, plain_query, query_written}
 use Rattle.op.specs.declared.header.Header.{Header}
 use Rattle.op.specs.declared.message.writing.parts.WrittenSections.{WrittenSections}
 use Rattle.op.specs.declared.message.writing.parts.Written.{Written}
 use Rattle.op.specs.declared.query.Query.{Query}
 use Rattle.op.proofs.RunLemmas.{Both, went}
+use Rattle.base.specs.Written.{Writing, after, in_turn}
 
 -- ---- parts that are slices
 
-module _ {E : Type 0} (word : E → List ℕ → ℕ → ℕ → Type 0) (plain : E → ℕ) (owner : E → List (List ℕ)) where
+module _ {E : Type 0} (word : E → List ℕ → ℕ → ℕ → Type 0) (plain : E → ℕ) (owner : E → List (List ℕ)) (f : E → Writing) where
   -- what writing the elements of a slice leaves
   abbrev pub slice_emits : Iter E → State → Result ℕ ProtoError → Iter E → State → Type 0
-  slice_emits s a answer t b = EmitsAll (λ (x : Bor E). word x.now) (λ x. plain x.now) (λ x. owner x.now) fronts s t a b answer
+  slice_emits s a answer t b = EmitsAll (λ (x : Bor E). word x.now) (λ x. plain x.now) (λ x. owner x.now) (λ x. f x.now) fronts s t a b answer
 
   module _ (s t : Iter E) (a b : State) where
-    front_counted : (answer : Result ℕ ProtoError) (w : Written) → slice_emits s a answer t b → Counts answer (Ok w) → WritesFront word plain owner s.rest.now a b w.count w.is_cut
+    front_counted : (answer : Result ℕ ProtoError) (w : Written) → slice_emits s a answer t b → Counts answer (Ok w) → WritesFront word plain owner f s.rest.now a b w.count w.is_cut
     front_counted (Ok n) w emits counts =
-        let all = Emits-slice word plain owner s t a b n emits in
+        let all = Emits-slice word plain owner f s t a b n emits in
         record {
           kept = s.rest.now;
           lost = [];
@@ -46,9 +47,11 @@ module _ {E : Type 0} (word : E → List ℕ → ℕ → ℕ → Type 0) (plain 
           counted = ap (λ v. v.count) counts.1 ∙ all.1;
           tells = ap (λ v. v.is_cut) counts.1;
           full = tt;
+          exact = all.2;
+          passes = tt;
         }
     front_counted (Err (refusals.NotAllRecordsWritten n)) w emits counts =
-        let front = Emits-front word plain owner s t a b n emits in
+        let front = Emits-front word plain owner f s t a b n emits in
         record {
           kept = front.0;
           lost = front.1 ∷ front.2;
@@ -57,6 +60,8 @@ module _ {E : Type 0} (word : E → List ℕ → ℕ → ℕ → Type 0) (plain 
           counted = ap (λ v. v.count) counts.1 ∙ front.5;
           tells = ap (λ v. v.is_cut) counts.1;
           full = front.6;
+          exact = front.7;
+          passes = front.8;
         }
     front_counted (Err refusals.Memory) w emits counts = absurd (let is = counts in cc)
     front_counted (Err refusals.MaxBufferSizeExceeded) w emits counts = absurd emits
@@ -66,7 +71,7 @@ module _ {E : Type 0} (word : E → List ℕ → ℕ → ℕ → Type 0) (plain 
     front_counted (Err (refusals.Decode e)) w emits counts = absurd emits
 
     -- a part that was counted is a front
-    pub slice_front : (w : Written) → EmitsPart slice_emits s t a (Ok w) b → WritesFront word plain owner s.rest.now a b w.count w.is_cut
+    pub slice_front : (w : Written) → EmitsPart slice_emits s t a (Ok w) b → WritesFront word plain owner f s.rest.now a b w.count w.is_cut
     slice_front w part = front_counted part.0 w part.1 part.2
 
 -- ---- the whole
@@ -87,10 +92,10 @@ same_value : {X : Type 0} (x y : X) → ◌≡◌ {A = Result X ProtoError} (Ok 
 same_value x y is = cc
 
 abbrev pub emits_records : Iter (Record RData) → State → Result ℕ ProtoError → Iter (Record RData) → State → Type 0
-emits_records = slice_emits RecordWord plain_record record_owner
+emits_records = slice_emits RecordWord plain_record record_owner record_written
 
 abbrev pub emits_queries : Iter Query → State → Result ℕ ProtoError → Iter Query → State → Type 0
-emits_queries = slice_emits QueryWord plain_query query_owner
+emits_queries = slice_emits QueryWord plain_query query_owner query_written
 
 -- a part that is a slice: what is left of it before it is written, and behind that
 pub record Slice (E : Type 0) : Type 0 where
@@ -129,7 +134,7 @@ EmitsSlice x = EmitsPart emits_records x.before x.behind
 
 -- of a section that is a slice a front was written
 pub records_front : (x : Slice (Record RData)) (a b : State) (w : Written) → EmitsSlice x a (Ok w) b → WritesRecords x.before.rest.now a b w.count w.is_cut
-records_front x a b w part = slice_front RecordWord plain_record record_owner x.before x.behind a b w part
+records_front x a b w part = slice_front RecordWord plain_record record_owner record_written x.before x.behind a b w part
 
 module _ (s : Slices) (sections : WrittenSections) (first last : State) where
   abbrev Third : Written → Written → Written → State → Result WrittenSections ProtoError → State → Type 0
@@ -216,6 +221,7 @@ record Begun (queries : List Query) (old : State) (place count : ℕ) (first : S
   kept : State
   room : KeepsRoom old (Ok place) kept
   asked : EachWritten QueryWord plain_query query_owner queries kept first
+  exact : first ≡ after (in_turn query_written queries) kept
   counted : count ≡ length queries
 
 -- the pieces of a message that was written
@@ -247,6 +253,7 @@ assemble {m = m} {first = first} {fourth = fourth} {sixth = sixth} {h = h} {sect
       place = begun.room.1;
       room = begun.room.2;
       queries = begun.asked;
+      asked = begun.exact;
       answers = subst (λ n. WritesRecords m.answers first three.second n sections.answers.is_cut) (sym (ap (λ k. k.counts.answers) fields)) three.answers;
       authorities = subst (λ n. WritesRecords m.authorities three.second three.third n sections.authorities.is_cut) (sym (ap (λ k. k.counts.authorities) fields)) three.authorities;
       additionals = three.additionals;
@@ -322,8 +329,8 @@ module _ (m : MessageValue) (s : Slices) (are : AreOf m s) (old new : State) (h 
   queries_next : (place : ℕ) (kept : State) → KeepsRoom old (Ok place) kept → Both (λ a answer t. emits_queries s.queries.before a answer s.queries.behind t) (Sectioned place) kept (Ok h) new
       → Emitted m old new h
   queries_next place kept room b =
-      let asked = Emits-slice QueryWord plain_query query_owner s.queries.before s.queries.behind kept b.between b.value b.ran in
-      sections_next (record { kept = kept; room = room; asked = asked.0; counted = asked.1 }) (went h b.rest)
+      let asked = Emits-slice QueryWord plain_query query_owner query_written s.queries.before s.queries.behind kept b.between b.value b.ran in
+      sections_next (record { kept = kept; room = room; asked = asked.0; exact = asked.2; counted = asked.1 }) (went h b.rest)
 
   room_next : Both KeepsRoom Asked old (Ok h) new → Emitted m old new h
   room_next b = queries_next b.value b.between b.ran (went h b.rest)

@@ -13,6 +13,8 @@ use Rattle.op.specs.Composition.{Counts, Narrows, WritesItems}
 use Rattle.op.specs.Cut.{NoRoom, any_lost}
 use Rattle.op.specs.Emitted.{WritesFront}
 use Rattle.op.specs.declared.message.writing.parts.Written.{Written}
+use Rattle.base.specs.Written.{Passes, Writing, after, in_turn}
+use Rattle.base.proofs.WrittenLemmas.{in_turn-map}
 
 -- the one item came, or is still to come
 once_yields : {A : Type 0} (s t : Once A) (x : A) (xs : List A) → once_item s ≡ Some x → Yields once_steps s xs t → ((xs ≡ []) × (once_item t ≡ Some x)) ⊎ ((xs ≡ x ∷ []) × (once_item t ≡ None))
@@ -30,11 +32,11 @@ once_yields s t x (y ∷ ys) item (u, step, yields) =
     none_yields v w [] none same = (refl, ap (λ z. once_item z) (sym same) ∙ none)
     none_yields v w (z ∷ zs) none (m, step, others) = let is = step.0 in cc
 
-module _ {E : Type 0} (word : E → List ℕ → ℕ → ℕ → Type 0) (plain : E → ℕ) (owner : E → List (List ℕ)) where
+module _ {E : Type 0} (word : E → List ℕ → ℕ → ℕ → Type 0) (plain : E → ℕ) (owner : E → List (List ℕ)) (f : E → Writing) where
   -- of one item that was written, or wasn't
-  whole_item : {x : E} {xs : List E} {n : ℕ} (a b : State) (result : Result Written ProtoError) → xs ≡ x ∷ [] → EachWritten word plain owner xs a b → n ≡ length xs → Narrows n false result
-      → WritesItems word plain owner (x ∷ []) a result b
-  whole_item {xs = xs} a b (Ok written) all each count narrows = record {
+  whole_item : {x : E} {xs : List E} {n : ℕ} (a b : State) (result : Result Written ProtoError) → xs ≡ x ∷ [] → EachWritten word plain owner xs a b → b ≡ after (in_turn f xs) a → n ≡ length xs → Narrows n false result
+      → WritesItems word plain owner f (x ∷ []) a result b
+  whole_item {xs = xs} a b (Ok written) all each exact count narrows = record {
     kept = xs;
     lost = [];
     whole = sym all ∙ sym (append-nil xs);
@@ -42,12 +44,14 @@ module _ {E : Type 0} (word : E → List ℕ → ℕ → ℕ → Type 0) (plain 
     counted = ap (λ w. w.count) narrows.1 ∙ count;
     tells = ap (λ w. w.is_cut) narrows.1;
     full = tt;
+    exact = exact;
+    passes = tt;
   }
-  whole_item {n = n} a b (Err e) all each count narrows = let one : n ≡ 1 = count ∙ ap length all in absurd (omega (arith, one, narrows.0))
+  whole_item {n = n} a b (Err e) all each exact count narrows = let one : n ≡ 1 = count ∙ ap length all in absurd (omega (arith, one, narrows.0))
 
   no_item : {xs : List E} {n : ℕ} (x : E) (a b : State) (result : Result Written ProtoError) → xs ≡ [] → EachWritten word plain owner xs a b → a.limit < length b.bytes + plain x
-      → n ≡ length xs → Narrows n true result → WritesItems word plain owner (x ∷ []) a result b
-  no_item {xs} x a b (Ok written) none each full count narrows = record {
+      → b ≡ after (in_turn f xs) a → Passes f a.limit b (x ∷ []) → n ≡ length xs → Narrows n true result → WritesItems word plain owner f (x ∷ []) a result b
+  no_item {xs} x a b (Ok written) none each full exact passes count narrows = record {
     kept = xs;
     lost = x ∷ [];
     whole = ap (λ ys. ys ++ x ∷ []) (sym none);
@@ -55,22 +59,26 @@ module _ {E : Type 0} (word : E → List ℕ → ℕ → ℕ → Type 0) (plain 
     counted = ap (λ w. w.count) narrows.1 ∙ count;
     tells = ap (λ w. w.is_cut) narrows.1;
     full = full;
+    exact = exact;
+    passes = passes;
   }
-  no_item {n = n} x a b (Err e) none each full count narrows = let zero : n ≡ 0 = count ∙ ap length none in absurd (omega (arith, zero, narrows.0))
+  no_item {n = n} x a b (Err e) none each full exact passes count narrows = let zero : n ≡ 0 = count ∙ ap length none in absurd (omega (arith, zero, narrows.0))
 
   module _ (item : Bor E) (s t : Once (Bor E)) (a b : State) where
     pub one_item : (answer : Result ℕ ProtoError) (result : Result Written ProtoError) → once_item s ≡ Some item
-        → EmitsAll (λ (x : Bor E). word x.now) (λ x. plain x.now) (λ x. owner x.now) once_steps s t a b answer → Counts answer result → WritesItems word plain owner (item.now ∷ []) a result b
-    one_item (Ok n) result first (xs, (u, yields, stop), each, count) counts =
+        → EmitsAll (λ (x : Bor E). word x.now) (λ x. plain x.now) (λ x. owner x.now) (λ x. f x.now) once_steps s t a b answer → Counts answer result → WritesItems word plain owner f (item.now ∷ []) a result b
+    one_item (Ok n) result first (xs, (u, yields, stop), each, count, exact) counts =
         elim (once_yields s u item xs first yields) [
           | inl (none, left) ↦ absurd (let is = stop.0 in cc)
           | inr (all, left) ↦ whole_item a b result (ap (map (λ x. x.now)) all)
-              (Each-map (λ x. x.now) word plain owner xs a b each) (count ∙ sym (length-map xs (λ x. x.now))) counts
+              (Each-map (λ x. x.now) word plain owner xs a b each) (exact ∙ ap (λ g. after g a) (in_turn-map (λ x. x.now) f xs)) (count ∙ sym (length-map xs (λ x. x.now))) counts
         ]
-    one_item (Err (refusals.NotAllRecordsWritten n)) result first (xs, x, (u, yields, step), each, count, full) counts =
+    one_item (Err (refusals.NotAllRecordsWritten n)) result first (xs, x, (u, yields, step), each, count, full, exact, passes) counts =
         elim (once_yields s u item xs first yields) [
           | inl (none, left) ↦ no_item item.now a b result (ap (map (λ x. x.now)) none) (Each-map (λ x. x.now) word plain owner xs a b each)
-              (let is = step.0 in let same : x ≡ item = cc in subst (λ (y : Bor E). a.limit < length b.bytes + plain y.now) same full) (count ∙ sym (length-map xs (λ x. x.now))) counts
+              (let is = step.0 in let same : x ≡ item = cc in subst (λ (y : Bor E). a.limit < length b.bytes + plain y.now) same full)
+              (exact ∙ ap (λ g. after g a) (in_turn-map (λ x. x.now) f xs))
+              (let is = step.0 in let same : x ≡ item = cc in subst (λ (y : Bor E). Passes f a.limit b (y.now ∷ [])) same passes) (count ∙ sym (length-map xs (λ x. x.now))) counts
           | inr (all, left) ↦ absurd (let is = step.0 in cc)
         ]
     one_item (Err refusals.Memory) result first emits counts = rw counts refl
@@ -81,7 +89,11 @@ module _ {E : Type 0} (word : E → List ℕ → ℕ → ℕ → Type 0) (plain 
     one_item (Err (refusals.Decode e)) result first emits counts = absurd emits
 
 -- items whose words are read of a value are that value's items
-module _ {A E : Type 0} (view : A → E) (word : E → List ℕ → ℕ → ℕ → Type 0) (plain : E → ℕ) (owner : E → List (List ℕ)) where
+module _ {A E : Type 0} (view : A → E) (word : E → List ℕ → ℕ → ℕ → Type 0) (plain : E → ℕ) (owner : E → List (List ℕ)) (f : E → Writing) where
+  passes_map : (limit : ℕ) (b : State) (xs : List A) → Passes (λ x. f (view x)) limit b xs → Passes f limit b (map view xs)
+  passes_map limit b [] full = full
+  passes_map limit b (x ∷ xs) full = full
+
   lost_map : (limit place : ℕ) (xs : List A) → NoRoom (λ x. plain (view x)) limit place xs → NoRoom plain limit place (map view xs)
   lost_map limit place [] full = full
   lost_map limit place (x ∷ xs) full = full
@@ -90,8 +102,8 @@ module _ {A E : Type 0} (view : A → E) (word : E → List ℕ → ℕ → ℕ 
   any_map [] = refl
   any_map (x ∷ xs) = refl
 
-  pub front_map : (xs : List A) (a b : State) (n : ℕ) (is_cut : Bool) → WritesFront (λ x. word (view x)) (λ x. plain (view x)) (λ x. owner (view x)) xs a b n is_cut
-      → WritesFront word plain owner (map view xs) a b n is_cut
+  pub front_map : (xs : List A) (a b : State) (n : ℕ) (is_cut : Bool) → WritesFront (λ x. word (view x)) (λ x. plain (view x)) (λ x. owner (view x)) (λ x. f (view x)) xs a b n is_cut
+      → WritesFront word plain owner f (map view xs) a b n is_cut
   front_map xs a b n is_cut front = record {
     kept = map view front.kept;
     lost = map view front.lost;
@@ -100,9 +112,11 @@ module _ {A E : Type 0} (view : A → E) (word : E → List ℕ → ℕ → ℕ 
     counted = front.counted ∙ sym (length-map front.kept view);
     tells = front.tells ∙ any_map front.lost;
     full = lost_map a.limit (length b.bytes) front.lost front.full;
+    exact = front.exact ∙ ap (λ g. after g a) (in_turn-map view f front.kept);
+    passes = passes_map a.limit b front.lost front.passes;
   }
 
-  pub items_map : (xs : List A) (a b : State) (result : Result Written ProtoError) → WritesItems (λ x. word (view x)) (λ x. plain (view x)) (λ x. owner (view x)) xs a result b
-      → WritesItems word plain owner (map view xs) a result b
+  pub items_map : (xs : List A) (a b : State) (result : Result Written ProtoError) → WritesItems (λ x. word (view x)) (λ x. plain (view x)) (λ x. owner (view x)) (λ x. f (view x)) xs a result b
+      → WritesItems word plain owner f (map view xs) a result b
   items_map xs a b (Ok written) front = front_map xs a b written.count written.is_cut front
   items_map xs a b (Err e) memory = memory

@@ -1,5 +1,6 @@
 mod MessageNames
 pub mod AddsMessage
+pub mod AnswerLemmas
 pub mod BitLemmas
 pub mod EdnsEquals
 pub mod EdnsLemmas
@@ -24,6 +25,7 @@ mod MessageFaults
 mod SectionFaults
 pub mod MessageEquals
 pub mod MessageStands
+pub mod MessageWrittenLemmas
 mod OwnerLemmas
 mod ReadFits
 mod SectionLemmas

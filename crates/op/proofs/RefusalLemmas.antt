@@ -11,13 +11,14 @@ use Rattle.rr.specs.declared.record.Record.{Record}
 use Rattle.op.specs.Composition.{Adds, AndThen, Counts, FillsIn, HasHeader, IsTooMany, KeepsRoom, Tests, WritesExtras, WritesRecordItems}
 use Rattle.op.specs.Emitted.{Leaves, WritesFront, query_owner}
 use Rattle.op.specs.Message.{MessageValue}
-use Rattle.op.specs.Query.{QueryWord, plain_query}
+use Rattle.op.specs.Query.{QueryWord, plain_query, query_written}
 use Rattle.op.specs.declared.header.Header.{Header}
 use Rattle.op.specs.declared.message.writing.parts.WrittenSections.{WrittenSections}
 use Rattle.op.specs.declared.message.writing.parts.Written.{Written}
 use Rattle.op.specs.declared.query.Query.{Query}
 use Rattle.op.proofs.EmittedLemmas.{AreOf, Composed, EmitsSlice, EmitsSlices, Idle, Slice, Slices, emits_queries, emits_records}
 use Rattle.op.proofs.RunLemmas.{Both, failed, same_err}
+use Rattle.base.specs.Written.{Passes, after, in_turn}
 
 -- ---- no room
 
@@ -37,10 +38,10 @@ room_failed m old new (refusals.Decode d) run = absurd run.1
 module _ (m : MessageValue) (s : Slices) (are : AreOf m s) (old new : State) (place : ℕ) (kept : State) (room : KeepsRoom old (Ok place) kept) where
   -- the questions before one that had no room
   not_all : (xs rest : List Query) (x : Query) (count : ℕ) → s.queries.before.rest.now ≡ xs ++ x ∷ rest → EachWritten QueryWord plain_query query_owner xs kept new → count ≡ length xs
-      → kept.limit < length new.bytes + plain_query x
+      → kept.limit < length new.bytes + plain_query x → new ≡ after (in_turn query_written xs) kept → Passes query_written kept.limit new (x ∷ rest)
       → Leaves m old (refusals.NotAllRecordsWritten count) new
-  not_all xs rest x count whole each counted full =
-      let front : WritesFront QueryWord plain_query query_owner m.queries kept new count true = record {
+  not_all xs rest x count whole each counted full exact passes =
+      let front : WritesFront QueryWord plain_query query_owner query_written m.queries kept new count true = record {
         kept = xs;
         lost = x ∷ rest;
         whole = sym are.queries ∙ whole;
@@ -48,15 +49,17 @@ module _ (m : MessageValue) (s : Slices) (are : AreOf m s) (old new : State) (pl
         counted = counted;
         tells = refl;
         full = full;
+        exact = exact;
+        passes = passes;
       } in
       let fits = ap (λ (a : State). length a.bytes) room.1 ∙ length-append old.bytes (replicate 12 0) in
-      (omega (arith, room.2, fits), subst (λ a. WritesFront QueryWord plain_query query_owner m.queries a new count true) room.1 front)
+      (omega (arith, room.2, fits), subst (λ a. WritesFront QueryWord plain_query query_owner query_written m.queries a new count true) room.1 front)
 
   pub queries_failed : (f : ProtoError) → emits_queries s.queries.before kept (Err f) s.queries.behind new → Left m old new f
   queries_failed refusals.Memory run = inl refl
   queries_failed (refusals.NotAllRecordsWritten count) run =
-      let front = Emits-front QueryWord plain_query query_owner s.queries.before s.queries.behind kept new count run in
-      inr (not_all front.0 front.2 front.1 count front.3 front.4 front.5 front.6)
+      let front = Emits-front QueryWord plain_query query_owner query_written s.queries.before s.queries.behind kept new count run in
+      inr (not_all front.0 front.2 front.1 count front.3 front.4 front.5 front.6 front.7 front.8)
   queries_failed refusals.MaxBufferSizeExceeded run = absurd run
   queries_failed refusals.NotOpt run = absurd run
   queries_failed (refusals.Message text) run = absurd run

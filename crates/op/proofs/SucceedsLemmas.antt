@@ -7,14 +7,14 @@ use Rattle.base.specs.declared.error.proto_error.ProtoError.{ProtoError}
 use Rattle.base.specs.declared.error.proto_error.ProtoError.TheVariants as refusals
 use Rattle.base.proofs.SliceLemmas.{Emits-front, Emits-slice}
 use Rattle.base_data.specs.declared.rdata.RData.{RData}
-use Rattle.rr.specs.Record.{RecordWord, plain_record}
+use Rattle.rr.specs.Record.{RecordWord, plain_record, record_written}
 use Rattle.rr.specs.declared.record.Record.{Record}
 use Rattle.op.specs.Cut.{IsTooSmall, NoRoom, any_lost}
 use Rattle.op.specs.Composition.{Adds, AndThen, Counts, FillsIn, HasHeader, KeepsRoom, Tests, WritesExtras, WritesRecordItems}
 use Rattle.op.specs.Emitted.{Leaves, WritesFront, WritesRecords, query_owner, record_owner}
 use Rattle.op.specs.Fits.{plain_queries}
 use Rattle.op.specs.Message.{MessageValue}
-use Rattle.op.specs.Query.{QueryWord, plain_query}
+use Rattle.op.specs.Query.{QueryWord, plain_query, query_written}
 use Rattle.op.specs.declared.header.Header.{Header}
 use Rattle.op.specs.declared.message.writing.parts.WrittenSections.{WrittenSections}
 use Rattle.op.specs.declared.message.writing.parts.Written.{Written}
@@ -23,6 +23,7 @@ use Rattle.op.proofs.EmittedLemmas.{AreOf, Composed, EmitsSlice, EmitsSlices, Id
 use Rattle.op.proofs.RefusalLemmas.{Left, queries_failed, room_failed}
 use Rattle.op.proofs.RoomLemmas.{IsFresh, Took, plain-append, queries_few, queries_within, took_few, took_front, took_more, took_queries}
 use Rattle.op.proofs.RunLemmas.{Both, failed, same_err}
+use Rattle.base.specs.Written.{after, in_turn}
 
 -- records that no header can count were written
 record Many (a b : State) : Type 0 where
@@ -33,10 +34,10 @@ record Many (a b : State) : Type 0 where
 -- why a part that is a slice of records is refused
 part_failed : (s t : Iter (Record RData)) (a b : State) (answer : Result ℕ ProtoError) (e : ProtoError) → emits_records s a answer t b → Counts answer (Err e) → (e ≡ refusals.Memory) ⊎ Many a b
 part_failed s t a b (Ok n) e emits counts =
-    let all = Emits-slice RecordWord plain_record record_owner s t a b n emits in
+    let all = Emits-slice RecordWord plain_record record_owner record_written s t a b n emits in
     inr (record { kept = s.rest.now; written = all.0; many = omega (arith, counts.0, all.1) })
 part_failed s t a b (Err (refusals.NotAllRecordsWritten n)) e emits counts =
-    let front = Emits-front RecordWord plain_record record_owner s t a b n emits in
+    let front = Emits-front RecordWord plain_record record_owner record_written s t a b n emits in
     inr (record { kept = front.0; written = front.4; many = omega (arith, counts.0, front.5) })
 part_failed s t a b (Err refusals.Memory) e emits counts = inl (same_err {Y = Written} e refusals.Memory counts)
 part_failed s t a b (Err refusals.MaxBufferSizeExceeded) e emits counts = absurd emits
@@ -177,10 +178,10 @@ module _ (m : MessageValue) (s : Slices) (are : AreOf m s) (old new : State)
     queries_next run =
         elim (failed e run) [
           | inl queries ↦ queries_failed m s are old new place kept room e queries
-          | inr b ↦ inl (asked_next b.value b.between (Emits-slice QueryWord plain_query query_owner s.queries.before s.queries.behind kept b.between b.value b.ran) b.rest)
+          | inr b ↦ inl (asked_next b.value b.between (Emits-slice QueryWord plain_query query_owner query_written s.queries.before s.queries.behind kept b.between b.value b.ran) b.rest)
         ]
       where
-        asked_next : (queries : ℕ) (first : State) → EachWritten QueryWord plain_query query_owner s.queries.before.rest.now kept first × (queries ≡ length s.queries.before.rest.now)
+        asked_next : (queries : ℕ) (first : State) → EachWritten QueryWord plain_query query_owner s.queries.before.rest.now kept first × (queries ≡ length s.queries.before.rest.now) × (first ≡ after (in_turn query_written s.queries.before.rest.now) kept)
             → Sectioned place queries first (Err e) new → e ≡ refusals.Memory
         asked_next queries first asked rest =
             let few = queries_few s.queries.before.rest.now kept first fresh asked.0 in
@@ -201,7 +202,7 @@ lost_some limit place [] tells full = absurd (let is = tells in cc)
 lost_some limit place (x ∷ xs) tells full = omega (arith, full)
 
 -- a question without room is one of those for which there is none
-front_full : (qs : List Query) (a b : State) (count : ℕ) → WritesFront QueryWord plain_query query_owner qs a b count true → a.limit < length a.bytes + plain_queries qs
+front_full : (qs : List Query) (a b : State) (count : ℕ) → WritesFront QueryWord plain_query query_owner query_written qs a b count true → a.limit < length a.bytes + plain_queries qs
 front_full qs a b count front =
     let lost = lost_some a.limit (length b.bytes) front.lost front.tells front.full in
     let sum : plain_queries qs ≡ plain_queries front.kept + plain_queries front.lost = ap plain_queries front.whole ∙ plain-append front.kept front.lost in

@@ -6,7 +6,7 @@ use Rattle.base.specs.Wire.{Refuses}
 use Rattle.base.specs.declared.error.proto_error.ProtoError.{ProtoError}
 use Rattle.base.specs.declared.error.proto_error.ProtoError.TheVariants as refusals
 use Rattle.base_data.specs.declared.rdata.RData.{RData}
-use Rattle.rr.specs.Record.{RecordWord, plain_record}
+use Rattle.rr.specs.Record.{RecordWord, plain_record, record_written}
 use Rattle.rr.specs.declared.record.Record.{Record}
 use Rattle.op.specs.Emitted.{WritesFront, record_owner}
 use Rattle.op.specs.Header.{IsNarrow, header_bytes, raw_header}
@@ -14,6 +14,7 @@ use Rattle.op.specs.declared.header.Header.{Header}
 use Rattle.op.specs.declared.header.metadata.Metadata.{Metadata}
 use Rattle.op.specs.declared.message.writing.parts.Written.{Written}
 use Rattle.op.specs.declared.message.writing.parts.WrittenSections.{WrittenSections}
+use Rattle.base.specs.Written.{Writing}
 
 -- ---- runs one behind the other
 
@@ -72,12 +73,13 @@ abbrev pub EmitsPart : {P : Type 0} → (P → State → Result ℕ ProtoError �
 EmitsPart emits part end a result b = (answer : Result ℕ ProtoError) × emits part a answer end b × Counts answer result
 
 -- of items a front is written, or memory was refused
-abbrev pub WritesItems : {E : Type 0} → (E → List ℕ → ℕ → ℕ → Type 0) → (E → ℕ) → (E → List (List ℕ)) → List E → State → Result Written ProtoError → State → Type 0
-WritesItems word plain owner xs a (Ok written) b = WritesFront word plain owner xs a b written.count written.is_cut
-WritesItems word plain owner xs a (Err e) b = e ≡ refusals.Memory
+abbrev pub WritesItems : {E : Type 0} → (E → List ℕ → ℕ → ℕ → Type 0) → (E → ℕ) → (E → List (List ℕ))
+    → (E → Writing) → List E → State → Result Written ProtoError → State → Type 0
+WritesItems word plain owner f xs a (Ok written) b = WritesFront word plain owner f xs a b written.count written.is_cut
+WritesItems word plain owner f xs a (Err e) b = e ≡ refusals.Memory
 
 abbrev pub WritesRecordItems : List (Record RData) → State → Result Written ProtoError → State → Type 0
-WritesRecordItems = WritesItems RecordWord plain_record record_owner
+WritesRecordItems = WritesItems RecordWord plain_record record_owner record_written
 
 -- OPT and the signature behind the additionals, the sum of all tested behind each
 abbrev pub WritesExtras : List (Record RData) → List (Record RData) → Written → State → Result Written ProtoError → State → Type 0

@@ -1,11 +1,12 @@
 -- The OPT record of EDNS (RFC 6891, 6.1.2 and 6.1.3).
 use Rattle.std.specs.Prelude.{ℕ, ◌+◌, ◌*◌, List, [], ◌∷◌, false, true}
 use Rattle.base.specs.DNSClass.{opt_class}
+use Rattle.base.specs.Written.{Writing}
 use Rattle.base.specs.declared.record_type.RecordType.TheVariants as types
 use Rattle.base_data.specs.OPT.{OptionValue}
 use Rattle.base_data.specs.declared.rdata.RData.{RData}
 use Rattle.base_data.specs.declared.rdata.RData.TheVariants as kinds
-use Rattle.rr.specs.Record.{RecordWord, plain_record}
+use Rattle.rr.specs.Record.{RecordWord, plain_record, record_written}
 use Rattle.rr.specs.declared.record.Record.{Record}
 use Rattle.op.specs.EdnsFlags.{flags_number}
 use Rattle.op.specs.declared.edns.Edns.{Edns}
@@ -32,6 +33,10 @@ edns_record e = record {
 -- the word that EDNS is written as
 abbrev pub EdnsWord : Edns → List ℕ → ℕ → ℕ → Type 0
 EdnsWord e = RecordWord (edns_record e)
+
+-- what is written of it
+abbrev pub edns_written : Edns → Writing
+edns_written e = record_written (edns_record e)
 
 -- the bytes of an OPT record
 abbrev pub plain_edns : Edns → ℕ

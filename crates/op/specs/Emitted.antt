@@ -6,19 +6,21 @@ use Rattle.base.specs.State.{State, appended, overwritten}
 use Rattle.base.specs.declared.error.proto_error.ProtoError.{ProtoError}
 use Rattle.base.specs.declared.error.proto_error.ProtoError.TheVariants as refusals
 use Rattle.base_data.specs.declared.rdata.RData.{RData}
-use Rattle.rr.specs.Record.{RecordWord, plain_record}
+use Rattle.rr.specs.Record.{RecordWord, plain_record, record_written}
 use Rattle.rr.specs.declared.record.Record.{Record}
 use Rattle.op.specs.Cut.{NoRoom, any_lost, raised}
 use Rattle.op.specs.EdnsRecord.{edns_record}
 use Rattle.op.specs.Fits.{listed, signature_record}
 use Rattle.op.specs.Header.{IsNarrow, header_bytes, raw_header}
 use Rattle.op.specs.Message.{MessageValue}
-use Rattle.op.specs.Query.{QueryWord, plain_query}
+use Rattle.op.specs.Query.{QueryWord, plain_query, query_written}
 use Rattle.op.specs.declared.header.Header.{Header}
 use Rattle.op.specs.declared.query.Query.{Query}
+use Rattle.base.specs.Written.{Passes, Writing, after, in_turn}
 
 -- Of the values a front was written: all that come before one that had no room.
-pub record WritesFront {E : Type 0} (word : E → List ℕ → ℕ → ℕ → Type 0) (plain : E → ℕ) (owner : E → List (List ℕ)) (xs : List E) (a b : State) (n : ℕ) (is_cut : Bool) : Type 0 where
+pub record WritesFront {E : Type 0} (word : E → List ℕ → ℕ → ℕ → Type 0) (plain : E → ℕ) (owner : E → List (List ℕ))
+    (f : E → Writing) (xs : List E) (a b : State) (n : ℕ) (is_cut : Bool) : Type 0 where
   pub kept : List E
   pub lost : List E
   pub whole : xs ≡ kept ++ lost
@@ -26,6 +28,8 @@ pub record WritesFront {E : Type 0} (word : E → List ℕ → ℕ → ℕ → T
   pub counted : n ≡ length kept
   pub tells : is_cut ≡ any_lost lost
   pub full : NoRoom plain a.limit (length b.bytes) lost
+  pub exact : b ≡ after (in_turn f kept) a
+  pub passes : Passes f a.limit b lost
 
 -- the labels of a question's name
 abbrev pub query_owner : Query → List (List ℕ)
@@ -37,7 +41,7 @@ record_owner r = r.name.labels
 
 -- a front of these records was written
 abbrev pub WritesRecords : List (Record RData) → State → State → ℕ → Bool → Type 0
-WritesRecords = WritesFront RecordWord plain_record record_owner
+WritesRecords = WritesFront RecordWord plain_record record_owner record_written
 
 -- Room for the header was kept, the questions were all written and of each other part a front, and then the header was
 -- filled in.
@@ -61,6 +65,7 @@ pub record Emitted (m : MessageValue) (old new : State) (h : Header) : Type 0 wh
   pub place : kept ≡ appended (replicate 12 0) old
   pub room : length kept.bytes ≤ old.limit
   pub queries : EachWritten QueryWord plain_query query_owner m.queries kept first
+  pub asked : first ≡ after (in_turn query_written m.queries) kept
   pub answers : WritesRecords m.answers first second h.counts.answers answers_cut
   pub authorities : WritesRecords m.authorities second third h.counts.authorities authorities_cut
   pub additionals : WritesRecords m.additionals third fourth additional_count additionals_cut
@@ -76,7 +81,8 @@ pub record Emitted (m : MessageValue) (old new : State) (h : Header) : Type 0 wh
 abbrev pub Leaves : MessageValue → State → ProtoError → State → Type 0
 Leaves m old refusals.MaxBufferSizeExceeded new = (old.limit < length old.bytes + 12) × (new ≡ old)
 Leaves m old (refusals.NotAllRecordsWritten count) new =
-    (length old.bytes + 12 ≤ old.limit) × WritesFront QueryWord plain_query query_owner m.queries (appended (replicate 12 0) old) new count true
+    (length old.bytes + 12 ≤ old.limit)
+    × WritesFront QueryWord plain_query query_owner query_written m.queries (appended (replicate 12 0) old) new count true
 Leaves m old _ new = ⊥
 
 -- ---- by a new encoder

@@ -11,6 +11,7 @@ pub mod Header
 pub mod HeaderCounts
 pub mod LowerQuery
 pub mod Message
+pub mod MessageWritten
 pub mod MessageText
 pub mod MessageType
 pub mod Metadata

@@ -1,6 +1,6 @@
 -- The question word (RFC 1035, 4.1.2; the top bit of the class: RFC 6762, 5.4).
 use Rattle.std.specs.Prelude.{◌≡◌, ℕ, ◌+◌, ◌<◌, ◌⊎◌, length, List, ◌++◌, codes, true, false, if◌then◌else◌, Ok}
-use Rattle.std.specs.Int.{w16}
+use Rattle.std.specs.Int.{w16, to_be_bytes}
 use Rattle.base.specs.DNSClass.{class_field, class_number, class_text, class_of, field_class, field_top}
 use Rattle.base.specs.Labels.{NameValue, plain_len}
 use Rattle.base.specs.NameText.{name_text}
@@ -10,6 +10,7 @@ use Rattle.base.specs.RecordType.{type_number, type_of, type_text}
 use Rattle.base.specs.Faults.{IsFaulty}
 use Rattle.base.specs.Spelling.{IsNameAt}
 use Rattle.base.specs.Words.{IsNumberAt, NameAt}
+use Rattle.base.specs.Written.{Writing, both, just, name}
 use Rattle.base.specs.declared.error.decode_error.DecodeError.{DecodeError}
 use Rattle.base.specs.declared.error.decode_error.DecodeError.TheVariants as faults
 use Rattle.base.specs.declared.dns_class.DNSClass.TheVariants as classes
@@ -56,6 +57,10 @@ pub record IsQueryAt (B : List ℕ) (i : ℕ) (q : Query) (e : ℕ) : Type 0 whe
 -- the word that a question is written as
 abbrev pub QueryWord : Query → List ℕ → ℕ → ℕ → Type 0
 QueryWord q B i e = IsRawQueryAt B i (raw_query q) e
+
+-- what is written of a question: its name, type and class
+abbrev pub query_written : Query → Writing
+query_written q = let raw = raw_query q in both (name raw.labels) (just (to_be_bytes w16 raw.type ++ to_be_bytes w16 raw.class))
 
 -- the bytes of a question without compression
 abbrev pub plain_query : Query → ℕ

@@ -9,6 +9,7 @@ ghost use Rattle.base.specs.State.{appended};
 ghost use Rattle.base.specs.Laws.{Keeps, Writes};
 ghost use Rattle.base.specs.Wire.{state_of, Refuses};
 ghost use Rattle.base.specs.Words.{Stands};
+ghost use Rattle.base.specs.Written.{Exactly, just};
 ghost use Rattle.op.specs.Header.{HeaderWord, IsHeaderAt, bit_of, header_at, header_bytes, high_byte, low_byte, metadata_of_bytes, raw_header};
 ghost use Rattle.op.specs.MessageType.{is_response};
 ghost use Rattle.op.specs.OpCode.{op_number};
@@ -104,6 +105,8 @@ impl BinEncodable for Header {
 
     ghost plain_len = { λ _. 12 };
 
+    ghost written = { λ h. just (header_bytes (raw_header h)) };
+
     /// Writes the twelve bytes of the header, as `to_bytes` has them (RFC 1035, 4.1.1).
     ///
     /// Refused, with nothing written, with `MaxBufferSizeExceeded` where a byte would pass the limit, and with `Memory`
@@ -112,6 +115,8 @@ impl BinEncodable for Header {
         ensures keeps { Keeps (state_of encoder.old) (state_of encoder.new) }
         ensures writes { OnOk result (Writes (HeaderWord self.now) 12 [] (state_of encoder.old) (state_of encoder.new)) }
         ensures refuses { Refuses 12 (state_of encoder.old) result }
+        ensures exact { Exactly (just (header_bytes (raw_header self.now)))
+            (state_of encoder.old) (state_of encoder.new) result }
         ensures ok { OnOk result (state_of encoder.new ≡ appended (header_bytes (raw_header self.now)) (state_of encoder.old)) }
         ensures err { OnErr result (state_of encoder.new ≡ state_of encoder.old) }
         ensures full { (state_of encoder.old).limit < length (state_of encoder.old).bytes + 12 → IsErrOf result ProtoError.MaxBufferSizeExceeded }

@@ -7,7 +7,7 @@ ghost use Rattle.base.specs.NameOrder.{lowered};
 ghost use Rattle.op.specs.contracts.query.QueryEq.TheImpl.Laws.{laws-law as query_laws};
 ghost use Rattle.op.specs.LowerQuery.{lower_query_text};
 ghost use Rattle.op.specs.Places.{query_places};
-ghost use Rattle.op.specs.Query.{QueryWord, plain_query, query_at};
+ghost use Rattle.op.specs.Query.{QueryWord, plain_query, query_at, query_written};
 
 use crate::query::Query;
 use base::{
@@ -126,6 +126,8 @@ impl BinEncodable for LowerQuery {
     ghost plain_len = { plain_query };
 
     ghost owner = { λ q. q.name.labels };
+
+    ghost written = { query_written };
 
     /// Writes the question as it was asked (RFC 1035, 4.1.2).
     ///

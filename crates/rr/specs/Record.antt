@@ -1,7 +1,7 @@
 -- The record word (RFC 1035, 4.1.3; an OPT record: RFC 6891, 6.1.2; the top bit of the class: RFC 6762, 10.2).
 use Rattle.std.specs.Prelude.{◌≡◌, ◌≢◌, ◌≤◌, ℕ, ◌+◌, ◌-◌, ◌<◌, ◌==◌, length, List, [], ◌∷◌, ◌++◌, codes, true, false, not, ◌&&◌, Bool, if◌then◌else◌, nat_lt, Ok, Err}
 use Rattle.std.specs.Fmt.{decimal}
-use Rattle.std.specs.Int.{w16, w32}
+use Rattle.std.specs.Int.{w16, w32, to_be_bytes}
 use Rattle.base.specs.DNSClass.{class_field, class_number, class_text, class_of, field_class, field_top, opt_class}
 use Rattle.base.specs.Faults.{IsFaulty}
 use Rattle.base.specs.Labels.{NameValue, plain_len}
@@ -11,12 +11,13 @@ use Rattle.base.specs.Reading.{Read, ◌>>=◌, behind, number_at}
 use Rattle.base.specs.RecordType.{type_number, type_of, type_text}
 use Rattle.base.specs.Spelling.{IsNameAt}
 use Rattle.base.specs.Words.{IsNumberAt, NameAt}
+use Rattle.base.specs.Written.{Writing, both, just, name, sized}
 use Rattle.base.specs.declared.dns_class.DNSClass.{DNSClass}
 use Rattle.base.specs.declared.error.decode_error.DecodeError.{DecodeError}
 use Rattle.base.specs.declared.error.decode_error.DecodeError.TheVariants as faults
 use Rattle.base.specs.declared.record_type.RecordType.{RecordType}
 use Rattle.base.specs.declared.record_type.RecordType.TheVariants as types
-use Rattle.base_data.specs.Kinds.{IsReadable, DataWord, data_names, data_places, data_text, plain_data, type_of_data}
+use Rattle.base_data.specs.Kinds.{IsReadable, DataWord, data_names, data_places, data_text, data_written, plain_data, type_of_data}
 use Rattle.base_data.specs.DataAt.{IsDataAt}
 use Rattle.base_data.specs.RData.{rdata_at}
 use Rattle.base_data.specs.declared.rdata.RData.{RData}
@@ -95,6 +96,16 @@ raw_record r = record {
 -- the word that a record is written as
 abbrev pub RecordWord : Record RData → List ℕ → ℕ → ℕ → Type 0
 RecordWord r B i e = IsRawRecordAt B i (raw_record r) e
+
+-- type, class and TTL as they are written, the highest byte of each first
+abbrev pub fields_of : ℕ → ℕ → ℕ → List ℕ
+fields_of type class ttl = to_be_bytes w16 type ++ (to_be_bytes w16 class ++ to_be_bytes w32 ttl)
+
+-- what is written of a record: its name, type, class and TTL, RDLENGTH, and its data (RFC 1035, 3.2.1)
+abbrev pub record_written : Record RData → Writing
+record_written r =
+    let raw = raw_record r in
+    both (name raw.labels) (both (just (fields_of raw.type raw.class raw.ttl)) (sized (data_written raw.rdata)))
 
 -- the bytes of a record without compression
 abbrev pub plain_record : Record RData → ℕ

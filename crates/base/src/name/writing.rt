@@ -6,6 +6,7 @@ ghost use Rattle.base.specs.Laws.{Keeps, Writes, StoresSuffixes};
 ghost use Rattle.base.specs.State.{appended};
 ghost use Rattle.base.specs.Wire.{state_of, Refuses};
 ghost use Rattle.base.specs.Words.{NameAt};
+ghost use Rattle.base.specs.Written.{Exactly, name, plain_name};
 
 use crate::error::ProtoError;
 use crate::name::{Name, first_label};
@@ -22,6 +23,8 @@ impl BinEncodable for Name {
     ghost owner = { λ n. n.labels };
 
     ghost names = { λ n. StoresSuffixes n.labels };
+
+    ghost written = { λ n. name n.labels };
 
     /// Writes the name, letters as they are; whether it is absolute isn't written.
     ///
@@ -58,6 +61,8 @@ impl Name {
         ensures writes { OnOk result (Writes (NameAt self.now.labels) (plain_len self.now.labels) []
             (state_of encoder.old) (state_of encoder.new)) }
         ensures refuses { Refuses (plain_len self.now.labels) (state_of encoder.old) result }
+        ensures exact { Exactly (plain_name self.now.labels)
+            (state_of encoder.old) (state_of encoder.new) result }
     {
         encoder.emit_slice(self.as_wire())?;
         encoder.emit(0)

@@ -3,6 +3,7 @@
 ghost use Rattle.std.specs.Prelude.{◌≡◌, []};
 ghost use Rattle.std.specs.Int.{w16, to_be_bytes};
 ghost use Rattle.base.specs.Words.{Number};
+ghost use Rattle.base.specs.Written.{just};
 
 use crate::error::ProtoError;
 use crate::wire::encoder::BinEncoder;
@@ -18,6 +19,7 @@ pub trait BinEncodable {
     ghost use Rattle.base.specs.Laws.{Keeps, Writes};
     ghost use Rattle.base.specs.State.{State};
     ghost use Rattle.base.specs.Wire.{state_of, Refuses};
+    ghost use Rattle.base.specs.Written.{Writing, Exactly};
 
     ghost word: { Self → List ℕ → ℕ → ℕ → Type 0 };
 
@@ -26,6 +28,8 @@ pub trait BinEncodable {
     ghost owner: { Self → List (List ℕ) } = { λ _. [] };
 
     ghost names: { Self → State → State → Type 0 } = { λ _ _ _. Unit {0} };
+
+    ghost written: { Self → Writing };
 
     /// Writes the value behind what the encoder holds (RFC 1035, 4.1).
     ///
@@ -36,7 +40,9 @@ pub trait BinEncodable {
         ensures writes { OnOk result (Writes (word self.now) (plain_len self.now) (owner self.now)
             (state_of encoder.old) (state_of encoder.new)) }
         ensures refuses { Refuses (plain_len self.now) (state_of encoder.old) result }
-        ensures names { OnOk result (names self.now (state_of encoder.old) (state_of encoder.new)) };
+        ensures names { OnOk result (names self.now (state_of encoder.old) (state_of encoder.new)) }
+        ensures exact { Exactly (written self.now)
+            (state_of encoder.old) (state_of encoder.new) result };
 }
 
 /// A value that takes as many bytes whatever it is, so that room can be kept for it.
@@ -63,6 +69,8 @@ impl BinEncodable for u16 {
 
     ghost plain_len = { λ _. 2 };
 
+    ghost written = { λ n. just (to_be_bytes w16 n) };
+
     fn emit(&self, encoder: &mut BinEncoder<'_>) -> Result<(), ProtoError> {
         let number = *self;
         encoder.emit_u16(number)
@@ -77,6 +85,8 @@ impl<E: BinEncodable> BinEncodable for &E {
     ghost owner = { λ e. E.owner e.now };
 
     ghost names = { λ e. E.names e.now };
+
+    ghost written = { λ e. E.written e.now };
 
     fn emit(&self, encoder: &mut BinEncoder<'_>) -> Result<(), ProtoError> {
         let value: &E = self;

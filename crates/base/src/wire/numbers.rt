@@ -1,11 +1,12 @@
 //! Types and classes, each a number of two bytes (RFC 1035, 3.2.1 and 4.1.2).
 
 ghost use Rattle.std.specs.Prelude.{Ok};
-ghost use Rattle.std.specs.Int.{w16};
+ghost use Rattle.std.specs.Int.{w16, to_be_bytes};
 ghost use Rattle.base.specs.DNSClass.{class_number, class_of};
 ghost use Rattle.base.specs.Reading.{number_at, ◌>>=◌};
 ghost use Rattle.base.specs.RecordType.{type_number, type_of};
 ghost use Rattle.base.specs.Words.{Number};
+ghost use Rattle.base.specs.Written.{just};
 
 use crate::dns_class::DNSClass;
 use crate::error::{DecodeError, ProtoError};
@@ -19,6 +20,8 @@ impl BinEncodable for RecordType {
     ghost word = { λ t. Number w16 (type_number t) };
 
     ghost plain_len = { λ _. 2 };
+
+    ghost written = { λ t. just (to_be_bytes w16 (type_number t)) };
 
     #[inline(always)]
     fn emit(&self, encoder: &mut BinEncoder<'_>) -> Result<(), ProtoError> {
@@ -42,6 +45,8 @@ impl BinEncodable for DNSClass {
     ghost word = { λ c. Number w16 (class_number c) };
 
     ghost plain_len = { λ _. 2 };
+
+    ghost written = { λ c. just (to_be_bytes w16 (class_number c)) };
 
     fn emit(&self, encoder: &mut BinEncoder<'_>) -> Result<(), ProtoError> {
         u16::from(*self).emit(encoder)

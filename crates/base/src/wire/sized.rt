@@ -4,6 +4,7 @@ ghost use Rattle.std.specs.Prelude.{◌+◌, [], OnOk};
 ghost use Rattle.base.specs.Laws.{Keeps, Writes};
 ghost use Rattle.base.specs.Wire.{state_of, Refuses};
 ghost use Rattle.base.specs.Words.{Sized};
+ghost use Rattle.base.specs.Written.{Exactly, sized};
 
 use crate::error::ProtoError;
 use crate::wire::encodable::BinEncodable;
@@ -21,6 +22,8 @@ pub fn emit_sized<R: BinEncodable>(
     ensures writes { OnOk result (Writes (Sized (R.word value.now)) (2 + R.plain_len value.now) []
         (state_of encoder.old) (state_of encoder.new)) }
     ensures refuses { Refuses (2 + R.plain_len value.now) (state_of encoder.old) result }
+    ensures exact { Exactly (sized (R.written value.now))
+        (state_of encoder.old) (state_of encoder.new) result }
 {
     let place = encoder.place::<u16>()?;
     value.emit(encoder)?;

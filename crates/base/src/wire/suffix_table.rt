@@ -4,6 +4,7 @@ ghost use Rattle.std.specs.Prelude.{◌≡◌, ◌≢◌, ◌<◌, ◌≤◌, �
 ghost use Rattle.base.specs.Labels.{labels_of, IsWire};
 ghost use Rattle.base.specs.State.{front_number};
 ghost use Rattle.base.specs.Suffixes.{index_key};
+ghost use Rattle.base.specs.Written.{found_in};
 
 use crate::error::ProtoError;
 use crate::wire::suffix::{Suffix, front_number};
@@ -93,6 +94,7 @@ impl SuffixTable {
         ensures found { MatchOption result (All (λ t. t.labels ≢ labels_of wire.now) self.now)
             (λ offset. Any (λ t. (t.labels ≡ labels_of wire.now) × (t.offset ≡ offset)) self.now) }
         ensures near { IfSome result (λ offset. offset < 16384) }
+        ensures value { result ≡ found_in self.now (labels_of wire.now) }
     {
         let front = front_number(wire);
         for suffix in &self.first {

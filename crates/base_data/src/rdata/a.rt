@@ -4,6 +4,7 @@ ghost use Rattle.std.specs.Prelude.{◌≡◌, Some, refl};
 ghost use Rattle.std.specs.Net.Addr.{ipv4_octets};
 ghost use Rattle.std.specs.Net.Text.{ipv4_text};
 ghost use Rattle.base.specs.Words.{Bytes};
+ghost use Rattle.base.specs.Written.{just};
 ghost use Rattle.base_data.specs.A.{a_at, a_of};
 ghost use Rattle.base_data.specs.Kinds.{a_in};
 ghost use Rattle.base_data.specs.declared.rdata.RData.TheVariants as kinds;
@@ -59,6 +60,8 @@ impl BinEncodable for A {
 
     ghost plain_len = { λ _. 4 };
 
+    ghost written = { λ a. just a.octets };
+
     /// Writes the four bytes (RFC 1035, 3.4.1).
     ///
     /// Refused with `MaxBufferSizeExceeded` where a byte would pass the limit, and with `Memory` for want of it.
@@ -112,6 +115,8 @@ impl RecordData for A {
     ghost keeps_word = { λ _ _ _ _. (λ h. h, λ h. h) };
 
     ghost keeps_len = { λ _. refl };
+
+    ghost keeps_written = { λ _. refl };
 
     ghost keeps_text = { λ _. refl };
 

@@ -4,6 +4,7 @@ ghost use Rattle.std.specs.Prelude.{◌≡◌, ◌+◌, ◌++◌, ◌≤◌, ℕ
 ghost use Rattle.std.specs.Net.Addr.{ipv6_octets, ipv6_segments, segments_of};
 ghost use Rattle.std.specs.Net.Text.{groups_text};
 ghost use Rattle.base.specs.Words.{Bytes};
+ghost use Rattle.base.specs.Written.{just};
 ghost use Rattle.base_data.specs.AAAA.{AreZeros, IsFirstLongest, aaaa_at, aaaa_text, aaaa_of};
 ghost use Rattle.base_data.specs.Kinds.{aaaa_in};
 ghost use Rattle.base_data.specs.declared.rdata.RData.TheVariants as kinds;
@@ -60,6 +61,8 @@ impl BinEncodable for AAAA {
     ghost word = { λ a. Bytes a.octets };
 
     ghost plain_len = { λ _. 16 };
+
+    ghost written = { λ a. just a.octets };
 
     /// Writes the sixteen bytes (RFC 3596, 2.2).
     ///
@@ -120,6 +123,8 @@ impl RecordData for AAAA {
     ghost keeps_word = { λ _ _ _ _. (λ h. h, λ h. h) };
 
     ghost keeps_len = { λ _. refl };
+
+    ghost keeps_written = { λ _. refl };
 
     ghost keeps_text = { λ _. refl };
 

@@ -73,6 +73,8 @@ impl BinEncodable for ANAME {
 
     ghost names = { λ x. (aname_kind x).names };
 
+    ghost written = { λ x. (aname_kind x).written };
+
     /// Writes the name without compression (RFC 3597, 4).
     ///
     /// Refused with `MaxBufferSizeExceeded` where a byte would pass the limit, and with `Memory` for want of it.
@@ -114,6 +116,8 @@ impl RecordData for ANAME {
     ghost keeps_word = { λ _ _ _ _. (λ h. h, λ h. h) };
 
     ghost keeps_len = { λ _. refl };
+
+    ghost keeps_written = { λ _. refl };
 
     ghost keeps_text = { λ _. refl };
 

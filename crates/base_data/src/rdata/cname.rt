@@ -73,6 +73,8 @@ impl BinEncodable for CNAME {
 
     ghost names = { λ x. (cname_kind x).names };
 
+    ghost written = { λ x. (cname_kind x).written };
+
     /// Writes the name with compression (RFC 1035, 3.3.1 and 4.1.4).
     ///
     /// Refused with `MaxBufferSizeExceeded` where a byte would pass the limit, and with `Memory` for want of it.
@@ -114,6 +116,8 @@ impl RecordData for CNAME {
     ghost keeps_word = { λ _ _ _ _. (λ h. h, λ h. h) };
 
     ghost keeps_len = { λ _. refl };
+
+    ghost keeps_written = { λ _. refl };
 
     ghost keeps_text = { λ _. refl };
 

@@ -6,6 +6,7 @@ ghost use Rattle.base.specs.Laws.{Keeps, Writes};
 ghost use Rattle.base.specs.State.{appended};
 ghost use Rattle.base.specs.Wire.{state_of, Refuses};
 ghost use Rattle.base.specs.Words.{Bytes, Number};
+ghost use Rattle.base.specs.Written.{Exactly, just};
 
 use base::{BinEncoder, ProtoError};
 
@@ -19,6 +20,7 @@ pub(crate) fn emit_bytes(bytes: &[u8], encoder: &mut BinEncoder<'_>) -> Result<(
     ensures writes { OnOk result (Writes (Bytes bytes.now) (length bytes.now) []
         (state_of encoder.old) (state_of encoder.new)) }
     ensures refuses { Refuses (length bytes.now) (state_of encoder.old) result }
+    ensures exact { Exactly (just bytes.now) (state_of encoder.old) (state_of encoder.new) result }
 {
     encoder.emit_slice(bytes)
 }
@@ -30,6 +32,8 @@ pub(crate) fn emit_u16(number: u16, encoder: &mut BinEncoder<'_>) -> Result<(), 
     ensures writes { OnOk result (Writes (Number w16 number) 2 []
         (state_of encoder.old) (state_of encoder.new)) }
     ensures refuses { Refuses 2 (state_of encoder.old) result }
+    ensures exact { Exactly (just (to_be_bytes w16 number))
+        (state_of encoder.old) (state_of encoder.new) result }
 {
     encoder.emit_u16(number)
 }

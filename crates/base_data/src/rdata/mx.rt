@@ -2,7 +2,7 @@
 
 ghost use Rattle.std.specs.Prelude.{◌≡◌, Some, refl};
 ghost use Rattle.base.specs.Laws.{Writes};
-ghost use Rattle.base_data.specs.MX.{CompressesMX, MXWord, mx_at, mx_of, mx_places, mx_text, plain_mx};
+ghost use Rattle.base_data.specs.MX.{CompressesMX, MXWord, mx_at, mx_kind, mx_of, mx_places, mx_text, plain_mx};
 ghost use Rattle.base_data.specs.Kinds.{mx_in};
 ghost use Rattle.base_data.specs.declared.rdata.RData.TheVariants as kinds;
 
@@ -85,6 +85,8 @@ impl BinEncodable for MX {
 
     ghost plain_len = { plain_mx };
 
+    ghost written = { λ x. (mx_kind x).written };
+
     ghost names = { CompressesMX };
 
     /// Writes the fields one behind the other, names with compression (RFC 1035, 3.3.9 and 4.1.4).
@@ -138,6 +140,8 @@ impl RecordData for MX {
     ghost keeps_word = { λ _ _ _ _. (λ h. h, λ h. h) };
 
     ghost keeps_len = { λ _. refl };
+
+    ghost keeps_written = { λ _. refl };
 
     ghost keeps_text = { λ _. refl };
 

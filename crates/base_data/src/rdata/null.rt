@@ -4,6 +4,7 @@ ghost use Rattle.std.specs.Prelude.{◌≡◌, Some, length, refl};
 ghost use Rattle.std.specs.Cmp.{partial_equiv_from_equiv};
 ghost use Rattle.base.specs.Reading.{Reads, bytes_at};
 ghost use Rattle.base.specs.Words.{Bytes};
+ghost use Rattle.base.specs.Written.{just};
 ghost use Rattle.base_data.specs.Opaque.{opaque_text, same_bytes};
 ghost use Rattle.base_data.specs.Kinds.{null_in};
 ghost use Rattle.base_data.specs.Equality.{same_bytes-equiv};
@@ -99,6 +100,8 @@ impl BinEncodable for NULL {
 
     ghost plain_len = { length };
 
+    ghost written = { just };
+
     /// Writes the bytes as they are (RFC 1035, 3.3.10; RFC 3597, 3).
     ///
     /// Refused with `MaxBufferSizeExceeded` where a byte would pass the limit, and with `Memory` for want of it.
@@ -117,6 +120,8 @@ impl RecordData for NULL {
     ghost keeps_word = { λ _ _ _ _. (λ h. h, λ h. h) };
 
     ghost keeps_len = { λ _. refl };
+
+    ghost keeps_written = { λ _. refl };
 
     ghost keeps_text = { λ _. refl };
 

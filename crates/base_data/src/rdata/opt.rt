@@ -4,7 +4,8 @@ ghost use Rattle.std.specs.Prelude.{◌≡◌, IsOkUnless, OnOk, OnErr, position
 ghost use Rattle.std.specs.Cmp.{partial_equiv_from_equiv};
 ghost use Rattle.std.specs.Option.{option_copied};
 ghost use Rattle.base.specs.Reading.{Reads};
-ghost use Rattle.base_data.specs.OPT.{first_option, has_code, opt_at, options_len, options_word, same_options, with_option, without_code};
+ghost use Rattle.base.specs.Written.{in_turn};
+ghost use Rattle.base_data.specs.OPT.{first_option, has_code, opt_at, option_written, options_len, options_word, same_options, with_option, without_code};
 ghost use Rattle.base_data.specs.Kinds.{opt_in};
 ghost use Rattle.base_data.specs.Equality.{same_options-equiv};
 ghost use Rattle.base_data.specs.declared.rdata.RData.TheVariants as kinds;
@@ -141,6 +142,8 @@ impl BinEncodable for OPT {
 
     ghost plain_len = { options_len };
 
+    ghost written = { in_turn option_written };
+
     /// Writes each option: its code, the number of its bytes, and its bytes (RFC 6891, 6.1.2).
     ///
     /// Refused with `MaxBufferSizeExceeded` where a byte would pass the limit, and with `Memory` for want of it.
@@ -162,6 +165,8 @@ impl RecordData for OPT {
     ghost keeps_word = { λ _ _ _ _. (λ h. h, λ h. h) };
 
     ghost keeps_len = { λ _. refl };
+
+    ghost keeps_written = { λ _. refl };
 
     ghost keeps_text = { λ _. refl };
 

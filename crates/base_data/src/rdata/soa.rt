@@ -2,7 +2,7 @@
 
 ghost use Rattle.std.specs.Prelude.{◌≡◌, Some, refl};
 ghost use Rattle.base.specs.Laws.{Writes};
-ghost use Rattle.base_data.specs.SOA.{CompressesSOA, SOAFits, SOAWord, plain_soa, soa_at, soa_numbers, soa_of, soa_places, soa_text};
+ghost use Rattle.base_data.specs.SOA.{CompressesSOA, SOAFits, SOAWord, plain_soa, soa_at, soa_kind, soa_numbers, soa_of, soa_places, soa_text};
 ghost use Rattle.base_data.specs.Kinds.{soa_in};
 ghost use Rattle.base_data.specs.declared.rdata.RData.TheVariants as kinds;
 
@@ -153,6 +153,8 @@ impl BinEncodable for SOA {
 
     ghost plain_len = { plain_soa };
 
+    ghost written = { λ x. (soa_kind x).written };
+
     ghost names = { CompressesSOA };
 
     /// Writes the fields one behind the other, names with compression (RFC 1035, 3.3.13 and 4.1.4).
@@ -250,6 +252,8 @@ impl RecordData for SOA {
     ghost keeps_word = { λ _ _ _ _. (λ h. h, λ h. h) };
 
     ghost keeps_len = { λ _. refl };
+
+    ghost keeps_written = { λ _. refl };
 
     ghost keeps_text = { λ _. refl };
 

@@ -109,6 +109,8 @@ impl BinEncodable for SRV {
 
     ghost plain_len = { plain_srv };
 
+    ghost written = { λ x. (srv_kind x).written };
+
     ghost names = { λ x. (srv_kind x).names };
 
     /// Writes the fields one behind the other, the name without compression (RFC 2782; RFC 3597, 4).
@@ -186,6 +188,8 @@ impl RecordData for SRV {
     ghost keeps_word = { λ _ _ _ _. (λ h. h, λ h. h) };
 
     ghost keeps_len = { λ _. refl };
+
+    ghost keeps_written = { λ _. refl };
 
     ghost keeps_text = { λ _. refl };
 

@@ -4,6 +4,7 @@ ghost use Rattle.std.specs.Prelude.{◌≡◌, ◌≢◌, ◌<◌, [], Some, len
 ghost use Rattle.std.specs.Cmp.{partial_equiv_from_equiv};
 ghost use Rattle.base.specs.Reading.{Reads, bytes_at};
 ghost use Rattle.base.specs.Words.{Bytes};
+ghost use Rattle.base.specs.Written.{just};
 ghost use Rattle.base_data.specs.Opaque.{opaque_text, same_bytes};
 ghost use Rattle.base_data.specs.Kinds.{tsig_in};
 ghost use Rattle.base_data.specs.Equality.{same_bytes-equiv};
@@ -102,6 +103,8 @@ impl BinEncodable for TSIG {
 
     ghost plain_len = { length };
 
+    ghost written = { just };
+
     /// Writes the bytes as they are (RFC 8945, 4.2).
     ///
     /// Refused with `MaxBufferSizeExceeded` where a byte would pass the limit, and with `Memory` for want of it.
@@ -120,6 +123,8 @@ impl RecordData for TSIG {
     ghost keeps_word = { λ _ _ _ _. (λ h. h, λ h. h) };
 
     ghost keeps_len = { λ _. refl };
+
+    ghost keeps_written = { λ _. refl };
 
     ghost keeps_text = { λ _. refl };
 

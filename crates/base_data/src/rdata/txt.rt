@@ -5,6 +5,7 @@ ghost use Rattle.std.specs.Cmp.{partial_equiv_from_equiv};
 ghost use Rattle.base.specs.Labels.{wire_of, labels_of};
 ghost use Rattle.base.specs.Reading.{Reads};
 ghost use Rattle.base.specs.Words.{Bytes};
+ghost use Rattle.base.specs.Written.{just};
 ghost use Rattle.base_data.specs.TXT.{AreShort, are_strings, same_txt, txt_at, txt_of};
 ghost use Rattle.base_data.specs.Kinds.{txt_in};
 ghost use Rattle.base_data.specs.Equality.{same_txt-equiv};
@@ -155,6 +156,8 @@ impl BinEncodable for TXT {
 
     ghost plain_len = { λ t. length (wire_of t) };
 
+    ghost written = { λ t. just (wire_of t) };
+
     /// Writes each string behind its length (RFC 1035, 3.3 and 3.3.14).
     ///
     /// Refused with `MaxBufferSizeExceeded` where a byte would pass the limit, and with `Memory` for want of it.
@@ -202,6 +205,8 @@ impl RecordData for TXT {
     ghost keeps_word = { λ _ _ _ _. (λ h. h, λ h. h) };
 
     ghost keeps_len = { λ _. refl };
+
+    ghost keeps_written = { λ _. refl };
 
     ghost keeps_text = { λ _. refl };
 

@@ -1,13 +1,15 @@
 //! Writes EDNS as an OPT record (RFC 6891, 6.1.2 and 6.1.3).
 
-ghost use Rattle.std.specs.Prelude.{◌≡◌, ◌+◌, ◌*◌, [], MatchResult, OnOk};
+ghost use Rattle.std.specs.Prelude.{◌≡◌, ◌+◌, ◌*◌, [], ◌∷◌, MatchResult, OnOk};
 ghost use Rattle.std.specs.Int.{w16, w32};
 ghost use Rattle.base.specs.Laws.{Keeps, Writes};
 ghost use Rattle.base.specs.RecordType.{type_number};
 ghost use Rattle.base.specs.Wire.{state_of, Refuses};
 ghost use Rattle.base.specs.Words.{NameAt, Number, Then};
+ghost use Rattle.base.specs.Written.{Exactly, just};
+ghost use Rattle.rr.specs.Record.{fields_of};
 ghost use Rattle.base.specs.declared.error.proto_error.ProtoError.TheVariants as refusals;
-ghost use Rattle.op.specs.EdnsRecord.{EdnsWord, edns_record, plain_edns};
+ghost use Rattle.op.specs.EdnsRecord.{EdnsWord, edns_record, edns_written, plain_edns};
 
 use super::Edns;
 use base::{BinEncodable, BinEncoder, DNSClass, Name, ProtoError, RecordType, emit_sized};
@@ -45,6 +47,8 @@ impl BinEncodable for Edns {
 
     ghost plain_len = { plain_edns };
 
+    ghost written = { edns_written };
+
     /// Writes the OPT record: a zero byte for the root, the type, the payload size, the high code, the version and
     /// the flags, and the options behind the number of their bytes (RFC 6891, 6.1.2 and 6.1.3).
     ///
@@ -66,6 +70,8 @@ impl<'a> BinEncodable for RaisedEdns<'a> {
 
     ghost plain_len = { λ r. plain_edns (record r.edns.now { rcode_high = r.rcode_high }) };
 
+    ghost written = { λ r. edns_written (record r.edns.now { rcode_high = r.rcode_high }) };
+
     /// Writes the OPT record, as that of EDNS with these high bits.
     ///
     /// Refused with `MaxBufferSizeExceeded` where a byte would pass the limit, and with `Memory` for want of it.
@@ -80,6 +86,8 @@ fn emit_raised(edns: &Edns, rcode_high: u8, encoder: &mut BinEncoder<'_>) -> Res
     ensures writes { let raised = record edns.now { rcode_high = rcode_high } in
         OnOk result (Writes (EdnsWord raised) (plain_edns raised) [] (state_of encoder.old) (state_of encoder.new)) }
     ensures refuses { Refuses (plain_edns (record edns.now { rcode_high = rcode_high })) (state_of encoder.old) result }
+    ensures exact { Exactly (edns_written (record edns.now { rcode_high = rcode_high }))
+        (state_of encoder.old) (state_of encoder.new) result }
 {
     let payload = u16::from(DNSClass::for_opt(edns.max_payload));
     let ttl = ttl_of(rcode_high, edns.version, u16::from(edns.flags));
@@ -101,6 +109,8 @@ fn emit_front(payload: u16, ttl: u32, encoder: &mut BinEncoder<'_>) -> Result<()
     ensures writes { OnOk result (Writes (Then (NameAt []) (Then (Number w16 (type_number RecordType.OPT)) (Then (Number w16 payload) (Number w32 ttl)))) 9 []
         (state_of encoder.old) (state_of encoder.new)) }
     ensures refuses { Refuses 9 (state_of encoder.old) result }
+    ensures exact { Exactly (just (0 ∷ fields_of (type_number RecordType.OPT) payload ttl))
+        (state_of encoder.old) (state_of encoder.new) result }
 {
     let [type_high, type_low] = u16::from(RecordType::OPT).to_be_bytes();
     let [payload_high, payload_low] = payload.to_be_bytes();

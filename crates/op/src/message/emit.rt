@@ -1,6 +1,6 @@
 //! Writes whole messages under a limit (RFC 1035, 4.1; RFC 2181, 9).
 
-ghost use Rattle.std.specs.Prelude.{◌≡◌, ◌⊎◌, [], IfErr, IfOk, IsOkUnless};
+ghost use Rattle.std.specs.Prelude.{◌≡◌, ◌⊎◌, [], Err, IfErr, IfOk, IsOkUnless, Ok};
 ghost use Rattle.base.specs.Laws.{Keeps};
 ghost use Rattle.base.specs.Wire.{state_of};
 ghost use Rattle.op.specs.Composition.{IsTooMany};
@@ -8,6 +8,8 @@ ghost use Rattle.op.specs.Cut.{IsTooSmall, IsWritten};
 ghost use Rattle.op.specs.Emitted.{Emitted, EmittedNew, Leaves, LeavesNew};
 ghost use Rattle.op.specs.Fits.{Fits, HasRoom};
 ghost use Rattle.op.specs.Message.{message_value};
+ghost use Rattle.op.specs.MessageWritten.{message_answer, message_bytes, message_written};
+ghost use Rattle.base.specs.Written.{after};
 ghost use Rattle.op.specs.declared.header.Header.{Header as WrittenHeader};
 
 use crate::message::Message;
@@ -32,6 +34,8 @@ impl Message {
     pub fn emit(&self, encoder: &mut BinEncoder<'_>) -> Result<(), ProtoError>
         ensures keeps { Keeps (state_of encoder.old) (state_of encoder.new) }
         ensures emitted { IfOk result (λ _. (h : WrittenHeader) × Emitted (message_value self.now) (state_of encoder.old) (state_of encoder.new) h) }
+        ensures exact { IfOk result (λ _. state_of encoder.new
+            ≡ after (message_written (state_of encoder.old).limit (message_value self.now)) (state_of encoder.old)) }
         ensures written { Fits (message_value self.now) → (state_of encoder.old).bytes ≡ [] → (state_of encoder.old).suffixes ≡ []
             → IfOk result (λ _. IsWritten (message_value self.now) (state_of encoder.old).limit (state_of encoder.new).bytes) }
         ensures only { IfErr result (λ e. (e ≡ ProtoError.Memory) ⊎ (Leaves (message_value self.now) (state_of encoder.old) e (state_of encoder.new) ⊎ IsTooMany e)) }
@@ -41,6 +45,12 @@ impl Message {
             → IfErr result (λ e. (e ≡ ProtoError.Memory) ⊎ IsTooSmall (message_value self.now) (state_of encoder.old).limit e) }
         ensures left { (state_of encoder.old).bytes ≡ [] → (state_of encoder.old).suffixes ≡ []
             → IfErr result (λ e. (e ≡ ProtoError.Memory) ⊎ Leaves (message_value self.now) (state_of encoder.old) e (state_of encoder.new)) }
+        ensures answer { (state_of encoder.old).bytes ≡ [] → (state_of encoder.old).suffixes ≡ []
+            → IfOk result (λ _. message_answer (state_of encoder.old).limit (message_value self.now)
+            ≡ Ok (state_of encoder.new).bytes) }
+        ensures refusal { (state_of encoder.old).bytes ≡ [] → (state_of encoder.old).suffixes ≡ []
+            → IfErr result (λ e. (e ≡ ProtoError.Memory)
+            ⊎ (message_answer (state_of encoder.old).limit (message_value self.now) ≡ Err e)) }
     {
         self.emit_header(encoder)?;
         Ok(())
@@ -52,10 +62,14 @@ impl Message {
     /// doesn't; and for want of memory.
     pub fn to_vec(&self) -> Result<Vec<u8>, ProtoError>
         ensures succeeds { HasRoom (message_value self.now) 65535 → IsOkUnless result ProtoError.Memory }
+        ensures exact { IfOk result (λ bytes. bytes.items ≡ message_bytes 65535 (message_value self.now)) }
         ensures written { Fits (message_value self.now) → IfOk result (λ bytes. IsWritten (message_value self.now) 65535 bytes.items) }
         ensures refused { IfErr result (λ e. (e ≡ ProtoError.Memory) ⊎ IsTooSmall (message_value self.now) 65535 e) }
         ensures emitted { IfOk result (λ bytes. EmittedNew (message_value self.now) 65535 bytes.items) }
         ensures left { IfErr result (λ e. (e ≡ ProtoError.Memory) ⊎ LeavesNew (message_value self.now) 65535 e) }
+        ensures answer { IfOk result (λ bytes. message_answer 65535 (message_value self.now) ≡ Ok bytes.items) }
+        ensures refusal { IfErr result (λ e. (e ≡ ProtoError.Memory)
+            ⊎ (message_answer 65535 (message_value self.now) ≡ Err e)) }
     {
         let mut buffer = Vec::with_capacity(*self.queries.allocator(), ROOM)?;
         {

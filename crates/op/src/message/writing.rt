@@ -1,6 +1,6 @@
 //! Writes messages (RFC 1035, 4.1).
 
-ghost use Rattle.std.specs.Prelude.{◌≡◌, ◌||◌, ◌<◌, ◌^◌, [], IfErr, IfOk, ◌⊎◌};
+ghost use Rattle.std.specs.Prelude.{◌≡◌, ◌||◌, ◌<◌, ◌^◌, [], Err, IfErr, IfOk, Ok, ◌⊎◌};
 ghost use Rattle.std.specs.Option.{option_copied};
 ghost use Rattle.base.specs.Laws.{Keeps};
 ghost use Rattle.base.specs.Wire.{state_of};
@@ -10,6 +10,8 @@ ghost use Rattle.op.specs.Emitted.{Emitted, Leaves};
 ghost use Rattle.op.specs.Fits.{opt_records, signature_records};
 ghost use Rattle.op.specs.Header.{IsNarrow};
 ghost use Rattle.op.specs.Message.{message_value};
+ghost use Rattle.op.specs.MessageWritten.{message_answer, message_written};
+ghost use Rattle.base.specs.Written.{after};
 
 mod extras;
 mod parts;
@@ -75,11 +77,19 @@ impl Message {
     pub(crate) fn emit_header(&self, encoder: &mut BinEncoder<'_>) -> Result<Header, ProtoError>
         ensures keeps { Keeps (state_of encoder.old) (state_of encoder.new) }
         ensures emitted { IfOk result (λ h. Emitted (message_value self.now) (state_of encoder.old) (state_of encoder.new) h) }
+        ensures exact { IfOk result (λ _. state_of encoder.new
+            ≡ after (message_written (state_of encoder.old).limit (message_value self.now)) (state_of encoder.old)) }
         ensures only { IfErr result (λ e. (e ≡ ProtoError.Memory) ⊎ (Leaves (message_value self.now) (state_of encoder.old) e (state_of encoder.new) ⊎ IsTooMany e)) }
         ensures refused { (state_of encoder.old).bytes ≡ [] → (state_of encoder.old).suffixes ≡ []
             → IfErr result (λ e. (e ≡ ProtoError.Memory) ⊎ IsTooSmall (message_value self.now) (state_of encoder.old).limit e) }
         ensures left { (state_of encoder.old).bytes ≡ [] → (state_of encoder.old).suffixes ≡ []
             → IfErr result (λ e. (e ≡ ProtoError.Memory) ⊎ Leaves (message_value self.now) (state_of encoder.old) e (state_of encoder.new)) }
+        ensures answer { (state_of encoder.old).bytes ≡ [] → (state_of encoder.old).suffixes ≡ []
+            → IfOk result (λ _. message_answer (state_of encoder.old).limit (message_value self.now)
+            ≡ Ok (state_of encoder.new).bytes) }
+        ensures refusal { (state_of encoder.old).bytes ≡ [] → (state_of encoder.old).suffixes ≡ []
+            → IfErr result (λ e. (e ≡ ProtoError.Memory)
+            ⊎ (message_answer (state_of encoder.old).limit (message_value self.now) ≡ Err e)) }
     {
         emit_message_parts(
             &self.metadata,

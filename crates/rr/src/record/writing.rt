@@ -5,7 +5,8 @@ ghost use Rattle.std.specs.Int.{w16, w32};
 ghost use Rattle.base.specs.Laws.{Keeps, Writes};
 ghost use Rattle.base.specs.Wire.{state_of, Refuses};
 ghost use Rattle.base.specs.Words.{Number, Then};
-ghost use Rattle.rr.specs.Record.{RecordWord, plain_record, with_data};
+ghost use Rattle.base.specs.Written.{Exactly, just};
+ghost use Rattle.rr.specs.Record.{RecordWord, fields_of, plain_record, record_written, with_data};
 
 use crate::record::Record;
 use base::{BinEncodable, BinEncoder, ProtoError, emit_sized};
@@ -17,6 +18,8 @@ impl<R: RecordData> BinEncodable for Record<R> {
     ghost plain_len = { λ r. plain_record (with_data R.as_rdata r) };
 
     ghost owner = { λ r. r.name.labels };
+
+    ghost written = { λ r. record_written (with_data R.as_rdata r) };
 
     /// Writes name, type, class with the cache-flush bit, TTL, and the data behind the number of its bytes
     /// (RFC 1035, 4.1.3; RFC 6762, 10.2).
@@ -41,6 +44,8 @@ fn emit_fields(
     ensures writes { OnOk result (Writes (Then (Number w16 record_type) (Then (Number w16 class) (Number w32 ttl))) 8 []
         (state_of encoder.old) (state_of encoder.new)) }
     ensures refuses { Refuses 8 (state_of encoder.old) result }
+    ensures exact { Exactly (just (fields_of record_type class ttl))
+        (state_of encoder.old) (state_of encoder.new) result }
 {
     let [type_high, type_low] = record_type.to_be_bytes();
     let [class_high, class_low] = class.to_be_bytes();

@@ -4,6 +4,7 @@ ghost use Rattle.std.specs.Prelude.{◌≡◌, ◌<◌, ◌≢◌, length, All, 
 ghost use Rattle.base.specs.Labels.{labels_of, IsWire};
 ghost use Rattle.base.specs.State.{stored};
 ghost use Rattle.base.specs.Wire.{state_of, IsMemory};
+ghost use Rattle.base.specs.Written.{found_in};
 
 use crate::error::ProtoError;
 use crate::wire::encoder::BinEncoder;
@@ -19,6 +20,7 @@ impl<'a> BinEncoder<'a> {
         ensures found { MatchOption result (All (λ t. t.labels ≢ labels_of wire.now) (state_of self.now).suffixes)
             (λ offset. Any (λ t. (t.labels ≡ labels_of wire.now) × (t.offset ≡ offset)) (state_of self.now).suffixes) }
         ensures near { IfSome result (λ offset. offset < 16384) }
+        ensures value { result ≡ found_in (state_of self.now).suffixes (labels_of wire.now) }
     {
         self.suffixes.find(wire)
     }

@@ -67,7 +67,8 @@ pub(crate) fn emit_item<E: BinEncodable>(
     encoder: &mut BinEncoder<'_>,
 ) -> Result<Written, ProtoError>
     ensures keeps { Keeps (state_of encoder.old) (state_of encoder.new) }
-    ensures run { WritesItems E.word E.plain_len E.owner (item.now ∷ []) (state_of encoder.old) result (state_of encoder.new) }
+    ensures run { WritesItems E.word E.plain_len E.owner E.written (item.now ∷ [])
+        (state_of encoder.old) result (state_of encoder.new) }
 {
     counted(encoder.emit_all(&mut iter::once(item)))
 }

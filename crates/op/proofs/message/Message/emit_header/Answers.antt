@@ -1,6 +1,8 @@
 use Rattle.std.proofs.Common.{ap, ◌∙◌}
 use Rattle.std.specs.Option.{option_copied}
+use Rattle.op.proofs.AnswerLemmas.{answer_if, refusal_if}
 use Rattle.op.proofs.EmittedLemmas.{AreOf, Slices, emitted_if, raised_edns, unboxed}
+use Rattle.op.proofs.MessageWrittenLemmas.{exact_if}
 use Rattle.op.proofs.RefusalLemmas.{only_if}
 use Rattle.op.proofs.SucceedsLemmas.{left_if, refused_if}
 use Rattle.op.specs.Fits.{opt_records, signature_records}
@@ -41,3 +43,13 @@ returns-clause-refused c = λ empty blank.
 
 pub returns-clause-only : goal.returns-clause-only
 returns-clause-only c = only_if (parts_of c) c.emit_message_parts.result c.emit_message_parts.ensures.run
+
+pub returns-clause-exact : goal.returns-clause-exact
+returns-clause-exact c = exact_if (message_value c.args.self.now) _ _ c.emit_message_parts.result (returns-clause-emitted c)
+
+pub returns-clause-answer : goal.returns-clause-answer
+returns-clause-answer c = answer_if (message_value c.args.self.now) _ _ c.emit_message_parts.result (returns-clause-emitted c)
+
+pub returns-clause-refusal : goal.returns-clause-refusal
+returns-clause-refusal c = λ empty blank.
+    refusal_if (message_value c.args.self.now) _ _ c.emit_message_parts.result (returns-clause-left c empty blank) empty blank

@@ -1,6 +1,12 @@
-use Rattle.std.proofs.Common.{arith}
-use Rattle.std.proofs.lemmas.Result.{on_ok_weaker}
+use Rattle.std.proofs.Common.{ℕ, ◌≡◌, ◌∙◌, ◌++◌, Err, ap, arith}
+use Rattle.std.specs.Int.{w16, to_be_bytes}
+use Rattle.std.proofs.lemmas.Result.{err_from_is_err_and, on_ok_weaker}
 use Rattle.base.proofs.LawLemmas.{Keeps-then, Writes-then, Writes-weaker}
+use Rattle.base.proofs.WrittenLemmas.{Exactly-first, Exactly-same, Exactly-then}
+use Rattle.base.specs.DNSClass.{class_field, class_number}
+use Rattle.base.specs.RecordType.{type_number}
+use Rattle.base.specs.Wire.{state_of}
+use Rattle.base.specs.Written.{just, name}
 use Rattle.op.proofs.QueryLemmas.{question_word}
 use Rattle.op.proofs.query.QueryBinEncodable.emit.Goals as goal
 
@@ -11,3 +17,24 @@ pub returns-clause-writes : goal.returns-clause-writes
 returns-clause-writes c =
     on_ok_weaker c.emit_fields.result (λ w. Writes-weaker (question_word c.args.self.now c.from.ensures c.to_field-class.ensures) (omega arith)
     (Writes-then c.emit.ensures.keeps c.emit_fields.ensures.keeps c.in_ok-emit.ensures.writes w)) c.emit_fields.ensures.writes
+
+pub returns-in_err-emit-clause-exact : goal.returns-in_err-emit-clause-exact
+returns-in_err-emit-clause-exact c =
+    let q = c.args.self.now in
+    let fields = to_be_bytes w16 (type_number q.query_type) ++ to_be_bytes w16 (class_field q.mdns_unicast_response (class_number q.query_class)) in
+    let p = err_from_is_err_and c.from_residual.result c.from_residual.ensures.1 in
+    rw (p.1, p.2) (Exactly-first (Unit {0}) (Unit {0}) c.in_err-emit.field-0.0 (name q.name.labels) (just fields)
+    (state_of c.args.encoder.now) (state_of c.emit.new.encoder) (state_of c.emit.new.encoder) c.in_err-emit.ensures.exact)
+
+pub returns-clause-exact : goal.returns-clause-exact
+returns-clause-exact c =
+    let q = c.args.self.now in
+    let class = class_field q.mdns_unicast_response (class_number q.query_class) in
+    let fields = to_be_bytes w16 (type_number q.query_type) ++ to_be_bytes w16 class in
+    let same : just (to_be_bytes w16 c.from.result ++ to_be_bytes w16 c.to_field-class.result) ≡ just fields =
+    ap (λ (n : ℕ). just (to_be_bytes w16 n ++ to_be_bytes w16 c.to_field-class.result)) c.from.ensures
+    ∙ ap (λ (n : ℕ). just (to_be_bytes w16 (type_number q.query_type) ++ to_be_bytes w16 n)) c.to_field-class.ensures in
+    let m = state_of c.emit.new.encoder in
+    let z = state_of c.emit_fields.new.encoder in
+    Exactly-then c.emit_fields.result (name q.name.labels) (just fields) (state_of c.args.encoder.now) m z c.in_ok-emit.ensures.exact
+    (Exactly-same c.emit_fields.result _ _ m z same c.emit_fields.ensures.exact)

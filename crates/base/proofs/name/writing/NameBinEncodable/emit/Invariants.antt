@@ -1,13 +1,15 @@
-use Rattle.std.proofs.Common.{length}
+use Rattle.std.proofs.Common.{◌≡◌, length}
 use Rattle.base.specs.Labels.{IsWire, labels_of}
+use Rattle.base.specs.Laws.{Keeps}
 use Rattle.base.specs.Wire.{state_of}
-use Rattle.base.proofs.ProgressLemmas.{Progress}
+use Rattle.base.specs.Written.{after, name}
 use Rattle.base.proofs.name.writing.NameBinEncodable.emit.Given as goal
 
 abbrev pub invariant-loop-label : goal.invariant-loop-label
 invariant-loop-label l = record {
   wire : IsWire l.rest;
-  progress : Progress l.self.labels (labels_of l.rest) (state_of l.fn.encoder) (state_of l.encoder);
+  keeps : Keeps (state_of l.fn.encoder) (state_of l.encoder);
+  exact : after (name l.self.labels) (state_of l.fn.encoder) ≡ after (name (labels_of l.rest)) (state_of l.encoder);
 }
 
 abbrev pub decreases-loop-label : goal.decreases-loop-label

@@ -1,6 +1,10 @@
-use Rattle.std.proofs.lemmas.Result.{on_ok_weaker}
+use Rattle.std.proofs.Common.{Err}
+use Rattle.std.specs.Int.{w16, to_be_bytes}
+use Rattle.std.proofs.lemmas.Result.{err_from_is_err_and, on_ok_weaker}
 use Rattle.base.proofs.LawLemmas.{Keeps-then, Writes-then, Writes-unowned}
+use Rattle.base.proofs.WrittenLemmas.{Exactly-first, Exactly-then}
 use Rattle.base.specs.Wire.{state_of}
+use Rattle.base.specs.Written.{just, name}
 use Rattle.base_data.proofs.NameWords.{compressed}
 use Rattle.base_data.proofs.MXLemmas.{compressed_mx}
 use Rattle.base_data.proofs.rdata.mx.MXBinEncodable.emit.Goals as goal
@@ -17,3 +21,15 @@ pub returns-clause-names : goal.returns-clause-names
 returns-clause-names c =
     on_ok_weaker c.emit.result (λ name. compressed_mx c.args.self.now (state_of c.args.encoder.now) _ _ c.in_ok-emit_u16.ensures.state name)
     (compressed c.emit.result _ _ _ _ _ c.emit.ensures.writes c.emit.ensures.names)
+
+pub returns-in_err-emit_u16-clause-exact : goal.returns-in_err-emit_u16-clause-exact
+returns-in_err-emit_u16-clause-exact c =
+    let x = c.args.self.now in
+    let is = err_from_is_err_and c.from_residual.result c.from_residual.ensures.1 in
+    rw (is.1, is.2) (Exactly-first (Unit {0}) (Unit {0}) c.in_err-emit_u16.field-0.0 (just (to_be_bytes w16 x.preference)) (name x.exchange.labels) (state_of c.args.encoder.now) (state_of c.emit_u16.new.encoder) (state_of c.emit_u16.new.encoder) c.in_err-emit_u16.ensures.exact)
+
+pub returns-clause-exact : goal.returns-clause-exact
+returns-clause-exact c =
+    let x = c.args.self.now in
+    Exactly-then c.emit.result (just (to_be_bytes w16 x.preference)) (name x.exchange.labels) (state_of c.args.encoder.now) (state_of c.emit_u16.new.encoder) (state_of c.emit.new.encoder)
+    c.in_ok-emit_u16.ensures.exact c.emit.ensures.exact

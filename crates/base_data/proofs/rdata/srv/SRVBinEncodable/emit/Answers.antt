@@ -1,6 +1,11 @@
-use Rattle.std.proofs.lemmas.Result.{on_ok_weaker}
+use Rattle.std.proofs.Common.{◌∙◌, Err, ap}
+use Rattle.std.proofs.lemmas.Result.{err_from_is_err_and, on_ok_weaker}
 use Rattle.base.proofs.LawLemmas.{Keeps-then}
 use Rattle.base_data.proofs.SRVLemmas.{plain_srv_written, srv_written}
+use Rattle.base.proofs.WrittenLemmas.{Exactly-first, Exactly-same, Exactly-then}
+use Rattle.base.specs.Wire.{state_of}
+use Rattle.base.specs.Written.{after, just, plain_name}
+use Rattle.base_data.specs.SRV.{srv_numbers}
 use Rattle.base_data.proofs.rdata.srv.SRVBinEncodable.emit.Goals as goal
 
 pub returns-clause-keeps : goal.returns-clause-keeps
@@ -15,3 +20,16 @@ returns-clause-writes c =
 pub returns-clause-names : goal.returns-clause-names
 returns-clause-names c =
     on_ok_weaker c.emit_plain.result (plain_srv_written c.args.self.now _ _ _ _ c.number_octets.ensures.bytes c.in_ok-emit_bytes.ensures.state) c.emit_plain.ensures.state
+
+pub returns-in_err-emit_bytes-clause-exact : goal.returns-in_err-emit_bytes-clause-exact
+returns-in_err-emit_bytes-clause-exact c =
+    let x = c.args.self.now in
+    let is = err_from_is_err_and c.from_residual.result c.from_residual.ensures.1 in
+    rw (is.1, is.2) (Exactly-first (Unit {0}) (Unit {0}) c.in_err-emit_bytes.field-0.0 (just (srv_numbers x)) (plain_name x.target.labels) (state_of c.args.encoder.now) (state_of c.emit_bytes.new.encoder) (state_of c.emit_bytes.new.encoder)
+    (Exactly-same {X = Unit {0}} (Err c.in_err-emit_bytes.field-0.0) _ _ (state_of c.args.encoder.now) (state_of c.emit_bytes.new.encoder) (ap just c.number_octets.ensures.bytes) c.in_err-emit_bytes.ensures.exact))
+
+pub returns-clause-exact : goal.returns-clause-exact
+returns-clause-exact c =
+    let x = c.args.self.now in
+    Exactly-then c.emit_plain.result (just (srv_numbers x)) (plain_name x.target.labels) (state_of c.args.encoder.now) (state_of c.emit_bytes.new.encoder) (state_of c.emit_plain.new.encoder)
+    (c.in_ok-emit_bytes.ensures.exact ∙ ap (λ f. after f (state_of c.args.encoder.now)) (ap just c.number_octets.ensures.bytes)) c.emit_plain.ensures.exact

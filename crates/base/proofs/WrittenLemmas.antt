@@ -1,0 +1,207 @@
+-- What is written, of parts.
+use Rattle.std.proofs.Common.{◌≡◌, ◌≢◌, ℕ, zero, suc, ◌+◌, ◌<◌, ◌≤◌, inl, inr, List, [], ◌∷◌, ◌++◌, length, map, take, get_or, refl, ap, sym, ◌∙◌, subst, append_assoc, arith, length-append, Bool, true, false, cond}
+use Rattle.std.specs.Prelude.{Option, Some, None, Result, Ok, Err, OnOk, All, Any, MatchOption, nat_le}
+use Rattle.std.specs.List.{AllPairs}
+use Rattle.std.proofs.lemmas.Bool.{cases_Bool}
+use Rattle.std.proofs.lemmas.List.{append-nil, take_more}
+use Rattle.base.specs.declared.error.proto_error.ProtoError.{ProtoError}
+use Rattle.base.specs.declared.error.proto_error.ProtoError.TheVariants as refusals
+use Rattle.base.specs.NameOrder.{same_labels}
+use Rattle.base.specs.NameOrderLaws.{labels_decide}
+use Rattle.base.specs.State.{State, Stored, appended, stored}
+use Rattle.base.specs.Wire.{Refuses}
+use Rattle.base.specs.Written.{Writing, piece_at, after, Exactly, just, both, in_turn, pointer, found_in, pointer_or, label_of, name}
+
+abbrev state : ℕ → ℕ → List ℕ → List Stored → State
+state buffer limit bytes suffixes = record { buffer = buffer; bytes = bytes; limit = limit; suffixes = suffixes }
+
+-- what both write, the second writes after the first
+pub after-both : (f g : Writing) (s : State) → after (both f g) s ≡ after g (after f s)
+after-both f g s =
+    let first = piece_at f s in
+    let place : length (s.bytes ++ first.bytes) ≡ length s.bytes + length first.bytes = length-append s.bytes first.bytes in
+    ap (λ (n : ℕ). state s.buffer s.limit (s.bytes ++ (first.bytes ++ (g n first.suffixes).bytes)) (g n first.suffixes).suffixes) (sym place)
+    ∙ ap (λ (xs : List ℕ). state s.buffer s.limit xs (g (length (s.bytes ++ first.bytes)) first.suffixes).suffixes)
+    (sym (append_assoc s.bytes first.bytes (g (length (s.bytes ++ first.bytes)) first.suffixes).bytes))
+
+-- no byte changes nothing
+pub after-none : (s : State) → after (just []) s ≡ s
+after-none s = ap (λ (xs : List ℕ). state s.buffer s.limit xs s.suffixes) (append-nil s.bytes)
+
+-- what was written from s on is what was to be written from a on
+pub Exactly-from : {X : Type 0} (r : Result X ProtoError) (f g : Writing) (a s z : State) → after f a ≡ after g s → Exactly g s z r → Exactly f a z r
+Exactly-from (Ok x) f g a s z same is = is ∙ sym same
+Exactly-from (Err refusals.MaxBufferSizeExceeded) f g a s z same is = omega (
+  arith,
+  is,
+  ap (λ (u : State). length u.bytes) same,
+  ap (λ (u : State). u.limit) same,
+  length-append a.bytes (piece_at f a).bytes,
+  length-append s.bytes (piece_at g s).bytes,
+)
+Exactly-from (Err refusals.Memory) f g a s z same is = tt
+Exactly-from (Err (refusals.NotAllRecordsWritten count)) f g a s z same is = is
+Exactly-from (Err refusals.NotOpt) f g a s z same is = is
+Exactly-from (Err (refusals.Message text)) f g a s z same is = is
+Exactly-from (Err refusals.NotAResponse) f g a s z same is = is
+Exactly-from (Err (refusals.Decode e)) f g a s z same is = is
+
+-- the first part was written, and then the second or not
+pub Exactly-then : {X : Type 0} (r : Result X ProtoError) (f g : Writing) (a s z : State) → s ≡ after f a → Exactly g s z r → Exactly (both f g) a z r
+Exactly-then r f g a s z first second = Exactly-from r (both f g) g a s z (after-both f g a ∙ ap (after g) (sym first)) second
+
+-- bytes were appended as they are
+pub Exactly-just : {X : Type 0} (r : Result X ProtoError) (xs : List ℕ) (a b : State) → OnOk r (b ≡ appended xs a) → Refuses (length xs) a r → Exactly (just xs) a b r
+Exactly-just (Ok x) xs a b is refuses = is
+Exactly-just (Err refusals.MaxBufferSizeExceeded) xs a b is refuses = refuses
+Exactly-just (Err refusals.Memory) xs a b is refuses = tt
+Exactly-just (Err (refusals.NotAllRecordsWritten count)) xs a b is refuses = refuses
+Exactly-just (Err refusals.NotOpt) xs a b is refuses = refuses
+Exactly-just (Err (refusals.Message text)) xs a b is refuses = refuses
+Exactly-just (Err refusals.NotAResponse) xs a b is refuses = refuses
+Exactly-just (Err (refusals.Decode e)) xs a b is refuses = refuses
+
+-- a part of as many bytes was refused
+pub Exactly-refused : (X Y : Type 0) (e : ProtoError) (n : ℕ) (f : Writing) (a s z : State) → s.limit ≡ a.limit → length s.bytes + n ≤ length a.bytes + length (piece_at f a).bytes
+    → Refuses {X = X} n s (Err e) → Exactly {X = Y} f a z (Err e)
+Exactly-refused X Y refusals.MaxBufferSizeExceeded n f a s z same fits is = omega (arith, is)
+Exactly-refused X Y refusals.Memory n f a s z same fits is = tt
+Exactly-refused X Y (refusals.NotAllRecordsWritten count) n f a s z same fits is = is
+Exactly-refused X Y refusals.NotOpt n f a s z same fits is = is
+Exactly-refused X Y (refusals.Message text) n f a s z same fits is = is
+Exactly-refused X Y refusals.NotAResponse n f a s z same fits is = is
+Exactly-refused X Y (refusals.Decode e) n f a s z same fits is = is
+
+-- the first part was refused
+pub Exactly-first : (X Y : Type 0) (e : ProtoError) (f g : Writing) (a s z : State) → Exactly {X = X} f a s (Err e) → Exactly {X = Y} (both f g) a z (Err e)
+Exactly-first X Y refusals.MaxBufferSizeExceeded f g a s z is = omega (
+  arith,
+  is,
+  length-append (piece_at f a).bytes (g (length a.bytes + length (piece_at f a).bytes) (piece_at f a).suffixes).bytes,
+)
+Exactly-first X Y refusals.Memory f g a s z is = tt
+Exactly-first X Y (refusals.NotAllRecordsWritten count) f g a s z is = is
+Exactly-first X Y refusals.NotOpt f g a s z is = is
+Exactly-first X Y (refusals.Message text) f g a s z is = is
+Exactly-first X Y refusals.NotAResponse f g a s z is = is
+Exactly-first X Y (refusals.Decode e) f g a s z is = is
+
+-- the same, said in another way
+pub Exactly-same : {X : Type 0} (r : Result X ProtoError) (f g : Writing) (a z : State) → f ≡ g → Exactly f a z r → Exactly g a z r
+Exactly-same r f g a z same is = subst (λ (h : Writing). Exactly h a z r) same is
+
+-- where at most as many bytes are written, more than as many would pass the limit where these do
+pub Exactly-refuses : {X : Type 0} (r : Result X ProtoError) (n : ℕ) (f : Writing) (a z : State) → length (piece_at f a).bytes ≤ n → Exactly f a z r → Refuses n a r
+Exactly-refuses (Ok x) n f a z few is = tt
+Exactly-refuses (Err refusals.MaxBufferSizeExceeded) n f a z few is = omega (arith, is)
+Exactly-refuses (Err refusals.Memory) n f a z few is = tt
+Exactly-refuses (Err (refusals.NotAllRecordsWritten count)) n f a z few is = is
+Exactly-refuses (Err refusals.NotOpt) n f a z few is = is
+Exactly-refuses (Err (refusals.Message text)) n f a z few is = is
+Exactly-refuses (Err refusals.NotAResponse) n f a z few is = is
+Exactly-refuses (Err (refusals.Decode e)) n f a z few is = is
+
+-- ---- names
+
+-- the first of the stored suffixes has these labels, or not
+found_first : (t : Stored) (ts : List Stored) (labels : List (List ℕ)) → t.labels ≡ labels → found_in (t ∷ ts) labels ≡ Some t.offset
+found_first t ts labels is = ap (λ (b : Bool). cond b (Some t.offset) (found_in ts labels)) ((labels_decide t.labels labels).1 is)
+
+found_later : (t : Stored) (ts : List Stored) (labels : List (List ℕ)) → t.labels ≢ labels → found_in (t ∷ ts) labels ≡ found_in ts labels
+found_later t ts labels other = elim (cases_Bool (same_labels t.labels labels)) [
+  | inl same ↦ absurd (other ((labels_decide t.labels labels).0 same))
+  | inr differ ↦ ap (λ (b : Bool). cond b (Some t.offset) (found_in ts labels)) differ
+]
+
+-- no suffix has these labels
+found_none : (ts : List Stored) (labels : List (List ℕ)) → All (λ t. t.labels ≢ labels) ts → found_in ts labels ≡ None
+found_none [] labels none = refl
+found_none (t ∷ ts) labels none =
+    found_later t ts labels (none 0 t (omega arith)) ∙ found_none ts labels (λ k d inside. none (suc k) d (omega arith))
+
+-- a suffix has them, and each is there once
+found_some : (ts : List Stored) (labels : List (List ℕ)) (k o : ℕ) (t : Stored) → AllPairs (λ s u. s.labels ≢ u.labels) ts
+    → k < length ts → get_or ts k t ≡ t → t.labels ≡ labels → t.offset ≡ o → found_in ts labels ≡ Some o
+found_some [] labels k o t once inside at is place = absurd (omega arith)
+found_some (u ∷ ts) labels zero o t once inside at is place =
+    found_first u ts labels (ap (λ (v : Stored). v.labels) at ∙ is) ∙ ap (λ (n : ℕ). Some n) (ap (λ (v : Stored). v.offset) at ∙ place)
+found_some (u ∷ ts) labels (suc k) o t once inside at is place =
+    let other : u.labels ≢ labels = λ same. once 0 (suc k) t (omega arith) inside (same ∙ sym is ∙ sym (ap (λ (v : Stored). v.labels) at)) in
+    found_later u ts labels other
+    ∙ found_some ts labels k o t (λ i j d less inner. once (suc i) (suc j) d (omega arith) (omega arith)) (omega arith) at is place
+
+pub found_in-is : (ts : List Stored) (labels : List (List ℕ)) (r : Option ℕ) → AllPairs (λ s u. s.labels ≢ u.labels) ts
+    → MatchOption r (All (λ t. t.labels ≢ labels) ts) (λ offset. Any (λ t. (t.labels ≡ labels) × (t.offset ≡ offset)) ts) → r ≡ found_in ts labels
+found_in-is ts labels None once none = sym (found_none ts labels none)
+found_in-is ts labels (Some o) once (k, t, inside, at, is) = sym (found_some ts labels k o t once inside at is.0 is.1)
+
+-- a pointer to the rest, where it is stored
+pub name-pointer : (rest : List (List ℕ)) (x : List ℕ) (xs : List (List ℕ)) (o : ℕ) (s : State) → rest ≡ x ∷ xs → Some o ≡ found_in s.suffixes rest
+    → after (name rest) s ≡ after (pointer o) s
+name-pointer rest x xs o s is found =
+    ap (λ (ls : List (List ℕ)). after (name ls) s) is
+    ∙ ap (λ (r : Option ℕ). after (pointer_or (both (label_of x xs) (name xs)) r) s) (sym (found ∙ ap (found_in s.suffixes) is))
+
+-- and else a label
+pub name-label : (rest : List (List ℕ)) (x : List ℕ) (xs : List (List ℕ)) (s : State) → rest ≡ x ∷ xs → None ≡ found_in s.suffixes rest
+    → after (name rest) s ≡ after (name xs) (after (label_of x xs) s)
+name-label rest x xs s is found =
+    ap (λ (ls : List (List ℕ)). after (name ls) s) is
+    ∙ ap (λ (r : Option ℕ). after (pointer_or (both (label_of x xs) (name xs)) r) s) (sym (found ∙ ap (found_in s.suffixes) is))
+    ∙ after-both (label_of x xs) (name xs) s
+
+-- the zero byte at the end
+pub name-root : (rest : List (List ℕ)) (s : State) → rest ≡ [] → after (name rest) s ≡ after (just (0 ∷ [])) s
+name-root rest s is = ap (λ (ls : List (List ℕ)). after (name ls) s) is
+
+store_or_not : (far : Bool) (m : State) (ts : List Stored) → cond far m (record m { suffixes = ts }) ≡ record m { suffixes = cond far m.suffixes ts }
+store_or_not true m ts = refl
+store_or_not false m ts = refl
+
+-- what writing a label and storing the suffix that it begins makes of a state
+pub label-after : (x : List ℕ) (xs : List (List ℕ)) (s : State) → stored (x ∷ xs) (length s.bytes) (appended (length x ∷ x) s) ≡ after (label_of x xs) s
+label-after x xs s = store_or_not (nat_le 16384 (length s.bytes)) (appended (length x ∷ x) s) (s.suffixes ++ record { labels = x ∷ xs; offset = length s.bytes } ∷ [])
+
+-- what a label takes is among what the name takes
+pub label-fits : (a s : State) (labels rest : List (List ℕ)) (x : List ℕ) (xs : List (List ℕ)) → after (name labels) a ≡ after (name rest) s → rest ≡ x ∷ xs → None ≡ found_in s.suffixes rest
+    → length s.bytes + (1 + length x) ≤ length a.bytes + length (piece_at (name labels) a).bytes
+label-fits a s labels rest x xs same is found =
+    let whole = same ∙ name-label rest x xs s is found in
+    let m = after (label_of x xs) s in
+    omega (
+      arith,
+      ap (λ (u : State). length u.bytes) whole,
+      length-append a.bytes (piece_at (name labels) a).bytes,
+      length-append m.bytes (piece_at (name xs) m).bytes,
+      length-append s.bytes (length x ∷ x),
+    )
+
+-- ---- items
+
+module _ {A : Type 0} (f : A → Writing) where
+  -- one more
+  pub after-push : (xs : List A) (x : A) (s : State) → after (in_turn f (xs ++ x ∷ [])) s ≡ after (f x) (after (in_turn f xs) s)
+  after-push [] x s = after-both (f x) (just []) s ∙ after-none (after (f x) s) ∙ ap (after (f x)) (sym (after-none s))
+  after-push (y ∷ xs) x s =
+      after-both (f y) (in_turn f (xs ++ x ∷ [])) s ∙ after-push xs x (after (f y) s) ∙ ap (after (f x)) (sym (after-both (f y) (in_turn f xs) s))
+
+  -- one of them was refused
+  pub Exactly-in_turn : (xs : List A) (i : ℕ) (x : A) (X Y : Type 0) (e : ProtoError) (a s z : State) → i < length xs → x ≡ get_or xs i x → s ≡ after (in_turn f (take i xs)) a
+      → Exactly {X = X} (f x) s z (Err e) → Exactly {X = Y} (in_turn f xs) a z (Err e)
+  Exactly-in_turn [] i x X Y e a s z inside at before is = absurd (omega arith)
+  Exactly-in_turn (y ∷ ys) zero x X Y e a s z inside at before is =
+      Exactly-first X Y e (f y) (in_turn f ys) a z z (subst (λ (u : State). Exactly {X = X} (f y) u z (Err e)) (before ∙ after-none a) (subst (λ (w : A). Exactly {X = X} (f w) s z (Err e)) at is))
+  Exactly-in_turn (y ∷ ys) (suc i) x X Y e a s z inside at before is =
+      Exactly-then {X = Y} (Err e) (f y) (in_turn f ys) a (after (f y) a) z refl
+      (Exactly-in_turn ys i x X Y e (after (f y) a) s z (omega arith) at (before ∙ after-both (f y) (in_turn f (take i ys)) a) is)
+
+  -- one more of these
+  pub after-more : (xs : List A) (i : ℕ) (x : A) (s : State) → i < length xs → x ≡ get_or xs i x → after (in_turn f (take (i + 1) xs)) s ≡ after (f x) (after (in_turn f (take i xs)) s)
+  after-more xs i x s inside at =
+      let next : take (i + 1) xs ≡ take i xs ++ x ∷ [] = take_more xs i x inside ∙ ap (λ (y : A). take i xs ++ y ∷ []) (sym at) in
+      ap (λ (ys : List A). after (in_turn f ys) s) next ∙ after-push (take i xs) x s
+
+-- of items that are read of values
+pub in_turn-map : {A E : Type 0} (view : A → E) (f : E → Writing) (xs : List A) → in_turn (λ x. f (view x)) xs ≡ in_turn f (map view xs)
+in_turn-map view f [] = refl
+in_turn-map view f (x ∷ xs) = ap (both (f (view x))) (in_turn-map view f xs)

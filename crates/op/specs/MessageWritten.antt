@@ -1,0 +1,102 @@
+-- What is written of a message under a limit, as a function of both (RFC 1035, 4.1; RFC 2181, 9; RFC 6891, 6.1.3).
+use Rattle.std.specs.Prelude.{ℕ, Bool, ◌+◌, ◌||◌, List, [], length, nat_lt, if◌then◌else◌, Result, Ok, Err}
+use Rattle.std.specs.Option.{option_map}
+use Rattle.base.specs.State.{Stored}
+use Rattle.base.specs.declared.error.proto_error.ProtoError.{ProtoError}
+use Rattle.base.specs.declared.error.proto_error.ProtoError.TheVariants as refusals
+use Rattle.base.specs.Written.{Piece, Writing, both, in_turn, just, that_fit}
+use Rattle.base_data.specs.declared.rdata.RData.{RData}
+use Rattle.rr.specs.Record.{record_written}
+use Rattle.rr.specs.declared.record.Record.{Record}
+use Rattle.op.specs.Cut.{raised}
+use Rattle.op.specs.EdnsRecord.{edns_record}
+use Rattle.op.specs.Fits.{listed, signature_record}
+use Rattle.op.specs.Header.{header_bytes, raw_header}
+use Rattle.op.specs.Message.{MessageValue}
+use Rattle.op.specs.Query.{query_written}
+use Rattle.op.specs.declared.header.Header.{Header}
+use Rattle.op.specs.declared.query.Query.{Query}
+
+-- a part: the values that are kept, and what is written of them
+pub record Part (E : Type 0) : Type 0 where
+  pub kept : List E
+  pub is_cut : Bool
+  pub end : ℕ
+  pub piece : Piece
+
+-- as many of these as fit under a limit, from a place on
+abbrev pub part : {E : Type 0} → (E → Writing) → ℕ → List E → ℕ → List Stored → Part E
+part f limit xs at stored =
+    let kept = that_fit f limit xs at stored in
+    let piece = in_turn f kept at stored in
+    record { kept = kept; is_cut = nat_lt (length kept) (length xs); end = at + length piece.bytes; piece = piece }
+
+-- the part that follows one, whatever became of it
+abbrev pub part_after : {D E : Type 0} → (E → Writing) → ℕ → List E → Part D → Part E
+part_after f limit xs before = part f limit xs before.end before.piece.suffixes
+
+-- the parts of a message after its header (RFC 1035, 4.1)
+pub record Parts : Type 0 where
+  pub queries : Part Query
+  pub answers : Part (Record RData)
+  pub authorities : Part (Record RData)
+  pub additionals : Part (Record RData)
+  pub edns : Part (Record RData)
+  pub signature : Part (Record RData)
+
+abbrev pub parts_of : ℕ → MessageValue → ℕ → List Stored → Parts
+parts_of limit m at stored =
+    let queries = part query_written limit m.queries at stored in
+    let answers = part_after record_written limit m.answers queries in
+    let authorities = part_after record_written limit m.authorities answers in
+    let additionals = part_after record_written limit m.additionals authorities in
+    let edns = part_after record_written limit (listed (option_map edns_record (raised m))) additionals in
+    let signature = part_after record_written limit (listed (option_map signature_record m.signature)) edns in
+    record {
+      queries = queries;
+      answers = answers;
+      authorities = authorities;
+      additionals = additionals;
+      edns = edns;
+      signature = signature;
+    }
+
+-- the header of these parts: it counts what is kept, and TC is set where a record is lost
+abbrev pub header_of : MessageValue → Parts → Header
+header_of m p = record {
+  metadata = record m.metadata {
+    truncation = m.metadata.truncation || (p.answers.is_cut || (p.authorities.is_cut
+        || (p.additionals.is_cut || (p.edns.is_cut || p.signature.is_cut))));
+  };
+  counts = record {
+    queries = length p.queries.kept;
+    answers = length p.answers.kept;
+    authorities = length p.authorities.kept;
+    additionals = length p.additionals.kept + (length p.edns.kept + length p.signature.kept);
+  };
+}
+
+-- what is written of these parts
+abbrev pub body : Parts → Writing
+body p =
+    both (in_turn query_written p.queries.kept) (both (in_turn record_written p.answers.kept)
+    (both (in_turn record_written p.authorities.kept) (both (in_turn record_written p.additionals.kept)
+    (both (in_turn record_written p.edns.kept) (in_turn record_written p.signature.kept)))))
+
+-- A message under a limit: a header of twelve bytes, and its parts.
+abbrev pub message_written : ℕ → MessageValue → Writing
+message_written limit m at stored =
+    let p = parts_of limit m (at + 12) stored in
+    both (just (header_bytes (raw_header (header_of m p)))) (body p) at stored
+
+-- the bytes of a message that a new encoder writes under a limit
+abbrev pub message_bytes : ℕ → MessageValue → List ℕ
+message_bytes limit m = (message_written limit m 0 []).bytes
+
+-- What a new encoder answers to a message under a limit, want of memory aside: its bytes; or that the header has no
+-- room; or that not all questions have, and how many of them do.
+abbrev pub message_answer : ℕ → MessageValue → Result (List ℕ) ProtoError
+message_answer limit m =
+    let asked = part query_written limit m.queries 12 [] in
+    if nat_lt limit 12 then Err refusals.MaxBufferSizeExceeded
+    else (if asked.is_cut then Err (refusals.NotAllRecordsWritten (length asked.kept)) else Ok (message_bytes limit m))
