@@ -1,5 +1,6 @@
 pub mod AddsRecord
 pub mod EqualRecords
+pub mod IndexLemmas
 pub mod OrderRecords
 pub mod ReadRecords
 pub mod ReadSteps

@@ -17,8 +17,8 @@ use Rattle.std.proofs.Common.{⊎_elim}
 use Rattle.std.proofs.lemmas.Bool.{or_cases}
 use Rattle.rr.specs.declared.record.Record.{Record}
 use Rattle.rr.specs.RecordSet.{IsTidy, SetValue, is_ns, is_soa, same_entry, same_entry-equiv}
-use Rattle.rr.specs.SetChanges.{beside, has_data_of, has_entry, insert, is_kept, is_later, is_left, joined, remove, replaced}
-use Rattle.rr.specs.SetLaws.{IsRaised}
+use Rattle.rr.specs.SetChanges.{beside, has_data_of, has_entry, insert, is_kept, is_later, is_left, joined, own_record, remove, replaced}
+use Rattle.rr.specs.SetLaws.{IsRaised, StaysFilled}
 
 pub laws : IsEquivalence same_data
 laws = data_laws
@@ -50,7 +50,7 @@ stays_so set changed false h = cc
 
 -- an insert that answers false changes nothing
 pub false_keeps : (set : SetValue) (r : Record RData) (serial : ℕ) → (insert set r serial).0 ≡ false → (insert set r serial).1 ≡ set
-false_keeps set r serial = stays_so set (record set { records = joined r (beside set); ttl = r.ttl; serial = serial }) (is_left set r)
+false_keeps set r serial = stays_so set (record set { records = joined r (beside set.record_type set.records); ttl = r.ttl; serial = serial }) (is_left set.record_type set.records r)
 
 -- after one that answers true the record is there
 either : (b : Bool) → (b || true) ≡ true
@@ -82,7 +82,7 @@ held_so r set changed true held h = cc
 held_so r set changed false held h = held
 
 pub true_holds : (set : SetValue) (r : Record RData) (serial : ℕ) → (insert set r serial).0 ≡ true → has_entry r (insert set r serial).1.records ≡ true
-true_holds set r serial = held_so r set (record set { records = joined r (beside set); ttl = r.ttl; serial = serial }) (is_left set r) (held_by r (beside set) _ refl)
+true_holds set r serial = held_so r set (record set { records = joined r (beside set.record_type set.records); ttl = r.ttl; serial = serial }) (is_left set.record_type set.records r) (held_by r (beside set.record_type set.records) _ refl)
 
 -- the last name server stays
 not_both : (x y r : Record RData) → same_data x.rdata y.rdata ≡ false → has_data_of r x ≡ true → has_data_of r y ≡ false
@@ -130,8 +130,26 @@ left_by set r serial false e ns tidy full =
     let more : nat_le (length set.records) 1 ≡ false = ap (λ b. b && nat_le (length set.records) 1) (sym (ap is_ns type ∙ ns)) ∙ few in
     some_left r set.records tidy.distinct (leb-false (length set.records) 1 more)
 
-pub last_server_stays : (set : SetValue) (r : Record RData) (serial : ℕ) → IsTidy set → is_ns set.record_type ≡ true → set.records ≢ [] → (remove set r serial).1.records ≢ []
-last_server_stays set r serial tidy ns full = left_by set r serial _ refl ns tidy full
+-- a record that was joined to others is among them
+joined_filled : (r : Record RData) (xs : List (Record RData)) → joined r xs ≢ []
+joined_filled r [] same = cc
+joined_filled r (x ∷ xs) same = cc
+
+unless_left : (set : SetValue) (after : Bool × SetValue) (b : Bool) → set.records ≢ [] → after.1.records ≢ [] → (cond {A = Bool × SetValue} b (false, set) after).1.records ≢ []
+unless_left set after true full more = full
+unless_left set after false full more = more
+
+insert_filled : (set : SetValue) (r : Record RData) (serial : ℕ) → set.records ≢ [] → (insert set r serial).1.records ≢ []
+insert_filled set r serial full =
+    unless_left set (true, record set { records = joined r (beside set.record_type set.records); ttl = r.ttl; serial = serial })
+    (is_left set.record_type set.records r) full (joined_filled r (beside set.record_type set.records))
+
+pub last_server_stays : (set : SetValue) → IsTidy set → is_ns set.record_type ≡ true → set.records ≢ [] → StaysFilled set
+last_server_stays set tidy ns full = record {
+  removed = λ r serial. left_by set r serial _ refl ns tidy full;
+  inserted = λ r serial. insert_filled set r serial full;
+  added = λ rdata. insert_filled set (own_record set rdata) 0 full;
+}
 
 -- nothing is removed from a tidy set of an SOA
 kept_or : (a b : Bool) → (b ≡ true → a ≡ true) → (a || not b) ≡ true

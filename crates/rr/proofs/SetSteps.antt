@@ -1,5 +1,5 @@
 -- Steps of putting a record among others.
-use Rattle.std.proofs.Common.{ℕ, zero, suc, Bool, true, false, not, List, [], ◌∷◌, ◌++◌, ◌≡◌, ◌<◌, ◌+◌, ◌==◌, ◌||◌, refl, sym, ap, subst, ◌∙◌, length}
+use Rattle.std.proofs.Common.{ℕ, zero, suc, Bool, true, false, not, List, [], ◌∷◌, ◌++◌, ◌≡◌, ◌<◌, ◌+◌, ◌==◌, ◌||◌, ◌&&◌, nat_eq, refl, sym, ap, subst, ◌∙◌, length}
 use Rattle.std.proofs.Common.{take, drop, set, get_or, arith, if◌then◌else◌}
 use Rattle.std.specs.List.{AllByRecursion, list_any}
 use Rattle.base_data.specs.declared.rdata.RData.{RData}
@@ -11,8 +11,35 @@ use Rattle.base.specs.NameOrder.{folded, same_name}
 use Rattle.base.specs.NameOrderLaws.{same_by-equiv}
 use Rattle.base_data.specs.Kinds.{type_of_data}
 use Rattle.rr.specs.SetChanges.{MayAdd, MayEnter, has_data_of, renewed, replaced}
-use Rattle.rr.specs.RecordSet.{SetValue}
+use Rattle.rr.specs.RecordOrder.{same_class}
+use Rattle.rr.specs.RecordSet.{SetValue, same_entry}
 use Rattle.base_data.specs.SameData.{same_data}
+
+and_no : (a : Bool) → false ≡ (a && false)
+and_no true = refl
+and_no false = refl
+
+and_yes : (a : Bool) → a ≡ (a && true)
+and_yes true = refl
+and_yes false = refl
+
+-- what a record of another time to live, of other data and of another class is not
+pub other_ttl : (x r : Record RData) → nat_eq x.ttl r.ttl ≡ false → false ≡ (same_entry x r && nat_eq x.ttl r.ttl)
+other_ttl x r h = and_no (same_entry x r) ∙ ap (λ b. same_entry x r && b) (sym h)
+
+pub of_one_ttl : (x r : Record RData) → nat_eq x.ttl r.ttl ≡ true → same_entry x r ≡ (same_entry x r && nat_eq x.ttl r.ttl)
+of_one_ttl x r h = and_yes (same_entry x r) ∙ ap (λ b. same_entry x r && b) (sym h)
+
+pub other_class : (x r : Record RData) → same_class x.dns_class r.dns_class ≡ false → false ≡ same_entry x r
+other_class x r h = and_no (same_name x.name r.name) ∙ ap (λ b. same_name x.name r.name && (b && same_data x.rdata r.rdata)) (sym h)
+
+pub of_one_class : (x r : Record RData) → same_class x.dns_class r.dns_class ≡ true → same_data x.rdata r.rdata ≡ true → same_name x.name r.name ≡ same_entry x r
+of_one_class x r h d = and_yes (same_name x.name r.name) ∙ ap (λ b. same_name x.name r.name && b) (λ i. sym h i && sym d i)
+
+pub other_data : (x r : Record RData) → same_data x.rdata r.rdata ≡ false → false ≡ (same_entry x r && nat_eq x.ttl r.ttl)
+other_data x r h =
+    ap (λ b. b && nat_eq x.ttl r.ttl) (and_no (same_name x.name r.name) ∙ ap (λ b. same_name x.name r.name && b)
+    (and_no (same_class x.dns_class r.dns_class) ∙ ap (λ b. same_class x.dns_class r.dns_class && b) (sym h)))
 
 -- one more place
 pub replaced_yes : (r : Record RData) (xs : List (Record RData)) (i : ℕ) (d : Record RData) → i < length xs → has_data_of r (get_or (replaced r (take i xs) ++ drop i xs) i d) ≡ true

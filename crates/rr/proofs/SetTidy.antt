@@ -94,11 +94,11 @@ tidy_unless set false p tidy h = h
 pub insert_keeps_tidy : (set : SetValue) (r : Record RData) (serial : ℕ) → MayEnter set r → IsTidy set → IsTidy (insert set r serial).1
 insert_keeps_tidy set r serial enters tidy =
     let Own : Record RData → Type 0 = λ x. type_of_data x.rdata ≡ set.record_type in
-    let own : AllByRecursion Own (beside set) = all_if Own (holds_one set.record_type) [] set.records tt tidy.own_type in
-    tidy_unless set (is_left set r) (true, record set { records = joined r (beside set); ttl = r.ttl; serial = serial }) tidy
+    let own : AllByRecursion Own (beside set.record_type set.records) = all_if Own (holds_one set.record_type) [] set.records tt tidy.own_type in
+    tidy_unless set (is_left set.record_type set.records r) (true, record set { records = joined r (beside set.record_type set.records); ttl = r.ttl; serial = serial }) tidy
     record {
-      own_type = all_joined Own r (beside set) enters.own_type own;
-      distinct = distinct_put r (beside set) _ refl (distinct_kept (holds_one set.record_type) set.records tidy.distinct);
+      own_type = all_joined Own r (beside set.record_type set.records) enters.own_type own;
+      distinct = distinct_put r (beside set.record_type set.records) _ refl (distinct_kept (holds_one set.record_type) set.records tidy.distinct);
       single = λ soa. alone r set.records (holds_one set.record_type) (soa_is_one set.record_type soa);
     }
 

@@ -1,3 +1,4 @@
+pub mod DataIndex
 pub mod Record
 pub mod RecordOrder
 pub mod RecordOrderLaws

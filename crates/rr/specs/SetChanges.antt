@@ -63,20 +63,28 @@ joined r xs = replaced r xs ++ (if list_any (has_data_of r) xs then [] else r �
 abbrev pub has_entry : Record RData → List (Record RData) → Bool
 has_entry r xs = list_any (λ x. same_entry x r && nat_eq x.ttl r.ttl) xs
 
--- the records of a set beside which a new one comes to stand: none where one may stand
-abbrev pub beside : SetValue → List (Record RData)
-beside set = if holds_one set.record_type then [] else set.records
+-- the records of a set of a type beside which a new one comes to stand: none where one may stand
+abbrev pub beside : RecordType → List (Record RData) → List (Record RData)
+beside type xs = if holds_one type then [] else xs
 
--- whether `insert` leaves a set as it is: an SOA stays where the new one isn't later, and an equal record where the
--- new one has its time to live
-abbrev pub is_left : SetValue → Record RData → Bool
-is_left set r = (is_soa set.record_type && stays set.records r.rdata) || has_entry r (beside set)
+-- whether `insert` leaves the records of a set of a type as they are: an SOA stays where the new one isn't later, and
+-- an equal record where the new one has its time to live
+abbrev pub is_left : RecordType → List (Record RData) → Record RData → Bool
+is_left type xs r = (is_soa type && stays xs r.rdata) || has_entry r (beside type xs)
+
+-- whether r goes in among others, and the records then
+abbrev pub entered : Record RData → List (Record RData) → Bool × List (Record RData)
+entered r xs = if has_entry r xs then (false, xs) else (true, joined r xs)
 
 -- The answer of `insert` and the set then. A change takes over the record's time to live, and the serial.
 abbrev pub insert : SetValue → Record RData → ℕ → Bool × SetValue
 insert set r serial =
-    if is_left set r then (false, set)
-    else (true, record set { records = joined r (beside set); ttl = r.ttl; serial = serial })
+    if is_left set.record_type set.records r then (false, set)
+    else (true, record set { records = joined r (beside set.record_type set.records); ttl = r.ttl; serial = serial })
+
+-- whether r goes into the records of a set of a type, and the records then
+abbrev pub put : RecordType → Record RData → List (Record RData) → Bool × List (Record RData)
+put type r xs = if is_left type xs r then (false, xs) else (true, joined r (beside type xs))
 
 -- the record that a set makes of data: its name and its time to live, in the class IN
 abbrev pub own_record : SetValue → RData → Record RData

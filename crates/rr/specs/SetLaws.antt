@@ -39,9 +39,15 @@ FalseKeeps = (set : SetValue) (r : Record RData) (serial : ℕ) → (insert set 
 abbrev pub TrueHolds : Type 0
 TrueHolds = (set : SetValue) (r : Record RData) (serial : ℕ) → (insert set r serial).0 ≡ true → has_entry r (insert set r serial).1.records ≡ true
 
+-- A set does not become empty, whatever is removed from it, put in, or made a record of.
+pub record StaysFilled (set : SetValue) : Type 0 where
+  pub removed : (r : Record RData) (serial : ℕ) → (remove set r serial).1.records ≢ []
+  pub inserted : (r : Record RData) (serial : ℕ) → (insert set r serial).1.records ≢ []
+  pub added : (rdata : RData) → (add_data set rdata).1.records ≢ []
+
 -- a tidy set of name servers with a record does not become empty
 abbrev pub LastServerStays : Type 0
-LastServerStays = (set : SetValue) (r : Record RData) (serial : ℕ) → IsTidy set → is_ns set.record_type ≡ true → set.records ≢ [] → (remove set r serial).1.records ≢ []
+LastServerStays = (set : SetValue) → IsTidy set → is_ns set.record_type ≡ true → set.records ≢ [] → StaysFilled set
 
 -- nothing is removed from a tidy set of an SOA
 abbrev pub StartStays : Type 0

@@ -12,7 +12,7 @@ pub mod laws;
 mod reading;
 mod writing;
 
-use crate::record_ref::RecordRef;
+pub use crate::record_ref::RecordRef;
 use base::{DNSClass, Name, RecordType};
 use base_data::{RData, RecordData};
 use std::alloc::AllocError;
@@ -78,7 +78,7 @@ impl<R: RecordData> Record<R> {
     /// The record with what the closure makes of its data, or none where the closure makes none. The other fields
     /// stay.
     pub fn map<N: RecordData, F: FnOnce(R) -> Option<N>>(self, make: F) -> Option<Record<N>>
-        requires { F.IsAlwaysCallable make }
+        requires { F.pre make self.rdata }
         ensures { (made : Option N) × F.post make self.rdata made × (result ≡ option_map (λ rdata. holding rdata self) made) }
     {
         let rdata = make(self.rdata)?;

@@ -1,12 +1,13 @@
 //! Records whose data is known to be of a kind, borrowed.
 
 ghost use Rattle.std.specs.Prelude.{◌≡◌, Some, None, option_map, IfOk, MatchResult};
+ghost use Rattle.base.specs.Wire.{IsMemory};
 ghost use Rattle.base_data.specs.Kinds.{type_of_data};
 ghost use Rattle.rr.specs.Record.{holding};
 ghost use Rattle.rr.specs.RecordRef.{seen};
 
 use crate::record::Record;
-use base::{DNSClass, Name, RecordType};
+use base::{DNSClass, Name, ProtoError, RecordType};
 use base_data::{RData, RecordData};
 use std::alloc::AllocError;
 
@@ -21,9 +22,10 @@ pub struct RecordRef<'a, R: RecordData> {
 }
 
 impl<'a, R: RecordData> RecordRef<'a, R> {
-    /// The record itself, with a copy of its name and data. Refused for want of memory.
-    pub fn to_owned(&self) -> Result<Record<R>, AllocError>
-        ensures { IfOk result (λ r. R.is_clone (seen self.now).rdata r.rdata × (r ≡ holding r.rdata (seen self.now))) }
+    /// The record itself, with a copy of its name and data. Refused with `Memory` for want of it.
+    pub fn to_owned(&self) -> Result<Record<R>, ProtoError>
+        ensures ok { IfOk result (λ r. R.is_clone (seen self.now).rdata r.rdata × (r ≡ holding r.rdata (seen self.now))) }
+        ensures memory { IsMemory result }
     {
         Ok(Record {
             name: self.name.clone()?,

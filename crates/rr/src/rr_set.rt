@@ -5,6 +5,9 @@ ghost use Rattle.base.specs.declared.error.proto_error.ProtoError.TheVariants as
 ghost use Rattle.rr.specs.RecordSet.{SetValue, empty_set, set_of};
 
 mod compare;
+mod data_index;
+mod entries;
+mod indexed_records;
 mod inserting;
 pub mod laws;
 mod parts;
@@ -15,6 +18,7 @@ mod serial;
 mod setting;
 
 use crate::record::Record;
+use crate::rr_set::indexed_records::IndexedRecords;
 use base::{DNSClass, Name, ProtoError, RecordType};
 pub use parts::RecordSetParts;
 pub use records::RrsetRecords;
@@ -31,14 +35,14 @@ pub struct RecordSet {
     record_type: RecordType,
     dns_class: DNSClass,
     ttl: u32,
-    records: Vec<Record>,
+    records: IndexedRecords,
     serial: u32,
 }
 
 impl Model for RecordSet {
     ghost Value = { SetValue };
 
-    ghost view = { λ s. record { name = s.name; record_type = s.record_type; dns_class = s.dns_class; ttl = s.ttl; records = s.records.items; serial = s.serial } };
+    ghost view = { λ s. record { name = s.name; record_type = s.record_type; dns_class = s.dns_class; ttl = s.ttl; records = s.records; serial = s.serial } };
 }
 
 impl RecordSet {
@@ -51,7 +55,7 @@ impl RecordSet {
             record_type,
             dns_class: DNSClass::IN,
             ttl: 0,
-            records: Vec::new(alloc),
+            records: IndexedRecords::new(alloc),
             serial,
         }
     }
@@ -66,7 +70,7 @@ impl RecordSet {
             record_type,
             dns_class: DNSClass::IN,
             ttl,
-            records: Vec::new(alloc),
+            records: IndexedRecords::new(alloc),
             serial: 0,
         }
     }
@@ -110,21 +114,21 @@ impl RecordSet {
     pub fn record(&self) -> Option<&Record>
         ensures { option_copied result ≡ slice_get self.now.records 0 }
     {
-        self.records.first()
+        self.records.as_slice().first()
     }
 
     /// How many records there are.
     pub fn records_count(&self) -> usize
         ensures { result ≡ length self.now.records }
     {
-        self.records.len()
+        self.records.as_slice().len()
     }
 
     /// Whether there is no record.
     pub fn is_empty(&self) -> bool
         ensures { IsTrue result ↔ (self.now.records ≡ []) }
     {
-        self.records.is_empty()
+        self.records.as_slice().is_empty()
     }
 }
 
@@ -153,11 +157,13 @@ impl TryFrom<Record> for RecordSet {
     /// it.
     fn try_from(entry: Record) -> Result<RecordSet, ProtoError> {
         let name = entry.name.clone()?;
+        // Most sets stay with one record.
+        let mut records = Vec::new(name.allocator());
+        records.reserve_exact(1)?;
         let mut set = RecordSet::with_ttl(name.allocator(), name, entry.record_type(), entry.ttl);
         set.dns_class = entry.dns_class;
-        // Most sets stay with one record.
-        set.records.reserve_exact(1)?;
-        set.records.push(entry)?;
+        records.push(entry)?;
+        set.set_records(records);
         Ok(set)
     }
 }

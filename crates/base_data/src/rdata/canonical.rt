@@ -1,14 +1,16 @@
 //! The bytes of the canonical form of data, one by one and without memory (RFC 4034, 6.2).
 
-ghost use Rattle.std.specs.Prelude.{◌≡◌, ◌≤◌, [], ◌++◌, length};
+ghost use Rattle.std.specs.Prelude.{◌≡◌, ◌≤◌, [], ◌++◌, IfOk, length};
 ghost use Rattle.std.specs.Iterator.{YieldsFirst, item_count};
+ghost use Rattle.base.specs.Wire.{IsMemory};
 ghost use Rattle.base_data.specs.Kinds.{canonical_data};
 ghost use Rattle.base_data.specs.NameData.{name_octets};
 ghost use Rattle.base_data.specs.OPT.{options_wire};
 ghost use Rattle.base_data.specs.Opaque.{bytes_cmp};
 
 use crate::rdata::{EdnsOption, RData};
-use base::Name;
+use base::{Name, ProtoError};
+use std::alloc::Global;
 use std::cmp::Ordering;
 use std::marker::Model;
 
@@ -247,6 +249,23 @@ impl<'a> Iterator for CanonicalOctets<'a> {
 }
 
 impl RData {
+    /// The bytes of the canonical form, which are the same for equal data: letters of names are in lower case.
+    ///
+    /// # Errors
+    ///
+    /// [`ProtoError::Memory`] for want of memory.
+    pub fn to_canonical(&self, alloc: Global) -> Result<Vec<u8>, ProtoError>
+        ensures ok { IfOk result (λ bytes. bytes.items ≡ canonical_data self.now) }
+        ensures memory { IsMemory result }
+    {
+        let mut bytes = Vec::new(alloc);
+        let mut left = self.canonical_octets();
+        'octets: while let Some(byte) = left.next() {
+            bytes.push(byte)?;
+        }
+        Ok(bytes)
+    }
+
     /// The order of the canonical forms, by the first byte that differs, what is a beginning before what it begins.
     pub(crate) fn cmp_octets(&self, other: &RData) -> Ordering
         ensures { result ≡ bytes_cmp (canonical_data self.now) (canonical_data other.now) }

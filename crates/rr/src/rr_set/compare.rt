@@ -16,7 +16,7 @@ impl PartialEq for RecordSet {
             && self.record_type == other.record_type
             && self.dns_class == other.dns_class
             && self.ttl == other.ttl
-            && self.records == other.records
+            && self.records.as_slice() == other.records.as_slice()
             && self.serial == other.serial
     }
 }

@@ -1,16 +1,17 @@
 //! Puts records into a set (RFC 2136, 1.1.5 and 3.4.2.2).
 
-ghost use Rattle.std.specs.Prelude.{◌≡◌, ⊤, IfOk, OnErr, option_map};
+ghost use Rattle.std.specs.Prelude.{◌≡◌, ◌≤◌, ⊤, IfOk, OnErr, length, option_map, true};
 ghost use Rattle.std.specs.Borrow.{follows_so, sem};
 ghost use mathlib.Core.Option.{none};
-ghost use Rattle.rr.specs.SetChanges.{MayAdd, MayEnter, add_data, first_of, has_entry, holds_one, insert, is_left, stays};
+ghost use Rattle.base.specs.Wire.{IsMemory};
+ghost use Rattle.rr.specs.SetChanges.{MayAdd, MayEnter, add_data, first_of, holds_one, insert, put, stays};
 ghost use Rattle.rr.specs.contracts.rr_set.RecordSet.{the_row};
 
 use crate::record::Record;
 use crate::rr_set::RecordSet;
-use crate::rr_set::placing::place;
+use crate::rr_set::indexed_records::IndexedRecords;
 use crate::rr_set::serial::is_greater;
-use base::RecordType;
+use base::{ProtoError, RecordType};
 use base_data::RData;
 use std::alloc::AllocError;
 
@@ -23,32 +24,27 @@ impl RecordSet {
     /// equal data, or behind all records where there is none. If the answer is true, the set takes over the record's
     /// TTL and the serial; if it is false, the set is as it was.
     ///
-    /// The record has the set's owner and type, and a set of SOA, CNAME or ANAME has one record at most. Refused for
-    /// want of memory; the set is then as it was.
-    pub fn insert(&mut self, entry: Record, serial: u32) -> Result<bool, AllocError>
+    /// The record has the set's owner and type, and a set of SOA, CNAME or ANAME has one record at most. Refused with
+    /// `Memory` for want of it; the set is then as it was.
+    pub fn insert(&mut self, entry: Record, serial: u32) -> Result<bool, ProtoError>
         requires { MayEnter self.old entry }
         ensures ok { IfOk result (λ is_new. (is_new, self.new) ≡ insert self.old entry serial) }
         ensures err { OnErr result (self.new ≡ self.old) }
+        ensures memory { IsMemory result }
     {
-        if self.is_left(&entry) {
-            return Ok(false);
-        }
-        let ttl = entry.ttl;
-        place(&mut self.records, holds_one_record(self.record_type), entry)?;
-        self.ttl = ttl;
-        self.serial = serial;
-        Ok(true)
+        Ok(self.enter(entry, serial)?)
     }
 
     /// Puts a record of this data in, with the set's name and TTL, of class IN, and with the serial 0. The answer is
     /// that of `insert`.
     ///
-    /// The data has the set's type, and a set of SOA, CNAME or ANAME has one record at most. Refused for want of
-    /// memory; the set is then as it was.
-    pub fn add_rdata(&mut self, rdata: RData) -> Result<bool, AllocError>
+    /// The data has the set's type, and a set of SOA, CNAME or ANAME has one record at most. Refused with `Memory`
+    /// for want of it; the set is then as it was.
+    pub fn add_rdata(&mut self, rdata: RData) -> Result<bool, ProtoError>
         requires { MayAdd self.old rdata }
         ensures ok { IfOk result (λ is_new. (is_new, self.new) ≡ add_data self.old rdata) }
         ensures err { OnErr result (self.new ≡ self.old) }
+        ensures memory { IsMemory result }
     {
         let entry = Record::from_rdata(self.name.clone()?, self.ttl, rdata);
         self.insert(entry, 0)
@@ -65,28 +61,64 @@ impl RecordSet {
         ensures* after { sem 𝓛 (follows_so the_row the_row self.entry.ghost_name none (λ _ _. ⊤)
             (λ n. IfOk result (λ _. n ≡ (add_data self.old rdata.now).1) × OnErr result (n ≡ self.old))) }
     {
-        let copy = rdata.clone()?;
-        self.add_rdata(copy)?;
+        self.add_copy(rdata)?;
         Ok(self.first_of(rdata))
+    }
+
+    /// Puts a record of a copy of this data in, and answers as `add_rdata` does.
+    fn add_copy(&mut self, rdata: &RData) -> Result<bool, AllocError>
+        requires { MayAdd self.old rdata.now }
+        ensures ok { IfOk result (λ is_new. (is_new, self.new) ≡ add_data self.old rdata.now) }
+        ensures err { OnErr result (self.new ≡ self.old) }
+    {
+        let entry = Record::from_rdata(self.name.clone()?, self.ttl, rdata.clone()?);
+        self.enter(entry, 0)
+    }
+
+    /// Puts a record in, and answers as `insert` does.
+    fn enter(&mut self, entry: Record, serial: u32) -> Result<bool, AllocError>
+        requires { MayEnter self.old entry }
+        ensures ok { IfOk result (λ is_new. (is_new, self.new) ≡ insert self.old entry serial) }
+        ensures err { OnErr result (self.new ≡ self.old) }
+    {
+        let ttl = entry.ttl;
+        if !put(&mut self.records, self.record_type, entry)? {
+            return Ok(false);
+        }
+        self.ttl = ttl;
+        self.serial = serial;
+        Ok(true)
     }
 
     /// The first record of equal data.
     fn first_of(&self, rdata: &RData) -> Option<&Record>
         ensures { option_map (λ entry. entry.now) result ≡ first_of rdata.now self.now.records }
     {
-        self.records.iter().find(|known| known.rdata == *rdata)
+        self.records
+            .as_slice()
+            .iter()
+            .find(|known| known.rdata == *rdata)
     }
+}
 
-    /// Whether the set is left as it is in spite of a new record.
-    fn is_left(&self, entry: &Record) -> bool
-        ensures { result ≡ is_left self.now entry.now }
-    {
-        match self.record_type {
-            RecordType::SOA => first_stays(&self.records, &entry.rdata),
-            RecordType::CNAME | RecordType::ANAME => false,
-            _ => has_entry(&self.records, entry),
-        }
+/// Puts a record into those of a set of the type, and answers whether it went in.
+fn put(
+    records: &mut IndexedRecords,
+    record_type: RecordType,
+    entry: Record,
+) -> Result<bool, AllocError>
+    requires { holds_one record_type ≡ true → length records.old ≤ 1 }
+    ensures ok { IfOk result (λ is_new. (is_new, records.new) ≡ put record_type entry records.old) }
+    ensures err { OnErr result (records.new ≡ records.old) }
+{
+    if !holds_one_record(record_type) {
+        return records.enter(entry);
     }
+    if record_type == RecordType::SOA && first_stays(records.as_slice(), &entry.rdata) {
+        return Ok(false);
+    }
+    records.put_alone(entry)?;
+    Ok(true)
 }
 
 /// Whether a set of the type holds one record.
@@ -110,16 +142,4 @@ fn first_stays(records: &[Record], rdata: &RData) -> bool
             _ => true,
         },
     }
-}
-
-/// Whether some record is equal to this one and has its TTL.
-fn has_entry(records: &[Record], entry: &Record) -> bool
-    ensures { result ≡ has_entry entry.now records.now }
-{
-    for known in records {
-        if *known == *entry && known.ttl == entry.ttl {
-            return true;
-        }
-    }
-    false
 }

@@ -34,7 +34,7 @@ impl RecordSet {
             record_type: self.record_type,
             dns_class: self.dns_class,
             ttl: self.ttl,
-            records: self.records,
+            records: self.records.into_vec(),
             serial: self.serial,
         }
     }

@@ -2,30 +2,26 @@
 
 ghost use Rattle.std.specs.Prelude.{◌≡◌, ◌≤◌, ◌<◌, ◌++◌, ◌∷◌, ◌==◌, [], true, not, IfOk, OnErr, OnOk, if◌then◌else◌, length, set};
 ghost use Rattle.std.specs.List.{AllByRecursion, list_any};
-ghost use Rattle.rr.specs.SetChanges.{has_data_of, joined, renewed, replaced};
+ghost use Rattle.rr.specs.SetChanges.{entered, has_data_of, joined, renewed, replaced};
 
 use crate::record::Record;
+use crate::rr_set::entries::has_entry;
 use std::alloc::AllocError;
 
-/// Puts a record among others, or alone.
-pub(super) fn place(
-    records: &mut Vec<Record>,
-    is_alone: bool,
-    entry: Record,
-) -> Result<(), AllocError>
-    requires { is_alone ≡ true → length records.old.items ≤ 1 }
-    ensures ok { OnOk result (records.new.items ≡ joined entry (if is_alone then [] else records.old.items)) }
+/// Puts a record among others, unless an equal one of its TTL is there, and answers whether it went in.
+pub(super) fn enter(records: &mut Vec<Record>, entry: Record) -> Result<bool, AllocError>
+    ensures ok { IfOk result (λ is_new. (is_new, records.new.items) ≡ entered entry records.old.items) }
     ensures err { OnErr result (records.new.items ≡ records.old.items) }
 {
-    if is_alone {
-        put_alone(records, entry)
-    } else {
-        join(records, entry)
+    if has_entry(records, &entry) {
+        return Ok(false);
     }
+    join(records, entry)?;
+    Ok(true)
 }
 
 /// Makes the record the only one.
-fn put_alone(records: &mut Vec<Record>, entry: Record) -> Result<(), AllocError>
+pub(super) fn put_alone(records: &mut Vec<Record>, entry: Record) -> Result<(), AllocError>
     requires { length records.old.items ≤ 1 }
     ensures ok { OnOk result (records.new.items ≡ entry ∷ []) }
     ensures err { OnErr result (records.new.items ≡ records.old.items) }
@@ -92,7 +88,7 @@ fn renew(records: &mut Vec<Record>, copies: Vec<(usize, Record)>)
 }
 
 /// Sets a record at a place.
-fn set_at(records: &mut Vec<Record>, place: usize, entry: Record)
+pub(super) fn set_at(records: &mut Vec<Record>, place: usize, entry: Record)
     requires { place < length records.old.items }
     ensures { records.new.items ≡ set records.old.items place entry }
 {

@@ -66,10 +66,11 @@ impl RecordSet {
         ensures records { records_left result ≡ self.now.records }
         ensures empty { IsTrue (is_of_empty result) ↔ (self.now.records ≡ []) }
     {
-        if self.records.is_empty() {
+        let entries = self.records.as_slice();
+        if entries.is_empty() {
             RrsetRecords::Empty
         } else {
-            RrsetRecords::RecordsOnly(self.records.iter())
+            RrsetRecords::RecordsOnly(entries.iter())
         }
     }
 }
@@ -84,6 +85,6 @@ impl IntoIterator for RecordSet {
 
     /// The records, in order, each once. Takes no memory.
     fn into_iter(self) -> vec::IntoIter<Record> {
-        self.records.into_iter()
+        self.records.into_vec().into_iter()
     }
 }

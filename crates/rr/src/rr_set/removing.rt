@@ -17,10 +17,10 @@ impl RecordSet {
         requires { MayLeave self.old entry.now }
         ensures { (result, self.new) ≡ remove self.old entry.now serial }
     {
-        if self.keeps(entry.record_type()) || !has_data(&self.records, entry) {
+        if self.keeps(entry.record_type()) || !has_data(self.records.as_slice(), entry) {
             return false;
         }
-        take_data(&mut self.records, entry);
+        self.records.take_data(entry);
         self.serial = serial;
         true
     }
@@ -31,7 +31,7 @@ impl RecordSet {
     {
         match record_type {
             RecordType::SOA => true,
-            RecordType::NS => self.records.len() <= 1,
+            RecordType::NS => self.records.as_slice().len() <= 1,
             _ => false,
         }
     }
@@ -50,7 +50,7 @@ fn has_data(records: &[Record], entry: &Record) -> bool
 }
 
 /// Takes out the records with the data of this one.
-fn take_data(records: &mut Vec<Record>, entry: &Record)
+pub(super) fn take_data(records: &mut Vec<Record>, entry: &Record)
     ensures { records.new.items ≡ filter (λ x. not (has_data_of entry.now x)) records.old.items }
 {
     records.retain(|known| known.rdata != entry.rdata);

@@ -2,7 +2,7 @@ use Rattle.std.proofs.Common.{ap, sym, ◌∙◌, arith, ◌<◌, length, set}
 use Rattle.std.proofs.lemmas.List.Edits.{map_over_more}
 use Rattle.base_data.specs.declared.rdata.RData.{RData}
 use Rattle.rr.specs.declared.record.Record.{Record}
-use Rattle.rr.proofs.rr_set.RecordSet.set_dns_class.Goals as goal
+use Rattle.rr.proofs.rr_set.setting.set_classes.Goals as goal
 
 pub loop-entry-preserved : goal.loop-entry-preserved
 loop-entry-preserved c =

@@ -1,6 +1,6 @@
 use Rattle.std.proofs.Common.{◌≡◌, false, take}
 use Rattle.rr.specs.SetChanges.{has_entry}
-use Rattle.rr.proofs.rr_set.inserting.has_entry.Given as goal
+use Rattle.rr.proofs.rr_set.entries.has_entry.Given as goal
 
 -- none so far
 abbrev pub invariant-loop-known : goal.invariant-loop-known

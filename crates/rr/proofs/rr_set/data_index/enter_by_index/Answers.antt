@@ -1,0 +1,51 @@
+use Rattle.std.proofs.Common.{rules, ◌≡◌, ◌∙◌, ◌++◌, ◌∷◌, [], ℕ, true, List, length, sym, ap, subst}
+use Rattle.std.specs.Prelude.{Vec}
+use Rattle.std.specs.BTreeMap.{BTreeMap}
+use Rattle.std.specs.declared.alloc.Global.{Global}
+use Rattle.base_data.specs.declared.rdata.RData.{RData}
+use Rattle.rr.specs.DataIndex.{IsIndexOf, place_at}
+use Rattle.rr.specs.declared.record.Record.{Record}
+use Rattle.rr.proofs.IndexLemmas.{entered_at, entered_behind, entered_not, index_set, none_of, place_here, place_is, place_others, pushed}
+use Rattle.rr.proofs.rr_set.data_index.enter_by_index.Goals as goal
+
+pub returns-then-is_entry-clause-ok : goal.returns-then-is_entry-clause-ok
+returns-then-is_entry-clause-ok c =
+    entered_not c.args.entry c.args.records.now.items c.in-Some.place c.index.result.now c.in-Some.ensures c.index.ensures (sym c.is_entry.ensures ∙ c.if-is_entry.true)
+
+pub returns-in-Some-clause-ok : goal.returns-in-Some-clause-ok
+returns-in-Some-clause-ok c =
+    let r : Record RData = c.args.entry in
+    ap (λ (ys : List (Record RData)). (true, ys)) c.set_at.ensures
+    ∙ entered_at r c.args.records.now.items c.in-Some.place c.index.result.now c.in-Some.ensures c.index.ensures (sym c.is_entry.ensures ∙ c.if-is_entry.false)
+
+pub returns-in-Some-clause-index : goal.returns-in-Some-clause-index
+returns-in-Some-clause-index c =
+    let rs = c.args.records.now.items in
+    let r : Record RData = c.args.entry in
+    let find = place_at c.args.places.value in
+    subst (λ (ys : List (Record RData)). IsIndexOf find ys) (sym c.set_at.ensures)
+    (index_set find rs c.in-Some.place r c.requires (place_is find rs r.rdata c.in-Some.place r c.requires c.in-Some.ensures))
+
+pub returns-then-tied-clause-ok : goal.returns-then-tied-clause-ok
+returns-then-tied-clause-ok c =
+    let is : c.push.new.self.items ≡ c.args.records.now.items ++ c.args.entry ∷ [] = search rules in
+    ap (λ (ys : List (Record RData)). (true, ys)) is ∙ entered_behind c.args.entry c.args.records.now.items c.in_default.ensures
+
+pub returns-clause-ok : goal.returns-clause-ok
+returns-clause-ok c =
+    let is : c.push.new.self.items ≡ c.args.records.now.items ++ c.args.entry ∷ [] = search rules in
+    ap (λ (ys : List (Record RData)). (true, ys)) is ∙ entered_behind c.args.entry c.args.records.now.items c.in_default.ensures
+
+pub returns-clause-index : goal.returns-clause-index
+returns-clause-index c =
+    let rs = c.args.records.now.items in
+    let m = c.deref_mut.result.now in
+    let n = c.insert.new.self in
+    let ks = c.in_ok-key.key.items in
+    let updates = c.in_ok-insert.ensures.updates in
+    let indexed = subst (λ (t : BTreeMap (Vec ℕ Global) ℕ). IsIndexOf (place_at t) rs) (sym c.deref_mut.ensures.value) c.requires in
+    let free = none_of c.in_ok-insert.field-0 (sym c.is_some-tied.ensures ∙ c.if-tied.false) in
+    let len : c.len.result ≡ length c.args.records.now.items = search rules in
+    let is : c.push.new.self.items ≡ c.args.records.now.items ++ c.args.entry ∷ [] = search rules in
+    pushed m n rs c.push.new.self.items c.args.entry ks c.len.result indexed c.in_ok-key.ensures (sym c.in_ok-insert.ensures.old ∙ free)
+    (place_here ks m n _ updates) (place_others ks m n _ updates) len is

@@ -1,0 +1,25 @@
+-- The index of the data of records: the place of each at a key, the bytes of the canonical form of its data.
+use Rattle.std.specs.Prelude.{true, false, ℕ, ◌<◌, ◌≡◌, ◌≢◌, List, Option, Some, Vec, get_or, length}
+use Rattle.std.specs.BTreeMap.{BTreeMap, get_by}
+use Rattle.std.specs.Cmp.Lexicographic.{slice_cmp}
+use Rattle.std.specs.Ordering.{nat_cmp}
+use Rattle.std.specs.declared.alloc.Global.{Global}
+use Rattle.base_data.specs.Kinds.{canonical_data}
+use Rattle.base_data.specs.SameData.{same_data}
+use Rattle.base_data.specs.declared.rdata.RData.{RData}
+use Rattle.rr.specs.declared.record.Record.{Record}
+
+-- the place that the index has at a key
+abbrev pub place_at : BTreeMap (Vec ℕ Global) ℕ → List ℕ → Option ℕ
+place_at index key = get_by (λ k. slice_cmp nat_cmp key k.items) index
+
+-- The index has the place of each record at the key of its data. So no two records have equal data. What it has at
+-- other keys is open.
+pub record IsIndexOf (find : List ℕ → Option ℕ) (rs : List (Record RData)) : Type 0 where
+  pub at : (i : ℕ) (d : Record RData) → i < length rs → find (canonical_data (get_or rs i d).rdata) ≡ Some i
+
+-- At this place, and at no other, there is a record of this data.
+pub record IsOnlyAt (rdata : RData) (rs : List (Record RData)) (p : ℕ) : Type 0 where
+  pub inside : p < length rs
+  pub same : (d : Record RData) → same_data (get_or rs p d).rdata rdata ≡ true
+  pub others : (i : ℕ) (d : Record RData) → i < length rs → i ≢ p → same_data (get_or rs i d).rdata rdata ≡ false

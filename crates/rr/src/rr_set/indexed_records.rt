@@ -1,0 +1,162 @@
+//! The records of a set, in order, found by their data.
+
+ghost use Rattle.std.specs.Prelude.{◌≡◌, ◌≤◌, ◌∷◌, [], IfOk, IfSome, None, OnErr, OnOk, filter, length, map, not};
+ghost use Rattle.base_data.specs.declared.rdata.RData.{RData};
+ghost use Rattle.rr.specs.DataIndex.{IsIndexOf, place_at};
+ghost use Rattle.rr.specs.SetChanges.{entered, has_data_of};
+ghost use Rattle.rr.specs.declared.record.Record.{Record as Entry};
+
+use crate::record::Record;
+use crate::rr_set::data_index::{DataIndex, enter_by_index, index_of};
+use crate::rr_set::placing::{enter, put_alone};
+use crate::rr_set::removing::take_data;
+use crate::rr_set::setting::{set_classes, set_ttls};
+use base::DNSClass;
+use std::alloc::{AllocError, Global};
+use std::fmt;
+use std::marker::Model;
+
+/// Among so many records equal data is looked for one by one.
+const FEW: usize = 24;
+
+/// So often equal data is looked for one by one among more records before there is an index of them.
+const SCANS: u8 = 24;
+
+/// The records of a set, in order, with an index of their data once there are many.
+#[derive(Drop)]
+pub(super) struct IndexedRecords {
+    records: Vec<Record>,
+    index: Option<Box<DataIndex>>,
+    /// How often equal data was looked for one by one since there is no index.
+    scans: u8,
+}
+
+impl Model for IndexedRecords {
+    ghost use Rattle.std.specs.Prelude.{List, IfSome};
+    ghost use Rattle.base_data.specs.declared.rdata.RData.{RData};
+    ghost use Rattle.rr.specs.declared.record.Record.{Record as Entry};
+    ghost use Rattle.rr.specs.DataIndex.{IsIndexOf, place_at};
+
+    ghost Value = { List (Entry RData) };
+
+    ghost view = { λ r. r.records.items };
+
+    ghost invariant = { λ r. IfSome r.index (λ places. IsIndexOf (place_at places.value) r.records.items) };
+}
+
+impl IndexedRecords {
+    /// No records. Takes no memory.
+    pub(super) fn new(alloc: Global) -> IndexedRecords
+        ensures { result ≡ [] }
+    {
+        IndexedRecords::of(Vec::new(alloc))
+    }
+
+    /// These records. Takes no memory.
+    pub(super) fn of(records: Vec<Record>) -> IndexedRecords
+        ensures { result ≡ records.items }
+    {
+        IndexedRecords {
+            records,
+            index: None,
+            scans: 0,
+        }
+    }
+
+    /// The records, in order.
+    pub(super) fn as_slice(&self) -> &[Record]
+        ensures { result.now ≡ self.now }
+    {
+        &self.records
+    }
+
+    /// The records, in order. Takes no memory.
+    pub(super) fn into_vec(self) -> Vec<Record>
+        ensures { result.items ≡ self }
+    {
+        self.records
+    }
+
+    /// Makes the record the only one.
+    pub(super) fn put_alone(&mut self, entry: Record) -> Result<(), AllocError>
+        requires { length self.old ≤ 1 }
+        ensures ok { OnOk result (self.new ≡ entry ∷ []) }
+        ensures err { OnErr result (self.new ≡ self.old) }
+    {
+        drop(self.index.take());
+        put_alone(&mut self.records, entry)
+    }
+
+    /// Puts a record among the others, unless an equal one of its TTL is there, and answers whether it went in.
+    pub(super) fn enter(&mut self, entry: Record) -> Result<bool, AllocError>
+        ensures ok { IfOk result (λ is_new. (is_new, self.new) ≡ entered entry self.old) }
+        ensures err { OnErr result (self.new ≡ self.old) }
+    {
+        let known = self.index.take();
+        let Some(places) = index_for(&self.records, known, &mut self.scans)? else {
+            return enter(&mut self.records, entry);
+        };
+        let (is_new, index) = enter_by_index(&mut self.records, places, entry)?;
+        self.index = index;
+        Ok(is_new)
+    }
+
+    /// Takes out the records with the data of this one. Takes no memory.
+    pub(super) fn take_data(&mut self, entry: &Record)
+        ensures { self.new ≡ filter (λ x. not (has_data_of entry.now x)) self.old }
+    {
+        self.index = None;
+        self.scans = 0;
+        take_data(&mut self.records, entry);
+    }
+
+    /// Sets the class of each record. Takes no memory.
+    pub(super) fn set_dns_class(&mut self, dns_class: DNSClass)
+        ensures { self.new ≡ map (λ (r : Entry RData). record r { dns_class = dns_class }) self.old }
+    {
+        set_classes(&mut self.records, dns_class);
+    }
+
+    /// Sets the TTL of each record, in seconds. Takes no memory.
+    pub(super) fn set_ttl(&mut self, ttl: u32)
+        ensures { self.new ≡ map (λ (r : Entry RData). record r { ttl = ttl }) self.old }
+    {
+        set_ttls(&mut self.records, ttl);
+    }
+}
+
+/// The index by which a record is to be found among others: the one that is known, or a new one of many records that
+/// were gone through often.
+fn index_for(
+    records: &Vec<Record>,
+    known: Option<Box<DataIndex>>,
+    scans: &mut u8,
+) -> Result<Option<Box<DataIndex>>, AllocError>
+    requires { IfSome known (λ places. IsIndexOf (place_at places.value) records.now.items) }
+    ensures index { IfOk result (λ index. IfSome index (λ places. IsIndexOf (place_at places.value) records.now.items)) }
+{
+    if known.is_some() || records.len() <= FEW {
+        return Ok(known);
+    }
+    if *scans < SCANS {
+        *scans += 1;
+        return Ok(None);
+    }
+    *scans = 0;
+    index_of(records)
+}
+
+impl Clone for IndexedRecords {
+    ghost is_clone = { λ a b. b ≡ a };
+
+    fn clone(&self) -> Result<IndexedRecords, AllocError> {
+        Ok(IndexedRecords::of(self.records.clone()?))
+    }
+}
+
+impl fmt::Debug for IndexedRecords {
+    /// The records alone.
+    fn fmt<W: fmt::Write>(&self, f: &mut fmt::Formatter<W>) -> fmt::Result {
+        fmt::Debug::fmt(&self.records, f)
+    }
+}
