@@ -25,7 +25,7 @@ pub enum DNSClass {
     NONE,
     /// Any class, in a question (RFC 1035, 3.2.5) or an update (RFC 2136, 2.4).
     ANY,
-    /// The payload size of an OPT record, in bytes (RFC 6891, 6.1.2). `for_opt` alone makes it.
+    /// The payload size of an OPT record, in bytes (RFC 6891, 6.1.2), as `for_opt` makes it.
     OPT(u16),
     /// The class of this number. `from` makes it of the numbers without a name alone (RFC 3597, 2).
     Unknown(u16),

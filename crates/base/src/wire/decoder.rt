@@ -107,8 +107,9 @@ impl<'a> BinDecoder<'a> {
         &self.buffer[usize::from(target)..]
     }
 
-    /// How many pointers were followed into bytes. The labels that a pointer led to are read once and kept, so it is
-    /// no more than there are offsets that a pointer can name, whatever the buffer.
+    /// How many pointers were followed into bytes. The labels that a pointer led to are read once and kept, so of a new
+    /// decoder it is no more than there are offsets that a pointer can name, whatever the buffer, up to the first read
+    /// that is refused.
     pub fn jumps(&self) -> usize
         ensures value { result ≡ self.now.jumps }
         ensures few { set.len self.now.kept ≤ 16384 }
