@@ -2,10 +2,12 @@ pub mod AddsLemmas
 pub mod CharLemmas
 pub mod ClassTexts
 pub mod CompareLemmas
+pub mod CompressionLemmas
 pub mod CopyLemmas
 pub mod CountLemmas
 pub mod Cutting
 pub mod EscapeLemmas
+pub mod FittingLemmas
 pub mod GatherLemmas
 pub mod Giving
 pub mod ItemLemmas

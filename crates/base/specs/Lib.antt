@@ -1,3 +1,4 @@
+pub mod Compression
 pub mod Counts
 pub mod Cuts
 pub mod DNSClass

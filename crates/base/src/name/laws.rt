@@ -1,10 +1,12 @@
-//! Laws of the definitions that names are read by.
+//! Laws of the definitions that names are read and written by.
 
 ghost use Rattle.std.specs.Prelude.{◌≡◌, ◌≢◌, ◌↔◌, ℕ, ◌+◌, ◌<◌, ◌≤◌, List, [], ◌++◌, length, take, drop, All, Bool, Option, false};
+ghost use Rattle.base.specs.Compression.{IsCompressed};
 ghost use Rattle.base.specs.Faults.{IsFaulty};
 ghost use Rattle.base.specs.Labels.{NameValue, AreLabels, plain_len};
 ghost use Rattle.base.specs.NameText.{IsNameText, name_text};
 ghost use Rattle.base.specs.Names.{name_at};
+ghost use Rattle.base.specs.State.{Stored};
 ghost use Rattle.base.specs.Spelling.{Spelled, SpelledIn, KeepsSeen, IsNameAt, among, outside};
 
 /// What `name_at` answers is what the bytes spell: the name that stands there, or the first fault.
@@ -33,4 +35,10 @@ pub fn text_is_name()
     ensures named { (n : NameValue) → All (All (λ b. b < 256)) n.labels → AreLabels n.labels → plain_len n.labels ≤ 255
         → (n.absolute ≡ false → n.labels ≢ []) → IsNameText (name_text n) None n }
     ensures once { (text : List ℕ) (origin : Option NameValue) (a b : NameValue) → IsNameText text origin a → IsNameText text origin b → a ≡ b }
+{}
+
+/// A name is compressed as far as it can be: it ends in a pointer to the longest of its suffixes that was stored before
+/// it, where one was, and is else written with all its labels (RFC 1035, 4.1.4).
+pub fn names_are_compressed()
+    ensures { (labels : List (List ℕ)) (at : ℕ) (stored : List Stored) → IsCompressed labels at stored }
 {}

@@ -1,10 +1,14 @@
-//! What is true of every decoder.
+//! What is true of every decoder, and of all that is written under a limit.
 
-ghost use Rattle.std.specs.Prelude.{◌≡◌, ℕ, List};
+ghost use Rattle.std.specs.Prelude.{◌≡◌, ℕ, ◌+◌, ◌≤◌, List, ◌++◌, length};
 ghost use Rattle.std.specs.FinSet as set;
 ghost use Rattle.base.specs.Counts.{IsCounted};
 ghost use Rattle.base.specs.Passing.{AddsPassed, NamesPass};
 ghost use Rattle.base.specs.Reader.{Reader, begun};
+ghost use Rattle.base.specs.State.{State, Stored};
+ghost use Rattle.base.specs.Written.{in_turn, that_fit, after, fitting, Passes};
+
+use crate::wire::encodable::BinEncodable;
 
 /// A new decoder keeps nothing and has followed no pointer, so that the clause `counts` of each read tells of all that is
 /// read from there on.
@@ -16,4 +20,18 @@ pub fn a_new_decoder_is_counted()
 /// tells their places.
 pub fn a_new_decoder_keeps_what_is_passed()
     ensures { (bytes names : List ℕ) (new : Reader) → AddsPassed names (begun bytes) new → (offsets : List ℕ) × NamesPass bytes names offsets × (new.kept ≡ set.from_list offsets) }
+{}
+
+/// Of values that are written in turn under a limit, those that fit are the first of them, and the own bytes of the next
+/// one would pass the limit. All fit where there is room for all, and under a larger limit no fewer fit.
+pub fn what_fits_under_a_limit<E: BinEncodable>()
+    ensures first { (limit : ℕ) (values : List E) (s : State) → (lost : List E)
+        × (values ≡ that_fit E.written limit values (length s.bytes) s.suffixes ++ lost)
+        × Passes E.written limit (after (fitting E.written limit values) s) lost }
+    ensures all { (limit : ℕ) (values : List E) (at : ℕ) (stored : List Stored)
+        → at + length (in_turn E.written values at stored).bytes ≤ limit
+        → that_fit E.written limit values at stored ≡ values }
+    ensures no_fewer { (limit larger : ℕ) (values : List E) (at : ℕ) (stored : List Stored) → limit ≤ larger
+        → (others : List E)
+        × (that_fit E.written larger values at stored ≡ that_fit E.written limit values at stored ++ others) }
 {}

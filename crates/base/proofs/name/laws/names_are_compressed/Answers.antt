@@ -1,0 +1,5 @@
+use Rattle.base.proofs.CompressionLemmas.{compressed}
+use Rattle.base.proofs.name.laws.names_are_compressed.Goals as goal
+
+pub returns : goal.returns
+returns c = compressed
