@@ -1,6 +1,6 @@
 //! Responses, and what they say (RFC 1035, 4.1; RFC 2308, 5).
 
-ghost use Rattle.std.specs.Prelude.{◌≡◌, ◌⊎◌, ◌&&◌, ◌↔◌, ℕ, IfErr, IfOk, IsOkUnless, MatchResult, Err};
+ghost use Rattle.std.specs.Prelude.{◌≡◌, ◌⊎◌, ◌&&◌, ◌↔◌, ℕ, IfErr, IfOk, IsOkUnless, MatchResult, Err, Ok};
 ghost use Rattle.std.specs.Borrow.{sem};
 ghost use Rattle.std.specs.List.{list_any};
 ghost use Rattle.std.specs.Option.{option_map};
@@ -10,6 +10,7 @@ ghost use Rattle.op.specs.Cut.{IsTooSmall, IsWritten};
 ghost use Rattle.op.specs.Emitted.{EmittedNew, LeavesNew};
 ghost use Rattle.op.specs.Fits.{Fits, HasRoom};
 ghost use Rattle.op.specs.Message.{IsMessageAt, MessageValue, message_value};
+ghost use Rattle.op.specs.MessageWritten.{message_answer, message_bytes};
 ghost use Rattle.op.specs.Parts.{all_records};
 ghost use Rattle.op_use.specs.DnsResponse.{IsQuery, IsRefusedResponse, IsResponse};
 ghost use Rattle.op_use.specs.Lending.{LendsMessage};
@@ -52,8 +53,12 @@ impl DnsResponse {
         ensures succeeds { IsResponse (message_value message) → HasRoom (message_value message) 65535 → IsOkUnless result ProtoError.Memory }
         ensures written { Fits (message_value message) → IfOk result (λ r. IsWritten (message_value message) 65535 r.buffer) }
         ensures emitted { IfOk result (λ r. EmittedNew (message_value message) 65535 r.buffer) }
+        ensures exact { IfOk result (λ r. r.buffer ≡ message_bytes 65535 (message_value message)) }
         ensures refused { IsResponse (message_value message) → IfErr result (λ e. (e ≡ ProtoError.Memory) ⊎ IsTooSmall (message_value message) 65535 e) }
         ensures left { IsResponse (message_value message) → IfErr result (λ e. (e ≡ ProtoError.Memory) ⊎ LeavesNew (message_value message) 65535 e) }
+        ensures answer { IfOk result (λ r. message_answer 65535 (message_value message) ≡ Ok r.buffer) }
+        ensures refusal { IsResponse (message_value message)
+            → IfErr result (λ e. (e ≡ ProtoError.Memory) ⊎ (message_answer 65535 (message_value message) ≡ Err e)) }
     {
         match message.metadata.message_type {
             MessageType::Query => Err(ProtoError::NotAResponse),
@@ -181,8 +186,12 @@ fn written(alloc: Global, message: &Message) -> Result<Vec<u8>, ProtoError>
     ensures succeeds { HasRoom (message_value message.now) 65535 → IsOkUnless result ProtoError.Memory }
     ensures written { Fits (message_value message.now) → IfOk result (λ bytes. IsWritten (message_value message.now) 65535 bytes.items) }
     ensures emitted { IfOk result (λ bytes. EmittedNew (message_value message.now) 65535 bytes.items) }
+    ensures exact { IfOk result (λ bytes. bytes.items ≡ message_bytes 65535 (message_value message.now)) }
     ensures refused { IfErr result (λ e. (e ≡ ProtoError.Memory) ⊎ IsTooSmall (message_value message.now) 65535 e) }
     ensures left { IfErr result (λ e. (e ≡ ProtoError.Memory) ⊎ LeavesNew (message_value message.now) 65535 e) }
+    ensures answer { IfOk result (λ bytes. message_answer 65535 (message_value message.now) ≡ Ok bytes.items) }
+    ensures refusal { IfErr result (λ e. (e ≡ ProtoError.Memory)
+        ⊎ (message_answer 65535 (message_value message.now) ≡ Err e)) }
 {
     let mut buffer = Vec::new(alloc);
     {
