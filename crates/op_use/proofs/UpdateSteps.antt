@@ -6,13 +6,14 @@ use Rattle.base.specs.declared.dns_class.DNSClass.{DNSClass}
 use Rattle.base.specs.declared.record_type.RecordType.TheVariants as types
 use Rattle.base.specs.declared.rr_key.RrKey.{RrKey}
 use Rattle.base_data.specs.declared.rdata.RData.{RData}
-use Rattle.op_use.proofs.AppliedData.{joined_data, parted_data}
+use Rattle.op_use.proofs.AppliedData.{joined_data, parted_data, parted_none}
+use Rattle.op_use.proofs.MapIsZone.{zone_is}
 use Rattle.op_use.proofs.MapSteps.{own_key, same_after, set_after}
 use Rattle.op_use.proofs.MapZones.{data_at, get_zone}
 use Rattle.op_use.proofs.Origins.{from_joined, from_none, from_one, from_parted, none_among}
 use Rattle.op_use.proofs.SpelledSteps.{alias_comes, alias_kept_out, beside_kept_out, guarded_stays, name_goes}
 use Rattle.op_use.proofs.SpelledSteps.{needed_stays, nothing_changes, other_comes, other_parts, set_goes}
-use Rattle.op_use.proofs.ZoneSteps.{same_sets}
+use Rattle.op_use.proofs.ZoneSteps.{put_same, same_key, same_sets}
 use Rattle.op_use.specs.Applying.{IsZoneMap, data_of, records_at, records_in, zone_of_map}
 use Rattle.op_use.specs.AppliedRecords.{is_needed, parted}
 use Rattle.op_use.specs.MapUpdates.{IsAfter, IsSetTo, Leaves}
@@ -20,7 +21,7 @@ use Rattle.op_use.specs.NamedChanges.{datum_of, is_left}
 use Rattle.op_use.specs.Server.{OfAny, OfNone, OfNothing, OfZone, added, is_any, is_cname, record_key, removed, type_of_record, update_by, use_of}
 use Rattle.op_use.specs.Zone.{Datum, has_set, has_type_at, is_guarded, is_owned, put}
 use Rattle.rr.specs.RecordSet.{SetValue, is_soa}
-use Rattle.rr.specs.SetChanges.{joined}
+use Rattle.rr.specs.SetChanges.{has_data_of, joined}
 use Rattle.rr.specs.declared.record.Record.{Record}
 use Rattle.std.proofs.Common.{ap, inl, refl, subst, sym, ◌∙◌, ◌⊎◌}
 use Rattle.std.proofs.lemmas.Bool.{cond-false, cond-true, or_parts}
@@ -29,8 +30,9 @@ use Rattle.std.specs.BTreeMap as tree
 use Rattle.std.specs.BTreeMap.{BTreeMap}
 use Rattle.std.specs.FinMap as fin
 use Rattle.std.specs.FinMap.{FinMap}
-use Rattle.std.specs.List.{IsAmong}
-use Rattle.std.specs.Prelude.{Bool, List, None, Option, Some, [], cond, false, length, nat_le, not, option_map, true, ◌&&◌, ◌||◌, ◌∷◌, ◌≡◌}
+use Rattle.std.specs.List.{IsAmong, list_any}
+use Rattle.std.specs.Ordering.{eq_by_cmp}
+use Rattle.std.specs.Prelude.{Bool, List, None, Option, Some, [], cond, false, length, map, nat_le, not, option_map, true, ◌&&◌, ◌||◌, ◌∷◌, ◌≡◌}
 
 module _ (origin : NameValue) (class : DNSClass) (m n : BTreeMap RrKey SetValue) (r : Record RData) (old : IsZoneMap class m) where
   pub after_cname_stays : use_of class r.dns_class ≡ OfZone → is_cname (type_of_record r) ≡ true
@@ -75,6 +77,21 @@ module _ (origin : NameValue) (class : DNSClass) (m n : BTreeMap RrKey SetValue)
       ∙ ap (put (zone_of_map origin class m) (record_key r)) (ap (λ xs. removed xs r) (data_at origin class m (record_key r))
       ∙ sym (parted_data r (records_at m (record_key r)))))
       (λ q. other_parts (zone_of_map origin class m) r (records_at m) q u (counted ∙ h))
+
+  same_there : (b : Bool) (q : RrKey) → eq_by_cmp key_cmp (record_key r) q ≡ b → cond b (records_at m (record_key r)) (records_at m q) ≡ records_at m q
+  same_there true q t = ap (records_at m) (same_key (record_key r) q t)
+  same_there false q t = refl
+
+  pub after_absent : use_of class r.dns_class ≡ OfNone → stays ≡ false → list_any (has_data_of r) (records_at m (record_key r)) ≡ false
+      → IsAfter origin class (r ∷ []) m m
+  after_absent u h none = same_after origin class m r old
+      (ap (λ how. update_by how (zone_of_map origin class m) r) u ∙ cond-false _ _ _ (counted ∙ h)
+      ∙ ap (put (zone_of_map origin class m) (record_key r)) (ap (λ xs. removed xs r) (data_at origin class m (record_key r))
+      ∙ sym (parted_data r (records_at m (record_key r))) ∙ ap (map datum_of) (parted_none r (records_at m (record_key r)) none)
+      ∙ sym (data_at origin class m (record_key r))) ∙ put_same (zone_of_map origin class m) (record_key r) (zone_is origin class m old))
+      (λ q. other_parts (zone_of_map origin class m) r (records_at m) q u (counted ∙ h)
+      ∙ ap (λ xs. cond (eq_by_cmp key_cmp (record_key r) q) xs (records_at m q)) (parted_none r (records_at m (record_key r)) none)
+      ∙ same_there (eq_by_cmp key_cmp (record_key r) q) q refl)
 
   pub after_guarded : use_of class r.dns_class ≡ OfAny → is_any (type_of_record r) ≡ false → is_guarded (zone_of_map origin class m) r.name (type_of_record r) ≡ true
       → IsAfter origin class (r ∷ []) m m

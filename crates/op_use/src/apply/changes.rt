@@ -9,6 +9,7 @@ use crate::apply::class_use::{Use, use_of};
 use crate::apply::owners::{has_type, take_name};
 use crate::apply::sets::{add_data, count, has_set, key_of, put_alone, take_data, take_set};
 use crate::apply::types::{is_alias, is_all, is_guarded, is_start};
+use crate::apply::values::is_there;
 use base::{DNSClass, Name, RecordType, RrKey};
 use rr::{Record, RecordSet};
 use std::alloc::{AllocError, Global};
@@ -85,7 +86,8 @@ fn add(
     Ok(())
 }
 
-// Takes equal data out, but no SOA, and not the last name server of the zone (RFC 2136, 3.4.2.4).
+// Takes equal data out, but no SOA, and not the last name server of the zone (RFC 2136, 3.4.2.4). A set without such data
+// stays as it is.
 fn take_out(
     alloc: Global,
     sets: &mut BTreeMap<RrKey, RecordSet>,
@@ -98,6 +100,9 @@ fn take_out(
     ensures { OnOk result (IsAfter origin.now class (entry.now ∷ []) sets.old sets.new) }
 {
     if is_kept(sets, origin, entry)? {
+        return Ok(());
+    }
+    if !is_there(sets, entry)? {
         return Ok(());
     }
     take_data(alloc, sets, class, entry)?;
