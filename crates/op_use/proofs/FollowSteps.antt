@@ -7,10 +7,10 @@ use Rattle.op.specs.declared.response_code.ResponseCode.TheVariants.{NotImp}
 use Rattle.op_use.proofs.AppliedData.{joined_data, parted_data}
 use Rattle.op_use.proofs.ZoneSteps.{get_with_set, kept, same_key}
 use Rattle.op_use.specs.AppliedMeaning.{RecordsHoldTheData}
-use Rattle.op_use.specs.AppliedRecords.{after_by, after_update, is_needed, is_under, parted, records_after, records_answered}
+use Rattle.op_use.specs.AppliedRecords.{after_by, after_update, is_under, parted, records_after, records_answered}
 use Rattle.op_use.specs.Applying.{is_all_served}
 use Rattle.op_use.specs.NamedChanges.{datum_of, is_left, less_key, less_name}
-use Rattle.op_use.specs.Server.{Fault, OfAny, OfNone, OfNothing, OfZone, Sections, Use as UseValue, added, answer, fault, is_any, is_cname, record_key, removed}
+use Rattle.op_use.specs.Server.{Fault, OfAny, OfNone, OfNothing, OfZone, Sections, Use as UseValue, added, answer, fault, is_any, is_cname, is_needed, record_key, removed}
 use Rattle.op_use.specs.Server.{type_of_record, update, update_by, use_of}
 use Rattle.op_use.specs.Zone.{Datum, Zone, at, is_guarded, put}
 use Rattle.rr.specs.SetChanges.{joined}

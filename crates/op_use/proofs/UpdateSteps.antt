@@ -15,10 +15,10 @@ use Rattle.op_use.proofs.SpelledSteps.{alias_comes, alias_kept_out, beside_kept_
 use Rattle.op_use.proofs.SpelledSteps.{needed_stays, nothing_changes, other_comes, other_parts, set_goes}
 use Rattle.op_use.proofs.ZoneSteps.{put_same, same_key, same_sets}
 use Rattle.op_use.specs.Applying.{IsZoneMap, data_of, records_at, records_in, zone_of_map}
-use Rattle.op_use.specs.AppliedRecords.{is_needed, parted}
+use Rattle.op_use.specs.AppliedRecords.{parted}
 use Rattle.op_use.specs.MapUpdates.{IsAfter, IsSetTo, Leaves}
 use Rattle.op_use.specs.NamedChanges.{datum_of, is_left}
-use Rattle.op_use.specs.Server.{OfAny, OfNone, OfNothing, OfZone, added, is_any, is_cname, record_key, removed, type_of_record, update_by, use_of}
+use Rattle.op_use.specs.Server.{OfAny, OfNone, OfNothing, OfZone, added, is_any, is_cname, is_needed, record_key, removed, type_of_record, update_by, use_of}
 use Rattle.op_use.specs.Zone.{Datum, has_set, has_type_at, is_guarded, is_owned, put}
 use Rattle.rr.specs.RecordSet.{SetValue, is_soa}
 use Rattle.rr.specs.SetChanges.{has_data_of, joined}
@@ -33,6 +33,12 @@ use Rattle.std.specs.FinMap.{FinMap}
 use Rattle.std.specs.List.{IsAmong, list_any}
 use Rattle.std.specs.Ordering.{eq_by_cmp}
 use Rattle.std.specs.Prelude.{Bool, List, None, Option, Some, [], cond, false, length, map, nat_le, not, option_map, true, ◌&&◌, ◌||◌, ◌∷◌, ◌≡◌}
+
+-- whether a record stays, by the map's records
+pub counted : (origin : NameValue) (class : DNSClass) (m : BTreeMap RrKey SetValue) (r : Record RData) → is_needed (zone_of_map origin class m) r
+    ≡ (is_soa (type_of_record r) || (is_guarded (zone_of_map origin class m) r.name (type_of_record r) && nat_le (length (records_at m (record_key r))) 1))
+counted origin class m r = ap (λ k. is_soa (type_of_record r) || (is_guarded (zone_of_map origin class m) r.name (type_of_record r) && nat_le k 1))
+    (ap length (data_at origin class m (record_key r)) ∙ length-map (records_at m (record_key r)) datum_of)
 
 module _ (origin : NameValue) (class : DNSClass) (m n : BTreeMap RrKey SetValue) (r : Record RData) (old : IsZoneMap class m) where
   pub after_cname_stays : use_of class r.dns_class ≡ OfZone → is_cname (type_of_record r) ≡ true
@@ -58,38 +64,30 @@ module _ (origin : NameValue) (class : DNSClass) (m n : BTreeMap RrKey SetValue)
       ∙ ap (put (zone_of_map origin class m) (record_key r)) (ap (λ xs. added xs r) (data_at origin class m (record_key r)) ∙ sym (joined_data r (records_at m (record_key r)))))
       (λ q. other_comes (zone_of_map origin class m) r (records_at m) q u c h)
 
-  -- whether a record stays, by the map's records
-  abbrev stays : Bool
-  stays = is_soa (type_of_record r) || (is_guarded (zone_of_map origin class m) r.name (type_of_record r) && nat_le (length (records_at m (record_key r))) 1)
+  pub after_kept : use_of class r.dns_class ≡ OfNone → is_needed (zone_of_map origin class m) r ≡ true → IsAfter origin class (r ∷ []) m m
+  after_kept u h = same_after origin class m r old (ap (λ how. update_by how (zone_of_map origin class m) r) u ∙ cond-true _ _ _ h)
+      (λ q. needed_stays (zone_of_map origin class m) r (records_at m) q u h)
 
-  counted : is_needed (zone_of_map origin class m) r ≡ stays
-  counted = ap (λ k. is_soa (type_of_record r) || (is_guarded (zone_of_map origin class m) r.name (type_of_record r) && nat_le k 1))
-      (ap length (data_at origin class m (record_key r)) ∙ length-map (records_at m (record_key r)) datum_of)
-
-  pub after_kept : use_of class r.dns_class ≡ OfNone → stays ≡ true → IsAfter origin class (r ∷ []) m m
-  after_kept u h = same_after origin class m r old (ap (λ how. update_by how (zone_of_map origin class m) r) u ∙ cond-true _ _ _ (counted ∙ h))
-      (λ q. needed_stays (zone_of_map origin class m) r (records_at m) q u (counted ∙ h))
-
-  pub after_part : use_of class r.dns_class ≡ OfNone → stays ≡ false → IsSetTo class (record_key r) (parted r (records_at m (record_key r))) m n
+  pub after_part : use_of class r.dns_class ≡ OfNone → is_needed (zone_of_map origin class m) r ≡ false → IsSetTo class (record_key r) (parted r (records_at m (record_key r))) m n
       → IsAfter origin class (r ∷ []) m n
   after_part u h s = set_after origin class (record_key r) (parted r (records_at m (record_key r))) m n s r old (own_key r) (from_parted r (records_at m (record_key r)))
-      (ap (λ how. update_by how (zone_of_map origin class m) r) u ∙ cond-false _ _ _ (counted ∙ h)
+      (ap (λ how. update_by how (zone_of_map origin class m) r) u ∙ cond-false _ _ _ h
       ∙ ap (put (zone_of_map origin class m) (record_key r)) (ap (λ xs. removed xs r) (data_at origin class m (record_key r))
       ∙ sym (parted_data r (records_at m (record_key r)))))
-      (λ q. other_parts (zone_of_map origin class m) r (records_at m) q u (counted ∙ h))
+      (λ q. other_parts (zone_of_map origin class m) r (records_at m) q u h)
 
   same_there : (b : Bool) (q : RrKey) → eq_by_cmp key_cmp (record_key r) q ≡ b → cond b (records_at m (record_key r)) (records_at m q) ≡ records_at m q
   same_there true q t = ap (records_at m) (same_key (record_key r) q t)
   same_there false q t = refl
 
-  pub after_absent : use_of class r.dns_class ≡ OfNone → stays ≡ false → list_any (has_data_of r) (records_at m (record_key r)) ≡ false
+  pub after_absent : use_of class r.dns_class ≡ OfNone → is_needed (zone_of_map origin class m) r ≡ false → list_any (has_data_of r) (records_at m (record_key r)) ≡ false
       → IsAfter origin class (r ∷ []) m m
   after_absent u h none = same_after origin class m r old
-      (ap (λ how. update_by how (zone_of_map origin class m) r) u ∙ cond-false _ _ _ (counted ∙ h)
+      (ap (λ how. update_by how (zone_of_map origin class m) r) u ∙ cond-false _ _ _ h
       ∙ ap (put (zone_of_map origin class m) (record_key r)) (ap (λ xs. removed xs r) (data_at origin class m (record_key r))
       ∙ sym (parted_data r (records_at m (record_key r))) ∙ ap (map datum_of) (parted_none r (records_at m (record_key r)) none)
       ∙ sym (data_at origin class m (record_key r))) ∙ put_same (zone_of_map origin class m) (record_key r) (zone_is origin class m old))
-      (λ q. other_parts (zone_of_map origin class m) r (records_at m) q u (counted ∙ h)
+      (λ q. other_parts (zone_of_map origin class m) r (records_at m) q u h
       ∙ ap (λ xs. cond (eq_by_cmp key_cmp (record_key r) q) xs (records_at m q)) (parted_none r (records_at m (record_key r)) none)
       ∙ same_there (eq_by_cmp key_cmp (record_key r) q) q refl)
 

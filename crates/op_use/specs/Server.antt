@@ -84,21 +84,23 @@ abbrev pub zone_fault : Zone → List Query → Fault
 zone_fault z (q ∷ []) = and_then (unless (is_soa q.query_type) FormErr) (unless (same_name q.name z.origin && same_class q.query_class z.class) NotAuth)
 zone_fault z _ = Some FormErr
 
--- 2. a prerequisite
-abbrev pub prerequisite_by : Use → Zone → Record RData → Fault
-prerequisite_by OfAny z r =
-    and_then (unless (is_empty_data r.rdata) FormErr)
-    (if is_any (type_of_record r) then unless (has_type_at z r.name (λ _. true)) NXDomain else unless (has_set z (record_key r)) NXRRSet)
-prerequisite_by OfNone z r =
-    and_then (unless (is_empty_data r.rdata) FormErr)
-    (if is_any (type_of_record r) then unless (not (has_type_at z r.name (λ _. true))) YXDomain else unless (not (has_set z (record_key r))) YXRRSet)
-prerequisite_by OfZone z r = None
-prerequisite_by OfNothing z r = Some FormErr
+-- 2. a prerequisite: whether the set that it names is there, or any of its owner
+abbrev pub is_found : Zone → Record RData → Bool
+is_found z r = if is_any (type_of_record r) then has_type_at z r.name (λ _. true) else has_set z (record_key r)
+
+-- what is wrong with it, where it is known whether what it names is there
+abbrev pub prerequisite_by : Use → Bool → Record RData → Fault
+prerequisite_by OfAny found r =
+    and_then (unless (is_empty_data r.rdata) FormErr) (unless found (if is_any (type_of_record r) then NXDomain else NXRRSet))
+prerequisite_by OfNone found r =
+    and_then (unless (is_empty_data r.rdata) FormErr) (unless (not found) (if is_any (type_of_record r) then YXDomain else YXRRSet))
+prerequisite_by OfZone found r = None
+prerequisite_by OfNothing found r = Some FormErr
 
 abbrev pub prerequisite_fault : Zone → Record RData → Fault
 prerequisite_fault z r =
     and_then (unless (r.ttl == 0) FormErr)
-    (and_then (unless (is_zone_of z.origin r.name) NotZone) (prerequisite_by (use_of z.class r.dns_class) z r))
+    (and_then (unless (is_zone_of z.origin r.name) NotZone) (prerequisite_by (use_of z.class r.dns_class) (is_found z r) r))
 
 abbrev pub is_of_zone : Use → Bool
 is_of_zone OfZone = true
@@ -138,6 +140,10 @@ added xs r = if list_any (λ d. is_data_of d r) xs then map (λ d. if is_data_of
 abbrev pub removed : List Datum → Record RData → List Datum
 removed xs r = filter (λ d. not (is_data_of d r)) xs
 
+-- whether a record isn't deleted: an SOA, or the last name server at the origin (3.4.2.4)
+abbrev pub is_needed : Zone → Record RData → Bool
+is_needed z r = is_soa (type_of_record r) || (is_guarded z r.name (type_of_record r) && nat_le (length (at z (record_key r))) 1)
+
 -- an update
 abbrev pub update_by : Use → Zone → Record RData → Zone
 update_by OfZone z r =
@@ -146,9 +152,7 @@ update_by OfZone z r =
 update_by OfAny z r =
     if is_any (type_of_record r) then less_name z r.name
     else (if is_guarded z r.name (type_of_record r) then z else less_key z (record_key r))
-update_by OfNone z r =
-    if is_soa (type_of_record r) || (is_guarded z r.name (type_of_record r) && nat_le (length (at z (record_key r))) 1) then z
-    else put z (record_key r) (removed (at z (record_key r)) r)
+update_by OfNone z r = if is_needed z r then z else put z (record_key r) (removed (at z (record_key r)) r)
 update_by OfNothing z r = z
 
 abbrev pub update : Zone → Record RData → Zone

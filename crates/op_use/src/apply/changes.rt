@@ -1,9 +1,10 @@
 //! The updates of a message, one after the other (RFC 2136, 3.4.2).
 
 ghost use Rattle.std.specs.Prelude.{◌≡◌, ◌∷◌, [], IfOk, OnOk};
-ghost use Rattle.op_use.specs.Applying.{IsZoneMap};
-ghost use Rattle.op_use.specs.MapUpdates.{IsAfter, is_kept_in};
-ghost use Rattle.op_use.specs.Server.{OfAny, OfNone, OfZone, use_of as the_use};
+ghost use Rattle.base.specs.declared.dns_class.DNSClass.{DNSClass as Class};
+ghost use Rattle.op_use.specs.Applying.{IsZoneMap, zone_of_map};
+ghost use Rattle.op_use.specs.MapUpdates.{IsAfter};
+ghost use Rattle.op_use.specs.Server.{OfAny, OfNone, OfZone, is_needed, use_of as the_use};
 
 use crate::apply::class_use::{Use, use_of};
 use crate::apply::owners::{has_type, take_name};
@@ -139,7 +140,7 @@ fn is_kept(
     origin: &Name,
     entry: &Record,
 ) -> Result<bool, AllocError>
-    ensures { IfOk result (λ b. b ≡ is_kept_in origin.now sets.now entry.now) }
+    ensures { IfOk result (λ b. (class : Class) → b ≡ is_needed (zone_of_map origin.now class sets.now) entry.now) }
 {
     let key = key_of(&entry.name, entry.record_type())?;
     Ok(
