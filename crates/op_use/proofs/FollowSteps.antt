@@ -44,7 +44,7 @@ module _ (z : Zone) (r : Record RData) (k : RrKey) (xs : List (Record RData)) (s
     put_follows = at_after_put z (record_key r) k (G (at z (record_key r))) ∙ set_follows _ refl
 
   added_follows : (c a b : Bool)
-      → at (cond c (cond a z (put z (record_key r) (datum_of r ∷ []))) (cond b z (put z (record_key r) (added (at z (record_key r)) r)))) k
+      → at (cond (cond c a b) z (put z (record_key r) (cond c (datum_of r ∷ []) (added (at z (record_key r)) r)))) k
       ≡ map datum_of (cond (not (cond c a b) && is_under r k) (cond c (r ∷ []) (joined r xs)) xs)
   added_follows true true b = same
   added_follows true false b = put_follows (λ ys. r ∷ []) (λ ds. datum_of r ∷ []) (λ ys. refl)

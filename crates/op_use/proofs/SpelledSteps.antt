@@ -4,9 +4,9 @@ use Rattle.base.specs.declared.record_type.RecordType.TheVariants as types
 use Rattle.base.specs.declared.rr_key.RrKey.{RrKey}
 use Rattle.base_data.specs.declared.rdata.RData.{RData}
 use Rattle.op_use.proofs.ZoneSteps.{same_key}
-use Rattle.op_use.specs.AppliedRecords.{after_by, after_update, goes_with, is_kept_out, is_under, parted, with_record}
+use Rattle.op_use.specs.AppliedRecords.{after_by, after_update, goes_with, is_under, parted, with_record}
 use Rattle.op_use.specs.NamedChanges.{is_left}
-use Rattle.op_use.specs.Server.{OfAny, OfNone, OfNothing, OfZone, is_any, is_cname, is_needed, record_key, type_of_record, use_of}
+use Rattle.op_use.specs.Server.{OfAny, OfNone, OfNothing, OfZone, is_any, is_cname, is_kept_out, is_needed, record_key, type_of_record, use_of}
 use Rattle.op_use.specs.Zone.{Zone, has_set, has_type_at, is_guarded}
 use Rattle.rr.specs.SetChanges.{joined}
 use Rattle.rr.specs.declared.record.Record.{Record}

@@ -43,25 +43,26 @@ counted origin class m r = ap (λ k. is_soa (type_of_record r) || (is_guarded (z
 module _ (origin : NameValue) (class : DNSClass) (m n : BTreeMap RrKey SetValue) (r : Record RData) (old : IsZoneMap class m) where
   pub after_cname_stays : use_of class r.dns_class ≡ OfZone → is_cname (type_of_record r) ≡ true
       → has_type_at (zone_of_map origin class m) r.name (λ t. not (is_cname t)) ≡ true → IsAfter origin class (r ∷ []) m m
-  after_cname_stays u c h = same_after origin class m r old (ap (λ how. update_by how (zone_of_map origin class m) r) u ∙ cond-true _ _ _ c ∙ cond-true _ _ _ h)
+  after_cname_stays u c h = same_after origin class m r old (ap (λ how. update_by how (zone_of_map origin class m) r) u ∙ cond-true _ _ _ (cond-true _ _ _ c ∙ h))
       (λ q. alias_kept_out (zone_of_map origin class m) r (records_at m) q u c h)
 
   pub after_cname : use_of class r.dns_class ≡ OfZone → is_cname (type_of_record r) ≡ true → has_type_at (zone_of_map origin class m) r.name (λ t. not (is_cname t)) ≡ false
       → IsSetTo class (record_key r) (r ∷ []) m n → IsAfter origin class (r ∷ []) m n
   after_cname u c h s = set_after origin class (record_key r) (r ∷ []) m n s r old (own_key r) (from_one r (records_at m (record_key r)))
-      (ap (λ how. update_by how (zone_of_map origin class m) r) u ∙ cond-true _ _ _ c ∙ cond-false _ _ _ h)
+      (ap (λ how. update_by how (zone_of_map origin class m) r) u ∙ cond-false _ _ _ (cond-true _ _ _ c ∙ h)
+      ∙ ap (put (zone_of_map origin class m) (record_key r)) (cond-true _ _ _ c))
       (λ q. alias_comes (zone_of_map origin class m) r (records_at m) q u c h)
 
   pub after_beside_cname : use_of class r.dns_class ≡ OfZone → is_cname (type_of_record r) ≡ false → has_set (zone_of_map origin class m) (key_of r.name types.CNAME) ≡ true
       → IsAfter origin class (r ∷ []) m m
-  after_beside_cname u c h = same_after origin class m r old (ap (λ how. update_by how (zone_of_map origin class m) r) u ∙ cond-false _ _ _ c ∙ cond-true _ _ _ h)
+  after_beside_cname u c h = same_after origin class m r old (ap (λ how. update_by how (zone_of_map origin class m) r) u ∙ cond-true _ _ _ (cond-false _ _ _ c ∙ h))
       (λ q. beside_kept_out (zone_of_map origin class m) r (records_at m) q u c h)
 
   pub after_join : use_of class r.dns_class ≡ OfZone → is_cname (type_of_record r) ≡ false → has_set (zone_of_map origin class m) (key_of r.name types.CNAME) ≡ false
       → IsSetTo class (record_key r) (joined r (records_at m (record_key r))) m n → IsAfter origin class (r ∷ []) m n
   after_join u c h s = set_after origin class (record_key r) (joined r (records_at m (record_key r))) m n s r old (own_key r) (from_joined r (records_at m (record_key r)))
-      (ap (λ how. update_by how (zone_of_map origin class m) r) u ∙ cond-false _ _ _ c ∙ cond-false _ _ _ h
-      ∙ ap (put (zone_of_map origin class m) (record_key r)) (ap (λ xs. added xs r) (data_at origin class m (record_key r)) ∙ sym (joined_data r (records_at m (record_key r)))))
+      (ap (λ how. update_by how (zone_of_map origin class m) r) u ∙ cond-false _ _ _ (cond-false _ _ _ c ∙ h)
+      ∙ ap (put (zone_of_map origin class m) (record_key r)) (cond-false _ _ _ c ∙ ap (λ xs. added xs r) (data_at origin class m (record_key r)) ∙ sym (joined_data r (records_at m (record_key r)))))
       (λ q. other_comes (zone_of_map origin class m) r (records_at m) q u c h)
 
   pub after_kept : use_of class r.dns_class ≡ OfNone → is_needed (zone_of_map origin class m) r ≡ true → IsAfter origin class (r ∷ []) m m

@@ -1,11 +1,10 @@
 -- What updates make of the records under a key, each as it is spelled (RFC 2136, 3.4.2).
-use Rattle.base.specs.RrKey.{key_cmp, key_of}
-use Rattle.base.specs.declared.record_type.RecordType.TheVariants as types
+use Rattle.base.specs.RrKey.{key_cmp}
 use Rattle.base.specs.declared.rr_key.RrKey.{RrKey}
 use Rattle.base_data.specs.declared.rdata.RData.{RData}
 use Rattle.op_use.specs.NamedChanges.{is_left}
-use Rattle.op_use.specs.Server.{Fault, OfAny, OfNone, OfNothing, OfZone, Use, is_any, is_cname, is_needed, record_key, type_of_record, update, use_of}
-use Rattle.op_use.specs.Zone.{Zone, has_set, has_type_at, is_guarded}
+use Rattle.op_use.specs.Server.{Fault, OfAny, OfNone, OfNothing, OfZone, Use, is_any, is_cname, is_kept_out, is_needed, record_key, type_of_record, update, use_of}
+use Rattle.op_use.specs.Zone.{Zone, is_guarded}
 use Rattle.rr.specs.SetChanges.{has_data_of, joined}
 use Rattle.rr.specs.declared.record.Record.{Record}
 use Rattle.std.specs.List.{filter}
@@ -15,10 +14,6 @@ use Rattle.std.specs.Prelude.{Bool, List, None, Some, [], if◌then◌else◌, n
 -- whether a record stands under a key
 abbrev pub is_under : Record RData → RrKey → Bool
 is_under r k = eq_by_cmp key_cmp (record_key r) k
-
--- whether a record isn't added: a CNAME beside another type, another type beside a CNAME (RFC 2136, 3.4.2.2)
-abbrev pub is_kept_out : Zone → Record RData → Bool
-is_kept_out z r = if is_cname (type_of_record r) then has_type_at z r.name (λ t. not (is_cname t)) else has_set z (key_of r.name types.CNAME)
 
 -- the records of a set with one more: a CNAME alone, another in the place of equal data, or else last
 abbrev pub with_record : Record RData → List (Record RData) → List (Record RData)

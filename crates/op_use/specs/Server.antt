@@ -140,15 +140,21 @@ added xs r = if list_any (λ d. is_data_of d r) xs then map (λ d. if is_data_of
 abbrev pub removed : List Datum → Record RData → List Datum
 removed xs r = filter (λ d. not (is_data_of d r)) xs
 
+-- whether a record isn't added: a CNAME beside another type, another type beside a CNAME (3.4.2.2)
+abbrev pub is_kept_out : Zone → Record RData → Bool
+is_kept_out z r = if is_cname (type_of_record r) then has_type_at z r.name (λ t. not (is_cname t)) else has_set z (key_of r.name types.CNAME)
+
+-- the data of a set with a record's: a CNAME's alone
+abbrev pub with_datum : Record RData → List Datum → List Datum
+with_datum r xs = if is_cname (type_of_record r) then datum_of r ∷ [] else added xs r
+
 -- whether a record isn't deleted: an SOA, or the last name server at the origin (3.4.2.4)
 abbrev pub is_needed : Zone → Record RData → Bool
 is_needed z r = is_soa (type_of_record r) || (is_guarded z r.name (type_of_record r) && nat_le (length (at z (record_key r))) 1)
 
 -- an update
 abbrev pub update_by : Use → Zone → Record RData → Zone
-update_by OfZone z r =
-    if is_cname (type_of_record r) then (if has_type_at z r.name (λ t. not (is_cname t)) then z else put z (record_key r) (datum_of r ∷ []))
-    else (if has_set z (key_of r.name types.CNAME) then z else put z (record_key r) (added (at z (record_key r)) r))
+update_by OfZone z r = if is_kept_out z r then z else put z (record_key r) (with_datum r (at z (record_key r)))
 update_by OfAny z r =
     if is_any (type_of_record r) then less_name z r.name
     else (if is_guarded z r.name (type_of_record r) then z else less_key z (record_key r))
