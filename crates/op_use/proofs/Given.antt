@@ -21,7 +21,7 @@ use Rattle.base.specs.contracts.dns_class.DNSClassEq.TheImpl.Laws.{laws-law as c
 use Rattle.op.specs.declared.response_code.ResponseCode.TheVariants.{FormErr, NotAuth, NotZone}
 use Rattle.rr.specs.declared.record.Record.{Record}
 use Rattle.base.specs.declared.rr_key.RrKey.{RrKey}
-use Rattle.base.specs.RrKey.{key_cmp, key_of}
+use Rattle.base.specs.RrKey.{key_cmp}
 use Rattle.rr.specs.RecordSet.{SetValue, is_ns, is_soa}
 use Rattle.rr.specs.RecordOrder.{same_class}
 use Rattle.op_use.specs.Zone.{Datum, Zone, at, has_set, put}

@@ -1,4 +1,5 @@
 -- what the builders' updates make of a zone
+use Rattle.op_use.proofs.Deleted.{deleted_is}
 use Rattle.std.specs.Prelude.{Bool, true, false, not, List, [], ◌∷◌, ◌++◌, ◌≡◌, ◌≢◌, ◌&&◌, ◌||◌, cond, map, length, nat_le, Option, Some, None, unwrap_or, is_some}
 use Rattle.std.proofs.Common.{refl, sym, ap, ◌∙◌, subst, ◌⊎◌, inl, inr}
 use Rattle.std.specs.List.{list_any, list_all, fold, AllByRecursion, IsDistinct}
@@ -165,13 +166,14 @@ delete_rrset_changes z r origin zone f p o =
     and_then_none _ ∙ ap (λ b. and_then (unless b NotZone) (prescan_by (use_of z.class classes.ANY) (emptied r))) (owner_inside z origin r.name r.dns_class f)
     ∙ ap (λ b. unless (not b || is_any t) FormErr) (no_meta t o)
     )
-    ∙ ap (λ w. (NoError, w)) (cond-false (is_any t) _ _ (no_any t o) ∙ cond-false (is_guarded z r.name t) _ _ (not_guarded z r.name t o))
+    ∙ ap (λ w. (NoError, w)) (deleted_is z (emptied r) ∙ cond-false (is_any t) _ _ (no_any t o) ∙ cond-false (is_guarded z r.name t) _ _ (not_guarded z r.name t o))
 
 pub delete_all_changes : DeleteAllChanges
 delete_all_changes z owner origin class zone f p =
     served z (delete_all owner origin class) None (zone_passes z origin owner class f) refl (
     and_then_none _ ∙ ap (λ b. and_then (unless b NotZone) (prescan_by (use_of z.class classes.ANY) (empty_record owner types.ANY classes.ANY))) (owner_inside z origin owner class f)
     )
+    ∙ ap (λ w. (NoError, w)) (deleted_is z (empty_record owner types.ANY classes.ANY))
 
 -- compare and swap: the prerequisites
 values_pass : (z : Zone) (k : RrKey) (t : RecordType) (rs : List (Record RData)) → AllByRecursion (IsAt z k t) rs → first_fault (prerequisite_fault z) (map without_ttl rs) ≡ None

@@ -7,6 +7,7 @@ use Rattle.base.specs.declared.record_type.RecordType.TheVariants as types
 use Rattle.base.specs.declared.rr_key.RrKey.{RrKey}
 use Rattle.base_data.specs.declared.rdata.RData.{RData}
 use Rattle.op_use.proofs.AppliedData.{joined_data, parted_data, parted_none}
+use Rattle.op_use.proofs.Deleted.{deleted_is}
 use Rattle.op_use.proofs.MapIsZone.{zone_is}
 use Rattle.op_use.proofs.MapSteps.{own_key, same_after, set_after}
 use Rattle.op_use.proofs.MapZones.{data_at, get_zone}
@@ -94,13 +95,13 @@ module _ (origin : NameValue) (class : DNSClass) (m n : BTreeMap RrKey SetValue)
 
   pub after_guarded : use_of class r.dns_class ≡ OfAny → is_any (type_of_record r) ≡ false → is_guarded (zone_of_map origin class m) r.name (type_of_record r) ≡ true
       → IsAfter origin class (r ∷ []) m m
-  after_guarded u c h = same_after origin class m r old (ap (λ how. update_by how (zone_of_map origin class m) r) u ∙ cond-false _ _ _ c ∙ cond-true _ _ _ h)
+  after_guarded u c h = same_after origin class m r old (ap (λ how. update_by how (zone_of_map origin class m) r) u ∙ deleted_is (zone_of_map origin class m) r ∙ cond-false _ _ _ c ∙ cond-true _ _ _ h)
       (λ q. guarded_stays (zone_of_map origin class m) r (records_at m) q u c h)
 
   pub after_set : use_of class r.dns_class ≡ OfAny → is_any (type_of_record r) ≡ false → is_guarded (zone_of_map origin class m) r.name (type_of_record r) ≡ false
       → IsSetTo class (record_key r) [] m n → IsAfter origin class (r ∷ []) m n
   after_set u c h s = set_after origin class (record_key r) [] m n s r old (own_key r) (from_none r (records_at m (record_key r)))
-      (ap (λ how. update_by how (zone_of_map origin class m) r) u ∙ cond-false _ _ _ c ∙ cond-false _ _ _ h)
+      (ap (λ how. update_by how (zone_of_map origin class m) r) u ∙ deleted_is (zone_of_map origin class m) r ∙ cond-false _ _ _ c ∙ cond-false _ _ _ h)
       (λ q. set_goes (zone_of_map origin class m) r (records_at m) q u c h)
 
   pub after_nothing : use_of class r.dns_class ≡ OfNothing → IsAfter origin class (r ∷ []) m m
@@ -134,7 +135,7 @@ module _ (origin : NameValue) (class : DNSClass) (m n : BTreeMap RrKey SetValue)
         ∙ ap (λ o. cond (is_left (zone_of_map origin class m) r.name q) o None) (sym (get_zone origin class m q))
         ∙ sym (fin.get-retain_keys (zone_of_map origin class m).sets (is_left (zone_of_map origin class m) r.name) q
         (λ x e. ap (is_left (zone_of_map origin class m) r.name) (sym (key_cmp-exact q x e))))))
-        ∙ sym (ap (λ how. update_by how (zone_of_map origin class m) r) u ∙ cond-true _ _ _ c);
+        ∙ sym (ap (λ how. update_by how (zone_of_map origin class m) r) u ∙ deleted_is (zone_of_map origin class m) r ∙ cond-true _ _ _ c);
     is_map = λ q s e. old q s (left_there (is_left (zone_of_map origin class m) r.name q) q s (sym (h q) ∙ e));
     others = λ q free. h q ∙ left_same (is_owned r.name q) _ (tree.get key_cmp m q) ((or_parts (is_owned r.name q) false free).0);
     taken = λ q v a. left_taken (is_left (zone_of_map origin class m) r.name q) q v (subst (λ o. IsAmong (records_in o) v) (h q) a);

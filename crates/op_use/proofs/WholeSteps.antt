@@ -27,7 +27,7 @@ use Rattle.std.specs.BTreeMap.{BTreeMap, is_at}
 use Rattle.std.specs.FinMap as fin
 use Rattle.std.specs.List.{IsAmong, fold, list_all, list_any}
 use Rattle.std.specs.Map.{lookup}
-use Rattle.std.specs.Prelude.{Bool, List, None, Some, [], cond, false, filter, if◌then◌else◌, map, not, true, ◌&&◌, ◌==◌, ◌||◌, ◌∷◌, ◌≡◌}
+use Rattle.std.specs.Prelude.{Bool, List, None, Some, [], cond, false, filter, map, not, true, ◌&&◌, ◌||◌, ◌∷◌, ◌≡◌}
 
 any_step : (p : Record RData → Bool) (b : Bool) (r : Record RData) (xs : List (Record RData)) → list_any p (cond b (r ∷ xs) xs) ≡ ((b && p r) || list_any p xs)
 any_step p true r xs = refl

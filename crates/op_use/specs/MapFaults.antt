@@ -1,6 +1,5 @@
 -- What an update is refused for, by what a map of record sets holds (RFC 2136, 3.1, 3.2 and 3.4.1).
 use Rattle.base.specs.Labels.{NameValue}
-use Rattle.base.specs.RrKey.{key_cmp}
 use Rattle.base.specs.declared.dns_class.DNSClass.{DNSClass}
 use Rattle.base.specs.declared.rr_key.RrKey.{RrKey}
 use Rattle.base_data.specs.declared.rdata.RData.{RData}

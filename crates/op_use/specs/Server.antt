@@ -1,5 +1,6 @@
 -- what a server does with an update
 use Rattle.std.specs.Prelude.{Bool, true, false, not, List, [], ◌∷◌, ◌++◌, ◌&&◌, ◌||◌, ◌==◌, nat_le, map, length, if◌then◌else◌, Option, Some, None}
+use Rattle.std.specs.FinMap as fin
 use Rattle.std.specs.List.{filter, list_any, list_all, fold}
 use Rattle.base.specs.NameOrder.{is_zone_of, same_name}
 use Rattle.base_data.specs.Kinds.{type_of_data}
@@ -20,8 +21,8 @@ use Rattle.rr.specs.RecordSet.{is_soa}
 use Rattle.rr.specs.RecordOrder.{same_class}
 use Rattle.op.specs.Message.{MessageValue}
 use Rattle.op.specs.declared.query.Query.{Query}
-use Rattle.op_use.specs.Zone.{Datum, Zone, at, has_set, has_type_at, is_guarded, put}
-use Rattle.op_use.specs.NamedChanges.{datum_of, is_data_of, less_key, less_name}
+use Rattle.op_use.specs.Zone.{Datum, Zone, at, has_set, has_type_at, is_guarded, is_owned, put}
+use Rattle.op_use.specs.NamedChanges.{datum_of, is_data_of}
 
 -- the sections of an update
 pub record Sections : Type 0 where
@@ -148,6 +149,16 @@ is_kept_out z r = if is_cname (type_of_record r) then has_type_at z r.name (λ t
 abbrev pub with_datum : Record RData → List Datum → List Datum
 with_datum r xs = if is_cname (type_of_record r) then datum_of r ∷ [] else added xs r
 
+-- whether a record stands under a key
+abbrev pub is_under : Record RData → RrKey → Bool
+is_under r k = eq_by_cmp key_cmp (record_key r) k
+
+-- whether a set is deleted: the one that is named, or each of the owner; at the origin SOA and NS stay (3.4.2.3)
+abbrev pub goes_with : Zone → Record RData → RrKey → Bool
+goes_with z r k =
+    if is_any (type_of_record r) then is_owned r.name k && not (is_guarded z r.name k.record_type)
+    else not (is_guarded z r.name (type_of_record r)) && is_under r k
+
 -- whether a record isn't deleted: an SOA, or the last name server at the origin (3.4.2.4)
 abbrev pub is_needed : Zone → Record RData → Bool
 is_needed z r = is_soa (type_of_record r) || (is_guarded z r.name (type_of_record r) && nat_le (length (at z (record_key r))) 1)
@@ -155,9 +166,7 @@ is_needed z r = is_soa (type_of_record r) || (is_guarded z r.name (type_of_recor
 -- an update
 abbrev pub update_by : Use → Zone → Record RData → Zone
 update_by OfZone z r = if is_kept_out z r then z else put z (record_key r) (with_datum r (at z (record_key r)))
-update_by OfAny z r =
-    if is_any (type_of_record r) then less_name z r.name
-    else (if is_guarded z r.name (type_of_record r) then z else less_key z (record_key r))
+update_by OfAny z r = record z { sets = fin.retain_keys z.sets (λ k. not (goes_with z r k)) }
 update_by OfNone z r = if is_needed z r then z else put z (record_key r) (removed (at z (record_key r)) r)
 update_by OfNothing z r = z
 

@@ -9,7 +9,7 @@ use Rattle.std.proofs.Common.{length, nat_le, rules, sym, ◌&&◌, ◌||◌, �
 pub returns : goal.returns
 returns c =
     let kept : c.if-is_start.result
-        ≡ (is_soa (type_of_record c.args.entry.now) || ((same_name c.args.entry.now.name c.args.origin.now
-        && (is_soa (type_of_record c.args.entry.now) || is_ns (type_of_record c.args.entry.now)))
-        && nat_le (length (records_at c.args.sets.now (record_key c.args.entry.now))) 1)) = search rules in
+    ≡ (is_soa (type_of_record c.args.entry.now) || ((same_name c.args.entry.now.name c.args.origin.now
+    && (is_soa (type_of_record c.args.entry.now) || is_ns (type_of_record c.args.entry.now)))
+    && nat_le (length (records_at c.args.sets.now (record_key c.args.entry.now))) 1)) = search rules in
     λ class. kept ∙ sym (counted c.args.origin.now class c.args.sets.now c.args.entry.now)
