@@ -9,7 +9,7 @@ use Rattle.rr.proofs.SetSteps.{replaced_none}
 use Rattle.rr.specs.SetChanges.{has_data_of, joined, replaced}
 use Rattle.rr.specs.declared.record.Record.{Record}
 use Rattle.std.proofs.Common.{ap, refl, subst, sym, ◌∙◌}
-use Rattle.std.proofs.lemmas.Bool.{or_parts}
+use Rattle.std.proofs.lemmas.Bool.{cond-true, or_parts}
 use Rattle.std.proofs.lemmas.List.{append-nil, map-append}
 use Rattle.std.specs.List.{AllByRecursion, IsDistinct, list_any}
 use Rattle.std.specs.Ordering.{on}
@@ -59,6 +59,13 @@ pub parted_data : (r : Record RData) (xs : List (Record RData)) → map datum_of
 parted_data r [] = refl
 parted_data r (x ∷ xs) = parted_at r x (parted r xs) (not (same_data x.rdata r.rdata)) refl
     ∙ ap (λ ds. cond (not (same_data x.rdata r.rdata)) (datum_of x ∷ ds) ds) (parted_data r xs)
+
+-- a record of whose data there is none takes nothing out
+pub parted_none : (r : Record RData) (xs : List (Record RData)) → list_any (has_data_of r) xs ≡ false → parted r xs ≡ xs
+parted_none r [] none = refl
+parted_none r (x ∷ xs) none =
+    let parts : (has_data_of r x ≡ false) × (list_any (has_data_of r) xs ≡ false) = or_parts (has_data_of r x) (list_any (has_data_of r) xs) none in
+    cond-true (not (has_data_of r x)) _ _ (ap not parts.0) ∙ ap (λ ys. x ∷ ys) (parted_none r xs parts.1)
 
 -- no two of equal data
 abbrev Far : Record RData → List (Record RData) → Type 0

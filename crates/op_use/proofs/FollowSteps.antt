@@ -7,12 +7,12 @@ use Rattle.op.specs.declared.response_code.ResponseCode.TheVariants.{NotImp}
 use Rattle.op_use.proofs.AppliedData.{joined_data, parted_data}
 use Rattle.op_use.proofs.ZoneSteps.{get_with_set, kept, same_key}
 use Rattle.op_use.specs.AppliedMeaning.{RecordsHoldTheData}
-use Rattle.op_use.specs.AppliedRecords.{after_by, after_update, is_needed, is_under, parted, records_after, records_answered}
+use Rattle.op_use.specs.AppliedRecords.{after_by, after_update, parted, records_after, records_answered}
 use Rattle.op_use.specs.Applying.{is_all_served}
-use Rattle.op_use.specs.NamedChanges.{datum_of, is_left, less_key, less_name}
-use Rattle.op_use.specs.Server.{Fault, OfAny, OfNone, OfNothing, OfZone, Sections, Use as UseValue, added, answer, fault, is_any, is_cname, record_key, removed}
+use Rattle.op_use.specs.NamedChanges.{datum_of}
+use Rattle.op_use.specs.Server.{Fault, OfAny, OfNone, OfNothing, OfZone, Sections, Use as UseValue, added, answer, fault, goes_with, is_cname, is_needed, record_key, removed, is_under}
 use Rattle.op_use.specs.Server.{type_of_record, update, update_by, use_of}
-use Rattle.op_use.specs.Zone.{Datum, Zone, at, is_guarded, put}
+use Rattle.op_use.specs.Zone.{Datum, Zone, at, put}
 use Rattle.rr.specs.SetChanges.{joined}
 use Rattle.rr.specs.declared.record.Record.{Record}
 use Rattle.std.proofs.Common.{ap, refl, sym, ◌∙◌}
@@ -44,7 +44,7 @@ module _ (z : Zone) (r : Record RData) (k : RrKey) (xs : List (Record RData)) (s
     put_follows = at_after_put z (record_key r) k (G (at z (record_key r))) ∙ set_follows _ refl
 
   added_follows : (c a b : Bool)
-      → at (cond c (cond a z (put z (record_key r) (datum_of r ∷ []))) (cond b z (put z (record_key r) (added (at z (record_key r)) r)))) k
+      → at (cond (cond c a b) z (put z (record_key r) (cond c (datum_of r ∷ []) (added (at z (record_key r)) r)))) k
       ≡ map datum_of (cond (not (cond c a b) && is_under r k) (cond c (r ∷ []) (joined r xs)) xs)
   added_follows true true b = same
   added_follows true false b = put_follows (λ ys. r ∷ []) (λ ds. datum_of r ∷ []) (λ ys. refl)
@@ -56,22 +56,14 @@ module _ (z : Zone) (r : Record RData) (k : RrKey) (xs : List (Record RData)) (s
   removed_follows true = same
   removed_follows false = put_follows (parted r) (λ ds. removed ds r) (parted_data r)
 
-  name_left : (b : Bool) → unwrap_or (cond b (fin.get z.sets k) None) [] ≡ map datum_of (cond (not b) [] xs)
-  name_left true = same
-  name_left false = refl
-
-  deleted_follows : (y g : Bool)
-      → at (cond y (less_name z r.name) (cond g z (less_key z (record_key r)))) k
-      ≡ map datum_of (cond (cond y (not (is_left z r.name k)) (not g && is_under r k)) [] xs)
-  deleted_follows true g =
-      ap (λ o. unwrap_or o []) (fin.get-retain_keys z.sets (is_left z r.name) k (λ q e. ap (is_left z r.name) (sym (key_cmp-exact k q e))))
-      ∙ name_left (is_left z r.name k)
-  deleted_follows false true = same
-  deleted_follows false false = put_follows (λ ys. []) (λ ds. []) (λ ys. refl)
+  gone : (b : Bool) → unwrap_or (cond (not b) (fin.get z.sets k) None) [] ≡ map datum_of (cond b [] xs)
+  gone true = refl
+  gone false = same
 
   follows_by : (how : UseValue) → at (update_by how z r) k ≡ map datum_of (after_by how z r k xs)
   follows_by OfZone = added_follows (is_cname (type_of_record r)) _ _
-  follows_by OfAny = deleted_follows (is_any (type_of_record r)) (is_guarded z r.name (type_of_record r))
+  follows_by OfAny = ap (λ o. unwrap_or o [])
+      (fin.get-retain_keys z.sets (λ q. not (goes_with z r q)) k (λ q e. ap (λ p. not (goes_with z r p)) (sym (key_cmp-exact k q e)))) ∙ gone (goes_with z r k)
   follows_by OfNone = removed_follows (is_needed z r)
   follows_by OfNothing = same
 

@@ -21,12 +21,12 @@ use Rattle.base.specs.contracts.dns_class.DNSClassEq.TheImpl.Laws.{laws-law as c
 use Rattle.op.specs.declared.response_code.ResponseCode.TheVariants.{FormErr, NotAuth, NotZone}
 use Rattle.rr.specs.declared.record.Record.{Record}
 use Rattle.base.specs.declared.rr_key.RrKey.{RrKey}
-use Rattle.base.specs.RrKey.{key_cmp, key_of}
+use Rattle.base.specs.RrKey.{key_cmp}
 use Rattle.rr.specs.RecordSet.{SetValue, is_ns, is_soa}
 use Rattle.rr.specs.RecordOrder.{same_class}
 use Rattle.op_use.specs.Zone.{Datum, Zone, at, has_set, put}
 use Rattle.op_use.specs.NamedChanges.{set_key}
-use Rattle.op_use.specs.Server.{is_any, is_cname, is_meta, type_of_record, record_key, use_of, OfZone, first_fault, prescan_fault, update, added, and_then, unless, zone_fault, prescan_by, update_by}
+use Rattle.op_use.specs.Server.{is_any, is_cname, is_kept_out, is_meta, type_of_record, record_key, use_of, OfZone, first_fault, prescan_fault, update, added, and_then, unless, zone_fault, prescan_by, update_by}
 use Rattle.op_use.specs.SoundSet.{IsFor, IsGiven, is_ordinary, is_plain_class}
 use Rattle.op_use.proofs.ZoneSteps.{at_put, put_put, at_put_other, same_key}
 
@@ -132,8 +132,8 @@ scan_passes z k t m (r ∷ rs) h =
 pub update_one : (z : Zone) (k : RrKey) (t : RecordType) (r : Record RData) → is_cname t ≡ false → has_set z (cname_key k) ≡ false → IsAt z k t r → update z r ≡ put z k (added (at z k) r)
 update_one z k t r plain none h =
     ap (λ u. update_by u z r) h.own_use
-    ∙ cond-false (is_cname (type_of_record r)) _ _ (ap is_cname h.type ∙ plain)
-    ∙ cond-false (has_set z (key_of r.name types.CNAME)) _ _ (ap (λ q. has_set z (cname_key q)) h.key ∙ none)
+    ∙ cond-false (is_kept_out z r) _ _ (cond-false (is_cname (type_of_record r)) _ _ (ap is_cname h.type ∙ plain) ∙ ap (λ q. has_set z (cname_key q)) h.key ∙ none)
+    ∙ ap (put z (record_key r)) (cond-false (is_cname (type_of_record r)) _ _ (ap is_cname h.type ∙ plain))
     ∙ ap (λ q. put z q (added (at z q) r)) h.key
 
 cname_apart : (k : RrKey) → is_cname k.record_type ≡ false → eq_by_cmp key_cmp (cname_key k) k ≡ false

@@ -8,7 +8,7 @@ use Rattle.base.specs.RrKey.{key_cmp, key_of}
 use Rattle.base.specs.declared.record_type.RecordType.{RecordType}
 use Rattle.std.proofs.Common.{refl, sym, ◌∙◌}
 use Rattle.std.specs.Ordering.{eq_by_cmp, is_eq, ordering_then}
-use Rattle.std.specs.Prelude.{◌&&◌, ◌≡◌}
+use Rattle.std.specs.Prelude.{Bool, false, true, ◌&&◌, ◌≡◌}
 use Rattle.std.specs.declared.cmp.Ordering.TheVariants.{Equal, Greater, Less}
 use Rattle.std.specs.declared.cmp.Ordering.{Ordering}
 
@@ -17,6 +17,13 @@ both_eq Less y = refl
 both_eq Equal y = refl
 both_eq Greater y = refl
 
--- keys are the same where names and types are
-pub same_key_is : (a b : NameValue) (s t : RecordType) → (same_name a b && same_type s t) ≡ eq_by_cmp key_cmp (key_of a s) (key_of b t)
-same_key_is a b s t = (λ i. same_by-tie folded a b i && keys_match type_number type_rank s t i) ∙ sym (both_eq (lower_cmp (lowered a) (lowered b)) (type_cmp s t))
+turned : (x y : Bool) → (x && y) ≡ (y && x)
+turned true true = refl
+turned true false = refl
+turned false true = refl
+turned false false = refl
+
+-- keys are the same where types and names are
+pub same_key_is : (a b : NameValue) (s t : RecordType) → (same_type s t && same_name a b) ≡ eq_by_cmp key_cmp (key_of a s) (key_of b t)
+same_key_is a b s t = turned (same_type s t) (same_name a b) ∙ (λ i. same_by-tie folded a b i && keys_match type_number type_rank s t i)
+    ∙ sym (both_eq (lower_cmp (lowered a) (lowered b)) (type_cmp s t))

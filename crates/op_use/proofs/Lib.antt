@@ -2,6 +2,7 @@ mod AppliedData
 mod AppliedLemmas
 mod BuiltLemmas
 mod Changes
+mod Deleted
 mod FollowSteps
 mod Given
 mod KeySteps

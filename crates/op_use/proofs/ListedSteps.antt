@@ -11,13 +11,13 @@ use Rattle.op_use.specs.Server.{is_same_key, record_key}
 use Rattle.rr.specs.RecordSet.{SetValue}
 use Rattle.rr.specs.SetChanges.{has_data_of}
 use Rattle.rr.specs.declared.record.Record.{Record}
-use Rattle.std.proofs.Common.{ap, inl, inr, refl, sym, ◌∙◌}
+use Rattle.std.proofs.Common.{ap, arith, inl, inr, refl, sym, ◌∙◌}
 use Rattle.std.proofs.lemmas.Bool.{and_from, and_parts, or_cases, true≢false}
 use Rattle.std.proofs.lemmas.List.Folds.{list_all-append}
 use Rattle.std.specs.BTreeMap.{BTreeMap}
 use Rattle.std.specs.List.{list_all, list_any}
 use Rattle.std.specs.Ordering.{eq_by_cmp}
-use Rattle.std.specs.Prelude.{Bool, List, [], false, length, not, slice_index_or, take, true, ℕ, ◌&&◌, ◌+◌, ◌<◌, ◌||◌, ◌∷◌, ◌≡◌, ◌⊎◌}
+use Rattle.std.specs.Prelude.{Bool, List, [], drop, false, length, not, slice_index_or, suc, take, true, zero, ℕ, ◌&&◌, ◌+◌, ◌<◌, ◌||◌, ◌∷◌, ◌≡◌, ◌⊎◌}
 
 -- one test of each of two things
 mixed : (z a b p q : Bool) → ((not z || (a && b)) && (p && q)) ≡ (((not z || a) && p) && ((not z || b) && q))
@@ -44,6 +44,30 @@ pub passed_more : (p : Record RData → Bool) (xs : List (Record RData)) (i : �
     → list_all p (take (i + 1) xs) ≡ true
 passed_more p xs i x h e good all = ap (list_all p) (sym (taken_more xs i x h e)) ∙ list_all-append p (take i xs) (x ∷ [])
     ∙ and_from (list_all p (take i xs)) (p x && true) all (and_from (p x) true good refl)
+
+-- a record that fails a test is passed over
+after_one : (i : ℕ) → suc (i + 1) ≡ suc i + 1
+after_one i = omega arith
+
+left_over : (p : Record RData → Bool) (xs : List (Record RData)) (i : ℕ) (x : Record RData) → i < length xs → x ≡ slice_index_or xs i x
+    → list_any p (drop i xs) ≡ (p x || list_any p (drop (i + 1) xs))
+left_over p [] i x h e = absurd (omega arith)
+left_over p (y ∷ ys) zero x h e = ap (λ z. p z || list_any p ys) (sym e)
+left_over p (y ∷ ys) (suc i) x h e = left_over p ys i x (omega arith) e ∙ ap (λ n. p x || list_any p (drop n (y ∷ ys))) (after_one i)
+
+pub passed_by : (p : Record RData → Bool) (xs : List (Record RData)) (i : ℕ) (x : Record RData) (b : Bool) → i < length xs → x ≡ slice_index_or xs i x → p x ≡ false
+    → list_any p (drop i xs) ≡ b → list_any p (drop (i + 1) xs) ≡ b
+passed_by p xs i x b h e fails left = sym (left_over p xs i x h e ∙ ap (λ c. c || list_any p (drop (i + 1) xs)) fails) ∙ left
+
+and_false : (a : Bool) → (a && false) ≡ false
+and_false true = refl
+and_false false = refl
+
+pub second_false : (a b c : Bool) → b ≡ false → (a && (b && c)) ≡ false
+second_false a b c e = ap (λ x. a && (x && c)) e ∙ and_false a
+
+pub third_false : (a b c : Bool) → c ≡ false → (a && (b && c)) ≡ false
+third_false a b c e = ap (λ x. a && (b && x)) e ∙ ap (λ x. a && x) (and_false b) ∙ and_false a
 
 module _ (m : BTreeMap RrKey SetValue) (class : DNSClass) (all : List (Record RData)) where
   abbrev pub is_complete : Record RData → Bool

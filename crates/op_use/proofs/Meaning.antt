@@ -1,4 +1,5 @@
 -- what the builders' updates make of a zone
+use Rattle.op_use.proofs.Deleted.{deleted_is}
 use Rattle.std.specs.Prelude.{Bool, true, false, not, List, [], ◌∷◌, ◌++◌, ◌≡◌, ◌≢◌, ◌&&◌, ◌||◌, cond, map, length, nat_le, Option, Some, None, unwrap_or, is_some}
 use Rattle.std.proofs.Common.{refl, sym, ap, ◌∙◌, subst, ◌⊎◌, inl, inr}
 use Rattle.std.specs.List.{list_any, list_all, fold, AllByRecursion, IsDistinct}
@@ -15,16 +16,16 @@ use Rattle.base.specs.declared.record_type.RecordType.TheVariants as types
 use Rattle.base.specs.declared.dns_class.DNSClass.{DNSClass}
 use Rattle.base.specs.declared.dns_class.DNSClass.TheVariants as classes
 use Rattle.op.specs.declared.response_code.ResponseCode.{ResponseCode}
-use Rattle.op.specs.declared.response_code.ResponseCode.TheVariants.{NoError, FormErr, YXRRSet, NXRRSet, NotZone}
+use Rattle.op.specs.declared.response_code.ResponseCode.TheVariants.{NoError, FormErr, NXDomain, YXDomain, YXRRSet, NXRRSet, NotZone}
 use Rattle.rr.specs.declared.record.Record.{Record}
 use Rattle.base.specs.declared.rr_key.RrKey.{RrKey}
 use Rattle.base.specs.RrKey.{key_cmp, key_of}
 use Rattle.rr.specs.RecordSet.{SetValue, is_ns, is_soa}
 use Rattle.base_data.specs.SameData.{same_data}
-use Rattle.op_use.specs.Zone.{Datum, IsZone, Zone, at, has_set, is_guarded, put}
+use Rattle.op_use.specs.Zone.{Datum, IsZone, Zone, at, has_set, has_type_at, is_guarded, put}
 use Rattle.op_use.specs.NamedChanges.{has_data_of_set, is_data_of, less_data, less_key, merged, set_key}
 use Rattle.op_use.specs.Server.{Sections, Fault, and_then, unless, first_fault, prescan_fault, prescan_by, prerequisite_fault, prerequisite_by, prerequisites_fault}
-use Rattle.op_use.specs.Server.{collected, is_met, is_same_key, is_of_zone, use_of, is_any, is_meta, type_of_record, record_key, update, removed, answer, serve}
+use Rattle.op_use.specs.Server.{collected, is_found, is_met, is_same_key, is_of_zone, use_of, is_any, is_meta, type_of_record, record_key, update, removed, answer, serve}
 use Rattle.op_use.specs.Server.{zone_fault}
 use Rattle.op_use.specs.SoundSet.{IsFor, IsGiven, NoCname, is_ordinary}
 use Rattle.op_use.specs.UpdateMessage.{append, compare_and_swap, create, delete_all, delete_by_rdata, delete_rrset, emptied, empty_record, in_class, without_ttl}
@@ -73,15 +74,15 @@ no_such : (z : Zone) (owner : NameValue) (t : RecordType) → is_zone_of z.origi
     → prerequisites_fault z (empty_record owner t classes.NONE ∷ []) ≡ unless (not (has_set z (key_of owner t))) YXRRSet
 no_such z owner t inside plain =
     and_then_none _ ∙ and_then_none _
-    ∙ ap (λ b. and_then (unless b NotZone) (prerequisite_by (use_of z.class classes.NONE) z (empty_record owner t classes.NONE))) inside
-    ∙ cond-false (is_any t) _ _ plain
+    ∙ ap (λ b. and_then (unless b NotZone) (prerequisite_by (use_of z.class classes.NONE) (is_found z (empty_record owner t classes.NONE)) (empty_record owner t classes.NONE))) inside
+    ∙ ap (λ b. unless (not (cond b (has_type_at z owner (λ u. true)) (has_set z (key_of owner t)))) (cond b YXDomain YXRRSet)) plain
 
 such : (z : Zone) (owner : NameValue) (t : RecordType) → is_zone_of z.origin owner ≡ true → is_any t ≡ false
     → prerequisites_fault z (empty_record owner t classes.ANY ∷ []) ≡ unless (has_set z (key_of owner t)) NXRRSet
 such z owner t inside plain =
     and_then_none _ ∙ and_then_none _
-    ∙ ap (λ b. and_then (unless b NotZone) (prerequisite_by (use_of z.class classes.ANY) z (empty_record owner t classes.ANY))) inside
-    ∙ cond-false (is_any t) _ _ plain
+    ∙ ap (λ b. and_then (unless b NotZone) (prerequisite_by (use_of z.class classes.ANY) (is_found z (empty_record owner t classes.ANY)) (empty_record owner t classes.ANY))) inside
+    ∙ ap (λ b. unless (cond b (has_type_at z owner (λ u. true)) (has_set z (key_of owner t))) (cond b NXDomain NXRRSet)) plain
 
 pub create_changes : CreateChanges
 create_changes z s origin g none =
@@ -165,21 +166,22 @@ delete_rrset_changes z r origin zone f p o =
     and_then_none _ ∙ ap (λ b. and_then (unless b NotZone) (prescan_by (use_of z.class classes.ANY) (emptied r))) (owner_inside z origin r.name r.dns_class f)
     ∙ ap (λ b. unless (not b || is_any t) FormErr) (no_meta t o)
     )
-    ∙ ap (λ w. (NoError, w)) (cond-false (is_any t) _ _ (no_any t o) ∙ cond-false (is_guarded z r.name t) _ _ (not_guarded z r.name t o))
+    ∙ ap (λ w. (NoError, w)) (deleted_is z (emptied r) ∙ cond-false (is_any t) _ _ (no_any t o) ∙ cond-false (is_guarded z r.name t) _ _ (not_guarded z r.name t o))
 
 pub delete_all_changes : DeleteAllChanges
 delete_all_changes z owner origin class zone f p =
     served z (delete_all owner origin class) None (zone_passes z origin owner class f) refl (
     and_then_none _ ∙ ap (λ b. and_then (unless b NotZone) (prescan_by (use_of z.class classes.ANY) (empty_record owner types.ANY classes.ANY))) (owner_inside z origin owner class f)
     )
+    ∙ ap (λ w. (NoError, w)) (deleted_is z (empty_record owner types.ANY classes.ANY))
 
 -- compare and swap: the prerequisites
 values_pass : (z : Zone) (k : RrKey) (t : RecordType) (rs : List (Record RData)) → AllByRecursion (IsAt z k t) rs → first_fault (prerequisite_fault z) (map without_ttl rs) ≡ None
 values_pass z k t [] h = refl
 values_pass z k t (r ∷ rs) h =
     ap (λ f. and_then f (first_fault (prerequisite_fault z) (map without_ttl rs))) (
-    ap (λ b. and_then (unless b NotZone) (prerequisite_by (use_of z.class r.dns_class) z (without_ttl r))) h.0.inside
-    ∙ ap (λ u. prerequisite_by u z (without_ttl r)) h.0.own_use
+    ap (λ b. and_then (unless b NotZone) (prerequisite_by (use_of z.class r.dns_class) (is_found z (without_ttl r)) (without_ttl r))) h.0.inside
+    ∙ ap (λ u. prerequisite_by u (is_found z (without_ttl r)) (without_ttl r)) h.0.own_use
     ) ∙ values_pass z k t rs h.1
 
 all_collected : (z : Zone) (k : RrKey) (t : RecordType) (rs : List (Record RData)) → AllByRecursion (IsAt z k t) rs → collected z (map without_ttl rs) ≡ map without_ttl rs

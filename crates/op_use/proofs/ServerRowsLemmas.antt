@@ -1,4 +1,9 @@
 -- The rows of what a server answers are what its definition computes.
+use Rattle.op_use.specs.UpdateMessage.{empty_record}
+use Rattle.op_use.proofs.Deleted.{deleted_is}
+use Rattle.op.specs.declared.response_code.ResponseCode.TheVariants.{NoError}
+use Rattle.base.specs.declared.record_type.RecordType.TheVariants as types
+use Rattle.base.specs.declared.dns_class.DNSClass.TheVariants as classes
 use Rattle.std.specs.Prelude.{Bool, cond, false, List, [], ◌∷◌, ◌≡◌, length, not, None, Option, Some, true}
 use Rattle.std.proofs.Common.{refl, sym, ap, ◌∙◌, arith}
 use Rattle.std.specs.FinMap as fin
@@ -7,7 +12,7 @@ use Rattle.std.specs.FinMap.{FinMap}
 use Rattle.base.specs.RrKey.{key_cmp}
 use Rattle.base.specs.declared.rr_key.RrKey.{RrKey}
 use Rattle.base.proofs.KeyLemmas.{key_cmp-exact, key_cmp-total}
-use Rattle.op_use.specs.ServerRows.{AddRows, BuilderRows, DeleteRecordRows, DeleteSetRows, PrerequisiteRows, PrescanRows, ZoneSectionRows}
+use Rattle.op_use.specs.ServerRows.{AddRows, BuilderRows, DeleteRecordRows, DeleteSetRows, PrerequisiteRows, PrescanRows, ZoneSectionRows, example, origin_sets, zone_with}
 use Rattle.op_use.specs.Zone.{Datum}
 use Rattle.op_use.proofs.ZoneSteps.{same_key, same_sets, twice}
 
@@ -134,8 +139,8 @@ delete_set_rows = record {
   one_type = simp zones;
   not_there = simp zones;
   all_types = simp zones;
-  start_stays = refl;
-  servers_stay = refl;
+  start_stays = ap (λ w. (NoError, w)) (deleted_is (zone_with origin_sets) (empty_record example types.SOA classes.ANY));
+  servers_stay = ap (λ w. (NoError, w)) (deleted_is (zone_with origin_sets) (empty_record example types.NS classes.ANY));
   both_stay = simp zones;
   below = simp zones;
 }

@@ -4,20 +4,21 @@ use Rattle.base.specs.declared.record_type.RecordType.TheVariants as types
 use Rattle.base.specs.declared.rr_key.RrKey.{RrKey}
 use Rattle.base_data.specs.declared.rdata.RData.{RData}
 use Rattle.op_use.proofs.ZoneSteps.{same_key}
-use Rattle.op_use.specs.AppliedRecords.{after_by, after_update, goes_with, is_kept_out, is_needed, is_under, parted, with_record}
+use Rattle.op_use.specs.AppliedRecords.{after_by, after_update, parted, with_record}
 use Rattle.op_use.specs.NamedChanges.{is_left}
-use Rattle.op_use.specs.Server.{OfAny, OfNone, OfNothing, OfZone, is_any, is_cname, record_key, type_of_record, use_of}
-use Rattle.op_use.specs.Zone.{Zone, has_set, has_type_at, is_guarded}
+use Rattle.op_use.specs.Server.{OfAny, OfNone, OfNothing, OfZone, is_any, is_cname, is_kept_out, is_needed, record_key, type_of_record, use_of, is_under, goes_with}
+use Rattle.op_use.specs.Zone.{Zone, has_set, has_type_at, is_guarded, is_owned}
 use Rattle.rr.specs.SetChanges.{joined}
 use Rattle.rr.specs.declared.record.Record.{Record}
 use Rattle.std.proofs.Common.{ap, refl, sym, ◌∙◌}
 use Rattle.std.proofs.lemmas.Bool.{cond-false, cond-true}
 use Rattle.std.specs.Ordering.{eq_by_cmp}
-use Rattle.std.specs.Prelude.{Bool, List, [], cond, false, not, true, ◌&&◌, ◌∷◌, ◌≡◌}
+use Rattle.std.specs.Prelude.{Bool, List, [], cond, false, not, true, ◌&&◌, ◌||◌, ◌∷◌, ◌≡◌}
 
-turned : (b : Bool) (xs ys : List (Record RData)) → cond (not b) xs ys ≡ cond b ys xs
-turned true xs ys = refl
-turned false xs ys = refl
+turned : (o g : Bool) (xs ys : List (Record RData)) → cond (o && not g) xs ys ≡ cond (not o || g) ys xs
+turned true true xs ys = refl
+turned true false xs ys = refl
+turned false g xs ys = refl
 
 -- what is made of the records of a record's set is made under its key
 own_at : (at : RrKey → List (Record RData)) (F : List (Record RData) → List (Record RData)) (k q : RrKey) (b : Bool) → eq_by_cmp key_cmp k q ≡ b
@@ -77,7 +78,7 @@ module _ (z : Zone) (r : Record RData) (at : RrKey → List (Record RData)) (q :
   set_goes u c h = goes u ∙ ap (λ b. cond b [] (at q)) (cond-false _ _ _ c ∙ ap (λ g. not g && is_under r q) h)
 
   pub name_goes : use_of z.class r.dns_class ≡ OfAny → is_any (type_of_record r) ≡ true → after_update z r q (at q) ≡ cond (is_left z r.name q) (at q) []
-  name_goes u c = goes u ∙ ap (λ b. cond b [] (at q)) (cond-true _ _ _ c) ∙ turned (is_left z r.name q) [] (at q)
+  name_goes u c = goes u ∙ ap (λ b. cond b [] (at q)) (cond-true _ _ _ c) ∙ turned (is_owned r.name q) (is_guarded z r.name q.record_type) [] (at q)
 
   pub nothing_changes : use_of z.class r.dns_class ≡ OfNothing → after_update z r q (at q) ≡ at q
   nothing_changes u = ap (λ how. after_by how z r q (at q)) u

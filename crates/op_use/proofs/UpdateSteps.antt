@@ -6,21 +6,23 @@ use Rattle.base.specs.declared.dns_class.DNSClass.{DNSClass}
 use Rattle.base.specs.declared.record_type.RecordType.TheVariants as types
 use Rattle.base.specs.declared.rr_key.RrKey.{RrKey}
 use Rattle.base_data.specs.declared.rdata.RData.{RData}
-use Rattle.op_use.proofs.AppliedData.{joined_data, parted_data}
+use Rattle.op_use.proofs.AppliedData.{joined_data, parted_data, parted_none}
+use Rattle.op_use.proofs.Deleted.{deleted_is}
+use Rattle.op_use.proofs.MapIsZone.{zone_is}
 use Rattle.op_use.proofs.MapSteps.{own_key, same_after, set_after}
 use Rattle.op_use.proofs.MapZones.{data_at, get_zone}
 use Rattle.op_use.proofs.Origins.{from_joined, from_none, from_one, from_parted, none_among}
 use Rattle.op_use.proofs.SpelledSteps.{alias_comes, alias_kept_out, beside_kept_out, guarded_stays, name_goes}
 use Rattle.op_use.proofs.SpelledSteps.{needed_stays, nothing_changes, other_comes, other_parts, set_goes}
-use Rattle.op_use.proofs.ZoneSteps.{same_sets}
+use Rattle.op_use.proofs.ZoneSteps.{put_same, same_key, same_sets}
 use Rattle.op_use.specs.Applying.{IsZoneMap, data_of, records_at, records_in, zone_of_map}
-use Rattle.op_use.specs.AppliedRecords.{is_needed, parted}
+use Rattle.op_use.specs.AppliedRecords.{parted}
 use Rattle.op_use.specs.MapUpdates.{IsAfter, IsSetTo, Leaves}
 use Rattle.op_use.specs.NamedChanges.{datum_of, is_left}
-use Rattle.op_use.specs.Server.{OfAny, OfNone, OfNothing, OfZone, added, is_any, is_cname, record_key, removed, type_of_record, update_by, use_of}
+use Rattle.op_use.specs.Server.{OfAny, OfNone, OfNothing, OfZone, added, is_any, is_cname, is_needed, record_key, removed, type_of_record, update_by, use_of}
 use Rattle.op_use.specs.Zone.{Datum, has_set, has_type_at, is_guarded, is_owned, put}
 use Rattle.rr.specs.RecordSet.{SetValue, is_soa}
-use Rattle.rr.specs.SetChanges.{joined}
+use Rattle.rr.specs.SetChanges.{has_data_of, joined}
 use Rattle.rr.specs.declared.record.Record.{Record}
 use Rattle.std.proofs.Common.{ap, inl, refl, subst, sym, ◌∙◌, ◌⊎◌}
 use Rattle.std.proofs.lemmas.Bool.{cond-false, cond-true, or_parts}
@@ -29,62 +31,77 @@ use Rattle.std.specs.BTreeMap as tree
 use Rattle.std.specs.BTreeMap.{BTreeMap}
 use Rattle.std.specs.FinMap as fin
 use Rattle.std.specs.FinMap.{FinMap}
-use Rattle.std.specs.List.{IsAmong}
-use Rattle.std.specs.Prelude.{Bool, List, None, Option, Some, [], cond, false, length, nat_le, not, option_map, true, ◌&&◌, ◌||◌, ◌∷◌, ◌≡◌}
+use Rattle.std.specs.List.{IsAmong, list_any}
+use Rattle.std.specs.Ordering.{eq_by_cmp}
+use Rattle.std.specs.Prelude.{Bool, List, None, Option, Some, [], cond, false, length, map, nat_le, not, option_map, true, ◌&&◌, ◌||◌, ◌∷◌, ◌≡◌}
+
+-- whether a record stays, by the map's records
+pub counted : (origin : NameValue) (class : DNSClass) (m : BTreeMap RrKey SetValue) (r : Record RData) → is_needed (zone_of_map origin class m) r
+    ≡ (is_soa (type_of_record r) || (is_guarded (zone_of_map origin class m) r.name (type_of_record r) && nat_le (length (records_at m (record_key r))) 1))
+counted origin class m r = ap (λ k. is_soa (type_of_record r) || (is_guarded (zone_of_map origin class m) r.name (type_of_record r) && nat_le k 1))
+    (ap length (data_at origin class m (record_key r)) ∙ length-map (records_at m (record_key r)) datum_of)
 
 module _ (origin : NameValue) (class : DNSClass) (m n : BTreeMap RrKey SetValue) (r : Record RData) (old : IsZoneMap class m) where
   pub after_cname_stays : use_of class r.dns_class ≡ OfZone → is_cname (type_of_record r) ≡ true
       → has_type_at (zone_of_map origin class m) r.name (λ t. not (is_cname t)) ≡ true → IsAfter origin class (r ∷ []) m m
-  after_cname_stays u c h = same_after origin class m r old (ap (λ how. update_by how (zone_of_map origin class m) r) u ∙ cond-true _ _ _ c ∙ cond-true _ _ _ h)
+  after_cname_stays u c h = same_after origin class m r old (ap (λ how. update_by how (zone_of_map origin class m) r) u ∙ cond-true _ _ _ (cond-true _ _ _ c ∙ h))
       (λ q. alias_kept_out (zone_of_map origin class m) r (records_at m) q u c h)
 
   pub after_cname : use_of class r.dns_class ≡ OfZone → is_cname (type_of_record r) ≡ true → has_type_at (zone_of_map origin class m) r.name (λ t. not (is_cname t)) ≡ false
       → IsSetTo class (record_key r) (r ∷ []) m n → IsAfter origin class (r ∷ []) m n
   after_cname u c h s = set_after origin class (record_key r) (r ∷ []) m n s r old (own_key r) (from_one r (records_at m (record_key r)))
-      (ap (λ how. update_by how (zone_of_map origin class m) r) u ∙ cond-true _ _ _ c ∙ cond-false _ _ _ h)
+      (ap (λ how. update_by how (zone_of_map origin class m) r) u ∙ cond-false _ _ _ (cond-true _ _ _ c ∙ h)
+      ∙ ap (put (zone_of_map origin class m) (record_key r)) (cond-true _ _ _ c))
       (λ q. alias_comes (zone_of_map origin class m) r (records_at m) q u c h)
 
   pub after_beside_cname : use_of class r.dns_class ≡ OfZone → is_cname (type_of_record r) ≡ false → has_set (zone_of_map origin class m) (key_of r.name types.CNAME) ≡ true
       → IsAfter origin class (r ∷ []) m m
-  after_beside_cname u c h = same_after origin class m r old (ap (λ how. update_by how (zone_of_map origin class m) r) u ∙ cond-false _ _ _ c ∙ cond-true _ _ _ h)
+  after_beside_cname u c h = same_after origin class m r old (ap (λ how. update_by how (zone_of_map origin class m) r) u ∙ cond-true _ _ _ (cond-false _ _ _ c ∙ h))
       (λ q. beside_kept_out (zone_of_map origin class m) r (records_at m) q u c h)
 
   pub after_join : use_of class r.dns_class ≡ OfZone → is_cname (type_of_record r) ≡ false → has_set (zone_of_map origin class m) (key_of r.name types.CNAME) ≡ false
       → IsSetTo class (record_key r) (joined r (records_at m (record_key r))) m n → IsAfter origin class (r ∷ []) m n
   after_join u c h s = set_after origin class (record_key r) (joined r (records_at m (record_key r))) m n s r old (own_key r) (from_joined r (records_at m (record_key r)))
-      (ap (λ how. update_by how (zone_of_map origin class m) r) u ∙ cond-false _ _ _ c ∙ cond-false _ _ _ h
-      ∙ ap (put (zone_of_map origin class m) (record_key r)) (ap (λ xs. added xs r) (data_at origin class m (record_key r)) ∙ sym (joined_data r (records_at m (record_key r)))))
+      (ap (λ how. update_by how (zone_of_map origin class m) r) u ∙ cond-false _ _ _ (cond-false _ _ _ c ∙ h)
+      ∙ ap (put (zone_of_map origin class m) (record_key r)) (cond-false _ _ _ c ∙ ap (λ xs. added xs r) (data_at origin class m (record_key r)) ∙ sym (joined_data r (records_at m (record_key r)))))
       (λ q. other_comes (zone_of_map origin class m) r (records_at m) q u c h)
 
-  -- whether a record stays, by the map's records
-  abbrev stays : Bool
-  stays = is_soa (type_of_record r) || (is_guarded (zone_of_map origin class m) r.name (type_of_record r) && nat_le (length (records_at m (record_key r))) 1)
+  pub after_kept : use_of class r.dns_class ≡ OfNone → is_needed (zone_of_map origin class m) r ≡ true → IsAfter origin class (r ∷ []) m m
+  after_kept u h = same_after origin class m r old (ap (λ how. update_by how (zone_of_map origin class m) r) u ∙ cond-true _ _ _ h)
+      (λ q. needed_stays (zone_of_map origin class m) r (records_at m) q u h)
 
-  counted : is_needed (zone_of_map origin class m) r ≡ stays
-  counted = ap (λ k. is_soa (type_of_record r) || (is_guarded (zone_of_map origin class m) r.name (type_of_record r) && nat_le k 1))
-      (ap length (data_at origin class m (record_key r)) ∙ length-map (records_at m (record_key r)) datum_of)
-
-  pub after_kept : use_of class r.dns_class ≡ OfNone → stays ≡ true → IsAfter origin class (r ∷ []) m m
-  after_kept u h = same_after origin class m r old (ap (λ how. update_by how (zone_of_map origin class m) r) u ∙ cond-true _ _ _ (counted ∙ h))
-      (λ q. needed_stays (zone_of_map origin class m) r (records_at m) q u (counted ∙ h))
-
-  pub after_part : use_of class r.dns_class ≡ OfNone → stays ≡ false → IsSetTo class (record_key r) (parted r (records_at m (record_key r))) m n
+  pub after_part : use_of class r.dns_class ≡ OfNone → is_needed (zone_of_map origin class m) r ≡ false → IsSetTo class (record_key r) (parted r (records_at m (record_key r))) m n
       → IsAfter origin class (r ∷ []) m n
   after_part u h s = set_after origin class (record_key r) (parted r (records_at m (record_key r))) m n s r old (own_key r) (from_parted r (records_at m (record_key r)))
-      (ap (λ how. update_by how (zone_of_map origin class m) r) u ∙ cond-false _ _ _ (counted ∙ h)
+      (ap (λ how. update_by how (zone_of_map origin class m) r) u ∙ cond-false _ _ _ h
       ∙ ap (put (zone_of_map origin class m) (record_key r)) (ap (λ xs. removed xs r) (data_at origin class m (record_key r))
       ∙ sym (parted_data r (records_at m (record_key r)))))
-      (λ q. other_parts (zone_of_map origin class m) r (records_at m) q u (counted ∙ h))
+      (λ q. other_parts (zone_of_map origin class m) r (records_at m) q u h)
+
+  same_there : (b : Bool) (q : RrKey) → eq_by_cmp key_cmp (record_key r) q ≡ b → cond b (records_at m (record_key r)) (records_at m q) ≡ records_at m q
+  same_there true q t = ap (records_at m) (same_key (record_key r) q t)
+  same_there false q t = refl
+
+  pub after_absent : use_of class r.dns_class ≡ OfNone → is_needed (zone_of_map origin class m) r ≡ false → list_any (has_data_of r) (records_at m (record_key r)) ≡ false
+      → IsAfter origin class (r ∷ []) m m
+  after_absent u h none = same_after origin class m r old
+      (ap (λ how. update_by how (zone_of_map origin class m) r) u ∙ cond-false _ _ _ h
+      ∙ ap (put (zone_of_map origin class m) (record_key r)) (ap (λ xs. removed xs r) (data_at origin class m (record_key r))
+      ∙ sym (parted_data r (records_at m (record_key r))) ∙ ap (map datum_of) (parted_none r (records_at m (record_key r)) none)
+      ∙ sym (data_at origin class m (record_key r))) ∙ put_same (zone_of_map origin class m) (record_key r) (zone_is origin class m old))
+      (λ q. other_parts (zone_of_map origin class m) r (records_at m) q u h
+      ∙ ap (λ xs. cond (eq_by_cmp key_cmp (record_key r) q) xs (records_at m q)) (parted_none r (records_at m (record_key r)) none)
+      ∙ same_there (eq_by_cmp key_cmp (record_key r) q) q refl)
 
   pub after_guarded : use_of class r.dns_class ≡ OfAny → is_any (type_of_record r) ≡ false → is_guarded (zone_of_map origin class m) r.name (type_of_record r) ≡ true
       → IsAfter origin class (r ∷ []) m m
-  after_guarded u c h = same_after origin class m r old (ap (λ how. update_by how (zone_of_map origin class m) r) u ∙ cond-false _ _ _ c ∙ cond-true _ _ _ h)
+  after_guarded u c h = same_after origin class m r old (ap (λ how. update_by how (zone_of_map origin class m) r) u ∙ deleted_is (zone_of_map origin class m) r ∙ cond-false _ _ _ c ∙ cond-true _ _ _ h)
       (λ q. guarded_stays (zone_of_map origin class m) r (records_at m) q u c h)
 
   pub after_set : use_of class r.dns_class ≡ OfAny → is_any (type_of_record r) ≡ false → is_guarded (zone_of_map origin class m) r.name (type_of_record r) ≡ false
       → IsSetTo class (record_key r) [] m n → IsAfter origin class (r ∷ []) m n
   after_set u c h s = set_after origin class (record_key r) [] m n s r old (own_key r) (from_none r (records_at m (record_key r)))
-      (ap (λ how. update_by how (zone_of_map origin class m) r) u ∙ cond-false _ _ _ c ∙ cond-false _ _ _ h)
+      (ap (λ how. update_by how (zone_of_map origin class m) r) u ∙ deleted_is (zone_of_map origin class m) r ∙ cond-false _ _ _ c ∙ cond-false _ _ _ h)
       (λ q. set_goes (zone_of_map origin class m) r (records_at m) q u c h)
 
   pub after_nothing : use_of class r.dns_class ≡ OfNothing → IsAfter origin class (r ∷ []) m m
@@ -118,7 +135,7 @@ module _ (origin : NameValue) (class : DNSClass) (m n : BTreeMap RrKey SetValue)
         ∙ ap (λ o. cond (is_left (zone_of_map origin class m) r.name q) o None) (sym (get_zone origin class m q))
         ∙ sym (fin.get-retain_keys (zone_of_map origin class m).sets (is_left (zone_of_map origin class m) r.name) q
         (λ x e. ap (is_left (zone_of_map origin class m) r.name) (sym (key_cmp-exact q x e))))))
-        ∙ sym (ap (λ how. update_by how (zone_of_map origin class m) r) u ∙ cond-true _ _ _ c);
+        ∙ sym (ap (λ how. update_by how (zone_of_map origin class m) r) u ∙ deleted_is (zone_of_map origin class m) r ∙ cond-true _ _ _ c);
     is_map = λ q s e. old q s (left_there (is_left (zone_of_map origin class m) r.name q) q s (sym (h q) ∙ e));
     others = λ q free. h q ∙ left_same (is_owned r.name q) _ (tree.get key_cmp m q) ((or_parts (is_owned r.name q) false free).0);
     taken = λ q v a. left_taken (is_left (zone_of_map origin class m) r.name q) q v (subst (λ o. IsAmong (records_in o) v) (h q) a);

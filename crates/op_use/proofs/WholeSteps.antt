@@ -1,25 +1,22 @@
 -- The whole of an update.
 use Rattle.base.specs.Labels.{NameValue}
-use Rattle.base.specs.NameOrder.{is_zone_of}
 use Rattle.base.specs.RrKey.{key_cmp}
 use Rattle.base.specs.declared.dns_class.DNSClass.{DNSClass}
 use Rattle.base.specs.declared.rr_key.RrKey.{RrKey}
-use Rattle.base_data.specs.RData.{is_empty_data}
 use Rattle.base_data.specs.declared.rdata.RData.{RData}
-use Rattle.op.specs.declared.response_code.ResponseCode.TheVariants.{FormErr, NXDomain, NXRRSet, NoError, NotImp, NotZone, YXDomain, YXRRSet}
+use Rattle.op.specs.declared.response_code.ResponseCode.TheVariants.{NXRRSet, NoError, NotImp}
 use Rattle.op.specs.declared.response_code.ResponseCode.{ResponseCode}
 use Rattle.op_use.proofs.AppliedData.{any_data}
-use Rattle.op_use.proofs.MapZones.{data_at, set_at, types_at}
+use Rattle.op_use.proofs.MapZones.{data_at}
 use Rattle.op_use.specs.AppliedRecords.{records_after, records_answered}
 use Rattle.op_use.specs.Applying.{entry_of, IsApplied, IsZoneMap, applied, is_all_served, last_ttl, records_applied, records_at, records_in, zone_of_map}
-use Rattle.op_use.specs.MapFaults.{all_met, fault_at, fault_by, fault_here, found_in, met_at}
+use Rattle.op_use.specs.MapFaults.{all_met, fault_here, met_at}
 use Rattle.op_use.specs.MapUpdates.{IsAfter}
 use Rattle.op_use.specs.NamedChanges.{datum_of, is_data_of}
-use Rattle.op_use.specs.Server.{Fault, OfAny, OfNone, OfNothing, OfZone, Sections, Use as UseValue, and_then, answer, collected, fault}
-use Rattle.op_use.specs.Server.{first_fault, is_any, is_met}
-use Rattle.op_use.specs.Server.{is_of_zone, is_same_key, prerequisite_by, prerequisite_fault, prerequisites_fault, prescan_fault, record_key, type_of_record}
+use Rattle.op_use.specs.Server.{Fault, Sections, and_then, answer, collected, fault, first_fault, is_met}
+use Rattle.op_use.specs.Server.{is_of_zone, is_same_key, prerequisite_fault, prescan_fault, record_key}
 use Rattle.op_use.specs.Server.{unless, update, use_of, zone_fault}
-use Rattle.op_use.specs.Zone.{Datum, has_set, has_type_at}
+use Rattle.op_use.specs.Zone.{Datum}
 use Rattle.rr.specs.RecordSet.{SetValue}
 use Rattle.rr.specs.SetChanges.{has_data_of}
 use Rattle.rr.specs.declared.record.Record.{Record}
@@ -30,32 +27,7 @@ use Rattle.std.specs.BTreeMap.{BTreeMap, is_at}
 use Rattle.std.specs.FinMap as fin
 use Rattle.std.specs.List.{IsAmong, fold, list_all, list_any}
 use Rattle.std.specs.Map.{lookup}
-use Rattle.std.specs.Prelude.{Bool, List, None, Some, [], cond, false, filter, if◌then◌else◌, map, not, true, ◌&&◌, ◌==◌, ◌||◌, ◌∷◌, ◌≡◌}
-
--- prerequisites by themselves
-chosen : (a b c : Bool) (x y : ResponseCode) → unless (if a then b else c) (if a then x else y) ≡ (if a then unless b x else unless c y)
-chosen true b c x y = refl
-chosen false b c x y = refl
-
-chosen_not : (a b c : Bool) (x y : ResponseCode) → unless (not (if a then b else c)) (if a then x else y) ≡ (if a then unless (not b) x else unless (not c) y)
-chosen_not true b c x y = refl
-chosen_not false b c x y = refl
-
-module _ (origin : NameValue) (class : DNSClass) (m : BTreeMap RrKey SetValue) where
-  found_zone : (r : Record RData)
-      → found_in m r ≡ (if is_any (type_of_record r) then has_type_at (zone_of_map origin class m) r.name (λ t. true) else has_set (zone_of_map origin class m) (record_key r))
-  found_zone r = λ i. if is_any (type_of_record r) then sym (types_at origin class m r.name (λ t. true)) i else sym (set_at origin class m (record_key r)) i
-
-  fault_use : (u : UseValue) (r : Record RData) → fault_by u (found_in m r) r ≡ prerequisite_by u (zone_of_map origin class m) r
-  fault_use OfAny r = ap (and_then (unless (is_empty_data r.rdata) FormErr)) (ap (λ f. unless f (if is_any (type_of_record r) then NXDomain else NXRRSet)) (found_zone r)
-      ∙ chosen (is_any (type_of_record r)) _ _ NXDomain NXRRSet)
-  fault_use OfNone r = ap (and_then (unless (is_empty_data r.rdata) FormErr)) (ap (λ f. unless (not f) (if is_any (type_of_record r) then YXDomain else YXRRSet)) (found_zone r)
-      ∙ chosen_not (is_any (type_of_record r)) _ _ YXDomain YXRRSet)
-  fault_use OfZone r = refl
-  fault_use OfNothing r = refl
-
-  fault_same : (r : Record RData) → fault_at origin class m r ≡ prerequisite_fault (zone_of_map origin class m) r
-  fault_same r = ap (λ f. and_then (unless (r.ttl == 0) FormErr) (and_then (unless (is_zone_of origin r.name) NotZone) f)) (fault_use (use_of class r.dns_class) r)
+use Rattle.std.specs.Prelude.{Bool, List, None, Some, [], cond, false, filter, map, not, true, ◌&&◌, ◌||◌, ◌∷◌, ◌≡◌}
 
 any_step : (p : Record RData → Bool) (b : Bool) (r : Record RData) (xs : List (Record RData)) → list_any p (cond b (r ∷ xs) xs) ≡ ((b && p r) || list_any p xs)
 any_step p true r xs = refl
@@ -87,18 +59,16 @@ module _ (origin : NameValue) (class : DNSClass) (m : BTreeMap RrKey SetValue) (
       ∙ ap (λ (f : Record RData → Bool). list_any (has_data_of r) (records_at m (record_key r)) && list_all f (records_at m (record_key r)))
       (λ i x. any_filter (λ q. is_same_key r q && has_data_of q x) (λ q. is_of_zone (use_of class q.dns_class)) rs i)
 
-  all_met_same : all_met m class rs rs ≡ list_all (is_met (zone_of_map origin class m) (collected (zone_of_map origin class m) rs)) (collected (zone_of_map origin class m) rs)
+  pub all_met_same : all_met m class rs rs ≡ list_all (is_met (zone_of_map origin class m) (collected (zone_of_map origin class m) rs)) (collected (zone_of_map origin class m) rs)
   all_met_same = sym (ap (λ (f : Record RData → Bool). list_all f (collected (zone_of_map origin class m) rs)) (λ i r. met_same r i)
       ∙ all_filter (met_at m class rs) (λ r. is_of_zone (use_of class r.dns_class)) rs)
 
-  pub prerequisites_same : and_then (first_fault (fault_at origin class m) rs) (unless (all_met m class rs rs) NXRRSet) ≡ prerequisites_fault (zone_of_map origin class m) rs
-  prerequisites_same = λ i. and_then (first_fault (λ r. fault_same origin class m r i) rs) (unless (all_met_same i) NXRRSet)
-
 -- the code of an update
 pub fault_is : (origin : NameValue) (class : DNSClass) (m : BTreeMap RrKey SetValue) (s : Sections) → fault_here origin class m s ≡ fault (zone_of_map origin class m) s
-fault_is origin class m s =
-    ap (λ f. and_then (zone_fault (zone_of_map origin class m) s.zones) (and_then f (first_fault (prescan_fault (zone_of_map origin class m)) s.updates)))
-    (prerequisites_same origin class m s.prerequisites)
+fault_is origin class m s = λ i.
+    and_then (zone_fault (zone_of_map origin class m) s.zones)
+    (and_then (and_then (first_fault (prerequisite_fault (zone_of_map origin class m)) s.prerequisites) (unless (all_met_same origin class m s.prerequisites i) NXRRSet))
+    (first_fault (prescan_fault (zone_of_map origin class m)) s.updates))
 
 -- what an update that is served leaves under a key
 spelled_as : (origin : NameValue) (class : DNSClass) (m : BTreeMap RrKey SetValue) (s : Sections) (q : RrKey) (found : Fault) → is_all_served s ≡ true

@@ -1,37 +1,16 @@
 -- What updates make of the records under a key, each as it is spelled (RFC 2136, 3.4.2).
-use Rattle.base.specs.RrKey.{key_cmp, key_of}
-use Rattle.base.specs.declared.record_type.RecordType.TheVariants as types
 use Rattle.base.specs.declared.rr_key.RrKey.{RrKey}
 use Rattle.base_data.specs.declared.rdata.RData.{RData}
-use Rattle.op_use.specs.NamedChanges.{is_left}
-use Rattle.op_use.specs.Server.{Fault, OfAny, OfNone, OfNothing, OfZone, Use, is_any, is_cname, record_key, type_of_record, update, use_of}
-use Rattle.op_use.specs.Zone.{Zone, at, has_set, has_type_at, is_guarded}
-use Rattle.rr.specs.RecordSet.{is_soa}
+use Rattle.op_use.specs.Server.{Fault, OfAny, OfNone, OfNothing, OfZone, Use, is_cname, is_kept_out, is_needed, type_of_record, update, use_of, goes_with, is_under}
+use Rattle.op_use.specs.Zone.{Zone}
 use Rattle.rr.specs.SetChanges.{has_data_of, joined}
 use Rattle.rr.specs.declared.record.Record.{Record}
 use Rattle.std.specs.List.{filter}
-use Rattle.std.specs.Ordering.{eq_by_cmp}
-use Rattle.std.specs.Prelude.{Bool, List, None, Some, [], if◌then◌else◌, length, nat_le, not, ◌&&◌, ◌||◌, ◌∷◌}
-
--- whether a record stands under a key
-abbrev pub is_under : Record RData → RrKey → Bool
-is_under r k = eq_by_cmp key_cmp (record_key r) k
-
--- whether a record isn't added: a CNAME beside another type, another type beside a CNAME (RFC 2136, 3.4.2.2)
-abbrev pub is_kept_out : Zone → Record RData → Bool
-is_kept_out z r = if is_cname (type_of_record r) then has_type_at z r.name (λ t. not (is_cname t)) else has_set z (key_of r.name types.CNAME)
+use Rattle.std.specs.Prelude.{List, None, Some, [], if◌then◌else◌, not, ◌&&◌, ◌∷◌}
 
 -- the records of a set with one more: a CNAME alone, another in the place of equal data, or else last
 abbrev pub with_record : Record RData → List (Record RData) → List (Record RData)
 with_record r xs = if is_cname (type_of_record r) then r ∷ [] else joined r xs
-
--- whether a set goes with the set, or with all of the owner, that is deleted; at the origin SOA and NS stay (3.4.2.3)
-abbrev pub goes_with : Zone → Record RData → RrKey → Bool
-goes_with z r k = if is_any (type_of_record r) then not (is_left z r.name k) else not (is_guarded z r.name (type_of_record r)) && is_under r k
-
--- whether a record isn't deleted: an SOA, or the last name server at the origin (3.4.2.4)
-abbrev pub is_needed : Zone → Record RData → Bool
-is_needed z r = is_soa (type_of_record r) || (is_guarded z r.name (type_of_record r) && nat_le (length (at z (record_key r))) 1)
 
 -- the records without those of equal data
 abbrev pub parted : Record RData → List (Record RData) → List (Record RData)

@@ -1,42 +1,17 @@
 -- What an update is refused for, by what a map of record sets holds (RFC 2136, 3.1, 3.2 and 3.4.1).
 use Rattle.base.specs.Labels.{NameValue}
-use Rattle.base.specs.NameOrder.{is_zone_of}
-use Rattle.base.specs.RrKey.{key_cmp}
 use Rattle.base.specs.declared.dns_class.DNSClass.{DNSClass}
 use Rattle.base.specs.declared.rr_key.RrKey.{RrKey}
-use Rattle.base_data.specs.RData.{is_empty_data}
 use Rattle.base_data.specs.declared.rdata.RData.{RData}
-use Rattle.op.specs.declared.response_code.ResponseCode.TheVariants.{FormErr, NXDomain, NXRRSet, NotZone, YXDomain, YXRRSet}
+use Rattle.op.specs.declared.response_code.ResponseCode.TheVariants.{NXRRSet}
 use Rattle.op_use.specs.Applying.{records_at, zone_of_map}
-use Rattle.op_use.specs.Server.{Fault, OfAny, OfNone, OfNothing, OfZone, Sections, Use as UseValue, and_then, first_fault, is_any, is_of_zone, is_same_key}
-use Rattle.op_use.specs.Server.{prescan_by, record_key, type_of_record, unless, use_of, zone_fault}
-use Rattle.op_use.specs.Zone.{is_owned}
+use Rattle.op_use.specs.Server.{Fault, Sections, and_then, first_fault, is_of_zone, is_same_key, prerequisite_fault, prescan_fault, record_key, unless, use_of, zone_fault}
 use Rattle.rr.specs.RecordSet.{SetValue}
 use Rattle.rr.specs.SetChanges.{has_data_of}
 use Rattle.rr.specs.declared.record.Record.{Record}
-use Rattle.std.specs.BTreeMap as tree
 use Rattle.std.specs.BTreeMap.{BTreeMap}
 use Rattle.std.specs.List.{list_all, list_any}
-use Rattle.std.specs.Prelude.{Bool, List, None, Some, if◌then◌else◌, is_some, not, true, ◌&&◌, ◌==◌, ◌||◌}
-
--- whether a map has the set that a prerequisite names, or any of its owner
-abbrev pub found_in : BTreeMap RrKey SetValue → Record RData → Bool
-found_in m r = if is_any (type_of_record r) then list_any (λ (k : RrKey). is_owned r.name k && true) (tree.keys m) else is_some (tree.get key_cmp m (record_key r))
-
--- what is wrong with a prerequisite, when it is known whether what it names is there
-abbrev pub fault_by : UseValue → Bool → Record RData → Fault
-fault_by OfAny found r = and_then (unless (is_empty_data r.rdata) FormErr) (unless found (if is_any (type_of_record r) then NXDomain else NXRRSet))
-fault_by OfNone found r = and_then (unless (is_empty_data r.rdata) FormErr) (unless (not found) (if is_any (type_of_record r) then YXDomain else YXRRSet))
-fault_by OfZone found r = None
-fault_by OfNothing found r = Some FormErr
-
-abbrev pub fault_if : NameValue → DNSClass → Bool → Record RData → Fault
-fault_if origin class found r =
-    and_then (unless (r.ttl == 0) FormErr) (and_then (unless (is_zone_of origin r.name) NotZone) (fault_by (use_of class r.dns_class) found r))
-
--- what is wrong with a prerequisite, by what a map holds
-abbrev pub fault_at : NameValue → DNSClass → BTreeMap RrKey SetValue → Record RData → Fault
-fault_at origin class m r = fault_if origin class (found_in m r) r
+use Rattle.std.specs.Prelude.{Bool, List, not, ◌&&◌, ◌||◌}
 
 -- whether a prerequisite is by value: of the zone's class
 abbrev pub is_by_value : DNSClass → Record RData → Bool
@@ -66,5 +41,5 @@ all_met m class all rs = list_all (λ r. not (is_by_value class r) || met_at m c
 abbrev pub fault_here : NameValue → DNSClass → BTreeMap RrKey SetValue → Sections → Fault
 fault_here origin class m s =
     and_then (zone_fault (zone_of_map origin class m) s.zones)
-    (and_then (and_then (first_fault (fault_at origin class m) s.prerequisites) (unless (all_met m class s.prerequisites s.prerequisites) NXRRSet))
-    (first_fault (λ (r : Record RData). and_then (unless (is_zone_of origin r.name) NotZone) (prescan_by (use_of class r.dns_class) r)) s.updates))
+    (and_then (and_then (first_fault (prerequisite_fault (zone_of_map origin class m)) s.prerequisites) (unless (all_met m class s.prerequisites s.prerequisites) NXRRSet))
+    (first_fault (prescan_fault (zone_of_map origin class m)) s.updates))

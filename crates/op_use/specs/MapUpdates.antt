@@ -7,7 +7,7 @@ use Rattle.base.specs.declared.rr_key.RrKey.{RrKey}
 use Rattle.base_data.specs.declared.rdata.RData.{RData}
 use Rattle.op_use.specs.AppliedRecords.{records_after}
 use Rattle.op_use.specs.Applying.{records_at, IsZoneMap, IsZoneSet, TakesFrom, TakesTtls, last_ttl, names_owner, records_in, zone_of_map}
-use Rattle.op_use.specs.Server.{record_key, type_of_record, OfAny, OfNone, OfNothing, OfZone, Use as UseValue, update}
+use Rattle.op_use.specs.Server.{OfAny, OfNone, OfNothing, OfZone, Use as UseValue, update}
 use Rattle.op_use.specs.Zone.{is_owned}
 use Rattle.op_use.specs.declared.apply.class_use.Use.TheVariants as uses
 use Rattle.op_use.specs.declared.apply.class_use.Use.{Use}
@@ -17,7 +17,7 @@ use Rattle.std.specs.BTreeMap as tree
 use Rattle.std.specs.BTreeMap.{BTreeMap}
 use Rattle.std.specs.List.{fold}
 use Rattle.std.specs.Ordering.{eq_by_cmp}
-use Rattle.std.specs.Prelude.{Bool, length, nat_le, List, None, Option, Some, cond, false, not, ◌&&◌, ◌||◌, ◌≡◌}
+use Rattle.std.specs.Prelude.{List, None, Option, Some, cond, false, not, ◌&&◌, ◌||◌, ◌≡◌}
 
 -- the new map is the old one after the updates rs
 pub record IsAfter (origin : NameValue) (class : DNSClass) (rs : List (Record RData)) (old new : BTreeMap RrKey SetValue) : Type 0 where
@@ -40,12 +40,6 @@ pub record IsSetTo (class : DNSClass) (k : RrKey) (xs : List (Record RData)) (ol
   pub fits : (s : SetValue) → set ≡ Some s → IsZoneSet class k s
   pub ttl : (s : SetValue) → set ≡ Some s → s.ttl ≡ last_ttl s.records
   pub puts : Puts k set old new
-
--- whether a record stays in spite of an update: an SOA, and the last name server of the zone (RFC 2136, 3.4.2.4)
-abbrev pub is_kept_in : NameValue → BTreeMap RrKey SetValue → Record RData → Bool
-is_kept_in origin m r =
-    is_soa (type_of_record r)
-    || ((same_name r.name origin && (is_soa (type_of_record r) || is_ns (type_of_record r))) && nat_le (length (records_at m (record_key r))) 1)
 
 -- how an update's class reads
 abbrev pub use_value : Use → UseValue

@@ -1,5 +1,6 @@
 -- what a server does with an update
 use Rattle.std.specs.Prelude.{Bool, true, false, not, List, [], ◌∷◌, ◌++◌, ◌&&◌, ◌||◌, ◌==◌, nat_le, map, length, if◌then◌else◌, Option, Some, None}
+use Rattle.std.specs.FinMap as fin
 use Rattle.std.specs.List.{filter, list_any, list_all, fold}
 use Rattle.base.specs.NameOrder.{is_zone_of, same_name}
 use Rattle.base_data.specs.Kinds.{type_of_data}
@@ -20,8 +21,8 @@ use Rattle.rr.specs.RecordSet.{is_soa}
 use Rattle.rr.specs.RecordOrder.{same_class}
 use Rattle.op.specs.Message.{MessageValue}
 use Rattle.op.specs.declared.query.Query.{Query}
-use Rattle.op_use.specs.Zone.{Datum, Zone, at, has_set, has_type_at, is_guarded, put}
-use Rattle.op_use.specs.NamedChanges.{datum_of, is_data_of, less_key, less_name}
+use Rattle.op_use.specs.Zone.{Datum, Zone, at, has_set, has_type_at, is_guarded, is_owned, put}
+use Rattle.op_use.specs.NamedChanges.{datum_of, is_data_of}
 
 -- the sections of an update
 pub record Sections : Type 0 where
@@ -84,21 +85,23 @@ abbrev pub zone_fault : Zone → List Query → Fault
 zone_fault z (q ∷ []) = and_then (unless (is_soa q.query_type) FormErr) (unless (same_name q.name z.origin && same_class q.query_class z.class) NotAuth)
 zone_fault z _ = Some FormErr
 
--- 2. a prerequisite
-abbrev pub prerequisite_by : Use → Zone → Record RData → Fault
-prerequisite_by OfAny z r =
-    and_then (unless (is_empty_data r.rdata) FormErr)
-    (if is_any (type_of_record r) then unless (has_type_at z r.name (λ _. true)) NXDomain else unless (has_set z (record_key r)) NXRRSet)
-prerequisite_by OfNone z r =
-    and_then (unless (is_empty_data r.rdata) FormErr)
-    (if is_any (type_of_record r) then unless (not (has_type_at z r.name (λ _. true))) YXDomain else unless (not (has_set z (record_key r))) YXRRSet)
-prerequisite_by OfZone z r = None
-prerequisite_by OfNothing z r = Some FormErr
+-- 2. a prerequisite: whether the set that it names is there, or any of its owner
+abbrev pub is_found : Zone → Record RData → Bool
+is_found z r = if is_any (type_of_record r) then has_type_at z r.name (λ _. true) else has_set z (record_key r)
+
+-- what is wrong with it, where it is known whether what it names is there
+abbrev pub prerequisite_by : Use → Bool → Record RData → Fault
+prerequisite_by OfAny found r =
+    and_then (unless (is_empty_data r.rdata) FormErr) (unless found (if is_any (type_of_record r) then NXDomain else NXRRSet))
+prerequisite_by OfNone found r =
+    and_then (unless (is_empty_data r.rdata) FormErr) (unless (not found) (if is_any (type_of_record r) then YXDomain else YXRRSet))
+prerequisite_by OfZone found r = None
+prerequisite_by OfNothing found r = Some FormErr
 
 abbrev pub prerequisite_fault : Zone → Record RData → Fault
 prerequisite_fault z r =
     and_then (unless (r.ttl == 0) FormErr)
-    (and_then (unless (is_zone_of z.origin r.name) NotZone) (prerequisite_by (use_of z.class r.dns_class) z r))
+    (and_then (unless (is_zone_of z.origin r.name) NotZone) (prerequisite_by (use_of z.class r.dns_class) (is_found z r) r))
 
 abbrev pub is_of_zone : Use → Bool
 is_of_zone OfZone = true
@@ -138,17 +141,33 @@ added xs r = if list_any (λ d. is_data_of d r) xs then map (λ d. if is_data_of
 abbrev pub removed : List Datum → Record RData → List Datum
 removed xs r = filter (λ d. not (is_data_of d r)) xs
 
+-- whether a record isn't added: a CNAME beside another type, another type beside a CNAME (3.4.2.2)
+abbrev pub is_kept_out : Zone → Record RData → Bool
+is_kept_out z r = if is_cname (type_of_record r) then has_type_at z r.name (λ t. not (is_cname t)) else has_set z (key_of r.name types.CNAME)
+
+-- the data of a set with a record's: a CNAME's alone
+abbrev pub with_datum : Record RData → List Datum → List Datum
+with_datum r xs = if is_cname (type_of_record r) then datum_of r ∷ [] else added xs r
+
+-- whether a record stands under a key
+abbrev pub is_under : Record RData → RrKey → Bool
+is_under r k = eq_by_cmp key_cmp (record_key r) k
+
+-- whether a set is deleted: the one that is named, or each of the owner; at the origin SOA and NS stay (3.4.2.3)
+abbrev pub goes_with : Zone → Record RData → RrKey → Bool
+goes_with z r k =
+    if is_any (type_of_record r) then is_owned r.name k && not (is_guarded z r.name k.record_type)
+    else not (is_guarded z r.name (type_of_record r)) && is_under r k
+
+-- whether a record isn't deleted: an SOA, or the last name server at the origin (3.4.2.4)
+abbrev pub is_needed : Zone → Record RData → Bool
+is_needed z r = is_soa (type_of_record r) || (is_guarded z r.name (type_of_record r) && nat_le (length (at z (record_key r))) 1)
+
 -- an update
 abbrev pub update_by : Use → Zone → Record RData → Zone
-update_by OfZone z r =
-    if is_cname (type_of_record r) then (if has_type_at z r.name (λ t. not (is_cname t)) then z else put z (record_key r) (datum_of r ∷ []))
-    else (if has_set z (key_of r.name types.CNAME) then z else put z (record_key r) (added (at z (record_key r)) r))
-update_by OfAny z r =
-    if is_any (type_of_record r) then less_name z r.name
-    else (if is_guarded z r.name (type_of_record r) then z else less_key z (record_key r))
-update_by OfNone z r =
-    if is_soa (type_of_record r) || (is_guarded z r.name (type_of_record r) && nat_le (length (at z (record_key r))) 1) then z
-    else put z (record_key r) (removed (at z (record_key r)) r)
+update_by OfZone z r = if is_kept_out z r then z else put z (record_key r) (with_datum r (at z (record_key r)))
+update_by OfAny z r = record z { sets = fin.retain_keys z.sets (λ k. not (goes_with z r k)) }
+update_by OfNone z r = if is_needed z r then z else put z (record_key r) (removed (at z (record_key r)) r)
 update_by OfNothing z r = z
 
 abbrev pub update : Zone → Record RData → Zone

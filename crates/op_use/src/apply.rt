@@ -1,11 +1,8 @@
 //! Updates applied to the record sets of a zone (RFC 2136, 3).
 
-ghost use Rattle.std.specs.BTreeMap.{IsUnchanged};
-ghost use Rattle.std.specs.Prelude.{◌≡◌, IfOk, IsOkUnless, None, Some, true};
+ghost use Rattle.std.specs.Prelude.{IfOk, IsOkUnless};
 ghost use Rattle.op.specs.Message.{message_value};
-ghost use Rattle.op_use.specs.Applying.{IsApplied, IsZoneMap, is_all_served as is_all_served_in};
-ghost use Rattle.op_use.specs.MapFaults.{fault_here};
-ghost use Rattle.op_use.specs.MapUpdates.{IsAfter};
+ghost use Rattle.op_use.specs.Applying.{IsApplied, IsZoneMap};
 ghost use Rattle.op_use.specs.Server.{sections_of};
 
 mod changes;
@@ -27,7 +24,7 @@ use faults::fault;
 use op::{Message, ResponseCode};
 use rr::RecordSet;
 use served::is_all_served;
-use std::alloc::{AllocError, Global};
+use std::alloc::Global;
 use std::collections::BTreeMap;
 
 /// Applies an update to the sets of a zone of this origin and class: answers the server's code (RFC 2136, 2.2), and the
@@ -51,88 +48,13 @@ pub fn apply_update(
     ensures applied { IfOk result (λ r. IsApplied origin.now class (sections_of (message_value message.now)) sets.now r.0 r.1) }
     ensures only { IsOkUnless result ProtoError.Memory }
 {
-    if is_all_served(message) {
-        return apply_served(alloc, sets, origin, class, message);
+    let mut changed = sets.clone()?;
+    if !is_all_served(message) {
+        return Ok((ResponseCode::NotImp, changed));
     }
-    let same = copy_of(sets)?;
-    Ok((ResponseCode::NotImp, same))
-}
-
-// An update of types that are served.
-fn apply_served(
-    alloc: Global,
-    sets: &BTreeMap<RrKey, RecordSet>,
-    origin: &Name,
-    class: DNSClass,
-    message: &Message,
-) -> Result<(ResponseCode, BTreeMap<RrKey, RecordSet>), ProtoError>
-    requires sets { IsZoneMap class sets.now }
-    requires served { is_all_served_in (sections_of (message_value message.now)) ≡ true }
-    ensures applied { IfOk result (λ r. IsApplied origin.now class (sections_of (message_value message.now)) sets.now r.0 r.1) }
-    ensures only { IsOkUnless result ProtoError.Memory }
-{
-    let found = fault(sets, origin, class, message)?;
-    match found {
-        Some(code) => refuse(sets, origin, class, message, code),
-        None => change(alloc, sets, origin, class, message),
+    if let Some(code) = fault(sets, origin, class, message)? {
+        return Ok((code, changed));
     }
-}
-
-// An update that is refused leaves the sets as they are.
-fn refuse(
-    sets: &BTreeMap<RrKey, RecordSet>,
-    origin: &Name,
-    class: DNSClass,
-    message: &Message,
-    code: ResponseCode,
-) -> Result<(ResponseCode, BTreeMap<RrKey, RecordSet>), ProtoError>
-    requires sets { IsZoneMap class sets.now }
-    requires served { is_all_served_in (sections_of (message_value message.now)) ≡ true }
-    requires found { fault_here origin.now class sets.now (sections_of (message_value message.now)) ≡ Some code }
-    ensures applied { IfOk result (λ r. IsApplied origin.now class (sections_of (message_value message.now)) sets.now r.0 r.1) }
-    ensures only { IsOkUnless result ProtoError.Memory }
-{
-    let same = copy_of(sets)?;
-    Ok((code, same))
-}
-
-// An update that passed every test changes a copy, which goes where a growth is refused.
-fn change(
-    alloc: Global,
-    sets: &BTreeMap<RrKey, RecordSet>,
-    origin: &Name,
-    class: DNSClass,
-    message: &Message,
-) -> Result<(ResponseCode, BTreeMap<RrKey, RecordSet>), ProtoError>
-    requires sets { IsZoneMap class sets.now }
-    requires served { is_all_served_in (sections_of (message_value message.now)) ≡ true }
-    requires found { fault_here origin.now class sets.now (sections_of (message_value message.now)) ≡ None }
-    ensures applied { IfOk result (λ r. IsApplied origin.now class (sections_of (message_value message.now)) sets.now r.0 r.1) }
-    ensures only { IsOkUnless result ProtoError.Memory }
-{
-    let changed = changed_copy(alloc, sets, origin, class, message)?;
-    Ok((ResponseCode::NoError, changed))
-}
-
-// The sets after the updates.
-fn changed_copy(
-    alloc: Global,
-    sets: &BTreeMap<RrKey, RecordSet>,
-    origin: &Name,
-    class: DNSClass,
-    message: &Message,
-) -> Result<BTreeMap<RrKey, RecordSet>, AllocError>
-    requires { IsZoneMap class sets.now }
-    ensures { IfOk result (λ m. IsAfter origin.now class (message_value message.now).authorities sets.now m) }
-{
-    let mut changed = copy_of(sets)?;
     update_all(alloc, &mut changed, origin, class, &message.authorities)?;
-    Ok(changed)
-}
-
-fn copy_of(sets: &BTreeMap<RrKey, RecordSet>) -> Result<BTreeMap<RrKey, RecordSet>, AllocError>
-    ensures { IfOk result (λ m. IsUnchanged sets.now m) }
-{
-    let copy = sets.clone()?;
-    Ok(copy)
+    Ok((ResponseCode::NoError, changed))
 }

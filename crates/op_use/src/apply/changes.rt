@@ -1,14 +1,16 @@
 //! The updates of a message, one after the other (RFC 2136, 3.4.2).
 
 ghost use Rattle.std.specs.Prelude.{◌≡◌, ◌∷◌, [], IfOk, OnOk};
-ghost use Rattle.op_use.specs.Applying.{IsZoneMap};
-ghost use Rattle.op_use.specs.MapUpdates.{IsAfter, is_kept_in};
-ghost use Rattle.op_use.specs.Server.{OfAny, OfNone, OfZone, use_of as the_use};
+ghost use Rattle.base.specs.declared.dns_class.DNSClass.{DNSClass as Class};
+ghost use Rattle.op_use.specs.Applying.{IsZoneMap, zone_of_map};
+ghost use Rattle.op_use.specs.MapUpdates.{IsAfter};
+ghost use Rattle.op_use.specs.Server.{OfAny, OfNone, OfZone, is_needed, use_of as the_use};
 
 use crate::apply::class_use::{Use, use_of};
 use crate::apply::owners::{has_type, take_name};
 use crate::apply::sets::{add_data, count, has_set, key_of, put_alone, take_data, take_set};
 use crate::apply::types::{is_alias, is_all, is_guarded, is_start};
+use crate::apply::values::is_there;
 use base::{DNSClass, Name, RecordType, RrKey};
 use rr::{Record, RecordSet};
 use std::alloc::{AllocError, Global};
@@ -85,7 +87,8 @@ fn add(
     Ok(())
 }
 
-// Takes equal data out, but no SOA, and not the last name server of the zone (RFC 2136, 3.4.2.4).
+// Takes equal data out, but no SOA, and not the last name server of the zone (RFC 2136, 3.4.2.4). A set without such data
+// stays as it is.
 fn take_out(
     alloc: Global,
     sets: &mut BTreeMap<RrKey, RecordSet>,
@@ -98,6 +101,9 @@ fn take_out(
     ensures { OnOk result (IsAfter origin.now class (entry.now ∷ []) sets.old sets.new) }
 {
     if is_kept(sets, origin, entry)? {
+        return Ok(());
+    }
+    if !is_there(sets, entry)? {
         return Ok(());
     }
     take_data(alloc, sets, class, entry)?;
@@ -134,7 +140,7 @@ fn is_kept(
     origin: &Name,
     entry: &Record,
 ) -> Result<bool, AllocError>
-    ensures { IfOk result (λ b. b ≡ is_kept_in origin.now sets.now entry.now) }
+    ensures { IfOk result (λ b. (class : Class) → b ≡ is_needed (zone_of_map origin.now class sets.now) entry.now) }
 {
     let key = key_of(&entry.name, entry.record_type())?;
     Ok(

@@ -1,8 +1,12 @@
 //! What is wrong with the prerequisites of an update, each by itself (RFC 2136, 3.2).
 
-ghost use Rattle.std.specs.Prelude.{◌≡◌, IfOk};
-ghost use Rattle.op_use.specs.MapFaults.{fault_at, fault_if, found_in};
-ghost use Rattle.op_use.specs.Server.{first_fault};
+ghost use Rattle.std.specs.Prelude.{◌≡◌, ◌==◌, IfOk};
+ghost use Rattle.base.specs.Labels.{NameValue};
+ghost use Rattle.base.specs.NameOrder.{is_zone_of};
+ghost use Rattle.base.specs.declared.dns_class.DNSClass.{DNSClass as Class};
+ghost use Rattle.op.specs.declared.response_code.ResponseCode.TheVariants.{FormErr as FormErrCode, NotZone as NotZoneCode};
+ghost use Rattle.op_use.specs.Applying.{zone_of_map};
+ghost use Rattle.op_use.specs.Server.{and_then, first_fault, is_found as is_found_in, prerequisite_by, prerequisite_fault, unless as unless_so, use_of as the_use};
 
 use crate::apply::class_use::{Use, use_of};
 use crate::apply::owners::has_type;
@@ -22,7 +26,7 @@ pub(crate) fn prerequisites(
     class: DNSClass,
     entries: &[Record],
 ) -> Result<Option<ResponseCode>, AllocError>
-    ensures { IfOk result (λ f. f ≡ first_fault (fault_at origin.now class sets.now) entries.now) }
+    ensures { IfOk result (λ f. f ≡ first_fault (prerequisite_fault (zone_of_map origin.now class sets.now)) entries.now) }
 {
     for entry in entries {
         if let Some(code) = prerequisite(sets, origin, class, entry)? {
@@ -38,7 +42,7 @@ fn prerequisite(
     class: DNSClass,
     entry: &Record,
 ) -> Result<Option<ResponseCode>, AllocError>
-    ensures { IfOk result (λ f. f ≡ fault_at origin.now class sets.now entry.now) }
+    ensures { IfOk result (λ f. f ≡ prerequisite_fault (zone_of_map origin.now class sets.now) entry.now) }
 {
     let is_there = is_found(sets, entry)?;
     Ok(prerequisite_when(is_there, origin, class, entry))
@@ -46,7 +50,7 @@ fn prerequisite(
 
 // Whether what a prerequisite names is there.
 fn is_found(sets: &BTreeMap<RrKey, RecordSet>, entry: &Record) -> Result<bool, AllocError>
-    ensures { IfOk result (λ b. b ≡ found_in sets.now entry.now) }
+    ensures { IfOk result (λ b. (origin : NameValue) (class : Class) → b ≡ is_found_in (zone_of_map origin class sets.now) entry.now) }
 {
     if is_all(entry.record_type()) {
         let found = has_type(sets, &entry.name, false)?;
@@ -62,7 +66,7 @@ fn prerequisite_when(
     class: DNSClass,
     entry: &Record,
 ) -> Option<ResponseCode>
-    ensures { result ≡ fault_if origin.now class is_there entry.now }
+    ensures { result ≡ and_then (unless_so (entry.now.ttl == 0) FormErrCode) (and_then (unless_so (is_zone_of origin.now entry.now.name) NotZoneCode) (prerequisite_by (the_use class entry.now.dns_class) is_there entry.now)) }
 {
     if entry.ttl != 0 {
         return Some(ResponseCode::FormErr);

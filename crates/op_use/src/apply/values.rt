@@ -2,9 +2,7 @@
 //! (RFC 2136, 3.2.3).
 
 ghost use Rattle.std.specs.List.{list_all, list_any};
-ghost use Rattle.std.specs.Ordering.{eq_by_cmp};
 ghost use Rattle.std.specs.Prelude.{◌≡◌, ◌&&◌, ◌||◌, IfOk, not};
-ghost use Rattle.base.specs.RrKey.{key_cmp, key_of as the_key};
 ghost use Rattle.base_data.specs.declared.rdata.RData.{RData};
 ghost use Rattle.op_use.specs.MapFaults.{all_met, asks_for, is_by_value, listed_under, there_under};
 ghost use Rattle.op_use.specs.Server.{is_same_key, record_key};
@@ -13,7 +11,7 @@ ghost use Rattle.rr.specs.declared.record.Record.{Record as Entry};
 
 use crate::apply::class_use::{Use, use_of};
 use crate::apply::sets::key_of;
-use base::{DNSClass, Name, RecordType, RrKey};
+use base::{DNSClass, RrKey};
 use rr::{Record, RecordSet};
 use std::alloc::AllocError;
 use std::collections::BTreeMap;
@@ -97,7 +95,10 @@ fn is_zone_use(class: DNSClass, entry: &Record) -> bool
 }
 
 // Whether the set of a record has its data.
-fn is_there(sets: &BTreeMap<RrKey, RecordSet>, entry: &Record) -> Result<bool, AllocError>
+pub(crate) fn is_there(
+    sets: &BTreeMap<RrKey, RecordSet>,
+    entry: &Record,
+) -> Result<bool, AllocError>
     ensures { IfOk result (λ b. b ≡ there_under sets.now entry.now (record_key entry.now)) }
 {
     let key = key_of(&entry.name, entry.record_type())?;
@@ -169,30 +170,16 @@ fn is_listed(known: &Record, class: DNSClass, entries: &[Record], entry: &Record
     ensures { result ≡ list_any (asks_for class entry.now known.now) entries.now }
 {
     for asked in entries {
-        if is_zone_use(class, asked) && is_same_set(entry, asked) && known.rdata == asked.rdata {
+        if known.rdata == asked.rdata && is_zone_use(class, asked) && is_same_set(entry, asked) {
             return true;
         }
     }
     false
 }
 
-// Whether two records are of one set.
+// Whether two records are of one set: of one type, and of one owner, which takes longest to tell.
 fn is_same_set(a: &Record, b: &Record) -> bool
     ensures { result ≡ is_same_key a.now b.now }
 {
-    are_keys_same(&a.name, a.record_type(), &b.name, b.record_type())
-}
-
-fn are_keys_same(a: &Name, s: RecordType, b: &Name, t: RecordType) -> bool
-    ensures { result ≡ eq_by_cmp key_cmp (the_key a.now s) (the_key b.now t) }
-{
-    let is_name = *a == *b;
-    let is_type = s == t;
-    both(is_name, is_type)
-}
-
-fn both(a: bool, b: bool) -> bool
-    ensures { result ≡ (a && b) }
-{
-    a && b
+    a.record_type() == b.record_type() && a.name == b.name
 }
