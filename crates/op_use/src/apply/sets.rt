@@ -27,7 +27,8 @@ use std::collections::BTreeMap;
 pub(crate) fn key_of(owner: &Name, record_type: RecordType) -> Result<RrKey, AllocError>
     ensures { IfOk result (λ k. k ≡ the_key owner.now record_type) }
 {
-    Ok(RrKey::new(LowerName::new(owner)?, record_type))
+    let owner = LowerName::new(owner.allocator(), owner).map_err(|_| AllocError)?;
+    Ok(RrKey::new(owner, record_type))
 }
 
 // Whether there is a set under a key.
