@@ -65,9 +65,9 @@ enters set r kept = record {
 
 -- what holds of a set, and of the set that the record was joined to, holds behind `insert`
 insert_cases : (P : SetValue → Type 0) (set : SetValue) (r : Record RData) → P set
-    → P (record set { records = joined r (beside set); ttl = r.ttl; serial = 0 }) → P (insert set r 0).1
-insert_cases P set r same changed = go (is_left set r) where
-  go : (b : Bool) → P (if◌then◌else◌ {A = Bool × SetValue} b (false, set) (true, record set { records = joined r (beside set); ttl = r.ttl; serial = 0 })).1
+    → P (record set { records = joined r (beside set.record_type set.records); ttl = r.ttl; serial = 0 }) → P (insert set r 0).1
+insert_cases P set r same changed = go (is_left set.record_type set.records r) where
+  go : (b : Bool) → P (if◌then◌else◌ {A = Bool × SetValue} b (false, set) (true, record set { records = joined r (beside set.record_type set.records); ttl = r.ttl; serial = 0 })).1
   go true = same
   go false = changed
 
@@ -83,7 +83,7 @@ one_of r xs false is = absurd cc
 pub insert_kept : (set : SetValue) (r : Record RData) → IsKept (record_key r) set → IsKept (record_key r) (insert set r 0).1
 insert_kept set r kept = record {
   key_is = insert_cases (λ s. record_key r ≡ key_of s.name s.record_type) set r kept.key_is kept.key_is;
-  some = insert_cases (λ s. s.records ≢ []) set r kept.some (some_joined r (beside set));
+  some = insert_cases (λ s. s.records ≢ []) set r kept.some (some_joined r (beside set.record_type set.records));
   tidy = insert_keeps_tidy set r 0 (enters set r kept) kept.tidy;
   single = insert_cases (λ s. holds_one s.record_type ≡ true → length s.records ≤ 1) set r kept.single (one_of r set.records (holds_one set.record_type));
 }

@@ -176,7 +176,7 @@ fn enter(set: &mut RecordSet, entry: Record) -> Result<(), ParseError>
     if entry.record_type() == RecordType::SOA {
         return Err(ParseError::Message("SOA is already specified"));
     }
-    set.insert(entry, 0)?;
+    set.insert(entry, 0).map_err(|_| ParseError::Memory)?;
     Ok(())
 }
 

@@ -6,3 +6,6 @@ sets-preserved-in_ok-insert c = one_more_put _ c.pop.new.self.items c.insert.new
 
 pub sets-preserved : goal.sets-preserved
 sets-preserved c = one_more_put _ c.pop.new.self.items c.insert.new.self.entries c.requires c.sets.invariant c.in-Some.ensures.items c.in_ok-insert.ensures.entries
+
+pub sets-preserved-in_ok-insert-2 : goal.sets-preserved-in_ok-insert-2
+sets-preserved-in_ok-insert-2 c = one_more_put _ c.pop.new.self.items c.insert.new.self.entries c.requires c.sets.invariant c.in-Some.ensures.items c.in_ok-insert.ensures.entries
