@@ -9,7 +9,6 @@ use Rattle.base.specs.ProtoError.{proto_number}
 use Rattle.base.specs.declared.error.proto_error.ProtoError.{ProtoError}
 use Rattle.op.specs.Cut.{IsTooSmall, IsWritten}
 use Rattle.op.specs.Message.{MessageValue, message_at}
-use Rattle.op.specs.MessageWritten.{message_answer}
 use Rattle.dnsmsg.specs.Answer.{Answer, IsGivenBy, done, refused}
 use Rattle.dnsmsg.specs.Answering.{AnswersBy}
 use Rattle.dnsmsg.specs.HexInput.{bytes_of}
@@ -19,18 +18,11 @@ use Rattle.dnsmsg.specs.declared.refusal.Refusal.{Refusal}
 abbrev pub hex_line : List ℕ → List ℕ
 hex_line bytes = encode_lower bytes ++ 10 ∷ []
 
--- what is answered where writing the message answers this: its bytes, or the number of the refusal
-abbrev pub cut_answer : Result (List ℕ) ProtoError → Answer
-cut_answer (Ok bytes) = done (hex_line bytes)
-cut_answer (Err e) = refused (proto_number e)
-
--- The answer is the one that message and limit decide. It is a cut of the message under the limit, or that the limit has
--- no room for header and questions.
+-- The answer is a cut of the message under the limit, or that the limit has no room for header and questions.
 abbrev pub CutsMessage : MessageValue → ℕ → Answer → Type 0
 CutsMessage m limit answer =
-    (answer ≡ cut_answer (message_answer limit m))
-    × (((B : List ℕ) × IsWritten m limit B × (answer ≡ done (hex_line B)))
-    ⊎ ((e : ProtoError) × IsTooSmall m limit e × (answer ≡ refused (proto_number e))))
+    ((B : List ℕ) × IsWritten m limit B × (answer ≡ done (hex_line B)))
+    ⊎ ((e : ProtoError) × IsTooSmall m limit e × (answer ≡ refused (proto_number e)))
 
 -- the answer to a message that was read, or the number of the fault that reading met
 abbrev pub CutsRead : ℕ → Read MessageValue → Answer → Type 0
