@@ -10,6 +10,7 @@ mod copy;
 mod display;
 mod emit;
 pub mod laws;
+pub mod limit_laws;
 pub mod part_laws;
 mod parts;
 mod reading;
