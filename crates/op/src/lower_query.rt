@@ -147,7 +147,9 @@ impl BinDecodable for LowerQuery {
     /// Refused as `Query::read` is, with `Memory` also where there is none for the name in lower case.
     fn read(decoder: &mut BinDecoder<'_>) -> Result<LowerQuery, DecodeError> {
         let original = Query::read(decoder)?;
-        let name = LowerName::new(decoder.allocator(), &original.name).map_err(|_| DecodeError::Memory)?;
+        let name = LowerName::new(decoder.allocator(), &original.name).map_err(
+            |_| DecodeError::Memory,
+        )?;
         Ok(LowerQuery { name, original })
     }
 }
