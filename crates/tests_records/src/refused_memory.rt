@@ -3,7 +3,7 @@ use crate::sets::{address, empty, may_hold, record};
 use base::{DNSClass, Name, ProtoError, RecordType};
 use base_data::{CNAME, NS, RData, SOA};
 use rr::{Record, RecordSet};
-use std::alloc::{AllocError, Global};
+use std::alloc::Global;
 use std::test::Fail;
 
 /// Data of a row: the last byte of an address, or a start's serial and first name, or a name.
@@ -49,7 +49,7 @@ fn start(first: Name, serial: u32) -> RData {
 }
 
 /// What a call answers that was refused memory: that, if the set is what it was before.
-fn refused(set: &RecordSet, before: &RecordSet, e: AllocError) -> Fail {
+fn refused(set: &RecordSet, before: &RecordSet, e: ProtoError) -> Fail {
     if *set == *before {
         return e.into();
     }
@@ -92,7 +92,7 @@ fn finds(set: &mut RecordSet, before: &RecordSet, rdata: &RData) -> Result<bool,
     }
     let found = match set.new_record(rdata) {
         Ok(entry) => Ok(entry.is_some()),
-        Err(e) => Err(e),
+        Err(_) => Err(ProtoError::Memory),
     };
     match found {
         Ok(is_found) => Ok(is_found),

@@ -4,7 +4,7 @@ use crate::messages::values::edns_with_option;
 use base::{ProtoError, RecordType};
 use op::{DEFAULT_MAX_PAYLOAD_LEN, Edns, EdnsFlags};
 use rr::Record;
-use std::alloc::{AllocError, Global};
+use std::alloc::Global;
 use test_tools::forms::{has_text, is_copied, is_written_as};
 
 // A number, and the flags that it stands for.
@@ -70,7 +70,7 @@ fn has_option(edns: &Edns, code: u16, other: u16) -> bool {
 }
 
 #[test]
-fn options_are_put_and_found(rt: HostRuntime) -> Result<(), AllocError> {
+fn options_are_put_and_found(rt: HostRuntime) -> Result<(), ProtoError> {
     let edns = edns_with_option(rt.alloc())?;
     assert!(rt; has_option(&edns, 65001, 65002));
     drop(edns);
