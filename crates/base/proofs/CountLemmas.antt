@@ -161,6 +161,10 @@ few_below (suc n) s below =
       | inr hasnt ↦ omega (arith, rest, len ∙ cond-false (set.contains s n) _ _ hasnt)
     ]
 
+-- no more are kept than a pointer can name offsets
+pub few_kept : (bytes : List ℕ) (ps : List Plain) (kept : List (Option (List ℕ))) → ArePlain bytes ps → AreKept bytes kept → set.len (targets_of ps kept) ≤ 16384
+few_kept bytes ps kept plain are = few_below 16384 (targets_of ps kept) (kept_near bytes ps kept plain are)
+
 equal_is : (o : Ordering) → is_eq o ≡ true → o ≡ Equal
 equal_is Less is = absurd (false≢true is)
 equal_is Equal is = refl
@@ -300,19 +304,20 @@ pub record IsBehind {xs : List (List ℕ)} {e : ℕ} (ts : List ℕ) (old new la
   pub passes : last.kept ≡ inserted (passed h) old.kept
 
 -- a read of a name ends: with all that it passes kept, or with a refusal
-pub counted_after : {ts : List ℕ} {old new last : Reader} {xs : List (List ℕ)} {e : ℕ} (h : Spelled old.bytes xs old.index old.index e) → IsBehind ts old new last h
-    → Followed ts old new → IsCounted old → IsCounted last
-counted_after h behind f counted =
-    let few = f.few counted.few in
-    let raised = f.jumps (omega (arith, counted.each, few, f.all)) in
-    let len = ap set.len behind.kept in
-    record {
-      each = omega (arith, behind.jumps, raised, counted.each, len, f.all);
-      few = omega (arith, len, few);
-      passed = one_passed h counted.passed behind.bytes behind.index behind.passes;
-    }
+pub counted_after : {ts : List ℕ} {old new last : Reader} {xs : List (List ℕ)} {e : ℕ} {h : Spelled old.bytes xs old.index old.index e} → IsBehind ts old new last h
+    → Followed ts old new → set.len old.kept ≤ 16384 → IsCounted old → IsCounted last × (last.jumps ≤ 16384)
+counted_after behind f some counted =
+    let few = f.few some in
+    let raised = f.jumps (omega (arith, counted, few, f.all)) in
+    let len = ap set.len behind.kept in (
+      omega (arith, behind.jumps, raised, counted, len, f.all),
+      omega (arith, behind.jumps, raised, counted, few, f.all),
+    )
 
-pub counted_refused : {ts : List ℕ} {old new : Reader} → Followed ts old new → IsCounted old → new.jumps ≤ 16384
-counted_refused f counted =
-    let few = f.few counted.few in
-    omega (arith, f.jumps (omega (arith, counted.each, few, f.all)), counted.each, few, f.all)
+pub counted_refused : {ts : List ℕ} {old new : Reader} → Followed ts old new → set.len old.kept ≤ 16384 → IsCounted old → new.jumps ≤ 16384
+counted_refused f some counted =
+    let few = f.few some in
+    omega (arith, f.jumps (omega (arith, counted, few, f.all)), counted, few, f.all)
+
+pub passed_after : {ts : List ℕ} {old new last : Reader} {xs : List (List ℕ)} {e : ℕ} (h : Spelled old.bytes xs old.index old.index e) → IsBehind ts old new last h → IsPassed old → IsPassed last
+passed_after h behind p = one_passed h p behind.bytes behind.index behind.passes

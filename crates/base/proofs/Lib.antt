@@ -41,6 +41,7 @@ pub mod TargetLemmas
 pub mod TextLawLemmas
 pub mod TextLemmas
 pub mod TokenLemmas
+pub mod TtlLawLemmas
 pub mod TtlLemmas
 pub mod TypeTexts
 pub mod WalkLemmas

@@ -25,7 +25,7 @@ times_some : (n u : ℕ) → 1 ≤ u → n ≤ n * u
 times_some n zero some = absurd (omega arith)
 times_some n (suc u) some = omega (arith, mul-suc n u)
 
-ttl_end : (sum : ℕ) (begun : Option ℕ) → ttl_sum sum begun [] ≡ Some (sum + unwrap_or begun 0)
+pub ttl_end : (sum : ℕ) (begun : Option ℕ) → ttl_sum sum begun [] ≡ Some (sum + unwrap_or begun 0)
 unfolding ttl_sum
 ttl_end sum begun = refl
 

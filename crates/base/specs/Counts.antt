@@ -12,14 +12,17 @@ pub record IsPassed (r : Reader) : Type 0 where
   pub pass : NamesPass r.bytes names offsets
   pub exact : r.kept ≡ set.from_list offsets
 
--- As many pointers were followed as targets are kept; there are no more offsets that a pointer can name, and they are
--- those that the names pass.
-pub record IsCounted (r : Reader) : Type 0 where
-  pub each : r.jumps ≡ set.len r.kept
-  pub few : set.len r.kept ≤ 16384
-  pub passed : IsPassed r
+-- as many pointers were followed as targets are kept
+abbrev pub IsCounted : Reader → Type 0
+IsCounted r = r.jumps ≡ set.len r.kept
 
--- A read from there leaves it so, and where it refuses no more were followed either.
+-- A read from there leaves it so where it doesn't refuse, and never are more followed than a pointer can name offsets
+-- (RFC 1035, 4.1.4).
 abbrev pub Counts : {X E : Type 0} → Reader → Reader → Result X E → Type 0
-Counts old new (Ok x) = IsCounted old → IsCounted new
+Counts old new (Ok x) = IsCounted old → IsCounted new × (new.jumps ≤ 16384)
 Counts old new (Err e) = IsCounted old → new.jumps ≤ 16384
+
+-- a read that doesn't refuse keeps no other offsets than those that names pass
+abbrev pub Passes : {X E : Type 0} → Reader → Reader → Result X E → Type 0
+Passes old new (Ok x) = IsPassed old → IsPassed new
+Passes old new (Err e) = Unit {0}

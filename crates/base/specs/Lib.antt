@@ -36,6 +36,7 @@ pub mod TokenList
 pub mod Tokens
 pub mod Trail
 pub mod Ttl
+pub mod TtlText
 pub mod Wire
 pub mod Words
 pub mod Written

@@ -2,7 +2,7 @@
 //! stands here.
 
 ghost use Rattle.std.specs.Prelude.{◌≡◌, ◌<◌, ◌≤◌, [], IfOk, Some, take};
-ghost use Rattle.base.specs.Counts.{Counts};
+ghost use Rattle.base.specs.Counts.{Counts, Passes};
 ghost use Rattle.base.specs.Laws.{Writes};
 ghost use Rattle.base.specs.Passing.{AddsPassed};
 ghost use Rattle.base.specs.Reading.{Reads};
@@ -133,6 +133,7 @@ impl RData {
         requires { 0 < len }
         ensures read { Reads (λ x. x) decoder.old decoder.new result (kind_at record_type len decoder.old.bytes decoder.old.index) }
         ensures counts { Counts decoder.old decoder.new result }
+        ensures passed { Passes decoder.old decoder.new result }
         ensures adds { IfOk result (λ d. AddsPassed (data_places d decoder.old.bytes decoder.old.index) decoder.old decoder.new) }
     {
         match record_type {

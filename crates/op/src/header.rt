@@ -2,7 +2,7 @@
 
 ghost use Rattle.std.specs.Prelude.{◌≡◌, ◌↔◌, ◌<◌, ◌+◌, ◌%◌, ◌≤◌, ◌||◌, ◌^◌, ℕ, List, [], ◌∷◌, length, slice_index, Ok, Err, IfOk, OnOk, OnErr, IsOkUnless, IsErrOf};
 ghost use Rattle.std.specs.Int.{w16, from_be_bytes};
-ghost use Rattle.base.specs.Counts.{Counts};
+ghost use Rattle.base.specs.Counts.{Counts, Passes};
 ghost use Rattle.base.specs.Passing.{AddsPassed};
 ghost use Rattle.base.specs.Reading.{Reads};
 ghost use Rattle.base.specs.State.{appended};
@@ -148,6 +148,7 @@ impl BinDecodable for Header {
     fn read(decoder: &mut BinDecoder<'_>) -> Result<Header, DecodeError>
         ensures read { Reads (λ x. x) decoder.old decoder.new result (header_at decoder.old.bytes decoder.old.index) }
         ensures counts { Counts decoder.old decoder.new result }
+        ensures passed { Passes decoder.old decoder.new result }
         ensures adds { IfOk result (λ _. AddsPassed [] decoder.old decoder.new) }
         ensures found { IfOk result (λ h. IsHeaderAt decoder.old.bytes decoder.old.index h × (decoder.new.index ≡ decoder.old.index + 12)) }
         ensures only { IsOkUnless result DecodeError.InsufficientBytes }

@@ -2,7 +2,7 @@
 
 ghost use Rattle.std.specs.Prelude.{◌≡◌, ◌↔◌, ◌+◌, ◌++◌, ◌<◌, ℕ, List, length, Ok, Err, Some, IfErr, IfOk, OnOk, IsTrue, [], true};
 ghost use Rattle.std.specs.Int.{w16, to_be_bytes};
-ghost use Rattle.base.specs.Counts.{Counts};
+ghost use Rattle.base.specs.Counts.{Counts, Passes};
 ghost use Rattle.base.specs.Laws.{Keeps, Writes};
 ghost use Rattle.base.specs.NameOrder.{same_name};
 ghost use Rattle.base.specs.Wire.{state_of, Refuses};
@@ -183,6 +183,7 @@ fn read_fields(decoder: &mut BinDecoder<'_>) -> Result<Fields, DecodeError>
     ensures short { IfErr result (λ e. (e ≡ DecodeError.InsufficientBytes) × (length decoder.old.bytes < decoder.old.index + 4)) }
     ensures kept { decoder.new.kept ≡ decoder.old.kept }
     ensures counts { Counts decoder.old decoder.new result }
+    ensures passed { Passes decoder.old decoder.new result }
 {
     match decoder.read_slice(4)? {
         [type_high, type_low, class_high, class_low] => Ok(Fields {

@@ -2,7 +2,7 @@
 
 ghost use Rattle.std.specs.Prelude.{◌≡◌, ℕ, ◌<◌, ◌≤◌, ◌+◌, ◌++◌, ◌∷◌, [], Ok, Err, length, take, slice_range, IfOk, IfSome, OnOk, OnErr, IsOkUnless, MatchResult};
 ghost use Rattle.std.specs.FinSet as set;
-ghost use Rattle.base.specs.Counts.{Counts};
+ghost use Rattle.base.specs.Counts.{Counts, Passes};
 ghost use Rattle.base.specs.Labels.{IsWire, labels_of};
 ghost use Rattle.base.specs.Names.{part_at, pointer_to, labels_at, name_at};
 ghost use Rattle.base.specs.PartOf.{part};
@@ -267,6 +267,7 @@ impl BinDecodable for Name {
     fn read(decoder: &mut BinDecoder<'_>) -> Result<Name, DecodeError>
         ensures read { Reads (λ x. x) decoder.old decoder.new result (name_at decoder.old.bytes decoder.old.index) }
         ensures counts { Counts decoder.old decoder.new result }
+        ensures passed { Passes decoder.old decoder.new result }
         ensures passes { IfOk result (λ n. (h : Spelled decoder.old.bytes n.labels decoder.old.index decoder.old.index decoder.new.index)
             → decoder.new.kept ≡ set.union decoder.old.kept (set.from_list (passed h))) }
         ensures adds { IfOk result (λ _. AddsPassed (decoder.old.index ∷ []) decoder.old decoder.new) }

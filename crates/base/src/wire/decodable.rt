@@ -12,7 +12,7 @@ use crate::wire::decoder::BinDecoder;
 /// places of the names of the value that is read there.
 pub trait BinDecodable: Drop {
     ghost use Rattle.std.specs.Prelude.{ℕ, List, [], IfOk};
-    ghost use Rattle.base.specs.Counts.{Counts};
+    ghost use Rattle.base.specs.Counts.{Counts, Passes};
     ghost use Rattle.base.specs.Passing.{AddsPassed};
     ghost use Rattle.base.specs.Reading.{Read, Reads};
 
@@ -26,6 +26,7 @@ pub trait BinDecodable: Drop {
     fn read(decoder: &mut BinDecoder<'_>) -> Result<Self, DecodeError>
         ensures read { Reads (λ x. x) decoder.old decoder.new result (read_at decoder.old.bytes decoder.old.index) }
         ensures counts { Counts decoder.old decoder.new result }
+        ensures passed { Passes decoder.old decoder.new result }
         ensures adds { IfOk result (λ _. AddsPassed (names_at decoder.old.bytes decoder.old.index) decoder.old decoder.new) };
 }
 

@@ -3,7 +3,7 @@
 ghost use Rattle.std.specs.Prelude.{◌≡◌, ℕ, true, ◌+◌, ◌-◌, ◌^◌, ◌<◌, ◌≤◌, length, min, drop, nat_le, is_some, IfSome, OnOk, OnErr, IsOkUnless};
 ghost use Rattle.std.specs.FinSet as set;
 ghost use Rattle.std.specs.Int.{w16, w32};
-ghost use Rattle.base.specs.Counts.{Counts};
+ghost use Rattle.base.specs.Counts.{Counts, Passes};
 ghost use Rattle.base.specs.Kept.{IsKept};
 ghost use Rattle.base.specs.Passing.{IsClosed, PassesKept};
 ghost use Rattle.base.specs.Reader.{begun};
@@ -66,13 +66,15 @@ impl<'a> BinDecoder<'a> {
         ensures value { result ≡ self.now.index }
         ensures inside { result ≤ length self.now.bytes }
         ensures addressable { length self.now.bytes < 2 ^ 63 }
+        ensures few { set.len self.now.kept ≤ 16384 }
     {
         self.index
     }
 
     /// How many bytes are left.
     pub fn len(&self) -> usize
-        ensures { result ≡ length self.now.bytes - self.now.index }
+        ensures left { result ≡ length self.now.bytes - self.now.index }
+        ensures few { set.len self.now.kept ≤ 16384 }
     {
         self.buffer.len() - self.index
     }
@@ -85,7 +87,9 @@ impl<'a> BinDecoder<'a> {
     }
 
     /// The allocator that values read here take their memory from.
-    pub fn allocator(&self) -> Global {
+    pub fn allocator(&self) -> Global
+        ensures few { set.len self.now.kept ≤ 16384 }
+    {
         self.alloc
     }
 
@@ -171,6 +175,7 @@ impl<'a> BinDecoder<'a> {
         ensures only { IsOkUnless result DecodeError.InsufficientBytes }
         ensures read { Reads (λ b. b) self.old self.new result (byte_at self.old.bytes self.old.index) }
         ensures counts { Counts self.old self.new result }
+        ensures passed { Passes self.old self.new result }
         ensures kept { self.new.kept ≡ self.old.kept }
     {
         match self.buffer.get(self.index) {
@@ -188,6 +193,7 @@ impl<'a> BinDecoder<'a> {
         ensures only { IsOkUnless result DecodeError.InsufficientBytes }
         ensures read { Reads (λ n. n) self.old self.new result (number_at w16 self.old.bytes self.old.index) }
         ensures counts { Counts self.old self.new result }
+        ensures passed { Passes self.old self.new result }
         ensures kept { self.new.kept ≡ self.old.kept }
     {
         match &self.buffer[self.index..] {
@@ -205,6 +211,7 @@ impl<'a> BinDecoder<'a> {
         ensures only { IsOkUnless result DecodeError.InsufficientBytes }
         ensures read { Reads (λ n. n) self.old self.new result (number_at w32 self.old.bytes self.old.index) }
         ensures counts { Counts self.old self.new result }
+        ensures passed { Passes self.old self.new result }
         ensures kept { self.new.kept ≡ self.old.kept }
     {
         match &self.buffer[self.index..] {
@@ -221,6 +228,7 @@ impl<'a> BinDecoder<'a> {
         ensures only { IsOkUnless result DecodeError.InsufficientBytes }
         ensures read { Reads (λ bytes. bytes.now) self.old self.new result (bytes_at len self.old.bytes self.old.index) }
         ensures counts { Counts self.old self.new result }
+        ensures passed { Passes self.old self.new result }
         ensures kept { self.new.kept ≡ self.old.kept }
     {
         let start = self.index;

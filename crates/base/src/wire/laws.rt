@@ -2,7 +2,7 @@
 
 ghost use Rattle.std.specs.Prelude.{◌≡◌, ℕ, ◌+◌, ◌≤◌, List, ◌++◌, length};
 ghost use Rattle.std.specs.FinSet as set;
-ghost use Rattle.base.specs.Counts.{IsCounted};
+ghost use Rattle.base.specs.Counts.{IsCounted, IsPassed};
 ghost use Rattle.base.specs.Passing.{AddsPassed, NamesPass};
 ghost use Rattle.base.specs.Reader.{Reader, begun};
 ghost use Rattle.base.specs.State.{State, Stored};
@@ -10,10 +10,11 @@ ghost use Rattle.base.specs.Written.{in_turn, that_fit, after, fitting, Passes};
 
 use crate::wire::encodable::BinEncodable;
 
-/// A new decoder keeps nothing and has followed no pointer, so that the clause `counts` of each read tells of all that is
+/// A new decoder keeps nothing and has followed no pointer, so that the clauses `counts` and `passed` of each read tell of all that is
 /// read from there on.
 pub fn a_new_decoder_is_counted()
-    ensures { (bytes : List ℕ) → IsCounted (begun bytes) }
+    ensures counted { (bytes : List ℕ) → IsCounted (begun bytes) }
+    ensures passed { (bytes : List ℕ) → IsPassed (begun bytes) }
 {}
 
 /// What a new decoder keeps after a read is exactly what the names pass that were read: the clause `adds` of the read

@@ -1,7 +1,7 @@
 //! Reads values one behind the other.
 
 ghost use Rattle.std.specs.Prelude.{IfOk};
-ghost use Rattle.base.specs.Counts.{Counts};
+ghost use Rattle.base.specs.Counts.{Counts, Passes};
 ghost use Rattle.base.specs.Many.{many_at, many_names};
 ghost use Rattle.base.specs.Passing.{AddsPassed};
 ghost use Rattle.base.specs.Reading.{Reads};
@@ -19,6 +19,7 @@ pub fn read_many<T: BinDecodable>(
 ) -> Result<Vec<T>, DecodeError>
     ensures read { Reads (λ v. v.items) decoder.old decoder.new result (many_at T.read_at count decoder.old.bytes decoder.old.index) }
     ensures counts { Counts decoder.old decoder.new result }
+    ensures passed { Passes decoder.old decoder.new result }
     ensures adds { IfOk result (λ _. AddsPassed (many_names T.read_at T.names_at count decoder.old.bytes decoder.old.index) decoder.old decoder.new) }
 {
     let mut values = Vec::new(decoder.allocator());

@@ -1,7 +1,7 @@
 //! Reads data by type and length.
 
 ghost use Rattle.std.specs.Prelude.{◌≡◌, ◌<◌, IfOk, []};
-ghost use Rattle.base.specs.Counts.{Counts};
+ghost use Rattle.base.specs.Counts.{Counts, Passes};
 ghost use Rattle.base.specs.Passing.{AddsPassed};
 ghost use Rattle.base.specs.Reading.{Reads, bytes_at};
 ghost use Rattle.base_data.specs.Kinds.{as_any, data_places};
@@ -26,6 +26,7 @@ impl RData {
     ) -> Result<RData, DecodeError>
         ensures read { Reads (λ x. x) decoder.old decoder.new result (rdata_at record_type len decoder.old.bytes decoder.old.index) }
         ensures counts { Counts decoder.old decoder.new result }
+        ensures passed { Passes decoder.old decoder.new result }
         ensures adds { IfOk result (λ d. AddsPassed (data_places d decoder.old.bytes decoder.old.index) decoder.old decoder.new) }
     {
         if len == 0 {
@@ -58,7 +59,7 @@ fn inside(record_type: RecordType, fault: DecodeError) -> DecodeError
 /// Data whose end is told by its length alone.
 pub(crate) trait SizedData: RecordData {
     ghost use Rattle.std.specs.Prelude.{◌<◌, ℕ, List, [], IfOk};
-    ghost use Rattle.base.specs.Counts.{Counts};
+    ghost use Rattle.base.specs.Counts.{Counts, Passes};
     ghost use Rattle.base.specs.Passing.{AddsPassed};
     ghost use Rattle.base.specs.Reading.{Read, Reads};
 
@@ -71,6 +72,7 @@ pub(crate) trait SizedData: RecordData {
         requires { 0 < len }
         ensures read { Reads (λ x. x) decoder.old decoder.new result (sized_at len decoder.old.bytes decoder.old.index) }
         ensures counts { Counts decoder.old decoder.new result }
+        ensures passed { Passes decoder.old decoder.new result }
         ensures adds { IfOk result (λ _. AddsPassed [] decoder.old decoder.new) };
 }
 
@@ -80,6 +82,7 @@ pub(crate) fn read_as<R: BinDecodable + RecordData>(
 ) -> Result<RData, DecodeError>
     ensures read { Reads (λ x. x) decoder.old decoder.new result (as_any R.as_rdata (R.read_at decoder.old.bytes decoder.old.index)) }
     ensures counts { Counts decoder.old decoder.new result }
+    ensures passed { Passes decoder.old decoder.new result }
     ensures adds { IfOk result (λ _. AddsPassed (R.names_at decoder.old.bytes decoder.old.index) decoder.old decoder.new) }
 {
     Ok(R::read(decoder)?.into_rdata())
@@ -93,6 +96,7 @@ pub(crate) fn read_sized<R: SizedData>(
     requires { 0 < len }
     ensures read { Reads (λ x. x) decoder.old decoder.new result (as_any R.as_rdata (R.sized_at len decoder.old.bytes decoder.old.index)) }
     ensures counts { Counts decoder.old decoder.new result }
+    ensures passed { Passes decoder.old decoder.new result }
     ensures adds { IfOk result (λ _. AddsPassed [] decoder.old decoder.new) }
 {
     Ok(R::read(decoder, len)?.into_rdata())
@@ -107,6 +111,7 @@ pub(crate) fn read_carried(
     requires { 0 < len }
     ensures read { Reads (λ x. x) decoder.old decoder.new result (as_any (kinds.Unknown code) (bytes_at len decoder.old.bytes decoder.old.index)) }
     ensures counts { Counts decoder.old decoder.new result }
+    ensures passed { Passes decoder.old decoder.new result }
     ensures adds { IfOk result (λ _. AddsPassed [] decoder.old decoder.new) }
 {
     let rdata = NULL::read(decoder, len)?;

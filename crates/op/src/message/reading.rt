@@ -1,7 +1,7 @@
 //! Reads messages (RFC 1035, 4.1).
 
 ghost use Rattle.std.specs.Prelude.{◌≡◌, ◌⊎◌, ◌+◌, ℕ, IfErr, IfOk, MatchResult};
-ghost use Rattle.base.specs.Counts.{Counts};
+ghost use Rattle.base.specs.Counts.{Counts, Passes};
 ghost use Rattle.base.specs.Many.{many_at};
 ghost use Rattle.base.specs.Passing.{AddsPassed};
 ghost use Rattle.base.specs.Reading.{Fails, Reads};
@@ -37,6 +37,7 @@ impl Message {
     ) -> Result<Vec<Query>, ProtoError>
         ensures read { ReadsOrDecodes (λ v. v.items) decoder.old decoder.new result (many_at query_at count decoder.old.bytes decoder.old.index) }
         ensures counts { Counts decoder.old decoder.new result }
+        ensures passed { Passes decoder.old decoder.new result }
         ensures adds { IfOk result (λ _. AddsPassed (queries_places count decoder.old.bytes decoder.old.index) decoder.old decoder.new) }
     {
         Ok(read_many::<Query>(decoder, count)?)
@@ -58,6 +59,7 @@ impl Message {
     ) -> Result<(Vec<Record>, Option<Edns>, Option<Box<Record<TSIG>>>), DecodeError>
         ensures read { Reads parts_value decoder.old decoder.new result (section_at is_additional op_code count decoder.old.bytes decoder.old.index) }
         ensures counts { Counts decoder.old decoder.new result }
+        ensures passed { Passes decoder.old decoder.new result }
         ensures adds { IfOk result (λ _. AddsPassed (records_places count decoder.old.bytes decoder.old.index) decoder.old decoder.new) }
     {
         let section = Message::read_section(decoder, count, is_additional, op_code)?;
@@ -72,6 +74,7 @@ impl Message {
     ) -> Result<Section, DecodeError>
         ensures read { Reads section_value decoder.old decoder.new result (section_at is_additional op_code count decoder.old.bytes decoder.old.index) }
         ensures counts { Counts decoder.old decoder.new result }
+        ensures passed { Passes decoder.old decoder.new result }
         ensures adds { IfOk result (λ _. AddsPassed (records_places count decoder.old.bytes decoder.old.index) decoder.old decoder.new) }
     {
         let mut section = Section::new(decoder.allocator());
@@ -94,6 +97,7 @@ impl Message {
     ) -> Result<Sections, DecodeError>
         ensures read { Reads sections_value decoder.old decoder.new result (sections_at op_code counts decoder.old.bytes decoder.old.index) }
         ensures counts { Counts decoder.old decoder.new result }
+        ensures passed { Passes decoder.old decoder.new result }
         ensures adds { IfOk result (λ _. AddsPassed (records_places (counts.answers + counts.authorities + counts.additionals) decoder.old.bytes decoder.old.index) decoder.old decoder.new) }
     {
         let answers = Message::read_section(decoder, usize::from(counts.answers), false, op_code)?;
@@ -125,6 +129,7 @@ impl Message {
     pub fn read(decoder: &mut BinDecoder<'_>) -> Result<Message, DecodeError>
         ensures read { Reads message_value decoder.old decoder.new result (message_at decoder.old.bytes decoder.old.index) }
         ensures counts { Counts decoder.old decoder.new result }
+        ensures passed { Passes decoder.old decoder.new result }
         ensures adds { IfOk result (λ _. AddsPassed (message_places decoder.old.bytes decoder.old.index) decoder.old decoder.new) }
     {
         let header = Header::read(decoder)?;

@@ -2,7 +2,7 @@
 
 ghost use Rattle.std.specs.Prelude.{◌≡◌, ◌+◌, ◌<◌, length, IfErr, IfOk, OnOk};
 ghost use Rattle.std.specs.Int.{w16, w32};
-ghost use Rattle.base.specs.Counts.{Counts};
+ghost use Rattle.base.specs.Counts.{Counts, Passes};
 ghost use Rattle.base.specs.Passing.{AddsPassed};
 ghost use Rattle.base.specs.Reading.{Reads};
 ghost use Rattle.base.specs.Words.{IsNumberAt};
@@ -72,6 +72,7 @@ fn read_fields(decoder: &mut BinDecoder<'_>) -> Result<Fields, DecodeError>
     ensures short { IfErr result (λ e. (e ≡ DecodeError.InsufficientBytes) × (length decoder.old.bytes < decoder.old.index + 8)) }
     ensures kept { decoder.new.kept ≡ decoder.old.kept }
     ensures counts { Counts decoder.old decoder.new result }
+    ensures passed { Passes decoder.old decoder.new result }
 {
     match decoder.read_slice(8)? {
         [
@@ -101,6 +102,7 @@ fn read_body(
 ) -> Result<Record<RData>, DecodeError>
     ensures read { Reads (λ x. x) decoder.old decoder.new result (body_at name record_type decoder.old.bytes decoder.old.index) }
     ensures counts { Counts decoder.old decoder.new result }
+    ensures passed { Passes decoder.old decoder.new result }
     ensures adds { IfOk result (λ r. AddsPassed (data_places r.rdata decoder.old.bytes (decoder.old.index + 8)) decoder.old decoder.new) }
 {
     let Fields { class, ttl, len } = read_fields(decoder)?;

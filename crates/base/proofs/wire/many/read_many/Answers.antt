@@ -1,4 +1,4 @@
-use Rattle.std.proofs.Common.{rules}
+use Rattle.std.proofs.Common.{arith, rules}
 use Rattle.std.proofs.lemmas.Result.{err_from_is_err_and}
 use Rattle.base.proofs.AddsLemmas.{adds_many_all, adds_many_more, adds_many_none}
 use Rattle.base.proofs.ManyLemmas.{gathers_more, gathers_all, gathers_fault}
@@ -10,12 +10,13 @@ returns-in_err-value-clause-read g c =
     rw (p.1, p.2) (gathers_fault c.in_err-value.field-0.0 c.loop-test.true c.in_err-value.ensures.read c.loop.invariant.gathers)
 
 pub loop-init : goal.loop-init
-loop-init g c = record { gathers = search rules; counted = λ counted. counted; adds = adds_many_none _ _ _ _ }
+loop-init g c = record { gathers = search rules; counted = λ counted. (counted, omega (arith, counted, c.allocator.ensures.few)); passed = λ passed. passed; adds = adds_many_none _ _ _ _ }
 
 pub loop-preserved : goal.loop-preserved
 loop-preserved g c = record {
   gathers = rw (c.in_ok-push.ensures.items, c.in_ok-value.ensures.read.1) (gathers_more c.loop-test.true c.in_ok-value.ensures.read.0 c.loop.invariant.gathers);
-  counted = λ counted. c.in_ok-value.ensures.counts (c.loop.invariant.counted counted);
+  counted = λ counted. c.in_ok-value.ensures.counts (c.loop.invariant.counted counted).0;
+  passed = λ passed. c.in_ok-value.ensures.passed (c.loop.invariant.passed passed);
   adds = adds_many_more c.loop.invariant.adds c.loop-test.true c.in_ok-value.ensures.read.0 c.in_ok-value.ensures.adds;
 }
 

@@ -7,7 +7,7 @@ use Rattle.base.specs.Passing.{inserted, passed}
 use Rattle.base.specs.Reader.{Reader}
 use Rattle.base.specs.Spelling.{Spelled}
 use Rattle.base.proofs.AddsLemmas.{adds_name}
-use Rattle.base.proofs.CountLemmas.{Follows-none, counted_after, inserted-none}
+use Rattle.base.proofs.CountLemmas.{Follows-none, IsBehind, counted_after, inserted-none, passed_after}
 use Rattle.base.proofs.GatherLemmas.{spelled_is}
 use Rattle.base.proofs.PassLemmas.{passes_are_kept}
 use Rattle.base.proofs.name.reading.NameBinDecodable.read.Goals as goal
@@ -44,21 +44,22 @@ bytes_now c =
 pub returns-clause-adds : goal.returns-clause-adds
 returns-clause-adds c = adds_name (spelled c) (bytes_now c) (passes c _ _ (spelled c))
 
-pub returns-clause-counts : goal.returns-clause-counts
-returns-clause-counts c = λ counted.
-    let labels = labels_of (take c.in_ok-used.field-0.used c.gather.new.room) in
-    let e = c.in_ok-used.field-0.end in
-    let h = spelled c in
-    let followed = c.in_ok-used.ensures.followed in
+behind : (c : goal.After-drop-passed-inside-2) → IsBehind (targets c.gather.new.passed) c.args.decoder.now c.gather.new.decoder c.move_to-2.new.self (spelled c)
+behind c =
     let moved = c.move_to-2.ensures in
-    let all = c.in_ok-keep_all.ensures.ok in
-    counted_after h (record {
+    record {
       bytes = bytes_now c;
       index = ap (λ (r : Reader). r.index) moved;
-      jumps = ap (λ (r : Reader). r.jumps) moved ∙ ap (λ (r : Reader). r.jumps) all;
+      jumps = ap (λ (r : Reader). r.jumps) moved ∙ ap (λ (r : Reader). r.jumps) c.in_ok-keep_all.ensures.ok;
       kept = kept_now c;
-      passes = passes c labels e h;
-    }) followed counted
+      passes = passes c _ _ (spelled c);
+    }
+
+pub returns-clause-counts : goal.returns-clause-counts
+returns-clause-counts c = counted_after (behind c) c.in_ok-used.ensures.followed c.allocator-2.ensures.few
+
+pub returns-clause-passed : goal.returns-clause-passed
+returns-clause-passed c = passed_after (spelled c) (behind c)
 
 -- ---- a name of one piece
 
@@ -83,19 +84,23 @@ returns-in-Some-clause-adds c =
     let h = spelled_piece c in
     adds_name h (ap (λ (r : Reader). r.bytes) c.move_to.ensures) (passes_piece c _ _ h)
 
-pub returns-in-Some-clause-counts : goal.returns-in-Some-clause-counts
-returns-in-Some-clause-counts c = λ counted.
+behind_piece : (c : goal.After-move_to) → IsBehind [] c.args.decoder.now c.args.decoder.now c.move_to.new.self (spelled_piece c)
+behind_piece c =
     let old = c.args.decoder.now in
-    let bytes = labels c in
-    let e = c.in-Some.field-0.end in
-    let h = spelled_piece c in
-    let f = Follows-none 0 old in
-    let followed : Followed [] old old = record { now = f.now; jumps = f.jumps; all = f.all; few = f.few } in
     let moved = c.move_to.ensures in
-    counted_after h (record {
+    record {
       bytes = ap (λ (r : Reader). r.bytes) moved;
       index = ap (λ (r : Reader). r.index) moved;
       jumps = ap (λ (r : Reader). r.jumps) moved;
       kept = ap (λ (r : Reader). r.kept) moved ∙ sym (inserted-none old.kept);
-      passes = passes_piece c (labels_of bytes) e h;
-    }) followed counted
+      passes = passes_piece c _ _ (spelled_piece c);
+    }
+
+pub returns-in-Some-clause-counts : goal.returns-in-Some-clause-counts
+returns-in-Some-clause-counts c =
+    let f = Follows-none 0 c.args.decoder.now in
+    let followed : Followed [] c.args.decoder.now c.args.decoder.now = record { now = f.now; jumps = f.jumps; all = f.all; few = f.few } in
+    counted_after (behind_piece c) followed c.allocator.ensures.few
+
+pub returns-in-Some-clause-passed : goal.returns-in-Some-clause-passed
+returns-in-Some-clause-passed c = passed_after (spelled_piece c) (behind_piece c)
