@@ -154,4 +154,4 @@ ttl_text (c ∷ text) n = (there, back) where
       at (found (c ∷ text) [] 0 n tt sum.0) sum.1
 
   back : IsTtlText (c ∷ text) n → ttl_of (c ∷ text) ≡ Some n
-  back is = ap below_limit (said 0 is.0) ∙ below_some n is.1
+  back is = ap below_limit (said 0 is.0) ∙ ap (λ (k : ℕ). below_limit (Some k)) (omega arith) ∙ below_some n is.1

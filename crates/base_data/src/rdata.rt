@@ -2,6 +2,7 @@
 //! stands here.
 
 ghost use Rattle.std.specs.Prelude.{◌≡◌, ◌<◌, ◌≤◌, [], IfOk, Some, take};
+ghost use Rattle.std.specs.FinSet as set;
 ghost use Rattle.base.specs.Counts.{Counts, Passes};
 ghost use Rattle.base.specs.Laws.{Writes};
 ghost use Rattle.base.specs.Passing.{AddsPassed};
@@ -130,7 +131,8 @@ impl RData {
         record_type: RecordType,
         len: u16,
     ) -> Result<RData, DecodeError>
-        requires { 0 < len }
+        requires some { 0 < len }
+        requires few { set.len decoder.old.kept ≤ 16384 }
         ensures read { Reads (λ x. x) decoder.old decoder.new result (kind_at record_type len decoder.old.bytes decoder.old.index) }
         ensures counts { Counts decoder.old decoder.new result }
         ensures passed { Passes decoder.old decoder.new result }

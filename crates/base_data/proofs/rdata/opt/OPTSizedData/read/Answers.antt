@@ -14,7 +14,7 @@ returns-in_err-read-clause-read c =
     (gathered_fault c.in_err-read.field-0.0 (omega (arith, c.options-test.true, begins)) c.in_err-read.ensures.read c.options.invariant.gathered)
 
 pub options-init : goal.options-init
-options-init c = record { gathered = search rules; counted = λ counted. counted; adds = adds_itself c.args.decoder.now }
+options-init c = record { gathered = search rules; counted = λ counted. (counted, omega (arith, counted, c.index.ensures.few)); passed = λ passed. passed; adds = adds_itself c.args.decoder.now }
 
 pub options-preserved : goal.options-preserved
 options-preserved c =
@@ -22,7 +22,8 @@ options-preserved c =
     record {
       gathered = rw (c.in_ok-push.ensures.items, c.in_ok-read.ensures.read.1)
           (gathered_more (omega (arith, c.options-test.true, begins)) c.in_ok-read.ensures.read.0 c.options.invariant.gathered);
-      counted = λ counted. c.in_ok-read.ensures.counts (c.options.invariant.counted counted);
+      counted = λ counted. c.in_ok-read.ensures.counts (c.options.invariant.counted counted).0;
+      passed = λ passed. c.in_ok-read.ensures.passed (c.options.invariant.passed passed);
       adds = adds_both c.options.invariant.adds c.in_ok-read.ensures.adds;
     }
 
