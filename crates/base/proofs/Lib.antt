@@ -33,6 +33,7 @@ pub mod ReadTexts
 pub mod ReadingLemmas
 pub mod RefusalLemmas
 pub mod Refusing
+pub mod ShapeLemmas
 pub mod SliceLemmas
 pub mod SpellingLemmas
 pub mod SuffixLemmas

@@ -32,11 +32,11 @@ quoted_within kept (c ∷ text) = go (not kept && c == 34) refl (quoted_within (
   go false is again = rw is (within-before (c ∷ []) (length text) (length (c ∷ text)) _ (omega arith) again)
 
 -- the text begins with nothing that separates
-abbrev IsVisible : List ℕ → Type 0
+abbrev pub IsVisible : List ℕ → Type 0
 IsVisible [] = Unit {0}
 IsVisible (c ∷ text) = (separates c ≡ false) × (c ≢ 59)
 
-separated_is_visible : (in_comment : Bool) (text : List ℕ) → IsVisible (past_separators in_comment text)
+pub separated_is_visible : (in_comment : Bool) (text : List ℕ) → IsVisible (past_separators in_comment text)
 separated_is_visible true [] = tt
 separated_is_visible false [] = tt
 separated_is_visible true (c ∷ text) = go (is_line_end c) refl (separated_is_visible false text) (separated_is_visible true text) where
@@ -120,11 +120,11 @@ pub record Listing (text rest : List ℕ) (items : List (List ℕ)) : Type 0 whe
 pub listing_begins : (text : List ℕ) → Listing text text []
 listing_begins text = record { steps = length text; enough = omega arith; whole = puts-nil (list_items (length text) text) }
 
-listed_is : (steps : ℕ) (text : List ℕ) (found : Element) → element (past_separators false text) ≡ found → list_items (suc steps) text ≡ listed (list_items steps) found
+pub listed_is : (steps : ℕ) (text : List ℕ) (found : Element) → element (past_separators false text) ≡ found → list_items (suc steps) text ≡ listed (list_items steps) found
 unfolding list_items
 listed_is steps text found is = ap (listed (list_items steps)) is
 
-listed_zero : (text : List ℕ) → list_items 0 text ≡ None
+pub listed_zero : (text : List ℕ) → list_items 0 text ≡ None
 unfolding list_items
 listed_zero text = refl
 

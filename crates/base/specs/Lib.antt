@@ -33,6 +33,7 @@ pub mod Targets
 pub mod TextChar
 pub mod TextFaults
 pub mod TokenList
+pub mod TokenText
 pub mod Tokens
 pub mod Trail
 pub mod Ttl

@@ -1,8 +1,9 @@
 //! Laws of the tokens of zone text.
 
-ghost use Rattle.std.specs.Prelude.{ℕ, List, Some, ◌++◌, ◌≡◌, ◌↔◌};
+ghost use Rattle.std.specs.Prelude.{ℕ, List, Some, length, false, ◌∷◌, ◌++◌, ◌≡◌, ◌↔◌};
 ghost use Rattle.base.specs.TokenList.{EndsWithALine, followed, next_symbol, symbols, whole_text};
-ghost use Rattle.base.specs.Tokens.{Unread, past_line_end};
+ghost use Rattle.base.specs.TokenText.{EndsItem, IsItem, IsList, IsQuoted};
+ghost use Rattle.base.specs.Tokens.{Unread, item, list_items, past_line_end, quoted};
 ghost use Rattle.base.specs.Ttl.{ttl_of};
 ghost use Rattle.base.specs.TtlText.{IsTtlText};
 
@@ -19,6 +20,17 @@ pub fn tokens_come_in_turn()
 pub fn tokens_of_texts_in_turn()
     ensures { (a b : List ℕ) (e : EndsWithALine a) →
         symbols (whole_text (a ++ b)) ≡ symbols (whole_text a) ++ symbols (whole_text (past_line_end e.byte b)) }
+{}
+
+/// What an item, a quoted text and a list are: what is cut off a text is one of that shape, and where a text begins with
+/// one, that is cut off (RFC 1035, 5.1).
+pub fn tokens_have_three_shapes()
+    ensures item { (text word rest : List ℕ) → (item false text ≡ Some (word, rest))
+        ↔ ((text ≡ word ++ rest) × IsItem word × EndsItem rest) }
+    ensures quoted { (text word rest : List ℕ) → (quoted false text ≡ Some (word, rest))
+        ↔ ((text ≡ word ++ 34 ∷ rest) × IsQuoted word) }
+    ensures list { (text rest : List ℕ) (words : List (List ℕ)) → (list_items (length text) text ≡ Some (words, rest))
+        ↔ ((inner : List ℕ) × (text ≡ inner ++ rest) × IsList words inner) }
 {}
 
 /// What `ttl_of` answers is what the text says: a decimal number of seconds, or groups of a number and a unit that are

@@ -29,10 +29,10 @@ impl RData {
         ensures passed { Passes decoder.old decoder.new result }
         ensures adds { IfOk result (λ d. AddsPassed (data_places d decoder.old.bytes decoder.old.index) decoder.old decoder.new) }
     {
+        let end = decoder.index() + usize::from(len);
         if len == 0 {
             return Ok(RData::Update0(record_type));
         }
-        let end = decoder.index() + usize::from(len);
         match RData::read_kind(decoder, record_type, len) {
             Ok(rdata) => {
                 if decoder.index() == end {
