@@ -17,6 +17,7 @@ mod canonical;
 pub mod cname;
 mod emit;
 mod fields;
+mod fits;
 mod hex_text;
 mod items;
 pub mod laws;

@@ -5,13 +5,17 @@ ghost use Rattle.std.specs.List.{join_with_byte};
 ghost use Rattle.std.specs.Cmp.{IsTotalOrder};
 ghost use Rattle.base.specs.NameOrder.{same_name};
 ghost use Rattle.base.specs.declared.record_type.RecordType.TheVariants as types;
-ghost use Rattle.base_data.specs.Kinds.{DataWord, FitsTypes, IsSpelled, data_of, data_text, items_of, shown_item, type_of_data};
+ghost use Rattle.base_data.specs.Kinds.{DataWord, FitsTypes, IsSpelled, data_of, data_text, items_of, kind_rank, shown_item, type_of_data};
 ghost use Rattle.base_data.specs.DataOrder.{data_cmp};
 ghost use Rattle.base_data.specs.RData.{is_signature_data, signature_in};
 ghost use Rattle.base_data.specs.SameData.{same_data};
 ghost use Rattle.base_data.specs.StringItems.{IsStringText, string_item};
 ghost use Rattle.base_data.specs.declared.rdata.RData.{RData as AnyData};
 ghost use Rattle.base_data.specs.declared.rdata.RData.TheVariants as kinds;
+ghost use Rattle.base.specs.declared.record_type.RecordType.{RecordType as Kind};
+ghost use Rattle.base_data.specs.OPT.{OptionValue};
+ghost use Rattle.base_data.specs.declared.rdata.a.A.{A as Ip4};
+ghost use Rattle.base_data.specs.declared.rdata.aaaa.AAAA.{AAAA as Ip6};
 ghost use Rattle.base_data.specs.declared.rdata.aname.ANAME.{ANAME as Aname};
 ghost use Rattle.base_data.specs.declared.rdata.cname.CNAME.{CNAME as Cname};
 ghost use Rattle.base_data.specs.declared.rdata.mx.MX.{MX as Mx};
@@ -20,7 +24,8 @@ ghost use Rattle.base_data.specs.declared.rdata.ptr.PTR.{PTR as Ptr};
 ghost use Rattle.base_data.specs.declared.rdata.soa.SOA.{SOA as Soa};
 ghost use Rattle.base_data.specs.declared.rdata.srv.SRV.{SRV as Srv};
 
-use crate::rdata::{ANAME, CNAME, MX, NS, NULL, PTR, RData, SOA, SRV, TSIG};
+use crate::rdata::{A, AAAA, ANAME, CNAME, MX, NS, NULL, OPT, PTR, RData, SOA, SRV, TSIG};
+use base::RecordType;
 use std::cmp::Ordering;
 
 /// Data that is a name is equal exactly where the names are (RFC 4343, 3).
@@ -46,12 +51,29 @@ pub fn bytes_are_equal_as_they_are()
     ensures tsig { (a b : List ℕ) → IsTrue (⟦<TSIG as PartialEq>⟧.eq a b) ↔ (a ≡ b) }
 {}
 
+/// Addresses and options are equal exactly where they are the same.
+pub fn values_are_equal_as_they_are()
+    ensures a { (a b : Ip4) → IsTrue (⟦<A as PartialEq>⟧.eq a b) ↔ (a ≡ b) }
+    ensures aaaa { (a b : Ip6) → IsTrue (⟦<AAAA as PartialEq>⟧.eq a b) ↔ (a ≡ b) }
+    ensures opt { (a b : List OptionValue) → IsTrue (⟦<OPT as PartialEq>⟧.eq a b) ↔ (a ≡ b) }
+{}
+
+/// Equal data is of one kind. Data without bytes is equal where its types are, and opaque data where its types and its
+/// bytes are; of each other kind it is equal as data of that kind.
+pub fn equal_data_has_one_kind()
+    ensures kind { (a b : AnyData) → same_data a b ≡ true → kind_rank a ≡ kind_rank b }
+    ensures update0 { (s t : Kind) → IsTrue (same_data (kinds.Update0 s) (kinds.Update0 t)) ↔ IsTrue (⟦<RecordType as PartialEq>⟧.eq s t) }
+    ensures unknown { (s t : Kind) (a b : List ℕ) → IsTrue (same_data (kinds.Unknown s a) (kinds.Unknown t b))
+        ↔ (IsTrue (⟦<RecordType as PartialEq>⟧.eq s t) × (a ≡ b)) }
+{}
+
 /// Equal data has one type.
 pub fn equal_data_has_one_type()
     ensures { (a b : AnyData) → same_data a b ≡ true → type_of_data a ≡ type_of_data b }
 {}
 
-/// The order of data is total, and ties exactly equal data (RFC 4034, 6.2 and 6.3).
+/// The order of data is total, and ties exactly equal data, as `RData::fits` says of any data that it has the bits of its
+/// types (RFC 4034, 6.2 and 6.3).
 pub fn data_order()
     ensures total { IsTotalOrder data_cmp }
     ensures ties { (a b : AnyData) → FitsTypes a → FitsTypes b → (data_cmp a b ≡ Ordering.Equal) ↔ IsTrue (⟦<RData as PartialEq>⟧.eq a b) }

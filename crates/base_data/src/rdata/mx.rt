@@ -50,6 +50,13 @@ impl MX {
     {
         &self.exchange
     }
+
+    /// The name of the data, as of the kinds that are one name: that of the host.
+    pub fn name(&self) -> &Name
+        ensures { result.now ≡ self.now.exchange }
+    {
+        &self.exchange
+    }
 }
 
 impl Clone for MX {
