@@ -1,4 +1,5 @@
 pub mod AddressLemmas
+pub mod AddressTexts
 pub mod AddressWords
 pub mod ByteWords
 pub mod BytesRead

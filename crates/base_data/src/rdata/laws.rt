@@ -3,6 +3,8 @@
 ghost use Rattle.std.specs.Prelude.{◌≡◌, ◌≤◌, ◌↔◌, ℕ, List, IsTrue, None, Ok, Some, length, map, true};
 ghost use Rattle.std.specs.List.{join_with_byte};
 ghost use Rattle.std.specs.Cmp.{IsTotalOrder};
+ghost use Rattle.std.specs.Net.Addr.{octets_of};
+ghost use Rattle.std.specs.Net.Grammar.{IsColonHex, IsDotted};
 ghost use Rattle.base.specs.NameOrder.{same_name};
 ghost use Rattle.base.specs.declared.record_type.RecordType.TheVariants as types;
 ghost use Rattle.base_data.specs.Kinds.{DataWord, FitsTypes, IsSpelled, data_of, data_text, items_of, kind_rank, shown_item, type_of_data};
@@ -13,6 +15,7 @@ ghost use Rattle.base_data.specs.StringItems.{IsStringText, string_item};
 ghost use Rattle.base_data.specs.declared.rdata.RData.{RData as AnyData};
 ghost use Rattle.base_data.specs.declared.rdata.RData.TheVariants as kinds;
 ghost use Rattle.base.specs.declared.record_type.RecordType.{RecordType as Kind};
+ghost use Rattle.base_data.specs.Fields.{ipv4_item, ipv6_item};
 ghost use Rattle.base_data.specs.OPT.{OptionValue};
 ghost use Rattle.base_data.specs.declared.rdata.a.A.{A as Ip4};
 ghost use Rattle.base_data.specs.declared.rdata.aaaa.AAAA.{AAAA as Ip6};
@@ -86,6 +89,14 @@ pub fn data_of_each_kind()
     ensures inside { (d : AnyData) (B : List ℕ) (i e : ℕ) → i ≤ length B → DataWord d B i e → e ≤ length B }
     ensures signature_type { (d : AnyData) → IsTrue (is_signature_data d) → type_of_data d ≡ types.TSIG }
     ensures signature { (d : AnyData) → IsTrue (is_signature_data d) → d ≡ kinds.TSIG (signature_in d) }
+{}
+
+/// Addresses as items: four decimal numbers below 256 with dots between them and without leading zeros, and groups of
+/// hexadecimal digits with colons between them, of which one `::` stands for the zeros that are left out (RFC 4291, 2.2).
+pub fn addresses_are_their_texts()
+    ensures ipv4 { (text bytes : List ℕ) → (ipv4_item text ≡ Some bytes) ↔ IsDotted text bytes }
+    ensures ipv6 { (text bytes : List ℕ) → (ipv6_item text ≡ Some bytes)
+        ↔ ((segments : List ℕ) × IsColonHex text segments × (bytes ≡ octets_of segments)) }
 {}
 
 /// The character string of an item is what its pieces say, one behind the other, of 255 bytes at most: a byte that is no
