@@ -1,15 +1,16 @@
 -- What a buffer begins with.
-use Rattle.std.proofs.Common.{◌≡◌, ◌⊎◌, inl, inr, ℕ, List, refl, ap, sym, ◌∙◌, Result, Ok, Err}
+use Rattle.std.proofs.Common.{◌≡◌, ◌⊎◌, inl, inr, ℕ, List, refl, ap, sym, subst, ◌∙◌, Result, Ok, Err}
 use Rattle.std.specs.Prelude.{IfErr, IfOk, MatchResult}
 use Rattle.base.specs.declared.error.decode_error.DecodeError.{DecodeError}
 use Rattle.base.specs.declared.error.decode_error.DecodeError.TheVariants as faults
+use Rattle.base.specs.declared.error.proto_error.ProtoError.{ProtoError}
+use Rattle.base.specs.declared.error.proto_error.ProtoError.TheVariants as refusals
 use Rattle.base.specs.Reader.{Reader}
 use Rattle.base.specs.Reading.{Fails, Reads}
 use Rattle.op.specs.Message.{IsMessageAt, MessageValue, message_at, message_value}
 use Rattle.op.specs.declared.message.Message.{Message}
-use Rattle.op.specs.Fault.{IsMessageFault}
 use Rattle.op.specs.Fits.{Fits}
-use Rattle.op.proofs.MessageFaults.{refuses_message}
+use Rattle.op.specs.ReadsOrDecodes.{FailsToDecode, ReadsOrDecodes}
 use Rattle.op.proofs.SectionStands.{same_ok}
 use Rattle.op.proofs.ReadFits.{message_fits}
 use Rattle.op.proofs.MessageStands.{message_again, message_stands}
@@ -49,9 +50,21 @@ refused_or faults.RecordAfterSig r fails = inr fails
 refused_or (faults.RecordNotInAdditionalSection type) r fails = inr fails
 refused_or faults.DuplicateEdns r fails = inr fails
 
-pub first_fault : (B : List ℕ) (old new : Reader) (r : Result Message DecodeError) → Reads message_value old new r (message_at B 0) → IfErr r (λ f. (f ≡ faults.Memory) ⊎ IsMessageFault B 0 f)
-first_fault B old new (Ok m) reads = tt
-first_fault B old new (Err f) reads = elim (refused_or f (message_at B 0) reads) [ inl memory ↦ inl memory | inr is ↦ inr ((refuses_message B 0 f).0 is) ]
+-- a call that fails was refused memory, or with the fault that is told of what reading meets
+pub first_fault : {A Y : Type 0} (view : A → Y) (IsFault : DecodeError → Type 0) (old new : Reader) {read : Result (Y × ℕ) DecodeError} → ((f : DecodeError) → read ≡ Err f → IsFault f)
+    → (r : Result A DecodeError) → Reads view old new r read → IfErr r (λ f. (f ≡ faults.Memory) ⊎ IsFault f)
+first_fault view IsFault old new told (Ok x) reads = tt
+first_fault view IsFault old new {read = read} told (Err f) reads = elim (refused_or f read reads) [ inl memory ↦ inl memory | inr is ↦ inr (told f is) ]
+
+error_is : {A : Type 0} {e f : ProtoError} → ◌≡◌ {A = Result A ProtoError} (Err e) (Err f) → e ≡ f
+error_is is = cc
+
+-- the same where a refusal wraps one of reading
+pub decode_fault : {A Y : Type 0} (view : A → Y) (IsFault : DecodeError → Type 0) (old new : Reader) {read : Result (Y × ℕ) DecodeError} → ((f : DecodeError) → read ≡ Err f → IsFault f)
+    → (r : Result A ProtoError) → ReadsOrDecodes view old new r read → (f : DecodeError) → r ≡ Err (refusals.Decode f) → (f ≡ faults.Memory) ⊎ IsFault f
+decode_fault view IsFault old new told (Ok x) reads f is = absurd cc
+decode_fault view IsFault old new {read = read} told (Err e) reads f is =
+    elim (refused_or f read (subst (λ (x : ProtoError). FailsToDecode x read) (error_is is) reads)) [ inl memory ↦ inl memory | inr met ↦ inr (told f met) ]
 
 pub read_fits : (B : List ℕ) (old new : Reader) (r : Result Message DecodeError) → Reads message_value old new r (message_at B 0) → IfOk r (λ m. Fits (message_value m))
 read_fits B old new (Ok m) reads = message_fits B 0 (message_value m) new.index (message_stands B 0 (message_value m, new.index) reads.0)

@@ -1,11 +1,11 @@
 //! Reads messages (RFC 1035, 4.1).
 
-ghost use Rattle.std.specs.Prelude.{◌≡◌, ◌⊎◌, ◌+◌, ℕ, IfErr, IfOk, MatchResult};
+ghost use Rattle.std.specs.Prelude.{◌≡◌, ◌⊎◌, ◌+◌, ℕ, Err, IfErr, IfOk, MatchResult};
 ghost use Rattle.base.specs.Counts.{Counts, Passes};
 ghost use Rattle.base.specs.Many.{many_at};
 ghost use Rattle.base.specs.Passing.{AddsPassed};
 ghost use Rattle.base.specs.Reading.{Fails, Reads};
-ghost use Rattle.op.specs.Fault.{IsMessageFault};
+ghost use Rattle.op.specs.Fault.{IsMessageFault, IsQueriesFault, IsSectionFault};
 ghost use Rattle.op.specs.Fits.{Fits};
 ghost use Rattle.op.specs.Message.{IsMessageAt, MessageValue, high_code, message_at, message_value};
 ghost use Rattle.op.specs.Places.{message_places, queries_places, records_places};
@@ -38,6 +38,8 @@ impl Message {
         ensures read { ReadsOrDecodes (λ v. v.items) decoder.old decoder.new result (many_at query_at count decoder.old.bytes decoder.old.index) }
         ensures counts { Counts decoder.old decoder.new result }
         ensures passed { Passes decoder.old decoder.new result }
+        ensures fault { (f : DecodeError) → result ≡ Err (ProtoError.Decode f)
+            → (f ≡ DecodeError.Memory) ⊎ IsQueriesFault count decoder.old.bytes decoder.old.index f }
         ensures adds { IfOk result (λ _. AddsPassed (queries_places count decoder.old.bytes decoder.old.index) decoder.old decoder.new) }
     {
         Ok(read_many::<Query>(decoder, count)?)
@@ -58,6 +60,8 @@ impl Message {
         op_code: OpCode,
     ) -> Result<(Vec<Record>, Option<Edns>, Option<Box<Record<TSIG>>>), DecodeError>
         ensures read { Reads parts_value decoder.old decoder.new result (section_at is_additional op_code count decoder.old.bytes decoder.old.index) }
+        ensures fault { IfErr result (λ f. (f ≡ DecodeError.Memory)
+            ⊎ IsSectionFault is_additional op_code count decoder.old.bytes decoder.old.index f) }
         ensures counts { Counts decoder.old decoder.new result }
         ensures passed { Passes decoder.old decoder.new result }
         ensures adds { IfOk result (λ _. AddsPassed (records_places count decoder.old.bytes decoder.old.index) decoder.old decoder.new) }
@@ -128,6 +132,8 @@ impl Message {
     #[tactic(auto, unfolding(crate::specs::Message::message_at))]
     pub fn read(decoder: &mut BinDecoder<'_>) -> Result<Message, DecodeError>
         ensures read { Reads message_value decoder.old decoder.new result (message_at decoder.old.bytes decoder.old.index) }
+        ensures fault { IfErr result (λ f. (f ≡ DecodeError.Memory)
+            ⊎ IsMessageFault decoder.old.bytes decoder.old.index f) }
         ensures counts { Counts decoder.old decoder.new result }
         ensures passed { Passes decoder.old decoder.new result }
         ensures adds { IfOk result (λ _. AddsPassed (message_places decoder.old.bytes decoder.old.index) decoder.old decoder.new) }

@@ -1,4 +1,4 @@
-use Rattle.std.proofs.Common.{rules}
+use Rattle.std.proofs.Common.{arith, rules}
 use Rattle.std.proofs.lemmas.Result.{err_from_is_err_and}
 use Rattle.base.proofs.AddsLemmas.{adds_many_all, adds_many_more, adds_many_none}
 use Rattle.op.proofs.SectionLemmas.{takes_all, takes_failed, takes_more, takes_unread}
@@ -15,12 +15,13 @@ returns-in_err-take-clause-read c =
     rw (p.1, p.2) (takes_failed c.loop.invariant.takes c.in_err-take.field-0.0 c.loop-test.true c.in_ok-next.ensures.read.0 c.in_err-take.ensures.err)
 
 pub loop-init : goal.loop-init
-loop-init c = record { takes = search rules; counted = λ counted. counted; adds = adds_many_none _ _ _ _ }
+loop-init c = record { takes = search rules; counted = λ counted. (counted, omega (arith, counted, c.allocator.ensures.few)); passed = λ passed. passed; adds = adds_many_none _ _ _ _ }
 
 pub loop-preserved : goal.loop-preserved
 loop-preserved c = record {
   takes = rw c.in_ok-next.ensures.read.1 (takes_more c.loop.invariant.takes c.loop-test.true c.in_ok-next.ensures.read.0 c.in_ok-take.ensures.ok);
-  counted = λ counted. c.in_ok-next.ensures.counts (c.loop.invariant.counted counted);
+  counted = λ counted. c.in_ok-next.ensures.counts (c.loop.invariant.counted counted).0;
+  passed = λ passed. c.in_ok-next.ensures.passed (c.loop.invariant.passed passed);
   adds = adds_many_more c.loop.invariant.adds c.loop-test.true c.in_ok-next.ensures.read.0 c.in_ok-next.ensures.adds;
 }
 

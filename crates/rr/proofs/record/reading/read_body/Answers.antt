@@ -14,7 +14,7 @@ returns-in_err-rdata-clause-read c =
     let p = err_from_is_err_and c.from_residual-in_err-rdata.result c.from_residual-in_err-rdata.ensures.1 in
     let found = c.in_ok-class.ensures.found in
     let behind = c.in_ok-class.ensures.behind in
-    let left = c.len-left.ensures ∙ placed behind.1 behind.0 (λ (B : List ℕ) (k : ℕ). length B - k) in
+    let left = c.len-left.ensures.left ∙ placed behind.1 behind.0 (λ (B : List ℕ) (k : ℕ). length B - k) in
     let fits = room c.args.name c.args.record_type at.bytes at.index found.0 found.1 found.2 left c.from.ensures c.if-left-from.false in
     let fault = c.in_err-rdata.field-0.0 in
     rw (p.1, p.2) (data_fails c.args.name c.args.record_type at.bytes at.index found.0 found.1 found.2 fits fault
@@ -27,7 +27,7 @@ returns-clause-read c =
     let behind = c.in_ok-class.ensures.behind in
     let kind = c.class_of_field-dns_class in
     let rdata = c.in_ok-rdata.ensures.read in
-    let left = c.len-left.ensures ∙ placed behind.1 behind.0 (λ (B : List ℕ) (k : ℕ). length B - k) in
+    let left = c.len-left.ensures.left ∙ placed behind.1 behind.0 (λ (B : List ℕ) (k : ℕ). length B - k) in
     let fits = room c.args.name c.args.record_type at.bytes at.index found.0 found.1 found.2 left c.from.ensures c.if-left-from.false in
     let rdata_is = over_both behind.1 behind.0 (λ (B : List ℕ) (k : ℕ). rdata_at c.args.record_type c.in_ok-class.field-0.len B k ≡ Ok (c.in_ok-rdata.rdata, c.read.new.decoder.index)) rdata.0 in
     (body_read c.args.name c.args.record_type at.bytes at.index found.0 found.1 found.2 fits rdata_is kind.ensures.class kind.ensures.flush, rdata.1 ∙ behind.1)
