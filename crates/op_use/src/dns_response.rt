@@ -8,6 +8,7 @@ ghost use Rattle.base.specs.NameOrder.{is_zone_of, same_name};
 ghost use Rattle.base.specs.declared.record_type.RecordType.TheVariants as types;
 ghost use Rattle.op.specs.Cut.{IsTooSmall, IsWritten};
 ghost use Rattle.op.specs.Emitted.{EmittedNew, LeavesNew};
+ghost use Rattle.op.specs.Fault.{IsMessageFault};
 ghost use Rattle.op.specs.Fits.{Fits, HasRoom};
 ghost use Rattle.op.specs.Message.{IsMessageAt, MessageValue, message_value};
 ghost use Rattle.op.specs.MessageWritten.{message_answer, message_bytes};
@@ -78,6 +79,8 @@ impl DnsResponse {
         ensures only { (m : MessageValue) (e : ℕ) → IsMessageAt buffer.items 0 m e
             → MatchResult result (λ r. r.message ≡ m) (λ f. (f ≡ ProtoError.Decode DecodeError.Memory) ⊎ ((f ≡ ProtoError.NotAResponse) × IsQuery m)) }
         ensures refused { IfErr result (λ f. IsRefusedResponse buffer.items f) }
+        ensures fault { (f : DecodeError) → result ≡ Err (ProtoError.Decode f)
+            → (f ≡ DecodeError.Memory) ⊎ IsMessageFault buffer.items 0 f }
         ensures fits { IfOk result (λ r. Fits r.message) }
     {
         let message = Message::from_vec(alloc, &buffer)?;

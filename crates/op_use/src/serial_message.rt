@@ -1,7 +1,8 @@
 //! Messages as bytes, with the address that they came from or go to.
 
-ghost use Rattle.std.specs.Prelude.{◌≡◌, ℕ, IfErr, IfOk, MatchResult};
+ghost use Rattle.std.specs.Prelude.{◌≡◌, ◌⊎◌, ℕ, IfErr, IfOk, MatchResult};
 ghost use Rattle.base.specs.Reading.{Fails};
+ghost use Rattle.op.specs.Fault.{IsMessageFault};
 ghost use Rattle.op.specs.Fits.{Fits};
 ghost use Rattle.op.specs.Message.{IsMessageAt, MessageValue, message_at, message_value};
 
@@ -73,6 +74,7 @@ impl SerialMessage {
         ensures found { IfOk result (λ m. (e : ℕ) × IsMessageAt self.now.bytes 0 (message_value m) e) }
         ensures only { (m : MessageValue) (e : ℕ) → IsMessageAt self.now.bytes 0 m e → MatchResult result (λ read. message_value read ≡ m) (λ f. f ≡ DecodeError.Memory) }
         ensures refused { IfErr result (λ f. Fails f (message_at self.now.bytes 0)) }
+        ensures fault { IfErr result (λ f. (f ≡ DecodeError.Memory) ⊎ IsMessageFault self.now.bytes 0 f) }
         ensures fits { IfOk result (λ m. Fits (message_value m)) }
     {
         Message::from_vec(*self.message.allocator(), &self.message)
