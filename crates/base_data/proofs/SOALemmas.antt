@@ -6,7 +6,7 @@ use Rattle.std.specs.Cmp.{first_so, second_so}
 use Rattle.std.specs.Int.{to_be_bytes, w32}
 use Rattle.std.specs.Prelude.{OnOk, ◌==◌, ◌↔◌}
 use Rattle.base.proofs.LawLemmas.{Writes-either}
-use Rattle.base.proofs.WordLemmas.{first_stands, number32_stands}
+use Rattle.base.specs.WordLemmas.{first_stands, number32_stands}
 use Rattle.base.specs.Labels.{AreLabels, NameValue, wire_of}
 use Rattle.base.specs.Laws.{Keeps, StoresSuffixes, Writes}
 use Rattle.base.specs.NameOrder.{canonical_name, folded, folded_labels, same_name}

@@ -4,7 +4,7 @@ use Rattle.std.specs.Cmp.{first_so, second_so}
 use Rattle.std.specs.Int.{to_be_bytes, w16}
 use Rattle.std.specs.Prelude.{◌==◌, ◌↔◌}
 use Rattle.base.proofs.LawLemmas.{Writes-bytes, Writes-then, Writes-weaker}
-use Rattle.base.proofs.WordLemmas.{first_stands, number16_stands}
+use Rattle.base.specs.WordLemmas.{first_stands, number16_stands}
 use Rattle.base.specs.Labels.{plain_len, wire_of}
 use Rattle.base.specs.Laws.{Keeps, Writes}
 use Rattle.base.specs.NameOrder.{same_name}
