@@ -8,7 +8,7 @@ use Rattle.base.specs.Laws.{IsSpelled}
 use Rattle.base.specs.Says.{IsThere, IsOwned, Says}
 use Rattle.base.specs.State.{Stored}
 use Rattle.base.specs.WordLemmas.{first_stands, stands_part, number16_stands}
-use Rattle.base.specs.Words.{Stands, Number, Then, Sized}
+use Rattle.base.specs.Words.{Stands, Bytes, Number, Then, Sized}
 use Rattle.base.specs.Written.{Writing, just, both, sized}
 
 -- what is valid for an earlier place is valid for a later one
@@ -134,6 +134,10 @@ module _ {F : Type 0} {word : List ℕ → ℕ → ℕ → Type 0} {plain : ℕ}
         };
     owned = no_owner (sized f) F;
   }
+
+-- bytes as they are
+pub Says-bytes : (xs : List ℕ) → Says (just xs) (Unit {0}) (Bytes xs) (length xs) []
+Says-bytes xs = Says-just (Unit {0}) (Bytes xs) (length xs) xs (omega arith) (λ ok B at small h. (h, refl))
 
 -- a number of two bytes
 pub Says-number : (n : ℕ) → Says (just (to_be_bytes w16 n)) (n < 2 ^ 16) (Number w16 n) 2 []
