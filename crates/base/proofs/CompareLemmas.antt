@@ -17,7 +17,8 @@ use Rattle.std.proofs.lemmas.List.{map-append, drop-map, length-map, length-reve
 use Rattle.base.specs.Labels.{NameValue, AreLabels, IsWire, wire_of, labels_of}
 use Rattle.base.specs.NameOrder.{folded, folded_labels, is_zone_of, lowered, same_labels, labels_cmp, name_cmp}
 use Rattle.base.specs.NameOrderLaws.{labels_decide, labels_tie}
-use Rattle.base.proofs.LabelLemmas.{IsWire-wire_of, labels_of-wire_of, labels_of_is, length-wire_of}
+use Rattle.base.proofs.LabelLemmas.{IsWire-wire_of, labels_of-wire_of, labels_of_is}
+use Rattle.base.specs.PointerLemmas.{length-wire_of}
 
 -- no length of a label is an ASCII letter
 lower_length : (n : ℕ) → n ≤ 63 → to_ascii_lowercase n ≡ n

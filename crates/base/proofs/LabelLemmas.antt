@@ -3,11 +3,7 @@ use Rattle.std.proofs.Common.{◌≡◌, ℕ, zero, suc, ◌+◌, ◌-◌, ◌<�
 use Rattle.std.proofs.lemmas.List.{append-nil, take_at, drop_at}
 use Rattle.std.specs.List.{slice_range}
 use Rattle.base.specs.Labels.{NameValue, size_of, AreLabels, IsWire, wire_of, cut_labels, labels_of}
-
-pub length-wire_of : (labels : List (List ℕ)) → length (wire_of labels) ≡ size_of labels
-unfolding wire_of
-length-wire_of [] = refl
-length-wire_of (x ∷ xs) = omega (arith, length-append x (wire_of xs), length-wire_of xs)
+use Rattle.base.specs.PointerLemmas.{length-wire_of}
 
 pub wire_of-append : (xs ys : List (List ℕ)) → wire_of (xs ++ ys) ≡ wire_of xs ++ wire_of ys
 unfolding wire_of

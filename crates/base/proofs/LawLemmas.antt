@@ -8,7 +8,8 @@ use Rattle.base.specs.declared.error.proto_error.ProtoError.{ProtoError}
 use Rattle.base.specs.State.{State, Stored, appended}
 use Rattle.base.specs.Words.{Stands, Then}
 use Rattle.base.specs.Laws.{IsSpelled, IsValid, Holds, Keeps, Writes}
-use Rattle.base.proofs.WordLemmas.{first_stands, stands_part}
+use Rattle.base.specs.SaysParts.{spelled_later, any_append}
+use Rattle.base.specs.WordLemmas.{first_stands, stands_part}
 
 pub none_is_not : {A : Type 0} (x : A) → ◌≡◌ {A = Option A} None (Some x) → ⊥
 none_is_not x same = search rules
@@ -43,10 +44,6 @@ Keeps-appended xs a b is within = record {
 pub Keeps-either : {X : Type 0} (r : Result X ProtoError) (xs : List ℕ) (a b : State) → OnOk r (b ≡ appended xs a) → OnErr r (b ≡ a) → OnOk r (length b.bytes ≤ a.limit) → Keeps a b
 Keeps-either (Ok x) xs a b ok err within = Keeps-appended xs a b ok within
 Keeps-either (Err e) xs a b ok err within = Keeps-same a b err
-
--- what is valid for an earlier place is valid for a later one
-pub spelled_later : (B : List ℕ) (m n : ℕ) → m ≤ n → (t : Stored) → IsSpelled B m t → IsSpelled B n t
-spelled_later B m n le t s = record { below = omega (arith, s.below); fits = s.fits; end = s.end; spelled = s.spelled }
 
 -- Bytes that are a word wherever they stand were written.
 pub Writes-appended : (word : List ℕ → ℕ → ℕ → Type 0) (plain : ℕ) (xs : List ℕ) (a : State) → length xs ≤ plain
@@ -124,11 +121,6 @@ module _ (a b c : State) (k : Keeps a b) (l : Keeps b c) (B : List ℕ) where
   -- and what holds both holds the second, if the suffixes between them are spelled there
   pub Holds-second : IsValid b B → Holds a c B → Holds b c B
   Holds-second table h = record { table = table; bytes = Stands-second h }
-
--- what is among the first elements is among all
-pub any_append : (P : Stored → Type 0) (xs ys zs : List Stored) → zs ≡ xs ++ ys → Any P xs → Any P zs
-any_append P xs ys zs is (k, t, inside, at, holds) =
-    (k, t, omega (arith, ap length is, length-append xs ys), ap (λ (ts : List Stored). get_or ts k t) is ∙ get_or_append_left xs ys t k inside ∙ at, holds)
 
 -- With on_ok_weaker of std, the law of an emit in parts is one term: on_ok_weaker of the last answer,
 -- a λ of Writes-then of the first part and of Writes-then of the second and so on, and the last clause.

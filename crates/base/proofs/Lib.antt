@@ -27,12 +27,12 @@ pub mod ParseLemmas
 pub mod PassLemmas
 pub mod PatchLemmas
 pub mod PieceLemmas
-pub mod PointerLemmas
 pub mod ReadLemmas
 pub mod ReadTexts
 pub mod ReadingLemmas
 pub mod RefusalLemmas
 pub mod Refusing
+pub mod SaysLemmas
 pub mod ShapeLemmas
 pub mod SliceLemmas
 pub mod SpellingLemmas
@@ -46,6 +46,4 @@ pub mod TtlLawLemmas
 pub mod TtlLemmas
 pub mod TypeTexts
 pub mod WalkLemmas
-pub mod WordLemmas
-pub mod WrittenLaws
 pub mod WrittenLemmas

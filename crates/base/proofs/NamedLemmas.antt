@@ -8,7 +8,8 @@ use Rattle.base.specs.declared.error.parse_error.ParseError.TheVariants as refus
 use Rattle.base.specs.Labels.{NameValue, AreLabels, IsWire, wire_of, labels_of, plain_len, size_of}
 use Rattle.base.specs.NameText.{dot, byte, AreCharsOf, none, IsLabelsText, IsNameText, is_root, is_origin, is_absolute, is_relative, is_completed, first_char}
 use Rattle.base.proofs.CharLemmas.{reads_more}
-use Rattle.base.proofs.LabelLemmas.{AreLabels-append, IsWire-wire_of, labels_of-wire_of, length-wire_of, size_of-labels_of, wire_of-append}
+use Rattle.base.proofs.LabelLemmas.{AreLabels-append, IsWire-wire_of, labels_of-wire_of, size_of-labels_of, wire_of-append}
+use Rattle.base.specs.PointerLemmas.{length-wire_of}
 use Rattle.base.proofs.ParseLemmas.{last_piece, not_nil, size_of-append, text_pieces}
 
 reads_dot : AreCharsOf (46 ∷ []) (dot ∷ [])

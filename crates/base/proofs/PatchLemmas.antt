@@ -9,7 +9,7 @@ use Rattle.base.specs.State.{State, Stored, appended, overwritten}
 use Rattle.base.specs.Words.{Stands, Number, Sized, Then}
 use Rattle.base.specs.Laws.{IsSpelled, Holds, Keeps, Writes}
 use Rattle.base.proofs.LawLemmas.{Keeps-appended, Keeps-then, Writes-appended, Writes-then, Writes-unowned}
-use Rattle.base.proofs.WordLemmas.{number16_stands}
+use Rattle.base.specs.WordLemmas.{number16_stands}
 
 -- Room of as many bytes was kept behind a, something was written behind it, and the room was filled.
 module _ (room xs : List ℕ) (a b c d : State) (size : length xs ≡ length room) (kept : b ≡ appended room a) (k : Keeps b c) (filled : d ≡ overwritten (length a.bytes) xs c) where

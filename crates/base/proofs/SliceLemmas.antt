@@ -8,7 +8,7 @@ use Rattle.base.specs.State.{State}
 use Rattle.base.specs.Items.{EachWritten, EmitsAll}
 use Rattle.base.specs.Written.{Writing, piece_at, after, in_turn, that_fit, fitting, Passes}
 use Rattle.base.proofs.ItemLemmas.{Each-keeps, Each-map}
-use Rattle.base.proofs.WrittenLaws.{Fits-front}
+use Rattle.base.proofs.FittingLemmas.{Fits-front}
 use Rattle.base.proofs.WrittenLemmas.{in_turn-map}
 
 -- the items that the iterator gave are the first elements of its slice

@@ -18,7 +18,8 @@ use Rattle.base.specs.Labels.{wire_of, labels_of}
 use Rattle.base.specs.State.{Stored}
 use Rattle.base.specs.Suffixes.{index_key, offset_at, IsIndexed, IsTable}
 use Rattle.base.proofs.LabelLemmas.{labels_of-wire_of}
-use Rattle.base.proofs.LawLemmas.{any_append, none_is_not}
+use Rattle.base.specs.SaysParts.{any_append}
+use Rattle.base.proofs.LawLemmas.{none_is_not}
 
 same_or_not : (xs ys : List ℕ) → (xs ≡ ys) ⊎ (xs ≢ ys)
 same_or_not xs ys = elim (cases_Bool (bytes_eq xs ys)) [

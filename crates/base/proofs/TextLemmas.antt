@@ -5,7 +5,7 @@ use Rattle.std.proofs.lemmas.Bool.{eq-eqb, ne_eqb}
 use Rattle.std.proofs.lemmas.List.{append-nil}
 use Rattle.base.specs.Labels.{NameValue, wire_of}
 use Rattle.base.specs.NameText.{label_text, labels_text, name_text}
-use Rattle.base.proofs.LabelLemmas.{length-wire_of}
+use Rattle.base.specs.PointerLemmas.{length-wire_of}
 
 -- the dot behind a label stands where more labels follow
 pub labels_text-cons : (x : List ℕ) (xs : List (List ℕ)) (tail : List ℕ) (last : Bool) → wire_of xs ≡ tail → last ≡ (length tail == 0)

@@ -25,6 +25,10 @@ abbrev pub AreLabels : List (List ℕ) → Type 0
 AreLabels [] = Unit {0}
 AreLabels (label ∷ labels) = IsLabel label × AreLabels labels
 
+-- labels of a name: it has at most 255 bytes (RFC 1035, 2.3.4)
+abbrev pub AreNameLabels : List (List ℕ) → Type 0
+AreNameLabels labels = AreLabels labels × (plain_len labels ≤ 255)
+
 -- the labels as bytes, each with its length before it
 unfoldable pub wire_of : List (List ℕ) → List ℕ
 wire_of [] = []

@@ -21,11 +21,15 @@ pub mod ParseError
 pub mod PartOf
 pub mod Passed
 pub mod Passing
+pub mod PointerLemmas
 pub mod ProtoError
 pub mod Reader
 pub mod Reading
 pub mod RecordType
 pub mod RrKey
+pub mod Says
+pub mod SaysName
+pub mod SaysParts
 pub mod Spelling
 pub mod State
 pub mod Suffixes
@@ -39,5 +43,6 @@ pub mod Trail
 pub mod Ttl
 pub mod TtlText
 pub mod Wire
+pub mod WordLemmas
 pub mod Words
 pub mod Written

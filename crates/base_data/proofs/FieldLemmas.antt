@@ -6,7 +6,7 @@ use Rattle.std.proofs.lemmas.Nat.{from_be_bytes-to_be_bytes_2, from_be_bytes-to_
 use Rattle.std.specs.Cmp.{unsigned_Decides}
 use Rattle.std.specs.Int.{from_be_bytes, to_be_bytes, w16, w32}
 use Rattle.std.specs.Prelude.{OnOk, ◌&&◌, ◌==◌}
-use Rattle.base.proofs.WordLemmas.{stands_part}
+use Rattle.base.specs.WordLemmas.{stands_part}
 use Rattle.base.specs.State.{State, appended}
 use Rattle.base.specs.Words.{Stands}
 use Rattle.base.specs.declared.error.proto_error.ProtoError.{ProtoError}

@@ -10,8 +10,7 @@ use Rattle.base_data.proofs.NameWords.{here_name, name_here, name_inside, name_l
 use Rattle.base_data.proofs.SameData.{IsSame, flag_of}
 use Rattle.base_data.proofs.Tells.{Tells, tells_name, tells_number, tells_ok, tells_same, tells_then}
 use Rattle.base_data.specs.Kinds.{FitsTypes}
-use Rattle.base_data.specs.MX.{CompressesMX, MXWord, mx_at}
-use Rattle.base_data.specs.NameData.{IsCompressed}
+use Rattle.base_data.specs.MX.{MXWord, mx_at}
 use Rattle.base_data.specs.contracts.rdata.RDataPartialEq.TheImpl.{ghosts as equality}
 use Rattle.base_data.specs.contracts.rdata.mx.MXPartialEq.TheImpl.{ghosts as mx_equality}
 use Rattle.base_data.specs.declared.rdata.RData.TheVariants as kinds
@@ -34,10 +33,6 @@ mx_longer x B i e word = omega (arith, word.1.1, name_longer word.2.0)
 
 pub mx_inside : (x : MX) (B : List ℕ) (i e : ℕ) → MXWord x B i e → e ≤ length B
 mx_inside x B i e word = name_inside x.exchange.labels B word.0 e word.2
-
--- a name behind a preference
-pub compressed_mx : (x : MX) (a b c : State) → b ≡ appended (to_be_bytes w16 x.preference) a → IsCompressed x.exchange.labels b c → CompressesMX x a c
-compressed_mx x a b c is name = subst (λ (s : State). IsCompressed x.exchange.labels s c) is name
 
 -- equal exactly where each field is
 pub mx_same : (a b : MX) → IsTrue (mx_equality.eq a b) ↔ ((a.preference ≡ b.preference) × IsTrue (same_name a.exchange b.exchange))

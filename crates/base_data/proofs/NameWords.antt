@@ -12,7 +12,7 @@ use Rattle.base.specs.State.{State}
 use Rattle.base.specs.Words.{NameAt}
 use Rattle.base.specs.declared.error.proto_error.ProtoError.{ProtoError}
 use Rattle.base_data.proofs.StringLemmas.{wire_of-exact}
-use Rattle.base_data.specs.NameData.{IsCompressed, name_octets}
+use Rattle.base_data.specs.NameData.{name_octets}
 
 -- a name stands here, and it is absolute
 pub name_here : (B : List ℕ) (i : ℕ) (r : NameValue × ℕ) → IsNameAt B i r.0 r.1 → NameAt r.0.labels B i r.1 × (r.0.absolute ≡ true)
@@ -35,12 +35,6 @@ spelling_inside (pointer h next high below rest) = omega (arith, next.inside)
 
 pub name_inside : (labels : List (List ℕ)) (B : List ℕ) (i e : ℕ) → NameAt labels B i e → e ≤ length B
 name_inside labels B i e h = spelling_inside h.0
-
--- a name that was written is compressed
-pub compressed : {X : Type 0} (r : Result X ProtoError) (word : List ℕ → ℕ → ℕ → Type 0) (n : ℕ) (labels : List (List ℕ)) (a b : State)
-    → OnOk r (Writes word n labels a b) → OnOk r (StoresSuffixes labels a b) → OnOk r (IsCompressed labels a b)
-compressed (Ok x) word n labels a b writes stores = record { points = writes.compresses; stores = stores }
-compressed (Err e) word n labels a b writes stores = writes
 
 -- equal names have the same canonical form and the same flag
 pub name_same : (a b : NameValue) → IsTrue (same_name a b) → (name_octets a ≡ name_octets b) × (a.absolute ≡ b.absolute)

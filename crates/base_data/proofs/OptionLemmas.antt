@@ -1,88 +1,14 @@
--- Options, written and read one behind the other.
+-- Options, read one behind the other.
 use Rattle.std.proofs.Common.{◌≡◌, ℕ, ◌+◌, ◌<◌, ◌≤◌, List, [], ◌∷◌, ◌++◌, zero, suc, length, take, get_or, refl, ap, sym, ◌∙◌, subst, arith, append_assoc, Result, Ok, Err}
 use Rattle.std.proofs.lemmas.Bool.{le-leb, lt-leb}
 use Rattle.std.specs.Int.{w16}
 use Rattle.std.proofs.lemmas.List.{take_more, append-nil}
-use Rattle.base.proofs.LawLemmas.{Keeps-same, Keeps-then, Writes-then, Writes-weaker}
 use Rattle.base.proofs.ManyLemmas.{with_front, front_none}
 use Rattle.base.proofs.ReadLemmas.{Fails-through, bind_ok, number_is}
-use Rattle.base.specs.Laws.{Keeps, Writes}
 use Rattle.base.specs.Reading.{Read, Fails, ◌>>=◌, bytes_at, number_at}
-use Rattle.base.specs.State.{State}
-use Rattle.base.specs.Wire.{Refuses}
-use Rattle.base.specs.Words.{BackToBack}
-use Rattle.base.specs.Words.BackToBack.{none, more}
 use Rattle.base.specs.declared.error.decode_error.DecodeError.{DecodeError}
-use Rattle.base.specs.declared.error.proto_error.ProtoError.{ProtoError}
-use Rattle.base.specs.declared.error.proto_error.ProtoError.TheVariants as refusals
 use Rattle.base_data.proofs.BytesRead.{bytes_is}
 use Rattle.base_data.specs.OPT.{OptionValue, opt_at, option_at, option_len, option_word, options_len, options_to, options_word}
-
--- ---- writing
-
--- one word more behind the others
-back_push : {A : Type 0} {Word : ℕ → A → ℕ → Type 0} {i m e : ℕ} {xs : List A} {x : A} → BackToBack Word i xs m → Word m x e → BackToBack Word i (xs ++ x ∷ []) e
-back_push none word = more word none
-back_push (more first rest) word = more first (back_push rest word)
-
-options_len-push : (xs : List OptionValue) (x : OptionValue) → options_len (xs ++ x ∷ []) ≡ options_len xs + option_len x
-options_len-push [] x = omega arith
-options_len-push (y ∷ ys) x = omega (arith, options_len-push ys x)
-
--- options were written
-pub record AreWritten (options : List OptionValue) (a s : State) : Type 0 where
-  pub keeps : Keeps a s
-  pub writes : Writes (options_word options) (options_len options) [] a s
-
-pub written_none : (a : State) → AreWritten [] a a
-written_none a = record {
-  keeps = Keeps-same a a refl;
-  writes = record {
-    word_stands = λ B h. none;
-    valid = λ B h. h.table;
-    at_most = omega arith;
-    compresses = record {
-      end = 0;
-      spelled = λ some. absurd (some refl);
-      short = λ some. absurd (some refl);
-      stored = λ some. absurd (some refl);
-    };
-  };
-}
-
-written_push : (options : List OptionValue) (option : OptionValue) (a s t : State) → AreWritten options a s → Keeps s t
-    → Writes (option_word option) (option_len option) [] s t → AreWritten (options ++ option ∷ []) a t
-written_push options option a s t before k w = record {
-  keeps = Keeps-then before.keeps k;
-  writes = Writes-weaker (λ B i e both. back_push both.1 both.2) (omega (arith, options_len-push options option)) (Writes-then before.keeps k before.writes w);
-}
-
-pub written_more : (options : List OptionValue) {i : ℕ} {option : OptionValue} {a s t : State} → i < length options → option ≡ get_or options i option
-    → AreWritten (take i options) a s → Keeps s t → Writes (option_word option) (option_len option) [] s t → AreWritten (take (i + 1) options) a t
-written_more options {i} {option} {a} {s} {t} inside is before k w =
-    let next : take (i + 1) options ≡ take i options ++ option ∷ [] = take_more options i option inside ∙ ap (λ (x : OptionValue). take i options ++ x ∷ []) (sym is) in
-    subst (λ (xs : List OptionValue). AreWritten xs a t) (sym next) (written_push (take i options) option a s t before k w)
-
-len_take : (xs : List OptionValue) (n : ℕ) → options_len (take n xs) ≤ options_len xs
-len_take xs zero = omega arith
-len_take [] (suc n) = omega arith
-len_take (x ∷ xs) (suc n) = omega (arith, len_take xs n)
-
-refuses_later : (e : ProtoError) (n m : ℕ) (a s : State) → (s.limit < length s.bytes + n → a.limit < length a.bytes + m) → Refuses {X = Unit {0}} n s (Err e) → Refuses {X = Unit {0}} m a (Err e)
-refuses_later refusals.MaxBufferSizeExceeded n m a s follows full = follows full
-refuses_later refusals.Memory n m a s follows full = tt
-refuses_later _ n m a s follows full = full
-
--- an option that does not fit passes the limit of all
-pub refused_all : (options : List OptionValue) (i : ℕ) (option : OptionValue) (e : ProtoError) (a s : State) → i < length options → option ≡ get_or options i option → AreWritten (take i options) a s
-    → Refuses {X = Unit {0}} (option_len option) s (Err e) → Refuses {X = Unit {0}} (options_len options) a (Err e)
-refused_all options i option e a s inside is before refused =
-    let next : options_len (take (i + 1) options) ≡ options_len (take i options) + option_len option =
-    ap options_len (take_more options i option inside ∙ ap (λ (x : OptionValue). take i options ++ x ∷ []) (sym is)) ∙ options_len-push (take i options) option in
-    refuses_later e (option_len option) (options_len options) a s (λ (full : s.limit < length s.bytes + option_len option).
-    omega (arith, full, next, len_take options (i + 1), before.writes.at_most, before.keeps.limit)) refused
-
--- ---- reading
 
 -- an option takes a byte at least
 pub option_moves : (B : List ℕ) (i : ℕ) (r : OptionValue × ℕ) → option_at B i ≡ Ok r → i < r.1

@@ -114,23 +114,6 @@ options_inside {B} {i} {e} inside (more {j = j} {x = x} word words) =
     let ends_at : j ≤ length B = bytes_inside x.bytes B word.2.0 j (omega (arith, len.0.inside, len.1)) word.2.2 in
     options_inside ends_at words
 
--- What stands before the bytes of an option was written: its code, and behind that the number of its bytes.
-pub record OptionBegun (code len : ℕ) (a b s : State) : Type 0 where
-  pub code_keeps : Keeps a b
-  pub code_stands : Writes (Number w16 code) 2 [] a b
-  pub len_keeps : Keeps b s
-  pub len_stands : Writes (Number w16 len) 2 [] b s
-
--- an option was written: its code, the number of its bytes, and its bytes
-pub option_written : {X : Type 0} (r : Result X ProtoError) (option : OptionValue) {code : ℕ} {bytes : List ℕ} {a b s t : State} → code ≡ option.code → bytes ≡ option.bytes
-    → OptionBegun code (length bytes) a b s → Keeps s t → OnOk r (Writes (Bytes bytes) (length bytes) [] s t) → OnOk r (Writes (option_word option) (option_len option) [] a t)
-option_written r option {code} {bytes} {a} {b} {s} {t} code_is bytes_is begun keeps =
-    let made : ◌≡◌ {A = OptionValue} (record { code = code; bytes = bytes }) option = λ i. record { code = code_is i; bytes = bytes_is i } in
-    on_ok r (λ (x : Writes (Bytes bytes) (length bytes) [] s t).
-    let whole : Writes (option_word (record { code = code; bytes = bytes })) (option_len (record { code = code; bytes = bytes })) [] a t =
-    Writes-then begun.code_keeps (Keeps-then begun.len_keeps keeps) begun.code_stands (Writes-then begun.len_keeps keeps begun.len_stands x) in
-    subst (λ (o : OptionValue). Writes (option_word o) (option_len o) [] a t) made whole)
-
 -- options of the same bytes
 pub options_same : (xs ys : List OptionValue) → All FitsOption xs → All FitsOption ys → options_wire xs ≡ options_wire ys → xs ≡ ys
 options_same [] [] p q e = refl

@@ -6,7 +6,7 @@ use Rattle.std.specs.Cmp.{first_so, second_so}
 use Rattle.std.specs.Int.{to_be_bytes, w32}
 use Rattle.std.specs.Prelude.{OnOk, ◌==◌, ◌↔◌}
 use Rattle.base.proofs.LawLemmas.{Writes-either}
-use Rattle.base.proofs.WordLemmas.{first_stands, number32_stands}
+use Rattle.base.specs.WordLemmas.{first_stands, number32_stands}
 use Rattle.base.specs.Labels.{AreLabels, NameValue, wire_of}
 use Rattle.base.specs.Laws.{Keeps, StoresSuffixes, Writes}
 use Rattle.base.specs.NameOrder.{canonical_name, folded, folded_labels, same_name}
@@ -19,7 +19,7 @@ use Rattle.base_data.proofs.SameData.{IsSame, flag_of}
 use Rattle.base_data.proofs.Tells.{Tells, tells_name, tells_number, tells_ok, tells_same, tells_then}
 use Rattle.base_data.specs.Kinds.{FitsTypes}
 use Rattle.base_data.specs.NameData.{name_octets}
-use Rattle.base_data.specs.SOA.{CompressesSOA, SOAFits, SOANumbers, SOAWord, soa_at, soa_numbers}
+use Rattle.base_data.specs.SOA.{SOAFits, SOAWord, soa_at, soa_numbers}
 use Rattle.base_data.specs.contracts.rdata.RDataPartialEq.TheImpl.{ghosts as equality}
 use Rattle.base_data.specs.contracts.rdata.soa.SOAPartialEq.TheImpl.{ghosts as soa_equality}
 use Rattle.base_data.specs.declared.rdata.RData.TheVariants as kinds
@@ -65,53 +65,6 @@ soa_longer x B i e word =
 
 pub soa_inside : (x : SOA) (B : List ℕ) (i e : ℕ) → SOAWord x B i e → e ≤ length B
 soa_inside x B i e word = let minimum = word.2.2.2.2.2.2 in omega (arith, minimum.0.inside, minimum.1)
-
--- the bytes of the numbers are the numbers
-soa_numbers_stand : (x : SOA) (B : List ℕ) (i : ℕ) → SOAFits x → Stands (soa_numbers x) B i → SOANumbers x B i (i + 20)
-soa_numbers_stand x B i fits s =
-    let a = to_be_bytes w32 x.serial in
-    let b = to_be_bytes w32 x.refresh in
-    let c = to_be_bytes w32 x.retry in
-    let d = to_be_bytes w32 x.expire in
-    let e = to_be_bytes w32 x.minimum in
-    let behind_a = stands_last a (b ++ (c ++ (d ++ e))) B i s in
-    let behind_b = stands_last b (c ++ (d ++ e)) B (i + 4) behind_a in
-    let behind_c = stands_last c (d ++ e) B (i + 4 + 4) behind_b in
-    let behind_d = stands_last d e B (i + 4 + 4 + 4) behind_c in (
-      _,
-      (number32_stands x.serial B i fits.serial (first_stands a (b ++ (c ++ (d ++ e))) B i s), refl),
-      (
-        _,
-        (number32_stands x.refresh B (i + 4) fits.refresh (first_stands b (c ++ (d ++ e)) B (i + 4) behind_a), refl),
-        (
-          _,
-          (number32_stands x.retry B (i + 4 + 4) fits.retry (first_stands c (d ++ e) B (i + 4 + 4) behind_b), refl),
-          (
-            _,
-            (number32_stands x.expire B (i + 4 + 4 + 4) fits.expire (first_stands d e B (i + 4 + 4 + 4) behind_c), refl),
-            (number32_stands x.minimum B (i + 4 + 4 + 4 + 4) fits.minimum behind_d, omega arith),
-          ),
-        ),
-      ),
-    )
-
--- the numbers of an SOA were written as their bytes
-pub soa_numbers_written : {X : Type 0} (r : Result X ProtoError) (x : SOA) (a b : State) → SOAFits x → OnOk r (b ≡ appended (soa_numbers x) a) → OnOk r (Writes (SOANumbers x) 20 [] a b)
-soa_numbers_written r x a b fits is = Writes-either r (SOANumbers x) 20 (soa_numbers x) a b is (omega arith) (λ B. soa_numbers_stand x B (length a.bytes) fits)
-
--- two names, and numbers behind them
-pub compressed_soa : {v w : List ℕ → ℕ → ℕ → Type 0} {m n : ℕ} {a b c h : State} (x : SOA) → Keeps a b → Writes v m x.mname.labels a b
-    → StoresSuffixes x.mname.labels a b → Keeps b c → Writes w n x.rname.labels b c → StoresSuffixes x.rname.labels b c
-    → h ≡ appended (soa_numbers x) c → CompressesSOA x a h
-compressed_soa {b = b} {c = c} x k first stores_first l second stores_second numbers = record {
-  behind_first = b;
-  behind_second = c;
-  keeps_first = k;
-  first = record { points = first.compresses; stores = stores_first };
-  keeps_second = l;
-  second = record { points = second.compresses; stores = stores_second };
-  numbers = numbers;
-}
 
 -- equal exactly where each field is
 pub soa_same : (a b : SOA)

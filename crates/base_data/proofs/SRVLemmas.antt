@@ -4,7 +4,7 @@ use Rattle.std.specs.Cmp.{first_so, second_so}
 use Rattle.std.specs.Int.{to_be_bytes, w16}
 use Rattle.std.specs.Prelude.{◌==◌, ◌↔◌}
 use Rattle.base.proofs.LawLemmas.{Writes-bytes, Writes-then, Writes-weaker}
-use Rattle.base.proofs.WordLemmas.{first_stands, number16_stands}
+use Rattle.base.specs.WordLemmas.{first_stands, number16_stands}
 use Rattle.base.specs.Labels.{plain_len, wire_of}
 use Rattle.base.specs.Laws.{Keeps, Writes}
 use Rattle.base.specs.NameOrder.{same_name}
@@ -44,38 +44,6 @@ srv_longer x B i e word =
 
 pub srv_inside : (x : SRV) (B : List ℕ) (i e : ℕ) → SRVWord x B i e → e ≤ length B
 srv_inside x B i e word = name_inside x.target.labels B word.2.2.0 e word.2.2.2
-
--- the three numbers of an SRV, one behind the other
-abbrev SRVNumbers : SRV → List ℕ → ℕ → ℕ → Type 0
-SRVNumbers x = Then (Number w16 x.priority) (Then (Number w16 x.weight) (Number w16 x.port))
-
-srv_numbers_stand : (x : SRV) (B : List ℕ) (i : ℕ) → SRVFits x → Stands (srv_numbers x) B i → SRVNumbers x B i (i + 6)
-srv_numbers_stand x B i fits s =
-    let a = to_be_bytes w16 x.priority in
-    let b = to_be_bytes w16 x.weight in
-    let c = to_be_bytes w16 x.port in
-    let behind_a = stands_last a (b ++ c) B i s in
-    let behind_b = stands_last b c B (i + 2) behind_a in (
-      _,
-      (number16_stands x.priority B i fits.priority (first_stands a (b ++ c) B i s), refl),
-      (
-        _,
-        (number16_stands x.weight B (i + 2) fits.weight (first_stands b c B (i + 2) behind_a), refl),
-        (number16_stands x.port B (i + 2 + 2) fits.port behind_b, omega arith),
-      ),
-    )
-
--- the numbers of an SRV were written as their bytes, and the name behind them
-pub srv_written : {octets : List ℕ} {a b c : State} (x : SRV) → SRVFits x → octets ≡ srv_numbers x → Keeps a b → Keeps b c → b ≡ appended octets a
-    → Writes (NameAt x.target.labels) (plain_len x.target.labels) [] b c → Writes (SRVWord x) (plain_srv x) [] a c
-srv_written {a = a} {b = b} x fits are k l is name =
-    let numbers : Writes (SRVNumbers x) 6 [] a b = Writes-bytes (SRVNumbers x) 6 (srv_numbers x) a b (is ∙ ap (λ (xs : List ℕ). appended xs a) are)
-    (omega arith) (λ B. srv_numbers_stand x B (length a.bytes) fits) in
-    Writes-weaker (λ B i e w. (w.1.0, w.1.1, (w.1.2.0, w.1.2.1, (w.0, w.1.2.2, w.2)))) (omega arith) (Writes-then k l numbers name)
-
--- numbers, and a name without compression behind them
-pub plain_srv_written : (x : SRV) (octets : List ℕ) (a b c : State) → octets ≡ srv_numbers x → b ≡ appended octets a → c ≡ appended (wire_of x.target.labels ++ 0 ∷ []) b → c ≡ appended (srv_wire x) a
-plain_srv_written x octets a b c are numbers target = appended_both a b c (srv_numbers x) (wire_of x.target.labels ++ 0 ∷ []) (numbers ∙ ap (λ (xs : List ℕ). appended xs a) are) target
 
 -- equal exactly where each field is
 pub srv_same : (a b : SRV) → IsTrue (srv_equality.eq a b) ↔ ((a.priority ≡ b.priority) × (a.weight ≡ b.weight) × (a.port ≡ b.port) × IsTrue (same_name a.target b.target))

@@ -4,7 +4,7 @@ use Rattle.std.specs.Prelude.{◌==◌, if◌then◌else◌}
 use Rattle.std.proofs.lemmas.Bool.{eq-eqb, ne_eqb}
 use Rattle.std.proofs.lemmas.List.{append-nil}
 use Rattle.base.specs.Labels.{wire_of}
-use Rattle.base.proofs.LabelLemmas.{length-wire_of}
+use Rattle.base.specs.PointerLemmas.{length-wire_of}
 use Rattle.base_data.specs.TXT.{string_text, txt_text}
 
 -- the space behind a string stands where more strings follow

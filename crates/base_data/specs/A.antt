@@ -3,9 +3,10 @@ use Rattle.std.specs.Prelude.{◌≡◌, ℕ, List, [], ◌∷◌, length, Ok, O
 use Rattle.base.specs.Reading.{Read, bytes_at, ◌>>=◌}
 use Rattle.base_data.specs.declared.rdata.a.A.{A}
 use Rattle.base_data.specs.Fields.{ipv4_item}
-use Rattle.base_data.specs.Kind.{AnyNames, AreOctets, Kind, bare, no_places}
+use Rattle.base_data.specs.Kind.{AreOctets, Kind, bare, no_places}
 use Rattle.std.specs.Net.Text.{ipv4_text}
 use Rattle.base.specs.Words.{Bytes}
+use Rattle.base.specs.SaysParts.{Says-bytes}
 use Rattle.base.specs.Written.{just}
 
 -- the address at a place
@@ -22,9 +23,10 @@ abbrev pub a_kind : A → Kind
 a_kind x = record {
   rank = 0;
   word = Bytes x.octets;
-  plain = 4;
+  plain = length x.octets;
   written = just x.octets;
-  names = AnyNames;
+  kept = Unit {0};
+  says = Says-bytes x.octets;
   readable = length x.octets ≡ 4;
   text = ipv4_text x.octets;
   canonical = x.octets;

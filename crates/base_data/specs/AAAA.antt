@@ -5,8 +5,9 @@ use Rattle.std.specs.Net.Text.{hex_groups_text}
 use Rattle.base.specs.Reading.{Read, bytes_at, ◌>>=◌}
 use Rattle.base_data.specs.declared.rdata.aaaa.AAAA.{AAAA}
 use Rattle.base_data.specs.Fields.{ipv6_item}
-use Rattle.base_data.specs.Kind.{AnyNames, AreOctets, Kind, bare, no_places}
+use Rattle.base_data.specs.Kind.{AreOctets, Kind, bare, no_places}
 use Rattle.base.specs.Words.{Bytes}
+use Rattle.base.specs.SaysParts.{Says-bytes}
 use Rattle.base.specs.Written.{just}
 
 -- the address at a place
@@ -38,9 +39,10 @@ abbrev pub aaaa_kind : AAAA → Kind
 aaaa_kind x = record {
   rank = 1;
   word = Bytes x.octets;
-  plain = 16;
+  plain = length x.octets;
   written = just x.octets;
-  names = AnyNames;
+  kept = Unit {0};
+  says = Says-bytes x.octets;
   readable = length x.octets ≡ 16;
   text = aaaa_text x.octets;
   canonical = x.octets;

@@ -2,10 +2,10 @@
 use Rattle.std.specs.Prelude.{◌≡◌, ℕ, List, [], ◌∷◌, ◌++◌, Option}
 use Rattle.base.specs.Labels.{NameValue, wire_of}
 use Rattle.base.specs.Reading.{Read}
-use Rattle.base.specs.State.{appended}
 use Rattle.base_data.specs.Kind.{Kind}
 use Rattle.base_data.specs.OneName.{name_kind, one_name_at, one_name_of}
 use Rattle.base_data.specs.declared.rdata.aname.ANAME.{ANAME}
+use Rattle.base.specs.SaysName.{Says-plain_name}
 use Rattle.base.specs.Written.{plain_name}
 
 -- the data at a place
@@ -22,4 +22,4 @@ aname_wire x = wire_of x.name.labels ++ 0 ∷ []
 
 -- what is known of the data
 abbrev pub aname_kind : ANAME → Kind
-aname_kind x = name_kind 5 x.name (plain_name x.name.labels) (λ old new. new ≡ appended (aname_wire x) old)
+aname_kind x = name_kind 5 x.name (plain_name x.name.labels) (Says-plain_name x.name.labels)

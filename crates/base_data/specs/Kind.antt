@@ -1,7 +1,7 @@
 -- What is known of data of one kind: one value for each kind, in the kind's own file.
 use Rattle.std.specs.Prelude.{◌≡◌, ◌≢◌, ℕ, ◌<◌, ◌≤◌, Bool, false, All, List, [], length, Option}
 use Rattle.base.specs.Labels.{AreLabels, NameValue, plain_len}
-use Rattle.base.specs.State.{State}
+use Rattle.base.specs.Says.{Says}
 use Rattle.base.specs.Written.{Writing}
 
 -- What is known of data, as a value of its kind.
@@ -12,10 +12,12 @@ pub record Kind : Type 1 where
   pub word : List ℕ → ℕ → ℕ → Type 0
   -- how many bytes it is with its names uncompressed
   pub plain : ℕ
-  -- what is written of it
+  -- what is written of it, its names with compression (RFC 1035, 4.1.4) or without it (RFC 3597, 4)
   pub written : Writing
-  -- how its names are written: with compression (RFC 1035, 4.1.4), or without it (RFC 3597, 4)
-  pub names : State → State → Type 0
+  -- what its type keeps of it: numbers have their widths, and names have at most 255 bytes
+  pub kept : Type 0
+  -- where that stands, the word stands
+  pub says : Says written kept word plain []
   -- whether it is read where its word stands
   pub readable : Type 0
   -- its text, as in zone files (RFC 1035, 5.1; RFC 3597, 5)
@@ -36,10 +38,6 @@ pub record Kind : Type 1 where
   pub shown : List ℕ → List ℕ
   -- Whether its items name it: fields have their widths, and names have texts. Never of a kind without a text form.
   pub spelled : Type 0
-
--- data without names: its names are written by any change
-abbrev pub AnyNames : State → State → Type 0
-AnyNames old new = Unit {0}
 
 -- data without names has no place of one
 abbrev pub no_places : List ℕ → ℕ → List ℕ

@@ -3,7 +3,7 @@ use Rattle.std.specs.Prelude.{◌≢◌, ℕ, Bool, true, false, List, [], IsTru
 use Rattle.std.specs.Option.{ok_or}
 use Rattle.base.specs.Labels.{NameValue}
 use Rattle.base.specs.Reading.{Read, bytes_at, ◌>>=◌}
-use Rattle.base.specs.State.{State}
+use Rattle.base.specs.Says.{Says}
 use Rattle.base.specs.Written.{Writing}
 use Rattle.base.specs.TextFaults.{Fault, bad_data, unsupported_type}
 use Rattle.base.specs.declared.error.decode_error.DecodeError.TheVariants as faults
@@ -154,10 +154,13 @@ data_written d = (kind_of d).written
 abbrev pub data_text : RData → List ℕ
 data_text d = (kind_of d).text
 
--- The names of data were written as its kind has them: with compression in NS, CNAME, PTR, MX and SOA (RFC 1035,
--- 4.1.4), without it in ANAME and SRV (RFC 3597, 4).
-abbrev pub WritesNames : RData → State → State → Type 0
-WritesNames d = (kind_of d).names
+-- what its type keeps of data
+abbrev pub KeptData : RData → Type 0
+KeptData d = (kind_of d).kept
+
+-- where what is written of data stands, its word stands
+abbrev pub data_says : (d : RData) → Says (data_written d) (KeptData d) (DataWord d) (plain_data d) []
+data_says d = (kind_of d).says
 
 -- Data that the kind of its own type reads: names are absolute, and data that has no byte is `Update0`. A string's
 -- length is one byte, so what stands in bytes has no longer ones.

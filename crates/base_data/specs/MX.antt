@@ -3,15 +3,16 @@ use Rattle.std.specs.Prelude.{ℕ, List, Ok, ◌+◌, ◌++◌, codes, [], ◌�
 use Rattle.std.specs.Int.{w16, to_be_bytes}
 use Rattle.base.specs.Names.{name_at}
 use Rattle.base.specs.Reading.{Read, number_at, ◌>>=◌}
-use Rattle.base.specs.Labels.{AreLabels, NameValue, plain_len}
+use Rattle.base.specs.Labels.{AreLabels, AreNameLabels, NameValue, plain_len}
 use Rattle.base.specs.NameText.{name_text}
 use Rattle.base.specs.Words.{NameAt, Number, Then}
 use Rattle.std.specs.Fmt.{decimal}
 use Rattle.base_data.specs.declared.rdata.mx.MX.{MX}
 use Rattle.base_data.specs.Fields.{number_item, name_item, ◌>>?◌}
 use Rattle.base_data.specs.Kind.{HasText, Kind, bare}
-use Rattle.base.specs.State.{State, appended}
-use Rattle.base_data.specs.NameData.{IsCompressed, name_octets}
+use Rattle.base.specs.SaysName.{Says-name}
+use Rattle.base.specs.SaysParts.{Says-both, Says-number, Says-unowned}
+use Rattle.base_data.specs.NameData.{name_octets}
 use Rattle.base.specs.Written.{both, just, name}
 
 -- the data at a place
@@ -40,10 +41,6 @@ plain_mx x = 2 + (plain_len x.exchange.labels)
 abbrev pub mx_text : MX → List ℕ
 mx_text x = decimal x.preference ++ (codes " " ++ (name_text x.exchange))
 
--- a preference, and a name with compression
-abbrev pub CompressesMX : MX → State → State → Type 0
-CompressesMX x old new = IsCompressed x.exchange.labels (appended (to_be_bytes w16 x.preference) old) new
-
 -- its name stands behind two bytes (RFC 1035, 3.3.9)
 abbrev pub mx_places : List ℕ → ℕ → List ℕ
 mx_places bytes i = (i + 2) ∷ []
@@ -55,7 +52,9 @@ mx_kind x = record {
   word = MXWord x;
   plain = plain_mx x;
   written = both (just (to_be_bytes w16 x.preference)) (name x.exchange.labels);
-  names = CompressesMX x;
+  kept = (x.preference < 2 ^ 16) × AreNameLabels x.exchange.labels;
+  says = Says-both (just (to_be_bytes w16 x.preference)) (name x.exchange.labels) (Says-number x.preference)
+      (Says-unowned (name x.exchange.labels) (Says-name x.exchange.labels));
   readable = x.exchange.absolute ≡ true;
   text = mx_text x;
   canonical = to_be_bytes w16 x.preference ++ name_octets x.exchange;

@@ -3,9 +3,10 @@ use Rattle.std.specs.Prelude.{ℕ, List, Option}
 use Rattle.base.specs.Labels.{NameValue}
 use Rattle.base.specs.Reading.{Read}
 use Rattle.base_data.specs.Kind.{Kind}
-use Rattle.base_data.specs.NameData.{IsCompressed}
 use Rattle.base_data.specs.OneName.{name_kind, one_name_at, one_name_of}
 use Rattle.base_data.specs.declared.rdata.ns.NS.{NS}
+use Rattle.base.specs.SaysName.{Says-name}
+use Rattle.base.specs.SaysParts.{Says-unowned}
 use Rattle.base.specs.Written.{name}
 
 -- the data at a place
@@ -18,4 +19,4 @@ ns_of = one_name_of (λ name. record { name = name })
 
 -- what is known of the data
 abbrev pub ns_kind : NS → Kind
-ns_kind x = name_kind 2 x.name (name x.name.labels) (IsCompressed x.name.labels)
+ns_kind x = name_kind 2 x.name (name x.name.labels) (Says-unowned (name x.name.labels) (Says-name x.name.labels))

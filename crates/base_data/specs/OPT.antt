@@ -1,13 +1,18 @@
 -- EDNS options: each a code, a length and as many bytes (RFC 6891, 6.1.2).
 use Rattle.std.specs.Prelude.{ℕ, Bool, ◌+◌, ◌^◌, ◌<◌, ◌==◌, not, List, [], ◌∷◌, ◌++◌, zero, suc, length, filter, find, position, slice_set, nat_eq, nat_le, if◌then◌else◌, Option, None, Ok, ◌≢◌, All}
+use Rattle.std.proofs.Common.{◌≡◌, subst, arith}
+use Rattle.std.proofs.lemmas.List.Elements.{All-head, All-tail}
 use Rattle.std.specs.Cmp.Lexicographic.{pointwise}
 use Rattle.std.specs.Int.{w16, to_be_bytes}
 use Rattle.std.specs.Option.{option_map_or}
 use Rattle.std.specs.Ordering.{eq_of_both, on}
 use Rattle.base.specs.Reading.{Read, bytes_at, number_at, ◌>>=◌}
+use Rattle.base.specs.Says.{Says}
+use Rattle.base.specs.SaysParts.{Says-both, Says-bytes, Says-just, Says-number, Says-weaker}
 use Rattle.base.specs.Words.{BackToBack, Bytes, Number, Then}
+use Rattle.base.specs.Words.BackToBack.{none, more}
 use Rattle.base_data.specs.Opaque.{opaque_text, same_bytes}
-use Rattle.base_data.specs.Kind.{AnyNames, Kind, bare, no_places}
+use Rattle.base_data.specs.Kind.{Kind, bare, no_places}
 use Rattle.base.specs.Written.{Writing, just, both, in_turn}
 
 -- an option's code and bytes
@@ -87,6 +92,21 @@ same_option = eq_of_both (on (λ o. o.code) nat_eq) (on (λ o. o.bytes) same_byt
 abbrev pub same_options : List OptionValue → List OptionValue → Bool
 same_options = pointwise same_option
 
+-- where what is written of options stands, they stand
+pub option_says : (option : OptionValue) → Says (option_written option) (FitsOption option) (option_word option) (option_len option) []
+option_says option =
+    Says-weaker (option_written option) (FitsOption option) (λ ok. (ok.0, (ok.1, tt))) (λ ok B i e word. word) (omega arith)
+    (Says-both (just (to_be_bytes w16 option.code)) (both (just (to_be_bytes w16 (length option.bytes))) (just option.bytes)) (Says-number option.code)
+    (Says-both (just (to_be_bytes w16 (length option.bytes))) (just option.bytes) (Says-number (length option.bytes)) (Says-bytes option.bytes)))
+
+pub options_say : (options : List OptionValue) → Says (in_turn option_written options) (All FitsOption options) (options_word options) (options_len options) []
+options_say [] = Says-just (All FitsOption []) (options_word []) 0 [] (omega arith)
+    (λ ok B at small h. let same : at ≡ at + 0 = omega arith in subst (λ (e : ℕ). options_word [] B at e) same none)
+options_say (option ∷ options) =
+    Says-weaker (in_turn option_written (option ∷ options)) (All FitsOption (option ∷ options))
+    (λ ok. (All-head FitsOption option options ok, All-tail FitsOption option options ok)) (λ ok B i e word. more word.1 word.2) (omega arith)
+    (Says-both (option_written option) (in_turn option_written options) (option_says option) (options_say options))
+
 -- what is known of the data
 abbrev pub opt_kind : List OptionValue → Kind
 opt_kind x = record {
@@ -94,7 +114,8 @@ opt_kind x = record {
   word = options_word x;
   plain = options_len x;
   written = in_turn option_written x;
-  names = AnyNames;
+  kept = All FitsOption x;
+  says = options_say x;
   readable = x ≢ [];
   text = opaque_text (options_wire x);
   canonical = options_wire x;

@@ -1,14 +1,14 @@
 -- Data that is one name: what NS, CNAME, PTR and ANAME share.
 use Rattle.std.specs.Prelude.{◌≡◌, ℕ, true, List, [], ◌∷◌, Ok, Option, Some, None, option_map}
-use Rattle.base.specs.Labels.{AreLabels, NameValue, plain_len}
+use Rattle.base.specs.Labels.{AreLabels, AreNameLabels, NameValue, plain_len}
 use Rattle.base.specs.NameText.{name_text}
 use Rattle.base.specs.Names.{name_at}
 use Rattle.base.specs.Reading.{Read, ◌>>=◌}
-use Rattle.base.specs.State.{State}
 use Rattle.base.specs.Words.{NameAt}
 use Rattle.base_data.specs.Fields.{name_item}
 use Rattle.base_data.specs.Kind.{HasText, Kind, bare}
 use Rattle.base_data.specs.NameData.{name_octets}
+use Rattle.base.specs.Says.{Says}
 use Rattle.base.specs.Written.{Writing}
 
 -- the data at a place, made of the name that is read there
@@ -25,13 +25,15 @@ abbrev pub own_place : List ℕ → ℕ → List ℕ
 own_place bytes i = i ∷ []
 
 -- what is known of data that is a name; how the name is written is its kind's
-abbrev pub name_kind : ℕ → NameValue → Writing → (State → State → Type 0) → Kind
-name_kind rank name written names = record {
+abbrev pub name_kind : ℕ → (name : NameValue) (written : Writing)
+    → Says written (AreNameLabels name.labels) (NameAt name.labels) (plain_len name.labels) [] → Kind
+name_kind rank name written says = record {
   rank = rank;
   word = NameAt name.labels;
   plain = plain_len name.labels;
   written = written;
-  names = names;
+  kept = AreNameLabels name.labels;
+  says = says;
   readable = name.absolute ≡ true;
   text = name_text name;
   canonical = name_octets name;

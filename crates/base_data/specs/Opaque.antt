@@ -6,8 +6,9 @@ use Rattle.std.specs.Fmt.{decimal}
 use Rattle.std.specs.List.{flat_map}
 use Rattle.std.specs.Ordering.{nat_cmp}
 use Rattle.std.specs.declared.cmp.Ordering.{Ordering}
-use Rattle.base_data.specs.Kind.{AnyNames, Kind, bare, no_places}
+use Rattle.base_data.specs.Kind.{Kind, bare, no_places}
 use Rattle.base.specs.Words.{Bytes}
+use Rattle.base.specs.SaysParts.{Says-bytes}
 use Rattle.base.specs.Written.{just}
 
 -- a byte in two hexadecimal digits, in lower case
@@ -37,7 +38,8 @@ bytes_kind rank readable x = record {
   word = Bytes x;
   plain = length x;
   written = just x;
-  names = AnyNames;
+  kept = Unit {0};
+  says = Says-bytes x;
   readable = readable;
   text = opaque_text x;
   canonical = x;

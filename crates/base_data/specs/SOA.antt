@@ -1,19 +1,21 @@
 -- Starts of zones (RFC 1035, 3.3.13).
 use Rattle.std.specs.Prelude.{ℕ, List, Ok, ◌+◌, ◌^◌, ◌<◌, ◌++◌, codes, [], ◌∷◌, ◌≡◌, true, Option, Some, None}
+use Rattle.std.proofs.Common.{refl, arith}
 use Rattle.std.specs.Int.{w32, to_be_bytes}
 use Rattle.base.specs.Names.{name_at}
 use Rattle.base.specs.Reading.{Read, behind, number_at, ◌>>=◌}
-use Rattle.base.specs.Labels.{AreLabels, NameValue, plain_len}
+use Rattle.base.specs.Labels.{AreLabels, AreNameLabels, NameValue, plain_len}
 use Rattle.base.specs.NameText.{name_text}
-use Rattle.base.specs.Words.{NameAt, Number, Then}
+use Rattle.base.specs.Words.{NameAt, Number, Stands, Then}
 use Rattle.std.specs.Fmt.{decimal}
 use Rattle.base_data.specs.declared.rdata.soa.SOA.{SOA}
 use Rattle.base.specs.Ttl.{ttl_of}
 use Rattle.base_data.specs.Fields.{number_item, name_item, ◌>>?◌}
 use Rattle.base_data.specs.Kind.{HasText, Kind, bare}
-use Rattle.base.specs.Laws.{Keeps}
-use Rattle.base.specs.State.{State, appended}
-use Rattle.base_data.specs.NameData.{IsCompressed, name_octets}
+use Rattle.base.specs.SaysName.{Says-name}
+use Rattle.base.specs.SaysParts.{Says-both, Says-just, Says-unowned, last_stands}
+use Rattle.base.specs.WordLemmas.{first_stands, number32_stands}
+use Rattle.base_data.specs.NameData.{name_octets}
 use Rattle.base.specs.Written.{both, just, name}
 
 -- the data at a place
@@ -66,15 +68,34 @@ soa_text x = name_text x.mname ++
     (codes " " ++ (name_text x.rname ++
     (codes " " ++ (decimal x.serial ++ (codes " " ++ (decimal x.refresh ++ (codes " " ++ (decimal x.retry ++ (codes " " ++ (decimal x.expire ++ (codes " " ++ (decimal x.minimum))))))))))))
 
--- two names with compression, one behind the other, and numbers
-pub record CompressesSOA (x : SOA) (old new : State) : Type 0 where
-  pub behind_first : State
-  pub behind_second : State
-  pub keeps_first : Keeps old behind_first
-  pub first : IsCompressed x.mname.labels old behind_first
-  pub keeps_second : Keeps behind_first behind_second
-  pub second : IsCompressed x.rname.labels behind_first behind_second
-  pub numbers : new ≡ appended (soa_numbers x) behind_second
+-- the bytes of the numbers are the numbers
+pub soa_numbers_stand : (x : SOA) (B : List ℕ) (i : ℕ) → SOAFits x → Stands (soa_numbers x) B i → SOANumbers x B i (i + 20)
+soa_numbers_stand x B i fits s =
+    let a = to_be_bytes w32 x.serial in
+    let b = to_be_bytes w32 x.refresh in
+    let c = to_be_bytes w32 x.retry in
+    let d = to_be_bytes w32 x.expire in
+    let e = to_be_bytes w32 x.minimum in
+    let behind_a = last_stands a (b ++ (c ++ (d ++ e))) B i s in
+    let behind_b = last_stands b (c ++ (d ++ e)) B (i + 4) behind_a in
+    let behind_c = last_stands c (d ++ e) B (i + 4 + 4) behind_b in
+    let behind_d = last_stands d e B (i + 4 + 4 + 4) behind_c in (
+      _,
+      (number32_stands x.serial B i fits.serial (first_stands a (b ++ (c ++ (d ++ e))) B i s), refl),
+      (
+        _,
+        (number32_stands x.refresh B (i + 4) fits.refresh (first_stands b (c ++ (d ++ e)) B (i + 4) behind_a), refl),
+        (
+          _,
+          (number32_stands x.retry B (i + 4 + 4) fits.retry (first_stands c (d ++ e) B (i + 4 + 4) behind_b), refl),
+          (
+            _,
+            (number32_stands x.expire B (i + 4 + 4 + 4) fits.expire (first_stands d e B (i + 4 + 4 + 4) behind_c), refl),
+            (number32_stands x.minimum B (i + 4 + 4 + 4 + 4) fits.minimum behind_d, omega arith),
+          ),
+        ),
+      ),
+    )
 
 -- its first name stands at its place, and the second one behind that (RFC 1035, 3.3.13)
 abbrev pub soa_places : List ℕ → ℕ → List ℕ
@@ -87,7 +108,11 @@ soa_kind x = record {
   word = SOAWord x;
   plain = plain_soa x;
   written = both (name x.mname.labels) (both (name x.rname.labels) (just (soa_numbers x)));
-  names = CompressesSOA x;
+  kept = AreNameLabels x.mname.labels × (AreNameLabels x.rname.labels × SOAFits x);
+  says = Says-both (name x.mname.labels) (both (name x.rname.labels) (just (soa_numbers x)))
+      (Says-unowned (name x.mname.labels) (Says-name x.mname.labels))
+      (Says-both (name x.rname.labels) (just (soa_numbers x)) (Says-unowned (name x.rname.labels) (Says-name x.rname.labels))
+      (Says-just (SOAFits x) (SOANumbers x) 20 (soa_numbers x) (omega arith) (λ fits B at small h. soa_numbers_stand x B at fits h)));
   readable = (x.mname.absolute ≡ true) × (x.rname.absolute ≡ true);
   text = soa_text x;
   canonical = name_octets x.mname ++ name_octets x.rname ++ to_be_bytes w32 x.serial ++ to_be_bytes w32 x.refresh ++ to_be_bytes w32 x.retry

@@ -1,16 +1,19 @@
 -- Hosts that have a service (RFC 2782).
 use Rattle.std.specs.Prelude.{ℕ, List, [], ◌∷◌, Ok, ◌+◌, ◌^◌, ◌<◌, ◌++◌, codes, ◌≡◌, true, Option, Some, None}
+use Rattle.std.proofs.Common.{refl, arith}
 use Rattle.std.specs.Int.{w16, to_be_bytes}
 use Rattle.base.specs.Names.{name_at}
 use Rattle.base.specs.Reading.{Read, number_at, ◌>>=◌}
-use Rattle.base.specs.Labels.{AreLabels, NameValue, plain_len, wire_of}
+use Rattle.base.specs.Labels.{AreLabels, AreNameLabels, NameValue, plain_len, wire_of}
 use Rattle.base.specs.NameText.{name_text}
-use Rattle.base.specs.Words.{NameAt, Number, Then}
+use Rattle.base.specs.Words.{NameAt, Number, Stands, Then}
 use Rattle.std.specs.Fmt.{decimal}
 use Rattle.base_data.specs.declared.rdata.srv.SRV.{SRV}
 use Rattle.base_data.specs.Fields.{number_item, name_item, ◌>>?◌}
 use Rattle.base_data.specs.Kind.{HasText, Kind, bare}
-use Rattle.base.specs.State.{appended}
+use Rattle.base.specs.SaysName.{Says-plain_name}
+use Rattle.base.specs.SaysParts.{Says-both, Says-just, Says-weaker, last_stands}
+use Rattle.base.specs.WordLemmas.{first_stands, number16_stands}
 use Rattle.base_data.specs.NameData.{name_octets}
 use Rattle.base.specs.Written.{both, just, plain_name}
 
@@ -45,6 +48,26 @@ pub record SRVFits (x : SRV) : Type 0 where
 abbrev pub srv_numbers : SRV → List ℕ
 srv_numbers x = to_be_bytes w16 x.priority ++ (to_be_bytes w16 x.weight ++ to_be_bytes w16 x.port)
 
+-- the three numbers of an SRV, one behind the other
+abbrev pub SRVNumbers : SRV → List ℕ → ℕ → ℕ → Type 0
+SRVNumbers x = Then (Number w16 x.priority) (Then (Number w16 x.weight) (Number w16 x.port))
+
+pub srv_numbers_stand : (x : SRV) (B : List ℕ) (i : ℕ) → SRVFits x → Stands (srv_numbers x) B i → SRVNumbers x B i (i + 6)
+srv_numbers_stand x B i fits s =
+    let a = to_be_bytes w16 x.priority in
+    let b = to_be_bytes w16 x.weight in
+    let c = to_be_bytes w16 x.port in
+    let behind_a = last_stands a (b ++ c) B i s in
+    let behind_b = last_stands b c B (i + 2) behind_a in (
+      _,
+      (number16_stands x.priority B i fits.priority (first_stands a (b ++ c) B i s), refl),
+      (
+        _,
+        (number16_stands x.weight B (i + 2) fits.weight (first_stands b c B (i + 2) behind_a), refl),
+        (number16_stands x.port B (i + 2 + 2) fits.port behind_b, omega arith),
+      ),
+    )
+
 -- the bytes of the fields, the name without compression
 abbrev pub srv_wire : SRV → List ℕ
 srv_wire x = to_be_bytes w16 x.priority ++ (to_be_bytes w16 x.weight ++ (to_be_bytes w16 x.port ++ (wire_of x.target.labels ++ 0 ∷ [])))
@@ -68,7 +91,12 @@ srv_kind x = record {
   word = SRVWord x;
   plain = plain_srv x;
   written = both (just (srv_numbers x)) (plain_name x.target.labels);
-  names = λ old new. new ≡ appended (srv_wire x) old;
+  kept = SRVFits x × AreNameLabels x.target.labels;
+  says = Says-weaker (both (just (srv_numbers x)) (plain_name x.target.labels)) (SRVFits x × AreNameLabels x.target.labels) (λ ok. ok)
+      (λ ok B i e w. (w.1.0, w.1.1, (w.1.2.0, w.1.2.1, (w.0, w.1.2.2, w.2)))) (omega arith)
+      (Says-both (just (srv_numbers x)) (plain_name x.target.labels)
+      (Says-just (SRVFits x) (SRVNumbers x) 6 (srv_numbers x) (omega arith) (λ fits B at small h. srv_numbers_stand x B at fits h))
+      (Says-plain_name x.target.labels));
   readable = x.target.absolute ≡ true;
   text = srv_text x;
   canonical = to_be_bytes w16 x.priority ++ to_be_bytes w16 x.weight ++ to_be_bytes w16 x.port ++ name_octets x.target;

@@ -8,9 +8,10 @@ use Rattle.base.specs.NameText.{decimal_text}
 use Rattle.base.specs.Reading.{Read, bytes_at, ◌>>=◌}
 use Rattle.base.specs.declared.error.decode_error.DecodeError.TheVariants as faults
 use Rattle.base_data.specs.Opaque.{same_bytes}
-use Rattle.base_data.specs.Kind.{AnyNames, Kind, no_places}
+use Rattle.base_data.specs.Kind.{Kind, no_places}
 use Rattle.base_data.specs.StringItems.{string_items}
 use Rattle.base.specs.Words.{Bytes}
+use Rattle.base.specs.SaysParts.{Says-bytes}
 use Rattle.base.specs.Written.{just}
 
 -- each string has up to 255 bytes
@@ -69,7 +70,8 @@ txt_kind x = record {
   word = Bytes (wire_of x);
   plain = length (wire_of x);
   written = just (wire_of x);
-  names = AnyNames;
+  kept = Unit {0};
+  says = Says-bytes (wire_of x);
   readable = x ≢ [];
   text = txt_text x;
   canonical = wire_of x;

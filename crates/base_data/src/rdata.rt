@@ -4,10 +4,9 @@
 ghost use Rattle.std.specs.Prelude.{◌≡◌, ◌<◌, ◌≤◌, [], IfOk, Some, take};
 ghost use Rattle.std.specs.FinSet as set;
 ghost use Rattle.base.specs.Counts.{Counts, Passes};
-ghost use Rattle.base.specs.Laws.{Writes};
 ghost use Rattle.base.specs.Passing.{AddsPassed};
 ghost use Rattle.base.specs.Reading.{Reads};
-ghost use Rattle.base_data.specs.Kinds.{DataWord, WritesNames, canonical_data, data_places, data_text, data_written, kind_at, kind_rank, name_flags, plain_data, type_of_data};
+ghost use Rattle.base_data.specs.Kinds.{DataWord, KeptData, canonical_data, data_places, data_says, data_text, data_written, kind_at, kind_rank, name_flags, plain_data, type_of_data};
 ghost use Rattle.base_data.specs.RData.{is_empty_data};
 
 pub mod a;
@@ -267,7 +266,9 @@ impl BinEncodable for RData {
 
     ghost written = { data_written };
 
-    ghost names = { WritesNames };
+    ghost fits = { KeptData };
+
+    ghost says = { data_says };
 
     /// Writes the data as its kind is written, names of NS, CNAME, PTR, MX and SOA with compression and all other
     /// data without it, and nothing for empty data (RFC 1035, 3.3; RFC 3597, 4).

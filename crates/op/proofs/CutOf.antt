@@ -9,7 +9,7 @@ use Rattle.base.specs.State.{State, Stored}
 use Rattle.base.specs.Words.{Stands}
 use Rattle.base.proofs.ItemLemmas.{Each-keeps}
 use Rattle.base.proofs.LawLemmas.{Keeps-then}
-use Rattle.base.proofs.WordLemmas.{first_stands}
+use Rattle.base.specs.WordLemmas.{first_stands}
 use Rattle.base_data.specs.declared.rdata.RData.{RData}
 use Rattle.rr.specs.Record.{FitsRecord, plain_record}
 use Rattle.rr.specs.declared.record.Record.{Record}

@@ -13,7 +13,7 @@ use Rattle.base.specs.RecordType.{type_number}
 use Rattle.base.specs.Spelling.{ByteAt, anywhere, ends}
 use Rattle.base.specs.Words.{NameAt, Number, Sized, Stands, Then, none}
 use Rattle.base.specs.declared.record_type.RecordType.TheVariants as types
-use Rattle.base.proofs.WordLemmas.{first_stands, stands_byte, stands_part}
+use Rattle.base.specs.WordLemmas.{first_stands, stands_byte, stands_part}
 use Rattle.base.specs.Written.{Writing, after, both, in_turn, just, name, sized}
 use Rattle.base.proofs.WrittenLemmas.{after-both}
 use Rattle.base_data.specs.Kinds.{DataWord, data_written, plain_data, type_of_data}

@@ -2,7 +2,7 @@
 use Rattle.std.proofs.Common.{◌≡◌, ℕ, ◌+◌, ◌*◌, ◌/◌, ◌%◌, ◌<◌, Bool, true, false, List, [], ◌∷◌, ◌++◌, refl, arith, lit<}
 use Rattle.std.specs.Int.{w16, to_be_bytes, from_bool}
 use Rattle.base.specs.Words.{Stands}
-use Rattle.base.proofs.WordLemmas.{first_stands, number16_stands, stands_byte, stands_part}
+use Rattle.base.specs.WordLemmas.{first_stands, number16_stands, stands_byte, stands_part}
 use Rattle.op.specs.Header.{IsNarrow, IsRawHeaderAt, HeaderWord, RawHeader, bit_of, high_byte, low_byte, header_bytes, raw_header}
 use Rattle.op.specs.declared.header.Header.{Header}
 use Rattle.op.proofs.BitLemmas.{weighed_is, from_bool_small}

@@ -4,7 +4,7 @@ use Rattle.std.proofs.lemmas.List.{append-nil}
 use Rattle.std.proofs.lemmas.Bool.{cases_lt, le-leb, lt-leb}
 use Rattle.base.specs.State.{State, Stored}
 use Rattle.base.specs.Written.{Writing, after, in_turn, that_fit}
-use Rattle.base.proofs.WrittenLaws.{Fits-front}
+use Rattle.base.proofs.FittingLemmas.{Fits-front}
 
 module _ {A : Type 0} (f : A → Writing) where
   -- all that have room together fit

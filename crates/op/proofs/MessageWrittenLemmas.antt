@@ -10,7 +10,7 @@ use Rattle.base.specs.State.{State, Stored, appended, overwritten}
 use Rattle.base.specs.declared.error.proto_error.ProtoError.{ProtoError}
 use Rattle.base.specs.Written.{Piece, Writing, piece_at, after, both, fitting, in_turn, just, that_fit, Passes}
 use Rattle.base.proofs.ItemLemmas.{Each-keeps}
-use Rattle.base.proofs.WrittenLaws.{Fits-front}
+use Rattle.base.proofs.FittingLemmas.{Fits-front}
 use Rattle.base.proofs.WrittenLemmas.{after-both}
 use Rattle.rr.specs.Record.{record_written}
 use Rattle.op.specs.Cut.{any_lost, raised}

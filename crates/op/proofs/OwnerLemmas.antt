@@ -10,7 +10,8 @@ use Rattle.base.specs.State.{State, Stored}
 use Rattle.base.specs.Words.{BackToBack}
 use Rattle.base.specs.Words.BackToBack.{none, more}
 use Rattle.base.proofs.ItemLemmas.{Each-keeps}
-use Rattle.base.proofs.LawLemmas.{Holds-first, Holds-second, any_append}
+use Rattle.base.specs.SaysParts.{any_append}
+use Rattle.base.proofs.LawLemmas.{Holds-first, Holds-second}
 use Rattle.base.proofs.SpellingLemmas.{spelled_once}
 use Rattle.op.specs.Cut.{AreCompressed, IsCompressed, Owner, owners_by}
 

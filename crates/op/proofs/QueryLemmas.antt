@@ -12,7 +12,7 @@ use Rattle.base.specs.State.{State, appended}
 use Rattle.base.specs.declared.error.proto_error.ProtoError.{ProtoError}
 use Rattle.base.specs.Reading.{Read, number_at}
 use Rattle.base.proofs.LawLemmas.{Writes-either}
-use Rattle.base.proofs.WordLemmas.{first_stands, number16_stands, stands_part}
+use Rattle.base.specs.WordLemmas.{first_stands, number16_stands, stands_part}
 use Rattle.base.specs.RecordType.{type_number, type_of}
 use Rattle.base.specs.Spelling.{IsNameAt}
 use Rattle.base.specs.Words.{IsNumberAt, NameAt, Number, Stands, Then}

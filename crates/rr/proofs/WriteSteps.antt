@@ -10,7 +10,7 @@ use Rattle.base.specs.Wire.{Refuses}
 use Rattle.base.specs.Words.{Number, Stands, Then}
 use Rattle.base.proofs.LawLemmas.{Writes-either}
 use Rattle.base.proofs.RefusalLemmas.{Refuses-earlier}
-use Rattle.base.proofs.WordLemmas.{first_stands, number16_stands, number32_stands, stands_part}
+use Rattle.base.specs.WordLemmas.{first_stands, number16_stands, number32_stands, stands_part}
 
 -- the bytes of type, class and TTL
 abbrev pub field_bytes : ℕ → ℕ → ℕ → List ℕ

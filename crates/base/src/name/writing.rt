@@ -1,10 +1,11 @@
 //! Writes a name (RFC 1035, 4.1.4).
 
 ghost use Rattle.std.specs.Prelude.{◌≡◌, [], ◌∷◌, ◌++◌, OnOk};
-ghost use Rattle.base.specs.Labels.{plain_len, wire_of};
-ghost use Rattle.base.specs.Laws.{Keeps, Writes, StoresSuffixes};
+ghost use Rattle.base.specs.Labels.{AreNameLabels, plain_len, wire_of};
+ghost use Rattle.base.specs.Laws.{Keeps};
+ghost use Rattle.base.specs.SaysName.{Says-name};
 ghost use Rattle.base.specs.State.{appended};
-ghost use Rattle.base.specs.Wire.{state_of, Refuses};
+ghost use Rattle.base.specs.Wire.{state_of};
 ghost use Rattle.base.specs.Words.{NameAt};
 ghost use Rattle.base.specs.Written.{Exactly, name, plain_name};
 
@@ -22,9 +23,11 @@ impl BinEncodable for Name {
 
     ghost owner = { λ n. n.labels };
 
-    ghost names = { λ n. StoresSuffixes n.labels };
-
     ghost written = { λ n. name n.labels };
+
+    ghost fits = { λ n. AreNameLabels n.labels };
+
+    ghost says = { λ n. Says-name n.labels };
 
     /// Writes the name, letters as they are; whether it is absolute isn't written.
     ///
@@ -58,9 +61,7 @@ impl Name {
     pub fn emit_plain(&self, encoder: &mut BinEncoder<'_>) -> Result<(), ProtoError>
         ensures state { OnOk result (state_of encoder.new ≡ appended (wire_of self.now.labels ++ 0 ∷ []) (state_of encoder.old)) }
         ensures keeps { Keeps (state_of encoder.old) (state_of encoder.new) }
-        ensures writes { OnOk result (Writes (NameAt self.now.labels) (plain_len self.now.labels) []
-            (state_of encoder.old) (state_of encoder.new)) }
-        ensures refuses { Refuses (plain_len self.now.labels) (state_of encoder.old) result }
+        ensures fits { OnOk result (AreNameLabels self.now.labels) }
         ensures exact { Exactly (plain_name self.now.labels)
             (state_of encoder.old) (state_of encoder.new) result }
     {

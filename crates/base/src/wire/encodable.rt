@@ -1,7 +1,8 @@
 //! Values that can be written.
 
-ghost use Rattle.std.specs.Prelude.{◌≡◌, []};
+ghost use Rattle.std.specs.Prelude.{◌≡◌, ◌<◌, ◌^◌, []};
 ghost use Rattle.std.specs.Int.{w16, to_be_bytes};
+ghost use Rattle.base.specs.SaysParts.{Says-number};
 ghost use Rattle.base.specs.Words.{Number};
 ghost use Rattle.base.specs.Written.{just};
 
@@ -12,13 +13,16 @@ use crate::wire::encoder::BinEncoder;
 ///
 /// `word` relates a buffer to the places where what is written of the value begins and ends there,
 /// `plain_len` is how many bytes it takes with every name uncompressed, `owner` are the labels of the name
-/// of a question or record, none for all else, and `names` says how its names are written, nothing where it
-/// has none.
+/// of a question or record, none for all else. `written` are the bytes, and the suffixes stored after them, by the place
+/// where they begin and the suffixes stored until then. `fits` is what the type keeps of the value: that its numbers
+/// are in range, and its labels those of names.
+///
+/// That what is written is the word, has at most as many bytes and compresses the owner is a law of `written`, by itself.
 pub trait BinEncodable {
     ghost use Rattle.std.specs.Prelude.{ℕ, List, [], OnOk};
-    ghost use Rattle.base.specs.Laws.{Keeps, Writes};
-    ghost use Rattle.base.specs.State.{State};
-    ghost use Rattle.base.specs.Wire.{state_of, Refuses};
+    ghost use Rattle.base.specs.Laws.{Keeps};
+    ghost use Rattle.base.specs.Says.{Says};
+    ghost use Rattle.base.specs.Wire.{state_of};
     ghost use Rattle.base.specs.Written.{Writing, Exactly};
 
     ghost word: { Self → List ℕ → ℕ → ℕ → Type 0 };
@@ -27,9 +31,9 @@ pub trait BinEncodable {
 
     ghost owner: { Self → List (List ℕ) } = { λ _. [] };
 
-    ghost names: { Self → State → State → Type 0 } = { λ _ _ _. Unit {0} };
-
     ghost written: { Self → Writing };
+
+    ghost fits: { Self → Type 0 };
 
     /// Writes the value behind what the encoder holds (RFC 1035, 4.1).
     ///
@@ -37,12 +41,11 @@ pub trait BinEncodable {
     /// stood before stays.
     fn emit(&self, encoder: &mut BinEncoder<'_>) -> Result<(), ProtoError>
         ensures keeps { Keeps (state_of encoder.old) (state_of encoder.new) }
-        ensures writes { OnOk result (Writes (word self.now) (plain_len self.now) (owner self.now)
-            (state_of encoder.old) (state_of encoder.new)) }
-        ensures refuses { Refuses (plain_len self.now) (state_of encoder.old) result }
-        ensures names { OnOk result (names self.now (state_of encoder.old) (state_of encoder.new)) }
+        ensures fits { OnOk result (fits self.now) }
         ensures exact { Exactly (written self.now)
             (state_of encoder.old) (state_of encoder.new) result };
+
+    ghost says: { (x : Self) → Says (written x) (fits x) (word x) (plain_len x) (owner x) };
 }
 
 /// A value that takes as many bytes whatever it is, so that room can be kept for it.
@@ -71,6 +74,10 @@ impl BinEncodable for u16 {
 
     ghost written = { λ n. just (to_be_bytes w16 n) };
 
+    ghost fits = { λ n. n < 2 ^ 16 };
+
+    ghost says = { Says-number };
+
     fn emit(&self, encoder: &mut BinEncoder<'_>) -> Result<(), ProtoError> {
         let number = *self;
         encoder.emit_u16(number)
@@ -84,9 +91,11 @@ impl<E: BinEncodable> BinEncodable for &E {
 
     ghost owner = { λ e. E.owner e.now };
 
-    ghost names = { λ e. E.names e.now };
-
     ghost written = { λ e. E.written e.now };
+
+    ghost fits = { λ e. E.fits e.now };
+
+    ghost says = { λ e. E.says e.now };
 
     fn emit(&self, encoder: &mut BinEncoder<'_>) -> Result<(), ProtoError> {
         let value: &E = self;

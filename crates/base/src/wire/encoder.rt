@@ -21,6 +21,7 @@ pub struct BinEncoder<'a, T: HasSuffixes = SuffixTable> {
     buffer: &'a mut Vec<u8>,
     limit: u16,
     suffixes: T,
+    ghost narrow: { limit < 2 ^ 16 },
     ghost below: { All (λ t. t.offset < length buffer.now.items) (T.suffixes suffixes) },
 }
 

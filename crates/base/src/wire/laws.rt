@@ -1,12 +1,15 @@
 //! What is true of every decoder, and of all that is written under a limit.
 
-ghost use Rattle.std.specs.Prelude.{◌≡◌, ℕ, ◌+◌, ◌≤◌, List, ◌++◌, length};
+ghost use Rattle.std.specs.Prelude.{◌≡◌, ℕ, ◌+◌, ◌^◌, ◌<◌, ◌≤◌, List, ◌++◌, length, OnOk, Result};
 ghost use Rattle.std.specs.FinSet as set;
 ghost use Rattle.base.specs.Counts.{IsCounted, IsPassed};
+ghost use Rattle.base.specs.Laws.{Keeps, Writes};
 ghost use Rattle.base.specs.Passing.{AddsPassed, NamesPass};
 ghost use Rattle.base.specs.Reader.{Reader, begun};
 ghost use Rattle.base.specs.State.{State, Stored};
-ghost use Rattle.base.specs.Written.{in_turn, that_fit, after, fitting, Passes};
+ghost use Rattle.base.specs.Wire.{Refuses};
+ghost use Rattle.base.specs.Written.{in_turn, that_fit, after, fitting, Exactly, Passes};
+ghost use Rattle.base.specs.declared.error.proto_error.ProtoError.{ProtoError};
 
 use crate::wire::encodable::BinEncodable;
 
@@ -21,6 +24,16 @@ pub fn a_new_decoder_is_counted()
 /// tells their places.
 pub fn a_new_decoder_keeps_what_is_passed()
     ensures { (bytes names : List ℕ) (new : Reader) → AddsPassed names (begun bytes) new → (offsets : List ℕ) × NamesPass bytes names offsets × (new.kept ≡ set.from_list offsets) }
+{}
+
+/// What an emit wrote is the word of its value, has at most as many bytes as without compression, compresses the owner,
+/// and leaves each stored suffix spelled; and it is refused for the limit only where as many bytes would pass it.
+pub fn what_is_written_is_its_word<E: BinEncodable>()
+    ensures writes { (x : E) (a b : State) (answer : Result (Unit {0}) ProtoError) → Keeps a b → a.limit < 2 ^ 16
+        → OnOk answer (E.fits x) → Exactly (E.written x) a b answer
+        → OnOk answer (Writes (E.word x) (E.plain_len x) (E.owner x) a b) }
+    ensures refuses { (x : E) (a b : State) (answer : Result (Unit {0}) ProtoError)
+        → Exactly (E.written x) a b answer → Refuses (E.plain_len x) a answer }
 {}
 
 /// Of values that are written in turn under a limit, those that fit are the first of them, and the own bytes of the next

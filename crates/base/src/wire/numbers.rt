@@ -1,10 +1,11 @@
 //! Types and classes, each a number of two bytes (RFC 1035, 3.2.1 and 4.1.2).
 
-ghost use Rattle.std.specs.Prelude.{Ok};
+ghost use Rattle.std.specs.Prelude.{◌<◌, ◌^◌, Ok};
 ghost use Rattle.std.specs.Int.{w16, to_be_bytes};
 ghost use Rattle.base.specs.DNSClass.{class_number, class_of};
 ghost use Rattle.base.specs.Reading.{number_at, ◌>>=◌};
 ghost use Rattle.base.specs.RecordType.{type_number, type_of};
+ghost use Rattle.base.specs.SaysParts.{Says-number};
 ghost use Rattle.base.specs.Words.{Number};
 ghost use Rattle.base.specs.Written.{just};
 
@@ -22,6 +23,10 @@ impl BinEncodable for RecordType {
     ghost plain_len = { λ _. 2 };
 
     ghost written = { λ t. just (to_be_bytes w16 (type_number t)) };
+
+    ghost fits = { λ t. type_number t < 2 ^ 16 };
+
+    ghost says = { λ t. Says-number (type_number t) };
 
     #[inline(always)]
     fn emit(&self, encoder: &mut BinEncoder<'_>) -> Result<(), ProtoError> {
@@ -47,6 +52,10 @@ impl BinEncodable for DNSClass {
     ghost plain_len = { λ _. 2 };
 
     ghost written = { λ c. just (to_be_bytes w16 (class_number c)) };
+
+    ghost fits = { λ c. class_number c < 2 ^ 16 };
+
+    ghost says = { λ c. Says-number (class_number c) };
 
     fn emit(&self, encoder: &mut BinEncoder<'_>) -> Result<(), ProtoError> {
         u16::from(*self).emit(encoder)

@@ -1,9 +1,8 @@
 //! Writes values behind their length.
 
-ghost use Rattle.std.specs.Prelude.{◌+◌, [], OnOk};
-ghost use Rattle.base.specs.Laws.{Keeps, Writes};
-ghost use Rattle.base.specs.Wire.{state_of, Refuses};
-ghost use Rattle.base.specs.Words.{Sized};
+ghost use Rattle.std.specs.Prelude.{OnOk};
+ghost use Rattle.base.specs.Laws.{Keeps};
+ghost use Rattle.base.specs.Wire.{state_of};
 ghost use Rattle.base.specs.Written.{Exactly, sized};
 
 use crate::error::ProtoError;
@@ -19,9 +18,7 @@ pub fn emit_sized<R: BinEncodable>(
     encoder: &mut BinEncoder<'_>,
 ) -> Result<(), ProtoError>
     ensures keeps { Keeps (state_of encoder.old) (state_of encoder.new) }
-    ensures writes { OnOk result (Writes (Sized (R.word value.now)) (2 + R.plain_len value.now) []
-        (state_of encoder.old) (state_of encoder.new)) }
-    ensures refuses { Refuses (2 + R.plain_len value.now) (state_of encoder.old) result }
+    ensures fits { OnOk result (R.fits value.now) }
     ensures exact { Exactly (sized (R.written value.now))
         (state_of encoder.old) (state_of encoder.new) result }
 {

@@ -1,9 +1,10 @@
 //! Addresses of four bytes.
 
-ghost use Rattle.std.specs.Prelude.{◌≡◌, Some, refl};
+ghost use Rattle.std.specs.Prelude.{◌≡◌, Some, refl, length};
 ghost use Rattle.std.specs.Net.Addr.{ipv4_octets};
 ghost use Rattle.std.specs.Net.Text.{ipv4_text};
 ghost use Rattle.base.specs.Words.{Bytes};
+ghost use Rattle.base.specs.SaysParts.{Says-bytes};
 ghost use Rattle.base.specs.Written.{just};
 ghost use Rattle.base_data.specs.A.{a_at, a_of};
 ghost use Rattle.base_data.specs.Kinds.{a_in};
@@ -58,9 +59,13 @@ impl fmt::Display for A {
 impl BinEncodable for A {
     ghost word = { λ a. Bytes a.octets };
 
-    ghost plain_len = { λ _. 4 };
+    ghost plain_len = { λ a. length a.octets };
 
     ghost written = { λ a. just a.octets };
+
+    ghost fits = { λ _. Unit {0} };
+
+    ghost says = { λ a. Says-bytes a.octets };
 
     /// Writes the four bytes (RFC 1035, 3.4.1).
     ///

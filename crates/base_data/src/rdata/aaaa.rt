@@ -1,9 +1,10 @@
 //! Addresses of sixteen bytes.
 
-ghost use Rattle.std.specs.Prelude.{◌≡◌, ◌+◌, ◌++◌, ◌≤◌, ℕ, List, Some, codes, take, drop, refl};
+ghost use Rattle.std.specs.Prelude.{◌≡◌, ◌+◌, ◌++◌, ◌≤◌, ℕ, List, Some, codes, take, drop, refl, length};
 ghost use Rattle.std.specs.Net.Addr.{ipv6_octets, ipv6_segments, segments_of};
 ghost use Rattle.std.specs.Net.Text.{groups_text};
 ghost use Rattle.base.specs.Words.{Bytes};
+ghost use Rattle.base.specs.SaysParts.{Says-bytes};
 ghost use Rattle.base.specs.Written.{just};
 ghost use Rattle.base_data.specs.AAAA.{AreZeros, IsFirstLongest, aaaa_at, aaaa_text, aaaa_of};
 ghost use Rattle.base_data.specs.Kinds.{aaaa_in};
@@ -60,9 +61,13 @@ impl fmt::Display for AAAA {
 impl BinEncodable for AAAA {
     ghost word = { λ a. Bytes a.octets };
 
-    ghost plain_len = { λ _. 16 };
+    ghost plain_len = { λ a. length a.octets };
 
     ghost written = { λ a. just a.octets };
+
+    ghost fits = { λ _. Unit {0} };
+
+    ghost says = { λ a. Says-bytes a.octets };
 
     /// Writes the sixteen bytes (RFC 3596, 2.2).
     ///

@@ -1,7 +1,6 @@
 //! Names whose addresses another name has too.
 
 ghost use Rattle.std.specs.Prelude.{◌≡◌, Some, refl};
-ghost use Rattle.base.specs.Laws.{Writes};
 ghost use Rattle.base_data.specs.ANAME.{aname_at, aname_kind, aname_of};
 ghost use Rattle.base_data.specs.Kinds.{aname_in};
 ghost use Rattle.base_data.specs.OneName.{own_place};
@@ -71,9 +70,11 @@ impl BinEncodable for ANAME {
 
     ghost plain_len = { λ x. (aname_kind x).plain };
 
-    ghost names = { λ x. (aname_kind x).names };
-
     ghost written = { λ x. (aname_kind x).written };
+
+    ghost fits = { λ x. (aname_kind x).kept };
+
+    ghost says = { λ x. (aname_kind x).says };
 
     /// Writes the name without compression (RFC 3597, 4).
     ///

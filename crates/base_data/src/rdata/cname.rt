@@ -1,7 +1,6 @@
 //! Aliases.
 
 ghost use Rattle.std.specs.Prelude.{◌≡◌, Some, refl};
-ghost use Rattle.base.specs.Laws.{Writes};
 ghost use Rattle.base_data.specs.CNAME.{cname_at, cname_kind, cname_of};
 ghost use Rattle.base_data.specs.Kinds.{cname_in};
 ghost use Rattle.base_data.specs.OneName.{own_place};
@@ -71,9 +70,11 @@ impl BinEncodable for CNAME {
 
     ghost plain_len = { λ x. (cname_kind x).plain };
 
-    ghost names = { λ x. (cname_kind x).names };
-
     ghost written = { λ x. (cname_kind x).written };
+
+    ghost fits = { λ x. (cname_kind x).kept };
+
+    ghost says = { λ x. (cname_kind x).says };
 
     /// Writes the name with compression (RFC 1035, 3.3.1 and 4.1.4).
     ///

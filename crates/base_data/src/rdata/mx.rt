@@ -1,8 +1,7 @@
 //! Hosts that take mail.
 
 ghost use Rattle.std.specs.Prelude.{◌≡◌, Some, refl};
-ghost use Rattle.base.specs.Laws.{Writes};
-ghost use Rattle.base_data.specs.MX.{CompressesMX, MXWord, mx_at, mx_kind, mx_of, mx_places, mx_text, plain_mx};
+ghost use Rattle.base_data.specs.MX.{MXWord, mx_at, mx_kind, mx_of, mx_places, mx_text, plain_mx};
 ghost use Rattle.base_data.specs.Kinds.{mx_in};
 ghost use Rattle.base_data.specs.declared.rdata.RData.TheVariants as kinds;
 
@@ -94,7 +93,9 @@ impl BinEncodable for MX {
 
     ghost written = { λ x. (mx_kind x).written };
 
-    ghost names = { CompressesMX };
+    ghost fits = { λ x. (mx_kind x).kept };
+
+    ghost says = { λ x. (mx_kind x).says };
 
     /// Writes the fields one behind the other, names with compression (RFC 1035, 3.3.9 and 4.1.4).
     ///

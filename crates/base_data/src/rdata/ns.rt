@@ -1,7 +1,6 @@
 //! Authoritative servers.
 
 ghost use Rattle.std.specs.Prelude.{◌≡◌, Some, refl};
-ghost use Rattle.base.specs.Laws.{Writes};
 ghost use Rattle.base_data.specs.NS.{ns_at, ns_kind, ns_of};
 ghost use Rattle.base_data.specs.Kinds.{ns_in};
 ghost use Rattle.base_data.specs.OneName.{own_place};
@@ -71,9 +70,11 @@ impl BinEncodable for NS {
 
     ghost plain_len = { λ x. (ns_kind x).plain };
 
-    ghost names = { λ x. (ns_kind x).names };
-
     ghost written = { λ x. (ns_kind x).written };
+
+    ghost fits = { λ x. (ns_kind x).kept };
+
+    ghost says = { λ x. (ns_kind x).says };
 
     /// Writes the name with compression (RFC 1035, 3.3.11 and 4.1.4).
     ///

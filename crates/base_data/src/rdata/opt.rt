@@ -1,11 +1,11 @@
 //! EDNS options.
 
-ghost use Rattle.std.specs.Prelude.{◌≡◌, IsOkUnless, OnOk, OnErr, position, refl, Some};
+ghost use Rattle.std.specs.Prelude.{◌≡◌, IsOkUnless, OnOk, OnErr, position, refl, Some, All};
 ghost use Rattle.std.specs.Cmp.{partial_equiv_from_equiv};
 ghost use Rattle.std.specs.Option.{option_copied};
 ghost use Rattle.base.specs.Reading.{Reads};
 ghost use Rattle.base.specs.Written.{in_turn};
-ghost use Rattle.base_data.specs.OPT.{first_option, has_code, opt_at, option_written, options_len, options_word, same_options, with_option, without_code};
+ghost use Rattle.base_data.specs.OPT.{FitsOption, first_option, has_code, opt_at, option_written, options_len, options_say, options_word, same_options, with_option, without_code};
 ghost use Rattle.base_data.specs.Kinds.{opt_in};
 ghost use Rattle.base_data.specs.Equality.{same_options-equiv};
 ghost use Rattle.base_data.specs.declared.rdata.RData.TheVariants as kinds;
@@ -143,6 +143,10 @@ impl BinEncodable for OPT {
     ghost plain_len = { options_len };
 
     ghost written = { in_turn option_written };
+
+    ghost fits = { All FitsOption };
+
+    ghost says = { options_say };
 
     /// Writes each option: its code, the number of its bytes, and its bytes (RFC 6891, 6.1.2).
     ///

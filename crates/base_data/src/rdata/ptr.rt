@@ -1,7 +1,6 @@
 //! Pointers to names.
 
 ghost use Rattle.std.specs.Prelude.{◌≡◌, Some, refl};
-ghost use Rattle.base.specs.Laws.{Writes};
 ghost use Rattle.base_data.specs.PTR.{ptr_at, ptr_kind, ptr_of};
 ghost use Rattle.base_data.specs.Kinds.{ptr_in};
 ghost use Rattle.base_data.specs.OneName.{own_place};
@@ -71,9 +70,11 @@ impl BinEncodable for PTR {
 
     ghost plain_len = { λ x. (ptr_kind x).plain };
 
-    ghost names = { λ x. (ptr_kind x).names };
-
     ghost written = { λ x. (ptr_kind x).written };
+
+    ghost fits = { λ x. (ptr_kind x).kept };
+
+    ghost says = { λ x. (ptr_kind x).says };
 
     /// Writes the name with compression (RFC 1035, 3.3.12 and 4.1.4).
     ///

@@ -1,8 +1,7 @@
 //! Starts of zones.
 
 ghost use Rattle.std.specs.Prelude.{◌≡◌, Some, refl};
-ghost use Rattle.base.specs.Laws.{Writes};
-ghost use Rattle.base_data.specs.SOA.{CompressesSOA, SOAFits, SOAWord, plain_soa, soa_at, soa_kind, soa_numbers, soa_of, soa_places, soa_text};
+ghost use Rattle.base_data.specs.SOA.{SOAFits, SOAWord, plain_soa, soa_at, soa_kind, soa_numbers, soa_of, soa_places, soa_text};
 ghost use Rattle.base_data.specs.Kinds.{soa_in};
 ghost use Rattle.base_data.specs.declared.rdata.RData.TheVariants as kinds;
 
@@ -155,7 +154,9 @@ impl BinEncodable for SOA {
 
     ghost written = { λ x. (soa_kind x).written };
 
-    ghost names = { CompressesSOA };
+    ghost fits = { λ x. (soa_kind x).kept };
+
+    ghost says = { λ x. (soa_kind x).says };
 
     /// Writes the fields one behind the other, names with compression (RFC 1035, 3.3.13 and 4.1.4).
     ///

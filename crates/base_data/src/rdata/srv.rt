@@ -1,7 +1,6 @@
 //! Hosts that have a service.
 
 ghost use Rattle.std.specs.Prelude.{◌≡◌, Some, refl};
-ghost use Rattle.base.specs.Laws.{Writes};
 ghost use Rattle.base_data.specs.SRV.{SRVFits, SRVWord, plain_srv, srv_at, srv_kind, srv_numbers, srv_of, srv_places, srv_text};
 ghost use Rattle.base_data.specs.Kinds.{srv_in};
 ghost use Rattle.base_data.specs.declared.rdata.RData.TheVariants as kinds;
@@ -111,7 +110,9 @@ impl BinEncodable for SRV {
 
     ghost written = { λ x. (srv_kind x).written };
 
-    ghost names = { λ x. (srv_kind x).names };
+    ghost fits = { λ x. (srv_kind x).kept };
+
+    ghost says = { λ x. (srv_kind x).says };
 
     /// Writes the fields one behind the other, the name without compression (RFC 2782; RFC 3597, 4).
     ///

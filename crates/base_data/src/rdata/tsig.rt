@@ -4,6 +4,7 @@ ghost use Rattle.std.specs.Prelude.{◌≡◌, ◌≢◌, ◌<◌, [], Some, len
 ghost use Rattle.std.specs.Cmp.{partial_equiv_from_equiv};
 ghost use Rattle.base.specs.Reading.{Reads, bytes_at};
 ghost use Rattle.base.specs.Words.{Bytes};
+ghost use Rattle.base.specs.SaysParts.{Says-bytes};
 ghost use Rattle.base.specs.Written.{just};
 ghost use Rattle.base_data.specs.Opaque.{opaque_text, same_bytes};
 ghost use Rattle.base_data.specs.Kinds.{tsig_in};
@@ -104,6 +105,10 @@ impl BinEncodable for TSIG {
     ghost plain_len = { length };
 
     ghost written = { just };
+
+    ghost fits = { λ _. Unit {0} };
+
+    ghost says = { Says-bytes };
 
     /// Writes the bytes as they are (RFC 8945, 4.2).
     ///

@@ -5,6 +5,7 @@ ghost use Rattle.std.specs.Cmp.{partial_equiv_from_equiv};
 ghost use Rattle.base.specs.Labels.{wire_of, labels_of};
 ghost use Rattle.base.specs.Reading.{Reads};
 ghost use Rattle.base.specs.Words.{Bytes};
+ghost use Rattle.base.specs.SaysParts.{Says-bytes};
 ghost use Rattle.base.specs.Written.{just};
 ghost use Rattle.base_data.specs.TXT.{AreShort, are_strings, same_txt, txt_at, txt_of};
 ghost use Rattle.base_data.specs.Kinds.{txt_in};
@@ -157,6 +158,10 @@ impl BinEncodable for TXT {
     ghost plain_len = { λ t. length (wire_of t) };
 
     ghost written = { λ t. just (wire_of t) };
+
+    ghost fits = { λ _. Unit {0} };
+
+    ghost says = { λ t. Says-bytes (wire_of t) };
 
     /// Writes each string behind its length (RFC 1035, 3.3 and 3.3.14).
     ///

@@ -3,7 +3,7 @@
 ghost use Rattle.std.specs.Prelude.{◌≡◌, ◌≤◌, length};
 ghost use Rattle.std.specs.Cmp.{partial_equiv_from_equiv};
 ghost use Rattle.base_data.specs.Equality.{same_option-equiv};
-ghost use Rattle.base_data.specs.OPT.{option_at, option_len, option_word, option_written, same_option};
+ghost use Rattle.base_data.specs.OPT.{FitsOption, option_at, option_len, option_says, option_word, option_written, same_option};
 
 use crate::rdata::emit::emit_bytes;
 use base::{BinDecodable, BinDecoder, BinEncodable, BinEncoder, DecodeError, ProtoError};
@@ -84,6 +84,10 @@ impl BinEncodable for EdnsOption {
     ghost plain_len = { option_len };
 
     ghost written = { option_written };
+
+    ghost fits = { FitsOption };
+
+    ghost says = { option_says };
 
     /// Writes the code, the number of the bytes, and the bytes (RFC 6891, 6.1.2).
     ///

@@ -8,7 +8,7 @@ use Rattle.base.specs.Wire.{state_of}
 use Rattle.base.specs.Written.{after, just, label_of, name, pointer}
 use Rattle.base.proofs.LabelLemmas.{IsWire-wire_of}
 use Rattle.base.proofs.LawLemmas.{Keeps-same, Keeps-then, Keeps-either}
-use Rattle.base.proofs.WrittenLaws.{Says-name, Exactly-stores, Exactly-writes-few, Keeps-label, Says-refuses}
+use Rattle.base.proofs.SaysLemmas.{Keeps-label}
 use Rattle.base.proofs.WrittenLemmas.{Exactly-from, Exactly-just, Exactly-refused, name-pointer, name-label, name-root, label-after, label-fits}
 use Rattle.base.proofs.name.writing.NameBinEncodable.emit.Goals as goal
 
@@ -78,36 +78,3 @@ returns-clause-keeps c =
 pub returns-in-Some-find-clause-keeps : goal.returns-in-Some-find-clause-keeps
 returns-in-Some-find-clause-keeps c =
     Keeps-then c.loop-label.invariant.keeps (Keeps-either c.emit_u16.result (to_be_bytes w16 (49152 + c.in-Some-find.offset)) _ _ c.emit_u16.ensures.ok c.emit_u16.ensures.err c.emit_u16.ensures.within)
-
--- ---- and what follows from that
-
-pub returns-in-Some-find-clause-writes : goal.returns-in-Some-find-clause-writes
-returns-in-Some-find-clause-writes c =
-    let wire = c.as_wire-rest.ensures in
-    Exactly-writes-few c.emit_u16.result (name c.args.self.now.labels) (state_of c.args.encoder.now) _ (Says-name c.args.self.now.labels wire.labels wire.plain) (returns-in-Some-find-clause-exact c) (omega (arith, wire.plain))
-
-pub returns-in-Some-find-clause-names : goal.returns-in-Some-find-clause-names
-returns-in-Some-find-clause-names c = Exactly-stores c.emit_u16.result c.args.self.now.labels (state_of c.args.encoder.now) _ (returns-in-Some-find-clause-exact c)
-
-pub returns-clause-names : goal.returns-clause-names
-returns-clause-names c = Exactly-stores c.emit.result c.args.self.now.labels (state_of c.args.encoder.now) _ (returns-clause-exact c)
-
-pub returns-clause-writes : goal.returns-clause-writes
-returns-clause-writes c =
-    let wire = c.as_wire-rest.ensures in
-    Exactly-writes-few c.emit.result (name c.args.self.now.labels) (state_of c.args.encoder.now) _ (Says-name c.args.self.now.labels wire.labels wire.plain) (returns-clause-exact c) (omega (arith, wire.plain))
-
-pub returns-in-Some-find-clause-refuses : goal.returns-in-Some-find-clause-refuses
-returns-in-Some-find-clause-refuses c =
-    let wire = c.as_wire-rest.ensures in
-    Says-refuses c.emit_u16.result (name c.args.self.now.labels) (state_of c.args.encoder.now) _ (Says-name c.args.self.now.labels wire.labels wire.plain) (returns-in-Some-find-clause-exact c)
-
-pub returns-clause-refuses : goal.returns-clause-refuses
-returns-clause-refuses c =
-    let wire = c.as_wire-rest.ensures in
-    Says-refuses c.emit.result (name c.args.self.now.labels) (state_of c.args.encoder.now) _ (Says-name c.args.self.now.labels wire.labels wire.plain) (returns-clause-exact c)
-
-pub returns-in_err-emit_slice-clause-refuses : goal.returns-in_err-emit_slice-clause-refuses
-returns-in_err-emit_slice-clause-refuses c =
-    let wire = c.as_wire-rest.ensures in
-    Says-refuses c.from_residual.result (name c.args.self.now.labels) (state_of c.args.encoder.now) _ (Says-name c.args.self.now.labels wire.labels wire.plain) (returns-in_err-emit_slice-clause-exact c)

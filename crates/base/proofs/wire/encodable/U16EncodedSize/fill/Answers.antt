@@ -1,4 +1,4 @@
-use Rattle.base.proofs.WordLemmas.{number16_stands}
+use Rattle.base.specs.WordLemmas.{number16_stands}
 use Rattle.std.proofs.Common.{refl, arith}
 use Rattle.base.proofs.wire.encodable.U16EncodedSize.fill.Goals as goal
 

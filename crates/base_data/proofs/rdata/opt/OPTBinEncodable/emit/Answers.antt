@@ -1,28 +1,18 @@
-use Rattle.std.proofs.Common.{◌<◌, ◌≡◌, Err, ap, sym, get_or, length, take, ◌∙◌, arith}
+use Rattle.std.proofs.Common.{◌<◌, ◌≡◌, Err, ap, refl, subst, sym, get_or, length, take, ◌∙◌, arith}
+use Rattle.std.proofs.lemmas.List.Elements.{All-nil, All-more}
 use Rattle.std.proofs.lemmas.Result.{err_from_is_err_and}
-use Rattle.base.proofs.LawLemmas.{Keeps-then}
+use Rattle.base.proofs.LawLemmas.{Keeps-same, Keeps-then}
 use Rattle.base.proofs.WrittenLemmas.{Exactly-in_turn, after-more, after-none}
 use Rattle.base.specs.Wire.{state_of}
 use Rattle.base.specs.Written.{after, in_turn}
-use Rattle.base_data.specs.OPT.{option_written}
-use Rattle.base_data.proofs.OptionLemmas.{written_none, written_more, refused_all}
+use Rattle.base_data.specs.OPT.{FitsOption, option_written}
 use Rattle.base_data.proofs.rdata.opt.OPTBinEncodable.emit.Goals as goal
 
 pub loop-option-init : goal.loop-option-init
-loop-option-init c = record { words = written_none _; exact = sym (after-none (state_of c.args.encoder.now)) }
+loop-option-init c = record { keeps = Keeps-same _ _ refl; fits = All-nil FitsOption; exact = sym (after-none (state_of c.args.encoder.now)) }
 
 pub returns-in_err-emit-clause-keeps : goal.returns-in_err-emit-clause-keeps
-returns-in_err-emit-clause-keeps c = Keeps-then c.loop-option.invariant.words.keeps c.in_err-emit.ensures.keeps
-
-pub returns-in_err-emit-clause-refuses : goal.returns-in_err-emit-clause-refuses
-returns-in_err-emit-clause-refuses c =
-    let p = err_from_is_err_and c.from_residual.result c.from_residual.ensures.1 in
-    let same : c.deref-option-items.result.now ≡ c.args.self.now = c.deref-option-items.ensures.value ∙ c.self.view_is in
-    let i = c.loop-option.option-index in
-    let option = c.option-item.result in
-    let inside : i < length c.args.self.now = omega (arith, c.loop-option-test.true, ap length same) in
-    rw (p.1, p.2) (refused_all c.args.self.now i option c.in_err-emit.field-0.0 _ _ inside
-    (c.option-item.is ∙ ap (λ xs. get_or xs i option) same) c.loop-option.invariant.words c.in_err-emit.ensures.refuses)
+returns-in_err-emit-clause-keeps c = Keeps-then c.loop-option.invariant.keeps c.in_err-emit.ensures.keeps
 
 pub loop-option-preserved : goal.loop-option-preserved
 loop-option-preserved c =
@@ -32,7 +22,8 @@ loop-option-preserved c =
     let inside : i < length c.args.self.now = omega (arith, c.loop-option-test.true, ap length same) in
     let at = c.option-item.is ∙ ap (λ xs. get_or xs i option) same in
     record {
-      words = written_more c.args.self.now inside at c.loop-option.invariant.words c.in_ok-emit.ensures.keeps c.in_ok-emit.ensures.writes;
+      keeps = Keeps-then c.loop-option.invariant.keeps c.in_ok-emit.ensures.keeps;
+      fits = All-more FitsOption c.args.self.now i option inside c.loop-option.invariant.fits (subst FitsOption at c.in_ok-emit.ensures.fits);
       exact = c.in_ok-emit.ensures.exact ∙ ap (after (option_written option)) c.loop-option.invariant.exact ∙ sym (after-more option_written c.args.self.now i option (state_of c.args.encoder.now) inside at);
     }
 

@@ -7,6 +7,7 @@ use Rattle.base.specs.Wire.{state_of, Refuses}
 use Rattle.base.specs.Written.{Exactly, after, piece_at}
 use Rattle.base.proofs.LawLemmas.{Keeps-then}
 use Rattle.base.proofs.ItemLemmas.{cut-Keeps, Each-keeps, Each-push, Each-valid}
+use Rattle.base.proofs.SaysLemmas.{Says-writes}
 use Rattle.base.proofs.WrittenLemmas.{after-none, after-push}
 use Rattle.base.proofs.wire.encoder.items.BinEncoder.emit_all.Goals as goal
 
@@ -25,10 +26,10 @@ returns-in-MaxBufferSizeExceeded g c =
     ∙ ap (λ (n : ℕ). cut (length (state_of c.loop-item.self).bytes) n (state_of c.emit.new.encoder)) c.mark-mark.ensures.count
     ∙ cut-Keeps _ _ c.in-Err.ensures.keeps in
     let is = subst (λ (s : State). EachWritten g.E.BinEncodable.word g.E.BinEncodable.plain_len g.E.BinEncodable.owner c.loop-item.yielded (state_of c.args.self.now) s) (sym rolled) each in
-    let full : c.loop-item.self.limit < length c.loop-item.self.buffer.now.items + g.E.BinEncodable.plain_len c.in-Some.item =
-    subst (λ (e : ProtoError). Refuses {X = ℕ} (g.E.BinEncodable.plain_len c.in-Some.item) (state_of c.loop-item.self) (Err e)) c.in-MaxBufferSizeExceeded.is c.in-Err.ensures.refuses in
     let passes : c.loop-item.self.limit < length c.loop-item.self.buffer.now.items + length (piece_at (g.E.BinEncodable.written c.in-Some.item) (state_of c.loop-item.self)).bytes =
     subst (λ (e : ProtoError). Exactly {X = Unit {0}} (g.E.BinEncodable.written c.in-Some.item) (state_of c.loop-item.self) (state_of c.emit.new.encoder) (Err e)) c.in-MaxBufferSizeExceeded.is c.in-Err.ensures.exact in
+    let full : c.loop-item.self.limit < length c.loop-item.self.buffer.now.items + g.E.BinEncodable.plain_len c.in-Some.item =
+    omega (arith, passes, (g.met.E.BinEncodable.says c.in-Some.item).at_most (length c.loop-item.self.buffer.now.items) c.loop-item.self.suffixes) in
     let stopped : EmitsAll g.E.BinEncodable.word g.E.BinEncodable.plain_len g.E.BinEncodable.owner g.E.BinEncodable.written g.I.Iterator.next_gives c.args.items.now c.next.new.self
     (state_of c.args.self.now) (state_of c.roll_back.new.self) (Err (refusals.NotAllRecordsWritten c.loop-item.count)) = (
       c.loop-item.yielded,
@@ -57,7 +58,8 @@ returns-in_default-error-clause-keeps g c =
 
 pub loop-item-preserved : goal.loop-item-preserved
 loop-item-preserved g c = record {
-  each = Each-push g.E.BinEncodable.word g.E.BinEncodable.plain_len g.E.BinEncodable.owner _ _ _ _ _ c.loop-item.invariant.each c.in-Ok.ensures.keeps c.in-Ok.ensures.writes;
+  each = Each-push g.E.BinEncodable.word g.E.BinEncodable.plain_len g.E.BinEncodable.owner _ _ _ _ _ c.loop-item.invariant.each c.in-Ok.ensures.keeps
+  (Says-writes (g.E.BinEncodable.written c.in-Some.item) (state_of c.loop-item.self) _ (g.met.E.BinEncodable.says c.in-Some.item) c.in-Ok.ensures.fits c.in-Ok.ensures.exact c.in-Ok.ensures.keeps.within c.loop-item.self.narrow);
   exact = c.in-Ok.ensures.exact ∙ ap (after (g.E.BinEncodable.written c.in-Some.item)) c.loop-item.invariant.exact ∙ sym (after-push g.E.BinEncodable.written _ c.in-Some.item (state_of c.args.self.now));
   counted = omega (arith, length-append {A = g.row.E.Denot});
   room = omega (arith, (c.in-Some.ensures.goes.on c.loop-item.iterator.1).2);

@@ -1,11 +1,16 @@
 -- Spellings that are written: a zero byte, a label, and a pointer (RFC 1035, 4.1.4).
-use Rattle.std.proofs.Common.{◌≡◌, ℕ, ◌+◌, ◌/◌, ◌%◌, ◌<◌, ◌≤◌, List, [], ◌∷◌, ◌++◌, length, ap, sym, ◌∙◌, subst, append_assoc, arith}
+use Rattle.std.proofs.Common.{◌≡◌, ℕ, ◌+◌, ◌/◌, ◌%◌, ◌<◌, ◌≤◌, List, [], ◌∷◌, ◌++◌, length, length-append, refl, ap, sym, ◌∙◌, subst, append_assoc, arith}
 use Rattle.std.proofs.lemmas.List.{append-nil}
 use Rattle.std.specs.Int.{w16, to_be_bytes}
-use Rattle.base.specs.Labels.{AreLabels, plain_len, wire_of}
+use Rattle.base.specs.Labels.{AreLabels, plain_len, size_of, wire_of}
 use Rattle.base.specs.Spelling.{ByteAt, BytesAt, ends, label, pointer, anywhere, target, Spelled}
 use Rattle.base.specs.Words.{Stands}
-use Rattle.base.proofs.WordLemmas.{first_stands, stands_inside, stands_at, stands_byte, stands_part}
+use Rattle.base.specs.WordLemmas.{first_stands, stands_inside, stands_at, stands_byte, stands_part}
+
+pub length-wire_of : (labels : List (List ℕ)) → length (wire_of labels) ≡ size_of labels
+unfolding wire_of
+length-wire_of [] = refl
+length-wire_of (x ∷ xs) = omega (arith, length-append x (wire_of xs), length-wire_of xs)
 
 -- a piece may begin later
 pub spelled_from_later : {B : List ℕ} {labels : List (List ℕ)} {s i e : ℕ} (t : ℕ) → s ≤ t → Spelled B labels s i e → Spelled B labels t i e
