@@ -38,6 +38,7 @@ pub mod SliceLemmas
 pub mod SpellingLemmas
 pub mod SuffixLemmas
 pub mod TailLemmas
+pub mod TakingLemmas
 pub mod TargetLemmas
 pub mod TextLawLemmas
 pub mod TextLemmas

@@ -6,7 +6,7 @@ use Rattle.std.specs.String.{string_bytes}
 use Rattle.base.specs.declared.error.parse_error.ParseError.{ParseError}
 use Rattle.base.specs.declared.error.parse_error.ParseError.TheVariants as refusals
 use Rattle.base.specs.declared.text.token.Token.{Token}
-use Rattle.base.specs.Tokens.{Element, Next, Unread, closes, ends, faulty, item_token, misplaced, one, token, value_of, within_line}
+use Rattle.base.specs.Tokens.{Element, Next, Unread, blank, closes, ends, eol, faulty, item_token, misplaced, one, token, value_of, within_line}
 
 -- A refusal is want of memory, which may come at any time, or the lexer's, and then this holds.
 abbrev pub Faults : ParseError → Type 0 → Type 0
@@ -19,6 +19,13 @@ abbrev pub AnswersNext : Result (Option Token) ParseError → Unread → Next �
 AnswersNext (Ok None) behind read = read ≡ ends
 AnswersNext (Ok (Some t)) behind read = read ≡ token (value_of t) behind
 AnswersNext (Err e) behind read = Faults e (read ≡ faulty)
+
+-- No memory is taken to cut this off: the end of the text, blanks at the beginning of a line, the end of a line.
+abbrev pub TakesNone : Next → Type 0
+TakesNone ends = Unit {0}
+TakesNone (token blank rest) = Unit {0}
+TakesNone (token eol rest) = Unit {0}
+TakesNone _ = ⊥
 
 -- What was cut off is this, or nothing can be.
 abbrev pub CutsOff : {A B : Type 0} → (A → B) → Result A ParseError → Option B → Type 0

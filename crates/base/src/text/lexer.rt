@@ -1,7 +1,7 @@
 //! Cuts zone text into tokens (RFC 1035, 5.1).
 
-ghost use Rattle.std.specs.Prelude.{◌≡◌, Some, false, slice_get, true};
-ghost use Rattle.base.specs.Cuts.{AnswersNext, AnswersToken, Stays};
+ghost use Rattle.std.specs.Prelude.{◌≡◌, IsTrue, Some, false, is_ok, slice_get, true};
+ghost use Rattle.base.specs.Cuts.{AnswersNext, AnswersToken, Stays, TakesNone};
 ghost use Rattle.base.specs.Tokens.{is_line_end, next, visible};
 
 use crate::error::ParseError;
@@ -49,11 +49,13 @@ impl<'a> Lexer<'a> {
     /// Refused with `Lexer` where the text can't be cut on: a `(` or an item that begins with `$` within
     /// parentheses, a `)` outside them, an item that begins with `$` and is none of `$ORIGIN`, `$INCLUDE` and
     /// `$TTL`, and the text's end within parentheses, in quotes or behind a backslash. Refused with `Memory`
-    /// for want of it. After `None` and after a refusal the lexer stands where it stood.
+    /// for want of it, which is never so at the end of the text, for blanks or at the end of a line. After `None` and
+    /// after a refusal the lexer stands where it stood.
     #[tactic(auto, unfolding(crate::specs::Tokens::next, crate::specs::Tokens::visible))]
     pub fn next_token(&mut self) -> Result<Option<Token>, ParseError>
         ensures value { AnswersNext result self.new (next self.old) }
         ensures stays { Stays result self.old self.new }
+        ensures certain { TakesNone (next self.old) → IsTrue (is_ok result) }
     {
         if self.at_line_start && begins_blank(self.rest) {
             self.rest = past_blanks(self.rest);
