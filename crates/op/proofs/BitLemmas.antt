@@ -4,6 +4,7 @@ use Rattle.std.specs.Prelude.{◌||◌}
 use Rattle.std.specs.Int.{from_bool}
 use Rattle.std.proofs.lemmas.Nat.{or_block, or_shifted}
 use Rattle.op.specs.Header.{bit_of, weighed, high_byte, low_byte}
+use Rattle.op.specs.HeaderSays.{weighed_is, from_bool_small}
 
 -- a number below the lowest bit of another
 or_below : (x y k m : ℕ) → x ≡ m * 2 ^ k → y < 2 ^ k → bit_or x y ≡ x + y
@@ -16,18 +17,10 @@ or_digits true false = refl
 or_digits false true = refl
 or_digits false false = refl
 
-pub weighed_is : (w : ℕ) (p : Bool) → weighed w p ≡ from_bool p * w
-weighed_is w true = omega arith
-weighed_is w false = omega arith
-
 digit_is : (d : ℕ) → d < 2 → d ≡ from_bool (nat_eq d 1)
 digit_is zero small = refl
 digit_is (suc zero) small = refl
 digit_is (suc (suc d)) small = absurd (omega arith)
-
-pub from_bool_small : (p : Bool) → from_bool p < 2
-from_bool_small true = lit< tt
-from_bool_small false = lit< tt
 
 or_top : (p q : Bool) (s : ℕ) → s < 2 ^ 7 → bit_or (from_bool p * 2 ^ 7 + 0) (from_bool q * 2 ^ 7 + s) ≡ from_bool (p || q) * 128 + s
 or_top p q s small =

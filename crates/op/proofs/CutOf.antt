@@ -30,7 +30,7 @@ use Rattle.op.specs.declared.header.metadata.Metadata.{Metadata}
 use Rattle.op.specs.declared.op_code.OpCode.{OpCode}
 use Rattle.op.proofs.CodeLemmas.{high_back, metadata_back}
 use Rattle.op.proofs.CutWords.{AreFit, Composed, Ends, all_front, composed, ends, header_len, records_keep, stands_behind}
-use Rattle.op.proofs.HeaderLemmas.{header_stands}
+use Rattle.op.specs.HeaderSays.{header_stands}
 use Rattle.op.proofs.MessageStands.{message_again}
 use Rattle.op.proofs.SortLemmas.{OneFront, all_end, all_given, one_front, one_opt, sorted_edns, sorted_records, sorted_signature, tail}
 use Rattle.op.proofs.WordsBack.{edns_fits}

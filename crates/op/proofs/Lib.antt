@@ -7,7 +7,6 @@ pub mod EdnsLemmas
 pub mod EmittedLemmas
 pub mod FrontLemmas
 pub mod Equals
-pub mod HeaderLemmas
 pub mod HeaderReading
 pub mod HeaderRoom
 pub mod Orders

@@ -7,11 +7,9 @@ use Rattle.std.proofs.lemmas.Bool.{le-leb, lt-leb}
 use Rattle.base.specs.DNSClass.{class_field, class_number, class_of, field_class, field_top}
 use Rattle.base.specs.Labels.{NameValue}
 use Rattle.base.specs.Names.{name_at}
-use Rattle.base.specs.Laws.{Writes}
 use Rattle.base.specs.State.{State, appended}
 use Rattle.base.specs.declared.error.proto_error.ProtoError.{ProtoError}
 use Rattle.base.specs.Reading.{Read, number_at}
-use Rattle.base.proofs.LawLemmas.{Writes-either}
 use Rattle.base.specs.WordLemmas.{first_stands, number16_stands, stands_part}
 use Rattle.base.specs.RecordType.{type_number, type_of}
 use Rattle.base.specs.Spelling.{IsNameAt}
@@ -37,29 +35,6 @@ pub fields_listed : {X : Type 0} (type class : ℕ) (types classes : List ℕ) (
 fields_listed type class types classes r a b type_is class_is ok =
     subst (λ (xs : List ℕ). OnOk r (b ≡ appended (listed (to_be_bytes w16 type) xs) a)) class_is
     (subst (λ (xs : List ℕ). OnOk r (b ≡ appended (listed xs classes) a)) type_is ok)
-
--- type and class that were appended
-pub fields_written : {X : Type 0} (type class : ℕ) (r : Result X ProtoError) (a b : State) → type < 2 ^ 16 → class < 2 ^ 16 → OnOk r (b ≡ appended (field_bytes type class) a)
-    → OnOk r (Writes (Then (Number w16 type) (Number w16 class)) 4 [] a b)
-fields_written type class r a b type_small class_small ok =
-    Writes-either r (Then (Number w16 type) (Number w16 class)) 4 (field_bytes type class) a b ok (omega arith) (λ B stands.
-    let i = length a.bytes in
-    let behind = stands_part (to_be_bytes w16 type) (to_be_bytes w16 class) [] B i (subst (λ (xs : List ℕ). Stands (to_be_bytes w16 type ++ xs) B i) (sym (append-nil (to_be_bytes w16 class))) stands) in (
-      i + 2,
-      (number16_stands type B i type_small (first_stands (to_be_bytes w16 type) (to_be_bytes w16 class) B i stands), refl),
-      (number16_stands class B (i + 2) class_small behind, omega arith),
-    ))
-
--- name, type and class one behind the other are the fields of a question
-pub question_word : {type field : ℕ} (q : Query) → type ≡ type_number q.query_type → field ≡ class_field q.mdns_unicast_response (class_number q.query_class) → (B : List ℕ) (i e : ℕ)
-    → Then (NameAt q.name.labels) (Then (Number w16 type) (Number w16 field)) B i e → QueryWord q B i e
-question_word q type_is is B i e h = record {
-  owner_end = h.0;
-  owner = h.1;
-  type_stands = subst (IsNumberAt w16 B h.0) type_is h.2.1.0;
-  class_stands = subst (λ k. IsNumberAt w16 B k (class_field q.mdns_unicast_response (class_number q.query_class))) h.2.1.1 (subst (λ n. IsNumberAt w16 B h.2.0 n) is h.2.2.0);
-  end = omega (arith, h.2.1.1, h.2.2.1);
-}
 
 -- the same question, field by field
 pub same_query : {a b : RecordType} {c d : DNSClass} {e f : Bool} (name : NameValue) → a ≡ b → c ≡ d → e ≡ f

@@ -3,12 +3,14 @@ pub mod Cut
 pub mod Edns
 pub mod EdnsFlags
 pub mod EdnsRecord
+pub mod EdnsSays
 pub mod Emitted
 pub mod Fault
 pub mod Fits
 pub mod Flags
 pub mod Header
 pub mod HeaderCounts
+pub mod HeaderSays
 pub mod LowerQuery
 pub mod Message
 pub mod MessageWritten
@@ -19,6 +21,7 @@ pub mod OpCode
 pub mod Parts
 pub mod Places
 pub mod Query
+pub mod QuerySays
 pub mod ReadsOrDecodes
 pub mod ResponseCode
 pub mod Section

@@ -6,11 +6,12 @@ ghost use Rattle.base.specs.Counts.{Counts, Passes};
 ghost use Rattle.base.specs.Passing.{AddsPassed};
 ghost use Rattle.base.specs.Reading.{Reads};
 ghost use Rattle.base.specs.State.{appended};
-ghost use Rattle.base.specs.Laws.{Keeps, Writes};
-ghost use Rattle.base.specs.Wire.{state_of, Refuses};
+ghost use Rattle.base.specs.Laws.{Keeps};
+ghost use Rattle.base.specs.Wire.{state_of};
 ghost use Rattle.base.specs.Words.{Stands};
 ghost use Rattle.base.specs.Written.{Exactly, just};
-ghost use Rattle.op.specs.Header.{HeaderWord, IsHeaderAt, bit_of, header_at, header_bytes, high_byte, low_byte, metadata_of_bytes, raw_header};
+ghost use Rattle.op.specs.Header.{HeaderWord, IsHeaderAt, IsNarrow, bit_of, header_at, header_bytes, high_byte, low_byte, metadata_of_bytes, raw_header};
+ghost use Rattle.op.specs.HeaderSays.{header_says};
 ghost use Rattle.op.specs.MessageType.{is_response};
 ghost use Rattle.op.specs.OpCode.{op_number};
 ghost use Rattle.op.specs.ResponseCode.{code_number};
@@ -44,6 +45,7 @@ impl Header {
     /// has more than four bits spills into QR.
     pub fn to_bytes(&self) -> [u8; 12]
         ensures bytes { result ≡ header_bytes (raw_header self.now) }
+        ensures narrow { IsNarrow self.now.metadata.id self.now.counts }
         ensures word { (B : List ℕ) (i : ℕ) → Stands (header_bytes (raw_header self.now)) B i → HeaderWord self.now B i (i + 12) }
     {
         let HeaderCounts {
@@ -107,14 +109,17 @@ impl BinEncodable for Header {
 
     ghost written = { λ h. just (header_bytes (raw_header h)) };
 
+    ghost fits = { λ h. IsNarrow h.metadata.id h.counts };
+
+    ghost says = { header_says };
+
     /// Writes the twelve bytes of the header, as `to_bytes` has them (RFC 1035, 4.1.1).
     ///
     /// Refused, with nothing written, with `MaxBufferSizeExceeded` where a byte would pass the limit, and with `Memory`
     /// for want of it.
     fn emit(&self, encoder: &mut BinEncoder<'_>) -> Result<(), ProtoError>
         ensures keeps { Keeps (state_of encoder.old) (state_of encoder.new) }
-        ensures writes { OnOk result (Writes (HeaderWord self.now) 12 [] (state_of encoder.old) (state_of encoder.new)) }
-        ensures refuses { Refuses 12 (state_of encoder.old) result }
+        ensures fits { OnOk result (IsNarrow self.now.metadata.id self.now.counts) }
         ensures exact { Exactly (just (header_bytes (raw_header self.now)))
             (state_of encoder.old) (state_of encoder.new) result }
         ensures ok { OnOk result (state_of encoder.new ≡ appended (header_bytes (raw_header self.now)) (state_of encoder.old)) }

@@ -8,6 +8,7 @@ ghost use Rattle.op.specs.contracts.query.QueryEq.TheImpl.Laws.{laws-law as quer
 ghost use Rattle.op.specs.LowerQuery.{lower_query_text};
 ghost use Rattle.op.specs.Places.{query_places};
 ghost use Rattle.op.specs.Query.{QueryWord, plain_query, query_at, query_written};
+ghost use Rattle.op.specs.QuerySays.{QueryKept, query_says};
 
 use crate::query::Query;
 use base::{
@@ -128,6 +129,10 @@ impl BinEncodable for LowerQuery {
     ghost owner = { λ q. q.name.labels };
 
     ghost written = { query_written };
+
+    ghost fits = { QueryKept };
+
+    ghost says = { query_says };
 
     /// Writes the question as it was asked (RFC 1035, 4.1.2).
     ///

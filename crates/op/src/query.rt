@@ -1,15 +1,16 @@
 //! Questions (RFC 1035, 4.1.2).
 
-ghost use Rattle.std.specs.Prelude.{◌≡◌, ◌↔◌, ◌+◌, ◌++◌, ◌<◌, ℕ, List, length, Ok, Err, Some, IfErr, IfOk, OnOk, IsTrue, [], true};
+ghost use Rattle.std.specs.Prelude.{◌≡◌, ◌↔◌, ◌+◌, ◌++◌, ◌<◌, ◌^◌, ℕ, List, length, Ok, Err, Some, IfErr, IfOk, OnOk, IsTrue, [], true};
 ghost use Rattle.std.specs.Int.{w16, to_be_bytes};
 ghost use Rattle.base.specs.Counts.{Counts, Passes};
-ghost use Rattle.base.specs.Laws.{Keeps, Writes};
+ghost use Rattle.base.specs.Laws.{Keeps};
 ghost use Rattle.base.specs.NameOrder.{same_name};
-ghost use Rattle.base.specs.Wire.{state_of, Refuses};
-ghost use Rattle.base.specs.Words.{IsNumberAt, Number, Then};
+ghost use Rattle.base.specs.Wire.{state_of};
+ghost use Rattle.base.specs.Words.{IsNumberAt};
 ghost use Rattle.base.specs.Written.{Exactly, just};
 ghost use Rattle.op.specs.Places.{query_places};
 ghost use Rattle.op.specs.Query.{FitsQuery, IsQueryAt, IsQueryFault, QueryWord, plain_query, plain_question, query_at, query_text, query_written, query_value, raw_query};
+ghost use Rattle.op.specs.QuerySays.{QueryKept, query_says};
 ghost use Rattle.op.specs.declared.query.Query.{Query};
 
 use base::{
@@ -143,6 +144,10 @@ impl BinEncodable for Query {
 
     ghost written = { query_written };
 
+    ghost fits = { QueryKept };
+
+    ghost says = { query_says };
+
     /// Writes the name, compressed where it can be, the type and the class, whose top bit is set where an answer by
     /// unicast is asked for (RFC 1035, 4.1.2 and 4.1.4; RFC 6762, 5.4).
     ///
@@ -157,9 +162,7 @@ impl BinEncodable for Query {
 // Writes type and class, the high byte of each first. They are written at once, since that is faster.
 fn emit_fields(query_type: u16, class: u16, encoder: &mut BinEncoder<'_>) -> Result<(), ProtoError>
     ensures keeps { Keeps (state_of encoder.old) (state_of encoder.new) }
-    ensures writes { OnOk result (Writes (Then (Number w16 query_type) (Number w16 class)) 4 []
-        (state_of encoder.old) (state_of encoder.new)) }
-    ensures refuses { Refuses 4 (state_of encoder.old) result }
+    ensures fits { (query_type < 2 ^ 16) × (class < 2 ^ 16) }
     ensures exact { Exactly (just (to_be_bytes w16 query_type ++ to_be_bytes w16 class))
         (state_of encoder.old) (state_of encoder.new) result }
 {

@@ -14,31 +14,6 @@ use Rattle.base_data.specs.declared.rdata.RData.{RData}
 use Rattle.rr.specs.Record.{RecordWord}
 use Rattle.rr.specs.declared.record.Record.{Record}
 
--- what is written one behind the other are the fields of a record
-pub record_word : {type field : ℕ} (r : Record RData) → type ≡ type_number (type_of_data r.rdata) → field ≡ class_field r.mdns_cache_flush (class_number r.dns_class)
-    → (word : List ℕ → ℕ → ℕ → Type 0) → ((B : List ℕ) (i e : ℕ) → word B i e → DataWord r.rdata B i e)
-    → (B : List ℕ) (i e : ℕ) → Then (NameAt r.name.labels) (Then (Then (Number w16 type) (Then (Number w16 field) (Number w32 r.ttl))) (Sized word)) B i e → RecordWord r B i e
-record_word r type_is field_is word as_data B i e h =
-    let m = h.0 in
-    let fields = h.2.1 in
-    let class_at = fields.2 in
-    let sized = h.2.2 in
-    let m2 : fields.0 ≡ m + 2 = fields.1.1 in
-    let m4 : class_at.0 ≡ m + 4 = omega (arith, class_at.1.1, m2) in
-    let m8 : h.2.0 ≡ m + 8 = omega (arith, class_at.2.1, m4) in
-    let m10 : h.2.0 + 2 ≡ m + 10 = omega (arith, m8) in
-    record {
-      owner_end = m;
-      owner = h.1;
-      type_stands = subst (IsNumberAt w16 B m) type_is fields.1.0;
-      class_stands = subst (λ k. IsNumberAt w16 B k (class_field r.mdns_cache_flush (class_number r.dns_class))) m2 (subst (IsNumberAt w16 B fields.0) field_is class_at.1.0);
-      ttl_stands = subst (λ k. IsNumberAt w32 B k r.ttl) m4 class_at.2.0;
-      len = sized.0;
-      len_stands = subst (λ k. IsNumberAt w16 B k sized.0) m8 sized.2;
-      rdata_stands = subst (λ k. DataWord r.rdata B k e) m10 (as_data B (h.2.0 + 2) e sized.3);
-      fills = omega (arith, sized.1, m8);
-    }
-
 -- a name that was read, and isn't the root, has a label
 pub not_root : (B : List ℕ) (i : ℕ) (name : NameValue) (e : ℕ) (is_root : Bool) → name_at B i ≡ Ok (name, e)
     → (IsTrue is_root ↔ (name ≡ record { labels = []; absolute = true })) → is_root ≡ false → (length name.labels == 0) ≡ false

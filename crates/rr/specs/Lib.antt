@@ -3,6 +3,7 @@ pub mod Record
 pub mod RecordOrder
 pub mod RecordOrderLaws
 pub mod RecordRef
+pub mod RecordSays
 pub mod RecordSet
 pub mod RrsetRecords
 pub mod SerialOrder

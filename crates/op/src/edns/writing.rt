@@ -1,15 +1,14 @@
 //! Writes EDNS as an OPT record (RFC 6891, 6.1.2 and 6.1.3).
 
-ghost use Rattle.std.specs.Prelude.{◌≡◌, ◌+◌, ◌*◌, [], ◌∷◌, MatchResult, OnOk};
-ghost use Rattle.std.specs.Int.{w16, w32};
-ghost use Rattle.base.specs.Laws.{Keeps, Writes};
+ghost use Rattle.std.specs.Prelude.{◌≡◌, ◌+◌, ◌*◌, ◌^◌, ◌<◌, ◌∷◌, MatchResult, OnOk};
+ghost use Rattle.base.specs.Laws.{Keeps};
 ghost use Rattle.base.specs.RecordType.{type_number};
-ghost use Rattle.base.specs.Wire.{state_of, Refuses};
-ghost use Rattle.base.specs.Words.{NameAt, Number, Then};
+ghost use Rattle.base.specs.Wire.{state_of};
 ghost use Rattle.base.specs.Written.{Exactly, just};
 ghost use Rattle.rr.specs.Record.{fields_of};
 ghost use Rattle.base.specs.declared.error.proto_error.ProtoError.TheVariants as refusals;
 ghost use Rattle.op.specs.EdnsRecord.{EdnsWord, edns_record, edns_written, plain_edns};
+ghost use Rattle.op.specs.EdnsSays.{EdnsKept, edns_says};
 
 use super::Edns;
 use base::{BinEncodable, BinEncoder, DNSClass, Name, ProtoError, RecordType, emit_sized};
@@ -49,6 +48,10 @@ impl BinEncodable for Edns {
 
     ghost written = { edns_written };
 
+    ghost fits = { EdnsKept };
+
+    ghost says = { edns_says };
+
     /// Writes the OPT record: a zero byte for the root, the type, the payload size, the high code, the version and
     /// the flags, and the options behind the number of their bytes (RFC 6891, 6.1.2 and 6.1.3).
     ///
@@ -72,6 +75,10 @@ impl<'a> BinEncodable for RaisedEdns<'a> {
 
     ghost written = { λ r. edns_written (record r.edns.now { rcode_high = r.rcode_high }) };
 
+    ghost fits = { λ r. EdnsKept (record r.edns.now { rcode_high = r.rcode_high }) };
+
+    ghost says = { λ r. edns_says (record r.edns.now { rcode_high = r.rcode_high }) };
+
     /// Writes the OPT record, as that of EDNS with these high bits.
     ///
     /// Refused with `MaxBufferSizeExceeded` where a byte would pass the limit, and with `Memory` for want of it.
@@ -83,9 +90,7 @@ impl<'a> BinEncodable for RaisedEdns<'a> {
 // Writes the OPT record of EDNS with these high bits of the response code.
 fn emit_raised(edns: &Edns, rcode_high: u8, encoder: &mut BinEncoder<'_>) -> Result<(), ProtoError>
     ensures keeps { Keeps (state_of encoder.old) (state_of encoder.new) }
-    ensures writes { let raised = record edns.now { rcode_high = rcode_high } in
-        OnOk result (Writes (EdnsWord raised) (plain_edns raised) [] (state_of encoder.old) (state_of encoder.new)) }
-    ensures refuses { Refuses (plain_edns (record edns.now { rcode_high = rcode_high })) (state_of encoder.old) result }
+    ensures fits { OnOk result (EdnsKept (record edns.now { rcode_high = rcode_high })) }
     ensures exact { Exactly (edns_written (record edns.now { rcode_high = rcode_high }))
         (state_of encoder.old) (state_of encoder.new) result }
 {
@@ -106,9 +111,7 @@ fn ttl_of(rcode_high: u8, version: u8, flags: u16) -> u32
 // at once, since that is faster.
 fn emit_front(payload: u16, ttl: u32, encoder: &mut BinEncoder<'_>) -> Result<(), ProtoError>
     ensures keeps { Keeps (state_of encoder.old) (state_of encoder.new) }
-    ensures writes { OnOk result (Writes (Then (NameAt []) (Then (Number w16 (type_number RecordType.OPT)) (Then (Number w16 payload) (Number w32 ttl)))) 9 []
-        (state_of encoder.old) (state_of encoder.new)) }
-    ensures refuses { Refuses 9 (state_of encoder.old) result }
+    ensures fits { (payload < 2 ^ 16) × (ttl < 2 ^ 32) }
     ensures exact { Exactly (just (0 ∷ fields_of (type_number RecordType.OPT) payload ttl))
         (state_of encoder.old) (state_of encoder.new) result }
 {

@@ -1,12 +1,10 @@
 //! Writes records.
 
-ghost use Rattle.std.specs.Prelude.{[], OnOk};
-ghost use Rattle.std.specs.Int.{w16, w32};
-ghost use Rattle.base.specs.Laws.{Keeps, Writes};
-ghost use Rattle.base.specs.Wire.{state_of, Refuses};
-ghost use Rattle.base.specs.Words.{Number, Then};
+ghost use Rattle.base.specs.Laws.{Keeps};
+ghost use Rattle.base.specs.Wire.{state_of};
 ghost use Rattle.base.specs.Written.{Exactly, just};
 ghost use Rattle.rr.specs.Record.{RecordWord, fields_of, plain_record, record_written, with_data};
+ghost use Rattle.rr.specs.RecordSays.{FieldsFit, RecordKept, any_says, record_says};
 
 use crate::record::Record;
 use base::{BinEncodable, BinEncoder, ProtoError, emit_sized};
@@ -20,6 +18,11 @@ impl<R: RecordData> BinEncodable for Record<R> {
     ghost owner = { λ r. r.name.labels };
 
     ghost written = { λ r. record_written (with_data R.as_rdata r) };
+
+    ghost fits = { λ r. RecordKept (with_data R.as_rdata r) (R.fits r.rdata) };
+
+    ghost says = { λ r. record_says (with_data R.as_rdata r) (any_says (R.as_rdata r.rdata) (R.written r.rdata) (R.keeps_written r.rdata)
+        (λ B i e. (R.keeps_word r.rdata B i e).1) (R.keeps_len r.rdata) (R.says r.rdata)) };
 
     /// Writes name, type, class with the cache-flush bit, TTL, and the data behind the number of its bytes
     /// (RFC 1035, 4.1.3; RFC 6762, 10.2).
@@ -41,9 +44,7 @@ fn emit_fields(
     encoder: &mut BinEncoder<'_>,
 ) -> Result<(), ProtoError>
     ensures keeps { Keeps (state_of encoder.old) (state_of encoder.new) }
-    ensures writes { OnOk result (Writes (Then (Number w16 record_type) (Then (Number w16 class) (Number w32 ttl))) 8 []
-        (state_of encoder.old) (state_of encoder.new)) }
-    ensures refuses { Refuses 8 (state_of encoder.old) result }
+    ensures fits { FieldsFit record_type class ttl }
     ensures exact { Exactly (just (fields_of record_type class ttl))
         (state_of encoder.old) (state_of encoder.new) result }
 {

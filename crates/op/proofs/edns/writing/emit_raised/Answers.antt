@@ -1,25 +1,24 @@
-use Rattle.std.proofs.Common.{◌+◌, ◌*◌, ◌∙◌, Err, ap, sym, arith}
+use Rattle.std.proofs.Common.{◌+◌, ◌*◌, ◌∙◌, Err, ap, sym}
 use Rattle.base.specs.DNSClass.{class_number}
 use Rattle.std.proofs.lemmas.Result.{err_from_is_err_and, on_ok_weaker}
-use Rattle.base.proofs.LawLemmas.{Keeps-then, Writes-then, Writes-weaker}
+use Rattle.base.proofs.LawLemmas.{Keeps-then}
 use Rattle.op.specs.declared.edns.Edns.{Edns}
 use Rattle.base.proofs.WrittenLemmas.{Exactly-first, Exactly-from, Exactly-then}
 use Rattle.base.specs.Wire.{state_of}
 use Rattle.base.specs.Written.{both, in_turn, just, sized}
 use Rattle.base_data.specs.OPT.{option_written}
 use Rattle.op.specs.EdnsRecord.{edns_written}
-use Rattle.op.proofs.EdnsLemmas.{edns_after, edns_word, front_bytes, options_plain}
+use Rattle.op.proofs.EdnsLemmas.{edns_after, edns_kept, front_bytes}
 use Rattle.op.proofs.edns.writing.emit_raised.Goals as goal
 
 pub returns-clause-keeps : goal.returns-clause-keeps
 returns-clause-keeps c = Keeps-then c.emit_front.ensures.keeps c.emit_sized.ensures.keeps
 
-pub returns-clause-writes : goal.returns-clause-writes
-returns-clause-writes c =
+pub returns-clause-fits : goal.returns-clause-fits
+returns-clause-fits c =
     let e : Edns = record c.args.edns.now { rcode_high = c.args.rcode_high } in
-    on_ok_weaker c.emit_sized.result (λ w. Writes-weaker (edns_word e _ _ (c.from-payload.ensures ∙ ap class_number c.for_opt.ensures)
-    (c.ttl_of-ttl.ensures ∙ ap (λ n. 16777216 * e.rcode_high + (65536 * e.version + n)) c.from.ensures)) (omega (arith, options_plain e.options))
-    (Writes-then c.emit_front.ensures.keeps c.emit_sized.ensures.keeps c.in_ok-emit_front.ensures.writes w)) c.emit_sized.ensures.writes
+    on_ok_weaker c.emit_sized.result (edns_kept e _ _ (c.from-payload.ensures ∙ ap class_number c.for_opt.ensures)
+    (c.ttl_of-ttl.ensures ∙ ap (λ n. 16777216 * e.rcode_high + (65536 * e.version + n)) c.from.ensures) c.emit_front.ensures.fits) c.emit_sized.ensures.fits
 
 pub returns-in_err-emit_front-clause-exact : goal.returns-in_err-emit_front-clause-exact
 returns-in_err-emit_front-clause-exact c =

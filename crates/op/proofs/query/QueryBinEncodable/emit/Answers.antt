@@ -1,22 +1,29 @@
-use Rattle.std.proofs.Common.{ℕ, ◌≡◌, ◌∙◌, ◌++◌, Err, ap, arith}
+use Rattle.std.proofs.Common.{ℕ, ◌≡◌, ◌<◌, ◌^◌, ◌∙◌, ◌++◌, Result, Ok, Err, ap, subst}
 use Rattle.std.specs.Int.{w16, to_be_bytes}
-use Rattle.std.proofs.lemmas.Result.{err_from_is_err_and, on_ok_weaker}
-use Rattle.base.proofs.LawLemmas.{Keeps-then, Writes-then, Writes-weaker}
+use Rattle.std.proofs.lemmas.Result.{err_from_is_err_and}
+use Rattle.std.specs.Prelude.{OnOk}
+use Rattle.base.specs.declared.error.proto_error.ProtoError.{ProtoError}
+use Rattle.base.proofs.LawLemmas.{Keeps-then}
 use Rattle.base.proofs.WrittenLemmas.{Exactly-first, Exactly-same, Exactly-then}
 use Rattle.base.specs.DNSClass.{class_field, class_number}
 use Rattle.base.specs.RecordType.{type_number}
 use Rattle.base.specs.Wire.{state_of}
 use Rattle.base.specs.Written.{just, name}
-use Rattle.op.proofs.QueryLemmas.{question_word}
 use Rattle.op.proofs.query.QueryBinEncodable.emit.Goals as goal
 
 pub returns-clause-keeps : goal.returns-clause-keeps
 returns-clause-keeps c = Keeps-then c.emit.ensures.keeps c.emit_fields.ensures.keeps
 
-pub returns-clause-writes : goal.returns-clause-writes
-returns-clause-writes c =
-    on_ok_weaker c.emit_fields.result (λ w. Writes-weaker (question_word c.args.self.now c.from.ensures c.to_field-class.ensures) (omega arith)
-    (Writes-then c.emit.ensures.keeps c.emit_fields.ensures.keeps c.in_ok-emit.ensures.writes w)) c.emit_fields.ensures.writes
+on_ok_always : {X P : Type 0} (r : Result X ProtoError) → P → OnOk r P
+on_ok_always (Ok x) p = p
+on_ok_always (Err e) p = tt
+
+pub returns-clause-fits : goal.returns-clause-fits
+returns-clause-fits c =
+    let q = c.args.self.now in
+    let fields = subst (λ (n : ℕ). (n < 2 ^ 16) × (class_field q.mdns_unicast_response (class_number q.query_class) < 2 ^ 16)) c.from.ensures
+    (subst (λ (n : ℕ). (c.from.result < 2 ^ 16) × (n < 2 ^ 16)) c.to_field-class.ensures c.emit_fields.ensures.fits) in
+    on_ok_always c.emit_fields.result (c.in_ok-emit.ensures.fits, fields)
 
 pub returns-in_err-emit-clause-exact : goal.returns-in_err-emit-clause-exact
 returns-in_err-emit-clause-exact c =

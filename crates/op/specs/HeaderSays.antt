@@ -1,11 +1,21 @@
--- The bytes of a header are its word.
+-- What is known of what is written of a header: its bytes are its word.
 use Rattle.std.proofs.Common.{◌≡◌, ℕ, ◌+◌, ◌*◌, ◌/◌, ◌%◌, ◌<◌, Bool, true, false, List, [], ◌∷◌, ◌++◌, refl, arith, lit<}
 use Rattle.std.specs.Int.{w16, to_be_bytes, from_bool}
+use Rattle.base.specs.Says.{Says}
+use Rattle.base.specs.SaysParts.{Says-just}
 use Rattle.base.specs.Words.{Stands}
+use Rattle.base.specs.Written.{just}
 use Rattle.base.specs.WordLemmas.{first_stands, number16_stands, stands_byte, stands_part}
-use Rattle.op.specs.Header.{IsNarrow, IsRawHeaderAt, HeaderWord, RawHeader, bit_of, high_byte, low_byte, header_bytes, raw_header}
+use Rattle.op.specs.Header.{IsNarrow, IsRawHeaderAt, HeaderWord, RawHeader, bit_of, weighed, high_byte, low_byte, header_bytes, raw_header}
 use Rattle.op.specs.declared.header.Header.{Header}
-use Rattle.op.proofs.BitLemmas.{weighed_is, from_bool_small}
+
+pub weighed_is : (w : ℕ) (p : Bool) → weighed w p ≡ from_bool p * w
+weighed_is w true = omega arith
+weighed_is w false = omega arith
+
+pub from_bool_small : (p : Bool) → from_bool p < 2
+from_bool_small true = lit< tt
+from_bool_small false = lit< tt
 
 bit_back : (b : Bool) (n w : ℕ) → n / w % 2 ≡ from_bool b → b ≡ bit_of w n
 bit_back true n w is = rw is refl
@@ -94,3 +104,7 @@ raw_stands r B i narrow op code s =
 
 pub header_stands : (h : Header) (B : List ℕ) (i : ℕ) → IsNarrow h.metadata.id h.counts → Stands (header_bytes (raw_header h)) B i → HeaderWord h B i (i + 12)
 header_stands h B i narrow s = (raw_stands (raw_header h) B i narrow (omega arith) (omega arith) s, refl)
+
+pub header_says : (h : Header) → Says (just (header_bytes (raw_header h))) (IsNarrow h.metadata.id h.counts) (HeaderWord h) 12 []
+header_says h =
+    Says-just (IsNarrow h.metadata.id h.counts) (HeaderWord h) 12 (header_bytes (raw_header h)) (omega arith) (λ narrow B at small stands. header_stands h B at narrow stands)
