@@ -82,4 +82,3 @@ module _ {A : Type 0} (f : A → Writing) (limit : ℕ) where
           subst (λ (u : State). Passes f limit u lost) behind full,
         )
   ]
-

@@ -1,10 +1,10 @@
 -- The three shapes of a token are what cutting a text gives.
-use Rattle.std.proofs.Common.{◌≡◌, ◌≢◌, ◌⊎◌, inl, inr, ℕ, zero, suc, ◌<◌, ◌≤◌, List, [], ◌∷◌, ◌++◌, length, refl, ap, sym, ◌∙◌, subst, arith, append_assoc, length-append, Option, Some, None, Bool, true, false}
-use Rattle.std.specs.Prelude.{not, ◌&&◌, ◌||◌, ◌==◌, ◌↔◌}
+use Rattle.std.proofs.Common.{◌≡◌, ◌≢◌, ◌⊎◌, inl, inr, ℕ, zero, suc, ◌<◌, List, [], ◌∷◌, ◌++◌, length, refl, ap, sym, ◌∙◌, subst, arith, append_assoc, length-append, Option, Some, None, Bool, true, false}
+use Rattle.std.specs.Prelude.{◌||◌, ◌==◌, ◌↔◌}
 use Rattle.std.proofs.lemmas.Bool.{eqb-true, false≢true}
 use Rattle.std.proofs.lemmas.Bool.Decides.{nat_tests}
 use Rattle.base.specs.Tokens.{Element, closes, misplaced, one, before, begins_with, element, element_of, ends_item, is_line_end, item, list_items, listed, past_separators, put, quoted, separates}
-use Rattle.base.specs.TokenText.{CommentRest, EndsItem, Gap, IsItem, IsList, IsQuoted, Unended, closed, comment, escaped, goes_on, item_first, line_ends, no_gap, no_more, plain, quoted_first, separator}
+use Rattle.base.specs.TokenText.{CommentRest, EndsItem, Gap, IsItem, IsList, IsQuoted, closed, comment, escaped, goes_on, item_first, line_ends, no_gap, no_more, plain, quoted_first, separator}
 use Rattle.base.proofs.ListItems.{IsVisible, listed_is, listed_zero, separated_is_visible}
 
 -- an item, or a quoted text, that was cut off
@@ -306,7 +306,7 @@ more_list {text} {rest} word behind others words first is list = by first.found_
       let shape = quoted_there t word behind cut in
       let tail : first.byte ∷ first.more ≡ 34 ∷ word ++ (34 ∷ inner ++ rest) = begins ∙ ap (λ (x : List ℕ). 34 ∷ x) (shape.0 ∙ ap (λ (x : List ℕ). word ++ 34 ∷ x) list.1) in
       let whole : text ≡ first.gap ++ 34 ∷ word ++ 34 ∷ inner ++ rest =
-          first.at ∙ ap (λ (x : List ℕ). first.gap ++ x) tail ∙ sym (append_assoc first.gap (34 ∷ word) (34 ∷ inner ++ rest)) ∙ sym (append_assoc (first.gap ++ 34 ∷ word) (34 ∷ inner) rest) in
+      first.at ∙ ap (λ (x : List ℕ). first.gap ++ x) tail ∙ sym (append_assoc first.gap (34 ∷ word) (34 ∷ inner ++ rest)) ∙ sym (append_assoc (first.gap ++ 34 ∷ word) (34 ∷ inner) rest) in
       (first.gap ++ 34 ∷ word ++ 34 ∷ inner, whole, subst (λ (ws : List (List ℕ)). IsList ws (first.gap ++ 34 ∷ word ++ 34 ∷ inner)) (sym is) (quoted_first first.gap word inner others first.apart shape.1 list.2))
   by (inr (cut, dollar, opens, closing, quote)) =
       let c = first.byte in
@@ -318,7 +318,7 @@ more_list {text} {rest} word behind others words first is list = by first.found_
       let begins : begins_with 36 word ≡ false = sym (same_first c first.more word behind some shape.0) ∙ dollar in
       let ends = ends_before inner rest (omega (arith, list_some list.2)) (subst EndsItem list.1 shape.2) in
       let whole : text ≡ first.gap ++ word ++ inner ++ rest =
-          first.at ∙ ap (λ (x : List ℕ). first.gap ++ x) (shape.0 ∙ ap (λ (x : List ℕ). word ++ x) list.1) ∙ sym (append_assoc first.gap word (inner ++ rest)) ∙ sym (append_assoc (first.gap ++ word) inner rest) in
+      first.at ∙ ap (λ (x : List ℕ). first.gap ++ x) (shape.0 ∙ ap (λ (x : List ℕ). word ++ x) list.1) ∙ sym (append_assoc first.gap word (inner ++ rest)) ∙ sym (append_assoc (first.gap ++ word) inner rest) in
       (first.gap ++ word ++ inner, whole, subst (λ (ws : List (List ℕ)). IsList ws (first.gap ++ word ++ inner)) (sym is) (item_first first.gap word inner others first.apart shape.1 some begins ends list.2))
 
 list_there : (steps : ℕ) (text : List ℕ) (words : List (List ℕ)) (rest : List ℕ) → list_items steps text ≡ Some (words, rest) → ListOf text words rest

@@ -1,9 +1,9 @@
 -- Which tokens take memory.
-use Rattle.std.proofs.Common.{◌≡◌, ℕ, refl, sym, ◌∙◌, ap, List, [], ◌∷◌, length, Option, Some, None, Bool, true, false, subst}
+use Rattle.std.proofs.Common.{◌≡◌, ℕ, refl, sym, ◌∙◌, ap, List, [], ◌∷◌, length, Option, Some, None, Bool, true, false}
 use Rattle.std.specs.Prelude.{◌==◌, ◌&&◌, codes, slice_get}
 use Rattle.std.specs.Str.{bytes_eq}
 use Rattle.base.specs.Cuts.{TakesNone}
-use Rattle.base.specs.Tokens.{TokenValue, Unread, begins_blank, begins_with, is_line_end, item, item_token, list_items, next, next_item, next_list, next_quoted, past_blanks, past_comment, quoted, token_or_fault, visible, within_line}
+use Rattle.base.specs.Tokens.{Unread, begins_blank, begins_with, is_line_end, item, item_token, list_items, next, next_item, next_list, next_quoted, past_blanks, past_comment, quoted, token_or_fault, visible, within_line}
 
 quoted_takes : (cut : Option (List ℕ × List ℕ)) → TakesNone (next_quoted cut) → ⊥
 quoted_takes None never = never

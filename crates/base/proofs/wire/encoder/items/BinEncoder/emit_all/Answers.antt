@@ -3,7 +3,7 @@ use Rattle.base.specs.declared.error.proto_error.ProtoError.{ProtoError}
 use Rattle.base.specs.declared.error.proto_error.ProtoError.TheVariants as refusals
 use Rattle.base.specs.State.{State, cut}
 use Rattle.base.specs.Items.{EachWritten, EmitsAll}
-use Rattle.base.specs.Wire.{state_of, Refuses}
+use Rattle.base.specs.Wire.{state_of}
 use Rattle.base.specs.Written.{Exactly, after, piece_at}
 use Rattle.base.proofs.LawLemmas.{Keeps-then}
 use Rattle.base.proofs.ItemLemmas.{cut-Keeps, Each-keeps, Each-push, Each-valid}
@@ -59,7 +59,7 @@ returns-in_default-error-clause-keeps g c =
 pub loop-item-preserved : goal.loop-item-preserved
 loop-item-preserved g c = record {
   each = Each-push g.E.BinEncodable.word g.E.BinEncodable.plain_len g.E.BinEncodable.owner _ _ _ _ _ c.loop-item.invariant.each c.in-Ok.ensures.keeps
-  (Says-writes (g.E.BinEncodable.written c.in-Some.item) (state_of c.loop-item.self) _ (g.met.E.BinEncodable.says c.in-Some.item) c.in-Ok.ensures.fits c.in-Ok.ensures.exact c.in-Ok.ensures.keeps.within c.loop-item.self.narrow);
+      (Says-writes (g.E.BinEncodable.written c.in-Some.item) (state_of c.loop-item.self) _ (g.met.E.BinEncodable.says c.in-Some.item) c.in-Ok.ensures.fits c.in-Ok.ensures.exact c.in-Ok.ensures.keeps.within c.loop-item.self.narrow);
   exact = c.in-Ok.ensures.exact ∙ ap (after (g.E.BinEncodable.written c.in-Some.item)) c.loop-item.invariant.exact ∙ sym (after-push g.E.BinEncodable.written _ c.in-Some.item (state_of c.args.self.now));
   counted = omega (arith, length-append {A = g.row.E.Denot});
   room = omega (arith, (c.in-Some.ensures.goes.on c.loop-item.iterator.1).2);
