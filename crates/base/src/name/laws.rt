@@ -4,10 +4,12 @@ ghost use Rattle.std.specs.Prelude.{◌≡◌, ◌≢◌, ◌↔◌, ℕ, ◌+�
 ghost use Rattle.base.specs.Compression.{IsCompressed};
 ghost use Rattle.base.specs.Faults.{IsFaulty};
 ghost use Rattle.base.specs.Labels.{NameValue, AreLabels, plain_len};
+ghost use Rattle.base.specs.Laws.{StoresSuffixes};
 ghost use Rattle.base.specs.NameText.{IsNameText, name_text};
 ghost use Rattle.base.specs.Names.{name_at};
-ghost use Rattle.base.specs.State.{Stored};
+ghost use Rattle.base.specs.State.{State, Stored};
 ghost use Rattle.base.specs.Spelling.{Spelled, SpelledIn, KeepsSeen, IsNameAt, among, outside};
+ghost use Rattle.base.specs.Written.{after, name};
 
 /// What `name_at` answers is what the bytes spell: the name that stands there, or the first fault.
 pub fn reading_is_spelling()
@@ -41,4 +43,10 @@ pub fn text_is_name()
 /// it, where one was, and is else written with all its labels (RFC 1035, 4.1.4).
 pub fn names_are_compressed()
     ensures { (labels : List (List ℕ)) (at : ℕ) (stored : List Stored) → IsCompressed labels at stored }
+{}
+
+/// Each suffix of a name that is written by labels, and begins where a pointer can lead, is stored where it begins: the
+/// suffixes that are stored of a name are those that its definition stores (RFC 1035, 4.1.4).
+pub fn names_store_their_suffixes()
+    ensures { (labels : List (List ℕ)) (a b : State) → b ≡ after (name labels) a → StoresSuffixes labels a b }
 {}
