@@ -9,6 +9,7 @@ use Rattle.base.specs.ProtoError.{proto_number}
 use Rattle.base.specs.declared.error.proto_error.ProtoError.{ProtoError}
 use Rattle.op.specs.Cut.{IsTooSmall, IsWritten}
 use Rattle.op.specs.Message.{MessageValue, message_at}
+use Rattle.op.specs.MessageWritten.{message_answer}
 use Rattle.dnsmsg.specs.Answer.{Answer, IsGivenBy, done, refused}
 use Rattle.dnsmsg.specs.Answering.{AnswersBy}
 use Rattle.dnsmsg.specs.HexInput.{bytes_of}
@@ -18,11 +19,12 @@ use Rattle.dnsmsg.specs.declared.refusal.Refusal.{Refusal}
 abbrev pub hex_line : List ℕ → List ℕ
 hex_line bytes = encode_lower bytes ++ 10 ∷ []
 
--- The answer is a cut of the message under the limit, or that the limit has no room for header and questions.
+-- The answer is a cut of the message under the limit, or that the limit has no room for header and questions: whichever of
+-- these a new encoder answers, which message and limit decide.
 abbrev pub CutsMessage : MessageValue → ℕ → Answer → Type 0
 CutsMessage m limit answer =
-    ((B : List ℕ) × IsWritten m limit B × (answer ≡ done (hex_line B)))
-    ⊎ ((e : ProtoError) × IsTooSmall m limit e × (answer ≡ refused (proto_number e)))
+    ((B : List ℕ) × (IsWritten m limit B × (message_answer limit m ≡ Ok B)) × (answer ≡ done (hex_line B)))
+    ⊎ ((e : ProtoError) × (IsTooSmall m limit e × (message_answer limit m ≡ Err e)) × (answer ≡ refused (proto_number e)))
 
 -- the answer to a message that was read, or the number of the fault that reading met
 abbrev pub CutsRead : ℕ → Read MessageValue → Answer → Type 0

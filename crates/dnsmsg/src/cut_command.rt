@@ -1,11 +1,12 @@
 //! The command `cut`.
 
-ghost use Rattle.std.specs.Prelude.{◌≡◌, ◌⊎◌, IfErr, IfOk};
+ghost use Rattle.std.specs.Prelude.{◌≡◌, ◌⊎◌, Err, IfErr, IfOk, Ok};
 ghost use Rattle.std.specs.String.{string_bytes};
 ghost use Rattle.base.specs.declared.error.proto_error.ProtoError.TheVariants as refusals;
 ghost use Rattle.op.specs.Cut.{IsTooSmall, IsWritten};
 ghost use Rattle.op.specs.Fits.{Fits};
 ghost use Rattle.op.specs.Message.{message_value};
+ghost use Rattle.op.specs.MessageWritten.{message_answer};
 ghost use Rattle.dnsmsg.specs.CutCommand.{CutAnswers, hex_line};
 
 use crate::hex_input::decoded;
@@ -34,6 +35,9 @@ fn written(alloc: Global, message: &Message, limit: u16) -> Result<Vec<u8>, Prot
     requires { Fits (message_value message.now) }
     ensures ok { IfOk result (λ bytes. IsWritten (message_value message.now) limit bytes.items) }
     ensures err { IfErr result (λ e. (e ≡ refusals.Memory) ⊎ IsTooSmall (message_value message.now) limit e) }
+    ensures answer { IfOk result (λ bytes. message_answer limit (message_value message.now) ≡ Ok bytes.items) }
+    ensures refusal { IfErr result (λ e. (e ≡ refusals.Memory)
+        ⊎ (message_answer limit (message_value message.now) ≡ Err e)) }
 {
     let mut bytes = Vec::new(alloc);
     {
