@@ -1,92 +1,90 @@
 -- Where header and questions have room, nothing but memory is refused.
-use Rattle.std.proofs.Common.{◌≡◌, ℕ, Bool, ◌+◌, ◌*◌, ◌<◌, ◌≤◌, ◌^◌, List, [], ◌∷◌, ◌++◌, length, ap, sym, subst, arith, length-append}
+use Rattle.std.proofs.Common.{◌≡◌, ◌∙◌, ℕ, Bool, ◌+◌, ◌<◌, ◌≤◌, ◌^◌, List, [], ◌∷◌, ◌++◌, length, ap, sym, subst, arith, length-append, Option, Some, None}
+use Rattle.std.specs.Int.{w16, to_be_bytes}
 use Rattle.base.specs.Items.{EachWritten}
-use Rattle.base.specs.Laws.{Holds, IsValid, Keeps}
-use Rattle.base.specs.Spelling.{Spelled, ends, label, pointer}
-use Rattle.base.specs.State.{State}
-use Rattle.base.specs.Words.{BackToBack, none, more}
-use Rattle.base.proofs.ItemLemmas.{Each-keeps, Words-each}
-use Rattle.base.proofs.LawLemmas.{Holds-first, Holds-new, Holds-second, Keeps-then}
+use Rattle.base.specs.Laws.{Keeps}
+use Rattle.base.specs.State.{State, Stored}
+use Rattle.base.specs.Written.{Writing, after, both, found_in, in_turn, just, label_of, name, piece_at, pointer_or, sized}
+use Rattle.base.proofs.ItemLemmas.{Each-keeps}
+use Rattle.base.proofs.LawLemmas.{Keeps-then}
 use Rattle.base_data.specs.declared.rdata.RData.{RData}
-use Rattle.rr.specs.Record.{RecordWord, plain_record}
+use Rattle.base_data.specs.Kinds.{data_written}
+use Rattle.rr.specs.Record.{RecordWord, fields_of, plain_record, raw_record, record_written}
 use Rattle.rr.specs.declared.record.Record.{Record}
 use Rattle.op.specs.Emitted.{WritesRecords, query_owner, record_owner}
 use Rattle.op.specs.Fits.{plain_queries}
-use Rattle.op.specs.Query.{QueryWord, plain_query}
+use Rattle.op.specs.Query.{QueryWord, plain_query, query_written, raw_query}
 use Rattle.op.specs.declared.query.Query.{Query}
 
--- ---- bytes that records take
+-- ---- bytes that are written
 
--- a name takes a byte at least
-name_takes : {B : List ℕ} {labels : List (List ℕ)} {s i e : ℕ} → Spelled B labels s i e → i + 1 ≤ e
-name_takes (ends b) = omega arith
-name_takes (label b one short bytes rest) = omega (arith, name_takes rest)
-name_takes (pointer b c tagged below rest) = omega arith
+-- a name takes a byte at least, be it a pointer
+name_some : (labels : List (List ℕ)) (at : ℕ) (stored : List Stored) → 1 ≤ length (name labels at stored).bytes
+name_some [] at stored = omega arith
+name_some (x ∷ xs) at stored = go (found_in stored (x ∷ xs)) where
+  go : (found : Option ℕ) → 1 ≤ length (pointer_or (both (label_of x xs) (name xs)) found at stored).bytes
+  go None = omega (arith, length-append (length x ∷ x) (name xs (at + length (length x ∷ x)) (label_of x xs at stored).suffixes).bytes)
+  go (Some offset) = omega arith
 
--- and a record eleven
-record_takes : (B : List ℕ) (r : Record RData) (i e : ℕ) → RecordWord r B i e → i + 11 ≤ e
-record_takes B r i e word = omega (arith, name_takes word.owner.0, word.fills)
+-- so do a question and a record
+query_some : (q : Query) (at : ℕ) (stored : List Stored) → 1 ≤ length (query_written q at stored).bytes
+query_some q at stored =
+    let first = name (raw_query q).labels at stored in
+    omega (arith, name_some (raw_query q).labels at stored, length-append first.bytes (to_be_bytes w16 (raw_query q).type ++ to_be_bytes w16 (raw_query q).class))
 
-records_take : {B : List ℕ} {i e : ℕ} {rs : List (Record RData)} → BackToBack (λ j r k. RecordWord r B j k) i rs e → i + 11 * length rs ≤ e
-records_take none = omega arith
-records_take {B} (more {i = i} {j = j} {x = r} word rest) = omega (arith, record_takes B r i j word, records_take rest)
+record_some : (r : Record RData) (at : ℕ) (stored : List Stored) → 1 ≤ length (record_written r at stored).bytes
+record_some r at stored =
+    let raw = raw_record r in
+    let first = name raw.labels at stored in
+    let rest = both (just (fields_of raw.type raw.class raw.ttl)) (sized (data_written raw.rdata)) (at + length first.bytes) first.suffixes in
+    omega (arith, name_some raw.labels at stored, length-append first.bytes rest.bytes)
 
--- Behind the state k as many records were written, and what was stored is valid.
+-- and as many of them as many bytes
+each_some : {E : Type 0} (f : E → Writing) → ((x : E) (at : ℕ) (stored : List Stored) → 1 ≤ length (f x at stored).bytes) → (xs : List E) (at : ℕ) (stored : List Stored)
+    → length xs ≤ length (in_turn f xs at stored).bytes
+each_some f some [] at stored = omega arith
+each_some f some (x ∷ xs) at stored =
+    let first = f x at stored in
+    let next = at + length first.bytes in
+    omega (arith, some x at stored, each_some f some xs next first.suffixes, length-append first.bytes (in_turn f xs next first.suffixes).bytes)
+
+length_after : (f : Writing) (a b : State) → b ≡ after f a → length b.bytes ≡ length a.bytes + length (piece_at f a).bytes
+length_after f a b is = ap (λ (s : State). length s.bytes) is ∙ length-append a.bytes (piece_at f a).bytes
+
+-- After the state k at least as many bytes were written as so many records.
 pub record Took (k t : State) (n : ℕ) : Type 0 where
   pub keeps : Keeps k t
-  pub valid : (B : List ℕ) → Holds k t B → IsValid t B
-  pub bytes : (B : List ℕ) → Holds k t B → length k.bytes + 11 * n ≤ length t.bytes
+  pub bytes : length k.bytes + n ≤ length t.bytes
 
--- behind questions
+-- after questions
 pub took_queries : (qs : List Query) (k t : State) → EachWritten QueryWord plain_query query_owner qs k t → Took k t 0
 took_queries qs k t each =
     let keeps = Each-keeps QueryWord plain_query query_owner qs k t each in
-    record {
-      keeps = keeps;
-      valid = λ B h. (Words-each QueryWord plain_query query_owner qs k t each B h).1;
-      bytes = λ B h. omega (arith, ap length keeps.bytes, length-append k.bytes keeps.appended);
-    }
+    record { keeps = keeps; bytes = omega (arith, ap length keeps.bytes, length-append k.bytes keeps.appended) }
 
--- behind records more
-pub took_more : (rs : List (Record RData)) (k s t : State) (n : ℕ) → Took k s n → EachWritten RecordWord plain_record record_owner rs s t → Took k t (n + length rs)
-took_more rs k s t n took each = record {
-  keeps = Keeps-then took.keeps later;
-  valid = λ B h. (words B h).1;
-  bytes = λ B h. omega (arith, took.bytes B (Holds-first k s t took.keeps later B h), records_take (words B h).0);
-} where
-  later : Keeps s t
-  later = Each-keeps RecordWord plain_record record_owner rs s t each
-
-  words : (B : List ℕ) → Holds k t B → BackToBack (λ i r e. RecordWord r B i e) (length s.bytes) rs (length t.bytes) × IsValid t B
-  words B h = Words-each RecordWord plain_record record_owner rs s t each B (Holds-second k s t took.keeps later B (took.valid B (Holds-first k s t took.keeps later B h)) h)
+-- after more records
+pub took_more : (rs : List (Record RData)) (k s t : State) (n : ℕ) → Took k s n → EachWritten RecordWord plain_record record_owner rs s t → t ≡ after (in_turn record_written rs) s → Took k t (n + length rs)
+took_more rs k s t n took each exact = record {
+  keeps = Keeps-then took.keeps (Each-keeps RecordWord plain_record record_owner rs s t each);
+  bytes = omega (arith, took.bytes, length_after (in_turn record_written rs) s t exact, each_some record_written record_some rs (length s.bytes) s.suffixes);
+}
 
 pub took_front : {xs : List (Record RData)} {k s t : State} {n m : ℕ} {is_cut : Bool} → Took k s n → WritesRecords xs s t m is_cut → Took k t (n + m)
-took_front {k = k} {s} {t} {n} took front = subst (λ l. Took k t (n + l)) (sym front.counted) (took_more front.kept k s t n took front.written)
+took_front {k = k} {s} {t} {n} took front = subst (λ l. Took k t (n + l)) (sym front.counted) (took_more front.kept k s t n took front.written front.exact)
 
--- An encoder with room for what it holds, in which no name is stored, under a limit that two bytes count.
-pub record IsFresh (k : State) : Type 0 where
-  pub no_suffix : k.suffixes ≡ []
+-- An encoder with room for what it holds, under a limit that two bytes count.
+pub record IsLimited (k : State) : Type 0 where
   pub within : length k.bytes ≤ k.limit
   pub small : k.limit < 2 ^ 16
 
--- behind it records are few
-pub took_few : {k t : State} {n : ℕ} → IsFresh k → Took k t n → n < 2 ^ 16
-took_few {k} {t} fresh took =
-    let bytes = took.bytes t.bytes (Holds-new k t fresh.no_suffix) in
-    omega (arith, bytes, took.keeps.within, fresh.within, fresh.small)
+-- after it records are few
+pub took_few : {k t : State} {n : ℕ} → IsLimited k → Took k t n → n < 2 ^ 16
+took_few limited took = omega (arith, took.bytes, took.keeps.within, limited.within, limited.small)
 
--- ---- bytes that questions take
-
--- a question takes five bytes at least
-questions_take : {B : List ℕ} {i e : ℕ} {qs : List Query} → BackToBack (λ j q k. QueryWord q B j k) i qs e → i + 5 * length qs ≤ e
-questions_take none = omega arith
-questions_take (more word rest) = omega (arith, name_takes word.owner.0, word.end, questions_take rest)
-
--- so they are few, too
-pub queries_few : (qs : List Query) (k t : State) → IsFresh k → EachWritten QueryWord plain_query query_owner qs k t → length qs < 2 ^ 16
-queries_few qs k t fresh each =
-    let words = Words-each QueryWord plain_query query_owner qs k t each t.bytes (Holds-new k t fresh.no_suffix) in
-    omega (arith, questions_take words.0, (Each-keeps QueryWord plain_query query_owner qs k t each).within, fresh.within, fresh.small)
+-- and so are questions
+pub queries_few : (qs : List Query) (k t : State) → IsLimited k → EachWritten QueryWord plain_query query_owner qs k t → t ≡ after (in_turn query_written qs) k → length qs < 2 ^ 16
+queries_few qs k t limited each exact =
+    omega (arith, length_after (in_turn query_written qs) k t exact, each_some query_written query_some qs (length k.bytes) k.suffixes, (Each-keeps QueryWord plain_query query_owner qs k t each).within, limited.within, limited.small)
 
 pub queries_within : (qs : List Query) (a b : State) → EachWritten QueryWord plain_query query_owner qs a b → length b.bytes ≤ length a.bytes + plain_queries qs
 queries_within [] a b same = omega (arith, ap (λ (s : State). length s.bytes) same)

@@ -1,4 +1,4 @@
--- A message of slices, in an encoder that is empty, is refused for memory, or where header or questions have no room.
+-- A message of slices is refused for memory, or where header or questions have no room, whatever the encoder holds.
 use Rattle.std.proofs.Common.{◌≡◌, ◌⊎◌, ℕ, true, ◌+◌, ◌<◌, ◌≤◌, ◌^◌, List, [], ◌∷◌, length, inl, inr, ap, sym, ◌∙◌, subst, arith, length-append, Result, Ok, Err, Iter}
 use Rattle.std.specs.Prelude.{IfErr, ⊤, replicate}
 use Rattle.base.specs.Items.{EachWritten}
@@ -21,7 +21,7 @@ use Rattle.op.specs.declared.message.writing.parts.Written.{Written}
 use Rattle.op.specs.declared.query.Query.{Query}
 use Rattle.op.proofs.EmittedLemmas.{AreOf, Composed, EmitsSlice, EmitsSlices, Idle, SectionFronts, Slice, Slices, emits_queries, emits_records, records_front, sections_done}
 use Rattle.op.proofs.RefusalLemmas.{Left, queries_failed, room_failed}
-use Rattle.op.proofs.RoomLemmas.{IsFresh, Took, plain-append, queries_few, queries_within, took_few, took_front, took_more, took_queries}
+use Rattle.op.proofs.RoomLemmas.{IsLimited, Took, plain-append, queries_few, queries_within, took_few, took_front, took_more, took_queries}
 use Rattle.op.proofs.RunLemmas.{Both, failed, same_err}
 use Rattle.base.specs.Written.{after, in_turn}
 
@@ -29,16 +29,17 @@ use Rattle.base.specs.Written.{after, in_turn}
 record Many (a b : State) : Type 0 where
   kept : List (Record RData)
   written : EachWritten RecordWord plain_record record_owner kept a b
+  exact : b ≡ after (in_turn record_written kept) a
   many : 2 ^ 16 ≤ length kept
 
 -- why a part that is a slice of records is refused
 part_failed : (s t : Iter (Record RData)) (a b : State) (answer : Result ℕ ProtoError) (e : ProtoError) → emits_records s a answer t b → Counts answer (Err e) → (e ≡ refusals.Memory) ⊎ Many a b
 part_failed s t a b (Ok n) e emits counts =
     let all = Emits-slice RecordWord plain_record record_owner record_written s t a b n emits in
-    inr (record { kept = s.rest.now; written = all.0; many = omega (arith, counts.0, all.1) })
+    inr (record { kept = s.rest.now; written = all.0; exact = all.2; many = omega (arith, counts.0, all.1) })
 part_failed s t a b (Err (refusals.NotAllRecordsWritten n)) e emits counts =
     let front = Emits-front RecordWord plain_record record_owner record_written s t a b n emits in
-    inr (record { kept = front.0; written = front.4; many = omega (arith, counts.0, front.5) })
+    inr (record { kept = front.0; written = front.4; exact = front.7; many = omega (arith, counts.0, front.5) })
 part_failed s t a b (Err refusals.Memory) e emits counts = inl (same_err {Y = Written} e refusals.Memory counts)
 part_failed s t a b (Err refusals.MaxBufferSizeExceeded) e emits counts = absurd emits
 part_failed s t a b (Err refusals.NotOpt) e emits counts = absurd emits
@@ -47,10 +48,10 @@ part_failed s t a b (Err refusals.NotAResponse) e emits counts = absurd emits
 part_failed s t a b (Err (refusals.Decode d)) e emits counts = absurd emits
 
 -- Behind the state k, with the room for a header, no more records stand than a header can count.
-module _ (k : State) (fresh : IsFresh k) (e : ProtoError) where
+module _ (k : State) (limited : IsLimited k) (e : ProtoError) where
   few_written : (a b : State) (n : ℕ) → Took k a n → Many a b → e ≡ refusals.Memory
   few_written a b n took many =
-      let few = took_few fresh (took_more many.kept k a b n took many.written) in
+      let few = took_few limited (took_more many.kept k a b n took many.written many.exact) in
       absurd (omega (arith, few, many.many))
 
   slice_failed : (x : Slice (Record RData)) (a b : State) (n : ℕ) → Took k a n → EmitsSlice x a (Err e) b → e ≡ refusals.Memory
@@ -105,7 +106,7 @@ module _ (k : State) (fresh : IsFresh k) (e : ProtoError) where
     signed_failed sum fifth front count b =
         let second = took_front took front in
         let third = took_front second b.ran in
-        let few = took_few fresh third in
+        let few = took_few limited third in
         absurd (omega (arith, few, b.rest.0.0, count))
 
     sum_failed : (opt : Written) (fifth : State) → WritesRecords edns fourth fifth opt.count opt.is_cut → Both (Tests (Adds additionals opt)) Third_extra fifth (Err e) last → e ≡ refusals.Memory
@@ -118,7 +119,7 @@ module _ (k : State) (fresh : IsFresh k) (e : ProtoError) where
 
     opt_failed : Both (WritesRecordItems edns) Second_extra fourth (Err e) last → e ≡ refusals.Memory
     opt_failed b =
-        let few = took_few fresh (took_front took b.ran) in
+        let few = took_few limited (took_front took b.ran) in
         elim (failed e b.rest) [
           | inl test ↦ absurd (omega (arith, few, test.0.0))
           | inr c ↦ sum_failed b.value b.between b.ran c
@@ -130,7 +131,7 @@ module _ (k : State) (fresh : IsFresh k) (e : ProtoError) where
 -- ---- the whole
 
 module _ (m : MessageValue) (s : Slices) (are : AreOf m s) (old new : State)
-    (empty : old.bytes ≡ []) (blank : old.suffixes ≡ []) (small : old.limit < 2 ^ 16) (e : ProtoError) where
+    (small : old.limit < 2 ^ 16) (e : ProtoError) where
   abbrev Headed : ℕ → ℕ → WrittenSections → Written → State → Result Header ProtoError → State → Type 0
   Headed place queries sections additionals = AndThen (Tests (HasHeader m.metadata queries sections additionals)) ⊤ (FillsIn place)
 
@@ -147,8 +148,8 @@ module _ (m : MessageValue) (s : Slices) (are : AreOf m s) (old new : State)
     limit : kept.limit ≡ old.limit
     limit = ap (λ (a : State). a.limit) room.1
 
-    fresh : IsFresh kept
-    fresh = record { no_suffix = ap (λ (a : State). a.suffixes) room.1 ∙ blank; within = omega (arith, room.2, limit); small = omega (arith, limit, small) }
+    limited : IsLimited kept
+    limited = record { within = omega (arith, room.2, limit); small = omega (arith, limit, small) }
 
     header_failed : {sixth : State} (queries : ℕ) (sections : WrittenSections) (total : Written) → queries < 2 ^ 16
         → AndThen (Tests (HasHeader m.metadata queries sections total)) ⊤ (FillsIn place) sixth (Err e) new → e ≡ refusals.Memory
@@ -163,14 +164,14 @@ module _ (m : MessageValue) (s : Slices) (are : AreOf m s) (old new : State)
     extras_next {fourth = fourth} {sections = sections} queries few took three run =
         let all = took_front (took_front (took_front took three.answers) three.authorities) three.additionals in
         elim (failed e run) [
-          | inl extras ↦ extras_failed kept fresh e s.edns s.signature sections.additionals fourth new (0 + sections.answers.count + sections.authorities.count) all extras
+          | inl extras ↦ extras_failed kept limited e s.edns s.signature sections.additionals fourth new (0 + sections.answers.count + sections.authorities.count) all extras
           | inr b ↦ header_failed queries sections b.value few b.rest
         ]
 
     sections_next : (queries : ℕ) (first : State) → queries < 2 ^ 16 → Took kept first 0 → Sectioned place queries first (Err e) new → e ≡ refusals.Memory
     sections_next queries first few took run =
         elim (failed e run) [
-          | inl sections ↦ sections_failed kept fresh e s first new took sections
+          | inl sections ↦ sections_failed kept limited e s first new took sections
           | inr b ↦ extras_next queries few took (sections_done s b.value first b.between b.ran) b.rest
         ]
 
@@ -184,16 +185,16 @@ module _ (m : MessageValue) (s : Slices) (are : AreOf m s) (old new : State)
         asked_next : (queries : ℕ) (first : State) → EachWritten QueryWord plain_query query_owner s.queries.before.rest.now kept first × (queries ≡ length s.queries.before.rest.now) × (first ≡ after (in_turn query_written s.queries.before.rest.now) kept)
             → Sectioned place queries first (Err e) new → e ≡ refusals.Memory
         asked_next queries first asked rest =
-            let few = queries_few s.queries.before.rest.now kept first fresh asked.0 in
+            let few = queries_few s.queries.before.rest.now kept first limited asked.0 asked.2 in
             sections_next queries first (omega (arith, asked.1, few)) (took_queries s.queries.before.rest.now kept first asked.0) rest
 
   pub composed_failed : Composed m s old (Err e) new → Left m old new e
   composed_failed run = elim (failed e run) [ inl room ↦ room_failed m old new e room | inr b ↦ queries_next b.value b.between b.ran b.rest ]
 
 pub left_if : {m : MessageValue} {s : Slices} {old new : State} → AreOf m s → (result : Result Header ProtoError) → Composed m s old result new
-    → old.bytes ≡ [] → old.suffixes ≡ [] → old.limit < 2 ^ 16 → IfErr result (λ e. (e ≡ refusals.Memory) ⊎ Leaves m old e new)
-left_if are (Ok h) run empty blank small = tt
-left_if {m} {s} {old} {new} are (Err e) run empty blank small = composed_failed m s are old new empty blank small e run
+    → old.limit < 2 ^ 16 → IfErr result (λ e. (e ≡ refusals.Memory) ⊎ Leaves m old e new)
+left_if are (Ok h) run small = tt
+left_if {m} {s} {old} {new} are (Err e) run small = composed_failed m s are old new small e run
 
 -- ---- what follows of the limit
 

@@ -42,10 +42,6 @@ abbrev pub Says : List ℕ → ProtoError → Type 0
 Says text (refusals.Message said) = said.now ≡ text
 Says text _ = ⊥
 
--- the refusal of a count that two bytes don't hold
-abbrev pub IsTooMany : ProtoError → Type 0
-IsTooMany e = Says (codes "too many records to fit in header count") e ⊎ Says (codes "too many queries to fit in header count") e
-
 -- a count as a header holds it, in two bytes
 abbrev pub Narrows : ℕ → Bool → Result Written ProtoError → Type 0
 Narrows n is_cut (Ok written) = (n < 2 ^ 16) × (written ≡ record { count = n; is_cut = is_cut })

@@ -3,7 +3,6 @@
 ghost use Rattle.std.specs.Prelude.{◌≡◌, ◌⊎◌, [], Err, IfErr, IfOk, IsOkUnless, Ok};
 ghost use Rattle.base.specs.Laws.{Keeps};
 ghost use Rattle.base.specs.Wire.{state_of};
-ghost use Rattle.op.specs.Composition.{IsTooMany};
 ghost use Rattle.op.specs.Cut.{IsTooSmall, IsWritten};
 ghost use Rattle.op.specs.Emitted.{Emitted, EmittedNew, Leaves, LeavesNew};
 ghost use Rattle.op.specs.Fits.{Fits, HasRoom};
@@ -28,9 +27,8 @@ impl Message {
     ///
     /// Refused, whatever the encoder holds, with `MaxBufferSizeExceeded` where the header doesn't fit, and then nothing is
     /// written; with `NotAllRecordsWritten` where the questions don't, behind so many that are written, which are all
-    /// before the first that doesn't fit; with a `Message` where a count passes 65,535; and for want of memory. Into a
-    /// new encoder no count passes that, and with room for header and questions uncompressed it is refused for want of
-    /// memory alone.
+    /// before the first that doesn't fit; and for want of memory. Into a new encoder with room for header and questions
+    /// uncompressed it is refused for want of memory alone.
     pub fn emit(&self, encoder: &mut BinEncoder<'_>) -> Result<(), ProtoError>
         ensures keeps { Keeps (state_of encoder.old) (state_of encoder.new) }
         ensures emitted { IfOk result (λ _. (h : WrittenHeader) × Emitted (message_value self.now) (state_of encoder.old) (state_of encoder.new) h) }
@@ -38,13 +36,12 @@ impl Message {
             ≡ after (message_written (state_of encoder.old).limit (message_value self.now)) (state_of encoder.old)) }
         ensures written { Fits (message_value self.now) → (state_of encoder.old).bytes ≡ [] → (state_of encoder.old).suffixes ≡ []
             → IfOk result (λ _. IsWritten (message_value self.now) (state_of encoder.old).limit (state_of encoder.new).bytes) }
-        ensures only { IfErr result (λ e. (e ≡ ProtoError.Memory) ⊎ (Leaves (message_value self.now) (state_of encoder.old) e (state_of encoder.new) ⊎ IsTooMany e)) }
         ensures succeeds { (state_of encoder.old).bytes ≡ [] → (state_of encoder.old).suffixes ≡ [] → HasRoom (message_value self.now) (state_of encoder.old).limit
             → IsOkUnless result ProtoError.Memory }
         ensures refused { (state_of encoder.old).bytes ≡ [] → (state_of encoder.old).suffixes ≡ []
             → IfErr result (λ e. (e ≡ ProtoError.Memory) ⊎ IsTooSmall (message_value self.now) (state_of encoder.old).limit e) }
-        ensures left { (state_of encoder.old).bytes ≡ [] → (state_of encoder.old).suffixes ≡ []
-            → IfErr result (λ e. (e ≡ ProtoError.Memory) ⊎ Leaves (message_value self.now) (state_of encoder.old) e (state_of encoder.new)) }
+        ensures left { IfErr result (λ e. (e ≡ ProtoError.Memory)
+            ⊎ Leaves (message_value self.now) (state_of encoder.old) e (state_of encoder.new)) }
         ensures answer { (state_of encoder.old).bytes ≡ [] → (state_of encoder.old).suffixes ≡ []
             → IfOk result (λ _. message_answer (state_of encoder.old).limit (message_value self.now)
             ≡ Ok (state_of encoder.new).bytes) }

@@ -4,7 +4,7 @@ ghost use Rattle.std.specs.Prelude.{◌≡◌, ◌||◌, ◌<◌, ◌^◌, [], E
 ghost use Rattle.std.specs.Option.{option_copied};
 ghost use Rattle.base.specs.Laws.{Keeps};
 ghost use Rattle.base.specs.Wire.{state_of};
-ghost use Rattle.op.specs.Composition.{Composition, HasHeader, IsTooMany};
+ghost use Rattle.op.specs.Composition.{Composition, HasHeader};
 ghost use Rattle.op.specs.Cut.{IsTooSmall};
 ghost use Rattle.op.specs.Emitted.{Emitted, Leaves};
 ghost use Rattle.op.specs.Fits.{opt_records, signature_records};
@@ -79,11 +79,10 @@ impl Message {
         ensures emitted { IfOk result (λ h. Emitted (message_value self.now) (state_of encoder.old) (state_of encoder.new) h) }
         ensures exact { IfOk result (λ _. state_of encoder.new
             ≡ after (message_written (state_of encoder.old).limit (message_value self.now)) (state_of encoder.old)) }
-        ensures only { IfErr result (λ e. (e ≡ ProtoError.Memory) ⊎ (Leaves (message_value self.now) (state_of encoder.old) e (state_of encoder.new) ⊎ IsTooMany e)) }
         ensures refused { (state_of encoder.old).bytes ≡ [] → (state_of encoder.old).suffixes ≡ []
             → IfErr result (λ e. (e ≡ ProtoError.Memory) ⊎ IsTooSmall (message_value self.now) (state_of encoder.old).limit e) }
-        ensures left { (state_of encoder.old).bytes ≡ [] → (state_of encoder.old).suffixes ≡ []
-            → IfErr result (λ e. (e ≡ ProtoError.Memory) ⊎ Leaves (message_value self.now) (state_of encoder.old) e (state_of encoder.new)) }
+        ensures left { IfErr result (λ e. (e ≡ ProtoError.Memory)
+            ⊎ Leaves (message_value self.now) (state_of encoder.old) e (state_of encoder.new)) }
         ensures answer { (state_of encoder.old).bytes ≡ [] → (state_of encoder.old).suffixes ≡ []
             → IfOk result (λ _. message_answer (state_of encoder.old).limit (message_value self.now)
             ≡ Ok (state_of encoder.new).bytes) }
