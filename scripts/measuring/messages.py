@@ -209,6 +209,12 @@ def single(size):
     return questions(size, lambda i, at: b"\1" + bytes([97 + i % 26]) + b"\0")
 
 
+def pointed(size):
+    """A name of 250 bytes, and then pointers to it alone."""
+    long = b"".join(bytes([61]) + bytes([97 + k]) * 61 for k in range(4)) + b"\0"
+    return questions(size, lambda i, at: long if i == 0 else b"\xc0\x0c")
+
+
 def owners(size):
     """Names without shared ends."""
     return questions(size, lambda i, at: bytes([8]) + f"h{i:07}".encode() + bytes([8]) + f"e{i:07}".encode() + b"\0")

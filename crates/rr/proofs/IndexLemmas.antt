@@ -19,6 +19,7 @@ use Rattle.base.proofs.LawLemmas.{none_is_not}
 use Rattle.base_data.specs.Kinds.{canonical_data}
 use Rattle.base_data.specs.OPT.{options_wire}
 use Rattle.base_data.specs.SameData.{same_data}
+use Rattle.base_data.specs.contracts.rdata.RDataEq.TheImpl.Laws.{laws-law as data_laws}
 use Rattle.base_data.specs.declared.rdata.RData.{RData}
 use Rattle.base_data.specs.declared.rdata.RData.TheVariants as kinds
 use Rattle.base_data.proofs.Comparing.{options_decide}
@@ -26,8 +27,8 @@ use Rattle.base_data.proofs.MXLemmas.{mx_same}
 use Rattle.base_data.proofs.NameWords.{name_same}
 use Rattle.base_data.proofs.SOALemmas.{soa_same}
 use Rattle.base_data.proofs.SRVLemmas.{srv_same}
-use Rattle.rr.specs.DataIndex.{IsIndexOf, IsOnlyAt, place_at}
-use Rattle.rr.specs.SetChanges.{entered, has_data_of, has_entry, joined, replaced}
+use Rattle.rr.specs.DataIndex.{IsFirstAt, IsIndexOf, IsOnlyAt, place_at}
+use Rattle.rr.specs.SetChanges.{entered, first_of, has_data_of, has_entry, joined, replaced}
 use Rattle.rr.specs.declared.record.Record.{Record}
 use Rattle.rr.specs.RecordSet.{same_entry}
 use Rattle.rr.proofs.SetSteps.{other_data, replaced_none}
@@ -286,6 +287,32 @@ entered_at r rs p x h is other = (λ i. (true, joined_at r rs p h i)) ∙ sym (e
 
 pub entered_behind : (r : Record RData) (rs : List (Record RData)) → list_any (has_data_of r) rs ≡ false → ◌≡◌ {A = Bool × List (Record RData)} (true, rs ++ r ∷ []) (entered r rs)
 entered_behind r rs none = (λ i. (true, joined_behind r rs none i)) ∙ sym (entries r rs false (entry_none r rs none))
+
+-- the first record of equal data is the only one
+first_by : (rdata : RData) (rs : List (Record RData)) (p : ℕ) → p < length rs → ((d : Record RData) → same_data (get_or rs p d).rdata rdata ≡ true)
+    → ((i : ℕ) (d : Record RData) → i < length rs → i ≢ p → same_data (get_or rs i d).rdata rdata ≡ false) → IsFirstAt rdata rs p
+first_by rdata [] p inside same others = absurd (omega arith)
+first_by rdata (x ∷ xs) zero inside same others = sym (cond-true (same_data x.rdata rdata) (Some x) (first_of rdata xs) (same x))
+first_by rdata (x ∷ xs) (suc p) inside same others =
+    first_by rdata xs p (omega arith) same (λ j d within other. others (suc j) d (omega arith) (λ q. other (omega (arith, q))))
+    ∙ sym (cond-false (same_data x.rdata rdata) (Some x) (first_of rdata xs) (others 0 x (omega arith) (λ q. absurd (omega (arith, q)))))
+
+pub first_only : (r : Record RData) (rs : List (Record RData)) (p : ℕ) → IsOnlyAt r.rdata rs p → IsFirstAt r.rdata rs p
+first_only r rs p h = first_by r.rdata rs p h.inside h.same h.others
+
+-- also once r stands there
+pub first_set : (r : Record RData) (rs : List (Record RData)) (p : ℕ) → IsOnlyAt r.rdata rs p → IsFirstAt r.rdata (set rs p r) p
+first_set r rs p h =
+    first_by r.rdata (set rs p r) p (omega (arith, length-set rs p r, h.inside))
+    (λ d. ap (λ (x : Record RData). same_data x.rdata r.rdata) (get_or-set_same rs p r d h.inside) ∙ data_laws.refl r.rdata)
+    (λ i d within other. ap (λ (x : Record RData). same_data x.rdata r.rdata) (get_or-set_other rs p i r d other) ∙ h.others i d (omega (arith, length-set rs p r, within)) other)
+
+-- or behind records of other data
+pub first_behind : (r : Record RData) (rs : List (Record RData)) → list_any (has_data_of r) rs ≡ false → IsFirstAt r.rdata (rs ++ r ∷ []) (length rs)
+first_behind r [] none = sym (cond-true (same_data r.rdata r.rdata) (Some r) None (data_laws.refl r.rdata))
+first_behind r (x ∷ xs) none =
+    let parts : (has_data_of r x ≡ false) × (list_any (has_data_of r) xs ≡ false) = or_parts (has_data_of r x) _ none in
+    first_behind r xs parts.1 ∙ sym (cond-false (same_data x.rdata r.rdata) (Some x) (first_of r.rdata (xs ++ r ∷ [])) parts.0)
 
 -- the index has the place of the one that has the data
 pub place_is : (find : List ℕ → Option ℕ) (rs : List (Record RData)) (rdata : RData) (p : ℕ) (d : Record RData) → IsIndexOf find rs → IsOnlyAt rdata rs p → find (canonical_data rdata) ≡ Some p

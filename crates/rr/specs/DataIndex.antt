@@ -2,11 +2,13 @@
 use Rattle.std.specs.Prelude.{true, false, ℕ, ◌<◌, ◌≡◌, ◌≢◌, List, Option, Some, Vec, get_or, length}
 use Rattle.std.specs.BTreeMap.{BTreeMap, get_by}
 use Rattle.std.specs.Cmp.Lexicographic.{slice_cmp}
+use Rattle.std.specs.List.{slice_get}
 use Rattle.std.specs.Ordering.{nat_cmp}
 use Rattle.std.specs.declared.alloc.Global.{Global}
 use Rattle.base_data.specs.Kinds.{canonical_data}
 use Rattle.base_data.specs.SameData.{same_data}
 use Rattle.base_data.specs.declared.rdata.RData.{RData}
+use Rattle.rr.specs.SetChanges.{first_of}
 use Rattle.rr.specs.declared.record.Record.{Record}
 
 -- the place that the index has at a key
@@ -23,3 +25,7 @@ pub record IsOnlyAt (rdata : RData) (rs : List (Record RData)) (p : ℕ) : Type 
   pub inside : p < length rs
   pub same : (d : Record RData) → same_data (get_or rs p d).rdata rdata ≡ true
   pub others : (i : ℕ) (d : Record RData) → i < length rs → i ≢ p → same_data (get_or rs i d).rdata rdata ≡ false
+
+-- At this place stands the first record of this data.
+abbrev pub IsFirstAt : RData → List (Record RData) → ℕ → Type 0
+IsFirstAt rdata rs p = slice_get rs p ≡ first_of rdata rs

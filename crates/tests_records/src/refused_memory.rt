@@ -6,10 +6,10 @@ use rr::{Record, RecordSet};
 use std::alloc::Global;
 use std::test::Fail;
 
-/// Data of a row: the last byte of an address, or a start's serial and first name, or a name.
+/// Data of a row: the number of an address, or a start's serial and first name, or a name.
 #[derive(Clone, Copy)]
 enum Datum {
-    Address(u8),
+    Address(u16),
     Start(u32, &'static str),
     Alias(&'static str),
     Server(&'static str),
@@ -35,7 +35,7 @@ enum Way {
 /// The data of the row.
 fn rdata_of(alloc: Global, datum: Datum) -> Result<RData, Fail> {
     Ok(match datum {
-        Datum::Address(last) => address(last),
+        Datum::Address(number) => address(number),
         Datum::Start(serial, name) => start(Name::parse(alloc, name, None)?, serial),
         Datum::Alias(name) => RData::CNAME(CNAME::new(Name::parse(alloc, name, None)?)),
         Datum::Server(name) => RData::NS(NS::new(Name::parse(alloc, name, None)?)),
@@ -225,6 +225,29 @@ fn addresses_are_put_in(rt: HostRuntime) -> Result<(), Fail> {
         Step::Put(second, true, true),
     ];
     assert!(rt; goes_each_way(rt.alloc(), RecordType::A, &steps, &[first, second])?);
+    Ok(())
+}
+
+/// Whether as many addresses as an index is made for go in, in this way: 25 of them, 24 times the first again, and three
+/// more, of which the first makes the index.
+fn goes_by_index(alloc: Global, way: Way) -> Result<bool, Fail> {
+    let mut set = empty(alloc, RecordType::A)?;
+    let mut right = true;
+    for step in 0..52u16 {
+        let is_new = step < 25 || step >= 49;
+        let datum = Datum::Address(if is_new { step } else { 0 });
+        right = takes(alloc, &mut set, way, Step::Put(datum, is_new, true))? && right;
+    }
+    right = set.records_count() == 28 && right;
+    drop(set);
+    Ok(right)
+}
+
+#[test]
+fn addresses_are_put_in_by_an_index(rt: HostRuntime) -> Result<(), Fail> {
+    for way in [Way::Insert, Way::AddRdata, Way::NewRecord] {
+        assert!(rt; goes_by_index(rt.alloc(), way)?);
+    }
     Ok(())
 }
 

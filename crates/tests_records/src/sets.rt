@@ -5,6 +5,7 @@ ghost use Rattle.rr.specs.SetChanges.{holds_one};
 
 mod inserting;
 mod iterating;
+mod many;
 pub(super) mod removing;
 
 use base::{DNSClass, Name, RecordType};
@@ -14,12 +15,13 @@ use std::alloc::Global;
 use std::net::Ipv4Addr;
 use std::test::Fail;
 
-/// A record of an address: its last byte, its class and its TTL.
-pub(super) type Row = (u8, DNSClass, u32);
+/// A record of an address: its number, its class and its TTL.
+pub(super) type Row = (u16, DNSClass, u32);
 
-/// The data of the address 93.184.216 and this byte.
-pub(super) fn address(last: u8) -> RData {
-    A::new(Ipv4Addr::new(93, 184, 216, last)).into_rdata()
+/// The data of the address that begins with 93.184 and ends in this number.
+pub(super) fn address(number: u16) -> RData {
+    let [high, low] = number.to_be_bytes();
+    A::new(Ipv4Addr::new(93, 184, high, low)).into_rdata()
 }
 
 /// The record of `example.` with this data.
@@ -45,8 +47,8 @@ pub(super) fn record(
 /// The records of these rows.
 fn records(alloc: Global, rows: &[Row]) -> Result<Vec<Record>, Fail> {
     let mut records = Vec::new(alloc);
-    for &(last, dns_class, ttl) in rows {
-        records.push(record(alloc, dns_class, ttl, address(last))?)?;
+    for &(number, dns_class, ttl) in rows {
+        records.push(record(alloc, dns_class, ttl, address(number))?)?;
     }
     Ok(records)
 }

@@ -3,7 +3,7 @@
 ghost use Rattle.std.specs.Prelude.{◌≡◌, false, IfOk, IfSome, MatchOption, OnErr};
 ghost use Rattle.std.specs.List.{list_any};
 ghost use Rattle.base_data.specs.Kinds.{canonical_data};
-ghost use Rattle.rr.specs.DataIndex.{IsIndexOf, IsOnlyAt, place_at};
+ghost use Rattle.rr.specs.DataIndex.{IsFirstAt, IsIndexOf, IsOnlyAt, place_at};
 ghost use Rattle.rr.specs.SetChanges.{entered, has_data_of};
 
 use crate::record::Record;
@@ -15,6 +15,17 @@ use std::collections::BTreeMap;
 
 /// The place of each record, at the canonical form of its data.
 pub(super) type DataIndex = BTreeMap<Vec<u8>, usize>;
+
+/// What putting a record in by an index answers.
+#[derive(Drop)]
+pub(super) struct Entered {
+    /// Whether the record went in.
+    pub(super) is_new: bool,
+    /// Where the record of its data stands then.
+    pub(super) place: usize,
+    /// The index then, or none where records of other data have one canonical form.
+    pub(super) index: Option<Box<DataIndex>>,
+}
 
 /// The key of data.
 fn key_of(rdata: &RData, alloc: Global) -> Result<Vec<u8>, AllocError>
@@ -57,32 +68,49 @@ fn place_of(places: &DataIndex, records: &Vec<Record>, key: &[u8], entry: &Recor
     None
 }
 
-/// Puts a record among others whose index this is, unless an equal one of its TTL is there. The answer is whether it
-/// went in, and the index then, or none where records of other data have one canonical form.
+/// Puts a record among others whose index this is, unless an equal one of its TTL is there.
 pub(super) fn enter_by_index(
     records: &mut Vec<Record>,
     places: Box<DataIndex>,
     entry: Record,
-) -> Result<(bool, Option<Box<DataIndex>>), AllocError>
+) -> Result<Entered, AllocError>
     requires { IsIndexOf (place_at places.value) records.old.items }
-    ensures ok { IfOk result (λ done. (done.0, records.new.items) ≡ entered entry records.old.items) }
-    ensures index { IfOk result (λ done. IfSome done.1 (λ after. IsIndexOf (place_at after.value) records.new.items)) }
+    ensures ok { IfOk result (λ done. (done.is_new, records.new.items) ≡ entered entry records.old.items) }
+    ensures place { IfOk result (λ done. IsFirstAt entry.rdata records.new.items done.place) }
+    ensures index { IfOk result (λ done. IfSome done.index (λ after. IsIndexOf (place_at after.value) records.new.items)) }
     ensures err { OnErr result (records.new.items ≡ records.old.items) }
 {
     let key = key_of(&entry.rdata, *records.allocator())?;
     if let Some(place) = place_of(&places, records, &key, &entry) {
         if is_entry(&records[place], &entry) {
-            return Ok((false, Some(places)));
+            return Ok(Entered {
+                is_new: false,
+                place,
+                index: Some(places),
+            });
         }
         set_at(records, place, entry);
-        return Ok((true, Some(places)));
+        return Ok(Entered {
+            is_new: true,
+            place,
+            index: Some(places),
+        });
     }
     let mut places = places;
+    let place = records.len();
     records.reserve(1)?;
-    let tied = places.insert(key, records.len())?.is_some();
+    let tied = places.insert(key, place)?.is_some();
     records.push(entry)?;
     if tied {
-        return Ok((true, None));
+        return Ok(Entered {
+            is_new: true,
+            place,
+            index: None,
+        });
     }
-    Ok((true, Some(places)))
+    Ok(Entered {
+        is_new: true,
+        place,
+        index: Some(places),
+    })
 }

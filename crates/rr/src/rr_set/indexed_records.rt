@@ -2,7 +2,7 @@
 
 ghost use Rattle.std.specs.Prelude.{◌≡◌, ◌≤◌, ◌∷◌, [], IfOk, IfSome, None, OnErr, OnOk, filter, length, map, not};
 ghost use Rattle.base_data.specs.declared.rdata.RData.{RData};
-ghost use Rattle.rr.specs.DataIndex.{IsIndexOf, place_at};
+ghost use Rattle.rr.specs.DataIndex.{IsFirstAt, IsIndexOf, place_at};
 ghost use Rattle.rr.specs.SetChanges.{entered, has_data_of};
 ghost use Rattle.rr.specs.declared.record.Record.{Record as Entry};
 
@@ -87,18 +87,20 @@ impl IndexedRecords {
         put_alone(&mut self.records, entry)
     }
 
-    /// Puts a record among the others, unless an equal one of its TTL is there, and answers whether it went in.
-    pub(super) fn enter(&mut self, entry: Record) -> Result<bool, AllocError>
-        ensures ok { IfOk result (λ is_new. (is_new, self.new) ≡ entered entry self.old) }
+    /// Puts a record among the others, unless an equal one of its TTL is there. The answer is whether it went in, and
+    /// where the first record of its data stands then, if an index told that.
+    pub(super) fn enter(&mut self, entry: Record) -> Result<(bool, Option<usize>), AllocError>
+        ensures ok { IfOk result (λ done. (done.0, self.new) ≡ entered entry self.old) }
+        ensures place { IfOk result (λ done. IfSome done.1 (IsFirstAt entry.rdata self.new)) }
         ensures err { OnErr result (self.new ≡ self.old) }
     {
         let known = self.index.take();
         let Some(places) = index_for(&self.records, known, &mut self.scans)? else {
-            return enter(&mut self.records, entry);
+            return Ok((enter(&mut self.records, entry)?, None));
         };
-        let (is_new, index) = enter_by_index(&mut self.records, places, entry)?;
-        self.index = index;
-        Ok(is_new)
+        let done = enter_by_index(&mut self.records, places, entry)?;
+        self.index = done.index;
+        Ok((done.is_new, Some(done.place)))
     }
 
     /// Takes out the records with the data of this one. Takes no memory.

@@ -1,9 +1,10 @@
 //! Puts records into a set (RFC 2136, 1.1.5 and 3.4.2.2).
 
-ghost use Rattle.std.specs.Prelude.{◌≡◌, ◌≤◌, ⊤, IfOk, OnErr, length, option_map, true};
+ghost use Rattle.std.specs.Prelude.{◌≡◌, ◌≤◌, ⊤, IfOk, IfSome, OnErr, OnOk, length, option_map, true};
 ghost use Rattle.std.specs.Borrow.{follows_so, sem};
 ghost use mathlib.Core.Option.{none};
 ghost use Rattle.base.specs.Wire.{IsMemory};
+ghost use Rattle.rr.specs.DataIndex.{IsFirstAt};
 ghost use Rattle.rr.specs.SetChanges.{MayAdd, MayEnter, add_data, first_of, holds_one, insert, put, stays};
 ghost use Rattle.rr.specs.contracts.rr_set.RecordSet.{the_row};
 
@@ -32,7 +33,8 @@ impl RecordSet {
         ensures err { OnErr result (self.new ≡ self.old) }
         ensures memory { IsMemory result }
     {
-        Ok(self.enter(entry, serial)?)
+        let (is_new, _) = self.enter(entry, serial)?;
+        Ok(is_new)
     }
 
     /// Puts a record of this data in, with the set's name and TTL, of class IN, and with the serial 0. The answer is
@@ -61,64 +63,73 @@ impl RecordSet {
         ensures* after { sem 𝓛 (follows_so the_row the_row self.entry.ghost_name none (λ _ _. ⊤)
             (λ n. IfOk result (λ _. n ≡ (add_data self.old rdata.now).1) × OnErr result (n ≡ self.old))) }
     {
-        self.add_copy(rdata)?;
-        Ok(self.first_of(rdata))
+        let place = self.add_copy(rdata)?;
+        Ok(self.first_of(rdata, place))
     }
 
-    /// Puts a record of a copy of this data in, and answers as `add_rdata` does.
-    fn add_copy(&mut self, rdata: &RData) -> Result<bool, AllocError>
+    /// Puts a record of a copy of this data in. The answer is where the first record of equal data stands then, if an
+    /// index told that.
+    fn add_copy(&mut self, rdata: &RData) -> Result<Option<usize>, AllocError>
         requires { MayAdd self.old rdata.now }
-        ensures ok { IfOk result (λ is_new. (is_new, self.new) ≡ add_data self.old rdata.now) }
+        ensures ok { OnOk result (self.new ≡ (add_data self.old rdata.now).1) }
+        ensures place { IfOk result (λ place. IfSome place (IsFirstAt rdata.now self.new.records)) }
         ensures err { OnErr result (self.new ≡ self.old) }
     {
         let entry = Record::from_rdata(self.name.clone()?, self.ttl, rdata.clone()?);
-        self.enter(entry, 0)
+        let (_, place) = self.enter(entry, 0)?;
+        Ok(place)
     }
 
-    /// Puts a record in, and answers as `insert` does.
-    fn enter(&mut self, entry: Record, serial: u32) -> Result<bool, AllocError>
+    /// Puts a record in. The answer is that of `insert`, and where the first record of equal data stands then, if an
+    /// index told that.
+    fn enter(&mut self, entry: Record, serial: u32) -> Result<(bool, Option<usize>), AllocError>
         requires { MayEnter self.old entry }
-        ensures ok { IfOk result (λ is_new. (is_new, self.new) ≡ insert self.old entry serial) }
+        ensures ok { IfOk result (λ done. (done.0, self.new) ≡ insert self.old entry serial) }
+        ensures place { IfOk result (λ done. IfSome done.1 (IsFirstAt entry.rdata self.new.records)) }
         ensures err { OnErr result (self.new ≡ self.old) }
     {
         let ttl = entry.ttl;
-        if !put(&mut self.records, self.record_type, entry)? {
-            return Ok(false);
+        let done = put(&mut self.records, self.record_type, entry)?;
+        if done.0 {
+            self.ttl = ttl;
+            self.serial = serial;
         }
-        self.ttl = ttl;
-        self.serial = serial;
-        Ok(true)
+        Ok(done)
     }
 
-    /// The first record of equal data.
-    fn first_of(&self, rdata: &RData) -> Option<&Record>
+    /// The first record of equal data, which stands at this place if it's known.
+    fn first_of(&self, rdata: &RData, known: Option<usize>) -> Option<&Record>
+        requires { IfSome known (IsFirstAt rdata.now self.now.records) }
         ensures { option_map (λ entry. entry.now) result ≡ first_of rdata.now self.now.records }
     {
-        self.records
-            .as_slice()
-            .iter()
-            .find(|known| known.rdata == *rdata)
+        let records = self.records.as_slice();
+        match known {
+            Some(place) => records.get(place),
+            None => records.iter().find(|known| known.rdata == *rdata),
+        }
     }
 }
 
-/// Puts a record into those of a set of the type, and answers whether it went in.
+/// Puts a record into those of a set of the type. The answer is whether it went in, and where the first record of equal
+/// data stands then, if an index told that.
 fn put(
     records: &mut IndexedRecords,
     record_type: RecordType,
     entry: Record,
-) -> Result<bool, AllocError>
+) -> Result<(bool, Option<usize>), AllocError>
     requires { holds_one record_type ≡ true → length records.old ≤ 1 }
-    ensures ok { IfOk result (λ is_new. (is_new, records.new) ≡ put record_type entry records.old) }
+    ensures ok { IfOk result (λ done. (done.0, records.new) ≡ put record_type entry records.old) }
+    ensures place { IfOk result (λ done. IfSome done.1 (IsFirstAt entry.rdata records.new)) }
     ensures err { OnErr result (records.new ≡ records.old) }
 {
     if !holds_one_record(record_type) {
         return records.enter(entry);
     }
     if record_type == RecordType::SOA && first_stays(records.as_slice(), &entry.rdata) {
-        return Ok(false);
+        return Ok((false, None));
     }
     records.put_alone(entry)?;
-    Ok(true)
+    Ok((true, None))
 }
 
 /// Whether a set of the type holds one record.

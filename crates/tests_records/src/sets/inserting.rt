@@ -9,8 +9,8 @@ use std::test::Fail;
 fn leaves(alloc: Global, inserts: &[(Row, bool)], left: &[Row]) -> Result<bool, Fail> {
     let mut set = empty(alloc, RecordType::A)?;
     let mut right = true;
-    for &((last, dns_class, ttl), wanted) in inserts {
-        let entry = record(alloc, dns_class, ttl, address(last))?;
+    for &((number, dns_class, ttl), wanted) in inserts {
+        let entry = record(alloc, dns_class, ttl, address(number))?;
         right = answers(&mut set, entry, 0, wanted)? && right;
     }
     right = shows(&set, left, 5, 0) && right;

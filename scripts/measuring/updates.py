@@ -1,0 +1,67 @@
+"""Updates to be measured: of a zone `example.` whose names have an address each, with records of one sort."""
+
+START = "@ 3600 SOA ns hostmaster 1 2 3 4 5\n@ NS ns\n"
+
+IN, NONE, ANY = "0001", "00FE", "00FF"
+A, CNAME, ALL = "0001", "0005", "00FF"
+
+
+def update(asked, changed, records):
+    """An update of `example.` with so many prerequisites and changes, in hexadecimal."""
+    return f"000728000001{asked:04X}{changed:04X}0000" + "076578616D706C6500" + "00060001" + records
+
+
+EMPTY = update(0, 0, "")
+
+
+def address(number):
+    return f"0A00{number:04X}"
+
+
+def dotted(number):
+    return f"10.0.{number >> 8}.{number & 255}"
+
+
+def record(owner, kind, of_class, ttl=0, data=""):
+    label = owner.encode().hex()
+    return f"{len(owner):02x}{label}C00C{kind}{of_class}{ttl:08X}{len(data) // 2:04X}{data}"
+
+
+def old(number):
+    return f"h{number:05}"
+
+
+def new(number):
+    return f"n{number:05}"
+
+
+def zone(names):
+    """The text of the zone with so many names."""
+    return START + "".join(f"{old(n)} 300 A {dotted(n)}\n" for n in range(names))
+
+
+def one_set(records):
+    """Further lines, of one name with so many addresses."""
+    return "".join(f"one 300 A {dotted(n)}\n" for n in range(records))
+
+
+# Each sort: whether its records are prerequisites, a record by its number, and whether one name has as many addresses.
+KINDS = {
+    "adds an address to a new name": (False, lambda n: record(new(n), A, IN, 60, address(n)), False),
+    "adds an address to one name": (False, lambda n: record("one", A, IN, 60, address(n)), False),
+    "renews an address": (False, lambda n: record(old(n), A, IN, 60, address(n)), False),
+    "adds an alias": (False, lambda n: record(new(n), CNAME, IN, 60, "C00C"), False),
+    "deletes an address": (False, lambda n: record(old(n), A, NONE, 0, address(n)), False),
+    "deletes a set": (False, lambda n: record(old(n), A, ANY), False),
+    "deletes a name": (False, lambda n: record(old(n), ALL, ANY), False),
+    "asks for a name in use": (True, lambda n: record(old(n), ALL, ANY), False),
+    "asks for a set by value": (True, lambda n: record(old(n), A, IN, 0, address(n)), False),
+    "asks for one set by value": (True, lambda n: record("one", A, IN, 0, address(n)), True),
+}
+
+
+def of_kind(name, records):
+    """The update with so many records of a sort, and the further lines of its zone."""
+    is_asked, made, has_one_set = KINDS[name]
+    asked = records if is_asked else 0
+    return update(asked, records - asked, "".join(made(n) for n in range(records))), one_set(records) if has_one_set else ""
