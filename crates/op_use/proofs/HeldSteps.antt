@@ -6,8 +6,9 @@ use Rattle.base.specs.declared.rr_key.RrKey.{RrKey}
 use Rattle.base_data.specs.declared.rdata.RData.{RData}
 use Rattle.op_use.proofs.MapSteps.{chained, more_after, none_after}
 use Rattle.op_use.specs.Applying.{IsZoneMap, IsZoneSet}
-use Rattle.op_use.specs.HeldZone.{HeldZone}
+use Rattle.op_use.specs.HeldZone.{HeldZone, zone_of}
 use Rattle.op_use.specs.MapUpdates.{Holds, IsAfter, IsSetTo, IsUpdated, Lacks, LacksOwner, Leaves}
+use Rattle.op_use.specs.Zone.{Zone}
 use Rattle.rr.specs.RecordSet.{SetValue}
 use Rattle.rr.specs.declared.record.Record.{Record}
 use Rattle.std.proofs.Common.{ap, arith, refl, subst, sym, ◌∙◌}
@@ -71,11 +72,11 @@ left_set : (class : DNSClass) (m : BTreeMap RrKey SetValue) (b : Bool) (q : RrKe
 left_set class m true q s old e = old q s e
 left_set class m false q s old e = absurd cc
 
-pub left_map : (origin owner : NameValue) (class : DNSClass) (m n : BTreeMap RrKey SetValue) → IsZoneMap class m → Leaves origin owner m n → IsZoneMap class n
-left_map origin owner class m n old h = λ q s e. left_set class m _ q s old (sym (h q) ∙ e)
+pub left_map : (z : Zone) (owner : NameValue) (class : DNSClass) (m n : BTreeMap RrKey SetValue) → IsZoneMap class m → Leaves z owner m n → IsZoneMap class n
+left_map z owner class m n old h = λ q s e. left_set class m _ q s old (sym (h q) ∙ e)
 
 pub owner_updated : (rs : List (Record RData)) (owner : NameValue) (old new : HeldZone) → LacksOwner owner old new
-    → ((n : BTreeMap RrKey SetValue) → Leaves old.origin owner old.sets n → IsZoneMap old.class old.sets → IsAfter old.origin old.class rs old.sets n) → IsUpdated rs old new
+    → ((n : BTreeMap RrKey SetValue) → Leaves (zone_of old) owner old.sets n → IsZoneMap old.class old.sets → IsAfter old.origin old.class rs old.sets n) → IsUpdated rs old new
 owner_updated rs owner old new h step = (h.0, h.1, step h.0 h.2)
 
 -- records put where a set was taken out
