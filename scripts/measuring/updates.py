@@ -65,3 +65,46 @@ def of_kind(name, records):
     is_asked, made, has_one_set = KINDS[name]
     asked = records if is_asked else 0
     return update(asked, records - asked, "".join(made(n) for n in range(records))), one_set(records) if has_one_set else ""
+
+
+# owners of one label, and of 120: the second begin at their last 119 labels, which the first record of a message spells
+DEEP = 119
+
+
+def owner_text(label, is_deep):
+    return label + (".a" * DEEP if is_deep else "")
+
+
+def owner_bytes(label, is_deep, is_first):
+    begun = f"{len(label):02x}{label.encode().hex()}"
+    if not is_deep:
+        return begun + "C00C"
+    return begun + ("0161" * DEEP + "C00C" if is_first else f"C0{25 + 1 + len(label):02X}")
+
+
+def of_owner(owner, kind, of_class, ttl, data):
+    return f"{owner}{kind}{of_class}{ttl:08X}{len(data) // 2:04X}{data}"
+
+
+def shape(is_asked, of_class, ttl, is_one_set, is_deep, is_there):
+    """The lines of a zone, and an update of it: so many records of a class for one set, or each for its own."""
+    def made(count):
+        labels = ["h00000" if is_one_set else old(n) for n in range(count)]
+        lines = [f"{owner_text(label, is_deep)} 300 A {dotted(n)}\n" for n, label in enumerate(labels)]
+        records = [of_owner(owner_bytes(label, is_deep, n == 0), A, of_class, ttl, address(n)) for n, label in enumerate(labels)]
+        asked = count if is_asked else 0
+        return "".join(lines) if is_there else "", update(asked, count - asked, "".join(records))
+    return made
+
+
+# each shape: a function from the number of records
+SHAPES = {
+    "asks for one set by value": shape(True, IN, 0, True, False, True),
+    "asks for one set of an owner of 120 labels by value": shape(True, IN, 0, True, True, True),
+    "asks for many sets by value": shape(True, IN, 0, False, False, True),
+    "asks for many sets of owners of 120 labels by value": shape(True, IN, 0, False, True, True),
+    "adds to one set": shape(False, IN, 60, True, False, False),
+    "adds to many sets": shape(False, IN, 60, False, False, False),
+    "deletes the data of one set": shape(False, NONE, 0, True, False, True),
+    "renews the data of one set": shape(False, IN, 60, True, False, True),
+}

@@ -5,6 +5,7 @@ mod Changes
 mod Deleted
 mod FollowSteps
 mod Given
+mod HeldSteps
 mod KeySteps
 mod ListedSteps
 mod MapIsZone

@@ -167,13 +167,14 @@ unfolding IsDistinct
 distinct_in class k None h = tt
 distinct_in class k (Some s) h = (h s refl).distinct
 
-pub join_distinct : (class : DNSClass) (m : BTreeMap RrKey SetValue) (k : RrKey) (r : Record RData) (xs ys : List (Record RData)) → IsZoneMap class m → xs ≡ records_at m k
-    → ys ≡ joined r xs → Distinct ys
-join_distinct class m k r xs ys old e f = subst (λ zs. Distinct zs) (sym (f ∙ ap (joined r) e)) (distinct_joined r (records_at m k) (distinct_in class k (tree.get key_cmp m k) (old k)))
+pub distinct_at : (class : DNSClass) (m : BTreeMap RrKey SetValue) (k : RrKey) → IsZoneMap class m → Distinct (records_at m k)
+distinct_at class m k old = distinct_in class k (tree.get key_cmp m k) (old k)
 
-pub part_distinct : (class : DNSClass) (m : BTreeMap RrKey SetValue) (k : RrKey) (r : Record RData) (xs ys : List (Record RData)) → IsZoneMap class m → xs ≡ records_at m k
-    → ys ≡ parted r xs → Distinct ys
-part_distinct class m k r xs ys old e f = subst (λ zs. Distinct zs) (sym (f ∙ ap (parted r) e)) (distinct_parted r (records_at m k) (distinct_in class k (tree.get key_cmp m k) (old k)))
+pub join_distinct : (r : Record RData) (xs ys zs : List (Record RData)) → Distinct zs → xs ≡ zs → ys ≡ joined r xs → Distinct ys
+join_distinct r xs ys zs apart e f = subst (λ ws. Distinct ws) (sym (f ∙ ap (joined r) e)) (distinct_joined r zs apart)
+
+pub part_distinct : (r : Record RData) (xs ys zs : List (Record RData)) → Distinct zs → xs ≡ zs → ys ≡ parted r xs → Distinct ys
+part_distinct r xs ys zs apart e f = subst (λ ws. Distinct ws) (sym (f ∙ ap (parted r) e)) (distinct_parted r zs apart)
 
 pub one_distinct : (r : Record RData) (ys : List (Record RData)) → ys ≡ r ∷ [] → Distinct ys
 one_distinct r ys e = subst (λ zs. Distinct zs) (sym e) (distinct_one r)

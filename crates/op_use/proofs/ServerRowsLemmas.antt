@@ -12,7 +12,7 @@ use Rattle.std.specs.FinMap.{FinMap}
 use Rattle.base.specs.RrKey.{key_cmp}
 use Rattle.base.specs.declared.rr_key.RrKey.{RrKey}
 use Rattle.base.proofs.KeyLemmas.{key_cmp-exact, key_cmp-total}
-use Rattle.op_use.specs.ServerRows.{AddRows, BuilderRows, DeleteRecordRows, DeleteSetRows, PrerequisiteRows, PrescanRows, ZoneSectionRows, example, origin_sets, zone_with}
+use Rattle.op_use.specs.ServerRows.{AddRows, BuilderRows, DeleteRecordRows, DeleteSetRows, OrderRows, PrerequisiteRows, PrescanRows, ZoneSectionRows, example, origin_sets, zone_with}
 use Rattle.op_use.specs.Zone.{Datum}
 use Rattle.op_use.proofs.ZoneSteps.{same_key, same_sets, twice}
 
@@ -83,7 +83,7 @@ ruleset zones = (get-empty, get-insert, entries-empty, entries-insert, insert_ag
 --- ---- the rows
 
 pub zone_section_rows : ZoneSectionRows
-zone_section_rows = record { none = refl; two = refl; no_start = refl; other_zone = refl; part_of_zone = refl; other_class = refl; own_zone = refl }
+zone_section_rows = record { none = refl; two = refl; no_start = refl; other_zone = refl; part_of_zone = refl; other_class = refl; type_first = refl; own_zone = refl }
 
 pub prerequisite_rows : PrerequisiteRows
 prerequisite_rows = record {
@@ -105,6 +105,17 @@ prerequisite_rows = record {
   same = simp zones;
   other_class = refl;
   first = simp zones;
+}
+
+pub order_rows : OrderRows
+order_rows = record {
+  zone_section = refl;
+  prerequisites = simp zones;
+  by_value = simp zones;
+  by_value_last = simp zones;
+  ttl = refl;
+  owner = refl;
+  owner_of_an_update = refl;
 }
 
 pub prescan_rows : PrescanRows
@@ -129,6 +140,7 @@ add_rows = record {
   equal_data = simp zones;
   equal_names = simp zones;
   same_owner = simp zones;
+  other_server = simp zones;
   beside_alias = simp zones;
   alias_beside = simp zones;
   other_alias = simp zones;
@@ -153,6 +165,8 @@ delete_record_rows = record {
   start_stays = refl;
   last_server_stays = simp zones;
   one_server = simp zones;
+  start_below_stays = refl;
+  server_below = simp zones;
   in_turn = simp zones;
 }
 

@@ -128,7 +128,7 @@ module _ (origin : NameValue) (class : DNSClass) (m n : BTreeMap RrKey SetValue)
   left_records true o = refl
   left_records false o = refl
 
-  pub after_name : use_of class r.dns_class ≡ OfAny → is_any (type_of_record r) ≡ true → Leaves origin r.name m n → IsAfter origin class (r ∷ []) m n
+  pub after_name : use_of class r.dns_class ≡ OfAny → is_any (type_of_record r) ≡ true → Leaves (zone_of_map origin class m) r.name m n → IsAfter origin class (r ∷ []) m n
   after_name u c h = record {
     zone = ap (λ (sets : FinMap key_cmp (List Datum)). record { origin = origin; class = class; sets = sets }) (same_sets _ _ (λ q.
         get_zone origin class n q ∙ ap (option_map data_of) (h q) ∙ mapped_cond (is_left (zone_of_map origin class m) r.name q) (tree.get key_cmp m q)

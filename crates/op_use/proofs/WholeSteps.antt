@@ -10,7 +10,7 @@ use Rattle.op_use.proofs.AppliedData.{any_data}
 use Rattle.op_use.proofs.MapZones.{data_at}
 use Rattle.op_use.specs.AppliedRecords.{records_after, records_answered}
 use Rattle.op_use.specs.Applying.{entry_of, IsApplied, IsZoneMap, applied, is_all_served, last_ttl, records_applied, records_at, records_in, zone_of_map}
-use Rattle.op_use.specs.MapFaults.{all_met, fault_here, met_at}
+use Rattle.op_use.specs.MapFaults.{is_by_value, listed_under, there_under}
 use Rattle.op_use.specs.MapUpdates.{IsAfter}
 use Rattle.op_use.specs.NamedChanges.{datum_of, is_data_of}
 use Rattle.op_use.specs.Server.{Fault, Sections, and_then, answer, collected, fault, first_fault, is_met}
@@ -49,8 +49,10 @@ all_data : (p : Datum → Bool) (xs : List (Record RData)) → list_all p (map d
 all_data p [] = refl
 all_data p (x ∷ xs) = ap (λ b. p (datum_of x) && b) (all_data p xs)
 
+-- the sets of a map that prerequisites by value name
 module _ (origin : NameValue) (class : DNSClass) (m : BTreeMap RrKey SetValue) (rs : List (Record RData)) where
-  met_same : (r : Record RData) → is_met (zone_of_map origin class m) (collected (zone_of_map origin class m) rs) r ≡ met_at m class rs r
+  met_same : (r : Record RData) → is_met (zone_of_map origin class m) (collected (zone_of_map origin class m) rs) r
+      ≡ (there_under m r (record_key r) && listed_under m class rs r (record_key r))
   met_same r =
       ap (λ ds. list_any (λ d. is_data_of d r) ds
       && list_all (λ d. list_any (λ q. is_same_key r q && is_data_of d q) (collected (zone_of_map origin class m) rs)) ds) (data_at origin class m (record_key r))
@@ -59,23 +61,17 @@ module _ (origin : NameValue) (class : DNSClass) (m : BTreeMap RrKey SetValue) (
       ∙ ap (λ (f : Record RData → Bool). list_any (has_data_of r) (records_at m (record_key r)) && list_all f (records_at m (record_key r)))
       (λ i x. any_filter (λ q. is_same_key r q && has_data_of q x) (λ q. is_of_zone (use_of class q.dns_class)) rs i)
 
-  pub all_met_same : all_met m class rs rs ≡ list_all (is_met (zone_of_map origin class m) (collected (zone_of_map origin class m) rs)) (collected (zone_of_map origin class m) rs)
+  pub all_met_same : list_all (λ r. not (is_by_value class r) || (there_under m r (record_key r) && listed_under m class rs r (record_key r))) rs
+      ≡ list_all (is_met (zone_of_map origin class m) (collected (zone_of_map origin class m) rs)) (collected (zone_of_map origin class m) rs)
   all_met_same = sym (ap (λ (f : Record RData → Bool). list_all f (collected (zone_of_map origin class m) rs)) (λ i r. met_same r i)
-      ∙ all_filter (met_at m class rs) (λ r. is_of_zone (use_of class r.dns_class)) rs)
-
--- the code of an update
-pub fault_is : (origin : NameValue) (class : DNSClass) (m : BTreeMap RrKey SetValue) (s : Sections) → fault_here origin class m s ≡ fault (zone_of_map origin class m) s
-fault_is origin class m s = λ i.
-    and_then (zone_fault (zone_of_map origin class m) s.zones)
-    (and_then (and_then (first_fault (prerequisite_fault (zone_of_map origin class m)) s.prerequisites) (unless (all_met_same origin class m s.prerequisites i) NXRRSet))
-    (first_fault (prescan_fault (zone_of_map origin class m)) s.updates))
+      ∙ all_filter (λ r. there_under m r (record_key r) && listed_under m class rs r (record_key r)) (λ r. is_of_zone (use_of class r.dns_class)) rs)
 
 -- what an update that is served leaves under a key
 spelled_as : (origin : NameValue) (class : DNSClass) (m : BTreeMap RrKey SetValue) (s : Sections) (q : RrKey) (found : Fault) → is_all_served s ≡ true
-    → fault_here origin class m s ≡ found
+    → fault (zone_of_map origin class m) s ≡ found
     → records_applied (zone_of_map origin class m) s q (records_at m q) ≡ records_answered (zone_of_map origin class m) s.updates found q (records_at m q)
 spelled_as origin class m s q found h f =
-    cond-true _ _ _ h ∙ ap (λ c. records_answered (zone_of_map origin class m) s.updates c q (records_at m q)) (sym (fault_is origin class m s) ∙ f)
+    cond-true _ _ _ h ∙ ap (λ c. records_answered (zone_of_map origin class m) s.updates c q (records_at m q)) f
 
 -- a copy of a map
 module _ (origin : NameValue) (class : DNSClass) (m n : BTreeMap RrKey SetValue) (same : tree.IsUnchanged m n) where
@@ -102,8 +98,8 @@ module _ (origin : NameValue) (class : DNSClass) (m n : BTreeMap RrKey SetValue)
   pub applied_not : (s : Sections) → IsZoneMap class m → is_all_served s ≡ false → IsApplied origin class s m NotImp n
   applied_not s old h = refused s NotImp old (sym (cond-false _ _ _ h)) (λ q. cond-false _ _ _ h)
 
-  pub applied_fault : (s : Sections) (code : ResponseCode) → IsZoneMap class m → is_all_served s ≡ true → fault_here origin class m s ≡ Some code → IsApplied origin class s m code n
-  applied_fault s code old h f = refused s code old (sym (cond-true _ _ _ h ∙ ap (answer (zone_of_map origin class m) s.updates) (sym (fault_is origin class m s) ∙ f)))
+  pub applied_fault : (s : Sections) (code : ResponseCode) → IsZoneMap class m → is_all_served s ≡ true → fault (zone_of_map origin class m) s ≡ Some code → IsApplied origin class s m code n
+  applied_fault s code old h f = refused s code old (sym (cond-true _ _ _ h ∙ ap (answer (zone_of_map origin class m) s.updates) f))
       (λ q. spelled_as origin class m s q (Some code) h f)
 
   -- updates of the copy are updates of the map
@@ -117,11 +113,11 @@ module _ (origin : NameValue) (class : DNSClass) (m n : BTreeMap RrKey SetValue)
     exact = λ q. after.exact q ∙ (λ i. records_after (zone_copy i) rs q (records_in (get_copy q i)));
   }
 
-pub applied_all : (origin : NameValue) (class : DNSClass) (m p : BTreeMap RrKey SetValue) (s : Sections) → is_all_served s ≡ true → fault_here origin class m s ≡ None
+pub applied_all : (origin : NameValue) (class : DNSClass) (m p : BTreeMap RrKey SetValue) (s : Sections) → is_all_served s ≡ true → fault (zone_of_map origin class m) s ≡ None
     → IsAfter origin class s.updates m p → IsApplied origin class s m NoError p
 applied_all origin class m p s h f after = record {
   served = ap (λ z. (NoError, z)) after.zone
-      ∙ sym (cond-true _ _ _ h ∙ ap (answer (zone_of_map origin class m) s.updates) (sym (fault_is origin class m s) ∙ f));
+      ∙ sym (cond-true _ _ _ h ∙ ap (answer (zone_of_map origin class m) s.updates) f);
   is_map = after.is_map;
   others = (after.others, λ e. absurd (e refl));
   taken = after.taken;

@@ -1,16 +1,16 @@
 -- What updates make of the records under a key, each as it is spelled (RFC 2136, 3.4.2).
 use Rattle.base.specs.declared.rr_key.RrKey.{RrKey}
 use Rattle.base_data.specs.declared.rdata.RData.{RData}
-use Rattle.op_use.specs.Server.{Fault, OfAny, OfNone, OfNothing, OfZone, Use, is_cname, is_kept_out, is_needed, type_of_record, update, use_of, goes_with, is_under}
+use Rattle.op_use.specs.Server.{Fault, OfAny, OfNone, OfNothing, OfZone, Use, alone_or, is_kept_out, is_needed, update, use_of, goes_with, is_under}
 use Rattle.op_use.specs.Zone.{Zone}
 use Rattle.rr.specs.SetChanges.{has_data_of, joined}
 use Rattle.rr.specs.declared.record.Record.{Record}
 use Rattle.std.specs.List.{filter}
 use Rattle.std.specs.Prelude.{List, None, Some, [], if◌then◌else◌, not, ◌&&◌, ◌∷◌}
 
--- the records of a set with one more: a CNAME alone, another in the place of equal data, or else last
+-- the records of a set with one more, in the place of equal data, or else last
 abbrev pub with_record : Record RData → List (Record RData) → List (Record RData)
-with_record r xs = if is_cname (type_of_record r) then r ∷ [] else joined r xs
+with_record r xs = alone_or r r (joined r xs)
 
 -- the records without those of equal data
 abbrev pub parted : Record RData → List (Record RData) → List (Record RData)

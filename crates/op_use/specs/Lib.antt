@@ -2,6 +2,7 @@ pub mod AppliedMeaning
 pub mod AppliedRecords
 pub mod Applying
 pub mod DnsResponse
+pub mod HeldZone
 pub mod Lending
 pub mod MapFaults
 pub mod MapUpdates

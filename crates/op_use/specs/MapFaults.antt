@@ -1,17 +1,15 @@
 -- What an update is refused for, by what a map of record sets holds (RFC 2136, 3.1, 3.2 and 3.4.1).
-use Rattle.base.specs.Labels.{NameValue}
 use Rattle.base.specs.declared.dns_class.DNSClass.{DNSClass}
 use Rattle.base.specs.declared.rr_key.RrKey.{RrKey}
 use Rattle.base_data.specs.declared.rdata.RData.{RData}
-use Rattle.op.specs.declared.response_code.ResponseCode.TheVariants.{NXRRSet}
-use Rattle.op_use.specs.Applying.{records_at, zone_of_map}
-use Rattle.op_use.specs.Server.{Fault, Sections, and_then, first_fault, is_of_zone, is_same_key, prerequisite_fault, prescan_fault, record_key, unless, use_of, zone_fault}
+use Rattle.op_use.specs.Applying.{records_at}
+use Rattle.op_use.specs.Server.{is_of_zone, is_same_key, use_of}
 use Rattle.rr.specs.RecordSet.{SetValue}
 use Rattle.rr.specs.SetChanges.{has_data_of}
 use Rattle.rr.specs.declared.record.Record.{Record}
 use Rattle.std.specs.BTreeMap.{BTreeMap}
 use Rattle.std.specs.List.{list_all, list_any}
-use Rattle.std.specs.Prelude.{Bool, List, not, ◌&&◌, ◌||◌}
+use Rattle.std.specs.Prelude.{Bool, List, ◌&&◌}
 
 -- whether a prerequisite is by value: of the zone's class
 abbrev pub is_by_value : DNSClass → Record RData → Bool
@@ -28,18 +26,3 @@ there_under m r k = list_any (has_data_of r) (records_at m k)
 -- whether it has only data that the records list for the set of r
 abbrev pub listed_under : BTreeMap RrKey SetValue → DNSClass → List (Record RData) → Record RData → RrKey → Bool
 listed_under m class rs r k = list_all (λ x. list_any (asks_for class r x) rs) (records_at m k)
-
--- whether the set of a record has just the data that the records list
-abbrev pub met_at : BTreeMap RrKey SetValue → DNSClass → List (Record RData) → Record RData → Bool
-met_at m class rs r = there_under m r (record_key r) && listed_under m class rs r (record_key r)
-
--- whether each record by value finds its set so
-abbrev pub all_met : BTreeMap RrKey SetValue → DNSClass → List (Record RData) → List (Record RData) → Bool
-all_met m class all rs = list_all (λ r. not (is_by_value class r) || met_at m class all r) rs
-
--- what an update is refused for, by what a map holds: the first of its three steps that fails
-abbrev pub fault_here : NameValue → DNSClass → BTreeMap RrKey SetValue → Sections → Fault
-fault_here origin class m s =
-    and_then (zone_fault (zone_of_map origin class m) s.zones)
-    (and_then (and_then (first_fault (prerequisite_fault (zone_of_map origin class m)) s.prerequisites) (unless (all_met m class s.prerequisites s.prerequisites) NXRRSet))
-    (first_fault (prescan_fault (zone_of_map origin class m)) s.updates))

@@ -1,17 +1,18 @@
 -- What one update, and one after the other, makes of a map of record sets (RFC 2136, 3.4.2).
 use Rattle.base.specs.Labels.{NameValue}
-use Rattle.base.specs.NameOrder.{same_name}
 use Rattle.base.specs.RrKey.{key_cmp}
 use Rattle.base.specs.declared.dns_class.DNSClass.{DNSClass}
 use Rattle.base.specs.declared.rr_key.RrKey.{RrKey}
 use Rattle.base_data.specs.declared.rdata.RData.{RData}
 use Rattle.op_use.specs.AppliedRecords.{records_after}
 use Rattle.op_use.specs.Applying.{records_at, IsZoneMap, IsZoneSet, TakesFrom, TakesTtls, last_ttl, names_owner, records_in, zone_of_map}
+use Rattle.op_use.specs.HeldZone.{HeldZone, zone_of}
+use Rattle.op_use.specs.NamedChanges.{is_left}
 use Rattle.op_use.specs.Server.{OfAny, OfNone, OfNothing, OfZone, Use as UseValue, update}
-use Rattle.op_use.specs.Zone.{is_owned}
+use Rattle.op_use.specs.Zone.{Zone}
 use Rattle.op_use.specs.declared.apply.class_use.Use.TheVariants as uses
 use Rattle.op_use.specs.declared.apply.class_use.Use.{Use}
-use Rattle.rr.specs.RecordSet.{SetValue, is_ns, is_soa}
+use Rattle.rr.specs.RecordSet.{SetValue}
 use Rattle.rr.specs.declared.record.Record.{Record}
 use Rattle.std.specs.BTreeMap as tree
 use Rattle.std.specs.BTreeMap.{BTreeMap}
@@ -41,6 +42,19 @@ pub record IsSetTo (class : DNSClass) (k : RrKey) (xs : List (Record RData)) (ol
   pub ttl : (s : SetValue) → set ≡ Some s → s.ttl ≡ last_ttl s.records
   pub puts : Puts k set old new
 
+-- the new zone is the old one after the updates rs
+abbrev pub IsUpdated : List (Record RData) → HeldZone → HeldZone → Type 0
+IsUpdated rs old new = (sets : BTreeMap RrKey SetValue) × (new ≡ record old { sets = sets })
+    × (IsZoneMap old.class old.sets → IsAfter old.origin old.class rs old.sets sets)
+
+-- the new zone has these records under a key, and else what the old one has
+abbrev pub Holds : RrKey → List (Record RData) → HeldZone → HeldZone → Type 0
+Holds k xs old new = (sets : BTreeMap RrKey SetValue) × (new ≡ record old { sets = sets }) × IsSetTo old.class k xs old.sets sets
+
+-- the new zone is the old one without the set under a key
+abbrev pub Lacks : RrKey → HeldZone → HeldZone → Type 0
+Lacks k old new = (sets : BTreeMap RrKey SetValue) × (new ≡ record old { sets = sets }) × tree.Updates key_cmp old.sets sets k None
+
 -- how an update's class reads
 abbrev pub use_value : Use → UseValue
 use_value uses.OfAny = OfAny
@@ -48,7 +62,10 @@ use_value uses.OfNone = OfNone
 use_value uses.OfZone = OfZone
 use_value uses.OfNothing = OfNothing
 
--- the new map is the old one without the sets of an owner; at the origin SOA and NS stay
-abbrev pub Leaves : NameValue → NameValue → BTreeMap RrKey SetValue → BTreeMap RrKey SetValue → Type 0
-Leaves origin owner old new = (q : RrKey)
-    → tree.get key_cmp new q ≡ cond (not (is_owned owner q) || (same_name owner origin && (is_soa q.record_type || is_ns q.record_type))) (tree.get key_cmp old q) None
+-- the new map is the old one of a zone without the sets of an owner, but for those that stay
+abbrev pub Leaves : Zone → NameValue → BTreeMap RrKey SetValue → BTreeMap RrKey SetValue → Type 0
+Leaves z owner old new = (q : RrKey) → tree.get key_cmp new q ≡ cond (is_left z owner q) (tree.get key_cmp old q) None
+
+-- the new zone is the old one without the sets of an owner
+abbrev pub LacksOwner : NameValue → HeldZone → HeldZone → Type 0
+LacksOwner owner old new = (sets : BTreeMap RrKey SetValue) × (new ≡ record old { sets = sets }) × Leaves (zone_of old) owner old.sets sets

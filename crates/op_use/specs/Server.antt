@@ -145,9 +145,13 @@ removed xs r = filter (λ d. not (is_data_of d r)) xs
 abbrev pub is_kept_out : Zone → Record RData → Bool
 is_kept_out z r = if is_cname (type_of_record r) then has_type_at z r.name (λ t. not (is_cname t)) else has_set z (key_of r.name types.CNAME)
 
--- the data of a set with a record's: a CNAME's alone
+-- a CNAME stands alone in its set, another record among others
+abbrev pub alone_or : {X : Type 0} → Record RData → X → List X → List X
+alone_or r x xs = if is_cname (type_of_record r) then x ∷ [] else xs
+
+-- the data of a set with a record's
 abbrev pub with_datum : Record RData → List Datum → List Datum
-with_datum r xs = if is_cname (type_of_record r) then datum_of r ∷ [] else added xs r
+with_datum r xs = alone_or r (datum_of r) (added xs r)
 
 -- whether a record stands under a key
 abbrev pub is_under : Record RData → RrKey → Bool

@@ -141,6 +141,8 @@ pub record ZoneSectionRows : Type 0 where
   pub other_zone : Answers (questions (question elsewhere types.SOA classes.IN ∷ [])) NotAuth
   pub part_of_zone : Answers (questions (question www types.SOA classes.IN ∷ [])) NotAuth
   pub other_class : Answers (questions (question example types.SOA classes.CH ∷ [])) NotAuth
+  -- the type is tested before the name
+  pub type_first : Answers (questions (question elsewhere types.A classes.IN ∷ [])) FormErr
   pub own_zone : Answers (questions (question (named (codes "EXAMPLE" ∷ [])) types.SOA classes.IN ∷ [])) NoError
 
 -- the prerequisites (3.2.5), in the order of the RFC
@@ -166,6 +168,19 @@ pub record PrerequisiteRows : Type 0 where
   -- the first that fails says the code
   pub first : Answers (needs (empty_record www types.A classes.ANY ∷ empty_record www types.ANY classes.NONE ∷ empty_record www types.MX classes.ANY ∷ []))
       YXDomain
+
+-- which of two tests that fail says the code: zone section, prerequisites and prescan in this order, and of a prerequisite
+-- first its TTL, then its owner
+pub record OrderRows : Type 0 where
+  pub zone_section : Answers
+      (record { zones = question elsewhere types.SOA classes.IN ∷ []; prerequisites = empty_record www types.MX classes.ANY ∷ []; updates = [] }) NotAuth
+  pub prerequisites : Answers (sections example classes.IN (empty_record www types.MX classes.ANY ∷ []) (holding classes.IN elsewhere 60 (address 3) ∷ [])) NXRRSet
+  pub by_value : Answers (sections example classes.IN (holding classes.IN www 0 (address 1) ∷ []) (holding classes.IN elsewhere 60 (address 3) ∷ [])) NXRRSet
+  -- those by value come after all others
+  pub by_value_last : Answers (needs (holding classes.IN www 0 (address 1) ∷ empty_record unused types.ANY classes.ANY ∷ [])) NXDomain
+  pub ttl : Answers (needs (holding classes.ANY elsewhere 1 (address 1) ∷ [])) FormErr
+  pub owner : Answers (needs (holding classes.ANY elsewhere 0 (address 1) ∷ [])) NotZone
+  pub owner_of_an_update : Answers (asks (holding classes.NONE elsewhere 1 (address 1) ∷ [])) NotZone
 
 -- the prescan of the updates (3.4.1.3), in the order of the RFC
 pub record PrescanRows : Type 0 where
@@ -194,6 +209,10 @@ pub record AddRows : Type 0 where
   -- an owner is the same in whatever case
   pub same_owner : Makes two_addresses (asks (holding classes.IN raised_www 300 (address 3) ∷ []))
       (entry www types.A (host 300 1 ∷ host 300 2 ∷ host 300 3 ∷ []) ∷ [])
+  -- a name server of the zone comes beside the first
+  pub other_server : Makes (entry example types.NS (lasting 300 (server www) ∷ []) ∷ entry www types.A (host 300 1 ∷ []) ∷ [])
+      (asks (holding classes.IN example 60 (server example) ∷ []))
+      (entry example types.NS (lasting 300 (server www) ∷ lasting 60 (server example) ∷ []) ∷ entry www types.A (host 300 1 ∷ []) ∷ [])
   -- nothing stands beside a CNAME, and there is one
   pub beside_alias : Makes (entry www types.CNAME (lasting 300 (alias_of example) ∷ []) ∷ []) (asks (holding classes.IN www 60 (address 1) ∷ []))
       (entry www types.CNAME (lasting 300 (alias_of example) ∷ []) ∷ [])
@@ -225,6 +244,10 @@ pub record DeleteRecordRows : Type 0 where
   pub last_server_stays : Makes origin_sets (asks (holding classes.NONE example 0 (server www) ∷ [])) origin_sets
   pub one_server : Makes (entry example types.NS (lasting 300 (server www) ∷ lasting 300 (server example) ∷ []) ∷ [])
       (asks (holding classes.NONE example 0 (server www) ∷ [])) (entry example types.NS (lasting 300 (server example) ∷ []) ∷ [])
+  -- below the origin an SOA stays too, and the last NS goes
+  pub start_below_stays : Makes (entry www types.SOA (lasting 300 start ∷ []) ∷ []) (asks (holding classes.NONE www 0 start ∷ []))
+      (entry www types.SOA (lasting 300 start ∷ []) ∷ [])
+  pub server_below : Makes (entry www types.NS (lasting 300 (server www) ∷ []) ∷ origin_sets) (asks (holding classes.NONE www 0 (server www) ∷ [])) origin_sets
   -- updates are done in turn
   pub in_turn : Makes (entry example types.NS (lasting 300 (server www) ∷ []) ∷ [])
       (asks (holding classes.IN example 300 (server example) ∷ holding classes.NONE example 0 (server www) ∷ []))

@@ -1,31 +1,31 @@
 //! Updates applied to the record sets of a zone (RFC 2136, 3).
 
-ghost use Rattle.std.specs.Prelude.{IfOk, IsOkUnless};
+ghost use Rattle.std.specs.Prelude.{◌≡◌, IfOk, IsOkUnless};
 ghost use Rattle.op.specs.Message.{message_value};
 ghost use Rattle.op_use.specs.Applying.{IsApplied, IsZoneMap};
-ghost use Rattle.op_use.specs.Server.{sections_of};
+ghost use Rattle.op_use.specs.HeldZone.{HeldZone, zone_of};
+ghost use Rattle.op_use.specs.Server.{fault as fault_of, sections_of};
 
-mod changes;
+mod by_value;
 mod class_use;
-mod faults;
 pub mod laws;
 mod owners;
 mod prerequisites;
 mod prescan;
 mod records;
-mod served;
-mod sets;
+mod supported;
 mod types;
-mod values;
+mod updates;
+mod zone;
+mod zone_section;
 
 use base::{DNSClass, Name, ProtoError, RrKey};
-use changes::update_all;
-use faults::fault;
 use op::{Message, ResponseCode};
 use rr::RecordSet;
-use served::is_all_served;
-use std::alloc::Global;
+use std::alloc::{AllocError, Global};
 use std::collections::BTreeMap;
+use supported::is_supported;
+use zone::Zone;
 
 /// Applies an update to the sets of a zone of this origin and class: answers the server's code (RFC 2136, 2.2), and the
 /// sets then.
@@ -48,13 +48,27 @@ pub fn apply_update(
     ensures applied { IfOk result (λ r. IsApplied origin.now class (sections_of (message_value message.now)) sets.now r.0 r.1) }
     ensures only { IsOkUnless result ProtoError.Memory }
 {
-    let mut changed = sets.clone()?;
-    if !is_all_served(message) {
-        return Ok((ResponseCode::NotImp, changed));
+    let mut zone = Zone::new(alloc, origin, class, sets.clone()?);
+    if !is_supported(message) {
+        return Ok((ResponseCode::NotImp, zone.into_sets()));
     }
-    if let Some(code) = fault(sets, origin, class, message)? {
-        return Ok((code, changed));
+    if let Some(code) = fault(&zone, message)? {
+        return Ok((code, zone.into_sets()));
     }
-    update_all(alloc, &mut changed, origin, class, &message.authorities)?;
-    Ok((ResponseCode::NoError, changed))
+    zone.update(&message.authorities)?;
+    Ok((ResponseCode::NoError, zone.into_sets()))
+}
+
+// The code that an update is refused with, if it is: by its zone section, its prerequisites or the prescan, in this
+// order. The first test that fails is answered at once.
+fn fault(zone: &Zone, message: &Message) -> Result<Option<ResponseCode>, AllocError>
+    ensures { IfOk result (λ f. f ≡ fault_of (zone_of zone.now) (sections_of (message_value message.now))) }
+{
+    if let Some(code) = zone.zone_fault(&message.queries) {
+        return Ok(Some(code));
+    }
+    if let Some(code) = zone.prerequisites_fault(&message.answers)? {
+        return Ok(Some(code));
+    }
+    Ok(zone.prescan_fault(&message.authorities))
 }

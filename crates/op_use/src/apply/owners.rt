@@ -7,16 +7,15 @@ ghost use Rattle.std.specs.Prelude.{◌≡◌, ◌&&◌, ◌++◌, ◌||◌, ◌
 ghost use Rattle.base.specs.NameOrder.{same_name};
 ghost use Rattle.base.specs.RrKey.{key_cmp};
 ghost use Rattle.base.specs.declared.rr_key.RrKey.{RrKey as Key};
-ghost use Rattle.op_use.specs.MapUpdates.{Leaves};
-ghost use Rattle.op_use.specs.Server.{is_cname};
+ghost use Rattle.op_use.specs.Server.{is_cname as is_cname_type};
 ghost use Rattle.op_use.specs.Zone.{is_owned};
 ghost use Rattle.rr.specs.RecordSet.{is_ns, is_soa};
 
-use crate::apply::sets::key_of;
-use crate::apply::types::{is_alias, is_guarded};
+use crate::apply::types::{is_cname, is_guarded};
+use crate::apply::zone::key_of;
 use base::{Name, RecordType, RrKey};
 use rr::RecordSet;
-use std::alloc::{AllocError, Global};
+use std::alloc::AllocError;
 use std::collections::BTreeMap;
 
 // Whether an owner has a set, of any type or of any but CNAME.
@@ -25,7 +24,7 @@ pub(crate) fn has_type(
     owner: &Name,
     is_beside: bool,
 ) -> Result<bool, AllocError>
-    ensures { IfOk result (λ b. b ≡ list_any (λ (k : Key). is_owned owner.now k && not (is_beside && is_cname k.record_type)) (keys sets.now)) }
+    ensures { IfOk result (λ b. b ≡ list_any (λ (k : Key). is_owned owner.now k && not (is_beside && is_cname_type k.record_type)) (keys sets.now)) }
 {
     let least = key_of(owner, RecordType::ZERO)?;
     for (key, _) in sets.range(&least..) {
@@ -40,28 +39,13 @@ pub(crate) fn has_type(
 }
 
 fn counts(is_beside: bool, record_type: RecordType) -> bool
-    ensures { result ≡ not (is_beside && is_cname record_type) }
+    ensures { result ≡ not (is_beside && is_cname_type record_type) }
 {
-    !(is_beside && is_alias(record_type))
-}
-
-// Takes all sets of an owner out; at the origin SOA and NS stay.
-pub(crate) fn take_name(
-    alloc: Global,
-    sets: &mut BTreeMap<RrKey, RecordSet>,
-    origin: &Name,
-    owner: &Name,
-) -> Result<(), AllocError>
-    ensures { OnOk result (Leaves origin.now owner.now sets.old sets.new) }
-{
-    let taken = unguarded_keys(alloc, sets, origin, owner)?;
-    take_keys(sets, &taken);
-    Ok(())
+    !(is_beside && is_cname(record_type))
 }
 
 // The keys of an owner, at the origin but those of SOA and NS.
-fn unguarded_keys(
-    alloc: Global,
+pub(crate) fn unguarded_keys(
     sets: &BTreeMap<RrKey, RecordSet>,
     origin: &Name,
     owner: &Name,
@@ -69,7 +53,7 @@ fn unguarded_keys(
     ensures { IfOk result (λ ks. ks.items ≡ filter (λ (k : Key). is_owned owner.now k && not (same_name owner.now origin.now && (is_soa k.record_type || is_ns k.record_type))) (keys sets.now)) }
 {
     let least = key_of(owner, RecordType::ZERO)?;
-    let mut found = Vec::new(alloc);
+    let mut found = Vec::new(owner.allocator());
     for (key, _) in sets.range(&least..) {
         if least.name != key.name {
             return Ok(found);
@@ -91,7 +75,7 @@ fn list_key(found: &mut Vec<RrKey>, key: &RrKey) -> Result<(), AllocError>
 }
 
 // Takes the sets under these keys out.
-fn take_keys(sets: &mut BTreeMap<RrKey, RecordSet>, taken: &[RrKey])
+pub(crate) fn take_keys(sets: &mut BTreeMap<RrKey, RecordSet>, taken: &[RrKey])
     ensures { (q : Key) → get key_cmp sets.new q ≡ cond (list_any (λ (k : Key). eq_by_cmp key_cmp k q) taken.now) None (get key_cmp sets.old q) }
 {
     for key in taken {

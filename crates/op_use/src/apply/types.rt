@@ -2,35 +2,35 @@
 
 ghost use Rattle.std.specs.Prelude.{◌≡◌, ◌&&◌, ◌||◌};
 ghost use Rattle.base.specs.NameOrder.{same_name};
-ghost use Rattle.op_use.specs.Server.{is_any, is_cname, is_meta as is_meta_type};
+ghost use Rattle.op_use.specs.Server.{is_any as is_any_type, is_cname as is_cname_type, is_meta as is_meta_type};
 ghost use Rattle.op_use.specs.SoundSet.{is_ordinary as is_ordinary_type};
-ghost use Rattle.rr.specs.RecordSet.{is_ns, is_soa};
+ghost use Rattle.rr.specs.RecordSet.{is_ns, is_soa as is_soa_type};
 
 use base::{Name, RecordType};
 
-pub(crate) fn is_start(record_type: RecordType) -> bool
-    ensures { result ≡ is_soa record_type }
+pub(crate) fn is_soa(record_type: RecordType) -> bool
+    ensures { result ≡ is_soa_type record_type }
 {
     matches!(record_type, RecordType::SOA)
 }
 
-pub(crate) fn is_alias(record_type: RecordType) -> bool
-    ensures { result ≡ is_cname record_type }
+pub(crate) fn is_cname(record_type: RecordType) -> bool
+    ensures { result ≡ is_cname_type record_type }
 {
     matches!(record_type, RecordType::CNAME)
 }
 
-pub(crate) fn is_all(record_type: RecordType) -> bool
-    ensures { result ≡ is_any record_type }
+pub(crate) fn is_any(record_type: RecordType) -> bool
+    ensures { result ≡ is_any_type record_type }
 {
     matches!(record_type, RecordType::ANY)
 }
 
 // Whether a set stays where all of its owner goes: SOA and NS at the origin (RFC 2136, 3.4.2.3).
 pub(crate) fn is_guarded(origin: &Name, owner: &Name, record_type: RecordType) -> bool
-    ensures { result ≡ (same_name owner.now origin.now && (is_soa record_type || is_ns record_type)) }
+    ensures { result ≡ (same_name owner.now origin.now && (is_soa_type record_type || is_ns record_type)) }
 {
-    *owner == *origin && (is_start(record_type) || matches!(record_type, RecordType::NS))
+    *owner == *origin && (is_soa(record_type) || matches!(record_type, RecordType::NS))
 }
 
 // Whether updates treat a type like most.

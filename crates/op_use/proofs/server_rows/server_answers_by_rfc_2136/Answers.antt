@@ -1,4 +1,4 @@
-use Rattle.op_use.proofs.ServerRowsLemmas.{add_rows, builder_rows, delete_record_rows, delete_set_rows, prerequisite_rows, prescan_rows, zone_section_rows}
+use Rattle.op_use.proofs.ServerRowsLemmas.{add_rows, builder_rows, delete_record_rows, delete_set_rows, order_rows, prerequisite_rows, prescan_rows, zone_section_rows}
 use Rattle.op_use.proofs.server_rows.server_answers_by_rfc_2136.Goals as goal
 
 pub returns : goal.returns
@@ -6,6 +6,7 @@ returns c = record {
   zone_section = zone_section_rows;
   prerequisites = prerequisite_rows;
   prescan = prescan_rows;
+  order = order_rows;
   added = add_rows;
   deleted_sets = delete_set_rows;
   deleted_records = delete_record_rows;

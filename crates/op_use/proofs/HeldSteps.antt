@@ -1,0 +1,93 @@
+-- Steps of changing a zone that is held as a map.
+use Rattle.base.specs.Labels.{NameValue}
+use Rattle.base.specs.RrKey.{key_cmp}
+use Rattle.base.specs.declared.dns_class.DNSClass.{DNSClass}
+use Rattle.base.specs.declared.rr_key.RrKey.{RrKey}
+use Rattle.base_data.specs.declared.rdata.RData.{RData}
+use Rattle.op_use.proofs.MapSteps.{chained, more_after, none_after}
+use Rattle.op_use.specs.Applying.{IsZoneMap, IsZoneSet}
+use Rattle.op_use.specs.HeldZone.{HeldZone, zone_of}
+use Rattle.op_use.specs.MapUpdates.{Holds, IsAfter, IsSetTo, IsUpdated, Lacks, LacksOwner, Leaves}
+use Rattle.op_use.specs.Zone.{Zone}
+use Rattle.rr.specs.RecordSet.{SetValue}
+use Rattle.rr.specs.declared.record.Record.{Record}
+use Rattle.std.proofs.Common.{ap, arith, refl, subst, sym, ◌∙◌}
+use Rattle.std.specs.BTreeMap as tree
+use Rattle.std.specs.BTreeMap.{BTreeMap}
+use Rattle.std.specs.List.{slice_get}
+use Rattle.std.specs.Ordering.{eq_by_cmp}
+use Rattle.std.specs.Prelude.{Bool, List, None, Some, [], cond, false, length, true, ◌-◌, ◌++◌, ◌∷◌, ◌≡◌}
+
+pub none_updated : (z : HeldZone) → IsUpdated [] z z
+none_updated z = (z.sets, refl, λ h. none_after z.origin z.class z.sets h)
+
+-- an update that changes nothing
+pub same_updated : (rs : List (Record RData)) (z : HeldZone) → (IsZoneMap z.class z.sets → IsAfter z.origin z.class rs z.sets z.sets) → IsUpdated rs z z
+same_updated rs z step = (z.sets, refl, step)
+
+-- an update that puts a set
+pub set_updated : (rs xs : List (Record RData)) (k : RrKey) (old new : HeldZone) → Holds k xs old new
+    → ((n : BTreeMap RrKey SetValue) → IsSetTo old.class k xs old.sets n → IsZoneMap old.class old.sets → IsAfter old.origin old.class rs old.sets n) → IsUpdated rs old new
+set_updated rs xs k old new h step = (h.0, h.1, step h.0 h.2)
+
+-- one more update
+pub updated_more : (rs : List (Record RData)) (r : Record RData) (old mid new : HeldZone) → IsUpdated rs old mid → IsUpdated (r ∷ []) mid new → IsUpdated (rs ++ r ∷ []) old new
+updated_more rs r old mid new first next = chain (subst (λ (z : HeldZone). IsUpdated (r ∷ []) z new) first.1 next) where
+  chain : IsUpdated (r ∷ []) (record old { sets = first.0 }) new → IsUpdated (rs ++ r ∷ []) old new
+  chain h = (
+    h.0,
+    h.1,
+    λ is_map.
+        let before = first.2 is_map in
+        more_after old.origin old.class rs r old.sets first.0 h.0 before (h.2 before.is_map),
+  )
+
+pub moved_held : (k q : RrKey) (xs ys : List (Record RData)) (old new : HeldZone) → k ≡ q → xs ≡ ys → Holds k xs old new → Holds q ys old new
+moved_held k q xs ys old new e f h = subst (λ (j : RrKey). Holds j ys old new) e (subst (λ (zs : List (Record RData)). Holds k zs old new) f h)
+
+-- records of which none is last are none
+some_last : (x : Record RData) (xs : List (Record RData)) → slice_get (x ∷ xs) (length xs) ≡ None → ⊥
+some_last x [] e = absurd cc
+some_last x (y ∷ ys) e = some_last y ys e
+
+pub none_last : (xs : List (Record RData)) → slice_get xs (length xs - 1) ≡ None → xs ≡ []
+none_last [] e = refl
+none_last (x ∷ xs) e =
+    let same : length (x ∷ xs) - 1 ≡ length xs = omega arith in
+    absurd (some_last x xs (subst (λ n. slice_get (x ∷ xs) n ≡ None) same e))
+
+-- a set that is taken out
+gone_set : (class : DNSClass) (m : BTreeMap RrKey SetValue) (b : Bool) (q : RrKey) (s : SetValue) → IsZoneMap class m → cond b None (tree.get key_cmp m q) ≡ Some s → IsZoneSet class q s
+gone_set class m true q s old e = absurd cc
+gone_set class m false q s old e = old q s e
+
+pub removed_map : (class : DNSClass) (k : RrKey) (m n : BTreeMap RrKey SetValue) → IsZoneMap class m → tree.Updates key_cmp m n k None → IsZoneMap class n
+removed_map class k m n old h = λ q s e. gone_set class m (eq_by_cmp key_cmp k q) q s old (sym (h.0 q) ∙ e)
+
+pub removed_set : (class : DNSClass) (k : RrKey) (m n : BTreeMap RrKey SetValue) → tree.Updates key_cmp m n k None → IsSetTo class k [] m n
+removed_set class k m n h = record { set = None; records = refl; fits = λ s e. absurd cc; ttl = λ s e. absurd cc; puts = h.0 }
+
+-- the sets of an owner that are taken out
+left_set : (class : DNSClass) (m : BTreeMap RrKey SetValue) (b : Bool) (q : RrKey) (s : SetValue) → IsZoneMap class m → cond b (tree.get key_cmp m q) None ≡ Some s → IsZoneSet class q s
+left_set class m true q s old e = old q s e
+left_set class m false q s old e = absurd cc
+
+pub left_map : (z : Zone) (owner : NameValue) (class : DNSClass) (m n : BTreeMap RrKey SetValue) → IsZoneMap class m → Leaves z owner m n → IsZoneMap class n
+left_map z owner class m n old h = λ q s e. left_set class m _ q s old (sym (h q) ∙ e)
+
+pub owner_updated : (rs : List (Record RData)) (owner : NameValue) (old new : HeldZone) → LacksOwner owner old new
+    → ((n : BTreeMap RrKey SetValue) → Leaves (zone_of old) owner old.sets n → IsZoneMap old.class old.sets → IsAfter old.origin old.class rs old.sets n) → IsUpdated rs old new
+owner_updated rs owner old new h step = (h.0, h.1, step h.0 h.2)
+
+-- records put where a set was taken out
+pub put_back : (k : RrKey) (xs : List (Record RData)) (old mid new : HeldZone) → Lacks k old mid → Holds k xs mid new → Holds k xs old new
+put_back k xs old mid new first next = chain (subst (λ (z : HeldZone). Holds k xs z new) first.1 next) where
+  chain : Holds k xs (record old { sets = first.0 }) new → Holds k xs old new
+  chain h = (h.0, h.1, chained old.class k xs old.sets first.0 h.0 first.2 h.2)
+
+-- the map of a zone that was made of one
+pub all_updated : (z new : HeldZone) (origin : NameValue) (class : DNSClass) (m : BTreeMap RrKey SetValue) (rs : List (Record RData))
+    → z ≡ record { origin = origin; class = class; sets = m } → IsUpdated rs z new → IsZoneMap class m → IsAfter origin class rs m new.sets
+all_updated z new origin class m rs e h old = step (subst (λ (y : HeldZone). IsUpdated rs y new) e h) where
+  step : IsUpdated rs (record { origin = origin; class = class; sets = m }) new → IsAfter origin class rs m new.sets
+  step u = subst (λ n. IsAfter origin class rs m n) (sym (ap (λ (y : HeldZone). y.sets) u.1)) (u.2 old)

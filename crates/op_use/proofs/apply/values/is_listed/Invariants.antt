@@ -1,8 +1,0 @@
-use Rattle.op_use.proofs.apply.values.is_listed.Given as goal
-use Rattle.op_use.specs.MapFaults.{asks_for}
-use Rattle.std.proofs.Common.{drop, ◌≡◌}
-use Rattle.std.specs.List.{list_any}
-
--- what is left decides
-abbrev pub invariant-loop-asked : goal.invariant-loop-asked
-invariant-loop-asked l = list_any (asks_for l.class l.entry l.known) (drop l.asked-index l.entries) ≡ list_any (asks_for l.class l.entry l.known) l.entries

@@ -1,8 +1,0 @@
-use Rattle.base.specs.RrKey.{key_of}
-use Rattle.op_use.proofs.apply.values.is_set_listed.Goals as goal
-use Rattle.op_use.specs.MapFaults.{listed_under}
-use Rattle.std.proofs.Common.{ap, ◌∙◌}
-
-pub returns : goal.returns
-returns c = c.is_listed_under.ensures
-    ∙ ap (listed_under c.args.sets.now c.args.class c.args.entries.now c.args.entry.now) (c.in_ok-key.ensures ∙ ap (key_of c.args.entry.now.name) c.record_type.ensures)

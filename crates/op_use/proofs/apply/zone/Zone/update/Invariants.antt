@@ -1,0 +1,7 @@
+use Rattle.op_use.proofs.apply.zone.Zone.update.Given as goal
+use Rattle.op_use.specs.MapUpdates.{IsUpdated}
+use Rattle.std.proofs.Common.{take}
+
+-- the updates so far are applied
+abbrev pub invariant-loop-entry : goal.invariant-loop-entry
+invariant-loop-entry l = IsUpdated (take l.entry-index l.entries) l.fn.self l.self

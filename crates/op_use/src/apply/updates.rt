@@ -1,0 +1,119 @@
+//! The last step: the updates of a message, one after the other (RFC 2136, 3.4.2).
+
+ghost use Rattle.std.specs.Prelude.{◌≡◌, ◌∷◌, [], IfOk, OnOk};
+ghost use Rattle.op_use.specs.HeldZone.{HeldZone, zone_of};
+ghost use Rattle.op_use.specs.MapUpdates.{IsUpdated, LacksOwner};
+ghost use Rattle.op_use.specs.Server.{OfAny, OfNone, OfZone, is_needed as is_needed_in, use_of as the_use};
+
+use crate::apply::class_use::{Use, use_of};
+use crate::apply::owners::{has_type, take_keys, unguarded_keys};
+use crate::apply::types::{is_any, is_cname, is_guarded, is_soa};
+use crate::apply::zone::{Zone, key_of};
+use base::{Name, RecordType};
+use rr::Record;
+use std::alloc::AllocError;
+
+impl<'a> Zone<'a> {
+    pub(crate) fn update(&mut self, entries: &[Record]) -> Result<(), AllocError>
+        ensures { OnOk result (IsUpdated entries.now self.old self.new) }
+    {
+        for entry in entries {
+            self.update_by(entry)?;
+        }
+        Ok(())
+    }
+
+    fn update_by(&mut self, entry: &Record) -> Result<(), AllocError>
+        ensures { OnOk result (IsUpdated (entry.now ∷ []) self.old self.new) }
+    {
+        match use_of(self.class, entry.dns_class) {
+            Use::OfAny => {
+                self.delete(entry)?;
+                Ok(())
+            }
+            Use::OfNone => {
+                self.delete_record(entry)?;
+                Ok(())
+            }
+            Use::OfZone => {
+                self.add(entry)?;
+                Ok(())
+            }
+            Use::OfNothing => Ok(()),
+        }
+    }
+
+    // Adds a record: a CNAME where no other types are, another where no CNAME is (RFC 2136, 3.4.2.2).
+    fn add(&mut self, entry: &Record) -> Result<(), AllocError>
+        requires { the_use self.old.class entry.now.dns_class ≡ OfZone }
+        ensures { OnOk result (IsUpdated (entry.now ∷ []) self.old self.new) }
+    {
+        if is_cname(entry.record_type()) {
+            if has_type(&self.sets, &entry.name, true)? {
+                return Ok(());
+            }
+            self.put_alone(entry)?;
+            return Ok(());
+        }
+        let key = key_of(&entry.name, RecordType::CNAME)?;
+        if self.sets.contains_key(&key) {
+            return Ok(());
+        }
+        self.add_record(entry)?;
+        Ok(())
+    }
+
+    // Takes equal data out, but no SOA, and not the last name server of the zone (RFC 2136, 3.4.2.4). A set without such
+    // data stays as it is.
+    fn delete_record(&mut self, entry: &Record) -> Result<(), AllocError>
+        requires { the_use self.old.class entry.now.dns_class ≡ OfNone }
+        ensures { OnOk result (IsUpdated (entry.now ∷ []) self.old self.new) }
+    {
+        if self.is_needed(entry)? {
+            return Ok(());
+        }
+        if !self.has_record(entry)? {
+            return Ok(());
+        }
+        self.take_data(entry)?;
+        Ok(())
+    }
+
+    // Takes a set out, or all of an owner (RFC 2136, 3.4.2.3).
+    fn delete(&mut self, entry: &Record) -> Result<(), AllocError>
+        requires { the_use self.old.class entry.now.dns_class ≡ OfAny }
+        ensures { OnOk result (IsUpdated (entry.now ∷ []) self.old self.new) }
+    {
+        if is_any(entry.record_type()) {
+            self.delete_owner(&entry.name)?;
+            return Ok(());
+        }
+        if is_guarded(self.origin, &entry.name, entry.record_type()) {
+            return Ok(());
+        }
+        let key = key_of(&entry.name, entry.record_type())?;
+        self.take_set(&key);
+        Ok(())
+    }
+
+    // Takes all sets of an owner out; at the origin SOA and NS stay.
+    fn delete_owner(&mut self, owner: &Name) -> Result<(), AllocError>
+        ensures { OnOk result (LacksOwner owner.now self.old self.new) }
+    {
+        let taken = unguarded_keys(&self.sets, self.origin, owner)?;
+        take_keys(&mut self.sets, &taken);
+        Ok(())
+    }
+
+    // Whether a record stays: an SOA, and the last name server of the zone.
+    fn is_needed(&self, entry: &Record) -> Result<bool, AllocError>
+        ensures { IfOk result (λ b. b ≡ is_needed_in (zone_of self.now) entry.now) }
+    {
+        let key = key_of(&entry.name, entry.record_type())?;
+        Ok(
+            is_soa(entry.record_type())
+                || (is_guarded(self.origin, &entry.name, entry.record_type())
+                    && self.count(&key) <= 1),
+        )
+    }
+}

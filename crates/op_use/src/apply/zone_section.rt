@@ -1,0 +1,28 @@
+//! The second step: the zone section of an update (RFC 2136, 3.1).
+
+ghost use Rattle.std.specs.Prelude.{◌≡◌};
+ghost use Rattle.op_use.specs.HeldZone.{HeldZone, zone_of};
+ghost use Rattle.op_use.specs.Server.{zone_fault};
+
+use crate::apply::types::is_soa;
+use crate::apply::zone::Zone;
+use op::{Query, ResponseCode};
+
+impl<'a> Zone<'a> {
+    // What is wrong with the zone section.
+    pub(crate) fn zone_fault(&self, queries: &[Query]) -> Option<ResponseCode>
+        ensures { result ≡ zone_fault (zone_of self.now) queries.now }
+    {
+        let [query] = queries else {
+            return Some(ResponseCode::FormErr);
+        };
+        if !is_soa(query.query_type()) {
+            return Some(ResponseCode::FormErr);
+        }
+        if *query.name() == *self.origin && query.query_class() == self.class {
+            None
+        } else {
+            Some(ResponseCode::NotAuth)
+        }
+    }
+}
