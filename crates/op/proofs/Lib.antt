@@ -10,6 +10,7 @@ pub mod Equals
 pub mod HeaderReading
 pub mod HeaderRoom
 pub mod Orders
+pub mod PartLemmas
 pub mod QueryEquals
 pub mod QueryLemmas
 pub mod RefusalLemmas

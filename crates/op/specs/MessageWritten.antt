@@ -1,5 +1,5 @@
 -- What is written of a message under a limit, as a function of both (RFC 1035, 4.1; RFC 2181, 9; RFC 6891, 6.1.3).
-use Rattle.std.specs.Prelude.{ℕ, Bool, ◌+◌, ◌||◌, List, [], length, nat_lt, if◌then◌else◌, Result, Ok, Err}
+use Rattle.std.specs.Prelude.{◌≡◌, ℕ, Bool, ◌+◌, ◌<◌, ◌||◌, List, [], ◌∷◌, ◌++◌, false, length, nat_lt, if◌then◌else◌, Result, Ok, Err}
 use Rattle.std.specs.Option.{option_map}
 use Rattle.base.specs.State.{Stored}
 use Rattle.base.specs.declared.error.proto_error.ProtoError.{ProtoError}
@@ -31,6 +31,11 @@ part f limit xs at stored =
     let piece = in_turn f kept at stored in
     record { kept = kept; is_cut = nat_lt (length kept) (length xs); end = at + length piece.bytes; piece = piece }
 
+-- the own bytes of the first of these, if there is one, would pass the limit at this place
+abbrev pub FirstPasses : {E : Type 0} → (E → Writing) → ℕ → ℕ → List Stored → List E → Type 0
+FirstPasses f limit at stored [] = Unit {0}
+FirstPasses f limit at stored (x ∷ xs) = limit < at + length (f x at stored).bytes
+
 -- the part that follows one, whatever became of it
 abbrev pub part_after : {D E : Type 0} → (E → Writing) → ℕ → List E → Part D → Part E
 part_after f limit xs before = part f limit xs before.end before.piece.suffixes
@@ -60,6 +65,21 @@ parts_of limit m at stored =
       edns = edns;
       signature = signature;
     }
+
+-- No part is cut.
+pub record AreWhole (p : Parts) : Type 0 where
+  pub queries : p.queries.is_cut ≡ false
+  pub answers : p.answers.is_cut ≡ false
+  pub authorities : p.authorities.is_cut ≡ false
+  pub additionals : p.additionals.is_cut ≡ false
+  pub edns : p.edns.is_cut ≡ false
+  pub signature : p.signature.is_cut ≡ false
+
+-- What a part lost stood after what it kept, and the first of it would have passed the limit by its own bytes.
+pub record LostForRoom {E : Type 0} (f : E → Writing) (limit : ℕ) (xs : List E) (p : Part E) : Type 0 where
+  pub lost : List E
+  pub whole : xs ≡ p.kept ++ lost
+  pub passes : FirstPasses f limit p.end p.piece.suffixes lost
 
 -- the header of these parts: it counts what is kept, and TC is set where a record is lost
 abbrev pub header_of : MessageValue → Parts → Header

@@ -1,9 +1,15 @@
 //! Laws of what is written under a limit. Each is the contract of an empty function.
 
-ghost use Rattle.std.specs.Prelude.{◌≡◌, ◌≤◌, ◌++◌, ℕ, List, length};
+ghost use Rattle.std.specs.Prelude.{◌≡◌, ◌≤◌, ◌++◌, ℕ, List, false, length};
+ghost use Rattle.std.specs.Option.{option_map};
 ghost use Rattle.base.specs.State.{State, Stored};
 ghost use Rattle.base.specs.Written.{Passes, after, fitting, in_turn, that_fit};
 ghost use Rattle.base_data.specs.declared.rdata.RData.{RData};
+ghost use Rattle.op.specs.Cut.{raised};
+ghost use Rattle.op.specs.EdnsRecord.{edns_record};
+ghost use Rattle.op.specs.Fits.{listed, signature_record};
+ghost use Rattle.op.specs.Message.{MessageValue};
+ghost use Rattle.op.specs.MessageWritten.{AreWhole, LostForRoom, parts_of};
 ghost use Rattle.op.specs.Query.{query_written};
 ghost use Rattle.op.specs.declared.query.Query.{Query};
 ghost use Rattle.rr.specs.Record.{record_written};
@@ -40,4 +46,40 @@ pub fn a_larger_limit_keeps_no_fewer()
         → length (that_fit record_written small rs at stored) ≤ length (that_fit record_written large rs at stored) }
     ensures questions { (small large : ℕ) → small ≤ large → (qs : List Query) (at : ℕ) (stored : List Stored)
         → length (that_fit query_written small qs at stored) ≤ length (that_fit query_written large qs at stored) }
+{}
+
+/// What a message loses under a limit didn't fit: of each part, its questions, answers, authorities, additionals, EDNS and
+/// signature, a front is kept, and the first that is lost would have passed the limit by its own bytes, compressed as
+/// they are (RFC 1035, 4.1 and 4.1.4; RFC 2181, 9).
+pub fn what_a_message_loses_did_not_fit()
+    ensures queries { (limit : ℕ) (m : MessageValue) (at : ℕ) (stored : List Stored)
+        → LostForRoom query_written limit m.queries (parts_of limit m at stored).queries }
+    ensures answers { (limit : ℕ) (m : MessageValue) (at : ℕ) (stored : List Stored)
+        → LostForRoom record_written limit m.answers (parts_of limit m at stored).answers }
+    ensures authorities { (limit : ℕ) (m : MessageValue) (at : ℕ) (stored : List Stored)
+        → LostForRoom record_written limit m.authorities (parts_of limit m at stored).authorities }
+    ensures additionals { (limit : ℕ) (m : MessageValue) (at : ℕ) (stored : List Stored)
+        → LostForRoom record_written limit m.additionals (parts_of limit m at stored).additionals }
+    ensures edns { (limit : ℕ) (m : MessageValue) (at : ℕ) (stored : List Stored)
+        → LostForRoom record_written limit (listed (option_map edns_record (raised m))) (parts_of limit m at stored).edns }
+    ensures signature { (limit : ℕ) (m : MessageValue) (at : ℕ) (stored : List Stored)
+        → LostForRoom record_written limit (listed (option_map signature_record m.signature))
+        (parts_of limit m at stored).signature }
+{}
+
+/// Under a limit with room for all of a message nothing is lost: where no part is cut under some limit, none is under any
+/// other that its end doesn't pass, and the bytes are the same.
+pub fn a_message_with_room_is_whole()
+    ensures { (larger limit : ℕ) (m : MessageValue) (at : ℕ) (stored : List Stored)
+        → AreWhole (parts_of larger m at stored) → (parts_of larger m at stored).signature.end ≤ limit
+        → parts_of limit m at stored ≡ parts_of larger m at stored }
+{}
+
+/// A larger limit never keeps fewer questions, nor, where all questions are kept, fewer answers.
+pub fn a_larger_limit_keeps_no_fewer_of_a_message()
+    ensures queries { (small large : ℕ) → small ≤ large → (m : MessageValue) (at : ℕ) (stored : List Stored)
+        → length (parts_of small m at stored).queries.kept ≤ length (parts_of large m at stored).queries.kept }
+    ensures answers { (small large : ℕ) → small ≤ large → (m : MessageValue) (at : ℕ) (stored : List Stored)
+        → (parts_of small m at stored).queries.is_cut ≡ false
+        → length (parts_of small m at stored).answers.kept ≤ length (parts_of large m at stored).answers.kept }
 {}

@@ -1,0 +1,143 @@
+-- What is kept of each part of a message under a limit.
+use Rattle.std.proofs.Common.{◌≡◌, ℕ, ◌+◌, ◌<◌, ◌≤◌, inl, inr, List, [], ◌∷◌, ◌++◌, length, refl, ap, sym, ◌∙◌, subst, arith, length-append, Bool, true, false, cond}
+use Rattle.std.specs.Prelude.{nat_lt}
+use Rattle.std.specs.Option.{option_map}
+use Rattle.std.proofs.lemmas.Bool.{cases_lt, le-leb, lt-leb}
+use Rattle.std.proofs.lemmas.Bool.Decides.{nat_tests}
+use Rattle.std.proofs.lemmas.List.{append-nil, nil_from_length}
+use Rattle.base.specs.State.{Stored}
+use Rattle.base.specs.Written.{Piece, Writing, in_turn, that_fit}
+use Rattle.base.proofs.FittingLemmas.{all_fit, no_fewer_fit}
+use Rattle.base_data.specs.declared.rdata.RData.{RData}
+use Rattle.rr.specs.Record.{record_written}
+use Rattle.rr.specs.declared.record.Record.{Record}
+use Rattle.op.specs.Cut.{raised}
+use Rattle.op.specs.EdnsRecord.{edns_record}
+use Rattle.op.specs.Fits.{listed, signature_record}
+use Rattle.op.specs.Message.{MessageValue}
+use Rattle.op.specs.MessageWritten.{AreWhole, FirstPasses, LostForRoom, Part, Parts, part, part_after, parts_of}
+use Rattle.op.specs.Query.{query_written}
+use Rattle.op.specs.declared.query.Query.{Query}
+use Rattle.op.proofs.LimitLemmas.{fits_more}
+
+module _ {E : Type 0} (f : E → Writing) where
+  first_fits : (limit : ℕ) (x : E) (xs : List E) (at : ℕ) (stored : List Stored) → at + length (f x at stored).bytes ≤ limit
+      → that_fit f limit (x ∷ xs) at stored ≡ x ∷ that_fit f limit xs (at + length (f x at stored).bytes) (f x at stored).suffixes
+  first_fits limit x xs at stored fits =
+      ap (λ (b : Bool). cond b (x ∷ that_fit f limit xs (at + length (f x at stored).bytes) (f x at stored).suffixes) []) (le-leb (at + length (f x at stored).bytes) limit fits)
+
+  none_fits : (limit : ℕ) (x : E) (xs : List E) (at : ℕ) (stored : List Stored) → limit < at + length (f x at stored).bytes → that_fit f limit (x ∷ xs) at stored ≡ []
+  none_fits limit x xs at stored full =
+      ap (λ (b : Bool). cond b (x ∷ that_fit f limit xs (at + length (f x at stored).bytes) (f x at stored).suffixes) []) (lt-leb (at + length (f x at stored).bytes) limit full)
+
+  -- those that fit, and the rest, of which the first passes the limit
+  record Cut (limit : ℕ) (xs : List E) (at : ℕ) (stored : List Stored) (kept : List E) : Type 0 where
+    lost : List E
+    whole : xs ≡ kept ++ lost
+    passes : let piece = in_turn f kept at stored in FirstPasses f limit (at + length piece.bytes) piece.suffixes lost
+
+  cut_at : (limit : ℕ) (xs : List E) (at : ℕ) (stored : List Stored) → Cut limit xs at stored (that_fit f limit xs at stored)
+  cut_at limit [] at stored = record { lost = []; whole = refl; passes = tt }
+  cut_at limit (x ∷ xs) at stored = elim (cases_lt limit (at + length (f x at stored).bytes)) [
+    | inl full ↦
+        let here : at ≡ at + 0 = omega arith in
+        subst (Cut limit (x ∷ xs) at stored) (sym (none_fits limit x xs at stored full))
+        (record { lost = x ∷ xs; whole = refl; passes = subst (λ (k : ℕ). limit < k + length (f x k stored).bytes) here full })
+    | inr fits ↦
+        let first = f x at stored in
+        let place = at + length first.bytes in
+        let kept = that_fit f limit xs place first.suffixes in
+        let rest = cut_at limit xs place first.suffixes in
+        let piece = in_turn f kept place first.suffixes in
+        let end : place + length piece.bytes ≡ at + length (first.bytes ++ piece.bytes) = omega (arith, length-append first.bytes piece.bytes) in
+        subst (Cut limit (x ∷ xs) at stored) (sym (first_fits limit x xs at stored fits))
+        (record {
+          lost = rest.lost;
+          whole = ap (λ (ys : List E). x ∷ ys) rest.whole;
+          passes = subst (λ (k : ℕ). FirstPasses f limit k piece.suffixes rest.lost) end rest.passes;
+        })
+  ]
+
+  pub part_lost : (limit : ℕ) (xs : List E) (at : ℕ) (stored : List Stored) → LostForRoom f limit xs (part f limit xs at stored)
+  part_lost limit xs at stored =
+      let cut = cut_at limit xs at stored in
+      record { lost = cut.lost; whole = cut.whole; passes = cut.passes }
+
+  -- a part of these values
+  abbrev part_of : List E → List E → ℕ → List Stored → Part E
+  part_of xs kept at stored =
+      let piece = in_turn f kept at stored in
+      record { kept = kept; is_cut = nat_lt (length kept) (length xs); end = at + length piece.bytes; piece = piece }
+
+  -- all are kept where the part isn't cut
+  kept_all : (limit : ℕ) (xs : List E) (at : ℕ) (stored : List Stored) → (part f limit xs at stored).is_cut ≡ false → that_fit f limit xs at stored ≡ xs
+  kept_all limit xs at stored uncut =
+      let cut = cut_at limit xs at stored in
+      let kept = that_fit f limit xs at stored in
+      let sum = ap length cut.whole ∙ length-append kept cut.lost in
+      let none : length cut.lost ≡ 0 = grind (arith, nat_tests, uncut, sum) in
+      sym (append-nil kept) ∙ ap (λ (ys : List E). kept ++ ys) (sym (nil_from_length cut.lost none)) ∙ sym cut.whole
+
+  pub part_whole : (larger limit : ℕ) (xs : List E) (at : ℕ) (stored : List Stored) → (part f larger xs at stored).is_cut ≡ false → (part f larger xs at stored).end ≤ limit
+      → part f limit xs at stored ≡ part f larger xs at stored
+  part_whole larger limit xs at stored uncut room =
+      let all = kept_all larger xs at stored uncut in
+      let fits = subst (λ (ys : List E). at + length (in_turn f ys at stored).bytes ≤ limit) all room in
+      ap (λ (ys : List E). part_of xs ys at stored) (all_fit f limit xs at stored fits ∙ sym all)
+
+  pub part_grows : (small large : ℕ) → small ≤ large → (xs : List E) (at : ℕ) (stored : List Stored) → (part f small xs at stored).is_cut ≡ false → part f large xs at stored ≡ part f small xs at stored
+  part_grows small large more xs at stored uncut =
+      let all = kept_all small xs at stored uncut in
+      let grown = no_fewer_fit f small large xs at stored more in
+      let cut = cut_at large xs at stored in
+      let kept = that_fit f large xs at stored in
+      let sum = ap length cut.whole ∙ length-append kept cut.lost in
+      let longer = ap length grown.1 ∙ length-append (that_fit f small xs at stored) grown.0 in
+      let none : length grown.0 ≡ 0 = omega (arith, sum, longer, ap length all) in
+      let same : kept ≡ that_fit f small xs at stored = grown.1 ∙ ap (λ (ys : List E). that_fit f small xs at stored ++ ys) (nil_from_length grown.0 none) ∙ append-nil (that_fit f small xs at stored) in
+      ap (λ (ys : List E). part_of xs ys at stored) same
+
+  -- a part ends no earlier than the one before it
+  pub ends_later : {D : Type 0} (limit : ℕ) (xs : List E) (before : Part D) → before.end ≤ (part_after f limit xs before).end
+  ends_later limit xs before = omega arith
+
+-- ---- the whole message
+
+abbrev opt_of : MessageValue → List (Record RData)
+opt_of m = listed (option_map edns_record (raised m))
+
+abbrev signed_of : MessageValue → List (Record RData)
+signed_of m = listed (option_map signature_record m.signature)
+
+-- the next part is the same where the one before it is
+next_whole : {D E : Type 0} (f : E → Writing) (larger limit : ℕ) (xs : List E) (mine its : Part D) → mine ≡ its → (part_after f larger xs its).is_cut ≡ false → (part_after f larger xs its).end ≤ limit
+    → part_after f limit xs mine ≡ part_after f larger xs its
+next_whole {D} f larger limit xs mine its same uncut room =
+    ap (λ (p : Part D). part_after f limit xs p) same ∙ part_whole f larger limit xs its.end its.piece.suffixes uncut room
+
+pub message_whole : (larger limit : ℕ) (m : MessageValue) (at : ℕ) (stored : List Stored) → AreWhole (parts_of larger m at stored) → (parts_of larger m at stored).signature.end ≤ limit
+    → parts_of limit m at stored ≡ parts_of larger m at stored
+message_whole larger limit m at stored whole room =
+    let its = parts_of larger m at stored in
+    let mine = parts_of limit m at stored in
+    let signature_room : its.signature.end ≤ limit = room in
+    let edns_room : its.edns.end ≤ limit = omega (arith, signature_room, ends_later record_written larger (signed_of m) its.edns) in
+    let additionals_room : its.additionals.end ≤ limit = omega (arith, edns_room, ends_later record_written larger (opt_of m) its.additionals) in
+    let authorities_room : its.authorities.end ≤ limit = omega (arith, additionals_room, ends_later record_written larger m.additionals its.authorities) in
+    let answers_room : its.answers.end ≤ limit = omega (arith, authorities_room, ends_later record_written larger m.authorities its.answers) in
+    let queries_room : its.queries.end ≤ limit = omega (arith, answers_room, ends_later record_written larger m.answers its.queries) in
+    let queries = part_whole query_written larger limit m.queries at stored whole.queries queries_room in
+    let answers = next_whole record_written larger limit m.answers mine.queries its.queries queries whole.answers answers_room in
+    let authorities = next_whole record_written larger limit m.authorities mine.answers its.answers answers whole.authorities authorities_room in
+    let additionals = next_whole record_written larger limit m.additionals mine.authorities its.authorities authorities whole.additionals additionals_room in
+    let edns = next_whole record_written larger limit (opt_of m) mine.additionals its.additionals additionals whole.edns edns_room in
+    let signature = next_whole record_written larger limit (signed_of m) mine.edns its.edns edns whole.signature signature_room in
+    λ i. record { queries = queries i; answers = answers i; authorities = authorities i; additionals = additionals i; edns = edns i; signature = signature i }
+
+pub answers_grow : (small large : ℕ) → small ≤ large → (m : MessageValue) (at : ℕ) (stored : List Stored) → (parts_of small m at stored).queries.is_cut ≡ false
+    → length (parts_of small m at stored).answers.kept ≤ length (parts_of large m at stored).answers.kept
+answers_grow small large more m at stored uncut =
+    let its = (parts_of small m at stored).queries in
+    let same = part_grows query_written small large more m.queries at stored uncut in
+    let kept = ap (λ (p : Part Query). length (part_after record_written large m.answers p).kept) same in
+    omega (arith, kept, fits_more record_written small large more m.answers its.end its.piece.suffixes)
