@@ -238,7 +238,11 @@ fn is_service(alloc: Global, wire: &[u8], numbers: (u16, u16, u16), target: &str
 fn is_exchange(alloc: Global, wire: &[u8], preference: u16, exchange: &str) -> bool {
     let found: Result<MX, DecodeError> = read(alloc, wire);
     let is_exchange = match &found {
-        Ok(mail) => mail.preference() == preference && has_text(alloc, mail.exchange(), exchange),
+        Ok(mail) => {
+            mail.preference() == preference
+                && has_text(alloc, mail.exchange(), exchange)
+                && has_text(alloc, mail.name(), exchange)
+        }
         Err(_) => false,
     };
     drop(found);
