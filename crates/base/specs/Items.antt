@@ -1,4 +1,4 @@
--- Items that are written one behind the other.
+-- Items that are written one after another.
 use Rattle.std.specs.Prelude.{◌≡◌, ℕ, ◌+◌, ◌-◌, ◌^◌, ◌<◌, List, [], ◌∷◌, length, Option, Some, None, Result, Ok, Err}
 use Rattle.std.specs.Iterator.{Count, UpTo, YieldsThen}
 use Rattle.base.specs.declared.error.proto_error.ProtoError.{ProtoError}
@@ -12,7 +12,7 @@ abbrev pub IsCountable : Count → Type 0
 IsCountable count = UpTo count (2 ^ 64 - 1)
 
 module _ {E : Type 0} (word : E → List ℕ → ℕ → ℕ → Type 0) (plain : E → ℕ) (owner : E → List (List ℕ)) where
-  -- each item was written behind the one before it
+  -- each item was written after the one before it
   abbrev pub EachWritten : List E → State → State → Type 0
   EachWritten [] a b = b ≡ a
   EachWritten (x ∷ xs) a c = (b : State) × Keeps a b × Writes (word x) (plain x) (owner x) a b × EachWritten xs b c

@@ -11,7 +11,7 @@ use Rattle.base.specs.Spelling.{Spelled}
 abbrev pub targets : List Passed → List ℕ
 targets ps = map (λ p. p.target) ps
 
--- the labels from there on are those behind each pointer
+-- the labels from there on are those after each pointer
 abbrev pub AreSpelled : List ℕ → List ℕ → List Passed → Type 0
 AreSpelled bytes labels ps = All (λ p. (p.from ≤ length labels) × IsKept bytes p.target (drop p.from labels)) ps
 
@@ -21,7 +21,7 @@ IsLast lent labels [] = Unit {0}
 IsLast lent labels (p ∷ []) = lent ≡ drop p.from labels
 IsLast lent labels (p ∷ q ∷ ps) = IsLast lent labels (q ∷ ps)
 
--- Behind each pointer kept offsets are passed, and those of the pointers that were followed later.
+-- After each pointer kept offsets are passed, and those of the pointers that were followed later.
 abbrev pub PassLater : List ℕ → set.FinSet nat_cmp → List Passed → Type 0
 PassLater bytes kept [] = Unit {0}
 PassLater bytes kept (p ∷ ps) = PassesKept bytes (inserted (targets ps) kept) p.target × PassLater bytes kept ps

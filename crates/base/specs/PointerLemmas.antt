@@ -57,8 +57,8 @@ labels_stand B (x ∷ xs) s i are stands =
     append_assoc (length x ∷ x) (wire_of xs) (0 ∷ []) ∙ ap (λ (ys : List ℕ). (length x ∷ x) ++ ys) (sym (append-nil (wire_of xs ++ 0 ∷ []))) in
     let all : Stands ((length x ∷ x) ++ ((wire_of xs ++ 0 ∷ []) ++ [])) B i = subst (λ (ys : List ℕ). Stands ys B i) split stands in
     let place : i + length (length x ∷ x) ≡ i + (1 + length x) = omega arith in
-    let behind : Stands (wire_of xs ++ 0 ∷ []) B (i + (1 + length x)) = subst (Stands (wire_of xs ++ 0 ∷ []) B) place (stands_part (length x ∷ x) (wire_of xs ++ 0 ∷ []) [] B i all) in
-    let rest = labels_stand B xs s (i + (1 + length x)) are.1 behind in
+    let after : Stands (wire_of xs ++ 0 ∷ []) B (i + (1 + length x)) = subst (Stands (wire_of xs ++ 0 ∷ []) B) place (stands_part (length x ∷ x) (wire_of xs ++ 0 ∷ []) [] B i all) in
+    let rest = labels_stand B xs s (i + (1 + length x)) are.1 after in
     let end : i + (1 + length x) + plain_len xs ≡ i + plain_len (x ∷ xs) = omega arith in
     label_stands B x xs s i (i + plain_len (x ∷ xs)) are.0.some are.0.short (first_stands (length x ∷ x) ((wire_of xs ++ 0 ∷ []) ++ []) B i all)
     (subst (λ (e : ℕ). Spelled B xs s (i + (1 + length x)) e) end rest)

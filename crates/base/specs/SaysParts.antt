@@ -64,17 +64,17 @@ module _ {F G : Type 0} {v w : List ℕ → ℕ → ℕ → Type 0} {n m : ℕ} 
     small = omega (arith, h.small, sum at stored);
   }
 
-  behind : (at : ℕ) (stored : List Stored) → at + length (f at stored).bytes + length (g (at + length (f at stored).bytes) (f at stored).suffixes).bytes ≡ at + length (both f g at stored).bytes
-  behind at stored = omega (arith, sum at stored)
+  after : (at : ℕ) (stored : List Stored) → at + length (f at stored).bytes + length (g (at + length (f at stored).bytes) (f at stored).suffixes).bytes ≡ at + length (both f g at stored).bytes
+  after at stored = omega (arith, sum at stored)
 
   pub Says-both : Says (both f g) (F × G) (Then v w) (n + m) owner
   Says-both = record {
     word_stands = λ ok B at stored h. (
       at + length (f at stored).bytes,
       s.word_stands ok.0 B at stored (first_there B at stored h),
-      subst (λ (e : ℕ). w B (at + length (f at stored).bytes) e) (behind at stored) (r.word_stands ok.1 B _ _ (second_there ok.0 B at stored h)),
+      subst (λ (e : ℕ). w B (at + length (f at stored).bytes) e) (after at stored) (r.word_stands ok.1 B _ _ (second_there ok.0 B at stored h)),
     );
-    valid = λ ok B at stored h. subst (λ (e : ℕ). All (IsSpelled B e) (both f g at stored).suffixes) (behind at stored) (r.valid ok.1 B _ _ (second_there ok.0 B at stored h));
+    valid = λ ok B at stored h. subst (λ (e : ℕ). All (IsSpelled B e) (both f g at stored).suffixes) (after at stored) (r.valid ok.1 B _ _ (second_there ok.0 B at stored h));
     at_most = λ at stored. omega (arith, sum at stored, s.at_most at stored, r.at_most (at + length (f at stored).bytes) (f at stored).suffixes);
     adds = λ at stored.
         let one = s.adds at stored in

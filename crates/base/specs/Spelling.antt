@@ -19,7 +19,7 @@ abbrev pub target : ℕ → ℕ → ℕ
 target b c = 256 * (b - 192) + c
 
 -- The labels are spelled from i up to e, in a piece that begins at s: a zero byte; or a label, and
--- the others behind it; or a pointer to a place below s, where a new piece begins.
+-- the others after it; or a pointer to a place below s, where a new piece begins.
 pub data SpelledIn (looks : ℕ → Type 0) (bytes : List ℕ) : ℕ → ℕ → List (List ℕ) → ℕ → Type 0 where
   ends : {s i : ℕ} → ByteAt looks bytes i 0 → SpelledIn looks bytes s i [] (i + 1)
   label : {s i e : ℕ} {x : List ℕ} {xs : List (List ℕ)} → ByteAt looks bytes i (length x) → 1 ≤ length x → length x ≤ 63 → BytesAt looks bytes (i + 1) x
@@ -40,7 +40,7 @@ among looks i = IsTrue (looks i)
 abbrev pub anywhere : ℕ → Type 0
 anywhere i = Unit {0}
 
--- the places that are looked at: those before a range and those behind it
+-- the places that are looked at: those before a range and those after it
 abbrev pub outside : ℕ → ℕ → ℕ → Type 0
 outside from to i = (i < from) ⊎ (to ≤ i)
 

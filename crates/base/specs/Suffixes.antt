@@ -32,4 +32,4 @@ pub record IsIndexed (find : List ℕ → Option ℕ) (list : List Stored) : Typ
 pub record IsTable (find : List ℕ → Option ℕ) (first others : List Stored) : Type 0 where
   pub rises : AllPairs (λ s t. s.offset < t.offset) (first ++ others)
   pub once : AllPairs (λ s t. s.labels ≢ t.labels) (first ++ others)
-  pub behind : IsIndexed find others
+  pub after : IsIndexed find others

@@ -43,10 +43,10 @@ stands_part xs ys zs B i s =
     let n = length (xs ++ (ys ++ zs)) in
     let rest = drop n (drop i B) in
     let whole : drop i B ≡ (xs ++ (ys ++ zs)) ++ rest = sym (take-append-drop n (drop i B)) ∙ ap (λ front. front ++ rest) s.is in
-    let behind : drop (i + length xs) B ≡ ys ++ (zs ++ rest) =
+    let after : drop (i + length xs) B ≡ ys ++ (zs ++ rest) =
     sym (drop-drop (length xs) i B) ∙ ap (drop (length xs)) (whole ∙ append_assoc xs (ys ++ zs) rest)
     ∙ drop-append_seam xs ((ys ++ zs) ++ rest) ∙ append_assoc ys zs rest in
-    record { is = ap (take (length ys)) behind ∙ take-append_seam ys (zs ++ rest) }
+    record { is = ap (take (length ys)) after ∙ take-append_seam ys (zs ++ rest) }
 
 pub first_stands : (ys zs B : List ℕ) (i : ℕ) → Stands (ys ++ zs) B i → Stands ys B i
 first_stands ys zs B i s =

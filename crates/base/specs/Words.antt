@@ -20,7 +20,7 @@ pub data BackToBack {A : Type 0} (Word : ℕ → A → ℕ → Type 0) : ℕ →
 
 -- A word is a relation between a buffer, the place where it begins and the place where it ends.
 
--- two words, one behind the other
+-- two words, one after another
 abbrev pub Then : (List ℕ → ℕ → ℕ → Type 0) → (List ℕ → ℕ → ℕ → Type 0) → List ℕ → ℕ → ℕ → Type 0
 Then first second B i e = (m : ℕ) × first B i m × second B m e
 

@@ -77,7 +77,7 @@ has_code code option = option.code == code
 abbrev pub first_option : ℕ → List OptionValue → Option OptionValue
 first_option code options = find (has_code code) options
 
--- with an option in the place of the first of its code, or behind all others where none has its code
+-- with an option in the place of the first of its code, or after all others where none has its code
 abbrev pub with_option : OptionValue → List OptionValue → List OptionValue
 with_option option options = option_map_or (λ i. slice_set options i option) (position (has_code option.code) options) (options ++ option ∷ [])
 

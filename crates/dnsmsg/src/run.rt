@@ -4,7 +4,7 @@ ghost use Rattle.std.specs.Prelude.{◌≡◌, ◌≢◌, ◌⊎◌, ◌≤◌, 
 ghost use Rattle.dnsmsg.specs.Answer.{IsAnswered, IsPrinted, usage, refused, done, broken};
 ghost use Rattle.dnsmsg.specs.Command.{Gives, IsGiven, IsRefused, IsTurnedAway, command_of, refused_word};
 ghost use Rattle.dnsmsg.specs.Words.{texts};
-ghost use Rattle.dnsmsg.specs.ZoneWords.{behind_origin};
+ghost use Rattle.dnsmsg.specs.ZoneWords.{words_after_origin};
 ghost use Rattle.dnsmsg.specs.declared.command.Command.{Command as Asked};
 
 use crate::apply_command::{apply, update};
@@ -81,7 +81,7 @@ impl Command {
 
 // The words after the command and the origin.
 fn after_origin(words: &[String]) -> &[String]
-    ensures { texts result.now ≡ behind_origin (texts words.now) }
+    ensures { texts result.now ≡ words_after_origin (texts words.now) }
 {
     match words {
         [_, _, others @ ..] => others,

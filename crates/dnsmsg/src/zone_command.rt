@@ -20,10 +20,12 @@ use std::collections::BTreeMap;
 use std::str;
 use txt::Parser;
 
-/// What is printed of the zone whose text this is, with the texts that the words hand in, NAME=TEXT each: the line
-/// of its origin, and every record in the order of owners and types (RFC 1035, 5.1).
+/// What is printed of the zone whose text this is, with the texts that the words hand in, NAME=TEXT each: the line of
+/// its origin, and every record in the order of owners and types (RFC 1035, 5.1).
 ///
-/// Refused with 24 for a text that isn't UTF-8, with the number of what the parser refuses, and for want of memory.
+/// # Errors
+///
+/// 24 for a text that isn't UTF-8, with the number of what the parser refuses; `Memory` if memory runs out.
 pub fn zone(
     alloc: Global,
     origin: Option<Name>,
@@ -58,7 +60,7 @@ pub(crate) fn included_texts(
     Ok(includes)
 }
 
-// What stands before the first equals sign, and what behind it.
+// What stands before the first equals sign, and what after it.
 fn name_and_text(word: &str) -> (&str, &str)
     ensures { (result.0.now ≡ before_first is_equals word.now) × (result.1.now ≡ after_first is_equals word.now) }
 {

@@ -1,5 +1,5 @@
 -- How a message is put together from its parts (RFC 1035, 4.1).
--- A run relates an encoder's state to the answer of what was done with it and to the state behind that.
+-- A run relates an encoder's state to the answer of what was done with it and to the state after that.
 use Rattle.std.specs.Prelude.{◌≡◌, ◌⊎◌, ℕ, Bool, true, false, ◌+◌, ◌<◌, ◌≤◌, ◌^◌, ◌||◌, List, codes, length, replicate, ⊤, Result, Ok, Err}
 use Rattle.base.specs.State.{State, appended, overwritten}
 use Rattle.base.specs.Wire.{Refuses}
@@ -16,9 +16,9 @@ use Rattle.op.specs.declared.message.writing.parts.Written.{Written}
 use Rattle.op.specs.declared.message.writing.parts.WrittenSections.{WrittenSections}
 use Rattle.base.specs.Written.{Writing}
 
--- ---- runs one behind the other
+-- ---- runs one after another
 
--- behind a value comes the next run; a refusal is the answer of the whole, nothing more is written, and what is left stays as it was
+-- after a value comes the next run; a refusal is the answer of the whole, nothing more is written, and what is left stays as it was
 abbrev pub Continues : {X Y : Type 0} → Type 0 → (X → State → Result Y ProtoError → State → Type 0) → Result X ProtoError → State → Result Y ProtoError → State → Type 0
 Continues stays next (Ok x) b result c = next x b result c
 Continues stays next (Err e) b result c = (result ≡ Err e) × (c ≡ b) × stays
@@ -77,7 +77,7 @@ WritesItems word plain owner f xs a (Err e) b = e ≡ refusals.Memory
 abbrev pub WritesRecordItems : List (Record RData) → State → Result Written ProtoError → State → Type 0
 WritesRecordItems = WritesItems RecordWord plain_record record_owner record_written
 
--- OPT and the signature behind the additionals, the sum of all tested behind each
+-- OPT and the signature after the additionals, the sum of all tested after each
 abbrev pub WritesExtras : List (Record RData) → List (Record RData) → Written → State → Result Written ProtoError → State → Type 0
 WritesExtras edns signature additionals =
     AndThen (WritesRecordItems edns) ⊤ (λ opt.
@@ -99,7 +99,7 @@ HasHeader metadata queries sections additionals (Err e) = (2 ^ 16 ≤ queries) �
 abbrev pub FillsIn : ℕ → Header → State → Result Header ProtoError → State → Type 0
 FillsIn place header a result b = (result ≡ Ok header) × (b ≡ overwritten place (header_bytes (raw_header header)) a)
 
--- the answers A, the authorities N and the additionals D, each before it was written and behind that
+-- the answers A, the authorities N and the additionals D, each before it was written and after that
 module _ {A N D : Type 0} (emits_a : A → State → Result ℕ ProtoError → A → State → Type 0) (emits_n : N → State → Result ℕ ProtoError → N → State → Type 0)
     (emits_d : D → State → Result ℕ ProtoError → D → State → Type 0) (a a' : A) (n n' : N) (d d' : D) where
   -- three sections, each whatever became of the one before it

@@ -122,7 +122,7 @@ pub record IsWritten (m : MessageValue) (limit : ℕ) (B : List ℕ) : Type 0 wh
   pub is_cut : IsCut m limit B message
   pub read : message_at B 0 ≡ Ok (message, length B)
 
--- The limit has no room for the header, or none for the questions behind it.
+-- The limit has no room for the header, or none for the questions after it.
 abbrev pub IsTooSmall : MessageValue → ℕ → ProtoError → Type 0
 IsTooSmall m limit refusals.MaxBufferSizeExceeded = limit < 12
 IsTooSmall m limit (refusals.NotAllRecordsWritten _) = (12 ≤ limit) × (limit < 12 + plain_queries m.queries)

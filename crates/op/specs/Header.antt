@@ -132,7 +132,7 @@ HeaderWord h B i e = IsRawHeaderAt B i (raw_header h) × (e ≡ i + 12)
 
 -- ---- reading
 
--- what an id and the two bytes of codes and flags behind it are read as
+-- what an id and the two bytes of codes and flags after it are read as
 abbrev pub metadata_of_bytes : ℕ → ℕ → ℕ → Metadata
 metadata_of_bytes id high low = record {
   id = id;

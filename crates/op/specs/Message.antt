@@ -38,7 +38,7 @@ message_value m = record {
   signature = option_map (λ s. s.value) m.signature;
 }
 
--- a message with nothing behind its header
+-- a message with nothing after its header
 abbrev pub empty_message : Metadata → MessageValue
 empty_message metadata = record { metadata = metadata; queries = []; answers = []; authorities = []; additionals = []; edns = None; signature = None }
 

@@ -50,7 +50,7 @@ abbrev pub edns_version : Option Edns → ℕ
 edns_version None = 0
 edns_version (Some e) = e.version
 
--- What an iterator gave was added behind a list: all of it; or what came before an item for which there was no memory.
+-- What an iterator gave was added after a list: all of it; or what came before an item for which there was no memory.
 abbrev pub AddsGiven : {S T U E : Type 0} → (S → Option T → S → Type 0) → S → List T → List T → Result U E → Type 0
 AddsGiven {S = S} {T = T} steps s old new (Ok _) = (xs : List T) × (t : S) × YieldsThen steps s xs None t × (new ≡ old ++ xs)
 AddsGiven {S = S} {T = T} steps s old new (Err _) = (xs : List T) × (x : T) × (t : S) × YieldsThen steps s xs (Some x) t × (new ≡ old ++ xs)

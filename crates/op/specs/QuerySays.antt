@@ -26,7 +26,7 @@ fields_stand type class B i fits stands = (
   (number16_stands class B (i + 2) fits.1 (last_stands (to_be_bytes w16 type) (to_be_bytes w16 class) B i stands), omega arith),
 )
 
--- name, type and class one behind the other are the fields of a question
+-- name, type and class one after another are the fields of a question
 question_word : {type field : ℕ} (q : Query) → type ≡ type_number q.query_type → field ≡ class_field q.mdns_unicast_response (class_number q.query_class) → (B : List ℕ) (i e : ℕ)
     → Then (NameAt q.name.labels) (Then (Number w16 type) (Number w16 field)) B i e → QueryWord q B i e
 question_word q type_is is B i e h = record {

@@ -116,7 +116,7 @@ impl BinEncodable for Header {
     /// Writes the twelve bytes of the header, as `to_bytes` has them (RFC 1035, 4.1.1).
     ///
     /// Refused, with nothing written, with `MaxBufferSizeExceeded` where a byte would pass the limit, and with `Memory`
-    /// for want of it.
+    /// if memory runs out.
     fn emit(&self, encoder: &mut BinEncoder<'_>) -> Result<(), ProtoError>
         ensures keeps { Keeps (state_of encoder.old) (state_of encoder.new) }
         ensures fits { OnOk result (IsNarrow self.now.metadata.id self.now.counts) }
@@ -145,10 +145,12 @@ impl EncodedSize for Header {
 impl BinDecodable for Header {
     ghost read_at = { header_at };
 
-    /// Reads the twelve bytes of a header at the decoder's place, and moves behind them (RFC 1035, 4.1.1). Bit 0x40 of
+    /// Reads the twelve bytes of a header at the decoder's place, and moves after them (RFC 1035, 4.1.1). Bit 0x40 of
     /// the fourth is not looked at. Takes no memory.
     ///
-    /// Refused with `InsufficientBytes` where fewer than twelve bytes are left.
+    /// # Errors
+    ///
+    /// `InsufficientBytes` where fewer than twelve bytes are left.
     #[tactic(auto, using(base::proofs::AddsLemmas::adds_none), unfolding(crate::specs::Header::header_at))]
     fn read(decoder: &mut BinDecoder<'_>) -> Result<Header, DecodeError>
         ensures read { Reads (λ x. x) decoder.old decoder.new result (header_at decoder.old.bytes decoder.old.index) }
@@ -181,7 +183,7 @@ fn number(bytes: &[u8], at: usize) -> u16
     u16::from_be_bytes([bytes[at], bytes[at + 1]])
 }
 
-// What an id and the two bytes of codes and flags behind it are read as.
+// What an id and the two bytes of codes and flags after it are read as.
 fn metadata_of(id: u16, high: u8, low: u8) -> Metadata
     ensures { result ≡ metadata_of_bytes id high low }
 {

@@ -124,7 +124,11 @@ impl Query {
 impl Clone for Query {
     ghost is_clone = { λ a b. b ≡ a };
 
-    /// The same question. Refused for want of memory.
+    /// The same question.
+    ///
+    /// # Errors
+    ///
+    /// If memory runs out.
     fn clone(&self) -> Result<Query, AllocError> {
         Ok(Query {
             name: self.name.clone()?,
@@ -151,7 +155,9 @@ impl BinEncodable for Query {
     /// Writes the name, compressed where it can be, the type and the class, whose top bit is set where an answer by
     /// unicast is asked for (RFC 1035, 4.1.2 and 4.1.4; RFC 6762, 5.4).
     ///
-    /// Refused with `MaxBufferSizeExceeded` where a byte would pass the limit, and with `Memory` for want of it.
+    /// # Errors
+    ///
+    /// `MaxBufferSizeExceeded` where a byte would pass the limit; `Memory` if memory runs out.
     fn emit(&self, encoder: &mut BinEncoder<'_>) -> Result<(), ProtoError> {
         self.name.emit(encoder)?;
         let class = self.query_class.to_field(self.mdns_unicast_response);
@@ -171,7 +177,7 @@ fn emit_fields(query_type: u16, class: u16, encoder: &mut BinEncoder<'_>) -> Res
     encoder.emit_slice(&[type_high, type_low, class_high, class_low])
 }
 
-// What stands behind the name of a question.
+// What stands after the name of a question.
 #[derive(Clone, Copy, Drop)]
 struct Fields {
     query_type: u16,
@@ -182,7 +188,7 @@ struct Fields {
 fn read_fields(decoder: &mut BinDecoder<'_>) -> Result<Fields, DecodeError>
     ensures found { let B = decoder.old.bytes in let i = decoder.old.index in
         IfOk result (λ f. IsNumberAt w16 B i f.query_type × IsNumberAt w16 B (i + 2) f.class) }
-    ensures behind { OnOk result ((decoder.new.index ≡ decoder.old.index + 4) × (decoder.new.bytes ≡ decoder.old.bytes)) }
+    ensures after { OnOk result ((decoder.new.index ≡ decoder.old.index + 4) × (decoder.new.bytes ≡ decoder.old.bytes)) }
     ensures short { IfErr result (λ e. (e ≡ DecodeError.InsufficientBytes) × (length decoder.old.bytes < decoder.old.index + 4)) }
     ensures kept { decoder.new.kept ≡ decoder.old.kept }
     ensures counts { Counts decoder.old decoder.new result }
@@ -202,11 +208,13 @@ impl BinDecodable for Query {
 
     ghost names_at = { query_places };
 
-    /// Reads a question at the decoder's place, and moves behind it. The top bit of the class field is the unicast bit
+    /// Reads a question at the decoder's place, and moves after it. The top bit of the class field is the unicast bit
     /// (RFC 1035, 4.1.2; RFC 6762, 5.4).
     ///
-    /// Refused with the first fault of its name, `InsufficientBytes` or `BadName`; with `InsufficientBytes` where the
-    /// end cuts type or class; and with `Memory` where there is none for the name.
+    /// # Errors
+    ///
+    /// The first fault of its name, `InsufficientBytes` or `BadName`; `InsufficientBytes` where the end cuts type or
+    /// class; `Memory` where there is none for the name.
     #[tactic(auto, unfolding(crate::specs::Query::query_at))]
     fn read(decoder: &mut BinDecoder<'_>) -> Result<Query, DecodeError> {
         let name = Name::read(decoder)?;

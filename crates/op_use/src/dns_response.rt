@@ -46,8 +46,10 @@ impl Model for DnsResponse {
 impl DnsResponse {
     /// The response that a message is, with the bytes that `Message::to_vec` writes of it.
     ///
-    /// Refused with `NotAResponse` for a query, before anything is written; with `NotAllRecordsWritten` where the
-    /// questions don't fit 65,535 bytes, with the number of those before the first that doesn't; and if memory runs out.
+    /// # Errors
+    ///
+    /// `NotAResponse` for a query, before anything is written; `NotAllRecordsWritten` where the questions don't fit
+    /// 65,535 bytes, with the number of those before the first that doesn't; `Memory` if memory runs out.
     pub fn from_message(alloc: Global, message: Message) -> Result<DnsResponse, ProtoError>
         ensures same { IfOk result (λ r. (r.message ≡ message_value message) × IsResponse (message_value message)) }
         ensures query { (result ≡ Err ProtoError.NotAResponse) ↔ IsQuery (message_value message) }
@@ -72,8 +74,10 @@ impl DnsResponse {
 
     /// The response that bytes begin with, as `Message::from_vec` reads it, with all of these bytes (RFC 1035, 4.1).
     ///
-    /// Refused with `Decode` of the first fault of bytes that begin with no message, or of `Memory` for want of it; and
-    /// with `NotAResponse` for a query.
+    /// # Errors
+    ///
+    /// `Decode` of the first fault of bytes that begin with no message; of `Memory` if memory runs out; `NotAResponse`
+    /// for a query.
     pub fn from_buffer(alloc: Global, buffer: Vec<u8>) -> Result<DnsResponse, ProtoError>
         ensures found { IfOk result (λ r. ((e : ℕ) × IsMessageAt buffer.items 0 r.message e) × IsResponse r.message × (r.buffer ≡ buffer.items)) }
         ensures only { (m : MessageValue) (e : ℕ) → IsMessageAt buffer.items 0 m e
@@ -167,7 +171,11 @@ impl DnsResponse {
 impl Clone for DnsResponse {
     ghost is_clone = { λ a b. b ≡ a };
 
-    /// The same message and bytes. Refused for want of memory.
+    /// The same message and bytes.
+    ///
+    /// # Errors
+    ///
+    /// If memory runs out.
     fn clone(&self) -> Result<DnsResponse, AllocError> {
         Ok(DnsResponse {
             message: self.message.clone()?,

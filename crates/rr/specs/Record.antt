@@ -7,7 +7,7 @@ use Rattle.base.specs.Faults.{IsFaulty}
 use Rattle.base.specs.Labels.{NameValue, plain_len}
 use Rattle.base.specs.NameText.{name_text}
 use Rattle.base.specs.Names.{name_at}
-use Rattle.base.specs.Reading.{Read, ◌>>=◌, behind, number_at}
+use Rattle.base.specs.Reading.{Read, ◌>>=◌, place_after, number_at}
 use Rattle.base.specs.RecordType.{type_number, type_of, type_text}
 use Rattle.base.specs.Spelling.{IsNameAt}
 use Rattle.base.specs.Words.{IsNumberAt, NameAt}
@@ -31,7 +31,7 @@ pub record RawRecord : Type 0 where
   pub ttl : ℕ
   pub rdata : RData
 
--- These fields stand in B from i up to e, the data behind the number of its bytes.
+-- These fields stand in B from i up to e, the data after the number of its bytes.
 pub record IsRawRecordAt (B : List ℕ) (i : ℕ) (raw : RawRecord) (e : ℕ) : Type 0 where
   pub owner_end : ℕ
   pub owner : NameAt raw.labels B i owner_end
@@ -151,7 +151,7 @@ body_at owner type bytes i = do
     Ok (record { name = owner; dns_class = class_value type class.0; ttl = ttl.0; rdata = rdata.0; mdns_cache_flush = flush_value type class.0 }, rdata.1))
 
 -- The record that stands at i, or its first fault: that of its name or type, then an owner of an OPT record that isn't
--- the root, then what comes behind.
+-- the root, then what comes after.
 unfoldable pub record_at : List ℕ → ℕ → Read (Record RData)
 record_at bytes i = do
   owner ← name_at bytes i
@@ -167,10 +167,10 @@ abbrev pub places_in : Read (Record RData) → List ℕ → ℕ → List ℕ
 places_in (Ok r) bytes i = data_places r.0.rdata bytes i
 places_in (Err e) bytes i = []
 
--- The places of the names of the record that stands at i: its owner's, and those of its data, ten bytes behind the owner
+-- The places of the names of the record that stands at i: its owner's, and those of its data, ten bytes after the owner
 -- (RFC 1035, 4.1.3).
 abbrev pub record_places : List ℕ → ℕ → List ℕ
-record_places bytes i = i ∷ places_in (record_at bytes i) bytes (behind (name_at bytes i) + 10)
+record_places bytes i = i ∷ places_in (record_at bytes i) bytes (place_after (name_at bytes i) + 10)
 
 -- a name and a type stand at i, and the owner of an OPT record is the root
 pub record HasHead (B : List ℕ) (i : ℕ) (owner : NameValue) (type m : ℕ) : Type 0 where

@@ -1,7 +1,7 @@
 -- The order of serials, which count on from 4294967295 to 0 (RFC 1982, 3.1 and 3.2).
 use Rattle.std.specs.Prelude.{ℕ, Bool, true, false, ◌≡◌, ◌≢◌, ◌↔◌, ◌⊎◌, ◌&&◌, ◌||◌, ◌<◌, ◌+◌, ◌-◌, ◌%◌, ◌^◌, nat_lt}
 
--- whether a serial is greater than an old one: it lies less than half of all serials behind it
+-- whether a serial is greater than an old one: it lies less than half of all serials after it
 abbrev pub is_greater : ℕ → ℕ → Bool
 is_greater old new = (nat_lt old new && nat_lt (new - old) (2 ^ 31)) || (nat_lt new old && nat_lt (2 ^ 31) (old - new))
 

@@ -111,7 +111,11 @@ impl<R: RecordData> Record<R> {
 impl<R: RecordData> Clone for Record<R> {
     ghost is_clone = { λ a b. R.is_clone a.rdata b.rdata × (b ≡ record a { rdata = b.rdata }) };
 
-    /// The same record, with a copy of its data. Refused for want of memory.
+    /// The same record, with a copy of its data.
+    ///
+    /// # Errors
+    ///
+    /// If memory runs out.
     fn clone(&self) -> Result<Record<R>, AllocError> {
         Ok(Record {
             name: self.name.clone()?,

@@ -39,7 +39,7 @@ use Rattle.txt.specs.Entries.{
 }
 use Rattle.txt.specs.ZoneSets.{ZoneSets, added}
 
--- What is in force behind an entry: the origin, the last stated owner, class and TTL (RFC 1035, 5.1), the default TTL
+-- What is in force after an entry: the origin, the last stated owner, class and TTL (RFC 1035, 5.1), the default TTL
 -- (RFC 2308, 4), a TTL that was stated and no record has yet; and the sets so far.
 pub record State : Type 0 where
   pub origin : Option NameValue
@@ -119,7 +119,7 @@ abbrev pub settled : State → List Setting → State
 settled s [] = s
 settled s (setting ∷ settings) = settled (set_by s setting) settings
 
--- what stands behind the settings: the type, the end of the line, the data, and then the record
+-- what stands after the settings: the type, the end of the line, the data, and then the record
 abbrev pub carried : State → Body → Result State Fault
 carried s (untyped stop) = stopped stop s
 carried s (typed word items stop) =

@@ -30,7 +30,7 @@ impl Name {
             && same_in_any_case(past_labels(other.as_wire(), others - count), self.as_wire())
     }
 
-    /// The order of the canonical forms of names: the labels from the left, each behind its length, with their
+    /// The order of the canonical forms of names: the labels from the left, each after its length, with their
     /// ASCII letters in lower case, by the first byte that differs (RFC 4034, 6.2 and 6.3). Whether the names
     /// are absolute is not looked at.
     pub fn canonical_cmp(&self, other: &Name) -> Ordering
@@ -98,10 +98,10 @@ impl Ord for Name {
             return flags.then(order);
         }
         let (count, others) = (self.label_count(), other.label_count());
-        let behind = past_labels(left, count.saturating_sub(others));
-        let others_behind = past_labels(right, others.saturating_sub(count));
+        let after = past_labels(left, count.saturating_sub(others));
+        let others_after = past_labels(right, others.saturating_sub(count));
         flags
-            .then(cmp_labels(behind, others_behind).unwrap_or(Ordering::Equal))
+            .then(cmp_labels(after, others_after).unwrap_or(Ordering::Equal))
             .then(count.cmp(&others))
     }
 }
@@ -137,7 +137,7 @@ fn lower_into(wire: &[u8], room: &mut [u8; ROOM])
     front.make_ascii_lowercase();
 }
 
-/// What is behind as many labels.
+/// What is after as many labels.
 fn past_labels(wire: &[u8], count: usize) -> &[u8]
     requires { IsLabelRun wire.now }
     ensures labels { labels_of result.now ≡ drop count (labels_of wire.now) }

@@ -30,17 +30,19 @@ enum TextChar {
 }
 
 impl Name {
-    /// Reads the text of a name (RFC 1035, 5.1): labels with `.` between them, and one more at the end of
-    /// an absolute name; `.` alone is the root. A backslash and three decimal digits are the byte of that
-    /// number, up to 255, and a backslash and another character of ASCII are that character; without a
-    /// backslash stand the characters 0x21 to 0x7E.
+    /// Reads the text of a name (RFC 1035, 5.1): labels with `.` between them, and one more at the end of an absolute
+    /// name; `.` alone is the root. A backslash and three decimal digits are the byte of that number, up to 255, and a
+    /// backslash and another character of ASCII are that character; without a backslash stand the characters 0x21 to
+    /// 0x7E.
     ///
-    /// Where an origin is given, its labels are appended to a relative name, which becomes absolute; and `@`
-    /// alone is the origin. Grows memory once at most, where the labels take more than 29 bytes.
+    /// Where an origin is given, its labels are appended to a relative name, which becomes absolute; and `@` alone is
+    /// the origin. Grows memory once at most, where the labels take more than 29 bytes.
     ///
-    /// Refused with `BadName`: the empty text, an empty label, a label of more than 63 bytes, a name of more
-    /// than 255 (RFC 1035, 2.3.4), a backslash that stands before anything else, any other character, and
-    /// `@` alone without an origin. Refused with `Memory` for want of it.
+    /// # Errors
+    ///
+    /// `BadName`: the empty text, an empty label, a label of more than 63 bytes, a name of more than 255 (RFC 1035,
+    /// 2.3.4), a backslash that stands before anything else, any other character, and `@` alone without an origin.
+    /// `Memory` if memory runs out.
     pub fn parse(alloc: Global, text: &str, origin: Option<&Name>) -> Result<Name, ParseError>
         ensures named { IfOk result (IsNameText text.now (option_copied origin.entry)) }
         ensures refused { (result ≡ Err ParseError.BadName) ↔ ((name : NameValue) → IsNameText text.now (option_copied origin.entry) name → ⊥) }
@@ -75,7 +77,7 @@ impl Name {
     }
 }
 
-/// The character of a backslash, this digit and two more digits, and the text behind it.
+/// The character of a backslash, this digit and two more digits, and the text after it.
 #[tactic(auto, unfolding(crate::specs::NameText::decimal_char))]
 fn decimal_char(first: u8, text: &[u8]) -> Option<(TextChar, &[u8])>
     requires { IsTrue (is_ascii_digit first) }
@@ -97,7 +99,7 @@ fn decimal_char(first: u8, text: &[u8]) -> Option<(TextChar, &[u8])>
     Some((TextChar::Byte(number as u8), rest))
 }
 
-/// The character of a backslash and what is behind it, and the text behind that.
+/// The character of a backslash and what is after it, and the text after that.
 #[tactic(auto, unfolding(crate::specs::NameText::escaped_char))]
 fn escaped_char(text: &[u8]) -> Option<(TextChar, &[u8])>
     ensures value { option_map (λ r. (character_of r.0, r.1.now)) result ≡ escaped_char text.now }
@@ -115,7 +117,7 @@ fn escaped_char(text: &[u8]) -> Option<(TextChar, &[u8])>
     Some((TextChar::Byte(*first), rest))
 }
 
-/// The first character of a text, and the text behind it; none where the text begins with no character.
+/// The first character of a text, and the text after it; none where the text begins with no character.
 #[tactic(auto, unfolding(crate::specs::NameText::first_char))]
 fn first_char(text: &[u8]) -> Option<(TextChar, &[u8])>
     ensures value { option_map (λ r. (character_of r.0, r.1.now)) result ≡ first_char text.now }

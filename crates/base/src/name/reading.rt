@@ -65,7 +65,7 @@ fn part_of(buffer: &[u8], at: usize) -> Result<Part, DecodeError>
     Ok(Part::Pointer(256 * u16::from(first - 192) + u16::from(buffer[at + 1])))
 }
 
-/// Copies a label with its length behind what is used of the room. Of a short one more is copied, where there is as much,
+/// Copies a label with its length after what is used of the room. Of a short one more is copied, where there is as much,
 /// since a fixed number of bytes is copied faster.
 fn copy_label(buffer: &[u8], at: usize, size: usize, room: &mut [u8; ROOM], used: usize)
     requires there { at + size ≤ length buffer.now }
@@ -161,7 +161,7 @@ fn gather<'a>(
     }
 }
 
-/// Keeps the labels behind the pointers that were followed, the last of them first, so that those behind a kept one are
+/// Keeps the labels after the pointers that were followed, the last of them first, so that those after a kept one are
 /// kept at any time.
 fn keep_all<'a>(
     decoder: &mut BinDecoder<'a>,
@@ -256,13 +256,15 @@ impl BinDecodable for Name {
 
     ghost names_at = { λ _ i. i ∷ [] };
 
-    /// Reads an absolute name at the decoder's place, its pointers followed, and moves behind it
-    /// (RFC 1035, 4.1.4). Grows memory once for a name whose labels take more than 29 bytes, and to keep the labels of each
-    /// pointer target that it follows. A target that is kept already ends the walk.
+    /// Reads an absolute name at the decoder's place, its pointers followed, and moves after it (RFC 1035, 4.1.4).
+    /// Grows memory once for a name whose labels take more than 29 bytes, and to keep the labels of each pointer target
+    /// that it follows. A target that is kept already ends the walk.
     ///
-    /// Refused with `InsufficientBytes` where the buffer ends inside a piece of the name; with `BadName`
-    /// where the top bits of a byte are 01 or 10, where a pointer doesn't go below the start of its piece,
-    /// and where the name would have more than 255 bytes; and for want of memory.
+    /// # Errors
+    ///
+    /// `InsufficientBytes` where the buffer ends inside a piece of the name; `BadName` where the top bits of a byte are
+    /// 01 or 10, where a pointer doesn't go below the start of its piece, and where the name would have more than 255
+    /// bytes; `Memory` if memory runs out.
     #[tactic(auto, unfolding(crate::specs::Names::name_at))]
     fn read(decoder: &mut BinDecoder<'_>) -> Result<Name, DecodeError>
         ensures read { Reads (λ x. x) decoder.old decoder.new result (name_at decoder.old.bytes decoder.old.index) }

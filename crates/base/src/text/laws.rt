@@ -14,7 +14,7 @@ pub fn tokens_come_in_turn()
     ensures { (unread : Unread) → symbols unread ≡ followed symbols (next_symbol unread) }
 {}
 
-/// The tokens of two texts one behind the other, the first of which ends with the end of a line, are those of the
+/// The tokens of two texts one after another, the first of which ends with the end of a line, are those of the
 /// one and then those of the other. A carriage return that ends the first and a line feed that begins the second
 /// are the end of one line, and its token is the first one's (RFC 1035, 5.1).
 pub fn tokens_of_texts_in_turn()

@@ -35,10 +35,11 @@ pub trait BinEncodable {
 
     ghost fits: { Self → Type 0 };
 
-    /// Writes the value behind what the encoder holds (RFC 1035, 4.1).
+    /// Writes the value after what the encoder holds (RFC 1035, 4.1).
     ///
-    /// Refused with `MaxBufferSizeExceeded` where a byte would pass the limit, and with `Memory` for want of it. What
-    /// stood before stays.
+    /// # Errors
+    ///
+    /// `MaxBufferSizeExceeded` where a byte would pass the limit; `Memory` if memory runs out. What stood before stays.
     fn emit(&self, encoder: &mut BinEncoder<'_>) -> Result<(), ProtoError>
         ensures keeps { Keeps (state_of encoder.old) (state_of encoder.new) }
         ensures fits { OnOk result (fits self.now) }

@@ -65,7 +65,7 @@ impl<'a> BinEncoder<'a> {
     /// Appends one byte.
     ///
     /// Refused, with nothing written, with `MaxBufferSizeExceeded` where the byte would pass the limit, and with
-    /// `Memory` for want of it.
+    /// `Memory` if memory runs out.
     pub fn emit(&mut self, byte: u8) -> Result<(), ProtoError>
         ensures ok { OnOk result (state_of self.new ≡ appended (byte ∷ []) (state_of self.old)) }
         ensures err { OnErr result (state_of self.new ≡ state_of self.old) }
@@ -79,7 +79,7 @@ impl<'a> BinEncoder<'a> {
     /// Appends a number in two bytes, the high one first (RFC 1035, 2.3.2).
     ///
     /// Refused, with nothing written, with `MaxBufferSizeExceeded` where a byte would pass the limit, and with `Memory`
-    /// for want of it.
+    /// if memory runs out.
     pub fn emit_u16(&mut self, number: u16) -> Result<(), ProtoError>
         ensures ok { OnOk result (state_of self.new ≡ appended (to_be_bytes w16 number) (state_of self.old)) }
         ensures err { OnErr result (state_of self.new ≡ state_of self.old) }
@@ -93,7 +93,7 @@ impl<'a> BinEncoder<'a> {
     /// Appends a number in four bytes, the highest one first (RFC 1035, 2.3.2).
     ///
     /// Refused, with nothing written, with `MaxBufferSizeExceeded` where a byte would pass the limit, and with `Memory`
-    /// for want of it.
+    /// if memory runs out.
     pub fn emit_u32(&mut self, number: u32) -> Result<(), ProtoError>
         ensures ok { OnOk result (state_of self.new ≡ appended (to_be_bytes w32 number) (state_of self.old)) }
         ensures err { OnErr result (state_of self.new ≡ state_of self.old) }
@@ -107,7 +107,7 @@ impl<'a> BinEncoder<'a> {
     /// Appends bytes as they are.
     ///
     /// Refused, with nothing written, with `MaxBufferSizeExceeded` where a byte would pass the limit, and with `Memory`
-    /// for want of it.
+    /// if memory runs out.
     pub fn emit_slice(&mut self, bytes: &[u8]) -> Result<(), ProtoError>
         ensures ok { OnOk result (state_of self.new ≡ appended bytes.now (state_of self.old)) }
         ensures err { OnErr result (state_of self.new ≡ state_of self.old) }
@@ -140,7 +140,7 @@ impl<'a> BinEncoder<'a> {
     /// Keeps room for a value that comes later: appends as many zero bytes as it takes.
     ///
     /// Refused, with nothing written, with `MaxBufferSizeExceeded` where a byte would pass the limit, and with `Memory`
-    /// for want of it.
+    /// if memory runs out.
     pub fn place<T: EncodedSize>(&mut self) -> Result<Place<T>, ProtoError>
         ensures ok { IfOk result (λ place. (state_of self.new ≡ appended (replicate T.LEN 0) (state_of self.old))
             × (place ≡ length (state_of self.old).bytes)) }
@@ -162,7 +162,7 @@ impl<'a> BinEncoder<'a> {
         })
     }
 
-    /// How many bytes were written behind the room that was kept.
+    /// How many bytes were written after the room that was kept.
     pub fn len_since_place<T: EncodedSize>(&self, place: &Place<T>) -> usize
         requires { place.now + T.LEN ≤ length (state_of self.now).bytes }
         ensures { result ≡ length (state_of self.now).bytes - (place.now + T.LEN) }

@@ -71,7 +71,9 @@ impl BinEncodable for AAAA {
 
     /// Writes the sixteen bytes (RFC 3596, 2.2).
     ///
-    /// Refused with `MaxBufferSizeExceeded` where a byte would pass the limit, and with `Memory` for want of it.
+    /// # Errors
+    ///
+    /// `MaxBufferSizeExceeded` where a byte would pass the limit; `Memory` if memory runs out.
     fn emit(&self, encoder: &mut BinEncoder<'_>) -> Result<(), ProtoError> {
         emit_bytes(&self.octets, encoder)
     }
@@ -80,7 +82,11 @@ impl BinEncodable for AAAA {
 impl BinDecodable for AAAA {
     ghost read_at = { aaaa_at };
 
-    /// Reads sixteen bytes. Refused with `InsufficientBytes` where fewer are left.
+    /// Reads sixteen bytes.
+    ///
+    /// # Errors
+    ///
+    /// `InsufficientBytes` where fewer are left.
     #[tactic(auto, using(base::proofs::AddsLemmas::adds_none))]
     fn read(decoder: &mut BinDecoder<'_>) -> Result<AAAA, DecodeError> {
         let mut octets = [0; 16];

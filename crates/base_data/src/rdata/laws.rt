@@ -99,7 +99,7 @@ pub fn addresses_are_their_texts()
         ↔ ((segments : List ℕ) × IsColonHex text segments × (bytes ≡ octets_of segments)) }
 {}
 
-/// The character string of an item is what its pieces say, one behind the other, of 255 bytes at most: a byte that is no
+/// The character string of an item is what its pieces say, one after another, of 255 bytes at most: a byte that is no
 /// backslash is itself, a quote too; a backslash and a byte that is no digit are that byte; a backslash and three
 /// decimal digits up to 255 are the byte of that number (RFC 1035, 5.1).
 pub fn strings_are_their_pieces()

@@ -26,7 +26,7 @@ pub fn reading_is_the_data_word()
     ensures written { (B : List ℕ) (i len : ℕ) (d : RData) → DataWord d B i (i + len) → IsReadable d → rdata_at (type_of_data d) len B i ≡ Ok (d, i + len) }
 {}
 
-/// What `emit` wrote of readable data, behind anything and under any limit, is read as the same data from every
+/// What `emit` wrote of readable data, after anything and under any limit, is read as the same data from every
 /// buffer that holds it (RFC 1035, 3.2.1 and 4.1.4).
 pub fn written_data_is_read()
     ensures { (old new : State) (d : RData) → Keeps old new → Writes (DataWord d) (plain_data d) [] old new → IsReadable d → (B : List ℕ) → Holds old new B

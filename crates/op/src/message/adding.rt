@@ -12,8 +12,11 @@ use rr::Record;
 use std::alloc::AllocError;
 
 impl Message {
-    /// Adds what the iterator gives, to its end, behind the questions. Refused for want of memory; the questions then
-    /// stand that came before the one for which there was none.
+    /// Adds what the iterator gives, to its end, after the questions.
+    ///
+    /// # Errors
+    ///
+    /// If memory runs out; the questions then stand that came before the one for which there was none.
     pub fn add_queries<I: Iterator<Item = Query> + Drop>(
         &mut self,
         queries: I,
@@ -27,8 +30,11 @@ impl Message {
         Ok(append(&mut self.queries, queries)?)
     }
 
-    /// Adds what the iterator gives, to its end, behind the answers. Refused for want of memory; the answers then stand
-    /// that came before the one for which there was none.
+    /// Adds what the iterator gives, to its end, after the answers.
+    ///
+    /// # Errors
+    ///
+    /// If memory runs out; the answers then stand that came before the one for which there was none.
     pub fn add_answers<I: Iterator<Item = Record> + Drop>(
         &mut self,
         records: I,
@@ -42,8 +48,11 @@ impl Message {
         Ok(append(&mut self.answers, records)?)
     }
 
-    /// Adds what the iterator gives, to its end, behind the authorities. Refused for want of memory; the authorities
-    /// then stand that came before the one for which there was none.
+    /// Adds what the iterator gives, to its end, after the authorities.
+    ///
+    /// # Errors
+    ///
+    /// If memory runs out; the authorities then stand that came before the one for which there was none.
     pub fn add_authorities<I: Iterator<Item = Record> + Drop>(
         &mut self,
         records: I,
@@ -57,8 +66,11 @@ impl Message {
         Ok(append(&mut self.authorities, records)?)
     }
 
-    /// Adds what the iterator gives, to its end, behind the additional records. Refused for want of memory; the
-    /// additional records then stand that came before the one for which there was none.
+    /// Adds what the iterator gives, to its end, after the additional records.
+    ///
+    /// # Errors
+    ///
+    /// If memory runs out; the additional records then stand that came before the one for which there was none.
     pub fn add_additionals<I: Iterator<Item = Record> + Drop>(
         &mut self,
         records: I,
@@ -97,7 +109,7 @@ impl Message {
     }
 }
 
-/// Puts what an iterator gives behind a list, as long as there is memory.
+/// Puts what an iterator gives after a list, as long as there is memory.
 fn append<T: Drop, I: Iterator<Item = T> + Drop>(
     list: &mut Vec<T>,
     items: I,

@@ -34,7 +34,7 @@ pub(super) fn put_alone(records: &mut Vec<Record>, entry: Record) -> Result<(), 
     Ok(())
 }
 
-/// Puts a record in the place of each of equal data, or behind all where there is none. All memory is taken before the
+/// Puts a record in the place of each of equal data, or after all where there is none. All memory is taken before the
 /// first change.
 fn join(records: &mut Vec<Record>, entry: Record) -> Result<(), AllocError>
     ensures ok { OnOk result (records.new.items ≡ joined entry records.old.items) }

@@ -25,10 +25,12 @@ impl<'a> BinEncoder<'a> {
         self.suffixes.find(wire)
     }
 
-    /// Stores the suffix of these labels, each with its length before it, that was written at a place behind all
-    /// stored ones, unless the place is too far for a pointer. It isn't stored yet.
+    /// Stores the suffix of these labels, each with its length before it, that was written at a place after all stored
+    /// ones, unless the place is too far for a pointer. It isn't stored yet.
     ///
-    /// Refused for want of memory, with nothing stored.
+    /// # Errors
+    ///
+    /// If memory runs out, with nothing stored.
     pub(crate) fn store(&mut self, wire: &[u8], at: usize) -> Result<(), ProtoError>
         requires wire { IsWire wire.now }
         requires stands { at < length (state_of self.old).bytes }

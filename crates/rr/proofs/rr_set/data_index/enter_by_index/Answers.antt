@@ -7,7 +7,7 @@ use Rattle.std.specs.declared.alloc.Global.{Global}
 use Rattle.base_data.specs.declared.rdata.RData.{RData}
 use Rattle.rr.specs.DataIndex.{IsFirstAt, IsIndexOf, place_at}
 use Rattle.rr.specs.declared.record.Record.{Record}
-use Rattle.rr.proofs.IndexLemmas.{entered_at, entered_behind, entered_not, first_behind, first_only, first_set, index_set, none_of, place_here, place_is, place_others, pushed}
+use Rattle.rr.proofs.IndexLemmas.{entered_at, entered_after, entered_not, first_after, first_only, first_set, index_set, none_of, place_here, place_is, place_others, pushed}
 use Rattle.rr.proofs.rr_set.data_index.enter_by_index.Goals as goal
 
 pub returns-then-is_entry-clause-ok : goal.returns-then-is_entry-clause-ok
@@ -31,12 +31,12 @@ returns-in-Some-clause-index c =
 pub returns-then-tied-clause-ok : goal.returns-then-tied-clause-ok
 returns-then-tied-clause-ok c =
     let is : c.push.new.self.items ≡ c.args.records.now.items ++ c.args.entry ∷ [] = search rules in
-    ap (λ (ys : List (Record RData)). (true, ys)) is ∙ entered_behind c.args.entry c.args.records.now.items c.in_default.ensures
+    ap (λ (ys : List (Record RData)). (true, ys)) is ∙ entered_after c.args.entry c.args.records.now.items c.in_default.ensures
 
 pub returns-clause-ok : goal.returns-clause-ok
 returns-clause-ok c =
     let is : c.push.new.self.items ≡ c.args.records.now.items ++ c.args.entry ∷ [] = search rules in
-    ap (λ (ys : List (Record RData)). (true, ys)) is ∙ entered_behind c.args.entry c.args.records.now.items c.in_default.ensures
+    ap (λ (ys : List (Record RData)). (true, ys)) is ∙ entered_after c.args.entry c.args.records.now.items c.in_default.ensures
 
 pub returns-clause-index : goal.returns-clause-index
 returns-clause-index c =
@@ -61,18 +61,18 @@ returns-in-Some-clause-place c =
     let p = c.in-Some.place in
     subst (λ (ys : List (Record RData)). IsFirstAt r.rdata ys p) (sym c.set_at.ensures) (first_set r c.args.records.now.items p c.in-Some.ensures)
 
-placed_behind : (r : Record RData) (rs ys : List (Record RData)) (p : ℕ) → list_any (has_data_of r) rs ≡ false → ys ≡ rs ++ r ∷ [] → p ≡ length rs → IsFirstAt r.rdata ys p
-placed_behind r rs ys p none is len =
-    ap (λ (n : ℕ). slice_get ys n) len ∙ ap (λ (us : List (Record RData)). slice_get us (length rs)) is ∙ first_behind r rs none ∙ ap (first_of r.rdata) (sym is)
+placed_after : (r : Record RData) (rs ys : List (Record RData)) (p : ℕ) → list_any (has_data_of r) rs ≡ false → ys ≡ rs ++ r ∷ [] → p ≡ length rs → IsFirstAt r.rdata ys p
+placed_after r rs ys p none is len =
+    ap (λ (n : ℕ). slice_get ys n) len ∙ ap (λ (us : List (Record RData)). slice_get us (length rs)) is ∙ first_after r rs none ∙ ap (first_of r.rdata) (sym is)
 
 pub returns-then-tied-clause-place : goal.returns-then-tied-clause-place
 returns-then-tied-clause-place c =
     let is : c.push.new.self.items ≡ c.args.records.now.items ++ c.args.entry ∷ [] = search rules in
     let len : c.len-place.result ≡ length c.args.records.now.items = search rules in
-    placed_behind c.args.entry c.args.records.now.items c.push.new.self.items c.len-place.result c.in_default.ensures is len
+    placed_after c.args.entry c.args.records.now.items c.push.new.self.items c.len-place.result c.in_default.ensures is len
 
 pub returns-clause-place : goal.returns-clause-place
 returns-clause-place c =
     let is : c.push.new.self.items ≡ c.args.records.now.items ++ c.args.entry ∷ [] = search rules in
     let len : c.len-place.result ≡ length c.args.records.now.items = search rules in
-    placed_behind c.args.entry c.args.records.now.items c.push.new.self.items c.len-place.result c.in_default.ensures is len
+    placed_after c.args.entry c.args.records.now.items c.push.new.self.items c.len-place.result c.in_default.ensures is len
