@@ -113,10 +113,14 @@ message_written limit m at stored =
 abbrev pub message_bytes : ℕ → MessageValue → List ℕ
 message_bytes limit m = (message_written limit m 0 []).bytes
 
--- What a new encoder answers to a message under a limit, unless memory runs out: its bytes; or that the header has no
--- room; or that not all questions have, and how many of them do.
+-- What an encoder that holds as many bytes, and these suffixes, answers to a message under a limit, unless memory runs
+-- out: what is written; or that the header has no room; or that not all questions have, and how many of them do.
+abbrev pub message_answer_at : ℕ → MessageValue → ℕ → List Stored → Result (List ℕ) ProtoError
+message_answer_at limit m at stored =
+    let asked = part query_written limit m.queries (at + 12) stored in
+    if nat_lt limit (at + 12) then Err refusals.MaxBufferSizeExceeded
+    else (if asked.is_cut then Err (refusals.NotAllRecordsWritten (length asked.kept)) else Ok (message_written limit m at stored).bytes)
+
+-- what a new encoder answers to a message under a limit, unless memory runs out
 abbrev pub message_answer : ℕ → MessageValue → Result (List ℕ) ProtoError
-message_answer limit m =
-    let asked = part query_written limit m.queries 12 [] in
-    if nat_lt limit 12 then Err refusals.MaxBufferSizeExceeded
-    else (if asked.is_cut then Err (refusals.NotAllRecordsWritten (length asked.kept)) else Ok (message_bytes limit m))
+message_answer limit m = message_answer_at limit m 0 []

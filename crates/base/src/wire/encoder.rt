@@ -64,8 +64,10 @@ impl<'a> BinEncoder<'a> {
 
     /// Appends one byte.
     ///
-    /// Refused, with nothing written, with `MaxBufferSizeExceeded` where the byte would pass the limit, and with
-    /// `Memory` if memory runs out.
+    /// # Errors
+    ///
+    /// `MaxBufferSizeExceeded` where the byte would pass the limit; `Memory` if memory runs out. Nothing is written
+    /// then.
     pub fn emit(&mut self, byte: u8) -> Result<(), ProtoError>
         ensures ok { OnOk result (state_of self.new ≡ appended (byte ∷ []) (state_of self.old)) }
         ensures err { OnErr result (state_of self.new ≡ state_of self.old) }
@@ -78,8 +80,9 @@ impl<'a> BinEncoder<'a> {
 
     /// Appends a number in two bytes, the high one first (RFC 1035, 2.3.2).
     ///
-    /// Refused, with nothing written, with `MaxBufferSizeExceeded` where a byte would pass the limit, and with `Memory`
-    /// if memory runs out.
+    /// # Errors
+    ///
+    /// `MaxBufferSizeExceeded` where a byte would pass the limit; `Memory` if memory runs out. Nothing is written then.
     pub fn emit_u16(&mut self, number: u16) -> Result<(), ProtoError>
         ensures ok { OnOk result (state_of self.new ≡ appended (to_be_bytes w16 number) (state_of self.old)) }
         ensures err { OnErr result (state_of self.new ≡ state_of self.old) }
@@ -92,8 +95,9 @@ impl<'a> BinEncoder<'a> {
 
     /// Appends a number in four bytes, the highest one first (RFC 1035, 2.3.2).
     ///
-    /// Refused, with nothing written, with `MaxBufferSizeExceeded` where a byte would pass the limit, and with `Memory`
-    /// if memory runs out.
+    /// # Errors
+    ///
+    /// `MaxBufferSizeExceeded` where a byte would pass the limit; `Memory` if memory runs out. Nothing is written then.
     pub fn emit_u32(&mut self, number: u32) -> Result<(), ProtoError>
         ensures ok { OnOk result (state_of self.new ≡ appended (to_be_bytes w32 number) (state_of self.old)) }
         ensures err { OnErr result (state_of self.new ≡ state_of self.old) }
@@ -106,8 +110,9 @@ impl<'a> BinEncoder<'a> {
 
     /// Appends bytes as they are.
     ///
-    /// Refused, with nothing written, with `MaxBufferSizeExceeded` where a byte would pass the limit, and with `Memory`
-    /// if memory runs out.
+    /// # Errors
+    ///
+    /// `MaxBufferSizeExceeded` where a byte would pass the limit; `Memory` if memory runs out. Nothing is written then.
     pub fn emit_slice(&mut self, bytes: &[u8]) -> Result<(), ProtoError>
         ensures ok { OnOk result (state_of self.new ≡ appended bytes.now (state_of self.old)) }
         ensures err { OnErr result (state_of self.new ≡ state_of self.old) }
@@ -139,8 +144,9 @@ impl<'a> BinEncoder<'a> {
 
     /// Keeps room for a value that comes later: appends as many zero bytes as it takes.
     ///
-    /// Refused, with nothing written, with `MaxBufferSizeExceeded` where a byte would pass the limit, and with `Memory`
-    /// if memory runs out.
+    /// # Errors
+    ///
+    /// `MaxBufferSizeExceeded` where a byte would pass the limit; `Memory` if memory runs out. Nothing is written then.
     pub fn place<T: EncodedSize>(&mut self) -> Result<Place<T>, ProtoError>
         ensures ok { IfOk result (λ place. (state_of self.new ≡ appended (replicate T.LEN 0) (state_of self.old))
             × (place ≡ length (state_of self.old).bytes)) }
@@ -170,8 +176,8 @@ impl<'a> BinEncoder<'a> {
         self.buffer.len() - (place.start + T::LEN)
     }
 
-    /// Writes the value into the room that was kept for it. The bytes of the room still stand, and no
-    /// name was written there: the caller's condition.
+    /// Writes the value into the room that was kept for it, whose bytes have to stand still. No suffix is stored there:
+    /// see the law `filled_room_is_free`.
     pub fn replace<T: EncodedSize>(&mut self, place: Place<T>, value: &T)
         requires { place + T.LEN ≤ length (state_of self.old).bytes }
         ensures state { state_of self.new ≡ overwritten place (T.encoded value.now) (state_of self.old) }

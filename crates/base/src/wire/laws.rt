@@ -6,7 +6,7 @@ ghost use Rattle.base.specs.Counts.{IsCounted, IsPassed};
 ghost use Rattle.base.specs.Laws.{Keeps, Writes};
 ghost use Rattle.base.specs.Passing.{AddsPassed, NamesPass};
 ghost use Rattle.base.specs.Reader.{Reader, begun};
-ghost use Rattle.base.specs.State.{State, Stored};
+ghost use Rattle.base.specs.State.{State, Stored, appended, overwritten};
 ghost use Rattle.base.specs.Wire.{Refuses};
 ghost use Rattle.base.specs.Written.{in_turn, that_fit, after, fitting, Exactly, Passes};
 ghost use Rattle.base.specs.declared.error.proto_error.ProtoError.{ProtoError};
@@ -34,6 +34,18 @@ pub fn what_is_written_is_its_word<E: BinEncodable>()
         → OnOk answer (Writes (E.word x) (E.plain_len x) (E.owner x) a b) }
     ensures refuses { (x : E) (a b : State) (answer : Result (Unit {0}) ProtoError)
         → Exactly (E.written x) a b answer → Refuses (E.plain_len x) a answer }
+{}
+
+/// Room that was kept and is filled after something was written is as if it had been filled first: no stored suffix is
+/// spelled in it, so all that is said of what was written after it stays true (`BinEncoder::place` and `replace`).
+pub fn filled_room_is_free<E: BinEncodable>()
+    ensures keeps { (room filling : List ℕ) (a c : State) → length filling ≡ length room
+        → Keeps (appended room a) c
+        → Keeps (appended filling a) (overwritten (length a.bytes) filling c) }
+    ensures writes { (x : E) (room filling : List ℕ) (a c : State) → length filling ≡ length room
+        → Keeps (appended room a) c
+        → Writes (E.word x) (E.plain_len x) (E.owner x) (appended room a) c
+        → Writes (E.word x) (E.plain_len x) (E.owner x) (appended filling a) (overwritten (length a.bytes) filling c) }
 {}
 
 /// Of values that are written in turn under a limit, those that fit are the first of them, and the own bytes of the next

@@ -1,13 +1,13 @@
 //! Writes whole messages under a limit (RFC 1035, 4.1; RFC 2181, 9).
 
-ghost use Rattle.std.specs.Prelude.{◌≡◌, ◌⊎◌, [], Err, IfErr, IfOk, IsOkUnless, Ok};
+ghost use Rattle.std.specs.Prelude.{◌≡◌, ◌⊎◌, [], drop, Err, IfErr, IfOk, IsOkUnless, length, Ok};
 ghost use Rattle.base.specs.Laws.{Keeps};
 ghost use Rattle.base.specs.Wire.{state_of};
 ghost use Rattle.op.specs.Cut.{IsTooSmall, IsWritten};
 ghost use Rattle.op.specs.Emitted.{Emitted, EmittedNew, Leaves, LeavesNew};
 ghost use Rattle.op.specs.Fits.{Fits, HasRoom};
 ghost use Rattle.op.specs.Message.{message_value};
-ghost use Rattle.op.specs.MessageWritten.{message_answer, message_bytes, message_written};
+ghost use Rattle.op.specs.MessageWritten.{message_answer, message_answer_at, message_bytes, message_written};
 ghost use Rattle.base.specs.Written.{after};
 ghost use Rattle.op.specs.declared.header.Header.{Header as WrittenHeader};
 
@@ -42,12 +42,12 @@ impl Message {
             → IfErr result (λ e. (e ≡ ProtoError.Memory) ⊎ IsTooSmall (message_value self.now) (state_of encoder.old).limit e) }
         ensures left { IfErr result (λ e. (e ≡ ProtoError.Memory)
             ⊎ Leaves (message_value self.now) (state_of encoder.old) e (state_of encoder.new)) }
-        ensures answer { (state_of encoder.old).bytes ≡ [] → (state_of encoder.old).suffixes ≡ []
-            → IfOk result (λ _. message_answer (state_of encoder.old).limit (message_value self.now)
-            ≡ Ok (state_of encoder.new).bytes) }
-        ensures refusal { (state_of encoder.old).bytes ≡ [] → (state_of encoder.old).suffixes ≡ []
-            → IfErr result (λ e. (e ≡ ProtoError.Memory)
-            ⊎ (message_answer (state_of encoder.old).limit (message_value self.now) ≡ Err e)) }
+        ensures answer { IfOk result (λ _. message_answer_at (state_of encoder.old).limit (message_value self.now)
+            (length (state_of encoder.old).bytes) (state_of encoder.old).suffixes
+            ≡ Ok (drop (length (state_of encoder.old).bytes) (state_of encoder.new).bytes)) }
+        ensures refusal { IfErr result (λ e. (e ≡ ProtoError.Memory)
+            ⊎ (message_answer_at (state_of encoder.old).limit (message_value self.now)
+            (length (state_of encoder.old).bytes) (state_of encoder.old).suffixes ≡ Err e)) }
     {
         self.emit_header(encoder)?;
         Ok(())

@@ -1,6 +1,6 @@
 //! Writes messages (RFC 1035, 4.1).
 
-ghost use Rattle.std.specs.Prelude.{◌≡◌, ◌||◌, ◌<◌, ◌^◌, [], Err, IfErr, IfOk, Ok, ◌⊎◌};
+ghost use Rattle.std.specs.Prelude.{◌≡◌, ◌||◌, ◌<◌, ◌^◌, [], drop, Err, IfErr, IfOk, length, Ok, ◌⊎◌};
 ghost use Rattle.std.specs.Option.{option_copied};
 ghost use Rattle.base.specs.Laws.{Keeps};
 ghost use Rattle.base.specs.Wire.{state_of};
@@ -10,7 +10,7 @@ ghost use Rattle.op.specs.Emitted.{Emitted, Leaves};
 ghost use Rattle.op.specs.Fits.{opt_records, signature_records};
 ghost use Rattle.op.specs.Header.{IsNarrow};
 ghost use Rattle.op.specs.Message.{message_value};
-ghost use Rattle.op.specs.MessageWritten.{message_answer, message_written};
+ghost use Rattle.op.specs.MessageWritten.{message_answer_at, message_written};
 ghost use Rattle.base.specs.Written.{after};
 
 mod extras;
@@ -85,12 +85,12 @@ impl Message {
             → IfErr result (λ e. (e ≡ ProtoError.Memory) ⊎ IsTooSmall (message_value self.now) (state_of encoder.old).limit e) }
         ensures left { IfErr result (λ e. (e ≡ ProtoError.Memory)
             ⊎ Leaves (message_value self.now) (state_of encoder.old) e (state_of encoder.new)) }
-        ensures answer { (state_of encoder.old).bytes ≡ [] → (state_of encoder.old).suffixes ≡ []
-            → IfOk result (λ _. message_answer (state_of encoder.old).limit (message_value self.now)
-            ≡ Ok (state_of encoder.new).bytes) }
-        ensures refusal { (state_of encoder.old).bytes ≡ [] → (state_of encoder.old).suffixes ≡ []
-            → IfErr result (λ e. (e ≡ ProtoError.Memory)
-            ⊎ (message_answer (state_of encoder.old).limit (message_value self.now) ≡ Err e)) }
+        ensures answer { IfOk result (λ _. message_answer_at (state_of encoder.old).limit (message_value self.now)
+            (length (state_of encoder.old).bytes) (state_of encoder.old).suffixes
+            ≡ Ok (drop (length (state_of encoder.old).bytes) (state_of encoder.new).bytes)) }
+        ensures refusal { IfErr result (λ e. (e ≡ ProtoError.Memory)
+            ⊎ (message_answer_at (state_of encoder.old).limit (message_value self.now)
+            (length (state_of encoder.old).bytes) (state_of encoder.old).suffixes ≡ Err e)) }
     {
         emit_message_parts(
             &self.metadata,

@@ -47,5 +47,4 @@ pub returns-clause-answer : goal.returns-clause-answer
 returns-clause-answer c = answer_if (message_value c.args.self.now) _ _ c.emit_message_parts.result (returns-clause-emitted c)
 
 pub returns-clause-refusal : goal.returns-clause-refusal
-returns-clause-refusal c = λ empty blank.
-    refusal_if (message_value c.args.self.now) _ _ c.emit_message_parts.result (returns-clause-left c) empty blank
+returns-clause-refusal c = refusal_if (message_value c.args.self.now) _ _ c.emit_message_parts.result (returns-clause-left c)

@@ -10,7 +10,7 @@ loop-self-preserved-in-Some c =
     let front = c.pop.new.self.items in
     let first = c.loop-self.self-inside.first.items in
     let is : c.loop-self.self-inside.others.items ≡ front ++ c.in-Some.suffix ∷ [] = c.in-Some.ensures.items in
-    let after = offset_in c.remove.new.self in
+    let found = offset_in c.remove.new.self in
     let bytes = take c.key_into-len.result c.key_into-len.new.room in
     let key : bytes ≡ index_key (wire_of c.in-Some.suffix.labels) = c.key_into-len.ensures.key ∙ ap index_key c.as_wire.ensures.value in
     let updates = c.remove.ensures.updates in
@@ -19,7 +19,7 @@ loop-self-preserved-in-Some c =
     let after = c.loop-self.invariant.after in
     let fits : c.args.count ≤ length first + length front = omega (arith, ap length is, length-append front (c.in-Some.suffix ∷ []), after) in
     record {
-      table = IsIndexed-pop _ after front c.in-Some.suffix h here
+      table = IsIndexed-pop _ found front c.in-Some.suffix h here
           (λ cs other. index_others bytes c.loop-self.self-inside.index c.remove.new.self _ updates (index_key cs) (λ same. other (one_key cs (wire_of c.in-Some.suffix.labels) (same ∙ key))));
       front = sym (cut_last c.args.count first front c.in-Some.suffix fits) ∙ ap (λ (zs : List Stored). take c.args.count (first ++ zs)) (sym is) ∙ c.loop-self.invariant.front;
       after = after;
