@@ -33,7 +33,8 @@ CutsOff view (Ok a) cut = cut ≡ Some (view a)
 CutsOff view (Err e) cut = Faults e (cut ≡ None)
 
 -- What stood next within parentheses.
-abbrev pub AnswersElement : Result (Option (String Global) × Bor (List ℕ)) ParseError → Element → Type 0
+abbrev pub AnswersElement : Result (Option (String Global) × Bor (List ℕ)) ParseError → Element
+    → Type 0
 AnswersElement (Ok (None, rest)) found = found ≡ closes rest.now
 AnswersElement (Ok (Some word, rest)) found = found ≡ one (string_bytes word) rest.now
 AnswersElement (Err e) found = Faults e (found ≡ misplaced)

@@ -11,6 +11,8 @@ many_at read (suc n) bytes i = do
   Ok (first.0 ∷ others.0, others.1)
 
 -- The places of the names of as many values, each at the place after the one before it, where names says those of one.
-unfoldable pub many_names : {A : Type 0} → (List ℕ → ℕ → Read A) → (List ℕ → ℕ → List ℕ) → ℕ → List ℕ → ℕ → List ℕ
+unfoldable pub many_names : {A : Type 0} → (List ℕ → ℕ → Read A) → (List ℕ → ℕ → List ℕ) → ℕ
+    → List ℕ → ℕ → List ℕ
 many_names read names zero bytes i = []
-many_names read names (suc n) bytes i = names bytes i ++ many_names read names n bytes (place_after (read bytes i))
+many_names read names (suc n) bytes i = names bytes i
+    ++ many_names read names n bytes (place_after (read bytes i))

@@ -11,7 +11,8 @@ char_on c None = None
 char_on c (Some cs) = Some (c ∷ cs)
 
 -- the first character, and then those of the text after it
-abbrev pub chars_on : (List ℕ → Option (List Character)) → Option (Character × List ℕ) → Option (List Character)
+abbrev pub chars_on : (List ℕ → Option (List Character)) → Option (Character × List ℕ)
+    → Option (List Character)
 chars_on more None = None
 chars_on more (Some found) = char_on found.0 (more found.1)
 

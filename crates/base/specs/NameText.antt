@@ -46,9 +46,12 @@ pub data Character : Type 0 where
 -- a backslash and another character of ASCII, but a digit; or a backslash and three decimal digits.
 pub data IsCharText (text : List ℕ) : Character → Type 0 where
   is_dot : text ≡ 46 ∷ [] → IsCharText text dot
-  is_printable : {b : ℕ} → text ≡ b ∷ [] → 33 ≤ b → b ≤ 126 → b ≢ 46 → b ≢ 92 → IsCharText text (byte b)
-  is_escaped : {b : ℕ} → text ≡ 92 ∷ b ∷ [] → b < 128 → is_ascii_digit b ≡ false → IsCharText text (byte b)
-  is_number : {x y z b : ℕ} → text ≡ 92 ∷ x ∷ y ∷ z ∷ [] → IsDecimal x y z b → IsCharText text (byte b)
+  is_printable : {b : ℕ} → text ≡ b ∷ [] → 33 ≤ b → b ≤ 126 → b ≢ 46 → b ≢ 92
+      → IsCharText text (byte b)
+  is_escaped : {b : ℕ} → text ≡ 92 ∷ b ∷ [] → b < 128 → is_ascii_digit b ≡ false
+      → IsCharText text (byte b)
+  is_number : {x y z b : ℕ} → text ≡ 92 ∷ x ∷ y ∷ z ∷ [] → IsDecimal x y z b
+      → IsCharText text (byte b)
 
 -- The character after a backslash and a digit, which two more digits follow: the byte of this number.
 unfoldable pub decimal_char : ℕ → List ℕ → Option (Character × List ℕ)
@@ -76,7 +79,8 @@ first_char (c ∷ rest) =
 -- the text is these characters, one after another
 pub data AreCharsOf : List ℕ → List Character → Type 0 where
   none : AreCharsOf [] []
-  more : {text piece rest : List ℕ} {c : Character} {cs : List Character} → IsCharText piece c → text ≡ piece ++ rest → AreCharsOf rest cs → AreCharsOf text (c ∷ cs)
+  more : {text piece rest : List ℕ} {c : Character} {cs : List Character} → IsCharText piece c
+      → text ≡ piece ++ rest → AreCharsOf rest cs → AreCharsOf text (c ∷ cs)
 
 -- the characters of labels with dots between them
 abbrev pub dotted : List (List ℕ) → List Character
@@ -97,7 +101,11 @@ pub record IsLabelsText (text : List ℕ) (labels : List (List ℕ)) (absolute :
 pub data IsNameText (text : List ℕ) (origin : Option NameValue) : NameValue → Type 0 where
   is_root : text ≡ 46 ∷ [] → IsNameText text origin (record { labels = []; absolute = true })
   is_origin : {o : NameValue} → origin ≡ Some o → text ≡ 64 ∷ [] → IsNameText text origin o
-  is_absolute : {labels : List (List ℕ)} → IsLabelsText text labels true → IsNameText text origin (record { labels = labels; absolute = true })
-  is_relative : {labels : List (List ℕ)} → origin ≡ None → text ≢ 64 ∷ [] → IsLabelsText text labels false → IsNameText text origin (record { labels = labels; absolute = false })
-  is_completed : {o : NameValue} {labels : List (List ℕ)} → origin ≡ Some o → text ≢ 64 ∷ [] → IsLabelsText text labels false → plain_len (labels ++ o.labels) ≤ 255
+  is_absolute : {labels : List (List ℕ)} → IsLabelsText text labels true
+      → IsNameText text origin (record { labels = labels; absolute = true })
+  is_relative : {labels : List (List ℕ)} → origin ≡ None → text ≢ 64 ∷ []
+      → IsLabelsText text labels false
+      → IsNameText text origin (record { labels = labels; absolute = false })
+  is_completed : {o : NameValue} {labels : List (List ℕ)} → origin ≡ Some o → text ≢ 64 ∷ []
+      → IsLabelsText text labels false → plain_len (labels ++ o.labels) ≤ 255
       → IsNameText text origin (record { labels = labels ++ o.labels; absolute = true })

@@ -10,7 +10,8 @@ abbrev pub Read : Type 0 → Type 0
 Read A = Result (A × ℕ) DecodeError
 
 infixl 10 ◌>>=◌
-abbrev pub ◌>>=◌ : {A B : Type 0} → Result A DecodeError → (A → Result B DecodeError) → Result B DecodeError
+abbrev pub ◌>>=◌ : {A B : Type 0} → Result A DecodeError → (A → Result B DecodeError)
+    → Result B DecodeError
 (Ok x) >>= f = f x
 (Err e) >>= f = Err e
 
@@ -25,7 +26,8 @@ Fails faults.Memory read = Unit {0}
 Fails e read = read ≡ Err e
 
 -- What a call answered, seen by view, is what reading gives, and the decoder stands after it.
-abbrev pub Reads : {X Y : Type 0} → (X → Y) → Reader → Reader → Result X DecodeError → Result (Y × ℕ) DecodeError → Type 0
+abbrev pub Reads : {X Y : Type 0} → (X → Y) → Reader → Reader → Result X DecodeError
+    → Result (Y × ℕ) DecodeError → Type 0
 Reads view old new (Ok x) read = (read ≡ Ok (view x, new.index)) × (new.bytes ≡ old.bytes)
 Reads view old new (Err e) read = Fails e read
 

@@ -127,7 +127,8 @@ put word None = None
 put word (Some cut) = Some (word ∷ cut.0, cut.1)
 
 -- the items from what stands next on, and what is after the closing parenthesis
-abbrev pub listed : (List ℕ → Option (List (List ℕ) × List ℕ)) → Element → Option (List (List ℕ) × List ℕ)
+abbrev pub listed : (List ℕ → Option (List (List ℕ) × List ℕ)) → Element
+    → Option (List (List ℕ) × List ℕ)
 listed more (closes rest) = Some ([], rest)
 listed more misplaced = None
 listed more (one word rest) = put word (more rest)

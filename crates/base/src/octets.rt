@@ -100,7 +100,8 @@ impl Octets {
         mark: bool,
     ) -> Result<Octets, AllocError>
         requires { used ≤ length bytes.now }
-        ensures { IfOk result (λ o. o ≡ record { items = take used bytes.now ++ others.now; mark = mark }) }
+        ensures { IfOk result (λ o. o
+            ≡ record { items = take used bytes.now ++ others.now; mark = mark }) }
     {
         if others.is_empty() {
             return Octets::from_front(alloc, bytes, used, mark);

@@ -48,7 +48,8 @@ pub record SOAFits (x : SOA) : Type 0 where
 
 -- the version and the times as they are written, one after another
 abbrev pub soa_numbers : SOA → List ℕ
-soa_numbers x = to_be_bytes w32 x.serial ++ (to_be_bytes w32 x.refresh ++ (to_be_bytes w32 x.retry ++ (to_be_bytes w32 x.expire ++ to_be_bytes w32 x.minimum)))
+soa_numbers x = to_be_bytes w32 x.serial
+    ++ (to_be_bytes w32 x.refresh ++ (to_be_bytes w32 x.retry ++ (to_be_bytes w32 x.expire ++ to_be_bytes w32 x.minimum)))
 
 -- the word that they are
 abbrev pub SOANumbers : SOA → List ℕ → ℕ → ℕ → Type 0
@@ -69,7 +70,8 @@ soa_text x = name_text x.mname ++
     (codes " " ++ (decimal x.serial ++ (codes " " ++ (decimal x.refresh ++ (codes " " ++ (decimal x.retry ++ (codes " " ++ (decimal x.expire ++ (codes " " ++ (decimal x.minimum))))))))))))
 
 -- the bytes of the numbers are the numbers
-pub soa_numbers_stand : (x : SOA) (B : List ℕ) (i : ℕ) → SOAFits x → Stands (soa_numbers x) B i → SOANumbers x B i (i + 20)
+pub soa_numbers_stand : (x : SOA) (B : List ℕ) (i : ℕ) → SOAFits x → Stands (soa_numbers x) B i
+    → SOANumbers x B i (i + 20)
 soa_numbers_stand x B i fits s =
     let a = to_be_bytes w32 x.serial in
     let b = to_be_bytes w32 x.refresh in
@@ -115,7 +117,8 @@ soa_kind x = record {
       (Says-just (SOAFits x) (SOANumbers x) 20 (soa_numbers x) (omega arith) (λ fits B at small h. soa_numbers_stand x B at fits h)));
   readable = (x.mname.absolute ≡ true) × (x.rname.absolute ≡ true);
   text = soa_text x;
-  canonical = name_octets x.mname ++ name_octets x.rname ++ to_be_bytes w32 x.serial ++ to_be_bytes w32 x.refresh ++ to_be_bytes w32 x.retry
+  canonical = name_octets x.mname ++ name_octets x.rname ++ to_be_bytes w32 x.serial
+      ++ to_be_bytes w32 x.refresh ++ to_be_bytes w32 x.retry
       ++ to_be_bytes w32 x.expire ++ to_be_bytes w32 x.minimum;
   held = x.mname ∷ x.rname ∷ [];
   places = soa_places;

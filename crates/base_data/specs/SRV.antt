@@ -52,7 +52,8 @@ srv_numbers x = to_be_bytes w16 x.priority ++ (to_be_bytes w16 x.weight ++ to_be
 abbrev pub SRVNumbers : SRV → List ℕ → ℕ → ℕ → Type 0
 SRVNumbers x = Then (Number w16 x.priority) (Then (Number w16 x.weight) (Number w16 x.port))
 
-pub srv_numbers_stand : (x : SRV) (B : List ℕ) (i : ℕ) → SRVFits x → Stands (srv_numbers x) B i → SRVNumbers x B i (i + 6)
+pub srv_numbers_stand : (x : SRV) (B : List ℕ) (i : ℕ) → SRVFits x → Stands (srv_numbers x) B i
+    → SRVNumbers x B i (i + 6)
 srv_numbers_stand x B i fits s =
     let a = to_be_bytes w16 x.priority in
     let b = to_be_bytes w16 x.weight in
@@ -70,7 +71,8 @@ srv_numbers_stand x B i fits s =
 
 -- the bytes of the fields, the name without compression
 abbrev pub srv_wire : SRV → List ℕ
-srv_wire x = to_be_bytes w16 x.priority ++ (to_be_bytes w16 x.weight ++ (to_be_bytes w16 x.port ++ (wire_of x.target.labels ++ 0 ∷ [])))
+srv_wire x = to_be_bytes w16 x.priority
+    ++ (to_be_bytes w16 x.weight ++ (to_be_bytes w16 x.port ++ (wire_of x.target.labels ++ 0 ∷ [])))
 
 -- how many bytes the fields are, names without compression
 abbrev pub plain_srv : SRV → ℕ
@@ -78,7 +80,8 @@ plain_srv x = 2 + (2 + (2 + (plain_len x.target.labels)))
 
 -- the fields, with a space between each two
 abbrev pub srv_text : SRV → List ℕ
-srv_text x = decimal x.priority ++ (codes " " ++ (decimal x.weight ++ (codes " " ++ (decimal x.port ++ (codes " " ++ (name_text x.target))))))
+srv_text x = decimal x.priority
+    ++ (codes " " ++ (decimal x.weight ++ (codes " " ++ (decimal x.port ++ (codes " " ++ (name_text x.target))))))
 
 -- its name stands after six bytes (RFC 2782)
 abbrev pub srv_places : List ℕ → ℕ → List ℕ
@@ -99,7 +102,8 @@ srv_kind x = record {
       (Says-plain_name x.target.labels));
   readable = x.target.absolute ≡ true;
   text = srv_text x;
-  canonical = to_be_bytes w16 x.priority ++ to_be_bytes w16 x.weight ++ to_be_bytes w16 x.port ++ name_octets x.target;
+  canonical = to_be_bytes w16 x.priority ++ to_be_bytes w16 x.weight ++ to_be_bytes w16 x.port
+      ++ name_octets x.target;
   held = x.target ∷ [];
   places = srv_places;
   flags = x.target.absolute ∷ [];

@@ -29,7 +29,8 @@ byte_list None = []
 byte_list (Some b) = b ∷ []
 
 -- the byte of a step, before what is read after it
-abbrev pub step_on : (EscapePart → Option (List ℕ)) → Option (Option ℕ × EscapePart) → Option (List ℕ)
+abbrev pub step_on : (EscapePart → Option (List ℕ)) → Option (Option ℕ × EscapePart)
+    → Option (List ℕ)
 step_on more None = None
 step_on more (Some step) = before (byte_list step.0) (more step.1)
 
@@ -66,7 +67,11 @@ string_items (text ∷ texts) = put_before (string_item text) (string_items text
 -- are that byte; a backslash and three digits are the byte of that number.
 pub data IsStringText : List ℕ → List ℕ → Type 0 where
   is_end : IsStringText [] []
-  is_plain : {c : ℕ} {text bytes : List ℕ} → c ≢ 92 → IsStringText text bytes → IsStringText (c ∷ text) (c ∷ bytes)
-  is_escaped : {c : ℕ} {text bytes : List ℕ} → is_ascii_digit c ≡ false → IsStringText text bytes → IsStringText (92 ∷ c ∷ text) (c ∷ bytes)
-  is_number : {a b c n : ℕ} {text bytes : List ℕ} → is_ascii_digit a ≡ true → is_ascii_digit b ≡ true → is_ascii_digit c ≡ true
-      → n ≡ (a - 48) * 100 + (b - 48) * 10 + (c - 48) → n < 256 → IsStringText text bytes → IsStringText (92 ∷ a ∷ b ∷ c ∷ text) (n ∷ bytes)
+  is_plain : {c : ℕ} {text bytes : List ℕ} → c ≢ 92 → IsStringText text bytes
+      → IsStringText (c ∷ text) (c ∷ bytes)
+  is_escaped : {c : ℕ} {text bytes : List ℕ} → is_ascii_digit c ≡ false → IsStringText text bytes
+      → IsStringText (92 ∷ c ∷ text) (c ∷ bytes)
+  is_number : {a b c n : ℕ} {text bytes : List ℕ} → is_ascii_digit a ≡ true
+      → is_ascii_digit b ≡ true → is_ascii_digit c ≡ true
+      → n ≡ (a - 48) * 100 + (b - 48) * 10 + (c - 48) → n < 256 → IsStringText text bytes
+      → IsStringText (92 ∷ a ∷ b ∷ c ∷ text) (n ∷ bytes)

@@ -39,7 +39,8 @@ command_of (word ∷ (next ∷ others)) =
     else option_map command.OnMessage (message_command (word ∷ (next ∷ others))))
 
 -- What a command's call answers to a text, where these are all words.
-abbrev pub CommandAnswers : Command → List (List ℕ) → List ℕ → Result (String Global) Refusal → Type 0
+abbrev pub CommandAnswers : Command → List (List ℕ) → List ℕ → Result (String Global) Refusal
+    → Type 0
 CommandAnswers (command.OnMessage on_message.Header) words text result = Answers string_bytes (header_answer text) result
 CommandAnswers (command.OnMessage on_message.Read) words text result = Answers string_bytes (read_answer text) result
 CommandAnswers (command.OnMessage (on_message.Cut limit)) words text result = CutAnswers limit text result
@@ -47,7 +48,8 @@ CommandAnswers (command.Zone origin) words text result = Answers string_bytes (z
 CommandAnswers (command.Apply origin) words text result = Answers string_bytes (apply_answer origin (words_after_origin words) text) result
 
 -- What a run of a command gives: the answer to the text, or, where memory ran out, the refusal for that.
-abbrev pub IsGiven : Command → List (List ℕ) → List ℕ → ℕ → Option (List ℕ) → Option (List ℕ) → Type 0
+abbrev pub IsGiven : Command → List (List ℕ) → List ℕ → ℕ → Option (List ℕ) → Option (List ℕ)
+    → Type 0
 IsGiven (command.OnMessage on_message.Header) words text status old new = IsAnswered (header_answer text) status old new
 IsGiven (command.OnMessage on_message.Read) words text status old new = IsAnswered (read_answer text) status old new
 IsGiven (command.OnMessage (on_message.Cut limit)) words text status old new = IsCutGiven limit text status old new
@@ -66,7 +68,8 @@ refused_word (command.Zone origin) words = None
 refused_word (command.OnMessage message) words = None
 
 -- What a command answers, over the input as far as it is known; nothing is said where the input failed.
-abbrev pub Gives : Command → List (List ℕ) → Option (List ℕ) → Result (String Global) Failure → Type 0
+abbrev pub Gives : Command → List (List ℕ) → Option (List ℕ) → Result (String Global) Failure
+    → Type 0
 Gives command words input (Ok lines) = IfSome input (λ text. CommandAnswers command words text (Ok lines))
 Gives command words input (Err (failures.Refused refusal)) = IfSome input (λ text. CommandAnswers command words text (Err refusal))
 Gives command words input (Err failures.Broken) = ⊤
@@ -74,10 +77,12 @@ Gives command words input (Err failures.Broken) = ⊤
 -- It is refused with this number, or with 3 because memory ran out.
 abbrev pub IsRefused : ℕ → Result (String Global) Failure → Type 0
 IsRefused number (Ok lines) = ⊥
-IsRefused number (Err (failures.Refused refusal)) = (refusal_number refusal ≡ 3) ⊎ (refusal_number refusal ≡ number)
+IsRefused number (Err (failures.Refused refusal)) = (refusal_number refusal ≡ 3)
+    ⊎ (refusal_number refusal ≡ number)
 IsRefused number (Err failures.Broken) = ⊥
 
 -- What a run of words that name no command gives: the usage line, or, where they have an origin that has to be parsed, the
 -- refusal because memory ran out.
 abbrev pub IsTurnedAway : List (List ℕ) → ℕ → Option (List ℕ) → Option (List ℕ) → Type 0
-IsTurnedAway words status old new = IsPrinted usage status old new ⊎ ((parses_origin words ≡ true) × IsPrinted (refused 3) status old new)
+IsTurnedAway words status old new = IsPrinted usage status old new
+    ⊎ ((parses_origin words ≡ true) × IsPrinted (refused 3) status old new)

@@ -35,8 +35,10 @@ pub fn cut(alloc: Global, text: &[u8], limit: u16) -> Result<String, Refusal>
 fn written(alloc: Global, message: &Message, limit: u16) -> Result<Vec<u8>, ProtoError>
     requires { Fits (message_value message.now) }
     ensures ok { IfOk result (λ bytes. IsWritten (message_value message.now) limit bytes.items) }
-    ensures err { IfErr result (λ e. (e ≡ refusals.Memory) ⊎ IsTooSmall (message_value message.now) limit e) }
-    ensures answer { IfOk result (λ bytes. message_answer limit (message_value message.now) ≡ Ok bytes.items) }
+    ensures err { IfErr result (λ e. (e ≡ refusals.Memory)
+        ⊎ IsTooSmall (message_value message.now) limit e) }
+    ensures answer { IfOk result (λ bytes. message_answer limit (message_value message.now)
+        ≡ Ok bytes.items) }
     ensures refusal { IfErr result (λ e. (e ≡ refusals.Memory)
         ⊎ (message_answer limit (message_value message.now) ≡ Err e)) }
 {

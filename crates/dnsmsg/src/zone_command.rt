@@ -47,7 +47,8 @@ pub(crate) fn included_texts(
     alloc: Global,
     words: &[String],
 ) -> Result<BTreeMap<String, String>, AllocError>
-    ensures { IfOk result (λ includes. (name : List ℕ) → texts_in includes name ≡ text_named (texts words.now) name) }
+    ensures { IfOk result (λ includes. (name : List ℕ)
+        → texts_in includes name ≡ text_named (texts words.now) name) }
 {
     let mut includes = BTreeMap::new(alloc);
     for word in words {
@@ -62,7 +63,8 @@ pub(crate) fn included_texts(
 
 // What stands before the first equals sign, and what after it.
 fn name_and_text(word: &str) -> (&str, &str)
-    ensures { (result.0.now ≡ before_first is_equals word.now) × (result.1.now ≡ after_first is_equals word.now) }
+    ensures { (result.0.now ≡ before_first is_equals word.now)
+        × (result.1.now ≡ after_first is_equals word.now) }
 {
     match word.split_once('=') {
         Some(parts) => parts,
@@ -76,7 +78,8 @@ pub(crate) fn zone_lines(
     name: &Name,
     sets: BTreeMap<RrKey, RecordSet>,
 ) -> Result<String, AllocError>
-    ensures lines { IfOk result (λ lines. string_bytes lines ≡ zone_lines (name.now, sets.entries)) }
+    ensures lines { IfOk result (λ lines. string_bytes lines
+        ≡ zone_lines (name.now, sets.entries)) }
     ensures ordered { IfOk result (λ _. IsOrdered key_cmp sets) }
 {
     let mut lines = format!(in alloc; "$ORIGIN {name}\n")?;
@@ -88,7 +91,8 @@ pub(crate) fn zone_lines(
 
 // Adds the records, a line each.
 fn add_records(records: Vec<Record>, lines: &mut String) -> Result<(), AllocError>
-    ensures { OnOk result (string_bytes lines.new ≡ string_bytes lines.old ++ record_lines records.items) }
+    ensures { OnOk result (string_bytes lines.new
+        ≡ string_bytes lines.old ++ record_lines records.items) }
 {
     for entry in records {
         writeln!(lines, "{entry}")?;

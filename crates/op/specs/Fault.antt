@@ -27,11 +27,16 @@ pub record IsQueriesFault (count : ℕ) (B : List ℕ) (i : ℕ) (f : DecodeErro
 -- stands after a signature (RFC 8945, 5.1); it belongs among additionals and isn't there (RFC 2931, 3.1; RFC 6891, 6.1.1;
 -- RFC 8945, 5.1); it is a second OPT record (RFC 6891, 6.1.1).
 pub data IsMisplaced (is_additional_section : Bool) (op : OpCode) (before : SectionValue) (r : Record RData) : DecodeError → Type 0 where
-  empty : is_empty_data r.rdata ≡ true → is_update op ≡ false → is_opt r ≡ false → IsMisplaced is_additional_section op before r faults.InvalidEmptyRecord
-  after_signature : HasNeededData op r → before.signature ≢ None → IsMisplaced is_additional_section op before r faults.RecordAfterSig
-  elsewhere : HasNeededData op r → before.signature ≡ None → is_additional_section ≡ false → is_additional r ≡ true
+  empty : is_empty_data r.rdata ≡ true → is_update op ≡ false → is_opt r ≡ false
+      → IsMisplaced is_additional_section op before r faults.InvalidEmptyRecord
+  after_signature : HasNeededData op r → before.signature ≢ None
+      → IsMisplaced is_additional_section op before r faults.RecordAfterSig
+  elsewhere : HasNeededData op r → before.signature ≡ None → is_additional_section ≡ false
+      → is_additional r ≡ true
       → IsMisplaced is_additional_section op before r (faults.RecordNotInAdditionalSection (type_of_data r.rdata))
-  second_edns : HasNeededData op r → before.signature ≡ None → (is_additional_section ≡ false → is_additional r ≡ false) → before.edns ≢ None → is_opt r ≡ true
+  second_edns : HasNeededData op r → before.signature ≡ None
+      → (is_additional_section ≡ false → is_additional r ≡ false) → before.edns ≢ None
+      → is_opt r ≡ true
       → IsMisplaced is_additional_section op before r faults.DuplicateEdns
 
 -- A section of fewer records stands than are counted, and what stands after it is no record, or one that may not stand there.
@@ -41,7 +46,8 @@ pub record IsSectionFault (is_additional_section : Bool) (op : OpCode) (count : 
   pub place : ℕ
   pub stands : IsSectionAt is_additional_section op number B i before place
   pub fewer : number < count
-  pub fault : IsRecordFault B place f ⊎ ((r : Record RData) × (e : ℕ) × IsRecordAt B place r e × IsMisplaced is_additional_section op before r f)
+  pub fault : IsRecordFault B place f
+      ⊎ ((r : Record RData) × (e : ℕ) × IsRecordAt B place r e × IsMisplaced is_additional_section op before r f)
 
 -- a header stands at i, and after it as many questions as it counts, up to j
 pub record HasQuestions (B : List ℕ) (i : ℕ) (h : Header) (j : ℕ) : Type 0 where
@@ -54,12 +60,16 @@ pub record HasQuestions (B : List ℕ) (i : ℕ) (h : Header) (j : ℕ) : Type 0
 -- after all that stands before it.
 pub data IsMessageFault (B : List ℕ) (i : ℕ) : DecodeError → Type 0 where
   cut_header : length B < i + 12 → IsMessageFault B i faults.InsufficientBytes
-  in_queries : {h : Header} {f : DecodeError} → IsHeaderAt B i h → IsQueriesFault h.counts.queries B (i + 12) f → IsMessageFault B i f
-  in_answers : {h : Header} {j : ℕ} {f : DecodeError} → HasQuestions B i h j → IsSectionFault false h.metadata.op_code h.counts.answers B j f → IsMessageFault B i f
-  in_authorities : {h : Header} {j k : ℕ} {answers : SectionValue} {f : DecodeError} → HasQuestions B i h j
+  in_queries : {h : Header} {f : DecodeError} → IsHeaderAt B i h
+      → IsQueriesFault h.counts.queries B (i + 12) f → IsMessageFault B i f
+  in_answers : {h : Header} {j : ℕ} {f : DecodeError} → HasQuestions B i h j
+      → IsSectionFault false h.metadata.op_code h.counts.answers B j f → IsMessageFault B i f
+  in_authorities : {h : Header} {j k : ℕ} {answers : SectionValue} {f : DecodeError}
+      → HasQuestions B i h j
       → IsSectionAt false h.metadata.op_code h.counts.answers B j answers k
       → IsSectionFault false h.metadata.op_code h.counts.authorities B k f → IsMessageFault B i f
-  in_additionals : {h : Header} {j k l : ℕ} {answers authorities : SectionValue} {f : DecodeError} → HasQuestions B i h j
+  in_additionals : {h : Header} {j k l : ℕ} {answers authorities : SectionValue} {f : DecodeError}
+      → HasQuestions B i h j
       → IsSectionAt false h.metadata.op_code h.counts.answers B j answers k
       → IsSectionAt false h.metadata.op_code h.counts.authorities B k authorities l
       → IsSectionFault true h.metadata.op_code h.counts.additionals B l f → IsMessageFault B i f

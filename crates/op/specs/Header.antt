@@ -110,7 +110,8 @@ abbrev pub header_bytes : RawHeader → List ℕ
 header_bytes r =
     to_be_bytes w16 r.id
     ++ (high_byte r.response r.opcode r.authoritative r.truncation r.recursion_desired ∷ low_byte r.recursion_available r.authentic_data r.checking_disabled r.code ∷ [])
-    ++ to_be_bytes w16 r.counts.queries ++ to_be_bytes w16 r.counts.answers ++ to_be_bytes w16 r.counts.authorities ++ to_be_bytes w16 r.counts.additionals
+    ++ to_be_bytes w16 r.counts.queries ++ to_be_bytes w16 r.counts.answers
+    ++ to_be_bytes w16 r.counts.authorities ++ to_be_bytes w16 r.counts.additionals
 
 -- the numbers of a header have two bytes
 pub record IsNarrow (id : ℕ) (counts : HeaderCounts) : Type 0 where

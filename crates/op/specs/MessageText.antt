@@ -42,11 +42,13 @@ record_lines = flat_map (λ r. line (record_text r))
 
 -- the name of a section and how many records it has, and after that line its records
 abbrev pub section_lines : List ℕ → List (Record RData) → List ℕ
-section_lines name rs = codes "; " ++ (name ++ (codes " " ++ (line (decimal (length rs)) ++ record_lines rs)))
+section_lines name rs = codes "; "
+    ++ (name ++ (codes " " ++ (line (decimal (length rs)) ++ record_lines rs)))
 
 -- answers, authorities and additionals
 abbrev pub sections_text : MessageValue → List ℕ
-sections_text m = section_lines (codes "answers") m.answers ++ (section_lines (codes "authorities") m.authorities ++ section_lines (codes "additionals") m.additionals)
+sections_text m = section_lines (codes "answers") m.answers
+    ++ (section_lines (codes "authorities") m.authorities ++ section_lines (codes "additionals") m.additionals)
 
 -- whether the sections of records are printed: of a response, and of an Update (RFC 2136, 2.2)
 abbrev pub shows_sections : Metadata → Bool

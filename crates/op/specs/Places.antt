@@ -34,5 +34,7 @@ abbrev pub message_places : List ℕ → ℕ → List ℕ
 message_places bytes i = counted_places (header_at bytes i) bytes
 
 -- the names of the message whose word stands there: of its questions, and then those of each of its records
-abbrev pub message_names : {B : List ℕ} {i : ℕ} {m : MessageValue} {e : ℕ} → IsMessageAt B i m e → List NameValue
-message_names {m = m} w = flat_map (λ (q : Query). q.name ∷ []) m.queries ++ flat_map record_names (w.answers ++ (w.authorities ++ w.additionals))
+abbrev pub message_names : {B : List ℕ} {i : ℕ} {m : MessageValue} {e : ℕ} → IsMessageAt B i m e
+    → List NameValue
+message_names {m = m} w = flat_map (λ (q : Query). q.name ∷ []) m.queries
+    ++ flat_map record_names (w.answers ++ (w.authorities ++ w.additionals))

@@ -92,7 +92,8 @@ abbrev pub section_value : Section → SectionValue
 section_value s = record { records = s.records.items; edns = s.edns; signature = option_map (λ b. b.value) s.signature }
 
 -- what reading a section answers, as contracts see it
-abbrev pub parts_value : Vec (Record RData) × Option Edns × Option (Box (Record (List ℕ))) → SectionValue
+abbrev pub parts_value : Vec (Record RData) × Option Edns × Option (Box (Record (List ℕ)))
+    → SectionValue
 parts_value parts = record { records = parts.0.items; edns = parts.1; signature = option_map (λ b. b.value) parts.2 }
 
 -- what records become: EDNS and a signature by themselves, and the other records in their order

@@ -132,7 +132,8 @@ impl Edns {
     /// Sets DO (RFC 3225, 3). The other flags stay.
     pub fn set_dnssec_ok(&mut self, dnssec_ok: bool) -> &mut Edns
         ensures same { result.ghost_name ≡ self.entry.ghost_name }
-        ensures value { result.now ≡ record self.old { flags = record self.old.flags { dnssec_ok = dnssec_ok } } }
+        ensures value { result.now
+            ≡ record self.old { flags = record self.old.flags { dnssec_ok = dnssec_ok } } }
     {
         self.flags.dnssec_ok = dnssec_ok;
         self

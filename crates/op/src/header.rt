@@ -46,7 +46,8 @@ impl Header {
     pub fn to_bytes(&self) -> [u8; 12]
         ensures bytes { result ≡ header_bytes (raw_header self.now) }
         ensures narrow { IsNarrow self.now.metadata.id self.now.counts }
-        ensures word { (B : List ℕ) (i : ℕ) → Stands (header_bytes (raw_header self.now)) B i → HeaderWord self.now B i (i + 12) }
+        ensures word { (B : List ℕ) (i : ℕ) → Stands (header_bytes (raw_header self.now)) B i
+            → HeaderWord self.now B i (i + 12) }
     {
         let HeaderCounts {
             queries,
@@ -78,7 +79,9 @@ impl Header {
 
 // QR, the opcode, AA, TC and RD.
 fn high_byte_of(metadata: &Metadata) -> u8
-    ensures { let m = metadata.now in result ≡ high_byte (is_response m.message_type || bit_of 16 (op_number m.op_code)) (op_number m.op_code % 16)
+    ensures { let m = metadata.now in result
+        ≡ high_byte (is_response m.message_type
+        || bit_of 16 (op_number m.op_code)) (op_number m.op_code % 16)
         m.authoritative m.truncation m.recursion_desired }
 {
     let response = u8::from(metadata.message_type.bit());
@@ -91,7 +94,8 @@ fn high_byte_of(metadata: &Metadata) -> u8
 
 // RA, AD, CD and the code.
 fn low_byte_of(metadata: &Metadata) -> u8
-    ensures { let m = metadata.now in result ≡ low_byte m.recursion_available m.authentic_data m.checking_disabled (code_number m.response_code % 16) }
+    ensures { let m = metadata.now in result
+        ≡ low_byte m.recursion_available m.authentic_data m.checking_disabled (code_number m.response_code % 16) }
 {
     let recursion_available = u8::from(metadata.recursion_available);
     let authentic_data = u8::from(metadata.authentic_data);
@@ -123,9 +127,11 @@ impl BinEncodable for Header {
         ensures fits { OnOk result (IsNarrow self.now.metadata.id self.now.counts) }
         ensures exact { Exactly (just (header_bytes (raw_header self.now)))
             (state_of encoder.old) (state_of encoder.new) result }
-        ensures ok { OnOk result (state_of encoder.new ≡ appended (header_bytes (raw_header self.now)) (state_of encoder.old)) }
+        ensures ok { OnOk result (state_of encoder.new
+            ≡ appended (header_bytes (raw_header self.now)) (state_of encoder.old)) }
         ensures err { OnErr result (state_of encoder.new ≡ state_of encoder.old) }
-        ensures full { (state_of encoder.old).limit < length (state_of encoder.old).bytes + 12 → IsErrOf result ProtoError.MaxBufferSizeExceeded }
+        ensures full { (state_of encoder.old).limit < length (state_of encoder.old).bytes + 12
+            → IsErrOf result ProtoError.MaxBufferSizeExceeded }
     {
         encoder.emit_slice(&self.to_bytes())
     }
@@ -158,9 +164,11 @@ impl BinDecodable for Header {
         ensures counts { Counts decoder.old decoder.new result }
         ensures passed { Passes decoder.old decoder.new result }
         ensures adds { IfOk result (λ _. AddsPassed [] decoder.old decoder.new) }
-        ensures found { IfOk result (λ h. IsHeaderAt decoder.old.bytes decoder.old.index h × (decoder.new.index ≡ decoder.old.index + 12)) }
+        ensures found { IfOk result (λ h. IsHeaderAt decoder.old.bytes decoder.old.index h
+            × (decoder.new.index ≡ decoder.old.index + 12)) }
         ensures only { IsOkUnless result DecodeError.InsufficientBytes }
-        ensures short { length decoder.old.bytes < decoder.old.index + 12 ↔ IsErrOf result DecodeError.InsufficientBytes }
+        ensures short { length decoder.old.bytes < decoder.old.index + 12
+            ↔ IsErrOf result DecodeError.InsufficientBytes }
     {
         // all twelve are read at once, since that is faster
         let bytes = decoder.read_slice(12)?;
@@ -213,6 +221,8 @@ fn bit(byte: u8, place: u32) -> bool
 /// Reading a header is the header word, and a header can't be read exactly where fewer than twelve bytes
 /// are left (RFC 1035, 4.1.1).
 pub fn reading_is_the_header_word()
-    ensures word { (B : List ℕ) (i : ℕ) (h : Header) (e : ℕ) → (header_at B i ≡ Ok (h, e)) ↔ (IsHeaderAt B i h × (e ≡ i + 12)) }
-    ensures fault { (B : List ℕ) (i : ℕ) (f : DecodeError) → (header_at B i ≡ Err f) ↔ ((f ≡ DecodeError.InsufficientBytes) × (length B < i + 12)) }
+    ensures word { (B : List ℕ) (i : ℕ) (h : Header) (e : ℕ)
+        → (header_at B i ≡ Ok (h, e)) ↔ (IsHeaderAt B i h × (e ≡ i + 12)) }
+    ensures fault { (B : List ℕ) (i : ℕ) (f : DecodeError)
+        → (header_at B i ≡ Err f) ↔ ((f ≡ DecodeError.InsufficientBytes) × (length B < i + 12)) }
 {}

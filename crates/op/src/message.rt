@@ -70,14 +70,16 @@ impl Message {
 
     /// A query without questions. Takes no memory.
     pub fn query(alloc: Global, id: u16) -> Message
-        ensures { message_value result ≡ empty_message (plain_metadata id MessageType.Query OpCode.Query) }
+        ensures { message_value result
+            ≡ empty_message (plain_metadata id MessageType.Query OpCode.Query) }
     {
         Message::new(alloc, id, MessageType::Query, OpCode::Query)
     }
 
     /// A response without records. Takes no memory.
     pub fn response(alloc: Global, id: u16, op_code: OpCode) -> Message
-        ensures { message_value result ≡ empty_message (plain_metadata id MessageType.Response op_code) }
+        ensures { message_value result
+            ≡ empty_message (plain_metadata id MessageType.Response op_code) }
     {
         Message::new(alloc, id, MessageType::Response, op_code)
     }
@@ -89,7 +91,8 @@ impl Message {
         op_code: OpCode,
         response_code: ResponseCode,
     ) -> Message
-        ensures { message_value result ≡ empty_message (record (plain_metadata id MessageType.Response op_code) { response_code = response_code }) }
+        ensures { message_value result
+            ≡ empty_message (record (plain_metadata id MessageType.Response op_code) { response_code = response_code }) }
     {
         let mut message = Message::response(alloc, id, op_code);
         message.metadata.response_code = response_code;
@@ -102,7 +105,8 @@ impl Message {
     ///
     /// If memory runs out; the message stays as it was then.
     pub fn add_query(&mut self, query: Query) -> Result<(), ProtoError>
-        ensures ok { OnOk result (message_value self.new ≡ record (message_value self.old) { queries = (message_value self.old).queries ++ query ∷ [] }) }
+        ensures ok { OnOk result (message_value self.new
+            ≡ record (message_value self.old) { queries = (message_value self.old).queries ++ query ∷ [] }) }
         ensures err { OnErr result (message_value self.new ≡ message_value self.old) }
         ensures only { IsOkUnless result ProtoError.Memory }
     {
@@ -115,7 +119,8 @@ impl Message {
     ///
     /// If memory runs out; the message stays as it was then.
     pub fn add_answer(&mut self, answer: Record) -> Result<(), ProtoError>
-        ensures ok { OnOk result (message_value self.new ≡ record (message_value self.old) { answers = (message_value self.old).answers ++ answer ∷ [] }) }
+        ensures ok { OnOk result (message_value self.new
+            ≡ record (message_value self.old) { answers = (message_value self.old).answers ++ answer ∷ [] }) }
         ensures err { OnErr result (message_value self.new ≡ message_value self.old) }
         ensures only { IsOkUnless result ProtoError.Memory }
     {
@@ -128,7 +133,8 @@ impl Message {
     ///
     /// If memory runs out; the message stays as it was then.
     pub fn add_authority(&mut self, authority: Record) -> Result<(), ProtoError>
-        ensures ok { OnOk result (message_value self.new ≡ record (message_value self.old) { authorities = (message_value self.old).authorities ++ authority ∷ [] }) }
+        ensures ok { OnOk result (message_value self.new
+            ≡ record (message_value self.old) { authorities = (message_value self.old).authorities ++ authority ∷ [] }) }
         ensures err { OnErr result (message_value self.new ≡ message_value self.old) }
         ensures only { IsOkUnless result ProtoError.Memory }
     {
@@ -141,7 +147,8 @@ impl Message {
     ///
     /// If memory runs out; the message stays as it was then.
     pub fn add_additional(&mut self, additional: Record) -> Result<(), ProtoError>
-        ensures ok { OnOk result (message_value self.new ≡ record (message_value self.old) { additionals = (message_value self.old).additionals ++ additional ∷ [] }) }
+        ensures ok { OnOk result (message_value self.new
+            ≡ record (message_value self.old) { additionals = (message_value self.old).additionals ++ additional ∷ [] }) }
         ensures err { OnErr result (message_value self.new ≡ message_value self.old) }
         ensures only { IsOkUnless result ProtoError.Memory }
     {

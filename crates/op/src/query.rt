@@ -188,8 +188,10 @@ struct Fields {
 fn read_fields(decoder: &mut BinDecoder<'_>) -> Result<Fields, DecodeError>
     ensures found { let B = decoder.old.bytes in let i = decoder.old.index in
         IfOk result (λ f. IsNumberAt w16 B i f.query_type × IsNumberAt w16 B (i + 2) f.class) }
-    ensures after { OnOk result ((decoder.new.index ≡ decoder.old.index + 4) × (decoder.new.bytes ≡ decoder.old.bytes)) }
-    ensures short { IfErr result (λ e. (e ≡ DecodeError.InsufficientBytes) × (length decoder.old.bytes < decoder.old.index + 4)) }
+    ensures after { OnOk result ((decoder.new.index ≡ decoder.old.index + 4)
+        × (decoder.new.bytes ≡ decoder.old.bytes)) }
+    ensures short { IfErr result (λ e. (e ≡ DecodeError.InsufficientBytes)
+        × (length decoder.old.bytes < decoder.old.index + 4)) }
     ensures kept { decoder.new.kept ≡ decoder.old.kept }
     ensures counts { Counts decoder.old decoder.new result }
     ensures passed { Passes decoder.old decoder.new result }
@@ -246,16 +248,22 @@ impl fmt::Display for Query {
 /// that fits, and was written, is read as the same question; of one whose class number has the top bit, that
 /// bit is read as the wish for a unicast response.
 pub fn reading_is_the_question_word()
-    ensures word { (B : List ℕ) (i : ℕ) (q : Query) (e : ℕ) → (query_at B i ≡ Ok (q, e)) ↔ IsQueryAt B i q e }
-    ensures fault { (B : List ℕ) (i : ℕ) (f : DecodeError) → (query_at B i ≡ Err f) ↔ IsQueryFault B i f }
-    ensures written { (B : List ℕ) (i : ℕ) (q : Query) (e : ℕ) → QueryWord q B i e → IsQueryAt B i (query_value (raw_query q)) e }
+    ensures word { (B : List ℕ) (i : ℕ) (q : Query) (e : ℕ)
+        → (query_at B i ≡ Ok (q, e)) ↔ IsQueryAt B i q e }
+    ensures fault { (B : List ℕ) (i : ℕ) (f : DecodeError)
+        → (query_at B i ≡ Err f) ↔ IsQueryFault B i f }
+    ensures written { (B : List ℕ) (i : ℕ) (q : Query) (e : ℕ) → QueryWord q B i e
+        → IsQueryAt B i (query_value (raw_query q)) e }
     ensures same { (q : Query) → FitsQuery q → query_value (raw_query q) ≡ q }
 {}
 
 /// Questions are equal where their names are, letters folded, and their types, classes and bits are the
 /// same; and equal questions hash alike.
 pub fn equal_questions()
-    ensures equal { (a b : Query) → IsTrue (⟦<Query as PartialEq>⟧.eq a b) ↔ (IsTrue (same_name a.name b.name) × (a.query_type ≡ b.query_type)
+    ensures equal { (a b : Query)
+        → IsTrue (⟦<Query as PartialEq>⟧.eq a b)
+        ↔ (IsTrue (same_name a.name b.name) × (a.query_type ≡ b.query_type)
         × (a.query_class ≡ b.query_class) × (a.mdns_unicast_response ≡ b.mdns_unicast_response)) }
-    ensures hashed { (a b : Query) → IsTrue (⟦<Query as PartialEq>⟧.eq a b) → ⟦<Query as Hash>⟧.hash_input a ≡ ⟦<Query as Hash>⟧.hash_input b }
+    ensures hashed { (a b : Query) → IsTrue (⟦<Query as PartialEq>⟧.eq a b)
+        → ⟦<Query as Hash>⟧.hash_input a ≡ ⟦<Query as Hash>⟧.hash_input b }
 {}

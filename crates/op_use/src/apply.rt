@@ -66,7 +66,8 @@ pub fn apply_update(
 // The code that an update is refused with, if it is: by its zone section, its prerequisites or the prescan, in this
 // order. The first test that fails is answered at once.
 fn fault(zone: &Zone, message: &Message) -> Result<Option<ResponseCode>, AllocError>
-    ensures { IfOk result (λ f. f ≡ fault_of (zone_of zone.now) (sections_of (message_value message.now))) }
+    ensures { IfOk result (λ f. f
+        ≡ fault_of (zone_of zone.now) (sections_of (message_value message.now))) }
 {
     if let Some(code) = zone.zone_fault(&message.queries) {
         return Ok(Some(code));

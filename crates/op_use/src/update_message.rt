@@ -33,13 +33,15 @@ pub trait UpdateMessage: Debug {
     /// Adds a question after the others, which names a zone (RFC 2136, 2.3). The message stays as it was where this
     /// is refused.
     fn add_zone(&mut self, zone: Query) -> Result<(), ProtoError>
-        ensures ok { OnOk result (message self.new ≡ record (message self.old) { queries = (message self.old).queries ++ zone ∷ [] }) }
+        ensures ok { OnOk result (message self.new
+            ≡ record (message self.old) { queries = (message self.old).queries ++ zone ∷ [] }) }
         ensures err { OnErr result (message self.new ≡ message self.old) }
         ensures only { IsOkUnless result ProtoError.Memory };
 
     /// Adds a prerequisite after the others (RFC 2136, 2.4). The message stays as it was where this is refused.
     fn add_pre_requisite(&mut self, prerequisite: Record) -> Result<(), ProtoError>
-        ensures ok { OnOk result (message self.new ≡ record (message self.old) { answers = (message self.old).answers ++ prerequisite ∷ [] }) }
+        ensures ok { OnOk result (message self.new
+            ≡ record (message self.old) { answers = (message self.old).answers ++ prerequisite ∷ [] }) }
         ensures err { OnErr result (message self.new ≡ message self.old) }
         ensures only { IsOkUnless result ProtoError.Memory };
 
@@ -52,12 +54,14 @@ pub trait UpdateMessage: Debug {
         requires can { I.can_next prerequisites }
         requires countable { IsCountable (I.remaining prerequisites) }
         ensures added { AddsGiven I.next_gives prerequisites (message self.old).answers (message self.new).answers result }
-        ensures others { message self.new ≡ record (message self.old) { answers = (message self.new).answers } }
+        ensures others { message self.new
+            ≡ record (message self.old) { answers = (message self.new).answers } }
         ensures only { IsOkUnless result ProtoError.Memory };
 
     /// Adds an update after the others (RFC 2136, 2.5). The message stays as it was where this is refused.
     fn add_update(&mut self, update: Record) -> Result<(), ProtoError>
-        ensures ok { OnOk result (message self.new ≡ record (message self.old) { authorities = (message self.old).authorities ++ update ∷ [] }) }
+        ensures ok { OnOk result (message self.new
+            ≡ record (message self.old) { authorities = (message self.old).authorities ++ update ∷ [] }) }
         ensures err { OnErr result (message self.new ≡ message self.old) }
         ensures only { IsOkUnless result ProtoError.Memory };
 
@@ -70,12 +74,14 @@ pub trait UpdateMessage: Debug {
         requires can { I.can_next updates }
         requires countable { IsCountable (I.remaining updates) }
         ensures added { AddsGiven I.next_gives updates (message self.old).authorities (message self.new).authorities result }
-        ensures others { message self.new ≡ record (message self.old) { authorities = (message self.new).authorities } }
+        ensures others { message self.new
+            ≡ record (message self.old) { authorities = (message self.new).authorities } }
         ensures only { IsOkUnless result ProtoError.Memory };
 
     /// Adds an additional record after the others. The message stays as it was where this is refused.
     fn add_additional(&mut self, additional: Record) -> Result<(), ProtoError>
-        ensures ok { OnOk result (message self.new ≡ record (message self.old) { additionals = (message self.old).additionals ++ additional ∷ [] }) }
+        ensures ok { OnOk result (message self.new
+            ≡ record (message self.old) { additionals = (message self.old).additionals ++ additional ∷ [] }) }
         ensures err { OnErr result (message self.new ≡ message self.old) }
         ensures only { IsOkUnless result ProtoError.Memory };
 

@@ -135,9 +135,11 @@ pub record IsReadableRecord (r : Record RData) : Type 0 where
 pub record FitsRecord (r : Record RData) : Type 0 where
   pub reads : IsReadableRecord r
   pub absolute : r.name.absolute ≡ true
-  pub class_reads : is_opt_type (type_of_data r.rdata) ≡ false → class_of (class_number r.dns_class) ≡ r.dns_class
+  pub class_reads : is_opt_type (type_of_data r.rdata) ≡ false
+      → class_of (class_number r.dns_class) ≡ r.dns_class
   pub narrow : is_opt_type (type_of_data r.rdata) ≡ false → class_number r.dns_class < 32768
-  pub payload_reads : is_opt_type (type_of_data r.rdata) ≡ true → opt_class (class_number r.dns_class) ≡ r.dns_class
+  pub payload_reads : is_opt_type (type_of_data r.rdata) ≡ true
+      → opt_class (class_number r.dns_class) ≡ r.dns_class
   pub not_flushing : is_opt_type (type_of_data r.rdata) ≡ true → r.mdns_cache_flush ≡ false
 
 -- The record of this owner and type whose class, TTL, length and data stand at i, in this order, or its first fault.
@@ -183,13 +185,21 @@ pub record HasHead (B : List ℕ) (i : ℕ) (owner : NameValue) (type m : ℕ) :
 -- data of the type.
 pub data IsRecordFault (B : List ℕ) (i : ℕ) : DecodeError → Type 0 where
   in_name : {f : DecodeError} → IsFaulty B i i 0 f → IsRecordFault B i f
-  cut_type : {owner : NameValue} {m : ℕ} → IsNameAt B i owner m → length B < m + 2 → IsRecordFault B i faults.InsufficientBytes
-  opt_owner : {owner : NameValue} {type m : ℕ} → IsNameAt B i owner m → IsNumberAt w16 B m type → type_of type ≡ types.OPT → owner.labels ≢ [] → IsRecordFault B i (faults.EdnsNameNotRoot owner)
-  cut_fields : {owner : NameValue} {type m : ℕ} → HasHead B i owner type m → length B < m + 10 → IsRecordFault B i faults.InsufficientBytes
-  long_data : {owner : NameValue} {type m len : ℕ} → HasHead B i owner type m → IsNumberAt w16 B (m + 8) len
-      → length B < m + 10 + len → IsRecordFault B i (faults.IncorrectRDataLengthRead (length B - (m + 10)) len)
-  bad_data : {owner : NameValue} {type m len : ℕ} → HasHead B i owner type m → IsNumberAt w16 B (m + 8) len → m + 10 + len ≤ length B
-      → ((d : RData) → ¬ IsDataAt B (m + 10) (type_of type) len d) → IsRecordFault B i (faults.BadData (type_of type))
+  cut_type : {owner : NameValue} {m : ℕ} → IsNameAt B i owner m → length B < m + 2
+      → IsRecordFault B i faults.InsufficientBytes
+  opt_owner : {owner : NameValue} {type m : ℕ} → IsNameAt B i owner m → IsNumberAt w16 B m type
+      → type_of type ≡ types.OPT → owner.labels ≢ []
+      → IsRecordFault B i (faults.EdnsNameNotRoot owner)
+  cut_fields : {owner : NameValue} {type m : ℕ} → HasHead B i owner type m → length B < m + 10
+      → IsRecordFault B i faults.InsufficientBytes
+  long_data : {owner : NameValue} {type m len : ℕ} → HasHead B i owner type m
+      → IsNumberAt w16 B (m + 8) len
+      → length B < m + 10 + len
+      → IsRecordFault B i (faults.IncorrectRDataLengthRead (length B - (m + 10)) len)
+  bad_data : {owner : NameValue} {type m len : ℕ} → HasHead B i owner type m
+      → IsNumberAt w16 B (m + 8) len → m + 10 + len ≤ length B
+      → ((d : RData) → ¬ IsDataAt B (m + 10) (type_of type) len d)
+      → IsRecordFault B i (faults.BadData (type_of type))
 
 -- name, TTL, class, type and data
 abbrev pub record_text : Record RData → List ℕ

@@ -28,7 +28,8 @@ impl<'a, R: RecordData> RecordRef<'a, R> {
     ///
     /// `Memory` if memory runs out.
     pub fn to_owned(&self) -> Result<Record<R>, ProtoError>
-        ensures ok { IfOk result (λ r. R.is_clone (seen self.now).rdata r.rdata × (r ≡ holding r.rdata (seen self.now))) }
+        ensures ok { IfOk result (λ r. R.is_clone (seen self.now).rdata r.rdata
+            × (r ≡ holding r.rdata (seen self.now))) }
         ensures memory { IsMemory result }
     {
         Ok(Record {

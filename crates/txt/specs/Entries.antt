@@ -73,7 +73,8 @@ abbrev pub typed_at : List ℕ → List Symbol → (List Setting × Body) × Lis
 typed_at word rest = (([], typed word (items_of rest).0 (stop_of (items_of rest).1).0), (stop_of (items_of rest).1).1)
 
 -- an item that is a setting stands before the rest of the line; another is its type
-abbrev pub word_of : Option Setting → List ℕ → List Symbol → (List Setting × Body) × List Symbol → (List Setting × Body) × List Symbol
+abbrev pub word_of : Option Setting → List ℕ → List Symbol → (List Setting × Body) × List Symbol
+    → (List Setting × Body) × List Symbol
 word_of (Some setting) word rest line = ((setting ∷ line.0.0, line.0.1), line.1)
 word_of None word rest line = typed_at word rest
 

@@ -64,7 +64,8 @@ unfoldable pub taken : State → List Symbol → Result Taken Fault
 taken s from = taken_by s (first_entry from)
 
 -- what was met is this; or it was refused because memory ran out, or with the fault that is there in its place
-abbrev pub Takes : Result Step ParseError → State → State → List Symbol → Result Taken Fault → Type 0
+abbrev pub Takes : Result Step ParseError → State → State → List Symbol → Result Taken Fault
+    → Type 0
 Takes (Ok steps.End) s t to made = (made ≡ Ok ended) × (t ≡ s)
 Takes (Ok steps.Applied) s t to made = made ≡ Ok (went t to)
 Takes (Ok (steps.Include name)) s t to made = (made ≡ Ok (opens (string_bytes name) to)) × (t ≡ s)
@@ -94,12 +95,14 @@ setting_value (stated.Ttl ttl) = ttl_is ttl
 setting_value (stated.Class class) = class_is class
 
 -- What the call made of the state and the tokens is this, or it was refused.
-abbrev pub Goes : {X : Type 0} → Result X ParseError → State → List Symbol → Result Taken Fault → Type 0
+abbrev pub Goes : {X : Type 0} → Result X ParseError → State → List Symbol → Result Taken Fault
+    → Type 0
 Goes (Ok x) t to made = made ≡ Ok (went t to)
 Goes (Err e) t to made = Fails e made
 
 -- What was read is this, and what stands after it; or it was refused.
-abbrev pub Reads : {X A : Type 0} → (X → A) → Result X ParseError → List Symbol → Result (A × List Symbol) Fault → Type 0
+abbrev pub Reads : {X A : Type 0} → (X → A) → Result X ParseError → List Symbol
+    → Result (A × List Symbol) Fault → Type 0
 Reads view (Ok x) to made = made ≡ Ok (view x, to)
 Reads view (Err e) to made = Fails e made
 

@@ -156,7 +156,8 @@ entered within s (owner_line owner settings body) = apply s (owner_line owner se
 entered within s (faulty_entry fault) = apply s (faulty_entry fault)
 
 -- what entries make of it, one after the other, or the first fault
-unfoldable pub fold : (State → List ℕ → Result State Fault) → State → List Entry → Result State Fault
+unfoldable pub fold : (State → List ℕ → Result State Fault) → State → List Entry
+    → Result State Fault
 fold within s [] = Ok s
 fold within s (entry ∷ entries) = entered within s entry >>= λ t. fold within t entries
 
@@ -165,7 +166,8 @@ abbrev pub restored : Option NameValue → State → State
 restored name s = record s { origin = name }
 
 -- what an included text makes of it; a fault where there is no text of the name
-abbrev pub opened : (State → List ℕ → Result State Fault) → State → List ℕ → Option (List ℕ) → Result State Fault
+abbrev pub opened : (State → List ℕ → Result State Fault) → State → List ℕ → Option (List ℕ)
+    → Result State Fault
 opened within s name None = Err (not_found name)
 opened within s name (Some text) = fold within s (entries_of (whole_text text)) >>= λ t. Ok (restored s.origin t)
 

@@ -45,7 +45,8 @@ impl Name {
     /// `Memory` if memory runs out.
     pub fn parse(alloc: Global, text: &str, origin: Option<&Name>) -> Result<Name, ParseError>
         ensures named { IfOk result (IsNameText text.now (option_copied origin.entry)) }
-        ensures refused { (result ≡ Err ParseError.BadName) ↔ ((name : NameValue) → IsNameText text.now (option_copied origin.entry) name → ⊥) }
+        ensures refused { (result ≡ Err ParseError.BadName)
+            ↔ ((name : NameValue) → IsNameText text.now (option_copied origin.entry) name → ⊥) }
         ensures err { IfErr result (λ e. (e ≡ ParseError.Memory) ⊎ (e ≡ ParseError.BadName)) }
         ensures reads { Gives (λ n. n) result (name_of text.now (option_copied origin.entry)) }
     {
@@ -55,7 +56,8 @@ impl Name {
     /// The same, by the relation alone.
     fn parse_text(alloc: Global, text: &str, origin: Option<&Name>) -> Result<Name, ParseError>
         ensures named { IfOk result (IsNameText text.now (option_copied origin.entry)) }
-        ensures refused { (result ≡ Err ParseError.BadName) ↔ ((name : NameValue) → IsNameText text.now (option_copied origin.entry) name → ⊥) }
+        ensures refused { (result ≡ Err ParseError.BadName)
+            ↔ ((name : NameValue) → IsNameText text.now (option_copied origin.entry) name → ⊥) }
         ensures err { IfErr result (λ e. (e ≡ ParseError.Memory) ⊎ (e ≡ ParseError.BadName)) }
     {
         if text == "." {
@@ -81,7 +83,8 @@ impl Name {
 #[tactic(auto, unfolding(crate::specs::NameText::decimal_char))]
 fn decimal_char(first: u8, text: &[u8]) -> Option<(TextChar, &[u8])>
     requires { IsTrue (is_ascii_digit first) }
-    ensures value { option_map (λ r. (character_of r.0, r.1.now)) result ≡ decimal_char first text.now }
+    ensures value { option_map (λ r. (character_of r.0, r.1.now)) result
+        ≡ decimal_char first text.now }
     ensures shorter { IfSome result (λ r. length r.1.now < length text.now) }
 {
     let [second, third, rest @ ..] = text else {
@@ -137,7 +140,8 @@ fn first_char(text: &[u8]) -> Option<(TextChar, &[u8])>
 /// Gathers the labels of a text, each with its length before it, in `room`. Answers how many bytes they
 /// are, and whether the text ends with a dot; none where the text is no labels.
 fn gather_labels(text: &[u8], room: &mut [u8; ROOM]) -> Option<(usize, bool)>
-    ensures none { IfNone result ((labels : List (List ℕ)) (absolute : Bool) → IsLabelsText text.now labels absolute → ⊥) }
+    ensures none { IfNone result ((labels : List (List ℕ)) (absolute : Bool)
+        → IsLabelsText text.now labels absolute → ⊥) }
     ensures some { IfSome result (λ r. IsLabelsText text.now (labels_of (take r.0 room.new)) r.1) }
     ensures wire { IfSome result (λ r. IsWire (take r.0 room.new)) }
     ensures used { IfSome result (λ r. r.0 ≤ 254) }
@@ -183,7 +187,8 @@ fn gather_labels(text: &[u8], room: &mut [u8; ROOM]) -> Option<(usize, bool)>
 fn gather_name(text: &[u8], origin: Option<&Name>, room: &mut [u8; ROOM]) -> Option<(usize, bool)>
     requires no_root { text.now ≢ 46 ∷ [] }
     requires no_origin { text.now ≢ 64 ∷ [] }
-    ensures none { IfNone result ((name : NameValue) → IsNameText text.now (option_copied origin.entry) name → ⊥) }
+    ensures none { IfNone result ((name : NameValue)
+        → IsNameText text.now (option_copied origin.entry) name → ⊥) }
     ensures some { IfSome result (λ r. IsNameText text.now (option_copied origin.entry) (record { labels = labels_of (take r.0 room.new); absolute = r.1 })) }
     ensures wire { IfSome result (λ r. IsWire (take r.0 room.new)) }
     ensures used { IfSome result (λ r. r.0 ≤ 254) }

@@ -40,7 +40,8 @@ enum Part {
 /// What stands at a place of a name, or why nothing can.
 #[tactic(auto, unfolding(crate::specs::Names::part_at))]
 fn part_of(buffer: &[u8], at: usize) -> Result<Part, DecodeError>
-    ensures value { MatchResult result (λ p. part_at buffer.now at ≡ Ok (part p)) (λ e. part_at buffer.now at ≡ Err e) }
+    ensures value { MatchResult result (λ p. part_at buffer.now at ≡ Ok (part p))
+        (λ e. part_at buffer.now at ≡ Err e) }
     ensures near { (t : ℕ) → part_at buffer.now at ≡ Ok (pointer_to t) → t < 16384 }
 {
     if at >= buffer.len() {
@@ -70,7 +71,8 @@ fn part_of(buffer: &[u8], at: usize) -> Result<Part, DecodeError>
 fn copy_label(buffer: &[u8], at: usize, size: usize, room: &mut [u8; ROOM], used: usize)
     requires there { at + size ≤ length buffer.now }
     requires fits { used + size ≤ 254 }
-    ensures { take (used + size) room.new ≡ take used room.old ++ slice_range buffer.now at (at + size) }
+    ensures { take (used + size) room.new
+        ≡ take used room.old ++ slice_range buffer.now at (at + size) }
 {
     if size <= PIECE && used + PIECE <= ROOM && at + PIECE <= buffer.len() {
         room[used..used + PIECE].copy_from_slice(&buffer[at..at + PIECE]);
@@ -172,7 +174,8 @@ fn keep_all<'a>(
     requires spelled { AreSpelled decoder.old.bytes labels.now passed.now }
     requires last { IfSome last (λ lent. IsLast lent.now labels.now passed.now) }
     requires later { PassLater decoder.old.bytes decoder.old.kept passed.now }
-    ensures ok { OnOk result (decoder.new ≡ record decoder.old { kept = inserted (targets passed.now) decoder.old.kept }) }
+    ensures ok { OnOk result (decoder.new
+        ≡ record decoder.old { kept = inserted (targets passed.now) decoder.old.kept }) }
     ensures err { OnErr result (decoder.new.jumps ≡ decoder.old.jumps) }
     ensures only { IsOkUnless result DecodeError.Memory }
 {

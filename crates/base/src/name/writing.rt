@@ -62,7 +62,8 @@ impl Name {
     /// `MaxBufferSizeExceeded` where a byte would pass the limit; `Memory` if memory runs out. What stood before stays,
     /// and labels that were written before the refusal stand after it.
     pub fn emit_plain(&self, encoder: &mut BinEncoder<'_>) -> Result<(), ProtoError>
-        ensures state { OnOk result (state_of encoder.new ≡ appended (wire_of self.now.labels ++ 0 ∷ []) (state_of encoder.old)) }
+        ensures state { OnOk result (state_of encoder.new
+            ≡ appended (wire_of self.now.labels ++ 0 ∷ []) (state_of encoder.old)) }
         ensures keeps { Keeps (state_of encoder.old) (state_of encoder.new) }
         ensures fits { OnOk result (AreNameLabels self.now.labels) }
         ensures exact { Exactly (plain_name self.now.labels)

@@ -27,7 +27,8 @@ fn ends_item(c: u8) -> bool
 /// How many bytes the item has that a text begins with; none where a backslash ends the text.
 #[tactic(auto, unfolding(crate::specs::Tokens::item))]
 fn item_len(text: &[u8]) -> Option<usize>
-    ensures value { option_map (λ n. (take n text.now, drop n text.now)) result ≡ item false text.now }
+    ensures value { option_map (λ n. (take n text.now, drop n text.now)) result
+        ≡ item false text.now }
     ensures boundary { IfSome result (λ n. IsCharBoundary text.now n) }
 {
     let mut at = 0;
@@ -50,7 +51,8 @@ fn item_len(text: &[u8]) -> Option<usize>
 /// How many bytes stand before the next `"` that no backslash keeps; none where there is no such `"`.
 #[tactic(auto, unfolding(crate::specs::Tokens::quoted))]
 fn quoted_len(text: &[u8]) -> Option<usize>
-    ensures value { option_map (λ n. (take n text.now, drop (n + 1) text.now)) result ≡ quoted false text.now }
+    ensures value { option_map (λ n. (take n text.now, drop (n + 1) text.now)) result
+        ≡ quoted false text.now }
     ensures boundary { IfSome result (λ n. IsCharBoundary text.now n) }
     ensures quote { IfSome result (λ n. (n < length text.now) × (get_or text.now n 0 ≡ 34)) }
 {

@@ -105,7 +105,8 @@ impl<'a> BinDecoder<'a> {
     pub(crate) fn follow(&mut self, target: u16) -> &'a [u8]
         requires { target ≤ length self.old.bytes }
         ensures lent { result.now ≡ drop target self.old.bytes }
-        ensures counted { self.new ≡ record self.old { jumps = min (self.old.jumps + 1) usize.MAX } }
+        ensures counted { self.new
+            ≡ record self.old { jumps = min (self.old.jumps + 1) usize.MAX } }
     {
         self.jumps = self.jumps.saturating_add(1);
         &self.buffer[usize::from(target)..]
@@ -139,7 +140,8 @@ impl<'a> BinDecoder<'a> {
     pub(crate) fn keep_lent(&mut self, target: u16, labels: &'a [u8]) -> Result<(), DecodeError>
         requires kept { IsKept self.old.bytes target labels.now }
         requires after { PassesKept self.old.bytes self.old.kept target }
-        ensures ok { OnOk result (self.new ≡ record self.old { kept = set.insert self.old.kept target }) }
+        ensures ok { OnOk result (self.new
+            ≡ record self.old { kept = set.insert self.old.kept target }) }
         ensures err { OnErr result (self.new ≡ self.old) }
         ensures only { IsOkUnless result DecodeError.Memory }
     {
@@ -153,7 +155,8 @@ impl<'a> BinDecoder<'a> {
     pub(crate) fn keep_copy(&mut self, target: u16, labels: &[u8]) -> Result<(), DecodeError>
         requires kept { IsKept self.old.bytes target labels.now }
         requires after { PassesKept self.old.bytes self.old.kept target }
-        ensures ok { OnOk result (self.new ≡ record self.old { kept = set.insert self.old.kept target }) }
+        ensures ok { OnOk result (self.new
+            ≡ record self.old { kept = set.insert self.old.kept target }) }
         ensures err { OnErr result (self.new ≡ self.old) }
         ensures only { IsOkUnless result DecodeError.Memory }
     {

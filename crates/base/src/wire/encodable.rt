@@ -65,7 +65,8 @@ pub trait EncodedSize: BinEncodable {
     fn fill(&self, room: &mut [u8])
         requires { length room.old ≡ LEN }
         ensures bytes { room.new ≡ encoded self.now }
-        ensures word { (B : List ℕ) (i : ℕ) → Stands (encoded self.now) B i → Self.word self.now B i (i + LEN) };
+        ensures word { (B : List ℕ) (i : ℕ) → Stands (encoded self.now) B i
+            → Self.word self.now B i (i + LEN) };
 }
 
 impl BinEncodable for u16 {

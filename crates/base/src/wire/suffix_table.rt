@@ -120,7 +120,8 @@ impl SuffixTable {
         requires near { at < 16384 }
         requires absent { All (λ t. t.labels ≢ labels_of wire.now) self.old }
         requires later { All (λ t. t.offset < at) self.old }
-        ensures ok { OnOk result (self.new ≡ self.old ++ record { labels = labels_of wire.now; offset = at } ∷ []) }
+        ensures ok { OnOk result (self.new
+            ≡ self.old ++ record { labels = labels_of wire.now; offset = at } ∷ []) }
         ensures err { OnErr result (self.new ≡ self.old) }
         ensures memory { IsMemory result }
     {

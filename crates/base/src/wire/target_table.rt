@@ -83,7 +83,8 @@ impl TargetTable {
     pub(crate) fn keep(&mut self, target: u16, labels: &[u8], most: u16) -> Result<(), AllocError>
         requires { length labels.now ≤ 254 }
         ensures ok { OnOk result (get_or self.new target None ≡ Some labels.now) }
-        ensures others { (q : ℕ) → q ≢ target → OnOk result (get_or self.new q None ≡ get_or self.old q None) }
+        ensures others { (q : ℕ) → q ≢ target
+            → OnOk result (get_or self.new q None ≡ get_or self.old q None) }
         ensures err { OnErr result (self.new ≡ self.old) }
     {
         let target = usize::from(target);

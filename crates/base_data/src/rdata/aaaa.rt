@@ -98,8 +98,10 @@ impl BinDecodable for AAAA {
 /// The text of an address has `::` in place of the first of the longest runs of zero groups, if that run has
 /// two groups or more; where no two zero groups stand side by side, it has all groups (RFC 5952, 4.2).
 pub fn address_text()
-    ensures shortened { (octets : List ℕ) (start len : ℕ) → IsFirstLongest (segments_of octets) start len → 2 ≤ len
-        → aaaa_text octets ≡ groups_text (take start (segments_of octets)) ++ codes "::" ++ groups_text (drop (start + len) (segments_of octets)) }
+    ensures shortened { (octets : List ℕ) (start len : ℕ)
+        → IsFirstLongest (segments_of octets) start len → 2 ≤ len
+        → aaaa_text octets ≡ groups_text (take start (segments_of octets)) ++ codes "::"
+        ++ groups_text (drop (start + len) (segments_of octets)) }
     ensures whole { (octets : List ℕ) → ((start : ℕ) → ¬ AreZeros (segments_of octets) start 2)
         → aaaa_text octets ≡ groups_text (segments_of octets) }
 {}

@@ -96,7 +96,8 @@ pub(crate) fn one_name(
     items: &[&str],
     origin: Option<&Name>,
 ) -> Result<Option<Name>, AllocError>
-    ensures { IfOk result (λ name. name ≡ one_name_of (λ n. n) (map (λ item. item.now) items.now) (option_copied origin.entry)) }
+    ensures { IfOk result (λ name. name
+        ≡ one_name_of (λ n. n) (map (λ item. item.now) items.now) (option_copied origin.entry)) }
 {
     let [name] = items else {
         return Ok(None);

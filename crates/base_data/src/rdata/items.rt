@@ -31,7 +31,8 @@ pub(crate) trait TextData: RecordData {
         items: &[&str],
         origin: Option<&Name>,
     ) -> Result<Option<Self>, AllocError>
-        ensures { IfOk result (λ made. made ≡ of_items (map (λ item. item.now) items.now) (option_copied origin.entry)) };
+        ensures { IfOk result (λ made. made
+            ≡ of_items (map (λ item. item.now) items.now) (option_copied origin.entry)) };
 }
 
 /// The data of a kind that the items name, as that of any record.

@@ -24,7 +24,8 @@ impl Message {
         requires can { I.can_next queries }
         requires countable { IsCountable (I.remaining queries) }
         ensures added { AddsGiven I.next_gives queries (message_value self.old).queries (message_value self.new).queries result }
-        ensures others { message_value self.new ≡ record (message_value self.old) { queries = (message_value self.new).queries } }
+        ensures others { message_value self.new
+            ≡ record (message_value self.old) { queries = (message_value self.new).queries } }
         ensures only { IsOkUnless result ProtoError.Memory }
     {
         Ok(append(&mut self.queries, queries)?)
@@ -42,7 +43,8 @@ impl Message {
         requires can { I.can_next records }
         requires countable { IsCountable (I.remaining records) }
         ensures added { AddsGiven I.next_gives records (message_value self.old).answers (message_value self.new).answers result }
-        ensures others { message_value self.new ≡ record (message_value self.old) { answers = (message_value self.new).answers } }
+        ensures others { message_value self.new
+            ≡ record (message_value self.old) { answers = (message_value self.new).answers } }
         ensures only { IsOkUnless result ProtoError.Memory }
     {
         Ok(append(&mut self.answers, records)?)
@@ -60,7 +62,8 @@ impl Message {
         requires can { I.can_next records }
         requires countable { IsCountable (I.remaining records) }
         ensures added { AddsGiven I.next_gives records (message_value self.old).authorities (message_value self.new).authorities result }
-        ensures others { message_value self.new ≡ record (message_value self.old) { authorities = (message_value self.new).authorities } }
+        ensures others { message_value self.new
+            ≡ record (message_value self.old) { authorities = (message_value self.new).authorities } }
         ensures only { IsOkUnless result ProtoError.Memory }
     {
         Ok(append(&mut self.authorities, records)?)
@@ -78,7 +81,8 @@ impl Message {
         requires can { I.can_next records }
         requires countable { IsCountable (I.remaining records) }
         ensures added { AddsGiven I.next_gives records (message_value self.old).additionals (message_value self.new).additionals result }
-        ensures others { message_value self.new ≡ record (message_value self.old) { additionals = (message_value self.new).additionals } }
+        ensures others { message_value self.new
+            ≡ record (message_value self.old) { additionals = (message_value self.new).additionals } }
         ensures only { IsOkUnless result ProtoError.Memory }
     {
         Ok(append(&mut self.additionals, records)?)
@@ -87,7 +91,8 @@ impl Message {
     /// Makes these records the answers of a message that has none. Takes no memory.
     pub fn insert_answers(&mut self, records: Vec<Record>)
         requires { (message_value self.old).answers ≡ [] }
-        ensures { message_value self.new ≡ record (message_value self.old) { answers = records.items } }
+        ensures { message_value self.new
+            ≡ record (message_value self.old) { answers = records.items } }
     {
         self.answers = records;
     }
@@ -95,7 +100,8 @@ impl Message {
     /// Makes these records the authorities of a message that has none. Takes no memory.
     pub fn insert_authorities(&mut self, records: Vec<Record>)
         requires { (message_value self.old).authorities ≡ [] }
-        ensures { message_value self.new ≡ record (message_value self.old) { authorities = records.items } }
+        ensures { message_value self.new
+            ≡ record (message_value self.old) { authorities = records.items } }
     {
         self.authorities = records;
     }
@@ -103,7 +109,8 @@ impl Message {
     /// Makes these records the additional records of a message that has none. Takes no memory.
     pub fn insert_additionals(&mut self, records: Vec<Record>)
         requires { (message_value self.old).additionals ≡ [] }
-        ensures { message_value self.new ≡ record (message_value self.old) { additionals = records.items } }
+        ensures { message_value self.new
+            ≡ record (message_value self.old) { additionals = records.items } }
     {
         self.additionals = records;
     }

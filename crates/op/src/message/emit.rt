@@ -31,15 +31,19 @@ impl Message {
     /// uncompressed it is refused because memory ran out alone.
     pub fn emit(&self, encoder: &mut BinEncoder<'_>) -> Result<(), ProtoError>
         ensures keeps { Keeps (state_of encoder.old) (state_of encoder.new) }
-        ensures emitted { IfOk result (λ _. (h : WrittenHeader) × Emitted (message_value self.now) (state_of encoder.old) (state_of encoder.new) h) }
+        ensures emitted { IfOk result (λ _. (h : WrittenHeader)
+            × Emitted (message_value self.now) (state_of encoder.old) (state_of encoder.new) h) }
         ensures exact { IfOk result (λ _. state_of encoder.new
             ≡ after (message_written (state_of encoder.old).limit (message_value self.now)) (state_of encoder.old)) }
-        ensures written { Fits (message_value self.now) → (state_of encoder.old).bytes ≡ [] → (state_of encoder.old).suffixes ≡ []
+        ensures written { Fits (message_value self.now) → (state_of encoder.old).bytes ≡ []
+            → (state_of encoder.old).suffixes ≡ []
             → IfOk result (λ _. IsWritten (message_value self.now) (state_of encoder.old).limit (state_of encoder.new).bytes) }
-        ensures succeeds { (state_of encoder.old).bytes ≡ [] → (state_of encoder.old).suffixes ≡ [] → HasRoom (message_value self.now) (state_of encoder.old).limit
+        ensures succeeds { (state_of encoder.old).bytes ≡ [] → (state_of encoder.old).suffixes ≡ []
+            → HasRoom (message_value self.now) (state_of encoder.old).limit
             → IsOkUnless result ProtoError.Memory }
         ensures refused { (state_of encoder.old).bytes ≡ [] → (state_of encoder.old).suffixes ≡ []
-            → IfErr result (λ e. (e ≡ ProtoError.Memory) ⊎ IsTooSmall (message_value self.now) (state_of encoder.old).limit e) }
+            → IfErr result (λ e. (e ≡ ProtoError.Memory)
+            ⊎ IsTooSmall (message_value self.now) (state_of encoder.old).limit e) }
         ensures left { IfErr result (λ e. (e ≡ ProtoError.Memory)
             ⊎ Leaves (message_value self.now) (state_of encoder.old) e (state_of encoder.new)) }
         ensures answer { IfOk result (λ _. message_answer_at (state_of encoder.old).limit (message_value self.now)
@@ -60,13 +64,19 @@ impl Message {
     /// `NotAllRecordsWritten` where the questions don't fit, with the number of those before the first that doesn't;
     /// `Memory` if memory runs out.
     pub fn to_vec(&self) -> Result<Vec<u8>, ProtoError>
-        ensures succeeds { HasRoom (message_value self.now) 65535 → IsOkUnless result ProtoError.Memory }
-        ensures exact { IfOk result (λ bytes. bytes.items ≡ message_bytes 65535 (message_value self.now)) }
-        ensures written { Fits (message_value self.now) → IfOk result (λ bytes. IsWritten (message_value self.now) 65535 bytes.items) }
-        ensures refused { IfErr result (λ e. (e ≡ ProtoError.Memory) ⊎ IsTooSmall (message_value self.now) 65535 e) }
+        ensures succeeds { HasRoom (message_value self.now) 65535
+            → IsOkUnless result ProtoError.Memory }
+        ensures exact { IfOk result (λ bytes. bytes.items
+            ≡ message_bytes 65535 (message_value self.now)) }
+        ensures written { Fits (message_value self.now)
+            → IfOk result (λ bytes. IsWritten (message_value self.now) 65535 bytes.items) }
+        ensures refused { IfErr result (λ e. (e ≡ ProtoError.Memory)
+            ⊎ IsTooSmall (message_value self.now) 65535 e) }
         ensures emitted { IfOk result (λ bytes. EmittedNew (message_value self.now) 65535 bytes.items) }
-        ensures left { IfErr result (λ e. (e ≡ ProtoError.Memory) ⊎ LeavesNew (message_value self.now) 65535 e) }
-        ensures answer { IfOk result (λ bytes. message_answer 65535 (message_value self.now) ≡ Ok bytes.items) }
+        ensures left { IfErr result (λ e. (e ≡ ProtoError.Memory)
+            ⊎ LeavesNew (message_value self.now) 65535 e) }
+        ensures answer { IfOk result (λ bytes. message_answer 65535 (message_value self.now)
+            ≡ Ok bytes.items) }
         ensures refusal { IfErr result (λ e. (e ≡ ProtoError.Memory)
             ⊎ (message_answer 65535 (message_value self.now) ≡ Err e)) }
     {

@@ -41,7 +41,8 @@ impl Message {
         ensures counts { Counts decoder.old decoder.new result }
         ensures passed { Passes decoder.old decoder.new result }
         ensures fault { (f : DecodeError) → result ≡ Err (ProtoError.Decode f)
-            → (f ≡ DecodeError.Memory) ⊎ IsQueriesFault count decoder.old.bytes decoder.old.index f }
+            → (f ≡ DecodeError.Memory)
+            ⊎ IsQueriesFault count decoder.old.bytes decoder.old.index f }
         ensures adds { IfOk result (λ _. AddsPassed (queries_places count decoder.old.bytes decoder.old.index) decoder.old decoder.new) }
     {
         Ok(read_many::<Query>(decoder, count)?)
@@ -170,9 +171,11 @@ impl Message {
     /// The buffer's first fault; `Memory` if memory runs out.
     pub fn from_vec(alloc: Global, buffer: &[u8]) -> Result<Message, DecodeError>
         ensures found { IfOk result (λ m. (e : ℕ) × IsMessageAt buffer.now 0 (message_value m) e) }
-        ensures only { (m : MessageValue) (e : ℕ) → IsMessageAt buffer.now 0 m e → MatchResult result (λ read. message_value read ≡ m) (λ f. f ≡ DecodeError.Memory) }
+        ensures only { (m : MessageValue) (e : ℕ) → IsMessageAt buffer.now 0 m e
+            → MatchResult result (λ read. message_value read ≡ m) (λ f. f ≡ DecodeError.Memory) }
         ensures refused { IfErr result (λ f. Fails f (message_at buffer.now 0)) }
-        ensures fault { IfErr result (λ f. (f ≡ DecodeError.Memory) ⊎ IsMessageFault buffer.now 0 f) }
+        ensures fault { IfErr result (λ f. (f ≡ DecodeError.Memory)
+            ⊎ IsMessageFault buffer.now 0 f) }
         ensures fits { IfOk result (λ m. Fits (message_value m)) }
     {
         Message::read(&mut BinDecoder::new(alloc, buffer))

@@ -64,7 +64,8 @@ impl Section {
         is_additional: bool,
         op_code: OpCode,
     ) -> Result<(), DecodeError>
-        ensures ok { OnOk result (tested is_additional op_code (section_value self.old) next ≡ Ok (section_value self.new)) }
+        ensures ok { OnOk result (tested is_additional op_code (section_value self.old) next
+            ≡ Ok (section_value self.new)) }
         ensures err { IfErr result (λ e. Fails e (tested is_additional op_code (section_value self.old) next)) }
     {
         match self.fault_of(&next, is_additional, op_code) {
@@ -99,7 +100,8 @@ impl Section {
     ///
     /// If memory runs out.
     fn add(&mut self, alloc: Global, next: Record) -> Result<(), DecodeError>
-        ensures ok { OnOk result (section_value self.new ≡ with_record (section_value self.old) next) }
+        ensures ok { OnOk result (section_value self.new
+            ≡ with_record (section_value self.old) next) }
         ensures only { IsOkUnless result DecodeError.Memory }
     {
         if next.record_type() == RecordType::OPT {

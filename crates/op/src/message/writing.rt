@@ -82,7 +82,8 @@ impl Message {
         ensures exact { IfOk result (λ _. state_of encoder.new
             ≡ after (message_written (state_of encoder.old).limit (message_value self.now)) (state_of encoder.old)) }
         ensures refused { (state_of encoder.old).bytes ≡ [] → (state_of encoder.old).suffixes ≡ []
-            → IfErr result (λ e. (e ≡ ProtoError.Memory) ⊎ IsTooSmall (message_value self.now) (state_of encoder.old).limit e) }
+            → IfErr result (λ e. (e ≡ ProtoError.Memory)
+            ⊎ IsTooSmall (message_value self.now) (state_of encoder.old).limit e) }
         ensures left { IfErr result (λ e. (e ≡ ProtoError.Memory)
             ⊎ Leaves (message_value self.now) (state_of encoder.old) e (state_of encoder.new)) }
         ensures answer { IfOk result (λ _. message_answer_at (state_of encoder.old).limit (message_value self.now)
@@ -159,7 +160,8 @@ fn numbered(
 
 // TC of a message of which so much was written.
 fn is_cut(metadata: &Metadata, sections: WrittenSections, additionals: Written) -> bool
-    ensures { result ≡ (metadata.now.truncation || (sections.answers.is_cut || (sections.authorities.is_cut || additionals.is_cut))) }
+    ensures { result ≡ (metadata.now.truncation
+        || (sections.answers.is_cut || (sections.authorities.is_cut || additionals.is_cut))) }
 {
     metadata.truncation
         || sections.answers.is_cut

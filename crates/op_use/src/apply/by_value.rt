@@ -19,7 +19,8 @@ use std::alloc::AllocError;
 impl<'a> Zone<'a> {
     // Whether the sets that prerequisites of the zone's class name are those that they list (RFC 2136, 3.2.3).
     pub(crate) fn are_met(&self, entries: &[Record]) -> Result<bool, AllocError>
-        ensures { IfOk result (λ b. b ≡ list_all (is_met (zone_of self.now) (collected (zone_of self.now) entries.now)) (collected (zone_of self.now) entries.now)) }
+        ensures { IfOk result (λ b. b
+            ≡ list_all (is_met (zone_of self.now) (collected (zone_of self.now) entries.now)) (collected (zone_of self.now) entries.now)) }
     {
         if !self.are_there(entries)? {
             return Ok(false);
@@ -30,7 +31,9 @@ impl<'a> Zone<'a> {
 
     // Whether each listed record is there.
     fn are_there(&self, entries: &[Record]) -> Result<bool, AllocError>
-        ensures { IfOk result (λ b. b ≡ list_all (λ (r : Entry RData). not (is_by_value self.now.class r) || there_under self.now.sets r (record_key r)) entries.now) }
+        ensures { IfOk result (λ b. b
+            ≡ list_all (λ (r : Entry RData). not (is_by_value self.now.class r)
+            || there_under self.now.sets r (record_key r)) entries.now) }
     {
         for entry in entries {
             if is_by_value(self.class, entry) && !self.has_record(entry)? {
@@ -42,7 +45,9 @@ impl<'a> Zone<'a> {
 
     // Whether each set of which data is listed has no other. A set is looked at for the first record that names it alone.
     fn are_sets_listed(&self, entries: &[Record]) -> Result<bool, AllocError>
-        ensures { IfOk result (λ b. b ≡ list_all (λ (r : Entry RData). not (is_by_value self.now.class r) || listed_under self.now.sets self.now.class entries.now r (record_key r)) entries.now) }
+        ensures { IfOk result (λ b. b
+            ≡ list_all (λ (r : Entry RData). not (is_by_value self.now.class r)
+            || listed_under self.now.sets self.now.class entries.now r (record_key r)) entries.now) }
     {
         for i in 0..entries.len() {
             let entry = &entries[i];
@@ -58,7 +63,8 @@ impl<'a> Zone<'a> {
 
     // Whether the set of a record has its data.
     pub(crate) fn has_record(&self, entry: &Record) -> Result<bool, AllocError>
-        ensures { IfOk result (λ b. b ≡ there_under self.now.sets entry.now (record_key entry.now)) }
+        ensures { IfOk result (λ b. b
+            ≡ there_under self.now.sets entry.now (record_key entry.now)) }
     {
         let key = key_of(&entry.name, entry.record_type())?;
         match self.sets.get(&key) {
@@ -69,7 +75,8 @@ impl<'a> Zone<'a> {
 
     // Whether the set of a record has only data that the entries list.
     fn is_set_listed(&self, entries: &[Record], entry: &Record) -> Result<bool, AllocError>
-        ensures { IfOk result (λ b. b ≡ listed_under self.now.sets self.now.class entries.now entry.now (record_key entry.now)) }
+        ensures { IfOk result (λ b. b
+            ≡ listed_under self.now.sets self.now.class entries.now entry.now (record_key entry.now)) }
     {
         let key = key_of(&entry.name, entry.record_type())?;
         match self.sets.get(&key) {
@@ -81,13 +88,16 @@ impl<'a> Zone<'a> {
 
 // Whether an entry is by value, and none of those before it names its set.
 fn is_first(class: DNSClass, before: &[Record], entry: &Record) -> bool
-    ensures { result ≡ (is_by_value class entry.now && not (list_any (λ (q : Entry RData). is_by_value class q && is_same_key entry.now q) before.now)) }
+    ensures { result ≡ (is_by_value class entry.now
+        && not (list_any (λ (q : Entry RData). is_by_value class q
+        && is_same_key entry.now q) before.now)) }
 {
     is_by_value(class, entry) && !is_named(class, before, entry)
 }
 
 fn is_named(class: DNSClass, before: &[Record], entry: &Record) -> bool
-    ensures { result ≡ list_any (λ (q : Entry RData). is_by_value class q && is_same_key entry.now q) before.now }
+    ensures { result ≡ list_any (λ (q : Entry RData). is_by_value class q
+        && is_same_key entry.now q) before.now }
 {
     for known in before {
         if is_by_value(class, known) && is_same_set(entry, known) {

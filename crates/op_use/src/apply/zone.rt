@@ -168,7 +168,8 @@ fn set_of(
     ttl: u32,
     records: Vec<Record>,
 ) -> Result<RecordSet, AllocError>
-    ensures { IfOk result (λ s. s ≡ record { name = owner.now; record_type = record_type; dns_class = class; ttl = ttl; records = records.items; serial = 0 }) }
+    ensures { IfOk result (λ s. s
+        ≡ record { name = owner.now; record_type = record_type; dns_class = class; ttl = ttl; records = records.items; serial = 0 }) }
 {
     let mut set = RecordSet::with_ttl(owner.allocator(), owner.clone()?, record_type, ttl);
     set.set_dns_class(class);

@@ -35,7 +35,8 @@ pub fn create(
     use_edns: bool,
 ) -> Result<Message, ProtoError>
     requires within { is_zone_of origin rrset.name ≡ true }
-    ensures built { IfOk result (λ m. message_value m ≡ update_message id use_edns (create_sections rrset origin)) }
+    ensures built { IfOk result (λ m. message_value m
+        ≡ update_message id use_edns (create_sections rrset origin)) }
     ensures fits { IfOk result (λ m. IsSendable origin rrset → Fits (message_value m)) }
     ensures means { IfOk result (λ m. CreatesSet rrset origin (message_value m)) }
     ensures only { IsOkUnless result ProtoError.Memory }
@@ -71,7 +72,8 @@ pub fn append(
     use_edns: bool,
 ) -> Result<Message, ProtoError>
     requires within { is_zone_of origin rrset.name ≡ true }
-    ensures built { IfOk result (λ m. message_value m ≡ update_message id use_edns (append_sections rrset origin must_exist)) }
+    ensures built { IfOk result (λ m. message_value m
+        ≡ update_message id use_edns (append_sections rrset origin must_exist)) }
     ensures fits { IfOk result (λ m. IsSendable origin rrset → Fits (message_value m)) }
     ensures means { IfOk result (λ m. AppendsToSet rrset origin must_exist (message_value m)) }
     ensures only { IsOkUnless result ProtoError.Memory }
@@ -112,8 +114,10 @@ pub fn compare_and_swap(
 ) -> Result<Message, ProtoError>
     requires within { is_zone_of origin current.name ≡ true }
     requires new_within { is_zone_of origin new.name ≡ true }
-    ensures built { IfOk result (λ m. message_value m ≡ update_message id use_edns (swap_sections current new origin)) }
-    ensures fits { IfOk result (λ m. IsSendable origin current → IsSendable origin new → Fits (message_value m)) }
+    ensures built { IfOk result (λ m. message_value m
+        ≡ update_message id use_edns (swap_sections current new origin)) }
+    ensures fits { IfOk result (λ m. IsSendable origin current → IsSendable origin new
+        → Fits (message_value m)) }
     ensures means { IfOk result (λ m. SwapsSets current new origin (message_value m)) }
     ensures only { IsOkUnless result ProtoError.Memory }
 {
@@ -148,7 +152,8 @@ pub fn delete_by_rdata(
     use_edns: bool,
 ) -> Result<Message, ProtoError>
     requires within { is_zone_of origin rrset.name ≡ true }
-    ensures built { IfOk result (λ m. message_value m ≡ update_message id use_edns (delete_data_sections rrset origin)) }
+    ensures built { IfOk result (λ m. message_value m
+        ≡ update_message id use_edns (delete_data_sections rrset origin)) }
     ensures fits { IfOk result (λ m. IsSendable origin rrset → Fits (message_value m)) }
     ensures means { IfOk result (λ m. DeletesData rrset origin (message_value m)) }
     ensures only { IsOkUnless result ProtoError.Memory }
@@ -183,7 +188,8 @@ pub fn delete_rrset(
     use_edns: bool,
 ) -> Result<Message, ProtoError>
     requires within { is_zone_of origin entry.name ≡ true }
-    ensures built { IfOk result (λ m. message_value m ≡ update_message id use_edns (delete_set_sections entry origin)) }
+    ensures built { IfOk result (λ m. message_value m
+        ≡ update_message id use_edns (delete_set_sections entry origin)) }
     ensures fits { IfOk result (λ m. IsSendableKey origin entry.name (type_of_data entry.rdata) entry.dns_class → Fits (message_value m)) }
     ensures means { IfOk result (λ m. DeletesSet entry origin (message_value m)) }
     ensures only { IsOkUnless result ProtoError.Memory }
@@ -221,8 +227,10 @@ pub fn delete_all(
     use_edns: bool,
 ) -> Result<Message, ProtoError>
     requires within { is_zone_of origin name ≡ true }
-    ensures built { IfOk result (λ m. message_value m ≡ update_message id use_edns (delete_all_sections name origin dns_class)) }
-    ensures fits { IfOk result (λ m. IsSendableOwner origin name dns_class → Fits (message_value m)) }
+    ensures built { IfOk result (λ m. message_value m
+        ≡ update_message id use_edns (delete_all_sections name origin dns_class)) }
+    ensures fits { IfOk result (λ m. IsSendableOwner origin name dns_class
+        → Fits (message_value m)) }
     ensures means { IfOk result (λ m. DeletesName name origin dns_class (message_value m)) }
     ensures only { IsOkUnless result ProtoError.Memory }
 {
@@ -275,7 +283,8 @@ fn update(
     updates: Vec<Record>,
     use_edns: bool,
 ) -> Result<Message, ProtoError>
-    ensures built { IfOk result (λ m. message_value m ≡ update_message id use_edns (sections origin dns_class prerequisites.items updates.items)) }
+    ensures built { IfOk result (λ m. message_value m
+        ≡ update_message id use_edns (sections origin dns_class prerequisites.items updates.items)) }
     ensures only { IsOkUnless result ProtoError.Memory }
 {
     let mut zone = Query::query(origin, RecordType::SOA);

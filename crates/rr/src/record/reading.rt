@@ -69,9 +69,12 @@ struct Fields {
 /// Reads class, TTL and length. They are read at once, since that is faster.
 fn read_fields(decoder: &mut BinDecoder<'_>) -> Result<Fields, DecodeError>
     ensures found { let B = decoder.old.bytes in let i = decoder.old.index in
-        IfOk result (λ f. IsNumberAt w16 B i f.class × IsNumberAt w32 B (i + 2) f.ttl × IsNumberAt w16 B (i + 6) f.len) }
-    ensures after { OnOk result ((decoder.new.index ≡ decoder.old.index + 8) × (decoder.new.bytes ≡ decoder.old.bytes)) }
-    ensures short { IfErr result (λ e. (e ≡ DecodeError.InsufficientBytes) × (length decoder.old.bytes < decoder.old.index + 8)) }
+        IfOk result (λ f. IsNumberAt w16 B i f.class × IsNumberAt w32 B (i + 2) f.ttl
+        × IsNumberAt w16 B (i + 6) f.len) }
+    ensures after { OnOk result ((decoder.new.index ≡ decoder.old.index + 8)
+        × (decoder.new.bytes ≡ decoder.old.bytes)) }
+    ensures short { IfErr result (λ e. (e ≡ DecodeError.InsufficientBytes)
+        × (length decoder.old.bytes < decoder.old.index + 8)) }
     ensures kept { decoder.new.kept ≡ decoder.old.kept }
     ensures counts { Counts decoder.old decoder.new result }
     ensures passed { Passes decoder.old decoder.new result }

@@ -68,9 +68,11 @@ impl RecordSet {
     /// If memory runs out; the set is then as it was.
     pub fn new_record(&mut self, rdata: &RData) -> Result<Option<&Record>, AllocError>
         requires { MayAdd self.old rdata.now }
-        ensures ok { IfOk result (λ found. option_map (λ entry. entry.now) found ≡ first_of rdata.now (add_data self.old rdata.now).1.records) }
+        ensures ok { IfOk result (λ found. option_map (λ entry. entry.now) found
+            ≡ first_of rdata.now (add_data self.old rdata.now).1.records) }
         ensures* after { sem 𝓛 (follows_so the_row the_row self.entry.ghost_name none (λ _ _. ⊤)
-            (λ n. IfOk result (λ _. n ≡ (add_data self.old rdata.now).1) × OnErr result (n ≡ self.old))) }
+            (λ n. IfOk result (λ _. n ≡ (add_data self.old rdata.now).1)
+            × OnErr result (n ≡ self.old))) }
     {
         let place = self.add_copy(rdata)?;
         Ok(self.first_of(rdata, place))

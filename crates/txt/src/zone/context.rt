@@ -207,7 +207,8 @@ impl Context {
 
     /// After the type's text, its ASCII letters raised: the items of the data, and then the record.
     fn take_record(&mut self, raised: String, lexer: &mut Lexer<'_>) -> Result<(), ParseError>
-        ensures { (word : List ℕ) → string_bytes raised ≡ str_to_ascii_uppercase word → Goes result self.new (symbols lexer.new) (took_typed self.old word (symbols lexer.old)) }
+        ensures { (word : List ℕ) → string_bytes raised ≡ str_to_ascii_uppercase word
+            → Goes result self.new (symbols lexer.new) (took_typed self.old word (symbols lexer.old)) }
     {
         let record_type = type_of_text(raised)?;
         let mut items = replace(&mut self.items, Vec::new(self.alloc));
@@ -330,7 +331,8 @@ fn absolute(name: Name) -> Name
 
 /// After `$INCLUDE`: the name of a text, and the end of the line.
 fn take_include(lexer: &mut Lexer<'_>) -> Result<Step, ParseError>
-    ensures { (s : State) → Takes result s s (symbols lexer.new) (took_include s (symbols lexer.old)) }
+    ensures { (s : State)
+        → Takes result s s (symbols lexer.new) (took_include s (symbols lexer.old)) }
 {
     let Some(token) = read_token(lexer)? else {
         return Ok(Step::Applied);
@@ -343,7 +345,8 @@ fn take_include(lexer: &mut Lexer<'_>) -> Result<Step, ParseError>
 
 /// After the name of an included text: the end of the line.
 fn end_include(name: String, lexer: &mut Lexer<'_>) -> Result<Step, ParseError>
-    ensures { (s : State) → Takes result s s (symbols lexer.new) (took_include_end s (string_bytes name) (symbols lexer.old)) }
+    ensures { (s : State)
+        → Takes result s s (symbols lexer.new) (took_include_end s (string_bytes name) (symbols lexer.old)) }
 {
     let Some(token) = read_token(lexer)? else {
         return Ok(Step::Applied);

@@ -126,8 +126,10 @@ fn order_to_last(
     key: &RrKey,
 ) -> Ordering
     requires { IsStrictlySortedBy key_cmp (keys_of (sets.now.entries ++ run.now)) }
-    ensures last { result ≡ Equal → (set : SetValue) × (slice_get run.now (length run.now - 1) ≡ Some (key.now, set)) }
-    ensures above { result ≡ Greater → AllByRecursion (λ e. key_cmp key.now e.0 ≡ Greater) (sets.now.entries ++ run.now) }
+    ensures last { result ≡ Equal
+        → (set : SetValue) × (slice_get run.now (length run.now - 1) ≡ Some (key.now, set)) }
+    ensures above { result ≡ Greater
+        → AllByRecursion (λ e. key_cmp key.now e.0 ≡ Greater) (sets.now.entries ++ run.now) }
 {
     if let Some(last) = run.last() {
         return key.cmp(&last.0);
@@ -184,7 +186,8 @@ fn put(sets: &mut BTreeMap<RrKey, RecordSet>, key: RrKey, entry: Record) -> Resu
 /// `Message` for a second SOA.
 fn enter(set: &mut RecordSet, entry: Record) -> Result<(), ParseError>
     requires { IsKept (record_key entry) set.old }
-    ensures value { (sets : Sets) → Adds result (set_value (is_at (key_cmp (record_key entry))) sets set.new) (added_to sets entry (Some set.old)) }
+    ensures value { (sets : Sets)
+        → Adds result (set_value (is_at (key_cmp (record_key entry))) sets set.new) (added_to sets entry (Some set.old)) }
     ensures kept { IsKept (record_key entry) set.new }
 {
     if entry.record_type() == RecordType::SOA {

@@ -17,8 +17,10 @@ impl<'a> BinEncoder<'a> {
     /// are.
     pub(crate) fn find(&self, wire: &[u8]) -> Option<u16>
         requires { IsWire wire.now }
-        ensures found { MatchOption result (All (λ t. t.labels ≢ labels_of wire.now) (state_of self.now).suffixes)
-            (λ offset. Any (λ t. (t.labels ≡ labels_of wire.now) × (t.offset ≡ offset)) (state_of self.now).suffixes) }
+        ensures found { MatchOption result (All
+            (λ t. t.labels ≢ labels_of wire.now) (state_of self.now).suffixes)
+            (λ offset. Any (λ t. (t.labels ≡ labels_of wire.now)
+            × (t.offset ≡ offset)) (state_of self.now).suffixes) }
         ensures near { IfSome result (λ offset. offset < 16384) }
         ensures value { result ≡ found_in (state_of self.now).suffixes (labels_of wire.now) }
     {
@@ -36,7 +38,8 @@ impl<'a> BinEncoder<'a> {
         requires stands { at < length (state_of self.old).bytes }
         requires absent { All (λ t. t.labels ≢ labels_of wire.now) (state_of self.old).suffixes }
         requires later { All (λ t. t.offset < at) (state_of self.old).suffixes }
-        ensures ok { OnOk result (state_of self.new ≡ stored (labels_of wire.now) at (state_of self.old)) }
+        ensures ok { OnOk result (state_of self.new
+            ≡ stored (labels_of wire.now) at (state_of self.old)) }
         ensures err { OnErr result (state_of self.new ≡ state_of self.old) }
         ensures memory { IsMemory result }
     {
