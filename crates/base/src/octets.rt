@@ -50,7 +50,7 @@ impl Octets {
     ///
     /// # Errors
     ///
-    /// If memory runs out, where they aren't few.
+    /// If memory runs out; up to 29 bytes take none.
     pub(crate) fn from_slice(alloc: Global, bytes: &[u8], mark: bool) -> Result<Octets, AllocError>
         ensures { IfOk result (λ o. o ≡ record { items = bytes.now; mark = mark }) }
     {
@@ -65,11 +65,11 @@ impl Octets {
         })
     }
 
-    /// As many of the first of these bytes.
+    /// The first `used` of these bytes.
     ///
     /// # Errors
     ///
-    /// If memory runs out, where they aren't few.
+    /// If memory runs out; up to 29 bytes take none.
     pub(crate) fn from_front(
         alloc: Global,
         bytes: &[u8],
@@ -91,7 +91,7 @@ impl Octets {
     ///
     /// # Errors
     ///
-    /// If memory runs out, where they aren't few.
+    /// If memory runs out; up to 29 bytes take none.
     pub(crate) fn from_front_and(
         alloc: Global,
         bytes: &[u8],

@@ -7,12 +7,14 @@ use Rattle.base.specs.State.{State, Stored, appended}
 use Rattle.base.specs.declared.error.proto_error.ProtoError.{ProtoError}
 use Rattle.base.specs.declared.error.proto_error.ProtoError.TheVariants as refusals
 use Rattle.base.proofs.ItemLemmas.{Each-keeps}
-use Rattle.op.specs.Emitted.{Emitted, Leaves, WritesFront, query_owner}
+use Rattle.op.specs.Cut.{IsTooSmall}
+use Rattle.op.specs.Emitted.{Emitted, IsNew, Leaves, LeavesNew, WritesFront, query_owner}
 use Rattle.op.specs.Message.{MessageValue}
 use Rattle.op.specs.MessageWritten.{Part, message_answer, message_answer_at, message_written, part}
 use Rattle.op.specs.Query.{QueryWord, plain_query, query_written}
 use Rattle.op.specs.declared.header.Header.{Header}
 use Rattle.op.specs.declared.query.Query.{Query}
+use Rattle.op.proofs.SucceedsLemmas.{no_room}
 use Rattle.op.proofs.MessageWrittenLemmas.{all_asked, emitted_exact, front_count, front_told}
 
 -- the answer by the two tests
@@ -79,24 +81,43 @@ module _ (m : MessageValue) (old : State) where
   answer_if new (Ok h) e = emitted_answers new h e
   answer_if new (Err f) e = tt
 
-  refusal_answers : (new : State) (f : ProtoError) → (f ≡ refusals.Memory) ⊎ Leaves m old f new → (f ≡ refusals.Memory) ⊎ (answer ≡ Err f)
+  refusal_answers : (new : State) (f : ProtoError) → (f ≡ refusals.Memory) ⊎ Leaves m old f new
+      → (f ≡ refusals.Memory) ⊎ (Leaves m old f new × (answer ≡ Err f))
   refusal_answers new f (inl memory) = inl memory
-  refusal_answers new f (inr left) = inr (left_answers new f left)
+  refusal_answers new f (inr left) = inr (left, left_answers new f left)
 
   pub refusal_if : (new : State) (result : Result Header ProtoError) → IfErr result (λ f. (f ≡ refusals.Memory) ⊎ Leaves m old f new)
-      → IfErr result (λ f. (f ≡ refusals.Memory) ⊎ (answer ≡ Err f))
+      → IfErr result (λ f. (f ≡ refusals.Memory) ⊎ (Leaves m old f new × (answer ≡ Err f)))
   refusal_if new (Ok h) left = tt
   refusal_if new (Err f) left = refusal_answers new f left
 
--- ---- an encoder that is new, under a limit
+-- ---- of an encoder that is new
 
-module _ (m : MessageValue) (limit buffer : ℕ) (old : State) (new : old ≡ record { buffer = buffer; bytes = []; limit = limit; suffixes = [] }) where
+module _ (m : MessageValue) (limit : ℕ) (old : State) (begun : IsNew limit old) where
+  -- what the encoder answers is what any new one does
+  same_answer : message_answer limit m ≡ message_answer_at old.limit m (length old.bytes) old.suffixes
+  same_answer =
+      ap (λ (n : ℕ). message_answer_at n m 0 []) (sym begun.within)
+      ∙ ap (λ (bytes : List ℕ). message_answer_at old.limit m (length bytes) []) (sym begun.bytes)
+      ∙ ap (λ (ts : List Stored). message_answer_at old.limit m (length old.bytes) ts) (sym begun.suffixes)
+
   pub new_answer : (written : List ℕ) → message_answer_at old.limit m (length old.bytes) old.suffixes ≡ Ok (drop (length old.bytes) written)
       → message_answer limit m ≡ Ok written
-  new_answer written is =
-      subst (λ (s : State). message_answer_at s.limit m (length s.bytes) s.suffixes ≡ Ok (drop (length s.bytes) written)) new is
+  new_answer written is = same_answer ∙ is ∙ ap (λ (bytes : List ℕ). Ok (drop (length bytes) written)) begun.bytes
 
-  pub new_refusal : (f : ProtoError) → (f ≡ refusals.Memory) ⊎ (message_answer_at old.limit m (length old.bytes) old.suffixes ≡ Err f)
-      → (f ≡ refusals.Memory) ⊎ (message_answer limit m ≡ Err f)
-  new_refusal f is =
-      subst (λ (s : State). (f ≡ refusals.Memory) ⊎ (message_answer_at s.limit m (length s.bytes) s.suffixes ≡ Err f)) new is
+  -- a refusal: memory ran out, or the encoder was left so, and this is its answer
+  abbrev Refused : State → ProtoError → Type 0
+  Refused new f = (f ≡ refusals.Memory) ⊎ (Leaves m old f new × (message_answer_at old.limit m (length old.bytes) old.suffixes ≡ Err f))
+
+  pub new_refusal : (new : State) (f : ProtoError) → Refused new f → (f ≡ refusals.Memory) ⊎ (message_answer limit m ≡ Err f)
+  new_refusal new f (inl memory) = inl memory
+  new_refusal new f (inr is) = inr (same_answer ∙ is.1)
+
+  pub new_left : (new : State) (f : ProtoError) → Refused new f → (f ≡ refusals.Memory) ⊎ LeavesNew m limit f
+  new_left new f (inl memory) = inl memory
+  new_left new f (inr is) = inr (record { old = old; new = new; begun = begun; left = is.0 })
+
+  pub new_too_small : (new : State) (f : ProtoError) → Refused new f → (f ≡ refusals.Memory) ⊎ IsTooSmall m limit f
+  new_too_small new f (inl memory) = inl memory
+  new_too_small new f (inr is) =
+      inr (subst (λ (n : ℕ). IsTooSmall m n f) begun.within (no_room m old new f begun.bytes is.0))

@@ -209,20 +209,14 @@ front_full qs a b count front =
     let sum : plain_queries qs ≡ plain_queries front.kept + plain_queries front.lost = ap plain_queries front.whole ∙ plain-append front.kept front.lost in
     omega (arith, lost, queries_within front.kept a b front.written, sum)
 
-too_small : (m : MessageValue) (old new : State) (e : ProtoError) → old.bytes ≡ [] → (e ≡ refusals.Memory) ⊎ Leaves m old e new → (e ≡ refusals.Memory) ⊎ IsTooSmall m old.limit e
-too_small m old new e empty (inl memory) = inl memory
-too_small m old new refusals.MaxBufferSizeExceeded empty (inr left) = inr (omega (arith, left.0, ap length empty))
-too_small m old new (refusals.NotAllRecordsWritten count) empty (inr left) =
+pub no_room : (m : MessageValue) (old new : State) (e : ProtoError) → old.bytes ≡ [] → Leaves m old e new → IsTooSmall m old.limit e
+no_room m old new refusals.MaxBufferSizeExceeded empty left = omega (arith, left.0, ap length empty)
+no_room m old new (refusals.NotAllRecordsWritten count) empty left =
     let blank = length-append old.bytes (replicate 12 0) in
     let full = front_full m.queries (appended (replicate 12 0) old) new count left.1 in
-    inr (omega (arith, left.0, ap length empty), omega (arith, full, blank, ap length empty))
-too_small m old new refusals.Memory empty (inr left) = absurd left
-too_small m old new refusals.NotOpt empty (inr left) = absurd left
-too_small m old new (refusals.Message text) empty (inr left) = absurd left
-too_small m old new refusals.NotAResponse empty (inr left) = absurd left
-too_small m old new (refusals.Decode d) empty (inr left) = absurd left
-
-pub refused_if : (m : MessageValue) (old new : State) (result : Result Header ProtoError) → old.bytes ≡ [] → IfErr result (λ e. (e ≡ refusals.Memory) ⊎ Leaves m old e new)
-    → IfErr result (λ e. (e ≡ refusals.Memory) ⊎ IsTooSmall m old.limit e)
-refused_if m old new (Ok h) empty left = tt
-refused_if m old new (Err e) empty left = too_small m old new e empty left
+    (omega (arith, left.0, ap length empty), omega (arith, full, blank, ap length empty))
+no_room m old new refusals.Memory empty left = absurd left
+no_room m old new refusals.NotOpt empty left = absurd left
+no_room m old new (refusals.Message text) empty left = absurd left
+no_room m old new refusals.NotAResponse empty left = absurd left
+no_room m old new (refusals.Decode d) empty left = absurd left

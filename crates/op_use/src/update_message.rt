@@ -21,7 +21,7 @@ use std::fmt::Debug;
 /// A message as an update: its questions name the zone, its answers are the prerequisites, its authorities the updates
 /// (RFC 2136, 2).
 ///
-/// Each call that adds is refused because memory ran out alone.
+/// Each call that adds is refused for memory alone.
 pub trait UpdateMessage: Debug {
     // the message
     ghost message: { Self → MessageValue };

@@ -69,12 +69,14 @@ impl<'a> Parser<'a> {
     /// all else is carried on. At most 257 texts are open at once. A record of a new owner and type makes a set, and
     /// another goes into its set as `RecordSet::insert` has it, with the serial 0.
     ///
-    /// Refused, at the first entry where it is so, and within it in this order from left to right: with
-    /// `UnexpectedToken` and `Lexer` where such a token stands; `BadName`, `BadTtl` and `UnknownRecordType` for an item
-    /// that is none; at the end of an entry, `UnsupportedRecordType` and `BadData` for the items of data, and `Message`
-    /// where no owner or no TTL is in force, for a second SOA of an owner, for a name after the name of an included
-    /// text, and for too many open texts; `IncludeNotFound` for a text that was not handed in; at the very end,
-    /// `Message` where no origin is in force. With `Memory` if memory runs out, at any time.
+    /// # Errors
+    ///
+    /// The first entry that has a fault decides, and within it the order from left to right: `UnexpectedToken` and
+    /// `Lexer` where such a token stands; `BadName`, `BadTtl` and `UnknownRecordType` for an item that is none; `Message`
+    /// for a name after the name of an included text, at that name; at the end of an entry, `UnsupportedRecordType` and
+    /// `BadData` for the items of data, `Message` where no owner or no TTL is in force, for a second SOA of an owner and
+    /// for too many open texts, and `IncludeNotFound` for a text that was not handed in; at the very end, `Message` where
+    /// no origin is in force. `Memory` if memory runs out, at any time.
     pub fn parse(self) -> Result<(Name, BTreeMap<RrKey, RecordSet>), ParseError>
         ensures zone { Gives (λ r. (r.0, r.1.entries)) result (zone_of (text_among self.entry.includes) self.entry.origin self.entry.text) }
         ensures kept { IfOk result (λ r. AreKept r.1.entries) }

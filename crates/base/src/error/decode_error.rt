@@ -12,7 +12,7 @@ use thiserror::Error;
 /// Why bytes could not be read.
 #[derive(Debug, Drop, Error)]
 pub enum DecodeError {
-    /// A growth was refused.
+    /// Memory ran out.
     #[error("out of memory")]
     Memory,
     /// The buffer ends inside a field outside data.
@@ -73,7 +73,7 @@ impl DecodeError {
 impl From<AllocError> for DecodeError {
     ghost from_gives = { λ _ e. e ≡ faults.Memory };
 
-    /// A growth that was refused is `Memory`.
+    /// Running out of memory is `Memory`.
     fn from(_e: AllocError) -> DecodeError {
         DecodeError::Memory
     }
@@ -82,7 +82,7 @@ impl From<AllocError> for DecodeError {
 impl<T: Drop> From<AllocFailed<T>> for DecodeError {
     ghost from_gives = { λ _ e. e ≡ faults.Memory };
 
-    /// A growth that was refused is `Memory`. The value that it was for is dropped.
+    /// Running out of memory is `Memory`. The value that it was for is dropped.
     fn from(_e: AllocFailed<T>) -> DecodeError {
         DecodeError::Memory
     }

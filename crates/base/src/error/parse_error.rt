@@ -12,7 +12,7 @@ use thiserror::Error;
 /// Why zone text could not be read.
 #[derive(Debug, Drop, Error)]
 pub enum ParseError {
-    /// A growth was refused.
+    /// Memory ran out.
     #[error("out of memory")]
     Memory,
     /// A token that the entry has no place for.
@@ -67,7 +67,7 @@ impl ParseError {
 impl From<AllocError> for ParseError {
     ghost from_gives = { λ _ e. e ≡ refusals.Memory };
 
-    /// A growth that was refused is `Memory`.
+    /// Running out of memory is `Memory`.
     fn from(_e: AllocError) -> ParseError {
         ParseError::Memory
     }
@@ -76,7 +76,7 @@ impl From<AllocError> for ParseError {
 impl<T: Drop> From<AllocFailed<T>> for ParseError {
     ghost from_gives = { λ _ e. e ≡ refusals.Memory };
 
-    /// A growth that was refused is `Memory`. The value that it was for is dropped.
+    /// Running out of memory is `Memory`. The value that it was for is dropped.
     fn from(_e: AllocFailed<T>) -> ParseError {
         ParseError::Memory
     }

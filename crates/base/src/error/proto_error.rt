@@ -20,7 +20,7 @@ pub enum ProtoError {
         /// How many items stand.
         count: usize,
     },
-    /// A growth was refused.
+    /// Memory ran out.
     #[error("out of memory")]
     Memory,
     /// EDNS was asked of a record that is no OPT record (RFC 6891, 6.1).
@@ -74,7 +74,7 @@ impl From<DecodeError> for ProtoError {
 impl From<AllocError> for ProtoError {
     ghost from_gives = { λ _ e. e ≡ refusals.Memory };
 
-    /// A growth that was refused is `Memory`.
+    /// Running out of memory is `Memory`.
     fn from(_e: AllocError) -> ProtoError {
         ProtoError::Memory
     }
@@ -83,7 +83,7 @@ impl From<AllocError> for ProtoError {
 impl<T: Drop> From<AllocFailed<T>> for ProtoError {
     ghost from_gives = { λ _ e. e ≡ refusals.Memory };
 
-    /// A growth that was refused is `Memory`. The value that it was for is dropped.
+    /// Running out of memory is `Memory`. The value that it was for is dropped.
     fn from(_e: AllocFailed<T>) -> ProtoError {
         ProtoError::Memory
     }

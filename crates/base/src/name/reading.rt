@@ -66,8 +66,8 @@ fn part_of(buffer: &[u8], at: usize) -> Result<Part, DecodeError>
     Ok(Part::Pointer(256 * u16::from(first - 192) + u16::from(buffer[at + 1])))
 }
 
-/// Copies a label with its length after what is used of the room. Of a short one more is copied, where there is as much,
-/// since a fixed number of bytes is copied faster.
+/// Copies a label with its length after what is used of the room. A short one is copied as one block of 16 bytes where
+/// both sides have as many, since a fixed number is copied faster.
 fn copy_label(buffer: &[u8], at: usize, size: usize, room: &mut [u8; ROOM], used: usize)
     requires there { at + size ≤ length buffer.now }
     requires fits { used + size ≤ 254 }

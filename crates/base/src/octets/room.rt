@@ -69,7 +69,7 @@ impl Room {
         }
     }
 
-    /// As many of the first of these bytes. All that have room are copied, since that is faster than the right number.
+    /// The first `used` of these bytes. All that have room are copied, since a fixed number is copied faster.
     pub(crate) fn from_front(alloc: Global, slice: &[u8], used: usize, mark: bool) -> Room
         requires few { used ≤ 29 }
         requires enough { 29 ≤ length slice.now }

@@ -75,7 +75,7 @@ impl TargetTable {
         Some(&self.kept[place..place + len])
     }
 
-    /// Keeps the labels at an offset, of which there are so many at most.
+    /// Keeps the labels at an offset. Room for offsets up to `most` is made at once.
     ///
     /// # Errors
     ///

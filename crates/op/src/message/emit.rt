@@ -25,10 +25,11 @@ impl Message {
     /// so. Into a new encoder, of a message that fits the wire, this writes a cut of the message, which is read as
     /// exactly that.
     ///
-    /// Refused, whatever the encoder holds, with `MaxBufferSizeExceeded` where the header doesn't fit, and then nothing
-    /// is written; with `NotAllRecordsWritten` where the questions don't, after so many that are written, which are all
-    /// before the first that doesn't fit; and if memory runs out. Into a new encoder with room for header and questions
-    /// uncompressed it is refused because memory ran out alone.
+    /// # Errors
+    ///
+    /// `MaxBufferSizeExceeded` where the header doesn't fit, and then nothing is written; `NotAllRecordsWritten` where
+    /// the questions don't, with the number of those that are written, all before the first that doesn't fit; `Memory`
+    /// if memory runs out. A new encoder with room for header and questions uncompressed refuses for memory alone.
     pub fn emit(&self, encoder: &mut BinEncoder<'_>) -> Result<(), ProtoError>
         ensures keeps { Keeps (state_of encoder.old) (state_of encoder.new) }
         ensures emitted { IfOk result (λ _. (h : WrittenHeader)
@@ -41,17 +42,13 @@ impl Message {
         ensures succeeds { (state_of encoder.old).bytes ≡ [] → (state_of encoder.old).suffixes ≡ []
             → HasRoom (message_value self.now) (state_of encoder.old).limit
             → IsOkUnless result ProtoError.Memory }
-        ensures refused { (state_of encoder.old).bytes ≡ [] → (state_of encoder.old).suffixes ≡ []
-            → IfErr result (λ e. (e ≡ ProtoError.Memory)
-            ⊎ IsTooSmall (message_value self.now) (state_of encoder.old).limit e) }
-        ensures left { IfErr result (λ e. (e ≡ ProtoError.Memory)
-            ⊎ Leaves (message_value self.now) (state_of encoder.old) e (state_of encoder.new)) }
         ensures answer { IfOk result (λ _. message_answer_at (state_of encoder.old).limit (message_value self.now)
             (length (state_of encoder.old).bytes) (state_of encoder.old).suffixes
             ≡ Ok (drop (length (state_of encoder.old).bytes) (state_of encoder.new).bytes)) }
-        ensures refusal { IfErr result (λ e. (e ≡ ProtoError.Memory)
-            ⊎ (message_answer_at (state_of encoder.old).limit (message_value self.now)
-            (length (state_of encoder.old).bytes) (state_of encoder.old).suffixes ≡ Err e)) }
+        ensures refused { IfErr result (λ e. (e ≡ ProtoError.Memory)
+            ⊎ (Leaves (message_value self.now) (state_of encoder.old) e (state_of encoder.new)
+            × (message_answer_at (state_of encoder.old).limit (message_value self.now)
+            (length (state_of encoder.old).bytes) (state_of encoder.old).suffixes ≡ Err e))) }
     {
         self.emit_header(encoder)?;
         Ok(())

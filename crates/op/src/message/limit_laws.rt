@@ -1,12 +1,14 @@
 //! Laws of what is written under a limit. Each is the contract of an empty function.
 
-ghost use Rattle.std.specs.Prelude.{◌≡◌, ◌≤◌, ◌++◌, ℕ, List, false, length};
+ghost use Rattle.std.specs.Prelude.{◌≡◌, ◌≤◌, ◌++◌, ◌⊎◌, ℕ, List, [], false, length};
 ghost use Rattle.std.specs.Option.{option_map};
 ghost use Rattle.base.specs.State.{State, Stored};
 ghost use Rattle.base.specs.Written.{Passes, after, fitting, in_turn, that_fit};
 ghost use Rattle.base_data.specs.declared.rdata.RData.{RData};
-ghost use Rattle.op.specs.Cut.{raised};
+ghost use Rattle.base.specs.declared.error.proto_error.ProtoError.{ProtoError};
+ghost use Rattle.op.specs.Cut.{IsTooSmall, raised};
 ghost use Rattle.op.specs.EdnsRecord.{edns_record};
+ghost use Rattle.op.specs.Emitted.{Leaves};
 ghost use Rattle.op.specs.Fits.{listed, signature_record};
 ghost use Rattle.op.specs.Message.{MessageValue};
 ghost use Rattle.op.specs.MessageWritten.{AreWhole, LostForRoom, parts_of};
@@ -16,6 +18,7 @@ ghost use Rattle.rr.specs.Record.{record_written};
 ghost use Rattle.rr.specs.declared.record.Record.{Record};
 
 use crate::query::Query;
+use base::ProtoError;
 use base_data::RData;
 use rr::Record;
 
@@ -51,6 +54,13 @@ pub fn a_larger_limit_keeps_no_fewer()
         → (qs : List Query) (at : ℕ) (stored : List Stored)
         → length (that_fit query_written small qs at stored)
         ≤ length (that_fit query_written large qs at stored) }
+{}
+
+/// What `Message::emit` leaves in an encoder that held nothing, where memory didn't run out, tells of a limit without room
+/// for the header, or for the header and the questions uncompressed (RFC 1035, 4.1; RFC 2181, 9).
+pub fn a_refused_message_has_no_room()
+    ensures { (m : MessageValue) (old new : State) (e : ProtoError) → old.bytes ≡ []
+        → Leaves m old e new → IsTooSmall m old.limit e }
 {}
 
 /// What a message loses under a limit didn't fit: of each part, its questions, answers, authorities, additionals, EDNS and

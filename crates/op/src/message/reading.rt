@@ -52,10 +52,13 @@ impl Message {
     /// (RFC 1035, 4.1.3; RFC 6891, 6.1.1; RFC 8945, 5.1). `is_additional` tells whether it is the additional section,
     /// and `op_code` is the operation of the message's header: by these two it is tested which records may stand.
     ///
-    /// Each record is read and then tested before the next one. Refused, beside the faults of a record, with
-    /// `InvalidEmptyRecord` for empty data outside an Update and of another type than OPT, `RecordAfterSig` after a
-    /// signature, `RecordNotInAdditionalSection` for OPT, SIG and TSIG outside the additional section, `DuplicateEdns`
-    /// for a second OPT record, and `Memory` if memory runs out.
+    /// Each record is read and then tested before the next one.
+    ///
+    /// # Errors
+    ///
+    /// Beside the faults of a record, `InvalidEmptyRecord` for empty data outside an Update and of another type than
+    /// OPT, `RecordAfterSig` after a signature, `RecordNotInAdditionalSection` for OPT, SIG and TSIG outside the
+    /// additional section, `DuplicateEdns` for a second OPT record; `Memory` if memory runs out.
     pub fn read_records(
         decoder: &mut BinDecoder<'_>,
         count: usize,

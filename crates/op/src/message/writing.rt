@@ -81,17 +81,13 @@ impl Message {
         ensures emitted { IfOk result (λ h. Emitted (message_value self.now) (state_of encoder.old) (state_of encoder.new) h) }
         ensures exact { IfOk result (λ _. state_of encoder.new
             ≡ after (message_written (state_of encoder.old).limit (message_value self.now)) (state_of encoder.old)) }
-        ensures refused { (state_of encoder.old).bytes ≡ [] → (state_of encoder.old).suffixes ≡ []
-            → IfErr result (λ e. (e ≡ ProtoError.Memory)
-            ⊎ IsTooSmall (message_value self.now) (state_of encoder.old).limit e) }
-        ensures left { IfErr result (λ e. (e ≡ ProtoError.Memory)
-            ⊎ Leaves (message_value self.now) (state_of encoder.old) e (state_of encoder.new)) }
         ensures answer { IfOk result (λ _. message_answer_at (state_of encoder.old).limit (message_value self.now)
             (length (state_of encoder.old).bytes) (state_of encoder.old).suffixes
             ≡ Ok (drop (length (state_of encoder.old).bytes) (state_of encoder.new).bytes)) }
-        ensures refusal { IfErr result (λ e. (e ≡ ProtoError.Memory)
-            ⊎ (message_answer_at (state_of encoder.old).limit (message_value self.now)
-            (length (state_of encoder.old).bytes) (state_of encoder.old).suffixes ≡ Err e)) }
+        ensures refused { IfErr result (λ e. (e ≡ ProtoError.Memory)
+            ⊎ (Leaves (message_value self.now) (state_of encoder.old) e (state_of encoder.new)
+            × (message_answer_at (state_of encoder.old).limit (message_value self.now)
+            (length (state_of encoder.old).bytes) (state_of encoder.old).suffixes ≡ Err e))) }
     {
         emit_message_parts(
             &self.metadata,

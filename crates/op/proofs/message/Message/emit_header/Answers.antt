@@ -3,7 +3,7 @@ use Rattle.std.specs.Option.{option_copied}
 use Rattle.op.proofs.AnswerLemmas.{answer_if, refusal_if}
 use Rattle.op.proofs.EmittedLemmas.{AreOf, Slices, emitted_if, raised_edns, unboxed}
 use Rattle.op.proofs.MessageWrittenLemmas.{exact_if}
-use Rattle.op.proofs.SucceedsLemmas.{left_if, refused_if}
+use Rattle.op.proofs.SucceedsLemmas.{left_if}
 use Rattle.op.specs.Fits.{opt_records, signature_records}
 use Rattle.op.specs.Message.{message_value}
 use Rattle.op.proofs.message.Message.emit_header.Goals as goal
@@ -33,18 +33,13 @@ parts_of c = record {
 pub returns-clause-emitted : goal.returns-clause-emitted
 returns-clause-emitted c = emitted_if (parts_of c) c.emit_message_parts.result c.emit_message_parts.ensures.run
 
-pub returns-clause-left : goal.returns-clause-left
-returns-clause-left c = left_if (parts_of c) c.emit_message_parts.result c.emit_message_parts.ensures.run c.emit_message_parts.ensures.narrow
-
-pub returns-clause-refused : goal.returns-clause-refused
-returns-clause-refused c = λ empty blank.
-    refused_if (message_value c.args.self.now) _ _ c.emit_message_parts.result empty (returns-clause-left c)
-
 pub returns-clause-exact : goal.returns-clause-exact
 returns-clause-exact c = exact_if (message_value c.args.self.now) _ _ c.emit_message_parts.result (returns-clause-emitted c)
 
 pub returns-clause-answer : goal.returns-clause-answer
 returns-clause-answer c = answer_if (message_value c.args.self.now) _ _ c.emit_message_parts.result (returns-clause-emitted c)
 
-pub returns-clause-refusal : goal.returns-clause-refusal
-returns-clause-refusal c = refusal_if (message_value c.args.self.now) _ _ c.emit_message_parts.result (returns-clause-left c)
+pub returns-clause-refused : goal.returns-clause-refused
+returns-clause-refused c =
+    refusal_if (message_value c.args.self.now) _ _ c.emit_message_parts.result
+    (left_if (parts_of c) c.emit_message_parts.result c.emit_message_parts.ensures.run c.emit_message_parts.ensures.narrow)
