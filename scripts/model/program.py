@@ -16,14 +16,15 @@ class WrongWords(Exception):
 
 
 def octets(text):
-    if not re.fullmatch("([0-9A-Fa-f]{2})*", text):
+    """Bytes in hexadecimal, between whose digits blanks and line ends may stand."""
+    digits = re.sub("[ \t\r\n]", "", text)
+    if not re.fullmatch("([0-9A-Fa-f]{2})*", digits):
         raise Refused(NOT_READABLE)
-    return bytes.fromhex(text)
+    return bytes.fromhex(digits)
 
 
 def input_octets(given):
-    """Bytes in hexadecimal, between which blanks and line ends may stand."""
-    return octets("".join(chr(it) for it in given if it not in b" \t\r\n"))
+    return octets("".join(chr(it) for it in given))
 
 
 def input_text(given):
@@ -78,7 +79,7 @@ def update_zone(given, word, message):
     return f"{code}\n{zone_text(found, then)}"
 
 
-# Each command, how many words stand behind it, and whether there may be more.
+# Each command, how many words stand after it, and whether there may be more.
 COMMANDS = {
     "header": (show_header, 0, False), "read": (show_message, 0, False), "cut": (cut, 1, False), "zone": (show_zone, 1, True),
     "apply": (update_zone, 2, False),
