@@ -102,7 +102,7 @@ class Place:
 
     def name(self):
         """A name, each pointer below the piece that it ends."""
-        labels, begun, behind = [], self.at, None
+        labels, begun, after = [], self.at, None
         while True:
             first = self.number(1)
             if first == 0:
@@ -111,7 +111,7 @@ class Place:
                 target = (first & 0x3F) << 8 | self.number(1)
                 if target >= begun:
                     raise Refused(BAD_NAME)
-                behind = behind or self.at
+                after = after or self.at
                 self.at = begun = target
             elif first >= 0x40:
                 raise Refused(BAD_NAME)
@@ -119,12 +119,12 @@ class Place:
                 labels.append(self.bytes(first))
                 if plain_length(labels) > 255:
                     raise Refused(BAD_NAME)
-        self.at = behind or self.at
+        self.at = after or self.at
         return Name(tuple(labels), True)
 
 
 def counted(data, code_size, length_size):
-    """Parts one behind the other: a code of so many bytes, a length, and as many bytes."""
+    """Parts one after the other: a code of so many bytes, a length, and as many bytes."""
     found, read = [], Place(data)
     while read.at < len(data):
         code = read.number(code_size)
