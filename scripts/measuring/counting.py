@@ -1,29 +1,17 @@
 """What the scripts that measure share: the programs that are run, and what one run of them takes."""
-import argparse
 import os
 import re
 import shutil
 import subprocess
 import sys
 
-ROOT = os.path.dirname(os.path.dirname(os.path.dirname(os.path.realpath(__file__))))
+from common import ROOT
+
 SOURCES = os.path.join(ROOT, "scripts", "measuring")
 
 # the crates below the program that loops over its input, and those above them up to `dnsmsg`
 BELOW = ["base", "base_data", "rr", "op", "txt"]
 ABOVE = ["op_use", "parsed_zone", "dnsmsg"]
-
-
-def parser(about):
-    """A parser of words whose help is what stands at the head of the script."""
-    return argparse.ArgumentParser(description=about, formatter_class=argparse.RawDescriptionHelpFormatter)
-
-
-def need(*tools):
-    """Ends with one line where one of these isn't on the path."""
-    missing = [tool for tool in tools if not shutil.which(tool)]
-    if missing:
-        sys.exit(f"{os.path.basename(sys.argv[0])}: not on the path: {', '.join(missing)}")
 
 
 def copy_commit(root, copy):

@@ -16,14 +16,15 @@ class WrongWords(Exception):
 
 
 def octets(text):
-    if not re.fullmatch("([0-9A-Fa-f]{2})*", text):
+    """Bytes in hexadecimal, between whose digits blanks and line ends may stand."""
+    digits = re.sub("[ \t\r\n]", "", text)
+    if not re.fullmatch("([0-9A-Fa-f]{2})*", digits):
         raise Refused(NOT_READABLE)
-    return bytes.fromhex(text)
+    return bytes.fromhex(digits)
 
 
 def input_octets(given):
-    """Bytes in hexadecimal, between which blanks and line ends may stand."""
-    return octets("".join(chr(it) for it in given if it not in b" \t\r\n"))
+    return octets("".join(chr(it) for it in given))
 
 
 def input_text(given):

@@ -28,7 +28,7 @@ def words():
     if command == "zone":
         return [command, random.choice(ORIGINS), *random.choices(INCLUDED, k=random.choice([0, 0, 1, 2]))]
     if command == "apply":
-        return [command, random.choice(ORIGINS), random.choice(["", message().hex(), message().hex()[1:], "xx"])]
+        return [command, random.choice(ORIGINS), random.choice(["", message().hex(" ", 2), message().hex(), message().hex()[1:], "xx"])]
     return [command]
 
 

@@ -1,30 +1,13 @@
-#!/usr/bin/env python3
-"""Counts whether the cost of an input grows as its size does: each shape of input that could cost more, at one size and
-at twice that size.
-
-Outside the gate. Instructions are callgrind's, less those of the same run on nothing: of `dnsmsg zone` for zone text,
-of one `Message::from_vec` or `to_vec` for messages (scripts/measuring), and of `dnsmsg apply` for updates of as many
-records as the zone has names. Beside the ratio stands how many bytes a run had at once for each byte of the text, at
-both sizes, by dhat. Then zone checkers are run side by side over the same text, as many as are installed (Debian's bind9-utils,
-knot-dnssecutils and ldnsutils), by seconds of processor: the least of some runs in turn, with the part of it in that of
-`dnsmsg zone`, which prints the zone, as `ldns-read-zone` does, and the others don't; `Parser::parse` alone prints nothing.
-
-It wants valgrind, and builds the programs as `rt run` does.
-"""
-import os
+"""Whether the cost of an input grows as its size does, and what zone checkers take for the same text."""
 import shutil
 import sys
-import tempfile
 
-sys.path.insert(0, os.path.join(os.path.dirname(os.path.realpath(__file__)), "measuring"))
-sys.dont_write_bytecode = True
-import messages  # noqa: E402
-import updates  # noqa: E402
-import zones  # noqa: E402
-from counting import (  # noqa: E402
-    BELOW, ROOT, build_loop, built, copy_commit, copy_kept, instructions, most_bytes, need, parser, seconds,
-)
+import messages
+import updates
+import zones
+from counting import instructions, most_bytes, seconds
 
+PARTS = ["text", "messages", "updates", "checkers"]
 GOAL = 2.3
 
 # each shape of message: its name, the size of the smaller one in bytes, and the message of a size
@@ -52,7 +35,7 @@ CHECKERS = [["named-checkzone", "example."], ["kzonecheck", "-o", "example."], [
 SIDE_BY_SIDE = [
     ("one set of 40,000", 40_000, zones.addresses),
     ("100,000 owners in order", 100_000, zones.in_order),
-    ("100,000 owners in order, after the last of all", 100_000, zones.after_the_last),
+    ("100,000 owners in order, after the last", 100_000, zones.after_the_last),
     ("100,000 owners at random", 100_000, zones.at_random),
 ]
 RUNS = 7
@@ -119,7 +102,7 @@ def commands(program, loop, path):
         if shutil.which(words[0]):
             yield words[0], [*words, path], None
         else:
-            print(f"measure_growth: {words[0]} is not installed", file=sys.stderr)
+            print(f"measure: {words[0]} is not installed", file=sys.stderr)
 
 
 def side_by_side(program, loop, folder):
@@ -137,34 +120,18 @@ def side_by_side(program, loop, folder):
         print(f"| {name} | " + " | ".join(cells) + " |", flush=True)
 
 
-def main():
-    words = parser(__doc__)
-    words.add_argument("--with", dest="program", help="measured in place of the `dnsmsg` that is built")
-    words.add_argument("--loop", help="used in place of the program of scripts/measuring that is built")
-    words.add_argument("parts", nargs="*", metavar="PART", help="text, messages, apply or checkers; all where none is named")
-    given = words.parse_args()
-    parts = given.parts or ["text", "messages", "apply", "checkers"]
-    need("valgrind", "rt", "git")
-    program = given.program or built(f"{ROOT}/crates/dnsmsg", "dnsmsg", ["header"])
+def measure(program, loop, folder, parts):
+    """Prints these parts; answers 1 where a shape passes the goal."""
     right = True
-    with tempfile.TemporaryDirectory() as folder:
-        loop = given.loop
-        if not loop and {"messages", "checkers"} & set(parts):
-            copy_commit(ROOT, folder)
-            copy_kept(ROOT, folder, BELOW)
-            loop = build_loop(folder)
-        if set(parts) - {"checkers"}:
-            print("| Shape | bytes | instructions | of twice as much | ratio | bytes had for each byte, at both |")
-            print("|---|---|---|---|---|---|", flush=True)
-        if "text" in parts:
-            right = measure_zones(program) and right
-        if "messages" in parts:
-            right = measure_messages(loop) and right
-        if "apply" in parts:
-            right = measure_updates(program) and right
-        if "checkers" in parts:
-            side_by_side(program, loop, folder)
+    if set(parts) - {"checkers"}:
+        print("| Shape | Bytes | Instructions | Of twice as much | Ratio | Bytes had for each byte |")
+        print("|---|---|---|---|---|---|", flush=True)
+    if "text" in parts:
+        right = measure_zones(program) and right
+    if "messages" in parts:
+        right = measure_messages(loop) and right
+    if "updates" in parts:
+        right = measure_updates(program) and right
+    if "checkers" in parts:
+        side_by_side(program, loop, folder)
     return 0 if right else 1
-
-
-sys.exit(main())

@@ -1,28 +1,13 @@
-#!/usr/bin/python3
-"""Compares `dnsmsg` with a second reading of its rules: a model of what it prints, in scripts/model, which was written from
-the rules and not from the crates, and shares nothing with them.
-
-A proof says that the code does what the definitions say; this is a look at the definitions, where other implementations
-can't be asked: the number of each refusal, the very bytes of each cut, signatures and opaque data, and the TTLs, letter
-case and order of what an update leaves. Asked is that status and output are the same, of `header`, `read` and `cut` over
-random messages, whole and damaged, of `zone` over random texts with included ones, of `apply` over random zones and
-updates, and of all commands where their words or their input are wrong.
-
-Outside the gate. It wants the program, which `./dnsmsg` builds.
-
-scripts/compare_with_model [SEED [COUNT]]: so many of each, 1,000 if nothing is said, from this seed. Status 0 where they
-agree, else 1 after what differs.
-"""
+"""Whether `dnsmsg` answers what the model in scripts/model does."""
 import collections
 import os
 import random
 import subprocess
 import sys
 
-ROOT = os.path.join(os.path.dirname(os.path.abspath(__file__)), "..")
-PROGRAM = os.environ.get("DNSMSG", os.path.join(ROOT, "crates", "dnsmsg", "out", "dnsmsg"))
+from common import ROOT
+
 sys.path.insert(0, os.path.join(ROOT, "scripts", "model"))
-sys.dont_write_bytecode = True
 import random_messages  # noqa: E402
 import random_updates  # noqa: E402
 import random_words  # noqa: E402
@@ -33,9 +18,9 @@ from writing import written  # noqa: E402
 from zone_text import parsed  # noqa: E402
 
 
-def ran(words, given):
+def ran(program, words, given):
     """Status and output of the program."""
-    done = subprocess.run([PROGRAM, *words], input=given, capture_output=True, check=False)
+    done = subprocess.run([program, *words], input=given, capture_output=True, check=False)
     return done.returncode, done.stdout.decode()
 
 
@@ -70,15 +55,15 @@ def updates():
 KINDS = {"headers": headers, "messages": messages, "zones": zones, "updates": updates, "calls": random_words.call}
 
 
-def main(words):
-    seed, count = [int(it) for it in words] + [1, 1000][len(words) :]
+def compare(program, seed, count):
+    """Asks so many of each; answers the status."""
     status = 0
     for name, kind in KINDS.items():
         random.seed(f"{name} {seed}")
         answers, differ = collections.Counter(), []
         for _ in range(count):
             words, given = kind()
-            got, wanted = ran(words, given), answer(words, given)
+            got, wanted = ran(program, words, given), answer(words, given)
             answers[got[1].split("\n")[0] if got[0] or name == "updates" else "no refusal"] += 1
             if got != wanted:
                 differ.append(f"{words} {given!r}\n  is {got}\n  not {wanted}")
@@ -87,6 +72,3 @@ def main(words):
         print(*differ[:3], sep="\n", end="\n" if differ else "")
         status |= bool(differ)
     return status
-
-
-sys.exit(main(sys.argv[1:]))

@@ -1,19 +1,4 @@
-#!/usr/bin/python3
-"""Asks another server, BIND, of random updates (RFC 2136): whether `dnsmsg apply` makes of a zone what it makes of it.
-
-A proof says that the code does what the definitions say; this is a look at the definitions. A `named` of its own, on this
-machine alone, has a small zone and takes each update; before and after it the zone is fetched. `dnsmsg apply` gets the
-zone from before as text, and the bytes of the update. Asked is that the code is the same, and the data under each owner and
-type, in any letter case. The SOA is left out, since BIND raises its serial by itself, and so are TTLs, since BIND gives a
-set one TTL, and here each record keeps its own.
-
-Outside the gate. It wants BIND and dnspython (Debian's bind9 and python3-dnspython), and the program, which `./dnsmsg`
-builds.
-
-scripts/compare_with_bind [SEED [COUNT]]: so many updates, 1,000 if nothing is said, from this seed. Status 0 where they
-agree, else 1 after what differs.
-"""
-import os
+"""Whether `dnsmsg apply` makes of a zone what BIND makes of it by random updates (RFC 2136)."""
 import random
 import subprocess
 import sys
@@ -22,13 +7,9 @@ import time
 
 import dns.query
 import dns.rcode
+import updates
 
-ROOT = os.path.join(os.path.dirname(os.path.abspath(__file__)), "..")
-PROGRAM = os.environ.get("DNSMSG", os.path.join(ROOT, "crates", "dnsmsg", "out", "dnsmsg"))
 SERVER = ("127.0.0.1", 5399)
-sys.path.insert(0, os.path.join(ROOT, "scripts", "comparing"))
-sys.dont_write_bytecode = True
-import updates  # noqa: E402
 
 # What BIND asks of a zone beyond RFC 2136 is left out.
 SETTINGS = """options {
@@ -59,17 +40,17 @@ def started(folder):
     sys.exit("named gives no answer")
 
 
-def differs(update, before, after, code):
+def differs(program, update, before, after, code):
     """What the program makes otherwise, if anything."""
     words = ["apply", "example.", update.to_wire().hex()]
-    ran = subprocess.run([PROGRAM, *words], input=updates.text(before).encode(), capture_output=True, check=False)
+    ran = subprocess.run([program, *words], input=updates.text(before).encode(), capture_output=True, check=False)
     name, _, *lines = ran.stdout.decode().splitlines() + [""]
     same = ran.returncode == 0 and name.upper() == code and updates.printed(filter(None, lines)) == updates.meaning(after)
     return None if same else f"{code}\n{update}\n{updates.text(before)}\n{ran.stdout.decode()}"
 
 
-def main(words):
-    seed, count = [int(it) for it in words] + [1, 1000][len(words) :]
+def compare(program, seed, count):
+    """Asks so many updates; answers the status."""
     random.seed(seed)
     differ, codes = [], {}
     with tempfile.TemporaryDirectory() as folder:
@@ -80,13 +61,10 @@ def main(words):
                 code = dns.rcode.to_text(dns.query.tcp(update, SERVER[0], port=SERVER[1]).rcode())
                 codes[code] = codes.get(code, 0) + 1
                 after = updates.fetched(SERVER)
-                differ += filter(None, [differs(update, zone, after, code)])
+                differ += filter(None, [differs(program, update, zone, after, code)])
                 zone = after
         finally:
             named.terminate()
             named.wait()
     print(f"{count} updates, {len(differ)} applied otherwise: {codes}", *differ[:2], sep="\n")
     return bool(differ)
-
-
-sys.exit(main(sys.argv[1:]))
