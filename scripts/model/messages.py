@@ -16,7 +16,7 @@ CODES = {
 FLAGS = {"RD": (2, 0x01), "CD": (3, 0x10), "TC": (2, 0x02), "AA": (2, 0x04), "RA": (3, 0x80), "AD": (3, 0x20)}
 
 ENDS_INSIDE, BAD_NAME, OWNER_NOT_ROOT, TOO_LONG, BAD_DATA = 4, 5, 6, 7, 8
-EMPTY, BEHIND_SIGNATURE, OUTSIDE_ADDITIONALS, SECOND_EDNS = 10, 11, 12, 13
+EMPTY, AFTER_SIGNATURE, OUTSIDE_ADDITIONALS, SECOND_EDNS = 10, 11, 12, 13
 
 
 class Question(NamedTuple):
@@ -183,7 +183,7 @@ def take(message, section, record):
     if empty and message.opcode != UPDATE and kind != OPT:
         raise Refused(EMPTY)
     if message.signature:
-        raise Refused(BEHIND_SIGNATURE)
+        raise Refused(AFTER_SIGNATURE)
     if section < 2 and kind in (OPT, SIG, TSIG):
         raise Refused(OUTSIDE_ADDITIONALS)
     if kind == OPT and message.edns:

@@ -42,6 +42,7 @@ class_field false number = number
 abbrev pub field_class : ℕ → DNSClass
 field_class field = class_of (field % 32768)
 
+-- the top bit of a class field
 abbrev pub field_top : ℕ → Bool
 field_top field = nat_le 32768 field
 

@@ -3,6 +3,7 @@ use Rattle.std.specs.Prelude.{ℕ}
 use Rattle.base.specs.declared.error.decode_error.DecodeError.{DecodeError}
 use Rattle.base.specs.declared.error.decode_error.DecodeError.TheVariants as faults
 
+-- the number of each refusal
 abbrev pub decode_number : DecodeError → ℕ
 decode_number faults.Memory = 3
 decode_number faults.InsufficientBytes = 4

@@ -40,6 +40,7 @@ cut_labels zero bytes = []
 cut_labels (suc n) [] = []
 cut_labels (suc n) (len ∷ bytes) = take len bytes ∷ cut_labels n (drop len bytes)
 
+-- the labels of bytes that have each with its length before it
 unfoldable pub labels_of : List ℕ → List (List ℕ)
 labels_of bytes = cut_labels (length bytes) bytes
 

@@ -58,9 +58,11 @@ fed_by shown n = fed.bool n.absolute ++ (wire_of (shown n) ∷ [])
 abbrev pub same_name : NameValue → NameValue → Bool
 same_name = same_by folded
 
+-- the order of names, in any letter case (RFC 4034, 6.1)
 abbrev pub name_cmp : NameValue → NameValue → Ordering
 name_cmp = cmp_by folded
 
+-- what a hash is fed of a name: its flag and its labels in lower case
 abbrev pub name_fed : NameValue → fed.HashWrites
 name_fed = fed_by folded
 
@@ -76,5 +78,6 @@ same_lower = same_by exact
 abbrev pub lower_cmp : NameValue → NameValue → Ordering
 lower_cmp = cmp_by exact
 
+-- what a hash is fed of a name in lower case: its flag and its labels as they are
 abbrev pub lower_fed : NameValue → fed.HashWrites
 lower_fed = fed_by exact

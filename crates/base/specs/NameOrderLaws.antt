@@ -12,6 +12,7 @@ use Rattle.std.specs.declared.cmp.Ordering.TheVariants.{Equal}
 use Rattle.base.specs.Labels.{NameValue, wire_of}
 use Rattle.base.specs.NameOrder.{cmp_by, exact, fed_by, labels_cmp, lower_cmp, same_by, same_labels, same_lower}
 
+-- labels are the same by the test exactly where they are equal
 pub labels_decide : (xs ys : List (List ℕ)) → Decides (same_labels xs ys) (xs ≡ ys)
 labels_decide = pointwise_decides bytes_decides
 

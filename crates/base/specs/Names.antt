@@ -23,6 +23,7 @@ part_at bytes i =
     else (if nat_le (length bytes) (i + 1) then Err faults.InsufficientBytes
     else Ok (pointer_to (target b (slice_index bytes (i + 1))))))))
 
+-- labels and the place after them, or the first fault
 abbrev pub Labels : Type 0
 Labels = Read (List (List ℕ))
 

@@ -3,6 +3,7 @@ use Rattle.std.specs.Prelude.{ℕ}
 use Rattle.base.specs.declared.error.parse_error.ParseError.{ParseError}
 use Rattle.base.specs.declared.error.parse_error.ParseError.TheVariants as refusals
 
+-- the number of each refusal
 abbrev pub parse_number : ParseError → ℕ
 parse_number refusals.Memory = 3
 parse_number (refusals.UnexpectedToken token) = 17

@@ -8,6 +8,7 @@ use Rattle.base.specs.Passing.{AreIn, PassesKept, among, inserted, passed}
 use Rattle.base.specs.Reader.{Reader}
 use Rattle.base.specs.Spelling.{Spelled}
 
+-- the offsets that pointers led to
 abbrev pub targets : List Passed → List ℕ
 targets ps = map (λ p. p.target) ps
 

@@ -7,6 +7,7 @@ use Rattle.base.specs.Spelling.{ByteAt, BytesAt, ends, label, pointer, anywhere,
 use Rattle.base.specs.Words.{Stands}
 use Rattle.base.specs.WordLemmas.{first_stands, stands_inside, stands_at, stands_byte, stands_part}
 
+-- how many bytes labels are, each with its length before it
 pub length-wire_of : (labels : List (List ℕ)) → length (wire_of labels) ≡ size_of labels
 unfolding wire_of
 length-wire_of [] = refl
@@ -31,9 +32,11 @@ byte_first x xs B i s =
     let same : i + 0 ≡ i = omega arith in
     subst (λ (j : ℕ). ByteAt anywhere B j x) same (stands_byte (x ∷ xs) B i 0 (omega arith) s)
 
+-- where a zero byte stands, the root is spelled
 pub root_stands : (B : List ℕ) (s i e : ℕ) → Stands (0 ∷ []) B i → e ≡ i + 1 → Spelled B [] s i e
 root_stands B s i e stands is = subst (λ (n : ℕ). Spelled B [] s i n) (sym is) (ends (byte_first 0 [] B i stands))
 
+-- where a label with its length stands, and labels are spelled after it, all are spelled
 pub label_stands : (B x : List ℕ) (xs : List (List ℕ)) (s i e : ℕ) → 1 ≤ length x → length x ≤ 63
     → Stands (length x ∷ x) B i → Spelled B xs s (i + (1 + length x)) e → Spelled B (x ∷ xs) s i e
 label_stands B x xs s i e some small stands rest =
@@ -41,6 +44,7 @@ label_stands B x xs s i e some small stands rest =
     let next : i + (1 + length x) ≡ i + 1 + length x = omega arith in
     label (byte_first (length x) x B i stands) some small (stands_bytes x B (i + 1) (omega arith) bytes) (subst (λ (j : ℕ). Spelled B xs s j e) next rest)
 
+-- where a pointer stands, the labels are spelled that are spelled at its target
 pub pointer_stands : {B : List ℕ} {labels : List (List ℕ)} {s i t f e : ℕ} → t < s → t < 16384
     → Stands (to_be_bytes w16 (49152 + t)) B i → Spelled B labels t t f → e ≡ i + 2
     → Spelled B labels s i e

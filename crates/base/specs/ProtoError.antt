@@ -5,6 +5,7 @@ use Rattle.base.specs.DecodeError.{decode_number}
 use Rattle.base.specs.declared.error.proto_error.ProtoError.{ProtoError}
 use Rattle.base.specs.declared.error.proto_error.ProtoError.TheVariants as refusals
 
+-- the number of each refusal
 abbrev pub proto_number : ProtoError → ℕ
 proto_number refusals.MaxBufferSizeExceeded = 1
 proto_number (refusals.NotAllRecordsWritten count) = 2

@@ -9,6 +9,7 @@ use Rattle.base.specs.Reader.{Reader}
 abbrev pub Read : Type 0 → Type 0
 Read A = Result (A × ℕ) DecodeError
 
+-- reading goes on with what was read, or ends with its fault
 infixl 10 ◌>>=◌
 abbrev pub ◌>>=◌ : {A B : Type 0} → Result A DecodeError → (A → Result B DecodeError)
     → Result B DecodeError

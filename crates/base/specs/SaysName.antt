@@ -40,6 +40,7 @@ near_by x xs at stored false is = record {
   which = inr (refl, leb-false 16384 at is);
 }
 
+-- what storing a label's suffix adds
 pub near : (x : List ℕ) (xs : List (List ℕ)) (at : ℕ) (stored : List Stored) → Near x xs at stored
 near x xs at stored = near_by x xs at stored (nat_le 16384 at) refl
 

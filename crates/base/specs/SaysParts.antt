@@ -22,6 +22,7 @@ pub any_append : (P : Stored → Type 0) (xs ys zs : List Stored) → zs ≡ xs 
 any_append P xs ys zs is (k, t, inside, at, holds) =
     (k, t, omega (arith, ap length is, length-append xs ys), ap (λ (ts : List Stored). get_or ts k t) is ∙ get_or_append_left xs ys t k inside ∙ at, holds)
 
+-- what has no owner owes nothing of one
 pub no_owner : (f : Writing) (fits : Type 0) → IsOwned f fits []
 no_owner f fits = record {
   end = λ at stored. 0;
@@ -30,6 +31,7 @@ no_owner f fits = record {
   stores = λ some. absurd (some refl);
 }
 
+-- suffixes that are spelled before a place are so before a later one
 pub later_table : (B : List ℕ) (m n : ℕ) (ts : List Stored) → m ≤ n → All (IsSpelled B m) ts
     → All (IsSpelled B n) ts
 later_table B m n ts le all = All-weaker (IsSpelled B m) (IsSpelled B n) (spelled_later B m n le) ts all
@@ -46,6 +48,7 @@ Says-just fits word plain xs few is_word = record {
   owned = no_owner (just xs) fits;
 }
 
+-- where bytes stand, the last of them do
 pub last_stands : (xs ys B : List ℕ) (i : ℕ) → Stands (xs ++ ys) B i → Stands ys B (i + length xs)
 last_stands xs ys B i h = stands_part xs ys [] B i (subst (λ (zs : List ℕ). Stands (xs ++ zs) B i) (sym (append-nil ys)) h)
 

@@ -21,6 +21,7 @@ number16_stands n B i small s = record {
   is = sym (ap (from_be_bytes w16) s.is ∙ from_be_bytes-to_be_bytes_2 n small);
 }
 
+-- where the four bytes of a number stand, the number does
 pub number32_stands : (n : ℕ) (B : List ℕ) (i : ℕ) → n < 2 ^ 32 → Stands (to_be_bytes w32 n) B i
     → IsNumberAt w32 B i n
 number32_stands n B i small s = record {
@@ -35,6 +36,7 @@ stands_at xs B i k inside s =
     sym (get_or-drop i B k 0) ∙ sym (get_or-take (length xs) (drop i B) k 0 inside)
     ∙ ap (λ ys. get_or ys k 0) s.is
 
+-- where bytes stand, each of them does
 pub stands_byte : (xs B : List ℕ) (i k : ℕ) → k < length xs → Stands xs B i
     → ByteAt anywhere B (i + k) (slice_index xs k)
 stands_byte xs B i k inside s = record {
@@ -56,6 +58,7 @@ stands_part xs ys zs B i s =
     ∙ drop-append_seam xs ((ys ++ zs) ++ rest) ∙ append_assoc ys zs rest in
     record { is = ap (take (length ys)) after ∙ take-append_seam ys (zs ++ rest) }
 
+-- where bytes stand, the first of them do
 pub first_stands : (ys zs B : List ℕ) (i : ℕ) → Stands (ys ++ zs) B i → Stands ys B i
 first_stands ys zs B i s =
     let same : i + 0 ≡ i = omega arith in

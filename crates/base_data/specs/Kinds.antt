@@ -206,54 +206,67 @@ IsSpelled d = (kind_of d).spelled
 
 -- ---- the data of one kind, if data is of that kind
 
+-- the A data, if data is of this kind
 abbrev pub a_in : RData → Option A
 a_in (kinds.A x) = Some x
 a_in _ = None
 
+-- the AAAA data, if data is of this kind
 abbrev pub aaaa_in : RData → Option AAAA
 aaaa_in (kinds.AAAA x) = Some x
 aaaa_in _ = None
 
+-- the NS data, if data is of this kind
 abbrev pub ns_in : RData → Option NS
 ns_in (kinds.NS x) = Some x
 ns_in _ = None
 
+-- the CNAME data, if data is of this kind
 abbrev pub cname_in : RData → Option CNAME
 cname_in (kinds.CNAME x) = Some x
 cname_in _ = None
 
+-- the PTR data, if data is of this kind
 abbrev pub ptr_in : RData → Option PTR
 ptr_in (kinds.PTR x) = Some x
 ptr_in _ = None
 
+-- the ANAME data, if data is of this kind
 abbrev pub aname_in : RData → Option ANAME
 aname_in (kinds.ANAME x) = Some x
 aname_in _ = None
 
+-- the MX data, if data is of this kind
 abbrev pub mx_in : RData → Option MX
 mx_in (kinds.MX x) = Some x
 mx_in _ = None
 
+-- the SOA data, if data is of this kind
 abbrev pub soa_in : RData → Option SOA
 soa_in (kinds.SOA x) = Some x
 soa_in _ = None
 
+-- the SRV data, if data is of this kind
 abbrev pub srv_in : RData → Option SRV
 srv_in (kinds.SRV x) = Some x
 srv_in _ = None
 
+-- the TXT data, if data is of this kind
 abbrev pub txt_in : RData → Option TXT
 txt_in (kinds.TXT x) = Some x
 txt_in _ = None
 
+-- the NULL data, if data is of this kind
 abbrev pub null_in : RData → Option NULL
 null_in (kinds.NULL x) = Some x
 null_in _ = None
 
+-- the OPT data, if data is of this kind
 abbrev pub opt_in : RData → Option OPT
 opt_in (kinds.OPT x) = Some x
 opt_in _ = None
 
+-- the TSIG data, if data is of this kind
 abbrev pub tsig_in : RData → Option TSIG
 tsig_in (kinds.TSIG x) = Some x
 tsig_in _ = None

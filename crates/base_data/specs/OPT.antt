@@ -29,6 +29,7 @@ abbrev pub option_wire : OptionValue → List ℕ
 option_wire option = to_be_bytes w16 option.code ++ to_be_bytes w16 (length option.bytes)
     ++ option.bytes
 
+-- the bytes of options, one after the other
 abbrev pub options_wire : List OptionValue → List ℕ
 options_wire [] = []
 options_wire (option ∷ options) = option_wire option ++ options_wire options
@@ -49,6 +50,7 @@ option_len option = 2 + (2 + length option.bytes)
 abbrev pub options_word : List OptionValue → List ℕ → ℕ → ℕ → Type 0
 options_word options B i e = BackToBack (λ (j : ℕ) (option : OptionValue) (k : ℕ). option_word option B j k) i options e
 
+-- how many bytes options are
 abbrev pub options_len : List OptionValue → ℕ
 options_len [] = 0
 options_len (option ∷ options) = option_len option + options_len options
@@ -90,6 +92,7 @@ without_code code options = filter (λ option. not (has_code code option)) optio
 abbrev pub same_option : OptionValue → OptionValue → Bool
 same_option = eq_of_both (on (λ o. o.code) nat_eq) (on (λ o. o.bytes) same_bytes)
 
+-- the same options, one by one
 abbrev pub same_options : List OptionValue → List OptionValue → Bool
 same_options = pointwise same_option
 
@@ -101,6 +104,7 @@ option_says option =
     (Says-both (just (to_be_bytes w16 option.code)) (both (just (to_be_bytes w16 (length option.bytes))) (just option.bytes)) (Says-number option.code)
     (Says-both (just (to_be_bytes w16 (length option.bytes))) (just option.bytes) (Says-number (length option.bytes)) (Says-bytes option.bytes)))
 
+-- where what is written of options stands, they stand
 pub options_say : (options : List OptionValue)
     → Says (in_turn option_written options) (All FitsOption options) (options_word options) (options_len options) []
 options_say [] = Says-just (All FitsOption []) (options_word []) 0 [] (omega arith)

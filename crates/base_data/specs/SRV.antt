@@ -52,6 +52,7 @@ srv_numbers x = to_be_bytes w16 x.priority ++ (to_be_bytes w16 x.weight ++ to_be
 abbrev pub SRVNumbers : SRV → List ℕ → ℕ → ℕ → Type 0
 SRVNumbers x = Then (Number w16 x.priority) (Then (Number w16 x.weight) (Number w16 x.port))
 
+-- where the bytes of the three numbers stand, the numbers do
 pub srv_numbers_stand : (x : SRV) (B : List ℕ) (i : ℕ) → SRVFits x → Stands (srv_numbers x) B i
     → SRVNumbers x B i (i + 6)
 srv_numbers_stand x B i fits s =

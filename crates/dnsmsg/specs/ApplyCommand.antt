@@ -74,6 +74,7 @@ abbrev pub message_spelled : Result (List ℕ) FromHexError → Result MessageVa
 message_spelled (Ok bytes) = message_read (message_at bytes 0)
 message_spelled (Err fault) = Err 24
 
+-- the first of the words, the empty one where there is none
 abbrev pub first_word : List (List ℕ) → List ℕ
 first_word [] = []
 first_word (word ∷ words) = word

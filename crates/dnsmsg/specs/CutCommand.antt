@@ -40,8 +40,10 @@ CutsBuffer limit (Err fault) answer = answer ≡ refused 24
 abbrev pub IsCutAnswer : ℕ → List ℕ → Answer → Type 0
 IsCutAnswer limit input answer = CutsBuffer limit (bytes_of input) answer
 
+-- what a call of `cut` answers: such an answer, or that memory ran out
 abbrev pub CutAnswers : ℕ → List ℕ → Result (String Global) Refusal → Type 0
 CutAnswers limit input result = AnswersBy (IsCutAnswer limit input) result
 
+-- what a run of `cut` prints, and its status
 abbrev pub IsCutGiven : ℕ → List ℕ → ℕ → Option (List ℕ) → Option (List ℕ) → Type 0
 IsCutGiven limit input status old new = IsGivenBy (IsCutAnswer limit input) status old new

@@ -13,6 +13,7 @@ abbrev pub answer_to_message : Read MessageValue → Answer
 answer_to_message (Ok (message, end)) = done (message_text message)
 answer_to_message (Err fault) = refused (decode_number fault)
 
+-- the answer to the bytes of the input, or refusal 24
 abbrev pub answer_to_buffer : Result (List ℕ) FromHexError → Answer
 answer_to_buffer (Ok bytes) = answer_to_message (message_at bytes 0)
 answer_to_buffer (Err fault) = refused 24

@@ -6,6 +6,7 @@ use Rattle.base.specs.ProtoError.{proto_number}
 use Rattle.dnsmsg.specs.declared.refusal.Refusal.{Refusal}
 use Rattle.dnsmsg.specs.declared.refusal.Refusal.TheVariants as refusals
 
+-- the number that is printed of a refusal
 abbrev pub refusal_number : Refusal → ℕ
 refusal_number refusals.Input = 24
 refusal_number refusals.Class = 25

@@ -15,6 +15,7 @@ use Rattle.dnsmsg.specs.Answer.{Answer, done, refused}
 
 -- ---- included texts, NAME=TEXT each
 
+-- the equals sign
 abbrev pub is_equals : ℕ → Bool
 is_equals c = c == 61
 
@@ -22,6 +23,7 @@ is_equals c = c == 61
 abbrev pub text_in : List ℕ → List ℕ → Option (List ℕ)
 text_in word name = if bytes_eq (before_first is_equals word) name then Some (after_first is_equals word) else None
 
+-- the first of two texts, if it is there, else the second
 abbrev pub or_else : Option (List ℕ) → Option (List ℕ) → Option (List ℕ)
 or_else None other = other
 or_else (Some text) other = Some text
@@ -41,6 +43,7 @@ are_texts words = list_all (λ word. list_any is_equals word) words
 abbrev pub set_lines : ZoneSets → List ℕ
 set_lines = flat_map (λ (e : RrKey × SetValue). record_lines e.1.records)
 
+-- the line of an origin
 abbrev pub origin_line : NameValue → List ℕ
 origin_line origin = line (codes "$ORIGIN " ++ name_text origin)
 

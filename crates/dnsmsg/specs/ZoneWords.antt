@@ -9,6 +9,7 @@ use Rattle.dnsmsg.specs.ZoneCommand.{are_texts}
 use Rattle.dnsmsg.specs.declared.command.Command.{Command}
 use Rattle.dnsmsg.specs.declared.command.Command.TheVariants as command
 
+-- the origin that was read of a word, if a name was
 abbrev pub origin_under : Result NameValue Fault → Option (Option NameValue)
 origin_under (Ok origin) = Some (Some origin)
 origin_under (Err fault) = None

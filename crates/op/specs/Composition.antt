@@ -80,6 +80,7 @@ abbrev pub WritesItems : {E : Type 0} → (E → List ℕ → ℕ → ℕ → Ty
 WritesItems word plain owner f xs a (Ok written) b = WritesFront word plain owner f xs a b written.count written.is_cut
 WritesItems word plain owner f xs a (Err e) b = e ≡ refusals.Memory
 
+-- a front of these records is written, or memory ran out
 abbrev pub WritesRecordItems : List (Record RData) → State → Result Written ProtoError → State
     → Type 0
 WritesRecordItems = WritesItems RecordWord plain_record record_owner record_written

@@ -59,10 +59,12 @@ unfoldable pub owners_by : {A : Type 0} {Word : ℕ → A → ℕ → Type 0} (l
 owners_by labels end none = []
 owners_by labels end (more {i = i} {j = j} {x = x} word rest) = record { start = i; labels = labels x; end = end i x j word } ∷ owners_by labels end rest
 
+-- the owners of questions that stand back to back
 abbrev pub query_owners : {B : List ℕ} {i e : ℕ} {qs : List Query} → BackToBack (IsQueryAt B) i qs e
     → List Owner
 query_owners d = owners_by (λ q. q.name.labels) (λ i q e word. word.word.owner_end) d
 
+-- the owners of records that stand back to back
 abbrev pub record_owners : {B : List ℕ} {i e : ℕ} {rs : List (Record RData)}
     → BackToBack (IsRecordAt B) i rs e → List Owner
 record_owners d = owners_by (λ r. r.name.labels) (λ i r e word. word.word.owner_end) d

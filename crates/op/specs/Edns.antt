@@ -21,6 +21,7 @@ LendsFlags edns flags = Lends the_row flags_row edns flags (λ (w : EdnsFlags). 
 abbrev pub LendsOptions : MutBor Edns → MutBor (List OptionValue) → Fml
 LendsOptions edns options = Lends the_row options_row edns options (λ (w : List OptionValue). record edns.now { options = w })
 
+-- the text of a flag
 abbrev pub bool_text : Bool → List ℕ
 bool_text flag = if flag then codes "true" else codes "false"
 

@@ -9,10 +9,12 @@ use Rattle.base.specs.WordLemmas.{first_stands, number16_stands, stands_byte, st
 use Rattle.op.specs.Header.{IsNarrow, IsRawHeaderAt, HeaderWord, RawHeader, bit_of, weighed, high_byte, low_byte, header_bytes, raw_header}
 use Rattle.op.specs.declared.header.Header.{Header}
 
+-- what a bit weighs is its number times the weight
 pub weighed_is : (w : ℕ) (p : Bool) → weighed w p ≡ from_bool p * w
 weighed_is w true = omega arith
 weighed_is w false = omega arith
 
+-- the number of a bit is 1 at most
 pub from_bool_small : (p : Bool) → from_bool p < 2
 from_bool_small true = lit< tt
 from_bool_small false = lit< tt
@@ -109,10 +111,12 @@ raw_stands r B i narrow op code s =
       additionals = number16_stands r.counts.additionals B (i + 10) narrow.additionals (stands_part (id ++ flags ++ queries ++ answers ++ authorities) additionals [] B i s);
     }
 
+-- where the bytes of a header stand, its word does
 pub header_stands : (h : Header) (B : List ℕ) (i : ℕ) → IsNarrow h.metadata.id h.counts
     → Stands (header_bytes (raw_header h)) B i → HeaderWord h B i (i + 12)
 header_stands h B i narrow s = (raw_stands (raw_header h) B i narrow (omega arith) (omega arith) s, refl)
 
+-- the law of what is written of a header (RFC 1035, 4.1.1)
 pub header_says : (h : Header)
     → Says (just (header_bytes (raw_header h))) (IsNarrow h.metadata.id h.counts) (HeaderWord h) 12 []
 header_says h =

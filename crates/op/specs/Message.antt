@@ -27,6 +27,7 @@ pub record MessageValue : Type 0 where
   pub edns : Option Edns
   pub signature : Option (Record (List ℕ))
 
+-- a message as its fields, with lists for vectors
 abbrev pub message_value : Message → MessageValue
 message_value m = record {
   metadata = m.metadata;

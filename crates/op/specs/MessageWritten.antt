@@ -49,6 +49,7 @@ pub record Parts : Type 0 where
   pub edns : Part (Record RData)
   pub signature : Part (Record RData)
 
+-- the parts of a message under a limit, from a place on
 abbrev pub parts_of : ℕ → MessageValue → ℕ → List Stored → Parts
 parts_of limit m at stored =
     let queries = part query_written limit m.queries at stored in

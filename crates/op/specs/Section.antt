@@ -74,6 +74,7 @@ edns_value payload ttl options = record {
   options = options;
 }
 
+-- the EDNS that an OPT record says, if it is one
 abbrev pub edns_of : Record RData → Edns
 edns_of r = edns_value (class_number r.dns_class) r.ttl (options_in r.rdata)
 

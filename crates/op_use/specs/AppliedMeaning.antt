@@ -40,32 +40,38 @@ RecordsHoldTheData = (z : Zone) (m : Sections) (k : RrKey) (xs : List (Record RD
     → at z k ≡ map datum_of xs
     → at (applied z m).1 k ≡ map datum_of (records_applied z m k xs)
 
+-- what comes of a map by what `create` builds
 abbrev pub CreateApplies : Type 0
 CreateApplies = (id : ℕ) (s : SetValue) (origin : NameValue) (use_edns : Bool)
     → AppliesUncut (update_message id use_edns (create s origin)) (λ z. IsGiven z origin s × NoCname z s.name)
     (λ z. if has_set z (set_key s) then (YXRRSet, z) else (NoError, merged z s))
 
+-- what comes of a map by what `append` builds
 abbrev pub AppendApplies : Type 0
 AppendApplies = (id : ℕ) (s : SetValue) (origin : NameValue) (must_exist use_edns : Bool)
     → AppliesUncut (update_message id use_edns (append s origin must_exist)) (λ z. IsGiven z origin s × NoCname z s.name)
     (λ z. if must_exist && not (has_set z (set_key s)) then (NXRRSet, z) else (NoError, merged z s))
 
+-- what comes of a map by what `compare_and_swap` builds
 abbrev pub SwapApplies : Type 0
 SwapApplies = (id : ℕ) (current new : SetValue) (origin : NameValue) (use_edns : Bool)
     → AppliesUncut (update_message id use_edns (compare_and_swap current new origin))
     (λ z. (current.records ≢ []) × IsGiven z origin current × IsGiven z origin new × NoCname z new.name)
     (λ z. if has_data_of_set z current then (NoError, merged (less_key z (set_key current)) new) else (NXRRSet, z))
 
+-- what comes of a map by what `delete_by_rdata` builds
 abbrev pub DeleteDataApplies : Type 0
 DeleteDataApplies = (id : ℕ) (s : SetValue) (origin : NameValue) (use_edns : Bool)
     → AppliesUncut (update_message id use_edns (delete_by_rdata s origin)) (λ z. IsGiven z origin s) (λ z. (NoError, less_data z s))
 
+-- what comes of a map by what `delete_rrset` builds
 abbrev pub DeleteSetApplies : Type 0
 DeleteSetApplies = (id : ℕ) (r : Record RData) (origin : NameValue) (use_edns : Bool)
     → AppliesUncut (update_message id use_edns (delete_rrset r origin))
     (λ z. IsZone z × IsFor z origin r.name r.dns_class × (is_plain_class r.dns_class ≡ true) × (is_ordinary (type_of_data r.rdata) ≡ true))
     (λ z. (NoError, less_key z (key_of r.name (type_of_data r.rdata))))
 
+-- what comes of a map by what `delete_all` builds
 abbrev pub DeleteNameApplies : Type 0
 DeleteNameApplies = (id : ℕ) (owner origin : NameValue) (class : DNSClass) (use_edns : Bool)
     → AppliesUncut (update_message id use_edns (delete_all owner origin class)) (λ z. IsZone z × IsFor z origin owner class × (is_plain_class class ≡ true))

@@ -23,6 +23,7 @@ after_by OfAny z r k xs = if goes_with z r k then [] else xs
 after_by OfNone z r k xs = if not (is_needed z r) && is_under r k then parted r xs else xs
 after_by OfNothing z r k xs = xs
 
+-- the records under a key after one update (RFC 2136, 3.4.2)
 abbrev pub after_update : Zone → Record RData → RrKey → List (Record RData) → List (Record RData)
 after_update z r k xs = after_by (use_of z.class r.dns_class) z r k xs
 

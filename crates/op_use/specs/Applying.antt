@@ -55,6 +55,7 @@ abbrev pub is_class_any : DNSClass → Bool
 is_class_any classes.ANY = true
 is_class_any _ = false
 
+-- the class NONE
 abbrev pub is_class_none : DNSClass → Bool
 is_class_none classes.NONE = true
 is_class_none _ = false

@@ -49,6 +49,7 @@ less_key z k = put z k []
 abbrev pub is_left : Zone → NameValue → RrKey → Bool
 is_left z owner k = not (is_owned owner k) || is_guarded z owner k.record_type
 
+-- the zone without the sets of an owner, but for those that stay
 abbrev pub less_name : Zone → NameValue → Zone
 less_name z owner = record z { sets = fin.retain_keys z.sets (is_left z owner) }
 

@@ -31,6 +31,7 @@ soa m = first_soa m.authorities
 abbrev pub negative_ttl : MessageValue → Option ℕ
 negative_ttl m = option_map (λ (r : Record SOA). min r.ttl r.rdata.minimum) (soa m)
 
+-- whether a list is empty
 abbrev pub is_empty_list : {X : Type 0} → List X → Bool
 is_empty_list [] = true
 is_empty_list (x ∷ xs) = false
@@ -46,5 +47,6 @@ answers_by types.SOA m q = list_any (λ r. is_of types.SOA r && is_zone_of r.nam
 answers_by type m q = not (is_empty_list m.answers)
     || list_any (λ r. is_of type r && same_name r.name q.name) (all_records m)
 
+-- whether some question is answered
 abbrev pub contains_answer : MessageValue → Bool
 contains_answer m = list_any (λ q. answers_by q.query_type m q) m.queries

@@ -34,10 +34,12 @@ pub record Sections : Type 0 where
 abbrev pub sections_of : MessageValue → Sections
 sections_of m = record { zones = m.queries; prerequisites = m.answers; updates = m.authorities }
 
+-- the type ANY
 abbrev pub is_any : RecordType → Bool
 is_any types.ANY = true
 is_any _ = false
 
+-- the type CNAME
 abbrev pub is_cname : RecordType → Bool
 is_cname types.CNAME = true
 is_cname _ = false
@@ -46,9 +48,11 @@ is_cname _ = false
 abbrev pub is_meta : RecordType → Bool
 is_meta type = nat_le 128 (type_number type) && nat_le (type_number type) 255
 
+-- the type of a record, which is that of its data
 abbrev pub type_of_record : Record RData → RecordType
 type_of_record r = type_of_data r.rdata
 
+-- the owner in lower case and the type of a record
 abbrev pub record_key : Record RData → RrKey
 record_key r = key_of r.name (type_of_record r)
 
@@ -59,6 +63,7 @@ pub data Use : Type 0 where
   OfZone : Use
   OfNothing : Use
 
+-- what a class asks for in an update of a zone of a class (RFC 2136, 2.4 and 2.5)
 abbrev pub use_of : DNSClass → DNSClass → Use
 use_of zone_class classes.ANY = OfAny
 use_of zone_class classes.NONE = OfNone
@@ -68,14 +73,17 @@ use_of zone_class class = if same_class class zone_class then OfZone else OfNoth
 abbrev pub Fault : Type 0
 Fault = Option ResponseCode
 
+-- the first code of two steps
 abbrev pub and_then : Fault → Fault → Fault
 and_then (Some code) next = Some code
 and_then None next = next
 
+-- the first code of a step over records
 abbrev pub first_fault : (Record RData → Fault) → List (Record RData) → Fault
 first_fault step [] = None
 first_fault step (r ∷ rs) = and_then (step r) (first_fault step rs)
 
+-- a code where a test fails
 abbrev pub unless : Bool → ResponseCode → Fault
 unless true code = None
 unless false code = Some code
@@ -98,11 +106,13 @@ prerequisite_by OfNone found r =
 prerequisite_by OfZone found r = None
 prerequisite_by OfNothing found r = Some FormErr
 
+-- what is wrong with one prerequisite (RFC 2136, 3.2.5)
 abbrev pub prerequisite_fault : Zone → Record RData → Fault
 prerequisite_fault z r =
     and_then (unless (r.ttl == 0) FormErr)
     (and_then (unless (is_zone_of z.origin r.name) NotZone) (prerequisite_by (use_of z.class r.dns_class) (is_found z r) r))
 
+-- whether a record is of the zone's class
 abbrev pub is_of_zone : Use → Bool
 is_of_zone OfZone = true
 is_of_zone _ = false
@@ -121,6 +131,7 @@ is_met z rs r =
     list_any (λ d. is_data_of d r) (at z (record_key r))
     && list_all (λ d. list_any (λ q. is_same_key r q && is_data_of d q) rs) (at z (record_key r))
 
+-- what is wrong with the prerequisites, first each by itself (RFC 2136, 3.2)
 abbrev pub prerequisites_fault : Zone → List (Record RData) → Fault
 prerequisites_fault z rs = and_then (first_fault (prerequisite_fault z) rs) (unless (list_all (is_met z (collected z rs)) (collected z rs)) NXRRSet)
 
@@ -131,6 +142,7 @@ prescan_by OfAny r = unless (r.ttl == 0 && is_empty_data r.rdata && (not (is_met
 prescan_by OfNone r = unless (r.ttl == 0 && not (is_meta (type_of_record r))) FormErr
 prescan_by OfNothing r = Some FormErr
 
+-- what is wrong with one update (RFC 2136, 3.4.1.3)
 abbrev pub prescan_fault : Zone → Record RData → Fault
 prescan_fault z r = and_then (unless (is_zone_of z.origin r.name) NotZone) (prescan_by (use_of z.class r.dns_class) r)
 
@@ -176,12 +188,15 @@ update_by OfAny z r = record z { sets = fin.retain_keys z.sets (λ k. not (goes_
 update_by OfNone z r = if is_needed z r then z else put z (record_key r) (removed (at z (record_key r)) r)
 update_by OfNothing z r = z
 
+-- what one update makes of a zone (RFC 2136, 3.4.2.7)
 abbrev pub update : Zone → Record RData → Zone
 update z r = update_by (use_of z.class r.dns_class) z r
 
+-- the code of the first test that fails, if one does
 abbrev pub fault : Zone → Sections → Fault
 fault z m = and_then (zone_fault z m.zones) (and_then (prerequisites_fault z m.prerequisites) (first_fault (prescan_fault z) m.updates))
 
+-- the code of a fault and the zone as it was, or NoError and the zone after all updates
 abbrev pub answer : Zone → List (Record RData) → Fault → ResponseCode × Zone
 answer z updates (Some code) = (code, z)
 answer z updates None = (NoError, fold update z updates)

@@ -21,15 +21,19 @@ use Rattle.op_use.specs.Zone.{Datum, Zone}
 
 --- ---- names and data
 
+-- the absolute name of labels
 abbrev pub named : List (List ℕ) → NameValue
 named labels = record { labels = labels; absolute = true }
 
+-- the origin
 abbrev pub example : NameValue
 example = named (codes "example" ∷ [])
 
+-- a name of the zone
 abbrev pub www : NameValue
 www = named (codes "www" ∷ codes "example" ∷ [])
 
+-- the same name with capital letters
 abbrev pub raised_www : NameValue
 raised_www = named (codes "WWW" ∷ codes "example" ∷ [])
 
@@ -45,15 +49,19 @@ elsewhere = named (codes "www" ∷ codes "elsewhere" ∷ [])
 abbrev pub address : ℕ → RData
 address n = kinds.A (record { octets = 192 ∷ 0 ∷ 2 ∷ n ∷ [] })
 
+-- a mail exchanger
 abbrev pub mail : NameValue → RData
 mail exchange = kinds.MX (record { preference = 10; exchange = exchange })
 
+-- an alias
 abbrev pub alias_of : NameValue → RData
 alias_of name = kinds.CNAME (record { name = name })
 
+-- a name server
 abbrev pub server : NameValue → RData
 server name = kinds.NS (record { name = name })
 
+-- an SOA
 abbrev pub start : RData
 start = kinds.SOA (record { mname = www; rname = www; serial = 1; refresh = 7200; retry = 3600; expire = 1209600; minimum = 300 })
 
@@ -71,6 +79,7 @@ host ttl n = lasting ttl (address n)
 abbrev pub Entry : Type 0
 Entry = RrKey × List Datum
 
+-- data under an owner and a type
 abbrev pub entry : NameValue → RecordType → List Datum → Entry
 entry owner type set = (key_of owner type, set)
 

@@ -38,6 +38,7 @@ abbrev pub with_set : FinMap key_cmp (List Datum) → RrKey → List Datum → F
 with_set sets k [] = fin.remove sets k
 with_set sets k (x ∷ xs) = fin.insert sets k (x ∷ xs)
 
+-- the zone with other data under a key, which goes where there is none
 abbrev pub put : Zone → RrKey → List Datum → Zone
 put z k xs = record z { sets = with_set z.sets k xs }
 

@@ -9,6 +9,7 @@ use Rattle.rr.specs.RecordSet.{SetValue}
 use Rattle.rr.specs.declared.record.Record.{Record}
 use Rattle.txt.specs.ZoneSets.{ZoneSets}
 
+-- whether a class is IN
 abbrev pub is_in : DNSClass → Bool
 is_in classes.IN = true
 is_in _ = false

@@ -67,6 +67,7 @@ pub record IsTidy (set : SetValue) : Type 0 where
 abbrev pub same_entry : Record RData → Record RData → Bool
 same_entry = same_record same_data
 
+-- being the same record of any data is an equivalence
 pub same_entry-equiv : IsEquivalence same_entry
 same_entry-equiv = same_record-equiv data_laws
 
@@ -76,6 +77,7 @@ same_set =
     eq_of_both (on (λ s. s.name) same_name) (eq_of_both (on (λ s. s.record_type) same_type) (eq_of_both (on (λ s. s.dns_class) same_class)
     (eq_of_both (on (λ s. s.ttl) nat_eq) (eq_of_both (on (λ s. s.records) (pointwise same_entry)) (on (λ s. s.serial) nat_eq)))))
 
+-- being the same set is an equivalence
 pub same_set-equiv : IsEquivalence same_set
 same_set-equiv =
     and_equiv (on_equiv (λ s. s.name) (same_by-equiv folded)) (and_equiv (on_equiv (λ s. s.record_type) type_laws) (and_equiv (on_equiv (λ s. s.dns_class) same_class-equiv)
