@@ -9,6 +9,7 @@ use Rattle.base.specs.declared.error.proto_error.ProtoError.TheVariants as refus
 use Rattle.base.proofs.ItemLemmas.{Each-keeps}
 use Rattle.op.specs.Cut.{IsTooSmall}
 use Rattle.op.specs.Emitted.{Emitted, IsNew, Leaves, LeavesNew, WritesFront, query_owner}
+use Rattle.op.specs.Fits.{HasRoom}
 use Rattle.op.specs.Message.{MessageValue}
 use Rattle.op.specs.MessageWritten.{Part, message_answer, message_answer_at, message_written, part}
 use Rattle.op.specs.Query.{QueryWord, plain_query, query_written}
@@ -92,6 +93,29 @@ module _ (m : MessageValue) (old : State) where
   refusal_if new (Err f) left = refusal_answers new f left
 
 -- ---- of an encoder that is new
+
+lacks_room : (m : MessageValue) (limit : ℕ) (f : ProtoError) → IsTooSmall m limit f → HasRoom m limit → ⊥
+lacks_room m limit refusals.MaxBufferSizeExceeded small room = omega (arith, small, room)
+lacks_room m limit (refusals.NotAllRecordsWritten count) small room = omega (arith, small.1, room)
+lacks_room m limit refusals.Memory small room = small
+lacks_room m limit refusals.NotOpt small room = small
+lacks_room m limit (refusals.Message text) small room = small
+lacks_room m limit refusals.NotAResponse small room = small
+lacks_room m limit (refusals.Decode d) small room = small
+
+-- with room for header and questions uncompressed only memory is lacking
+pub only_memory : (m : MessageValue) (old new : State) (f : ProtoError) → old.bytes ≡ [] → HasRoom m old.limit
+    → (f ≡ refusals.Memory) ⊎ (Leaves m old f new × (message_answer_at old.limit m (length old.bytes) old.suffixes ≡ Err f))
+    → f ≡ refusals.Memory
+only_memory m old new f empty room (inl memory) = memory
+only_memory m old new f empty room (inr is) = absurd (lacks_room m old.limit f (no_room m old new f empty is.0) room)
+
+pub new_of : {limit buffer : ℕ} {s : State} → s ≡ record { buffer = buffer; bytes = []; limit = limit; suffixes = [] } → IsNew limit s
+new_of is = record {
+  bytes = ap (λ (t : State). t.bytes) is;
+  within = ap (λ (t : State). t.limit) is;
+  suffixes = ap (λ (t : State). t.suffixes) is;
+}
 
 module _ (m : MessageValue) (limit : ℕ) (old : State) (begun : IsNew limit old) where
   -- what the encoder answers is what any new one does

@@ -30,6 +30,7 @@ impl Message {
     /// `MaxBufferSizeExceeded` where the header doesn't fit, and then nothing is written; `NotAllRecordsWritten` where
     /// the questions don't, with the number of those that are written, all before the first that doesn't fit; `Memory`
     /// if memory runs out. A new encoder with room for header and questions uncompressed refuses for memory alone.
+    #[tactic(auto, using(crate::proofs::AnswerLemmas::only_memory))]
     pub fn emit(&self, encoder: &mut BinEncoder<'_>) -> Result<(), ProtoError>
         ensures keeps { Keeps (state_of encoder.old) (state_of encoder.new) }
         ensures emitted { IfOk result (λ _. (h : WrittenHeader)
