@@ -86,7 +86,7 @@ def message():
 
 
 def changed(wire):
-    """The same with other bytes here and there behind the flags, or without its end; without a TSIG, which wants a key."""
+    """The same with other bytes here and there after the flags, or without its end; without a TSIG, which wants a key."""
     other = bytearray(wire)
     for _ in range(random.choice([1, 1, 1, 2, 3])):
         other[random.randrange(4, len(other))] = random.choice([0, 0x3F, 0x40, 0xC0, 0xFF, random.randrange(250)])
@@ -100,11 +100,11 @@ def data_class(of_class, kind, *further, known=dns.rdata.get_rdata_class):
 
 @contextlib.contextmanager
 def name_end(parser):
-    """A name ends behind its first pointer, even where the bytes that this leads to run on beyond it or beyond the data."""
-    seek, end, behind = parser.seek, parser.end, []
+    """A name ends after its first pointer, even where the bytes that this leads to run on beyond it or beyond the data."""
+    seek, end, after = parser.seek, parser.end, []
 
     def follow(place):
-        behind.append(parser.current)
+        after.append(parser.current)
         parser.end = len(parser.wire)
         seek(place)
 
@@ -113,7 +113,7 @@ def name_end(parser):
         yield
     finally:
         parser.seek, parser.end = seek, end
-        parser.current = (behind or [parser.current])[0]
+        parser.current = (after or [parser.current])[0]
 
 
 dns.rdata.get_rdata_class = data_class

@@ -17,7 +17,7 @@ A, NS, CNAME, SOA, PTR, MX, TXT, SIG, AAAA, SRV, OPT, TSIG, ANY, ANAME = (
     TYPE_NUMBERS[it] for it in "A NS CNAME SOA PTR MX TXT SIG AAAA SRV OPT TSIG ANY ANAME".split())
 IN, NONE_CLASS, ANY_CLASS = 1, 254, 255
 
-# What the fields of a kind are, as they stand one behind the other: names, numbers of so many bits, or so many bytes.
+# What the fields of a kind are, as they stand one after another: names, numbers of so many bits, or so many bytes.
 FIELDS = {
     A: [4], AAAA: [16], NS: ["name"], CNAME: ["name"], PTR: ["name"], ANAME: ["name"], MX: ["u16", "name"],
     SOA: ["name", "name", "u32", "u32", "u32", "u32", "u32"], SRV: ["u16", "u16", "u16", "name"],

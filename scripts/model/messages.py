@@ -16,7 +16,7 @@ CODES = {
 FLAGS = {"RD": (2, 0x01), "CD": (3, 0x10), "TC": (2, 0x02), "AA": (2, 0x04), "RA": (3, 0x80), "AD": (3, 0x20)}
 
 ENDS_INSIDE, BAD_NAME, OWNER_NOT_ROOT, TOO_LONG, BAD_DATA = 4, 5, 6, 7, 8
-EMPTY, BEHIND_SIGNATURE, OUTSIDE_ADDITIONALS, SECOND_EDNS = 10, 11, 12, 13
+EMPTY, AFTER_SIGNATURE, OUTSIDE_ADDITIONALS, SECOND_EDNS = 10, 11, 12, 13
 
 
 class Question(NamedTuple):
@@ -102,7 +102,7 @@ class Place:
 
     def name(self):
         """A name, each pointer below the piece that it ends."""
-        labels, begun, behind = [], self.at, None
+        labels, begun, after = [], self.at, None
         while True:
             first = self.number(1)
             if first == 0:
@@ -111,7 +111,7 @@ class Place:
                 target = (first & 0x3F) << 8 | self.number(1)
                 if target >= begun:
                     raise Refused(BAD_NAME)
-                behind = behind or self.at
+                after = after or self.at
                 self.at = begun = target
             elif first >= 0x40:
                 raise Refused(BAD_NAME)
@@ -119,12 +119,12 @@ class Place:
                 labels.append(self.bytes(first))
                 if plain_length(labels) > 255:
                     raise Refused(BAD_NAME)
-        self.at = behind or self.at
+        self.at = after or self.at
         return Name(tuple(labels), True)
 
 
 def counted(data, code_size, length_size):
-    """Parts one behind the other: a code of so many bytes, a length, and as many bytes."""
+    """Parts one after another: a code of so many bytes, a length, and as many bytes."""
     found, read = [], Place(data)
     while read.at < len(data):
         code = read.number(code_size)
@@ -183,7 +183,7 @@ def take(message, section, record):
     if empty and message.opcode != UPDATE and kind != OPT:
         raise Refused(EMPTY)
     if message.signature:
-        raise Refused(BEHIND_SIGNATURE)
+        raise Refused(AFTER_SIGNATURE)
     if section < 2 and kind in (OPT, SIG, TSIG):
         raise Refused(OUTSIDE_ADDITIONALS)
     if kind == OPT and message.edns:

@@ -32,8 +32,8 @@ def folded(name):
 
 
 def is_zone_of(zone, name):
-    behind = len(name.labels) - len(zone.labels)
-    return behind >= 0 and folded(name)[1][behind:] == folded(zone)[1]
+    after = len(name.labels) - len(zone.labels)
+    return after >= 0 and folded(name)[1][after:] == folded(zone)[1]
 
 
 def made_absolute(name):
@@ -41,7 +41,7 @@ def made_absolute(name):
 
 
 def escaped(data, first, marked):
-    """Printable bytes from `first` on as they are, the marked ones behind a backslash, others as three digits."""
+    """Printable bytes from `first` on as they are, the marked ones after a backslash, others as three digits."""
     def shown(byte):
         return ("\\" if chr(byte) in marked else "") + chr(byte) if first <= byte <= 0x7E else f"\\{byte:03}"
 
@@ -59,15 +59,15 @@ def is_digits(text):
 
 
 def unescaped(text, at):
-    """The bytes that the escape at a backslash stands for, and the place behind it."""
-    behind = text[at + 1 : at + 4]
-    if is_digits(behind[:1]):
-        if len(behind) < 3 or not is_digits(behind) or int(behind) > 255:
+    """The bytes that the escape at a backslash stands for, and the place after it."""
+    after = text[at + 1 : at + 4]
+    if is_digits(after[:1]):
+        if len(after) < 3 or not is_digits(after) or int(after) > 255:
             raise Refused(BAD_TEXT)
-        return bytes([int(behind)]), at + 4
-    if not behind:
+        return bytes([int(after)]), at + 4
+    if not after:
         raise Refused(BAD_TEXT)
-    return behind[0].encode(), at + 2
+    return after[0].encode(), at + 2
 
 
 def labels_of(text):
@@ -78,11 +78,11 @@ def labels_of(text):
             labels.append(b"")
             at += 1
         elif text[at] == "\\":
-            character, behind = unescaped(text, at)
-            if not text[at:behind].isascii():
+            character, after = unescaped(text, at)
+            if not text[at:after].isascii():
                 raise Refused(BAD_TEXT)
             labels[-1] += character
-            at = behind
+            at = after
         elif 0x21 <= ord(text[at]) <= 0x7E:
             labels[-1] += text[at].encode()
             at += 1

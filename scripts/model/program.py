@@ -78,7 +78,7 @@ def update_zone(given, word, message):
     return f"{code}\n{zone_text(found, then)}"
 
 
-# Each command, how many words stand behind it, and whether there may be more.
+# Each command, how many words stand after it, and whether there may be more.
 COMMANDS = {
     "header": (show_header, 0, False), "read": (show_message, 0, False), "cut": (cut, 1, False), "zone": (show_zone, 1, True),
     "apply": (update_zone, 2, False),

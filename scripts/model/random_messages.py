@@ -100,7 +100,7 @@ class Maker:
         self.data[place - 2 : place] = length.to_bytes(2, "big")
 
     def filler(self):
-        """A record of so many bytes that what stands behind it is past what a pointer can name, or nearly so."""
+        """A record of so many bytes that what stands after it is past what a pointer can name, or nearly so."""
         end = 16384 + random.choice([random.randrange(-200, 100), -1, 0, 0])
         self.data += b"\0\0\x0a\0\1\0\0\0\0"
         length = end - len(self.data) - 2

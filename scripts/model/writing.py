@@ -109,12 +109,12 @@ def written(message, limit):
         raise Refused(2)
     counts = [out.all(records, out.record) for records in message.sections]
     is_cut = counts != [len(records) for records in message.sections]
-    behind = [message.signature] if message.signature else []
+    after = [message.signature] if message.signature else []
     if message.edns:
         edns = message.edns
         ttl = message.code >> 4 << 24 | edns.version << 16 | 0x8000 * edns.dnssec_ok | edns.z
-        behind.insert(0, Record(ROOT, edns.payload, False, ttl, Data(OPT, edns.options)))
-    for record in behind:
+        after.insert(0, Record(ROOT, edns.payload, False, ttl, Data(OPT, edns.options)))
+    for record in after:
         fits = out.all([record], out.record)
         counts[2] += fits
         is_cut |= not fits

@@ -20,7 +20,7 @@ class Lexer:
         return self.at < len(self.text) and self.text[self.at] in wanted
 
     def while_not(self, ends):
-        """The characters up to one of these, and whatever stands behind a backslash."""
+        """The characters up to one of these, and whatever stands after a backslash."""
         start = self.at
         while self.at < len(self.text) and not self.next(ends):
             self.at += 2 if self.next("\\") else 1
@@ -177,7 +177,7 @@ class Zone:
         self.origin = origin
 
     def record(self, tokens):
-        """What stands behind an owner."""
+        """What stands after an owner."""
         while True:
             sign, text = token(tokens)
             if sign == LINE_END:
@@ -223,7 +223,7 @@ def same_record(one, other):
 
 
 def put(records, record):
-    """In place of each record of equal data, or behind all."""
+    """In place of each record of equal data, or after all."""
     if any(same_data(it.data, record.data) for it in records):
         records[:] = [record if same_data(it.data, record.data) else it for it in records]
     else:

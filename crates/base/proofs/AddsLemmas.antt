@@ -1,4 +1,4 @@
--- What reads one behind the other add to the offsets that are kept.
+-- What reads one after another add to the offsets that are kept.
 use Rattle.std.proofs.Common.{◌≡◌, ℕ, suc, ◌+◌, ◌-◌, ◌<◌, ◌≤◌, List, [], ◌∷◌, ◌++◌, Bool, true, false, Ok, refl, ap, sym, ◌∙◌, subst, arith, append_assoc}
 use Rattle.std.specs.Prelude.{nat_eq, ◌||◌}
 use Rattle.std.specs.FinSet as set
@@ -16,7 +16,7 @@ or_of_three : (a b c : Bool) → (a || (b || c)) ≡ ((a || b) || c)
 or_of_three true b c = refl
 or_of_three false b c = refl
 
--- offsets behind others, put in after them
+-- offsets after others, put in after them
 inserted-both : (ts us : List ℕ) (s : set.FinSet nat_cmp) → inserted (ts ++ us) s ≡ inserted us (inserted ts s)
 inserted-both ts us s = same_members _ _ (λ q.
     contains-inserted (ts ++ us) s q
@@ -54,7 +54,7 @@ adds_name {old} h bytes kept = record {
   exact = kept ∙ ap (λ (qs : List ℕ). inserted qs old.kept) (sym (append-nil (passed h)));
 }
 
--- two reads, one behind the other
+-- two reads, one after another
 pub adds_both : {names more : List ℕ} {old mid new : Reader} → AddsPassed names old mid → AddsPassed more mid new → AddsPassed (names ++ more) old new
 adds_both {names} {more} {old} {mid} {new} first second = record {
   bytes = second.bytes ∙ first.bytes;
@@ -63,7 +63,7 @@ adds_both {names} {more} {old} {mid} {new} first second = record {
   exact = second.exact ∙ ap (inserted second.offsets) first.exact ∙ sym (inserted-both first.offsets second.offsets old.kept);
 }
 
--- and a read behind it that keeps nothing
+-- and a read after it that keeps nothing
 pub adds_still : {names : List ℕ} {old mid new : Reader} → AddsPassed names old mid → new.bytes ≡ mid.bytes → new.kept ≡ mid.kept → AddsPassed names old new
 adds_still first bytes kept = record { bytes = bytes ∙ first.bytes; offsets = first.offsets; pass = first.pass; exact = kept ∙ first.exact }
 

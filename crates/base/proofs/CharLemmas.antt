@@ -32,7 +32,7 @@ first_of_piece {rest = rest} (is_number {x} {y} {z} {b} e decimal) is =
     let small : nat_lt b 256 ≡ true = let byte = decimal.byte in grind (arith, nat_tests) in
     ap first_char (is ∙ ap (λ (p : List ℕ). p ++ rest) e) ∙ rw (first, second, third, ← decimal.is, small) refl
 
--- a piece, and the text behind it
+-- a piece, and the text after it
 record Piece (front text : List ℕ) (c : Character) (rest : List ℕ) : Type 0 where
   piece : List ℕ
   spells : IsCharText (front ++ piece) c
@@ -42,9 +42,9 @@ no_char : {r : Character × List ℕ} → None ≡ Some r → ⊥
 no_char h = cc
 
 -- a piece that is this character
-piece_is : {front text rest : List ℕ} {c d : Character} (piece behind : List ℕ) → IsCharText (front ++ piece) d → text ≡ piece ++ behind
-    → ◌≡◌ {A = Option (Character × List ℕ)} (Some (d, behind)) (Some (c, rest)) → Piece front text c rest
-piece_is {front} {text} {rest} {c} {d} piece behind spells is found =
+piece_is : {front text rest : List ℕ} {c d : Character} (piece after : List ℕ) → IsCharText (front ++ piece) d → text ≡ piece ++ after
+    → ◌≡◌ {A = Option (Character × List ℕ)} (Some (d, after)) (Some (c, rest)) → Piece front text c rest
+piece_is {front} {text} {rest} {c} {d} piece after spells is found =
     let same = same_first found in
     record { piece = piece; spells = subst (IsCharText (front ++ piece)) same.0 spells; is = is ∙ ap (λ (r : List ℕ). piece ++ r) same.1 }
 

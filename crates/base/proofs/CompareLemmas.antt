@@ -77,7 +77,7 @@ slice_cmp-append R [] (y ∷ ys) us vs same = absurd (omega arith)
 slice_cmp-append R (x ∷ xs) [] us vs same = absurd (omega arith)
 slice_cmp-append R (x ∷ xs) (y ∷ ys) us vs same = ap (ordering_then (R x y)) (slice_cmp-append R xs ys us vs (omega arith)) ∙ then-assoc (R x y) (slice_cmp R xs ys) (slice_cmp R us vs)
 
--- of labels that have as many behind them, the last ones decide first
+-- of labels that have as many after them, the last ones decide first
 labels_cmp-append : (us vs xs ys : List (List ℕ)) → length xs ≡ length ys → labels_cmp (us ++ xs) (vs ++ ys) ≡ ordering_then (labels_cmp xs ys) (labels_cmp us vs)
 labels_cmp-append us vs xs ys same =
     let label_cmp = slice_cmp nat_cmp in
@@ -135,9 +135,9 @@ labels_cmp-counts xs ys =
     let len-xs : length xs' ≡ m - (m - n) = length-map (drop (m - n) xs) (map to_ascii_lowercase) ∙ length-drop (m - n) xs in
     let len-ys : length ys' ≡ n - (n - m) = length-map (drop (n - m) ys) (map to_ascii_lowercase) ∙ length-drop (n - m) ys in
     let one : length us ≡ 0 ⊎ length vs ≡ 0 = elim (one_ended m n) [ inl none ↦ inl (len-us ∙ none) | inr none ↦ inr (len-vs ∙ none) ] in
-    let behind : labels_cmp us vs ≡ nat_cmp m n = labels_cmp_ended us vs one ∙ ap (λ (k : ℕ). nat_cmp k (length vs)) len-us ∙ ap (nat_cmp (m - n)) len-vs ∙ counts m n in
+    let after : labels_cmp us vs ≡ nat_cmp m n = labels_cmp_ended us vs one ∙ ap (λ (k : ℕ). nat_cmp k (length vs)) len-us ∙ ap (nat_cmp (m - n)) len-vs ∙ counts m n in
     ap (λ (zs : List (List ℕ)). labels_cmp zs (folded_labels ys)) left ∙ ap (labels_cmp (us ++ xs')) right
-    ∙ labels_cmp-append us vs xs' ys' (omega (arith, len-xs, len-ys)) ∙ ap (ordering_then (labels_cmp xs' ys')) behind
+    ∙ labels_cmp-append us vs xs' ys' (omega (arith, len-xs, len-ys)) ∙ ap (ordering_then (labels_cmp xs' ys')) after
   where
     split : (k : ℕ) (zs : List (List ℕ)) → folded_labels zs ≡ folded_labels (take k zs) ++ folded_labels (drop k zs)
     split k zs = ap folded_labels (sym (take-append-drop k zs)) ∙ map-append (map to_ascii_lowercase) (take k zs) (drop k zs)
@@ -147,7 +147,7 @@ AreLabels-drop zero labels are = are
 AreLabels-drop (suc n) [] are = are
 AreLabels-drop (suc n) (x ∷ xs) are = AreLabels-drop n xs are.1
 
--- labels are the last ones of others exactly where they are those behind the surplus
+-- labels are the last ones of others exactly where they are those after the surplus
 pub are_last : (b : Bool) (xs ys : List (List ℕ)) (n : ℕ) → n + length xs ≡ length ys → b ≡ same_labels (folded_labels (drop n ys)) (folded_labels xs)
     → IsTrue b ↔ ((front : List (List ℕ)) × (folded_labels ys ≡ front ++ folded_labels xs))
 are_last b xs ys n count test = (forward, back) where
@@ -185,9 +185,9 @@ shorter_ended : (m n i : ℕ) → i ≡ min m n → m - i ≡ 0 ⊎ n - i ≡ 0
 shorter_ended m n i is = elim (one_ended m n) [ inl below ↦ inl (omega (arith, below, is ∙ min-eq_left (omega (arith, below)))) | inr above ↦ inr (omega (arith, is ∙ min-eq_right (omega (arith, above)))) ]
 
 -- where the shorter list has ended, the longer is the greater
-pub ended_behind : (xs ys : List ℕ) (i : ℕ) → i ≡ min (length xs) (length ys)
+pub ended_after : (xs ys : List ℕ) (i : ℕ) → i ≡ min (length xs) (length ys)
     → slice_cmp nat_cmp (map to_ascii_lowercase (drop i xs)) (map to_ascii_lowercase (drop i ys)) ≡ nat_cmp (length xs) (length ys)
-ended_behind xs ys i is =
+ended_after xs ys i is =
     let m = length xs in
     let n = length ys in
     let one : length (drop i xs) ≡ 0 ⊎ length (drop i ys) ≡ 0 =
@@ -224,7 +224,7 @@ then_Equal Greater = refl
 labels_cmp-itself : (xs : List (List ℕ)) → labels_cmp xs xs ≡ Equal
 labels_cmp-itself xs = (Equal-is (labels_cmp xs xs)).0 (sym (labels_tie xs xs) ∙ (labels_decide xs xs).1 refl)
 
--- behind the same labels the order of those before decides
+-- after the same labels the order of those before decides
 pub labels_cmp-same : (xs ys : List (List ℕ)) (order next : Ordering) → xs ≡ ys → ordering_then (labels_cmp (folded_labels xs) (folded_labels ys)) order ≡ next → order ≡ next
 labels_cmp-same xs ys order next same is =
     sym (ap (λ (o : Ordering). ordering_then o order) (ap (λ (zs : List (List ℕ)). labels_cmp (folded_labels xs) (folded_labels zs)) (sym same) ∙ labels_cmp-itself (folded_labels xs))) ∙ is

@@ -6,24 +6,24 @@ use Rattle.std.specs.Prelude.{slice_range}
 use borrow.Rule.Slice.PartMut.{put_mid}
 
 -- as many of the first as xs has, and n more
-take_behind : (xs ys : List ℕ) (k n : ℕ) → k ≡ length xs + n → take k (xs ++ ys) ≡ xs ++ take n ys
-take_behind [] ys k n is = ap (λ (j : ℕ). take j ys) (omega arith)
-take_behind (x ∷ xs) ys k n is =
+take_after : (xs ys : List ℕ) (k n : ℕ) → k ≡ length xs + n → take k (xs ++ ys) ≡ xs ++ take n ys
+take_after [] ys k n is = ap (λ (j : ℕ). take j ys) (omega arith)
+take_after (x ∷ xs) ys k n is =
     let more : k ≡ suc (length xs + n) = omega arith in
-    ap (λ (j : ℕ). take j (x ∷ (xs ++ ys))) more ∙ ap (λ (zs : List ℕ). x ∷ zs) (take_behind xs ys (length xs + n) n (omega arith))
+    ap (λ (j : ℕ). take j (x ∷ (xs ++ ys))) more ∙ ap (λ (zs : List ℕ). x ∷ zs) (take_after xs ys (length xs + n) n (omega arith))
 
--- what a room begins with where more was copied behind what is used of it
-pub copied_behind : (buffer room : List ℕ) (at : ℕ) {copied : List ℕ} {size piece used : ℕ} → used ≤ length room → length copied ≡ piece → size ≤ piece
+-- what a room begins with where more was copied after what is used of it
+pub copied_after : (buffer room : List ℕ) (at : ℕ) {copied : List ℕ} {size piece used : ℕ} → used ≤ length room → length copied ≡ piece → size ≤ piece
     → copied ≡ slice_range buffer at (at + piece)
     → take (used + size) (put_mid used (used + piece - used) room copied) ≡ take used room ++ slice_range buffer at (at + size)
-copied_behind buffer room at {copied} {size} {piece} {used} fits len few is =
+copied_after buffer room at {copied} {size} {piece} {used} fits len few is =
     let whole = put_mid used (used + piece - used) room copied in
     let front = length-take used room in
     let some : piece ≡ at + piece - at = omega arith in
     let same : size ≡ at + size - at = omega arith in
     sym (take-take (used + size) (used + piece) whole (omega arith))
     ∙ ap (take (used + size)) (take-put_mid used (used + piece - used) room copied (used + piece) (omega arith) fits)
-    ∙ take_behind (take used room) copied (used + size) size (omega arith)
+    ∙ take_after (take used room) copied (used + size) size (omega arith)
     ∙ ap (λ (xs : List ℕ). take used room ++ take size xs) (is ∙ ap (λ (k : ℕ). take k (drop at buffer)) (sym some))
     ∙ ap (λ (xs : List ℕ). take used room ++ xs) (take-take size piece (drop at buffer) few ∙ ap (λ (k : ℕ). take k (drop at buffer)) same)
 

@@ -52,7 +52,7 @@ found_first kept q =
     let at : q ≡ 0 + q = omega arith in
     ap (kept_from 0 kept) at ∙ found_from 0 kept q
 
--- where nothing is kept at t, only those behind it count
+-- where nothing is kept at t, only those after it count
 passed_over : (t : ℕ) (kept : List (Option (List ℕ))) (q : ℕ) → is_some (kept_from (suc t) kept q) ≡ is_some (cond (nat_eq t q) None (kept_from (suc t) kept q))
 passed_over t kept q = elim (cases_Bool (nat_eq t q)) [
   | inl same ↦ ap is_some (none_before (suc t) kept q (omega (arith, eqb-true t q same)) ∙ sym (cond-true (nat_eq t q) _ _ same))
@@ -182,21 +182,21 @@ contains-one_more s t q = set.contains-insert nat_cmp_total s t q ∙ ap (λ (b 
 pub inserted-none : (s : set.FinSet nat_cmp) → inserted [] s ≡ s
 inserted-none s = same_members (inserted [] s) s (λ q. contains-inserted [] s q ∙ or-false (set.contains s q))
 
-behind_all : (a b c : Bool) → (a || (b || (c || false))) ≡ (c || (a || b))
-behind_all true true true = refl
-behind_all true true false = refl
-behind_all true false true = refl
-behind_all true false false = refl
-behind_all false true true = refl
-behind_all false true false = refl
-behind_all false false true = refl
-behind_all false false false = refl
+after_all : (a b c : Bool) → (a || (b || (c || false))) ≡ (c || (a || b))
+after_all true true true = refl
+after_all true true false = refl
+after_all true false true = refl
+after_all true false false = refl
+after_all false true true = refl
+after_all false true false = refl
+after_all false false true = refl
+after_all false false false = refl
 
 pub inserted-push : (ts : List ℕ) (t : ℕ) (s : set.FinSet nat_cmp) → inserted (ts ++ t ∷ []) s ≡ set.insert (inserted ts s) t
 inserted-push ts t s = same_members _ _ (λ q.
     contains-inserted (ts ++ t ∷ []) s q
     ∙ ap (λ (b : Bool). set.contains s q || b) (list_any-append (λ (y : ℕ). nat_eq y q) ts (t ∷ []))
-    ∙ behind_all (set.contains s q) (among ts q) (nat_eq t q)
+    ∙ after_all (set.contains s q) (among ts q) (nat_eq t q)
     ∙ ap (λ (b : Bool). nat_eq t q || b) (sym (contains-inserted ts s q))
     ∙ sym (contains-one_more (inserted ts s) t q))
 
@@ -265,11 +265,11 @@ module _ {ts : List ℕ} {start t : ℕ} {old new after : Reader} (f : Follows t
     fresh = fresh_all;
   }
 
--- a name ends behind the place where it begins
-pub ends_behind : {bytes : List ℕ} {s i e : ℕ} {xs : List (List ℕ)} → Spelled bytes xs s i e → i < e
-ends_behind (ends h) = omega arith
-ends_behind (label h some small at rest) = omega (arith, ends_behind rest)
-ends_behind (pointer h next high below rest) = omega arith
+-- a name ends after the place where it begins
+pub ends_after : {bytes : List ℕ} {s i e : ℕ} {xs : List (List ℕ)} → Spelled bytes xs s i e → i < e
+ends_after (ends h) = omega arith
+ends_after (label h some small at rest) = omega (arith, ends_after rest)
+ends_after (pointer h next high below rest) = omega arith
 
 -- with the offsets of one more name
 pub both_lists : (ts us : List ℕ) → inserted ts (set.from_list us) ≡ set.from_list (ts ++ us)
@@ -283,20 +283,20 @@ both_lists ts us = same_members _ _ (λ q.
 one_passed : {old last : Reader} {xs : List (List ℕ)} {e : ℕ} (h : Spelled old.bytes xs old.index old.index e) → IsPassed old
     → last.bytes ≡ old.bytes → last.index ≡ e → last.kept ≡ inserted (passed h) old.kept → IsPassed last
 one_passed {old} {last} {xs} {e} h p bytes index kept =
-    let behind = ends_behind h in
+    let past = ends_after h in
     record {
       names = old.index ∷ p.names;
       offsets = passed h ++ p.offsets;
-      before = before behind;
+      before = before past;
       pass = subst (λ (bs : List ℕ). NamesPass bs (old.index ∷ p.names) (passed h ++ p.offsets)) (sym bytes) (one_more h p.pass);
       exact = kept ∙ ap (inserted (passed h)) p.exact ∙ both_lists (passed h) p.offsets;
     } where
       before : old.index < e → All (λ (i : ℕ). i < last.index) (old.index ∷ p.names)
-      before behind zero d inside = omega (arith, index, behind)
-      before behind (suc k) d inside = omega (arith, index, behind, p.before k d (omega (arith, inside)))
+      before past zero d inside = omega (arith, index, past)
+      before past (suc k) d inside = omega (arith, index, past, p.before k d (omega (arith, inside)))
 
--- A decoder behind a name: pointers to these offsets were followed, and with them all that the name passes is kept.
-pub record IsBehind {xs : List (List ℕ)} {e : ℕ} (ts : List ℕ) (old new last : Reader) (h : Spelled old.bytes xs old.index old.index e) : Type 0 where
+-- A decoder after a name: pointers to these offsets were followed, and with them all that the name passes is kept.
+pub record IsAfterName {xs : List (List ℕ)} {e : ℕ} (ts : List ℕ) (old new last : Reader) (h : Spelled old.bytes xs old.index old.index e) : Type 0 where
   pub bytes : last.bytes ≡ old.bytes
   pub index : last.index ≡ e
   pub jumps : last.jumps ≡ new.jumps
@@ -304,14 +304,14 @@ pub record IsBehind {xs : List (List ℕ)} {e : ℕ} (ts : List ℕ) (old new la
   pub passes : last.kept ≡ inserted (passed h) old.kept
 
 -- a read of a name ends: with all that it passes kept, or with a refusal
-pub counted_after : {ts : List ℕ} {old new last : Reader} {xs : List (List ℕ)} {e : ℕ} {h : Spelled old.bytes xs old.index old.index e} → IsBehind ts old new last h
+pub counted_after : {ts : List ℕ} {old new last : Reader} {xs : List (List ℕ)} {e : ℕ} {h : Spelled old.bytes xs old.index old.index e} → IsAfterName ts old new last h
     → Followed ts old new → set.len old.kept ≤ 16384 → IsCounted old → IsCounted last × (last.jumps ≤ 16384)
-counted_after behind f some counted =
+counted_after past f some counted =
     let few = f.few some in
     let raised = f.jumps (omega (arith, counted, few, f.all)) in
-    let len = ap set.len behind.kept in (
-      omega (arith, behind.jumps, raised, counted, len, f.all),
-      omega (arith, behind.jumps, raised, counted, few, f.all),
+    let len = ap set.len past.kept in (
+      omega (arith, past.jumps, raised, counted, len, f.all),
+      omega (arith, past.jumps, raised, counted, few, f.all),
     )
 
 pub counted_refused : {ts : List ℕ} {old new : Reader} → Followed ts old new → set.len old.kept ≤ 16384 → IsCounted old → new.jumps ≤ 16384
@@ -319,5 +319,5 @@ counted_refused f some counted =
     let few = f.few some in
     omega (arith, f.jumps (omega (arith, counted, few, f.all)), counted, few, f.all)
 
-pub passed_after : {ts : List ℕ} {old new last : Reader} {xs : List (List ℕ)} {e : ℕ} (h : Spelled old.bytes xs old.index old.index e) → IsBehind ts old new last h → IsPassed old → IsPassed last
-passed_after h behind p = one_passed h p behind.bytes behind.index behind.passes
+pub passed_after : {ts : List ℕ} {old new last : Reader} {xs : List (List ℕ)} {e : ℕ} (h : Spelled old.bytes xs old.index old.index e) → IsAfterName ts old new last h → IsPassed old → IsPassed last
+passed_after h past p = one_passed h p past.bytes past.index past.passes

@@ -75,10 +75,10 @@ module _ {A : Type 0} (f : A → Writing) (limit : ℕ) where
         let first : that_fit f limit (x ∷ xs) (length a.bytes) a.suffixes ≡ x ∷ that_fit f limit xs (length m.bytes) m.suffixes =
         first_fits f limit x xs (length a.bytes) a.suffixes fits ∙ ap (λ (n : ℕ). x ∷ that_fit f limit xs n m.suffixes) (sym place) in
         let (lost, whole, full) = Fits-cut xs m in
-        let behind : after (fitting f limit xs) m ≡ after (fitting f limit (x ∷ xs)) a =
+        let later : after (fitting f limit xs) m ≡ after (fitting f limit (x ∷ xs)) a =
         sym (after-both (f x) (in_turn f (that_fit f limit xs (length m.bytes) m.suffixes)) a) ∙ ap (λ (ys : List A). after (in_turn f ys) a) (sym first) in (
           lost,
           ap (λ (ys : List A). x ∷ ys) whole ∙ ap (λ (ys : List A). ys ++ lost) (sym first),
-          subst (λ (u : State). Passes f limit u lost) behind full,
+          subst (λ (u : State). Passes f limit u lost) later full,
         )
   ]

@@ -16,11 +16,11 @@ use Rattle.base.proofs.LabelLemmas.{IsWire-nil, IsWire-push, AreLabels-append, l
 use Rattle.base.proofs.ReadingLemmas.{labels_at-part, labels_at-label, labels_again, labels_too_long, length-range, IsRight, labels_right}
 use Rattle.base.proofs.WalkLemmas.{PartIs, is_past, is_root, is_cut_label, is_label, is_bits, is_cut_pointer, is_pointer, part_is}
 
--- the labels that were read, before those that are read behind them
+-- the labels that were read, before those that are read after them
 abbrev pub with_front : List (List ℕ) → Labels → Labels
 with_front front read = read >>= λ r. Ok (front ++ r.0, r.1)
 
--- the labels that are read, of a name that ends behind its first pointer, if it has passed one
+-- the labels that are read, of a name that ends after its first pointer, if it has passed one
 abbrev pub ended_at : Option ℕ → Labels → Labels
 ended_at None read = read
 ended_at (Some e) read = ending e read
@@ -185,7 +185,7 @@ module _ {buffer : List ℕ} {first before start at used : ℕ} {bytes : List �
         end_inside = gathers.end_inside;
       }
 
--- the bytes of labels behind those before them
+-- the bytes of labels after those before them
 joined : (bytes items : List ℕ) → IsWire bytes → IsWire items → bytes ++ items ≡ wire_of (labels_of bytes ++ labels_of items)
 joined bytes items b i =
     ap (λ (xs : List ℕ). xs ++ items) (sym b.whole)

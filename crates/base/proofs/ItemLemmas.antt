@@ -1,4 +1,4 @@
--- Items that were written one behind the other, and going back behind the last that fits.
+-- Items that were written one after another, and going back after the last that fits.
 use Rattle.std.proofs.Common.{◌≡◌, ℕ, List, [], ◌∷◌, ◌++◌, length, take, map, refl, ap, sym, ◌∙◌, subst}
 use Rattle.std.proofs.Math.Seq.{take-append_seam}
 use Rattle.base.specs.State.{State, Stored, cut}

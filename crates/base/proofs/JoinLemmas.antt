@@ -1,4 +1,4 @@
--- Texts one behind the other: what a token leaves of the first stands before the second.
+-- Texts one after another: what a token leaves of the first stands before the second.
 use Rattle.std.proofs.Common.{◌≡◌, ℕ, zero, suc, ◌<◌, ◌≤◌, List, [], ◌∷◌, ◌++◌, length, refl, ap, sym, ◌∙◌, subst, arith, append_assoc, length-append, Option, Some, None, Bool, true, false}
 use Rattle.std.specs.Prelude.{not, ◌&&◌, ◌||◌, ◌==◌}
 use Rattle.std.specs.List.{last_or}
@@ -26,53 +26,53 @@ use Rattle.base.specs.Tokens.{
 }
 
 -- a text ends with this
-pub record IsBehind (text rest : List ℕ) : Type 0 where
+pub record ComesAfter (text rest : List ℕ) : Type 0 where
   pub front : List ℕ
   pub whole : text ≡ front ++ rest
 
-pub behind_none : (text : List ℕ) → IsBehind text text
-behind_none text = record { front = []; whole = refl }
+pub after_none : (text : List ℕ) → ComesAfter text text
+after_none text = record { front = []; whole = refl }
 
-pub behind_one : (c : ℕ) (text rest : List ℕ) → IsBehind text rest → IsBehind (c ∷ text) rest
-behind_one c text rest is = record { front = c ∷ is.front; whole = ap (λ (t : List ℕ). c ∷ t) is.whole }
+pub after_one : (c : ℕ) (text rest : List ℕ) → ComesAfter text rest → ComesAfter (c ∷ text) rest
+after_one c text rest is = record { front = c ∷ is.front; whole = ap (λ (t : List ℕ). c ∷ t) is.whole }
 
-pub behind_both : (text mid rest : List ℕ) → IsBehind text mid → IsBehind mid rest → IsBehind text rest
-behind_both text mid rest x y = record {
+pub after_both : (text mid rest : List ℕ) → ComesAfter text mid → ComesAfter mid rest → ComesAfter text rest
+after_both text mid rest x y = record {
   front = x.front ++ y.front;
   whole = x.whole ∙ ap (λ (t : List ℕ). x.front ++ t) y.whole ∙ sym (append_assoc x.front y.front rest);
 }
 
 -- what a longer text begins with has a byte where its end has one
-pub behind_some : (text rest : List ℕ) → IsBehind text rest → 0 < length rest → 0 < length text
-behind_some text rest is some = omega (arith, simp length-append at (ap length is.whole))
+pub after_some : (text rest : List ℕ) → ComesAfter text rest → 0 < length rest → 0 < length text
+after_some text rest is some = omega (arith, simp length-append at (ap length is.whole))
 
 last-append : (o : Option ℕ) (front : List ℕ) (d : ℕ) (rest : List ℕ) → last_or o (front ++ d ∷ rest) ≡ last_or (Some d) rest
 last-append o [] d rest = refl
 last-append o (c ∷ front) d rest = last-append (Some c) front d rest
 
 -- the last byte of a text is that of its end
-pub behind_last : (text rest : List ℕ) → IsBehind text rest → 0 < length rest → last_or None text ≡ last_or None rest
-behind_last text [] is some = absurd (omega arith)
-behind_last text (d ∷ rest) is some = ap (last_or None) is.whole ∙ last-append None is.front d rest
+pub after_last : (text rest : List ℕ) → ComesAfter text rest → 0 < length rest → last_or None text ≡ last_or None rest
+after_last text [] is some = absurd (omega arith)
+after_last text (d ∷ rest) is some = ap (last_or None) is.whole ∙ last-append None is.front d rest
 
--- What was cut off a text is cut off with more behind it, if anything is left behind the cut.
+-- What was cut off a text is cut off with more after it, if anything is left after the cut.
 abbrev pub IsCarried : List ℕ → List ℕ → Option (List ℕ × List ℕ) → Option (List ℕ × List ℕ) → Type 0
 IsCarried b text None found = Unit {0}
-IsCarried b text (Some cut) found = IsBehind text cut.1 × (0 < length cut.1 → found ≡ Some (cut.0, cut.1 ++ b))
+IsCarried b text (Some cut) found = ComesAfter text cut.1 × (0 < length cut.1 → found ≡ Some (cut.0, cut.1 ++ b))
 
 carried-before : (b : List ℕ) (c : ℕ) (text : List ℕ) (cut found : Option (List ℕ × List ℕ)) → IsCarried b text cut found
     → IsCarried b (c ∷ text) (before (c ∷ []) cut) (before (c ∷ []) found)
 carried-before b c text None found is = tt
-carried-before b c text (Some cut) found is = (behind_one c text cut.1 is.0, λ some. ap (before (c ∷ [])) (is.1 some))
+carried-before b c text (Some cut) found is = (after_one c text cut.1 is.0, λ some. ap (before (c ∷ [])) (is.1 some))
 
 pub item_carried : (b : List ℕ) (kept : Bool) (text : List ℕ) → IsCarried b text (item kept text) (item kept (text ++ b))
 unfolding item
 item_carried b true [] = tt
-item_carried b false [] = (behind_none [], λ some. absurd (omega arith))
+item_carried b false [] = (after_none [], λ some. absurd (omega arith))
 item_carried b kept (c ∷ text) = go (not kept && ends_item c) refl (item_carried b (not kept && c == 92) text) where
   go : (t : Bool) → (not kept && ends_item c) ≡ t → IsCarried b text (item (not kept && c == 92) text) (item (not kept && c == 92) (text ++ b))
       → IsCarried b (c ∷ text) (item kept (c ∷ text)) (item kept (c ∷ text ++ b))
-  go true is again = rw is (behind_none (c ∷ text), λ some. refl)
+  go true is again = rw is (after_none (c ∷ text), λ some. refl)
   go false is again = rw is (carried-before b c text _ _ again)
 
 pub quoted_carried : (b : List ℕ) (kept : Bool) (text : List ℕ) → IsCarried b text (quoted kept text) (quoted kept (text ++ b))
@@ -81,25 +81,25 @@ quoted_carried b kept [] = tt
 quoted_carried b kept (c ∷ text) = go (not kept && c == 34) refl (quoted_carried b (not kept && c == 92) text) where
   go : (t : Bool) → (not kept && c == 34) ≡ t → IsCarried b text (quoted (not kept && c == 92) text) (quoted (not kept && c == 92) (text ++ b))
       → IsCarried b (c ∷ text) (quoted kept (c ∷ text)) (quoted kept (c ∷ text ++ b))
-  go true is again = rw is (behind_one c text text (behind_none text), λ some. refl)
+  go true is again = rw is (after_one c text text (after_none text), λ some. refl)
   go false is again = rw is (carried-before b c text _ _ again)
 
--- what is behind the beginning of a text is so with more behind it, if it is anything
+-- what is after the beginning of a text is so with more after it, if it is anything
 abbrev pub IsLeft : List ℕ → List ℕ → List ℕ → List ℕ → Type 0
-IsLeft b text rest found = IsBehind text rest × (0 < length rest → found ≡ rest ++ b)
+IsLeft b text rest found = ComesAfter text rest × (0 < length rest → found ≡ rest ++ b)
 
 left-one : (b : List ℕ) (c : ℕ) (text rest found : List ℕ) → IsLeft b text rest found → IsLeft b (c ∷ text) rest found
-left-one b c text rest found is = (behind_one c text rest is.0, is.1)
+left-one b c text rest found is = (after_one c text rest is.0, is.1)
 
 left-here : (b text : List ℕ) → IsLeft b text text (text ++ b)
-left-here b text = (behind_none text, λ some. refl)
+left-here b text = (after_none text, λ some. refl)
 
 left-nothing : (b found : List ℕ) → IsLeft b [] [] found
-left-nothing b found = (behind_none [], λ some. absurd (omega arith))
+left-nothing b found = (after_none [], λ some. absurd (omega arith))
 
 left-step : (b : List ℕ) (c : ℕ) (text rest found rest' found' : List ℕ) → rest' ≡ rest → found' ≡ found → IsLeft b text rest found → IsLeft b (c ∷ text) rest' found'
 left-step b c text rest found rest' found' same same' is = (
-  subst (IsBehind (c ∷ text)) (sym same) (behind_one c text rest is.0),
+  subst (ComesAfter (c ∷ text)) (sym same) (after_one c text rest is.0),
   λ some. same' ∙ is.1 (subst (λ (r : List ℕ). 0 < length r) same some) ∙ ap (λ (r : List ℕ). r ++ b) (sym same),
 )
 
@@ -147,11 +147,11 @@ comment_left b (c ∷ text) = go (c == 59) refl where
   go true is = rw is (left-one b c text _ _ (line_end_left b text))
   go false is = rw is (left-here b (c ∷ text))
 
--- what stands next within parentheses stands so with more behind it, if anything is left behind it
+-- what stands next within parentheses stands so with more after it, if anything is left after it
 abbrev IsElementCarried : List ℕ → List ℕ → Element → Element → Type 0
-IsElementCarried b text (closes rest) found = IsBehind text rest × (0 < length rest → found ≡ closes (rest ++ b))
+IsElementCarried b text (closes rest) found = ComesAfter text rest × (0 < length rest → found ≡ closes (rest ++ b))
 IsElementCarried b text misplaced found = Unit {0}
-IsElementCarried b text (one word rest) found = IsBehind text rest × (0 < length rest → found ≡ one word (rest ++ b))
+IsElementCarried b text (one word rest) found = ComesAfter text rest × (0 < length rest → found ≡ one word (rest ++ b))
 
 element-of-carried : (b text : List ℕ) (cut found : Option (List ℕ × List ℕ)) → IsCarried b text cut found → IsElementCarried b text (element_of cut) (element_of found)
 element-of-carried b text None found is = tt
@@ -159,7 +159,7 @@ element-of-carried b text (Some cut) found is = (is.0, λ some. ap element_of (i
 
 pub carried_one : (b : List ℕ) (c : ℕ) (text : List ℕ) (cut found : Option (List ℕ × List ℕ)) → IsCarried b text cut found → IsCarried b (c ∷ text) cut found
 carried_one b c text None found is = tt
-carried_one b c text (Some cut) found is = (behind_one c text cut.1 is.0, is.1)
+carried_one b c text (Some cut) found is = (after_one c text cut.1 is.0, is.1)
 
 element_carried : (b text : List ℕ) → IsElementCarried b text (element text) (element (text ++ b))
 unfolding element
@@ -167,7 +167,7 @@ element_carried b [] = tt
 element_carried b (c ∷ text) = go (c == 41) (c == 40 || c == 36) (c == 34) refl refl refl where
   go : (closing wrong quote : Bool) → (c == 41) ≡ closing → (c == 40 || c == 36) ≡ wrong → (c == 34) ≡ quote
       → IsElementCarried b (c ∷ text) (element (c ∷ text)) (element (c ∷ text ++ b))
-  go true wrong quote is opens quotes = rw is (behind_one c text text (behind_none text), λ some. refl)
+  go true wrong quote is opens quotes = rw is (after_one c text text (after_none text), λ some. refl)
   go false true quote is opens quotes = rw (is, opens) tt
   go false false true is opens quotes = rw (is, opens, quotes)
       (element-of-carried b (c ∷ text) _ _ (carried_one b c text (quoted false text) (quoted false (text ++ b)) (quoted_carried b false text)))
@@ -176,11 +176,11 @@ element_carried b (c ∷ text) = go (c == 41) (c == 40 || c == 36) (c == 34) ref
 -- the same of a list of items
 abbrev pub IsListCarried : List ℕ → List ℕ → Option (List (List ℕ) × List ℕ) → Option (List (List ℕ) × List ℕ) → Type 0
 IsListCarried b text None found = Unit {0}
-IsListCarried b text (Some cut) found = IsBehind text cut.1 × (0 < length cut.1 → found ≡ Some (cut.0, cut.1 ++ b))
+IsListCarried b text (Some cut) found = ComesAfter text cut.1 × (0 < length cut.1 → found ≡ Some (cut.0, cut.1 ++ b))
 
 pub list_carried_one : (b : List ℕ) (c : ℕ) (text : List ℕ) (cut found : Option (List (List ℕ) × List ℕ)) → IsListCarried b text cut found → IsListCarried b (c ∷ text) cut found
 list_carried_one b c text None found is = tt
-list_carried_one b c text (Some cut) found is = (behind_one c text cut.1 is.0, is.1)
+list_carried_one b c text (Some cut) found is = (after_one c text cut.1 is.0, is.1)
 
 -- more steps give the same list
 list_more : (m n : ℕ) (text : List ℕ) (cut : List (List ℕ) × List ℕ) → m ≤ n → list_items m text ≡ Some cut → list_items n text ≡ Some cut
@@ -199,11 +199,11 @@ list_more (suc m) (suc n) text cut le is = go (element (past_separators false te
   go misplaced whole again = absurd cc
   go (one word rest) whole again = found word rest (list_items m rest) refl whole again
 
-list-one : (b text rest word : List ℕ) (more : List ℕ → Option (List (List ℕ) × List ℕ)) (found : Element) (cut : Option (List (List ℕ) × List ℕ)) → IsBehind text rest
+list-one : (b text rest word : List ℕ) (more : List ℕ → Option (List (List ℕ) × List ℕ)) (found : Element) (cut : Option (List (List ℕ) × List ℕ)) → ComesAfter text rest
     → (0 < length rest → found ≡ one word (rest ++ b)) → IsListCarried b rest cut (more (rest ++ b)) → IsListCarried b text (put word cut) (listed more found)
-list-one b text rest word more found None behind here is = tt
-list-one b text rest word more found (Some cut) behind here is =
-    (behind_both text rest cut.1 behind is.0, λ some. ap (listed more) (here (behind_some rest cut.1 is.0 some)) ∙ ap (put word) (is.1 some))
+list-one b text rest word more found None after here is = tt
+list-one b text rest word more found (Some cut) after here is =
+    (after_both text rest cut.1 after is.0, λ some. ap (listed more) (here (after_some rest cut.1 is.0 some)) ∙ ap (put word) (is.1 some))
 
 list-next : (b text : List ℕ) (more : List ℕ → Option (List (List ℕ) × List ℕ)) (e found : Element) → IsElementCarried b text e found
     → ((rest : List ℕ) → IsListCarried b rest (more rest) (more (rest ++ b))) → IsListCarried b text (listed more e) (listed more found)
@@ -211,10 +211,10 @@ list-next b text more (closes rest) found is each = (is.0, λ some. ap (listed m
 list-next b text more misplaced found is each = tt
 list-next b text more (one word rest) found is each = list-one b text rest word more found (more rest) is.0 is.1 (each rest)
 
-list-from : (b text rest : List ℕ) (cut found found' : Option (List (List ℕ) × List ℕ)) → IsBehind text rest → IsListCarried b rest cut found
+list-from : (b text rest : List ℕ) (cut found found' : Option (List (List ℕ) × List ℕ)) → ComesAfter text rest → IsListCarried b rest cut found
     → (0 < length rest → found' ≡ found) → IsListCarried b text cut found'
-list-from b text rest None found found' behind is same = tt
-list-from b text rest (Some cut) found found' behind is same = (behind_both text rest cut.1 behind is.0, λ some. same (behind_some rest cut.1 is.0 some) ∙ is.1 some)
+list-from b text rest None found found' after is same = tt
+list-from b text rest (Some cut) found found' after is same = (after_both text rest cut.1 after is.0, λ some. same (after_some rest cut.1 is.0 some) ∙ is.1 some)
 
 list_carried : (b : List ℕ) (steps : ℕ) (text : List ℕ) → IsListCarried b text (list_items steps text) (list_items steps (text ++ b))
 unfolding list_items

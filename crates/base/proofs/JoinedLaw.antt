@@ -1,4 +1,4 @@
--- The tokens of texts one behind the other, the first of which ends with the end of a line.
+-- The tokens of texts one after another, the first of which ends with the end of a line.
 use Rattle.std.proofs.Common.{◌≡◌, ◌≢◌, ℕ, zero, suc, ◌<◌, ◌≤◌, List, [], ◌∷◌, ◌++◌, length, refl, ap, sym, ◌∙◌, arith, Option, Some, None, Bool, true, false}
 use Rattle.std.specs.Prelude.{◌&&◌, ◌==◌, codes, if◌then◌else◌}
 use Rattle.std.specs.Str.{bytes_eq}
@@ -41,15 +41,15 @@ use Rattle.base.specs.Tokens.{
 }
 use Rattle.base.specs.TokenList.{EndsWithALine, Symbol, broken, followed, listing, symbol, symbol_of, symbols, whole_text}
 use Rattle.base.proofs.JoinLemmas.{
-  IsBehind,
+  ComesAfter,
   IsCarried,
   IsLeft,
   IsListCarried,
-  behind_both,
-  behind_last,
-  behind_none,
-  behind_one,
-  behind_some,
+  after_both,
+  after_last,
+  after_none,
+  after_one,
+  after_some,
   blanks_left,
   carried_one,
   comment_left,
@@ -60,7 +60,7 @@ use Rattle.base.proofs.JoinLemmas.{
 }
 use Rattle.base.proofs.TokenLemmas.{symbols_are, symbols_shrink}
 
--- what is still to be read, with more behind it
+-- what is still to be read, with more after it
 abbrev with_more : List ℕ → Unread → Unread
 with_more b u = record u { text = u.text ++ b }
 
@@ -68,13 +68,13 @@ with_more b u = record u { text = u.text ++ b }
 abbrev at_start : List ℕ → Unread
 at_start text = record { text = text; at_line_start = true }
 
--- What comes next does so with more behind it: where something is left behind it, and where nothing is and it is the end
+-- What comes next does so with more after it: where something is left after it, and where nothing is and it is the end
 -- of a line, of which a line feed that comes may be the second byte.
 abbrev IsTokenCarried : List ℕ → List ℕ → Next → Next → Type 0
 IsTokenCarried b text ends found = Unit {0}
 IsTokenCarried b text faulty found = Unit {0}
 IsTokenCarried b text (token value rest) found =
-    IsBehind text rest.text × (0 < length rest.text → found ≡ token value (with_more b rest))
+    ComesAfter text rest.text × (0 < length rest.text → found ≡ token value (with_more b rest))
     × ((c : ℕ) → value ≡ eol → length rest.text ≤ 0 → last_or None text ≡ Some c → found ≡ token eol (at_start (past_line_end c b)))
 
 item_token_is : (word : List ℕ) (value : TokenValue) → item_token word ≡ Some value → value ≢ eol
@@ -90,11 +90,11 @@ item_token_is word value is here =
       pick false false false false true said = cc
       pick false false false false false said = cc
 
-item-carried : (b text rest : List ℕ) (word : List ℕ) (value : Option TokenValue) (found : Next) → item_token word ≡ value → IsBehind text rest
+item-carried : (b text rest : List ℕ) (word : List ℕ) (value : Option TokenValue) (found : Next) → item_token word ≡ value → ComesAfter text rest
     → (0 < length rest → found ≡ token_or_fault (item_token word) (within_line (rest ++ b))) → IsTokenCarried b text (token_or_fault value (within_line rest)) found
-item-carried b text rest word None found said behind is = tt
-item-carried b text rest word (Some value) found said behind is =
-    (behind, λ some. is some ∙ ap (λ (v : Option TokenValue). token_or_fault v (within_line (rest ++ b))) said, λ c line none last. absurd (item_token_is word value said line))
+item-carried b text rest word None found said rests is = tt
+item-carried b text rest word (Some value) found said rests is =
+    (rests, λ some. is some ∙ ap (λ (v : Option TokenValue). token_or_fault v (within_line (rest ++ b))) said, λ c line none last. absurd (item_token_is word value said line))
 
 next-item-carried : (b text : List ℕ) (cut found : Option (List ℕ × List ℕ)) → IsCarried b text cut found → IsTokenCarried b text (next_item cut) (next_item found)
 next-item-carried b text None found is = tt
@@ -108,22 +108,22 @@ next-list-carried : (b text : List ℕ) (cut found : Option (List (List ℕ) × 
 next-list-carried b text None found is = tt
 next-list-carried b text (Some cut) found is = (is.0, λ some. ap next_list (is.1 some), λ c line none last. absurd cc)
 
-token-from : (b text rest : List ℕ) (t found found' : Next) → IsBehind text rest → IsTokenCarried b rest t found
+token-from : (b text rest : List ℕ) (t found found' : Next) → ComesAfter text rest → IsTokenCarried b rest t found
     → (0 < length rest → found' ≡ found) → 0 < length rest → IsTokenCarried b text t found'
-token-from b text rest ends found found' behind is same some = tt
-token-from b text rest faulty found found' behind is same some = tt
-token-from b text rest (token value u) found found' behind is same some = (
-  behind_both text rest u.text behind is.0,
+token-from b text rest ends found found' rests is same some = tt
+token-from b text rest faulty found found' rests is same some = tt
+token-from b text rest (token value u) found found' rests is same some = (
+  after_both text rest u.text rests is.0,
   λ left. same some ∙ is.1 left,
-  λ c line none last. same some ∙ is.2 c line none (sym (behind_last text rest behind some) ∙ last),
+  λ c line none last. same some ∙ is.2 c line none (sym (after_last text rest rests some) ∙ last),
 )
 
-line-end-behind : (c : ℕ) (text : List ℕ) → IsBehind (c ∷ text) (past_line_end c text)
-line-end-behind c [] = behind_one c [] [] (behind_none [])
-line-end-behind c (d ∷ text) = go (c == 13 && d == 10) refl where
-  go : (t : Bool) → (c == 13 && d == 10) ≡ t → IsBehind (c ∷ d ∷ text) (past_line_end c (d ∷ text))
-  go true is = rw is (behind_one c (d ∷ text) text (behind_one d text text (behind_none text)))
-  go false is = rw is (behind_one c (d ∷ text) (d ∷ text) (behind_none (d ∷ text)))
+line-end-after : (c : ℕ) (text : List ℕ) → ComesAfter (c ∷ text) (past_line_end c text)
+line-end-after c [] = after_one c [] [] (after_none [])
+line-end-after c (d ∷ text) = go (c == 13 && d == 10) refl where
+  go : (t : Bool) → (c == 13 && d == 10) ≡ t → ComesAfter (c ∷ d ∷ text) (past_line_end c (d ∷ text))
+  go true is = rw is (after_one c (d ∷ text) text (after_one d text text (after_none text)))
+  go false is = rw is (after_one c (d ∷ text) (d ∷ text) (after_none (d ∷ text)))
 
 line-end-left : (b : List ℕ) (c : ℕ) (text : List ℕ) → 0 < length (past_line_end c text) → past_line_end c (text ++ b) ≡ past_line_end c text ++ b
 line-end-left b c [] some = absurd (omega arith)
@@ -160,7 +160,7 @@ visible_carried b (c ∷ text) = go (is_line_end c) (c == 34) (c == 40) (c == 41
   go : (line quote opening closing : Bool) → is_line_end c ≡ line → (c == 34) ≡ quote → (c == 40) ≡ opening → (c == 41) ≡ closing
       → IsTokenCarried b (c ∷ text) (visible (c ∷ text)) (visible (c ∷ text ++ b))
   go true quote opening closing is quotes opens closes = rw is (
-    line-end-behind c text,
+    line-end-after c text,
     λ some. ap (λ (t : List ℕ). token eol (at_start t)) (line-end-left b c text some),
     λ e line none last. ap (λ (t : List ℕ). token eol (at_start t)) (line-end-last b c text e none last),
   )
@@ -171,10 +171,10 @@ visible_carried b (c ∷ text) = go (is_line_end c) (c == 34) (c == 40) (c == 41
   go false false false true is quotes opens closes = rw (is, quotes, opens, closes) tt
   go false false false false is quotes opens closes = rw (is, quotes, opens, closes) (next-item-carried b (c ∷ text) _ _ (item_carried b false (c ∷ text)))
 
-visible-from : (b text rest : List ℕ) (found : Next) → IsBehind text rest → (0 < length rest → found ≡ visible (rest ++ b)) → IsTokenCarried b text (visible rest) found
+visible-from : (b text rest : List ℕ) (found : Next) → ComesAfter text rest → (0 < length rest → found ≡ visible (rest ++ b)) → IsTokenCarried b text (visible rest) found
 unfolding visible
-visible-from b text [] found behind here = tt
-visible-from b text (c ∷ rest) found behind here = token-from b text (c ∷ rest) (visible (c ∷ rest)) (visible (c ∷ rest ++ b)) found behind (visible_carried b (c ∷ rest)) here (omega arith)
+visible-from b text [] found rests here = tt
+visible-from b text (c ∷ rest) found rests here = token-from b text (c ∷ rest) (visible (c ∷ rest)) (visible (c ∷ rest ++ b)) found rests (visible_carried b (c ∷ rest)) here (omega arith)
 
 next_carried : (b text : List ℕ) (start : Bool) → IsTokenCarried b text (next (record { text = text; at_line_start = start })) (next (record { text = text ++ b; at_line_start = start }))
 unfolding next visible
@@ -191,8 +191,8 @@ next_carried b (c ∷ text) start = go (start && is_blank c) refl where
       → IsTokenCarried b (c ∷ text) (next (record { text = c ∷ text; at_line_start = start })) (next (record { text = c ∷ text ++ b; at_line_start = start }))
   go true is = rw is (blanks.0, λ some. ap (λ (t : List ℕ). token blank (within_line t)) (blanks.1 some), λ e line none last. absurd cc)
   go false is = rw is (visible-from b (c ∷ text) (past_comment (past_blanks (c ∷ text))) _
-      (behind_both (c ∷ text) (past_blanks (c ∷ text)) (past_comment (past_blanks (c ∷ text))) blanks.0 comment.0)
-      (λ some. ap (λ (t : List ℕ). visible (past_comment t)) (blanks.1 (behind_some _ _ comment.0 some)) ∙ ap visible (comment.1 some)))
+      (after_both (c ∷ text) (past_blanks (c ∷ text)) (past_comment (past_blanks (c ∷ text))) blanks.0 comment.0)
+      (λ some. ap (λ (t : List ℕ). visible (past_comment t)) (blanks.1 (after_some _ _ comment.0 some)) ∙ ap visible (comment.1 some)))
 
 -- A text whose last byte ends a line has a token.
 blanks-some : (text : List ℕ) (c : ℕ) → last_or None text ≡ Some c → is_line_end c ≡ true → 0 < length (past_blanks text)
@@ -261,15 +261,15 @@ next_some u c last line is = go (u.at_line_start && begins_blank u.text) is wher
   blanks = blanks-some u.text c last line
 
   same : last_or None (past_blanks u.text) ≡ Some c
-  same = sym (behind_last u.text (past_blanks u.text) (blanks_left [] u.text).0 blanks) ∙ last
+  same = sym (after_last u.text (past_blanks u.text) (blanks_left [] u.text).0 blanks) ∙ last
 
   go : (t : Bool) → (if t then token blank (within_line (past_blanks u.text)) else visible (past_comment (past_blanks u.text))) ≡ ends → ⊥
   go true found = cc
   go false found = visible-some (past_comment (past_blanks u.text)) (comment-some (past_blanks u.text) c same line) found
 
--- the last of the tokens behind a first one is the last of all, where there are any
-last_behind : (u : Unread) (v : Symbol) → next u ≢ ends → last_or (Some v) (symbols u) ≡ last_or None (symbols u)
-last_behind u v some = rw (symbols_are u) (go (next u) some) where
+-- the last of the tokens after a first one is the last of all, where there are any
+last_after : (u : Unread) (v : Symbol) → next u ≢ ends → last_or (Some v) (symbols u) ≡ last_or None (symbols u)
+last_after u v some = rw (symbols_are u) (go (next u) some) where
   go : (found : Next) → found ≢ ends → last_or (Some v) (followed symbols (symbol_of found)) ≡ last_or None (followed symbols (symbol_of found))
   go ends some = absurd (some refl)
   go faulty some = refl
@@ -285,7 +285,7 @@ after u value rest is = symbols_are u ∙ ap (λ (found : Next). followed symbol
 after-fault : (u : Unread) → next u ≡ faulty → symbols u ≡ broken ∷ []
 after-fault u is =
     symbols_are u ∙ ap (λ (found : Next). followed symbols (symbol_of found)) is
-    ∙ ap (λ (behind : List Symbol). broken ∷ behind) (nothing-left (record { text = []; at_line_start = false }) (omega arith))
+    ∙ ap (λ (rests : List Symbol). broken ∷ rests) (nothing-left (record { text = []; at_line_start = false }) (omega arith))
 
 shorter : (u : Unread) (value : TokenValue) (rest : Unread) → next u ≡ token value rest → length rest.text < length u.text
 shorter u value rest is = symbols_shrink u (symbol value, rest) (ap symbol_of is)
@@ -310,13 +310,13 @@ joined b c line (suc n) u low last closed = go (next u) refl (next_carried b u.t
         ∙ ap (λ (s : List Symbol). s ++ symbols (whole_text (past_line_end c b))) (ap (λ (v : TokenValue). symbol v ∷ []) (sym line_ends) ∙ sym alone)
     by-rest (suc m) some =
         let left : 0 < length rest.text = omega arith in
-        let last' : last_or None rest.text ≡ Some c = sym (behind_last u.text rest.text carried.0 left) ∙ last in
+        let last' : last_or None rest.text ≡ Some c = sym (after_last u.text rest.text carried.0 left) ∙ last in
         let closed' : last_or None (symbols rest) ≡ Some (symbol eol) =
-        sym (last_behind rest (symbol value) (next_some rest c last' line)) ∙ sym (ap (last_or None) (after u value rest is)) ∙ closed in
+        sym (last_after rest (symbol value) (next_some rest c last' line)) ∙ sym (ap (last_or None) (after u value rest is)) ∙ closed in
         after (with_more b u) value (with_more b rest) (carried.1 left)
         ∙ ap (λ (s : List Symbol). symbol value ∷ s) (again rest (let less = shorter u value rest is in omega arith) last' closed')
         ∙ ap (λ (s : List Symbol). s ++ symbols (whole_text (past_line_end c b))) (sym (after u value rest is))
 
--- the tokens of texts one behind the other
+-- the tokens of texts one after another
 pub texts_joined : (a b : List ℕ) (e : EndsWithALine a) → symbols (whole_text (a ++ b)) ≡ symbols (whole_text a) ++ symbols (whole_text (past_line_end e.byte b))
 texts_joined a b e = joined b e.byte e.ends_line (length a) (whole_text a) (omega arith) e.last e.closed

@@ -75,7 +75,7 @@ pub Writes-either : {X : Type 0} (r : Result X ProtoError) (word : List ℕ → 
 Writes-either (Ok x) word plain xs a b ok fits is_word = Writes-bytes word plain xs a b ok fits is_word
 Writes-either (Err e) word plain xs a b ok fits is_word = ok
 
--- ---- one writing behind another
+-- ---- one writing after another
 
 unfoldable pub Keeps-then : {a b c : State} → Keeps a b → Keeps b c → Keeps a c
 Keeps-then {a} {b} {c} k l = record {
@@ -109,7 +109,7 @@ module _ (a b c : State) (k : Keeps a b) (l : Keeps b c) (B : List ℕ) where
         subst (λ (xs : List ℕ). Stands xs B (length a.bytes)) (sym (added_bytes a b k.appended k.bytes)) (first_stands k.appended l.appended B (length a.bytes) all);
   }
 
-  -- what was added by the second stands behind the first
+  -- what was added by the second stands after the first
   pub Stands-second : Holds a c B → Stands (drop (length b.bytes) c.bytes) B (length b.bytes)
   Stands-second h =
       let all : Stands (k.appended ++ (l.appended ++ [])) B (length a.bytes) = subst (λ (xs : List ℕ). Stands xs B (length a.bytes))
@@ -127,8 +127,8 @@ module _ (a b c : State) (k : Keeps a b) (l : Keeps b c) (B : List ℕ) where
 pub Writes-then : {first second : List ℕ → ℕ → ℕ → Type 0} {n m : ℕ} {owner : List (List ℕ)} {a b c : State} → Keeps a b → Keeps b c → Writes first n owner a b
     → Writes second m [] b c → Writes (Then first second) (n + m) owner a c
 Writes-then {a = a} {b = b} {c = c} k l v w = record {
-  word_stands = λ B h. (length b.bytes, v.word_stands B (Holds-first a b c k l B h), w.word_stands B (behind B h));
-  valid = λ B h. w.valid B (behind B h);
+  word_stands = λ B h. (length b.bytes, v.word_stands B (Holds-first a b c k l B h), w.word_stands B (after B h));
+  valid = λ B h. w.valid B (after B h);
   at_most = omega (arith, v.at_most, w.at_most);
   compresses = record {
     end = v.compresses.end;
@@ -137,8 +137,8 @@ Writes-then {a = a} {b = b} {c = c} k l v w = record {
     stored = λ some early. any_append _ b.suffixes l.added c.suffixes l.suffixes (v.compresses.stored some early);
   };
 } where
-  behind : (B : List ℕ) → Holds a c B → Holds b c B
-  behind B h = Holds-second a b c k l B (v.valid B (Holds-first a b c k l B h)) h
+  after : (B : List ℕ) → Holds a c B → Holds b c B
+  after B h = Holds-second a b c k l B (v.valid B (Holds-first a b c k l B h)) h
 
 -- a word that follows from the one that was written, and as many bytes or more
 pub Writes-weaker : {word other : List ℕ → ℕ → ℕ → Type 0} {n m : ℕ} {owner : List (List ℕ)} {a b : State} → ((B : List ℕ) (i e : ℕ) → word B i e → other B i e)
@@ -150,7 +150,7 @@ Writes-weaker {a = a} {b = b} follows fits w = record {
   compresses = w.compresses;
 }
 
--- no owner, so that what has an owner can be written behind something else
+-- no owner, so that what has an owner can be written after something else
 pub Writes-unowned : {word : List ℕ → ℕ → ℕ → Type 0} {n : ℕ} {owner : List (List ℕ)} {a b : State} → Writes word n owner a b → Writes word n [] a b
 Writes-unowned w = record {
   word_stands = w.word_stands;

@@ -5,7 +5,7 @@ use Rattle.std.proofs.lemmas.Bool.Decides.{nat_tests}
 use Rattle.std.proofs.lemmas.List.{append-nil, nil_from_length}
 use Rattle.base.specs.Tokens.{Element, closes, misplaced, one, before, element, element_of, ends_item, is_line_end, item, list_items, listed, past_separators, put, quoted, separates}
 
--- what is behind a cut is no longer than this
+-- what is after a cut is no longer than this
 abbrev pub IsWithin : ℕ → Option (List ℕ × List ℕ) → Type 0
 IsWithin n None = Unit {0}
 IsWithin n (Some cut) = length cut.1 ≤ n
@@ -132,23 +132,23 @@ nothing_is_misplaced : (rest : List ℕ) → length rest ≤ 0 → element (past
 unfolding element
 nothing_is_misplaced rest short = ap (λ (t : List ℕ). element (past_separators false t)) (nil_from_length rest (omega arith))
 
-pub listing_more : {text rest : List ℕ} {items : List (List ℕ)} (word behind : List ℕ) → Listing text rest items
-    → element (past_separators false rest) ≡ one word behind → Listing text behind (items ++ word ∷ [])
-listing_more {text} {rest} {items} word behind l is = go l.steps l.enough l.whole where
-  go : (steps : ℕ) → length rest ≤ steps → puts items (list_items steps rest) ≡ list_items (length text) text → Listing text behind (items ++ word ∷ [])
+pub listing_more : {text rest : List ℕ} {items : List (List ℕ)} (word after : List ℕ) → Listing text rest items
+    → element (past_separators false rest) ≡ one word after → Listing text after (items ++ word ∷ [])
+listing_more {text} {rest} {items} word after l is = go l.steps l.enough l.whole where
+  go : (steps : ℕ) → length rest ≤ steps → puts items (list_items steps rest) ≡ list_items (length text) text → Listing text after (items ++ word ∷ [])
   go zero enough whole = absurd (let none = nothing_is_misplaced rest enough in cc)
   go (suc steps) enough whole = record {
     steps = steps;
-    enough = omega (arith, next_shorter rest word behind is);
-    whole = sym (puts-put items word (list_items steps behind)) ∙ ap (puts items) (sym (listed_is steps rest (one word behind) is)) ∙ whole;
+    enough = omega (arith, next_shorter rest word after is);
+    whole = sym (puts-put items word (list_items steps after)) ∙ ap (puts items) (sym (listed_is steps rest (one word after) is)) ∙ whole;
   }
 
-pub listing_ends : {text rest : List ℕ} {items : List (List ℕ)} (behind : List ℕ) → Listing text rest items
-    → element (past_separators false rest) ≡ closes behind → list_items (length text) text ≡ Some (items, behind)
-listing_ends {text} {rest} {items} behind l is = go l.steps l.enough l.whole where
-  go : (steps : ℕ) → length rest ≤ steps → puts items (list_items steps rest) ≡ list_items (length text) text → list_items (length text) text ≡ Some (items, behind)
+pub listing_ends : {text rest : List ℕ} {items : List (List ℕ)} (after : List ℕ) → Listing text rest items
+    → element (past_separators false rest) ≡ closes after → list_items (length text) text ≡ Some (items, after)
+listing_ends {text} {rest} {items} after l is = go l.steps l.enough l.whole where
+  go : (steps : ℕ) → length rest ≤ steps → puts items (list_items steps rest) ≡ list_items (length text) text → list_items (length text) text ≡ Some (items, after)
   go zero enough whole = absurd (let none = nothing_is_misplaced rest enough in cc)
-  go (suc steps) enough whole = sym whole ∙ ap (puts items) (listed_is steps rest (closes behind) is) ∙ ap (λ (words : List (List ℕ)). Some (words, behind)) (append-nil items)
+  go (suc steps) enough whole = sym whole ∙ ap (puts items) (listed_is steps rest (closes after) is) ∙ ap (λ (words : List (List ℕ)). Some (words, after)) (append-nil items)
 
 pub listing_fails : {text rest : List ℕ} {items : List (List ℕ)} → Listing text rest items → element (past_separators false rest) ≡ misplaced → list_items (length text) text ≡ None
 listing_fails {text} {rest} {items} l is = go l.steps l.whole where

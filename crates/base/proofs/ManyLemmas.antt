@@ -1,4 +1,4 @@
--- Reading values one behind the other, step by step.
+-- Reading values one after another, step by step.
 use Rattle.std.proofs.Common.{◌≡◌, ℕ, ◌+◌, ◌-◌, ◌<◌, ◌≤◌, List, [], ◌∷◌, ◌++◌, length, zero, suc, refl, ap, sym, ◌∙◌, subst, arith, append_assoc, Result, Ok, Err}
 use Rattle.std.proofs.lemmas.List.{append-nil}
 use Rattle.base.specs.declared.error.decode_error.DecodeError.{DecodeError}
@@ -26,7 +26,7 @@ one_more : {A : Type 0} (items : List A) (x : A) (r : Read (List A)) → with_fr
 one_more items x (Ok r) = ap (λ ys. Ok (ys, r.1)) (sym (append_assoc items (x ∷ []) r.0))
 one_more items x (Err e) = refl
 
--- a value that was read goes behind those before it
+-- a value that was read goes after those before it
 pub many-step : {A : Type 0} (read : List ℕ → ℕ → Read A) (n c : ℕ) (bytes : List ℕ) (i : ℕ) (items : List A) (x : A) (e : ℕ) → c < n → read bytes i ≡ Ok (x, e)
     → with_front items (many_at read (n - c) bytes i) ≡ with_front (items ++ x ∷ []) (many_at read (n - (c + 1)) bytes e)
 unfolding many_at
@@ -76,7 +76,7 @@ pub record AreMany {A : Type 0} (Word : ℕ → A → ℕ → Type 0) (n i : ℕ
   pub words : BackToBack Word i r.0 r.1
   pub counted : length r.0 ≡ n
 
--- where each value that is read has its word, values read one behind the other stand back to back
+-- where each value that is read has its word, values read one after another stand back to back
 pub many_stand : {A : Type 0} (Word : ℕ → A → ℕ → Type 0) (read : List ℕ → ℕ → Read A) (bytes : List ℕ)
     → ((i : ℕ) (r : A × ℕ) → read bytes i ≡ Ok r → Word i r.0 r.1) → (n i : ℕ) (r : List A × ℕ) → many_at read n bytes i ≡ Ok r → AreMany Word n i r
 unfolding many_at

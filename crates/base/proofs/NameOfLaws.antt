@@ -67,11 +67,11 @@ name_or_fault text origin = start (bytes_eq text (46 ∷ [])) (bytes_eq text (64
     go true fits = is_named _ (is_completed given at is (grind (arith, nat_tests)))
     go false fits = inr (made ∙ rw fits refl)
 
-  behind : (found : Option (List (List ℕ) × Bool)) → text_labels text ≡ found → text ≢ 64 ∷ []
+  after : (found : Option (List (List ℕ) × Bool)) → text_labels text ≡ found → text ≢ 64 ∷ []
       → name_of text origin ≡ completed_if origin found → Named text origin ⊎ (name_of text origin ≡ Err bad_name)
-  behind None read at made = inr made
-  behind (Some (labels, true)) read at made = is_named _ (is_absolute (text_labels_sound text labels true read))
-  behind (Some (labels, false)) read at made = relative origin labels refl at made (text_labels_sound text labels false read)
+  after None read at made = inr made
+  after (Some (labels, true)) read at made = is_named _ (is_absolute (text_labels_sound text labels true read))
+  after (Some (labels, false)) read at made = relative origin labels refl at made (text_labels_sound text labels false read)
 
   apart : {xs ys : List ℕ} → bytes_eq xs ys ≡ false → xs ≢ ys
   apart {xs} {ys} is e = true_false (sym ((bytes_decides xs ys).1 e) ∙ is) where
@@ -81,7 +81,7 @@ name_or_fault text origin = start (bytes_eq text (46 ∷ [])) (bytes_eq text (64
   start : (dot at : Bool) → bytes_eq text (46 ∷ []) ≡ dot → bytes_eq text (64 ∷ []) ≡ at → Named text origin ⊎ (name_of text origin ≡ Err bad_name)
   start true at is is_at = is_named _ (is_root ((bytes_decides text (46 ∷ [])).0 is))
   start false true is is_at = at_origin origin refl ((bytes_decides text (64 ∷ [])).0 is_at)
-  start false false is is_at = behind (text_labels text) refl (apart is_at) (labels_case text origin (apart is) (apart is_at))
+  start false false is is_at = after (text_labels text) refl (apart is_at) (labels_case text origin (apart is) (apart is_at))
 
 ok_once : {a b : NameValue} → ◌≡◌ {A = Result NameValue Fault} (Ok a) (Ok b) → a ≡ b
 ok_once e = cc

@@ -41,15 +41,15 @@ unfolding chars
 chars_sound steps [] cs is = subst (AreCharsOf []) (let same : [] ≡ cs = cc in same) none
 chars_sound zero (b ∷ text) cs is = absurd (no_chars is)
 chars_sound (suc steps) (b ∷ text) cs is = go (λ rest ds. chars_sound steps rest ds) (first_char (b ∷ text)) refl is where
-  behind : ((rest : List ℕ) (ds : List Character) → chars steps rest ≡ Some ds → AreCharsOf rest ds) → (c : Character) (rest : List ℕ) (more_chars : Option (List Character))
+  after : ((rest : List ℕ) (ds : List Character) → chars steps rest ≡ Some ds → AreCharsOf rest ds) → (c : Character) (rest : List ℕ) (more_chars : Option (List Character))
       → first_char (b ∷ text) ≡ Some (c, rest) → chars steps rest ≡ more_chars → char_on c more_chars ≡ Some cs → AreCharsOf (b ∷ text) cs
-  behind again c rest None first is on = absurd (no_chars on)
-  behind again c rest (Some ds) first is on = subst (AreCharsOf (b ∷ text)) (let same : c ∷ ds ≡ cs = cc in same) (reads_more first (again rest ds is))
+  after again c rest None first is on = absurd (no_chars on)
+  after again c rest (Some ds) first is on = subst (AreCharsOf (b ∷ text)) (let same : c ∷ ds ≡ cs = cc in same) (reads_more first (again rest ds is))
 
   go : ((rest : List ℕ) (ds : List Character) → chars steps rest ≡ Some ds → AreCharsOf rest ds) → (found : Option (Character × List ℕ))
       → first_char (b ∷ text) ≡ found → chars_on (chars steps) found ≡ Some cs → AreCharsOf (b ∷ text) cs
   go again None first on = absurd (no_chars on)
-  go again (Some (c, rest)) first on = behind again c rest (chars steps rest) first refl on
+  go again (Some (c, rest)) first on = after again c rest (chars steps rest) first refl on
 
 -- the characters of pieces are those that they were cut from
 dotted-onto : (b : ℕ) (x : List ℕ) (xs : List (List ℕ)) → dotted ((b ∷ x) ∷ xs) ≡ byte b ∷ dotted (x ∷ xs)

@@ -88,7 +88,7 @@ too_long {origin = given_origin} given at is long (is_completed {labels = xs} e 
     let all = ap (λ (n : NameValue). size_of (xs ++ n.labels)) same ∙ ap (λ (ls : List (List ℕ)). size_of (ls ++ given_origin.labels)) labels_same in
     omega (arith, all)
 
--- labels behind others, in bytes
+-- labels after others, in bytes
 pub appended_labels : (bytes wire : List ℕ) (labels : List (List ℕ)) → IsWire bytes → wire ≡ wire_of labels → labels_of (bytes ++ wire) ≡ labels_of bytes ++ labels
 appended_labels bytes wire labels holds is =
     ap labels_of (ap (λ (front : List ℕ). front ++ wire) (sym holds.whole) ∙ ap (λ (back : List ℕ). wire_of (labels_of bytes) ++ back) is

@@ -3,13 +3,13 @@ use Rattle.std.proofs.Common.{◌≡◌, ℕ, List, ◌++◌, length, Ok, ap, sy
 use Rattle.std.specs.List.{flat_map}
 use Rattle.base.specs.Labels.{NameValue}
 use Rattle.base.specs.Many.{many_names}
-use Rattle.base.specs.Reading.{Read, behind}
+use Rattle.base.specs.Reading.{Read, place_after}
 use Rattle.base.specs.Spelling.{NamesStand, no_more, one_more}
 use Rattle.base.specs.Words.{BackToBack}
 use Rattle.base.specs.Words.BackToBack.{none, more}
 
-pub names_both : {bytes places others : List ℕ} {names behind_them : List NameValue} → NamesStand bytes places names → NamesStand bytes others behind_them
-    → NamesStand bytes (places ++ others) (names ++ behind_them)
+pub names_both : {bytes places others : List ℕ} {names after_them : List NameValue} → NamesStand bytes places names → NamesStand bytes others after_them
+    → NamesStand bytes (places ++ others) (names ++ after_them)
 names_both no_more rest = rest
 names_both (one_more at first) rest = one_more at (names_both first rest)
 
@@ -22,10 +22,10 @@ names_of_many read places names bytes again stand none = no_more
 names_of_many read places names bytes again stand (more {i = i} {j = j} {e = e} {x = x} {xs = xs} word rest) =
     let is = again i x j word in
     let others = names_of_many read places names bytes again stand rest in
-    let next : j ≡ behind (read bytes i) = sym (ap behind is) in
+    let next : j ≡ place_after (read bytes i) = sym (ap place_after is) in
     names_both (stand i x j is) (subst (λ (k : ℕ). NamesStand bytes (many_names read places (length xs) bytes k) (flat_map names xs)) next others)
 
--- words behind words
+-- words after words
 pub back_to_back : {A : Type 0} {Word : ℕ → A → ℕ → Type 0} {i j e : ℕ} {xs ys : List A} → BackToBack Word i xs j → BackToBack Word j ys e → BackToBack Word i (xs ++ ys) e
 back_to_back none rest = rest
 back_to_back (more word first) rest = more word (back_to_back first rest)

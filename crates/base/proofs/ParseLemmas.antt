@@ -23,7 +23,7 @@ reads_once (more {rest = r} {c = c} spells is rest) (more {rest = r'} {c = d} {c
     let same = same_first (sym (first_of_piece spells is) ∙ first_of_piece spells' is') in
     cc (same.0, reads_once rest (subst (λ (t : List ℕ). AreCharsOf t ds) (sym same.1) rest'))
 
--- labels with a dot behind each
+-- labels with a dot after each
 abbrev pub ended : List (List ℕ) → List Character
 ended [] = []
 ended (x ∷ xs) = map byte x ++ (dot ∷ ended xs)
@@ -76,7 +76,7 @@ pieces-dotted [] some = absurd (some refl)
 pieces-dotted (x ∷ []) some = pieces-map x
 pieces-dotted (x ∷ y ∷ ys) some = pieces-label x (dotted (y ∷ ys)) ∙ ap (λ (zs : List (List ℕ)). x ∷ zs) (pieces-dotted (y ∷ ys) (λ e. absurd cc))
 
--- the piece behind the last dot
+-- the piece after the last dot
 abbrev pub last_piece : Bool → List (List ℕ)
 last_piece absolute = if absolute then [] ∷ [] else []
 
@@ -265,7 +265,7 @@ ends_relative {text} {done} {current} gathered some small are short = record {
   short = omega (arith, size_of-append done (current ∷ []));
 }
 
--- the text has ended behind a dot
+-- the text has ended after a dot
 pub ends_absolute : {text : List ℕ} {done : List (List ℕ)} → Gathered text [] done [] → done ≢ [] → AreLabels done → size_of done ≤ 254 → IsLabelsText text done true
 ends_absolute {text} {done} gathered some are short = record {
   reads = subst (AreCharsOf text) (append-nil (ended done) ∙ sym (dotted-dot done some)) (gathered.goes_on [] none);
@@ -321,7 +321,7 @@ module _ {text rest room : List ℕ} {used len : ℕ} (holds : Holds text rest r
   pub holds_byte : {b : ℕ} {tail : List ℕ} → first_char rest ≡ Some (byte b, tail) → len < 63 → used + 1 + len < 254 → Holds text tail (set room (used + 1 + len) b) used (len + 1)
   holds_byte {b} {tail} first small room_left = record {
     gathered = subst (λ (done : List (List ℕ)). Gathered text tail done (take (len + 1) (drop (used + 1) next))) (ap labels_of (sym front))
-        (subst (Gathered text tail (labels_of (take used room))) (sym behind) (gathered_byte holds.gathered first));
+        (subst (Gathered text tail (labels_of (take used room))) (sym after) (gathered_byte holds.gathered first));
     wire = subst IsWire (sym front) holds.wire;
     size = length-set room (used + 1 + len) b ∙ holds.size;
     inside = holds.inside;
@@ -334,8 +334,8 @@ module _ {text rest room : List ℕ} {used len : ℕ} (holds : Holds text rest r
     front : take used next ≡ take used room
     front = take-set-le used room (used + 1 + len) b (omega arith)
 
-    behind : take (len + 1) (drop (used + 1) next) ≡ take len (drop (used + 1) room) ++ b ∷ []
-    behind = ap (take (len + 1)) (drop-set-add (used + 1) room len b) ∙ take_more_set (drop (used + 1) room) len b (omega (arith, length-drop (used + 1) room, holds.size))
+    after : take (len + 1) (drop (used + 1) next) ≡ take len (drop (used + 1) room) ++ b ∷ []
+    after = ap (take (len + 1)) (drop-set-add (used + 1) room len b) ∙ take_more_set (drop (used + 1) room) len b (omega (arith, length-drop (used + 1) room, holds.size))
 
   -- the length before the label that goes on
   label_put : (n : ℕ) → n ≡ len → 1 ≤ len → take (used + 1 + len) (set room used n) ≡ take used room ++ (length (take len (drop (used + 1) room)) ∷ take len (drop (used + 1) room))

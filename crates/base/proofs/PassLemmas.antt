@@ -31,14 +31,14 @@ right_of : (a b : Bool) → b ≡ true → (a || b) ≡ true
 right_of true b is = refl
 right_of false b is = is
 
-module _ (bytes : List ℕ) (kept : set.FinSet nat_cmp) (t : ℕ) (closed : IsClosed bytes kept) (behind : PassesKept bytes kept t) where
+module _ (bytes : List ℕ) (kept : set.FinSet nat_cmp) (t : ℕ) (closed : IsClosed bytes kept) (after : PassesKept bytes kept t) where
   more : (q : ℕ) → set.contains kept q ≡ true → set.contains (set.insert kept t) q ≡ true
   more q is = contains-one_more kept t q ∙ right_of (nat_eq t q) (set.contains kept q) is
 
   -- where all that a new offset passes is kept
   pub closed_inserted : IsClosed bytes (set.insert kept t)
   closed_inserted u is = either (nat_eq t u) (set.contains kept u) (PassesKept bytes (set.insert kept t) u)
-      (λ same. subst (PassesKept bytes (set.insert kept t)) (eqb-true t u same) (λ xs e h q in_it. more q (behind xs e h q in_it)))
+      (λ same. subst (PassesKept bytes (set.insert kept t)) (eqb-true t u same) (λ xs e h q in_it. more q (after xs e h q in_it)))
       (λ old xs e h q in_it. more q (closed u old xs e h q in_it))
       (sym (contains-one_more kept t u) ∙ is)
 
@@ -142,7 +142,7 @@ module _ {bytes : List ℕ} {first : ℕ} {ts : List ℕ} {start at : ℕ} (lead
         λ q one. ap (λ (qs : List ℕ). among qs q) all ∙ one,
       )
 
-  -- behind a kept offset only kept ones are passed
+  -- after a kept offset only kept ones are passed
   pub Leads-kept : (kept : set.FinSet nat_cmp) {t : ℕ} → part_at bytes at ≡ Ok (pointer_to t) → set.contains kept t ≡ true → IsClosed bytes kept → PassesThese bytes kept first ts
   Leads-kept kept {t} is has closed xs e h =
       let r = leads.rest xs e h in
@@ -152,10 +152,10 @@ module _ {bytes : List ℕ} {first : ℕ} {ts : List ℕ} {start at : ℕ} (lead
       let split : (q : ℕ) → among (passed h) q ≡ (among ts q || (nat_eq t q || among rest q)) = λ q. ap (λ (qs : List ℕ). among qs q) all ∙ among_more ts (t ∷ rest) q in (
         λ q in_it. contains-inserted ts kept q ∙ either (among ts q) (nat_eq t q || among rest q) ((set.contains kept q || among ts q) ≡ true)
             (λ one. right_of (set.contains kept q) (among ts q) one)
-            (λ behind. left_of (set.contains kept q) (among ts q) (either (nat_eq t q) (among rest q) (set.contains kept q ≡ true)
+            (λ after. left_of (set.contains kept q) (among ts q) (either (nat_eq t q) (among rest q) (set.contains kept q ≡ true)
             (λ same. subst (λ (u : ℕ). set.contains kept u ≡ true) (eqb-true t q same) has)
             (λ one. closed t has s.labels s.end s.spelled q one)
-            behind))
+            after))
             (sym (split q) ∙ in_it),
         λ q one. split q ∙ left_of (among ts q) (nat_eq t q || among rest q) one,
       )

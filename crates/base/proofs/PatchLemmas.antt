@@ -1,4 +1,4 @@
--- Writing behind room that was kept, which is filled at the end.
+-- Writing after room that was kept, which is filled at the end.
 use Rattle.std.proofs.Common.{◌≡◌, ℕ, ◌+◌, ◌-◌, ◌<◌, ◌≤◌, ◌^◌, List, [], ◌++◌, length, take, drop, refl, ap, sym, ◌∙◌, subst, append_assoc, arith, length-append}
 use Rattle.std.specs.Prelude.{All, Any}
 use Rattle.std.specs.Int.{w16, to_be_bytes}
@@ -11,7 +11,7 @@ use Rattle.base.specs.Laws.{IsSpelled, Holds, Keeps, Writes}
 use Rattle.base.proofs.LawLemmas.{Keeps-appended, Keeps-then, Writes-appended, Writes-then, Writes-unowned}
 use Rattle.base.specs.WordLemmas.{number16_stands}
 
--- Room of as many bytes was kept behind a, something was written behind it, and the room was filled.
+-- Room of as many bytes was kept after a, something was written after it, and the room was filled.
 module _ (room xs : List ℕ) (a b c d : State) (size : length xs ≡ length room) (kept : b ≡ appended room a) (k : Keeps b c) (filled : d ≡ overwritten (length a.bytes) xs c) where
   begins : c.bytes ≡ (a.bytes ++ room) ++ k.appended
   begins = k.bytes ∙ ap (λ (ys : List ℕ). ys ++ k.appended) (ap (λ (s : State). s.bytes) kept)
@@ -56,34 +56,34 @@ module _ (room xs : List ℕ) (a b c d : State) (size : length xs ≡ length roo
     within = omega (arith, k.within, start, stop, ap (λ (s : State). s.limit) kept);
   }
 
-  pub Holds-behind : (B : List ℕ) → Holds (appended xs a) d B → Holds b c B
-  Holds-behind B h = record {
+  pub Holds-after : (B : List ℕ) → Holds (appended xs a) d B → Holds b c B
+  Holds-after B h = record {
     table = record {
       each = subst (λ (n : ℕ). (ts : List Stored) → ts ≡ a.suffixes → All (IsSpelled B n) ts) (sym start)
           (λ ts is. subst (λ (us : List Stored). All (IsSpelled B (length (a.bytes ++ xs))) us) (sym is) h.table.each) b.suffixes old;
     };
     bytes =
-        let behind : drop (length (a.bytes ++ xs)) d.bytes ≡ k.appended = ap (drop (length (a.bytes ++ xs))) bytes ∙ drop-append_seam (a.bytes ++ xs) k.appended in
+        let after : drop (length (a.bytes ++ xs)) d.bytes ≡ k.appended = ap (drop (length (a.bytes ++ xs))) bytes ∙ drop-append_seam (a.bytes ++ xs) k.appended in
         let was : drop (length b.bytes) c.bytes ≡ k.appended = ap (drop (length b.bytes)) k.bytes ∙ drop-append_seam b.bytes k.appended in
-        subst (λ (ys : List ℕ). Stands ys B (length b.bytes)) (behind ∙ sym was) (subst (Stands (drop (length (a.bytes ++ xs)) d.bytes) B) (sym start) h.bytes);
+        subst (λ (ys : List ℕ). Stands ys B (length b.bytes)) (after ∙ sym was) (subst (Stands (drop (length (a.bytes ++ xs)) d.bytes) B) (sym start) h.bytes);
   }
 
   pub Writes-filled : {word : List ℕ → ℕ → ℕ → Type 0} {plain : ℕ} {owner : List (List ℕ)} → Writes word plain owner b c → Writes word plain owner (appended xs a) d
   Writes-filled {word} {plain} {owner} w = record {
-    word_stands = λ B h. subst (λ (i : ℕ). word B i (length d.bytes)) start (subst (word B (length b.bytes)) stop (w.word_stands B (Holds-behind B h)));
+    word_stands = λ B h. subst (λ (i : ℕ). word B i (length d.bytes)) start (subst (word B (length b.bytes)) stop (w.word_stands B (Holds-after B h)));
     valid = λ B h. record {
-      each = subst (λ (n : ℕ). All (IsSpelled B n) d.suffixes) stop (subst (λ (ts : List Stored). All (IsSpelled B (length c.bytes)) ts) new (w.valid B (Holds-behind B h)).each);
+      each = subst (λ (n : ℕ). All (IsSpelled B n) d.suffixes) stop (subst (λ (ts : List Stored). All (IsSpelled B (length c.bytes)) ts) new (w.valid B (Holds-after B h)).each);
     };
     at_most = omega (arith, w.at_most, start, stop);
     compresses = record {
       end = w.compresses.end;
-      spelled = λ some B h. subst (λ (i : ℕ). Spelled B owner i i w.compresses.end) start (w.compresses.spelled some B (Holds-behind B h));
+      spelled = λ some B h. subst (λ (i : ℕ). Spelled B owner i i w.compresses.end) start (w.compresses.spelled some B (Holds-after B h));
       short = λ some first ends. omega (arith, start, w.compresses.short some first (subst (λ (ts : List Stored). Any (λ t. owner ≡ first ++ t.labels) ts) (sym old) ends));
       stored = λ some early. subst (λ (ts : List Stored). Any (λ t. t.labels ≡ owner) ts) new (w.compresses.stored some (omega (arith, start)));
     };
   }
 
--- a word behind its length
+-- a word after its length
 module _ (n : ℕ) (room : List ℕ) (a b c d : State) (small : n < 2 ^ 16) (size : 2 ≡ length room) (kept : b ≡ appended room a) (k : Keeps b c)
     (len : n ≡ length c.bytes - (length a.bytes + 2)) (filled : d ≡ overwritten (length a.bytes) (to_be_bytes w16 n) c) where
   number : Writes (Number w16 n) 2 [] a (appended (to_be_bytes w16 n) a)

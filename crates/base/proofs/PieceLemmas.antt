@@ -34,10 +34,10 @@ pub record Walked (r : Reader) (used : ℕ) : Type 0 where
   pub leads : Leads r.bytes r.index [] r.index (r.index + used)
 
 -- What was found is the name at the place.
-pub record IsName (r : Reader) (labels : List ℕ) (behind : ℕ) : Type 0 where
-  pub read : labels_at r.bytes r.index r.index 0 ≡ Ok (labels_of labels, behind)
+pub record IsName (r : Reader) (labels : List ℕ) (after : ℕ) : Type 0 where
+  pub read : labels_at r.bytes r.index r.index 0 ≡ Ok (labels_of labels, after)
   pub wire : IsWire labels
-  pub end : behind ≤ length r.bytes
+  pub end : after ≤ length r.bytes
   pub these : PassesThese r.bytes r.kept r.index []
 
 pub walked_none : (r : Reader) → r.index ≤ length r.bytes → Walked r 0

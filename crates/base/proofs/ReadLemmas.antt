@@ -59,7 +59,7 @@ gate_err false e f x is = (refl, cc)
 -- what is read as a number
 pub record ReadsNumber (w : Width) (B : List ℕ) (i : ℕ) (r : ℕ × ℕ) : Type 0 where
   pub stands : IsNumberAt w B i r.0
-  pub behind : r.1 ≡ i + byte_len w
+  pub after : r.1 ≡ i + byte_len w
 
 pub number_is : (w : Width) (B : List ℕ) (i : ℕ) (r : ℕ × ℕ) → number_at w B i ≡ Ok r → ReadsNumber w B i r
 number_is w B i r is =
@@ -69,7 +69,7 @@ number_is w B i r is =
         inside = ltb-false (length B) (i + byte_len w) p.test_is;
         is = sym (ap (λ (x : ℕ × ℕ). x.0) p.same);
       };
-      behind = sym (ap (λ (x : ℕ × ℕ). x.1) p.same);
+      after = sym (ap (λ (x : ℕ × ℕ). x.1) p.same);
     }
 
 pub number_short : (w : Width) (B : List ℕ) (i : ℕ) (f : DecodeError) → number_at w B i ≡ Err f → IsShort B (i + byte_len w) f
@@ -83,7 +83,7 @@ number_again w B i n s = rw (le-ltb (length B) (i + byte_len w) s.inside, s.is) 
 -- what is read as a byte
 pub record ReadsByte (B : List ℕ) (i : ℕ) (r : ℕ × ℕ) : Type 0 where
   pub stands : ByteAt anywhere B i r.0
-  pub behind : r.1 ≡ i + 1
+  pub after : r.1 ≡ i + 1
 
 pub byte_is : (B : List ℕ) (i : ℕ) (r : ℕ × ℕ) → byte_at B i ≡ Ok r → ReadsByte B i r
 byte_is B i r is =
@@ -94,7 +94,7 @@ byte_is B i r is =
         is = ap (λ (x : ℕ × ℕ). x.0) p.same;
         seen = tt;
       };
-      behind = sym (ap (λ (x : ℕ × ℕ). x.1) p.same);
+      after = sym (ap (λ (x : ℕ × ℕ). x.1) p.same);
     }
 
 pub byte_short : (B : List ℕ) (i : ℕ) (f : DecodeError) → byte_at B i ≡ Err f → IsShort B (i + 1) f

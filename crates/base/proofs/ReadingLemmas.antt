@@ -7,7 +7,7 @@ use Rattle.std.proofs.lemmas.Bool.{cases_lt, cond_both, cond-true, cond-false, l
 use Rattle.std.proofs.lemmas.Grind.{same_number_lists}
 use Rattle.base.specs.declared.error.decode_error.DecodeError.{DecodeError}
 use Rattle.base.specs.declared.error.decode_error.DecodeError.TheVariants as faults
-use Rattle.base.specs.Faults.{IsFaulty, ended, cut_label, cut_pointer, bad_bits, long, forward, behind_label, behind_pointer}
+use Rattle.base.specs.Faults.{IsFaulty, ended, cut_label, cut_pointer, bad_bits, long, forward, after_label, after_pointer}
 use Rattle.base.specs.Labels.{NameValue, size_of}
 use Rattle.base.specs.Names.{NamePart, zero_byte, label_of, pointer_to, Labels, part_at, with_label, ending, after_part, walk, labels_at, name_at}
 use Rattle.base.specs.Reading.{◌>>=◌}
@@ -50,27 +50,27 @@ right_label {bytes} {i} {n} s used (Ok r) h some small fits short right =
     (label_spelled len h some small (range_stands bytes i n fits) right.0, omega (arith, right.1, len))
 right_label {bytes} {i} {n} s used (Err f) h some small fits short right =
     let more : used + n + 1 ≡ used + (1 + n) = omega arith in
-    behind_label h some small fits (omega arith) (subst (λ (u : ℕ). IsFaulty bytes s (i + 1 + n) u f) more right)
+    after_label h some small fits (omega arith) (subst (λ (u : ℕ). IsFaulty bytes s (i + 1 + n) u f) more right)
 
 right_pointer : {bytes : List ℕ} {s i b c : ℕ} (used : ℕ) (r : Labels) → ByteAt anywhere bytes i b → ByteAt anywhere bytes (i + 1) c → 192 ≤ b → target b c < s
     → IsRight bytes (target b c) (target b c) used r → IsRight bytes s i used (ending (i + 2) r)
 right_pointer used (Ok r) h next high below right = (pointer h next high below right.0, right.1)
-right_pointer used (Err f) h next high below right = behind_pointer h next high below right
+right_pointer used (Err f) h next high below right = after_pointer h next high below right
 
-right_behind : {bytes : List ℕ} {i : ℕ} {read : Result NamePart DecodeError} (s used : ℕ) → PartIs bytes i read → used ≤ 254 → (again : ℕ → ℕ → ℕ → Labels)
+right_after : {bytes : List ℕ} {i : ℕ} {read : Result NamePart DecodeError} (s used : ℕ) → PartIs bytes i read → used ≤ 254 → (again : ℕ → ℕ → ℕ → Labels)
     → ((s' i' used' : ℕ) → used' ≤ 254 → fuel s' used' < fuel s used → IsRight bytes s' i' used' (again s' i' used'))
     → IsRight bytes s i used (read >>= after_part again bytes s i used)
-right_behind s used (is_past h) few again right = ended h
-right_behind s used (is_root h) few again right = (ends h, omega arith)
-right_behind s used (is_cut_label h some small cut) few again right = cut_label h some small cut
-right_behind {bytes} {i} s used (is_label {n} h some small fits) few again right =
+right_after s used (is_past h) few again right = ended h
+right_after s used (is_root h) few again right = (ends h, omega arith)
+right_after s used (is_cut_label h some small cut) few again right = cut_label h some small cut
+right_after {bytes} {i} s used (is_label {n} h some small fits) few again right =
     cond_both (nat_lt 255 (used + n + 2)) _ _ (IsRight bytes s i used)
     (λ more. long h some small fits (omega (arith, ltb-true 255 (used + n + 2) more)))
     (λ short. let short_is = ltb-false 255 (used + n + 2) short in
     right_label s used (again s (i + 1 + n) (used + n + 1)) h some small fits short_is (right s (i + 1 + n) (used + n + 1) (omega (arith, short_is)) (omega (arith, short_is))))
-right_behind s used (is_bits h low high) few again right = bad_bits h low high
-right_behind s used (is_cut_pointer h high cut) few again right = cut_pointer h high cut
-right_behind {bytes} {i} s used (is_pointer {b} {c} h next high) few again right =
+right_after s used (is_bits h low high) few again right = bad_bits h low high
+right_after s used (is_cut_pointer h high cut) few again right = cut_pointer h high cut
+right_after {bytes} {i} s used (is_pointer {b} {c} h next high) few again right =
     cond_both (nat_le s (target b c)) _ _ (IsRight bytes s i used)
     (λ above. forward h next high (leb-true s (target b c) above))
     (λ below. let below_is = leb-false s (target b c) below in
@@ -80,7 +80,7 @@ walk_right : (n : ℕ) (bytes : List ℕ) (s i used : ℕ) → used ≤ 254 → 
 walk_right zero bytes s i used few enough = absurd (omega arith)
 walk_right (suc n) bytes s i used few enough =
     subst (IsRight bytes s i used) (sym (walk-suc n bytes s i used))
-    (right_behind s used (part_is bytes i) few (walk n bytes) (λ s' i' used' few' less. walk_right n bytes s' i' used' few' (omega arith)))
+    (right_after s used (part_is bytes i) few (walk n bytes) (λ s' i' used' few' less. walk_right n bytes s' i' used' few' (omega arith)))
 
 pub labels_right : (bytes : List ℕ) (s i used : ℕ) → used ≤ 254 → IsRight bytes s i used (labels_at bytes s i used)
 unfolding labels_at
@@ -139,11 +139,11 @@ faulty_again {bytes} {s} {i} {used} few (long {n = n} h some small fits more) =
 faulty_again {bytes} {s} {i} {used} few (forward {b = b} {c = c} h next high above) =
     labels_at-part bytes s i used (Ok (pointer_to (target b c))) few (part_at-pointer bytes i b c h next high)
     ∙ cond-true (nat_le s (target b c)) _ _ (le-leb s (target b c) above)
-faulty_again {bytes} {s} {i} {used} few (behind_label {n = n} {f = f} h some small fits short rest) =
+faulty_again {bytes} {s} {i} {used} few (after_label {n = n} {f = f} h some small fits short rest) =
     let more : used + (1 + n) ≡ used + n + 1 = omega arith in
     let again : labels_at bytes s (i + 1 + n) (used + n + 1) ≡ Err f = subst (λ (u : ℕ). labels_at bytes s (i + 1 + n) u ≡ Err f) more (faulty_again (omega arith) rest) in
     labels_at-label bytes s i used n h some small fits (omega arith) ∙ ap (with_label (slice_range bytes (i + 1) (i + 1 + n))) again
-faulty_again {bytes} {s} {i} {used} few (behind_pointer {b = b} {c = c} h next high below rest) =
+faulty_again {bytes} {s} {i} {used} few (after_pointer {b = b} {c = c} h next high below rest) =
     labels_at-pointer s used few h next high below ∙ ap (ending (i + 2)) (faulty_again few rest)
 
 -- names

@@ -267,20 +267,20 @@ closes_is rest same = absurd cc
 one_is : (word rest : List ℕ) → one word rest ≡ misplaced → ⊥
 one_is word rest same = absurd cc
 
-closes_list : {text rest : List ℕ} (words : List (List ℕ)) (behind : List ℕ) → FirstOf text (closes behind) → ◌≡◌ {A = Listed} (Some ([], behind)) (Some (words, rest)) → ListOf text words rest
-closes_list {text} {rest} words behind first is =
-    let same = listed_same [] words behind rest is in
+closes_list : {text rest : List ℕ} (words : List (List ℕ)) (after : List ℕ) → FirstOf text (closes after) → ◌≡◌ {A = Listed} (Some ([], after)) (Some (words, rest)) → ListOf text words rest
+closes_list {text} {rest} words after first is =
+    let same = listed_same [] words after rest is in
     let tail : first.byte ∷ first.more ≡ 41 ∷ rest = first.found_is ∙ ap (λ (t : List ℕ). 41 ∷ t) same.1 in
     let whole : text ≡ first.gap ++ 41 ∷ [] ++ rest = first.at ∙ ap (λ (t : List ℕ). first.gap ++ t) tail ∙ sym (append_assoc first.gap (41 ∷ []) rest) in
     (first.gap ++ 41 ∷ [], whole, subst (λ (ws : List (List ℕ)). IsList ws (first.gap ++ 41 ∷ [])) same.0 (closed first.gap first.apart))
 
-word_some : (c : ℕ) (more word behind : List ℕ) → ItemOf (c ∷ more) word behind → ends_item c ≡ false → 0 < length word
-word_some c more [] behind shape goes = absurd (false≢true (sym goes ∙ subst EndsItem (sym shape.0) shape.2))
-word_some c more (d ∷ word) behind shape goes = omega arith
+word_some : (c : ℕ) (more word after : List ℕ) → ItemOf (c ∷ more) word after → ends_item c ≡ false → 0 < length word
+word_some c more [] after shape goes = absurd (false≢true (sym goes ∙ subst EndsItem (sym shape.0) shape.2))
+word_some c more (d ∷ word) after shape goes = omega arith
 
-same_first : (c : ℕ) (more word behind : List ℕ) → 0 < length word → c ∷ more ≡ word ++ behind → begins_with 36 (c ∷ more) ≡ begins_with 36 word
-same_first c more [] behind some is = absurd (omega (arith, some))
-same_first c more (d ∷ word) behind some is = ap (begins_with 36) is
+same_first : (c : ℕ) (more word after : List ℕ) → 0 < length word → c ∷ more ≡ word ++ after → begins_with 36 (c ∷ more) ≡ begins_with 36 word
+same_first c more [] after some is = absurd (omega (arith, some))
+same_first c more (d ∷ word) after some is = ap (begins_with 36) is
 
 list_some : {words : List (List ℕ)} {inner : List ℕ} → IsList words inner → length words < length inner
 list_some (closed gap apart) = omega (arith, length-append gap (41 ∷ []))
@@ -296,26 +296,26 @@ ends_also [] rest some ends = absurd (omega (arith, some))
 ends_also (c ∷ inner) rest some ends = ends
 
 -- the first item, and those after it
-more_list : {text rest : List ℕ} (word behind : List ℕ) (others words : List (List ℕ)) → FirstOf text (one word behind) → words ≡ word ∷ others → ListOf behind others rest → ListOf text words rest
-more_list {text} {rest} word behind others words first is list = by first.found_is where
+more_list : {text rest : List ℕ} (word after : List ℕ) (others words : List (List ℕ)) → FirstOf text (one word after) → words ≡ word ∷ others → ListOf after others rest → ListOf text words rest
+more_list {text} {rest} word after others words first is list = by first.found_is where
   inner : List ℕ
   inner = list.0
 
-  by : ElementOf (first.byte ∷ first.more) (one word behind) → ListOf text words rest
+  by : ElementOf (first.byte ∷ first.more) (one word after) → ListOf text words rest
   by (inl (t, begins, cut)) =
-      let shape = quoted_there t word behind cut in
+      let shape = quoted_there t word after cut in
       let tail : first.byte ∷ first.more ≡ 34 ∷ word ++ (34 ∷ inner ++ rest) = begins ∙ ap (λ (x : List ℕ). 34 ∷ x) (shape.0 ∙ ap (λ (x : List ℕ). word ++ 34 ∷ x) list.1) in
       let whole : text ≡ first.gap ++ 34 ∷ word ++ 34 ∷ inner ++ rest =
       first.at ∙ ap (λ (x : List ℕ). first.gap ++ x) tail ∙ sym (append_assoc first.gap (34 ∷ word) (34 ∷ inner ++ rest)) ∙ sym (append_assoc (first.gap ++ 34 ∷ word) (34 ∷ inner) rest) in
       (first.gap ++ 34 ∷ word ++ 34 ∷ inner, whole, subst (λ (ws : List (List ℕ)). IsList ws (first.gap ++ 34 ∷ word ++ 34 ∷ inner)) (sym is) (quoted_first first.gap word inner others first.apart shape.1 list.2))
   by (inr (cut, dollar, opens, closing, quote)) =
       let c = first.byte in
-      let shape = item_there (c ∷ first.more) word behind cut in
+      let shape = item_there (c ∷ first.more) word after cut in
       let apart = first.visible.0 in
       let comment = first.visible.1 in
       let goes : ends_item c ≡ false = grind (arith, nat_tests, apart, comment, opens, closing, quote) in
-      let some = word_some c first.more word behind shape goes in
-      let begins : begins_with 36 word ≡ false = sym (same_first c first.more word behind some shape.0) ∙ dollar in
+      let some = word_some c first.more word after shape goes in
+      let begins : begins_with 36 word ≡ false = sym (same_first c first.more word after some shape.0) ∙ dollar in
       let ends = ends_before inner rest (omega (arith, list_some list.2)) (subst EndsItem list.1 shape.2) in
       let whole : text ≡ first.gap ++ word ++ inner ++ rest =
       first.at ∙ ap (λ (x : List ℕ). first.gap ++ x) (shape.0 ∙ ap (λ (x : List ℕ). word ++ x) list.1) ∙ sym (append_assoc first.gap word (inner ++ rest)) ∙ sym (append_assoc (first.gap ++ word) inner rest) in
@@ -325,11 +325,11 @@ list_there : (steps : ℕ) (text : List ℕ) (words : List (List ℕ)) (rest : L
 list_there zero text words rest is = absurd (cc (sym (listed_zero text) ∙ is))
 list_there (suc steps) text words rest is = go (list_there steps) (element (past_separators false text)) refl where
   go : ((t : List ℕ) (ws : List (List ℕ)) (r : List ℕ) → list_items steps t ≡ Some (ws, r) → ListOf t ws r) → (found : Element) → element (past_separators false text) ≡ found → ListOf text words rest
-  go again (closes behind) at = closes_list words behind (first_there text (closes behind) at (closes_is behind)) (sym (listed_is steps text (closes behind) at) ∙ is)
+  go again (closes after) at = closes_list words after (first_there text (closes after) at (closes_is after)) (sym (listed_is steps text (closes after) at) ∙ is)
   go again misplaced at = absurd (cc (sym (listed_is steps text misplaced at) ∙ is))
-  go again (one word behind) at =
-      let cut = put_some word (list_items steps behind) words rest (sym (listed_is steps text (one word behind) at) ∙ is) in
-      more_list word behind cut.0 words (first_there text (one word behind) at (one_is word behind)) cut.1 (again behind cut.0 rest cut.2)
+  go again (one word after) at =
+      let cut = put_some word (list_items steps after) words rest (sym (listed_is steps text (one word after) at) ∙ is) in
+      more_list word after cut.0 words (first_there text (one word after) at (one_is word after)) cut.1 (again after cut.0 rest cut.2)
 
 element_closes : (rest : List ℕ) → element (41 ∷ rest) ≡ closes rest
 unfolding element

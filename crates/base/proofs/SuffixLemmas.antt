@@ -151,23 +151,23 @@ module _ (find after : List ℕ → Option ℕ) (front : List Stored) (t : Store
     found = found_front;
   }
 
--- what holds of some element behind, or of all
-any_behind : (P : Stored → Type 0) (xs ys : List Stored) → Any P ys → Any P (xs ++ ys)
-any_behind P xs ys (k, t, inside, at, holds) =
+-- what holds of some element after, or of all
+any_after : (P : Stored → Type 0) (xs ys : List Stored) → Any P ys → Any P (xs ++ ys)
+any_after P xs ys (k, t, inside, at, holds) =
     let back : length xs + k - length xs ≡ k = omega arith in
     (length xs + k, t, omega (arith, length-append xs ys), get_or-append_right xs ys (length xs) (length xs + k) t refl (omega arith) ∙ ap (λ (i : ℕ). get_or ys i t) back ∙ at, holds)
 
-all_behind : (P : Stored → Type 0) (xs ys : List Stored) → All P (xs ++ ys) → All P ys
-all_behind P xs ys h k d inside =
+all_after : (P : Stored → Type 0) (xs ys : List Stored) → All P (xs ++ ys) → All P ys
+all_after P xs ys h k d inside =
     let back : length xs + k - length xs ≡ k = omega arith in
     subst P (get_or-append_right xs ys (length xs) (length xs + k) d refl (omega arith) ∙ ap (λ (i : ℕ). get_or ys i d) back) (h (length xs + k) d (omega (arith, length-append xs ys)))
 
--- what a look-up answers behind the first ones
+-- what a look-up answers after the first ones
 pub IsTable-finds : (find : List ℕ → Option ℕ) (first others : List Stored) (bytes : List ℕ) (r : Option ℕ) → All (λ t. t.labels ≢ labels_of bytes) first
     → IsIndexed find others → wire_of (labels_of bytes) ≡ bytes → r ≡ find bytes
     → MatchOption r (All (λ t. t.labels ≢ labels_of bytes) (first ++ others)) (λ offset. Any (λ t. (t.labels ≡ labels_of bytes) × (t.offset ≡ offset)) (first ++ others))
 IsTable-finds find first others bytes None none h whole is = All-append (λ (t : Stored). t.labels ≢ labels_of bytes) first others none (IsIndexed-finds find others bytes None h whole is)
-IsTable-finds find first others bytes (Some o) none h whole is = any_behind (λ (t : Stored). (t.labels ≡ labels_of bytes) × (t.offset ≡ o)) first others
+IsTable-finds find first others bytes (Some o) none h whole is = any_after (λ (t : Stored). (t.labels ≡ labels_of bytes) × (t.offset ≡ o)) first others
     (IsIndexed-finds find others bytes (Some o) h whole is)
 
 -- one of the first suffixes more
@@ -180,7 +180,7 @@ IsTable-first find first [] xs t none is h absent later = subst (λ (ys : List S
   once = subst (AllPairs (λ (s u : Stored). s.labels ≢ u.labels)) (sym (append-nil (first ++ t ∷ [])))
       (all_pairs_push (λ (s u : Stored). s.labels ≢ u.labels) first t (subst (AllPairs (λ (s u : Stored). s.labels ≢ u.labels)) (append-nil first) h.once)
       (subst (All (λ (s : Stored). s.labels ≢ t.labels)) (append-nil first) absent));
-  behind = h.behind;
+  after = h.after;
 })
 IsTable-first find first (u ∷ others) xs t none is h absent later = absurd (omega (arith, none))
 
@@ -197,8 +197,8 @@ module _ (find after : List ℕ → Option ℕ) (first others : List Stored) (by
         (all_pairs_push (λ (s u : Stored). s.offset < u.offset) (first ++ others) more h.rises later);
     once = subst (AllPairs (λ (s u : Stored). s.labels ≢ u.labels)) (append_assoc first others (more ∷ []))
         (all_pairs_push (λ (s u : Stored). s.labels ≢ u.labels) (first ++ others) more h.once absent);
-    behind = IsIndexed-push find after others bytes o h.behind whole near (all_behind (λ (s : Stored). s.labels ≢ labels_of bytes) first others absent)
-        (all_behind (λ (s : Stored). s.offset < o) first others later) here elsewhere;
+    after = IsIndexed-push find after others bytes o h.after whole near (all_after (λ (s : Stored). s.labels ≢ labels_of bytes) first others absent)
+        (all_after (λ (s : Stored). s.offset < o) first others later) here elsewhere;
   }
 
 -- the last of the others is cut off
@@ -222,5 +222,5 @@ IsTable-front {others = others} {xs = xs} {old_first = old_first} {old_others = 
           (pairs_front (λ s t. s.offset < t.offset) (take n old) (drop n old) (subst (AllPairs (λ (s t : Stored). s.offset < t.offset)) (sym (take-append-drop n old)) table.rises));
       once = subst (AllPairs (λ (s t : Stored). s.labels ≢ t.labels)) (sym whole)
           (pairs_front (λ s t. s.labels ≢ t.labels) (take n old) (drop n old) (subst (AllPairs (λ (s t : Stored). s.labels ≢ t.labels)) (sym (take-append-drop n old)) table.once));
-      behind = h;
+      after = h;
     }

@@ -1,4 +1,4 @@
--- The labels behind each pointer that was followed.
+-- The labels after each pointer that was followed.
 use Rattle.std.proofs.Common.{◌≡◌, ℕ, ◌+◌, ◌<◌, ◌≤◌, List, ◌++◌, length, drop, Option, None, Ok, ap, sym, ◌∙◌, subst, arith, length-append}
 use Rattle.std.specs.List.{slice_range}
 use Rattle.std.proofs.lemmas.List.{drop-append-le, drop_all}
@@ -7,7 +7,7 @@ use Rattle.base.specs.Kept.{IsKept}
 use Rattle.base.specs.Names.{zero_byte, label_of, pointer_to, part_at}
 use Rattle.base.proofs.GatherLemmas.{Gathers, gathers_none, gathers_label, gathers_pointer, at_root, at_kept, spelled_is, IsWire-append}
 
--- what was gathered since a pointer, before what is read from at on, are the labels behind it
+-- what was gathered since a pointer, before what is read from at on, are the labels after it
 pub record Tail (buffer : List ℕ) (start at used : ℕ) (bytes : List ℕ) (p : Passed) : Type 0 where
   pub end : Option ℕ
   pub inside : p.from ≤ length bytes

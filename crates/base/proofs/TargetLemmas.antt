@@ -7,7 +7,7 @@ use Rattle.std.proofs.lemmas.Bool.{cases_Bool, cond-false, eqb-true, eqb-false, 
 use Rattle.std.proofs.lemmas.List.{drop-append-le, take-append-le, take_all, drop_all, drop-drop, get_or_append_left, get_or-append_right, get_or_past, get_or_default}
 use Rattle.base.specs.Targets.{len_at, labels_in, IsInside}
 
--- ---- a place whose labels are there keeps them, where more is kept behind
+-- ---- a place whose labels are there keeps them, where more is kept after
 
 before : (place : ℕ) (kept : List ℕ) → place ≢ 0 → place + len_at kept place ≤ length kept → place - 1 < length kept
 before place kept some inside = grind (arith, some, inside)
@@ -39,7 +39,7 @@ labels_stay kept more place inside = elim (cases_Bool (place == 0)) [
   | inr some ↦ stays kept more place (eqb-false place 0 some) inside
 ]
 
--- ---- what is kept behind the others
+-- ---- what is kept after the others
 
 module _ (kept labels : List ℕ) where
   abbrev whole : List ℕ
@@ -53,8 +53,8 @@ module _ (kept labels : List ℕ) where
         none : length kept - length kept ≡ zero
         none = omega arith
 
-  behind : (xs : List ℕ) → drop (length xs + 1) (xs ++ (length labels ∷ labels)) ≡ labels
-  behind xs =
+  after : (xs : List ℕ) → drop (length xs + 1) (xs ++ (length labels ∷ labels)) ≡ labels
+  after xs =
       let at = drop-append-le (length xs) xs (length labels ∷ labels) (omega arith) in
       sym (drop-drop 1 (length xs) (xs ++ (length labels ∷ labels))) ∙ ap (drop 1) (at ∙ ap (λ (ys : List ℕ). ys ++ (length labels ∷ labels)) (drop_all (length xs) xs (omega arith)))
 
@@ -64,7 +64,7 @@ module _ (kept labels : List ℕ) where
       let all : take (place + length labels - place) labels ≡ labels = take_all _ labels (omega arith) in
       some_labels whole place (λ same. omega (arith, same))
       ∙ ap (λ (k : ℕ). Some (slice_range whole place (place + k))) new_len
-      ∙ ap (λ (xs : List ℕ). Some (take (place + length labels - place) xs)) (behind kept)
+      ∙ ap (λ (xs : List ℕ). Some (take (place + length labels - place) xs)) (after kept)
       ∙ ap (λ (xs : List ℕ). Some xs) all
 
   pub new_inside : IsInside whole (length kept + 1)
@@ -78,17 +78,17 @@ inside_or kept places all q = elim (cases_Bool (nat_lt q (length places))) [
   | inr past ↦ λ some. absurd (some (get_or_past places q 0 (ltb-false q (length places) past)))
 ]
 
--- places of 0 behind the others are no places
-pub zeros_behind : (places : List ℕ) (m q : ℕ) → get_or (places ++ replicate m 0) q 0 ≡ get_or places q 0
-zeros_behind [] m q = zeros m q where
+-- places of 0 after the others are no places
+pub zeros_after : (places : List ℕ) (m q : ℕ) → get_or (places ++ replicate m 0) q 0 ≡ get_or places q 0
+zeros_after [] m q = zeros m q where
   zeros : (m i : ℕ) → get_or (replicate m zero) i zero ≡ zero
   zeros zero i = refl
   zeros (suc m) zero = refl
   zeros (suc m) (suc i) = zeros m i
-zeros_behind (p ∷ places) m zero = refl
-zeros_behind (p ∷ places) m (suc q) = zeros_behind places m q
+zeros_after (p ∷ places) m zero = refl
+zeros_after (p ∷ places) m (suc q) = zeros_after places m q
 
--- The labels by offset, a place behind the others at one offset and those from before at all others.
+-- The labels by offset, a place after the others at one offset and those from before at all others.
 pub record IsPut (kept labels old new : List ℕ) (t : ℕ) : Type 0 where
   pub here : get_or new t 0 ≡ length kept + 1
   pub others : (q : ℕ) → q ≢ t → get_or new q 0 ≡ get_or old q 0

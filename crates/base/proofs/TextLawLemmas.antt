@@ -55,7 +55,7 @@ All-first P x xs all = all 0 x (omega arith)
 All-others : {X : Type 0} (P : X → Type 0) (x : X) (xs : List X) → All P (x ∷ xs) → All P xs
 All-others P x xs all = λ k d below. all (suc k) d (omega arith)
 
--- the text of labels reads as their characters, with others behind them
+-- the text of labels reads as their characters, with others after them
 label_reads : (x rest : List ℕ) (cs : List Character) → All (λ b. b < 256) x → AreCharsOf rest cs → AreCharsOf (label_text x ++ rest) (map byte x ++ cs)
 label_reads [] rest cs bytes reads = reads
 label_reads (b ∷ x) rest cs bytes reads =
@@ -70,8 +70,8 @@ labels_read : (xs : List (List ℕ)) (rest : List ℕ) (cs : List Character) →
 labels_read [] rest cs bytes reads = reads
 labels_read (x ∷ []) rest cs bytes reads = label_reads x rest cs (All-first (All (λ (c : ℕ). c < 256)) x [] bytes) reads
 labels_read (x ∷ y ∷ ys) rest cs bytes reads =
-    let behind = reads_more (first_dot (labels_text (y ∷ ys) ++ rest)) (labels_read (y ∷ ys) rest cs (All-others (All (λ (c : ℕ). c < 256)) x (y ∷ ys) bytes) reads) in
-    let here = label_reads x (46 ∷ (labels_text (y ∷ ys) ++ rest)) (dot ∷ (dotted (y ∷ ys) ++ cs)) (All-first (All (λ (c : ℕ). c < 256)) x (y ∷ ys) bytes) behind in
+    let after = reads_more (first_dot (labels_text (y ∷ ys) ++ rest)) (labels_read (y ∷ ys) rest cs (All-others (All (λ (c : ℕ). c < 256)) x (y ∷ ys) bytes) reads) in
+    let here = label_reads x (46 ∷ (labels_text (y ∷ ys) ++ rest)) (dot ∷ (dotted (y ∷ ys) ++ cs)) (All-first (All (λ (c : ℕ). c < 256)) x (y ∷ ys) bytes) after in
     subst (λ (text : List ℕ). AreCharsOf text (dotted (x ∷ y ∷ ys) ++ cs)) (sym (append_assoc (label_text x) (46 ∷ labels_text (y ∷ ys)) rest))
     (subst (AreCharsOf (label_text x ++ (46 ∷ (labels_text (y ∷ ys) ++ rest)))) (sym (append_assoc (map byte x) (dot ∷ dotted (y ∷ ys)) cs)) here)
 

@@ -7,7 +7,7 @@ use Rattle.base.specs.Labels.{NameValue, wire_of}
 use Rattle.base.specs.NameText.{label_text, labels_text, name_text}
 use Rattle.base.specs.PointerLemmas.{length-wire_of}
 
--- the dot behind a label stands where more labels follow
+-- the dot after a label stands where more labels follow
 pub labels_text-cons : (x : List ℕ) (xs : List (List ℕ)) (tail : List ℕ) (last : Bool) → wire_of xs ≡ tail → last ≡ (length tail == 0)
     → (label_text x ++ (if last then [] else 46 ∷ [])) ++ labels_text xs ≡ labels_text (x ∷ xs)
 labels_text-cons x [] tail last whole is =

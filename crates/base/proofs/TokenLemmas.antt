@@ -1,4 +1,4 @@
--- Each token leaves less of the text, so the tokens of a text are its first and then those of what is behind it.
+-- Each token leaves less of the text, so the tokens of a text are its first and then those of what is after it.
 use Rattle.std.proofs.Common.{◌≡◌, ◌≢◌, ℕ, suc, ◌<◌, ◌≤◌, List, [], ◌∷◌, length, refl, sym, subst, arith, Option, Some, None, Bool, true, false}
 use Rattle.std.specs.Prelude.{◌&&◌, ◌==◌}
 use Rattle.std.proofs.lemmas.Bool.Decides.{nat_tests}

@@ -82,20 +82,20 @@ cond_same : (b : Bool) (x y z : Labels) → (b ≡ false → y ≡ z) → cond b
 cond_same true x y z same = refl
 cond_same false x y z same = same refl
 
--- two ways to read on that agree on what is shorter to walk agree behind a part
-behind_same : {bytes : List ℕ} {i : ℕ} {part : Result NamePart DecodeError} (s used : ℕ) → PartIs bytes i part → used ≤ 254 → (f g : ℕ → ℕ → ℕ → Labels)
+-- two ways to read on that agree on what is shorter to walk agree after a part
+after_same : {bytes : List ℕ} {i : ℕ} {part : Result NamePart DecodeError} (s used : ℕ) → PartIs bytes i part → used ≤ 254 → (f g : ℕ → ℕ → ℕ → Labels)
     → ((s' i' used' : ℕ) → used' ≤ 254 → fuel s' used' < fuel s used → f s' i' used' ≡ g s' i' used')
     → (part >>= after_part f bytes s i used) ≡ (part >>= after_part g bytes s i used)
-behind_same s used (is_past h) few f g same = refl
-behind_same s used (is_root h) few f g same = refl
-behind_same s used (is_cut_label h some small cut) few f g same = refl
-behind_same {bytes} {i} s used (is_label {n} h some small fits) few f g same =
+after_same s used (is_past h) few f g same = refl
+after_same s used (is_root h) few f g same = refl
+after_same s used (is_cut_label h some small cut) few f g same = refl
+after_same {bytes} {i} s used (is_label {n} h some small fits) few f g same =
     cond_same (nat_lt 255 (used + n + 2)) _ _ _ (λ short.
     let short_is : used + n + 2 ≤ 255 = ltb-false 255 (used + n + 2) short in
     ap (with_label (slice_range bytes (i + 1) (i + 1 + n))) (same s (i + 1 + n) (used + n + 1) (omega arith) (omega arith)))
-behind_same s used (is_bits h low high) few f g same = refl
-behind_same s used (is_cut_pointer h high cut) few f g same = refl
-behind_same {i = i} s used (is_pointer {b} {c} h next high) few f g same =
+after_same s used (is_bits h low high) few f g same = refl
+after_same s used (is_cut_pointer h high cut) few f g same = refl
+after_same {i = i} s used (is_pointer {b} {c} h next high) few f g same =
     cond_same (nat_le s (target b c)) _ _ _ (λ below.
     let below_is : target b c < s = leb-false s (target b c) below in
     ap (ending (i + 2)) (same (target b c) (target b c) used few (omega arith)))
@@ -109,14 +109,14 @@ unfolding walk
 walk-enough zero n bytes s i used few first second = absurd (omega arith)
 walk-enough (suc m) zero bytes s i used few first second = absurd (omega arith)
 walk-enough (suc m) (suc n) bytes s i used few first second =
-    behind_same s used (part_is bytes i) few (walk m bytes) (walk n bytes)
+    after_same s used (part_is bytes i) few (walk m bytes) (walk n bytes)
     (λ s' i' used' few' less. walk-enough m n bytes s' i' used' few' (omega arith) (omega arith))
 
--- the labels at a place are those of the part there and of what comes behind it
+-- the labels at a place are those of the part there and of what comes after it
 pub labels_at-step : (bytes : List ℕ) (s i used : ℕ) → used ≤ 254 → labels_at bytes s i used ≡ (part_at bytes i >>= after_part (labels_at bytes) bytes s i used)
 unfolding labels_at
 labels_at-step bytes s i used few =
     let more : walk (fuel s used) bytes s i used ≡ walk (suc (fuel s used)) bytes s i used = walk-enough (fuel s used) (suc (fuel s used)) bytes s i used few (omega arith) (omega arith) in
     more ∙ walk-suc (fuel s used) bytes s i used
-    ∙ behind_same s used (part_is bytes i) few (walk (fuel s used) bytes) (labels_at bytes)
+    ∙ after_same s used (part_is bytes i) few (walk (fuel s used) bytes) (labels_at bytes)
     (λ s' i' used' few' less. walk-enough (fuel s used) (fuel s' used') bytes s' i' used' few' (omega arith) (omega arith))

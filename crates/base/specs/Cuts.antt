@@ -8,17 +8,17 @@ use Rattle.base.specs.declared.error.parse_error.ParseError.TheVariants as refus
 use Rattle.base.specs.declared.text.token.Token.{Token}
 use Rattle.base.specs.Tokens.{Element, Next, Unread, blank, closes, ends, eol, faulty, item_token, misplaced, one, token, value_of, within_line}
 
--- A refusal is want of memory, which may come at any time, or the lexer's, and then this holds.
+-- A refusal is that memory ran out, which may happen at any time, or the lexer's, and then this holds.
 abbrev pub Faults : ParseError → Type 0 → Type 0
 Faults refusals.Memory fact = Unit {0}
 Faults refusals.Lexer fact = fact
 Faults e fact = ⊥
 
--- What was answered is the end, the token with what is behind it, or the fault. Want of memory may come at any time.
+-- What was answered is the end, the token with what is after it, or the fault. Memory may run out at any time.
 abbrev pub AnswersNext : Result (Option Token) ParseError → Unread → Next → Type 0
-AnswersNext (Ok None) behind read = read ≡ ends
-AnswersNext (Ok (Some t)) behind read = read ≡ token (value_of t) behind
-AnswersNext (Err e) behind read = Faults e (read ≡ faulty)
+AnswersNext (Ok None) after read = read ≡ ends
+AnswersNext (Ok (Some t)) after read = read ≡ token (value_of t) after
+AnswersNext (Err e) after read = Faults e (read ≡ faulty)
 
 -- No memory is taken to cut this off: the end of the text, blanks at the beginning of a line, the end of a line.
 abbrev pub TakesNone : Next → Type 0
@@ -33,7 +33,8 @@ CutsOff view (Ok a) cut = cut ≡ Some (view a)
 CutsOff view (Err e) cut = Faults e (cut ≡ None)
 
 -- What stood next within parentheses.
-abbrev pub AnswersElement : Result (Option (String Global) × Bor (List ℕ)) ParseError → Element → Type 0
+abbrev pub AnswersElement : Result (Option (String Global) × Bor (List ℕ)) ParseError → Element
+    → Type 0
 AnswersElement (Ok (None, rest)) found = found ≡ closes rest.now
 AnswersElement (Ok (Some word, rest)) found = found ≡ one (string_bytes word) rest.now
 AnswersElement (Err e) found = Faults e (found ≡ misplaced)
@@ -43,7 +44,7 @@ abbrev pub AnswersItem : Result Token ParseError → List ℕ → Type 0
 AnswersItem (Ok t) word = item_token word ≡ Some (value_of t)
 AnswersItem (Err e) word = Faults e (item_token word ≡ None)
 
--- A token that was cut off within a line, and what is behind it.
+-- A token that was cut off within a line, and what is after it.
 abbrev pub AnswersToken : Result (Token × Bor (List ℕ)) ParseError → Next → Type 0
 AnswersToken (Ok (t, rest)) read = read ≡ token (value_of t) (within_line rest.now)
 AnswersToken (Err e) read = Faults e (read ≡ faulty)

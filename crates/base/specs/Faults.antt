@@ -7,15 +7,22 @@ use Rattle.base.specs.Spelling.{ByteAt, anywhere, target}
 -- The fault of a name from i on, in a piece that begins at s, where as many bytes were used by the labels
 -- before: the buffer ends before a part or inside a label or pointer; top bits 01 or 10; more than 255
 -- bytes with the final one; a pointer that doesn't go below its piece's start; or a fault that comes
--- behind a label or a pointer.
+-- after a label or a pointer.
 pub data IsFaulty (bytes : List ℕ) : ℕ → ℕ → ℕ → DecodeError → Type 0 where
   ended : {s i used : ℕ} → length bytes ≤ i → IsFaulty bytes s i used faults.InsufficientBytes
-  cut_label : {s i used n : ℕ} → ByteAt anywhere bytes i n → 1 ≤ n → n ≤ 63 → length bytes < i + 1 + n → IsFaulty bytes s i used faults.InsufficientBytes
-  cut_pointer : {s i used b : ℕ} → ByteAt anywhere bytes i b → 192 ≤ b → length bytes ≤ i + 1 → IsFaulty bytes s i used faults.InsufficientBytes
-  bad_bits : {s i used b : ℕ} → ByteAt anywhere bytes i b → 64 ≤ b → b < 192 → IsFaulty bytes s i used faults.BadName
-  long : {s i used n : ℕ} → ByteAt anywhere bytes i n → 1 ≤ n → n ≤ 63 → i + 1 + n ≤ length bytes → 255 < used + (1 + n) + 1 → IsFaulty bytes s i used faults.BadName
-  forward : {s i used b c : ℕ} → ByteAt anywhere bytes i b → ByteAt anywhere bytes (i + 1) c → 192 ≤ b → s ≤ target b c → IsFaulty bytes s i used faults.BadName
-  behind_label : {s i used n : ℕ} {f : DecodeError} → ByteAt anywhere bytes i n → 1 ≤ n → n ≤ 63 → i + 1 + n ≤ length bytes → used + (1 + n) + 1 ≤ 255
+  cut_label : {s i used n : ℕ} → ByteAt anywhere bytes i n → 1 ≤ n → n ≤ 63
+      → length bytes < i + 1 + n → IsFaulty bytes s i used faults.InsufficientBytes
+  cut_pointer : {s i used b : ℕ} → ByteAt anywhere bytes i b → 192 ≤ b → length bytes ≤ i + 1
+      → IsFaulty bytes s i used faults.InsufficientBytes
+  bad_bits : {s i used b : ℕ} → ByteAt anywhere bytes i b → 64 ≤ b → b < 192
+      → IsFaulty bytes s i used faults.BadName
+  long : {s i used n : ℕ} → ByteAt anywhere bytes i n → 1 ≤ n → n ≤ 63 → i + 1 + n ≤ length bytes
+      → 255 < used + (1 + n) + 1 → IsFaulty bytes s i used faults.BadName
+  forward : {s i used b c : ℕ} → ByteAt anywhere bytes i b → ByteAt anywhere bytes (i + 1) c
+      → 192 ≤ b → s ≤ target b c → IsFaulty bytes s i used faults.BadName
+  after_label : {s i used n : ℕ} {f : DecodeError} → ByteAt anywhere bytes i n → 1 ≤ n → n ≤ 63
+      → i + 1 + n ≤ length bytes → used + (1 + n) + 1 ≤ 255
       → IsFaulty bytes s (i + 1 + n) (used + (1 + n)) f → IsFaulty bytes s i used f
-  behind_pointer : {s i used b c : ℕ} {f : DecodeError} → ByteAt anywhere bytes i b → ByteAt anywhere bytes (i + 1) c → 192 ≤ b → target b c < s
+  after_pointer : {s i used b c : ℕ} {f : DecodeError} → ByteAt anywhere bytes i b
+      → ByteAt anywhere bytes (i + 1) c → 192 ≤ b → target b c < s
       → IsFaulty bytes (target b c) (target b c) used f → IsFaulty bytes s i used f

@@ -1,4 +1,4 @@
--- Items that are written one behind the other.
+-- Items that are written one after another.
 use Rattle.std.specs.Prelude.{◌≡◌, ℕ, ◌+◌, ◌-◌, ◌^◌, ◌<◌, List, [], ◌∷◌, length, Option, Some, None, Result, Ok, Err}
 use Rattle.std.specs.Iterator.{Count, UpTo, YieldsThen}
 use Rattle.base.specs.declared.error.proto_error.ProtoError.{ProtoError}
@@ -12,10 +12,11 @@ abbrev pub IsCountable : Count → Type 0
 IsCountable count = UpTo count (2 ^ 64 - 1)
 
 module _ {E : Type 0} (word : E → List ℕ → ℕ → ℕ → Type 0) (plain : E → ℕ) (owner : E → List (List ℕ)) where
-  -- each item was written behind the one before it
+  -- each item was written after the one before it
   abbrev pub EachWritten : List E → State → State → Type 0
   EachWritten [] a b = b ≡ a
-  EachWritten (x ∷ xs) a c = (b : State) × Keeps a b × Writes (word x) (plain x) (owner x) a b × EachWritten xs b c
+  EachWritten (x ∷ xs) a c = (b : State) × Keeps a b × Writes (word x) (plain x) (owner x) a b
+      × EachWritten xs b c
 
   -- Calls of an iterator gave items, and each was written, its bytes being those of `written`: all of them, or
   -- those before one whose own bytes would have passed the limit, and nothing of that one.
@@ -25,7 +26,8 @@ module _ {E : Type 0} (word : E → List ℕ → ℕ → ℕ → Type 0) (plain 
       (xs : List E) × YieldsThen steps s xs None t × EachWritten xs a b × (n ≡ length xs)
       × (b ≡ after (in_turn written xs) a)
   EmitsAll written steps s t a b (Err (refusals.NotAllRecordsWritten n)) =
-      (xs : List E) × (x : E) × YieldsThen steps s xs (Some x) t × EachWritten xs a b × (n ≡ length xs) × (a.limit < length b.bytes + plain x)
+      (xs : List E) × (x : E) × YieldsThen steps s xs (Some x) t × EachWritten xs a b
+      × (n ≡ length xs) × (a.limit < length b.bytes + plain x)
       × (b ≡ after (in_turn written xs) a)
       × (a.limit < length b.bytes + length (piece_at (written x) b).bytes)
   EmitsAll written steps s t a b (Err refusals.Memory) = Unit {0}

@@ -16,7 +16,8 @@ pub record IsKept (bytes : List ℕ) (t : ℕ) (items : List ℕ) : Type 0 where
 
 -- what a table keeps by offset are the labels there
 abbrev pub AreKept : List ℕ → List (Option (List ℕ)) → Type 0
-AreKept bytes kept = (t : ℕ) (items : List ℕ) → get_or kept t None ≡ Some items → IsKept bytes t items
+AreKept bytes kept = (t : ℕ) (items : List ℕ) → get_or kept t None ≡ Some items
+    → IsKept bytes t items
 
 -- these labels stand at their offsets
 abbrev pub ArePlain : List ℕ → List Plain → Type 0

@@ -35,8 +35,11 @@ pub record Keeps (old new : State) : Type 0 where
 -- An owner that ends in a stored suffix points to it, and an owner that begins early is stored.
 pub record Compresses (owner : List (List ℕ)) (old new : State) : Type 0 where
   pub end : ℕ
-  pub spelled : owner ≢ [] → (B : List ℕ) → Holds old new B → Spelled B owner (length old.bytes) (length old.bytes) end
-  pub short : owner ≢ [] → (front : List (List ℕ)) → Any (λ t. owner ≡ front ++ t.labels) old.suffixes → end ≤ length old.bytes + (size_of front + 2)
+  pub spelled : owner ≢ [] → (B : List ℕ) → Holds old new B
+      → Spelled B owner (length old.bytes) (length old.bytes) end
+  pub short : owner ≢ [] → (front : List (List ℕ))
+      → Any (λ t. owner ≡ front ++ t.labels) old.suffixes
+      → end ≤ length old.bytes + (size_of front + 2)
   pub stored : owner ≢ [] → length old.bytes < 16384 → Any (λ t. t.labels ≡ owner) new.suffixes
 
 -- A value was written: its word stands in every buffer that holds what was written, all suffixes
@@ -50,5 +53,7 @@ pub record Writes (word : List ℕ → ℕ → ℕ → Type 0) (plain : ℕ) (ow
 -- Each suffix of a name that was written by labels, and begins early, is stored where it begins: from
 -- there on stands more than a pointer or a zero byte.
 pub record StoresSuffixes (labels : List (List ℕ)) (old new : State) : Type 0 where
-  pub each : (front back : List (List ℕ)) → labels ≡ front ++ back → length old.bytes + size_of front + 2 < length new.bytes → length old.bytes + size_of front < 16384
+  pub each : (front back : List (List ℕ)) → labels ≡ front ++ back
+      → length old.bytes + size_of front + 2 < length new.bytes
+      → length old.bytes + size_of front < 16384
       → Any (λ t. (t.labels ≡ back) × (t.offset ≡ length old.bytes + size_of front)) new.suffixes

@@ -1,8 +1,8 @@
--- Values that are read one behind the other.
+-- Values that are read one after another.
 use Rattle.std.specs.Prelude.{ℕ, List, [], ◌∷◌, ◌++◌, zero, suc, Ok}
-use Rattle.base.specs.Reading.{Read, ◌>>=◌, behind}
+use Rattle.base.specs.Reading.{Read, ◌>>=◌, place_after}
 
--- as many values, each at the place behind the one before it, or the first fault
+-- as many values, each at the place after the one before it, or the first fault
 unfoldable pub many_at : {A : Type 0} → (List ℕ → ℕ → Read A) → ℕ → List ℕ → ℕ → Read (List A)
 many_at read zero bytes i = Ok ([], i)
 many_at read (suc n) bytes i = do
@@ -10,7 +10,9 @@ many_at read (suc n) bytes i = do
   others ← many_at read n bytes first.1
   Ok (first.0 ∷ others.0, others.1)
 
--- The places of the names of as many values, each at the place behind the one before it, where names says those of one.
-unfoldable pub many_names : {A : Type 0} → (List ℕ → ℕ → Read A) → (List ℕ → ℕ → List ℕ) → ℕ → List ℕ → ℕ → List ℕ
+-- The places of the names of as many values, each at the place after the one before it, where names says those of one.
+unfoldable pub many_names : {A : Type 0} → (List ℕ → ℕ → Read A) → (List ℕ → ℕ → List ℕ) → ℕ
+    → List ℕ → ℕ → List ℕ
 many_names read names zero bytes i = []
-many_names read names (suc n) bytes i = names bytes i ++ many_names read names n bytes (behind (read bytes i))
+many_names read names (suc n) bytes i = names bytes i
+    ++ many_names read names n bytes (place_after (read bytes i))

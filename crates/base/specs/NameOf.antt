@@ -10,8 +10,9 @@ abbrev pub char_on : Character → Option (List Character) → Option (List Char
 char_on c None = None
 char_on c (Some cs) = Some (c ∷ cs)
 
--- the first character, and then those of the text behind it
-abbrev pub chars_on : (List ℕ → Option (List Character)) → Option (Character × List ℕ) → Option (List Character)
+-- the first character, and then those of the text after it
+abbrev pub chars_on : (List ℕ → Option (List Character)) → Option (Character × List ℕ)
+    → Option (List Character)
 chars_on more None = None
 chars_on more (Some found) = char_on found.0 (more found.1)
 
@@ -32,7 +33,7 @@ pieces [] = [] ∷ []
 pieces (dot ∷ cs) = [] ∷ pieces cs
 pieces (byte b ∷ cs) = onto_first b (pieces cs)
 
--- the labels, and whether an empty piece behind the last dot ends the name
+-- the labels, and whether an empty piece after the last dot ends the name
 abbrev pub without_end : List (List ℕ) → List (List ℕ) × Bool
 without_end [] = ([], false)
 without_end ([] ∷ []) = ([], true)
@@ -62,7 +63,7 @@ unfoldable pub text_labels : List ℕ → Option (List (List ℕ) × Bool)
 text_labels text = labels_of_chars (chars (length text) text)
 
 -- The name of these labels. With a dot at the end it is absolute and complete; else it is relative, and the origin, where
--- one is given, stands behind it (RFC 1035, 5.1).
+-- one is given, stands after it (RFC 1035, 5.1).
 abbrev pub completed : Option NameValue → List (List ℕ) × Bool → Result NameValue Fault
 completed origin (labels, true) = Ok (record { labels = labels; absolute = true })
 completed None (labels, false) = Ok (record { labels = labels; absolute = false })

@@ -16,7 +16,8 @@ pub labels_decide : (xs ys : List (List ℕ)) → Decides (same_labels xs ys) (x
 labels_decide = pointwise_decides bytes_decides
 
 -- lists are the same exactly where their reverses are
-turned_Decides : (b : Bool) (xs ys : List (List ℕ)) → Decides b (reverse xs ≡ reverse ys) → Decides b (xs ≡ ys)
+turned_Decides : (b : Bool) (xs ys : List (List ℕ)) → Decides b (reverse xs ≡ reverse ys)
+    → Decides b (xs ≡ ys)
 turned_Decides b xs ys d =
     (λ e. sym (reverse-reverse xs) ∙ ap reverse (d.0 e) ∙ reverse-reverse ys, λ e. d.1 (ap reverse e))
 
@@ -54,7 +55,8 @@ module _ (shown : NameValue → List (List ℕ)) where
       (fed.on_Alike shown (fed.same_Alike (λ (labels : List (List ℕ)). wire_of labels ∷ []) labels_decide))).fed a b h
 
   -- names that are the same have the same flag, and the same labels as they are shown
-  pub same_by-is : (a b : NameValue) → IsTrue (same_by shown a b) ↔ ((a.absolute ≡ b.absolute) × (shown a ≡ shown b))
+  pub same_by-is : (a b : NameValue)
+      → IsTrue (same_by shown a b) ↔ ((a.absolute ≡ b.absolute) × (shown a ≡ shown b))
   same_by-is a b = (λ h. (same_flag h, same_shown h), both) where
     same_flag : IsTrue (same_by shown a b) → a.absolute ≡ b.absolute
     same_flag h = (booleans_Decides a.absolute b.absolute).0 (first_so _ _ h)
@@ -66,7 +68,8 @@ module _ (shown : NameValue → List (List ℕ)) where
     both h = rw ((booleans_Decides a.absolute b.absolute).1 h.0) ((labels_decide (shown a) (shown b)).1 h.1)
 
   -- and so have those that the order does not tell apart
-  pub cmp_by-ties : (a b : NameValue) → (cmp_by shown a b ≡ Equal) ↔ ((a.absolute ≡ b.absolute) × (shown a ≡ shown b))
+  pub cmp_by-ties : (a b : NameValue)
+      → (cmp_by shown a b ≡ Equal) ↔ ((a.absolute ≡ b.absolute) × (shown a ≡ shown b))
   cmp_by-ties a b =
       let tie = same_by-tie a b in (
         λ (h : cmp_by shown a b ≡ Equal). (same_by-is a b).0 (tie ∙ ap is_eq h),
@@ -77,7 +80,8 @@ module _ (shown : NameValue → List (List ℕ)) where
 -- values of the same parts are the same
 name_parts : (a b : NameValue) → a.absolute ≡ b.absolute → a.labels ≡ b.labels → a ≡ b
 name_parts a b flag labels =
-    ap (λ (l : List (List ℕ)). record a { labels = l }) labels ∙ ap (λ (f : Bool). record b { absolute = f }) flag
+    ap (λ (l : List (List ℕ)). record a { labels = l }) labels
+    ∙ ap (λ (f : Bool). record b { absolute = f }) flag
 
 -- the order of names in lower case tells apart all that are not the same
 pub lower_cmp-exact : (a b : NameValue) → lower_cmp a b ≡ Equal → a ≡ b

@@ -17,7 +17,7 @@ decimal_text b = 92 ∷ (48 + b / 100) ∷ (48 + b / 10 % 10) ∷ (48 + b % 10) 
 abbrev pub byte_text : ℕ → List ℕ
 byte_text b = if nat_lt b 33 || nat_lt 126 b then decimal_text b else (if is_special b then 92 ∷ b ∷ [] else b ∷ [])
 
--- the text of a label: that of its bytes, one behind the other
+-- the text of a label: that of its bytes, one after another
 abbrev pub label_text : List ℕ → List ℕ
 label_text label = flat_map byte_text label
 
@@ -46,25 +46,28 @@ pub data Character : Type 0 where
 -- a backslash and another character of ASCII, but a digit; or a backslash and three decimal digits.
 pub data IsCharText (text : List ℕ) : Character → Type 0 where
   is_dot : text ≡ 46 ∷ [] → IsCharText text dot
-  is_printable : {b : ℕ} → text ≡ b ∷ [] → 33 ≤ b → b ≤ 126 → b ≢ 46 → b ≢ 92 → IsCharText text (byte b)
-  is_escaped : {b : ℕ} → text ≡ 92 ∷ b ∷ [] → b < 128 → is_ascii_digit b ≡ false → IsCharText text (byte b)
-  is_number : {x y z b : ℕ} → text ≡ 92 ∷ x ∷ y ∷ z ∷ [] → IsDecimal x y z b → IsCharText text (byte b)
+  is_printable : {b : ℕ} → text ≡ b ∷ [] → 33 ≤ b → b ≤ 126 → b ≢ 46 → b ≢ 92
+      → IsCharText text (byte b)
+  is_escaped : {b : ℕ} → text ≡ 92 ∷ b ∷ [] → b < 128 → is_ascii_digit b ≡ false
+      → IsCharText text (byte b)
+  is_number : {x y z b : ℕ} → text ≡ 92 ∷ x ∷ y ∷ z ∷ [] → IsDecimal x y z b
+      → IsCharText text (byte b)
 
--- The character behind a backslash and a digit, which two more digits follow: the byte of this number.
+-- The character after a backslash and a digit, which two more digits follow: the byte of this number.
 unfoldable pub decimal_char : ℕ → List ℕ → Option (Character × List ℕ)
 decimal_char x (y ∷ z ∷ rest) =
     let number = 100 * (x - 48) + 10 * (y - 48) + (z - 48) in
     if is_ascii_digit y && is_ascii_digit z && nat_lt number 256 then Some (byte number, rest) else None
 decimal_char x _ = None
 
--- The character behind a backslash: the byte of three decimal digits, or any other of ASCII as a byte.
+-- The character after a backslash: the byte of three decimal digits, or any other of ASCII as a byte.
 unfoldable pub escaped_char : List ℕ → Option (Character × List ℕ)
 escaped_char [] = None
 escaped_char (c ∷ rest) =
     if is_ascii_digit c then decimal_char c rest
     else (if nat_lt c 128 then Some (byte c, rest) else None)
 
--- The first character of a text, and the text behind it: an escaped one, a dot, or a printable one that is
+-- The first character of a text, and the text after it: an escaped one, a dot, or a printable one that is
 -- no space. None where the text begins otherwise.
 unfoldable pub first_char : List ℕ → Option (Character × List ℕ)
 first_char [] = None
@@ -73,10 +76,11 @@ first_char (c ∷ rest) =
     else (if c == 46 then Some (dot, rest)
     else (if nat_le 33 c && nat_le c 126 then Some (byte c, rest) else None))
 
--- the text is these characters, one behind the other
+-- the text is these characters, one after another
 pub data AreCharsOf : List ℕ → List Character → Type 0 where
   none : AreCharsOf [] []
-  more : {text piece rest : List ℕ} {c : Character} {cs : List Character} → IsCharText piece c → text ≡ piece ++ rest → AreCharsOf rest cs → AreCharsOf text (c ∷ cs)
+  more : {text piece rest : List ℕ} {c : Character} {cs : List Character} → IsCharText piece c
+      → text ≡ piece ++ rest → AreCharsOf rest cs → AreCharsOf text (c ∷ cs)
 
 -- the characters of labels with dots between them
 abbrev pub dotted : List (List ℕ) → List Character
@@ -97,7 +101,11 @@ pub record IsLabelsText (text : List ℕ) (labels : List (List ℕ)) (absolute :
 pub data IsNameText (text : List ℕ) (origin : Option NameValue) : NameValue → Type 0 where
   is_root : text ≡ 46 ∷ [] → IsNameText text origin (record { labels = []; absolute = true })
   is_origin : {o : NameValue} → origin ≡ Some o → text ≡ 64 ∷ [] → IsNameText text origin o
-  is_absolute : {labels : List (List ℕ)} → IsLabelsText text labels true → IsNameText text origin (record { labels = labels; absolute = true })
-  is_relative : {labels : List (List ℕ)} → origin ≡ None → text ≢ 64 ∷ [] → IsLabelsText text labels false → IsNameText text origin (record { labels = labels; absolute = false })
-  is_completed : {o : NameValue} {labels : List (List ℕ)} → origin ≡ Some o → text ≢ 64 ∷ [] → IsLabelsText text labels false → plain_len (labels ++ o.labels) ≤ 255
+  is_absolute : {labels : List (List ℕ)} → IsLabelsText text labels true
+      → IsNameText text origin (record { labels = labels; absolute = true })
+  is_relative : {labels : List (List ℕ)} → origin ≡ None → text ≢ 64 ∷ []
+      → IsLabelsText text labels false
+      → IsNameText text origin (record { labels = labels; absolute = false })
+  is_completed : {o : NameValue} {labels : List (List ℕ)} → origin ≡ Some o → text ≢ 64 ∷ []
+      → IsLabelsText text labels false → plain_len (labels ++ o.labels) ≤ 255
       → IsNameText text origin (record { labels = labels ++ o.labels; absolute = true })

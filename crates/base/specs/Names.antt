@@ -1,4 +1,4 @@
--- Reading a name: the labels and the place behind them, or the first fault (RFC 1035, 4.1.4).
+-- Reading a name: the labels and the place after them, or the first fault (RFC 1035, 4.1.4).
 use Rattle.std.specs.Prelude.{ℕ, zero, suc, ◌+◌, ◌-◌, ◌==◌, List, [], ◌∷◌, length, slice_index, slice_range, nat_lt, nat_le, if◌then◌else◌, Result, Ok, Err, true}
 use Rattle.base.specs.declared.error.decode_error.DecodeError.{DecodeError}
 use Rattle.base.specs.declared.error.decode_error.DecodeError.TheVariants as faults
@@ -35,7 +35,7 @@ abbrev pub ending : ℕ → Labels → Labels
 ending e read = read >>= λ r. Ok (r.0, e)
 
 -- The labels from a part on, in a piece that begins at s, where as many bytes were used by the labels
--- before; what comes behind the part is read by again.
+-- before; what comes after the part is read by again.
 abbrev pub after_part : (ℕ → ℕ → ℕ → Labels) → List ℕ → ℕ → ℕ → ℕ → NamePart → Labels
 after_part again bytes s i used zero_byte = Ok ([], i + 1)
 after_part again bytes s i used (label_of len) =

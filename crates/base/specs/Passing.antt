@@ -7,7 +7,8 @@ use Rattle.base.specs.Reader.{Reader}
 use Rattle.base.specs.Spelling.{SpelledIn, Spelled, ends, label, pointer, target}
 
 -- the offsets that the pointers of a spelling lead to, in order
-abbrev pub passed : {looks : ℕ → Type 0} {bytes : List ℕ} {s i e : ℕ} {xs : List (List ℕ)} → SpelledIn looks bytes s i xs e → List ℕ
+abbrev pub passed : {looks : ℕ → Type 0} {bytes : List ℕ} {s i e : ℕ} {xs : List (List ℕ)}
+    → SpelledIn looks bytes s i xs e → List ℕ
 passed (ends h) = []
 passed (label h some small at rest) = passed rest
 passed (pointer {b = b} {c = c} h next high below rest) = target b c ∷ passed rest
@@ -26,7 +27,8 @@ AreIn kept ts = (q : ℕ) → among ts q ≡ true → set.contains kept q ≡ tr
 
 -- what is spelled at t passes kept offsets alone
 abbrev pub PassesKept : List ℕ → set.FinSet nat_cmp → ℕ → Type 0
-PassesKept bytes kept t = (xs : List (List ℕ)) (e : ℕ) (h : Spelled bytes xs t t e) → AreIn kept (passed h)
+PassesKept bytes kept t = (xs : List (List ℕ)) (e : ℕ) (h : Spelled bytes xs t t e)
+    → AreIn kept (passed h)
 
 -- with an offset, all that is passed from there is kept
 abbrev pub IsClosed : List ℕ → set.FinSet nat_cmp → Type 0
@@ -35,7 +37,8 @@ IsClosed bytes kept = (t : ℕ) → set.contains kept t ≡ true → PassesKept 
 -- Names stand at these places, and their pointers lead to these offsets, one name's before another's.
 pub data NamesPass (bytes : List ℕ) : List ℕ → List ℕ → Type 0 where
   no_names : NamesPass bytes [] []
-  one_more : {i e : ℕ} {xs : List (List ℕ)} {places ts : List ℕ} → (h : Spelled bytes xs i i e) → NamesPass bytes places ts → NamesPass bytes (i ∷ places) (passed h ++ ts)
+  one_more : {i e : ℕ} {xs : List (List ℕ)} {places ts : List ℕ} → (h : Spelled bytes xs i i e)
+      → NamesPass bytes places ts → NamesPass bytes (i ∷ places) (passed h ++ ts)
 
 -- A read kept exactly the offsets that the names at these places pass, beside those from before.
 pub record AddsPassed (names : List ℕ) (old new : Reader) : Type 0 where

@@ -1,31 +1,33 @@
--- Reading as a function of a buffer and a place: the value and the place behind it, or the first fault.
+-- Reading as a function of a buffer and a place: the value and the place after it, or the first fault.
 use Rattle.std.specs.Prelude.{◌≡◌, ℕ, ◌+◌, List, length, take, drop, slice_index, nat_lt, if◌then◌else◌, Result, Ok, Err}
 use Rattle.std.specs.Int.{Width, byte_len, from_be_bytes}
 use Rattle.base.specs.declared.error.decode_error.DecodeError.{DecodeError}
 use Rattle.base.specs.declared.error.decode_error.DecodeError.TheVariants as faults
 use Rattle.base.specs.Reader.{Reader}
 
--- what reading gives: a value and the place behind it, or the first fault
+-- what reading gives: a value and the place after it, or the first fault
 abbrev pub Read : Type 0 → Type 0
 Read A = Result (A × ℕ) DecodeError
 
 infixl 10 ◌>>=◌
-abbrev pub ◌>>=◌ : {A B : Type 0} → Result A DecodeError → (A → Result B DecodeError) → Result B DecodeError
+abbrev pub ◌>>=◌ : {A B : Type 0} → Result A DecodeError → (A → Result B DecodeError)
+    → Result B DecodeError
 (Ok x) >>= f = f x
 (Err e) >>= f = Err e
 
--- the place behind what was read
-abbrev pub behind : {A : Type 0} → Read A → ℕ
-behind (Ok r) = r.1
-behind (Err e) = 0
+-- the place after what was read
+abbrev pub place_after : {A : Type 0} → Read A → ℕ
+place_after (Ok r) = r.1
+place_after (Err e) = 0
 
--- a call was refused: for want of memory, or with the fault that reading meets
+-- a call was refused: if memory runs out, or with the fault that reading meets
 abbrev pub Fails : {Y : Type 0} → DecodeError → Result Y DecodeError → Type 0
 Fails faults.Memory read = Unit {0}
 Fails e read = read ≡ Err e
 
--- What a call answered, seen by view, is what reading gives, and the decoder stands behind it.
-abbrev pub Reads : {X Y : Type 0} → (X → Y) → Reader → Reader → Result X DecodeError → Result (Y × ℕ) DecodeError → Type 0
+-- What a call answered, seen by view, is what reading gives, and the decoder stands after it.
+abbrev pub Reads : {X Y : Type 0} → (X → Y) → Reader → Reader → Result X DecodeError
+    → Result (Y × ℕ) DecodeError → Type 0
 Reads view old new (Ok x) read = (read ≡ Ok (view x, new.index)) × (new.bytes ≡ old.bytes)
 Reads view old new (Err e) read = Fails e read
 

@@ -22,15 +22,20 @@ pub record Adds (at : ℕ) (stored suffixes : List Stored) : Type 0 where
 -- an owner that ends in a stored suffix points to it, and an owner that begins early is stored
 pub record IsOwned (f : Writing) (fits : Type 0) (owner : List (List ℕ)) : Type 0 where
   pub end : ℕ → List Stored → ℕ
-  pub spelled : fits → owner ≢ [] → (B : List ℕ) (at : ℕ) (stored : List Stored) → IsThere f B at stored → Spelled B owner at at (end at stored)
-  pub short : owner ≢ [] → (at : ℕ) (stored : List Stored) (front : List (List ℕ)) → Any (λ t. owner ≡ front ++ t.labels) stored → end at stored ≤ at + (size_of front + 2)
-  pub stores : owner ≢ [] → (at : ℕ) (stored : List Stored) → at < 16384 → Any (λ t. t.labels ≡ owner) (f at stored).suffixes
+  pub spelled : fits → owner ≢ [] → (B : List ℕ) (at : ℕ) (stored : List Stored)
+      → IsThere f B at stored → Spelled B owner at at (end at stored)
+  pub short : owner ≢ [] → (at : ℕ) (stored : List Stored) (front : List (List ℕ))
+      → Any (λ t. owner ≡ front ++ t.labels) stored → end at stored ≤ at + (size_of front + 2)
+  pub stores : owner ≢ [] → (at : ℕ) (stored : List Stored) → at < 16384
+      → Any (λ t. t.labels ≡ owner) (f at stored).suffixes
 
 -- What is written of a value whose parts fit is a word, and all suffixes stored until then are spelled. It has at most
 -- as many bytes, and stores its suffixes after those that are there.
 pub record Says (f : Writing) (fits : Type 0) (word : List ℕ → ℕ → ℕ → Type 0) (plain : ℕ) (owner : List (List ℕ)) : Type 0 where
-  pub word_stands : fits → (B : List ℕ) (at : ℕ) (stored : List Stored) → IsThere f B at stored → word B at (at + length (f at stored).bytes)
-  pub valid : fits → (B : List ℕ) (at : ℕ) (stored : List Stored) → IsThere f B at stored → All (IsSpelled B (at + length (f at stored).bytes)) (f at stored).suffixes
+  pub word_stands : fits → (B : List ℕ) (at : ℕ) (stored : List Stored) → IsThere f B at stored
+      → word B at (at + length (f at stored).bytes)
+  pub valid : fits → (B : List ℕ) (at : ℕ) (stored : List Stored) → IsThere f B at stored
+      → All (IsSpelled B (at + length (f at stored).bytes)) (f at stored).suffixes
   pub at_most : (at : ℕ) (stored : List Stored) → length (f at stored).bytes ≤ plain
   pub adds : (at : ℕ) (stored : List Stored) → Adds at stored (f at stored).suffixes
   pub owned : IsOwned f fits owner

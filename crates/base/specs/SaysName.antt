@@ -23,12 +23,15 @@ use Rattle.base.specs.Written.{Piece, both, pointer, found_in, pointer_or, label
 pub record Near (x : List ℕ) (xs : List (List ℕ)) (at : ℕ) (stored : List Stored) : Type 0 where
   pub added : List Stored
   pub is : (label_of x xs at stored).suffixes ≡ stored ++ added
-  pub which : ((added ≡ []) × (16384 ≤ at)) ⊎ ((added ≡ record { labels = x ∷ xs; offset = at } ∷ []) × (at < 16384))
+  pub which : ((added ≡ []) × (16384 ≤ at))
+      ⊎ ((added ≡ record { labels = x ∷ xs; offset = at } ∷ []) × (at < 16384))
 
-near_by : (x : List ℕ) (xs : List (List ℕ)) (at : ℕ) (stored : List Stored) (far : Bool) → nat_le 16384 at ≡ far → Near x xs at stored
+near_by : (x : List ℕ) (xs : List (List ℕ)) (at : ℕ) (stored : List Stored) (far : Bool)
+    → nat_le 16384 at ≡ far → Near x xs at stored
 near_by x xs at stored true is = record {
   added = [];
-  is = ap (λ (b : Bool). cond b stored (stored ++ record { labels = x ∷ xs; offset = at } ∷ [])) is ∙ sym (append-nil stored);
+  is = ap (λ (b : Bool). cond b stored (stored ++ record { labels = x ∷ xs; offset = at } ∷ [])) is
+      ∙ sym (append-nil stored);
   which = inl (refl, leb-true 16384 at is);
 }
 near_by x xs at stored false is = record {
@@ -49,7 +52,8 @@ near_all P x xs at stored n holds = elim n.which [
 ]
 
 -- a suffix that is found is stored
-found_any : (ts : List Stored) (labels : List (List ℕ)) (o : ℕ) → found_in ts labels ≡ Some o → Any (λ t. (t.labels ≡ labels) × (t.offset ≡ o)) ts
+found_any : (ts : List Stored) (labels : List (List ℕ)) (o : ℕ) → found_in ts labels ≡ Some o
+    → Any (λ t. (t.labels ≡ labels) × (t.offset ≡ o)) ts
 found_any [] labels o is = absurd (let no = is in cc)
 found_any (t ∷ ts) labels o is = elim (cases_Bool (same_labels t.labels labels)) [
   | inl same ↦
@@ -62,7 +66,8 @@ found_any (t ∷ ts) labels o is = elim (cases_Bool (same_labels t.labels labels
 ]
 
 -- and one that isn't found is not
-unfound : (ts : List Stored) (labels : List (List ℕ)) → found_in ts labels ≡ None → All (λ t. t.labels ≢ labels) ts
+unfound : (ts : List Stored) (labels : List (List ℕ)) → found_in ts labels ≡ None
+    → All (λ t. t.labels ≢ labels) ts
 unfound [] labels is = All-nil (λ (t : Stored). t.labels ≢ labels)
 unfound (t ∷ ts) labels is = elim (cases_Bool (same_labels t.labels labels)) [
   | inl same ↦
@@ -75,16 +80,20 @@ unfound (t ∷ ts) labels is = elim (cases_Bool (same_labels t.labels labels)) [
 
 -- a name with a label is written as a pointer to where it is stored, or as that label and the others
 abbrev PointsTo : List ℕ → List (List ℕ) → ℕ → List Stored → Type 0
-PointsTo x xs at stored = (o : ℕ) × Any (λ t. (t.labels ≡ x ∷ xs) × (t.offset ≡ o)) stored × (name (x ∷ xs) at stored ≡ pointer o at stored)
+PointsTo x xs at stored = (o : ℕ) × Any (λ t. (t.labels ≡ x ∷ xs) × (t.offset ≡ o)) stored
+    × (name (x ∷ xs) at stored ≡ pointer o at stored)
 
 abbrev HasLabel : List ℕ → List (List ℕ) → ℕ → List Stored → Type 0
-HasLabel x xs at stored = All (λ t. t.labels ≢ x ∷ xs) stored × (name (x ∷ xs) at stored ≡ both (label_of x xs) (name xs) at stored)
+HasLabel x xs at stored = All (λ t. t.labels ≢ x ∷ xs) stored
+    × (name (x ∷ xs) at stored ≡ both (label_of x xs) (name xs) at stored)
 
-name_by : (x : List ℕ) (xs : List (List ℕ)) (at : ℕ) (stored : List Stored) (r : Option ℕ) → found_in stored (x ∷ xs) ≡ r → PointsTo x xs at stored ⊎ HasLabel x xs at stored
+name_by : (x : List ℕ) (xs : List (List ℕ)) (at : ℕ) (stored : List Stored) (r : Option ℕ)
+    → found_in stored (x ∷ xs) ≡ r → PointsTo x xs at stored ⊎ HasLabel x xs at stored
 name_by x xs at stored (Some o) is = inl (o, found_any stored (x ∷ xs) o is, ap (λ (r : Option ℕ). pointer_or (both (label_of x xs) (name xs)) r at stored) is)
 name_by x xs at stored None is = inr (unfound stored (x ∷ xs) is, ap (λ (r : Option ℕ). pointer_or (both (label_of x xs) (name xs)) r at stored) is)
 
-name_cases : (x : List ℕ) (xs : List (List ℕ)) (at : ℕ) (stored : List Stored) → PointsTo x xs at stored ⊎ HasLabel x xs at stored
+name_cases : (x : List ℕ) (xs : List (List ℕ)) (at : ℕ) (stored : List Stored)
+    → PointsTo x xs at stored ⊎ HasLabel x xs at stored
 name_cases x xs at stored = name_by x xs at stored (found_in stored (x ∷ xs)) refl
 
 -- the state of the recursion: what was stored before the name began, and longer suffixes of its own
@@ -105,10 +114,13 @@ next x at = at + length (length x ∷ x)
 abbrev rest_of : List ℕ → List (List ℕ) → ℕ → List Stored → Piece
 rest_of x xs at stored = name xs (next x at) (label_of x xs at stored).suffixes
 
-label_bytes : (x : List ℕ) (xs : List (List ℕ)) (s at : ℕ) (stored : List Stored) (B : List ℕ) → HasLabel x xs at stored → Begun (x ∷ xs) s at stored B → Stands ((length x ∷ x) ++ (rest_of x xs at stored).bytes) B at
+label_bytes : (x : List ℕ) (xs : List (List ℕ)) (s at : ℕ) (stored : List Stored) (B : List ℕ)
+    → HasLabel x xs at stored → Begun (x ∷ xs) s at stored B
+    → Stands ((length x ∷ x) ++ (rest_of x xs at stored).bytes) B at
 label_bytes x xs s at stored B has b = subst (λ (p : Piece). Stands p.bytes B at) has.1 b.stands
 
-Begun-next : (x : List ℕ) (xs : List (List ℕ)) (s at : ℕ) (stored : List Stored) (B : List ℕ) → HasLabel x xs at stored → Begun (x ∷ xs) s at stored B
+Begun-next : (x : List ℕ) (xs : List (List ℕ)) (s at : ℕ) (stored : List Stored) (B : List ℕ)
+    → HasLabel x xs at stored → Begun (x ∷ xs) s at stored B
     → Begun xs s (next x at) (label_of x xs at stored).suffixes B
 Begun-next x xs s at stored B has b =
     let n = near x xs at stored in
@@ -126,12 +138,17 @@ Begun-next x xs s at stored B has b =
     }
 
 -- where the whole ends
-ends_at : (x : List ℕ) (xs : List (List ℕ)) (at : ℕ) (stored : List Stored) → HasLabel x xs at stored → next x at + length (rest_of x xs at stored).bytes ≡ at + length (name (x ∷ xs) at stored).bytes
+ends_at : (x : List ℕ) (xs : List (List ℕ)) (at : ℕ) (stored : List Stored)
+    → HasLabel x xs at stored
+    → next x at + length (rest_of x xs at stored).bytes
+    ≡ at + length (name (x ∷ xs) at stored).bytes
 ends_at x xs at stored has = omega (arith, ap (λ (p : Piece). length p.bytes) has.1, length-append (length x ∷ x) (rest_of x xs at stored).bytes)
 
 -- what is among all elements, and is none of the last ones, is among the first
-any_old : (rest : List (List ℕ)) (o : ℕ) (old own stored : List Stored) → stored ≡ old ++ own → All (λ t. size_of rest < size_of t.labels) own
-    → Any (λ t. (t.labels ≡ rest) × (t.offset ≡ o)) stored → Any (λ t. (t.labels ≡ rest) × (t.offset ≡ o)) old
+any_old : (rest : List (List ℕ)) (o : ℕ) (old own stored : List Stored) → stored ≡ old ++ own
+    → All (λ t. size_of rest < size_of t.labels) own
+    → Any (λ t. (t.labels ≡ rest) × (t.offset ≡ o)) stored
+    → Any (λ t. (t.labels ≡ rest) × (t.offset ≡ o)) old
 any_old rest o old own stored is longer (k, t, inside, at, holds) = elim (cases_lt k (length old)) [
   | inl low ↦ (k, t, low, sym (get_or_append_left old own t k low) ∙ sym (ap (λ (ts : List Stored). get_or ts k t) is) ∙ at, holds)
   | inr high ↦
@@ -141,7 +158,9 @@ any_old rest o old own stored is longer (k, t, inside, at, holds) = elim (cases_
       absurd (omega (arith, more, ap size_of holds.0))
 ]
 
-points : (x : List ℕ) (xs : List (List ℕ)) (s at o : ℕ) (old : List Stored) (B : List ℕ) → All (IsSpelled B s) old → Any (λ t. (t.labels ≡ x ∷ xs) × (t.offset ≡ o)) old → Stands (to_be_bytes w16 (49152 + o)) B at
+points : (x : List ℕ) (xs : List (List ℕ)) (s at o : ℕ) (old : List Stored) (B : List ℕ)
+    → All (IsSpelled B s) old → Any (λ t. (t.labels ≡ x ∷ xs) × (t.offset ≡ o)) old
+    → Stands (to_be_bytes w16 (49152 + o)) B at
     → Spelled B (x ∷ xs) s at (at + length (to_be_bytes w16 (49152 + o)))
 points x xs s at o old B table (k, t, inside, is_at, is) stands =
     let spelled : IsSpelled B s t = subst (IsSpelled B s) is_at (table k t inside) in
@@ -150,7 +169,8 @@ points x xs s at o old B table (k, t, inside, is_at, is) stands =
     pointer_stands (omega (arith, is.1, spelled.below)) (omega (arith, is.1, spelled.fits)) stands there (omega arith)
 
 -- where what is written stands, the name is spelled
-name_spelled : (labels : List (List ℕ)) (s at : ℕ) (stored : List Stored) (B : List ℕ) → Begun labels s at stored B → Spelled B labels s at (at + length (name labels at stored).bytes)
+name_spelled : (labels : List (List ℕ)) (s at : ℕ) (stored : List Stored) (B : List ℕ)
+    → Begun labels s at stored B → Spelled B labels s at (at + length (name labels at stored).bytes)
 name_spelled [] s at stored B b = root_stands B s at (at + length (name [] at stored).bytes) b.stands (omega arith)
 name_spelled (x ∷ xs) s at stored B b = elim (name_cases x xs at stored) [
   | inl (o, any, same) ↦
@@ -168,7 +188,8 @@ name_spelled (x ∷ xs) s at stored B b = elim (name_cases x xs at stored) [
 -- the suffixes that a name adds, and where they are spelled
 record Added (labels : List (List ℕ)) (at : ℕ) (stored : List Stored) : Type 0 where
   adds : Adds at stored (name labels at stored).suffixes
-  valid : (s : ℕ) (B : List ℕ) → Begun labels s at stored B → All (IsSpelled B (at + length (name labels at stored).bytes)) adds.added
+  valid : (s : ℕ) (B : List ℕ) → Begun labels s at stored B
+      → All (IsSpelled B (at + length (name labels at stored).bytes)) adds.added
 
 name_added : (labels : List (List ℕ)) (at : ℕ) (stored : List Stored) → Added labels at stored
 name_added [] at stored = record {
@@ -187,7 +208,9 @@ name_added (x ∷ xs) at stored = elim (name_cases x xs at stored) [
       record {
         adds = record {
           added = n.added ++ rest.adds.added;
-          is = ap (λ (p : Piece). p.suffixes) has.1 ∙ rest.adds.is ∙ ap (λ (ts : List Stored). ts ++ rest.adds.added) n.is ∙ append_assoc stored n.added rest.adds.added;
+          is = ap (λ (p : Piece). p.suffixes) has.1 ∙ rest.adds.is
+              ∙ ap (λ (ts : List Stored). ts ++ rest.adds.added) n.is
+              ∙ append_assoc stored n.added rest.adds.added;
           offsets = All-append (λ (t : Stored). at ≤ t.offset) n.added rest.adds.added (near_all (λ (t : Stored). at ≤ t.offset) x xs at stored n (λ early. omega arith))
               (All-weaker (λ (t : Stored). next x at ≤ t.offset) (λ (t : Stored). at ≤ t.offset) (λ t later. omega (arith, later)) rest.adds.added rest.adds.offsets);
         };
@@ -200,7 +223,8 @@ name_added (x ∷ xs) at stored = elim (name_cases x xs at stored) [
       }
 ]
 
-name_begun : (labels : List (List ℕ)) (at : ℕ) (stored : List Stored) (B : List ℕ) → AreLabels labels → IsThere (name labels) B at stored → Begun labels at at stored B
+name_begun : (labels : List (List ℕ)) (at : ℕ) (stored : List Stored) (B : List ℕ)
+    → AreLabels labels → IsThere (name labels) B at stored → Begun labels at at stored B
 name_begun labels at stored B are h = record {
   old = stored;
   own = [];
@@ -213,7 +237,9 @@ name_begun labels at stored B are h = record {
 }
 
 -- a name that ends in a stored suffix takes no more than what is before that, and a pointer
-name_short : (labels front : List (List ℕ)) (at : ℕ) (stored : List Stored) → Any (λ t. labels ≡ front ++ t.labels) stored → length (name labels at stored).bytes ≤ size_of front + 2
+name_short : (labels front : List (List ℕ)) (at : ℕ) (stored : List Stored)
+    → Any (λ t. labels ≡ front ++ t.labels) stored
+    → length (name labels at stored).bytes ≤ size_of front + 2
 name_short [] front at stored any = omega arith
 name_short (x ∷ xs) [] at stored (k, t, inside, is_at, is) = elim (name_cases x xs at stored) [
   | inl (o, found, same) ↦ omega (arith, ap (λ (p : Piece). length p.bytes) same)
@@ -231,7 +257,8 @@ name_short (x ∷ xs) (y ∷ front) at stored (k, t, inside, is_at, is) = elim (
 ]
 
 -- and no more than without pointers
-name_at_most : (labels : List (List ℕ)) (at : ℕ) (stored : List Stored) → length (name labels at stored).bytes ≤ plain_len labels
+name_at_most : (labels : List (List ℕ)) (at : ℕ) (stored : List Stored)
+    → length (name labels at stored).bytes ≤ plain_len labels
 name_at_most [] at stored = omega arith
 name_at_most (x ∷ xs) at stored = elim (name_cases x xs at stored) [
   | inl (o, found, same) ↦ omega (arith, ap (λ (p : Piece). length p.bytes) same)
@@ -251,7 +278,8 @@ stored_here P x xs at stored has early holds =
           subst (λ (p : Piece). Any P p.suffixes) (sym has.1) (any_append P (label_of x xs at stored).suffixes rest.adds.added (rest_of x xs at stored).suffixes rest.adds.is pushed)
     ]
 
-name_stores : (labels : List (List ℕ)) (at : ℕ) (stored : List Stored) → labels ≢ [] → at < 16384 → Any (λ t. t.labels ≡ labels) (name labels at stored).suffixes
+name_stores : (labels : List (List ℕ)) (at : ℕ) (stored : List Stored) → labels ≢ [] → at < 16384
+    → Any (λ t. t.labels ≡ labels) (name labels at stored).suffixes
 name_stores [] at stored some early = absurd (some refl)
 name_stores (x ∷ xs) at stored some early = elim (name_cases x xs at stored) [
   | inl (o, (k, t, inside, is_at, holds), same) ↦ subst (λ (p : Piece). Any (λ t. t.labels ≡ x ∷ xs) p.suffixes) (sym same) (k, t, inside, is_at, holds.0)
@@ -259,7 +287,8 @@ name_stores (x ∷ xs) at stored some early = elim (name_cases x xs at stored) [
 ]
 
 -- each suffix that is written by labels, and begins early, is stored where it begins
-pub name_each : (front back : List (List ℕ)) (at : ℕ) (stored : List Stored) → size_of front + 2 < length (name (front ++ back) at stored).bytes → at + size_of front < 16384
+pub name_each : (front back : List (List ℕ)) (at : ℕ) (stored : List Stored)
+    → size_of front + 2 < length (name (front ++ back) at stored).bytes → at + size_of front < 16384
     → Any (λ t. (t.labels ≡ back) × (t.offset ≡ at + size_of front)) (name (front ++ back) at stored).suffixes
 name_each [] [] at stored more early = absurd (omega (arith, more))
 name_each [] (x ∷ xs) at stored more early = elim (name_cases x xs at stored) [
@@ -275,7 +304,8 @@ name_each (y ∷ front) back at stored more early = elim (name_cases y (front ++
 ]
 
 -- what is written of a name is its word
-pub Says-name : (labels : List (List ℕ)) → Says (name labels) (AreNameLabels labels) (NameAt labels) (plain_len labels) labels
+pub Says-name : (labels : List (List ℕ))
+    → Says (name labels) (AreNameLabels labels) (NameAt labels) (plain_len labels) labels
 Says-name labels = record {
   word_stands = λ ok B at stored h. (name_spelled labels at at stored B (name_begun labels at stored B ok.0 h), ok.1);
   valid = λ ok B at stored h.
@@ -294,7 +324,8 @@ Says-name labels = record {
 }
 
 -- and so it is without compression
-pub Says-plain_name : (labels : List (List ℕ)) → Says (plain_name labels) (AreNameLabels labels) (NameAt labels) (plain_len labels) []
+pub Says-plain_name : (labels : List (List ℕ))
+    → Says (plain_name labels) (AreNameLabels labels) (NameAt labels) (plain_len labels) []
 Says-plain_name labels =
     let len : length (wire_of labels ++ 0 ∷ []) ≡ plain_len labels = length-append (wire_of labels) (0 ∷ []) ∙ ap (λ (n : ℕ). n + 1) (length-wire_of labels) in
     Says-just (AreNameLabels labels) (NameAt labels) (plain_len labels) (wire_of labels ++ 0 ∷ []) (omega (arith, len)) (λ ok B at small stands. (

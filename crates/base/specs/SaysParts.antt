@@ -12,11 +12,13 @@ use Rattle.base.specs.Words.{Stands, Bytes, Number, Then, Sized}
 use Rattle.base.specs.Written.{Writing, just, both, sized}
 
 -- what is valid for an earlier place is valid for a later one
-pub spelled_later : (B : List ℕ) (m n : ℕ) → m ≤ n → (t : Stored) → IsSpelled B m t → IsSpelled B n t
+pub spelled_later : (B : List ℕ) (m n : ℕ) → m ≤ n → (t : Stored) → IsSpelled B m t
+    → IsSpelled B n t
 spelled_later B m n le t s = record { below = omega (arith, s.below); fits = s.fits; end = s.end; spelled = s.spelled }
 
 -- what is among the first elements is among all
-pub any_append : (P : Stored → Type 0) (xs ys zs : List Stored) → zs ≡ xs ++ ys → Any P xs → Any P zs
+pub any_append : (P : Stored → Type 0) (xs ys zs : List Stored) → zs ≡ xs ++ ys → Any P xs
+    → Any P zs
 any_append P xs ys zs is (k, t, inside, at, holds) =
     (k, t, omega (arith, ap length is, length-append xs ys), ap (λ (ts : List Stored). get_or ts k t) is ∙ get_or_append_left xs ys t k inside ∙ at, holds)
 
@@ -28,11 +30,13 @@ no_owner f fits = record {
   stores = λ some. absurd (some refl);
 }
 
-pub later_table : (B : List ℕ) (m n : ℕ) (ts : List Stored) → m ≤ n → All (IsSpelled B m) ts → All (IsSpelled B n) ts
+pub later_table : (B : List ℕ) (m n : ℕ) (ts : List Stored) → m ≤ n → All (IsSpelled B m) ts
+    → All (IsSpelled B n) ts
 later_table B m n ts le all = All-weaker (IsSpelled B m) (IsSpelled B n) (spelled_later B m n le) ts all
 
 -- bytes that are a word wherever they stand
-pub Says-just : (fits : Type 0) (word : List ℕ → ℕ → ℕ → Type 0) (plain : ℕ) (xs : List ℕ) → length xs ≤ plain → (fits → (B : List ℕ) (at : ℕ) → length xs < 2 ^ 16 → Stands xs B at → word B at (at + length xs))
+pub Says-just : (fits : Type 0) (word : List ℕ → ℕ → ℕ → Type 0) (plain : ℕ) (xs : List ℕ)
+    → length xs ≤ plain → (fits → (B : List ℕ) (at : ℕ) → length xs < 2 ^ 16 → Stands xs B at → word B at (at + length xs))
     → Says (just xs) fits word plain []
 Says-just fits word plain xs few is_word = record {
   word_stands = λ ok B at stored h. is_word ok B at h.small h.bytes;
@@ -47,41 +51,47 @@ last_stands xs ys B i h = stands_part xs ys [] B i (subst (λ (zs : List ℕ). S
 
 -- one word after another
 module _ {F G : Type 0} {v w : List ℕ → ℕ → ℕ → Type 0} {n m : ℕ} {owner : List (List ℕ)} (f g : Writing) (s : Says f F v n owner) (r : Says g G w m []) where
-  sum : (at : ℕ) (stored : List Stored) → length (both f g at stored).bytes ≡ length (f at stored).bytes + length (g (at + length (f at stored).bytes) (f at stored).suffixes).bytes
+  sum : (at : ℕ) (stored : List Stored)
+      → length (both f g at stored).bytes
+      ≡ length (f at stored).bytes + length (g (at + length (f at stored).bytes) (f at stored).suffixes).bytes
   sum at stored = length-append (f at stored).bytes (g (at + length (f at stored).bytes) (f at stored).suffixes).bytes
 
-  first_there : (B : List ℕ) (at : ℕ) (stored : List Stored) → IsThere (both f g) B at stored → IsThere f B at stored
+  first_there : (B : List ℕ) (at : ℕ) (stored : List Stored) → IsThere (both f g) B at stored
+      → IsThere f B at stored
   first_there B at stored h = record {
     table = h.table;
     bytes = first_stands (f at stored).bytes (g (at + length (f at stored).bytes) (f at stored).suffixes).bytes B at h.bytes;
     small = omega (arith, h.small, sum at stored);
   }
 
-  second_there : F → (B : List ℕ) (at : ℕ) (stored : List Stored) → IsThere (both f g) B at stored → IsThere g B (at + length (f at stored).bytes) (f at stored).suffixes
+  second_there : F → (B : List ℕ) (at : ℕ) (stored : List Stored) → IsThere (both f g) B at stored
+      → IsThere g B (at + length (f at stored).bytes) (f at stored).suffixes
   second_there ok B at stored h = record {
     table = s.valid ok B at stored (first_there B at stored h);
     bytes = last_stands (f at stored).bytes (g (at + length (f at stored).bytes) (f at stored).suffixes).bytes B at h.bytes;
     small = omega (arith, h.small, sum at stored);
   }
 
-  behind : (at : ℕ) (stored : List Stored) → at + length (f at stored).bytes + length (g (at + length (f at stored).bytes) (f at stored).suffixes).bytes ≡ at + length (both f g at stored).bytes
-  behind at stored = omega (arith, sum at stored)
+  after : (at : ℕ) (stored : List Stored)
+      → at + length (f at stored).bytes + length (g (at + length (f at stored).bytes) (f at stored).suffixes).bytes ≡ at + length (both f g at stored).bytes
+  after at stored = omega (arith, sum at stored)
 
   pub Says-both : Says (both f g) (F × G) (Then v w) (n + m) owner
   Says-both = record {
     word_stands = λ ok B at stored h. (
       at + length (f at stored).bytes,
       s.word_stands ok.0 B at stored (first_there B at stored h),
-      subst (λ (e : ℕ). w B (at + length (f at stored).bytes) e) (behind at stored) (r.word_stands ok.1 B _ _ (second_there ok.0 B at stored h)),
+      subst (λ (e : ℕ). w B (at + length (f at stored).bytes) e) (after at stored) (r.word_stands ok.1 B _ _ (second_there ok.0 B at stored h)),
     );
-    valid = λ ok B at stored h. subst (λ (e : ℕ). All (IsSpelled B e) (both f g at stored).suffixes) (behind at stored) (r.valid ok.1 B _ _ (second_there ok.0 B at stored h));
+    valid = λ ok B at stored h. subst (λ (e : ℕ). All (IsSpelled B e) (both f g at stored).suffixes) (after at stored) (r.valid ok.1 B _ _ (second_there ok.0 B at stored h));
     at_most = λ at stored. omega (arith, sum at stored, s.at_most at stored, r.at_most (at + length (f at stored).bytes) (f at stored).suffixes);
     adds = λ at stored.
         let one = s.adds at stored in
         let two = r.adds (at + length (f at stored).bytes) (f at stored).suffixes in
         record {
           added = one.added ++ two.added;
-          is = two.is ∙ ap (λ (ts : List Stored). ts ++ two.added) one.is ∙ append_assoc stored one.added two.added;
+          is = two.is ∙ ap (λ (ts : List Stored). ts ++ two.added) one.is
+              ∙ append_assoc stored one.added two.added;
           offsets = All-append (λ (t : Stored). at ≤ t.offset) one.added two.added one.offsets
               (All-weaker (λ (t : Stored). at + length (f at stored).bytes ≤ t.offset) (λ (t : Stored). at ≤ t.offset) (λ t later. omega (arith, later)) two.added two.offsets);
         };
@@ -97,10 +107,12 @@ module _ {F G : Type 0} {v w : List ℕ → ℕ → ℕ → Type 0} {n m : ℕ} 
 
 -- a word after its length
 module _ {F : Type 0} {word : List ℕ → ℕ → ℕ → Type 0} {plain : ℕ} {owner : List (List ℕ)} (f : Writing) (s : Says f F word plain owner) where
-  two_more : (at : ℕ) (stored : List Stored) → length (sized f at stored).bytes ≡ 2 + length (f (at + 2) stored).bytes
+  two_more : (at : ℕ) (stored : List Stored)
+      → length (sized f at stored).bytes ≡ 2 + length (f (at + 2) stored).bytes
   two_more at stored = length-append (to_be_bytes w16 (length (f (at + 2) stored).bytes)) (f (at + 2) stored).bytes ∙ omega arith
 
-  inner_there : (B : List ℕ) (at : ℕ) (stored : List Stored) → IsThere (sized f) B at stored → IsThere f B (at + 2) stored
+  inner_there : (B : List ℕ) (at : ℕ) (stored : List Stored) → IsThere (sized f) B at stored
+      → IsThere f B (at + 2) stored
   inner_there B at stored h =
       let xs = to_be_bytes w16 (length (f (at + 2) stored).bytes) in
       let place : at + length xs ≡ at + 2 = omega arith in
@@ -155,7 +167,8 @@ Says-unowned {F = F} f s = record {
 
 -- a word that follows from the one that is written, and as many bytes or more
 pub Says-weaker : {F : Type 0} {word other : List ℕ → ℕ → ℕ → Type 0} {plain more : ℕ} {owner : List (List ℕ)} (f : Writing) (G : Type 0) → (G → F)
-    → (G → (B : List ℕ) (i e : ℕ) → word B i e → other B i e) → plain ≤ more → Says f F word plain owner → Says f G other more owner
+    → (G → (B : List ℕ) (i e : ℕ) → word B i e → other B i e) → plain ≤ more
+    → Says f F word plain owner → Says f G other more owner
 Says-weaker f G fits follows few s = record {
   word_stands = λ ok B at stored h. follows ok B at _ (s.word_stands (fits ok) B at stored h);
   valid = λ ok. s.valid (fits ok);

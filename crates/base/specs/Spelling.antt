@@ -19,12 +19,14 @@ abbrev pub target : ℕ → ℕ → ℕ
 target b c = 256 * (b - 192) + c
 
 -- The labels are spelled from i up to e, in a piece that begins at s: a zero byte; or a label, and
--- the others behind it; or a pointer to a place below s, where a new piece begins.
+-- the others after it; or a pointer to a place below s, where a new piece begins.
 pub data SpelledIn (looks : ℕ → Type 0) (bytes : List ℕ) : ℕ → ℕ → List (List ℕ) → ℕ → Type 0 where
   ends : {s i : ℕ} → ByteAt looks bytes i 0 → SpelledIn looks bytes s i [] (i + 1)
-  label : {s i e : ℕ} {x : List ℕ} {xs : List (List ℕ)} → ByteAt looks bytes i (length x) → 1 ≤ length x → length x ≤ 63 → BytesAt looks bytes (i + 1) x
+  label : {s i e : ℕ} {x : List ℕ} {xs : List (List ℕ)} → ByteAt looks bytes i (length x)
+      → 1 ≤ length x → length x ≤ 63 → BytesAt looks bytes (i + 1) x
       → SpelledIn looks bytes s (i + 1 + length x) xs e → SpelledIn looks bytes s i (x ∷ xs) e
-  pointer : {s i b c e : ℕ} {xs : List (List ℕ)} → ByteAt looks bytes i b → ByteAt looks bytes (i + 1) c → 192 ≤ b → target b c < s
+  pointer : {s i b c e : ℕ} {xs : List (List ℕ)} → ByteAt looks bytes i b
+      → ByteAt looks bytes (i + 1) c → 192 ≤ b → target b c < s
       → SpelledIn looks bytes (target b c) (target b c) xs e → SpelledIn looks bytes s i xs (i + 2)
 
 -- every place that is looked at and lies in the old bytes lies in the new ones, with the same byte
@@ -40,7 +42,7 @@ among looks i = IsTrue (looks i)
 abbrev pub anywhere : ℕ → Type 0
 anywhere i = Unit {0}
 
--- the places that are looked at: those before a range and those behind it
+-- the places that are looked at: those before a range and those after it
 abbrev pub outside : ℕ → ℕ → ℕ → Type 0
 outside from to i = (i < from) ⊎ (to ≤ i)
 
@@ -57,4 +59,6 @@ pub record IsNameAt (bytes : List ℕ) (i : ℕ) (name : NameValue) (e : ℕ) : 
 -- these names stand at these places
 pub data NamesStand (bytes : List ℕ) : List ℕ → List NameValue → Type 0 where
   no_more : NamesStand bytes [] []
-  one_more : {i e : ℕ} {name : NameValue} {places : List ℕ} {names : List NameValue} → IsNameAt bytes i name e → NamesStand bytes places names → NamesStand bytes (i ∷ places) (name ∷ names)
+  one_more : {i e : ℕ} {name : NameValue} {places : List ℕ} {names : List NameValue}
+      → IsNameAt bytes i name e → NamesStand bytes places names
+      → NamesStand bytes (i ∷ places) (name ∷ names)

@@ -15,7 +15,7 @@ pub record State : Type 0 where
   pub limit : ℕ
   pub suffixes : List Stored
 
--- with these bytes behind what was written
+-- with these bytes after what was written
 abbrev pub appended : List ℕ → State → State
 appended xs s = record s { bytes = s.bytes ++ xs }
 

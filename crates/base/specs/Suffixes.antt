@@ -26,10 +26,11 @@ pub record IsIndexed (find : List ℕ → Option ℕ) (list : List Stored) : Typ
   pub rises : AllPairs (λ s t. s.offset < t.offset) list
   pub once : AllPairs (λ s t. s.labels ≢ t.labels) list
   pub kept : All (λ t. find (wire_of t.labels) ≡ Some t.offset) list
-  pub found : (bytes : List ℕ) (o : ℕ) → find bytes ≡ Some o → (o < 16384) × Any (λ t. (wire_of t.labels ≡ bytes) × (t.offset ≡ o)) list
+  pub found : (bytes : List ℕ) (o : ℕ) → find bytes ≡ Some o
+      → (o < 16384) × Any (λ t. (wire_of t.labels ≡ bytes) × (t.offset ≡ o)) list
 
 -- The first suffixes stand in a list alone, the others in a second one with an index of it; all stand in order of offset, each once.
 pub record IsTable (find : List ℕ → Option ℕ) (first others : List Stored) : Type 0 where
   pub rises : AllPairs (λ s t. s.offset < t.offset) (first ++ others)
   pub once : AllPairs (λ s t. s.labels ≢ t.labels) (first ++ others)
-  pub behind : IsIndexed find others
+  pub after : IsIndexed find others

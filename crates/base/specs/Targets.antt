@@ -1,4 +1,4 @@
--- The labels at offsets, as a table keeps them: by offset a place, and the labels one behind the other.
+-- The labels at offsets, as a table keeps them: by offset a place, and the labels one after another.
 use Rattle.std.specs.Prelude.{◌≢◌, ℕ, ◌+◌, ◌-◌, ◌≤◌, ◌==◌, List, Option, Some, None, if◌then◌else◌, get_or, length, option_map}
 use Rattle.std.specs.Borrow.{Bor}
 use Rattle.std.specs.List.{slice_range}

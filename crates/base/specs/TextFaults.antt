@@ -18,7 +18,7 @@ pub data Fault : Type 0 where
   bad_name : Fault
   bad_ttl : Fault
 
--- the fault that a refusal says; none for want of memory
+-- the fault that a refusal says; none where memory ran out
 abbrev pub fault_of : ParseError → Option Fault
 fault_of refusals.Memory = None
 fault_of (refusals.UnexpectedToken t) = Some (unexpected (value_of t))
@@ -36,11 +36,11 @@ abbrev pub FailsBy : {A : Type 0} → Option Fault → Result A Fault → Type 0
 FailsBy None made = Unit {0}
 FailsBy (Some fault) made = made ≡ Err fault
 
--- A refusal is what the definition makes: its fault. Want of memory may come at any time.
+-- A refusal is what the definition makes: its fault. Memory may run out at any time.
 abbrev pub Fails : {A : Type 0} → ParseError → Result A Fault → Type 0
 Fails e made = FailsBy (fault_of e) made
 
--- What was answered is what the definition makes, or its fault. Want of memory may come at any time.
+-- What was answered is what the definition makes, or its fault. Memory may run out at any time.
 abbrev pub Gives : {X A : Type 0} → (X → A) → Result X ParseError → Result A Fault → Type 0
 Gives view (Ok x) made = made ≡ Ok (view x)
 Gives view (Err e) made = Fails e made

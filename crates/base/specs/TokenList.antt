@@ -3,7 +3,7 @@ use Rattle.std.specs.Prelude.{◌≡◌, ℕ, zero, suc, true, false, List, [], 
 use Rattle.std.specs.List.{last_or}
 use Rattle.base.specs.Tokens.{Next, TokenValue, Unread, ends, eol, faulty, is_line_end, next, token}
 
--- what was found, before all that comes behind it
+-- what was found, before all that comes after it
 abbrev pub followed : {S A : Type 0} → (S → List A) → Option (A × S) → List A
 followed more None = []
 followed more (Some found) = found.0 ∷ more found.1
@@ -18,7 +18,7 @@ pub data Symbol : Type 0 where
   symbol : TokenValue → Symbol
   broken : Symbol
 
--- what comes next as a symbol, with what is behind it; nothing is behind a fault
+-- what comes next as a symbol, with what is after it; nothing is after a fault
 abbrev pub symbol_of : Next → Option (Symbol × Unread)
 symbol_of ends = None
 symbol_of faulty = Some (broken, record { text = []; at_line_start = false })
@@ -28,7 +28,7 @@ symbol_of (token value rest) = Some (symbol value, rest)
 abbrev pub next_symbol : Unread → Option (Symbol × Unread)
 next_symbol unread = symbol_of (next unread)
 
--- The tokens of what is still to be read, and behind them a fault where the lexer meets one. Each token takes a byte
+-- The tokens of what is still to be read, and after them a fault where the lexer meets one. Each token takes a byte
 -- at least, so as many steps as there are bytes suffice.
 unfoldable pub symbols : Unread → List Symbol
 symbols unread = listing next_symbol (length unread.text) unread

@@ -5,7 +5,8 @@ use Rattle.base.specs.Tokens.{begins_with, ends_item, is_line_end, separates}
 -- Bytes that nothing ends: a backslash keeps the byte after it, whichever it is, and no other byte is one that ends them.
 pub data Unended (ends : ℕ → Bool) : List ℕ → Type 0 where
   no_more : Unended ends []
-  plain : (c : ℕ) (rest : List ℕ) → ends c ≡ false → (c == 92) ≡ false → Unended ends rest → Unended ends (c ∷ rest)
+  plain : (c : ℕ) (rest : List ℕ) → ends c ≡ false → (c == 92) ≡ false → Unended ends rest
+      → Unended ends (c ∷ rest)
   escaped : (c : ℕ) (rest : List ℕ) → Unended ends rest → Unended ends (92 ∷ c ∷ rest)
 
 -- an item: a blank, the end of a line, ; ( ) and " end it
@@ -24,7 +25,8 @@ EndsItem (c ∷ text) = ends_item c ≡ true
 -- the rest of a comment, with the end of its line
 pub data CommentRest : List ℕ → Type 0 where
   line_ends : (c : ℕ) → is_line_end c ≡ true → CommentRest (c ∷ [])
-  goes_on : (c : ℕ) (rest : List ℕ) → is_line_end c ≡ false → CommentRest rest → CommentRest (c ∷ rest)
+  goes_on : (c : ℕ) (rest : List ℕ) → is_line_end c ≡ false → CommentRest rest
+      → CommentRest (c ∷ rest)
 
 -- what may stand between the items of a list: blanks, ends of lines, and comments, which begin with ;
 pub data Gap : List ℕ → Type 0 where
@@ -36,7 +38,9 @@ pub data Gap : List ℕ → Type 0 where
 -- in quotes.
 pub data IsList : List (List ℕ) → List ℕ → Type 0 where
   closed : (gap : List ℕ) → Gap gap → IsList [] (gap ++ 41 ∷ [])
-  item_first : (gap word inner : List ℕ) (words : List (List ℕ)) → Gap gap → IsItem word → 0 < length word → begins_with 36 word ≡ false
+  item_first : (gap word inner : List ℕ) (words : List (List ℕ)) → Gap gap → IsItem word
+      → 0 < length word → begins_with 36 word ≡ false
       → EndsItem inner → IsList words inner → IsList (word ∷ words) (gap ++ word ++ inner)
-  quoted_first : (gap word inner : List ℕ) (words : List (List ℕ)) → Gap gap → IsQuoted word → IsList words inner
+  quoted_first : (gap word inner : List ℕ) (words : List (List ℕ)) → Gap gap → IsQuoted word
+      → IsList words inner
       → IsList (word ∷ words) (gap ++ 34 ∷ word ++ 34 ∷ inner)

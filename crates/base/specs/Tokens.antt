@@ -55,7 +55,7 @@ is_line_end c = c == 10 || c == 13
 abbrev pub ends_item : ℕ → Bool
 ends_item c = is_blank c || is_line_end c || c == 59 || c == 40 || c == 41 || c == 34
 
--- behind the blanks that a text begins with
+-- after the blanks that a text begins with
 abbrev pub past_blanks : List ℕ → List ℕ
 past_blanks [] = []
 past_blanks (c ∷ text) = if is_blank c then past_blanks text else c ∷ text
@@ -65,7 +65,7 @@ abbrev pub line_end : List ℕ → List ℕ
 line_end [] = []
 line_end (c ∷ text) = if is_line_end c then c ∷ text else line_end text
 
--- behind a comment, which begins with ; and goes up to the end of the line (RFC 1035, 5.1)
+-- after a comment, which begins with ; and goes up to the end of the line (RFC 1035, 5.1)
 abbrev pub past_comment : List ℕ → List ℕ
 past_comment [] = []
 past_comment (c ∷ text) = if c == 59 then line_end text else c ∷ text
@@ -75,13 +75,13 @@ abbrev pub before : List ℕ → Option (List ℕ × List ℕ) → Option (List 
 before front None = None
 before front (Some cut) = Some (front ++ cut.0, cut.1)
 
--- The item that a text begins with, and what is behind it; none where a backslash ends the text. The flag says
+-- The item that a text begins with, and what is after it; none where a backslash ends the text. The flag says
 -- whether a backslash stands before the text, which keeps its first byte.
 unfoldable pub item : Bool → List ℕ → Option (List ℕ × List ℕ)
 item kept [] = if kept then None else Some ([], [])
 item kept (c ∷ text) = if not kept && ends_item c then Some ([], c ∷ text) else before (c ∷ []) (item (not kept && c == 92) text)
 
--- What stands before the next " that no backslash keeps, and what is behind that; none where there is no such ".
+-- What stands before the next " that no backslash keeps, and what is after that; none where there is no such ".
 unfoldable pub quoted : Bool → List ℕ → Option (List ℕ × List ℕ)
 quoted kept [] = None
 quoted kept (c ∷ text) = if not kept && c == 34 then Some ([], text) else before (c ∷ []) (quoted (not kept && c == 92) text)
@@ -95,7 +95,7 @@ begins_with b (c ∷ text) = c == b
 abbrev pub separates : ℕ → Bool
 separates c = is_blank c || is_line_end c
 
--- within parentheses: behind blanks, line ends and comments; the flag says whether a comment is open
+-- within parentheses: after blanks, line ends and comments; the flag says whether a comment is open
 abbrev pub past_separators : Bool → List ℕ → List ℕ
 past_separators in_comment [] = []
 past_separators true (c ∷ text) = past_separators (if is_line_end c then false else true) text
@@ -112,7 +112,7 @@ abbrev pub element_of : Option (List ℕ × List ℕ) → Element
 element_of None = misplaced
 element_of (Some cut) = one cut.0 cut.1
 
--- what stands next behind blanks, line ends and comments: ) closes, ( and $ are misplaced, " begins a quoted text
+-- what stands next after blanks, line ends and comments: ) closes, ( and $ are misplaced, " begins a quoted text
 unfoldable pub element : List ℕ → Element
 element [] = misplaced
 element (c ∷ text) =
@@ -121,18 +121,19 @@ element (c ∷ text) =
     else (if c == 34 then element_of (quoted false text)
     else element_of (item false (c ∷ text))))
 
--- an item before those behind it
+-- an item before those after it
 abbrev pub put : List ℕ → Option (List (List ℕ) × List ℕ) → Option (List (List ℕ) × List ℕ)
 put word None = None
 put word (Some cut) = Some (word ∷ cut.0, cut.1)
 
--- the items from what stands next on, and what is behind the closing parenthesis
-abbrev pub listed : (List ℕ → Option (List (List ℕ) × List ℕ)) → Element → Option (List (List ℕ) × List ℕ)
+-- the items from what stands next on, and what is after the closing parenthesis
+abbrev pub listed : (List ℕ → Option (List (List ℕ) × List ℕ)) → Element
+    → Option (List (List ℕ) × List ℕ)
 listed more (closes rest) = Some ([], rest)
 listed more misplaced = None
 listed more (one word rest) = put word (more rest)
 
--- the items up to the closing parenthesis, and what is behind it; none where that is missing, or something is
+-- the items up to the closing parenthesis, and what is after it; none where that is missing, or something is
 -- misplaced. As many steps as there are bytes suffice.
 unfoldable pub list_items : ℕ → List ℕ → Option (List (List ℕ) × List ℕ)
 list_items zero text = None
@@ -173,7 +174,7 @@ abbrev pub next_list : Option (List (List ℕ) × List ℕ) → Next
 next_list None = faulty
 next_list (Some cut) = token (list cut.0) (within_line cut.1)
 
--- behind a line end that begins with this: CR LF is one
+-- after a line end that begins with this: CR LF is one
 abbrev pub past_line_end : ℕ → List ℕ → List ℕ
 past_line_end c [] = []
 past_line_end c (d ∷ text) = if c == 13 && d == 10 then text else d ∷ text

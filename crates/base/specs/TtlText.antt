@@ -9,8 +9,10 @@ pub data SaysSeconds : List ℕ → ℕ → Type 0 where
   seconds : (digits : List ℕ) → IsNumeral 10 digits → SaysSeconds digits (digits_value 10 digits)
   group : (digits : List ℕ) (c unit : ℕ) → IsNumeral 10 digits → unit_of c ≡ Some unit
       → SaysSeconds (digits ++ c ∷ []) (digits_value 10 digits * unit)
-  groups : (digits : List ℕ) (c unit : ℕ) (rest : List ℕ) (others : ℕ) → IsNumeral 10 digits → unit_of c ≡ Some unit
-      → SaysSeconds rest others → SaysSeconds (digits ++ c ∷ rest) (digits_value 10 digits * unit + others)
+  groups : (digits : List ℕ) (c unit : ℕ) (rest : List ℕ) (others : ℕ) → IsNumeral 10 digits
+      → unit_of c ≡ Some unit
+      → SaysSeconds rest others
+      → SaysSeconds (digits ++ c ∷ rest) (digits_value 10 digits * unit + others)
 
 -- a TTL has 32 bits
 abbrev pub IsTtlText : List ℕ → ℕ → Type 0

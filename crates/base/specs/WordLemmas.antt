@@ -9,28 +9,34 @@ use Rattle.base.specs.Spelling.{ByteAt, anywhere}
 use Rattle.base.specs.Words.{Stands, IsNumberAt}
 
 -- bytes that stand in a buffer, one at least, lie inside it
-pub stands_inside : (xs B : List ℕ) (i : ℕ) → 0 < length xs → Stands xs B i → i + length xs ≤ length B
+pub stands_inside : (xs B : List ℕ) (i : ℕ) → 0 < length xs → Stands xs B i
+    → i + length xs ≤ length B
 stands_inside xs B i some s = omega (arith, simp (length-take, length-drop) at (ap length s.is))
 
 -- the bytes of a number of two bytes are the number
-pub number16_stands : (n : ℕ) (B : List ℕ) (i : ℕ) → n < 2 ^ 16 → Stands (to_be_bytes w16 n) B i → IsNumberAt w16 B i n
+pub number16_stands : (n : ℕ) (B : List ℕ) (i : ℕ) → n < 2 ^ 16 → Stands (to_be_bytes w16 n) B i
+    → IsNumberAt w16 B i n
 number16_stands n B i small s = record {
   inside = stands_inside (to_be_bytes w16 n) B i (omega arith) s;
   is = sym (ap (from_be_bytes w16) s.is ∙ from_be_bytes-to_be_bytes_2 n small);
 }
 
-pub number32_stands : (n : ℕ) (B : List ℕ) (i : ℕ) → n < 2 ^ 32 → Stands (to_be_bytes w32 n) B i → IsNumberAt w32 B i n
+pub number32_stands : (n : ℕ) (B : List ℕ) (i : ℕ) → n < 2 ^ 32 → Stands (to_be_bytes w32 n) B i
+    → IsNumberAt w32 B i n
 number32_stands n B i small s = record {
   inside = stands_inside (to_be_bytes w32 n) B i (omega arith) s;
   is = sym (ap (from_be_bytes w32) s.is ∙ from_be_bytes-to_be_bytes_4 n small);
 }
 
 -- each byte of what stands
-pub stands_at : (xs B : List ℕ) (i k : ℕ) → k < length xs → Stands xs B i → slice_index B (i + k) ≡ slice_index xs k
+pub stands_at : (xs B : List ℕ) (i k : ℕ) → k < length xs → Stands xs B i
+    → slice_index B (i + k) ≡ slice_index xs k
 stands_at xs B i k inside s =
-    sym (get_or-drop i B k 0) ∙ sym (get_or-take (length xs) (drop i B) k 0 inside) ∙ ap (λ ys. get_or ys k 0) s.is
+    sym (get_or-drop i B k 0) ∙ sym (get_or-take (length xs) (drop i B) k 0 inside)
+    ∙ ap (λ ys. get_or ys k 0) s.is
 
-pub stands_byte : (xs B : List ℕ) (i k : ℕ) → k < length xs → Stands xs B i → ByteAt anywhere B (i + k) (slice_index xs k)
+pub stands_byte : (xs B : List ℕ) (i k : ℕ) → k < length xs → Stands xs B i
+    → ByteAt anywhere B (i + k) (slice_index xs k)
 stands_byte xs B i k inside s = record {
   inside = omega (arith, stands_inside xs B i (omega arith) s);
   is = stands_at xs B i k inside s;
@@ -38,15 +44,17 @@ stands_byte xs B i k inside s = record {
 }
 
 -- a part of what stands
-pub stands_part : (xs ys zs B : List ℕ) (i : ℕ) → Stands (xs ++ (ys ++ zs)) B i → Stands ys B (i + length xs)
+pub stands_part : (xs ys zs B : List ℕ) (i : ℕ) → Stands (xs ++ (ys ++ zs)) B i
+    → Stands ys B (i + length xs)
 stands_part xs ys zs B i s =
     let n = length (xs ++ (ys ++ zs)) in
     let rest = drop n (drop i B) in
     let whole : drop i B ≡ (xs ++ (ys ++ zs)) ++ rest = sym (take-append-drop n (drop i B)) ∙ ap (λ front. front ++ rest) s.is in
-    let behind : drop (i + length xs) B ≡ ys ++ (zs ++ rest) =
-    sym (drop-drop (length xs) i B) ∙ ap (drop (length xs)) (whole ∙ append_assoc xs (ys ++ zs) rest)
+    let after : drop (i + length xs) B ≡ ys ++ (zs ++ rest) =
+    sym (drop-drop (length xs) i B)
+    ∙ ap (drop (length xs)) (whole ∙ append_assoc xs (ys ++ zs) rest)
     ∙ drop-append_seam xs ((ys ++ zs) ++ rest) ∙ append_assoc ys zs rest in
-    record { is = ap (take (length ys)) behind ∙ take-append_seam ys (zs ++ rest) }
+    record { is = ap (take (length ys)) after ∙ take-append_seam ys (zs ++ rest) }
 
 pub first_stands : (ys zs B : List ℕ) (i : ℕ) → Stands (ys ++ zs) B i → Stands ys B i
 first_stands ys zs B i s =

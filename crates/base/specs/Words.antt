@@ -16,11 +16,12 @@ pub record IsNumberAt (w : Width) (bytes : List ℕ) (i n : ℕ) : Type 0 where
 -- words that stand back to back from i up to e
 pub data BackToBack {A : Type 0} (Word : ℕ → A → ℕ → Type 0) : ℕ → List A → ℕ → Type 0 where
   none : {i : ℕ} → BackToBack Word i [] i
-  more : {i j e : ℕ} {x : A} {xs : List A} → Word i x j → BackToBack Word j xs e → BackToBack Word i (x ∷ xs) e
+  more : {i j e : ℕ} {x : A} {xs : List A} → Word i x j → BackToBack Word j xs e
+      → BackToBack Word i (x ∷ xs) e
 
 -- A word is a relation between a buffer, the place where it begins and the place where it ends.
 
--- two words, one behind the other
+-- two words, one after another
 abbrev pub Then : (List ℕ → ℕ → ℕ → Type 0) → (List ℕ → ℕ → ℕ → Type 0) → List ℕ → ℕ → ℕ → Type 0
 Then first second B i e = (m : ℕ) × first B i m × second B m e
 

@@ -27,7 +27,7 @@ abbrev pub after : Writing → State → State
 after f s = record s { bytes = s.bytes ++ (piece_at f s).bytes; suffixes = (piece_at f s).suffixes }
 
 -- After Ok exactly this was written. It was refused with the error for the limit only where its own bytes would
--- pass it, and else for want of memory.
+-- pass it, and else if memory runs out.
 abbrev pub Exactly : {X : Type 0} → Writing → State → State → Result X ProtoError → Type 0
 Exactly f a b (Ok x) = b ≡ after f a
 Exactly f a b (Err refusals.MaxBufferSizeExceeded) = a.limit < length a.bytes + length (piece_at f a).bytes

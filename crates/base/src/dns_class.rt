@@ -182,12 +182,15 @@ pub fn payload_sizes()
 /// The text of a named class is read as that class and `*` as ANY, and that of another is not read; what is read as
 /// a class is the text of it, a named one, or `*` (RFC 1035, 3.2.4 and 3.2.5; RFC 3597, 5).
 pub fn class_text_round_trip()
-    ensures text { (c : DNSClass) → IsTrue (is_named_class c) → class_from_text (class_text c) ≡ Some c }
-    ensures unread { (c : DNSClass) → is_named_class c ≡ false → class_from_text (class_text c) ≡ None }
+    ensures text { (c : DNSClass) → IsTrue (is_named_class c)
+        → class_from_text (class_text c) ≡ Some c }
+    ensures unread { (c : DNSClass) → is_named_class c ≡ false
+        → class_from_text (class_text c) ≡ None }
     ensures star { class_from_text (codes "*") ≡ Some DNSClass.ANY }
     ensures read { (text : List ℕ) (c : DNSClass) → class_from_text text ≡ Some c
         → (class_text c ≡ text) ⊎ ((text ≡ codes "*") × (c ≡ DNSClass.ANY)) }
-    ensures named { (text : List ℕ) (c : DNSClass) → class_from_text text ≡ Some c → IsTrue (is_named_class c) }
+    ensures named { (text : List ℕ) (c : DNSClass) → class_from_text text ≡ Some c
+        → IsTrue (is_named_class c) }
 {}
 
 /// The order goes by number, at one number a named class stands before a payload size and that before an unknown
@@ -197,7 +200,8 @@ pub fn class_order()
         → ⟦<DNSClass as Ord>⟧.cmp a b ≡ Ordering.Less }
     ensures named_first { (c : DNSClass) → IsTrue (is_named_class c)
         → ⟦<DNSClass as Ord>⟧.cmp c (DNSClass.OPT (class_number c)) ≡ Ordering.Less }
-    ensures payload_next { (n : ℕ) → ⟦<DNSClass as Ord>⟧.cmp (DNSClass.OPT n) (DNSClass.Unknown n) ≡ Ordering.Less }
+    ensures payload_next { (n : ℕ)
+        → ⟦<DNSClass as Ord>⟧.cmp (DNSClass.OPT n) (DNSClass.Unknown n) ≡ Ordering.Less }
     ensures exact { (a b : DNSClass) → ⟦<DNSClass as Ord>⟧.cmp a b ≡ Ordering.Equal → a ≡ b }
     ensures same { (a b : DNSClass) → IsTrue (⟦<DNSClass as PartialEq>⟧.eq a b) → a ≡ b }
 {}

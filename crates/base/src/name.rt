@@ -135,8 +135,10 @@ impl Clone for Name {
 /// The first of the labels, and the others, each with its length before it; none where there is no label.
 pub(crate) fn first_label(wire: &[u8]) -> Option<(&[u8], &[u8])>
     requires { IsLabelRun wire.now }
-    ensures labels { MatchOption result (labels_of wire.now ≡ []) (λ r. labels_of wire.now ≡ r.0.now ∷ labels_of r.1.now) }
-    ensures bytes { MatchOption result (wire.now ≡ []) (λ r. wire.now ≡ (length r.0.now ∷ r.0.now) ++ r.1.now) }
+    ensures labels { MatchOption result (labels_of wire.now ≡ [])
+        (λ r. labels_of wire.now ≡ r.0.now ∷ labels_of r.1.now) }
+    ensures bytes { MatchOption result (wire.now ≡ [])
+        (λ r. wire.now ≡ (length r.0.now ∷ r.0.now) ++ r.1.now) }
     ensures others { IfSome result (λ r. IsLabelRun r.1.now) }
     ensures shorter { IfSome result (λ r. length r.1.now < length wire.now) }
 {

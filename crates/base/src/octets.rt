@@ -46,7 +46,11 @@ impl Octets {
         }
     }
 
-    /// These bytes. Refused for want of memory, where they aren't few.
+    /// These bytes.
+    ///
+    /// # Errors
+    ///
+    /// If memory runs out, where they aren't few.
     pub(crate) fn from_slice(alloc: Global, bytes: &[u8], mark: bool) -> Result<Octets, AllocError>
         ensures { IfOk result (λ o. o ≡ record { items = bytes.now; mark = mark }) }
     {
@@ -61,7 +65,11 @@ impl Octets {
         })
     }
 
-    /// As many of the first of these bytes. Refused for want of memory, where they aren't few.
+    /// As many of the first of these bytes.
+    ///
+    /// # Errors
+    ///
+    /// If memory runs out, where they aren't few.
     pub(crate) fn from_front(
         alloc: Global,
         bytes: &[u8],
@@ -79,7 +87,11 @@ impl Octets {
         Octets::from_slice(alloc, &bytes[..used], mark)
     }
 
-    /// The first `used` bytes of `bytes`, then `others`. Refused for want of memory, where they aren't few.
+    /// The first `used` bytes of `bytes`, then `others`.
+    ///
+    /// # Errors
+    ///
+    /// If memory runs out, where they aren't few.
     pub(crate) fn from_front_and(
         alloc: Global,
         bytes: &[u8],
@@ -88,7 +100,8 @@ impl Octets {
         mark: bool,
     ) -> Result<Octets, AllocError>
         requires { used ≤ length bytes.now }
-        ensures { IfOk result (λ o. o ≡ record { items = take used bytes.now ++ others.now; mark = mark }) }
+        ensures { IfOk result (λ o. o
+            ≡ record { items = take used bytes.now ++ others.now; mark = mark }) }
     {
         if others.is_empty() {
             return Octets::from_front(alloc, bytes, used, mark);

@@ -343,10 +343,14 @@ pub fn type_round_trip()
 /// The text of a named type is read as that type, and that of another is not read; what is read as a type is the
 /// text of it, a named one (RFC 1035, 3.2.2 and 3.2.3; RFC 3597, 5).
 pub fn type_text_round_trip()
-    ensures text { (t : RecordType) → IsTrue (is_named_type t) → type_from_text (type_text t) ≡ Some t }
-    ensures read { (text : List ℕ) (t : RecordType) → type_from_text text ≡ Some t → type_text t ≡ text }
-    ensures unread { (t : RecordType) → is_named_type t ≡ false → type_from_text (type_text t) ≡ None }
-    ensures named { (text : List ℕ) (t : RecordType) → type_from_text text ≡ Some t → IsTrue (is_named_type t) }
+    ensures text { (t : RecordType) → IsTrue (is_named_type t)
+        → type_from_text (type_text t) ≡ Some t }
+    ensures read { (text : List ℕ) (t : RecordType) → type_from_text text ≡ Some t
+        → type_text t ≡ text }
+    ensures unread { (t : RecordType) → is_named_type t ≡ false
+        → type_from_text (type_text t) ≡ None }
+    ensures named { (text : List ℕ) (t : RecordType) → type_from_text text ≡ Some t
+        → IsTrue (is_named_type t) }
 {}
 
 /// The order goes by number, a named type stands before an unknown one of its number, and no two types tie:

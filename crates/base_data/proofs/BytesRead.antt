@@ -14,7 +14,7 @@ pub record ReadsBytes (len : ℕ) (B : List ℕ) (i : ℕ) (r : List ℕ × ℕ)
   pub inside : i + len ≤ length B
   pub is : r.0 ≡ take len (drop i B)
   pub counted : length r.0 ≡ len
-  pub behind : r.1 ≡ i + len
+  pub after : r.1 ≡ i + len
 
 pub bytes_is : (len : ℕ) (B : List ℕ) (i : ℕ) (r : List ℕ × ℕ) → bytes_at len B i ≡ Ok r → ReadsBytes len B i r
 bytes_is len B i r is =
@@ -25,7 +25,7 @@ bytes_is len B i r is =
       inside = fits;
       is = front;
       counted = omega (arith, ap length front, length-take len (drop i B), length-drop i B);
-      behind = sym (ap (λ (x : List ℕ × ℕ). x.1) p.same);
+      after = sym (ap (λ (x : List ℕ × ℕ). x.1) p.same);
     }
 
 -- ---- numbers among the bytes that were read
@@ -43,7 +43,7 @@ four (a ∷ b ∷ c ∷ []) some = absurd (omega arith)
 four (a ∷ b ∷ c ∷ d ∷ rest) some = refl
 
 module _ {len : ℕ} {B : List ℕ} {i : ℕ} {r : List ℕ × ℕ} (s : ReadsBytes len B i r) where
-  -- a byte that was read, as the byte of what stands behind a place
+  -- a byte that was read, as the byte of what stands after a place
   byte : (k j : ℕ) → k + j < len → get_or r.0 (k + j) 0 ≡ get_or (drop (i + k) B) j 0
   byte k j below =
       let place : i + (k + j) ≡ i + k + j = omega arith in

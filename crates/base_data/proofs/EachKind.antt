@@ -5,7 +5,7 @@ use Rattle.std.specs.Cmp.{first_so, second_so}
 use Rattle.std.specs.Prelude.{◌↔◌}
 use Rattle.base.specs.Labels.{wire_of}
 use Rattle.base.specs.Names.{name_at}
-use Rattle.base.specs.Reading.{behind, bytes_at}
+use Rattle.base.specs.Reading.{place_after, bytes_at}
 use Rattle.base.specs.RecordType.{same_type}
 use Rattle.base.specs.Spelling.{NamesStand, no_more, one_more}
 use Rattle.base.specs.declared.record_type.RecordType.TheVariants as types
@@ -146,7 +146,7 @@ names_stand (kinds.MX x) B i e (m, preference, exchange) readable =
     subst (λ (k : ℕ). NamesStand B (k ∷ []) (x.exchange ∷ [])) preference.1 (one_more (here_name B m x.exchange e exchange readable) no_more)
 names_stand (kinds.SOA x) B i e (m, mname, (n, rname, numbers)) (first, second) =
     let stands = here_name B i x.mname m mname first in
-    let at : m ≡ behind (name_at B i) = sym (ap behind (name_again B i x.mname m stands)) in
+    let at : m ≡ place_after (name_at B i) = sym (ap place_after (name_again B i x.mname m stands)) in
     one_more stands (subst (λ (k : ℕ). NamesStand B (k ∷ []) (x.rname ∷ [])) at (one_more (here_name B m x.rname n rname second) no_more))
 names_stand (kinds.SRV x) B i e (second, priority, (third, weight, (fourth, port, target))) readable =
     let at : fourth ≡ i + 6 = omega (arith, priority.1, weight.1, port.1) in

@@ -1,4 +1,4 @@
--- Data of several fields: equal where each of them is, and written one behind the other.
+-- Data of several fields: equal where each of them is, and written one after another.
 use Rattle.std.proofs.Common.{Bool, Err, IsTrue, List, Ok, Result, [], ap, append_assoc, false, length, subst, sym, take, true, ℕ, ◌++◌, ◌+◌, ◌<◌, ◌^◌, ◌∙◌, ◌≡◌}
 use Rattle.std.proofs.Math.Seq.{take-append_seam}
 use Rattle.std.proofs.lemmas.List.{append-nil, append_cancel_left}
@@ -50,7 +50,7 @@ pub on_ok : {X : Type 0} {P Q : Type 0} (r : Result X ProtoError) → (P → Q) 
 on_ok (Ok x) follows p = follows p
 on_ok (Err e) follows p = p
 
--- bytes behind bytes
+-- bytes after bytes
 pub appended_both : (a b c : State) (xs ys : List ℕ) → b ≡ appended xs a → c ≡ appended ys b → c ≡ appended (xs ++ ys) a
 appended_both a b c xs ys first second =
     second ∙ ap (appended ys) first ∙ ap (λ (bytes : List ℕ). record a { bytes = bytes }) (append_assoc a.bytes xs ys)

@@ -1,4 +1,4 @@
--- Hosts that take mail: read where their word stands, written, equal and tied.
+-- Mail exchangers: read where their word stands, written, equal and tied.
 use Rattle.std.proofs.Common.{IsTrue, List, [], ap, arith, drop, length, refl, subst, take, true, ℕ, ◌++◌, ◌<◌, ◌∷◌, ◌≡◌, ◌≤◌}
 use Rattle.std.specs.Cmp.{first_so, second_so}
 use Rattle.std.specs.Int.{to_be_bytes, w16}

@@ -24,7 +24,7 @@ here_name B i name e word absolute = record { spelled = word.0; short = word.1; 
 -- a name has a byte at least
 pub name_longer : {B : List ℕ} {labels : List (List ℕ)} {s i e : ℕ} → Spelled B labels s i e → i < e
 name_longer (ends _) = omega arith
-name_longer (label _ _ _ _ rest) = let behind = name_longer rest in omega arith
+name_longer (label _ _ _ _ rest) = let after = name_longer rest in omega arith
 name_longer (pointer _ _ _ _ _) = omega arith
 
 -- a name ends inside the buffer

@@ -1,4 +1,4 @@
--- Options, read one behind the other.
+-- Options, read one after another.
 use Rattle.std.proofs.Common.{◌≡◌, ℕ, ◌+◌, ◌<◌, ◌≤◌, List, [], ◌∷◌, ◌++◌, zero, suc, length, take, get_or, refl, ap, sym, ◌∙◌, subst, arith, append_assoc, Result, Ok, Err}
 use Rattle.std.proofs.lemmas.Bool.{le-leb, lt-leb}
 use Rattle.std.specs.Int.{w16}
@@ -19,9 +19,9 @@ option_moves B i r is =
     let end : text.value.1 ≡ r.1 = ap (λ (x : OptionValue × ℕ). x.1) (same_ok text.second) in
     omega (
       arith,
-      (number_is w16 B i code.value code.first).behind,
-      (number_is w16 B code.value.1 len.value len.first).behind,
-      (bytes_is len.value.0 B len.value.1 text.value text.first).behind,
+      (number_is w16 B i code.value code.first).after,
+      (number_is w16 B code.value.1 len.value len.first).after,
+      (bytes_is len.value.0 B len.value.1 text.value text.first).after,
       end,
     ) where
       same_ok : {A : Type 0} {x y : A} → ◌≡◌ {A = Result A DecodeError} (Ok x) (Ok y) → x ≡ y

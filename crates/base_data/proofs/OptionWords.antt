@@ -16,7 +16,7 @@ use Rattle.base.specs.declared.error.proto_error.ProtoError.{ProtoError}
 use Rattle.base_data.proofs.ByteWords.{bytes_inside}
 use Rattle.base_data.proofs.FieldLemmas.{on_ok, split, word_same}
 use Rattle.base_data.proofs.OptionLemmas.{option_moves}
-use Rattle.base_data.proofs.Tells.{AreBytesAt, Fills, Tells, fills_same, room_behind, same_ok, tells_bytes, tells_number, tells_ok, tells_same, tells_then}
+use Rattle.base_data.proofs.Tells.{AreBytesAt, Fills, Tells, fills_same, room_after, same_ok, tells_bytes, tells_number, tells_ok, tells_same, tells_then}
 use Rattle.base_data.specs.OPT.{FitsOption, OptionValue, opt_at, option_at, option_len, option_word, options_to, options_wire, options_word}
 
 pub tells_option : (B : List ℕ) (i : ℕ) → Tells (option_at B i) (λ r. option_word r.0 B i r.1)
@@ -30,7 +30,7 @@ tells_option B i = tells_same
     let len = is.2 in
     ((r.0.code, is.0), is.1, ((length r.0.bytes, len.0), len.1, ((r.0.bytes, r.1), here r.0.bytes is.0 len.0 r.1 len.1 len.2, refl)))) where
       here : (bytes : List ℕ) (m n e : ℕ) → Number w16 (length bytes) B m n → Stands bytes B n × (e ≡ n + length bytes) → AreBytesAt (length bytes) B n (bytes, e)
-      here bytes m n e number stands = record { word = stands; counted = refl; inside = room_behind bytes B n stands.0 (omega (arith, number.0.inside, number.1)) }
+      here bytes m n e number stands = record { word = stands; counted = refl; inside = room_after bytes B n stands.0 (omega (arith, number.0.inside, number.1)) }
 
 -- a test that ends, or goes on
 ended_or_not : {X : Type 0} (test : Bool) (x r : X) (s : Result X DecodeError) → cond test (Ok x) s ≡ Ok r → (x ≡ r) ⊎ (s ≡ Ok r)
@@ -79,8 +79,8 @@ options_fault : (n end : ℕ) (B : List ℕ) (i : ℕ) → options_to n end B i 
 unfolding options_to
 options_fault zero end B i is = cc
 options_fault (suc n) end B i is =
-    bind_err (option_at B i) _ faults.Memory ⊥ (ended_fault (nat_le end i) ([], i) _ faults.Memory is) (tells_option B i).fault (λ first _ behind.
-    bind_err (options_to n end B first.1) _ faults.Memory ⊥ behind (options_fault n end B first.1) (λ others _ last. cc))
+    bind_err (option_at B i) _ faults.Memory ⊥ (ended_fault (nat_le end i) ([], i) _ faults.Memory is) (tells_option B i).fault (λ first _ after.
+    bind_err (options_to n end B first.1) _ faults.Memory ⊥ after (options_fault n end B first.1) (λ others _ last. cc))
 
 -- options fill as many bytes
 fills_opt : (len : ℕ) (B : List ℕ) (i : ℕ) → Fills (opt_at len B i) (i + len) (λ x. options_word x B i (i + len))

@@ -1,4 +1,4 @@
--- Starts of zones: read where their word stands, written, equal and tied.
+-- The start of a zone of authority: read where their word stands, written, equal and tied.
 use Rattle.std.proofs.Common.{IsTrue, List, Result, [], ap, arith, drop, get_or, length, refl, subst, sym, take, true, ℕ, ◌++◌, ◌+◌, ◌<◌, ◌∙◌, ◌∷◌, ◌≡◌, ◌≤◌}
 use Rattle.std.proofs.lemmas.List.{append_assoc, length-map}
 use Rattle.std.specs.Char.{to_ascii_lowercase}
@@ -88,7 +88,7 @@ soa_same a b = (
   λ f. both _ _ f.0 (both _ _ f.1 (both _ _ (is_number _ _ f.2) (both _ _ (is_number _ _ f.3) (both _ _ (is_number _ _ f.4) (both _ _ (is_number _ _ f.5) (is_number _ _ f.6)))))),
 )
 
--- labels behind which a zero byte stands
+-- labels after which a zero byte stands
 labels_first : (xs ys : List (List ℕ)) (s t : List ℕ) → AreLabels xs → AreLabels ys → wire_of xs ++ 0 ∷ s ≡ wire_of ys ++ 0 ∷ t → (wire_of xs ≡ wire_of ys) × (s ≡ t)
 unfolding wire_of
 labels_first [] [] s t a b e = (refl, ap (drop 1) e)
@@ -102,9 +102,9 @@ labels_first (x ∷ xs) [] s t a b e =
     absurd (omega (arith, zero, some))
 labels_first (x ∷ xs) (y ∷ ys) s t a b e =
     let long : length x ≡ length y = ap (λ (l : List ℕ). get_or l 0 0) e in
-    let behind : x ++ (wire_of xs ++ 0 ∷ s) ≡ y ++ (wire_of ys ++ 0 ∷ t) =
+    let after : x ++ (wire_of xs ++ 0 ∷ s) ≡ y ++ (wire_of ys ++ 0 ∷ t) =
     sym (append_assoc x (wire_of xs) (0 ∷ s)) ∙ ap (drop 1) e ∙ append_assoc y (wire_of ys) (0 ∷ t) in
-    let parts = split x y (wire_of xs ++ 0 ∷ s) (wire_of ys ++ 0 ∷ t) long behind in
+    let parts = split x y (wire_of xs ++ 0 ∷ s) (wire_of ys ++ 0 ∷ t) long after in
     let others = labels_first xs ys s t a.1 b.1 parts.1 in
     (λ i. (long i ∷ parts.0 i) ++ others.0 i, others.1)
 
@@ -125,7 +125,7 @@ name_first a b s t p q e =
     labels_first (folded a) (folded b) s t (AreLabels-folded a.labels p) (AreLabels-folded b.labels q)
     (sym (append_assoc (canonical_name a) (0 ∷ []) s) ∙ e ∙ append_assoc (canonical_name b) (0 ∷ []) t)
 
--- two names, and numbers behind them
+-- two names, and numbers after them
 joined : (m r a b c d e : List ℕ) → m ++ r ++ a ++ b ++ c ++ d ++ e ≡ m ++ (r ++ (a ++ b ++ c ++ d ++ e))
 joined m r a b c d e =
     ap (λ (xs : List ℕ). xs ++ e) (ap (λ (xs : List ℕ). xs ++ d) (ap (λ (xs : List ℕ). xs ++ c) (append_assoc (m ++ r) a b) ∙ append_assoc (m ++ r) (a ++ b) c)

@@ -88,7 +88,7 @@ pub as_bytes : (a b : RData) → type_of_data a ≡ type_of_data b → kind_rank
     → IsSame a b ↔ IsTrue (equality.eq a b)
 as_bytes a b type rank flags d = (λ s. d.1 s.bytes, λ h. record { bytes = d.0 h; type = type; rank = rank; flags = flags })
 
--- a flag behind others
+-- a flag after others
 pub flag_of : (n : ℕ) (x y : List Bool) → x ≡ y → get_or x n false ≡ get_or y n false
 flag_of n x y e = ap (λ (l : List Bool). get_or l n false) e
 

@@ -40,14 +40,14 @@ said_is_read (is_number {a} {b} {c} {n} {text} {bytes} first second third is sma
     digits_read a b c text first second third true fits ∙ rw value (ap (before (n ∷ [])) (said_is_read says))
 
 -- a byte in front of what is read
-record IsBehind (b : ℕ) (read : Option (List ℕ)) (bytes : List ℕ) : Type 0 where
+record IsAfter (b : ℕ) (read : Option (List ℕ)) (bytes : List ℕ) : Type 0 where
   rest : List ℕ
   is : read ≡ Some rest
   all : b ∷ rest ≡ bytes
 
-behind : (b : ℕ) (read : Option (List ℕ)) (bytes : List ℕ) → before (b ∷ []) read ≡ Some bytes → IsBehind b read bytes
-behind b None bytes e = absurd cc
-behind b (Some rest) bytes e = record { rest = rest; is = refl; all = cc }
+after : (b : ℕ) (read : Option (List ℕ)) (bytes : List ℕ) → before (b ∷ []) read ≡ Some bytes → IsAfter b read bytes
+after b None bytes e = absurd cc
+after b (Some rest) bytes e = record { rest = rest; is = refl; all = cc }
 
 no_bytes : {bytes : List ℕ} → None ≡ Some bytes → ⊥
 no_bytes e = cc
@@ -59,13 +59,13 @@ Says n = (text bytes : List ℕ) → length text ≤ n → unescaped no_escape t
 plain_says : (n : ℕ) → Says n → (c : ℕ) (text bytes : List ℕ) → length text ≤ n → (c == 92) ≡ false → unescaped no_escape (c ∷ text) ≡ Some bytes → IsStringText (c ∷ text) bytes
 plain_says n says c text bytes short plain read =
     let other : c ≢ 92 = λ (e : c ≡ 92). grind (arith, nat_tests) in
-    let b = behind c (unescaped no_escape text) bytes (sym (plain_read c text plain) ∙ read) in
+    let b = after c (unescaped no_escape text) bytes (sym (plain_read c text plain) ∙ read) in
     subst (IsStringText (c ∷ text)) b.all (is_plain other (says text b.rest short b.is))
 
 escaped_says : (n : ℕ) → Says n → (c : ℕ) (text bytes : List ℕ) → length text ≤ n → is_ascii_digit c ≡ false
     → unescaped no_escape (92 ∷ c ∷ text) ≡ Some bytes → IsStringText (92 ∷ c ∷ text) bytes
 escaped_says n says c text bytes short digit read =
-    let b = behind c (unescaped no_escape text) bytes (sym (escaped_read c text digit) ∙ read) in
+    let b = after c (unescaped no_escape text) bytes (sym (escaped_read c text digit) ∙ read) in
     subst (IsStringText (92 ∷ c ∷ text)) b.all (is_escaped digit (says text b.rest short b.is))
 
 -- fewer than three digits
@@ -102,7 +102,7 @@ number_says n says a (b ∷ c ∷ text) bytes short first read = go (is_ascii_di
   go true true true second_is third_is fits_is =
       let value : number_said a b c ≡ (a - 48) * 100 + (b - 48) * 10 + (c - 48) = omega arith in
       let small : number_said a b c < 256 = grind (arith, nat_tests) in
-      let b' = behind (number_said a b c) (unescaped no_escape text) bytes (sym (digits_read a b c text first second_is third_is true fits_is) ∙ read) in
+      let b' = after (number_said a b c) (unescaped no_escape text) bytes (sym (digits_read a b c text first second_is third_is true fits_is) ∙ read) in
       subst (IsStringText (92 ∷ a ∷ b ∷ c ∷ text)) b'.all (is_number first second_is third_is value small (says text b'.rest (omega arith) b'.is))
 
 backslash_says : (n : ℕ) → Says n → (text bytes : List ℕ) → length text ≤ n → unescaped no_escape (92 ∷ text) ≡ Some bytes → IsStringText (92 ∷ text) bytes
@@ -112,7 +112,7 @@ backslash_says n says (a ∷ text) bytes short read = go (is_ascii_digit a) refl
   go true digit = number_says n says a text bytes (omega arith) digit read
   go false digit = escaped_says n says a text bytes (omega arith) digit read
 
--- the first piece, and what is behind it
+-- the first piece, and what is after it
 first_says : (n : ℕ) → Says n → (c : ℕ) (text bytes : List ℕ) → length text ≤ n → unescaped no_escape (c ∷ text) ≡ Some bytes → IsStringText (c ∷ text) bytes
 first_says n says c text bytes short read = go (c == 92) refl where
   go : (escape : Bool) → (c == 92) ≡ escape → IsStringText (c ∷ text) bytes

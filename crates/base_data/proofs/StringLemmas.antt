@@ -66,7 +66,7 @@ cut_short bytes rest none cut =
     let all : IsCut bytes [] = subst (IsCut bytes) none cut in
     rw (labels_of_is bytes all.strings (cut_whole bytes all)) all.short
 
--- what is behind the first strings of such bytes are strings too
+-- what is after the first strings of such bytes are strings too
 others : (first strings : List (List ℕ)) (rest : List ℕ) → wire_of strings ≡ wire_of first ++ rest → (more : List (List ℕ)) × (wire_of more ≡ rest)
 unfolding wire_of
 others [] strings rest is = (strings, is)
@@ -74,9 +74,9 @@ others (x ∷ xs) [] rest is = cc
 others (x ∷ xs) (y ∷ ys) rest is =
     let len : length y ≡ length x = ap (λ (bytes : List ℕ). get_or bytes 0 0) is in
     let tails : y ++ wire_of ys ≡ x ++ (wire_of xs ++ rest) = ap (drop 1) is ∙ append_assoc x (wire_of xs) rest in
-    let behind : wire_of ys ≡ wire_of xs ++ rest =
+    let after : wire_of ys ≡ wire_of xs ++ rest =
     sym (drop_at y (wire_of ys) (length y) refl) ∙ ap (drop (length y)) tails ∙ drop_at x (wire_of xs ++ rest) (length y) (sym len) in
-    others xs ys rest behind
+    others xs ys rest after
 
 -- a length that is too great begins no string
 too_long : (strings : List (List ℕ)) (n : ℕ) (tail : List ℕ) → length tail < n → wire_of strings ≡ n ∷ tail → ⊥
@@ -108,8 +108,8 @@ cut_next bytes rest end cut some is small fits =
     let n = get_or rest 0 0 in
     let parts = seen rest some in
     let first : IsCut bytes (n ∷ drop 1 rest) = subst (IsCut bytes) parts cut in
-    let behind : drop n (drop 1 rest) ≡ drop end rest = drop-drop n 1 rest ∙ ap (λ (k : ℕ). drop k rest) (let e : 1 + n ≡ end = omega arith in e) in
-    subst (IsCut bytes) behind (cut_more bytes (drop 1 rest) n first (omega (arith, length-drop 1 rest)) small)
+    let after : drop n (drop 1 rest) ≡ drop end rest = drop-drop n 1 rest ∙ ap (λ (k : ℕ). drop k rest) (let e : 1 + n ≡ end = omega arith in e) in
+    subst (IsCut bytes) after (cut_more bytes (drop 1 rest) n first (omega (arith, length-drop 1 rest)) small)
 
 pub cut_fault : (bytes rest : List ℕ) (end : ℕ) → IsCut bytes rest → 0 < length rest → end ≡ 1 + get_or rest 0 0 → length rest < end → false ≡ are_strings bytes
 cut_fault bytes rest end cut some is short =

@@ -7,7 +7,7 @@ use Rattle.base.specs.Labels.{wire_of}
 use Rattle.base.specs.PointerLemmas.{length-wire_of}
 use Rattle.base_data.specs.TXT.{string_text, txt_text}
 
--- the space behind a string stands where more strings follow
+-- the space after a string stands where more strings follow
 txt_text-cons : (x : List ℕ) (xs : List (List ℕ)) (tail : List ℕ) (last : Bool) → wire_of xs ≡ tail → last ≡ (length tail == 0)
     → (string_text x ++ (if last then [] else 32 ∷ [])) ++ txt_text xs ≡ txt_text (x ∷ xs)
 txt_text-cons x [] tail last whole is =

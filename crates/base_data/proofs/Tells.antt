@@ -1,4 +1,4 @@
--- What a reading answers, and where: what stands there and nothing else. No reading is refused for want of memory.
+-- What a reading answers, and where: what stands there and nothing else. No reading is refused because memory ran out.
 use Rattle.std.proofs.Common.{◌≡◌, ◌≢◌, ℕ, [], ◌+◌, ◌≤◌, Bool, true, false, cond, List, length, take, drop, refl, ap, sym, ◌∙◌, arith, Result, Ok, Err}
 use Rattle.std.proofs.lemmas.Bool.{le-ltb}
 use Rattle.std.proofs.lemmas.List.{length-take, length-drop}
@@ -6,7 +6,7 @@ use Rattle.std.specs.Int.{Width}
 use Rattle.std.specs.Prelude.{nat_lt}
 use Rattle.base.proofs.ReadLemmas.{bind_ok, bind_err, number_is, number_again, number_short}
 use Rattle.base.proofs.ReadingLemmas.{name_is, name_fault, name_again}
-use Rattle.base.specs.Faults.{IsFaulty, ended, cut_label, cut_pointer, bad_bits, long, forward, behind_label, behind_pointer}
+use Rattle.base.specs.Faults.{IsFaulty, ended, cut_label, cut_pointer, bad_bits, long, forward, after_label, after_pointer}
 use Rattle.base.specs.Names.{name_at}
 use Rattle.base.specs.Reading.{Read, ◌>>=◌, bytes_at, number_at}
 use Rattle.base.specs.Spelling.{IsNameAt}
@@ -32,13 +32,13 @@ tells_ok {X} x = record {
   ok : X → Result X DecodeError
   ok z = Ok z
 
--- a step, and those behind it
+-- a step, and those after it
 pub tells_then : {X Y : Type 0} {r : Result X DecodeError} {f : X → Result Y DecodeError} {P : X → Type 0} {Q : X → Y → Type 0} → Tells r P
     → ((x : X) → Tells (f x) (Q x)) → Tells (r >>= f) (λ y. (x : X) × P x × Q x y)
 tells_then {X} {Y} {r} {f} {P} {Q} first others = record {
   says = λ y is. let both = bind_ok r f y is in (both.value, first.says both.value both.first, (others both.value).says y both.second);
   again = λ y is. ap (λ (s : Result X DecodeError). s >>= f) (first.again is.0 is.1) ∙ (others is.0).again y is.2;
-  fault = λ is. bind_err r f faults.Memory ⊥ is first.fault (λ x _ behind. (others x).fault behind);
+  fault = λ is. bind_err r f faults.Memory ⊥ is first.fault (λ x _ after. (others x).fault after);
 }
 
 -- the same, said otherwise
@@ -51,7 +51,7 @@ tells_same t to from = record {
 
 pub tells_number : (w : Width) (B : List ℕ) (i : ℕ) → Tells (number_at w B i) (λ r. Number w r.0 B i r.1)
 tells_number w B i = record {
-  says = λ r is. let s = number_is w B i r is in (s.stands, s.behind);
+  says = λ r is. let s = number_is w B i r is in (s.stands, s.after);
   again = λ r is. number_again w B i r.0 is.0 ∙ ap (λ (e : ℕ). ok (r.0, e)) (sym is.1);
   fault = λ is. let s = number_short w B i faults.Memory is in let f = s.fault in cc;
 } where
@@ -65,8 +65,8 @@ never_memory (cut_pointer _ _ _) is = cc
 never_memory (bad_bits _ _ _) is = cc
 never_memory (long _ _ _ _ _) is = cc
 never_memory (forward _ _ _ _) is = cc
-never_memory (behind_label _ _ _ _ _ rest) is = never_memory rest is
-never_memory (behind_pointer _ _ _ _ rest) is = never_memory rest is
+never_memory (after_label _ _ _ _ _ rest) is = never_memory rest is
+never_memory (after_pointer _ _ _ _ rest) is = never_memory rest is
 
 pub tells_name : (B : List ℕ) (i : ℕ) → Tells (name_at B i) (λ r. IsNameAt B i r.0 r.1)
 tells_name B i = record {
@@ -89,7 +89,7 @@ pub tells_bytes : (len : ℕ) (B : List ℕ) (i : ℕ) → Tells (bytes_at len B
 tells_bytes len B i = record {
   says = λ r is. let s = bytes_is len B i r is in
       record {
-        word = (record { is = ap (λ (n : ℕ). take n (drop i B)) s.counted ∙ sym s.is }, omega (arith, s.behind, s.counted));
+        word = (record { is = ap (λ (n : ℕ). take n (drop i B)) s.counted ∙ sym s.is }, omega (arith, s.after, s.counted));
         counted = s.counted;
         inside = s.inside;
       };
@@ -104,8 +104,8 @@ tells_bytes len B i = record {
 pub room_for : (xs B : List ℕ) (i : ℕ) → Stands xs B i → 1 ≤ length xs → i + length xs ≤ length B
 room_for xs B i s some = omega (arith, ap length s.is, length-take (length xs) (drop i B), length-drop i B)
 
-pub room_behind : (xs B : List ℕ) (i : ℕ) → Stands xs B i → i ≤ length B → i + length xs ≤ length B
-room_behind xs B i s inside = omega (arith, ap length s.is, length-take (length xs) (drop i B), length-drop i B)
+pub room_after : (xs B : List ℕ) (i : ℕ) → Stands xs B i → i ≤ length B → i + length xs ≤ length B
+room_after xs B i s inside = omega (arith, ap length s.is, length-take (length xs) (drop i B), length-drop i B)
 
 -- the same of a reading that ends at a place
 pub record Fills {X : Type 0} (read : Read X) (end : ℕ) (Is : X → Type 0) : Type 0 where

@@ -12,7 +12,7 @@ use Rattle.base_data.specs.TXT.{AreShort, IsText, txt_of}
 abbrev pub texts : List (Bor (List ℕ)) → List (List ℕ)
 texts items = map (λ (item : Bor (List ℕ)). item.now) items
 
--- the bytes hold the strings of as many items, and those of the rest behind them are all
+-- the bytes hold the strings of as many items, and those of the rest after them are all
 pub record IsRead (bytes : List ℕ) (items : List (Bor (List ℕ))) (i : ℕ) : Type 0 where
   pub strings : List (List ℕ)
   pub wire : bytes ≡ wire_of strings

@@ -58,8 +58,8 @@ short_in [] small = All-nil (λ string. length string ≤ 255)
 short_in (x ∷ xs) small =
     let P : ℕ → Type 0 = λ b. b < 256 in
     let first = All-head P (length x) (x ++ wire_of xs) small in
-    let behind = All-drop P (length x) (x ++ wire_of xs) (All-tail P (length x) (x ++ wire_of xs) small) in
-    All-cons (λ string. length string ≤ 255) x xs (omega (arith, first)) (short_in xs (subst (All P) (drop_at x (wire_of xs) (length x) refl) behind))
+    let after = All-drop P (length x) (x ++ wire_of xs) (All-tail P (length x) (x ++ wire_of xs) small) in
+    All-cons (λ string. length string ≤ 255) x xs (omega (arith, first)) (short_in xs (subst (All P) (drop_at x (wire_of xs) (length x) refl) after))
 
 pub short_strings : (B : List ℕ) (i len : ℕ) (strings : List (List ℕ)) → All (λ b. b < 256) B → IsDataAt B i types.TXT len (kinds.TXT strings) → AreShort strings
 short_strings B i len strings small at =

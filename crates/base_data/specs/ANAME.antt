@@ -1,4 +1,4 @@
--- Names whose addresses another name has too (the names of ANAME records).
+-- Names that lend their addresses to the owner (ANAME).
 use Rattle.std.specs.Prelude.{◌≡◌, ℕ, List, [], ◌∷◌, ◌++◌, Option}
 use Rattle.base.specs.Labels.{NameValue, wire_of}
 use Rattle.base.specs.Reading.{Read}

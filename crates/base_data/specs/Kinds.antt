@@ -159,7 +159,8 @@ abbrev pub KeptData : RData → Type 0
 KeptData d = (kind_of d).kept
 
 -- where what is written of data stands, its word stands
-abbrev pub data_says : (d : RData) → Says (data_written d) (KeptData d) (DataWord d) (plain_data d) []
+abbrev pub data_says : (d : RData)
+    → Says (data_written d) (KeptData d) (DataWord d) (plain_data d) []
 data_says d = (kind_of d).says
 
 -- Data that the kind of its own type reads: names are absolute, and data that has no byte is `Update0`. A string's

@@ -1,4 +1,4 @@
--- Hosts that take mail (RFC 1035, 3.3.9).
+-- Mail exchangers (RFC 1035, 3.3.9).
 use Rattle.std.specs.Prelude.{ℕ, List, Ok, ◌+◌, ◌++◌, codes, [], ◌∷◌, ◌≡◌, true, ◌<◌, ◌^◌, Option, Some, None}
 use Rattle.std.specs.Int.{w16, to_be_bytes}
 use Rattle.base.specs.Names.{name_at}
@@ -29,7 +29,7 @@ mx_of (preference ∷ exchange ∷ []) origin =
     Some (record { preference = p; exchange = e })
 mx_of _ origin = None
 
--- the word that the fields are written as, one behind the other
+-- the word that the fields are written as, one after another
 abbrev pub MXWord : MX → List ℕ → ℕ → ℕ → Type 0
 MXWord x = Then (Number w16 x.preference) (NameAt x.exchange.labels)
 
@@ -41,7 +41,7 @@ plain_mx x = 2 + (plain_len x.exchange.labels)
 abbrev pub mx_text : MX → List ℕ
 mx_text x = decimal x.preference ++ (codes " " ++ (name_text x.exchange))
 
--- its name stands behind two bytes (RFC 1035, 3.3.9)
+-- its name stands after two bytes (RFC 1035, 3.3.9)
 abbrev pub mx_places : List ℕ → ℕ → List ℕ
 mx_places bytes i = (i + 2) ∷ []
 

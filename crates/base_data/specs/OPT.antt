@@ -26,7 +26,8 @@ FitsOption option = (option.code < 2 ^ 16) × (length option.bytes < 2 ^ 16)
 
 -- the bytes of an option on the wire
 abbrev pub option_wire : OptionValue → List ℕ
-option_wire option = to_be_bytes w16 option.code ++ to_be_bytes w16 (length option.bytes) ++ option.bytes
+option_wire option = to_be_bytes w16 option.code ++ to_be_bytes w16 (length option.bytes)
+    ++ option.bytes
 
 abbrev pub options_wire : List OptionValue → List ℕ
 options_wire [] = []
@@ -77,7 +78,7 @@ has_code code option = option.code == code
 abbrev pub first_option : ℕ → List OptionValue → Option OptionValue
 first_option code options = find (has_code code) options
 
--- with an option in the place of the first of its code, or behind all others where none has its code
+-- with an option in the place of the first of its code, or after all others where none has its code
 abbrev pub with_option : OptionValue → List OptionValue → List OptionValue
 with_option option options = option_map_or (λ i. slice_set options i option) (position (has_code option.code) options) (options ++ option ∷ [])
 
@@ -93,13 +94,15 @@ abbrev pub same_options : List OptionValue → List OptionValue → Bool
 same_options = pointwise same_option
 
 -- where what is written of options stands, they stand
-pub option_says : (option : OptionValue) → Says (option_written option) (FitsOption option) (option_word option) (option_len option) []
+pub option_says : (option : OptionValue)
+    → Says (option_written option) (FitsOption option) (option_word option) (option_len option) []
 option_says option =
     Says-weaker (option_written option) (FitsOption option) (λ ok. (ok.0, (ok.1, tt))) (λ ok B i e word. word) (omega arith)
     (Says-both (just (to_be_bytes w16 option.code)) (both (just (to_be_bytes w16 (length option.bytes))) (just option.bytes)) (Says-number option.code)
     (Says-both (just (to_be_bytes w16 (length option.bytes))) (just option.bytes) (Says-number (length option.bytes)) (Says-bytes option.bytes)))
 
-pub options_say : (options : List OptionValue) → Says (in_turn option_written options) (All FitsOption options) (options_word options) (options_len options) []
+pub options_say : (options : List OptionValue)
+    → Says (in_turn option_written options) (All FitsOption options) (options_word options) (options_len options) []
 options_say [] = Says-just (All FitsOption []) (options_word []) 0 [] (omega arith)
     (λ ok B at small h. let same : at ≡ at + 0 = omega arith in subst (λ (e : ℕ). options_word [] B at e) same none)
 options_say (option ∷ options) =

@@ -16,7 +16,8 @@ abbrev pub one_name_at : {X : Type 0} → (NameValue → X) → List ℕ → ℕ
 one_name_at of bytes i = name_at bytes i >>= λ name. Ok (of name.0, name.1)
 
 -- the data of one item, made of the name that it names under an origin
-abbrev pub one_name_of : {X : Type 0} → (NameValue → X) → List (List ℕ) → Option NameValue → Option X
+abbrev pub one_name_of : {X : Type 0} → (NameValue → X) → List (List ℕ) → Option NameValue
+    → Option X
 one_name_of of (name ∷ []) origin = option_map of (name_item name origin)
 one_name_of of _ origin = None
 
@@ -26,7 +27,8 @@ own_place bytes i = i ∷ []
 
 -- what is known of data that is a name; how the name is written is its kind's
 abbrev pub name_kind : ℕ → (name : NameValue) (written : Writing)
-    → Says written (AreNameLabels name.labels) (NameAt name.labels) (plain_len name.labels) [] → Kind
+    → Says written (AreNameLabels name.labels) (NameAt name.labels) (plain_len name.labels) []
+    → Kind
 name_kind rank name written says = record {
   rank = rank;
   word = NameAt name.labels;

@@ -1,9 +1,9 @@
--- Starts of zones (RFC 1035, 3.3.13).
+-- The start of a zone of authority (RFC 1035, 3.3.13).
 use Rattle.std.specs.Prelude.{ℕ, List, Ok, ◌+◌, ◌^◌, ◌<◌, ◌++◌, codes, [], ◌∷◌, ◌≡◌, true, Option, Some, None}
 use Rattle.std.proofs.Common.{refl, arith}
 use Rattle.std.specs.Int.{w32, to_be_bytes}
 use Rattle.base.specs.Names.{name_at}
-use Rattle.base.specs.Reading.{Read, behind, number_at, ◌>>=◌}
+use Rattle.base.specs.Reading.{Read, place_after, number_at, ◌>>=◌}
 use Rattle.base.specs.Labels.{AreLabels, AreNameLabels, NameValue, plain_len}
 use Rattle.base.specs.NameText.{name_text}
 use Rattle.base.specs.Words.{NameAt, Number, Stands, Then}
@@ -46,15 +46,16 @@ pub record SOAFits (x : SOA) : Type 0 where
   pub expire : x.expire < 2 ^ 32
   pub minimum : x.minimum < 2 ^ 32
 
--- the version and the times as they are written, one behind the other
+-- the version and the times as they are written, one after another
 abbrev pub soa_numbers : SOA → List ℕ
-soa_numbers x = to_be_bytes w32 x.serial ++ (to_be_bytes w32 x.refresh ++ (to_be_bytes w32 x.retry ++ (to_be_bytes w32 x.expire ++ to_be_bytes w32 x.minimum)))
+soa_numbers x = to_be_bytes w32 x.serial
+    ++ (to_be_bytes w32 x.refresh ++ (to_be_bytes w32 x.retry ++ (to_be_bytes w32 x.expire ++ to_be_bytes w32 x.minimum)))
 
 -- the word that they are
 abbrev pub SOANumbers : SOA → List ℕ → ℕ → ℕ → Type 0
 SOANumbers x = Then (Number w32 x.serial) (Then (Number w32 x.refresh) (Then (Number w32 x.retry) (Then (Number w32 x.expire) (Number w32 x.minimum))))
 
--- the word that the fields are written as, one behind the other
+-- the word that the fields are written as, one after another
 abbrev pub SOAWord : SOA → List ℕ → ℕ → ℕ → Type 0
 SOAWord x = Then (NameAt x.mname.labels) (Then (NameAt x.rname.labels) (SOANumbers x))
 
@@ -69,37 +70,38 @@ soa_text x = name_text x.mname ++
     (codes " " ++ (decimal x.serial ++ (codes " " ++ (decimal x.refresh ++ (codes " " ++ (decimal x.retry ++ (codes " " ++ (decimal x.expire ++ (codes " " ++ (decimal x.minimum))))))))))))
 
 -- the bytes of the numbers are the numbers
-pub soa_numbers_stand : (x : SOA) (B : List ℕ) (i : ℕ) → SOAFits x → Stands (soa_numbers x) B i → SOANumbers x B i (i + 20)
+pub soa_numbers_stand : (x : SOA) (B : List ℕ) (i : ℕ) → SOAFits x → Stands (soa_numbers x) B i
+    → SOANumbers x B i (i + 20)
 soa_numbers_stand x B i fits s =
     let a = to_be_bytes w32 x.serial in
     let b = to_be_bytes w32 x.refresh in
     let c = to_be_bytes w32 x.retry in
     let d = to_be_bytes w32 x.expire in
     let e = to_be_bytes w32 x.minimum in
-    let behind_a = last_stands a (b ++ (c ++ (d ++ e))) B i s in
-    let behind_b = last_stands b (c ++ (d ++ e)) B (i + 4) behind_a in
-    let behind_c = last_stands c (d ++ e) B (i + 4 + 4) behind_b in
-    let behind_d = last_stands d e B (i + 4 + 4 + 4) behind_c in (
+    let after_a = last_stands a (b ++ (c ++ (d ++ e))) B i s in
+    let after_b = last_stands b (c ++ (d ++ e)) B (i + 4) after_a in
+    let after_c = last_stands c (d ++ e) B (i + 4 + 4) after_b in
+    let after_d = last_stands d e B (i + 4 + 4 + 4) after_c in (
       _,
       (number32_stands x.serial B i fits.serial (first_stands a (b ++ (c ++ (d ++ e))) B i s), refl),
       (
         _,
-        (number32_stands x.refresh B (i + 4) fits.refresh (first_stands b (c ++ (d ++ e)) B (i + 4) behind_a), refl),
+        (number32_stands x.refresh B (i + 4) fits.refresh (first_stands b (c ++ (d ++ e)) B (i + 4) after_a), refl),
         (
           _,
-          (number32_stands x.retry B (i + 4 + 4) fits.retry (first_stands c (d ++ e) B (i + 4 + 4) behind_b), refl),
+          (number32_stands x.retry B (i + 4 + 4) fits.retry (first_stands c (d ++ e) B (i + 4 + 4) after_b), refl),
           (
             _,
-            (number32_stands x.expire B (i + 4 + 4 + 4) fits.expire (first_stands d e B (i + 4 + 4 + 4) behind_c), refl),
-            (number32_stands x.minimum B (i + 4 + 4 + 4 + 4) fits.minimum behind_d, omega arith),
+            (number32_stands x.expire B (i + 4 + 4 + 4) fits.expire (first_stands d e B (i + 4 + 4 + 4) after_c), refl),
+            (number32_stands x.minimum B (i + 4 + 4 + 4 + 4) fits.minimum after_d, omega arith),
           ),
         ),
       ),
     )
 
--- its first name stands at its place, and the second one behind that (RFC 1035, 3.3.13)
+-- its first name stands at its place, and the second one after that (RFC 1035, 3.3.13)
 abbrev pub soa_places : List ℕ → ℕ → List ℕ
-soa_places bytes i = i ∷ behind (name_at bytes i) ∷ []
+soa_places bytes i = i ∷ place_after (name_at bytes i) ∷ []
 
 -- what is known of the data
 abbrev pub soa_kind : SOA → Kind
@@ -115,7 +117,8 @@ soa_kind x = record {
       (Says-just (SOAFits x) (SOANumbers x) 20 (soa_numbers x) (omega arith) (λ fits B at small h. soa_numbers_stand x B at fits h)));
   readable = (x.mname.absolute ≡ true) × (x.rname.absolute ≡ true);
   text = soa_text x;
-  canonical = name_octets x.mname ++ name_octets x.rname ++ to_be_bytes w32 x.serial ++ to_be_bytes w32 x.refresh ++ to_be_bytes w32 x.retry
+  canonical = name_octets x.mname ++ name_octets x.rname ++ to_be_bytes w32 x.serial
+      ++ to_be_bytes w32 x.refresh ++ to_be_bytes w32 x.retry
       ++ to_be_bytes w32 x.expire ++ to_be_bytes w32 x.minimum;
   held = x.mname ∷ x.rname ∷ [];
   places = soa_places;

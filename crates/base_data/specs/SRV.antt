@@ -34,7 +34,7 @@ srv_of (priority ∷ weight ∷ port ∷ target ∷ []) origin =
     Some (record { priority = p; weight = w; port = q; target = t })
 srv_of _ origin = None
 
--- the word that the fields are written as, one behind the other
+-- the word that the fields are written as, one after another
 abbrev pub SRVWord : SRV → List ℕ → ℕ → ℕ → Type 0
 SRVWord x = Then (Number w16 x.priority) (Then (Number w16 x.weight) (Then (Number w16 x.port) (NameAt x.target.labels)))
 
@@ -44,33 +44,35 @@ pub record SRVFits (x : SRV) : Type 0 where
   pub weight : x.weight < 2 ^ 16
   pub port : x.port < 2 ^ 16
 
--- the three numbers as they are written, one behind the other
+-- the three numbers as they are written, one after another
 abbrev pub srv_numbers : SRV → List ℕ
 srv_numbers x = to_be_bytes w16 x.priority ++ (to_be_bytes w16 x.weight ++ to_be_bytes w16 x.port)
 
--- the three numbers of an SRV, one behind the other
+-- the three numbers of an SRV, one after another
 abbrev pub SRVNumbers : SRV → List ℕ → ℕ → ℕ → Type 0
 SRVNumbers x = Then (Number w16 x.priority) (Then (Number w16 x.weight) (Number w16 x.port))
 
-pub srv_numbers_stand : (x : SRV) (B : List ℕ) (i : ℕ) → SRVFits x → Stands (srv_numbers x) B i → SRVNumbers x B i (i + 6)
+pub srv_numbers_stand : (x : SRV) (B : List ℕ) (i : ℕ) → SRVFits x → Stands (srv_numbers x) B i
+    → SRVNumbers x B i (i + 6)
 srv_numbers_stand x B i fits s =
     let a = to_be_bytes w16 x.priority in
     let b = to_be_bytes w16 x.weight in
     let c = to_be_bytes w16 x.port in
-    let behind_a = last_stands a (b ++ c) B i s in
-    let behind_b = last_stands b c B (i + 2) behind_a in (
+    let after_a = last_stands a (b ++ c) B i s in
+    let after_b = last_stands b c B (i + 2) after_a in (
       _,
       (number16_stands x.priority B i fits.priority (first_stands a (b ++ c) B i s), refl),
       (
         _,
-        (number16_stands x.weight B (i + 2) fits.weight (first_stands b c B (i + 2) behind_a), refl),
-        (number16_stands x.port B (i + 2 + 2) fits.port behind_b, omega arith),
+        (number16_stands x.weight B (i + 2) fits.weight (first_stands b c B (i + 2) after_a), refl),
+        (number16_stands x.port B (i + 2 + 2) fits.port after_b, omega arith),
       ),
     )
 
 -- the bytes of the fields, the name without compression
 abbrev pub srv_wire : SRV → List ℕ
-srv_wire x = to_be_bytes w16 x.priority ++ (to_be_bytes w16 x.weight ++ (to_be_bytes w16 x.port ++ (wire_of x.target.labels ++ 0 ∷ [])))
+srv_wire x = to_be_bytes w16 x.priority
+    ++ (to_be_bytes w16 x.weight ++ (to_be_bytes w16 x.port ++ (wire_of x.target.labels ++ 0 ∷ [])))
 
 -- how many bytes the fields are, names without compression
 abbrev pub plain_srv : SRV → ℕ
@@ -78,9 +80,10 @@ plain_srv x = 2 + (2 + (2 + (plain_len x.target.labels)))
 
 -- the fields, with a space between each two
 abbrev pub srv_text : SRV → List ℕ
-srv_text x = decimal x.priority ++ (codes " " ++ (decimal x.weight ++ (codes " " ++ (decimal x.port ++ (codes " " ++ (name_text x.target))))))
+srv_text x = decimal x.priority
+    ++ (codes " " ++ (decimal x.weight ++ (codes " " ++ (decimal x.port ++ (codes " " ++ (name_text x.target))))))
 
--- its name stands behind six bytes (RFC 2782)
+-- its name stands after six bytes (RFC 2782)
 abbrev pub srv_places : List ℕ → ℕ → List ℕ
 srv_places bytes i = (i + 6) ∷ []
 
@@ -99,7 +102,8 @@ srv_kind x = record {
       (Says-plain_name x.target.labels));
   readable = x.target.absolute ≡ true;
   text = srv_text x;
-  canonical = to_be_bytes w16 x.priority ++ to_be_bytes w16 x.weight ++ to_be_bytes w16 x.port ++ name_octets x.target;
+  canonical = to_be_bytes w16 x.priority ++ to_be_bytes w16 x.weight ++ to_be_bytes w16 x.port
+      ++ name_octets x.target;
   held = x.target ∷ [];
   places = srv_places;
   flags = x.target.absolute ∷ [];

@@ -11,7 +11,7 @@ pub data EscapePart : Type 0 where
   one_digit : ℕ → EscapePart
   two_digits : ℕ → EscapePart
 
--- what a byte is behind as much of an escape: a byte of the string or none, and as much of an escape then
+-- what a byte is after as much of an escape: a byte of the string or none, and as much of an escape then
 abbrev pub escape_step : EscapePart → ℕ → Option (Option ℕ × EscapePart)
 escape_step no_escape c = if c == 92 then Some (None, backslash) else Some (Some c, no_escape)
 escape_step backslash c = if is_ascii_digit c then Some (None, one_digit (c - 48)) else Some (Some c, no_escape)
@@ -28,8 +28,9 @@ abbrev pub byte_list : Option ℕ → List ℕ
 byte_list None = []
 byte_list (Some b) = b ∷ []
 
--- the byte of a step, before what is read behind it
-abbrev pub step_on : (EscapePart → Option (List ℕ)) → Option (Option ℕ × EscapePart) → Option (List ℕ)
+-- the byte of a step, before what is read after it
+abbrev pub step_on : (EscapePart → Option (List ℕ)) → Option (Option ℕ × EscapePart)
+    → Option (List ℕ)
 step_on more None = None
 step_on more (Some step) = before (byte_list step.0) (more step.1)
 
@@ -38,7 +39,7 @@ abbrev pub ends_outside : EscapePart → Option (List ℕ)
 ends_outside no_escape = Some []
 ends_outside _ = None
 
--- the bytes of a text that stands behind as much of an escape
+-- the bytes of a text that stands after as much of an escape
 unfoldable pub unescaped : EscapePart → List ℕ → Option (List ℕ)
 unescaped state [] = ends_outside state
 unescaped state (c ∷ text) = step_on (λ s. unescaped s text) (escape_step state c)
@@ -66,7 +67,11 @@ string_items (text ∷ texts) = put_before (string_item text) (string_items text
 -- are that byte; a backslash and three digits are the byte of that number.
 pub data IsStringText : List ℕ → List ℕ → Type 0 where
   is_end : IsStringText [] []
-  is_plain : {c : ℕ} {text bytes : List ℕ} → c ≢ 92 → IsStringText text bytes → IsStringText (c ∷ text) (c ∷ bytes)
-  is_escaped : {c : ℕ} {text bytes : List ℕ} → is_ascii_digit c ≡ false → IsStringText text bytes → IsStringText (92 ∷ c ∷ text) (c ∷ bytes)
-  is_number : {a b c n : ℕ} {text bytes : List ℕ} → is_ascii_digit a ≡ true → is_ascii_digit b ≡ true → is_ascii_digit c ≡ true
-      → n ≡ (a - 48) * 100 + (b - 48) * 10 + (c - 48) → n < 256 → IsStringText text bytes → IsStringText (92 ∷ a ∷ b ∷ c ∷ text) (n ∷ bytes)
+  is_plain : {c : ℕ} {text bytes : List ℕ} → c ≢ 92 → IsStringText text bytes
+      → IsStringText (c ∷ text) (c ∷ bytes)
+  is_escaped : {c : ℕ} {text bytes : List ℕ} → is_ascii_digit c ≡ false → IsStringText text bytes
+      → IsStringText (92 ∷ c ∷ text) (c ∷ bytes)
+  is_number : {a b c n : ℕ} {text bytes : List ℕ} → is_ascii_digit a ≡ true
+      → is_ascii_digit b ≡ true → is_ascii_digit c ≡ true
+      → n ≡ (a - 48) * 100 + (b - 48) * 10 + (c - 48) → n < 256 → IsStringText text bytes
+      → IsStringText (92 ∷ a ∷ b ∷ c ∷ text) (n ∷ bytes)

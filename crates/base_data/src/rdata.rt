@@ -270,10 +270,12 @@ impl BinEncodable for RData {
 
     ghost says = { data_says };
 
-    /// Writes the data as its kind is written, names of NS, CNAME, PTR, MX and SOA with compression and all other
-    /// data without it, and nothing for empty data (RFC 1035, 3.3; RFC 3597, 4).
+    /// Writes the data as its kind is written, names of NS, CNAME, PTR, MX and SOA with compression and all other data
+    /// without it, and nothing for empty data (RFC 1035, 3.3; RFC 3597, 4).
     ///
-    /// Refused with `MaxBufferSizeExceeded` where a byte would pass the limit, and with `Memory` for want of it.
+    /// # Errors
+    ///
+    /// `MaxBufferSizeExceeded` where a byte would pass the limit; `Memory` if memory runs out.
     fn emit(&self, encoder: &mut BinEncoder<'_>) -> Result<(), ProtoError> {
         match self {
             RData::A(rdata) => rdata.emit(encoder),

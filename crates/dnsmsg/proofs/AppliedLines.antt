@@ -33,19 +33,19 @@ use Rattle.dnsmsg.specs.ZoneCommand.{origin_line, set_lines}
 -- ---- entries in the order of their keys
 
 -- each is found under its key
-found_behind : (e : RrKey × SetValue) (all es : ZoneSets) → AllByRecursion (λ k. key_cmp e.0 k ≡ Less) (keys_of es)
+found_after : (e : RrKey × SetValue) (all es : ZoneSets) → AllByRecursion (λ k. key_cmp e.0 k ≡ Less) (keys_of es)
     → AllByRecursion (λ (f : RrKey × SetValue). lookup (is_at (key_cmp f.0)) all ≡ Some f.1) es
     → AllByRecursion (λ (f : RrKey × SetValue). lookup (is_at (key_cmp f.0)) (e ∷ all) ≡ Some f.1) es
-found_behind e all [] above found = tt
-found_behind e all (f ∷ es) above found =
-    (cond-false _ _ _ (ap is_eq (key_cmp-total.antisymm f.0 e.0 ∙ ap ordering_reverse above.0)) ∙ found.0, found_behind e all es above.1 found.1)
+found_after e all [] above found = tt
+found_after e all (f ∷ es) above found =
+    (cond-false _ _ _ (ap is_eq (key_cmp-total.antisymm f.0 e.0 ∙ ap ordering_reverse above.0)) ∙ found.0, found_after e all es above.1 found.1)
 
 found_each : (es : ZoneSets) → IsStrictlySortedBy key_cmp (keys_of es)
     → AllByRecursion (λ (e : RrKey × SetValue). lookup (is_at (key_cmp e.0)) es ≡ Some e.1) es
 unfolding IsStrictlySortedBy
 found_each [] ordered = tt
 found_each (e ∷ es) ordered =
-    (lookup_head (is_at (key_cmp e.0)) e es ((eq_by_cmp_equiv key_cmp-total).refl e.0), found_behind e es es ordered.0 (found_each es ordered.1))
+    (lookup_head (is_at (key_cmp e.0)) e es ((eq_by_cmp_equiv key_cmp-total).refl e.0), found_after e es es ordered.0 (found_each es ordered.1))
 
 -- they are those of a finite map
 put_first : (k : RrKey) (v : List Datum) (es : ZoneSets) → AllByRecursion (λ q. key_cmp k q ≡ Less) (keys_of es)

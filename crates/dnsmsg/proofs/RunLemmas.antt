@@ -11,7 +11,7 @@ use Rattle.dnsmsg.specs.HeaderCommand.{header_answer}
 use Rattle.dnsmsg.specs.ReadCommand.{read_answer}
 use Rattle.dnsmsg.specs.Refusal.{refusal_number}
 use Rattle.dnsmsg.specs.ZoneCommand.{zone_answer}
-use Rattle.dnsmsg.specs.ZoneWords.{behind_origin}
+use Rattle.dnsmsg.specs.ZoneWords.{words_after_origin}
 use Rattle.dnsmsg.specs.declared.command.Command.{Command}
 use Rattle.dnsmsg.specs.declared.command.Command.TheVariants as commands
 use Rattle.dnsmsg.specs.declared.command.MessageCommand.TheVariants as messages
@@ -62,7 +62,7 @@ module _ (status : ℕ) (old new : Option (List ℕ)) (words : List (List ℕ)) 
   answered : (answer_of : List ℕ → Answer) (answer : Answer) → answer_of text ≡ answer → IsPrinted answer status old new → IsAnswered (answer_of text) status old new
   answered answer_of answer is shown = inl (subst (λ a. IsPrinted a status old new) (sym is) shown)
 
-  -- the refusal for want of memory answers any text
+  -- the refusal where memory ran out answers any text
   pub memory_answers : (command : Command) → IsPrinted (refused 3) status old new → IsGiven command words text status old new
   memory_answers (commands.OnMessage messages.Header) shown = inr shown
   memory_answers (commands.OnMessage messages.Read) shown = inr shown
@@ -75,8 +75,8 @@ module _ (status : ℕ) (old new : Option (List ℕ)) (words : List (List ℕ)) 
   lines_answer (commands.OnMessage messages.Header) lines says shown = answered header_answer (done (string_bytes lines)) says shown
   lines_answer (commands.OnMessage messages.Read) lines says shown = answered read_answer (done (string_bytes lines)) says shown
   lines_answer (commands.OnMessage (messages.Cut limit)) lines says shown = inl (done (string_bytes lines), says, shown)
-  lines_answer (commands.Zone origin) lines says shown = answered (zone_answer origin (behind_origin words)) (done (string_bytes lines)) says shown
-  lines_answer (commands.Apply origin) lines says shown = answered (apply_answer origin (behind_origin words)) (done (string_bytes lines)) says shown
+  lines_answer (commands.Zone origin) lines says shown = answered (zone_answer origin (words_after_origin words)) (done (string_bytes lines)) says shown
+  lines_answer (commands.Apply origin) lines says shown = answered (apply_answer origin (words_after_origin words)) (done (string_bytes lines)) says shown
 
   refused_with : (answer_of : List ℕ → Answer) (number : ℕ) → (number ≡ 3) ⊎ (answer_of text ≡ refused number) → IsPrinted (refused number) status old new → IsAnswered (answer_of text) status old new
   refused_with answer_of number (inl memory) shown = inr (subst (λ n. IsPrinted (refused n) status old new) memory shown)
@@ -93,8 +93,8 @@ module _ (status : ℕ) (old new : Option (List ℕ)) (words : List (List ℕ)) 
   refusal_answers (commands.OnMessage messages.Header) refusal says shown = refused_with header_answer (refusal_number refusal) says shown
   refusal_answers (commands.OnMessage messages.Read) refusal says shown = refused_with read_answer (refusal_number refusal) says shown
   refusal_answers (commands.OnMessage (messages.Cut limit)) refusal says shown = refused_by (IsCutAnswer limit text) (refusal_number refusal) says shown
-  refusal_answers (commands.Zone origin) refusal says shown = refused_with (zone_answer origin (behind_origin words)) (refusal_number refusal) says shown
-  refusal_answers (commands.Apply origin) refusal says shown = refused_with (apply_answer origin (behind_origin words)) (refusal_number refusal) says shown
+  refusal_answers (commands.Zone origin) refusal says shown = refused_with (zone_answer origin (words_after_origin words)) (refusal_number refusal) says shown
+  refusal_answers (commands.Apply origin) refusal says shown = refused_with (apply_answer origin (words_after_origin words)) (refusal_number refusal) says shown
 
 -- what was printed answers what remained of the input
 module _ (status : ℕ) (old new remaining : Option (List ℕ)) (words : List (List ℕ)) (command : Command) where

@@ -45,9 +45,9 @@ pub record PutsText (old new : BTreeMap (String Global) (String Global)) (word :
   pub text_is : string_bytes text ≡ after_first is_equals word
 
 -- one text more in the map is one word more
-pub text_put : {behind : List (List ℕ)} {word : List ℕ} (old new : BTreeMap (String Global) (String Global)) (words : List (List ℕ))
-    → ((name : List ℕ) → texts_in old name ≡ text_named words name) → PutsText old new word → behind ≡ words ++ word ∷ []
-    → (name : List ℕ) → texts_in new name ≡ text_named behind name
+pub text_put : {after : List (List ℕ)} {word : List ℕ} (old new : BTreeMap (String Global) (String Global)) (words : List (List ℕ))
+    → ((name : List ℕ) → texts_in old name ≡ text_named words name) → PutsText old new word → after ≡ words ++ word ∷ []
+    → (name : List ℕ) → texts_in new name ≡ text_named after name
 text_put {word = word} old new words before put more name =
     ap (option_map string_bytes) (put.puts name)
     ∙ found (bytes_eq (string_bytes key) name) refl
@@ -97,7 +97,7 @@ unfolding zone_answer
 zone_answers origin words input text includes p is_text same named is =
     rw (is_utf8-from_IsUtf8 input is_text) (ap answer_to_zone (zone_read origin words input text includes p same named is))
 
--- a refusal is for want of memory, or has the number of the fault
+-- a refusal is that memory ran out, or has the number of the fault
 module _ (answer_to : Result (NameValue × ZoneSets) Fault → Answer) (told : (fault : Fault) → answer_to (Err fault) ≡ refused (fault_number fault)) where
   pub fault_refused : (e : ParseError) (made : Result (NameValue × ZoneSets) Fault) → Fails e made
       → (parse_number e ≡ 3) ⊎ (answer_to made ≡ refused (parse_number e))

@@ -24,15 +24,16 @@ usage = record { text = codes "usage: dnsmsg COMMAND [WORDS]" ++ 10 ∷ []; stat
 abbrev pub broken : ℕ
 broken = 3
 
--- The answer was printed behind what stood, and is the status.
+-- The answer was printed after what stood, and is the status.
 pub record IsPrinted (answer : Answer) (status : ℕ) (old new : Option (List ℕ)) : Type 0 where
   pub is_status : status ≡ answer.status
   pub printed : Appends old new answer.text
 
--- The answer was given, or for want of memory the refusal for that.
+-- The answer was given, or, where memory ran out, the refusal for that.
 abbrev pub IsAnswered : Answer → ℕ → Option (List ℕ) → Option (List ℕ) → Type 0
-IsAnswered answer status old new = IsPrinted answer status old new ⊎ IsPrinted (refused 3) status old new
+IsAnswered answer status old new = IsPrinted answer status old new
+    ⊎ IsPrinted (refused 3) status old new
 
--- An answer was given that this relation allows, or for want of memory the refusal for that.
+-- An answer was given that this relation allows, or, where memory ran out, the refusal for that.
 abbrev pub IsGivenBy : (Answer → Type 0) → ℕ → Option (List ℕ) → Option (List ℕ) → Type 0
 IsGivenBy IsAnswer status old new = ((answer : Answer) × IsAnswer answer × IsPrinted answer status old new) ⊎ IsPrinted (refused 3) status old new

@@ -48,7 +48,8 @@ lines_under m zone k = record_lines (records_applied (zone_in zone) m k (records
 abbrev pub applied_lines : Sections → NameValue × ZoneSets → List ℕ
 applied_lines m zone =
     let outcome = applied (zone_in zone) m in
-    line (code_word (code_name outcome.0)) ++ (origin_line zone.0 ++ flat_map (lines_under m zone) (fin.keys outcome.1.sets))
+    line (code_word (code_name outcome.0))
+    ++ (origin_line zone.0 ++ flat_map (lines_under m zone) (fin.keys outcome.1.sets))
 
 -- the answer to a zone and a message that is applied to it; refusal 25 for another class than IN
 abbrev pub answer_to_update : MessageValue → NameValue × ZoneSets → Answer

@@ -12,7 +12,7 @@ use Rattle.dnsmsg.specs.HeaderCommand.{header_answer}
 use Rattle.dnsmsg.specs.Limit.{limit_of}
 use Rattle.dnsmsg.specs.ReadCommand.{read_answer}
 use Rattle.dnsmsg.specs.ZoneCommand.{zone_answer}
-use Rattle.dnsmsg.specs.ZoneWords.{apply_named, behind_origin, parses_origin, zone_named}
+use Rattle.dnsmsg.specs.ZoneWords.{apply_named, words_after_origin, parses_origin, zone_named}
 use Rattle.dnsmsg.specs.Refusal.{refusal_number}
 use Rattle.dnsmsg.specs.declared.refusal.Failure.{Failure}
 use Rattle.dnsmsg.specs.declared.refusal.Failure.TheVariants as failures
@@ -39,20 +39,22 @@ command_of (word ∷ (next ∷ others)) =
     else option_map command.OnMessage (message_command (word ∷ (next ∷ others))))
 
 -- What a command's call answers to a text, where these are all words.
-abbrev pub CommandAnswers : Command → List (List ℕ) → List ℕ → Result (String Global) Refusal → Type 0
+abbrev pub CommandAnswers : Command → List (List ℕ) → List ℕ → Result (String Global) Refusal
+    → Type 0
 CommandAnswers (command.OnMessage on_message.Header) words text result = Answers string_bytes (header_answer text) result
 CommandAnswers (command.OnMessage on_message.Read) words text result = Answers string_bytes (read_answer text) result
 CommandAnswers (command.OnMessage (on_message.Cut limit)) words text result = CutAnswers limit text result
-CommandAnswers (command.Zone origin) words text result = Answers string_bytes (zone_answer origin (behind_origin words) text) result
-CommandAnswers (command.Apply origin) words text result = Answers string_bytes (apply_answer origin (behind_origin words) text) result
+CommandAnswers (command.Zone origin) words text result = Answers string_bytes (zone_answer origin (words_after_origin words) text) result
+CommandAnswers (command.Apply origin) words text result = Answers string_bytes (apply_answer origin (words_after_origin words) text) result
 
--- What a run of a command gives: the answer to the text, or for want of memory the refusal for that.
-abbrev pub IsGiven : Command → List (List ℕ) → List ℕ → ℕ → Option (List ℕ) → Option (List ℕ) → Type 0
+-- What a run of a command gives: the answer to the text, or, where memory ran out, the refusal for that.
+abbrev pub IsGiven : Command → List (List ℕ) → List ℕ → ℕ → Option (List ℕ) → Option (List ℕ)
+    → Type 0
 IsGiven (command.OnMessage on_message.Header) words text status old new = IsAnswered (header_answer text) status old new
 IsGiven (command.OnMessage on_message.Read) words text status old new = IsAnswered (read_answer text) status old new
 IsGiven (command.OnMessage (on_message.Cut limit)) words text status old new = IsCutGiven limit text status old new
-IsGiven (command.Zone origin) words text status old new = IsAnswered (zone_answer origin (behind_origin words) text) status old new
-IsGiven (command.Apply origin) words text status old new = IsAnswered (apply_answer origin (behind_origin words) text) status old new
+IsGiven (command.Zone origin) words text status old new = IsAnswered (zone_answer origin (words_after_origin words) text) status old new
+IsGiven (command.Apply origin) words text status old new = IsAnswered (apply_answer origin (words_after_origin words) text) status old new
 
 -- the number of a refusal, where there is one
 abbrev pub number_refused : {X : Type 0} → Result X ℕ → Option ℕ
@@ -61,12 +63,13 @@ number_refused (Err number) = Some number
 
 -- the number that the words of a command are refused with before the input is read, if they are: that of a faulty update
 abbrev pub refused_word : Command → List (List ℕ) → Option ℕ
-refused_word (command.Apply origin) words = number_refused (update_of (behind_origin words))
+refused_word (command.Apply origin) words = number_refused (update_of (words_after_origin words))
 refused_word (command.Zone origin) words = None
 refused_word (command.OnMessage message) words = None
 
 -- What a command answers, over the input as far as it is known; nothing is said where the input failed.
-abbrev pub Gives : Command → List (List ℕ) → Option (List ℕ) → Result (String Global) Failure → Type 0
+abbrev pub Gives : Command → List (List ℕ) → Option (List ℕ) → Result (String Global) Failure
+    → Type 0
 Gives command words input (Ok lines) = IfSome input (λ text. CommandAnswers command words text (Ok lines))
 Gives command words input (Err (failures.Refused refusal)) = IfSome input (λ text. CommandAnswers command words text (Err refusal))
 Gives command words input (Err failures.Broken) = ⊤
@@ -74,10 +77,12 @@ Gives command words input (Err failures.Broken) = ⊤
 -- It is refused with this number, or with 3 because memory ran out.
 abbrev pub IsRefused : ℕ → Result (String Global) Failure → Type 0
 IsRefused number (Ok lines) = ⊥
-IsRefused number (Err (failures.Refused refusal)) = (refusal_number refusal ≡ 3) ⊎ (refusal_number refusal ≡ number)
+IsRefused number (Err (failures.Refused refusal)) = (refusal_number refusal ≡ 3)
+    ⊎ (refusal_number refusal ≡ number)
 IsRefused number (Err failures.Broken) = ⊥
 
 -- What a run of words that name no command gives: the usage line, or, where they have an origin that has to be parsed, the
 -- refusal because memory ran out.
 abbrev pub IsTurnedAway : List (List ℕ) → ℕ → Option (List ℕ) → Option (List ℕ) → Type 0
-IsTurnedAway words status old new = IsPrinted usage status old new ⊎ ((parses_origin words ≡ true) × IsPrinted (refused 3) status old new)
+IsTurnedAway words status old new = IsPrinted usage status old new
+    ⊎ ((parses_origin words ≡ true) × IsPrinted (refused 3) status old new)

@@ -36,7 +36,7 @@ abbrev pub CutsBuffer : ℕ → Result (List ℕ) FromHexError → Answer → Ty
 CutsBuffer limit (Ok bytes) answer = CutsRead limit (message_at bytes 0) answer
 CutsBuffer limit (Err fault) answer = answer ≡ refused 24
 
--- an answer to the bytes of a message in hexadecimal, whatever stands behind it, under a limit
+-- an answer to the bytes of a message in hexadecimal, whatever stands after it, under a limit
 abbrev pub IsCutAnswer : ℕ → List ℕ → Answer → Type 0
 IsCutAnswer limit input answer = CutsBuffer limit (bytes_of input) answer
 

@@ -17,6 +17,6 @@ abbrev pub answer_to_buffer : Result (List ℕ) FromHexError → Answer
 answer_to_buffer (Ok bytes) = answer_to_message (message_at bytes 0)
 answer_to_buffer (Err fault) = refused 24
 
--- the answer to the bytes of a message in hexadecimal, whatever stands behind it
+-- the answer to the bytes of a message in hexadecimal, whatever stands after it
 abbrev pub read_answer : List ℕ → Answer
 read_answer input = answer_to_buffer (bytes_of input)

@@ -43,7 +43,7 @@ parses_origin [] = false
 parses_origin (name ∷ []) = false
 parses_origin (name ∷ (origin ∷ words)) = are_taken name words && not (bytes_eq origin (codes "-"))
 
--- the words behind the command and the origin
-abbrev pub behind_origin : List (List ℕ) → List (List ℕ)
-behind_origin (word ∷ (origin ∷ words)) = words
-behind_origin words = []
+-- the words after the command and the origin
+abbrev pub words_after_origin : List (List ℕ) → List (List ℕ)
+words_after_origin (word ∷ (origin ∷ words)) = words
+words_after_origin words = []

@@ -32,7 +32,8 @@ use txt::Parser;
 /// memory runs out.
 pub fn update(alloc: Global, words: &[String]) -> Result<Message, Refusal>
     ensures read { IfOk result (λ m. update_of (texts words.now) ≡ Ok (message_value m)) }
-    ensures refused { IfErr result (λ e. (refusal_number e ≡ 3) ⊎ (update_of (texts words.now) ≡ Err (refusal_number e))) }
+    ensures refused { IfErr result (λ e. (refusal_number e ≡ 3)
+        ⊎ (update_of (texts words.now) ≡ Err (refusal_number e))) }
 {
     let bytes = decoded(alloc, first_word(words).as_bytes())?;
     Ok(Message::from_vec(alloc, &bytes)?)
@@ -93,7 +94,8 @@ fn update_lines(
     name: &Name,
     sets: BTreeMap<RrKey, RecordSet>,
 ) -> Result<String, AllocError>
-    ensures lines { IfOk result (λ lines. string_bytes lines ≡ update_lines code (name.now, sets.entries)) }
+    ensures lines { IfOk result (λ lines. string_bytes lines
+        ≡ update_lines code (name.now, sets.entries)) }
     ensures ordered { IfOk result (λ _. IsOrdered key_cmp sets) }
 {
     let word = code.name().unwrap_or("");

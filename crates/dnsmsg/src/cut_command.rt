@@ -15,12 +15,13 @@ use base::{BinEncoder, ProtoError};
 use op::Message;
 use std::alloc::{AllocError, Global};
 
-/// What is printed of the message whose bytes the text spells in hexadecimal: the bytes of a cut of it under the
-/// limit, in hexadecimal (RFC 1035, 4.1; RFC 2181, 9). Bytes behind the message are not looked at.
+/// What is printed of the message whose bytes the text spells in hexadecimal: the bytes of a cut of it under the limit,
+/// in hexadecimal (RFC 1035, 4.1; RFC 2181, 9). Bytes after the message are not looked at.
 ///
-/// Refused with 24 for a text that isn't hexadecimal, with the number of the first fault of bytes that begin with no
-/// message, with 1 for a limit without room for the header, with 2 for one without room for the questions, and for
-/// want of memory.
+/// # Errors
+///
+/// 24 for a text that isn't hexadecimal, with the number of the first fault of bytes that begin with no message; 1 for
+/// a limit without room for the header; 2 for one without room for the questions; `Memory` if memory runs out.
 pub fn cut(alloc: Global, text: &[u8], limit: u16) -> Result<String, Refusal>
     ensures { CutAnswers limit text.now result }
 {
@@ -34,8 +35,10 @@ pub fn cut(alloc: Global, text: &[u8], limit: u16) -> Result<String, Refusal>
 fn written(alloc: Global, message: &Message, limit: u16) -> Result<Vec<u8>, ProtoError>
     requires { Fits (message_value message.now) }
     ensures ok { IfOk result (λ bytes. IsWritten (message_value message.now) limit bytes.items) }
-    ensures err { IfErr result (λ e. (e ≡ refusals.Memory) ⊎ IsTooSmall (message_value message.now) limit e) }
-    ensures answer { IfOk result (λ bytes. message_answer limit (message_value message.now) ≡ Ok bytes.items) }
+    ensures err { IfErr result (λ e. (e ≡ refusals.Memory)
+        ⊎ IsTooSmall (message_value message.now) limit e) }
+    ensures answer { IfOk result (λ bytes. message_answer limit (message_value message.now)
+        ≡ Ok bytes.items) }
     ensures refusal { IfErr result (λ e. (e ≡ refusals.Memory)
         ⊎ (message_answer limit (message_value message.now) ≡ Err e)) }
 {

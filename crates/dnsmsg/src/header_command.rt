@@ -14,7 +14,9 @@ use std::alloc::{AllocError, Global};
 
 /// What is printed of the twelve bytes of a header that the text spells in hexadecimal (RFC 1035, 4.1.1).
 ///
-/// Refused with 24 for any other text, and for want of memory.
+/// # Errors
+///
+/// 24 for any other text; `Memory` if memory runs out.
 pub fn header(alloc: Global, text: &[u8]) -> Result<String, Refusal>
     ensures { Answers string_bytes (header_answer text.now) result }
 {

@@ -26,7 +26,9 @@ fn without_blanks(alloc: Global, text: &[u8]) -> Result<Vec<u8>, AllocError>
 
 /// The bytes that the text spells in hexadecimal, in letters of either case, with blanks dropped wherever they stand.
 ///
-/// Refused with 24 for a text that isn't hexadecimal, and for want of memory.
+/// # Errors
+///
+/// 24 for a text that isn't hexadecimal; `Memory` if memory runs out.
 pub fn decoded(alloc: Global, text: &[u8]) -> Result<Vec<u8>, Refusal>
     ensures { Decodes (bytes_of text.now) result }
 {

@@ -19,7 +19,8 @@ const PIECE: usize = 4096;
 /// `Broken` if the input fails, whatever its error is; refused with 3 if memory runs out.
 pub fn read_all<R: Read>(alloc: Global, input: &mut R) -> Result<Vec<u8>, Failure>
     ensures all { IfOk result (λ text. IfSome (R.remaining input.old) (λ rest. text.items ≡ rest)) }
-    ensures only { IfErr result (λ e. (e ≡ failures.Broken) ⊎ (e ≡ failures.Refused (refusals.Proto protos.Memory))) }
+    ensures only { IfErr result (λ e. (e ≡ failures.Broken)
+        ⊎ (e ≡ failures.Refused (refusals.Proto protos.Memory))) }
 {
     let mut text = Vec::new(alloc);
     let mut piece = [0; PIECE];

@@ -9,11 +9,13 @@ use crate::refusal::Refusal;
 use op::Message;
 use std::alloc::Global;
 
-/// What is printed of the message whose bytes the text spells in hexadecimal (RFC 1035, 4.1). Bytes behind the
-/// message are not looked at.
+/// What is printed of the message whose bytes the text spells in hexadecimal (RFC 1035, 4.1). Bytes after the message
+/// are not looked at.
 ///
-/// Refused with 24 for a text that isn't hexadecimal, with the number of the first fault of bytes that begin with no
-/// message, and for want of memory.
+/// # Errors
+///
+/// 24 for a text that isn't hexadecimal, with the number of the first fault of bytes that begin with no message;
+/// `Memory` if memory runs out.
 pub fn read(alloc: Global, text: &[u8]) -> Result<String, Refusal>
     ensures { Answers string_bytes (read_answer text.now) result }
 {

@@ -4,7 +4,7 @@ ghost use Rattle.std.specs.Prelude.{◌≡◌, ◌≢◌, ◌⊎◌, ◌≤◌, 
 ghost use Rattle.dnsmsg.specs.Answer.{IsAnswered, IsPrinted, usage, refused, done, broken};
 ghost use Rattle.dnsmsg.specs.Command.{Gives, IsGiven, IsRefused, IsTurnedAway, command_of, refused_word};
 ghost use Rattle.dnsmsg.specs.Words.{texts};
-ghost use Rattle.dnsmsg.specs.ZoneWords.{behind_origin};
+ghost use Rattle.dnsmsg.specs.ZoneWords.{words_after_origin};
 ghost use Rattle.dnsmsg.specs.declared.command.Command.{Command as Asked};
 
 use crate::apply_command::{apply, update};
@@ -28,10 +28,14 @@ const BROKEN: u8 = 3;
 pub fn run<R: Read, W: Write>(alloc: Global, words: &[String], input: &mut R, output: &mut W) -> u8
     ensures statuses { result ≤ 3 }
     ensures unread { command_of (texts words.now) ≡ None → input.new ≡ input.old }
-    ensures wrong_words { command_of (texts words.now) ≡ None → result ≢ broken → IsTurnedAway (texts words.now) result (W.contents output.old) (W.contents output.new) }
-    ensures judged { (command : Asked) → command_of (texts words.now) ≡ Some command → IfSome (refused_word command (texts words.now))
-        (λ n. (input.new ≡ input.old) × (result ≢ broken → IsAnswered (refused n) result (W.contents output.old) (W.contents output.new))) }
-    ensures answered { (command : Asked) → command_of (texts words.now) ≡ Some command → result ≢ broken → IfSome (R.remaining input.old)
+    ensures wrong_words { command_of (texts words.now) ≡ None → result ≢ broken
+        → IsTurnedAway (texts words.now) result (W.contents output.old) (W.contents output.new) }
+    ensures judged { (command : Asked) → command_of (texts words.now) ≡ Some command
+        → IfSome (refused_word command (texts words.now))
+        (λ n. (input.new ≡ input.old)
+        × (result ≢ broken → IsAnswered (refused n) result (W.contents output.old) (W.contents output.new))) }
+    ensures answered { (command : Asked) → command_of (texts words.now) ≡ Some command
+        → result ≢ broken → IfSome (R.remaining input.old)
         (λ text. IsGiven command (texts words.now) text result (W.contents output.old) (W.contents output.new)) }
 {
     match Command::from_words(alloc, words) {
@@ -81,7 +85,7 @@ impl Command {
 
 // The words after the command and the origin.
 fn after_origin(words: &[String]) -> &[String]
-    ensures { texts result.now ≡ behind_origin (texts words.now) }
+    ensures { texts result.now ≡ words_after_origin (texts words.now) }
 {
     match words {
         [_, _, others @ ..] => others,
@@ -90,7 +94,8 @@ fn after_origin(words: &[String]) -> &[String]
 }
 
 fn print_lines<W: Write>(lines: &str, output: &mut W) -> u8
-    ensures { (result ≡ 3) ⊎ IsPrinted (done lines.now) result (W.contents output.old) (W.contents output.new) }
+    ensures { (result ≡ 3)
+        ⊎ IsPrinted (done lines.now) result (W.contents output.old) (W.contents output.new) }
 {
     match output.write_all(lines.as_bytes()) {
         Ok(()) => 0,
@@ -99,7 +104,8 @@ fn print_lines<W: Write>(lines: &str, output: &mut W) -> u8
 }
 
 fn print_refusal<W: Write>(number: u8, output: &mut W) -> u8
-    ensures { (result ≡ 3) ⊎ IsPrinted (refused number) result (W.contents output.old) (W.contents output.new) }
+    ensures { (result ≡ 3)
+        ⊎ IsPrinted (refused number) result (W.contents output.old) (W.contents output.new) }
 {
     match writeln!(output, "refused {number}") {
         Ok(()) => 1,
@@ -108,7 +114,8 @@ fn print_refusal<W: Write>(number: u8, output: &mut W) -> u8
 }
 
 fn print_usage<W: Write>(output: &mut W) -> u8
-    ensures { (result ≡ 3) ⊎ IsPrinted usage result (W.contents output.old) (W.contents output.new) }
+    ensures { (result ≡ 3)
+        ⊎ IsPrinted usage result (W.contents output.old) (W.contents output.new) }
 {
     match output.write_all(b"usage: dnsmsg COMMAND [WORDS]\n") {
         Ok(()) => 2,

@@ -20,10 +20,12 @@ use std::collections::BTreeMap;
 use std::str;
 use txt::Parser;
 
-/// What is printed of the zone whose text this is, with the texts that the words hand in, NAME=TEXT each: the line
-/// of its origin, and every record in the order of owners and types (RFC 1035, 5.1).
+/// What is printed of the zone whose text this is, with the texts that the words hand in, NAME=TEXT each: the line of
+/// its origin, and every record in the order of owners and types (RFC 1035, 5.1).
 ///
-/// Refused with 24 for a text that isn't UTF-8, with the number of what the parser refuses, and for want of memory.
+/// # Errors
+///
+/// 24 for a text that isn't UTF-8, with the number of what the parser refuses; `Memory` if memory runs out.
 pub fn zone(
     alloc: Global,
     origin: Option<Name>,
@@ -45,7 +47,8 @@ pub(crate) fn included_texts(
     alloc: Global,
     words: &[String],
 ) -> Result<BTreeMap<String, String>, AllocError>
-    ensures { IfOk result (λ includes. (name : List ℕ) → texts_in includes name ≡ text_named (texts words.now) name) }
+    ensures { IfOk result (λ includes. (name : List ℕ)
+        → texts_in includes name ≡ text_named (texts words.now) name) }
 {
     let mut includes = BTreeMap::new(alloc);
     for word in words {
@@ -58,9 +61,10 @@ pub(crate) fn included_texts(
     Ok(includes)
 }
 
-// What stands before the first equals sign, and what behind it.
+// What stands before the first equals sign, and what after it.
 fn name_and_text(word: &str) -> (&str, &str)
-    ensures { (result.0.now ≡ before_first is_equals word.now) × (result.1.now ≡ after_first is_equals word.now) }
+    ensures { (result.0.now ≡ before_first is_equals word.now)
+        × (result.1.now ≡ after_first is_equals word.now) }
 {
     match word.split_once('=') {
         Some(parts) => parts,
@@ -74,7 +78,8 @@ pub(crate) fn zone_lines(
     name: &Name,
     sets: BTreeMap<RrKey, RecordSet>,
 ) -> Result<String, AllocError>
-    ensures lines { IfOk result (λ lines. string_bytes lines ≡ zone_lines (name.now, sets.entries)) }
+    ensures lines { IfOk result (λ lines. string_bytes lines
+        ≡ zone_lines (name.now, sets.entries)) }
     ensures ordered { IfOk result (λ _. IsOrdered key_cmp sets) }
 {
     let mut lines = format!(in alloc; "$ORIGIN {name}\n")?;
@@ -86,7 +91,8 @@ pub(crate) fn zone_lines(
 
 // Adds the records, a line each.
 fn add_records(records: Vec<Record>, lines: &mut String) -> Result<(), AllocError>
-    ensures { OnOk result (string_bytes lines.new ≡ string_bytes lines.old ++ record_lines records.items) }
+    ensures { OnOk result (string_bytes lines.new
+        ≡ string_bytes lines.old ++ record_lines records.items) }
 {
     for entry in records {
         writeln!(lines, "{entry}")?;

@@ -63,7 +63,7 @@ pub record HasNoRoom (received : List ℕ) (answers : List (Record RData)) (e : 
   pub stands : IsMessageAt received 0 query end
   pub small : IsTooSmall (response_to query answers) (payload_taken query.edns) e
 
--- why there was no answer: what reading met, questions without room, or want of memory
+-- why there was no answer: what reading met, questions without room, or memory ran out
 abbrev pub IsUnanswered : List ℕ → List (Record RData) → ProtoError → Type 0
 IsUnanswered received answers (refusals.Decode fault) = FailsToRead fault (message_at received 0)
 IsUnanswered received answers refusals.Memory = Unit {0}
@@ -121,7 +121,7 @@ pub record IsOtherZone (origin : NameValue) (text : List ℕ) : Type 0 where
   pub parsed : zone_of no_texts (Some origin) text ≡ Ok (last_origin, sets)
   pub other : are_sets_in sets ≡ false
 
--- why a text is no zone of the class IN: the parser's fault, or another class; or want of memory
+-- why a text is no zone of the class IN: the parser's fault, or another class; or that memory ran out
 abbrev pub IsNoZone : NameValue → List ℕ → Refusal → Type 0
 IsNoZone origin text (refused.Parse e) = Fails e (zone_of no_texts (Some origin) text)
 IsNoZone origin text refused.Class = IsOtherZone origin text
@@ -148,7 +148,7 @@ IsUnsent origin s e = (B : List ℕ) × (IsSendable origin s → IsWritten (crea
 
 -- ---- zone text that is checked
 
--- how many sets the zone of a text has, or the number of its fault; 3 for want of memory
+-- how many sets the zone of a text has, or the number of its fault; 3 if memory runs out
 abbrev pub Counts : Result (NameValue × ZoneSets) Fault → Result ℕ ℕ → Type 0
 Counts (Ok zone) (Ok count) = count ≡ length zone.1
 Counts (Ok zone) (Err number) = number ≡ 3

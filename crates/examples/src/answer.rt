@@ -15,8 +15,10 @@ use std::alloc::Global;
 /// The bytes of the response that has these answers to the query that was received, as much of it as the client takes
 /// (RFC 1035, 4.1.1; RFC 2181, 9; RFC 6891, 6.2.5).
 ///
-/// Refused with `Decode` where no message begins what was received, with `NotAllRecordsWritten` where its questions have
-/// no room, and for want of memory.
+/// # Errors
+///
+/// `Decode` where no message begins what was received; `NotAllRecordsWritten` where its questions have no room;
+/// `Memory` if memory runs out.
 pub fn respond(alloc: Global, received: &[u8], answers: Vec<Record>) -> Result<Vec<u8>, ProtoError>
     ensures sent { IfOk result (λ sent. IsAnswered received.now answers.items sent.items) }
     ensures refused { IfErr result (λ e. IsUnanswered received.now answers.items e) }

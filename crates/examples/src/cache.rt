@@ -21,8 +21,9 @@ pub struct CacheEntry {
 
 /// What a cache has of the response that was received so many seconds ago: TTLs are run down, to 0 (RFC 1035, 3.2.1).
 ///
-/// Refused with `Decode` where no message begins what was received, with `NotAResponse` for a query, and for want of
-/// memory.
+/// # Errors
+///
+/// `Decode` where no message begins what was received; `NotAResponse` for a query; `Memory` if memory runs out.
 pub fn cached(alloc: Global, received: Vec<u8>, seconds: u32) -> Result<CacheEntry, ProtoError>
     ensures kept { IfOk result (λ entry. IsCached received.items seconds entry) }
     ensures refused { IfErr result (λ e. IsRefusedResponse received.items e) }

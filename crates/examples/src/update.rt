@@ -20,11 +20,16 @@ use std::alloc::Global;
 use std::collections::BTreeMap;
 use txt::Parser;
 
-/// The zone of a text, of the class IN, behind the update that creates a set in it, with the server's code: the set is merged
-/// into the zone, or, where there is one of its owner and type, the zone is as it was and the code YXRRSet (RFC 2136, 3).
+/// The zone of a text, of the class IN, after the update that creates a set in it, with the server's code: the set is
+/// merged into the zone, or, where there is one of its owner and type, the zone is as it was and the code YXRRSet (RFC
+/// 2136, 3).
 ///
-/// The set's owner lies in the zone of the origin. Refused with `Parse` for a text that is no zone's, with `Class` for a
-/// zone of another class, with `Input` for an update that doesn't fit a message, and for want of memory.
+/// The set's owner lies in the zone of the origin.
+///
+/// # Errors
+///
+/// `Parse` for a text that is no zone's; `Class` for a zone of another class; `Input` for an update that doesn't fit a
+/// message; `Memory` if memory runs out.
 pub fn create_in(
     alloc: Global,
     origin: &Name,

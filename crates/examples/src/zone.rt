@@ -9,8 +9,11 @@ use std::alloc::Global;
 use std::collections::BTreeMap;
 use txt::Parser;
 
-/// How many record sets the zone of a text has, that includes no other text (RFC 1035, 5.1; RFC 2181, 5). Refused with the
-/// number of what the parser refuses.
+/// How many record sets the zone of a text has, that includes no other text (RFC 1035, 5.1; RFC 2181, 5).
+///
+/// # Errors
+///
+/// The number of what the parser refuses.
 pub fn checked(alloc: Global, origin: Option<Name>, text: &str) -> Result<usize, u8>
     ensures { Counts (zone_of no_texts origin text.now) result }
 {

@@ -1,9 +1,9 @@
--- The places of the names of sections that stand one behind the other.
+-- The places of the names of sections that stand one after another.
 use Rattle.std.proofs.Common.{◌≡◌, ◌∙◌, ℕ, ◌+◌, zero, suc, Bool, false, List, [], ◌++◌, Ok, ap, sym, subst, arith, append_assoc}
 use Rattle.base.specs.Many.{many_at, many_names}
 use Rattle.base.specs.Passing.{AddsPassed}
 use Rattle.base.specs.Reader.{Reader}
-use Rattle.base.specs.Reading.{Read, behind}
+use Rattle.base.specs.Reading.{Read, place_after}
 use Rattle.base.proofs.AddsLemmas.{adds_both}
 use Rattle.base.proofs.ReadLemmas.{bind_ok}
 use Rattle.base_data.proofs.Tells.{same_ok}
@@ -19,7 +19,7 @@ use Rattle.op.specs.declared.op_code.OpCode.{OpCode}
 ends_at : (s t : SectionValue) (i j : ℕ) → ◌≡◌ {A = Read SectionValue} (Ok (s, i)) (Ok (t, j)) → i ≡ j
 ends_at s t i j is = ap (λ (x : SectionValue × ℕ). x.1) (same_ok (s, i) (t, j) is)
 
--- records behind those of a section that was read
+-- records after those of a section that was read
 places_joined : (inside : Bool) (op : OpCode) (bytes : List ℕ) (m n i : ℕ) (s t : SectionValue) (j : ℕ) → section_from inside op s n bytes i ≡ Ok (t, j)
     → records_places (n + m) bytes i ≡ records_places n bytes i ++ records_places m bytes j
 unfolding many_names section_from
@@ -30,11 +30,11 @@ places_joined inside op bytes m (suc n) i s t j is =
     let next = bind_ok (record_at bytes i) _ (t, j) is in
     let more = bind_ok (tested inside op s next.value.0) _ (t, j) next.second in
     let rest = places_joined inside op bytes m n next.value.1 more.value t j more.second in
-    let at : behind (record_at bytes i) ≡ next.value.1 = ap behind next.first in
+    let at : place_after (record_at bytes i) ≡ next.value.1 = ap place_after next.first in
     let sum : suc n + m ≡ suc (n + m) = omega arith in
     rw (sum, at) (ap (λ (qs : List ℕ). record_places bytes i ++ qs) rest ∙ sym (append_assoc (record_places bytes i) (records_places n bytes next.value.1) (records_places m bytes j)))
 
--- a section behind records
+-- a section after records
 pub adds_section : {old mid new : Reader} {s : SectionValue} (n m : ℕ) (inside : Bool) (op : OpCode) → section_at inside op n old.bytes old.index ≡ Ok (s, mid.index)
     → AddsPassed (records_places n old.bytes old.index) old mid → AddsPassed (records_places m mid.bytes mid.index) mid new → AddsPassed (records_places (n + m) old.bytes old.index) old new
 adds_section {old} {mid} {new} {s} n m inside op is first second =
@@ -54,7 +54,7 @@ adds_sections {old} {new = new} a b c op answers_are authorities_are answers aut
     let sum : a + (b + c) ≡ a + b + c = omega arith in
     subst (λ (n : ℕ). AddsPassed (records_places n old.bytes old.index) old new) sum all
 
--- questions and records behind a header
+-- questions and records after a header
 pub adds_message : {header : Header} {count : ℕ} {questions : List Query} {old first second new : Reader} → header_at old.bytes old.index ≡ Ok (header, first.index)
     → many_at query_at count first.bytes first.index ≡ Ok (questions, second.index) → count ≡ header.counts.queries → AddsPassed [] old first
     → AddsPassed (queries_places count first.bytes first.index) first second
@@ -65,12 +65,12 @@ adds_message {header} {count} {questions} {old} {first} {second} {new} header_is
     let bytes : second.bytes ≡ old.bytes = asked.bytes ∙ none.bytes in
     let questions_there : queries_places count first.bytes first.index ≡ queries_places header.counts.queries old.bytes first.index =
     ap (λ (B : List ℕ). queries_places count B first.index) none.bytes ∙ ap (λ (k : ℕ). queries_places k old.bytes first.index) counted in
-    let last : second.index ≡ behind (many_at query_at header.counts.queries old.bytes first.index) =
-    sym (ap behind questions_are) ∙ ap (λ (B : List ℕ). behind (many_at query_at count B first.index)) none.bytes
-    ∙ ap (λ (k : ℕ). behind (many_at query_at k old.bytes first.index)) counted in
-    let records_there : records_places n second.bytes second.index ≡ records_places n old.bytes (behind (many_at query_at header.counts.queries old.bytes first.index)) =
+    let last : second.index ≡ place_after (many_at query_at header.counts.queries old.bytes first.index) =
+    sym (ap place_after questions_are) ∙ ap (λ (B : List ℕ). place_after (many_at query_at count B first.index)) none.bytes
+    ∙ ap (λ (k : ℕ). place_after (many_at query_at k old.bytes first.index)) counted in
+    let records_there : records_places n second.bytes second.index ≡ records_places n old.bytes (place_after (many_at query_at header.counts.queries old.bytes first.index)) =
     ap (λ (B : List ℕ). records_places n B second.index) bytes ∙ ap (records_places n old.bytes) last in
     let both : AddsPassed (queries_places count first.bytes first.index ++ records_places n second.bytes second.index) old new = adds_both none (adds_both asked records) in
     let there : counted_places (Ok (header, first.index)) old.bytes ≡ message_places old.bytes old.index = sym (ap (λ (r : Read Header). counted_places r old.bytes) header_is) in
-    subst (λ (places : List ℕ). AddsPassed places old new) there (subst (λ (qs : List ℕ). AddsPassed (qs ++ records_places n old.bytes (behind (many_at query_at header.counts.queries old.bytes first.index))) old new) questions_there
+    subst (λ (places : List ℕ). AddsPassed places old new) there (subst (λ (qs : List ℕ). AddsPassed (qs ++ records_places n old.bytes (place_after (many_at query_at header.counts.queries old.bytes first.index))) old new) questions_there
     (subst (λ (rs : List ℕ). AddsPassed (queries_places count first.bytes first.index ++ rs) old new) records_there both))

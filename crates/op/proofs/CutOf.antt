@@ -29,7 +29,7 @@ use Rattle.op.specs.declared.header.header_counts.HeaderCounts.{HeaderCounts}
 use Rattle.op.specs.declared.header.metadata.Metadata.{Metadata}
 use Rattle.op.specs.declared.op_code.OpCode.{OpCode}
 use Rattle.op.proofs.CodeLemmas.{high_back, metadata_back}
-use Rattle.op.proofs.CutWords.{AreFit, Composed, Ends, all_front, composed, ends, header_len, records_keep, stands_behind}
+use Rattle.op.proofs.CutWords.{AreFit, Composed, Ends, all_front, composed, ends, header_len, records_keep, stands_after}
 use Rattle.op.specs.HeaderSays.{header_stands}
 use Rattle.op.proofs.MessageStands.{message_again}
 use Rattle.op.proofs.SortLemmas.{OneFront, all_end, all_given, one_front, one_opt, sorted_edns, sorted_records, sorted_signature, tail}
@@ -104,7 +104,7 @@ module _ (m : MessageValue) (old new : State) (h : Header) (e : Emitted m old ne
   holds = record {
     table = record { each = subst (λ (ts : List Stored). All (IsSpelled new.bytes (length e.kept.bytes)) ts) (sym kept_suffixes) (All-nil (IsSpelled new.bytes (length e.kept.bytes))) };
     bytes =
-        let at12 : Stands (drop 12 e.sixth.bytes) (header_bytes (raw_header h) ++ drop 12 e.sixth.bytes) 12 = stands_behind (header_bytes (raw_header h)) (drop 12 e.sixth.bytes) refl in
+        let at12 : Stands (drop 12 e.sixth.bytes) (header_bytes (raw_header h) ++ drop 12 e.sixth.bytes) 12 = stands_after (header_bytes (raw_header h)) (drop 12 e.sixth.bytes) refl in
         let there : Stands (drop 12 e.sixth.bytes) new.bytes 12 = subst (λ xs. Stands (drop 12 e.sixth.bytes) xs 12) (sym bytes_are) at12 in
         subst (λ (n : ℕ). Stands (drop n e.sixth.bytes) new.bytes n) (sym kept_len) there;
   }

@@ -41,9 +41,9 @@ module _ {E : Type 0} (word : E → List ℕ → ℕ → ℕ → Type 0) (plain 
 pub header_len : (r : RawHeader) → length (header_bytes r) ≡ 12
 header_len r = refl
 
--- bytes from the twelfth on, behind a header
-pub stands_behind : (front xs : List ℕ) → length front ≡ 12 → Stands xs (front ++ xs) 12
-stands_behind front xs twelve = record { is = rw (sym twelve) (ap (take (length xs)) (drop-append_seam front xs) ∙ take-length xs) }
+-- bytes from the twelfth on, after a header
+pub stands_after : (front xs : List ℕ) → length front ≡ 12 → Stands xs (front ++ xs) 12
+stands_after front xs twelve = record { is = rw (sym twelve) (ap (take (length xs)) (drop-append_seam front xs) ∙ take-length xs) }
 
 -- ---- the words
 

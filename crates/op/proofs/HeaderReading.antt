@@ -36,10 +36,10 @@ raw_of id high low counts = record {
 ok_same : {A : Type 0} (x y : A) → ◌≡◌ {A = Result A DecodeError} (Ok x) (Ok y) → x ≡ y
 ok_same x y is = cc
 
--- a header that was read, and the place behind it
+-- a header that was read, and the place after it
 record IsReadHeader (B : List ℕ) (i : ℕ) (r : Header × ℕ) : Type 0 where
   word : IsHeaderAt B i r.0
-  behind : r.1 ≡ i + 12
+  after : r.1 ≡ i + 12
 
 header_is : (B : List ℕ) (i : ℕ) (r : Header × ℕ) → header_at B i ≡ Ok r → IsReadHeader B i r
 unfolding header_at
@@ -59,13 +59,13 @@ header_is B i r is =
     let authorities_is = number_is w16 B answers.value.1 authorities.value authorities.first in
     let additionals_is = number_is w16 B authorities.value.1 additionals.value additionals.first in
     let counts : HeaderCounts = record { queries = queries.value.0; answers = answers.value.0; authorities = authorities.value.0; additionals = additionals.value.0 } in
-    let p0 : id.value.1 ≡ i + 2 = id_is.behind in
-    let p1 : high.value.1 ≡ i + 3 = omega (arith, high_is.behind) in
-    let p2 : low.value.1 ≡ i + 4 = omega (arith, low_is.behind) in
-    let p3 : queries.value.1 ≡ i + 6 = omega (arith, queries_is.behind) in
-    let p4 : answers.value.1 ≡ i + 8 = omega (arith, answers_is.behind) in
-    let p5 : authorities.value.1 ≡ i + 10 = omega (arith, authorities_is.behind) in
-    let p6 : additionals.value.1 ≡ i + 12 = omega (arith, additionals_is.behind) in
+    let p0 : id.value.1 ≡ i + 2 = id_is.after in
+    let p1 : high.value.1 ≡ i + 3 = omega (arith, high_is.after) in
+    let p2 : low.value.1 ≡ i + 4 = omega (arith, low_is.after) in
+    let p3 : queries.value.1 ≡ i + 6 = omega (arith, queries_is.after) in
+    let p4 : answers.value.1 ≡ i + 8 = omega (arith, answers_is.after) in
+    let p5 : authorities.value.1 ≡ i + 10 = omega (arith, authorities_is.after) in
+    let p6 : additionals.value.1 ≡ i + 12 = omega (arith, additionals_is.after) in
     let header : Header = record { metadata = metadata_of_bytes id.value.0 high.value.0 low.value.0; counts = counts } in
     let same = ok_same (header, additionals.value.1) r additionals.second in
     record {
@@ -93,7 +93,7 @@ header_is B i r is =
         };
         value = sym (ap (λ (x : Header × ℕ). x.0) same);
       };
-      behind = sym (ap (λ (x : Header × ℕ). x.1) same) ∙ p6;
+      after = sym (ap (λ (x : Header × ℕ). x.1) same) ∙ p6;
     }
 
 later : (B : List ℕ) (e e' : ℕ) (f : DecodeError) → e ≤ e' → IsShort B e f → IsShort B e' f
@@ -105,28 +105,28 @@ unfolding header_at
 header_short B i f is =
     bind_err (number_at w16 B i) _ f (IsShort B (i + 12) f) is (λ e. later B (i + 2) (i + 12) f (omega arith) (number_short w16 B i f e)) (λ id id_read is1.
     let id_is = number_is w16 B i id id_read in
-    bind_err (byte_at B id.1) _ f (IsShort B (i + 12) f) is1 (λ e. later B (id.1 + 1) (i + 12) f (omega (arith, id_is.behind)) (byte_short B id.1 f e)) (λ high high_read is2.
+    bind_err (byte_at B id.1) _ f (IsShort B (i + 12) f) is1 (λ e. later B (id.1 + 1) (i + 12) f (omega (arith, id_is.after)) (byte_short B id.1 f e)) (λ high high_read is2.
     let high_is = byte_is B id.1 high high_read in
-    bind_err (byte_at B high.1) _ f (IsShort B (i + 12) f) is2 (λ e. later B (high.1 + 1) (i + 12) f (omega (arith, id_is.behind, high_is.behind)) (byte_short B high.1 f e)) (λ low low_read is3.
+    bind_err (byte_at B high.1) _ f (IsShort B (i + 12) f) is2 (λ e. later B (high.1 + 1) (i + 12) f (omega (arith, id_is.after, high_is.after)) (byte_short B high.1 f e)) (λ low low_read is3.
     let low_is = byte_is B high.1 low low_read in
     bind_err (number_at w16 B low.1) _ f (IsShort B (i + 12) f) is3
-    (λ e. later B (low.1 + 2) (i + 12) f (omega (arith, id_is.behind, high_is.behind, low_is.behind)) (number_short w16 B low.1 f e)) (λ queries queries_read is4.
+    (λ e. later B (low.1 + 2) (i + 12) f (omega (arith, id_is.after, high_is.after, low_is.after)) (number_short w16 B low.1 f e)) (λ queries queries_read is4.
     let queries_is = number_is w16 B low.1 queries queries_read in
-    let p3 : queries.1 ≡ i + 6 = omega (arith, id_is.behind, high_is.behind, low_is.behind, queries_is.behind) in
+    let p3 : queries.1 ≡ i + 6 = omega (arith, id_is.after, high_is.after, low_is.after, queries_is.after) in
     bind_err (number_at w16 B queries.1) _ f (IsShort B (i + 12) f) is4 (λ e. later B (queries.1 + 2) (i + 12) f (omega (arith, p3)) (number_short w16 B queries.1 f e)) (λ answers answers_read is5.
-    let p4 : answers.1 ≡ queries.1 + 2 = (number_is w16 B queries.1 answers answers_read).behind in
+    let p4 : answers.1 ≡ queries.1 + 2 = (number_is w16 B queries.1 answers answers_read).after in
     bind_err (number_at w16 B answers.1) _ f (IsShort B (i + 12) f) is5
     (λ e. later B (answers.1 + 2) (i + 12) f (omega (arith, p3, p4)) (number_short w16 B answers.1 f e)) (λ authorities authorities_read is6.
-    let p5 : authorities.1 ≡ answers.1 + 2 = (number_is w16 B answers.1 authorities authorities_read).behind in
+    let p5 : authorities.1 ≡ answers.1 + 2 = (number_is w16 B answers.1 authorities authorities_read).after in
     bind_err (number_at w16 B authorities.1) _ f (IsShort B (i + 12) f) is6
     (λ e. later B (authorities.1 + 2) (i + 12) f (omega (arith, p3, p4, p5)) (number_short w16 B authorities.1 f e)) (λ additionals additionals_read is7. cc)))))))
 
 -- reading at a place that is reckoned otherwise
 number_next : (B : List ℕ) (i j n e : ℕ) → i ≡ j → e ≡ j + 2 → IsNumberAt w16 B j n → number_at w16 B i ≡ Ok (n, e)
-number_next B i j n e same behind s = ap (number_at w16 B) same ∙ number_again w16 B j n s ∙ ap (λ (k : ℕ). Ok (n, k)) (sym behind)
+number_next B i j n e same after s = ap (number_at w16 B) same ∙ number_again w16 B j n s ∙ ap (λ (k : ℕ). Ok (n, k)) (sym after)
 
 byte_next : (B : List ℕ) (i j b e : ℕ) → i ≡ j → e ≡ j + 1 → ByteAt anywhere B j b → byte_at B i ≡ Ok (b, e)
-byte_next B i j b e same behind s = ap (byte_at B) same ∙ byte_again B j b s ∙ ap (λ (k : ℕ). Ok (b, k)) (sym behind)
+byte_next B i j b e same after s = ap (byte_at B) same ∙ byte_again B j b s ∙ ap (λ (k : ℕ). Ok (b, k)) (sym after)
 
 header_again : (B : List ℕ) (i : ℕ) (h : Header) → IsHeaderAt B i h → header_at B i ≡ Ok (h, i + 12)
 unfolding header_at
@@ -147,7 +147,7 @@ header_again B i h s =
 
 pub reads_word : (B : List ℕ) (i : ℕ) (h : Header) (e : ℕ) → (header_at B i ≡ Ok (h, e)) ↔ (IsHeaderAt B i h × (e ≡ i + 12))
 reads_word B i h e = (
-  λ is. let r = header_is B i (h, e) is in (r.word, r.behind),
+  λ is. let r = header_is B i (h, e) is in (r.word, r.after),
   λ is. header_again B i h is.0 ∙ ap (λ (k : ℕ). Ok (h, k)) (sym is.1),
 )
 

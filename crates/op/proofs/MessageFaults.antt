@@ -90,7 +90,7 @@ module _ (B : List ℕ) where
         (λ e. sections_fault h queries.1 f asked e)
         (λ sections sections_read is3. cc)))
 
-    -- what stands behind a header and its questions is refused as the message is
+    -- what stands after a header and its questions is refused as the message is
     asked_fails : (h : Header) (j : ℕ) (f : DecodeError) → HasQuestions B i h j → sections_at h.metadata.op_code h.counts B j ≡ Err f → message_at B i ≡ Err f
     unfolding message_at
     asked_fails h j f asked is =

@@ -2,7 +2,7 @@
 use Rattle.std.proofs.Common.{◌≡◌, ◌∙◌, ℕ, ◌+◌, List, [], ◌∷◌, ◌++◌, length, length-append, Ok, refl, ap, sym, subst, arith}
 use Rattle.std.specs.List.{flat_map}
 use Rattle.base.specs.Many.{many_at}
-use Rattle.base.specs.Reading.{Read, behind}
+use Rattle.base.specs.Reading.{Read, place_after}
 use Rattle.base.specs.Spelling.{IsNameAt, NamesStand, no_more, one_more}
 use Rattle.base.proofs.ManyLemmas.{many_again}
 use Rattle.base.proofs.NamesLemmas.{back_to_back, names_both, names_of_many}
@@ -45,9 +45,9 @@ names_of_message B i m e w =
       ap (λ c. c.authorities) w.counts,
       ap (λ c. c.additionals) w.counts,
     ) in
-    let begins : w.queries_end ≡ behind (many_at query_at counts.queries B (i + 12)) = sym (ap behind questions_are) ∙ ap (λ (k : ℕ). behind (many_at query_at k B (i + 12))) asked_count in
+    let begins : w.queries_end ≡ place_after (many_at query_at counts.queries B (i + 12)) = sym (ap place_after questions_are) ∙ ap (λ (k : ℕ). place_after (many_at query_at k B (i + 12))) asked_count in
     let there : records_places (length records) B w.queries_end
-    ≡ records_places (counts.answers + counts.authorities + counts.additionals) B (behind (many_at query_at counts.queries B (i + 12))) =
+    ≡ records_places (counts.answers + counts.authorities + counts.additionals) B (place_after (many_at query_at counts.queries B (i + 12))) =
     ap (λ (n : ℕ). records_places n B w.queries_end) count ∙ ap (records_places (counts.answers + counts.authorities + counts.additionals) B) begins in
     let all : NamesStand B (counted_places (Ok (w.header, i + 12)) B) (message_names w) =
     names_both (subst (λ (n : ℕ). NamesStand B (queries_places n B (i + 12)) (flat_map (λ (q : Query). q.name ∷ []) m.queries)) asked_count asked)

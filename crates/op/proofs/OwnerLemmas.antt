@@ -1,4 +1,4 @@
--- Owners that are written behind owners.
+-- Owners that are written after owners.
 use Rattle.std.proofs.Common.{◌≡◌, ℕ, ◌<◌, List, [], ◌∷◌, ◌++◌, length, ap, sym, ◌∙◌, subst, arith, append_assoc}
 use Rattle.std.specs.Prelude.{All, Any, ◌≢◌}
 use Rattle.std.proofs.lemmas.List.{append-nil}
@@ -22,7 +22,7 @@ Known os s = All (λ o. o.labels ≢ [] → o.start < 16384 → Any (λ t. t.lab
 pub none_known : (s : State) → Known [] s
 none_known s = All-nil (λ o. o.labels ≢ [] → o.start < 16384 → Any (λ t. t.labels ≡ o.labels) s.suffixes)
 
--- a last owner that is short behind each before it
+-- a last owner that is short after each before it
 pub short_last : (os : List Owner) (o : Owner) → AreCompressed os → All (λ earlier. IsCompressed earlier o) os → AreCompressed (os ++ o ∷ [])
 short_last [] o short all = (All-nil (IsCompressed o), tt)
 short_last (p ∷ os) o short all = (
@@ -65,7 +65,7 @@ module _ {E : Type 0} (word : E → List ℕ → ℕ → ℕ → Type 0) (plain 
     written : Owner
     written = record { start = length a.bytes; labels = owner x; end = end (length a.bytes) x (length b.bytes) item.word_there }
 
-    -- the owner is short behind one that is stored
+    -- the owner is short after one that is stored
     one_short : (earlier : Owner) → (earlier.labels ≢ [] → earlier.start < 16384 → Any (λ t. t.labels ≡ earlier.labels) a.suffixes) → IsCompressed earlier written
     unfolding written
     one_short earlier known some early front same =

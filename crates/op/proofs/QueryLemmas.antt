@@ -41,7 +41,7 @@ pub same_query : {a b : RecordType} {c d : DNSClass} {e f : Bool} (name : NameVa
     → ◌≡◌ {A = Query} (record { name = name; query_type = a; query_class = c; mdns_unicast_response = e }) (record { name = name; query_type = b; query_class = d; mdns_unicast_response = f })
 same_query name type class top = rw (type, class, top) refl
 
--- a question is read where its name is, and type and class stand behind it
+-- a question is read where its name is, and type and class stand after it
 pub query_read : {owner : NameValue} {m type class : ℕ} {q : Query} {e : ℕ} (B : List ℕ) (i : ℕ) → name_at B i ≡ Ok (owner, m) → IsNumberAt w16 B m type → IsNumberAt w16 B (m + 2) class
     → q ≡ record { name = owner; query_type = type_of type; query_class = field_class class; mdns_unicast_response = field_top class } → e ≡ m + 4 → query_at B i ≡ Ok (q, e)
 unfolding query_at
@@ -51,7 +51,7 @@ query_read {owner} {m} {type} {class} B i owner_is type_stands class_stands q_is
     let end : m + 2 + 2 ≡ m + 4 = omega arith in
     rw (owner_is, type_is, class_is, end, q_is, e_is) refl
 
--- a question that was read, and the place behind it
+-- a question that was read, and the place after it
 record IsReadQuery (B : List ℕ) (i : ℕ) (r : Query × ℕ) : Type 0 where
   word : IsQueryAt B i r.0 r.1
 
@@ -76,8 +76,8 @@ query_is B i r is =
       owner_end = m;
       owner = (name_stands.spelled, name_stands.short);
       type_stands = type_is.stands;
-      class_stands = subst (λ k. IsNumberAt w16 B k class.value.0) type_is.behind class_is.stands;
-      end = omega (arith, type_is.behind, class_is.behind);
+      class_stands = subst (λ k. IsNumberAt w16 B k class.value.0) type_is.after class_is.stands;
+      end = omega (arith, type_is.after, class_is.after);
     } in
     let value : q ≡ query_value raw = ap (λ (absolute : Bool). record q { name = record name { absolute = absolute } }) name_stands.absolute in
     subst (λ x. IsReadQuery B i x) same (record { word = record { raw = raw; word = word; value = value } })
@@ -111,7 +111,7 @@ query_fault B i f is =
     (λ e. let s = number_short w16 B owner.1 f e in inr (owner.0, owner.1, stands, omega (arith, s.short), s.fault)) (λ type type_read is2.
     let type_is = number_is w16 B owner.1 type type_read in
     bind_err (number_at w16 B type.1) _ f (IsQueryFault B i f) is2
-    (λ e. let s = number_short w16 B type.1 f e in inr (owner.0, owner.1, stands, omega (arith, s.short, type_is.behind), s.fault)) (λ class class_read is3. cc)))
+    (λ e. let s = number_short w16 B type.1 f e in inr (owner.0, owner.1, stands, omega (arith, s.short, type_is.after), s.fault)) (λ class class_read is3. cc)))
 
 one_answer : {A : Type 0} (r : Result A DecodeError) (x : A) (f : DecodeError) → r ≡ Ok x → r ≡ Err f → ⊥
 one_answer r x f ok err = cc
@@ -129,7 +129,7 @@ fails B i f (Ok x) is (inr (name, m, stands, short, fault)) =
     let class_is = number_is w16 B type.value.1 class.value class.first in
     let same : owner.value ≡ (name, m) = same_ok owner.value (name, m) (sym owner.first ∙ name_again B i name m stands) in
     let place : owner.value.1 ≡ m = ap (λ (r : NameValue × ℕ). r.1) same in
-    absurd (omega (arith, class_is.stands.inside, type_is.behind, place, short))
+    absurd (omega (arith, class_is.stands.inside, type_is.after, place, short))
 fails B i f (Err g) is (inl faulty) = rw (fault_again B i f faulty) refl
 fails B i f (Err g) is (inr (name, m, stands, short, fault)) =
     elim (query_fault B i g is) [

@@ -1,4 +1,4 @@
--- Runs one behind the other, put together and taken apart.
+-- Runs one after another, put together and taken apart.
 use Rattle.std.proofs.Common.{◌≡◌, ◌⊎◌, inl, inr, refl, subst, sym, Result, Ok, Err}
 use Rattle.base.specs.State.{State}
 use Rattle.base.specs.declared.error.proto_error.ProtoError.{ProtoError}
@@ -32,10 +32,10 @@ module _ {X Y : Type 0} {first : State → Result X ProtoError → State → Typ
   pub stops : {result : Result Y ProtoError} (e : ProtoError) → first a (Err e) c → result ≡ Err e → stays → AndThen first stays next a result c
   stops e ran is idle = record { answer = Err e; between = c; ran = ran; rest = (is, refl, idle) }
 
-  -- behind a value of the whole, both were values
+  -- after a value of the whole, both were values
   pub went : (y : Y) → AndThen first stays next a (Ok y) c → Both first next a (Ok y) c
   went y s = went_by first stays next a s.between c s.answer y s.ran s.rest
 
-  -- behind a refusal of the whole stands that of the first or of the second
+  -- after a refusal of the whole stands that of the first or of the second
   pub failed : (e : ProtoError) → AndThen first stays next a (Err e) c → first a (Err e) c ⊎ Both first next a (Err e) c
   failed e s = failed_by first stays next a s.between c s.answer e s.ran s.rest

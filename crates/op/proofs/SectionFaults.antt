@@ -13,7 +13,7 @@ use Rattle.rr.specs.declared.record.Record.{Record}
 use Rattle.rr.proofs.ReadRecords.{reads_record}
 use Rattle.rr.proofs.RecordFaults.{refuses_record}
 use Rattle.op.specs.Fault.{IsMisplaced, IsSectionFault}
-use Rattle.op.specs.Fault.IsMisplaced.{behind_signature, elsewhere, empty, second_edns}
+use Rattle.op.specs.Fault.IsMisplaced.{after_signature, elsewhere, empty, second_edns}
 use Rattle.op.specs.Section.{HasNeededData, SectionValue, empty_section, fault_of, is_additional, is_opt, is_update, section_at, section_from, section_of, tested, unless_fault, with_record}
 use Rattle.op.specs.declared.op_code.OpCode.{OpCode}
 use Rattle.op.proofs.SectionStands.{unless_ok}
@@ -85,7 +85,7 @@ module _ (inside : Bool) (op : OpCode) (s : SectionValue) (r : Record RData) whe
       (λ test1 is1.
       let given : HasNeededData op r = given_from (is_empty_data r.rdata) (is_update op || is_opt r) test1 in
       pick (is_some s.signature) _ f _ (IsMisplaced inside op s r f) is1
-      (λ test same. subst (IsMisplaced inside op s r) (sym same) (behind_signature given (there s.signature test)))
+      (λ test same. subst (IsMisplaced inside op s r) (sym same) (after_signature given (there s.signature test)))
       (λ test2 is2.
       let unsigned = absent s.signature test2 in
       pick (not inside && is_additional r) _ f _ (IsMisplaced inside op s r f) is2
@@ -101,7 +101,7 @@ module _ (inside : Bool) (op : OpCode) (s : SectionValue) (r : Record RData) whe
 
   refused : (f : DecodeError) → IsMisplaced inside op s r f → fault_of inside op s r ≡ Some f
   refused f (empty is update opt) = fails_here _ _ _ (from_bare (is_empty_data r.rdata) (is_update op) (is_opt r) is update opt)
-  refused f (behind_signature given signed) = passes_on _ _ _ (not_bare given) ∙ fails_here _ _ _ (is_there s.signature signed)
+  refused f (after_signature given signed) = passes_on _ _ _ (not_bare given) ∙ fails_here _ _ _ (is_there s.signature signed)
   refused f (elsewhere given unsigned outside additional) =
       passes_on _ _ _ (not_bare given) ∙ passes_on _ _ _ (is_absent s.signature unsigned) ∙ fails_here _ _ _ (from_outside inside (is_additional r) outside additional)
   refused f (second_edns given unsigned placed edns opt) =
@@ -110,11 +110,11 @@ module _ (inside : Bool) (op : OpCode) (s : SectionValue) (r : Record RData) whe
 
 -- ---- the records before it
 
--- what stands behind a section is no record, or one that may not stand there
+-- what stands after a section is no record, or one that may not stand there
 abbrev Stops : Bool → OpCode → SectionValue → List ℕ → ℕ → DecodeError → Type 0
 Stops inside op s B place f = IsRecordFault B place f ⊎ ((r : Record RData) × (e : ℕ) × IsRecordAt B place r e × (fault_of inside op s r ≡ Some f))
 
--- the records that stand behind a section, and what stops them
+-- the records that stand after a section, and what stops them
 record Before (inside : Bool) (op : OpCode) (s : SectionValue) (B : List ℕ) (n i : ℕ) (f : DecodeError) : Type 0 where
   records : List (Record RData)
   place : ℕ

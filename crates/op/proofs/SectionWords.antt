@@ -17,7 +17,7 @@ use Rattle.op.specs.Section.{EndsWithSignature, HasNeededData, SectionValue, edn
 use Rattle.op.specs.Section.{is_update, section_of, signature_of, with_record}
 use Rattle.op.specs.declared.op_code.OpCode.{OpCode}
 
--- each record passes the tests behind those before it
+-- each record passes the tests after those before it
 abbrev pub Follow : Bool → OpCode → SectionValue → List (Record RData) → Type 0
 Follow inside op s [] = Unit {0}
 Follow inside op s (r ∷ rs) = (fault_of inside op s r ≡ None) × Follow inside op (with_record s r) rs
@@ -26,7 +26,7 @@ abbrev pub folded : SectionValue → List (Record RData) → SectionValue
 folded s [] = s
 folded s (r ∷ rs) = folded (with_record s r) rs
 
--- What the tests say of records behind others, of which one was EDNS or not, and one a signature or not.
+-- What the tests say of records after others, of which one was EDNS or not, and one a signature or not.
 pub record Stand (inside : Bool) (op : OpCode) (edns signature : Bool) (rs : List (Record RData)) : Type 0 where
   pub given : All (HasNeededData op) rs
   pub placed : inside ≡ false → All (λ r. is_additional r ≡ false) rs
@@ -175,7 +175,7 @@ stand_follow inside op (r ∷ rs) s w =
 
 -- ---- what records become
 
--- a section and what stands behind it
+-- a section and what stands after it
 abbrev joined : SectionValue → SectionValue → SectionValue
 joined s t = record { records = s.records ++ t.records; edns = option_or s.edns t.edns; signature = option_or s.signature t.signature }
 

@@ -150,12 +150,12 @@ module _ (ds : List (Record RData)) (op : OpCode) (fits : All (FitsAdditional op
   rest_ends (Some e) None = (λ _. refl, tt)
   rest_ends (Some e) (Some s) = (λ is. absurd (true≢false (sym is ∙ opt_unsigned e)), (λ _. refl, tt))
 
-  ends_behind : (xs t : List (Record RData)) → All (λ r. is_signature r ≡ false) xs → EndsWithSignature t → EndsWithSignature (xs ++ t)
-  ends_behind [] t none ends = ends
-  ends_behind (x ∷ xs) t none ends = (λ is. absurd (true≢false (sym is ∙ none 0 x (omega arith))), ends_behind xs t (All-tail (λ r. is_signature r ≡ false) x xs none) ends)
+  ends_after : (xs t : List (Record RData)) → All (λ r. is_signature r ≡ false) xs → EndsWithSignature t → EndsWithSignature (xs ++ t)
+  ends_after [] t none ends = ends
+  ends_after (x ∷ xs) t none ends = (λ is. absurd (true≢false (sym is ∙ none 0 x (omega arith))), ends_after xs t (All-tail (λ r. is_signature r ≡ false) x xs none) ends)
 
   pub all_end : (edns : Option Edns) (signature : Option (Record (List ℕ))) → EndsWithSignature (ds ++ tail edns signature)
-  all_end edns signature = ends_behind ds (tail edns signature) no_signatures (rest_ends edns signature)
+  all_end edns signature = ends_after ds (tail edns signature) no_signatures (rest_ends edns signature)
 
   rest_one : (edns : Option Edns) (signature : Option (Record (List ℕ))) → AtMostOneOpt (tail edns signature)
   rest_one None None = omega arith

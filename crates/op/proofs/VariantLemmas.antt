@@ -14,7 +14,7 @@ use denote.Struct.Values.{Values}
 abbrev pub five : {S T : Type 0} → S → T → S × (S × (S × (S × (S × T))))
 five s t = (s, (s, (s, (s, (s, t)))))
 
--- the variants stand one behind the other from a place on
+-- the variants stand one after another from a place on
 abbrev pub PlacedEach : (Fss : List (List Field)) → (Choice Fss → ℕ) → ℕ → Type 0
 PlacedEach [] place n = Unit {0}
 PlacedEach (Fs ∷ Fss) place n = ((x : Values Fs) → place (inl x) ≡ n) × PlacedEach Fss (λ c. place (inr c)) (n + 1)

@@ -1,5 +1,5 @@
 -- How a message is put together from its parts (RFC 1035, 4.1).
--- A run relates an encoder's state to the answer of what was done with it and to the state behind that.
+-- A run relates an encoder's state to the answer of what was done with it and to the state after that.
 use Rattle.std.specs.Prelude.{◌≡◌, ◌⊎◌, ℕ, Bool, true, false, ◌+◌, ◌<◌, ◌≤◌, ◌^◌, ◌||◌, List, codes, length, replicate, ⊤, Result, Ok, Err}
 use Rattle.base.specs.State.{State, appended, overwritten}
 use Rattle.base.specs.Wire.{Refuses}
@@ -16,10 +16,11 @@ use Rattle.op.specs.declared.message.writing.parts.Written.{Written}
 use Rattle.op.specs.declared.message.writing.parts.WrittenSections.{WrittenSections}
 use Rattle.base.specs.Written.{Writing}
 
--- ---- runs one behind the other
+-- ---- runs one after another
 
--- behind a value comes the next run; a refusal is the answer of the whole, nothing more is written, and what is left stays as it was
-abbrev pub Continues : {X Y : Type 0} → Type 0 → (X → State → Result Y ProtoError → State → Type 0) → Result X ProtoError → State → Result Y ProtoError → State → Type 0
+-- after a value comes the next run; a refusal is the answer of the whole, nothing more is written, and what is left stays as it was
+abbrev pub Continues : {X Y : Type 0} → Type 0 → (X → State → Result Y ProtoError → State → Type 0)
+    → Result X ProtoError → State → Result Y ProtoError → State → Type 0
 Continues stays next (Ok x) b result c = next x b result c
 Continues stays next (Err e) b result c = (result ≡ Err e) × (c ≡ b) × stays
 
@@ -32,7 +33,8 @@ pub record AndThen {X Y : Type 0} (first : State → Result X ProtoError → Sta
   pub rest : Continues stays next answer between result new
 
 -- a test that writes nothing
-abbrev pub Tests : {X : Type 0} → (Result X ProtoError → Type 0) → State → Result X ProtoError → State → Type 0
+abbrev pub Tests : {X : Type 0} → (Result X ProtoError → Type 0) → State → Result X ProtoError
+    → State → Type 0
 Tests holds a result b = holds result × (b ≡ a)
 
 -- ---- counts
@@ -61,24 +63,30 @@ Adds one other result = Narrows (one.count + other.count) (one.is_cut || other.i
 
 -- room for the header is kept, of zero bytes
 abbrev pub KeepsRoom : State → Result ℕ ProtoError → State → Type 0
-KeepsRoom a (Ok place) b = (place ≡ length a.bytes) × (b ≡ appended (replicate 12 0) a) × (length b.bytes ≤ a.limit)
+KeepsRoom a (Ok place) b = (place ≡ length a.bytes) × (b ≡ appended (replicate 12 0) a)
+    × (length b.bytes ≤ a.limit)
 KeepsRoom a (Err e) b = (b ≡ a) × Refuses {X = Header} 12 a (Err e)
 
 -- a part is written as it says, and counted
-abbrev pub EmitsPart : {P : Type 0} → (P → State → Result ℕ ProtoError → P → State → Type 0) → P → P → State → Result Written ProtoError → State → Type 0
-EmitsPart emits part end a result b = (answer : Result ℕ ProtoError) × emits part a answer end b × Counts answer result
+abbrev pub EmitsPart : {P : Type 0} → (P → State → Result ℕ ProtoError → P → State → Type 0) → P → P
+    → State → Result Written ProtoError → State → Type 0
+EmitsPart emits part end a result b = (answer : Result ℕ ProtoError) × emits part a answer end b
+    × Counts answer result
 
 -- of items a front is written, or memory was refused
-abbrev pub WritesItems : {E : Type 0} → (E → List ℕ → ℕ → ℕ → Type 0) → (E → ℕ) → (E → List (List ℕ))
+abbrev pub WritesItems : {E : Type 0} → (E → List ℕ → ℕ → ℕ → Type 0) → (E → ℕ)
+    → (E → List (List ℕ))
     → (E → Writing) → List E → State → Result Written ProtoError → State → Type 0
 WritesItems word plain owner f xs a (Ok written) b = WritesFront word plain owner f xs a b written.count written.is_cut
 WritesItems word plain owner f xs a (Err e) b = e ≡ refusals.Memory
 
-abbrev pub WritesRecordItems : List (Record RData) → State → Result Written ProtoError → State → Type 0
+abbrev pub WritesRecordItems : List (Record RData) → State → Result Written ProtoError → State
+    → Type 0
 WritesRecordItems = WritesItems RecordWord plain_record record_owner record_written
 
--- OPT and the signature behind the additionals, the sum of all tested behind each
-abbrev pub WritesExtras : List (Record RData) → List (Record RData) → Written → State → Result Written ProtoError → State → Type 0
+-- OPT and the signature after the additionals, the sum of all tested after each
+abbrev pub WritesExtras : List (Record RData) → List (Record RData) → Written → State
+    → Result Written ProtoError → State → Type 0
 WritesExtras edns signature additionals =
     AndThen (WritesRecordItems edns) ⊤ (λ opt.
     AndThen (Tests (Adds additionals opt)) ⊤ (λ sum.
@@ -93,13 +101,15 @@ HasHeader metadata queries sections additionals (Ok h) =
       metadata = record metadata { truncation = metadata.truncation || (sections.answers.is_cut || (sections.authorities.is_cut || additionals.is_cut)) };
       counts = record { queries = queries; answers = sections.answers.count; authorities = sections.authorities.count; additionals = additionals.count };
     })
-HasHeader metadata queries sections additionals (Err e) = (2 ^ 16 ≤ queries) × Says (codes "too many queries to fit in header count") e
+HasHeader metadata queries sections additionals (Err e) = (2 ^ 16 ≤ queries)
+    × Says (codes "too many queries to fit in header count") e
 
 -- the header is written into the room that was kept for it
 abbrev pub FillsIn : ℕ → Header → State → Result Header ProtoError → State → Type 0
-FillsIn place header a result b = (result ≡ Ok header) × (b ≡ overwritten place (header_bytes (raw_header header)) a)
+FillsIn place header a result b = (result ≡ Ok header)
+    × (b ≡ overwritten place (header_bytes (raw_header header)) a)
 
--- the answers A, the authorities N and the additionals D, each before it was written and behind that
+-- the answers A, the authorities N and the additionals D, each before it was written and after that
 module _ {A N D : Type 0} (emits_a : A → State → Result ℕ ProtoError → A → State → Type 0) (emits_n : N → State → Result ℕ ProtoError → N → State → Type 0)
     (emits_d : D → State → Result ℕ ProtoError → D → State → Type 0) (a a' : A) (n n' : N) (d d' : D) where
   -- three sections, each whatever became of the one before it
@@ -111,7 +121,9 @@ module _ {A N D : Type 0} (emits_a : A → State → Result ℕ ProtoError → A
       Tests (λ result. result ≡ Ok (record { answers = answers; authorities = authorities; additionals = additionals })))))
 
   -- A message: room for the header, the questions Q, three sections, OPT and the signature, and the header into its room.
-  abbrev pub Composition : {Q : Type 0} → Metadata → (Q → State → Result ℕ ProtoError → Q → State → Type 0) → Q → Q → List (Record RData) → List (Record RData) → State
+  abbrev pub Composition : {Q : Type 0} → Metadata
+      → (Q → State → Result ℕ ProtoError → Q → State → Type 0) → Q → Q → List (Record RData)
+      → List (Record RData) → State
       → Result Header ProtoError → State → Type 0
   Composition metadata emits_q q q' edns signature =
       AndThen KeepsRoom ((q' ≡ q) × (a' ≡ a) × (n' ≡ n) × (d' ≡ d)) (λ place.

@@ -45,7 +45,8 @@ pub record Owner : Type 0 where
 
 -- A later owner that ends in all labels of an earlier one, to which a pointer can point, has a pointer there.
 abbrev pub IsCompressed : Owner → Owner → Type 0
-IsCompressed earlier later = earlier.labels ≢ [] → earlier.start < 16384 → (front : List (List ℕ)) → later.labels ≡ front ++ earlier.labels → later.end ≤ later.start + (size_of front + 2)
+IsCompressed earlier later = earlier.labels ≢ [] → earlier.start < 16384 → (front : List (List ℕ))
+    → later.labels ≡ front ++ earlier.labels → later.end ≤ later.start + (size_of front + 2)
 
 -- so has each owner for each before it
 abbrev pub AreCompressed : List Owner → Type 0
@@ -58,15 +59,18 @@ unfoldable pub owners_by : {A : Type 0} {Word : ℕ → A → ℕ → Type 0} (l
 owners_by labels end none = []
 owners_by labels end (more {i = i} {j = j} {x = x} word rest) = record { start = i; labels = labels x; end = end i x j word } ∷ owners_by labels end rest
 
-abbrev pub query_owners : {B : List ℕ} {i e : ℕ} {qs : List Query} → BackToBack (IsQueryAt B) i qs e → List Owner
+abbrev pub query_owners : {B : List ℕ} {i e : ℕ} {qs : List Query} → BackToBack (IsQueryAt B) i qs e
+    → List Owner
 query_owners d = owners_by (λ q. q.name.labels) (λ i q e word. word.word.owner_end) d
 
-abbrev pub record_owners : {B : List ℕ} {i e : ℕ} {rs : List (Record RData)} → BackToBack (IsRecordAt B) i rs e → List Owner
+abbrev pub record_owners : {B : List ℕ} {i e : ℕ} {rs : List (Record RData)}
+    → BackToBack (IsRecordAt B) i rs e → List Owner
 record_owners d = owners_by (λ r. r.name.labels) (λ i r e word. word.word.owner_end) d
 
 -- the owners of a message, in order
 abbrev pub owners : {B : List ℕ} {i e : ℕ} {m : MessageValue} → IsMessageAt B i m e → List Owner
-owners w = query_owners w.queries_stand ++ (record_owners w.answers_stand ++ (record_owners w.authorities_stand ++ record_owners w.additionals_stand))
+owners w = query_owners w.queries_stand
+    ++ (record_owners w.answers_stand ++ (record_owners w.authorities_stand ++ record_owners w.additionals_stand))
 
 -- ---- the cut
 
@@ -106,15 +110,18 @@ pub record IsCut (m : MessageValue) (limit : ℕ) (B : List ℕ) (c : MessageVal
   pub signature : IsFront (λ r. plain_record (signature_record r)) limit (length B) (listed m.signature) (listed c.signature)
   -- the code as far as it is written, TC, and every other field
   pub metadata : c.metadata ≡ record m.metadata {
-    truncation = m.metadata.truncation || (any_lost answers.lost || (any_lost authorities.lost || (any_lost additionals.lost || (any_lost edns.lost || any_lost signature.lost))));
+    truncation = m.metadata.truncation
+        || (any_lost answers.lost || (any_lost authorities.lost || (any_lost additionals.lost || (any_lost edns.lost || any_lost signature.lost))));
     response_code = code_value (code_number m.metadata.response_code % code_range c.edns);
   }
   -- owners that end in an earlier owner point to it
   pub short : AreCompressed (owners word)
 
 -- nothing was lost
-abbrev pub IsUncut : {m : MessageValue} {limit : ℕ} {B : List ℕ} {c : MessageValue} → IsCut m limit B c → Type 0
-IsUncut k = (k.answers.lost ≡ []) × (k.authorities.lost ≡ []) × (k.additionals.lost ≡ []) × (k.edns.lost ≡ []) × (k.signature.lost ≡ [])
+abbrev pub IsUncut : {m : MessageValue} {limit : ℕ} {B : List ℕ} {c : MessageValue}
+    → IsCut m limit B c → Type 0
+IsUncut k = (k.answers.lost ≡ []) × (k.authorities.lost ≡ []) × (k.additionals.lost ≡ [])
+    × (k.edns.lost ≡ []) × (k.signature.lost ≡ [])
 
 -- The bytes are a cut of the message, and are read, to their end, as exactly the message that the cut keeps.
 pub record IsWritten (m : MessageValue) (limit : ℕ) (B : List ℕ) : Type 0 where
@@ -122,8 +129,9 @@ pub record IsWritten (m : MessageValue) (limit : ℕ) (B : List ℕ) : Type 0 wh
   pub is_cut : IsCut m limit B message
   pub read : message_at B 0 ≡ Ok (message, length B)
 
--- The limit has no room for the header, or none for the questions behind it.
+-- The limit has no room for the header, or none for the questions after it.
 abbrev pub IsTooSmall : MessageValue → ℕ → ProtoError → Type 0
 IsTooSmall m limit refusals.MaxBufferSizeExceeded = limit < 12
-IsTooSmall m limit (refusals.NotAllRecordsWritten _) = (12 ≤ limit) × (limit < 12 + plain_queries m.queries)
+IsTooSmall m limit (refusals.NotAllRecordsWritten _) = (12 ≤ limit)
+    × (limit < 12 + plain_queries m.queries)
 IsTooSmall m limit _ = ⊥

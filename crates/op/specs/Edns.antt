@@ -13,11 +13,11 @@ use Rattle.op.specs.declared.edns.edns_flags.EdnsFlags.{EdnsFlags}
 abbrev pub new_edns : Edns
 new_edns = record { rcode_high = 0; version = 0; flags = record { dnssec_ok = false; z = 0 }; max_payload = 512; options = [] }
 
--- EDNS ends with the flags that are left behind the reference
+-- EDNS ends with the flags that are left after the reference
 abbrev pub LendsFlags : MutBor Edns → MutBor EdnsFlags → Fml
 LendsFlags edns flags = Lends the_row flags_row edns flags (λ (w : EdnsFlags). record edns.now { flags = w })
 
--- EDNS ends with the options that are left behind the reference
+-- EDNS ends with the options that are left after the reference
 abbrev pub LendsOptions : MutBor Edns → MutBor (List OptionValue) → Fml
 LendsOptions edns options = Lends the_row options_row edns options (λ (w : List OptionValue). record edns.now { options = w })
 

@@ -73,7 +73,8 @@ pub record Emitted (m : MessageValue) (old new : State) (h : Header) : Type 0 wh
   pub signature : WritesRecords (listed (option_map signature_record m.signature)) fifth sixth signature_count signature_cut
   pub query_count : h.counts.queries ≡ length m.queries
   pub sum : h.counts.additionals ≡ additional_count + (edns_count + signature_count)
-  pub metadata : h.metadata ≡ record m.metadata { truncation = m.metadata.truncation || (answers_cut || (authorities_cut || (additionals_cut || (edns_cut || signature_cut)))) }
+  pub metadata : h.metadata
+      ≡ record m.metadata { truncation = m.metadata.truncation || (answers_cut || (authorities_cut || (additionals_cut || (edns_cut || signature_cut)))) }
   pub header : new ≡ overwritten (length old.bytes) (header_bytes (raw_header h)) sixth
 
 -- What a refusal but for memory leaves: nothing was written where the header had no room; else room for the header, and as

@@ -20,4 +20,4 @@ flags_text flags = join_with_byte 44 (flag_names flags)
 
 -- a name as it stands in such a text: there if its flag is set, and with a comma in front if another stands before it
 abbrev pub item_text : Bool → Bool → List ℕ → List ℕ
-item_text is_set is_behind name = if is_set then (if is_behind then 44 ∷ name else name) else []
+item_text is_set is_after name = if is_set then (if is_after then 44 ∷ name else name) else []

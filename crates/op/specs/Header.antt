@@ -110,7 +110,8 @@ abbrev pub header_bytes : RawHeader → List ℕ
 header_bytes r =
     to_be_bytes w16 r.id
     ++ (high_byte r.response r.opcode r.authoritative r.truncation r.recursion_desired ∷ low_byte r.recursion_available r.authentic_data r.checking_disabled r.code ∷ [])
-    ++ to_be_bytes w16 r.counts.queries ++ to_be_bytes w16 r.counts.answers ++ to_be_bytes w16 r.counts.authorities ++ to_be_bytes w16 r.counts.additionals
+    ++ to_be_bytes w16 r.counts.queries ++ to_be_bytes w16 r.counts.answers
+    ++ to_be_bytes w16 r.counts.authorities ++ to_be_bytes w16 r.counts.additionals
 
 -- the numbers of a header have two bytes
 pub record IsNarrow (id : ℕ) (counts : HeaderCounts) : Type 0 where
@@ -132,7 +133,7 @@ HeaderWord h B i e = IsRawHeaderAt B i (raw_header h) × (e ≡ i + 12)
 
 -- ---- reading
 
--- what an id and the two bytes of codes and flags behind it are read as
+-- what an id and the two bytes of codes and flags after it are read as
 abbrev pub metadata_of_bytes : ℕ → ℕ → ℕ → Metadata
 metadata_of_bytes id high low = record {
   id = id;

@@ -29,10 +29,14 @@ record HighBits (r a t d : Bool) (o n : ℕ) : Type 0 where
   truncation : t ≡ bit_of 2 n
   recursion_desired : d ≡ bit_of 1 n
 
-high_sum : (r a t d : Bool) (o : ℕ) → high_byte r o a t d ≡ from_bool r * 128 + (8 * o + (from_bool a * 4 + (from_bool t * 2 + from_bool d)))
+high_sum : (r a t d : Bool) (o : ℕ)
+    → high_byte r o a t d
+    ≡ from_bool r * 128 + (8 * o + (from_bool a * 4 + (from_bool t * 2 + from_bool d)))
 high_sum r a t d o = rw (weighed_is 128 r, weighed_is 4 a, weighed_is 2 t, weighed_is 1 d) (omega arith)
 
-high_bits : (r a t d : Bool) (o n : ℕ) → o < 16 → n ≡ from_bool r * 128 + (8 * o + (from_bool a * 4 + (from_bool t * 2 + from_bool d))) → HighBits r a t d o n
+high_bits : (r a t d : Bool) (o n : ℕ) → o < 16
+    → n ≡ from_bool r * 128 + (8 * o + (from_bool a * 4 + (from_bool t * 2 + from_bool d)))
+    → HighBits r a t d o n
 high_bits r a t d o n small sum =
     let small_r = from_bool_small r in
     let small_a = from_bool_small a in
@@ -53,10 +57,12 @@ record LowBits (r a c : Bool) (code n : ℕ) : Type 0 where
   checking_disabled : c ≡ bit_of 16 n
   code_is : code ≡ n % 16
 
-low_sum : (r a c : Bool) (code : ℕ) → low_byte r a c code ≡ from_bool r * 128 + (from_bool a * 32 + (from_bool c * 16 + code))
+low_sum : (r a c : Bool) (code : ℕ)
+    → low_byte r a c code ≡ from_bool r * 128 + (from_bool a * 32 + (from_bool c * 16 + code))
 low_sum r a c code = rw (weighed_is 128 r, weighed_is 32 a, weighed_is 16 c) refl
 
-low_bits : (r a c : Bool) (code n : ℕ) → code < 16 → n ≡ from_bool r * 128 + (from_bool a * 32 + (from_bool c * 16 + code)) → LowBits r a c code n
+low_bits : (r a c : Bool) (code n : ℕ) → code < 16
+    → n ≡ from_bool r * 128 + (from_bool a * 32 + (from_bool c * 16 + code)) → LowBits r a c code n
 low_bits r a c code n small sum =
     let small_r = from_bool_small r in
     let small_a = from_bool_small a in
@@ -68,7 +74,8 @@ low_bits r a c code n small sum =
       code_is = omega arith;
     }
 
-raw_stands : (r : RawHeader) (B : List ℕ) (i : ℕ) → IsNarrow r.id r.counts → r.opcode < 16 → r.code < 16 → Stands (header_bytes r) B i → IsRawHeaderAt B i r
+raw_stands : (r : RawHeader) (B : List ℕ) (i : ℕ) → IsNarrow r.id r.counts → r.opcode < 16
+    → r.code < 16 → Stands (header_bytes r) B i → IsRawHeaderAt B i r
 raw_stands r B i narrow op code s =
     let xs = header_bytes r in
     let high = high_byte r.response r.opcode r.authoritative r.truncation r.recursion_desired in
@@ -102,9 +109,11 @@ raw_stands r B i narrow op code s =
       additionals = number16_stands r.counts.additionals B (i + 10) narrow.additionals (stands_part (id ++ flags ++ queries ++ answers ++ authorities) additionals [] B i s);
     }
 
-pub header_stands : (h : Header) (B : List ℕ) (i : ℕ) → IsNarrow h.metadata.id h.counts → Stands (header_bytes (raw_header h)) B i → HeaderWord h B i (i + 12)
+pub header_stands : (h : Header) (B : List ℕ) (i : ℕ) → IsNarrow h.metadata.id h.counts
+    → Stands (header_bytes (raw_header h)) B i → HeaderWord h B i (i + 12)
 header_stands h B i narrow s = (raw_stands (raw_header h) B i narrow (omega arith) (omega arith) s, refl)
 
-pub header_says : (h : Header) → Says (just (header_bytes (raw_header h))) (IsNarrow h.metadata.id h.counts) (HeaderWord h) 12 []
+pub header_says : (h : Header)
+    → Says (just (header_bytes (raw_header h))) (IsNarrow h.metadata.id h.counts) (HeaderWord h) 12 []
 header_says h =
     Says-just (IsNarrow h.metadata.id h.counts) (HeaderWord h) 12 (header_bytes (raw_header h)) (omega arith) (λ narrow B at small stands. header_stands h B at narrow stands)

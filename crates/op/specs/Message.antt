@@ -38,7 +38,7 @@ message_value m = record {
   signature = option_map (λ s. s.value) m.signature;
 }
 
--- a message with nothing behind its header
+-- a message with nothing after its header
 abbrev pub empty_message : Metadata → MessageValue
 empty_message metadata = record { metadata = metadata; queries = []; answers = []; authorities = []; additionals = []; edns = None; signature = None }
 
@@ -48,7 +48,8 @@ high_code None metadata = metadata
 high_code (Some edns) metadata = record metadata { response_code = code_from edns.rcode_high (code_low metadata.response_code) }
 
 -- the message of a header, questions, answers, authorities, and what stands among additionals
-abbrev pub message_of : Metadata → List Query → List (Record RData) → List (Record RData) → SectionValue → MessageValue
+abbrev pub message_of : Metadata → List Query → List (Record RData) → List (Record RData)
+    → SectionValue → MessageValue
 message_of metadata queries answers authorities additionals = record {
   metadata = high_code additionals.edns metadata;
   queries = queries;
@@ -75,7 +76,8 @@ pub record IsMessageAt (B : List ℕ) (i : ℕ) (m : MessageValue) (e : ℕ) : T
   pub authorities_stand : BackToBack (IsRecordAt B) answers_end authorities authorities_end
   pub additionals_stand : BackToBack (IsRecordAt B) authorities_end additionals e
   -- as many as the counts say
-  pub counts : header.counts ≡ record { queries = length m.queries; answers = length answers; authorities = length authorities; additionals = length additionals }
+  pub counts : header.counts
+      ≡ record { queries = length m.queries; answers = length answers; authorities = length authorities; additionals = length additionals }
   -- empty data, and the places of OPT, SIG and TSIG
   pub answers_plain : All (IsPlain header.metadata.op_code) answers
   pub authorities_plain : All (IsPlain header.metadata.op_code) authorities

@@ -28,7 +28,7 @@ abbrev pub edns_line : Option Edns → List ℕ
 edns_line None = []
 edns_line (Some edns) = codes "; edns " ++ line (edns_text edns)
 
--- a question, behind two semicolons
+-- a question, after two semicolons
 abbrev pub query_line : Query → List ℕ
 query_line q = codes ";; " ++ line (query_text q)
 
@@ -40,13 +40,15 @@ query_lines = flat_map query_line
 abbrev pub record_lines : List (Record RData) → List ℕ
 record_lines = flat_map (λ r. line (record_text r))
 
--- the name of a section and how many records it has, and behind that line its records
+-- the name of a section and how many records it has, and after that line its records
 abbrev pub section_lines : List ℕ → List (Record RData) → List ℕ
-section_lines name rs = codes "; " ++ (name ++ (codes " " ++ (line (decimal (length rs)) ++ record_lines rs)))
+section_lines name rs = codes "; "
+    ++ (name ++ (codes " " ++ (line (decimal (length rs)) ++ record_lines rs)))
 
 -- answers, authorities and additionals
 abbrev pub sections_text : MessageValue → List ℕ
-sections_text m = section_lines (codes "answers") m.answers ++ (section_lines (codes "authorities") m.authorities ++ section_lines (codes "additionals") m.additionals)
+sections_text m = section_lines (codes "answers") m.answers
+    ++ (section_lines (codes "authorities") m.authorities ++ section_lines (codes "additionals") m.additionals)
 
 -- whether the sections of records are printed: of a response, and of an Update (RFC 2136, 2.2)
 abbrev pub shows_sections : Metadata → Bool

@@ -113,7 +113,7 @@ message_written limit m at stored =
 abbrev pub message_bytes : ℕ → MessageValue → List ℕ
 message_bytes limit m = (message_written limit m 0 []).bytes
 
--- What a new encoder answers to a message under a limit, want of memory aside: its bytes; or that the header has no
+-- What a new encoder answers to a message under a limit, unless memory runs out: its bytes; or that the header has no
 -- room; or that not all questions have, and how many of them do.
 abbrev pub message_answer : ℕ → MessageValue → Result (List ℕ) ProtoError
 message_answer limit m =

@@ -24,7 +24,8 @@ truncated m = record (empty_message (record m.metadata { truncation = true })) {
 
 -- whether a record is of the type that was asked for, or none of DNSSEC (RFC 4035, 3.2.1)
 abbrev pub is_for_all : RecordType → Record RData → Bool
-is_for_all asked r = same_type (type_of_data r.rdata) asked || not (is_dnssec_type (type_of_data r.rdata))
+is_for_all asked r = same_type (type_of_data r.rdata) asked
+    || not (is_dnssec_type (type_of_data r.rdata))
 
 -- the message without records of DNSSEC, but for those of the type that the first question asks for
 abbrev pub stripped_by : List Query → MessageValue → MessageValue
@@ -50,7 +51,10 @@ abbrev pub edns_version : Option Edns → ℕ
 edns_version None = 0
 edns_version (Some e) = e.version
 
--- What an iterator gave was added behind a list: all of it; or what came before an item for which there was no memory.
-abbrev pub AddsGiven : {S T U E : Type 0} → (S → Option T → S → Type 0) → S → List T → List T → Result U E → Type 0
-AddsGiven {S = S} {T = T} steps s old new (Ok _) = (xs : List T) × (t : S) × YieldsThen steps s xs None t × (new ≡ old ++ xs)
-AddsGiven {S = S} {T = T} steps s old new (Err _) = (xs : List T) × (x : T) × (t : S) × YieldsThen steps s xs (Some x) t × (new ≡ old ++ xs)
+-- What an iterator gave was added after a list: all of it; or what came before an item for which there was no memory.
+abbrev pub AddsGiven : {S T U E : Type 0} → (S → Option T → S → Type 0) → S → List T → List T
+    → Result U E → Type 0
+AddsGiven {S = S} {T = T} steps s old new (Ok _) = (xs : List T) × (t : S)
+    × YieldsThen steps s xs None t × (new ≡ old ++ xs)
+AddsGiven {S = S} {T = T} steps s old new (Err _) = (xs : List T) × (x : T) × (t : S)
+    × YieldsThen steps s xs (Some x) t × (new ≡ old ++ xs)

@@ -3,7 +3,7 @@ use Rattle.std.specs.Prelude.{ℕ, ◌+◌, List, [], ◌∷◌, ◌++◌, Ok, E
 use Rattle.std.specs.List.{flat_map}
 use Rattle.base.specs.Labels.{NameValue}
 use Rattle.base.specs.Many.{many_at, many_names}
-use Rattle.base.specs.Reading.{Read, behind}
+use Rattle.base.specs.Reading.{Read, place_after}
 use Rattle.op.specs.Header.{header_at}
 use Rattle.op.specs.Message.{IsMessageAt, MessageValue}
 use Rattle.op.specs.Query.{query_at}
@@ -15,7 +15,7 @@ use Rattle.rr.specs.Record.{record_at, record_names, record_places}
 abbrev pub query_places : List ℕ → ℕ → List ℕ
 query_places bytes i = i ∷ []
 
--- those of as many questions, one behind the other
+-- those of as many questions, one after another
 abbrev pub queries_places : ℕ → List ℕ → ℕ → List ℕ
 queries_places count bytes i = many_names query_at query_places count bytes i
 
@@ -23,10 +23,10 @@ queries_places count bytes i = many_names query_at query_places count bytes i
 abbrev pub records_places : ℕ → List ℕ → ℕ → List ℕ
 records_places count bytes i = many_names record_at record_places count bytes i
 
--- those of what a header that was read counts: questions, and behind them the records of the three sections
+-- those of what a header that was read counts: questions, and after them the records of the three sections
 abbrev pub counted_places : Read Header → List ℕ → List ℕ
 counted_places (Ok (header, i)) bytes = queries_places header.counts.queries bytes i
-    ++ records_places (header.counts.answers + header.counts.authorities + header.counts.additionals) bytes (behind (many_at query_at header.counts.queries bytes i))
+    ++ records_places (header.counts.answers + header.counts.authorities + header.counts.additionals) bytes (place_after (many_at query_at header.counts.queries bytes i))
 counted_places (Err e) bytes = []
 
 -- the places of the names of the message that stands at i, of questions and records
@@ -34,5 +34,7 @@ abbrev pub message_places : List ℕ → ℕ → List ℕ
 message_places bytes i = counted_places (header_at bytes i) bytes
 
 -- the names of the message whose word stands there: of its questions, and then those of each of its records
-abbrev pub message_names : {B : List ℕ} {i : ℕ} {m : MessageValue} {e : ℕ} → IsMessageAt B i m e → List NameValue
-message_names {m = m} w = flat_map (λ (q : Query). q.name ∷ []) m.queries ++ flat_map record_names (w.answers ++ (w.authorities ++ w.additionals))
+abbrev pub message_names : {B : List ℕ} {i : ℕ} {m : MessageValue} {e : ℕ} → IsMessageAt B i m e
+    → List NameValue
+message_names {m = m} w = flat_map (λ (q : Query). q.name ∷ []) m.queries
+    ++ flat_map record_names (w.answers ++ (w.authorities ++ w.additionals))

@@ -84,7 +84,8 @@ query_at bytes i = do
 
 -- The first fault of a question at i: that of its name, or the end of the buffer in type or class.
 abbrev pub IsQueryFault : List ℕ → ℕ → DecodeError → Type 0
-IsQueryFault B i f = IsFaulty B i i 0 f ⊎ ((name : NameValue) × (m : ℕ) × IsNameAt B i name m × (length B < m + 4) × (f ≡ faults.InsufficientBytes))
+IsQueryFault B i f = IsFaulty B i i 0 f
+    ⊎ ((name : NameValue) × (m : ℕ) × IsNameAt B i name m × (length B < m + 4) × (f ≡ faults.InsufficientBytes))
 
 -- name, class and type, and whether a unicast response is asked for
 abbrev pub query_text : Query → List ℕ

@@ -18,7 +18,8 @@ use Rattle.op.specs.declared.query.Query.{Query}
 abbrev pub QueryKept : Query → Type 0
 QueryKept q = let raw = raw_query q in AreNameLabels raw.labels × ((raw.type < 2 ^ 16) × (raw.class < 2 ^ 16))
 
-fields_stand : (type class : ℕ) (B : List ℕ) (i : ℕ) → (type < 2 ^ 16) × (class < 2 ^ 16) → Stands (to_be_bytes w16 type ++ to_be_bytes w16 class) B i
+fields_stand : (type class : ℕ) (B : List ℕ) (i : ℕ) → (type < 2 ^ 16) × (class < 2 ^ 16)
+    → Stands (to_be_bytes w16 type ++ to_be_bytes w16 class) B i
     → Then (Number w16 type) (Number w16 class) B i (i + 4)
 fields_stand type class B i fits stands = (
   i + 2,
@@ -26,9 +27,12 @@ fields_stand type class B i fits stands = (
   (number16_stands class B (i + 2) fits.1 (last_stands (to_be_bytes w16 type) (to_be_bytes w16 class) B i stands), omega arith),
 )
 
--- name, type and class one behind the other are the fields of a question
-question_word : {type field : ℕ} (q : Query) → type ≡ type_number q.query_type → field ≡ class_field q.mdns_unicast_response (class_number q.query_class) → (B : List ℕ) (i e : ℕ)
-    → Then (NameAt q.name.labels) (Then (Number w16 type) (Number w16 field)) B i e → QueryWord q B i e
+-- name, type and class one after another are the fields of a question
+question_word : {type field : ℕ} (q : Query) → type ≡ type_number q.query_type
+    → field ≡ class_field q.mdns_unicast_response (class_number q.query_class)
+    → (B : List ℕ) (i e : ℕ)
+    → Then (NameAt q.name.labels) (Then (Number w16 type) (Number w16 field)) B i e
+    → QueryWord q B i e
 question_word q type_is is B i e h = record {
   owner_end = h.0;
   owner = h.1;
@@ -38,7 +42,8 @@ question_word q type_is is B i e h = record {
 }
 
 -- where what is written of a question stands, the question stands
-pub query_says : (q : Query) → Says (query_written q) (QueryKept q) (QueryWord q) (plain_query q) q.name.labels
+pub query_says : (q : Query)
+    → Says (query_written q) (QueryKept q) (QueryWord q) (plain_query q) q.name.labels
 query_says q =
     let raw = raw_query q in
     let fields = to_be_bytes w16 raw.type ++ to_be_bytes w16 raw.class in

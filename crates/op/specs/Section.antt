@@ -92,7 +92,8 @@ abbrev pub section_value : Section → SectionValue
 section_value s = record { records = s.records.items; edns = s.edns; signature = option_map (λ b. b.value) s.signature }
 
 -- what reading a section answers, as contracts see it
-abbrev pub parts_value : Vec (Record RData) × Option Edns × Option (Box (Record (List ℕ))) → SectionValue
+abbrev pub parts_value : Vec (Record RData) × Option Edns × Option (Box (Record (List ℕ)))
+    → SectionValue
 parts_value parts = record { records = parts.0.items; edns = parts.1; signature = option_map (λ b. b.value) parts.2 }
 
 -- what records become: EDNS and a signature by themselves, and the other records in their order
@@ -107,14 +108,14 @@ section_of rs = record {
 abbrev pub empty_section : SectionValue
 empty_section = record { records = []; edns = None; signature = None }
 
--- a section with one more record behind its records
+-- a section with one more record after its records
 abbrev pub with_record : SectionValue → Record RData → SectionValue
 with_record s r =
     if is_opt r then record s { edns = Some (edns_of r) }
     else (if is_signature r then record s { signature = Some (signature_of r) }
     else record s { records = s.records ++ r ∷ [] })
 
--- The first test that a record fails behind the records of a section: empty data, a place behind a signature, a place
+-- The first test that a record fails after the records of a section: empty data, a place after a signature, a place
 -- outside additionals, a second EDNS record.
 abbrev pub fault_of : Bool → OpCode → SectionValue → Record RData → Option DecodeError
 fault_of is_additional_section op s r =
@@ -129,7 +130,7 @@ abbrev pub unless_fault : Option DecodeError → SectionValue → Result Section
 unless_fault None s = Ok s
 unless_fault (Some fault) s = Err fault
 
--- a section with a record that was read behind its records, if the record may stand there
+-- a section with a record that was read after its records, if the record may stand there
 abbrev pub tested : Bool → OpCode → SectionValue → Record RData → Result SectionValue DecodeError
 tested is_additional_section op s r = unless_fault (fault_of is_additional_section op s r) (with_record s r)
 
@@ -155,7 +156,7 @@ pub record SectionsValue : Type 0 where
 abbrev pub sections_value : Sections → SectionsValue
 sections_value s = record { answers = section_value s.answers; authorities = section_value s.authorities; additionals = section_value s.additionals }
 
--- the three sections at a place, one behind the other
+-- the three sections at a place, one after another
 abbrev pub sections_at : OpCode → HeaderCounts → List ℕ → ℕ → Read SectionsValue
 sections_at op counts bytes i = do
   answers ← section_at false op counts.answers bytes i
@@ -174,7 +175,7 @@ pub record IsPlain (op : OpCode) (r : Record RData) : Type 0 where
   pub given : HasNeededData op r
   pub placed : is_additional r ≡ false
 
--- nothing stands behind a signature (RFC 8945, 5.1)
+-- nothing stands after a signature (RFC 8945, 5.1)
 abbrev pub EndsWithSignature : List (Record RData) → Type 0
 EndsWithSignature [] = Unit {0}
 EndsWithSignature (r ∷ rs) = (is_signature r ≡ true → rs ≡ []) × EndsWithSignature rs

@@ -132,7 +132,8 @@ impl Edns {
     /// Sets DO (RFC 3225, 3). The other flags stay.
     pub fn set_dnssec_ok(&mut self, dnssec_ok: bool) -> &mut Edns
         ensures same { result.ghost_name ≡ self.entry.ghost_name }
-        ensures value { result.now ≡ record self.old { flags = record self.old.flags { dnssec_ok = dnssec_ok } } }
+        ensures value { result.now
+            ≡ record self.old { flags = record self.old.flags { dnssec_ok = dnssec_ok } } }
     {
         self.flags.dnssec_ok = dnssec_ok;
         self
@@ -156,8 +157,9 @@ impl TryFrom<&Record> for Edns {
 
     /// What an OPT record says (RFC 6891, 6.1.3). Its class number is the payload size, below 512 too.
     ///
-    /// Refused with `NotOpt` for a record without OPT data and without empty data of type OPT, and with `Memory` for
-    /// want of it.
+    /// # Errors
+    ///
+    /// `NotOpt` for a record without OPT data and without empty data of type OPT; `Memory` if memory runs out.
     fn try_from(opt: &Record) -> Result<Edns, ProtoError> {
         let options = match &opt.rdata {
             RData::OPT(options) => options.clone()?,
@@ -171,7 +173,11 @@ impl TryFrom<&Record> for Edns {
 impl Clone for Edns {
     ghost is_clone = { λ a b. b ≡ a };
 
-    /// The same value. Refused for want of memory.
+    /// The same value.
+    ///
+    /// # Errors
+    ///
+    /// If memory runs out.
     fn clone(&self) -> Result<Edns, AllocError> {
         Ok(Edns {
             rcode_high: self.rcode_high,

@@ -46,7 +46,8 @@ impl Header {
     pub fn to_bytes(&self) -> [u8; 12]
         ensures bytes { result ≡ header_bytes (raw_header self.now) }
         ensures narrow { IsNarrow self.now.metadata.id self.now.counts }
-        ensures word { (B : List ℕ) (i : ℕ) → Stands (header_bytes (raw_header self.now)) B i → HeaderWord self.now B i (i + 12) }
+        ensures word { (B : List ℕ) (i : ℕ) → Stands (header_bytes (raw_header self.now)) B i
+            → HeaderWord self.now B i (i + 12) }
     {
         let HeaderCounts {
             queries,
@@ -78,7 +79,9 @@ impl Header {
 
 // QR, the opcode, AA, TC and RD.
 fn high_byte_of(metadata: &Metadata) -> u8
-    ensures { let m = metadata.now in result ≡ high_byte (is_response m.message_type || bit_of 16 (op_number m.op_code)) (op_number m.op_code % 16)
+    ensures { let m = metadata.now in result
+        ≡ high_byte (is_response m.message_type
+        || bit_of 16 (op_number m.op_code)) (op_number m.op_code % 16)
         m.authoritative m.truncation m.recursion_desired }
 {
     let response = u8::from(metadata.message_type.bit());
@@ -91,7 +94,8 @@ fn high_byte_of(metadata: &Metadata) -> u8
 
 // RA, AD, CD and the code.
 fn low_byte_of(metadata: &Metadata) -> u8
-    ensures { let m = metadata.now in result ≡ low_byte m.recursion_available m.authentic_data m.checking_disabled (code_number m.response_code % 16) }
+    ensures { let m = metadata.now in result
+        ≡ low_byte m.recursion_available m.authentic_data m.checking_disabled (code_number m.response_code % 16) }
 {
     let recursion_available = u8::from(metadata.recursion_available);
     let authentic_data = u8::from(metadata.authentic_data);
@@ -115,16 +119,19 @@ impl BinEncodable for Header {
 
     /// Writes the twelve bytes of the header, as `to_bytes` has them (RFC 1035, 4.1.1).
     ///
-    /// Refused, with nothing written, with `MaxBufferSizeExceeded` where a byte would pass the limit, and with `Memory`
-    /// for want of it.
+    /// # Errors
+    ///
+    /// `MaxBufferSizeExceeded` where a byte would pass the limit; `Memory` if memory runs out. Nothing is written then.
     fn emit(&self, encoder: &mut BinEncoder<'_>) -> Result<(), ProtoError>
         ensures keeps { Keeps (state_of encoder.old) (state_of encoder.new) }
         ensures fits { OnOk result (IsNarrow self.now.metadata.id self.now.counts) }
         ensures exact { Exactly (just (header_bytes (raw_header self.now)))
             (state_of encoder.old) (state_of encoder.new) result }
-        ensures ok { OnOk result (state_of encoder.new ≡ appended (header_bytes (raw_header self.now)) (state_of encoder.old)) }
+        ensures ok { OnOk result (state_of encoder.new
+            ≡ appended (header_bytes (raw_header self.now)) (state_of encoder.old)) }
         ensures err { OnErr result (state_of encoder.new ≡ state_of encoder.old) }
-        ensures full { (state_of encoder.old).limit < length (state_of encoder.old).bytes + 12 → IsErrOf result ProtoError.MaxBufferSizeExceeded }
+        ensures full { (state_of encoder.old).limit < length (state_of encoder.old).bytes + 12
+            → IsErrOf result ProtoError.MaxBufferSizeExceeded }
     {
         encoder.emit_slice(&self.to_bytes())
     }
@@ -145,19 +152,23 @@ impl EncodedSize for Header {
 impl BinDecodable for Header {
     ghost read_at = { header_at };
 
-    /// Reads the twelve bytes of a header at the decoder's place, and moves behind them (RFC 1035, 4.1.1). Bit 0x40 of
+    /// Reads the twelve bytes of a header at the decoder's place, and moves after them (RFC 1035, 4.1.1). Bit 0x40 of
     /// the fourth is not looked at. Takes no memory.
     ///
-    /// Refused with `InsufficientBytes` where fewer than twelve bytes are left.
+    /// # Errors
+    ///
+    /// `InsufficientBytes` where fewer than twelve bytes are left.
     #[tactic(auto, using(base::proofs::AddsLemmas::adds_none), unfolding(crate::specs::Header::header_at))]
     fn read(decoder: &mut BinDecoder<'_>) -> Result<Header, DecodeError>
         ensures read { Reads (λ x. x) decoder.old decoder.new result (header_at decoder.old.bytes decoder.old.index) }
         ensures counts { Counts decoder.old decoder.new result }
         ensures passed { Passes decoder.old decoder.new result }
         ensures adds { IfOk result (λ _. AddsPassed [] decoder.old decoder.new) }
-        ensures found { IfOk result (λ h. IsHeaderAt decoder.old.bytes decoder.old.index h × (decoder.new.index ≡ decoder.old.index + 12)) }
+        ensures found { IfOk result (λ h. IsHeaderAt decoder.old.bytes decoder.old.index h
+            × (decoder.new.index ≡ decoder.old.index + 12)) }
         ensures only { IsOkUnless result DecodeError.InsufficientBytes }
-        ensures short { length decoder.old.bytes < decoder.old.index + 12 ↔ IsErrOf result DecodeError.InsufficientBytes }
+        ensures short { length decoder.old.bytes < decoder.old.index + 12
+            ↔ IsErrOf result DecodeError.InsufficientBytes }
     {
         // all twelve are read at once, since that is faster
         let bytes = decoder.read_slice(12)?;
@@ -181,7 +192,7 @@ fn number(bytes: &[u8], at: usize) -> u16
     u16::from_be_bytes([bytes[at], bytes[at + 1]])
 }
 
-// What an id and the two bytes of codes and flags behind it are read as.
+// What an id and the two bytes of codes and flags after it are read as.
 fn metadata_of(id: u16, high: u8, low: u8) -> Metadata
     ensures { result ≡ metadata_of_bytes id high low }
 {
@@ -210,6 +221,8 @@ fn bit(byte: u8, place: u32) -> bool
 /// Reading a header is the header word, and a header can't be read exactly where fewer than twelve bytes
 /// are left (RFC 1035, 4.1.1).
 pub fn reading_is_the_header_word()
-    ensures word { (B : List ℕ) (i : ℕ) (h : Header) (e : ℕ) → (header_at B i ≡ Ok (h, e)) ↔ (IsHeaderAt B i h × (e ≡ i + 12)) }
-    ensures fault { (B : List ℕ) (i : ℕ) (f : DecodeError) → (header_at B i ≡ Err f) ↔ ((f ≡ DecodeError.InsufficientBytes) × (length B < i + 12)) }
+    ensures word { (B : List ℕ) (i : ℕ) (h : Header) (e : ℕ)
+        → (header_at B i ≡ Ok (h, e)) ↔ (IsHeaderAt B i h × (e ≡ i + 12)) }
+    ensures fault { (B : List ℕ) (i : ℕ) (f : DecodeError)
+        → (header_at B i ≡ Err f) ↔ ((f ≡ DecodeError.InsufficientBytes) × (length B < i + 12)) }
 {}

@@ -34,22 +34,26 @@ pub fn response_codes_keep_numbers()
 
 /// The two parts of a response code make up the lowest twelve bits of its number (RFC 6891, 6.1.3).
 pub fn parts_make_up_codes()
-    ensures { (code : ResponseCode) → code_number (code_from (code_high code) (code_low code)) ≡ code_number code % 4096 }
+    ensures { (code : ResponseCode)
+        → code_number (code_from (code_high code) (code_low code)) ≡ code_number code % 4096 }
 {}
 
 /// The default response code is that of no error.
 pub fn default_is_no_error()
-    ensures { (code : ResponseCode) → ⟦<ResponseCode as Default>⟧.is_default code → code ≡ response_codes.NoError }
+    ensures { (code : ResponseCode) → ⟦<ResponseCode as Default>⟧.is_default code
+        → code ≡ response_codes.NoError }
 {}
 
 /// The default counts are zeros.
 pub fn default_counts_are_zero()
-    ensures { (counts : HeaderCounts) → ⟦<HeaderCounts as Default>⟧.is_default counts → counts ≡ zero_counts }
+    ensures { (counts : HeaderCounts) → ⟦<HeaderCounts as Default>⟧.is_default counts
+        → counts ≡ zero_counts }
 {}
 
 /// The default flags of EDNS are all clear.
 pub fn default_edns_flags_are_clear()
-    ensures { (flags : EdnsFlags) → ⟦<EdnsFlags as Default>⟧.is_default flags → flags ≡ record { dnssec_ok = false; z = 0 } }
+    ensures { (flags : EdnsFlags) → ⟦<EdnsFlags as Default>⟧.is_default flags
+        → flags ≡ record { dnssec_ok = false; z = 0 } }
 {}
 
 /// Operations are ordered as they are listed, and two unknown ones by number.
@@ -59,22 +63,26 @@ pub fn op_codes_are_ordered()
 
 /// Response codes are ordered as they are listed, and two unknown ones by number.
 pub fn response_codes_are_ordered()
-    ensures { (a b : ResponseCode) → ⟦<ResponseCode as PartialOrd>⟧.partial_cmp a b ≡ Some (code_cmp a b) }
+    ensures { (a b : ResponseCode)
+        → ⟦<ResponseCode as PartialOrd>⟧.partial_cmp a b ≡ Some (code_cmp a b) }
 {}
 
 /// Queries stand before responses.
 pub fn message_types_are_ordered()
-    ensures { (a b : MessageType) → ⟦<MessageType as PartialOrd>⟧.partial_cmp a b ≡ Some (message_type_cmp a b) }
+    ensures { (a b : MessageType)
+        → ⟦<MessageType as PartialOrd>⟧.partial_cmp a b ≡ Some (message_type_cmp a b) }
 {}
 
 /// Metadata is ordered by its fields in turn.
 pub fn metadata_is_ordered()
-    ensures { (a b : Metadata) → ⟦<Metadata as PartialOrd>⟧.partial_cmp a b ≡ Some (metadata_cmp a b) }
+    ensures { (a b : Metadata)
+        → ⟦<Metadata as PartialOrd>⟧.partial_cmp a b ≡ Some (metadata_cmp a b) }
 {}
 
 /// Counts are ordered by the sections in turn.
 pub fn counts_are_ordered()
-    ensures { (a b : HeaderCounts) → ⟦<HeaderCounts as PartialOrd>⟧.partial_cmp a b ≡ Some (counts_cmp a b) }
+    ensures { (a b : HeaderCounts)
+        → ⟦<HeaderCounts as PartialOrd>⟧.partial_cmp a b ≡ Some (counts_cmp a b) }
 {}
 
 /// Headers are ordered by metadata, then counts.

@@ -88,8 +88,11 @@ impl TryFrom<Query> for LowerQuery {
 
     ghost try_from_gives = { λ query result. MatchResult result (λ lower. lower ≡ query) (λ e. e ≡ refusals.Memory) };
 
-    /// The question with its name in lower case beside it (RFC 4343, 3), as `query` answers it. Refused with `Memory`
-    /// for want of it.
+    /// The question with its name in lower case beside it (RFC 4343, 3), as `query` answers it.
+    ///
+    /// # Errors
+    ///
+    /// `Memory` if memory runs out.
     fn try_from(query: Query) -> Result<LowerQuery, ProtoError> {
         LowerQuery::query(query.name.allocator(), query)
     }
@@ -98,7 +101,11 @@ impl TryFrom<Query> for LowerQuery {
 impl Clone for LowerQuery {
     ghost is_clone = { λ a b. b ≡ a };
 
-    /// The same question. Refused for want of memory.
+    /// The same question.
+    ///
+    /// # Errors
+    ///
+    /// If memory runs out.
     fn clone(&self) -> Result<LowerQuery, AllocError> {
         Ok(LowerQuery {
             name: self.name.clone()?,
@@ -136,7 +143,9 @@ impl BinEncodable for LowerQuery {
 
     /// Writes the question as it was asked (RFC 1035, 4.1.2).
     ///
-    /// Refused with `MaxBufferSizeExceeded` where a byte would pass the limit, and with `Memory` for want of it.
+    /// # Errors
+    ///
+    /// `MaxBufferSizeExceeded` where a byte would pass the limit; `Memory` if memory runs out.
     fn emit(&self, encoder: &mut BinEncoder<'_>) -> Result<(), ProtoError> {
         self.original.emit(encoder)
     }
@@ -147,9 +156,11 @@ impl BinDecodable for LowerQuery {
 
     ghost names_at = { query_places };
 
-    /// Reads a question at the decoder's place, and moves behind it (RFC 1035, 4.1.2).
+    /// Reads a question at the decoder's place, and moves after it (RFC 1035, 4.1.2).
     ///
-    /// Refused as `Query::read` is, with `Memory` also where there is none for the name in lower case.
+    /// # Errors
+    ///
+    /// As `Query::read` is; `Memory` also where there is none for the name in lower case.
     fn read(decoder: &mut BinDecoder<'_>) -> Result<LowerQuery, DecodeError> {
         let original = Query::read(decoder)?;
         let name = LowerName::new(decoder.allocator(), &original.name).map_err(

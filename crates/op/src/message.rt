@@ -33,7 +33,7 @@ pub use writing::emit_message_parts;
 
 /// A message: a header, questions, three sections of records, EDNS and a signature (RFC 1035, 4.1).
 ///
-/// EDNS and the signature are no records of the additional section here; on the wire they stand behind it.
+/// EDNS and the signature are no records of the additional section here; on the wire they stand after it.
 #[derive(Debug, Drop, PartialEq, Eq)]
 pub struct Message {
     /// The header without its counts.
@@ -70,14 +70,16 @@ impl Message {
 
     /// A query without questions. Takes no memory.
     pub fn query(alloc: Global, id: u16) -> Message
-        ensures { message_value result ≡ empty_message (plain_metadata id MessageType.Query OpCode.Query) }
+        ensures { message_value result
+            ≡ empty_message (plain_metadata id MessageType.Query OpCode.Query) }
     {
         Message::new(alloc, id, MessageType::Query, OpCode::Query)
     }
 
     /// A response without records. Takes no memory.
     pub fn response(alloc: Global, id: u16, op_code: OpCode) -> Message
-        ensures { message_value result ≡ empty_message (plain_metadata id MessageType.Response op_code) }
+        ensures { message_value result
+            ≡ empty_message (plain_metadata id MessageType.Response op_code) }
     {
         Message::new(alloc, id, MessageType::Response, op_code)
     }
@@ -89,43 +91,64 @@ impl Message {
         op_code: OpCode,
         response_code: ResponseCode,
     ) -> Message
-        ensures { message_value result ≡ empty_message (record (plain_metadata id MessageType.Response op_code) { response_code = response_code }) }
+        ensures { message_value result
+            ≡ empty_message (record (plain_metadata id MessageType.Response op_code) { response_code = response_code }) }
     {
         let mut message = Message::response(alloc, id, op_code);
         message.metadata.response_code = response_code;
         message
     }
 
-    /// Adds a question behind the others. Refused for want of memory; the message stays as it was then.
+    /// Adds a question after the others.
+    ///
+    /// # Errors
+    ///
+    /// If memory runs out; the message stays as it was then.
     pub fn add_query(&mut self, query: Query) -> Result<(), ProtoError>
-        ensures ok { OnOk result (message_value self.new ≡ record (message_value self.old) { queries = (message_value self.old).queries ++ query ∷ [] }) }
+        ensures ok { OnOk result (message_value self.new
+            ≡ record (message_value self.old) { queries = (message_value self.old).queries ++ query ∷ [] }) }
         ensures err { OnErr result (message_value self.new ≡ message_value self.old) }
         ensures only { IsOkUnless result ProtoError.Memory }
     {
         Ok(self.queries.push(query)?)
     }
 
-    /// Adds an answer behind the others. Refused for want of memory; the message stays as it was then.
+    /// Adds an answer after the others.
+    ///
+    /// # Errors
+    ///
+    /// If memory runs out; the message stays as it was then.
     pub fn add_answer(&mut self, answer: Record) -> Result<(), ProtoError>
-        ensures ok { OnOk result (message_value self.new ≡ record (message_value self.old) { answers = (message_value self.old).answers ++ answer ∷ [] }) }
+        ensures ok { OnOk result (message_value self.new
+            ≡ record (message_value self.old) { answers = (message_value self.old).answers ++ answer ∷ [] }) }
         ensures err { OnErr result (message_value self.new ≡ message_value self.old) }
         ensures only { IsOkUnless result ProtoError.Memory }
     {
         Ok(self.answers.push(answer)?)
     }
 
-    /// Adds an authority behind the others. Refused for want of memory; the message stays as it was then.
+    /// Adds an authority after the others.
+    ///
+    /// # Errors
+    ///
+    /// If memory runs out; the message stays as it was then.
     pub fn add_authority(&mut self, authority: Record) -> Result<(), ProtoError>
-        ensures ok { OnOk result (message_value self.new ≡ record (message_value self.old) { authorities = (message_value self.old).authorities ++ authority ∷ [] }) }
+        ensures ok { OnOk result (message_value self.new
+            ≡ record (message_value self.old) { authorities = (message_value self.old).authorities ++ authority ∷ [] }) }
         ensures err { OnErr result (message_value self.new ≡ message_value self.old) }
         ensures only { IsOkUnless result ProtoError.Memory }
     {
         Ok(self.authorities.push(authority)?)
     }
 
-    /// Adds an additional record behind the others. Refused for want of memory; the message stays as it was then.
+    /// Adds an additional record after the others.
+    ///
+    /// # Errors
+    ///
+    /// If memory runs out; the message stays as it was then.
     pub fn add_additional(&mut self, additional: Record) -> Result<(), ProtoError>
-        ensures ok { OnOk result (message_value self.new ≡ record (message_value self.old) { additionals = (message_value self.old).additionals ++ additional ∷ [] }) }
+        ensures ok { OnOk result (message_value self.new
+            ≡ record (message_value self.old) { additionals = (message_value self.old).additionals ++ additional ∷ [] }) }
         ensures err { OnErr result (message_value self.new ≡ message_value self.old) }
         ensures only { IsOkUnless result ProtoError.Memory }
     {

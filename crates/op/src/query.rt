@@ -124,7 +124,11 @@ impl Query {
 impl Clone for Query {
     ghost is_clone = { λ a b. b ≡ a };
 
-    /// The same question. Refused for want of memory.
+    /// The same question.
+    ///
+    /// # Errors
+    ///
+    /// If memory runs out.
     fn clone(&self) -> Result<Query, AllocError> {
         Ok(Query {
             name: self.name.clone()?,
@@ -151,7 +155,9 @@ impl BinEncodable for Query {
     /// Writes the name, compressed where it can be, the type and the class, whose top bit is set where an answer by
     /// unicast is asked for (RFC 1035, 4.1.2 and 4.1.4; RFC 6762, 5.4).
     ///
-    /// Refused with `MaxBufferSizeExceeded` where a byte would pass the limit, and with `Memory` for want of it.
+    /// # Errors
+    ///
+    /// `MaxBufferSizeExceeded` where a byte would pass the limit; `Memory` if memory runs out.
     fn emit(&self, encoder: &mut BinEncoder<'_>) -> Result<(), ProtoError> {
         self.name.emit(encoder)?;
         let class = self.query_class.to_field(self.mdns_unicast_response);
@@ -171,7 +177,7 @@ fn emit_fields(query_type: u16, class: u16, encoder: &mut BinEncoder<'_>) -> Res
     encoder.emit_slice(&[type_high, type_low, class_high, class_low])
 }
 
-// What stands behind the name of a question.
+// What stands after the name of a question.
 #[derive(Clone, Copy, Drop)]
 struct Fields {
     query_type: u16,
@@ -182,8 +188,10 @@ struct Fields {
 fn read_fields(decoder: &mut BinDecoder<'_>) -> Result<Fields, DecodeError>
     ensures found { let B = decoder.old.bytes in let i = decoder.old.index in
         IfOk result (λ f. IsNumberAt w16 B i f.query_type × IsNumberAt w16 B (i + 2) f.class) }
-    ensures behind { OnOk result ((decoder.new.index ≡ decoder.old.index + 4) × (decoder.new.bytes ≡ decoder.old.bytes)) }
-    ensures short { IfErr result (λ e. (e ≡ DecodeError.InsufficientBytes) × (length decoder.old.bytes < decoder.old.index + 4)) }
+    ensures after { OnOk result ((decoder.new.index ≡ decoder.old.index + 4)
+        × (decoder.new.bytes ≡ decoder.old.bytes)) }
+    ensures short { IfErr result (λ e. (e ≡ DecodeError.InsufficientBytes)
+        × (length decoder.old.bytes < decoder.old.index + 4)) }
     ensures kept { decoder.new.kept ≡ decoder.old.kept }
     ensures counts { Counts decoder.old decoder.new result }
     ensures passed { Passes decoder.old decoder.new result }
@@ -202,11 +210,13 @@ impl BinDecodable for Query {
 
     ghost names_at = { query_places };
 
-    /// Reads a question at the decoder's place, and moves behind it. The top bit of the class field is the unicast bit
+    /// Reads a question at the decoder's place, and moves after it. The top bit of the class field is the unicast bit
     /// (RFC 1035, 4.1.2; RFC 6762, 5.4).
     ///
-    /// Refused with the first fault of its name, `InsufficientBytes` or `BadName`; with `InsufficientBytes` where the
-    /// end cuts type or class; and with `Memory` where there is none for the name.
+    /// # Errors
+    ///
+    /// The first fault of its name, `InsufficientBytes` or `BadName`; `InsufficientBytes` where the end cuts type or
+    /// class; `Memory` where there is none for the name.
     #[tactic(auto, unfolding(crate::specs::Query::query_at))]
     fn read(decoder: &mut BinDecoder<'_>) -> Result<Query, DecodeError> {
         let name = Name::read(decoder)?;
@@ -238,16 +248,22 @@ impl fmt::Display for Query {
 /// that fits, and was written, is read as the same question; of one whose class number has the top bit, that
 /// bit is read as the wish for a unicast response.
 pub fn reading_is_the_question_word()
-    ensures word { (B : List ℕ) (i : ℕ) (q : Query) (e : ℕ) → (query_at B i ≡ Ok (q, e)) ↔ IsQueryAt B i q e }
-    ensures fault { (B : List ℕ) (i : ℕ) (f : DecodeError) → (query_at B i ≡ Err f) ↔ IsQueryFault B i f }
-    ensures written { (B : List ℕ) (i : ℕ) (q : Query) (e : ℕ) → QueryWord q B i e → IsQueryAt B i (query_value (raw_query q)) e }
+    ensures word { (B : List ℕ) (i : ℕ) (q : Query) (e : ℕ)
+        → (query_at B i ≡ Ok (q, e)) ↔ IsQueryAt B i q e }
+    ensures fault { (B : List ℕ) (i : ℕ) (f : DecodeError)
+        → (query_at B i ≡ Err f) ↔ IsQueryFault B i f }
+    ensures written { (B : List ℕ) (i : ℕ) (q : Query) (e : ℕ) → QueryWord q B i e
+        → IsQueryAt B i (query_value (raw_query q)) e }
     ensures same { (q : Query) → FitsQuery q → query_value (raw_query q) ≡ q }
 {}
 
 /// Questions are equal where their names are, letters folded, and their types, classes and bits are the
 /// same; and equal questions hash alike.
 pub fn equal_questions()
-    ensures equal { (a b : Query) → IsTrue (⟦<Query as PartialEq>⟧.eq a b) ↔ (IsTrue (same_name a.name b.name) × (a.query_type ≡ b.query_type)
+    ensures equal { (a b : Query)
+        → IsTrue (⟦<Query as PartialEq>⟧.eq a b)
+        ↔ (IsTrue (same_name a.name b.name) × (a.query_type ≡ b.query_type)
         × (a.query_class ≡ b.query_class) × (a.mdns_unicast_response ≡ b.mdns_unicast_response)) }
-    ensures hashed { (a b : Query) → IsTrue (⟦<Query as PartialEq>⟧.eq a b) → ⟦<Query as Hash>⟧.hash_input a ≡ ⟦<Query as Hash>⟧.hash_input b }
+    ensures hashed { (a b : Query) → IsTrue (⟦<Query as PartialEq>⟧.eq a b)
+        → ⟦<Query as Hash>⟧.hash_input a ≡ ⟦<Query as Hash>⟧.hash_input b }
 {}

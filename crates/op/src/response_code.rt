@@ -6,7 +6,7 @@ ghost use Rattle.op.specs.ResponseCode.{code_number, code_value, code_low, code_
 
 use std::fmt;
 
-/// What became of a request (RFC 1035, 4.1.1).
+/// How a request was answered: RCODE (RFC 1035, 4.1.1).
 ///
 /// The header has four bits for it, and an OPT record eight more above them (RFC 6891, 6.1.3). The order is that of the
 /// variants here, and two unknown codes are ordered by number.

@@ -33,7 +33,7 @@ joined_when : (r : Record RData) (xs : List (Record RData)) (b : Bool) → list_
 joined_when r xs true any = append-nil (replaced r xs)
 joined_when r xs false none = ap (λ ys. ys ++ r ∷ []) (replaced_none r xs none)
 
--- a record that joins others takes the places of equal data, or stands behind all
+-- a record that joins others takes the places of equal data, or stands after all
 pub joined_is : (r : Record RData) (xs : List (Record RData)) → joined r xs ≡ (if list_any (has_data_of r) xs then replaced r xs else xs ++ r ∷ [])
 joined_is r xs = joined_when r xs (list_any (has_data_of r) xs) refl
 

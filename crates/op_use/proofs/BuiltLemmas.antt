@@ -176,8 +176,8 @@ delete_by_rdata_fits id s origin use_edns g =
     sections_fit id use_edns origin s.dns_class _ _ g.rooted g.sent.class (All-nil _)
     (All-from_recursion (FitsPlain op_codes.Update) _ (each_none s.record_type g.ordinary s.records g.sound.own_type (recursion_from_All FitsRecord s.records g.sent.records)))
 
-untimed : (r : Record RData) → FitsRecord r → FitsRecord (without_ttl r)
-untimed r fits = record {
+with_zero_ttl : (r : Record RData) → FitsRecord r → FitsRecord (without_ttl r)
+with_zero_ttl r fits = record {
   reads = record { type_reads = fits.reads.type_reads; root = fits.reads.root; readable = fits.reads.readable };
   absolute = fits.absolute;
   class_reads = fits.class_reads;
@@ -190,7 +190,7 @@ each_untimed : (t : RecordType) → is_ordinary t ≡ true → (rs : List (Recor
     → AllByRecursion FitsRecord rs → AllByRecursion (FitsPlain op_codes.Update) (map without_ttl rs)
 each_untimed t plain [] own fits = tt
 each_untimed t plain (r ∷ rs) own fits =
-    (record { fits = untimed r fits.0; given = λ _. refl; placed = ap is_additional_type own.0 ∙ not_additional t plain }, each_untimed t plain rs own.1 fits.1)
+    (record { fits = with_zero_ttl r fits.0; given = λ _. refl; placed = ap is_additional_type own.0 ∙ not_additional t plain }, each_untimed t plain rs own.1 fits.1)
 
 pub compare_and_swap_fits : (id : ℕ) (current new : SetValue) (origin : NameValue) (use_edns : Bool) → IsSendable origin current → IsSendable origin new
     → Fits (update_message id use_edns (compare_and_swap current new origin))

@@ -123,16 +123,16 @@ last_filled [] r e = absurd cc
 last_filled (x ∷ xs) r e = λ f. cc
 
 -- the TTL of the record that stands last
-ttl_behind : (ttl : ℕ) (x : Record RData) (xs : List (Record RData)) (r : Record RData) → slice_get (x ∷ xs) (length xs) ≡ Some r
+ttl_after : (ttl : ℕ) (x : Record RData) (xs : List (Record RData)) (r : Record RData) → slice_get (x ∷ xs) (length xs) ≡ Some r
     → fold (λ (t : ℕ) (y : Record RData). y.ttl) ttl (x ∷ xs) ≡ r.ttl
-ttl_behind ttl x [] r e = ap (λ (o : Option (Record RData)). (unwrap_or o x).ttl) e
-ttl_behind ttl x (y ∷ ys) r e = ttl_behind x.ttl y ys r e
+ttl_after ttl x [] r e = ap (λ (o : Option (Record RData)). (unwrap_or o x).ttl) e
+ttl_after ttl x (y ∷ ys) r e = ttl_after x.ttl y ys r e
 
 ttl_of_last : (xs : List (Record RData)) (r : Record RData) → slice_get xs (length xs - 1) ≡ Some r → last_ttl xs ≡ r.ttl
 ttl_of_last [] r e = absurd cc
 ttl_of_last (x ∷ xs) r e =
     let same : length (x ∷ xs) - 1 ≡ length xs = omega arith in
-    ttl_behind 0 x xs r (subst (λ n. slice_get (x ∷ xs) n ≡ Some r) same e)
+    ttl_after 0 x xs r (subst (λ n. slice_get (x ∷ xs) n ≡ Some r) same e)
 
 -- a set that was made of records, with the TTL of the last, is the set at its key
 pub made_set : {class : DNSClass} {k : RrKey} {owner : NameValue} {t : RecordType} {last : Record RData} {xs : List (Record RData)} {s : SetValue} {m n : BTreeMap RrKey SetValue}

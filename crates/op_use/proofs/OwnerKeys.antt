@@ -58,7 +58,7 @@ and_true : (b : Bool) → (b && true) ≡ b
 and_true true = refl
 and_true false = refl
 
--- whether a key is at the least of an owner or behind it
+-- whether a key is at the least of an owner or after it
 abbrev pub is_from : NameValue → RrKey → Bool
 is_from owner k = range_contains key_cmp (Included (least owner)) Unbounded k
 
@@ -68,7 +68,7 @@ from_is owner k = and_true (is_le (key_cmp (least owner) k)) ∙ by_name (agains
 owned_is : (owner : NameValue) (k : RrKey) → is_owned owner k ≡ is_eq (against owner k)
 owned_is owner k = same_by-tie exact (lowered owner) k.name
 
--- behind a key of a later owner stand later owners
+-- after a key of a later owner stand later owners
 later : (owner : NameValue) (a b : RrKey) → against owner a ≡ Less → key_cmp a b ≡ Less → against owner b ≡ Less
 later owner a b p h = step (lower_cmp a.name b.name) refl h where
   step : (o : Ordering) → lower_cmp a.name b.name ≡ o → ordering_then o (type_cmp a.record_type b.record_type) ≡ Less → against owner b ≡ Less
@@ -229,7 +229,7 @@ turned true true o = refl
 turned true false o = refl
 turned false b o = refl
 
--- the entries behind, where all of an owner's keys that aren't guarded are taken out
+-- the entries after, where all of an owner's keys that aren't guarded are taken out
 pub all_gone : {X : Type 0} (owner : NameValue) (guarded : RrKey → Bool) (es : List (RrKey × X)) (q : RrKey)
     → cond (list_any (λ x. eq_by_cmp key_cmp x q) (filter (passes owner (λ k. not (guarded k))) (keys_of es))) None (lookup (is_at (key_cmp q)) es)
     ≡ cond (not (is_owned owner q) || guarded q) (lookup (is_at (key_cmp q)) es) None

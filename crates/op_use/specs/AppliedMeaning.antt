@@ -24,17 +24,20 @@ use Rattle.rr.specs.declared.record.Record.{Record}
 -- is applied to it and its zone meets the premise, is this outcome.
 abbrev pub AppliesUncut : MessageValue → (Zone → Type 0) → (Zone → ResponseCode × Zone) → Type 0
 AppliesUncut m Premise outcome =
-    (limit : ℕ) (B : List ℕ) (c : MessageValue) (k : IsCut m limit B c) → IsUncut k → (n : MessageValue) (e : ℕ) → IsMessageAt B 0 n e
+    (limit : ℕ) (B : List ℕ) (c : MessageValue) (k : IsCut m limit B c) → IsUncut k
+    → (n : MessageValue) (e : ℕ) → IsMessageAt B 0 n e
     → (origin : NameValue) (class : DNSClass) (old new : BTreeMap RrKey SetValue) (code : ResponseCode) → IsZoneMap class old → Premise (zone_of_map origin class old)
     → IsApplied origin class (sections_of n) old code new → ◌≡◌ {A = ResponseCode × Zone} (code, zone_of_map origin class new) (outcome (zone_of_map origin class old))
 
 -- a map to which updates may be applied is a zone
 abbrev pub MapsAreZones : Type 0
-MapsAreZones = (origin : NameValue) (class : DNSClass) (m : BTreeMap RrKey SetValue) → IsZoneMap class m → IsZone (zone_of_map origin class m)
+MapsAreZones = (origin : NameValue) (class : DNSClass) (m : BTreeMap RrKey SetValue)
+    → IsZoneMap class m → IsZone (zone_of_map origin class m)
 
 -- the records that an update leaves under a key have the data that the zone has there then
 abbrev pub RecordsHoldTheData : Type 0
-RecordsHoldTheData = (z : Zone) (m : Sections) (k : RrKey) (xs : List (Record RData)) → at z k ≡ map datum_of xs
+RecordsHoldTheData = (z : Zone) (m : Sections) (k : RrKey) (xs : List (Record RData))
+    → at z k ≡ map datum_of xs
     → at (applied z m).1 k ≡ map datum_of (records_applied z m k xs)
 
 abbrev pub CreateApplies : Type 0

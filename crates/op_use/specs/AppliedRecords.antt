@@ -27,11 +27,13 @@ abbrev pub after_update : Zone → Record RData → RrKey → List (Record RData
 after_update z r k xs = after_by (use_of z.class r.dns_class) z r k xs
 
 -- those after updates one after the other
-abbrev pub records_after : Zone → List (Record RData) → RrKey → List (Record RData) → List (Record RData)
+abbrev pub records_after : Zone → List (Record RData) → RrKey → List (Record RData)
+    → List (Record RData)
 records_after z [] k xs = xs
 records_after z (r ∷ rs) k xs = records_after (update z r) rs k (after_update z r k xs)
 
 -- those after updates, or as they were where there is a fault
-abbrev pub records_answered : Zone → List (Record RData) → Fault → RrKey → List (Record RData) → List (Record RData)
+abbrev pub records_answered : Zone → List (Record RData) → Fault → RrKey → List (Record RData)
+    → List (Record RData)
 records_answered z rs (Some code) k xs = xs
 records_answered z rs None k xs = records_after z rs k xs

@@ -47,7 +47,8 @@ pub record IsZoneSet (of_class : DNSClass) (k : RrKey) (s : SetValue) : Type 0 w
 
 -- each set of a map is such
 abbrev pub IsZoneMap : DNSClass → BTreeMap RrKey SetValue → Type 0
-IsZoneMap class sets = (k : RrKey) (s : SetValue) → tree.get key_cmp sets k ≡ Some s → IsZoneSet class k s
+IsZoneMap class sets = (k : RrKey) (s : SetValue) → tree.get key_cmp sets k ≡ Some s
+    → IsZoneSet class k s
 
 -- the classes that updates give a meaning of their own (RFC 2136, 2.4 and 2.5)
 abbrev pub is_class_any : DNSClass → Bool
@@ -60,7 +61,8 @@ is_class_none _ = false
 
 -- whether a record is of a type that is served: an ordinary one, NS or CNAME, or ANY where it names all types of an owner
 abbrev pub is_served : Record RData → Bool
-is_served r = is_ordinary (type_of_record r) || is_ns (type_of_record r) || is_cname (type_of_record r) || (is_any (type_of_record r) && is_class_any r.dns_class)
+is_served r = is_ordinary (type_of_record r) || is_ns (type_of_record r)
+    || is_cname (type_of_record r) || (is_any (type_of_record r) && is_class_any r.dns_class)
 
 -- the same of a prerequisite, which may say that an owner has no set (RFC 2136, 2.4.5)
 abbrev pub is_served_prerequisite : Record RData → Bool
@@ -85,9 +87,11 @@ abbrev pub names_owner : List (Record RData) → RrKey → Bool
 names_owner rs k = list_any (λ r. is_owned r.name k) rs
 
 -- the set of an owner that no update names stays as it is, and each set with a code other than NoError
-abbrev pub KeepsUnnamed : ResponseCode → List (Record RData) → BTreeMap RrKey SetValue → BTreeMap RrKey SetValue → Type 0
+abbrev pub KeepsUnnamed : ResponseCode → List (Record RData) → BTreeMap RrKey SetValue
+    → BTreeMap RrKey SetValue → Type 0
 KeepsUnnamed code rs old new =
-    ((k : RrKey) → names_owner rs k ≡ false → tree.get key_cmp new k ≡ tree.get key_cmp old k) × (code ≢ NoError → tree.IsUnchanged old new)
+    ((k : RrKey) → names_owner rs k ≡ false → tree.get key_cmp new k ≡ tree.get key_cmp old k)
+    × (code ≢ NoError → tree.IsUnchanged old new)
 
 -- the records of a set that may be there
 abbrev pub records_in : Option SetValue → List (Record RData)
@@ -99,8 +103,10 @@ abbrev pub records_at : BTreeMap RrKey SetValue → RrKey → List (Record RData
 records_at m k = records_in (tree.get key_cmp m k)
 
 -- each record of a set of the new map is one of the old map's set under that key, or one of rs
-abbrev pub TakesFrom : List (Record RData) → BTreeMap RrKey SetValue → BTreeMap RrKey SetValue → Type 0
-TakesFrom rs old new = (k : RrKey) (x : Record RData) → IsAmong (records_at new k) x → IsAmong (records_at old k) x ⊎ IsAmong rs x
+abbrev pub TakesFrom : List (Record RData) → BTreeMap RrKey SetValue → BTreeMap RrKey SetValue
+    → Type 0
+TakesFrom rs old new = (k : RrKey) (x : Record RData) → IsAmong (records_at new k) x
+    → IsAmong (records_at old k) x ⊎ IsAmong rs x
 
 -- the TTL of the last of these records, 0 of none
 abbrev pub last_ttl : List (Record RData) → ℕ
@@ -108,7 +114,8 @@ last_ttl rs = fold (λ ttl (r : Record RData). r.ttl) 0 rs
 
 -- each set of the new map is the one that the old map has under that key, or has the TTL of the last of its records
 abbrev pub TakesTtls : BTreeMap RrKey SetValue → BTreeMap RrKey SetValue → Type 0
-TakesTtls old new = (k : RrKey) (s : SetValue) → tree.get key_cmp new k ≡ Some s → (tree.get key_cmp old k ≡ Some s) ⊎ (s.ttl ≡ last_ttl s.records)
+TakesTtls old new = (k : RrKey) (s : SetValue) → tree.get key_cmp new k ≡ Some s
+    → (tree.get key_cmp old k ≡ Some s) ⊎ (s.ttl ≡ last_ttl s.records)
 
 -- The code and the new map are those that a server makes of the zone; the new map may be updated again; what no update
 -- names stays; each record was there or came with the updates; each set was there or has the TTL of the last of its
@@ -120,4 +127,5 @@ pub record IsApplied (origin : NameValue) (class : DNSClass) (s : Sections) (old
   pub others : KeepsUnnamed code s.updates old new
   pub taken : TakesFrom s.updates old new
   pub ttls : TakesTtls old new
-  pub exact : (k : RrKey) → records_at new k ≡ records_applied (zone_of_map origin class old) s k (records_at old k)
+  pub exact : (k : RrKey)
+      → records_at new k ≡ records_applied (zone_of_map origin class old) s k (records_at old k)

@@ -20,8 +20,9 @@ abbrev pub IsQuery : MessageValue → Type 0
 IsQuery m = m.metadata.message_type ≡ message_types.Query
 
 -- Why bytes are no response: a message that is a query begins them; or what reading met, the first fault of bytes that
--- begin with no message, or want of memory.
+-- begin with no message, or memory ran out.
 abbrev pub IsRefusedResponse : List ℕ → ProtoError → Type 0
-IsRefusedResponse bytes refusals.NotAResponse = (m : MessageValue) × (e : ℕ) × IsMessageAt bytes 0 m e × IsQuery m
+IsRefusedResponse bytes refusals.NotAResponse = (m : MessageValue) × (e : ℕ)
+    × IsMessageAt bytes 0 m e × IsQuery m
 IsRefusedResponse bytes (refusals.Decode fault) = Fails fault (message_at bytes 0)
 IsRefusedResponse bytes _ = ⊥

@@ -24,5 +24,6 @@ abbrev pub there_under : BTreeMap RrKey SetValue → Record RData → RrKey → 
 there_under m r k = list_any (has_data_of r) (records_at m k)
 
 -- whether it has only data that the records list for the set of r
-abbrev pub listed_under : BTreeMap RrKey SetValue → DNSClass → List (Record RData) → Record RData → RrKey → Bool
+abbrev pub listed_under : BTreeMap RrKey SetValue → DNSClass → List (Record RData) → Record RData
+    → RrKey → Bool
 listed_under m class rs r k = list_all (λ x. list_any (asks_for class r x) rs) (records_at m k)

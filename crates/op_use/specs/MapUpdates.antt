@@ -25,14 +25,18 @@ use Rattle.std.specs.Prelude.{List, None, Option, Some, cond, false, not, ◌&&�
 pub record IsAfter (origin : NameValue) (class : DNSClass) (rs : List (Record RData)) (old new : BTreeMap RrKey SetValue) : Type 0 where
   pub zone : zone_of_map origin class new ≡ fold update (zone_of_map origin class old) rs
   pub is_map : IsZoneMap class new
-  pub others : (k : RrKey) → names_owner rs k ≡ false → tree.get key_cmp new k ≡ tree.get key_cmp old k
+  pub others : (k : RrKey) → names_owner rs k ≡ false
+      → tree.get key_cmp new k ≡ tree.get key_cmp old k
   pub taken : TakesFrom rs old new
   pub ttls : TakesTtls old new
-  pub exact : (k : RrKey) → records_at new k ≡ records_after (zone_of_map origin class old) rs k (records_at old k)
+  pub exact : (k : RrKey)
+      → records_at new k ≡ records_after (zone_of_map origin class old) rs k (records_at old k)
 
 -- the new map has o under a key, and else what the old one has
-abbrev pub Puts : RrKey → Option SetValue → BTreeMap RrKey SetValue → BTreeMap RrKey SetValue → Type 0
-Puts k o old new = (q : RrKey) → tree.get key_cmp new q ≡ cond (eq_by_cmp key_cmp k q) o (tree.get key_cmp old q)
+abbrev pub Puts : RrKey → Option SetValue → BTreeMap RrKey SetValue → BTreeMap RrKey SetValue
+    → Type 0
+Puts k o old new = (q : RrKey)
+    → tree.get key_cmp new q ≡ cond (eq_by_cmp key_cmp k q) o (tree.get key_cmp old q)
 
 -- the new map has a set of these records under a key, with the TTL of the last, none where there are none, and else what
 -- the old one has
@@ -57,11 +61,13 @@ IsUpdated rs old new = (sets : BTreeMap RrKey SetValue) × (new ≡ record old {
 
 -- the new zone has these records under a key, and else what the old one has
 abbrev pub Holds : RrKey → List (Record RData) → HeldZone → HeldZone → Type 0
-Holds k xs old new = (sets : BTreeMap RrKey SetValue) × (new ≡ record old { sets = sets }) × IsSetTo old.class k xs old.sets sets
+Holds k xs old new = (sets : BTreeMap RrKey SetValue) × (new ≡ record old { sets = sets })
+    × IsSetTo old.class k xs old.sets sets
 
 -- the new zone is the old one without the set under a key
 abbrev pub Lacks : RrKey → HeldZone → HeldZone → Type 0
-Lacks k old new = (sets : BTreeMap RrKey SetValue) × (new ≡ record old { sets = sets }) × tree.Updates key_cmp old.sets sets k None
+Lacks k old new = (sets : BTreeMap RrKey SetValue) × (new ≡ record old { sets = sets })
+    × tree.Updates key_cmp old.sets sets k None
 
 -- how an update's class reads
 abbrev pub use_value : Use → UseValue
@@ -72,8 +78,10 @@ use_value uses.OfNothing = OfNothing
 
 -- the new map is the old one of a zone without the sets of an owner, but for those that stay
 abbrev pub Leaves : Zone → NameValue → BTreeMap RrKey SetValue → BTreeMap RrKey SetValue → Type 0
-Leaves z owner old new = (q : RrKey) → tree.get key_cmp new q ≡ cond (is_left z owner q) (tree.get key_cmp old q) None
+Leaves z owner old new = (q : RrKey)
+    → tree.get key_cmp new q ≡ cond (is_left z owner q) (tree.get key_cmp old q) None
 
 -- the new zone is the old one without the sets of an owner
 abbrev pub LacksOwner : NameValue → HeldZone → HeldZone → Type 0
-LacksOwner owner old new = (sets : BTreeMap RrKey SetValue) × (new ≡ record old { sets = sets }) × Leaves (zone_of old) owner old.sets sets
+LacksOwner owner old new = (sets : BTreeMap RrKey SetValue) × (new ≡ record old { sets = sets })
+    × Leaves (zone_of old) owner old.sets sets

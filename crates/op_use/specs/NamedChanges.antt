@@ -55,4 +55,5 @@ less_name z owner = record z { sets = fin.retain_keys z.sets (is_left z owner) }
 -- the same data as the set's, in any order, times to live aside
 abbrev pub has_data_of_set : Zone → SetValue → Bool
 has_data_of_set z s =
-    list_all (λ r. list_any (λ d. is_data_of d r) (at z (set_key s))) s.records && list_all (λ d. list_any (is_data_of d) s.records) (at z (set_key s))
+    list_all (λ r. list_any (λ d. is_data_of d r) (at z (set_key s))) s.records
+    && list_all (λ d. list_any (is_data_of d) s.records) (at z (set_key s))

@@ -43,7 +43,8 @@ is_of type r = same_type (type_of_data r.rdata) type
 abbrev pub answers_by : RecordType → MessageValue → Query → Bool
 answers_by types.ANY m q = list_any (λ r. same_name r.name q.name) (all_records m)
 answers_by types.SOA m q = list_any (λ r. is_of types.SOA r && is_zone_of r.name q.name) (all_records m)
-answers_by type m q = not (is_empty_list m.answers) || list_any (λ r. is_of type r && same_name r.name q.name) (all_records m)
+answers_by type m q = not (is_empty_list m.answers)
+    || list_any (λ r. is_of type r && same_name r.name q.name) (all_records m)
 
 abbrev pub contains_answer : MessageValue → Bool
 contains_answer m = list_any (λ q. answers_by q.query_type m q) m.queries

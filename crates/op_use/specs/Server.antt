@@ -118,7 +118,8 @@ is_same_key a b = eq_by_cmp key_cmp (record_key a) (record_key b)
 -- whether the zone's set of a record has the same data as the collected set
 abbrev pub is_met : Zone → List (Record RData) → Record RData → Bool
 is_met z rs r =
-    list_any (λ d. is_data_of d r) (at z (record_key r)) && list_all (λ d. list_any (λ q. is_same_key r q && is_data_of d q) rs) (at z (record_key r))
+    list_any (λ d. is_data_of d r) (at z (record_key r))
+    && list_all (λ d. list_any (λ q. is_same_key r q && is_data_of d q) rs) (at z (record_key r))
 
 abbrev pub prerequisites_fault : Zone → List (Record RData) → Fault
 prerequisites_fault z rs = and_then (first_fault (prerequisite_fault z) rs) (unless (list_all (is_met z (collected z rs)) (collected z rs)) NXRRSet)
@@ -165,7 +166,8 @@ goes_with z r k =
 
 -- whether a record isn't deleted: an SOA, or the last name server at the origin (3.4.2.4)
 abbrev pub is_needed : Zone → Record RData → Bool
-is_needed z r = is_soa (type_of_record r) || (is_guarded z r.name (type_of_record r) && nat_le (length (at z (record_key r))) 1)
+is_needed z r = is_soa (type_of_record r)
+    || (is_guarded z r.name (type_of_record r) && nat_le (length (at z (record_key r))) 1)
 
 -- an update
 abbrev pub update_by : Use → Zone → Record RData → Zone

@@ -20,7 +20,8 @@ use Rattle.op_use.specs.Zone.{IsZone, Zone, has_set}
 -- premise a server makes this outcome.
 abbrev pub MeansUncut : MessageValue → (Zone → Type 0) → (Zone → ResponseCode × Zone) → Type 0
 MeansUncut m Premise outcome =
-    (limit : ℕ) (B : List ℕ) (c : MessageValue) (k : IsCut m limit B c) → IsUncut k → (n : MessageValue) (e : ℕ) → IsMessageAt B 0 n e
+    (limit : ℕ) (B : List ℕ) (c : MessageValue) (k : IsCut m limit B c) → IsUncut k
+    → (n : MessageValue) (e : ℕ) → IsMessageAt B 0 n e
     → (z : Zone) → Premise z → serve z (sections_of n) ≡ outcome z
 
 -- Where the zone has no set of that owner and type, the set is merged into it; else YXRRSet.

@@ -29,13 +29,17 @@ use zone::Zone;
 /// Applies an update to the sets of a zone of this origin and class: answers the server's code (RFC 2136, 2.2), and the
 /// sets then.
 ///
-/// A message with a record of a type that isn't served is answered NotImp, before anything else is looked at: served are
-/// the ordinary types, NS, CNAME, and ANY where it stands for all types of an owner. With any code but NoError the sets
-/// are the same. A record that is added is the message's, also where it replaces one of equal data. A set that changes has
-/// the TTL of the last of its records. Opcode and message type aren't looked at.
+/// A message with a record of a type that isn't served is answered NotImp, before anything else is looked at: served
+/// are the ordinary types, NS, CNAME, and ANY where it stands for all types of an owner. With any code but NoError the
+/// sets are the same. A record that is added is the message's, also where it replaces one of equal data. A set that
+/// changes has the TTL of the last of its records. Opcode and message type aren't looked at.
 ///
 /// Each set that is handed in has records, no two of them of equal data, has this class, and stands under its own key;
-/// this holds of the answered sets too. Those that are handed in stay as they are. Refused for want of memory.
+/// this holds of the answered sets too. Those that are handed in stay as they are.
+///
+/// # Errors
+///
+/// If memory runs out.
 pub fn apply_update(
     alloc: Global,
     sets: &BTreeMap<RrKey, RecordSet>,
@@ -61,7 +65,8 @@ pub fn apply_update(
 // The code that an update is refused with, if it is: by its zone section, its prerequisites or the prescan, in this
 // order. The first test that fails is answered at once.
 fn fault(zone: &Zone, message: &Message) -> Result<Option<ResponseCode>, AllocError>
-    ensures { IfOk result (λ f. f ≡ fault_of (zone_of zone.now) (sections_of (message_value message.now))) }
+    ensures { IfOk result (λ f. f
+        ≡ fault_of (zone_of zone.now) (sections_of (message_value message.now))) }
 {
     if let Some(code) = zone.zone_fault(&message.queries) {
         return Ok(Some(code));

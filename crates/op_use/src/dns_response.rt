@@ -46,20 +46,31 @@ impl Model for DnsResponse {
 impl DnsResponse {
     /// The response that a message is, with the bytes that `Message::to_vec` writes of it.
     ///
-    /// Refused with `NotAResponse` for a query, before anything is written; with `NotAllRecordsWritten` where the
-    /// questions don't fit 65,535 bytes, with the number of those before the first that doesn't; and if memory runs out.
+    /// # Errors
+    ///
+    /// `NotAResponse` for a query, before anything is written; `NotAllRecordsWritten` where the questions don't fit
+    /// 65,535 bytes, with the number of those before the first that doesn't; `Memory` if memory runs out.
     pub fn from_message(alloc: Global, message: Message) -> Result<DnsResponse, ProtoError>
-        ensures same { IfOk result (λ r. (r.message ≡ message_value message) × IsResponse (message_value message)) }
+        ensures same { IfOk result (λ r. (r.message ≡ message_value message)
+            × IsResponse (message_value message)) }
         ensures query { (result ≡ Err ProtoError.NotAResponse) ↔ IsQuery (message_value message) }
-        ensures succeeds { IsResponse (message_value message) → HasRoom (message_value message) 65535 → IsOkUnless result ProtoError.Memory }
-        ensures written { Fits (message_value message) → IfOk result (λ r. IsWritten (message_value message) 65535 r.buffer) }
+        ensures succeeds { IsResponse (message_value message)
+            → HasRoom (message_value message) 65535 → IsOkUnless result ProtoError.Memory }
+        ensures written { Fits (message_value message)
+            → IfOk result (λ r. IsWritten (message_value message) 65535 r.buffer) }
         ensures emitted { IfOk result (λ r. EmittedNew (message_value message) 65535 r.buffer) }
         ensures exact { IfOk result (λ r. r.buffer ≡ message_bytes 65535 (message_value message)) }
-        ensures refused { IsResponse (message_value message) → IfErr result (λ e. (e ≡ ProtoError.Memory) ⊎ IsTooSmall (message_value message) 65535 e) }
-        ensures left { IsResponse (message_value message) → IfErr result (λ e. (e ≡ ProtoError.Memory) ⊎ LeavesNew (message_value message) 65535 e) }
-        ensures answer { IfOk result (λ r. message_answer 65535 (message_value message) ≡ Ok r.buffer) }
+        ensures refused { IsResponse (message_value message)
+            → IfErr result (λ e. (e ≡ ProtoError.Memory)
+            ⊎ IsTooSmall (message_value message) 65535 e) }
+        ensures left { IsResponse (message_value message)
+            → IfErr result (λ e. (e ≡ ProtoError.Memory)
+            ⊎ LeavesNew (message_value message) 65535 e) }
+        ensures answer { IfOk result (λ r. message_answer 65535 (message_value message)
+            ≡ Ok r.buffer) }
         ensures refusal { IsResponse (message_value message)
-            → IfErr result (λ e. (e ≡ ProtoError.Memory) ⊎ (message_answer 65535 (message_value message) ≡ Err e)) }
+            → IfErr result (λ e. (e ≡ ProtoError.Memory)
+            ⊎ (message_answer 65535 (message_value message) ≡ Err e)) }
     {
         match message.metadata.message_type {
             MessageType::Query => Err(ProtoError::NotAResponse),
@@ -72,12 +83,17 @@ impl DnsResponse {
 
     /// The response that bytes begin with, as `Message::from_vec` reads it, with all of these bytes (RFC 1035, 4.1).
     ///
-    /// Refused with `Decode` of the first fault of bytes that begin with no message, or of `Memory` for want of it; and
-    /// with `NotAResponse` for a query.
+    /// # Errors
+    ///
+    /// `Decode` of the first fault of bytes that begin with no message; of `Memory` if memory runs out; `NotAResponse`
+    /// for a query.
     pub fn from_buffer(alloc: Global, buffer: Vec<u8>) -> Result<DnsResponse, ProtoError>
-        ensures found { IfOk result (λ r. ((e : ℕ) × IsMessageAt buffer.items 0 r.message e) × IsResponse r.message × (r.buffer ≡ buffer.items)) }
+        ensures found { IfOk result (λ r. ((e : ℕ) × IsMessageAt buffer.items 0 r.message e)
+            × IsResponse r.message × (r.buffer ≡ buffer.items)) }
         ensures only { (m : MessageValue) (e : ℕ) → IsMessageAt buffer.items 0 m e
-            → MatchResult result (λ r. r.message ≡ m) (λ f. (f ≡ ProtoError.Decode DecodeError.Memory) ⊎ ((f ≡ ProtoError.NotAResponse) × IsQuery m)) }
+            → MatchResult result (λ r. r.message ≡ m)
+            (λ f. (f ≡ ProtoError.Decode DecodeError.Memory)
+            ⊎ ((f ≡ ProtoError.NotAResponse) × IsQuery m)) }
         ensures refused { IfErr result (λ f. IsRefusedResponse buffer.items f) }
         ensures fault { (f : DecodeError) → result ≡ Err (ProtoError.Decode f)
             → (f ≡ DecodeError.Memory) ⊎ IsMessageFault buffer.items 0 f }
@@ -167,7 +183,11 @@ impl DnsResponse {
 impl Clone for DnsResponse {
     ghost is_clone = { λ a b. b ≡ a };
 
-    /// The same message and bytes. Refused for want of memory.
+    /// The same message and bytes.
+    ///
+    /// # Errors
+    ///
+    /// If memory runs out.
     fn clone(&self) -> Result<DnsResponse, AllocError> {
         Ok(DnsResponse {
             message: self.message.clone()?,
@@ -186,13 +206,19 @@ impl From<DnsResponse> for Message {
 
 /// The bytes of the message, as `Message::to_vec` writes them.
 fn written(alloc: Global, message: &Message) -> Result<Vec<u8>, ProtoError>
-    ensures succeeds { HasRoom (message_value message.now) 65535 → IsOkUnless result ProtoError.Memory }
-    ensures written { Fits (message_value message.now) → IfOk result (λ bytes. IsWritten (message_value message.now) 65535 bytes.items) }
+    ensures succeeds { HasRoom (message_value message.now) 65535
+        → IsOkUnless result ProtoError.Memory }
+    ensures written { Fits (message_value message.now)
+        → IfOk result (λ bytes. IsWritten (message_value message.now) 65535 bytes.items) }
     ensures emitted { IfOk result (λ bytes. EmittedNew (message_value message.now) 65535 bytes.items) }
-    ensures exact { IfOk result (λ bytes. bytes.items ≡ message_bytes 65535 (message_value message.now)) }
-    ensures refused { IfErr result (λ e. (e ≡ ProtoError.Memory) ⊎ IsTooSmall (message_value message.now) 65535 e) }
-    ensures left { IfErr result (λ e. (e ≡ ProtoError.Memory) ⊎ LeavesNew (message_value message.now) 65535 e) }
-    ensures answer { IfOk result (λ bytes. message_answer 65535 (message_value message.now) ≡ Ok bytes.items) }
+    ensures exact { IfOk result (λ bytes. bytes.items
+        ≡ message_bytes 65535 (message_value message.now)) }
+    ensures refused { IfErr result (λ e. (e ≡ ProtoError.Memory)
+        ⊎ IsTooSmall (message_value message.now) 65535 e) }
+    ensures left { IfErr result (λ e. (e ≡ ProtoError.Memory)
+        ⊎ LeavesNew (message_value message.now) 65535 e) }
+    ensures answer { IfOk result (λ bytes. message_answer 65535 (message_value message.now)
+        ≡ Ok bytes.items) }
     ensures refusal { IfErr result (λ e. (e ≡ ProtoError.Memory)
         ⊎ (message_answer 65535 (message_value message.now) ≡ Err e)) }
 {
@@ -243,7 +269,8 @@ fn has_name(message: &Message, name: &Name) -> bool
 
 /// Whether any record is the start of a zone in which the name lies.
 fn has_soa_above(message: &Message, name: &Name) -> bool
-    ensures { result ≡ list_any (λ r. is_of types.SOA r && is_zone_of r.name name.now) (all_records (message_value message.now)) }
+    ensures { result ≡ list_any (λ r. is_of types.SOA r
+        && is_zone_of r.name name.now) (all_records (message_value message.now)) }
 {
     for record in message.all_sections() {
         if record.record_type() == RecordType::SOA && record.name.zone_of(name) {
@@ -255,7 +282,8 @@ fn has_soa_above(message: &Message, name: &Name) -> bool
 
 /// Whether any record has the type and the name.
 fn has_record(message: &Message, record_type: RecordType, name: &Name) -> bool
-    ensures { result ≡ list_any (λ r. is_of record_type r && same_name r.name name.now) (all_records (message_value message.now)) }
+    ensures { result ≡ list_any (λ r. is_of record_type r
+        && same_name r.name name.now) (all_records (message_value message.now)) }
 {
     for record in message.all_sections() {
         if record.record_type() == record_type && record.name == *name {

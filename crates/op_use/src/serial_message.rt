@@ -66,15 +66,20 @@ impl SerialMessage {
         SerialMessage::new(message, addr)
     }
 
-    /// The message that the bytes begin with, as `Message::from_vec` reads it; bytes behind it are not looked at
-    /// (RFC 1035, 4.1).
+    /// The message that the bytes begin with, as `Message::from_vec` reads it; bytes after it are not looked at (RFC
+    /// 1035, 4.1).
     ///
-    /// Refused with the first fault of bytes that begin with no message, and with `Memory` for want of it.
+    /// # Errors
+    ///
+    /// The first fault of bytes that begin with no message; `Memory` if memory runs out.
     pub fn to_message(&self) -> Result<Message, DecodeError>
-        ensures found { IfOk result (λ m. (e : ℕ) × IsMessageAt self.now.bytes 0 (message_value m) e) }
-        ensures only { (m : MessageValue) (e : ℕ) → IsMessageAt self.now.bytes 0 m e → MatchResult result (λ read. message_value read ≡ m) (λ f. f ≡ DecodeError.Memory) }
+        ensures found { IfOk result (λ m. (e : ℕ)
+            × IsMessageAt self.now.bytes 0 (message_value m) e) }
+        ensures only { (m : MessageValue) (e : ℕ) → IsMessageAt self.now.bytes 0 m e
+            → MatchResult result (λ read. message_value read ≡ m) (λ f. f ≡ DecodeError.Memory) }
         ensures refused { IfErr result (λ f. Fails f (message_at self.now.bytes 0)) }
-        ensures fault { IfErr result (λ f. (f ≡ DecodeError.Memory) ⊎ IsMessageFault self.now.bytes 0 f) }
+        ensures fault { IfErr result (λ f. (f ≡ DecodeError.Memory)
+            ⊎ IsMessageFault self.now.bytes 0 f) }
         ensures fits { IfOk result (λ m. Fits (message_value m)) }
     {
         Message::from_vec(*self.message.allocator(), &self.message)

@@ -21,7 +21,7 @@ use std::fmt::Debug;
 /// A message as an update: its questions name the zone, its answers are the prerequisites, its authorities the updates
 /// (RFC 2136, 2).
 ///
-/// Each call that adds is refused for want of memory alone.
+/// Each call that adds is refused because memory ran out alone.
 pub trait UpdateMessage: Debug {
     // the message
     ghost message: { Self → MessageValue };
@@ -30,20 +30,22 @@ pub trait UpdateMessage: Debug {
     fn id(&self) -> u16
         ensures { result ≡ (message self.now).metadata.id };
 
-    /// Adds a question behind the others, which names a zone (RFC 2136, 2.3). The message stays as it was where this
+    /// Adds a question after the others, which names a zone (RFC 2136, 2.3). The message stays as it was where this
     /// is refused.
     fn add_zone(&mut self, zone: Query) -> Result<(), ProtoError>
-        ensures ok { OnOk result (message self.new ≡ record (message self.old) { queries = (message self.old).queries ++ zone ∷ [] }) }
+        ensures ok { OnOk result (message self.new
+            ≡ record (message self.old) { queries = (message self.old).queries ++ zone ∷ [] }) }
         ensures err { OnErr result (message self.new ≡ message self.old) }
         ensures only { IsOkUnless result ProtoError.Memory };
 
-    /// Adds a prerequisite behind the others (RFC 2136, 2.4). The message stays as it was where this is refused.
+    /// Adds a prerequisite after the others (RFC 2136, 2.4). The message stays as it was where this is refused.
     fn add_pre_requisite(&mut self, prerequisite: Record) -> Result<(), ProtoError>
-        ensures ok { OnOk result (message self.new ≡ record (message self.old) { answers = (message self.old).answers ++ prerequisite ∷ [] }) }
+        ensures ok { OnOk result (message self.new
+            ≡ record (message self.old) { answers = (message self.old).answers ++ prerequisite ∷ [] }) }
         ensures err { OnErr result (message self.new ≡ message self.old) }
         ensures only { IsOkUnless result ProtoError.Memory };
 
-    /// Adds the prerequisites that the iterator gives, behind the others; where this is refused, those stand that came
+    /// Adds the prerequisites that the iterator gives, after the others; where this is refused, those stand that came
     /// before the one for which there was no memory.
     fn add_pre_requisites<I: Iterator<Item = Record> + Drop>(
         &mut self,
@@ -52,16 +54,18 @@ pub trait UpdateMessage: Debug {
         requires can { I.can_next prerequisites }
         requires countable { IsCountable (I.remaining prerequisites) }
         ensures added { AddsGiven I.next_gives prerequisites (message self.old).answers (message self.new).answers result }
-        ensures others { message self.new ≡ record (message self.old) { answers = (message self.new).answers } }
+        ensures others { message self.new
+            ≡ record (message self.old) { answers = (message self.new).answers } }
         ensures only { IsOkUnless result ProtoError.Memory };
 
-    /// Adds an update behind the others (RFC 2136, 2.5). The message stays as it was where this is refused.
+    /// Adds an update after the others (RFC 2136, 2.5). The message stays as it was where this is refused.
     fn add_update(&mut self, update: Record) -> Result<(), ProtoError>
-        ensures ok { OnOk result (message self.new ≡ record (message self.old) { authorities = (message self.old).authorities ++ update ∷ [] }) }
+        ensures ok { OnOk result (message self.new
+            ≡ record (message self.old) { authorities = (message self.old).authorities ++ update ∷ [] }) }
         ensures err { OnErr result (message self.new ≡ message self.old) }
         ensures only { IsOkUnless result ProtoError.Memory };
 
-    /// Adds the updates that the iterator gives, behind the others; where this is refused, those stand that came before
+    /// Adds the updates that the iterator gives, after the others; where this is refused, those stand that came before
     /// the one for which there was no memory.
     fn add_updates<I: Iterator<Item = Record> + Drop>(
         &mut self,
@@ -70,12 +74,14 @@ pub trait UpdateMessage: Debug {
         requires can { I.can_next updates }
         requires countable { IsCountable (I.remaining updates) }
         ensures added { AddsGiven I.next_gives updates (message self.old).authorities (message self.new).authorities result }
-        ensures others { message self.new ≡ record (message self.old) { authorities = (message self.new).authorities } }
+        ensures others { message self.new
+            ≡ record (message self.old) { authorities = (message self.new).authorities } }
         ensures only { IsOkUnless result ProtoError.Memory };
 
-    /// Adds an additional record behind the others. The message stays as it was where this is refused.
+    /// Adds an additional record after the others. The message stays as it was where this is refused.
     fn add_additional(&mut self, additional: Record) -> Result<(), ProtoError>
-        ensures ok { OnOk result (message self.new ≡ record (message self.old) { additionals = (message self.old).additionals ++ additional ∷ [] }) }
+        ensures ok { OnOk result (message self.new
+            ≡ record (message self.old) { additionals = (message self.old).additionals ++ additional ∷ [] }) }
         ensures err { OnErr result (message self.new ≡ message self.old) }
         ensures only { IsOkUnless result ProtoError.Memory };
 

@@ -11,8 +11,10 @@ use Rattle.txt.specs.ZoneSets.{AreKept}
 
 -- each set of a map is of a class
 abbrev pub AreOfClass : DNSClass → BTreeMap RrKey SetValue → Type 0
-AreOfClass class m = (k : RrKey) (s : SetValue) → tree.get key_cmp m k ≡ Some s → s.dns_class ≡ class
+AreOfClass class m = (k : RrKey) (s : SetValue) → tree.get key_cmp m k ≡ Some s
+    → s.dns_class ≡ class
 
 -- what the parser says of its sets, and one class of them all, is what applying an update asks
 abbrev pub ParsedZonesMayBeUpdated : Type 0
-ParsedZonesMayBeUpdated = (class : DNSClass) (m : BTreeMap RrKey SetValue) → AreKept m.entries → AreOfClass class m → IsZoneMap class m
+ParsedZonesMayBeUpdated = (class : DNSClass) (m : BTreeMap RrKey SetValue) → AreKept m.entries
+    → AreOfClass class m → IsZoneMap class m

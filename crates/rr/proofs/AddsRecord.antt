@@ -6,7 +6,7 @@ use Rattle.base.specs.Labels.{NameValue}
 use Rattle.base.specs.Names.{name_at}
 use Rattle.base.specs.Passing.{AddsPassed}
 use Rattle.base.specs.Reader.{Reader}
-use Rattle.base.specs.Reading.{Read, Reads, behind, number_at}
+use Rattle.base.specs.Reading.{Read, Reads, place_after, number_at}
 use Rattle.base.specs.RecordType.{type_of}
 use Rattle.base.specs.Spelling.{IsNameAt, NamesStand, one_more}
 use Rattle.base.specs.declared.error.decode_error.DecodeError.{DecodeError}
@@ -23,11 +23,11 @@ use Rattle.rr.proofs.ReadSteps.{type_at, typed}
 use Rattle.rr.specs.Record.{places_in, record_at, record_names, record_places}
 use Rattle.rr.specs.declared.record.Record.{Record}
 
--- what comes behind a type is two bytes on
-type_behind : (B : List ℕ) (i : ℕ) (type : RecordType) (e : ℕ) → type_at B i ≡ Ok (type, e) → e ≡ i + 2
-type_behind B i type e is =
+-- what comes after a type is two bytes on
+type_after : (B : List ℕ) (i : ℕ) (type : RecordType) (e : ℕ) → type_at B i ≡ Ok (type, e) → e ≡ i + 2
+type_after B i type e is =
     let read = bind_ok (number_at w16 B i) typed (type, e) is in
-    sym (ap (λ (x : RecordType × ℕ). x.1) (same_ok (type_of read.value.0, read.value.1) (type, e) read.second)) ∙ (number_is w16 B i read.value read.first).behind
+    sym (ap (λ (x : RecordType × ℕ). x.1) (same_ok (type_of read.value.0, read.value.1) (type, e) read.second)) ∙ (number_is w16 B i read.value read.first).after
 
 -- a record's owner, and then the names of its data
 pub record_adds : {old third : Reader} {owner : NameValue} {type : RecordType} (second new : Reader) (result : Result (Record RData) DecodeError)
@@ -35,10 +35,10 @@ pub record_adds : {old third : Reader} {owner : NameValue} {type : RecordType} (
     → AddsPassed (old.index ∷ []) old third → Reads (λ x. x) old new result (record_at old.bytes old.index)
     → IfOk result (λ r. AddsPassed (data_places r.rdata third.bytes (third.index + 8)) third new) → IfOk result (λ _. AddsPassed (record_places old.bytes old.index) old new)
 record_adds {old} {third} {owner} {type} second new (Ok r) owner_is type_is first reads names =
-    let begins : third.index + 8 ≡ behind (name_at old.bytes old.index) + 10 = omega (arith, type_behind second.bytes second.index type third.index type_is, ap behind owner_is) in
-    let there : data_places r.rdata third.bytes (third.index + 8) ≡ places_in (record_at old.bytes old.index) old.bytes (behind (name_at old.bytes old.index) + 10) =
+    let begins : third.index + 8 ≡ place_after (name_at old.bytes old.index) + 10 = omega (arith, type_after second.bytes second.index type third.index type_is, ap place_after owner_is) in
+    let there : data_places r.rdata third.bytes (third.index + 8) ≡ places_in (record_at old.bytes old.index) old.bytes (place_after (name_at old.bytes old.index) + 10) =
     ap (λ (bs : List ℕ). data_places r.rdata bs (third.index + 8)) first.bytes ∙ ap (data_places r.rdata old.bytes) begins
-    ∙ sym (ap (λ (read : Read (Record RData)). places_in read old.bytes (behind (name_at old.bytes old.index) + 10)) reads.0) in
+    ∙ sym (ap (λ (read : Read (Record RData)). places_in read old.bytes (place_after (name_at old.bytes old.index) + 10)) reads.0) in
     subst (λ (places : List ℕ). AddsPassed (old.index ∷ places) old new) there (adds_both first names)
 record_adds second new (Err e) owner_is type_is first reads names = tt
 
@@ -50,7 +50,7 @@ record_names_stand B i r e is =
     let owner : IsNameAt B i r.name at.word.owner_end = subst (λ (name : NameValue). IsNameAt B i name at.word.owner_end) (sym at.value.owner)
     (record { spelled = at.word.owner.0; short = at.word.owner.1; absolute = refl }) in
     let word : DataWord r.rdata B data_begins e = subst (λ (d : RData). DataWord d B data_begins e) (sym at.value.rdata) at.word.rdata_stands in
-    let begins : data_begins ≡ behind (name_at B i) + 10 = ap (λ (k : ℕ). k + 10) (sym (ap behind (name_again B i r.name at.word.owner_end owner))) in
-    let there : data_places r.rdata B data_begins ≡ places_in (record_at B i) B (behind (name_at B i) + 10) =
-    ap (data_places r.rdata B) begins ∙ sym (ap (λ (read : Read (Record RData)). places_in read B (behind (name_at B i) + 10)) is) in
+    let begins : data_begins ≡ place_after (name_at B i) + 10 = ap (λ (k : ℕ). k + 10) (sym (ap place_after (name_again B i r.name at.word.owner_end owner))) in
+    let there : data_places r.rdata B data_begins ≡ places_in (record_at B i) B (place_after (name_at B i) + 10) =
+    ap (data_places r.rdata B) begins ∙ sym (ap (λ (read : Read (Record RData)). places_in read B (place_after (name_at B i) + 10)) is) in
     one_more owner (subst (λ (places : List ℕ). NamesStand B places (data_names r.rdata)) there (names_stand r.rdata B data_begins e word at.value.readable))

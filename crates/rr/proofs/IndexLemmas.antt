@@ -160,9 +160,9 @@ pub joined_at : (r : Record RData) (rs : List (Record RData)) (p : ℕ) → IsOn
 joined_at r rs p h =
     sym (ap (λ b. replaced r rs ++ (if b then [] else r ∷ [])) (any_here r rs p h.inside h.same) ∙ append-nil (replaced r rs) ∙ replaced_at r rs p h.inside h.same h.others)
 
--- joined to records of which none has its data it stands behind them
-pub joined_behind : (r : Record RData) (rs : List (Record RData)) → list_any (has_data_of r) rs ≡ false → rs ++ r ∷ [] ≡ joined r rs
-joined_behind r rs none = sym (λ i. replaced_none r rs none i ++ (if none i then [] else r ∷ []))
+-- joined to records of which none has its data it stands after them
+pub joined_after : (r : Record RData) (rs : List (Record RData)) → list_any (has_data_of r) rs ≡ false → rs ++ r ∷ [] ≡ joined r rs
+joined_after r rs none = sym (λ i. replaced_none r rs none i ++ (if none i then [] else r ∷ []))
 
 -- a key more in the index
 pub index_wider : (find after : List ℕ → Option ℕ) (rs : List (Record RData)) (key : List ℕ) → IsIndexOf find rs → find key ≡ None
@@ -171,22 +171,22 @@ index_wider find after rs key h free others = record {
   at = λ i d inside. others (canonical_data (get_or rs i d).rdata) (λ e. none_is_not i (sym free ∙ ap find (sym e) ∙ h.at i d inside)) ∙ h.at i d inside;
 }
 
--- and the record of that key behind the others
+-- and the record of that key after the others
 pub index_push : (find after : List ℕ → Option ℕ) (rs : List (Record RData)) (r : Record RData) → IsIndexOf find rs → find (canonical_data r.rdata) ≡ None
     → ((cs : List ℕ) → cs ≢ canonical_data r.rdata → after cs ≡ find cs) → after (canonical_data r.rdata) ≡ Some (length rs) → IsIndexOf after (rs ++ r ∷ [])
 index_push find after rs r h free others here = record { at = at } where
   wide : IsIndexOf after rs
   wide = index_wider find after rs (canonical_data r.rdata) h free others
 
-  behind : (d : Record RData) → get_or (rs ++ r ∷ []) (length rs) d ≡ r
-  behind d = get_or-append_right rs (r ∷ []) (length rs) (length rs) d refl (omega arith) ∙ ap (λ (k : ℕ). get_or (r ∷ []) k d) (sub_self (length rs))
+  at_end : (d : Record RData) → get_or (rs ++ r ∷ []) (length rs) d ≡ r
+  at_end d = get_or-append_right rs (r ∷ []) (length rs) (length rs) d refl (omega arith) ∙ ap (λ (k : ℕ). get_or (r ∷ []) k d) (sub_self (length rs))
 
   at : (i : ℕ) (d : Record RData) → i < length (rs ++ r ∷ []) → after (canonical_data (get_or (rs ++ r ∷ []) i d).rdata) ≡ Some i
   at i d inside = elim (cases_lt i (length rs)) [
     | inl low ↦ subst (λ (x : Record RData). after (canonical_data x.rdata) ≡ Some i) (sym (get_or_append_left rs (r ∷ []) d i low)) (wide.at i d low)
     | inr high ↦
         let last : length rs ≡ i = omega (arith, length-append rs (r ∷ []), inside, high) in
-        subst (λ (k : ℕ). after (canonical_data (get_or (rs ++ r ∷ []) k d).rdata) ≡ Some k) last (ap (λ (x : Record RData). after (canonical_data x.rdata)) (behind d) ∙ here)
+        subst (λ (k : ℕ). after (canonical_data (get_or (rs ++ r ∷ []) k d).rdata) ≡ Some k) last (ap (λ (x : Record RData). after (canonical_data x.rdata)) (at_end d) ∙ here)
   ]
 
 -- a record in the place of one of its key
@@ -223,7 +223,7 @@ index_kept m n xs ys h same is = subst (λ (zs : List (Record RData)). IsIndexOf
   at = λ i d inside. ap (λ es. lookup (is_at (λ (k : Vec ℕ Global). slice_cmp nat_cmp (canonical_data (get_or xs i d).rdata) k.items)) es) same ∙ h.at i d inside;
 })
 
--- a record more, behind the others
+-- a record more, after the others
 pub pushed : (m n : BTreeMap (Vec ℕ Global) ℕ) (xs zs : List (Record RData)) (r : Record RData) (ks : List ℕ) (p : ℕ) → IsIndexOf (place_at m) xs → ks ≡ canonical_data r.rdata
     → place_at m ks ≡ None → place_at n ks ≡ Some p → ((cs : List ℕ) → cs ≢ ks → place_at n cs ≡ place_at m cs) → p ≡ length xs → zs ≡ xs ++ r ∷ [] → IsIndexOf (place_at n) zs
 pushed m n xs zs r ks p h key free here others len is =
@@ -285,8 +285,8 @@ pub entered_at : (r : Record RData) (rs : List (Record RData)) (p : ℕ) (x : Re
     → (same_entry x r && nat_eq x.ttl r.ttl) ≡ false → ◌≡◌ {A = Bool × List (Record RData)} (true, set rs p r) (entered r rs)
 entered_at r rs p x h is other = (λ i. (true, joined_at r rs p h i)) ∙ sym (entries r rs false (entry_at r rs p x h is ∙ other))
 
-pub entered_behind : (r : Record RData) (rs : List (Record RData)) → list_any (has_data_of r) rs ≡ false → ◌≡◌ {A = Bool × List (Record RData)} (true, rs ++ r ∷ []) (entered r rs)
-entered_behind r rs none = (λ i. (true, joined_behind r rs none i)) ∙ sym (entries r rs false (entry_none r rs none))
+pub entered_after : (r : Record RData) (rs : List (Record RData)) → list_any (has_data_of r) rs ≡ false → ◌≡◌ {A = Bool × List (Record RData)} (true, rs ++ r ∷ []) (entered r rs)
+entered_after r rs none = (λ i. (true, joined_after r rs none i)) ∙ sym (entries r rs false (entry_none r rs none))
 
 -- the first record of equal data is the only one
 first_by : (rdata : RData) (rs : List (Record RData)) (p : ℕ) → p < length rs → ((d : Record RData) → same_data (get_or rs p d).rdata rdata ≡ true)
@@ -307,12 +307,12 @@ first_set r rs p h =
     (λ d. ap (λ (x : Record RData). same_data x.rdata r.rdata) (get_or-set_same rs p r d h.inside) ∙ data_laws.refl r.rdata)
     (λ i d within other. ap (λ (x : Record RData). same_data x.rdata r.rdata) (get_or-set_other rs p i r d other) ∙ h.others i d (omega (arith, length-set rs p r, within)) other)
 
--- or behind records of other data
-pub first_behind : (r : Record RData) (rs : List (Record RData)) → list_any (has_data_of r) rs ≡ false → IsFirstAt r.rdata (rs ++ r ∷ []) (length rs)
-first_behind r [] none = sym (cond-true (same_data r.rdata r.rdata) (Some r) None (data_laws.refl r.rdata))
-first_behind r (x ∷ xs) none =
+-- or after records of other data
+pub first_after : (r : Record RData) (rs : List (Record RData)) → list_any (has_data_of r) rs ≡ false → IsFirstAt r.rdata (rs ++ r ∷ []) (length rs)
+first_after r [] none = sym (cond-true (same_data r.rdata r.rdata) (Some r) None (data_laws.refl r.rdata))
+first_after r (x ∷ xs) none =
     let parts : (has_data_of r x ≡ false) × (list_any (has_data_of r) xs ≡ false) = or_parts (has_data_of r x) _ none in
-    first_behind r xs parts.1 ∙ sym (cond-false (same_data x.rdata r.rdata) (Some x) (first_of r.rdata (xs ++ r ∷ [])) parts.0)
+    first_after r xs parts.1 ∙ sym (cond-false (same_data x.rdata r.rdata) (Some x) (first_of r.rdata (xs ++ r ∷ [])) parts.0)
 
 -- the index has the place of the one that has the data
 pub place_is : (find : List ℕ → Option ℕ) (rs : List (Record RData)) (rdata : RData) (p : ℕ) (d : Record RData) → IsIndexOf find rs → IsOnlyAt rdata rs p → find (canonical_data rdata) ≡ Some p

@@ -60,7 +60,7 @@ root_passes owner type root = passes (is_opt_type type) refl where
   passes true is = let none : (length owner.labels == 0) ≡ true = eq-eqb (length owner.labels) 0 (no_length owner.labels (root (opt_is type is))) in rw none refl
   passes false is = refl
 
--- what was read behind the type of a record
+-- what was read after the type of a record
 pub record IsBody (owner : NameValue) (type : RecordType) (B : List ℕ) (i : ℕ) (r : Record RData × ℕ) : Type 0 where
   pub class : ℕ
   pub ttl : ℕ
@@ -85,9 +85,9 @@ body_is owner type B i r is =
     let ttl_is = number_is w32 B class.value.1 ttl.value ttl.first in
     let len_is = number_is w16 B ttl.value.1 len.value len.first in
     let data_is = data_says type len.value.0 B len.value.1 rdata.value rdata.first in
-    let at_ttl : class.value.1 ≡ i + 2 = class_is.behind in
-    let at_len : ttl.value.1 ≡ i + 6 = omega (arith, ttl_is.behind, at_ttl) in
-    let at_data : len.value.1 ≡ i + 8 = omega (arith, len_is.behind, at_len) in
+    let at_ttl : class.value.1 ≡ i + 2 = class_is.after in
+    let at_len : ttl.value.1 ≡ i + 6 = omega (arith, ttl_is.after, at_ttl) in
+    let at_data : len.value.1 ≡ i + 8 = omega (arith, len_is.after, at_len) in
     let fits = ltb-false (length B) (len.value.1 + len.value.0) room.0 in
     let end : rdata.value.1 ≡ i + 8 + len.value.0 = omega (arith, data_is.1, at_data) in
     record {
@@ -116,7 +116,7 @@ body_again owner type B i r s =
     let data_read : rdata_at type s.len B (i + 8) ≡ Ok (s.rdata, i + 8 + s.len) = (reads_data B (i + 8) type s.len s.rdata (i + 8 + s.len)).1 (s.rdata_stands, refl) in
     rw (class, ttl, at_len, len, at_data, room, data_read, s.is) refl
 
--- a record that was read, and the place behind it
+-- a record that was read, and the place after it
 record IsReadRecord (B : List ℕ) (i : ℕ) (r : Record RData × ℕ) : Type 0 where
   word : IsRecordAt B i r.0 r.1
 
@@ -131,7 +131,7 @@ record_is B i r is =
     let name_stands : IsNameAt B i name m = name_is B i name m owner.first in
     let type_is = number_is w16 B m type.value type.first in
     let body = body_is name (type_of type.value.0) B type.value.1 r tested.1 in
-    let b : type.value.1 ≡ m + 2 = type_is.behind in
+    let b : type.value.1 ≡ m + 2 = type_is.after in
     let raw : RawRecord = record { labels = name.labels; type = type.value.0; class = body.class; ttl = body.ttl; rdata = body.rdata } in
     let at_ttl : type.value.1 + 2 ≡ m + 4 = omega (arith, b) in
     let at_len : type.value.1 + 6 ≡ m + 8 = omega (arith, b) in

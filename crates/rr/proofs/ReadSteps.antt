@@ -20,7 +20,7 @@ use Rattle.base_data.specs.declared.rdata.RData.{RData}
 use Rattle.rr.specs.Record.{body_at, class_value, flush_value, is_opt_type, record_at}
 use Rattle.rr.specs.declared.record.Record.{Record}
 
--- ---- what comes behind the type, over one buffer
+-- ---- what comes after the type, over one buffer
 
 -- what is computed of the bytes that a decoder holds and of its place
 pub placed : {A : Type 0} {again B : List ℕ} {k i : ℕ} → again ≡ B → k ≡ i → (f : List ℕ → ℕ → A) → f again k ≡ f B i
@@ -90,8 +90,8 @@ type_same : (again B : List ℕ) (i : ℕ) (r : Read RecordType) → again ≡ B
 type_same again B i r same is = subst (λ (bytes : List ℕ). type_at bytes i ≡ r) same is
 
 -- what follows owner and type
-abbrev behind_type : List ℕ → NameValue → RecordType → ℕ → Read (Record RData)
-behind_type B owner type e = if is_opt_type type && not (length owner.labels == 0) then Err (faults.EdnsNameNotRoot owner) else body_at owner type B e
+abbrev after_type : List ℕ → NameValue → RecordType → ℕ → Read (Record RData)
+after_type B owner type e = if is_opt_type type && not (length owner.labels == 0) then Err (faults.EdnsNameNotRoot owner) else body_at owner type B e
 
 pub name_fails : (B : List ℕ) (i : ℕ) (f : DecodeError) → Fails f (name_at B i) → Fails f (record_at B i)
 unfolding record_at
@@ -102,12 +102,12 @@ module _ (B : List ℕ) (i : ℕ) (owner : NameValue) (type_place : ℕ) (owner_
   unfolding record_at
   type_fails f fails =
       Fails-through f (type_at second type_place) (record_at B i)
-      (λ no. rw owner_is (type_err (number_at w16 B type_place) (λ n. behind_type B owner (type_of n.0) n.1) f (type_same second B type_place (Err f) same no))) fails
+      (λ no. rw owner_is (type_err (number_at w16 B type_place) (λ n. after_type B owner (type_of n.0) n.1) f (type_same second B type_place (Err f) same no))) fails
 
   module _ (type : RecordType) (e : ℕ) (type_is : type_at second type_place ≡ Ok (type, e)) where
-    head_is : record_at B i ≡ behind_type B owner type e
+    head_is : record_at B i ≡ after_type B owner type e
     unfolding record_at
-    head_is = rw owner_is (type_then (number_at w16 B type_place) (behind_type B owner) type e (type_same second B type_place (Ok (type, e)) same type_is))
+    head_is = rw owner_is (type_then (number_at w16 B type_place) (after_type B owner) type e (type_same second B type_place (Ok (type, e)) same type_is))
 
     pub wrong_owner : is_opt_type type ≡ true → (length owner.labels == 0) ≡ false → record_at B i ≡ Err (faults.EdnsNameNotRoot owner)
     wrong_owner opt labelled = head_is ∙ rw (opt, labelled) refl

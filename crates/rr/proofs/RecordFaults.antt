@@ -58,13 +58,13 @@ unfolding body_at
 body_fault owner type m B i f head is =
     bind_err (number_at w16 B (m + 2)) _ f (IsRecordFault B i f) is (λ e. let s = number_short w16 B (m + 2) f e in cut s.fault (omega (arith, s.short))) (λ class class_read is1.
     let class_is = number_is w16 B (m + 2) class class_read in
-    bind_err (number_at w32 B class.1) _ f (IsRecordFault B i f) is1 (λ e. let s = number_short w32 B class.1 f e in cut s.fault (omega (arith, s.short, class_is.behind))) (λ ttl ttl_read is2.
+    bind_err (number_at w32 B class.1) _ f (IsRecordFault B i f) is1 (λ e. let s = number_short w32 B class.1 f e in cut s.fault (omega (arith, s.short, class_is.after))) (λ ttl ttl_read is2.
     let ttl_is = number_is w32 B class.1 ttl ttl_read in
     bind_err (number_at w16 B ttl.1) _ f (IsRecordFault B i f) is2
-    (λ e. let s = number_short w16 B ttl.1 f e in cut s.fault (omega (arith, s.short, class_is.behind, ttl_is.behind))) (λ len len_read is3.
+    (λ e. let s = number_short w16 B ttl.1 f e in cut s.fault (omega (arith, s.short, class_is.after, ttl_is.after))) (λ len len_read is3.
     let len_is = number_is w16 B ttl.1 len len_read in
-    let at_len : ttl.1 ≡ m + 8 = omega (arith, class_is.behind, ttl_is.behind) in
-    let at_data : len.1 ≡ m + 10 = omega (arith, len_is.behind, at_len) in
+    let at_len : ttl.1 ≡ m + 8 = omega (arith, class_is.after, ttl_is.after) in
+    let at_data : len.1 ≡ m + 10 = omega (arith, len_is.after, at_len) in
     let counted : IsNumberAt w16 B (m + 8) len.0 = subst (λ k. IsNumberAt w16 B k len.0) at_len len_is.stands in
     turned_or (nat_lt (length B) (len.1 + len.0)) _ _ f (IsRecordFault B i f) is3 (λ test fault.
     let short = ltb-true (length B) (len.1 + len.0) test in
@@ -91,7 +91,7 @@ record_fault B i f is =
     (λ test fault. subst (IsRecordFault B i) (sym fault) (opt_owner stands type_is.stands (wrong_type owner.0 (type_of type.0) test) (wrong_labels owner.0 (type_of type.0) test)))
     (λ test is3.
     let head : HasHead B i owner.0 type.0 owner.1 = record { owner_stands = stands; type_stands = type_is.stands; root = root_of owner.0 (type_of type.0) test } in
-    body_fault owner.0 type.0 owner.1 B i f head (subst (λ k. body_at owner.0 (type_of type.0) B k ≡ Err f) type_is.behind is3))))
+    body_fault owner.0 type.0 owner.1 B i f head (subst (λ k. body_at owner.0 (type_of type.0) B k ≡ Err f) type_is.after is3))))
 
 -- ---- and the other way round
 
@@ -141,7 +141,7 @@ module _ (owner : NameValue) (type : RecordType) (B : List ℕ) (i len : ℕ) (c
       let bad = (refuses_data B (i + 8) type len (faults.BadData type)).1 (refl, none) in
       rw (class_there, ttl_there, at_len, len_there, at_data, test, bad) refl
 
--- what a record with a head is read as is what is read behind it
+-- what a record with a head is read as is what is read after it
 head_read : (B : List ℕ) (i : ℕ) (owner : NameValue) (type m : ℕ) (r : Result (Record RData × ℕ) DecodeError)
     → HasHead B i owner type m → body_at owner (type_of type) B (m + 2) ≡ r → record_at B i ≡ r
 unfolding record_at

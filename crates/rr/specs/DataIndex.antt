@@ -18,13 +18,15 @@ place_at index key = get_by (λ k. slice_cmp nat_cmp key k.items) index
 -- The index has the place of each record at the key of its data. So no two records have equal data. What it has at
 -- other keys is open.
 pub record IsIndexOf (find : List ℕ → Option ℕ) (rs : List (Record RData)) : Type 0 where
-  pub at : (i : ℕ) (d : Record RData) → i < length rs → find (canonical_data (get_or rs i d).rdata) ≡ Some i
+  pub at : (i : ℕ) (d : Record RData) → i < length rs
+      → find (canonical_data (get_or rs i d).rdata) ≡ Some i
 
 -- At this place, and at no other, there is a record of this data.
 pub record IsOnlyAt (rdata : RData) (rs : List (Record RData)) (p : ℕ) : Type 0 where
   pub inside : p < length rs
   pub same : (d : Record RData) → same_data (get_or rs p d).rdata rdata ≡ true
-  pub others : (i : ℕ) (d : Record RData) → i < length rs → i ≢ p → same_data (get_or rs i d).rdata rdata ≡ false
+  pub others : (i : ℕ) (d : Record RData) → i < length rs → i ≢ p
+      → same_data (get_or rs i d).rdata rdata ≡ false
 
 -- At this place stands the first record of this data.
 abbrev pub IsFirstAt : RData → List (Record RData) → ℕ → Type 0

@@ -7,7 +7,7 @@ use Rattle.base.specs.Faults.{IsFaulty}
 use Rattle.base.specs.Labels.{NameValue, plain_len}
 use Rattle.base.specs.NameText.{name_text}
 use Rattle.base.specs.Names.{name_at}
-use Rattle.base.specs.Reading.{Read, ◌>>=◌, behind, number_at}
+use Rattle.base.specs.Reading.{Read, ◌>>=◌, place_after, number_at}
 use Rattle.base.specs.RecordType.{type_number, type_of, type_text}
 use Rattle.base.specs.Spelling.{IsNameAt}
 use Rattle.base.specs.Words.{IsNumberAt, NameAt}
@@ -31,7 +31,7 @@ pub record RawRecord : Type 0 where
   pub ttl : ℕ
   pub rdata : RData
 
--- These fields stand in B from i up to e, the data behind the number of its bytes.
+-- These fields stand in B from i up to e, the data after the number of its bytes.
 pub record IsRawRecordAt (B : List ℕ) (i : ℕ) (raw : RawRecord) (e : ℕ) : Type 0 where
   pub owner_end : ℕ
   pub owner : NameAt raw.labels B i owner_end
@@ -135,9 +135,11 @@ pub record IsReadableRecord (r : Record RData) : Type 0 where
 pub record FitsRecord (r : Record RData) : Type 0 where
   pub reads : IsReadableRecord r
   pub absolute : r.name.absolute ≡ true
-  pub class_reads : is_opt_type (type_of_data r.rdata) ≡ false → class_of (class_number r.dns_class) ≡ r.dns_class
+  pub class_reads : is_opt_type (type_of_data r.rdata) ≡ false
+      → class_of (class_number r.dns_class) ≡ r.dns_class
   pub narrow : is_opt_type (type_of_data r.rdata) ≡ false → class_number r.dns_class < 32768
-  pub payload_reads : is_opt_type (type_of_data r.rdata) ≡ true → opt_class (class_number r.dns_class) ≡ r.dns_class
+  pub payload_reads : is_opt_type (type_of_data r.rdata) ≡ true
+      → opt_class (class_number r.dns_class) ≡ r.dns_class
   pub not_flushing : is_opt_type (type_of_data r.rdata) ≡ true → r.mdns_cache_flush ≡ false
 
 -- The record of this owner and type whose class, TTL, length and data stand at i, in this order, or its first fault.
@@ -151,7 +153,7 @@ body_at owner type bytes i = do
     Ok (record { name = owner; dns_class = class_value type class.0; ttl = ttl.0; rdata = rdata.0; mdns_cache_flush = flush_value type class.0 }, rdata.1))
 
 -- The record that stands at i, or its first fault: that of its name or type, then an owner of an OPT record that isn't
--- the root, then what comes behind.
+-- the root, then what comes after.
 unfoldable pub record_at : List ℕ → ℕ → Read (Record RData)
 record_at bytes i = do
   owner ← name_at bytes i
@@ -167,10 +169,10 @@ abbrev pub places_in : Read (Record RData) → List ℕ → ℕ → List ℕ
 places_in (Ok r) bytes i = data_places r.0.rdata bytes i
 places_in (Err e) bytes i = []
 
--- The places of the names of the record that stands at i: its owner's, and those of its data, ten bytes behind the owner
+-- The places of the names of the record that stands at i: its owner's, and those of its data, ten bytes after the owner
 -- (RFC 1035, 4.1.3).
 abbrev pub record_places : List ℕ → ℕ → List ℕ
-record_places bytes i = i ∷ places_in (record_at bytes i) bytes (behind (name_at bytes i) + 10)
+record_places bytes i = i ∷ places_in (record_at bytes i) bytes (place_after (name_at bytes i) + 10)
 
 -- a name and a type stand at i, and the owner of an OPT record is the root
 pub record HasHead (B : List ℕ) (i : ℕ) (owner : NameValue) (type m : ℕ) : Type 0 where
@@ -183,13 +185,21 @@ pub record HasHead (B : List ℕ) (i : ℕ) (owner : NameValue) (type m : ℕ) :
 -- data of the type.
 pub data IsRecordFault (B : List ℕ) (i : ℕ) : DecodeError → Type 0 where
   in_name : {f : DecodeError} → IsFaulty B i i 0 f → IsRecordFault B i f
-  cut_type : {owner : NameValue} {m : ℕ} → IsNameAt B i owner m → length B < m + 2 → IsRecordFault B i faults.InsufficientBytes
-  opt_owner : {owner : NameValue} {type m : ℕ} → IsNameAt B i owner m → IsNumberAt w16 B m type → type_of type ≡ types.OPT → owner.labels ≢ [] → IsRecordFault B i (faults.EdnsNameNotRoot owner)
-  cut_fields : {owner : NameValue} {type m : ℕ} → HasHead B i owner type m → length B < m + 10 → IsRecordFault B i faults.InsufficientBytes
-  long_data : {owner : NameValue} {type m len : ℕ} → HasHead B i owner type m → IsNumberAt w16 B (m + 8) len
-      → length B < m + 10 + len → IsRecordFault B i (faults.IncorrectRDataLengthRead (length B - (m + 10)) len)
-  bad_data : {owner : NameValue} {type m len : ℕ} → HasHead B i owner type m → IsNumberAt w16 B (m + 8) len → m + 10 + len ≤ length B
-      → ((d : RData) → ¬ IsDataAt B (m + 10) (type_of type) len d) → IsRecordFault B i (faults.BadData (type_of type))
+  cut_type : {owner : NameValue} {m : ℕ} → IsNameAt B i owner m → length B < m + 2
+      → IsRecordFault B i faults.InsufficientBytes
+  opt_owner : {owner : NameValue} {type m : ℕ} → IsNameAt B i owner m → IsNumberAt w16 B m type
+      → type_of type ≡ types.OPT → owner.labels ≢ []
+      → IsRecordFault B i (faults.EdnsNameNotRoot owner)
+  cut_fields : {owner : NameValue} {type m : ℕ} → HasHead B i owner type m → length B < m + 10
+      → IsRecordFault B i faults.InsufficientBytes
+  long_data : {owner : NameValue} {type m len : ℕ} → HasHead B i owner type m
+      → IsNumberAt w16 B (m + 8) len
+      → length B < m + 10 + len
+      → IsRecordFault B i (faults.IncorrectRDataLengthRead (length B - (m + 10)) len)
+  bad_data : {owner : NameValue} {type m len : ℕ} → HasHead B i owner type m
+      → IsNumberAt w16 B (m + 8) len → m + 10 + len ≤ length B
+      → ((d : RData) → ¬ IsDataAt B (m + 10) (type_of type) len d)
+      → IsRecordFault B i (faults.BadData (type_of type))
 
 -- name, TTL, class, type and data
 abbrev pub record_text : Record RData → List ℕ

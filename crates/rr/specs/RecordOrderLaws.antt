@@ -15,7 +15,8 @@ use Rattle.rr.specs.RecordOrder.{same_class, same_record, record_cmp}
 pub same_class-equiv : IsEquivalence same_class
 same_class-equiv = class_laws
 
-pub same_record-equiv : {R : Type 0} {same : R → R → Bool} → IsEquivalence same → IsEquivalence (same_record same)
+pub same_record-equiv : {R : Type 0} {same : R → R → Bool} → IsEquivalence same
+    → IsEquivalence (same_record same)
 same_record-equiv equiv = and_equiv (on_equiv (λ r. r.name) (same_by-equiv folded)) (and_equiv (on_equiv (λ r. r.dns_class) same_class-equiv) (on_equiv (λ r. r.rdata) equiv))
 
 pub type_cmp-total : IsTotalOrder type_cmp

@@ -27,27 +27,30 @@ abbrev pub RecordKept : Record RData → Type 0 → Type 0
 RecordKept r kept = let raw = raw_record r in AreNameLabels raw.labels × (FieldsFit raw.type raw.class raw.ttl × kept)
 
 -- type, class and TTL where their bytes stand
-fields_stand : (type class ttl : ℕ) (B : List ℕ) (i : ℕ) → FieldsFit type class ttl → Stands (fields_of type class ttl) B i
+fields_stand : (type class ttl : ℕ) (B : List ℕ) (i : ℕ) → FieldsFit type class ttl
+    → Stands (fields_of type class ttl) B i
     → Then (Number w16 type) (Then (Number w16 class) (Number w32 ttl)) B i (i + 8)
 fields_stand type class ttl B i fits stands =
     let types = to_be_bytes w16 type in
     let classes = to_be_bytes w16 class in
     let ttls = to_be_bytes w32 ttl in
-    let behind = stands_part types (classes ++ ttls) [] B i (subst (λ (xs : List ℕ). Stands (types ++ xs) B i) (sym (append-nil (classes ++ ttls))) stands) in
-    let last = stands_part classes ttls [] B (i + 2) (subst (λ (xs : List ℕ). Stands (classes ++ xs) B (i + 2)) (sym (append-nil ttls)) behind) in (
+    let after = stands_part types (classes ++ ttls) [] B i (subst (λ (xs : List ℕ). Stands (types ++ xs) B i) (sym (append-nil (classes ++ ttls))) stands) in
+    let last = stands_part classes ttls [] B (i + 2) (subst (λ (xs : List ℕ). Stands (classes ++ xs) B (i + 2)) (sym (append-nil ttls)) after) in (
       i + 2,
       (number16_stands type B i fits.type_fits (first_stands types (classes ++ ttls) B i stands), refl),
       (
         i + 2 + 2,
-        (number16_stands class B (i + 2) fits.class_fits (first_stands classes ttls B (i + 2) behind), refl),
+        (number16_stands class B (i + 2) fits.class_fits (first_stands classes ttls B (i + 2) after), refl),
         (number32_stands ttl B (i + 2 + 2) fits.ttl_fits last, omega arith),
       ),
     )
 
--- what stands one behind the other are the fields of a record
+-- what stands one after another are the fields of a record
 record_word : {type field : ℕ} (r : Record RData) → type ≡ type_number (type_of_data r.rdata) → field ≡ class_field r.mdns_cache_flush (class_number r.dns_class)
-    → (word : List ℕ → ℕ → ℕ → Type 0) → ((B : List ℕ) (i e : ℕ) → word B i e → DataWord r.rdata B i e)
-    → (B : List ℕ) (i e : ℕ) → Then (NameAt r.name.labels) (Then (Then (Number w16 type) (Then (Number w16 field) (Number w32 r.ttl))) (Sized word)) B i e → RecordWord r B i e
+    → (word : List ℕ → ℕ → ℕ → Type 0)
+    → ((B : List ℕ) (i e : ℕ) → word B i e → DataWord r.rdata B i e)
+    → (B : List ℕ) (i e : ℕ)
+    → Then (NameAt r.name.labels) (Then (Then (Number w16 type) (Then (Number w16 field) (Number w32 r.ttl))) (Sized word)) B i e → RecordWord r B i e
 record_word r type_is field_is word as_data B i e h =
     let m = h.0 in
     let fields = h.2.1 in
@@ -84,7 +87,8 @@ record_says {kept} r says =
 
 -- what is known of data of one kind, as that of any
 pub any_says : {fits : Type 0} {word : List ℕ → ℕ → ℕ → Type 0} {plain : ℕ} {owner : List (List ℕ)} (d : RData) (f : Writing) → data_written d ≡ f
-    → ((B : List ℕ) (i e : ℕ) → word B i e → DataWord d B i e) → plain_data d ≡ plain → Says f fits word plain owner → Says (data_written d) fits (DataWord d) (plain_data d) []
+    → ((B : List ℕ) (i e : ℕ) → word B i e → DataWord d B i e) → plain_data d ≡ plain
+    → Says f fits word plain owner → Says (data_written d) fits (DataWord d) (plain_data d) []
 any_says {fits} d f same follows len says =
     subst (λ (g : Writing). Says g fits (DataWord d) (plain_data d) []) (sym same)
     (Says-unowned f (Says-weaker f fits (λ ok. ok) (λ ok. follows) (omega (arith, len)) says))

@@ -55,7 +55,7 @@ abbrev pub replaced : Record RData → List (Record RData) → List (Record RDat
 replaced r [] = []
 replaced r (x ∷ xs) = (if has_data_of r x then r else x) ∷ replaced r xs
 
--- r in the place of each record of equal data, or behind all where there is none
+-- r in the place of each record of equal data, or after all where there is none
 abbrev pub joined : Record RData → List (Record RData) → List (Record RData)
 joined r xs = replaced r xs ++ (if list_any (has_data_of r) xs then [] else r ∷ [])
 

@@ -42,7 +42,8 @@ impl Record<RData> {
 
     /// The record borrowed as one whose data is of the kind `T`, if it is.
     pub fn try_borrow<'a, T: RecordData>(&'a self) -> Option<RecordRef<'a, T>>
-        ensures { option_map seen result ≡ option_map (λ rdata. holding rdata self.now) (T.of_rdata self.now.rdata) }
+        ensures { option_map seen result
+            ≡ option_map (λ rdata. holding rdata self.now) (T.of_rdata self.now.rdata) }
     {
         RecordRef::try_from(self).ok()
     }
@@ -79,7 +80,8 @@ impl<R: RecordData> Record<R> {
     /// stay.
     pub fn map<N: RecordData, F: FnOnce(R) -> Option<N>>(self, make: F) -> Option<Record<N>>
         requires { F.pre make self.rdata }
-        ensures { (made : Option N) × F.post make self.rdata made × (result ≡ option_map (λ rdata. holding rdata self) made) }
+        ensures { (made : Option N) × F.post make self.rdata made
+            × (result ≡ option_map (λ rdata. holding rdata self) made) }
     {
         let rdata = make(self.rdata)?;
         Some(Record {
@@ -111,7 +113,11 @@ impl<R: RecordData> Record<R> {
 impl<R: RecordData> Clone for Record<R> {
     ghost is_clone = { λ a b. R.is_clone a.rdata b.rdata × (b ≡ record a { rdata = b.rdata }) };
 
-    /// The same record, with a copy of its data. Refused for want of memory.
+    /// The same record, with a copy of its data.
+    ///
+    /// # Errors
+    ///
+    /// If memory runs out.
     fn clone(&self) -> Result<Record<R>, AllocError> {
         Ok(Record {
             name: self.name.clone()?,

@@ -22,9 +22,14 @@ pub struct RecordRef<'a, R: RecordData> {
 }
 
 impl<'a, R: RecordData> RecordRef<'a, R> {
-    /// The record itself, with a copy of its name and data. Refused with `Memory` for want of it.
+    /// The record itself, with a copy of its name and data.
+    ///
+    /// # Errors
+    ///
+    /// `Memory` if memory runs out.
     pub fn to_owned(&self) -> Result<Record<R>, ProtoError>
-        ensures ok { IfOk result (λ r. R.is_clone (seen self.now).rdata r.rdata × (r ≡ holding r.rdata (seen self.now))) }
+        ensures ok { IfOk result (λ r. R.is_clone (seen self.now).rdata r.rdata
+            × (r ≡ holding r.rdata (seen self.now))) }
         ensures memory { IsMemory result }
     {
         Ok(Record {

@@ -136,7 +136,11 @@ impl RecordSet {
 impl Clone for RecordSet {
     ghost is_clone = { λ a b. b ≡ a };
 
-    /// The same set. Refused for want of memory.
+    /// The same set.
+    ///
+    /// # Errors
+    ///
+    /// If memory runs out.
     fn clone(&self) -> Result<RecordSet, AllocError> {
         Ok(RecordSet {
             name: self.name.clone()?,
@@ -154,8 +158,11 @@ impl TryFrom<Record> for RecordSet {
 
     ghost try_from_gives = { λ entry result. MatchResult result (λ set. set ≡ set_of entry) (λ e. e ≡ refusals.Memory) };
 
-    /// The set of one record, with its name, type, class and TTL, and the serial 0. Refused with `Memory` for want of
-    /// it.
+    /// The set of one record, with its name, type, class and TTL, and the serial 0.
+    ///
+    /// # Errors
+    ///
+    /// `Memory` if memory runs out.
     fn try_from(entry: Record) -> Result<RecordSet, ProtoError> {
         let name = entry.name.clone()?;
         // Most sets stay with one record.

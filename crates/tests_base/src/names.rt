@@ -6,7 +6,7 @@ use base::{BinDecodable, BinDecoder, DecodeError, Name};
 use std::alloc::{AllocError, Global};
 use test_tools::forms::has_text;
 
-/// Reads a name behind as many bytes, and the place behind it.
+/// Reads a name after as many bytes, and the place after it.
 fn read_at(alloc: Global, bytes: &[u8], at: usize) -> Result<(Name, usize), DecodeError> {
     let mut decoder = BinDecoder::new(alloc, bytes);
     for _ in 0..at {
@@ -20,7 +20,7 @@ fn read_at(alloc: Global, bytes: &[u8], at: usize) -> Result<(Name, usize), Deco
 fn extent(alloc: Global, bytes: &[u8], at: usize) -> (u8, usize, usize) {
     let found = read_at(alloc, bytes, at);
     let extent = match &found {
-        Ok((name, behind)) => (0, name.label_count(), *behind),
+        Ok((name, after)) => (0, name.label_count(), *after),
         Err(e) => (e.number(), 0, 0),
     };
     drop(found);
@@ -41,9 +41,9 @@ fn has_labels(name: &Name, labels: &[&[u8]]) -> bool {
 fn reads_as(alloc: Global, bytes: &[u8], at: usize, labels: &[&[u8]], end: usize) -> bool {
     let found = read_at(alloc, bytes, at);
     let is_read = match &found {
-        Ok((name, behind)) => {
+        Ok((name, after)) => {
             let is_complete = name.is_fqdn() && name.is_root() == labels.is_empty();
-            *behind == end && is_complete && has_labels(name, labels)
+            *after == end && is_complete && has_labels(name, labels)
         }
         Err(_) => false,
     };
@@ -87,7 +87,7 @@ const REFUSED: &[(&'static [u8], usize, u8)] = &[
     (b"\xC0\x02\x00", 0, 5),
     (b"\x01a\xC0\x00", 0, 5),
     (b"\x00\xC0\x02\xC0\x01", 3, 5),
-    // behind a header: a pointer to itself, reserved bits, a cut label
+    // after a header: a pointer to itself, reserved bits, a cut label
     (b"\0\0\0\0\0\x01\0\0\0\0\0\0\xC0\x0C\0\x01\0\x01", 12, 5),
     (b"\0\0\0\0\0\x01\0\0\0\0\0\0\x40\0\x01\0\x01", 12, 5),
     (b"\0\0\0\0\0\x01\0\0\0\0\0\0\x03\x77\x77", 12, 4),
@@ -103,7 +103,7 @@ fn names_on_the_wire(rt: HostRuntime) {
     }
 }
 
-/// Twelve zero bytes, behind them labels of as many bytes `a`, and then these bytes.
+/// Twelve zero bytes, after them labels of as many bytes `a`, and then these bytes.
 fn message_of(alloc: Global, lens: &[u8], end: &[u8]) -> Result<Vec<u8>, AllocError> {
     let mut message = Vec::new(alloc);
     message.resize(12, 0)?;
@@ -130,7 +130,7 @@ fn extent_of(
 
 const WHOLE: usize = usize::MAX;
 
-/// The lengths of the labels and what stands behind them, how many bytes are left, a place, and the name there: the number
+/// The lengths of the labels and what stands after them, how many bytes are left, a place, and the name there: the number
 /// of its refusal, 0 for none, its labels and its end.
 const LONG: &[(
     &'static [u8],
@@ -144,7 +144,7 @@ const LONG: &[(
     // where the buffer ends inside the last label, that comes first
     (&[63, 63, 63, 62], &[0], 266, 12, (4, 0, 0)),
     (&[63, 63, 63, 62], &[0], 267, 12, (5, 0, 0)),
-    // behind a name of three long labels, a label and a pointer to that name
+    // after a name of three long labels, a label and a pointer to that name
     (&[63, 63, 63, 0, 61], &[0xC0, 0x0C], WHOLE, 12, (0, 3, 205)),
     (&[63, 63, 63, 0, 61], &[0xC0, 0x0C], WHOLE, 205, (0, 4, 269)),
     (&[63, 63, 63, 0, 62], &[0xC0, 0x0C], WHOLE, 12, (0, 3, 205)),

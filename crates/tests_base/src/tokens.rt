@@ -1,6 +1,6 @@
 //! The tokens of zone text and the texts of TTLs.
 //!
-//! A row has a text and what comes of it: the tokens with one space behind each, and then `end` or `fault`. Items stand
+//! A row has a text and what comes of it: the tokens with one space after each, and then `end` or `fault`. Items stand
 //! in brackets, those of a list in parentheses beside; a blank is `_`, the end of a line `/`.
 
 use base::{Lexer, ParseError, Token, parse_ttl};
@@ -24,7 +24,7 @@ fn show_list(shown: &mut String, items: &[String]) -> Result<(), AllocError> {
     shown.push_str(")")
 }
 
-// A token, as rows show it, but for the space behind it.
+// A token, as rows show it, but for the space after it.
 fn show(shown: &mut String, token: &Token) -> Result<(), AllocError> {
     let sign = match token {
         Token::CharData(item) => return show_item(shown, item),

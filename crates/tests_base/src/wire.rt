@@ -30,9 +30,9 @@ enum Step {
     /// The name that these bytes spell, and the same with no pointer.
     Name(&'static [u8]),
     Plain(&'static [u8]),
-    /// That name behind its length.
+    /// That name after its length.
     SizedName(&'static [u8]),
-    /// A number as a value, and behind its length.
+    /// A number as a value, and after its length.
     Value(u16),
     SizedValue(u16),
     Type(RecordType),

@@ -192,7 +192,7 @@ fn items_come_in_each_form(rt: HostRuntime) {
     assert!(rt; prints(alloc, slice, "10 mail."));
 }
 
-/// The text of a string of 255 letters, and of another behind it.
+/// The text of a string of 255 letters, and of another after it.
 const LONGEST: &str =
     "\"aaaaaaaaaaaaaaaaaaaaaaaaaaaaaaaaaaaaaaaaaaaaaaaaaaaaaaaaaaaaaaaaaaaaaaaaaaaaaaaaaaaaa\
     aaaaaaaaaaaaaaaaaaaaaaaaaaaaaaaaaaaaaaaaaaaaaaaaaaaaaaaaaaaaaaaaaaaaaaaaaaaaaaaaaaaaa\

@@ -19,10 +19,10 @@ const EDNS: &str = "00002904d0000000000018fde90014000000000000000000000000000000
 const SIGNATURE: &str = "0000fa00ff000000000001aa";
 
 // The same records where two bytes stand before the message.
-const TEXT_BEHIND: &str = "c00e001000010000003c0029\
+const TEXT_AFTER: &str = "c00e001000010000003c0029\
     2878787878787878787878787878787878787878787878787878787878787878787878787878787878";
 
-const ADDRESS_BEHIND: &str = "c00e000100010000003c0004c0000201";
+const ADDRESS_AFTER: &str = "c00e000100010000003c0004c0000201";
 
 /// Whether the bytes are these, in hexadecimal.
 fn are_bytes(alloc: Global, bytes: &[u8], parts: &[&str]) -> Result<bool, Fail> {
@@ -35,7 +35,7 @@ fn are_bytes(alloc: Global, bytes: &[u8], parts: &[&str]) -> Result<bool, Fail> 
     Ok(same)
 }
 
-/// Writes the message behind two bytes, under a limit for all of it. Whether these stand, whatever comes of it.
+/// Writes the message after two bytes, under a limit for all of it. Whether these stand, whatever comes of it.
 fn leaves_what_stood(message: &Message, bytes: &mut Vec<u8>, limit: u16) -> Result<bool, Fail> {
     let mut encoder = BinEncoder::new(&mut *bytes);
     encoder.set_max_size(limit);
@@ -50,7 +50,7 @@ fn leaves_what_stood(message: &Message, bytes: &mut Vec<u8>, limit: u16) -> Resu
 }
 
 /// Whether that is so of the signed message under a limit, and it is written as these parts.
-fn is_written_behind(alloc: Global, limit: u16, parts: &[&str]) -> Result<bool, Fail> {
+fn is_written_after(alloc: Global, limit: u16, parts: &[&str]) -> Result<bool, Fail> {
     let message = signed(alloc)?;
     let mut bytes = Vec::new(alloc);
     let stood = leaves_what_stood(&message, &mut bytes, limit);
@@ -69,28 +69,28 @@ fn what_stood_before_a_message_stays(rt: HostRuntime) -> Result<(), Fail> {
     let parts = [
         header,
         QUESTION,
-        TEXT_BEHIND,
-        ADDRESS_BEHIND,
+        TEXT_AFTER,
+        ADDRESS_AFTER,
         EDNS,
         SIGNATURE,
     ];
-    assert!(rt; is_written_behind(rt.alloc(), 137, &parts)?);
+    assert!(rt; is_written_after(rt.alloc(), 137, &parts)?);
     Ok(())
 }
 
 #[test]
 fn what_stood_before_a_cut_without_edns_stays(rt: HostRuntime) -> Result<(), Fail> {
     let header = "abcd000782000001000100000002";
-    let parts = [header, QUESTION, TEXT_BEHIND, ADDRESS_BEHIND, SIGNATURE];
-    assert!(rt; is_written_behind(rt.alloc(), 102, &parts)?);
+    let parts = [header, QUESTION, TEXT_AFTER, ADDRESS_AFTER, SIGNATURE];
+    assert!(rt; is_written_after(rt.alloc(), 102, &parts)?);
     Ok(())
 }
 
 #[test]
 fn what_stood_before_a_cut_without_answers_stays(rt: HostRuntime) -> Result<(), Fail> {
     let header = "abcd000782000001000000000002";
-    let parts = [header, QUESTION, ADDRESS_BEHIND, SIGNATURE];
-    assert!(rt; is_written_behind(rt.alloc(), 49, &parts)?);
+    let parts = [header, QUESTION, ADDRESS_AFTER, SIGNATURE];
+    assert!(rt; is_written_after(rt.alloc(), 49, &parts)?);
     Ok(())
 }
 
@@ -161,7 +161,7 @@ fn puts_in(options: &mut OPT, before: &OPT, option: EdnsOption) -> Result<bool, 
     }
 }
 
-/// Whether options are put in one behind the other.
+/// Whether options are put in one after another.
 fn options_are_put_in(alloc: Global, count: u16) -> Result<bool, Fail> {
     let mut options = OPT::new(Vec::new(alloc));
     for code in 0..count {
@@ -176,7 +176,7 @@ fn options_are_put_in(alloc: Global, count: u16) -> Result<bool, Fail> {
 }
 
 #[test]
-fn options_are_put_behind_each_other(rt: HostRuntime) -> Result<(), Fail> {
+fn options_are_put_in_turn(rt: HostRuntime) -> Result<(), Fail> {
     assert!(rt; options_are_put_in(rt.alloc(), 5)?);
     Ok(())
 }

@@ -394,14 +394,14 @@ fn www_beside_name(alloc: Global, name: &str) -> Result<(Ordering, bool, Orderin
 }
 
 #[test]
-fn a_later_name_stands_behind(rt: HostRuntime) -> Result<(), Fail> {
+fn a_later_name_comes_after(rt: HostRuntime) -> Result<(), Fail> {
     let beside = www_beside_name(rt.alloc(), "zzz.example.com.")?;
     assert!(rt; beside == (Ordering::Less, false, Ordering::Greater));
     Ok(())
 }
 
 #[test]
-fn a_later_class_or_ttl_stands_behind(rt: HostRuntime) -> Result<(), Fail> {
+fn a_later_class_or_ttl_comes_after(rt: HostRuntime) -> Result<(), Fail> {
     for &(dns_class, ttl, order, equal) in &[
         (DNSClass::IN, 5, Ordering::Equal, true),
         (DNSClass::IN, 6, Ordering::Less, true),
@@ -413,7 +413,7 @@ fn a_later_class_or_ttl_stands_behind(rt: HostRuntime) -> Result<(), Fail> {
 }
 
 #[test]
-fn a_later_type_or_data_stands_behind(rt: HostRuntime) -> Result<(), Fail> {
+fn a_later_type_or_data_comes_after(rt: HostRuntime) -> Result<(), Fail> {
     let later = A::new(Ipv4Addr::new(192, 168, 0, 255)).into_rdata();
     assert!(rt; www_beside_data(rt.alloc(), later)? == (Ordering::Less, false));
     let text = TXT::new(rt.alloc(), &[b"x"])?.into_rdata();

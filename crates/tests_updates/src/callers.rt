@@ -25,7 +25,7 @@ fn address(alloc: Global, owner: &str, ttl: u32, address: Ipv4Addr) -> Result<Re
     Ok(Record::from_rdata(name, ttl, RData::A(A::new(address))))
 }
 
-// Whether the query of this header, the question and what stands behind it is answered by such a response.
+// Whether the query of this header, the question and what stands after it is answered by such a response.
 fn responds(alloc: Global, query: (&str, &str), response: (&str, &str)) -> Result<bool, Fail> {
     let query = [query.0, QUESTION, query.1].concat(alloc)?;
     let response = [response.0, QUESTION, ANSWER, response.1].concat(alloc)?;

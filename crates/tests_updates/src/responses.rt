@@ -138,7 +138,7 @@ fn a_query_is_no_response(rt: HostRuntime) -> Result<(), Fail> {
 const RESPONSE: &[u8] =
     b"\x00\x01\x80\x00\x00\x01\x00\x00\x00\x00\x00\x00\x01b\x00\x00\x01\x00\x01";
 
-// Whether the bytes of a response to `b.` A are these, as they are written and as they were read with a byte behind.
+// Whether the bytes of a response to `b.` A are these, as they are written and as they were read with a byte after.
 fn has_bytes(alloc: Global) -> Result<(bool, bool), Fail> {
     let written = DnsResponse::from_message(alloc, asked(alloc, "b.", RecordType::A)?)?;
     let is_written = are_bytes(Ok(written.into_buffer()), RESPONSE);

@@ -1,4 +1,4 @@
--- Entries of tokens one behind the other, and what they make of it.
+-- Entries of tokens one after another, and what they make of it.
 use Rattle.std.proofs.Common.{◌≡◌, ◌≢◌, ℕ, zero, suc, ◌<◌, ◌≤◌, List, [], ◌∷◌, ◌++◌, length, refl, ap, sym, ◌∙◌, arith, Option, Some, None, Result, Ok, Err, Bool, true, false}
 use Rattle.std.specs.Prelude.{◌&&◌, ◌==◌}
 use Rattle.std.specs.List.{last_or}
@@ -46,25 +46,25 @@ abbrev IsClosed : List Symbol → Type 0
 IsClosed [] = Unit {0}
 IsClosed (x ∷ rest) = Ends (x ∷ rest)
 
-closed-behind : (x : Symbol) (rest : List Symbol) → Ends (x ∷ rest) → IsClosed rest
-closed-behind x [] is = tt
-closed-behind x (y ∷ rest) is = is
+closed-after : (x : Symbol) (rest : List Symbol) → Ends (x ∷ rest) → IsClosed rest
+closed-after x [] is = tt
+closed-after x (y ∷ rest) is = is
 
-ends-behind : (x : Symbol) (rest : List Symbol) → (x ≢ symbol eol) → Ends (x ∷ rest) → Ends rest
-ends-behind x [] other is = absurd (other (let alike : x ≡ symbol eol = cc in alike))
-ends-behind x (y ∷ rest) other is = is
+ends-after : (x : Symbol) (rest : List Symbol) → (x ≢ symbol eol) → Ends (x ∷ rest) → Ends rest
+ends-after x [] other is = absurd (other (let alike : x ≡ symbol eol = cc in alike))
+ends-after x (y ∷ rest) other is = is
 
--- What was taken off tokens is taken off them with more behind, and the tokens left end with the end of a line.
+-- What was taken off tokens is taken off them with more after, and the tokens left end with the end of a line.
 abbrev IsTakenOff : {A : Type 0} → List Symbol → A × List Symbol → A × List Symbol → Type 0
 IsTakenOff {A} more found found' = (found' ≡ (found.0, found.1 ++ more)) × IsClosed found.1
 
 closed-items : (more from : List Symbol) → Ends from → (items_of (from ++ more) ≡ ((items_of from).0, (items_of from).1 ++ more)) × Ends (items_of from).1
 closed-items more [] is = absurd cc
 closed-items more (symbol (char_data word) ∷ rest) is =
-    let again = closed-items more rest (ends-behind (symbol (char_data word)) rest (λ alike. cc) is) in
+    let again = closed-items more rest (ends-after (symbol (char_data word)) rest (λ alike. cc) is) in
     (ap (λ (found : List (List ℕ) × List Symbol). (word ∷ found.0, found.1)) again.0, again.1)
 closed-items more (symbol (list words) ∷ rest) is =
-    let again = closed-items more rest (ends-behind (symbol (list words)) rest (λ alike. cc) is) in
+    let again = closed-items more rest (ends-after (symbol (list words)) rest (λ alike. cc) is) in
     (ap (λ (found : List (List ℕ) × List Symbol). (words ++ found.0, found.1)) again.0, again.1)
 closed-items more (symbol blank ∷ rest) is = (refl, is)
 closed-items more (symbol eol ∷ rest) is = (refl, is)
@@ -76,15 +76,15 @@ closed-items more (broken ∷ rest) is = (refl, is)
 
 closed-stop : (more from : List Symbol) → Ends from → IsTakenOff more (stop_of from) (stop_of (from ++ more))
 closed-stop more [] is = absurd cc
-closed-stop more (symbol (char_data word) ∷ rest) is = (refl, closed-behind _ rest is)
-closed-stop more (symbol (list words) ∷ rest) is = (refl, closed-behind _ rest is)
-closed-stop more (symbol blank ∷ rest) is = (refl, closed-behind _ rest is)
-closed-stop more (symbol eol ∷ rest) is = (refl, closed-behind _ rest is)
-closed-stop more (symbol at ∷ rest) is = (refl, closed-behind _ rest is)
-closed-stop more (symbol origin_sign ∷ rest) is = (refl, closed-behind _ rest is)
-closed-stop more (symbol include ∷ rest) is = (refl, closed-behind _ rest is)
-closed-stop more (symbol ttl_sign ∷ rest) is = (refl, closed-behind _ rest is)
-closed-stop more (broken ∷ rest) is = (refl, closed-behind _ rest is)
+closed-stop more (symbol (char_data word) ∷ rest) is = (refl, closed-after _ rest is)
+closed-stop more (symbol (list words) ∷ rest) is = (refl, closed-after _ rest is)
+closed-stop more (symbol blank ∷ rest) is = (refl, closed-after _ rest is)
+closed-stop more (symbol eol ∷ rest) is = (refl, closed-after _ rest is)
+closed-stop more (symbol at ∷ rest) is = (refl, closed-after _ rest is)
+closed-stop more (symbol origin_sign ∷ rest) is = (refl, closed-after _ rest is)
+closed-stop more (symbol include ∷ rest) is = (refl, closed-after _ rest is)
+closed-stop more (symbol ttl_sign ∷ rest) is = (refl, closed-after _ rest is)
+closed-stop more (broken ∷ rest) is = (refl, closed-after _ rest is)
 
 closed-typed : (more : List Symbol) (word : List ℕ) (from : List Symbol) → Ends from → IsTakenOff more (typed_at word from) (typed_at word (from ++ more))
 closed-typed more word from is =
@@ -97,70 +97,70 @@ closed-typed more word from is =
 
 closed-word : (more : List Symbol) (set : Option Setting) (word : List ℕ) (from : List Symbol) (line line' : (List Setting × Body) × List Symbol) → Ends from
     → IsTakenOff more line line' → IsTakenOff more (word_of set word from line) (word_of set word (from ++ more) line')
-closed-word more None word from line line' is behind = closed-typed more word from is
-closed-word more (Some setting) word from line line' is behind = (ap (λ (found : (List Setting × Body) × List Symbol). ((setting ∷ found.0.0, found.0.1), found.1)) behind.0, behind.1)
+closed-word more None word from line line' is after = closed-typed more word from is
+closed-word more (Some setting) word from line line' is after = (ap (λ (found : (List Setting × Body) × List Symbol). ((setting ∷ found.0.0, found.0.1), found.1)) after.0, after.1)
 
 closed-line : (more from : List Symbol) → Ends from → IsTakenOff more (line_of from) (line_of (from ++ more))
 closed-line more [] is = absurd cc
 closed-line more (symbol (char_data word) ∷ rest) is =
-    let ends' = ends-behind (symbol (char_data word)) rest (λ alike. cc) is in
+    let ends' = ends-after (symbol (char_data word)) rest (λ alike. cc) is in
     closed-word more (setting_of word) word rest (line_of rest) (line_of (rest ++ more)) ends' (closed-line more rest ends')
-closed-line more (symbol (list words) ∷ rest) is = (refl, closed-behind _ rest is)
-closed-line more (symbol blank ∷ rest) is = (refl, closed-behind _ rest is)
-closed-line more (symbol eol ∷ rest) is = (refl, closed-behind _ rest is)
-closed-line more (symbol at ∷ rest) is = (refl, closed-behind _ rest is)
-closed-line more (symbol origin_sign ∷ rest) is = (refl, closed-behind _ rest is)
-closed-line more (symbol include ∷ rest) is = (refl, closed-behind _ rest is)
-closed-line more (symbol ttl_sign ∷ rest) is = (refl, closed-behind _ rest is)
-closed-line more (broken ∷ rest) is = (refl, closed-behind _ rest is)
+closed-line more (symbol (list words) ∷ rest) is = (refl, closed-after _ rest is)
+closed-line more (symbol blank ∷ rest) is = (refl, closed-after _ rest is)
+closed-line more (symbol eol ∷ rest) is = (refl, closed-after _ rest is)
+closed-line more (symbol at ∷ rest) is = (refl, closed-after _ rest is)
+closed-line more (symbol origin_sign ∷ rest) is = (refl, closed-after _ rest is)
+closed-line more (symbol include ∷ rest) is = (refl, closed-after _ rest is)
+closed-line more (symbol ttl_sign ∷ rest) is = (refl, closed-after _ rest is)
+closed-line more (broken ∷ rest) is = (refl, closed-after _ rest is)
 
 closed-origin : (more from : List Symbol) → Ends from → IsTakenOff more (origin_of from) (origin_of (from ++ more))
 closed-origin more [] is = absurd cc
-closed-origin more (symbol (char_data word) ∷ rest) is = (refl, closed-behind _ rest is)
-closed-origin more (symbol (list words) ∷ rest) is = (refl, closed-behind _ rest is)
-closed-origin more (symbol blank ∷ rest) is = (refl, closed-behind _ rest is)
-closed-origin more (symbol eol ∷ rest) is = (refl, closed-behind _ rest is)
-closed-origin more (symbol at ∷ rest) is = (refl, closed-behind _ rest is)
-closed-origin more (symbol origin_sign ∷ rest) is = (refl, closed-behind _ rest is)
-closed-origin more (symbol include ∷ rest) is = (refl, closed-behind _ rest is)
-closed-origin more (symbol ttl_sign ∷ rest) is = (refl, closed-behind _ rest is)
-closed-origin more (broken ∷ rest) is = (refl, closed-behind _ rest is)
+closed-origin more (symbol (char_data word) ∷ rest) is = (refl, closed-after _ rest is)
+closed-origin more (symbol (list words) ∷ rest) is = (refl, closed-after _ rest is)
+closed-origin more (symbol blank ∷ rest) is = (refl, closed-after _ rest is)
+closed-origin more (symbol eol ∷ rest) is = (refl, closed-after _ rest is)
+closed-origin more (symbol at ∷ rest) is = (refl, closed-after _ rest is)
+closed-origin more (symbol origin_sign ∷ rest) is = (refl, closed-after _ rest is)
+closed-origin more (symbol include ∷ rest) is = (refl, closed-after _ rest is)
+closed-origin more (symbol ttl_sign ∷ rest) is = (refl, closed-after _ rest is)
+closed-origin more (broken ∷ rest) is = (refl, closed-after _ rest is)
 
 closed-default : (more from : List Symbol) → Ends from → IsTakenOff more (default_of from) (default_of (from ++ more))
 closed-default more [] is = absurd cc
-closed-default more (symbol (char_data word) ∷ rest) is = (refl, closed-behind _ rest is)
-closed-default more (symbol (list words) ∷ rest) is = (refl, closed-behind _ rest is)
-closed-default more (symbol blank ∷ rest) is = (refl, closed-behind _ rest is)
-closed-default more (symbol eol ∷ rest) is = (refl, closed-behind _ rest is)
-closed-default more (symbol at ∷ rest) is = (refl, closed-behind _ rest is)
-closed-default more (symbol origin_sign ∷ rest) is = (refl, closed-behind _ rest is)
-closed-default more (symbol include ∷ rest) is = (refl, closed-behind _ rest is)
-closed-default more (symbol ttl_sign ∷ rest) is = (refl, closed-behind _ rest is)
-closed-default more (broken ∷ rest) is = (refl, closed-behind _ rest is)
+closed-default more (symbol (char_data word) ∷ rest) is = (refl, closed-after _ rest is)
+closed-default more (symbol (list words) ∷ rest) is = (refl, closed-after _ rest is)
+closed-default more (symbol blank ∷ rest) is = (refl, closed-after _ rest is)
+closed-default more (symbol eol ∷ rest) is = (refl, closed-after _ rest is)
+closed-default more (symbol at ∷ rest) is = (refl, closed-after _ rest is)
+closed-default more (symbol origin_sign ∷ rest) is = (refl, closed-after _ rest is)
+closed-default more (symbol include ∷ rest) is = (refl, closed-after _ rest is)
+closed-default more (symbol ttl_sign ∷ rest) is = (refl, closed-after _ rest is)
+closed-default more (broken ∷ rest) is = (refl, closed-after _ rest is)
 
 closed-include-end : (more : List Symbol) (name : List ℕ) (from : List Symbol) → Ends from → IsTakenOff more (include_end name from) (include_end name (from ++ more))
 closed-include-end more name [] is = absurd cc
-closed-include-end more name (symbol (char_data word) ∷ rest) is = (refl, closed-behind _ rest is)
-closed-include-end more name (symbol (list words) ∷ rest) is = (refl, closed-behind _ rest is)
-closed-include-end more name (symbol blank ∷ rest) is = (refl, closed-behind _ rest is)
-closed-include-end more name (symbol eol ∷ rest) is = (refl, closed-behind _ rest is)
-closed-include-end more name (symbol at ∷ rest) is = (refl, closed-behind _ rest is)
-closed-include-end more name (symbol origin_sign ∷ rest) is = (refl, closed-behind _ rest is)
-closed-include-end more name (symbol include ∷ rest) is = (refl, closed-behind _ rest is)
-closed-include-end more name (symbol ttl_sign ∷ rest) is = (refl, closed-behind _ rest is)
-closed-include-end more name (broken ∷ rest) is = (refl, closed-behind _ rest is)
+closed-include-end more name (symbol (char_data word) ∷ rest) is = (refl, closed-after _ rest is)
+closed-include-end more name (symbol (list words) ∷ rest) is = (refl, closed-after _ rest is)
+closed-include-end more name (symbol blank ∷ rest) is = (refl, closed-after _ rest is)
+closed-include-end more name (symbol eol ∷ rest) is = (refl, closed-after _ rest is)
+closed-include-end more name (symbol at ∷ rest) is = (refl, closed-after _ rest is)
+closed-include-end more name (symbol origin_sign ∷ rest) is = (refl, closed-after _ rest is)
+closed-include-end more name (symbol include ∷ rest) is = (refl, closed-after _ rest is)
+closed-include-end more name (symbol ttl_sign ∷ rest) is = (refl, closed-after _ rest is)
+closed-include-end more name (broken ∷ rest) is = (refl, closed-after _ rest is)
 
 closed-include : (more from : List Symbol) → Ends from → IsTakenOff more (include_of from) (include_of (from ++ more))
 closed-include more [] is = absurd cc
-closed-include more (symbol (char_data name) ∷ rest) is = closed-include-end more name rest (ends-behind (symbol (char_data name)) rest (λ alike. cc) is)
-closed-include more (symbol (list words) ∷ rest) is = (refl, closed-behind _ rest is)
-closed-include more (symbol blank ∷ rest) is = (refl, closed-behind _ rest is)
-closed-include more (symbol eol ∷ rest) is = (refl, closed-behind _ rest is)
-closed-include more (symbol at ∷ rest) is = (refl, closed-behind _ rest is)
-closed-include more (symbol origin_sign ∷ rest) is = (refl, closed-behind _ rest is)
-closed-include more (symbol include ∷ rest) is = (refl, closed-behind _ rest is)
-closed-include more (symbol ttl_sign ∷ rest) is = (refl, closed-behind _ rest is)
-closed-include more (broken ∷ rest) is = (refl, closed-behind _ rest is)
+closed-include more (symbol (char_data name) ∷ rest) is = closed-include-end more name rest (ends-after (symbol (char_data name)) rest (λ alike. cc) is)
+closed-include more (symbol (list words) ∷ rest) is = (refl, closed-after _ rest is)
+closed-include more (symbol blank ∷ rest) is = (refl, closed-after _ rest is)
+closed-include more (symbol eol ∷ rest) is = (refl, closed-after _ rest is)
+closed-include more (symbol at ∷ rest) is = (refl, closed-after _ rest is)
+closed-include more (symbol origin_sign ∷ rest) is = (refl, closed-after _ rest is)
+closed-include more (symbol include ∷ rest) is = (refl, closed-after _ rest is)
+closed-include more (symbol ttl_sign ∷ rest) is = (refl, closed-after _ rest is)
+closed-include more (broken ∷ rest) is = (refl, closed-after _ rest is)
 
 closed-owner : (more : List Symbol) (owner : Owner) (line line' : (List Setting × Body) × List Symbol) → IsTakenOff more line line'
     → IsTakenOff more (line_entry owner line) (line_entry owner line')
@@ -178,15 +178,15 @@ first_closed : (more from : List Symbol) → Ends from → IsFirst more (first_e
 unfolding first_entry
 first_closed more [] is = absurd cc
 first_closed more (symbol (char_data word) ∷ rest) is =
-    first-of more _ _ (closed-owner more (named word) _ _ (closed-line more rest (ends-behind (symbol (char_data word)) rest (λ alike. cc) is)))
-first_closed more (symbol (list words) ∷ rest) is = (refl, closed-behind _ rest is)
-first_closed more (symbol blank ∷ rest) is = first-of more _ _ (closed-owner more same _ _ (closed-line more rest (ends-behind (symbol blank) rest (λ alike. cc) is)))
-first_closed more (symbol eol ∷ rest) is = (refl, closed-behind _ rest is)
-first_closed more (symbol at ∷ rest) is = first-of more _ _ (closed-owner more at_origin _ _ (closed-line more rest (ends-behind (symbol at) rest (λ alike. cc) is)))
-first_closed more (symbol origin_sign ∷ rest) is = first-of more _ _ (closed-origin more rest (ends-behind (symbol origin_sign) rest (λ alike. cc) is))
-first_closed more (symbol include ∷ rest) is = first-of more _ _ (closed-include more rest (ends-behind (symbol include) rest (λ alike. cc) is))
-first_closed more (symbol ttl_sign ∷ rest) is = first-of more _ _ (closed-default more rest (ends-behind (symbol ttl_sign) rest (λ alike. cc) is))
-first_closed more (broken ∷ rest) is = (refl, closed-behind _ rest is)
+    first-of more _ _ (closed-owner more (named word) _ _ (closed-line more rest (ends-after (symbol (char_data word)) rest (λ alike. cc) is)))
+first_closed more (symbol (list words) ∷ rest) is = (refl, closed-after _ rest is)
+first_closed more (symbol blank ∷ rest) is = first-of more _ _ (closed-owner more same _ _ (closed-line more rest (ends-after (symbol blank) rest (λ alike. cc) is)))
+first_closed more (symbol eol ∷ rest) is = (refl, closed-after _ rest is)
+first_closed more (symbol at ∷ rest) is = first-of more _ _ (closed-owner more at_origin _ _ (closed-line more rest (ends-after (symbol at) rest (λ alike. cc) is)))
+first_closed more (symbol origin_sign ∷ rest) is = first-of more _ _ (closed-origin more rest (ends-after (symbol origin_sign) rest (λ alike. cc) is))
+first_closed more (symbol include ∷ rest) is = first-of more _ _ (closed-include more rest (ends-after (symbol include) rest (λ alike. cc) is))
+first_closed more (symbol ttl_sign ∷ rest) is = first-of more _ _ (closed-default more rest (ends-after (symbol ttl_sign) rest (λ alike. cc) is))
+first_closed more (broken ∷ rest) is = (refl, closed-after _ rest is)
 
 no-entries : entries [] ≡ []
 unfolding first_entry
@@ -203,19 +203,19 @@ entries_joined more (suc n) (x ∷ rest) low is = go (first_entry (x ∷ rest)) 
   go (Some found) here first again =
       let less : length found.1 < length (x ∷ rest) = entries_shrink (x ∷ rest) found here in
       entries_are (x ∷ rest ++ more) ∙ ap (followed entries) first.0
-      ∙ ap (λ (behind : List Entry). found.0 ∷ behind) (again found.1 (omega arith) first.1)
+      ∙ ap (λ (after : List Entry). found.0 ∷ after) (again found.1 (omega arith) first.1)
       ∙ ap (λ (all : List Entry). all ++ entries more) (sym (entries_are (x ∷ rest) ∙ ap (followed entries) here))
 
 bind-same : {A B : Type 0} (made : Result A Fault) (f g : A → Result B Fault) → ((a : A) → f a ≡ g a) → (made >>= f) ≡ (made >>= g)
 bind-same (Ok a) f g each = each a
 bind-same (Err fault) f g each = refl
 
-fold-joined : (within : Within) (s : State) (first behind : List Entry) → fold within s (first ++ behind) ≡ (fold within s first >>= λ t. fold within t behind)
+fold-joined : (within : Within) (s : State) (first after : List Entry) → fold within s (first ++ after) ≡ (fold within s first >>= λ t. fold within t after)
 unfolding fold
-fold-joined within s [] behind = refl
-fold-joined within s (entry ∷ first) behind =
-    bind-same (entered within s entry) (λ t. fold within t (first ++ behind)) (λ t. fold within t first >>= λ u. fold within u behind) (λ t. fold-joined within t first behind)
-    ∙ sym (bind_bind (entered within s entry) (λ t. fold within t first) (λ u. fold within u behind))
+fold-joined within s [] after = refl
+fold-joined within s (entry ∷ first) after =
+    bind-same (entered within s entry) (λ t. fold within t (first ++ after)) (λ t. fold within t first >>= λ u. fold within u after) (λ t. fold-joined within t first after)
+    ∙ sym (bind_bind (entered within s entry) (λ t. fold within t first) (λ u. fold within u after))
 
 -- a line feed at the beginning of a text changes nothing, so it may belong to the line before
 line-feed-next : (b : List ℕ) → next (whole_text (10 ∷ b)) ≡ token eol (whole_text b)
@@ -227,9 +227,9 @@ line-feed-entry : (rest : List Symbol) → entries (symbol eol ∷ rest) ≡ not
 unfolding first_entry
 line-feed-entry rest = entries_are (symbol eol ∷ rest)
 
-nothing-folded : (within : Within) (s : State) (behind : List Entry) → fold within s (nothing ∷ behind) ≡ fold within s behind
+nothing-folded : (within : Within) (s : State) (after : List Entry) → fold within s (nothing ∷ after) ≡ fold within s after
 unfolding fold apply
-nothing-folded within s behind = refl
+nothing-folded within s after = refl
 
 line-feed : (within : Within) (s : State) (b : List ℕ) → fold within s (entries_of (whole_text (10 ∷ b))) ≡ fold within s (entries_of (whole_text b))
 line-feed within s b =
@@ -237,7 +237,7 @@ line-feed within s b =
     ∙ ap (fold within s) (line-feed-entry (symbols (whole_text b)))
     ∙ nothing-folded within s (entries_of (whole_text b))
 
--- so may the line feed of a text behind one that ends with this
+-- so may the line feed of a text after one that ends with this
 line-end : (within : Within) (s : State) (c : ℕ) (b : List ℕ) → fold within s (entries_of (whole_text (past_line_end c b))) ≡ fold within s (entries_of (whole_text b))
 line-end within s c [] = refl
 line-end within s c (d ∷ b) = go (c == 13 && d == 10) refl where
@@ -249,14 +249,14 @@ closed-text : (from : List Symbol) → Ends from → IsClosed from
 closed-text [] is = tt
 closed-text (x ∷ rest) is = is
 
--- texts one behind the other are the fold of the second from where the first left off
+-- texts one after another are the fold of the second from where the first left off
 pub texts_folded : (texts : Texts) (s : State) (a b : List ℕ) → EndsWithALine a → folded_text texts s (a ++ b) ≡ (folded_text texts s a >>= λ t. folded_text texts t b)
 unfolding folded_text
 texts_folded texts s a b e =
     let within : Within = included texts max_depth in
     let first : List Symbol = symbols (whole_text a) in
-    let behind : List ℕ = past_line_end e.byte b in
+    let after : List ℕ = past_line_end e.byte b in
     ap (λ (from : List Symbol). fold within s (entries from)) (texts_joined a b e)
-    ∙ ap (fold within s) (entries_joined (symbols (whole_text behind)) (length first) first (omega arith) (closed-text first e.closed))
-    ∙ fold-joined within s (entries first) (entries_of (whole_text behind))
-    ∙ bind-same (folded_text texts s a) (λ t. fold within t (entries_of (whole_text behind))) (λ t. folded_text texts t b) (λ t. line-end within t e.byte b)
+    ∙ ap (fold within s) (entries_joined (symbols (whole_text after)) (length first) first (omega arith) (closed-text first e.closed))
+    ∙ fold-joined within s (entries first) (entries_of (whole_text after))
+    ∙ bind-same (folded_text texts s a) (λ t. fold within t (entries_of (whole_text after))) (λ t. folded_text texts t b) (λ t. line-end within t e.byte b)

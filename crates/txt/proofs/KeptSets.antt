@@ -63,7 +63,7 @@ enters set r kept = record {
   single = kept.single;
 }
 
--- what holds of a set, and of the set that the record was joined to, holds behind `insert`
+-- what holds of a set, and of the set that the record was joined to, holds after `insert`
 insert_cases : (P : SetValue → Type 0) (set : SetValue) (r : Record RData) → P set
     → P (record set { records = joined r (beside set.record_type set.records); ttl = r.ttl; serial = 0 }) → P (insert set r 0).1
 insert_cases P set r same changed = go (is_left set.record_type set.records r) where

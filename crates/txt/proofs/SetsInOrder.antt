@@ -1,4 +1,4 @@
--- Sets in the order of their keys: what stands behind them, the last one, and a run that goes into a map.
+-- Sets in the order of their keys: what stands after them, the last one, and a run that goes into a map.
 use Rattle.std.proofs.Common.{◌≡◌, ◌-◌, [], ◌∷◌, ◌++◌, length, refl, ap, sym, ◌∙◌, subst, arith, append_assoc, length-append, Bool, true, false, suc, Option, Some, None, Ok}
 use Rattle.std.proofs.lemmas.List.{append-nil}
 use Rattle.std.proofs.lemmas.Map.{lookup-none}
@@ -93,9 +93,9 @@ split_last [] e is = absurd cc
 split_last (x ∷ []) e is = ([], cc)
 split_last (x ∷ y ∷ ys) e is =
     let at : length (x ∷ y ∷ ys) - 1 ≡ suc (length (y ∷ ys) - 1) = omega arith in
-    behind (split_last (y ∷ ys) e (ap (slice_get (x ∷ y ∷ ys)) (sym at) ∙ is)) where
-      behind : (front : ZoneSets) × (y ∷ ys ≡ front ++ e ∷ []) → (front : ZoneSets) × (x ∷ y ∷ ys ≡ front ++ e ∷ [])
-      behind (front, split) = (x ∷ front, ap (λ (zs : ZoneSets). x ∷ zs) split)
+    after (split_last (y ∷ ys) e (ap (slice_get (x ∷ y ∷ ys)) (sym at) ∙ is)) where
+      after : (front : ZoneSets) × (y ∷ ys ≡ front ++ e ∷ []) → (front : ZoneSets) × (x ∷ y ∷ ys ≡ front ++ e ∷ [])
+      after (front, split) = (x ∷ front, ap (λ (zs : ZoneSets). x ∷ zs) split)
 
 last_of : (es : ZoneSets) (e : RrKey × SetValue) → slice_get (es ++ e ∷ []) (length (es ++ e ∷ []) - 1) ≡ Some e
 last_of [] e = refl
@@ -103,7 +103,7 @@ last_of (x ∷ es) e =
     let at : length (x ∷ (es ++ e ∷ [])) - 1 ≡ suc (length (es ++ e ∷ []) - 1) = omega (arith, length-append es (e ∷ [])) in
     ap (slice_get (x ∷ (es ++ e ∷ []))) at ∙ last_of es e
 
--- the entry that stands behind the others is the last one
+-- the entry that stands after the others is the last one
 one_last : (fs front : ZoneSets) (e : RrKey × SetValue) (key : RrKey) (set : SetValue) → fs ≡ front ++ e ∷ [] → slice_get fs (length fs - 1) ≡ Some (key, set)
     → fs ≡ front ++ (key, e.1) ∷ []
 one_last fs front e key set is at =
@@ -142,17 +142,17 @@ none_there : (es : ZoneSets) (key : RrKey) → IsAbove key es → set_at es key 
 none_there [] key h = refl
 none_there (e ∷ es) key h = rw h.0 (none_there es key h.1)
 
-inserted_behind : (es : ZoneSets) (key : RrKey) (set : SetValue) → IsAbove key es → insert_entry key_cmp es key set ≡ es ++ (key, set) ∷ []
-inserted_behind [] key set h = refl
-inserted_behind (e ∷ es) key set h = rw h.0 (ap (λ (zs : ZoneSets). e ∷ zs) (inserted_behind es key set h.1))
+inserted_after : (es : ZoneSets) (key : RrKey) (set : SetValue) → IsAbove key es → insert_entry key_cmp es key set ≡ es ++ (key, set) ∷ []
+inserted_after [] key set h = refl
+inserted_after (e ∷ es) key set h = rw h.0 (ap (λ (zs : ZoneSets). e ∷ zs) (inserted_after es key set h.1))
 
--- the set of a record above all stands behind them
-pub added_behind : (es fs : ZoneSets) (key : RrKey) (set : SetValue) (r : Record RData) → key ≡ record_key r → set_of r ≡ set → IsAbove key (es ++ fs)
+-- the set of a record above all stands after them
+pub added_after : (es fs : ZoneSets) (key : RrKey) (set : SetValue) (r : Record RData) → key ≡ record_key r → set_of r ≡ set → IsAbove key (es ++ fs)
     → added (es ++ fs) r ≡ Ok (es ++ (fs ++ (key, set) ∷ []))
-added_behind es fs key set r is one above =
+added_after es fs key set r is one above =
     ap (added_to (es ++ fs) r) (ap (set_at (es ++ fs)) (sym is) ∙ none_there (es ++ fs) key above)
     ∙ ap Ok (ap (λ (k : RrKey). insert_entry key_cmp (es ++ fs) k (set_of r)) (sym is) ∙ ap (insert_entry key_cmp (es ++ fs) key) one
-    ∙ inserted_behind (es ++ fs) key set above ∙ append_assoc es fs ((key, set) ∷ []))
+    ∙ inserted_after (es ++ fs) key set above ∙ append_assoc es fs ((key, set) ∷ []))
 
 -- ---- the last key
 found_last : (es : ZoneSets) (key : RrKey) (set : SetValue) → IsAbove key es → set_at (es ++ (key, set) ∷ []) key ≡ Some set
@@ -185,11 +185,11 @@ changed_last es fs key set new r is order =
     ∙ set_last (es ++ fs) key set new (last_in_order es fs key set order) ∙ sym (whole_of es fs (key, new))
 
 -- ---- what the fields of the sets keep
-pub order_behind : (es fs : ZoneSets) (key : RrKey) (set : SetValue) → AreInOrder (es ++ fs) → IsAbove key (es ++ fs) → AreInOrder (es ++ (fs ++ (key, set) ∷ []))
-order_behind es fs key set order above = subst AreInOrder (sym (whole_of es fs (key, set))) (order_push (es ++ fs) key set order above)
+pub order_after : (es fs : ZoneSets) (key : RrKey) (set : SetValue) → AreInOrder (es ++ fs) → IsAbove key (es ++ fs) → AreInOrder (es ++ (fs ++ (key, set) ∷ []))
+order_after es fs key set order above = subst AreInOrder (sym (whole_of es fs (key, set))) (order_push (es ++ fs) key set order above)
 
-pub kept_behind : (es fs : ZoneSets) (key : RrKey) (set : SetValue) → AreKept (es ++ fs) → IsKept key set → AreKept (es ++ (fs ++ (key, set) ∷ []))
-kept_behind es fs key set kept one = subst AreKept (sym (whole_of es fs (key, set))) (kept_push (es ++ fs) key set kept one)
+pub kept_after : (es fs : ZoneSets) (key : RrKey) (set : SetValue) → AreKept (es ++ fs) → IsKept key set → AreKept (es ++ (fs ++ (key, set) ∷ []))
+kept_after es fs key set kept one = subst AreKept (sym (whole_of es fs (key, set))) (kept_push (es ++ fs) key set kept one)
 
 pub order_before : (es fs : ZoneSets) (e : RrKey × SetValue) → AreInOrder (es ++ (fs ++ e ∷ [])) → AreInOrder (es ++ fs)
 order_before es fs e order = order_front (es ++ fs) (e ∷ []) (subst AreInOrder (whole_of es fs e) order)
@@ -220,7 +220,7 @@ unfolding IsStrictlySortedBy
 order_without [] ms fs h = order_back ms fs h
 order_without (e ∷ es) ms fs h = (keys_without (λ k. key_cmp e.0 k ≡ Less) es ms fs h.0, order_without es ms fs h.1)
 
--- Of a run that stood behind these sets, those left are still before those that were put into the map.
+-- Of a run that stood after these sets, those left are still before those that were put into the map.
 pub record AreBetween (sets run whole left : ZoneSets) : Type 0 where
   pub put : ZoneSets
   pub all : left ++ put ≡ run

@@ -125,25 +125,25 @@ include_le (symbol include ∷ rest) = omega arith
 include_le (symbol ttl_sign ∷ rest) = omega arith
 include_le (broken ∷ rest) = omega arith
 
-abbrev IsBehind : ℕ → Option (Entry × List Symbol) → Type 0
-IsBehind n None = Unit {0}
-IsBehind n (Some found) = length found.1 < n
+abbrev IsAfter : ℕ → Option (Entry × List Symbol) → Type 0
+IsAfter n None = Unit {0}
+IsAfter n (Some found) = length found.1 < n
 
-behind : (from : List Symbol) → IsBehind (length from) (first_entry from)
+after : (from : List Symbol) → IsAfter (length from) (first_entry from)
 unfolding first_entry
-behind [] = tt
-behind (symbol (char_data word) ∷ rest) = omega (arith, line_le rest)
-behind (symbol (list words) ∷ rest) = omega arith
-behind (symbol blank ∷ rest) = omega (arith, line_le rest)
-behind (symbol eol ∷ rest) = omega arith
-behind (symbol at ∷ rest) = omega (arith, line_le rest)
-behind (symbol origin_sign ∷ rest) = omega (arith, origin_le rest)
-behind (symbol include ∷ rest) = omega (arith, include_le rest)
-behind (symbol ttl_sign ∷ rest) = omega (arith, default_le rest)
-behind (broken ∷ rest) = omega arith
+after [] = tt
+after (symbol (char_data word) ∷ rest) = omega (arith, line_le rest)
+after (symbol (list words) ∷ rest) = omega arith
+after (symbol blank ∷ rest) = omega (arith, line_le rest)
+after (symbol eol ∷ rest) = omega arith
+after (symbol at ∷ rest) = omega (arith, line_le rest)
+after (symbol origin_sign ∷ rest) = omega (arith, origin_le rest)
+after (symbol include ∷ rest) = omega (arith, include_le rest)
+after (symbol ttl_sign ∷ rest) = omega (arith, default_le rest)
+after (broken ∷ rest) = omega arith
 
 pub entries_shrink : Shrinks first_entry (λ from. length from)
-entries_shrink from found is = subst (IsBehind (length from)) is (behind from)
+entries_shrink from found is = subst (IsAfter (length from)) is (after from)
 
 -- the first entry, and then the others
 pub entries_are : (from : List Symbol) → entries from ≡ followed entries (first_entry from)
@@ -180,7 +180,7 @@ bind_bind (Ok a) f g = refl
 bind_bind (Err fault) f g = refl
 
 -- What is made of the whole, where this is made of the text that is read: then come the texts below, the one
--- that was left last first, each behind its included text.
+-- that was left last first, each after its included text.
 abbrev pub finish : Texts → ℕ → List Frame → Result State Fault → Result State Fault
 finish texts max [] made = made
 finish texts max (f ∷ fs) made = finish texts max fs (made >>= λ t. fold (included texts (max - length fs)) (restored f.origin t) (entries (symbols f.lexer)))

@@ -460,10 +460,10 @@ taken-broken s = refl
 pub taken_fails : (s : State) (from : List Symbol) (e : ParseError) → Faults e (from ≡ broken ∷ []) → Fails e (taken s from)
 taken_fails s from e is = reading_fails e is (λ here. ap (taken s) here ∙ taken-broken s)
 
-pub items_more : (from to : List Symbol) (all : Result (List (List ℕ) × List Symbol) Fault) (front behind : List (List ℕ)) (word : List ℕ)
-    → behind ≡ front ++ word ∷ [] → from ≡ symbol (char_data word) ∷ to → ItemsLeft front from all → ItemsLeft behind to all
-items_more from to all front behind word grown is left = subst (λ (f : List (List ℕ)). after f (took_items to) ≡ all) (sym grown) (sym (items_word front word is) ∙ left)
+pub items_more : (from to : List Symbol) (all : Result (List (List ℕ) × List Symbol) Fault) (front grown_front : List (List ℕ)) (word : List ℕ)
+    → grown_front ≡ front ++ word ∷ [] → from ≡ symbol (char_data word) ∷ to → ItemsLeft front from all → ItemsLeft grown_front to all
+items_more from to all front grown_front word grown is left = subst (λ (f : List (List ℕ)). after f (took_items to) ≡ all) (sym grown) (sym (items_word front word is) ∙ left)
 
-pub items_many : (from to : List Symbol) (all : Result (List (List ℕ) × List Symbol) Fault) (front behind words : List (List ℕ))
-    → behind ≡ front ++ words → from ≡ symbol (list words) ∷ to → ItemsLeft front from all → ItemsLeft behind to all
-items_many from to all front behind words grown is left = subst (λ (f : List (List ℕ)). after f (took_items to) ≡ all) (sym grown) (sym (items_list front words is) ∙ left)
+pub items_many : (from to : List Symbol) (all : Result (List (List ℕ) × List Symbol) Fault) (front grown_front words : List (List ℕ))
+    → grown_front ≡ front ++ words → from ≡ symbol (list words) ∷ to → ItemsLeft front from all → ItemsLeft grown_front to all
+items_many from to all front grown_front words grown is left = subst (λ (f : List (List ℕ)). after f (took_items to) ≡ all) (sym grown) (sym (items_list front words is) ∙ left)

@@ -42,7 +42,7 @@ unfolded p text includes origin start is begins =
     ∙ ap (λ (texts : Texts). answer_of (folded_text texts (beginning origin) text)) (sym (texts_are includes))
     ∙ ap (λ (s : State). answer_of (folded_text (texts_in includes) s text)) (sym begins)
 
--- what is answered behind all entries is the answer
+-- what is answered after all entries is the answer
 pub parsed : {X : Type 0} {p : ParserValue} {text : List ℕ} {origin : Option NameValue} {start t : State} (view : X → NameValue × ZoneSets) (result : Result X ParseError)
     (includes : BTreeMap (String Global) (String Global)) → p ≡ record { text = text; includes = named_texts includes; origin = origin } → start ≡ beginning origin
     → folded_text (texts_in includes) start text ≡ Ok t → Gives view result (answered t) → Gives view result (zone_of (text_among p.includes) p.origin p.text)

@@ -40,7 +40,7 @@ setting_by None None = None
 unfoldable pub setting_of : List ℕ → Option Setting
 setting_of word = setting_by (ttl_of word) (class_from_text (str_to_ascii_uppercase word))
 
--- what stands behind the settings of a line: nothing, or a type's text with the items of its data
+-- what stands after the settings of a line: nothing, or a type's text with the items of its data
 pub data Body : Type 0 where
   untyped : Stop → Body
   typed : List ℕ → List (List ℕ) → Stop → Body
@@ -55,7 +55,7 @@ pub data Entry : Type 0 where
   owner_line : Owner → List Setting → Body → Entry
   faulty_entry : Fault → Entry
 
--- the items that stand first, and what stands behind them
+-- the items that stand first, and what stands after them
 abbrev pub items_of : List Symbol → List (List ℕ) × List Symbol
 items_of [] = ([], [])
 items_of (symbol (char_data word) ∷ rest) = (word ∷ (items_of rest).0, (items_of rest).1)
@@ -73,47 +73,48 @@ abbrev pub typed_at : List ℕ → List Symbol → (List Setting × Body) × Lis
 typed_at word rest = (([], typed word (items_of rest).0 (stop_of (items_of rest).1).0), (stop_of (items_of rest).1).1)
 
 -- an item that is a setting stands before the rest of the line; another is its type
-abbrev pub word_of : Option Setting → List ℕ → List Symbol → (List Setting × Body) × List Symbol → (List Setting × Body) × List Symbol
+abbrev pub word_of : Option Setting → List ℕ → List Symbol → (List Setting × Body) × List Symbol
+    → (List Setting × Body) × List Symbol
 word_of (Some setting) word rest line = ((setting ∷ line.0.0, line.0.1), line.1)
 word_of None word rest line = typed_at word rest
 
--- the settings of a line, what stands behind them, and where the next entry begins
+-- the settings of a line, what stands after them, and where the next entry begins
 abbrev pub line_of : List Symbol → (List Setting × Body) × List Symbol
 line_of [] = (([], untyped whole), [])
 line_of (symbol eol ∷ rest) = (([], untyped whole), rest)
 line_of (symbol (char_data word) ∷ rest) = word_of (setting_of word) word rest (line_of rest)
 line_of (other ∷ rest) = (([], untyped (refused (fault_at other))), rest)
 
--- the entry of an owner and the line behind it
+-- the entry of an owner and the line after it
 abbrev pub line_entry : Owner → (List Setting × Body) × List Symbol → Entry × List Symbol
 line_entry owner found = (owner_line owner found.0.0 found.0.1, found.1)
 
--- the entry behind $ORIGIN, and what stands behind it; nothing where the text ends in it
+-- the entry after $ORIGIN, and what stands after it; nothing where the text ends in it
 abbrev pub origin_of : List Symbol → Entry × List Symbol
 origin_of [] = (nothing, [])
 origin_of (symbol (char_data word) ∷ rest) = (origin_entry word, rest)
 origin_of (other ∷ rest) = (faulty_entry (fault_at other), rest)
 
--- the entry behind $TTL (RFC 2308, 4), and what stands behind it
+-- the entry after $TTL (RFC 2308, 4), and what stands after it
 abbrev pub default_of : List Symbol → Entry × List Symbol
 default_of [] = (nothing, [])
 default_of (symbol (char_data word) ∷ rest) = (ttl_entry word, rest)
 default_of (other ∷ rest) = (faulty_entry (fault_at other), rest)
 
--- the entry behind $INCLUDE and its name: the line has to end there
+-- the entry after $INCLUDE and its name: the line has to end there
 abbrev pub include_end : List ℕ → List Symbol → Entry × List Symbol
 include_end name [] = (nothing, [])
 include_end name (symbol eol ∷ rest) = (include_entry name, rest)
 include_end name (symbol (char_data word) ∷ rest) = (faulty_entry (says (codes "Domain name for $INCLUDE is not supported")), rest)
 include_end name (other ∷ rest) = (faulty_entry (fault_at other), rest)
 
--- the entry behind $INCLUDE, and what stands behind it
+-- the entry after $INCLUDE, and what stands after it
 abbrev pub include_of : List Symbol → Entry × List Symbol
 include_of [] = (nothing, [])
 include_of (symbol (char_data name) ∷ rest) = include_end name rest
 include_of (other ∷ rest) = (faulty_entry (fault_at other), rest)
 
--- the first entry, and what stands behind it
+-- the first entry, and what stands after it
 unfoldable pub first_entry : List Symbol → Option (Entry × List Symbol)
 first_entry [] = None
 first_entry (symbol eol ∷ rest) = Some (nothing, rest)
@@ -125,7 +126,7 @@ first_entry (symbol at ∷ rest) = Some (line_entry at_origin (line_of rest))
 first_entry (symbol (char_data word) ∷ rest) = Some (line_entry (named word) (line_of rest))
 first_entry (other ∷ rest) = Some (faulty_entry (fault_at other), rest)
 
--- all entries of a text, one behind the other (RFC 1035, 5.1)
+-- all entries of a text, one after another (RFC 1035, 5.1)
 unfoldable pub entries : List Symbol → List Entry
 entries symbols = listing first_entry (length symbols) symbols
 

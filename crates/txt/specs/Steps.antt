@@ -45,7 +45,7 @@ pub data Taken : Type 0 where
   went : State → List Symbol → Taken
   opens : List ℕ → List Symbol → Taken
 
--- the state that was made, and what stands behind the entry
+-- the state that was made, and what stands after the entry
 abbrev pub went_on : Result State Fault → List Symbol → Result Taken Fault
 went_on made rest = made >>= λ t. Ok (went t rest)
 
@@ -63,8 +63,9 @@ taken_by s (Some (faulty_entry fault, rest)) = went_on (apply s (faulty_entry fa
 unfoldable pub taken : State → List Symbol → Result Taken Fault
 taken s from = taken_by s (first_entry from)
 
--- what was met is this; or it was refused for want of memory, or with the fault that is there in its place
-abbrev pub Takes : Result Step ParseError → State → State → List Symbol → Result Taken Fault → Type 0
+-- what was met is this; or it was refused because memory ran out, or with the fault that is there in its place
+abbrev pub Takes : Result Step ParseError → State → State → List Symbol → Result Taken Fault
+    → Type 0
 Takes (Ok steps.End) s t to made = (made ≡ Ok ended) × (t ≡ s)
 Takes (Ok steps.Applied) s t to made = made ≡ Ok (went t to)
 Takes (Ok (steps.Include name)) s t to made = (made ≡ Ok (opens (string_bytes name) to)) × (t ≡ s)
@@ -74,7 +75,7 @@ Takes (Err e) s t to made = Fails e made
 abbrev pub AnswersStep : Result Step ParseError → State → State → List Symbol → List Symbol → Type 0
 AnswersStep result s t from to = Takes result s t to (taken s from)
 
--- what a line makes of it behind its owner
+-- what a line makes of it after its owner
 abbrev pub took_line : State → (List Setting × Body) × List Symbol → Result Taken Fault
 took_line s found = went_on (carried (settled s found.0.0) found.0.1) found.1
 
@@ -94,12 +95,14 @@ setting_value (stated.Ttl ttl) = ttl_is ttl
 setting_value (stated.Class class) = class_is class
 
 -- What the call made of the state and the tokens is this, or it was refused.
-abbrev pub Goes : {X : Type 0} → Result X ParseError → State → List Symbol → Result Taken Fault → Type 0
+abbrev pub Goes : {X : Type 0} → Result X ParseError → State → List Symbol → Result Taken Fault
+    → Type 0
 Goes (Ok x) t to made = made ≡ Ok (went t to)
 Goes (Err e) t to made = Fails e made
 
--- What was read is this, and what stands behind it; or it was refused.
-abbrev pub Reads : {X A : Type 0} → (X → A) → Result X ParseError → List Symbol → Result (A × List Symbol) Fault → Type 0
+-- What was read is this, and what stands after it; or it was refused.
+abbrev pub Reads : {X A : Type 0} → (X → A) → Result X ParseError → List Symbol
+    → Result (A × List Symbol) Fault → Type 0
 Reads view (Ok x) to made = made ≡ Ok (view x, to)
 Reads view (Err e) to made = Fails e made
 
@@ -107,23 +110,23 @@ Reads view (Err e) to made = Fails e made
 abbrev pub items_read : List Symbol → Result (List (List ℕ) × List Symbol) Fault
 items_read from = stopped (stop_of (items_of from).1).0 ((items_of from).0, (stop_of (items_of from).1).1)
 
--- what stands behind $ORIGIN, and what it makes
+-- what stands after $ORIGIN, and what it makes
 unfoldable pub took_origin : State → List Symbol → Result Taken Fault
 took_origin s rest = taken_by s (Some (origin_of rest))
 
--- what stands behind $TTL, and what it makes
+-- what stands after $TTL, and what it makes
 unfoldable pub took_default : State → List Symbol → Result Taken Fault
 took_default s rest = taken_by s (Some (default_of rest))
 
--- what stands behind $INCLUDE, and what it makes
+-- what stands after $INCLUDE, and what it makes
 unfoldable pub took_include : State → List Symbol → Result Taken Fault
 took_include s rest = taken_by s (Some (include_of rest))
 
--- what stands behind the name of an included text, and what it makes
+-- what stands after the name of an included text, and what it makes
 unfoldable pub took_include_end : State → List ℕ → List Symbol → Result Taken Fault
 took_include_end s name rest = taken_by s (Some (include_end name rest))
 
--- what stands behind an owner, settings first, and what it makes
+-- what stands after an owner, settings first, and what it makes
 unfoldable pub took_words : State → List Symbol → Result Taken Fault
 took_words s rest = took_line s (line_of rest)
 
@@ -135,7 +138,7 @@ took_at s rest = took_words (record s { owner = s.origin }) rest
 abbrev pub took_named : State → List ℕ → List Symbol → Result Taken Fault
 took_named s word rest = name_of word s.origin >>= λ name. took_words (record s { owner = Some name }) rest
 
--- what stands behind the text of a type, and what it makes
+-- what stands after the text of a type, and what it makes
 unfoldable pub took_typed : State → List ℕ → List Symbol → Result Taken Fault
 took_typed s word rest = took_line s (typed_at word rest)
 

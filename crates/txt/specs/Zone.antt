@@ -39,7 +39,7 @@ use Rattle.txt.specs.Entries.{
 }
 use Rattle.txt.specs.ZoneSets.{ZoneSets, added}
 
--- What is in force behind an entry: the origin, the last stated owner, class and TTL (RFC 1035, 5.1), the default TTL
+-- What is in force after an entry: the origin, the last stated owner, class and TTL (RFC 1035, 5.1), the default TTL
 -- (RFC 2308, 4), a TTL that was stated and no record has yet; and the sets so far.
 pub record State : Type 0 where
   pub origin : Option NameValue
@@ -119,7 +119,7 @@ abbrev pub settled : State → List Setting → State
 settled s [] = s
 settled s (setting ∷ settings) = settled (set_by s setting) settings
 
--- what stands behind the settings: the type, the end of the line, the data, and then the record
+-- what stands after the settings: the type, the end of the line, the data, and then the record
 abbrev pub carried : State → Body → Result State Fault
 carried s (untyped stop) = stopped stop s
 carried s (typed word items stop) =
@@ -156,7 +156,8 @@ entered within s (owner_line owner settings body) = apply s (owner_line owner se
 entered within s (faulty_entry fault) = apply s (faulty_entry fault)
 
 -- what entries make of it, one after the other, or the first fault
-unfoldable pub fold : (State → List ℕ → Result State Fault) → State → List Entry → Result State Fault
+unfoldable pub fold : (State → List ℕ → Result State Fault) → State → List Entry
+    → Result State Fault
 fold within s [] = Ok s
 fold within s (entry ∷ entries) = entered within s entry >>= λ t. fold within t entries
 
@@ -165,7 +166,8 @@ abbrev pub restored : Option NameValue → State → State
 restored name s = record s { origin = name }
 
 -- what an included text makes of it; a fault where there is no text of the name
-abbrev pub opened : (State → List ℕ → Result State Fault) → State → List ℕ → Option (List ℕ) → Result State Fault
+abbrev pub opened : (State → List ℕ → Result State Fault) → State → List ℕ → Option (List ℕ)
+    → Result State Fault
 opened within s name None = Err (not_found name)
 opened within s name (Some text) = fold within s (entries_of (whole_text text)) >>= λ t. Ok (restored s.origin t)
 

@@ -63,18 +63,18 @@ impl<'a> Parser<'a> {
     ///
     /// An entry is the end of a line; `$ORIGIN` or `$TTL` and an item; `$INCLUDE`, the name of a text and the end of
     /// the line; or an owner (a name, `@` for the origin, or a blank for the last owner), any TTLs and classes, and
-    /// then the end of the line, or a type and the items of its data up to the end of the line or of the text. A
-    /// record has the TTL that its line states, else the one of `$TTL`, else the last that a line stated; its
-    /// owner is made absolute. An included text begins with what is in force, and at its end the includer's origin
-    /// comes back, and all else is carried on. At most 257 texts are open at once. A record of a new owner and type
-    /// makes a set, and another goes into its set as `RecordSet::insert` has it, with the serial 0.
+    /// then the end of the line, or a type and the items of its data up to the end of the line or of the text. A record
+    /// has the TTL that its line states, else the one of `$TTL`, else the last that a line stated; its owner is made
+    /// absolute. An included text begins with what is in force, and at its end the includer's origin comes back, and
+    /// all else is carried on. At most 257 texts are open at once. A record of a new owner and type makes a set, and
+    /// another goes into its set as `RecordSet::insert` has it, with the serial 0.
     ///
     /// Refused, at the first entry where it is so, and within it in this order from left to right: with
-    /// `UnexpectedToken` and `Lexer` where such a token stands; `BadName`, `BadTtl` and `UnknownRecordType` for an
-    /// item that is none; at the end of an entry, `UnsupportedRecordType` and `BadData` for the items of data, and
-    /// `Message` where no owner or no TTL is in force, for a second SOA of an owner, for a name behind the name of
-    /// an included text, and for too many open texts; `IncludeNotFound` for a text that was not handed in; at the
-    /// very end, `Message` where no origin is in force. With `Memory` for want of it, at any time.
+    /// `UnexpectedToken` and `Lexer` where such a token stands; `BadName`, `BadTtl` and `UnknownRecordType` for an item
+    /// that is none; at the end of an entry, `UnsupportedRecordType` and `BadData` for the items of data, and `Message`
+    /// where no owner or no TTL is in force, for a second SOA of an owner, for a name after the name of an included
+    /// text, and for too many open texts; `IncludeNotFound` for a text that was not handed in; at the very end,
+    /// `Message` where no origin is in force. With `Memory` if memory runs out, at any time.
     pub fn parse(self) -> Result<(Name, BTreeMap<RrKey, RecordSet>), ParseError>
         ensures zone { Gives (λ r. (r.0, r.1.entries)) result (zone_of (text_among self.entry.includes) self.entry.origin self.entry.text) }
         ensures kept { IfOk result (λ r. AreKept r.1.entries) }

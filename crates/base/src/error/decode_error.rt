@@ -19,13 +19,13 @@ pub enum DecodeError {
     #[error("the buffer ends inside a field")]
     InsufficientBytes,
     /// A name outside data is spelled wrongly (RFC 1035, 4.1.4).
-    #[error("a name is spelled wrongly")]
+    #[error("malformed name")]
     BadName,
     /// An OPT record whose owner isn't the root (RFC 6891, 6.1.2).
-    #[error("an OPT record of the owner {0}")]
+    #[error("OPT record with a non-root owner {0}")]
     EdnsNameNotRoot(Name),
     /// RDLENGTH says more bytes than are left (RFC 1035, 3.2.1).
-    #[error("record data of {len} bytes, with {read} bytes left")]
+    #[error("record data of {len} bytes, but only {read} bytes left")]
     IncorrectRDataLengthRead {
         /// The bytes that are left.
         read: usize,
@@ -33,12 +33,12 @@ pub enum DecodeError {
         len: usize,
     },
     /// Data that its type doesn't read, or that doesn't fill its length (RFC 1035, 3.2.1 and 3.3).
-    #[error("data that type {0} doesn't have")]
+    #[error("invalid data for type {0}")]
     BadData(RecordType),
     /// Empty data outside Update and outside type OPT (RFC 2136, 2.4).
-    #[error("a record without data outside an update")]
+    #[error("record without data outside an update")]
     InvalidEmptyRecord,
-    /// A record behind a nonempty TSIG (RFC 8945, 5.1).
+    /// A record after a nonempty TSIG (RFC 8945, 5.1).
     #[error("record after TSIG or SIG(0)")]
     RecordAfterSig,
     /// A record outside additionals of a type that stands there alone: OPT, SIG or TSIG (RFC 6891, 6.1.1;

@@ -16,16 +16,16 @@ pub enum ParseError {
     #[error("out of memory")]
     Memory,
     /// A token that the entry has no place for.
-    #[error("a token that the entry has no place for")]
+    #[error("unexpected token")]
     UnexpectedToken(Token),
     /// A character or a bracket that no token has a place for.
-    #[error("the text can't be cut into tokens")]
+    #[error("the text can't be split into tokens")]
     Lexer,
     /// An entry that can't be carried out, in words.
     #[error("{0}")]
     Message(&'static str),
     /// An included text that was not handed in.
-    #[error("no text of the name {0}")]
+    #[error("no text named {0} to include")]
     IncludeNotFound(String),
     /// A text that is no record type, its ASCII letters raised.
     #[error("unknown record type: {0}")]
@@ -34,13 +34,13 @@ pub enum ParseError {
     #[error("record type {0} has no text form")]
     UnsupportedRecordType(RecordType),
     /// Items that are no data of the type.
-    #[error("data that type {0} doesn't have")]
+    #[error("invalid data for type {0}")]
     BadData(RecordType),
     /// A name that the text rules refuse (RFC 1035, 5.1).
-    #[error("a name is written wrongly")]
+    #[error("invalid name")]
     BadName,
     /// A TTL that the text rules refuse.
-    #[error("a TTL is written wrongly")]
+    #[error("invalid TTL")]
     BadTtl,
 }
 

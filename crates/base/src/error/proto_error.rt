@@ -14,7 +14,7 @@ pub enum ProtoError {
     /// A byte would pass the encoder's limit.
     #[error("a byte would pass the limit")]
     MaxBufferSizeExceeded,
-    /// An item did not fit the limit; what was written ends behind the last item that did.
+    /// An item did not fit the limit; what was written ends after the last item that did.
     #[error("{count} items written before one that did not fit")]
     NotAllRecordsWritten {
         /// How many items stand.
@@ -24,13 +24,13 @@ pub enum ProtoError {
     #[error("out of memory")]
     Memory,
     /// EDNS was asked of a record that is no OPT record (RFC 6891, 6.1).
-    #[error("the record is no OPT record")]
+    #[error("not an OPT record")]
     NotOpt,
     /// What went wrong, in words.
     #[error("{0}")]
     Message(&'static str),
     /// A response was asked of a message that is none.
-    #[error("the message is no response")]
+    #[error("not a response")]
     NotAResponse,
     /// The bytes could not be read.
     #[error(transparent)]

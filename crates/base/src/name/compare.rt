@@ -22,7 +22,8 @@ impl Name {
     /// Whether `other` lies in the zone of this name, or is this name: the labels of this name are the
     /// last labels of `other`, in whatever case. Whether the names are absolute is not looked at.
     pub fn zone_of(&self, other: &Name) -> bool
-        ensures last_labels { IsTrue result ↔ ((front : List (List ℕ)) × (folded other.now ≡ front ++ folded self.now)) }
+        ensures last_labels { IsTrue result
+            ↔ ((front : List (List ℕ)) × (folded other.now ≡ front ++ folded self.now)) }
         ensures test { result ≡ is_zone_of self.now other.now }
     {
         let (count, others) = (self.label_count(), other.label_count());
@@ -30,7 +31,7 @@ impl Name {
             && same_in_any_case(past_labels(other.as_wire(), others - count), self.as_wire())
     }
 
-    /// The order of the canonical forms of names: the labels from the left, each behind its length, with their
+    /// The order of the canonical forms of names: the labels from the left, each after its length, with their
     /// ASCII letters in lower case, by the first byte that differs (RFC 4034, 6.2 and 6.3). Whether the names
     /// are absolute is not looked at.
     pub fn canonical_cmp(&self, other: &Name) -> Ordering
@@ -98,10 +99,10 @@ impl Ord for Name {
             return flags.then(order);
         }
         let (count, others) = (self.label_count(), other.label_count());
-        let behind = past_labels(left, count.saturating_sub(others));
-        let others_behind = past_labels(right, others.saturating_sub(count));
+        let after = past_labels(left, count.saturating_sub(others));
+        let others_after = past_labels(right, others.saturating_sub(count));
         flags
-            .then(cmp_labels(behind, others_behind).unwrap_or(Ordering::Equal))
+            .then(cmp_labels(after, others_after).unwrap_or(Ordering::Equal))
             .then(count.cmp(&others))
     }
 }
@@ -137,7 +138,7 @@ fn lower_into(wire: &[u8], room: &mut [u8; ROOM])
     front.make_ascii_lowercase();
 }
 
-/// What is behind as many labels.
+/// What is after as many labels.
 fn past_labels(wire: &[u8], count: usize) -> &[u8]
     requires { IsLabelRun wire.now }
     ensures labels { labels_of result.now ≡ drop count (labels_of wire.now) }
@@ -176,7 +177,8 @@ fn cmp_label(left: &[u8], right: &[u8]) -> Ordering
 fn cmp_labels(left: &[u8], right: &[u8]) -> Option<Ordering>
     requires left { IsLabelRun left.now }
     requires right { IsLabelRun right.now }
-    ensures some { IfSome result (λ order. (length (labels_of left.now) ≡ length (labels_of right.now))
+    ensures some { IfSome result (λ order. (length (labels_of left.now)
+        ≡ length (labels_of right.now))
         × (order ≡ labels_cmp (folded_labels (labels_of left.now)) (folded_labels (labels_of right.now)))) }
     ensures none { IfNone result (length (labels_of left.now) ≢ length (labels_of right.now)) }
 {
@@ -204,8 +206,14 @@ fn cmp_labels(left: &[u8], right: &[u8]) -> Option<Ordering>
 /// Names are equal, and tie in the order, exactly where they have the same flag and the same labels in
 /// whatever case (RFC 4343, 3), and then they hash alike; every relative name comes before every absolute one.
 pub fn name_order()
-    ensures equal { (a b : NameValue) → IsTrue (⟦<Name as PartialEq>⟧.eq a b) ↔ ((a.absolute ≡ b.absolute) × (folded a ≡ folded b)) }
-    ensures ties { (a b : NameValue) → (⟦<Name as Ord>⟧.cmp a b ≡ Ordering.Equal) ↔ ((a.absolute ≡ b.absolute) × (folded a ≡ folded b)) }
-    ensures hashed { (a b : NameValue) → IsTrue (⟦<Name as PartialEq>⟧.eq a b) → ⟦<Name as Hash>⟧.hash_input a ≡ ⟦<Name as Hash>⟧.hash_input b }
-    ensures relative_first { (a b : NameValue) → a.absolute ≡ false → b.absolute ≡ true → ⟦<Name as Ord>⟧.cmp a b ≡ Ordering.Less }
+    ensures equal { (a b : NameValue)
+        → IsTrue (⟦<Name as PartialEq>⟧.eq a b)
+        ↔ ((a.absolute ≡ b.absolute) × (folded a ≡ folded b)) }
+    ensures ties { (a b : NameValue)
+        → (⟦<Name as Ord>⟧.cmp a b ≡ Ordering.Equal)
+        ↔ ((a.absolute ≡ b.absolute) × (folded a ≡ folded b)) }
+    ensures hashed { (a b : NameValue) → IsTrue (⟦<Name as PartialEq>⟧.eq a b)
+        → ⟦<Name as Hash>⟧.hash_input a ≡ ⟦<Name as Hash>⟧.hash_input b }
+    ensures relative_first { (a b : NameValue) → a.absolute ≡ false → b.absolute ≡ true
+        → ⟦<Name as Ord>⟧.cmp a b ≡ Ordering.Less }
 {}

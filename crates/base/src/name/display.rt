@@ -61,7 +61,7 @@ fn dot_if(is_wanted: bool) -> &'static str
     if is_wanted { "." } else { "" }
 }
 
-/// The text of a label, and the dot behind it where more labels follow.
+/// The text of a label, and the dot after it where more labels follow.
 #[derive(Drop)]
 struct LabelText<'a> {
     label: &'a [u8],

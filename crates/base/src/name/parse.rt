@@ -30,20 +30,23 @@ enum TextChar {
 }
 
 impl Name {
-    /// Reads the text of a name (RFC 1035, 5.1): labels with `.` between them, and one more at the end of
-    /// an absolute name; `.` alone is the root. A backslash and three decimal digits are the byte of that
-    /// number, up to 255, and a backslash and another character of ASCII are that character; without a
-    /// backslash stand the characters 0x21 to 0x7E.
+    /// Reads the text of a name (RFC 1035, 5.1): labels with `.` between them, and one more at the end of an absolute
+    /// name; `.` alone is the root. A backslash and three decimal digits are the byte of that number, up to 255, and a
+    /// backslash and another character of ASCII are that character; without a backslash stand the characters 0x21 to
+    /// 0x7E.
     ///
-    /// Where an origin is given, its labels are appended to a relative name, which becomes absolute; and `@`
-    /// alone is the origin. Grows memory once at most, where the labels take more than 29 bytes.
+    /// Where an origin is given, its labels are appended to a relative name, which becomes absolute; and `@` alone is
+    /// the origin. Grows memory once at most, where the labels take more than 29 bytes.
     ///
-    /// Refused with `BadName`: the empty text, an empty label, a label of more than 63 bytes, a name of more
-    /// than 255 (RFC 1035, 2.3.4), a backslash that stands before anything else, any other character, and
-    /// `@` alone without an origin. Refused with `Memory` for want of it.
+    /// # Errors
+    ///
+    /// `BadName`: the empty text, an empty label, a label of more than 63 bytes, a name of more than 255 (RFC 1035,
+    /// 2.3.4), a backslash that stands before anything else, any other character, and `@` alone without an origin.
+    /// `Memory` if memory runs out.
     pub fn parse(alloc: Global, text: &str, origin: Option<&Name>) -> Result<Name, ParseError>
         ensures named { IfOk result (IsNameText text.now (option_copied origin.entry)) }
-        ensures refused { (result ≡ Err ParseError.BadName) ↔ ((name : NameValue) → IsNameText text.now (option_copied origin.entry) name → ⊥) }
+        ensures refused { (result ≡ Err ParseError.BadName)
+            ↔ ((name : NameValue) → IsNameText text.now (option_copied origin.entry) name → ⊥) }
         ensures err { IfErr result (λ e. (e ≡ ParseError.Memory) ⊎ (e ≡ ParseError.BadName)) }
         ensures reads { Gives (λ n. n) result (name_of text.now (option_copied origin.entry)) }
     {
@@ -53,7 +56,8 @@ impl Name {
     /// The same, by the relation alone.
     fn parse_text(alloc: Global, text: &str, origin: Option<&Name>) -> Result<Name, ParseError>
         ensures named { IfOk result (IsNameText text.now (option_copied origin.entry)) }
-        ensures refused { (result ≡ Err ParseError.BadName) ↔ ((name : NameValue) → IsNameText text.now (option_copied origin.entry) name → ⊥) }
+        ensures refused { (result ≡ Err ParseError.BadName)
+            ↔ ((name : NameValue) → IsNameText text.now (option_copied origin.entry) name → ⊥) }
         ensures err { IfErr result (λ e. (e ≡ ParseError.Memory) ⊎ (e ≡ ParseError.BadName)) }
     {
         if text == "." {
@@ -75,11 +79,12 @@ impl Name {
     }
 }
 
-/// The character of a backslash, this digit and two more digits, and the text behind it.
+/// The character of a backslash, this digit and two more digits, and the text after it.
 #[tactic(auto, unfolding(crate::specs::NameText::decimal_char))]
 fn decimal_char(first: u8, text: &[u8]) -> Option<(TextChar, &[u8])>
     requires { IsTrue (is_ascii_digit first) }
-    ensures value { option_map (λ r. (character_of r.0, r.1.now)) result ≡ decimal_char first text.now }
+    ensures value { option_map (λ r. (character_of r.0, r.1.now)) result
+        ≡ decimal_char first text.now }
     ensures shorter { IfSome result (λ r. length r.1.now < length text.now) }
 {
     let [second, third, rest @ ..] = text else {
@@ -97,7 +102,7 @@ fn decimal_char(first: u8, text: &[u8]) -> Option<(TextChar, &[u8])>
     Some((TextChar::Byte(number as u8), rest))
 }
 
-/// The character of a backslash and what is behind it, and the text behind that.
+/// The character of a backslash and what is after it, and the text after that.
 #[tactic(auto, unfolding(crate::specs::NameText::escaped_char))]
 fn escaped_char(text: &[u8]) -> Option<(TextChar, &[u8])>
     ensures value { option_map (λ r. (character_of r.0, r.1.now)) result ≡ escaped_char text.now }
@@ -115,7 +120,7 @@ fn escaped_char(text: &[u8]) -> Option<(TextChar, &[u8])>
     Some((TextChar::Byte(*first), rest))
 }
 
-/// The first character of a text, and the text behind it; none where the text begins with no character.
+/// The first character of a text, and the text after it; none where the text begins with no character.
 #[tactic(auto, unfolding(crate::specs::NameText::first_char))]
 fn first_char(text: &[u8]) -> Option<(TextChar, &[u8])>
     ensures value { option_map (λ r. (character_of r.0, r.1.now)) result ≡ first_char text.now }
@@ -135,7 +140,8 @@ fn first_char(text: &[u8]) -> Option<(TextChar, &[u8])>
 /// Gathers the labels of a text, each with its length before it, in `room`. Answers how many bytes they
 /// are, and whether the text ends with a dot; none where the text is no labels.
 fn gather_labels(text: &[u8], room: &mut [u8; ROOM]) -> Option<(usize, bool)>
-    ensures none { IfNone result ((labels : List (List ℕ)) (absolute : Bool) → IsLabelsText text.now labels absolute → ⊥) }
+    ensures none { IfNone result ((labels : List (List ℕ)) (absolute : Bool)
+        → IsLabelsText text.now labels absolute → ⊥) }
     ensures some { IfSome result (λ r. IsLabelsText text.now (labels_of (take r.0 room.new)) r.1) }
     ensures wire { IfSome result (λ r. IsWire (take r.0 room.new)) }
     ensures used { IfSome result (λ r. r.0 ≤ 254) }
@@ -181,7 +187,8 @@ fn gather_labels(text: &[u8], room: &mut [u8; ROOM]) -> Option<(usize, bool)>
 fn gather_name(text: &[u8], origin: Option<&Name>, room: &mut [u8; ROOM]) -> Option<(usize, bool)>
     requires no_root { text.now ≢ 46 ∷ [] }
     requires no_origin { text.now ≢ 64 ∷ [] }
-    ensures none { IfNone result ((name : NameValue) → IsNameText text.now (option_copied origin.entry) name → ⊥) }
+    ensures none { IfNone result ((name : NameValue)
+        → IsNameText text.now (option_copied origin.entry) name → ⊥) }
     ensures some { IfSome result (λ r. IsNameText text.now (option_copied origin.entry) (record { labels = labels_of (take r.0 room.new); absolute = r.1 })) }
     ensures wire { IfSome result (λ r. IsWire (take r.0 room.new)) }
     ensures used { IfSome result (λ r. r.0 ≤ 254) }

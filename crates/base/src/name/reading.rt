@@ -40,7 +40,8 @@ enum Part {
 /// What stands at a place of a name, or why nothing can.
 #[tactic(auto, unfolding(crate::specs::Names::part_at))]
 fn part_of(buffer: &[u8], at: usize) -> Result<Part, DecodeError>
-    ensures value { MatchResult result (λ p. part_at buffer.now at ≡ Ok (part p)) (λ e. part_at buffer.now at ≡ Err e) }
+    ensures value { MatchResult result (λ p. part_at buffer.now at ≡ Ok (part p))
+        (λ e. part_at buffer.now at ≡ Err e) }
     ensures near { (t : ℕ) → part_at buffer.now at ≡ Ok (pointer_to t) → t < 16384 }
 {
     if at >= buffer.len() {
@@ -65,12 +66,13 @@ fn part_of(buffer: &[u8], at: usize) -> Result<Part, DecodeError>
     Ok(Part::Pointer(256 * u16::from(first - 192) + u16::from(buffer[at + 1])))
 }
 
-/// Copies a label with its length behind what is used of the room. Of a short one more is copied, where there is as much,
+/// Copies a label with its length after what is used of the room. Of a short one more is copied, where there is as much,
 /// since a fixed number of bytes is copied faster.
 fn copy_label(buffer: &[u8], at: usize, size: usize, room: &mut [u8; ROOM], used: usize)
     requires there { at + size ≤ length buffer.now }
     requires fits { used + size ≤ 254 }
-    ensures { take (used + size) room.new ≡ take used room.old ++ slice_range buffer.now at (at + size) }
+    ensures { take (used + size) room.new
+        ≡ take used room.old ++ slice_range buffer.now at (at + size) }
 {
     if size <= PIECE && used + PIECE <= ROOM && at + PIECE <= buffer.len() {
         room[used..used + PIECE].copy_from_slice(&buffer[at..at + PIECE]);
@@ -161,7 +163,7 @@ fn gather<'a>(
     }
 }
 
-/// Keeps the labels behind the pointers that were followed, the last of them first, so that those behind a kept one are
+/// Keeps the labels after the pointers that were followed, the last of them first, so that those after a kept one are
 /// kept at any time.
 fn keep_all<'a>(
     decoder: &mut BinDecoder<'a>,
@@ -172,7 +174,8 @@ fn keep_all<'a>(
     requires spelled { AreSpelled decoder.old.bytes labels.now passed.now }
     requires last { IfSome last (λ lent. IsLast lent.now labels.now passed.now) }
     requires later { PassLater decoder.old.bytes decoder.old.kept passed.now }
-    ensures ok { OnOk result (decoder.new ≡ record decoder.old { kept = inserted (targets passed.now) decoder.old.kept }) }
+    ensures ok { OnOk result (decoder.new
+        ≡ record decoder.old { kept = inserted (targets passed.now) decoder.old.kept }) }
     ensures err { OnErr result (decoder.new.jumps ≡ decoder.old.jumps) }
     ensures only { IsOkUnless result DecodeError.Memory }
 {
@@ -256,13 +259,15 @@ impl BinDecodable for Name {
 
     ghost names_at = { λ _ i. i ∷ [] };
 
-    /// Reads an absolute name at the decoder's place, its pointers followed, and moves behind it
-    /// (RFC 1035, 4.1.4). Grows memory once for a name whose labels take more than 29 bytes, and to keep the labels of each
-    /// pointer target that it follows. A target that is kept already ends the walk.
+    /// Reads an absolute name at the decoder's place, its pointers followed, and moves after it (RFC 1035, 4.1.4).
+    /// Grows memory once for a name whose labels take more than 29 bytes, and to keep the labels of each pointer target
+    /// that it follows. A target that is kept already ends the walk.
     ///
-    /// Refused with `InsufficientBytes` where the buffer ends inside a piece of the name; with `BadName`
-    /// where the top bits of a byte are 01 or 10, where a pointer doesn't go below the start of its piece,
-    /// and where the name would have more than 255 bytes; and for want of memory.
+    /// # Errors
+    ///
+    /// `InsufficientBytes` where the buffer ends inside a piece of the name; `BadName` where the top bits of a byte are
+    /// 01 or 10, where a pointer doesn't go below the start of its piece, and where the name would have more than 255
+    /// bytes; `Memory` if memory runs out.
     #[tactic(auto, unfolding(crate::specs::Names::name_at))]
     fn read(decoder: &mut BinDecoder<'_>) -> Result<Name, DecodeError>
         ensures read { Reads (λ x. x) decoder.old decoder.new result (name_at decoder.old.bytes decoder.old.index) }

@@ -11,5 +11,6 @@ ghost use Rattle.base.specs.Words.{NameAt};
 pub fn written_names_are_read()
     ensures { (labels : List (List ℕ)) (plain : ℕ) (owner : List (List ℕ)) (a b : State)
         → IsValid a b.bytes → Writes (NameAt labels) plain owner a b
-        → name_at b.bytes (length a.bytes) ≡ Ok (record { labels = labels; absolute = true }, length b.bytes) }
+        → name_at b.bytes (length a.bytes)
+        ≡ Ok (record { labels = labels; absolute = true }, length b.bytes) }
 {}

@@ -53,7 +53,7 @@ impl Trail {
         }
     }
 
-    /// The pointer that was followed behind as many others.
+    /// The pointer that was followed after as many others.
     pub(crate) fn at(&self, i: usize) -> Option<Passed>
         ensures there { (d : Pointer) → i < length self.now → result ≡ Some (get_or self.now i d) }
         ensures past { length self.now ≤ i → result ≡ None }
@@ -64,7 +64,11 @@ impl Trail {
         self.others.get(i - 1).copied()
     }
 
-    /// Follows one more. Refused for want of memory, with the trail as it was.
+    /// Follows one more.
+    ///
+    /// # Errors
+    ///
+    /// If memory runs out, with the trail as it was.
     pub(crate) fn push(&mut self, passed: Passed) -> Result<(), AllocError>
         ensures ok { OnOk result (self.new ≡ self.old ++ passed ∷ []) }
         ensures err { OnErr result (self.new ≡ self.old) }

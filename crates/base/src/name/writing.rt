@@ -31,12 +31,13 @@ impl BinEncodable for Name {
 
     /// Writes the name, letters as they are; whether it is absolute isn't written.
     ///
-    /// Ends with a pointer at the first suffix of it, but the root, that was stored with the same labels
-    /// byte for byte. Each suffix before that is stored, if it begins below the offset 16,384
-    /// (RFC 1035, 4.1.4).
+    /// Ends with a pointer at the first suffix of it, but the root, that was stored with the same labels byte for byte.
+    /// Each suffix before that is stored, if it begins below the offset 16,384 (RFC 1035, 4.1.4).
     ///
-    /// Refused with `MaxBufferSizeExceeded` where a byte would pass the limit, and with `Memory` for want of it. What
-    /// stood before stays, and labels that were written before the refusal stand behind it.
+    /// # Errors
+    ///
+    /// `MaxBufferSizeExceeded` where a byte would pass the limit; `Memory` if memory runs out. What stood before stays,
+    /// and labels that were written before the refusal stand after it.
     fn emit(&self, encoder: &mut BinEncoder<'_>) -> Result<(), ProtoError> {
         let mut rest = self.as_wire();
         while let Some((label, tail)) = first_label(rest) {
@@ -53,13 +54,16 @@ impl BinEncodable for Name {
 }
 
 impl Name {
-    /// Writes the name without compression, letters as they are; whether it is absolute isn't written.
-    /// Neither looks suffixes up nor stores them.
+    /// Writes the name without compression, letters as they are; whether it is absolute isn't written. Neither looks
+    /// suffixes up nor stores them.
     ///
-    /// Refused with `MaxBufferSizeExceeded` where a byte would pass the limit, and with `Memory` for want of it. What
-    /// stood before stays, and labels that were written before the refusal stand behind it.
+    /// # Errors
+    ///
+    /// `MaxBufferSizeExceeded` where a byte would pass the limit; `Memory` if memory runs out. What stood before stays,
+    /// and labels that were written before the refusal stand after it.
     pub fn emit_plain(&self, encoder: &mut BinEncoder<'_>) -> Result<(), ProtoError>
-        ensures state { OnOk result (state_of encoder.new ≡ appended (wire_of self.now.labels ++ 0 ∷ []) (state_of encoder.old)) }
+        ensures state { OnOk result (state_of encoder.new
+            ≡ appended (wire_of self.now.labels ++ 0 ∷ []) (state_of encoder.old)) }
         ensures keeps { Keeps (state_of encoder.old) (state_of encoder.new) }
         ensures fits { OnOk result (AreNameLabels self.now.labels) }
         ensures exact { Exactly (plain_name self.now.labels)

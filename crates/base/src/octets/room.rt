@@ -15,7 +15,7 @@ const PIECE: usize = 16;
 /// How many of a shorter list are.
 const SHORT_PIECE: usize = 8;
 
-/// Up to 29 bytes, and a mark. What stands behind them in the room has no meaning.
+/// Up to 29 bytes, and a mark. What stands after them in the room has no meaning.
 #[derive(Debug, Drop)]
 pub(crate) struct Room {
     alloc: Global,
@@ -85,7 +85,7 @@ impl Room {
         }
     }
 
-    /// These bytes, and others behind them.
+    /// These bytes, and others after them.
     pub(crate) fn from_slices(alloc: Global, slice: &[u8], others: &[u8], mark: bool) -> Room
         requires { length slice.now + length others.now ≤ 29 }
         ensures { result ≡ record { items = slice.now ++ others.now; mark = mark } }

@@ -27,7 +27,8 @@ fn ends_item(c: u8) -> bool
 /// How many bytes the item has that a text begins with; none where a backslash ends the text.
 #[tactic(auto, unfolding(crate::specs::Tokens::item))]
 fn item_len(text: &[u8]) -> Option<usize>
-    ensures value { option_map (λ n. (take n text.now, drop n text.now)) result ≡ item false text.now }
+    ensures value { option_map (λ n. (take n text.now, drop n text.now)) result
+        ≡ item false text.now }
     ensures boundary { IfSome result (λ n. IsCharBoundary text.now n) }
 {
     let mut at = 0;
@@ -50,7 +51,8 @@ fn item_len(text: &[u8]) -> Option<usize>
 /// How many bytes stand before the next `"` that no backslash keeps; none where there is no such `"`.
 #[tactic(auto, unfolding(crate::specs::Tokens::quoted))]
 fn quoted_len(text: &[u8]) -> Option<usize>
-    ensures value { option_map (λ n. (take n text.now, drop (n + 1) text.now)) result ≡ quoted false text.now }
+    ensures value { option_map (λ n. (take n text.now, drop (n + 1) text.now)) result
+        ≡ quoted false text.now }
     ensures boundary { IfSome result (λ n. IsCharBoundary text.now n) }
     ensures quote { IfSome result (λ n. (n < length text.now) × (get_or text.now n 0 ≡ 34)) }
 {
@@ -64,7 +66,7 @@ fn quoted_len(text: &[u8]) -> Option<usize>
     None
 }
 
-/// What is behind the first character of a text, which is one of ASCII.
+/// What is after the first character of a text, which is one of ASCII.
 pub(super) fn past_first(text: &str) -> &str
     requires some { 0 < length text.now }
     requires ascii { get_or text.now 0 0 < 128 }
@@ -112,7 +114,7 @@ pub(super) fn begins_blank(text: &str) -> bool
     }
 }
 
-/// What is behind the blanks that a text begins with.
+/// What is after the blanks that a text begins with.
 pub(super) fn past_blanks(text: &str) -> &str
     ensures { result.now ≡ past_blanks text.now }
 {
@@ -135,7 +137,7 @@ fn line_end(text: &str) -> &str
     &text[text.len()..]
 }
 
-/// What is behind the comment that a text begins with, if it begins with one.
+/// What is after the comment that a text begins with, if it begins with one.
 pub(super) fn past_comment(text: &str) -> &str
     ensures { result.now ≡ past_comment text.now }
 {
@@ -145,7 +147,7 @@ pub(super) fn past_comment(text: &str) -> &str
     text
 }
 
-/// Within parentheses: what is behind blanks, line ends and comments.
+/// Within parentheses: what is after blanks, line ends and comments.
 #[tactic(auto, using(crate::proofs::Cutting::separators_comment, crate::proofs::Cutting::comment_shorter, crate::proofs::Cutting::separators_here, crate::proofs::Cutting::separators_none))]
 fn past_separators(text: &str) -> &str
     ensures { result.now ≡ past_separators false text.now }
@@ -164,7 +166,7 @@ fn past_separators(text: &str) -> &str
     rest
 }
 
-/// The item that a text begins with, and what is behind it.
+/// The item that a text begins with, and what is after it.
 pub(super) fn take_item(alloc: Global, text: &str) -> Result<(String, &str), ParseError>
     ensures { CutsOff (λ r. (string_bytes r.0, r.1.now)) result (item false text.now) }
 {
@@ -175,7 +177,7 @@ pub(super) fn take_item(alloc: Global, text: &str) -> Result<(String, &str), Par
     Ok((String::from_str(alloc, word)?, rest))
 }
 
-/// What stands before the closing quotation mark, and what is behind that.
+/// What stands before the closing quotation mark, and what is after that.
 pub(super) fn take_quoted(alloc: Global, text: &str) -> Result<(String, &str), ParseError>
     ensures { CutsOff (λ r. (string_bytes r.0, r.1.now)) result (quoted false text.now) }
 {
@@ -186,7 +188,7 @@ pub(super) fn take_quoted(alloc: Global, text: &str) -> Result<(String, &str), P
     Ok((String::from_str(alloc, word)?, past_first(rest)))
 }
 
-/// What stands next within parentheses, none where they close, and what is behind it.
+/// What stands next within parentheses, none where they close, and what is after it.
 #[tactic(auto, unfolding(crate::specs::Tokens::element))]
 fn take_element(alloc: Global, text: &str) -> Result<(Option<String>, &str), ParseError>
     ensures { AnswersElement result (element (past_separators false text.now)) }
@@ -208,7 +210,7 @@ fn take_element(alloc: Global, text: &str) -> Result<(Option<String>, &str), Par
     }
 }
 
-/// The items within parentheses and what is behind the closing one, of the text behind the opening one.
+/// The items within parentheses and what is after the closing one, of the text after the opening one.
 pub(super) fn take_list(alloc: Global, text: &str) -> Result<(Vec<String>, &str), ParseError>
     ensures { CutsOff (λ r. (texts r.0.items, r.1.now)) result (list_items (length text.now) text.now) }
 {
@@ -224,7 +226,7 @@ pub(super) fn take_list(alloc: Global, text: &str) -> Result<(Vec<String>, &str)
     }
 }
 
-/// What is behind the end of the line that a text begins with: CR LF is one.
+/// What is after the end of the line that a text begins with: CR LF is one.
 pub(super) fn past_line_end(text: &str) -> &str
     requires some { 0 < length text.now }
     requires ends { IsTrue (is_line_end (get_or text.now 0 0)) }

@@ -14,12 +14,13 @@ pub fn tokens_come_in_turn()
     ensures { (unread : Unread) → symbols unread ≡ followed symbols (next_symbol unread) }
 {}
 
-/// The tokens of two texts one behind the other, the first of which ends with the end of a line, are those of the
+/// The tokens of two texts one after another, the first of which ends with the end of a line, are those of the
 /// one and then those of the other. A carriage return that ends the first and a line feed that begins the second
 /// are the end of one line, and its token is the first one's (RFC 1035, 5.1).
 pub fn tokens_of_texts_in_turn()
     ensures { (a b : List ℕ) (e : EndsWithALine a) →
-        symbols (whole_text (a ++ b)) ≡ symbols (whole_text a) ++ symbols (whole_text (past_line_end e.byte b)) }
+        symbols (whole_text (a ++ b))
+        ≡ symbols (whole_text a) ++ symbols (whole_text (past_line_end e.byte b)) }
 {}
 
 /// What an item, a quoted text and a list are: what is cut off a text is one of that shape, and where a text begins with
@@ -29,12 +30,14 @@ pub fn tokens_have_three_shapes()
         ↔ ((text ≡ word ++ rest) × IsItem word × EndsItem rest) }
     ensures quoted { (text word rest : List ℕ) → (quoted false text ≡ Some (word, rest))
         ↔ ((text ≡ word ++ 34 ∷ rest) × IsQuoted word) }
-    ensures list { (text rest : List ℕ) (words : List (List ℕ)) → (list_items (length text) text ≡ Some (words, rest))
+    ensures list { (text rest : List ℕ) (words : List (List ℕ))
+        → (list_items (length text) text ≡ Some (words, rest))
         ↔ ((inner : List ℕ) × (text ≡ inner ++ rest) × IsList words inner) }
 {}
 
 /// What `ttl_of` answers is what the text says: a decimal number of seconds, or groups of a number and a unit that are
 /// summed up, below 2 to the 32nd (RFC 1035, 4.1.3 and 5.1).
 pub fn ttl_texts_say_seconds()
-    ensures { (text : List ℕ) (seconds : ℕ) → (ttl_of text ≡ Some seconds) ↔ IsTtlText text seconds }
+    ensures { (text : List ℕ) (seconds : ℕ)
+        → (ttl_of text ≡ Some seconds) ↔ IsTtlText text seconds }
 {}

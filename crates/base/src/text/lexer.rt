@@ -43,14 +43,17 @@ impl<'a> Lexer<'a> {
         }
     }
 
-    /// The next token; `None` at the end of the text, and again whenever it is asked for there. No end of a
-    /// line is added at the end of the text.
+    /// The next token; `None` at the end of the text, and again whenever it is asked for there. No end of a line is
+    /// added at the end of the text.
     ///
-    /// Refused with `Lexer` where the text can't be cut on: a `(` or an item that begins with `$` within
-    /// parentheses, a `)` outside them, an item that begins with `$` and is none of `$ORIGIN`, `$INCLUDE` and
-    /// `$TTL`, and the text's end within parentheses, in quotes or behind a backslash. Refused with `Memory`
-    /// for want of it, which is never so at the end of the text, for blanks or at the end of a line. After `None` and
-    /// after a refusal the lexer stands where it stood.
+    /// After `None` and after a refusal the lexer stands where it stood.
+    ///
+    /// # Errors
+    ///
+    /// `Lexer` where the text can't be cut on: a `(` or an item that begins with `$` within parentheses, a `)` outside
+    /// them, an item that begins with `$` and is none of `$ORIGIN`, `$INCLUDE` and `$TTL`, and the text's end within
+    /// parentheses, in quotes or after a backslash. `Memory` if memory runs out, which is never so at the end of the
+    /// text, for blanks or at the end of a line.
     #[tactic(auto, unfolding(crate::specs::Tokens::next, crate::specs::Tokens::visible))]
     pub fn next_token(&mut self) -> Result<Option<Token>, ParseError>
         ensures value { AnswersNext result self.new (next self.old) }
@@ -79,7 +82,7 @@ impl<'a> Lexer<'a> {
 }
 
 /// The token that a text begins with, which begins with this byte, no blank, no comment and no line's end,
-/// and what is behind it.
+/// and what is after it.
 #[tactic(auto, unfolding(crate::specs::Tokens::visible))]
 fn cut_token(alloc: Global, first: u8, text: &str) -> Result<(Token, &str), ParseError>
     requires first { slice_get text.now 0 ≡ Some first }

@@ -24,8 +24,10 @@ fn unit_of(c: u8) -> Option<u32>
 /// One byte on: the sum and the number of the group begun; none where the text is no TTL text, or says too many.
 #[tactic(auto, using(crate::proofs::TtlLemmas::one_byte))]
 fn ttl_step(sum: u32, begun: Option<u32>, c: u8) -> Option<(u32, Option<u32>)>
-    ensures none { IfNone result ((rest : List ℕ) → below_limit (ttl_sum sum begun (c ∷ rest)) ≡ None) }
-    ensures some { IfSome result (λ r. (rest : List ℕ) → ttl_sum sum begun (c ∷ rest) ≡ ttl_sum r.0 r.1 rest) }
+    ensures none { IfNone result ((rest : List ℕ)
+        → below_limit (ttl_sum sum begun (c ∷ rest)) ≡ None) }
+    ensures some { IfSome result (λ r. (rest : List ℕ)
+        → ttl_sum sum begun (c ∷ rest) ≡ ttl_sum r.0 r.1 rest) }
 {
     if c.is_ascii_digit() {
         let Some(tens) = begun.unwrap_or(0).checked_mul(10) else {

@@ -8,7 +8,7 @@ use crate::wire::decoder::BinDecoder;
 
 /// A value that can be read.
 ///
-/// `read_at` is what a buffer spells at a place: the value and the place behind it, or the first fault. `names_at` are the
+/// `read_at` is what a buffer spells at a place: the value and the place after it, or the first fault. `names_at` are the
 /// places of the names of the value that is read there.
 pub trait BinDecodable: Drop {
     ghost use Rattle.std.specs.Prelude.{ℕ, List, [], IfOk};
@@ -20,9 +20,11 @@ pub trait BinDecodable: Drop {
 
     ghost names_at: { List ℕ → ℕ → List ℕ } = { λ _ _. [] };
 
-    /// Reads the value at the decoder's place, and moves behind it.
+    /// Reads the value at the decoder's place, and moves after it.
     ///
-    /// Refused with the first fault, and with `Memory` for want of it. A decoder that refused isn't used again.
+    /// # Errors
+    ///
+    /// The first fault; `Memory` if memory runs out. A decoder that refused isn't used again.
     fn read(decoder: &mut BinDecoder<'_>) -> Result<Self, DecodeError>
         ensures read { Reads (λ x. x) decoder.old decoder.new result (read_at decoder.old.bytes decoder.old.index) }
         ensures counts { Counts decoder.old decoder.new result }

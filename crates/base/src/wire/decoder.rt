@@ -105,7 +105,8 @@ impl<'a> BinDecoder<'a> {
     pub(crate) fn follow(&mut self, target: u16) -> &'a [u8]
         requires { target ≤ length self.old.bytes }
         ensures lent { result.now ≡ drop target self.old.bytes }
-        ensures counted { self.new ≡ record self.old { jumps = min (self.old.jumps + 1) usize.MAX } }
+        ensures counted { self.new
+            ≡ record self.old { jumps = min (self.old.jumps + 1) usize.MAX } }
     {
         self.jumps = self.jumps.saturating_add(1);
         &self.buffer[usize::from(target)..]
@@ -138,8 +139,9 @@ impl<'a> BinDecoder<'a> {
     /// as there is room, and else copied.
     pub(crate) fn keep_lent(&mut self, target: u16, labels: &'a [u8]) -> Result<(), DecodeError>
         requires kept { IsKept self.old.bytes target labels.now }
-        requires behind { PassesKept self.old.bytes self.old.kept target }
-        ensures ok { OnOk result (self.new ≡ record self.old { kept = set.insert self.old.kept target }) }
+        requires after { PassesKept self.old.bytes self.old.kept target }
+        ensures ok { OnOk result (self.new
+            ≡ record self.old { kept = set.insert self.old.kept target }) }
         ensures err { OnErr result (self.new ≡ self.old) }
         ensures only { IsOkUnless result DecodeError.Memory }
     {
@@ -152,8 +154,9 @@ impl<'a> BinDecoder<'a> {
     /// Keeps a copy of the labels at an offset that a pointer led to.
     pub(crate) fn keep_copy(&mut self, target: u16, labels: &[u8]) -> Result<(), DecodeError>
         requires kept { IsKept self.old.bytes target labels.now }
-        requires behind { PassesKept self.old.bytes self.old.kept target }
-        ensures ok { OnOk result (self.new ≡ record self.old { kept = set.insert self.old.kept target }) }
+        requires after { PassesKept self.old.bytes self.old.kept target }
+        ensures ok { OnOk result (self.new
+            ≡ record self.old { kept = set.insert self.old.kept target }) }
         ensures err { OnErr result (self.new ≡ self.old) }
         ensures only { IsOkUnless result DecodeError.Memory }
     {
@@ -170,7 +173,11 @@ impl<'a> BinDecoder<'a> {
         self.index = index;
     }
 
-    /// Reads one byte. Refused with `InsufficientBytes` where none is left.
+    /// Reads one byte.
+    ///
+    /// # Errors
+    ///
+    /// `InsufficientBytes` where none is left.
     pub fn pop(&mut self) -> Result<u8, DecodeError>
         ensures only { IsOkUnless result DecodeError.InsufficientBytes }
         ensures read { Reads (λ b. b) self.old self.new result (byte_at self.old.bytes self.old.index) }
@@ -187,8 +194,11 @@ impl<'a> BinDecoder<'a> {
         }
     }
 
-    /// Reads a number of two bytes, the high one first (RFC 1035, 2.3.2). Refused with `InsufficientBytes` where fewer
-    /// are left.
+    /// Reads a number of two bytes, the high one first (RFC 1035, 2.3.2).
+    ///
+    /// # Errors
+    ///
+    /// `InsufficientBytes` where fewer are left.
     pub fn read_u16(&mut self) -> Result<u16, DecodeError>
         ensures only { IsOkUnless result DecodeError.InsufficientBytes }
         ensures read { Reads (λ n. n) self.old self.new result (number_at w16 self.old.bytes self.old.index) }
@@ -205,8 +215,11 @@ impl<'a> BinDecoder<'a> {
         }
     }
 
-    /// Reads a number of four bytes, the highest one first (RFC 1035, 2.3.2). Refused with `InsufficientBytes` where
-    /// fewer are left.
+    /// Reads a number of four bytes, the highest one first (RFC 1035, 2.3.2).
+    ///
+    /// # Errors
+    ///
+    /// `InsufficientBytes` where fewer are left.
     pub fn read_u32(&mut self) -> Result<u32, DecodeError>
         ensures only { IsOkUnless result DecodeError.InsufficientBytes }
         ensures read { Reads (λ n. n) self.old self.new result (number_at w32 self.old.bytes self.old.index) }
@@ -223,7 +236,11 @@ impl<'a> BinDecoder<'a> {
         }
     }
 
-    /// Reads `len` bytes, just as they stand. Refused with `InsufficientBytes` where fewer are left.
+    /// Reads `len` bytes, just as they stand.
+    ///
+    /// # Errors
+    ///
+    /// `InsufficientBytes` where fewer are left.
     pub fn read_slice(&mut self, len: usize) -> Result<&'a [u8], DecodeError>
         ensures only { IsOkUnless result DecodeError.InsufficientBytes }
         ensures read { Reads (λ bytes. bytes.now) self.old self.new result (bytes_at len self.old.bytes self.old.index) }

@@ -9,7 +9,7 @@ use crate::wire::encoder::BinEncoder;
 /// A part of a message that writes items and says how many.
 ///
 /// `emits` relates the part and the encoder's state before a call to the answer, and to the part and the
-/// state behind it. That the answered number is the number of items is no law: it is only carried.
+/// state after it. That the answered number is the number of items is no law: it is only carried.
 pub trait EmitAndCount {
     ghost use Rattle.std.specs.Prelude.{ℕ, Result};
     ghost use Rattle.base.specs.declared.error.proto_error.ProtoError.{ProtoError};
@@ -22,7 +22,7 @@ pub trait EmitAndCount {
 
     ghost emits: { Self → State → Result ℕ ProtoError → Self → State → Type 0 };
 
-    /// Writes the items behind what the encoder holds, and answers their number.
+    /// Writes the items after what the encoder holds, and answers their number.
     ///
     /// Where not all fit, refused with `NotAllRecordsWritten` and the number of those that stand.
     fn emit(&mut self, encoder: &mut BinEncoder<'_>) -> Result<usize, ProtoError>

@@ -35,10 +35,11 @@ pub trait BinEncodable {
 
     ghost fits: { Self → Type 0 };
 
-    /// Writes the value behind what the encoder holds (RFC 1035, 4.1).
+    /// Writes the value after what the encoder holds (RFC 1035, 4.1).
     ///
-    /// Refused with `MaxBufferSizeExceeded` where a byte would pass the limit, and with `Memory` for want of it. What
-    /// stood before stays.
+    /// # Errors
+    ///
+    /// `MaxBufferSizeExceeded` where a byte would pass the limit; `Memory` if memory runs out. What stood before stays.
     fn emit(&self, encoder: &mut BinEncoder<'_>) -> Result<(), ProtoError>
         ensures keeps { Keeps (state_of encoder.old) (state_of encoder.new) }
         ensures fits { OnOk result (fits self.now) }
@@ -64,7 +65,8 @@ pub trait EncodedSize: BinEncodable {
     fn fill(&self, room: &mut [u8])
         requires { length room.old ≡ LEN }
         ensures bytes { room.new ≡ encoded self.now }
-        ensures word { (B : List ℕ) (i : ℕ) → Stands (encoded self.now) B i → Self.word self.now B i (i + LEN) };
+        ensures word { (B : List ℕ) (i : ℕ) → Stands (encoded self.now) B i
+            → Self.word self.now B i (i + LEN) };
 }
 
 impl BinEncodable for u16 {

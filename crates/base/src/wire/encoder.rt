@@ -44,7 +44,8 @@ impl<'a> BinEncoder<'a> {
 
     /// An encoder over the emptied vector, with the limit of 65,535 bytes. Takes no memory.
     pub fn new(buffer: &'a mut Vec<u8>) -> BinEncoder<'a>
-        ensures { state_of result ≡ record { buffer = buffer.entry.ghost_name; bytes = []; limit = 65535; suffixes = [] } }
+        ensures { state_of result
+            ≡ record { buffer = buffer.entry.ghost_name; bytes = []; limit = 65535; suffixes = [] } }
     {
         buffer.clear();
         let alloc = *buffer.allocator();
@@ -64,54 +65,68 @@ impl<'a> BinEncoder<'a> {
 
     /// Appends one byte.
     ///
-    /// Refused, with nothing written, with `MaxBufferSizeExceeded` where the byte would pass the limit, and with
-    /// `Memory` for want of it.
+    /// # Errors
+    ///
+    /// `MaxBufferSizeExceeded` where the byte would pass the limit; `Memory` if memory runs out. Nothing is written
+    /// then.
     pub fn emit(&mut self, byte: u8) -> Result<(), ProtoError>
         ensures ok { OnOk result (state_of self.new ≡ appended (byte ∷ []) (state_of self.old)) }
         ensures err { OnErr result (state_of self.new ≡ state_of self.old) }
-        ensures within { OnOk result (length (state_of self.new).bytes ≤ (state_of self.old).limit) }
+        ensures within { OnOk result (length (state_of self.new).bytes
+            ≤ (state_of self.old).limit) }
         ensures refuses { Refuses 1 (state_of self.old) result }
-        ensures full { (state_of self.old).limit < length (state_of self.old).bytes + 1 → IsErrOf result ProtoError.MaxBufferSizeExceeded }
+        ensures full { (state_of self.old).limit < length (state_of self.old).bytes + 1
+            → IsErrOf result ProtoError.MaxBufferSizeExceeded }
     {
         self.emit_slice(&[byte])
     }
 
     /// Appends a number in two bytes, the high one first (RFC 1035, 2.3.2).
     ///
-    /// Refused, with nothing written, with `MaxBufferSizeExceeded` where a byte would pass the limit, and with `Memory`
-    /// for want of it.
+    /// # Errors
+    ///
+    /// `MaxBufferSizeExceeded` where a byte would pass the limit; `Memory` if memory runs out. Nothing is written then.
     pub fn emit_u16(&mut self, number: u16) -> Result<(), ProtoError>
-        ensures ok { OnOk result (state_of self.new ≡ appended (to_be_bytes w16 number) (state_of self.old)) }
+        ensures ok { OnOk result (state_of self.new
+            ≡ appended (to_be_bytes w16 number) (state_of self.old)) }
         ensures err { OnErr result (state_of self.new ≡ state_of self.old) }
-        ensures within { OnOk result (length (state_of self.new).bytes ≤ (state_of self.old).limit) }
+        ensures within { OnOk result (length (state_of self.new).bytes
+            ≤ (state_of self.old).limit) }
         ensures refuses { Refuses 2 (state_of self.old) result }
-        ensures full { (state_of self.old).limit < length (state_of self.old).bytes + 2 → IsErrOf result ProtoError.MaxBufferSizeExceeded }
+        ensures full { (state_of self.old).limit < length (state_of self.old).bytes + 2
+            → IsErrOf result ProtoError.MaxBufferSizeExceeded }
     {
         self.emit_slice(&number.to_be_bytes())
     }
 
     /// Appends a number in four bytes, the highest one first (RFC 1035, 2.3.2).
     ///
-    /// Refused, with nothing written, with `MaxBufferSizeExceeded` where a byte would pass the limit, and with `Memory`
-    /// for want of it.
+    /// # Errors
+    ///
+    /// `MaxBufferSizeExceeded` where a byte would pass the limit; `Memory` if memory runs out. Nothing is written then.
     pub fn emit_u32(&mut self, number: u32) -> Result<(), ProtoError>
-        ensures ok { OnOk result (state_of self.new ≡ appended (to_be_bytes w32 number) (state_of self.old)) }
+        ensures ok { OnOk result (state_of self.new
+            ≡ appended (to_be_bytes w32 number) (state_of self.old)) }
         ensures err { OnErr result (state_of self.new ≡ state_of self.old) }
-        ensures within { OnOk result (length (state_of self.new).bytes ≤ (state_of self.old).limit) }
+        ensures within { OnOk result (length (state_of self.new).bytes
+            ≤ (state_of self.old).limit) }
         ensures refuses { Refuses 4 (state_of self.old) result }
-        ensures full { (state_of self.old).limit < length (state_of self.old).bytes + 4 → IsErrOf result ProtoError.MaxBufferSizeExceeded }
+        ensures full { (state_of self.old).limit < length (state_of self.old).bytes + 4
+            → IsErrOf result ProtoError.MaxBufferSizeExceeded }
     {
         self.emit_slice(&number.to_be_bytes())
     }
 
     /// Appends bytes as they are.
     ///
-    /// Refused, with nothing written, with `MaxBufferSizeExceeded` where a byte would pass the limit, and with `Memory`
-    /// for want of it.
+    /// # Errors
+    ///
+    /// `MaxBufferSizeExceeded` where a byte would pass the limit; `Memory` if memory runs out. Nothing is written then.
     pub fn emit_slice(&mut self, bytes: &[u8]) -> Result<(), ProtoError>
         ensures ok { OnOk result (state_of self.new ≡ appended bytes.now (state_of self.old)) }
         ensures err { OnErr result (state_of self.new ≡ state_of self.old) }
-        ensures within { OnOk result (length (state_of self.new).bytes ≤ (state_of self.old).limit) }
+        ensures within { OnOk result (length (state_of self.new).bytes
+            ≤ (state_of self.old).limit) }
         ensures refuses { Refuses (length bytes.now) (state_of self.old) result }
         ensures full { (state_of self.old).limit < length (state_of self.old).bytes + length bytes.now → IsErrOf result ProtoError.MaxBufferSizeExceeded }
     {
@@ -139,15 +154,19 @@ impl<'a> BinEncoder<'a> {
 
     /// Keeps room for a value that comes later: appends as many zero bytes as it takes.
     ///
-    /// Refused, with nothing written, with `MaxBufferSizeExceeded` where a byte would pass the limit, and with `Memory`
-    /// for want of it.
+    /// # Errors
+    ///
+    /// `MaxBufferSizeExceeded` where a byte would pass the limit; `Memory` if memory runs out. Nothing is written then.
     pub fn place<T: EncodedSize>(&mut self) -> Result<Place<T>, ProtoError>
-        ensures ok { IfOk result (λ place. (state_of self.new ≡ appended (replicate T.LEN 0) (state_of self.old))
+        ensures ok { IfOk result (λ place. (state_of self.new
+            ≡ appended (replicate T.LEN 0) (state_of self.old))
             × (place ≡ length (state_of self.old).bytes)) }
         ensures err { OnErr result (state_of self.new ≡ state_of self.old) }
-        ensures within { OnOk result (length (state_of self.new).bytes ≤ (state_of self.old).limit) }
+        ensures within { OnOk result (length (state_of self.new).bytes
+            ≤ (state_of self.old).limit) }
         ensures refuses { Refuses T.LEN (state_of self.old) result }
-        ensures full { (state_of self.old).limit < length (state_of self.old).bytes + T.LEN → IsErrOf result ProtoError.MaxBufferSizeExceeded }
+        ensures full { (state_of self.old).limit < length (state_of self.old).bytes + T.LEN
+            → IsErrOf result ProtoError.MaxBufferSizeExceeded }
         ensures narrow { (state_of self.old).limit < 2 ^ 16 }
     {
         let start = self.buffer.len();
@@ -162,7 +181,7 @@ impl<'a> BinEncoder<'a> {
         })
     }
 
-    /// How many bytes were written behind the room that was kept.
+    /// How many bytes were written after the room that was kept.
     pub fn len_since_place<T: EncodedSize>(&self, place: &Place<T>) -> usize
         requires { place.now + T.LEN ≤ length (state_of self.now).bytes }
         ensures { result ≡ length (state_of self.now).bytes - (place.now + T.LEN) }
@@ -174,7 +193,8 @@ impl<'a> BinEncoder<'a> {
     /// name was written there: the caller's condition.
     pub fn replace<T: EncodedSize>(&mut self, place: Place<T>, value: &T)
         requires { place + T.LEN ≤ length (state_of self.old).bytes }
-        ensures state { state_of self.new ≡ overwritten place (T.encoded value.now) (state_of self.old) }
+        ensures state { state_of self.new
+            ≡ overwritten place (T.encoded value.now) (state_of self.old) }
     {
         let start = place.start;
         fill_at(self.buffer, start, value);
@@ -184,7 +204,9 @@ impl<'a> BinEncoder<'a> {
 /// Writes the value over the bytes from a place on.
 fn fill_at<T: EncodedSize>(bytes: &mut Vec<u8>, start: usize, value: &T)
     requires { start + T.LEN ≤ length bytes.old.items }
-    ensures items { bytes.new.items ≡ take start bytes.old.items ++ (T.encoded value.now ++ drop (start + length (T.encoded value.now)) bytes.old.items) }
+    ensures items { bytes.new.items
+        ≡ take start bytes.old.items
+        ++ (T.encoded value.now ++ drop (start + length (T.encoded value.now)) bytes.old.items) }
     ensures len { length bytes.new.items ≡ length bytes.old.items }
 {
     value.fill(&mut bytes[start..start + T::LEN]);

@@ -23,13 +23,15 @@ pub fn a_new_decoder_is_counted()
 /// What a new decoder keeps after a read is exactly what the names pass that were read: the clause `adds` of the read
 /// tells their places.
 pub fn a_new_decoder_keeps_what_is_passed()
-    ensures { (bytes names : List ℕ) (new : Reader) → AddsPassed names (begun bytes) new → (offsets : List ℕ) × NamesPass bytes names offsets × (new.kept ≡ set.from_list offsets) }
+    ensures { (bytes names : List ℕ) (new : Reader) → AddsPassed names (begun bytes) new
+        → (offsets : List ℕ) × NamesPass bytes names offsets × (new.kept ≡ set.from_list offsets) }
 {}
 
 /// What an emit wrote is the word of its value, has at most as many bytes as without compression, compresses the owner,
 /// and leaves each stored suffix spelled; and it is refused for the limit only where as many bytes would pass it.
 pub fn what_is_written_is_its_word<E: BinEncodable>()
-    ensures writes { (x : E) (a b : State) (answer : Result (Unit {0}) ProtoError) → Keeps a b → a.limit < 2 ^ 16
+    ensures writes { (x : E) (a b : State) (answer : Result (Unit {0}) ProtoError) → Keeps a b
+        → a.limit < 2 ^ 16
         → OnOk answer (E.fits x) → Exactly (E.written x) a b answer
         → OnOk answer (Writes (E.word x) (E.plain_len x) (E.owner x) a b) }
     ensures refuses { (x : E) (a b : State) (answer : Result (Unit {0}) ProtoError)
@@ -45,7 +47,9 @@ pub fn what_fits_under_a_limit<E: BinEncodable>()
     ensures all { (limit : ℕ) (values : List E) (at : ℕ) (stored : List Stored)
         → at + length (in_turn E.written values at stored).bytes ≤ limit
         → that_fit E.written limit values at stored ≡ values }
-    ensures no_fewer { (limit larger : ℕ) (values : List E) (at : ℕ) (stored : List Stored) → limit ≤ larger
+    ensures no_fewer { (limit larger : ℕ) (values : List E) (at : ℕ) (stored : List Stored)
+        → limit ≤ larger
         → (others : List E)
-        × (that_fit E.written larger values at stored ≡ that_fit E.written limit values at stored ++ others) }
+        × (that_fit E.written larger values at stored
+        ≡ that_fit E.written limit values at stored ++ others) }
 {}

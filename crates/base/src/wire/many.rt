@@ -1,4 +1,4 @@
-//! Reads values one behind the other.
+//! Reads values one after another.
 
 ghost use Rattle.std.specs.Prelude.{IfOk};
 ghost use Rattle.base.specs.Counts.{Counts, Passes};
@@ -10,9 +10,11 @@ use crate::error::DecodeError;
 use crate::wire::decodable::BinDecodable;
 use crate::wire::decoder::BinDecoder;
 
-/// Reads `count` values, one behind the other.
+/// Reads `count` values, one after another.
 ///
-/// Refused with the first fault, and with `Memory` for want of it. A decoder that refused isn't used again.
+/// # Errors
+///
+/// The first fault; `Memory` if memory runs out. A decoder that refused isn't used again.
 pub fn read_many<T: BinDecodable>(
     decoder: &mut BinDecoder<'_>,
     count: usize,

@@ -37,8 +37,11 @@ impl BinEncodable for RecordType {
 impl BinDecodable for RecordType {
     ghost read_at = { λ bytes i. number_at w16 bytes i >>= λ r. Ok (type_of r.0, r.1) };
 
-    /// Reads a type at the decoder's place, and moves behind it. Refused with `InsufficientBytes` where
-    /// less than two bytes are left.
+    /// Reads a type at the decoder's place, and moves after it.
+    ///
+    /// # Errors
+    ///
+    /// `InsufficientBytes` where less than two bytes are left.
     #[tactic(auto, using(crate::proofs::AddsLemmas::adds_none))]
     #[inline(always)]
     fn read(decoder: &mut BinDecoder<'_>) -> Result<RecordType, DecodeError> {
@@ -65,7 +68,10 @@ impl BinEncodable for DNSClass {
 impl BinDecodable for DNSClass {
     ghost read_at = { λ bytes i. number_at w16 bytes i >>= λ r. Ok (class_of r.0, r.1) };
 
-    /// Reads a class at the decoder's place, and moves behind it; never `OPT`. Refused with
+    /// Reads a class at the decoder's place, and moves after it; never `OPT`.
+    ///
+    /// # Errors
+    ///
     /// `InsufficientBytes` where less than two bytes are left.
     #[tactic(auto, using(crate::proofs::AddsLemmas::adds_none))]
     fn read(decoder: &mut BinDecoder<'_>) -> Result<DNSClass, DecodeError> {

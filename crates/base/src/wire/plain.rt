@@ -63,7 +63,8 @@ impl<'a> PlainTargets<'a> {
 
     /// Keeps an offset with its labels, if there is room. Answers whether it did.
     pub(crate) fn keep(&mut self, target: u16, labels: &'a [u8]) -> bool
-        ensures kept { result ≡ true → self.new ≡ self.old ++ record { target = target; labels = labels.entry } ∷ [] }
+        ensures kept { result ≡ true
+            → self.new ≡ self.old ++ record { target = target; labels = labels.entry } ∷ [] }
         ensures full { result ≡ false → self.new ≡ self.old }
     {
         if self.count == ROOM {

@@ -1,4 +1,4 @@
-//! Writes values behind their length.
+//! Writes values after their length.
 
 ghost use Rattle.std.specs.Prelude.{OnOk};
 ghost use Rattle.base.specs.Laws.{Keeps};
@@ -9,10 +9,11 @@ use crate::error::ProtoError;
 use crate::wire::encodable::BinEncodable;
 use crate::wire::encoder::BinEncoder;
 
-/// Writes a value behind the number of its bytes, a `u16` (RDLENGTH, RFC 1035, 3.2.1).
+/// Writes a value after the number of its bytes, a `u16` (RDLENGTH, RFC 1035, 3.2.1).
 ///
-/// Refused with `MaxBufferSizeExceeded` where a byte would pass the limit, and with `Memory` for want of it. What stood
-/// before stays.
+/// # Errors
+///
+/// `MaxBufferSizeExceeded` where a byte would pass the limit; `Memory` if memory runs out. What stood before stays.
 pub fn emit_sized<R: BinEncodable>(
     value: &R,
     encoder: &mut BinEncoder<'_>,

@@ -50,7 +50,8 @@ impl Suffix {
     pub(crate) fn new(alloc: Global, wire: &[u8], offset: u16) -> Result<Suffix, AllocError>
         requires wire { IsWire wire.now }
         requires near { offset < 16384 }
-        ensures { IfOk result (λ suffix. suffix ≡ record { labels = labels_of wire.now; offset = offset }) }
+        ensures { IfOk result (λ suffix. suffix
+            ≡ record { labels = labels_of wire.now; offset = offset }) }
     {
         Ok(Suffix {
             labels: Octets::from_slice(alloc, wire, false)?,

@@ -110,15 +110,18 @@ impl SuffixTable {
         self.index.get(&room[..len]).copied()
     }
 
-    /// Stores a suffix of these labels, each with its length before it, that isn't stored yet, behind all others.
+    /// Stores a suffix of these labels, each with its length before it, that isn't stored yet, after all others.
     ///
-    /// Refused for want of memory, with nothing stored.
+    /// # Errors
+    ///
+    /// If memory runs out, with nothing stored.
     pub(crate) fn store(&mut self, wire: &[u8], at: u16) -> Result<(), ProtoError>
         requires wire { IsWire wire.now }
         requires near { at < 16384 }
         requires absent { All (λ t. t.labels ≢ labels_of wire.now) self.old }
         requires later { All (λ t. t.offset < at) self.old }
-        ensures ok { OnOk result (self.new ≡ self.old ++ record { labels = labels_of wire.now; offset = at } ∷ []) }
+        ensures ok { OnOk result (self.new
+            ≡ self.old ++ record { labels = labels_of wire.now; offset = at } ∷ []) }
         ensures err { OnErr result (self.new ≡ self.old) }
         ensures memory { IsMemory result }
     {
@@ -141,8 +144,8 @@ impl SuffixTable {
     pub(crate) fn truncate(&mut self, count: usize)
         ensures { self.new ≡ take count self.old }
     {
-        let behind = count.saturating_sub(self.first.len());
-        while self.others.len() > behind {
+        let after = count.saturating_sub(self.first.len());
+        while self.others.len() > after {
             if let Some(suffix) = self.others.pop() {
                 let mut room = [0; KEY];
                 let len = key_into(suffix.as_wire(), suffix.front(), &mut room);
@@ -154,7 +157,9 @@ impl SuffixTable {
 
     /// Stores one of the first suffixes, and with the first of all makes room for the others of these.
     ///
-    /// Refused for want of memory, with nothing stored.
+    /// # Errors
+    ///
+    /// If memory runs out, with nothing stored.
     fn push_first(first: &mut Vec<Suffix>, suffix: Suffix) -> Result<(), ProtoError>
         ensures ok { OnOk result (first.new.items ≡ first.old.items ++ suffix ∷ []) }
         ensures err { OnErr result (first.new.items ≡ first.old.items) }

@@ -10,9 +10,9 @@ use std::marker::Model;
 /// without a search, since there are few that a pointer can name.
 #[derive(Drop)]
 pub(crate) struct TargetTable {
-    /// By offset, the place in `kept` behind the number of bytes that its labels are, and 0 where none are kept.
+    /// By offset, the place in `kept` after the number of bytes that its labels are, and 0 where none are kept.
     places: Vec<usize>,
-    /// Labels one behind the other, before each the number of bytes that they are.
+    /// Labels one after another, before each the number of bytes that they are.
     kept: Vec<u8>,
 }
 
@@ -75,12 +75,16 @@ impl TargetTable {
         Some(&self.kept[place..place + len])
     }
 
-    /// Keeps the labels at an offset, of which there are so many at most. Refused for want of memory, with the table as it
-    /// was.
+    /// Keeps the labels at an offset, of which there are so many at most.
+    ///
+    /// # Errors
+    ///
+    /// If memory runs out, with the table as it was.
     pub(crate) fn keep(&mut self, target: u16, labels: &[u8], most: u16) -> Result<(), AllocError>
         requires { length labels.now ≤ 254 }
         ensures ok { OnOk result (get_or self.new target None ≡ Some labels.now) }
-        ensures others { (q : ℕ) → q ≢ target → OnOk result (get_or self.new q None ≡ get_or self.old q None) }
+        ensures others { (q : ℕ) → q ≢ target
+            → OnOk result (get_or self.new q None ≡ get_or self.old q None) }
         ensures err { OnErr result (self.new ≡ self.old) }
     {
         let target = usize::from(target);

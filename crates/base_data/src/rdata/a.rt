@@ -69,7 +69,9 @@ impl BinEncodable for A {
 
     /// Writes the four bytes (RFC 1035, 3.4.1).
     ///
-    /// Refused with `MaxBufferSizeExceeded` where a byte would pass the limit, and with `Memory` for want of it.
+    /// # Errors
+    ///
+    /// `MaxBufferSizeExceeded` where a byte would pass the limit; `Memory` if memory runs out.
     fn emit(&self, encoder: &mut BinEncoder<'_>) -> Result<(), ProtoError> {
         emit_bytes(&self.octets, encoder)
     }
@@ -78,7 +80,11 @@ impl BinEncodable for A {
 impl BinDecodable for A {
     ghost read_at = { a_at };
 
-    /// Reads four bytes. Refused with `InsufficientBytes` where fewer are left.
+    /// Reads four bytes.
+    ///
+    /// # Errors
+    ///
+    /// `InsufficientBytes` where fewer are left.
     #[tactic(auto, using(base::proofs::AddsLemmas::adds_none))]
     fn read(decoder: &mut BinDecoder<'_>) -> Result<A, DecodeError> {
         match decoder.read_slice(4)? {

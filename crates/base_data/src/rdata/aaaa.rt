@@ -71,7 +71,9 @@ impl BinEncodable for AAAA {
 
     /// Writes the sixteen bytes (RFC 3596, 2.2).
     ///
-    /// Refused with `MaxBufferSizeExceeded` where a byte would pass the limit, and with `Memory` for want of it.
+    /// # Errors
+    ///
+    /// `MaxBufferSizeExceeded` where a byte would pass the limit; `Memory` if memory runs out.
     fn emit(&self, encoder: &mut BinEncoder<'_>) -> Result<(), ProtoError> {
         emit_bytes(&self.octets, encoder)
     }
@@ -80,7 +82,11 @@ impl BinEncodable for AAAA {
 impl BinDecodable for AAAA {
     ghost read_at = { aaaa_at };
 
-    /// Reads sixteen bytes. Refused with `InsufficientBytes` where fewer are left.
+    /// Reads sixteen bytes.
+    ///
+    /// # Errors
+    ///
+    /// `InsufficientBytes` where fewer are left.
     #[tactic(auto, using(base::proofs::AddsLemmas::adds_none))]
     fn read(decoder: &mut BinDecoder<'_>) -> Result<AAAA, DecodeError> {
         let mut octets = [0; 16];
@@ -92,8 +98,10 @@ impl BinDecodable for AAAA {
 /// The text of an address has `::` in place of the first of the longest runs of zero groups, if that run has
 /// two groups or more; where no two zero groups stand side by side, it has all groups (RFC 5952, 4.2).
 pub fn address_text()
-    ensures shortened { (octets : List ℕ) (start len : ℕ) → IsFirstLongest (segments_of octets) start len → 2 ≤ len
-        → aaaa_text octets ≡ groups_text (take start (segments_of octets)) ++ codes "::" ++ groups_text (drop (start + len) (segments_of octets)) }
+    ensures shortened { (octets : List ℕ) (start len : ℕ)
+        → IsFirstLongest (segments_of octets) start len → 2 ≤ len
+        → aaaa_text octets ≡ groups_text (take start (segments_of octets)) ++ codes "::"
+        ++ groups_text (drop (start + len) (segments_of octets)) }
     ensures whole { (octets : List ℕ) → ((start : ℕ) → ¬ AreZeros (segments_of octets) start 2)
         → aaaa_text octets ≡ groups_text (segments_of octets) }
 {}

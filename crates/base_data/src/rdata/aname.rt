@@ -1,4 +1,4 @@
-//! Names whose addresses another name has too.
+//! Names that lend their addresses to the owner (ANAME).
 
 ghost use Rattle.std.specs.Prelude.{◌≡◌, Some, refl};
 ghost use Rattle.base_data.specs.ANAME.{aname_at, aname_kind, aname_of};
@@ -56,7 +56,9 @@ impl BinDecodable for ANAME {
 
     /// Reads the name, its pointers followed (RFC 1035, 4.1.4).
     ///
-    /// Refused with the first fault of the name, `InsufficientBytes` or `BadName`, and with `Memory` for want of it.
+    /// # Errors
+    ///
+    /// The first fault of the name, `InsufficientBytes` or `BadName`; `Memory` if memory runs out.
     #[tactic(auto, unfolding(crate::specs::ANAME::aname_at))]
     fn read(decoder: &mut BinDecoder<'_>) -> Result<ANAME, DecodeError> {
         Ok(ANAME {
@@ -78,7 +80,9 @@ impl BinEncodable for ANAME {
 
     /// Writes the name without compression (RFC 3597, 4).
     ///
-    /// Refused with `MaxBufferSizeExceeded` where a byte would pass the limit, and with `Memory` for want of it.
+    /// # Errors
+    ///
+    /// `MaxBufferSizeExceeded` where a byte would pass the limit; `Memory` if memory runs out.
     fn emit(&self, encoder: &mut BinEncoder<'_>) -> Result<(), ProtoError> {
         self.name.emit_plain(encoder)
     }

@@ -166,7 +166,7 @@ impl<'a> CanonicalOctets<'a> {
         }
     }
 
-    /// Numbers, and a name behind them.
+    /// Numbers, and a name after them.
     pub(crate) fn of_name(digits: &[u8], name: &'a Name) -> CanonicalOctets<'a>
         requires { length digits.now ≤ 20 }
         ensures { result ≡ digits.now ++ name_octets name.now }
@@ -181,7 +181,7 @@ impl<'a> CanonicalOctets<'a> {
         }
     }
 
-    /// Two names, and numbers behind them.
+    /// Two names, and numbers after them.
     pub(crate) fn of_names(first: &'a Name, second: &'a Name, digits: &[u8]) -> CanonicalOctets<'a>
         requires { length digits.now ≤ 20 }
         ensures { result ≡ name_octets first.now ++ name_octets second.now ++ digits.now }
@@ -253,7 +253,7 @@ impl RData {
     ///
     /// # Errors
     ///
-    /// [`ProtoError::Memory`] for want of memory.
+    /// [`ProtoError::Memory`] if memory runs out.
     pub fn to_canonical(&self, alloc: Global) -> Result<Vec<u8>, ProtoError>
         ensures ok { IfOk result (λ bytes. bytes.items ≡ canonical_data self.now) }
         ensures memory { IsMemory result }

@@ -9,8 +9,9 @@ use base::{BinEncoder, ProtoError};
 
 /// Writes bytes as they are.
 ///
-/// Refused with `MaxBufferSizeExceeded` where a byte would pass the limit, and with `Memory` for want of it. What stood
-/// before stays.
+/// # Errors
+///
+/// `MaxBufferSizeExceeded` where a byte would pass the limit; `Memory` if memory runs out. What stood before stays.
 pub(crate) fn emit_bytes(bytes: &[u8], encoder: &mut BinEncoder<'_>) -> Result<(), ProtoError>
     ensures keeps { Keeps (state_of encoder.old) (state_of encoder.new) }
     ensures exact { Exactly (just bytes.now) (state_of encoder.old) (state_of encoder.new) result }

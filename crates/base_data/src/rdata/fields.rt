@@ -66,7 +66,11 @@ pub(crate) fn ipv6_item(item: &str) -> Option<Ipv6Addr>
     item.parse::<Ipv6Addr>().ok()
 }
 
-/// The name that an item names under an origin. Refused for want of memory.
+/// The name that an item names under an origin.
+///
+/// # Errors
+///
+/// If memory runs out.
 pub(crate) fn name_item(
     alloc: Global,
     item: &str,
@@ -77,18 +81,23 @@ pub(crate) fn name_item(
     match Name::parse(alloc, item, origin) {
         Ok(name) => Ok(Some(name)),
         Err(ParseError::BadName) => Ok(None),
-        // `parse` has no other refusal than want of memory.
+        // `parse` has no refusal but for memory.
         Err(_) => Err(AllocError),
     }
 }
 
-/// The name that one item alone names under an origin. Refused for want of memory.
+/// The name that one item alone names under an origin.
+///
+/// # Errors
+///
+/// If memory runs out.
 pub(crate) fn one_name(
     alloc: Global,
     items: &[&str],
     origin: Option<&Name>,
 ) -> Result<Option<Name>, AllocError>
-    ensures { IfOk result (λ name. name ≡ one_name_of (λ n. n) (map (λ item. item.now) items.now) (option_copied origin.entry)) }
+    ensures { IfOk result (λ name. name
+        ≡ one_name_of (λ n. n) (map (λ item. item.now) items.now) (option_copied origin.entry)) }
 {
     let [name] = items else {
         return Ok(None);

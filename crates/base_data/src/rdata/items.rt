@@ -20,14 +20,19 @@ pub(crate) trait TextData: RecordData {
 
     ghost of_items: { List (List ℕ) → Option NameValue → Option Self };
 
-    /// The data that the items of a text name under an origin; none where an item is missing, is one too many or is
-    /// no such field. Refused for want of memory.
+    /// The data that the items of a text name under an origin; none where an item is missing, is one too many or is no
+    /// such field.
+    ///
+    /// # Errors
+    ///
+    /// If memory runs out.
     fn from_items(
         alloc: Global,
         items: &[&str],
         origin: Option<&Name>,
     ) -> Result<Option<Self>, AllocError>
-        ensures { IfOk result (λ made. made ≡ of_items (map (λ item. item.now) items.now) (option_copied origin.entry)) };
+        ensures { IfOk result (λ made. made
+            ≡ of_items (map (λ item. item.now) items.now) (option_copied origin.entry)) };
 }
 
 /// The data of a kind that the items name, as that of any record.
@@ -45,7 +50,11 @@ fn any_from_items<R: TextData>(
     }
 }
 
-/// The text that each item lends. Refused for want of memory.
+/// The text that each item lends.
+///
+/// # Errors
+///
+/// If memory runs out.
 fn texts_of<S: AsStr>(alloc: Global, items: &[S]) -> Result<Vec<&str>, AllocError>
     ensures { IfOk result (λ texts. map (λ text. text.now) texts.items ≡ map S.text items.now) }
 {
@@ -67,8 +76,10 @@ impl RData {
     /// with units, as `1h30`. In a string a backslash and three decimal digits up to 255 are the byte of that number, a
     /// backslash and another character are that character, and all else, a quote too, is its UTF-8 bytes.
     ///
-    /// Refused with `UnsupportedRecordType` for a type without a text form, with `BadData` where an item is missing, is
-    /// one too many or is no such field, and with `Memory` for want of it, at which the items may not all be taken.
+    /// # Errors
+    ///
+    /// `UnsupportedRecordType` for a type without a text form; `BadData` where an item is missing, is one too many or
+    /// is no such field; `Memory` if memory runs out, at which the items may not all be taken.
     pub fn from_tokens<S: AsStr + Drop, I: Iterator<Item = S>>(
         alloc: Global,
         record_type: RecordType,
@@ -90,8 +101,10 @@ impl RData {
 
     /// The data of a type that these items name, as `from_tokens` reads them.
     ///
-    /// Refused with `UnsupportedRecordType` for a type without a text form, with `BadData` where an item is missing, is
-    /// one too many or is no such field, and with `Memory` for want of it.
+    /// # Errors
+    ///
+    /// `UnsupportedRecordType` for a type without a text form; `BadData` where an item is missing, is one too many or
+    /// is no such field; `Memory` if memory runs out.
     #[tactic(auto, unfolding(crate::specs::Kinds::data_of))]
     pub fn from_items(
         alloc: Global,

@@ -1,4 +1,4 @@
-//! Hosts that take mail.
+//! Mail exchangers.
 
 ghost use Rattle.std.specs.Prelude.{◌≡◌, Some, refl};
 ghost use Rattle.base_data.specs.MX.{MXWord, mx_at, mx_kind, mx_of, mx_places, mx_text, plain_mx};
@@ -74,9 +74,11 @@ impl BinDecodable for MX {
 
     ghost names_at = { mx_places };
 
-    /// Reads the fields one behind the other, names with their pointers followed (RFC 1035, 3.3.9 and 4.1.4).
+    /// Reads the fields one after another, names with their pointers followed (RFC 1035, 3.3.9 and 4.1.4).
     ///
-    /// Refused with the first fault, `InsufficientBytes` or `BadName`, and with `Memory` for want of it.
+    /// # Errors
+    ///
+    /// The first fault, `InsufficientBytes` or `BadName`; `Memory` if memory runs out.
     #[tactic(auto, unfolding(crate::specs::MX::mx_at))]
     fn read(decoder: &mut BinDecoder<'_>) -> Result<MX, DecodeError> {
         Ok(MX {
@@ -97,9 +99,11 @@ impl BinEncodable for MX {
 
     ghost says = { λ x. (mx_kind x).says };
 
-    /// Writes the fields one behind the other, names with compression (RFC 1035, 3.3.9 and 4.1.4).
+    /// Writes the fields one after another, names with compression (RFC 1035, 3.3.9 and 4.1.4).
     ///
-    /// Refused with `MaxBufferSizeExceeded` where a byte would pass the limit, and with `Memory` for want of it.
+    /// # Errors
+    ///
+    /// `MaxBufferSizeExceeded` where a byte would pass the limit; `Memory` if memory runs out.
     fn emit(&self, encoder: &mut BinEncoder<'_>) -> Result<(), ProtoError> {
         emit_u16(self.preference, encoder)?;
         self.exchange.emit(encoder)

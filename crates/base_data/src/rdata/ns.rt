@@ -56,7 +56,9 @@ impl BinDecodable for NS {
 
     /// Reads the name, its pointers followed (RFC 1035, 3.3.11 and 4.1.4).
     ///
-    /// Refused with the first fault of the name, `InsufficientBytes` or `BadName`, and with `Memory` for want of it.
+    /// # Errors
+    ///
+    /// The first fault of the name, `InsufficientBytes` or `BadName`; `Memory` if memory runs out.
     #[tactic(auto, unfolding(crate::specs::NS::ns_at))]
     fn read(decoder: &mut BinDecoder<'_>) -> Result<NS, DecodeError> {
         Ok(NS {
@@ -78,7 +80,9 @@ impl BinEncodable for NS {
 
     /// Writes the name with compression (RFC 1035, 3.3.11 and 4.1.4).
     ///
-    /// Refused with `MaxBufferSizeExceeded` where a byte would pass the limit, and with `Memory` for want of it.
+    /// # Errors
+    ///
+    /// `MaxBufferSizeExceeded` where a byte would pass the limit; `Memory` if memory runs out.
     fn emit(&self, encoder: &mut BinEncoder<'_>) -> Result<(), ProtoError> {
         self.name.emit(encoder)
     }

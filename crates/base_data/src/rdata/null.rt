@@ -55,7 +55,11 @@ impl NULL {
 impl SizedData for NULL {
     ghost sized_at = { bytes_at };
 
-    /// Reads the bytes. Refused with `InsufficientBytes` where fewer are left, and with `Memory` for want of it.
+    /// Reads the bytes.
+    ///
+    /// # Errors
+    ///
+    /// `InsufficientBytes` where fewer are left; `Memory` if memory runs out.
     #[tactic(auto, using(base::proofs::AddsLemmas::adds_none))]
     fn read(decoder: &mut BinDecoder<'_>, len: u16) -> Result<NULL, DecodeError> {
         let bytes = decoder.read_slice(usize::from(len))?;
@@ -109,7 +113,9 @@ impl BinEncodable for NULL {
 
     /// Writes the bytes as they are (RFC 1035, 3.3.10; RFC 3597, 3).
     ///
-    /// Refused with `MaxBufferSizeExceeded` where a byte would pass the limit, and with `Memory` for want of it.
+    /// # Errors
+    ///
+    /// `MaxBufferSizeExceeded` where a byte would pass the limit; `Memory` if memory runs out.
     fn emit(&self, encoder: &mut BinEncoder<'_>) -> Result<(), ProtoError> {
         emit_bytes(self.bytes(), encoder)
     }

@@ -58,7 +58,7 @@ impl OPT {
         self.options.iter().find(|option| option.code() == code)
     }
 
-    /// Puts an option in the place of the first of its code, or behind all others where none has its code.
+    /// Puts an option in the place of the first of its code, or after all others where none has its code.
     ///
     /// # Errors
     ///
@@ -102,7 +102,9 @@ impl SizedData for OPT {
 
     /// Reads options as long as they begin within the bytes (RFC 6891, 6.1.2). Options of one code are all kept.
     ///
-    /// Refused with `InsufficientBytes` where the buffer ends inside one, and with `Memory` for want of it.
+    /// # Errors
+    ///
+    /// `InsufficientBytes` where the buffer ends inside one; `Memory` if memory runs out.
     fn read(decoder: &mut BinDecoder<'_>, len: u16) -> Result<OPT, DecodeError> {
         let end = decoder.index() + usize::from(len);
         let mut options = Vec::new(decoder.allocator());
@@ -150,7 +152,9 @@ impl BinEncodable for OPT {
 
     /// Writes each option: its code, the number of its bytes, and its bytes (RFC 6891, 6.1.2).
     ///
-    /// Refused with `MaxBufferSizeExceeded` where a byte would pass the limit, and with `Memory` for want of it.
+    /// # Errors
+    ///
+    /// `MaxBufferSizeExceeded` where a byte would pass the limit; `Memory` if memory runs out.
     fn emit(&self, encoder: &mut BinEncoder<'_>) -> Result<(), ProtoError> {
         for option in &self.options {
             option.emit(encoder)?;

@@ -16,8 +16,10 @@ impl RData {
     /// Reads the data of a type, of `len` bytes (RFC 1035, 3.2.1): data of length 0 is `Update0`, and data of a type
     /// that has no kind of its own is `Unknown`. Pointers of names are followed.
     ///
-    /// Refused with `BadData` where the bytes are no data of the type, where the data doesn't fill its length
-    /// exactly, and for data of type 0 that has a byte; and with `Memory` for want of it.
+    /// # Errors
+    ///
+    /// `BadData` where the bytes are no data of the type, where the data doesn't fill its length exactly, and for data
+    /// of type 0 that has a byte; `Memory` if memory runs out.
     #[tactic(auto, unfolding(crate::specs::RData::rdata_at))]
     pub fn read(
         decoder: &mut BinDecoder<'_>,
@@ -65,9 +67,11 @@ pub(crate) trait SizedData: RecordData {
 
     ghost sized_at: { ℕ → List ℕ → ℕ → Read Self };
 
-    /// Reads the data of `len` bytes, one at least, and moves behind it.
+    /// Reads the data of `len` bytes, one at least, and moves after it.
     ///
-    /// Refused with the first fault, and with `Memory` for want of it. A decoder that refused isn't used again.
+    /// # Errors
+    ///
+    /// The first fault; `Memory` if memory runs out. A decoder that refused isn't used again.
     fn read(decoder: &mut BinDecoder<'_>, len: u16) -> Result<Self, DecodeError>
         requires { 0 < len }
         ensures read { Reads (λ x. x) decoder.old decoder.new result (sized_at len decoder.old.bytes decoder.old.index) }

@@ -1,4 +1,4 @@
-//! Starts of zones.
+//! The start of a zone of authority.
 
 ghost use Rattle.std.specs.Prelude.{◌≡◌, Some, refl};
 ghost use Rattle.base_data.specs.SOA.{SOAFits, SOAWord, plain_soa, soa_at, soa_kind, soa_numbers, soa_of, soa_places, soa_text};
@@ -19,9 +19,9 @@ use std::fmt;
 /// The start of a zone (RFC 1035, 3.3.13).
 #[derive(Debug, Drop, PartialEq, Eq)]
 pub struct SOA {
-    /// The server that has the zone first.
+    /// The zone's primary server (MNAME).
     pub mname: Name,
-    /// The mailbox of who cares for the zone.
+    /// The mailbox of the person responsible for the zone (RNAME).
     pub rname: Name,
     /// The version of the zone.
     pub serial: u32,
@@ -59,14 +59,14 @@ impl SOA {
         }
     }
 
-    /// The server that has the zone first.
+    /// The zone's primary server (MNAME).
     pub fn mname(&self) -> &Name
         ensures { result.now ≡ self.now.mname }
     {
         &self.mname
     }
 
-    /// The mailbox of who cares for the zone.
+    /// The mailbox of the person responsible for the zone (RNAME).
     pub fn rname(&self) -> &Name
         ensures { result.now ≡ self.now.rname }
     {
@@ -130,9 +130,11 @@ impl BinDecodable for SOA {
 
     ghost names_at = { soa_places };
 
-    /// Reads the fields one behind the other, names with their pointers followed (RFC 1035, 3.3.13 and 4.1.4).
+    /// Reads the fields one after another, names with their pointers followed (RFC 1035, 3.3.13 and 4.1.4).
     ///
-    /// Refused with the first fault, `InsufficientBytes` or `BadName`, and with `Memory` for want of it.
+    /// # Errors
+    ///
+    /// The first fault, `InsufficientBytes` or `BadName`; `Memory` if memory runs out.
     #[tactic(auto, unfolding(crate::specs::SOA::soa_at))]
     fn read(decoder: &mut BinDecoder<'_>) -> Result<SOA, DecodeError> {
         Ok(SOA {
@@ -158,9 +160,11 @@ impl BinEncodable for SOA {
 
     ghost says = { λ x. (soa_kind x).says };
 
-    /// Writes the fields one behind the other, names with compression (RFC 1035, 3.3.13 and 4.1.4).
+    /// Writes the fields one after another, names with compression (RFC 1035, 3.3.13 and 4.1.4).
     ///
-    /// Refused with `MaxBufferSizeExceeded` where a byte would pass the limit, and with `Memory` for want of it.
+    /// # Errors
+    ///
+    /// `MaxBufferSizeExceeded` where a byte would pass the limit; `Memory` if memory runs out.
     fn emit(&self, encoder: &mut BinEncoder<'_>) -> Result<(), ProtoError> {
         self.mname.emit(encoder)?;
         self.rname.emit(encoder)?;

@@ -89,9 +89,11 @@ impl BinDecodable for SRV {
 
     ghost names_at = { srv_places };
 
-    /// Reads the fields one behind the other, names with their pointers followed (RFC 2782; RFC 1035, 4.1.4).
+    /// Reads the fields one after another, names with their pointers followed (RFC 2782; RFC 1035, 4.1.4).
     ///
-    /// Refused with the first fault, `InsufficientBytes` or `BadName`, and with `Memory` for want of it.
+    /// # Errors
+    ///
+    /// The first fault, `InsufficientBytes` or `BadName`; `Memory` if memory runs out.
     #[tactic(auto, unfolding(crate::specs::SRV::srv_at))]
     fn read(decoder: &mut BinDecoder<'_>) -> Result<SRV, DecodeError> {
         Ok(SRV {
@@ -114,9 +116,11 @@ impl BinEncodable for SRV {
 
     ghost says = { λ x. (srv_kind x).says };
 
-    /// Writes the fields one behind the other, the name without compression (RFC 2782; RFC 3597, 4).
+    /// Writes the fields one after another, the name without compression (RFC 2782; RFC 3597, 4).
     ///
-    /// Refused with `MaxBufferSizeExceeded` where a byte would pass the limit, and with `Memory` for want of it.
+    /// # Errors
+    ///
+    /// `MaxBufferSizeExceeded` where a byte would pass the limit; `Memory` if memory runs out.
     fn emit(&self, encoder: &mut BinEncoder<'_>) -> Result<(), ProtoError> {
         emit_bytes(&self.number_octets(), encoder)?;
         self.target.emit_plain(encoder)

@@ -84,7 +84,7 @@ impl TXT {
     }
 }
 
-/// Puts a string behind those before it, with its length.
+/// Puts a string after those before it, with its length.
 fn push_string(bytes: &mut Vec<u8>, string: &[u8]) -> Result<(), AllocError>
     requires { length string.now ≤ 255 }
     ensures { OnOk result (bytes.new.items ≡ bytes.old.items ++ (length string.now ∷ string.now)) }
@@ -114,8 +114,9 @@ impl SizedData for TXT {
 
     /// Reads strings that fill the bytes exactly (RFC 1035, 3.3 and 3.3.14).
     ///
-    /// Refused with `InsufficientBytes` where fewer are left or the last string doesn't end with them, and with
-    /// `Memory` for want of it.
+    /// # Errors
+    ///
+    /// `InsufficientBytes` where fewer are left or the last string doesn't end with them; `Memory` if memory runs out.
     #[tactic(auto, using(base::proofs::AddsLemmas::adds_none))]
     fn read(decoder: &mut BinDecoder<'_>, len: u16) -> Result<TXT, DecodeError> {
         let bytes = decoder.read_slice(usize::from(len))?;
@@ -163,9 +164,11 @@ impl BinEncodable for TXT {
 
     ghost says = { λ t. Says-bytes (wire_of t) };
 
-    /// Writes each string behind its length (RFC 1035, 3.3 and 3.3.14).
+    /// Writes each string after its length (RFC 1035, 3.3 and 3.3.14).
     ///
-    /// Refused with `MaxBufferSizeExceeded` where a byte would pass the limit, and with `Memory` for want of it.
+    /// # Errors
+    ///
+    /// `MaxBufferSizeExceeded` where a byte would pass the limit; `Memory` if memory runs out.
     fn emit(&self, encoder: &mut BinEncoder<'_>) -> Result<(), ProtoError> {
         emit_bytes(self.as_wire(), encoder)
     }

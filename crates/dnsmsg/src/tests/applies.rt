@@ -185,7 +185,7 @@ const APPLIED: &[Applied] = &[
             SHOWN_WWW,
         ],
     ),
-    // ten changes behind ten prerequisites
+    // ten changes after ten prerequisites
     (
         &[
             TEN_START,

@@ -37,7 +37,7 @@ const ROWS: &[Row] = &[
     (&["cut", "33"], &[WWW], 0, &[WWW_CUT, "\n"]),
     (&["cut", "32"], &[WWW], 1, &["refused 2\n"]),
     (&["cut", "11"], &[WWW], 1, &["refused 1\n"]),
-    // the reserved bit and what stands behind are not written
+    // the reserved bit and what stands after are not written
     (
         CUT,
         &[

@@ -1,4 +1,4 @@
-//! Texts that include others: how deep they go, and what stays behind an included text.
+//! Texts that include others: how deep they go, and what stays after an included text.
 
 use super::{Row, all_give};
 use crate::run::run;

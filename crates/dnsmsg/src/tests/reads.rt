@@ -28,7 +28,7 @@ const MESSAGES: &[Row] = &[
         0,
         WWW,
     ),
-    // the reserved bit and what stands behind are passed over
+    // the reserved bit and what stands after are passed over
     (
         READ,
         &[
@@ -166,7 +166,7 @@ const ADDITIONALS: &str = "00 01 00 00 00 00 00 00 00 00 00 03";
 
 const EXTENDED: &str = "00 01 00 00 00 00 00 01 00 00 00 02";
 
-// An exchange up to the length of its data, and behind it.
+// An exchange up to the length of its data, and after it.
 const EXCHANGE: &str =
     "00 09 81 80 00 01 00 01 00 00 00 00 07 65 78 61 6D 70 6C 65 00 00 0F 00 01 C0 0C 00 0F 00 01 00 00 01 2C 00";
 

@@ -23,7 +23,9 @@ impl TryFrom<&Edns> for Record {
     /// The OPT record: its owner is the root, its class the payload size, and its TTL the high code, the version and
     /// the flags (RFC 6891, 6.1.2 and 6.1.3). Without options its data is empty data of type OPT.
     ///
-    /// Refused for want of memory.
+    /// # Errors
+    ///
+    /// If memory runs out.
     fn try_from(edns: &Edns) -> Result<Record, ProtoError> {
         let alloc = edns.options.allocator();
         let rdata = if edns.options.as_ref().is_empty() {
@@ -52,10 +54,12 @@ impl BinEncodable for Edns {
 
     ghost says = { edns_says };
 
-    /// Writes the OPT record: a zero byte for the root, the type, the payload size, the high code, the version and
-    /// the flags, and the options behind the number of their bytes (RFC 6891, 6.1.2 and 6.1.3).
+    /// Writes the OPT record: a zero byte for the root, the type, the payload size, the high code, the version and the
+    /// flags, and the options after the number of their bytes (RFC 6891, 6.1.2 and 6.1.3).
     ///
-    /// Refused with `MaxBufferSizeExceeded` where a byte would pass the limit, and with `Memory` for want of it.
+    /// # Errors
+    ///
+    /// `MaxBufferSizeExceeded` where a byte would pass the limit; `Memory` if memory runs out.
     fn emit(&self, encoder: &mut BinEncoder<'_>) -> Result<(), ProtoError> {
         emit_raised(self, self.rcode_high, encoder)
     }
@@ -81,7 +85,9 @@ impl<'a> BinEncodable for RaisedEdns<'a> {
 
     /// Writes the OPT record, as that of EDNS with these high bits.
     ///
-    /// Refused with `MaxBufferSizeExceeded` where a byte would pass the limit, and with `Memory` for want of it.
+    /// # Errors
+    ///
+    /// `MaxBufferSizeExceeded` where a byte would pass the limit; `Memory` if memory runs out.
     fn emit(&self, encoder: &mut BinEncoder<'_>) -> Result<(), ProtoError> {
         emit_raised(self.edns, self.rcode_high, encoder)
     }

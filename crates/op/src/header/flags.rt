@@ -27,61 +27,61 @@ impl fmt::Display for Flags {
     ghost output = { λ flags. Some (flags_text flags) };
 
     fn fmt<W: fmt::Write>(&self, f: &mut fmt::Formatter<W>) -> fmt::Result {
-        let behind_rd = self.recursion_desired;
-        let behind_cd = behind_rd | self.checking_disabled;
-        let behind_tc = behind_cd | self.truncation;
-        let behind_aa = behind_tc | self.authoritative;
-        let behind_ra = behind_aa | self.recursion_available;
+        let after_rd = self.recursion_desired;
+        let after_cd = after_rd | self.checking_disabled;
+        let after_tc = after_cd | self.truncation;
+        let after_aa = after_tc | self.authoritative;
+        let after_ra = after_aa | self.recursion_available;
         write!(
             f,
             "{}{}{}{}{}{}",
             Item {
                 name: "RD",
                 is_set: self.recursion_desired,
-                is_behind: false
+                is_after: false
             },
             Item {
                 name: "CD",
                 is_set: self.checking_disabled,
-                is_behind: behind_rd
+                is_after: after_rd
             },
             Item {
                 name: "TC",
                 is_set: self.truncation,
-                is_behind: behind_cd
+                is_after: after_cd
             },
             Item {
                 name: "AA",
                 is_set: self.authoritative,
-                is_behind: behind_tc
+                is_after: after_tc
             },
             Item {
                 name: "RA",
                 is_set: self.recursion_available,
-                is_behind: behind_aa
+                is_after: after_aa
             },
             Item {
                 name: "AD",
                 is_set: self.authentic_data,
-                is_behind: behind_ra
+                is_after: after_ra
             },
         )
     }
 }
 
-// A flag in a list: its name, if it is set, with a comma in front if it stands behind another.
+// A flag in a list: its name, if it is set, with a comma in front if it stands after another.
 #[derive(Clone, Copy, Drop)]
 struct Item {
     name: &'static str,
     is_set: bool,
-    is_behind: bool,
+    is_after: bool,
 }
 
 impl fmt::Display for Item {
-    ghost output = { λ item. Some (item_text item.is_set item.is_behind item.name.now) };
+    ghost output = { λ item. Some (item_text item.is_set item.is_after item.name.now) };
 
     fn fmt<W: fmt::Write>(&self, f: &mut fmt::Formatter<W>) -> fmt::Result {
-        match (self.is_set, self.is_behind) {
+        match (self.is_set, self.is_after) {
             (false, _) => Ok(()),
             (true, false) => f.write_str(self.name),
             (true, true) => write!(f, ",{}", self.name),

@@ -9,7 +9,11 @@ use std::alloc::AllocError;
 impl Clone for Message {
     ghost is_clone = { λ a b. message_value b ≡ message_value a };
 
-    /// The same message. Refused for want of memory.
+    /// The same message.
+    ///
+    /// # Errors
+    ///
+    /// If memory runs out.
     fn clone(&self) -> Result<Message, AllocError> {
         Ok(Message {
             metadata: self.metadata,

@@ -57,7 +57,7 @@ impl fmt::Display for RecordLines<'_> {
     }
 }
 
-/// The name of a section and how many records it has, and behind that line its records.
+/// The name of a section and how many records it has, and after that line its records.
 #[derive(Drop)]
 struct SectionLines<'a> {
     name: &'a str,

@@ -22,7 +22,8 @@ use rr::Record;
 /// Of records that are written in turn under a limit those that fit are a front, and the first of the others would have
 /// passed the limit by its own bytes, compressed as they are (RFC 1035, 4.1.4; RFC 2181, 9). The same of questions.
 pub fn what_is_cut_did_not_fit()
-    ensures records { (limit : ℕ) (rs : List (Record RData)) (s : State) → (lost : List (Record RData))
+    ensures records { (limit : ℕ) (rs : List (Record RData)) (s : State)
+        → (lost : List (Record RData))
         × (rs ≡ that_fit record_written limit rs (length s.bytes) s.suffixes ++ lost)
         × Passes record_written limit (after (fitting record_written limit rs) s) lost }
     ensures questions { (limit : ℕ) (qs : List Query) (s : State) → (lost : List Query)
@@ -42,10 +43,14 @@ pub fn what_has_room_is_kept()
 
 /// A larger limit never keeps fewer of the records that begin at one place, after the same suffixes. The same of questions.
 pub fn a_larger_limit_keeps_no_fewer()
-    ensures records { (small large : ℕ) → small ≤ large → (rs : List (Record RData)) (at : ℕ) (stored : List Stored)
-        → length (that_fit record_written small rs at stored) ≤ length (that_fit record_written large rs at stored) }
-    ensures questions { (small large : ℕ) → small ≤ large → (qs : List Query) (at : ℕ) (stored : List Stored)
-        → length (that_fit query_written small qs at stored) ≤ length (that_fit query_written large qs at stored) }
+    ensures records { (small large : ℕ) → small ≤ large
+        → (rs : List (Record RData)) (at : ℕ) (stored : List Stored)
+        → length (that_fit record_written small rs at stored)
+        ≤ length (that_fit record_written large rs at stored) }
+    ensures questions { (small large : ℕ) → small ≤ large
+        → (qs : List Query) (at : ℕ) (stored : List Stored)
+        → length (that_fit query_written small qs at stored)
+        ≤ length (that_fit query_written large qs at stored) }
 {}
 
 /// What a message loses under a limit didn't fit: of each part, its questions, answers, authorities, additionals, EDNS and
@@ -71,15 +76,20 @@ pub fn what_a_message_loses_did_not_fit()
 /// other that its end doesn't pass, and the bytes are the same.
 pub fn a_message_with_room_is_whole()
     ensures { (larger limit : ℕ) (m : MessageValue) (at : ℕ) (stored : List Stored)
-        → AreWhole (parts_of larger m at stored) → (parts_of larger m at stored).signature.end ≤ limit
+        → AreWhole (parts_of larger m at stored)
+        → (parts_of larger m at stored).signature.end ≤ limit
         → parts_of limit m at stored ≡ parts_of larger m at stored }
 {}
 
 /// A larger limit never keeps fewer questions, nor, where all questions are kept, fewer answers.
 pub fn a_larger_limit_keeps_no_fewer_of_a_message()
-    ensures queries { (small large : ℕ) → small ≤ large → (m : MessageValue) (at : ℕ) (stored : List Stored)
-        → length (parts_of small m at stored).queries.kept ≤ length (parts_of large m at stored).queries.kept }
-    ensures answers { (small large : ℕ) → small ≤ large → (m : MessageValue) (at : ℕ) (stored : List Stored)
+    ensures queries { (small large : ℕ) → small ≤ large
+        → (m : MessageValue) (at : ℕ) (stored : List Stored)
+        → length (parts_of small m at stored).queries.kept
+        ≤ length (parts_of large m at stored).queries.kept }
+    ensures answers { (small large : ℕ) → small ≤ large
+        → (m : MessageValue) (at : ℕ) (stored : List Stored)
         → (parts_of small m at stored).queries.is_cut ≡ false
-        → length (parts_of small m at stored).answers.kept ≤ length (parts_of large m at stored).answers.kept }
+        → length (parts_of small m at stored).answers.kept
+        ≤ length (parts_of large m at stored).answers.kept }
 {}

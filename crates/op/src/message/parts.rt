@@ -56,8 +56,12 @@ impl Message {
         self
     }
 
-    /// The message cut to its metadata with TC, its questions and EDNS: without records and without a signature
-    /// (RFC 2181, 9). Refused for want of memory.
+    /// The message cut to its metadata with TC, its questions and EDNS: without records and without a signature (RFC
+    /// 2181, 9).
+    ///
+    /// # Errors
+    ///
+    /// If memory runs out.
     pub fn truncate(&self) -> Result<Message, ProtoError>
         ensures ok { IfOk result (λ m. message_value m ≡ truncated (message_value self.now)) }
         ensures only { IsOkUnless result ProtoError.Memory }

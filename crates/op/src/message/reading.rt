@@ -28,9 +28,11 @@ use std::alloc::Global;
 const SHORTEST: usize = 11;
 
 impl Message {
-    /// Reads `count` questions, one behind the other (RFC 1035, 4.1.2).
+    /// Reads `count` questions, one after another (RFC 1035, 4.1.2).
     ///
-    /// Refused with `Decode` of what reading a question is refused with: the first fault, or `Memory` for want of it.
+    /// # Errors
+    ///
+    /// `Decode` of what reading a question is refused with: the first fault; `Memory` if memory runs out.
     pub fn read_queries(
         decoder: &mut BinDecoder<'_>,
         count: usize,
@@ -39,7 +41,8 @@ impl Message {
         ensures counts { Counts decoder.old decoder.new result }
         ensures passed { Passes decoder.old decoder.new result }
         ensures fault { (f : DecodeError) → result ≡ Err (ProtoError.Decode f)
-            → (f ≡ DecodeError.Memory) ⊎ IsQueriesFault count decoder.old.bytes decoder.old.index f }
+            → (f ≡ DecodeError.Memory)
+            ⊎ IsQueriesFault count decoder.old.bytes decoder.old.index f }
         ensures adds { IfOk result (λ _. AddsPassed (queries_places count decoder.old.bytes decoder.old.index) decoder.old decoder.new) }
     {
         Ok(read_many::<Query>(decoder, count)?)
@@ -50,9 +53,9 @@ impl Message {
     /// and `op_code` is the operation of the message's header: by these two it is tested which records may stand.
     ///
     /// Each record is read and then tested before the next one. Refused, beside the faults of a record, with
-    /// `InvalidEmptyRecord` for empty data outside an Update and of another type than OPT, `RecordAfterSig` behind a
+    /// `InvalidEmptyRecord` for empty data outside an Update and of another type than OPT, `RecordAfterSig` after a
     /// signature, `RecordNotInAdditionalSection` for OPT, SIG and TSIG outside the additional section, `DuplicateEdns`
-    /// for a second OPT record, and `Memory` for want of it.
+    /// for a second OPT record, and `Memory` if memory runs out.
     pub fn read_records(
         decoder: &mut BinDecoder<'_>,
         count: usize,
@@ -124,11 +127,13 @@ impl Message {
         })
     }
 
-    /// Reads a message at the decoder's place, and moves behind it: the header, the questions and the three sections
-    /// as the header counts them (RFC 1035, 4.1). The code has the eight bits of EDNS above the header's four
-    /// (RFC 6891, 6.1.3).
+    /// Reads a message at the decoder's place, and moves after it: the header, the questions and the three sections as
+    /// the header counts them (RFC 1035, 4.1). The code has the eight bits of EDNS above the header's four (RFC 6891,
+    /// 6.1.3).
     ///
-    /// Refused with the first fault, and with `Memory` for want of it. A decoder that refused isn't used again.
+    /// # Errors
+    ///
+    /// The first fault; `Memory` if memory runs out. A decoder that refused isn't used again.
     #[tactic(auto, unfolding(crate::specs::Message::message_at))]
     pub fn read(decoder: &mut BinDecoder<'_>) -> Result<Message, DecodeError>
         ensures read { Reads message_value decoder.old decoder.new result (message_at decoder.old.bytes decoder.old.index) }
@@ -156,15 +161,21 @@ impl Message {
         })
     }
 
-    /// Reads the message that a buffer begins with. Bytes behind it are not looked at.
+    /// Reads the message that a buffer begins with. Bytes after it are not looked at.
     ///
     /// Accepts exactly the buffers that begin with a message word, and answers that word's message (RFC 1035, 4.1);
-    /// that message fits. Refused with the buffer's first fault, and with `Memory` for want of it.
+    /// that message fits.
+    ///
+    /// # Errors
+    ///
+    /// The buffer's first fault; `Memory` if memory runs out.
     pub fn from_vec(alloc: Global, buffer: &[u8]) -> Result<Message, DecodeError>
         ensures found { IfOk result (λ m. (e : ℕ) × IsMessageAt buffer.now 0 (message_value m) e) }
-        ensures only { (m : MessageValue) (e : ℕ) → IsMessageAt buffer.now 0 m e → MatchResult result (λ read. message_value read ≡ m) (λ f. f ≡ DecodeError.Memory) }
+        ensures only { (m : MessageValue) (e : ℕ) → IsMessageAt buffer.now 0 m e
+            → MatchResult result (λ read. message_value read ≡ m) (λ f. f ≡ DecodeError.Memory) }
         ensures refused { IfErr result (λ f. Fails f (message_at buffer.now 0)) }
-        ensures fault { IfErr result (λ f. (f ≡ DecodeError.Memory) ⊎ IsMessageFault buffer.now 0 f) }
+        ensures fault { IfErr result (λ f. (f ≡ DecodeError.Memory)
+            ⊎ IsMessageFault buffer.now 0 f) }
         ensures fits { IfOk result (λ m. Fits (message_value m)) }
     {
         Message::read(&mut BinDecoder::new(alloc, buffer))

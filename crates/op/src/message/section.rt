@@ -39,7 +39,11 @@ impl Section {
         }
     }
 
-    /// Makes room for as many records more. Refused for want of memory, with the section as it was.
+    /// Makes room for as many records more.
+    ///
+    /// # Errors
+    ///
+    /// If memory runs out, with the section as it was.
     pub(crate) fn reserve(&mut self, count: usize) -> Result<(), DecodeError>
         ensures same { section_value self.new ≡ section_value self.old }
         ensures only { IsOkUnless result DecodeError.Memory }
@@ -48,9 +52,11 @@ impl Section {
         Ok(())
     }
 
-    /// Takes a record that was read, if it may stand behind those that were read before.
+    /// Takes a record that was read, if it may stand after those that were read before.
     ///
-    /// Refused with the first test that it fails, and for want of memory.
+    /// # Errors
+    ///
+    /// The first test that it fails; `Memory` if memory runs out.
     pub(crate) fn take(
         &mut self,
         alloc: Global,
@@ -58,7 +64,8 @@ impl Section {
         is_additional: bool,
         op_code: OpCode,
     ) -> Result<(), DecodeError>
-        ensures ok { OnOk result (tested is_additional op_code (section_value self.old) next ≡ Ok (section_value self.new)) }
+        ensures ok { OnOk result (tested is_additional op_code (section_value self.old) next
+            ≡ Ok (section_value self.new)) }
         ensures err { IfErr result (λ e. Fails e (tested is_additional op_code (section_value self.old) next)) }
     {
         match self.fault_of(&next, is_additional, op_code) {
@@ -67,7 +74,7 @@ impl Section {
         }
     }
 
-    /// The first test that a record fails behind those that were read.
+    /// The first test that a record fails after those that were read.
     fn fault_of(&self, next: &Record, is_additional: bool, op_code: OpCode) -> Option<DecodeError>
         ensures { result ≡ fault_of is_additional op_code (section_value self.now) next.now }
     {
@@ -87,11 +94,14 @@ impl Section {
         None
     }
 
-    /// Adds a record that was tested: EDNS and a signature by themselves, another record behind the others.
+    /// Adds a record that was tested: EDNS and a signature by themselves, another record after the others.
     ///
-    /// Refused for want of memory.
+    /// # Errors
+    ///
+    /// If memory runs out.
     fn add(&mut self, alloc: Global, next: Record) -> Result<(), DecodeError>
-        ensures ok { OnOk result (section_value self.new ≡ with_record (section_value self.old) next) }
+        ensures ok { OnOk result (section_value self.new
+            ≡ with_record (section_value self.old) next) }
         ensures only { IsOkUnless result DecodeError.Memory }
     {
         if next.record_type() == RecordType::OPT {

@@ -1,4 +1,4 @@
-//! The records of all three sections of a message, one behind the other.
+//! The records of all three sections of a message, one after another.
 
 ghost use Rattle.std.specs.Prelude.{◌≡◌, ◌++◌};
 ghost use Rattle.std.specs.Iterator.{YieldsFirst, YieldsFirstRef, item_count};
@@ -91,7 +91,7 @@ impl Iterator for TakeAllSections {
 }
 
 impl Message {
-    /// The records of the three sections, one section behind the other. Takes no memory.
+    /// The records of the three sections, one section after the other. Takes no memory.
     pub fn all_sections(&self) -> AllSections<'_>
         ensures { result ≡ all_records (message_value self.now) }
     {

@@ -28,14 +28,16 @@ use rr::Record;
 /// Writes a message of its parts: a header, the questions, answers, authorities and additional records, EDNS and the
 /// signature (RFC 1035, 4.1). Answers the header that was written.
 ///
-/// A part other than the questions that doesn't fit the limit is cut, and the next one is still written; TC says
-/// that something was cut, or what `metadata` says (RFC 1035, 4.1.1). The high bits of EDNS are those of the response
-/// code (RFC 6891, 6.1.3). The count of the additional records includes EDNS and the signature.
+/// A part other than the questions that doesn't fit the limit is cut, and the next one is still written; TC says that
+/// something was cut, or what `metadata` says (RFC 1035, 4.1.1). The high bits of EDNS are those of the response code
+/// (RFC 6891, 6.1.3). The count of the additional records includes EDNS and the signature.
 ///
-/// Refused with `MaxBufferSizeExceeded` where the header doesn't fit, with what the questions are refused with, which
-/// is `NotAllRecordsWritten` where they don't fit, with any other refusal of a part, with `Memory` for want of it, and
-/// with a `Message` where a count passes 65,535: for a section as soon as it is written, for EDNS and the signature
-/// with the additional records before them, and for the questions at the end.
+/// # Errors
+///
+/// `MaxBufferSizeExceeded` where the header doesn't fit, with what the questions are refused with, which is
+/// `NotAllRecordsWritten` where they don't fit; any other refusal of a part; `Memory` if memory runs out; a `Message`
+/// where a count passes 65,535: for a section as soon as it is written, for EDNS and the signature with the additional
+/// records before them, and for the questions at the end.
 pub fn emit_message_parts<Q, A, N, D>(
     metadata: &Metadata,
     queries: &mut Q,
@@ -80,7 +82,8 @@ impl Message {
         ensures exact { IfOk result (λ _. state_of encoder.new
             ≡ after (message_written (state_of encoder.old).limit (message_value self.now)) (state_of encoder.old)) }
         ensures refused { (state_of encoder.old).bytes ≡ [] → (state_of encoder.old).suffixes ≡ []
-            → IfErr result (λ e. (e ≡ ProtoError.Memory) ⊎ IsTooSmall (message_value self.now) (state_of encoder.old).limit e) }
+            → IfErr result (λ e. (e ≡ ProtoError.Memory)
+            ⊎ IsTooSmall (message_value self.now) (state_of encoder.old).limit e) }
         ensures left { IfErr result (λ e. (e ≡ ProtoError.Memory)
             ⊎ Leaves (message_value self.now) (state_of encoder.old) e (state_of encoder.new)) }
         ensures answer { (state_of encoder.old).bytes ≡ [] → (state_of encoder.old).suffixes ≡ []
@@ -157,7 +160,8 @@ fn numbered(
 
 // TC of a message of which so much was written.
 fn is_cut(metadata: &Metadata, sections: WrittenSections, additionals: Written) -> bool
-    ensures { result ≡ (metadata.now.truncation || (sections.answers.is_cut || (sections.authorities.is_cut || additionals.is_cut))) }
+    ensures { result ≡ (metadata.now.truncation
+        || (sections.answers.is_cut || (sections.authorities.is_cut || additionals.is_cut))) }
 {
     metadata.truncation
         || sections.answers.is_cut

@@ -26,7 +26,8 @@ impl<'a> Zone<'a> {
     // Whether the sets that prerequisites of the zone's class name are those that they list (RFC 2136, 3.2.3). A set is
     // looked at for the first of them that names it alone.
     pub(crate) fn are_met(&self, entries: &[Record]) -> Result<bool, AllocError>
-        ensures { IfOk result (λ b. b ≡ list_all (is_met (zone_of self.now) (collected (zone_of self.now) entries.now)) (collected (zone_of self.now) entries.now)) }
+        ensures { IfOk result (λ b. b
+            ≡ list_all (is_met (zone_of self.now) (collected (zone_of self.now) entries.now)) (collected (zone_of self.now) entries.now)) }
     {
         let asked = self.places_asked(entries)?;
         let mut held = BTreeMap::new(self.alloc);
@@ -88,7 +89,8 @@ fn are_listed(
     entries: &[Record],
     entry: &Record,
 ) -> Result<bool, AllocError>
-    ensures { IfOk result (λ b. b ≡ list_all (λ (x : Entry RData). list_any (asks_for class entry.now x) entries.now) records.now) }
+    ensures { IfOk result (λ b. b
+        ≡ list_all (λ (x : Entry RData). list_any (asks_for class entry.now x) entries.now) records.now) }
 {
     for known in records {
         if !is_listed(known, asked, class, entries, entry)? {
@@ -161,7 +163,8 @@ fn look_up<'r>(
     places: Option<&Places>,
     entry: &Record,
 ) -> Result<Option<&'r Record>, AllocError>
-    ensures { IfOk result (λ found. IfSome found (λ x. IsAmong records.now x.now × (same_data x.now.rdata entry.now.rdata ≡ true))) }
+    ensures { IfOk result (λ found. IfSome found (λ x. IsAmong records.now x.now
+        × (same_data x.now.rdata entry.now.rdata ≡ true))) }
 {
     let Some(places) = places else {
         return Ok(None);

@@ -24,7 +24,9 @@ pub(crate) fn has_type(
     owner: &Name,
     is_beside: bool,
 ) -> Result<bool, AllocError>
-    ensures { IfOk result (λ b. b ≡ list_any (λ (k : Key). is_owned owner.now k && not (is_beside && is_cname_type k.record_type)) (keys sets.now)) }
+    ensures { IfOk result (λ b. b
+        ≡ list_any (λ (k : Key). is_owned owner.now k
+        && not (is_beside && is_cname_type k.record_type)) (keys sets.now)) }
 {
     let least = key_of(owner, RecordType::ZERO)?;
     for (key, _) in sets.range(&least..) {
@@ -50,7 +52,10 @@ pub(crate) fn unguarded_keys(
     origin: &Name,
     owner: &Name,
 ) -> Result<Vec<RrKey>, AllocError>
-    ensures { IfOk result (λ ks. ks.items ≡ filter (λ (k : Key). is_owned owner.now k && not (same_name owner.now origin.now && (is_soa k.record_type || is_ns k.record_type))) (keys sets.now)) }
+    ensures { IfOk result (λ ks. ks.items
+        ≡ filter (λ (k : Key). is_owned owner.now k
+        && not (same_name owner.now origin.now
+        && (is_soa k.record_type || is_ns k.record_type))) (keys sets.now)) }
 {
     let least = key_of(owner, RecordType::ZERO)?;
     let mut found = Vec::new(owner.allocator());
@@ -76,7 +81,8 @@ fn list_key(found: &mut Vec<RrKey>, key: &RrKey) -> Result<(), AllocError>
 
 // Takes the sets under these keys out.
 pub(crate) fn take_keys(sets: &mut BTreeMap<RrKey, RecordSet>, taken: &[RrKey])
-    ensures { (q : Key) → get key_cmp sets.new q ≡ cond (list_any (λ (k : Key). eq_by_cmp key_cmp k q) taken.now) None (get key_cmp sets.old q) }
+    ensures { (q : Key) → get key_cmp sets.new q
+        ≡ cond (list_any (λ (k : Key). eq_by_cmp key_cmp k q) taken.now) None (get key_cmp sets.old q) }
 {
     for key in taken {
         sets.remove(key);

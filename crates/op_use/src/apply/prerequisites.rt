@@ -33,7 +33,8 @@ impl<'a> Zone<'a> {
     }
 
     fn first_fault(&self, entries: &[Record]) -> Result<Option<ResponseCode>, AllocError>
-        ensures { IfOk result (λ f. f ≡ first_fault (prerequisite_fault (zone_of self.now)) entries.now) }
+        ensures { IfOk result (λ f. f
+            ≡ first_fault (prerequisite_fault (zone_of self.now)) entries.now) }
     {
         for entry in entries {
             let is_found = self.is_found(entry)?;

@@ -28,7 +28,8 @@ pub(crate) fn is_any(record_type: RecordType) -> bool
 
 // Whether a set stays where all of its owner goes: SOA and NS at the origin (RFC 2136, 3.4.2.3).
 pub(crate) fn is_guarded(origin: &Name, owner: &Name, record_type: RecordType) -> bool
-    ensures { result ≡ (same_name owner.now origin.now && (is_soa_type record_type || is_ns record_type)) }
+    ensures { result ≡ (same_name owner.now origin.now
+        && (is_soa_type record_type || is_ns record_type)) }
 {
     *owner == *origin && (is_soa(record_type) || matches!(record_type, RecordType::NS))
 }

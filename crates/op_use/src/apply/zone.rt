@@ -75,7 +75,8 @@ impl<'a> Zone<'a> {
 
     // Whether the set of a record has its data.
     pub(crate) fn has_record(&self, entry: &Record) -> Result<bool, AllocError>
-        ensures { IfOk result (λ b. b ≡ there_under self.now.sets entry.now (record_key entry.now)) }
+        ensures { IfOk result (λ b. b
+            ≡ there_under self.now.sets entry.now (record_key entry.now)) }
     {
         let key = key_of(&entry.name, entry.record_type())?;
         match self.sets.get(&key) {
@@ -143,7 +144,8 @@ impl<'a> Zone<'a> {
 
     // A set for a record.
     fn empty_set(&self, entry: &Record) -> Result<RecordSet, AllocError>
-        ensures { IfOk result (λ set. set ≡ record { name = entry.now.name; record_type = type_of_record entry.now; dns_class = self.now.class; ttl = 0; records = []; serial = 0 }) }
+        ensures { IfOk result (λ set. set
+            ≡ record { name = entry.now.name; record_type = type_of_record entry.now; dns_class = self.now.class; ttl = 0; records = []; serial = 0 }) }
     {
         let name = entry.name.clone()?;
         let mut set = RecordSet::new(self.alloc, name, entry.record_type(), 0);

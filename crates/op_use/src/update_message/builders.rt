@@ -19,10 +19,14 @@ use op::{DEFAULT_MAX_PAYLOAD_LEN, Edns, Message, MessageType, OpCode, Query};
 use rr::{Record, RecordSet, RecordSetParts};
 use std::alloc::Global;
 
-/// The update that creates a set: its prerequisite is that the zone has no set of that owner and type (RFC 2136, 2.4.3),
-/// its updates are the set's records (2.5.1). With `use_edns` it takes answers of up to 1232 bytes.
+/// The update that creates a set: its prerequisite is that the zone has no set of that owner and type (RFC 2136,
+/// 2.4.3), its updates are the set's records (2.5.1). With `use_edns` it takes answers of up to 1232 bytes.
 ///
-/// The origin is the zone's, and the set's owner lies in that zone. Refused for want of memory.
+/// The origin is the zone's, and the set's owner lies in that zone.
+///
+/// # Errors
+///
+/// If memory runs out.
 pub fn create(
     alloc: Global,
     id: u16,
@@ -31,7 +35,8 @@ pub fn create(
     use_edns: bool,
 ) -> Result<Message, ProtoError>
     requires within { is_zone_of origin rrset.name ≡ true }
-    ensures built { IfOk result (λ m. message_value m ≡ update_message id use_edns (create_sections rrset origin)) }
+    ensures built { IfOk result (λ m. message_value m
+        ≡ update_message id use_edns (create_sections rrset origin)) }
     ensures fits { IfOk result (λ m. IsSendable origin rrset → Fits (message_value m)) }
     ensures means { IfOk result (λ m. CreatesSet rrset origin (message_value m)) }
     ensures only { IsOkUnless result ProtoError.Memory }
@@ -50,10 +55,14 @@ pub fn create(
     )
 }
 
-/// The update that adds the records of a set to a zone; with `must_exist` its prerequisite is that the zone has a set of
-/// that owner and type (RFC 2136, 2.4.1 and 2.5.1). With `use_edns` it takes answers of up to 1232 bytes.
+/// The update that adds the records of a set to a zone; with `must_exist` its prerequisite is that the zone has a set
+/// of that owner and type (RFC 2136, 2.4.1 and 2.5.1). With `use_edns` it takes answers of up to 1232 bytes.
 ///
-/// The origin is the zone's, and the set's owner lies in that zone. Refused for want of memory.
+/// The origin is the zone's, and the set's owner lies in that zone.
+///
+/// # Errors
+///
+/// If memory runs out.
 pub fn append(
     alloc: Global,
     id: u16,
@@ -63,7 +72,8 @@ pub fn append(
     use_edns: bool,
 ) -> Result<Message, ProtoError>
     requires within { is_zone_of origin rrset.name ≡ true }
-    ensures built { IfOk result (λ m. message_value m ≡ update_message id use_edns (append_sections rrset origin must_exist)) }
+    ensures built { IfOk result (λ m. message_value m
+        ≡ update_message id use_edns (append_sections rrset origin must_exist)) }
     ensures fits { IfOk result (λ m. IsSendable origin rrset → Fits (message_value m)) }
     ensures means { IfOk result (λ m. AppendsToSet rrset origin must_exist (message_value m)) }
     ensures only { IsOkUnless result ProtoError.Memory }
@@ -89,7 +99,11 @@ pub fn append(
 /// 2.4.2), and its updates take them out (2.5.4) and add the records of the new set (2.5.1). An empty current set asks
 /// for nothing. With `use_edns` it takes answers of up to 1232 bytes.
 ///
-/// The origin is the zone's, and both owners lie in that zone. Refused for want of memory.
+/// The origin is the zone's, and both owners lie in that zone.
+///
+/// # Errors
+///
+/// If memory runs out.
 pub fn compare_and_swap(
     alloc: Global,
     id: u16,
@@ -100,15 +114,17 @@ pub fn compare_and_swap(
 ) -> Result<Message, ProtoError>
     requires within { is_zone_of origin current.name ≡ true }
     requires new_within { is_zone_of origin new.name ≡ true }
-    ensures built { IfOk result (λ m. message_value m ≡ update_message id use_edns (swap_sections current new origin)) }
-    ensures fits { IfOk result (λ m. IsSendable origin current → IsSendable origin new → Fits (message_value m)) }
+    ensures built { IfOk result (λ m. message_value m
+        ≡ update_message id use_edns (swap_sections current new origin)) }
+    ensures fits { IfOk result (λ m. IsSendable origin current → IsSendable origin new
+        → Fits (message_value m)) }
     ensures means { IfOk result (λ m. SwapsSets current new origin (message_value m)) }
     ensures only { IsOkUnless result ProtoError.Memory }
 {
-    let mut updates = in_no_class(current.clone()?.into_parts().records);
+    let mut updates = with_class_none(current.clone()?.into_parts().records);
     let mut parts = new.into_parts();
     updates.append(&mut parts.records)?;
-    let prerequisites = untimed(current.into_parts().records);
+    let prerequisites = with_zero_ttl(current.into_parts().records);
     update(
         alloc,
         id,
@@ -123,7 +139,11 @@ pub fn compare_and_swap(
 /// The update that takes the data of a set out of a zone (RFC 2136, 2.5.4). With `use_edns` it takes answers of up to
 /// 1232 bytes.
 ///
-/// The origin is the zone's, and the set's owner lies in that zone. Refused for want of memory.
+/// The origin is the zone's, and the set's owner lies in that zone.
+///
+/// # Errors
+///
+/// If memory runs out.
 pub fn delete_by_rdata(
     alloc: Global,
     id: u16,
@@ -132,13 +152,14 @@ pub fn delete_by_rdata(
     use_edns: bool,
 ) -> Result<Message, ProtoError>
     requires within { is_zone_of origin rrset.name ≡ true }
-    ensures built { IfOk result (λ m. message_value m ≡ update_message id use_edns (delete_data_sections rrset origin)) }
+    ensures built { IfOk result (λ m. message_value m
+        ≡ update_message id use_edns (delete_data_sections rrset origin)) }
     ensures fits { IfOk result (λ m. IsSendable origin rrset → Fits (message_value m)) }
     ensures means { IfOk result (λ m. DeletesData rrset origin (message_value m)) }
     ensures only { IsOkUnless result ProtoError.Memory }
 {
     let parts = rrset.into_parts();
-    let updates = in_no_class(parts.records);
+    let updates = with_class_none(parts.records);
     update(
         alloc,
         id,
@@ -151,10 +172,14 @@ pub fn delete_by_rdata(
 }
 
 /// The update that takes the set of a record's owner and type out of a zone of the record's class (RFC 2136, 2.5.2): it
-/// has the record with class ANY, TTL 0 and no data, and with its cache-flush bit. With `use_edns` it takes answers of up
-/// to 1232 bytes.
+/// has the record with class ANY, TTL 0 and no data, and with its cache-flush bit. With `use_edns` it takes answers of
+/// up to 1232 bytes.
 ///
-/// The origin is the zone's, and the record's owner lies in that zone. Refused for want of memory.
+/// The origin is the zone's, and the record's owner lies in that zone.
+///
+/// # Errors
+///
+/// If memory runs out.
 pub fn delete_rrset(
     alloc: Global,
     id: u16,
@@ -163,7 +188,8 @@ pub fn delete_rrset(
     use_edns: bool,
 ) -> Result<Message, ProtoError>
     requires within { is_zone_of origin entry.name ≡ true }
-    ensures built { IfOk result (λ m. message_value m ≡ update_message id use_edns (delete_set_sections entry origin)) }
+    ensures built { IfOk result (λ m. message_value m
+        ≡ update_message id use_edns (delete_set_sections entry origin)) }
     ensures fits { IfOk result (λ m. IsSendableKey origin entry.name (type_of_data entry.rdata) entry.dns_class → Fits (message_value m)) }
     ensures means { IfOk result (λ m. DeletesSet entry origin (message_value m)) }
     ensures only { IsOkUnless result ProtoError.Memory }
@@ -187,7 +213,11 @@ pub fn delete_rrset(
 /// The update that takes all sets of an owner out of a zone of a class; at the origin SOA and NS stay (RFC 2136, 2.5.3
 /// and 3.4.2.3). With `use_edns` it takes answers of up to 1232 bytes.
 ///
-/// The origin is the zone's, and the owner lies in that zone. Refused for want of memory.
+/// The origin is the zone's, and the owner lies in that zone.
+///
+/// # Errors
+///
+/// If memory runs out.
 pub fn delete_all(
     alloc: Global,
     id: u16,
@@ -197,8 +227,10 @@ pub fn delete_all(
     use_edns: bool,
 ) -> Result<Message, ProtoError>
     requires within { is_zone_of origin name ≡ true }
-    ensures built { IfOk result (λ m. message_value m ≡ update_message id use_edns (delete_all_sections name origin dns_class)) }
-    ensures fits { IfOk result (λ m. IsSendableOwner origin name dns_class → Fits (message_value m)) }
+    ensures built { IfOk result (λ m. message_value m
+        ≡ update_message id use_edns (delete_all_sections name origin dns_class)) }
+    ensures fits { IfOk result (λ m. IsSendableOwner origin name dns_class
+        → Fits (message_value m)) }
     ensures means { IfOk result (λ m. DeletesName name origin dns_class (message_value m)) }
     ensures only { IsOkUnless result ProtoError.Memory }
 {
@@ -215,10 +247,12 @@ pub fn delete_all(
     )
 }
 
-/// The question for a zone: for all of it (RFC 5936, 2.1), or, with an SOA, for what changed since (RFC 1995, 3); the SOA
-/// stands among the authorities then, under the origin. It takes answers of up to 1232 bytes.
+/// The question for a zone: for all of it (RFC 5936, 2.1), or, with an SOA, for what changed since (RFC 1995, 3); the
+/// SOA stands among the authorities then, under the origin. It takes answers of up to 1232 bytes.
 ///
-/// Refused for want of memory.
+/// # Errors
+///
+/// If memory runs out.
 pub fn zone_transfer(
     alloc: Global,
     id: u16,
@@ -249,7 +283,8 @@ fn update(
     updates: Vec<Record>,
     use_edns: bool,
 ) -> Result<Message, ProtoError>
-    ensures built { IfOk result (λ m. message_value m ≡ update_message id use_edns (sections origin dns_class prerequisites.items updates.items)) }
+    ensures built { IfOk result (λ m. message_value m
+        ≡ update_message id use_edns (sections origin dns_class prerequisites.items updates.items)) }
     ensures only { IsOkUnless result ProtoError.Memory }
 {
     let mut zone = Query::query(origin, RecordType::SOA);
@@ -283,7 +318,7 @@ fn empty_record(name: Name, record_type: RecordType, dns_class: DNSClass) -> Rec
 }
 
 /// The records in the class NONE, with TTL 0: they ask that their data goes (RFC 2136, 2.5.4).
-fn in_no_class(records: Vec<Record>) -> Vec<Record>
+fn with_class_none(records: Vec<Record>) -> Vec<Record>
     ensures { result.items ≡ map (in_class classes.NONE) records.items }
 {
     let mut gone = records;
@@ -295,7 +330,7 @@ fn in_no_class(records: Vec<Record>) -> Vec<Record>
 }
 
 /// The records with TTL 0: they ask that their data is there (RFC 2136, 2.4.2).
-fn untimed(records: Vec<Record>) -> Vec<Record>
+fn with_zero_ttl(records: Vec<Record>) -> Vec<Record>
     ensures { result.items ≡ map without_ttl records.items }
 {
     let mut expected = records;

@@ -18,13 +18,15 @@ impl BinDecodable for Record<RData> {
 
     ghost names_at = { record_places };
 
-    /// Reads a record at the decoder's place, and moves behind it. Class and cache-flush bit of an OPT record are
-    /// its payload size, of 512 at least, and false.
+    /// Reads a record at the decoder's place, and moves after it. Class and cache-flush bit of an OPT record are its
+    /// payload size, of 512 at least, and false.
     ///
-    /// Refused with the first fault: of the name; `InsufficientBytes` where the end cuts the type; `EdnsNameNotRoot`
-    /// for an OPT record of another owner than the root; `InsufficientBytes` where the end cuts class, TTL or
-    /// length; `IncorrectRDataLengthRead` where fewer bytes are left than the length says; `BadData` for data that
-    /// its type doesn't read. And for want of memory.
+    /// # Errors
+    ///
+    /// The first fault: of the name; `InsufficientBytes` where the end cuts the type; `EdnsNameNotRoot` for an OPT
+    /// record of another owner than the root; `InsufficientBytes` where the end cuts class, TTL or length;
+    /// `IncorrectRDataLengthRead` where fewer bytes are left than the length says; `BadData` for data that its type
+    /// doesn't read. `Memory` if memory runs out.
     #[tactic(auto, unfolding(crate::specs::Record::record_at))]
     fn read(decoder: &mut BinDecoder<'_>) -> Result<Record<RData>, DecodeError> {
         let name = Name::read(decoder)?;
@@ -67,9 +69,12 @@ struct Fields {
 /// Reads class, TTL and length. They are read at once, since that is faster.
 fn read_fields(decoder: &mut BinDecoder<'_>) -> Result<Fields, DecodeError>
     ensures found { let B = decoder.old.bytes in let i = decoder.old.index in
-        IfOk result (λ f. IsNumberAt w16 B i f.class × IsNumberAt w32 B (i + 2) f.ttl × IsNumberAt w16 B (i + 6) f.len) }
-    ensures behind { OnOk result ((decoder.new.index ≡ decoder.old.index + 8) × (decoder.new.bytes ≡ decoder.old.bytes)) }
-    ensures short { IfErr result (λ e. (e ≡ DecodeError.InsufficientBytes) × (length decoder.old.bytes < decoder.old.index + 8)) }
+        IfOk result (λ f. IsNumberAt w16 B i f.class × IsNumberAt w32 B (i + 2) f.ttl
+        × IsNumberAt w16 B (i + 6) f.len) }
+    ensures after { OnOk result ((decoder.new.index ≡ decoder.old.index + 8)
+        × (decoder.new.bytes ≡ decoder.old.bytes)) }
+    ensures short { IfErr result (λ e. (e ≡ DecodeError.InsufficientBytes)
+        × (length decoder.old.bytes < decoder.old.index + 8)) }
     ensures kept { decoder.new.kept ≡ decoder.old.kept }
     ensures counts { Counts decoder.old decoder.new result }
     ensures passed { Passes decoder.old decoder.new result }
@@ -93,7 +98,7 @@ fn read_fields(decoder: &mut BinDecoder<'_>) -> Result<Fields, DecodeError>
     }
 }
 
-/// Reads what comes behind the type of a record.
+/// Reads what comes after the type of a record.
 #[tactic(auto, unfolding(crate::specs::Record::body_at))]
 fn read_body(
     decoder: &mut BinDecoder<'_>,

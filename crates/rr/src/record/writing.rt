@@ -24,10 +24,12 @@ impl<R: RecordData> BinEncodable for Record<R> {
     ghost says = { λ r. record_says (with_data R.as_rdata r) (any_says (R.as_rdata r.rdata) (R.written r.rdata) (R.keeps_written r.rdata)
         (λ B i e. (R.keeps_word r.rdata B i e).1) (R.keeps_len r.rdata) (R.says r.rdata)) };
 
-    /// Writes name, type, class with the cache-flush bit, TTL, and the data behind the number of its bytes
-    /// (RFC 1035, 4.1.3; RFC 6762, 10.2).
+    /// Writes name, type, class with the cache-flush bit, TTL, and the data after the number of its bytes (RFC 1035,
+    /// 4.1.3; RFC 6762, 10.2).
     ///
-    /// Refused with `MaxBufferSizeExceeded` where a byte would pass the limit, and with `Memory` for want of it.
+    /// # Errors
+    ///
+    /// `MaxBufferSizeExceeded` where a byte would pass the limit; `Memory` if memory runs out.
     fn emit(&self, encoder: &mut BinEncoder<'_>) -> Result<(), ProtoError> {
         self.name.emit(encoder)?;
         let class = self.dns_class.to_field(self.mdns_cache_flush);

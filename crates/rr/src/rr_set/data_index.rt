@@ -53,7 +53,8 @@ pub(super) fn index_of(records: &Vec<Record>) -> Result<Option<Box<DataIndex>>, 
 fn place_of(places: &DataIndex, records: &Vec<Record>, key: &[u8], entry: &Record) -> Option<usize>
     requires indexed { IsIndexOf (place_at places.now) records.now.items }
     requires key { key.now ≡ canonical_data entry.now.rdata }
-    ensures { MatchOption result (list_any (has_data_of entry.now) records.now.items ≡ false) (IsOnlyAt entry.now.rdata records.now.items) }
+    ensures { MatchOption result (list_any (has_data_of entry.now) records.now.items
+        ≡ false) (IsOnlyAt entry.now.rdata records.now.items) }
 {
     let Some(place) = places.get(key) else {
         return None;
@@ -75,7 +76,8 @@ pub(super) fn enter_by_index(
     entry: Record,
 ) -> Result<Entered, AllocError>
     requires { IsIndexOf (place_at places.value) records.old.items }
-    ensures ok { IfOk result (λ done. (done.is_new, records.new.items) ≡ entered entry records.old.items) }
+    ensures ok { IfOk result (λ done. (done.is_new, records.new.items)
+        ≡ entered entry records.old.items) }
     ensures place { IfOk result (λ done. IsFirstAt entry.rdata records.new.items done.place) }
     ensures index { IfOk result (λ done. IfSome done.index (λ after. IsIndexOf (place_at after.value) records.new.items)) }
     ensures err { OnErr result (records.new.items ≡ records.old.items) }
@@ -133,7 +135,8 @@ fn push_by_index(
     requires indexed { IsIndexOf (place_at places.value) records.old.items }
     requires key { key.items ≡ canonical_data entry.rdata }
     requires none { list_any (has_data_of entry) records.old.items ≡ false }
-    ensures ok { IfOk result (λ done. (done.is_new, records.new.items) ≡ entered entry records.old.items) }
+    ensures ok { IfOk result (λ done. (done.is_new, records.new.items)
+        ≡ entered entry records.old.items) }
     ensures joined { OnOk result (records.new.items ≡ joined entry records.old.items) }
     ensures place { IfOk result (λ done. IsFirstAt entry.rdata records.new.items done.place) }
     ensures index { IfOk result (λ done. IfSome done.index (λ after. IsIndexOf (place_at after.value) records.new.items)) }

@@ -22,11 +22,14 @@ impl RecordSet {
     /// An SOA stays, and the answer is false, unless both have SOA data and the new one's serial is greater (RFC 1982).
     /// Of SOA, CNAME and ANAME the new record then stands alone. Of other types the answer is false where some record
     /// is equal to it, that is of its class and data, and has its TTL; else it stands in the place of each record of
-    /// equal data, or behind all records where there is none. If the answer is true, the set takes over the record's
-    /// TTL and the serial; if it is false, the set is as it was.
+    /// equal data, or after all records where there is none. If the answer is true, the set takes over the record's TTL
+    /// and the serial; if it is false, the set is as it was.
     ///
-    /// The record has the set's owner and type, and a set of SOA, CNAME or ANAME has one record at most. Refused with
-    /// `Memory` for want of it; the set is then as it was.
+    /// The record has the set's owner and type, and a set of SOA, CNAME or ANAME has one record at most.
+    ///
+    /// # Errors
+    ///
+    /// `Memory` if memory runs out; the set is then as it was.
     pub fn insert(&mut self, entry: Record, serial: u32) -> Result<bool, ProtoError>
         requires { MayEnter self.old entry }
         ensures ok { IfOk result (λ is_new. (is_new, self.new) ≡ insert self.old entry serial) }
@@ -40,8 +43,11 @@ impl RecordSet {
     /// Puts a record of this data in, with the set's name and TTL, of class IN, and with the serial 0. The answer is
     /// that of `insert`.
     ///
-    /// The data has the set's type, and a set of SOA, CNAME or ANAME has one record at most. Refused with `Memory`
-    /// for want of it; the set is then as it was.
+    /// The data has the set's type, and a set of SOA, CNAME or ANAME has one record at most.
+    ///
+    /// # Errors
+    ///
+    /// `Memory` if memory runs out; the set is then as it was.
     pub fn add_rdata(&mut self, rdata: RData) -> Result<bool, ProtoError>
         requires { MayAdd self.old rdata }
         ensures ok { IfOk result (λ is_new. (is_new, self.new) ≡ add_data self.old rdata) }
@@ -52,16 +58,21 @@ impl RecordSet {
         self.insert(entry, 0)
     }
 
-    /// Puts a record of a copy of this data in, as `add_rdata` does. The answer is the first record of equal data,
-    /// if there is one then.
+    /// Puts a record of a copy of this data in, as `add_rdata` does. The answer is the first record of equal data, if
+    /// there is one then.
     ///
-    /// The data has the set's type, and a set of SOA, CNAME or ANAME has one record at most. Refused for want of
-    /// memory; the set is then as it was.
+    /// The data has the set's type, and a set of SOA, CNAME or ANAME has one record at most.
+    ///
+    /// # Errors
+    ///
+    /// If memory runs out; the set is then as it was.
     pub fn new_record(&mut self, rdata: &RData) -> Result<Option<&Record>, AllocError>
         requires { MayAdd self.old rdata.now }
-        ensures ok { IfOk result (λ found. option_map (λ entry. entry.now) found ≡ first_of rdata.now (add_data self.old rdata.now).1.records) }
+        ensures ok { IfOk result (λ found. option_map (λ entry. entry.now) found
+            ≡ first_of rdata.now (add_data self.old rdata.now).1.records) }
         ensures* after { sem 𝓛 (follows_so the_row the_row self.entry.ghost_name none (λ _ _. ⊤)
-            (λ n. IfOk result (λ _. n ≡ (add_data self.old rdata.now).1) × OnErr result (n ≡ self.old))) }
+            (λ n. IfOk result (λ _. n ≡ (add_data self.old rdata.now).1)
+            × OnErr result (n ≡ self.old))) }
     {
         let place = self.add_copy(rdata)?;
         Ok(self.first_of(rdata, place))

@@ -10,7 +10,8 @@ use std::alloc::AllocError;
 
 /// Puts a record among others, unless an equal one of its TTL is there, and answers whether it went in.
 pub(super) fn enter(records: &mut Vec<Record>, entry: Record) -> Result<bool, AllocError>
-    ensures ok { IfOk result (λ is_new. (is_new, records.new.items) ≡ entered entry records.old.items) }
+    ensures ok { IfOk result (λ is_new. (is_new, records.new.items)
+        ≡ entered entry records.old.items) }
     ensures err { OnErr result (records.new.items ≡ records.old.items) }
 {
     if has_entry(records, &entry) {
@@ -34,7 +35,7 @@ pub(super) fn put_alone(records: &mut Vec<Record>, entry: Record) -> Result<(), 
     Ok(())
 }
 
-/// Puts a record in the place of each of equal data, or behind all where there is none. All memory is taken before the
+/// Puts a record in the place of each of equal data, or after all where there is none. All memory is taken before the
 /// first change.
 pub(super) fn join(records: &mut Vec<Record>, entry: Record) -> Result<(), AllocError>
     ensures ok { OnOk result (records.new.items ≡ joined entry records.old.items) }
@@ -51,9 +52,11 @@ pub(super) fn join(records: &mut Vec<Record>, entry: Record) -> Result<(), Alloc
 
 /// A copy of the record for each place whose record has the same data.
 fn copies_for(records: &Vec<Record>, entry: &Record) -> Result<Vec<(usize, Record)>, AllocError>
-    ensures renewed { IfOk result (λ copies. renewed copies.items records.now.items ≡ replaced entry.now records.now.items) }
+    ensures renewed { IfOk result (λ copies. renewed copies.items records.now.items
+        ≡ replaced entry.now records.now.items) }
     ensures within { IfOk result (λ copies. AllByRecursion (λ p. p.0 < length records.now.items) copies.items) }
-    ensures any { IfOk result (λ copies. (length copies.items == 0) ≡ not (list_any (has_data_of entry.now) records.now.items)) }
+    ensures any { IfOk result (λ copies. (length copies.items == 0)
+        ≡ not (list_any (has_data_of entry.now) records.now.items)) }
 {
     let mut copies = Vec::new(*records.allocator());
     for i in 0..records.len() {

@@ -50,7 +50,8 @@ impl<'r> Iterator for RrsetRecords<'r> {
     fn size_hint(&self) -> (usize, Option<usize>)
         ensures lower { IsWithinCount result.0 (item_count records_left self.now) }
         ensures upper { IfSome result.1 (UpTo (item_count records_left self.now)) }
-        ensures exact { (result.0 ≡ length (records_left self.now)) × (result.1 ≡ Some (length (records_left self.now))) }
+        ensures exact { (result.0 ≡ length (records_left self.now))
+            × (result.1 ≡ Some (length (records_left self.now))) }
     {
         let left = match self {
             RrsetRecords::Empty => 0,

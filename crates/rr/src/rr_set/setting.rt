@@ -37,7 +37,8 @@ impl RecordSet {
 
 /// Sets the class of each record.
 pub(super) fn set_classes(records: &mut Vec<Record>, dns_class: DNSClass)
-    ensures { records.new.items ≡ map (λ (r : Entry RData). record r { dns_class = dns_class }) records.old.items }
+    ensures { records.new.items
+        ≡ map (λ (r : Entry RData). record r { dns_class = dns_class }) records.old.items }
 {
     for entry in records.iter_mut() {
         entry.dns_class = dns_class;
@@ -46,7 +47,8 @@ pub(super) fn set_classes(records: &mut Vec<Record>, dns_class: DNSClass)
 
 /// Sets the TTL of each record, in seconds.
 pub(super) fn set_ttls(records: &mut Vec<Record>, ttl: u32)
-    ensures { records.new.items ≡ map (λ (r : Entry RData). record r { ttl = ttl }) records.old.items }
+    ensures { records.new.items
+        ≡ map (λ (r : Entry RData). record r { ttl = ttl }) records.old.items }
 {
     for entry in records.iter_mut() {
         entry.ttl = ttl;

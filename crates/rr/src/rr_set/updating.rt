@@ -17,7 +17,8 @@ impl RecordSet {
     ///
     /// If memory runs out; the set is then as it was.
     pub fn renew(&mut self, entry: Record) -> Result<(), AllocError>
-        ensures ok { OnOk result (self.new ≡ with_records self.old (joined entry self.old.records)) }
+        ensures ok { OnOk result (self.new
+            ≡ with_records self.old (joined entry self.old.records)) }
         ensures err { OnErr result (self.new ≡ self.old) }
     {
         self.records.join(entry)?;

@@ -116,7 +116,7 @@ fn labels_of_texts(rt: HostRuntime) {
     assert!(rt; reads_as(rt.alloc(), ".", true, &[]));
 }
 
-/// Appends labels of as many letters, with a dot behind each.
+/// Appends labels of as many letters, with a dot after each.
 fn push_labels(text: &mut String, lens: &[usize]) -> Result<(), AllocError> {
     for len in lens {
         for _ in 0..*len {

@@ -130,7 +130,7 @@ const AGAIN: &[(Step, u8)] = &[
     (Named(b"\x01e\0"), 0),
 ];
 
-/// Whether the first two of the names fit behind as many others, and the bytes of the third are taken back: the suffixes
+/// Whether the first two of the names fit after as many others, and the bytes of the third are taken back: the suffixes
 /// that were stored with them are not pointed at when names are written again.
 fn write_again(alloc: Global, count: u8, names: &[Name], encoder: &mut BinEncoder<'_>) -> bool {
     let start = usize::from(count) * 4;
@@ -141,7 +141,7 @@ fn write_again(alloc: Global, count: u8, names: &[Name], encoder: &mut BinEncode
     filled && two == (2, false) && is_taken_back && are_taken(alloc, AGAIN, encoder)
 }
 
-/// Whether that is so, and what is written behind as many others ends so.
+/// Whether that is so, and what is written after as many others ends so.
 fn ends_with(alloc: Global, count: u8, names: &[Name], wanted: &[u8]) -> bool {
     let mut bytes = Vec::new(alloc);
     let mut encoder = BinEncoder::new(&mut bytes);
@@ -191,7 +191,7 @@ fn suffixes_go_with_their_bytes(rt: HostRuntime) -> Result<(), DecodeError> {
         ];
         assert!(rt;
             ends_with(rt.alloc(), count, &names, &wanted),
-            "behind {count}"
+            "after {count}"
         );
     }
     drop(names);

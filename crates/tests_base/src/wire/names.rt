@@ -46,7 +46,7 @@ const ROWS: &[Row] = &[
         0,
         b"\x01a\0\x01A\0\xC0\x03",
     ),
-    // behind a header
+    // after a header
     (
         &[
             (Zeros(12), 0),
@@ -67,7 +67,7 @@ const ROWS: &[Row] = &[
         12,
         b"\x01a\0\0\x01\0\x01\x01A\0",
     ),
-    // z.a. behind filling begins at 0x83, and at 16,384, where it isn't stored
+    // z.a. after filling begins at 0x83, and at 16,384, where it isn't stored
     (
         &[
             (Zeros(12), 0),

@@ -18,7 +18,7 @@ const ROWS: &[Row] = &[
         0,
         b"\x00\x0F\xFF\x19\x03\xE8\x00\x01\x04\xD0",
     ),
-    // a byte more fits, and nothing but nothing behind it
+    // a byte more fits, and nothing but nothing after it
     (
         &[
             (Limit(5), 0),
@@ -66,27 +66,27 @@ fn an_encoder_begins_with_nothing(rt: HostRuntime) -> Result<(), AllocError> {
     Ok(())
 }
 
-/// The number of the refusal of a byte behind these; 0 for none.
-fn refusal_behind(alloc: Global, most: &[u8]) -> (u8, u8, usize) {
+/// The number of the refusal of a byte after these; 0 for none.
+fn refusal_after(alloc: Global, most: &[u8]) -> (u8, u8, usize) {
     let mut bytes = Vec::new(alloc);
     let mut encoder = BinEncoder::new(&mut bytes);
     let whole = refusal(encoder.emit_slice(most));
-    let behind = refusal(encoder.emit(0));
+    let after = refusal(encoder.emit(0));
     let len = encoder.len();
     drop(encoder);
     drop(bytes);
-    (whole, behind, len)
+    (whole, after, len)
 }
 
 #[test]
 fn the_first_limit_is_the_largest_message(rt: HostRuntime) -> Result<(), AllocError> {
     let most = vec![in rt.alloc(); 0; 65_535]?;
-    assert!(rt; refusal_behind(rt.alloc(), &most) == (0, 1, 65_535));
+    assert!(rt; refusal_after(rt.alloc(), &most) == (0, 1, 65_535));
     drop(most);
     Ok(())
 }
 
-/// Fills room behind a byte, and answers how much stood behind it, before three bytes came and then. No room of two bytes
+/// Fills room after a byte, and answers how much stood after it, before three bytes came and then. No room of two bytes
 /// is left then.
 fn fill_room(encoder: &mut BinEncoder<'_>) -> Result<(usize, usize, bool), ProtoError> {
     encoder.emit(7)?;

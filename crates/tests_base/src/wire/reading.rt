@@ -81,7 +81,7 @@ fn are_next(decoder: &mut BinDecoder<'_>, wanted: &[u16]) -> bool {
 }
 
 #[test]
-fn values_are_read_one_behind_the_other(rt: HostRuntime) {
+fn values_are_read_in_turn(rt: HostRuntime) {
     let buffer = [0, 1, 0, 2, 1, 0, 9];
     let mut decoder = BinDecoder::new(rt.alloc(), &buffer);
     assert!(rt; are_next(&mut decoder, &[]));

@@ -274,7 +274,7 @@ fn names(rt: HostRuntime) {
     assert!(rt; is_data(alloc, start(alloc), RecordType::SOA, START, text));
 }
 
-/// Writes values, one behind the other.
+/// Writes values, one after another.
 fn emit<T: BinEncodable>(encoder: &mut BinEncoder<'_>, values: &[&T]) -> Result<(), ProtoError> {
     for value in values {
         value.emit(encoder)?;
@@ -282,7 +282,7 @@ fn emit<T: BinEncodable>(encoder: &mut BinEncoder<'_>, values: &[&T]) -> Result<
     Ok(())
 }
 
-/// Whether values are written as these bytes, one behind the other.
+/// Whether values are written as these bytes, one after another.
 fn are_written_as<T: BinEncodable>(alloc: Global, values: &[&T], wire: &[u8]) -> bool {
     let mut bytes = Vec::new(alloc);
     let mut encoder = BinEncoder::new(&mut bytes);
@@ -308,7 +308,7 @@ fn stands_next<T: BinDecodable + PartialEq>(decoder: &mut BinDecoder<'_>, value:
     same
 }
 
-/// Whether values fill these bytes, one behind the other.
+/// Whether values fill these bytes, one after another.
 fn fill<T: BinDecodable + PartialEq>(alloc: Global, values: &[&T], wire: &[u8]) -> bool {
     let mut decoder = BinDecoder::new(alloc, wire);
     for value in values {
@@ -319,7 +319,7 @@ fn fill<T: BinDecodable + PartialEq>(alloc: Global, values: &[&T], wire: &[u8]) 
     decoder.is_empty()
 }
 
-/// Whether two values could be made, are written one behind the other as these bytes, and are read of them.
+/// Whether two values could be made, are written one after another as these bytes, and are read of them.
 fn have_wire<T: BinEncodable + BinDecodable + PartialEq + Drop>(
     alloc: Global,
     first: Result<T, ParseError>,
@@ -340,7 +340,7 @@ fn have_wire<T: BinEncodable + BinDecodable + PartialEq + Drop>(
 
 /// Names in data are compressed, but for those of services and of ANAME.
 #[test]
-fn two_behind_each_other(rt: HostRuntime) {
+fn two_in_a_row(rt: HostRuntime) {
     let alloc = rt.alloc();
     let (first, second) = (
         mail_host(alloc, 10, "mail.example."),

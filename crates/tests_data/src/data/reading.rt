@@ -60,7 +60,7 @@ fn every_kind_prints(rt: HostRuntime) -> Result<(), Fail> {
     Ok(())
 }
 
-/// Twelve zero bytes and a name `a.`; behind them a preference, a name that ends in a pointer, and a byte more.
+/// Twelve zero bytes and a name `a.`; after them a preference, a name that ends in a pointer, and a byte more.
 const MAIL_HOST: &[u8] = &[
     0, 0, 0, 0, 0, 0, 0, 0, 0, 0, 0, 0, 1, b'a', 0, 0, 10, 1, b'b', 0xC0, 12, 9,
 ];
@@ -250,9 +250,9 @@ fn is_exchange(alloc: Global, wire: &[u8], preference: u16, exchange: &str) -> b
 }
 
 /// Whether the start of a zone has these names and numbers.
-fn is_start(alloc: Global, wire: &[u8], names: (&str, &str), numbers: [u32; 5]) -> bool {
+fn is_soa(alloc: Global, wire: &[u8], names: (&str, &str), numbers: [u32; 5]) -> bool {
     let found: Result<SOA, DecodeError> = read(alloc, wire);
-    let is_start = match &found {
+    let is_soa = match &found {
         Ok(start) => {
             let times = [
                 start.serial(),
@@ -268,7 +268,7 @@ fn is_start(alloc: Global, wire: &[u8], names: (&str, &str), numbers: [u32; 5]) 
         Err(_) => false,
     };
     drop(found);
-    is_start
+    is_soa
 }
 
 #[test]
@@ -278,5 +278,5 @@ fn fields_stand_in_their_order(rt: HostRuntime) {
     assert!(rt; is_exchange(rt.alloc(), b"\x01\x02\x01e\x00", 258, "e."));
     let wire =
         b"\x01m\x00\x01r\x00\x00\x00\x00\x01\x00\x00\x00\x02\x00\x00\x00\x03\x00\x00\x00\x04\x00\x00\x00\x05";
-    assert!(rt; is_start(rt.alloc(), wire, ("m.", "r."), [1, 2, 3, 4, 5]));
+    assert!(rt; is_soa(rt.alloc(), wire, ("m.", "r."), [1, 2, 3, 4, 5]));
 }

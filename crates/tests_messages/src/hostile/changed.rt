@@ -32,7 +32,7 @@ fn comes_back(alloc: Global, message: &Message) -> Result<bool, ProtoError> {
     Ok(right)
 }
 
-// Whether a buffer is refused, but not for want of memory, or what is read of it comes back.
+// Whether a buffer is refused, but not because memory ran out, or what is read of it comes back.
 fn is_answered(alloc: Global, wire: &[u8]) -> Result<bool, ProtoError> {
     match Message::from_vec(alloc, wire) {
         Ok(message) => comes_back(alloc, &message),

@@ -11,7 +11,7 @@ use test_tools::bytes::decoded;
 const WHOLE: &str =
     "1000 8180 0001 0001 0000 0000 03777777 076578616D706C65 03636F6D 00 0001 0001 C00C 0001 0001 00000002 0004 5DB8D70E";
 
-// Whether a front is refused for want of so many bytes of its data, of which the message has four.
+// Whether a front is refused for lack of this many bytes of its data, of which the message has four.
 fn lacks_data(alloc: Global, front: &[u8], left: usize) -> bool {
     let read = Message::from_vec(alloc, front);
     let lacks = match &read {

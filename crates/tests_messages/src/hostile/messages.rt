@@ -16,7 +16,7 @@ pub(super) const MESSAGES: &[(&'static str, u8, &'static str)] = &[
         "0001 0000 0001 0000 0000 0000 C00E 0001 0001 00",
     ),
     (
-        "a pointer behind the end",
+        "a pointer after the end",
         5,
         "0001 0000 0001 0000 0000 0000 FFFF 0001 0001",
     ),
@@ -216,7 +216,7 @@ pub(super) const MESSAGES: &[(&'static str, u8, &'static str)] = &[
         "0001 0000 0000 0001 0000 0000 00 0029 0200 00000000 0000",
     ),
     (
-        "a record behind a signature",
+        "a record after a signature",
         11,
         "0001 0000 0000 0000 0000 0002 00 00FA 00FF 00000000 0001 AA 00 0001 0001 00000000 0004 7F000001",
     ),

@@ -21,7 +21,7 @@ fn push_label(wire: &mut Vec<u8>, len: u8) -> Result<(), AllocError> {
     Ok(())
 }
 
-// A question of these labels, and behind them the root or a pointer.
+// A question of these labels, and after them the root or a pointer.
 fn push_question(wire: &mut Vec<u8>, labels: &[u8], end: &[u8]) -> Result<(), AllocError> {
     for &len in labels {
         push_label(wire, len)?;
@@ -39,7 +39,7 @@ fn question(alloc: Global, labels: &[u8]) -> Result<u8, AllocError> {
 }
 
 // The same, where the last label stands in a second question, before a pointer to the first.
-fn behind_a_pointer(alloc: Global, labels: &[u8], last: u8) -> Result<u8, AllocError> {
+fn after_a_pointer(alloc: Global, labels: &[u8], last: u8) -> Result<u8, AllocError> {
     let mut wire = header(alloc, 2, 0)?;
     push_question(&mut wire, labels, &[0])?;
     push_question(&mut wire, &[last], &[0xC0, 12])?;
@@ -62,7 +62,7 @@ fn names_have_at_most_255_bytes(rt: HostRuntime) -> Result<(), Fail> {
     let alloc = rt.alloc();
     for &(last, number) in &[(61, 0), (62, 5)] {
         assert!(rt; question(alloc, &[63, 63, 63, last])? == number);
-        assert!(rt; behind_a_pointer(alloc, &[63, 63, 63], last)? == number);
+        assert!(rt; after_a_pointer(alloc, &[63, 63, 63], last)? == number);
         assert!(rt; in_steps(alloc, last)? == number);
     }
     Ok(())

@@ -86,7 +86,7 @@ fn headers_on_the_wire(rt: HostRuntime) {
     assert!(rt; is_filled_as(&large, &[0, 0, 0x80, 0, 0, 0, 0, 0, 0, 0, 0, 0]));
 }
 
-// Whether no header is written behind thirteen bytes of twenty-four, and none of its bytes.
+// Whether no header is written after thirteen bytes of twenty-four, and none of its bytes.
 fn is_refused(encoder: &mut BinEncoder<'_>) -> bool {
     encoder.set_max_size(24);
     let past = header().emit(encoder);
@@ -95,7 +95,7 @@ fn is_refused(encoder: &mut BinEncoder<'_>) -> bool {
     is_full && encoder.len() == 13
 }
 
-// Writes a header into its room, behind the byte that follows it.
+// Writes a header into its room, after the byte that follows it.
 fn fill_in(encoder: &mut BinEncoder<'_>) -> Result<(), ProtoError> {
     let place = encoder.place::<Header>()?;
     encoder.emit(0xFF)?;
@@ -103,7 +103,7 @@ fn fill_in(encoder: &mut BinEncoder<'_>) -> Result<(), ProtoError> {
     Ok(())
 }
 
-// Whether a header that is filled in stands in its room, and one behind it is refused.
+// Whether a header that is filled in stands in its room, and one after it is refused.
 fn is_filled_in(alloc: Global) -> bool {
     let mut bytes = Vec::new(alloc);
     let mut encoder = BinEncoder::new(&mut bytes);

@@ -16,7 +16,7 @@ use std::alloc::Global;
 use std::test::Fail;
 use test_tools::forms::are_bytes;
 
-// A query with EDNS: id 0x1234 and RD, one question, and an OPT record behind it.
+// A query with EDNS: id 0x1234 and RD, one question, and an OPT record after it.
 fn query(alloc: Global) -> Result<Message, Fail> {
     let mut message = Message::query(alloc, 0x1234);
     message.metadata.recursion_desired = true;

@@ -104,13 +104,13 @@ fn starts(alloc: Global, rows: &[(u32, &str, bool)], left: u32) -> Result<bool, 
         let entry = record(alloc, DNSClass::IN, 5, start(alloc, serial, name)?)?;
         right = answers(&mut set, entry, serial, wanted)? && right;
     }
-    right = is_start(&set, left) && set.serial() == left && right;
+    right = is_soa(&set, left) && set.serial() == left && right;
     drop(set);
     Ok(right)
 }
 
 /// Whether the set is one start of the serial.
-fn is_start(set: &RecordSet, serial: u32) -> bool {
+fn is_soa(set: &RecordSet, serial: u32) -> bool {
     let same = match set.record() {
         Some(entry) => match &entry.rdata {
             RData::SOA(start) => start.serial() == serial,
@@ -165,13 +165,13 @@ fn aliases(alloc: Global, rows: &[(&str, bool)], left: &str) -> Result<bool, Fai
         let entry = record(alloc, DNSClass::IN, 5, rdata)?;
         right = answers(&mut set, entry, 0, wanted)? && right;
     }
-    right = is_alias(alloc, &set, left)? && right;
+    right = is_cname(alloc, &set, left)? && right;
     drop(set);
     Ok(right)
 }
 
 /// Whether the set is one alias of the name.
-fn is_alias(alloc: Global, set: &RecordSet, name: &str) -> Result<bool, Fail> {
+fn is_cname(alloc: Global, set: &RecordSet, name: &str) -> Result<bool, Fail> {
     let wanted = RData::CNAME(CNAME::new(Name::parse(alloc, name, None)?));
     let same = match set.record() {
         Some(entry) => entry.rdata == wanted,

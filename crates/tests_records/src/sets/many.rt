@@ -21,7 +21,7 @@ enum Change {
     Part,
 }
 
-/// Puts a record into a plain list, in the place of the one of its number or behind all, and tells whether it is new.
+/// Puts a record into a plain list, in the place of the one of its number or after all, and tells whether it is new.
 fn put(rows: &mut Vec<Row>, row: Row) -> Result<bool, Fail> {
     if let Some(place) = rows.iter().position(|known| known.0 == row.0) {
         let is_new = rows[place].2 != row.2;

@@ -20,7 +20,7 @@ const TEXT: &str =
 const UPDATE: &str =
     "0007 2800 0001 0000 0001 0000 076578616D706C65 00 0006 0001 03777777 C00C 0001";
 
-// The sets of that zone, and then those behind the update whose record goes on like this.
+// The sets of that zone, and then those after the update whose record goes on like this.
 fn applied(alloc: Global, change: &str) -> Result<BTreeMap<RrKey, RecordSet>, Refusal> {
     let update = [UPDATE, change].concat(alloc)?;
     let bytes = decoded(alloc, &update)?;

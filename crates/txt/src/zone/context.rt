@@ -107,7 +107,7 @@ impl Context {
         }
     }
 
-    /// Behind the sign @: the owner is the origin, and then comes the rest of the line.
+    /// After the sign @: the owner is the origin, and then comes the rest of the line.
     fn take_at(&mut self, lexer: &mut Lexer<'_>) -> Result<(), ParseError>
         ensures { Goes result self.new (symbols lexer.new) (took_at self.old (symbols lexer.old)) }
     {
@@ -116,7 +116,7 @@ impl Context {
         self.take_line(lexer)
     }
 
-    /// Behind an owner's text: the name that it names, and then the rest of the line.
+    /// After an owner's text: the name that it names, and then the rest of the line.
     fn take_named(&mut self, word: String, lexer: &mut Lexer<'_>) -> Result<(), ParseError>
         ensures { Goes result self.new (symbols lexer.new) (took_named self.old (string_bytes word) (symbols lexer.old)) }
     {
@@ -139,7 +139,7 @@ impl Context {
         self.owner = owner;
     }
 
-    /// Behind `$ORIGIN`: the name becomes the origin.
+    /// After `$ORIGIN`: the name becomes the origin.
     fn take_origin(&mut self, lexer: &mut Lexer<'_>) -> Result<(), ParseError>
         ensures { Goes result self.new (symbols lexer.new) (took_origin self.old (symbols lexer.old)) }
     {
@@ -155,7 +155,7 @@ impl Context {
         }
     }
 
-    /// Behind `$TTL`: the TTL becomes the default.
+    /// After `$TTL`: the TTL becomes the default.
     fn take_default(&mut self, lexer: &mut Lexer<'_>) -> Result<(), ParseError>
         ensures { Goes result self.new (symbols lexer.new) (took_default self.old (symbols lexer.old)) }
     {
@@ -174,7 +174,7 @@ impl Context {
         }
     }
 
-    /// Behind an owner: settings, and then the end of the line, or a type and its data.
+    /// After an owner: settings, and then the end of the line, or a type and its data.
     fn take_line(&mut self, lexer: &mut Lexer<'_>) -> Result<(), ParseError>
         ensures { Goes result self.new (symbols lexer.new) (took_words self.old (symbols lexer.old)) }
     {
@@ -205,9 +205,10 @@ impl Context {
         }
     }
 
-    /// Behind the type's text, its ASCII letters raised: the items of the data, and then the record.
+    /// After the type's text, its ASCII letters raised: the items of the data, and then the record.
     fn take_record(&mut self, raised: String, lexer: &mut Lexer<'_>) -> Result<(), ParseError>
-        ensures { (word : List ℕ) → string_bytes raised ≡ str_to_ascii_uppercase word → Goes result self.new (symbols lexer.new) (took_typed self.old word (symbols lexer.old)) }
+        ensures { (word : List ℕ) → string_bytes raised ≡ str_to_ascii_uppercase word
+            → Goes result self.new (symbols lexer.new) (took_typed self.old word (symbols lexer.old)) }
     {
         let record_type = type_of_text(raised)?;
         let mut items = replace(&mut self.items, Vec::new(self.alloc));
@@ -285,7 +286,11 @@ impl Context {
         }
     }
 
-    /// The origin and the sets of records. Refused with `Message` where there is no origin.
+    /// The origin and the sets of records.
+    ///
+    /// # Errors
+    ///
+    /// `Message` where there is no origin.
     pub(super) fn answer(self) -> Result<(Name, BTreeMap<RrKey, RecordSet>), ParseError>
         ensures zone { Gives (λ r. (r.0, r.1.entries)) result (answered self) }
         ensures kept { IfOk result (λ r. AreKept r.1.entries) }
@@ -324,9 +329,10 @@ fn absolute(name: Name) -> Name
     whole
 }
 
-/// Behind `$INCLUDE`: the name of a text, and the end of the line.
+/// After `$INCLUDE`: the name of a text, and the end of the line.
 fn take_include(lexer: &mut Lexer<'_>) -> Result<Step, ParseError>
-    ensures { (s : State) → Takes result s s (symbols lexer.new) (took_include s (symbols lexer.old)) }
+    ensures { (s : State)
+        → Takes result s s (symbols lexer.new) (took_include s (symbols lexer.old)) }
 {
     let Some(token) = read_token(lexer)? else {
         return Ok(Step::Applied);
@@ -337,9 +343,10 @@ fn take_include(lexer: &mut Lexer<'_>) -> Result<Step, ParseError>
     }
 }
 
-/// Behind the name of an included text: the end of the line.
+/// After the name of an included text: the end of the line.
 fn end_include(name: String, lexer: &mut Lexer<'_>) -> Result<Step, ParseError>
-    ensures { (s : State) → Takes result s s (symbols lexer.new) (took_include_end s (string_bytes name) (symbols lexer.old)) }
+    ensures { (s : State)
+        → Takes result s s (symbols lexer.new) (took_include_end s (string_bytes name) (symbols lexer.old)) }
 {
     let Some(token) = read_token(lexer)? else {
         return Ok(Step::Applied);

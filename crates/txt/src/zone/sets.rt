@@ -58,7 +58,9 @@ impl ZoneSets {
 
     /// Puts a record into the set of its owner and type, or into a new one.
     ///
-    /// Refused with `Message` for a second SOA of an owner, and with `Memory` for want of it.
+    /// # Errors
+    ///
+    /// `Message` for a second SOA of an owner; `Memory` if memory runs out.
     pub(super) fn add(&mut self, entry: Record) -> Result<(), ParseError>
         ensures { Adds result self.new (added self.old entry) }
     {
@@ -94,7 +96,11 @@ impl ZoneSets {
         Ok(())
     }
 
-    /// The map of the sets. Refused for want of memory.
+    /// The map of the sets.
+    ///
+    /// # Errors
+    ///
+    /// If memory runs out.
     pub(super) fn into_map(self) -> Result<BTreeMap<RrKey, RecordSet>, AllocError>
         ensures entries { IfOk result (λ sets. sets.entries ≡ self) }
         ensures kept { IfOk result (λ sets. AreKept sets.entries) }
@@ -120,8 +126,10 @@ fn order_to_last(
     key: &RrKey,
 ) -> Ordering
     requires { IsStrictlySortedBy key_cmp (keys_of (sets.now.entries ++ run.now)) }
-    ensures last { result ≡ Equal → (set : SetValue) × (slice_get run.now (length run.now - 1) ≡ Some (key.now, set)) }
-    ensures above { result ≡ Greater → AllByRecursion (λ e. key_cmp key.now e.0 ≡ Greater) (sets.now.entries ++ run.now) }
+    ensures last { result ≡ Equal
+        → (set : SetValue) × (slice_get run.now (length run.now - 1) ≡ Some (key.now, set)) }
+    ensures above { result ≡ Greater
+        → AllByRecursion (λ e. key_cmp key.now e.0 ≡ Greater) (sets.now.entries ++ run.now) }
 {
     if let Some(last) = run.last() {
         return key.cmp(&last.0);
@@ -132,9 +140,13 @@ fn order_to_last(
     }
 }
 
-/// The map with the sets of a run, whose keys are above all of the map. Refused for want of memory.
+/// The map with the sets of a run, whose keys are above all of the map.
 ///
 /// The last one goes in first: so each is below those before it, and a map looks for its place from the lowest key on.
+///
+/// # Errors
+///
+/// If memory runs out.
 fn joined(
     sets: BTreeMap<RrKey, RecordSet>,
     run: Vec<(RrKey, RecordSet)>,
@@ -167,10 +179,15 @@ fn put(sets: &mut BTreeMap<RrKey, RecordSet>, key: RrKey, entry: Record) -> Resu
     }
 }
 
-/// Puts a record into the set of its key. Refused with `Message` for a second SOA.
+/// Puts a record into the set of its key.
+///
+/// # Errors
+///
+/// `Message` for a second SOA.
 fn enter(set: &mut RecordSet, entry: Record) -> Result<(), ParseError>
     requires { IsKept (record_key entry) set.old }
-    ensures value { (sets : Sets) → Adds result (set_value (is_at (key_cmp (record_key entry))) sets set.new) (added_to sets entry (Some set.old)) }
+    ensures value { (sets : Sets)
+        → Adds result (set_value (is_at (key_cmp (record_key entry))) sets set.new) (added_to sets entry (Some set.old)) }
     ensures kept { IsKept (record_key entry) set.new }
 {
     if entry.record_type() == RecordType::SOA {

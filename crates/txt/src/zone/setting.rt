@@ -23,9 +23,11 @@ pub(super) enum Setting {
 /// comes back with its letters raised.
 #[tactic(auto, unfolding(crate::specs::Entries::setting_of))]
 pub(super) fn setting_of(word: String) -> Result<Setting, String>
-    ensures setting { IfOk result (λ setting. setting_of (string_bytes word) ≡ Some (setting_value setting)) }
+    ensures setting { IfOk result (λ setting. setting_of (string_bytes word)
+        ≡ Some (setting_value setting)) }
     ensures none { IfErr result (λ _. setting_of (string_bytes word) ≡ None) }
-    ensures raised { IfErr result (λ raised. string_bytes raised ≡ str_to_ascii_uppercase (string_bytes word)) }
+    ensures raised { IfErr result (λ raised. string_bytes raised
+        ≡ str_to_ascii_uppercase (string_bytes word)) }
 {
     if let Ok(ttl) = parse_ttl(word.as_str()) {
         return Ok(Setting::Ttl(ttl));
@@ -40,7 +42,8 @@ pub(super) fn setting_of(word: String) -> Result<Setting, String>
 
 /// The type that a text names whose ASCII letters are raised.
 pub(super) fn type_of_text(raised: String) -> Result<RecordType, ParseError>
-    ensures { (word : List ℕ) → string_bytes raised ≡ str_to_ascii_uppercase word → Gives (λ t. t) result (type_named word) }
+    ensures { (word : List ℕ) → string_bytes raised ≡ str_to_ascii_uppercase word
+        → Gives (λ t. t) result (type_named word) }
 {
     match RecordType::from_text(raised.as_str()) {
         Some(record_type) => Ok(record_type),

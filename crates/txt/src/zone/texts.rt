@@ -22,7 +22,7 @@ struct Frame<'a> {
     origin: Option<Name>,
 }
 
-/// What is in force behind all entries of a text and of those that it includes, from what is in force before it.
+/// What is in force after all entries of a text and of those that it includes, from what is in force before it.
 pub(super) fn read_texts<'a>(
     alloc: Global,
     text: &'a str,

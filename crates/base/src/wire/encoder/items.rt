@@ -1,4 +1,4 @@
-//! Writes items one behind the other.
+//! Writes items one after another.
 
 ghost use Rattle.base.specs.Items.{IsCountable, EmitsAll, StaysValid};
 ghost use Rattle.base.specs.Laws.{Keeps};
@@ -11,9 +11,12 @@ use crate::wire::encoder::BinEncoder;
 impl<'a> BinEncoder<'a> {
     /// Writes the items that the iterator gives, to its end, and answers their number.
     ///
-    /// Where an item doesn't fit the limit, refused with `NotAllRecordsWritten`, the number of the items
-    /// before it, and bytes and suffixes as they were behind those; the iterator stands behind that item.
-    /// Refused with `Memory` for want of it, too.
+    /// Where an item doesn't fit the limit, refused with `NotAllRecordsWritten`, the number of the items before it, and
+    /// bytes and suffixes as they were after those; the iterator stands after that item.
+    ///
+    /// # Errors
+    ///
+    /// `Memory` if memory runs out.
     pub fn emit_all<E: BinEncodable + Drop, I: Iterator<Item = E>>(
         &mut self,
         items: &mut I,

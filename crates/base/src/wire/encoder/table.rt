@@ -17,24 +17,29 @@ impl<'a> BinEncoder<'a> {
     /// are.
     pub(crate) fn find(&self, wire: &[u8]) -> Option<u16>
         requires { IsWire wire.now }
-        ensures found { MatchOption result (All (λ t. t.labels ≢ labels_of wire.now) (state_of self.now).suffixes)
-            (λ offset. Any (λ t. (t.labels ≡ labels_of wire.now) × (t.offset ≡ offset)) (state_of self.now).suffixes) }
+        ensures found { MatchOption result (All
+            (λ t. t.labels ≢ labels_of wire.now) (state_of self.now).suffixes)
+            (λ offset. Any (λ t. (t.labels ≡ labels_of wire.now)
+            × (t.offset ≡ offset)) (state_of self.now).suffixes) }
         ensures near { IfSome result (λ offset. offset < 16384) }
         ensures value { result ≡ found_in (state_of self.now).suffixes (labels_of wire.now) }
     {
         self.suffixes.find(wire)
     }
 
-    /// Stores the suffix of these labels, each with its length before it, that was written at a place behind all
-    /// stored ones, unless the place is too far for a pointer. It isn't stored yet.
+    /// Stores the suffix of these labels, each with its length before it, that was written at a place after all stored
+    /// ones, unless the place is too far for a pointer. It isn't stored yet.
     ///
-    /// Refused for want of memory, with nothing stored.
+    /// # Errors
+    ///
+    /// If memory runs out, with nothing stored.
     pub(crate) fn store(&mut self, wire: &[u8], at: usize) -> Result<(), ProtoError>
         requires wire { IsWire wire.now }
         requires stands { at < length (state_of self.old).bytes }
         requires absent { All (λ t. t.labels ≢ labels_of wire.now) (state_of self.old).suffixes }
         requires later { All (λ t. t.offset < at) (state_of self.old).suffixes }
-        ensures ok { OnOk result (state_of self.new ≡ stored (labels_of wire.now) at (state_of self.old)) }
+        ensures ok { OnOk result (state_of self.new
+            ≡ stored (labels_of wire.now) at (state_of self.old)) }
         ensures err { OnErr result (state_of self.new ≡ state_of self.old) }
         ensures memory { IsMemory result }
     {

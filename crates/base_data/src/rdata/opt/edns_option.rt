@@ -91,7 +91,9 @@ impl BinEncodable for EdnsOption {
 
     /// Writes the code, the number of the bytes, and the bytes (RFC 6891, 6.1.2).
     ///
-    /// Refused with `MaxBufferSizeExceeded` where a byte would pass the limit, and with `Memory` for want of it.
+    /// # Errors
+    ///
+    /// `MaxBufferSizeExceeded` where a byte would pass the limit; `Memory` if memory runs out.
     fn emit(&self, encoder: &mut BinEncoder<'_>) -> Result<(), ProtoError> {
         let bytes = self.bytes();
         self.code().emit(encoder)?;
@@ -103,8 +105,11 @@ impl BinEncodable for EdnsOption {
 impl BinDecodable for EdnsOption {
     ghost read_at = { option_at };
 
-    /// Reads a code, a number, and as many bytes (RFC 6891, 6.1.2). Refused with `InsufficientBytes` where the buffer
-    /// ends before, and with `Memory` for want of it.
+    /// Reads a code, a number, and as many bytes (RFC 6891, 6.1.2).
+    ///
+    /// # Errors
+    ///
+    /// `InsufficientBytes` where the buffer ends before; `Memory` if memory runs out.
     #[tactic(auto, using(base::proofs::AddsLemmas::adds_none))]
     fn read(decoder: &mut BinDecoder<'_>) -> Result<EdnsOption, DecodeError> {
         let code = decoder.read_u16()?;

@@ -1,4 +1,4 @@
-//! The text of texts (RFC 1035, 5.1).
+//! Character strings as zone text (RFC 1035, 5.1).
 
 ghost use Rattle.std.specs.Prelude.{◌≡◌, ◌++◌, [], ◌∷◌, Some, if◌then◌else◌};
 ghost use Rattle.base_data.specs.TXT.{string_byte, string_text, txt_text};
@@ -30,7 +30,7 @@ fn space_if(is_wanted: bool) -> &'static str
     if is_wanted { " " } else { "" }
 }
 
-/// A string in quotes, and the space behind it where more strings follow.
+/// A string in quotes, and the space after it where more strings follow.
 #[derive(Drop)]
 struct StringText<'a> {
     string: &'a [u8],

@@ -54,8 +54,10 @@ impl<'a> Iterator for Strings<'a> {
 /// The first of the strings, and the others, each with its length before it; none where there is no string.
 pub(crate) fn first_string(wire: &[u8]) -> Option<(&[u8], &[u8])>
     requires { wire_of (labels_of wire.now) ≡ wire.now }
-    ensures strings { MatchOption result (labels_of wire.now ≡ []) (λ r. labels_of wire.now ≡ r.0.now ∷ labels_of r.1.now) }
-    ensures bytes { MatchOption result (wire.now ≡ []) (λ r. wire.now ≡ (length r.0.now ∷ r.0.now) ++ r.1.now) }
+    ensures strings { MatchOption result (labels_of wire.now ≡ [])
+        (λ r. labels_of wire.now ≡ r.0.now ∷ labels_of r.1.now) }
+    ensures bytes { MatchOption result (wire.now ≡ [])
+        (λ r. wire.now ≡ (length r.0.now ∷ r.0.now) ++ r.1.now) }
     ensures others { IfSome result (λ r. wire_of (labels_of r.1.now) ≡ r.1.now) }
     ensures shorter { IfSome result (λ r. length r.1.now < length wire.now) }
 {

@@ -19,7 +19,7 @@ enum Escape {
     TwoDigits(u16),
 }
 
-/// What a byte is behind as much of an escape: a byte of the string or none, and as much of an escape then. None where
+/// What a byte is after as much of an escape: a byte of the string or none, and as much of an escape then. None where
 /// it can't stand there: fewer than three digits, or a number above 255.
 fn escape_step(state: Escape, byte: u8) -> Option<(Option<u8>, Escape)>
     ensures { option_map (λ r. (r.0, escape_of r.1)) result ≡ escape_step (escape_of state) byte }
@@ -59,7 +59,11 @@ fn escape_step(state: Escape, byte: u8) -> Option<(Option<u8>, Escape)>
     }
 }
 
-/// The bytes of a text; none where an escape is written wrongly. Refused for want of memory.
+/// The bytes of a text; none where an escape is written wrongly.
+///
+/// # Errors
+///
+/// If memory runs out.
 fn unescaped(alloc: Global, text: &[u8]) -> Result<Option<Vec<u8>>, AllocError>
     ensures { IfOk result (λ r. option_map (λ v. v.items) r ≡ unescaped no_escape text.now) }
 {
@@ -80,7 +84,11 @@ fn unescaped(alloc: Global, text: &[u8]) -> Result<Option<Vec<u8>>, AllocError>
     }
 }
 
-/// The character string that an item is, of 255 bytes at most. Refused for want of memory.
+/// The character string that an item is, of 255 bytes at most.
+///
+/// # Errors
+///
+/// If memory runs out.
 #[tactic(auto, unfolding(crate::specs::StringItems::string_item))]
 pub(crate) fn string_item(alloc: Global, item: &str) -> Result<Option<Vec<u8>>, AllocError>
     ensures string { IfOk result (λ r. option_map (λ v. v.items) r ≡ string_item item.now) }

@@ -1,4 +1,4 @@
-//! What stands behind the additional records: OPT and the signature.
+//! What stands after the additional records: OPT and the signature.
 
 ghost use Rattle.std.specs.Option.{option_copied};
 ghost use Rattle.base.specs.Laws.{Keeps};

@@ -109,7 +109,7 @@ fn exchange(alloc: Global, message: &mut Message, len: usize) -> Result<(), Fail
     answer(alloc, message, "z.a.", 0)
 }
 
-// The bytes of two addresses behind so many bytes of data.
+// The bytes of two addresses after so many bytes of data.
 fn written(alloc: Global, len: usize) -> Result<Vec<u8>, Fail> {
     let mut message = Message::response(alloc, 1, OpCode::Query);
     let filled = exchange(alloc, &mut message, len);

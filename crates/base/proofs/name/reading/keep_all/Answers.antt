@@ -40,18 +40,18 @@ keep_copy-requires-clause-kept c =
     (subst (λ (xs : List ℕ). IsKept c.args.decoder.now.bytes c.in-Some.pointer.target xs) (sym all)
     (subst (λ (p : Passed). IsKept c.args.decoder.now.bytes p.target (drop p.from c.args.labels.now)) (sym at) (c.requires.spelled i none inside).1))
 
-pub keep_copy-requires-clause-behind : goal.keep_copy-requires-clause-behind
-keep_copy-requires-clause-behind c =
+pub keep_copy-requires-clause-after : goal.keep_copy-requires-clause-after
+keep_copy-requires-clause-after c =
     let ps = c.args.passed.now in
     let i = c.loop-i.i - 1 in
     let inside : i < length ps = omega (arith, c.loop-i-test.true, c.loop-i.auto.i, c.len-i.ensures) in
     let at : c.in-Some.pointer ≡ get_or ps i none = same_pointer _ _ (sym c.in-Some.is ∙ c.at.ensures.there none inside) in
     let next : i + 1 ≡ c.loop-i.i = omega (arith, c.loop-i-test.true) in
     let old = c.args.decoder.now in
-    let behind = later_at old.bytes old.kept ps i none inside c.requires.later in
+    let after = later_at old.bytes old.kept ps i none inside c.requires.later in
     subst (λ (r : Reader). PassesKept r.bytes r.kept c.in-Some.pointer.target) (sym c.loop-i.invariant)
     (subst (λ (p : Passed). PassesKept old.bytes (inserted (targets (drop c.loop-i.i ps)) old.kept) p.target) (sym at)
-    (subst (λ (k : ℕ). PassesKept old.bytes (inserted (targets (drop k ps)) old.kept) (get_or ps i none).target) next behind))
+    (subst (λ (k : ℕ). PassesKept old.bytes (inserted (targets (drop k ps)) old.kept) (get_or ps i none).target) next after))
 
 pub loop-i-preserved-in-Continue-branch-2 : goal.loop-i-preserved-in-Continue-branch-2
 loop-i-preserved-in-Continue-branch-2 c =
@@ -93,18 +93,18 @@ keep_lent-requires-clause-kept c =
     (subst (λ (xs : List ℕ). IsKept c.args.decoder.now.bytes c.in-Some.pointer.target xs) (sym same)
     (subst (λ (p : Passed). IsKept c.args.decoder.now.bytes p.target (drop (get_or ps i none).from labels)) (sym at) (c.requires.spelled i none inside).1))
 
-pub keep_lent-requires-clause-behind : goal.keep_lent-requires-clause-behind
-keep_lent-requires-clause-behind c =
+pub keep_lent-requires-clause-after : goal.keep_lent-requires-clause-after
+keep_lent-requires-clause-after c =
     let ps = c.args.passed.now in
     let i = c.loop-i.i - 1 in
     let inside : i < length ps = omega (arith, c.loop-i-test.true, c.loop-i.auto.i, c.len-i.ensures) in
     let at : c.in-Some.pointer ≡ get_or ps i none = same_pointer _ _ (sym c.in-Some.is ∙ c.at.ensures.there none inside) in
     let next : i + 1 ≡ c.loop-i.i = omega (arith, c.loop-i-test.true) in
     let old = c.args.decoder.now in
-    let behind = later_at old.bytes old.kept ps i none inside c.requires.later in
+    let after = later_at old.bytes old.kept ps i none inside c.requires.later in
     subst (λ (r : Reader). PassesKept r.bytes r.kept c.in-Some.pointer.target) (sym c.loop-i.invariant)
     (subst (λ (p : Passed). PassesKept old.bytes (inserted (targets (drop c.loop-i.i ps)) old.kept) p.target) (sym at)
-    (subst (λ (k : ℕ). PassesKept old.bytes (inserted (targets (drop k ps)) old.kept) (get_or ps i none).target) next behind))
+    (subst (λ (k : ℕ). PassesKept old.bytes (inserted (targets (drop k ps)) old.kept) (get_or ps i none).target) next after))
 
 pub loop-i-preserved-then-i-len : goal.loop-i-preserved-then-i-len
 loop-i-preserved-then-i-len c =

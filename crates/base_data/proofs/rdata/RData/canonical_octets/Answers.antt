@@ -4,7 +4,7 @@ use Rattle.base_data.specs.Kinds.{canonical_data}
 use Rattle.base_data.specs.NameData.{name_octets}
 use Rattle.base_data.proofs.rdata.RData.canonical_octets.Goals as goal
 
--- lists one behind the other, the last five put together first
+-- lists one after another, the last five put together first
 joined : (m a b c d e : List ℕ) → m ++ (a ++ b ++ c ++ d ++ e) ≡ m ++ a ++ b ++ c ++ d ++ e
 joined m a b c d e =
     sym (append_assoc m (a ++ b ++ c ++ d) e)

@@ -34,7 +34,7 @@ returns-clause-found c =
     let additionals = subst (IsNumberAt w16 at.bytes (at.index + 10)) (sym c.number-5.ensures) (number16_among s 10 (omega arith)) in
     let header = header_there counts id (byte_among s 2 (omega arith)) (byte_among s 3 (omega arith)) queries answers authorities additionals in (
       subst (λ (metadata : Metadata). IsHeaderAt at.bytes at.index (record { metadata = metadata; counts = counts })) (sym c.metadata_of-metadata.ensures) header,
-      s.behind,
+      s.after,
     )
 
 pub returns-clause-read : goal.returns-clause-read

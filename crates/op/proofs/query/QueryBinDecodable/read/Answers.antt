@@ -12,11 +12,11 @@ returns-clause-read c =
     let next = c.read.new.decoder in
     let fields = c.in_ok-fields.fields in
     let found = c.in_ok-fields.ensures.found in
-    let behind = c.in_ok-fields.ensures.behind in
+    let after = c.in_ok-fields.ensures.after in
     let type_stands = subst (λ (B : List ℕ). IsNumberAt w16 B next.index fields.query_type) name.1 found.0 in
     let class_stands = subst (λ (B : List ℕ). IsNumberAt w16 B (next.index + 2) fields.class) name.1 found.1 in
     let class = c.from_field-query_class.ensures in
-    (query_read at.bytes at.index name.0 type_stands class_stands (same_query c.in_ok-name.name c.from.ensures class.class class.top) behind.0, behind.1 ∙ name.1)
+    (query_read at.bytes at.index name.0 type_stands class_stands (same_query c.in_ok-name.name c.from.ensures class.class class.top) after.0, after.1 ∙ name.1)
 
 pub returns-clause-adds : goal.returns-clause-adds
-returns-clause-adds c = adds_still {new = c.read_fields.new.decoder} c.in_ok-name.ensures.adds c.in_ok-fields.ensures.behind.1 c.in_ok-fields.ensures.kept
+returns-clause-adds c = adds_still {new = c.read_fields.new.decoder} c.in_ok-name.ensures.adds c.in_ok-fields.ensures.after.1 c.in_ok-fields.ensures.kept

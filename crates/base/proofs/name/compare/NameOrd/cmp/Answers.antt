@@ -15,11 +15,11 @@ pub returns : goal.returns
 returns c =
     let mine = c.args.self.now in
     let others = c.args.other.now in
-    let left : labels_of c.past_labels-behind.result.now ≡ drop c.saturating_sub.result mine.labels = c.past_labels-behind.ensures.labels ∙ ap (drop _) c.as_wire-left.ensures.cut in
-    let right : labels_of c.past_labels-others_behind.result.now ≡ drop c.saturating_sub-2.result others.labels =
-    c.past_labels-others_behind.ensures.labels ∙ ap (drop _) c.as_wire-right.ensures.cut in
+    let left : labels_of c.past_labels-after.result.now ≡ drop c.saturating_sub.result mine.labels = c.past_labels-after.ensures.labels ∙ ap (drop _) c.as_wire-left.ensures.cut in
+    let right : labels_of c.past_labels-others_after.result.now ≡ drop c.saturating_sub-2.result others.labels =
+    c.past_labels-others_after.ensures.labels ∙ ap (drop _) c.as_wire-right.ensures.cut in
     let flags : c.cmp-flags.result ≡ bool_cmp mine.absolute others.absolute = cc (c.cmp-flags.ensures, c.is_fqdn.ensures, c.is_fqdn-2.ensures) in
-    let same : length (labels_of c.past_labels-behind.result.now) ≡ length (labels_of c.past_labels-others_behind.result.now) =
+    let same : length (labels_of c.past_labels-after.result.now) ≡ length (labels_of c.past_labels-others_after.result.now) =
     omega (
       arith,
       ap length left,

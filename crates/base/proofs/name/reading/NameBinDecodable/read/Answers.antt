@@ -7,7 +7,7 @@ use Rattle.base.specs.Passing.{inserted, passed}
 use Rattle.base.specs.Reader.{Reader}
 use Rattle.base.specs.Spelling.{Spelled}
 use Rattle.base.proofs.AddsLemmas.{adds_name}
-use Rattle.base.proofs.CountLemmas.{Follows-none, IsBehind, counted_after, inserted-none, passed_after}
+use Rattle.base.proofs.CountLemmas.{Follows-none, IsAfterName, counted_after, inserted-none, passed_after}
 use Rattle.base.proofs.GatherLemmas.{spelled_is}
 use Rattle.base.proofs.PassLemmas.{passes_are_kept}
 use Rattle.base.proofs.name.reading.NameBinDecodable.read.Goals as goal
@@ -44,8 +44,8 @@ bytes_now c =
 pub returns-clause-adds : goal.returns-clause-adds
 returns-clause-adds c = adds_name (spelled c) (bytes_now c) (passes c _ _ (spelled c))
 
-behind : (c : goal.After-drop-passed-inside-2) → IsBehind (targets c.gather.new.passed) c.args.decoder.now c.gather.new.decoder c.move_to-2.new.self (spelled c)
-behind c =
+after : (c : goal.After-drop-passed-inside-2) → IsAfterName (targets c.gather.new.passed) c.args.decoder.now c.gather.new.decoder c.move_to-2.new.self (spelled c)
+after c =
     let moved = c.move_to-2.ensures in
     record {
       bytes = bytes_now c;
@@ -56,10 +56,10 @@ behind c =
     }
 
 pub returns-clause-counts : goal.returns-clause-counts
-returns-clause-counts c = counted_after (behind c) c.in_ok-used.ensures.followed c.allocator-2.ensures.few
+returns-clause-counts c = counted_after (after c) c.in_ok-used.ensures.followed c.allocator-2.ensures.few
 
 pub returns-clause-passed : goal.returns-clause-passed
-returns-clause-passed c = passed_after (spelled c) (behind c)
+returns-clause-passed c = passed_after (spelled c) (after c)
 
 -- ---- a name of one piece
 
@@ -84,8 +84,8 @@ returns-in-Some-clause-adds c =
     let h = spelled_piece c in
     adds_name h (ap (λ (r : Reader). r.bytes) c.move_to.ensures) (passes_piece c _ _ h)
 
-behind_piece : (c : goal.After-move_to) → IsBehind [] c.args.decoder.now c.args.decoder.now c.move_to.new.self (spelled_piece c)
-behind_piece c =
+after_piece : (c : goal.After-move_to) → IsAfterName [] c.args.decoder.now c.args.decoder.now c.move_to.new.self (spelled_piece c)
+after_piece c =
     let old = c.args.decoder.now in
     let moved = c.move_to.ensures in
     record {
@@ -100,7 +100,7 @@ pub returns-in-Some-clause-counts : goal.returns-in-Some-clause-counts
 returns-in-Some-clause-counts c =
     let f = Follows-none 0 c.args.decoder.now in
     let followed : Followed [] c.args.decoder.now c.args.decoder.now = record { now = f.now; jumps = f.jumps; all = f.all; few = f.few } in
-    counted_after (behind_piece c) followed c.allocator.ensures.few
+    counted_after (after_piece c) followed c.allocator.ensures.few
 
 pub returns-in-Some-clause-passed : goal.returns-in-Some-clause-passed
-returns-in-Some-clause-passed c = passed_after (spelled_piece c) (behind_piece c)
+returns-in-Some-clause-passed c = passed_after (spelled_piece c) (after_piece c)

@@ -18,13 +18,13 @@ invariant_of-self-2 c =
     let kept = targets_of old others in
     let more : targets_of old c.keep.new.self ≡ set.insert kept c.args.target =
     kept_inserted old others c.keep.new.self c.args.target c.args.labels.now c.in_ok-keep.ensures.ok c.in_ok-keep.ensures.others in
-    let behind : PassesKept buffer kept c.args.target = subst (λ (r : Reader). PassesKept r.bytes r.kept c.args.target) (sym c.self.view_is) c.requires.behind in (
+    let after : PassesKept buffer kept c.args.target = subst (λ (r : Reader). PassesKept r.bytes r.kept c.args.target) (sym c.self.view_is) c.requires.after in (
       c.self.invariant.0,
       (
         c.self.invariant.1.0,
         (
           kept_are buffer others c.keep.new.self c.args.target c.args.labels.now c.self.invariant.1.1.0 one c.in_ok-keep.ensures.ok c.in_ok-keep.ensures.others,
-          subst (IsClosed buffer) (sym more) (closed_inserted buffer kept c.args.target c.self.invariant.1.1.1 behind),
+          subst (IsClosed buffer) (sym more) (closed_inserted buffer kept c.args.target c.self.invariant.1.1.1 after),
         ),
       ),
     )

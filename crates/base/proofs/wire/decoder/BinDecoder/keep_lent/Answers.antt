@@ -21,11 +21,11 @@ invariant_of-self c =
     let kept = targets_of c.self.inside.plain c.self.inside.others in
     let more : targets_of c.keep.new.self c.self.inside.others ≡ set.insert kept c.args.target =
     ap (λ (ps : List Plain). targets_of ps c.self.inside.others) is ∙ plain_inserted c.self.inside.plain c.self.inside.others one in
-    let behind : PassesKept buffer kept c.args.target = subst (λ (r : Reader). PassesKept r.bytes r.kept c.args.target) (sym c.self.view_is) c.requires.behind in (
+    let after : PassesKept buffer kept c.args.target = subst (λ (r : Reader). PassesKept r.bytes r.kept c.args.target) (sym c.self.view_is) c.requires.after in (
       c.self.invariant.0,
       (
         All-same (λ (p : Plain). IsKept buffer p.target p.labels.now) _ _ is (All-push (λ (p : Plain). IsKept buffer p.target p.labels.now) c.self.inside.plain one c.self.invariant.1.0 plain),
-        (c.self.invariant.1.1.0, subst (IsClosed buffer) (sym more) (closed_inserted buffer kept c.args.target c.self.invariant.1.1.1 behind)),
+        (c.self.invariant.1.1.0, subst (IsClosed buffer) (sym more) (closed_inserted buffer kept c.args.target c.self.invariant.1.1.1 after)),
       ),
     )
 
@@ -37,7 +37,7 @@ returns-then-keep-clause-ok c =
     ap reader (ap (λ (ps : List Plain). targets_of ps c.self.inside.others) is ∙ plain_inserted c.self.inside.plain c.self.inside.others one)
     ∙ ap (λ (r : Reader). record r { kept = set.insert r.kept c.args.target }) c.self.view_is
 
-pub keep_copy-requires-clause-behind : goal.keep_copy-requires-clause-behind
-keep_copy-requires-clause-behind c =
-    let kept = subst (λ (r : Reader). PassesKept r.bytes r.kept c.args.target) (sym c.self.view_is) c.requires.behind in
+pub keep_copy-requires-clause-after : goal.keep_copy-requires-clause-after
+keep_copy-requires-clause-after c =
+    let kept = subst (λ (r : Reader). PassesKept r.bytes r.kept c.args.target) (sym c.self.view_is) c.requires.after in
     subst (λ (ps : List Plain). PassesKept c.self.inside.buffer.now (targets_of ps c.self.inside.others) c.args.target) (sym (c.if-keep.ensures.full refl)) kept

@@ -31,7 +31,7 @@ returns-clause-found c =
     let first = subst (All others) (take_all c.loop-suffix.suffix-index c.self.inside.first.items (omega arith)) c.loop-suffix.invariant in
     subst (λ (ts : List Stored). MatchOption c.copied.result (All others ts) (λ (offset : ℕ). Any (λ (t : Stored). (t.labels ≡ labels_of c.args.wire.now) × (t.offset ≡ offset)) ts)) c.self.view_is
     (IsTable-finds (offset_in c.self.inside.index) c.self.inside.first.items c.self.inside.others.items c.args.wire.now c.copied.result first
-    c.self.invariant.behind c.requires.whole (c.copied.ensures ∙ c.get.ensures.value ∙ ap (offset_at c.self.inside.index) c.key_into-len.ensures.key))
+    c.self.invariant.after c.requires.whole (c.copied.ensures ∙ c.get.ensures.value ∙ ap (offset_at c.self.inside.index) c.key_into-len.ensures.key))
 
 pub returns-then-is-clause-value : goal.returns-then-is-clause-value
 returns-then-is-clause-value c =
@@ -54,5 +54,5 @@ returns-clause-value c =
     found_in-is c.args.self.now (labels_of c.args.wire.now) c.copied.result (subst (AllPairs (λ (s t : Stored). s.labels ≢ t.labels)) c.self.view_is c.self.invariant.once) (returns-clause-found c)
 
 pub returns-clause-near : goal.returns-clause-near
-returns-clause-near c = IsIndexed-near (offset_in c.self.inside.index) c.self.inside.others.items c.args.wire.now c.copied.result c.self.invariant.behind
+returns-clause-near c = IsIndexed-near (offset_in c.self.inside.index) c.self.inside.others.items c.args.wire.now c.copied.result c.self.invariant.after
     (c.copied.ensures ∙ c.get.ensures.value ∙ ap (offset_at c.self.inside.index) c.key_into-len.ensures.key)

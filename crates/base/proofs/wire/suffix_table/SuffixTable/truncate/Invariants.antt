@@ -6,7 +6,7 @@ abbrev pub invariant-loop-self : goal.invariant-loop-self
 invariant-loop-self l = record {
   table : IsIndexed (offset_in l.self-inside.index) l.self-inside.others.items;
   front : take l.count (l.self-inside.first.items ++ l.self-inside.others.items) ≡ take l.count l.fn.self;
-  behind : l.behind ≡ l.count - length l.self-inside.first.items;
+  after : l.after ≡ l.count - length l.self-inside.first.items;
 }
 
 abbrev pub decreases-loop-self : goal.decreases-loop-self

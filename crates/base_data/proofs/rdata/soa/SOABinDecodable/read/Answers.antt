@@ -1,6 +1,6 @@
 use Rattle.std.proofs.Common.{ℕ, [], ◌∷◌, ap, subst, sym}
 use Rattle.base.specs.Passing.{AddsPassed}
-use Rattle.base.specs.Reading.{behind}
+use Rattle.base.specs.Reading.{place_after}
 use Rattle.base.proofs.AddsLemmas.{adds_both, adds_still}
 use Rattle.base_data.proofs.rdata.soa.SOABinDecodable.read.Goals as goal
 
@@ -13,4 +13,4 @@ returns-clause-adds c =
     let retry = adds_still {new = c.read_u32-3.new.self} refresh c.in_ok-read_u32-3.ensures.read.1 c.in_ok-read_u32-3.ensures.kept in
     let expire = adds_still {new = c.read_u32-4.new.self} retry c.in_ok-read_u32-4.ensures.read.1 c.in_ok-read_u32-4.ensures.kept in
     let minimum = adds_still {new = c.read_u32-5.new.self} expire c.in_ok-read_u32-5.ensures.read.1 c.in_ok-read_u32-5.ensures.kept in
-    subst (λ (i : ℕ). AddsPassed (old.index ∷ i ∷ []) old c.read_u32-5.new.self) (sym (ap behind c.in_ok-read.ensures.read.0)) minimum
+    subst (λ (i : ℕ). AddsPassed (old.index ∷ i ∷ []) old c.read_u32-5.new.self) (sym (ap place_after c.in_ok-read.ensures.read.0)) minimum

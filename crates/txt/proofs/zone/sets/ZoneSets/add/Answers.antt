@@ -5,7 +5,7 @@ use Rattle.rr.specs.RecordSet.{set_of}
 use Rattle.base.specs.declared.rr_key.RrKey.{RrKey}
 use Rattle.txt.specs.ZoneSets.{AreKept, IsKept, ZoneSets, added, record_key}
 use Rattle.txt.proofs.KeptSets.{new_kept}
-use Rattle.txt.proofs.SetsInOrder.{AreInOrder, IsAbove, added_behind, added_last, changed_last, kept_before, kept_behind, kept_last, last_in_order, last_run, order_before, order_behind}
+use Rattle.txt.proofs.SetsInOrder.{AreInOrder, IsAbove, added_after, added_last, changed_last, kept_before, kept_after, kept_last, last_in_order, last_run, order_before, order_after}
 use Rattle.txt.proofs.zone.sets.ZoneSets.add.Goals as goal
 
 pub enter-requires : goal.enter-requires
@@ -42,9 +42,9 @@ invariant_of-self-in-Equal c =
     let order = subst AreInOrder whole c.self.invariant.1 in
     let kept : IsKept c.in_ok-key.key c.enter.new.set = subst (λ (k : RrKey). IsKept k c.enter.new.set) (sym c.in_ok-key.ensures.value) c.enter.ensures.kept in
     let pushed = ap (λ (zs : ZoneSets). c.self.inside.sets.entries ++ zs) (sym c.in_ok-push-in-Equal.ensures.items) in (
-      subst AreKept pushed (kept_behind c.self.inside.sets.entries c.pop.new.self.items c.in_ok-key.key c.enter.new.set
+      subst AreKept pushed (kept_after c.self.inside.sets.entries c.pop.new.self.items c.in_ok-key.key c.enter.new.set
           (kept_before c.self.inside.sets.entries c.pop.new.self.items (c.in_ok-key.key, c.in-Some.set) (subst AreKept whole c.self.invariant.0)) kept),
-      subst AreInOrder pushed (order_behind c.self.inside.sets.entries c.pop.new.self.items c.in_ok-key.key c.enter.new.set
+      subst AreInOrder pushed (order_after c.self.inside.sets.entries c.pop.new.self.items c.in_ok-key.key c.enter.new.set
           (order_before c.self.inside.sets.entries c.pop.new.self.items (c.in_ok-key.key, c.in-Some.set) order)
           (last_in_order c.self.inside.sets.entries c.pop.new.self.items c.in_ok-key.key c.in-Some.set order)),
     )
@@ -56,8 +56,8 @@ invariant_of-self-in-Greater c =
     let kept : IsKept c.in_ok-key.key c.in_ok-set_of-in-Greater.field-0 =
     subst (λ (k : RrKey). IsKept k c.in_ok-set_of-in-Greater.field-0) (sym c.in_ok-key.ensures.value) (subst (IsKept (record_key c.args.entry)) one (new_kept c.args.entry)) in
     let pushed = ap (λ (zs : ZoneSets). c.self.inside.sets.entries ++ zs) (sym c.in_ok-push-in-Greater.ensures.items) in (
-      subst AreKept pushed (kept_behind c.self.inside.sets.entries c.self.inside.run.items c.in_ok-key.key c.in_ok-set_of-in-Greater.field-0 c.self.invariant.0 kept),
-      subst AreInOrder pushed (order_behind c.self.inside.sets.entries c.self.inside.run.items c.in_ok-key.key c.in_ok-set_of-in-Greater.field-0 c.self.invariant.1 above),
+      subst AreKept pushed (kept_after c.self.inside.sets.entries c.self.inside.run.items c.in_ok-key.key c.in_ok-set_of-in-Greater.field-0 c.self.invariant.0 kept),
+      subst AreInOrder pushed (order_after c.self.inside.sets.entries c.self.inside.run.items c.in_ok-key.key c.in_ok-set_of-in-Greater.field-0 c.self.invariant.1 above),
     )
 
 pub returns-in_ok-push-in-Equal : goal.returns-in_ok-push-in-Equal
@@ -77,5 +77,5 @@ returns-in_ok-push-in-Greater c =
     let above = subst (λ (zs : ZoneSets). IsAbove c.in_ok-key.key (c.self.inside.sets.entries ++ zs)) c.deref.ensures.value (c.in-Greater.ensures.above refl) in
     let one : set_of c.args.entry ≡ c.in_ok-set_of-in-Greater.field-0 = cc (c.in_ok-set_of-in-Greater.ensures) in
     ap (λ (zs : ZoneSets). added zs c.args.entry) (sym c.self.view_is)
-    ∙ added_behind c.self.inside.sets.entries c.self.inside.run.items c.in_ok-key.key c.in_ok-set_of-in-Greater.field-0 c.args.entry c.in_ok-key.ensures.value one above
+    ∙ added_after c.self.inside.sets.entries c.self.inside.run.items c.in_ok-key.key c.in_ok-set_of-in-Greater.field-0 c.args.entry c.in_ok-key.ensures.value one above
     ∙ ap Ok (ap (λ (zs : ZoneSets). c.self.inside.sets.entries ++ zs) (sym c.in_ok-push-in-Greater.ensures.items))

@@ -1,7 +1,7 @@
 use Rattle.std.proofs.Common.{◌≡◌, ◌++◌, map, take, drop}
 use Rattle.base.specs.declared.dns_class.DNSClass.TheVariants as classes
 use Rattle.op_use.specs.UpdateMessage.{in_class}
-use Rattle.op_use.proofs.update_message.builders.in_no_class.Given as goal
+use Rattle.op_use.proofs.update_message.builders.with_class_none.Given as goal
 
 -- those so far are changed
 abbrev pub invariant-loop-record : goal.invariant-loop-record

@@ -4,7 +4,7 @@ use Rattle.base.specs.declared.dns_class.DNSClass.TheVariants as classes
 use Rattle.base_data.specs.declared.rdata.RData.{RData}
 use Rattle.rr.specs.declared.record.Record.{Record}
 use Rattle.op_use.specs.UpdateMessage.{in_class}
-use Rattle.op_use.proofs.update_message.builders.in_no_class.Goals as goal
+use Rattle.op_use.proofs.update_message.builders.with_class_none.Goals as goal
 
 pub loop-record-preserved : goal.loop-record-preserved
 loop-record-preserved c =

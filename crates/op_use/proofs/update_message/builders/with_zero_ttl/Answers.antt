@@ -3,7 +3,7 @@ use Rattle.std.proofs.lemmas.List.Edits.{map_over_more}
 use Rattle.base_data.specs.declared.rdata.RData.{RData}
 use Rattle.rr.specs.declared.record.Record.{Record}
 use Rattle.op_use.specs.UpdateMessage.{without_ttl}
-use Rattle.op_use.proofs.update_message.builders.untimed.Goals as goal
+use Rattle.op_use.proofs.update_message.builders.with_zero_ttl.Goals as goal
 
 pub loop-record-preserved : goal.loop-record-preserved
 loop-record-preserved c =
