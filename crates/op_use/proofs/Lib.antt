@@ -15,9 +15,9 @@ mod Meaning
 mod MergeSteps
 mod Origins
 mod OwnerKeys
-mod RenewSteps
 mod ServerRowsLemmas
 mod SpelledSteps
+mod TakenSets
 mod UpdateSteps
 mod WholeSteps
 mod ZoneSteps

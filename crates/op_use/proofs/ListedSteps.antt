@@ -2,48 +2,24 @@
 use Rattle.base.specs.RrKey.{key_cmp}
 use Rattle.base.specs.declared.dns_class.DNSClass.{DNSClass}
 use Rattle.base.specs.declared.rr_key.RrKey.{RrKey}
+use Rattle.base_data.specs.SameData.{same_data}
 use Rattle.base_data.specs.declared.rdata.RData.{RData}
-use Rattle.op_use.proofs.MapSteps.{taken_more}
+use Rattle.op_use.proofs.MergeSteps.{laws}
 use Rattle.op_use.proofs.ZoneSteps.{same_key}
-use Rattle.op_use.specs.Applying.{records_at}
-use Rattle.op_use.specs.MapFaults.{is_by_value, listed_under}
+use Rattle.op_use.specs.Applying.{records_at, records_in}
+use Rattle.op_use.specs.MapFaults.{asks_for, is_by_value, listed_under, there_under}
 use Rattle.op_use.specs.Server.{is_same_key, record_key}
 use Rattle.rr.specs.RecordSet.{SetValue}
 use Rattle.rr.specs.SetChanges.{has_data_of}
 use Rattle.rr.specs.declared.record.Record.{Record}
-use Rattle.std.proofs.Common.{ap, arith, inl, inr, refl, sym, ◌∙◌}
-use Rattle.std.proofs.lemmas.Bool.{and_from, and_parts, or_cases, true≢false}
-use Rattle.std.proofs.lemmas.List.Folds.{list_all-append}
+use Rattle.std.proofs.Common.{ap, arith, is_some, refl, sym, ◌∙◌}
+use Rattle.std.proofs.lemmas.Bool.{and_from}
+use Rattle.std.proofs.lemmas.List.Folds.{list_any_at}
+use Rattle.std.specs.BTreeMap as tree
 use Rattle.std.specs.BTreeMap.{BTreeMap}
-use Rattle.std.specs.List.{list_all, list_any}
+use Rattle.std.specs.List.{IsAmong, list_all, list_any}
 use Rattle.std.specs.Ordering.{eq_by_cmp}
-use Rattle.std.specs.Prelude.{Bool, List, [], drop, false, length, not, slice_index_or, suc, take, true, zero, ℕ, ◌&&◌, ◌+◌, ◌<◌, ◌||◌, ◌∷◌, ◌≡◌, ◌⊎◌}
-
--- one test of each of two things
-mixed : (z a b p q : Bool) → ((not z || (a && b)) && (p && q)) ≡ (((not z || a) && p) && ((not z || b) && q))
-mixed false a b p q = refl
-mixed true false b p q = refl
-mixed true true true p q = refl
-mixed true true false true q = refl
-mixed true true false false q = refl
-
-both_all : (z a b : Record RData → Bool) (rs : List (Record RData)) → list_all (λ r. not (z r) || (a r && b r)) rs ≡ (list_all (λ r. not (z r) || a r) rs && list_all (λ r. not (z r) || b r) rs)
-both_all z a b [] = refl
-both_all z a b (r ∷ rs) = ap (λ c. (not (z r) || (a r && b r)) && c) (both_all z a b rs) ∙ mixed (z r) (a r) (b r) (list_all (λ r. not (z r) || a r) rs) (list_all (λ r. not (z r) || b r) rs)
-
--- the two tests one after the other
-pub first_fails : (z a b : Record RData → Bool) (rs : List (Record RData)) → list_all (λ r. not (z r) || a r) rs ≡ false → false ≡ list_all (λ r. not (z r) || (a r && b r)) rs
-first_fails z a b rs h = sym (both_all z a b rs ∙ ap (λ c. c && list_all (λ r. not (z r) || b r) rs) h)
-
-pub second_decides : (z a b : Record RData → Bool) (rs : List (Record RData)) (c : Bool) → list_all (λ r. not (z r) || a r) rs ≡ true → c ≡ list_all (λ r. not (z r) || b r) rs
-    → c ≡ list_all (λ r. not (z r) || (a r && b r)) rs
-second_decides z a b rs c h d = d ∙ sym (both_all z a b rs ∙ ap (λ e. e && list_all (λ r. not (z r) || b r) rs) h)
-
--- one more record passes
-pub passed_more : (p : Record RData → Bool) (xs : List (Record RData)) (i : ℕ) (x : Record RData) → i < length xs → x ≡ slice_index_or xs i x → p x ≡ true → list_all p (take i xs) ≡ true
-    → list_all p (take (i + 1) xs) ≡ true
-passed_more p xs i x h e good all = ap (list_all p) (sym (taken_more xs i x h e)) ∙ list_all-append p (take i xs) (x ∷ [])
-    ∙ and_from (list_all p (take i xs)) (p x && true) all (and_from (p x) true good refl)
+use Rattle.std.specs.Prelude.{Bool, List, Some, [], cond, drop, false, length, not, slice_index_or, suc, true, zero, ℕ, ◌&&◌, ◌+◌, ◌<◌, ◌≤◌, ◌||◌, ◌∷◌, ◌≡◌}
 
 -- a record that fails a test is passed over
 after_one : (i : ℕ) → suc (i + 1) ≡ suc i + 1
@@ -59,6 +35,30 @@ pub passed_by : (p : Record RData → Bool) (xs : List (Record RData)) (i : ℕ)
     → list_any p (drop i xs) ≡ b → list_any p (drop (i + 1) xs) ≡ b
 passed_by p xs i x b h e fails left = sym (left_over p xs i x h e ∙ ap (λ c. c || list_any p (drop (i + 1) xs)) fails) ∙ left
 
+-- what is left of a test of all
+left_all : (p : Record RData → Bool) (xs : List (Record RData)) (i : ℕ) (x : Record RData) → i < length xs → x ≡ slice_index_or xs i x
+    → list_all p (drop i xs) ≡ (p x && list_all p (drop (i + 1) xs))
+left_all p [] i x h e = absurd (omega arith)
+left_all p (y ∷ ys) zero x h e = ap (λ z. p z && list_all p ys) (sym e)
+left_all p (y ∷ ys) (suc i) x h e = left_all p ys i x (omega arith) e ∙ ap (λ n. p x && list_all p (drop n (y ∷ ys))) (after_one i)
+
+pub all_next : (p : Record RData → Bool) (xs : List (Record RData)) (i : ℕ) (x : Record RData) (b : Bool) → i < length xs → x ≡ slice_index_or xs i x → p x ≡ true
+    → list_all p (drop i xs) ≡ b → list_all p (drop (i + 1) xs) ≡ b
+all_next p xs i x b h e good left = sym (left_all p xs i x h e ∙ ap (λ c. c && list_all p (drop (i + 1) xs)) good) ∙ left
+
+pub one_fails : (p : Record RData → Bool) (xs : List (Record RData)) (i : ℕ) (x : Record RData) (b : Bool) → i < length xs → x ≡ slice_index_or xs i x → p x ≡ false
+    → list_all p (drop i xs) ≡ b → false ≡ b
+one_fails p xs i x b h e bad left = sym (left_all p xs i x h e ∙ ap (λ c. c && list_all p (drop (i + 1) xs)) bad) ∙ left
+
+pub all_done : (p : Record RData → Bool) (xs : List (Record RData)) (i : ℕ) (b : Bool) → length xs ≤ i → list_all p (drop i xs) ≡ b → true ≡ b
+all_done p [] zero b h left = left
+all_done p [] (suc i) b h left = left
+all_done p (y ∷ ys) zero b h left = absurd (omega arith)
+all_done p (y ∷ ys) (suc i) b h left = all_done p ys i b (omega arith) left
+
+pub among_any : (p : Record RData → Bool) (xs : List (Record RData)) (x : Record RData) → IsAmong xs x → p x ≡ true → list_any p xs ≡ true
+among_any p xs x h good = list_any_at p xs h.0 x h.1.0 (ap p (sym h.1.1) ∙ good)
+
 and_false : (a : Bool) → (a && false) ≡ false
 and_false true = refl
 and_false false = refl
@@ -69,35 +69,58 @@ second_false a b c e = ap (λ x. a && (x && c)) e ∙ and_false a
 pub third_false : (a b c : Bool) → c ≡ false → (a && (b && c)) ≡ false
 third_false a b c e = ap (λ x. a && (b && x)) e ∙ ap (λ x. a && x) (and_false b) ∙ and_false a
 
-module _ (m : BTreeMap RrKey SetValue) (class : DNSClass) (all : List (Record RData)) where
-  abbrev pub is_complete : Record RData → Bool
-  is_complete r = not (is_by_value class r) || listed_under m class all r (record_key r)
+-- a record by value that lists the data of x for the set of r
+pub asked_by : (class : DNSClass) (r x q : Record RData) (rs : List (Record RData)) → IsAmong rs q → same_data q.rdata x.rdata ≡ true → is_by_value class q ≡ true → is_same_key r q ≡ true
+    → list_any (asks_for class r x) rs ≡ true
+asked_by class r x q rs among same own named =
+    among_any (asks_for class r x) rs q among
+    (and_from (is_by_value class q) (is_same_key r q && has_data_of q x) own (and_from (is_same_key r q) (has_data_of q x) named (laws.symm x.rdata q.rdata ∙ same)))
 
-  -- the same of a key
-  abbrev complete_at : RrKey → Bool
+module _ (m : BTreeMap RrKey SetValue) (class : DNSClass) (all : List (Record RData)) where
+  -- whether the set under a key has only data that the records list
+  abbrev pub complete_at : RrKey → Bool
   complete_at k = list_all (λ x. list_any (λ q. is_by_value class q && (eq_by_cmp key_cmp k (record_key q) && has_data_of q x)) all) (records_at m k)
 
-  by_key : (r q : Record RData) → is_same_key r q ≡ true → is_by_value class q ≡ true → is_complete q ≡ true → listed_under m class all r (record_key r) ≡ true
-  by_key r q same own good = ap complete_at (same_key (record_key r) (record_key q) same) ∙ sym (ap (λ b. not b || complete_at (record_key q)) own) ∙ good
+  -- whether a prerequisite passes, if it is by value
+  abbrev pub passes : Record RData → Bool
+  passes r = not (is_by_value class r) || (there_under m r (record_key r) && listed_under m class all r (record_key r))
 
-  -- a set that was looked at for an earlier record is complete for each that names it
-  pub looked_at : (r : Record RData) (rs : List (Record RData)) → list_any (λ q. is_by_value class q && is_same_key r q) rs ≡ true → list_all is_complete rs ≡ true
-      → listed_under m class all r (record_key r) ≡ true
-  looked_at r [] h good = absurd (true≢false (sym h))
-  looked_at r (q ∷ qs) h good = here (or_cases (is_by_value class q && is_same_key r q) (list_any (λ p. is_by_value class p && is_same_key r p) qs) h) (λ a. looked_at r qs a parts.1) where
-    parts : (is_complete q ≡ true) × (list_all is_complete qs ≡ true)
-    parts = and_parts (is_complete q) (list_all is_complete qs) good
+  -- the keys of which the sets have been looked at: these have only data that is listed
+  abbrev pub AreComplete : {V : Type 0} → BTreeMap RrKey V → Type 0
+  AreComplete {V} held = (q : RrKey) → is_some (tree.get key_cmp held q) ≡ true → complete_at q ≡ true
 
-    here : ((is_by_value class q && is_same_key r q) ≡ true) ⊎ (list_any (λ p. is_by_value class p && is_same_key r p) qs ≡ true)
-        → (list_any (λ p. is_by_value class p && is_same_key r p) qs ≡ true → listed_under m class all r (record_key r) ≡ true) → listed_under m class all r (record_key r) ≡ true
-    here (inl a) later = let both = and_parts (is_by_value class q) (is_same_key r q) a in by_key r q both.1 both.0 parts.0
-    here (inr a) later = later a
+  pub passed_other : (r : Record RData) → is_by_value class r ≡ false → passes r ≡ true
+  passed_other r other = ap (λ b. not b || (there_under m r (record_key r) && listed_under m class all r (record_key r))) other
 
-  -- an entry that isn't looked at is no other's first: it isn't by value, or an earlier one was looked at
-  pub passed_over : (r : Record RData) (rs : List (Record RData)) → (is_by_value class r && not (list_any (λ q. is_by_value class q && is_same_key r q) rs)) ≡ false → list_all is_complete rs ≡ true
-      → is_complete r ≡ true
-  passed_over r rs h good = by_cases (is_by_value class r) (list_any (λ q. is_by_value class q && is_same_key r q) rs) refl refl h where
-    by_cases : (z n : Bool) → is_by_value class r ≡ z → list_any (λ q. is_by_value class q && is_same_key r q) rs ≡ n → (z && not n) ≡ false → is_complete r ≡ true
-    by_cases false n own named e = ap (λ b. not b || listed_under m class all r (record_key r)) own
-    by_cases true true own named e = ap (λ b. not b || listed_under m class all r (record_key r)) own ∙ looked_at r rs named good
-    by_cases true false own named e = absurd (true≢false e)
+  by_parts : (r : Record RData) (k : RrKey) (there listed : Bool) → is_by_value class r ≡ true → k ≡ record_key r → list_any (has_data_of r) (records_at m k) ≡ there → complete_at k ≡ listed
+      → passes r ≡ (there && listed)
+  by_parts r k there listed own same e f = ap (λ b. not b || (there_under m r (record_key r) && listed_under m class all r (record_key r))) own
+      ∙ (λ i. (ap (λ q. list_any (has_data_of r) (records_at m q)) (sym same) ∙ e) i && (ap complete_at (sym same) ∙ f) i)
+
+  pub passed : (r : Record RData) (k : RrKey) → is_by_value class r ≡ true → k ≡ record_key r → list_any (has_data_of r) (records_at m k) ≡ true → complete_at k ≡ true → passes r ≡ true
+  passed r k own same e f = by_parts r k true true own same e f
+
+  pub not_there : (r : Record RData) (k : RrKey) → is_by_value class r ≡ true → k ≡ record_key r → list_any (has_data_of r) (records_at m k) ≡ false → passes r ≡ false
+  not_there r k own same e = by_parts r k false _ own same e refl
+
+  pub not_listed : (r : Record RData) (k : RrKey) → is_by_value class r ≡ true → k ≡ record_key r → complete_at k ≡ false → passes r ≡ false
+  not_listed r k own same f = by_parts r k _ false own same refl f ∙ and_false (list_any (has_data_of r) (records_at m k))
+
+  known_at : {V : Type 0} (held : BTreeMap RrKey V) (k q : RrKey) (v : V) (b : Bool) → eq_by_cmp key_cmp k q ≡ b → complete_at k ≡ true → AreComplete held
+      → is_some (cond b (Some v) (tree.get key_cmp held q)) ≡ true → complete_at q ≡ true
+  known_at held k q v true t good h e = ap complete_at (sym (same_key k q t)) ∙ good
+  known_at held k q v false t good h e = h q e
+
+  -- one more
+  pub known_more : {V : Type 0} (held after : BTreeMap RrKey V) (k : RrKey) (v : V) → complete_at k ≡ true → AreComplete held → tree.Updates key_cmp held after k (Some v) → AreComplete after
+  known_more held after k v good h puts = λ q e. known_at held k q v (eq_by_cmp key_cmp k q) refl good h (ap is_some (sym (puts.0 q)) ∙ e)
+
+  -- what was found of the set under a key
+  pub complete_is : (r : Record RData) (k : RrKey) (s : SetValue) (xs : List (Record RData)) (b : Bool) → k ≡ record_key r → tree.get key_cmp m k ≡ Some s → xs ≡ s.records
+      → b ≡ list_all (λ x. list_any (asks_for class r x) all) xs → complete_at k ≡ b
+  complete_is r k s xs b same e is found =
+      (λ i. list_all (λ x. list_any (λ q. is_by_value class q && (eq_by_cmp key_cmp (same i) (record_key q) && has_data_of q x)) all) ((ap records_in e ∙ sym is) i)) ∙ sym found
+
+  pub there_is : (r : Record RData) (k : RrKey) (s : SetValue) (xs : List (Record RData)) (b : Bool) → tree.get key_cmp m k ≡ Some s → xs ≡ s.records → b ≡ list_any (has_data_of r) xs
+      → list_any (has_data_of r) (records_at m k) ≡ b
+  there_is r k s xs b e is found = ap (list_any (has_data_of r)) (ap records_in e ∙ sym is) ∙ sym found

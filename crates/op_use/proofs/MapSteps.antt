@@ -115,7 +115,7 @@ more_after origin class rs r m n p first next = record {
 }
 
 -- the steps of a change of one set
-injected : (s p : SetValue) → Some s ≡ Some p → s ≡ p
+pub injected : (s p : SetValue) → Some s ≡ Some p → s ≡ p
 injected s p e = ap (λ o. unwrap_or o s) e
 
 last_filled : (xs : List (Record RData)) (r : Record RData) → slice_get xs (length xs - 1) ≡ Some r → xs ≢ []

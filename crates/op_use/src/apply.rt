@@ -12,7 +12,6 @@ pub mod laws;
 mod owners;
 mod prerequisites;
 mod prescan;
-mod records;
 mod supported;
 mod types;
 mod updates;

@@ -10,3 +10,4 @@ pub mod SerialOrder
 pub mod SetChanges
 pub mod SetLaws
 pub mod SetParts
+pub mod SetUpdates

@@ -16,6 +16,7 @@ mod records;
 mod removing;
 mod serial;
 mod setting;
+mod updating;
 
 use crate::record::Record;
 use crate::rr_set::indexed_records::IndexedRecords;

@@ -83,7 +83,7 @@ fn answers(set: &mut RecordSet, entry: Record, serial: u32, wanted: bool) -> Res
 }
 
 /// Whether a record is that of the row.
-fn is_row(entry: &Record, row: &Row) -> bool {
+pub(super) fn is_row(entry: &Record, row: &Row) -> bool {
     let rdata = address(row.0);
     let same = entry.rdata == rdata;
     drop(rdata);

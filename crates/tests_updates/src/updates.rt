@@ -2,6 +2,7 @@
 
 mod applied;
 pub(super) mod builders;
+mod by_value;
 mod sections;
 mod transfers;
 

@@ -1,110 +1,78 @@
 //! Prerequisites by value: sets that are to have the data that prerequisites of the zone's class list, and no other
 //! (RFC 2136, 3.2.3).
 
-ghost use Rattle.std.specs.List.{list_all, list_any};
-ghost use Rattle.std.specs.Prelude.{◌≡◌, ◌&&◌, ◌||◌, IfOk, not};
+ghost use Rattle.std.specs.List.{IsAmong, list_all, list_any};
+ghost use Rattle.std.specs.Prelude.{◌≡◌, IfOk, IfSome, true};
+ghost use Rattle.base_data.specs.SameData.{same_data};
 ghost use Rattle.base_data.specs.declared.rdata.RData.{RData};
-ghost use Rattle.op_use.specs.MapFaults.{asks_for, is_by_value, listed_under, there_under};
+ghost use Rattle.op_use.specs.MapFaults.{asks_for, is_by_value};
 ghost use Rattle.op_use.specs.HeldZone.{HeldZone, zone_of};
-ghost use Rattle.op_use.specs.Server.{collected, is_met, is_same_key, record_key};
+ghost use Rattle.op_use.specs.Server.{collected, is_met, is_same_key};
 ghost use Rattle.rr.specs.SetChanges.{has_data_of};
 ghost use Rattle.rr.specs.declared.record.Record.{Record as Entry};
 
 use crate::apply::class_use::{Use, use_of};
 use crate::apply::zone::{Zone, key_of};
-use base::DNSClass;
-use rr::{Record, RecordSet};
-use std::alloc::AllocError;
+use base::{DNSClass, RrKey};
+use rr::Record;
+use std::alloc::{AllocError, Global};
+use std::collections::BTreeMap;
+
+// Where data stands among records, by its canonical form. It only says where to look first, so nothing is promised of
+// it: the record there is compared, and where it has other data, all records are, which ends the test.
+pub(crate) type Places = BTreeMap<Vec<u8>, usize>;
 
 impl<'a> Zone<'a> {
-    // Whether the sets that prerequisites of the zone's class name are those that they list (RFC 2136, 3.2.3).
+    // Whether the sets that prerequisites of the zone's class name are those that they list (RFC 2136, 3.2.3). A set is
+    // looked at for the first of them that names it alone.
     pub(crate) fn are_met(&self, entries: &[Record]) -> Result<bool, AllocError>
         ensures { IfOk result (λ b. b
             ≡ list_all (is_met (zone_of self.now) (collected (zone_of self.now) entries.now)) (collected (zone_of self.now) entries.now)) }
     {
-        if !self.are_there(entries)? {
-            return Ok(false);
-        }
-        let listed = self.are_sets_listed(entries)?;
-        Ok(listed)
-    }
-
-    // Whether each listed record is there.
-    fn are_there(&self, entries: &[Record]) -> Result<bool, AllocError>
-        ensures { IfOk result (λ b. b
-            ≡ list_all (λ (r : Entry RData). not (is_by_value self.now.class r)
-            || there_under self.now.sets r (record_key r)) entries.now) }
-    {
+        let asked = self.places_asked(entries)?;
+        let mut held = BTreeMap::new(self.alloc);
         for entry in entries {
-            if is_by_value(self.class, entry) && !self.has_record(entry)? {
-                return Ok(false);
-            }
-        }
-        Ok(true)
-    }
-
-    // Whether each set of which data is listed has no other. A set is looked at for the first record that names it alone.
-    fn are_sets_listed(&self, entries: &[Record]) -> Result<bool, AllocError>
-        ensures { IfOk result (λ b. b
-            ≡ list_all (λ (r : Entry RData). not (is_by_value self.now.class r)
-            || listed_under self.now.sets self.now.class entries.now r (record_key r)) entries.now) }
-    {
-        for i in 0..entries.len() {
-            let entry = &entries[i];
-            if !is_first(self.class, &entries[..i], entry) {
+            if !is_by_value(self.class, entry) {
                 continue;
             }
-            if !self.is_set_listed(entries, entry)? {
+            let key = key_of(&entry.name, entry.record_type())?;
+            let Some(set) = self.sets.get(&key) else {
+                return Ok(false);
+            };
+            if !held.contains_key(&key) {
+                if !are_listed(set.as_slice(), asked.get(&key), self.class, entries, entry)? {
+                    return Ok(false);
+                }
+                let places = places_of(set.as_slice(), self.alloc)?;
+                held.insert(key.clone()?, places)?;
+            }
+            if !has_data(set.as_slice(), held.get(&key), entry)? {
                 return Ok(false);
             }
         }
         Ok(true)
     }
 
-    // Whether the set of a record has its data.
-    pub(crate) fn has_record(&self, entry: &Record) -> Result<bool, AllocError>
-        ensures { IfOk result (λ b. b
-            ≡ there_under self.now.sets entry.now (record_key entry.now)) }
-    {
-        let key = key_of(&entry.name, entry.record_type())?;
-        match self.sets.get(&key) {
-            Some(set) => Ok(has_data(set, entry)),
-            None => Ok(false),
+    // Where the data of the prerequisites of the zone's class stands among them, under the key of each set.
+    fn places_asked(&self, entries: &[Record]) -> Result<BTreeMap<RrKey, Places>, AllocError> {
+        let mut asked: BTreeMap<RrKey, Places> = BTreeMap::new(self.alloc);
+        for place in 0..entries.len() {
+            let entry = &entries[place];
+            if !is_by_value(self.class, entry) {
+                continue;
+            }
+            let key = key_of(&entry.name, entry.record_type())?;
+            let data = canonical(entry)?;
+            if let Some(places) = asked.get_mut(&key) {
+                places.insert(data, place)?;
+                continue;
+            }
+            let mut places = BTreeMap::new(self.alloc);
+            places.insert(data, place)?;
+            asked.insert(key, places)?;
         }
+        Ok(asked)
     }
-
-    // Whether the set of a record has only data that the entries list.
-    fn is_set_listed(&self, entries: &[Record], entry: &Record) -> Result<bool, AllocError>
-        ensures { IfOk result (λ b. b
-            ≡ listed_under self.now.sets self.now.class entries.now entry.now (record_key entry.now)) }
-    {
-        let key = key_of(&entry.name, entry.record_type())?;
-        match self.sets.get(&key) {
-            Some(set) => Ok(are_listed(set, self.class, entries, entry)),
-            None => Ok(true),
-        }
-    }
-}
-
-// Whether an entry is by value, and none of those before it names its set.
-fn is_first(class: DNSClass, before: &[Record], entry: &Record) -> bool
-    ensures { result ≡ (is_by_value class entry.now
-        && not (list_any (λ (q : Entry RData). is_by_value class q
-        && is_same_key entry.now q) before.now)) }
-{
-    is_by_value(class, entry) && !is_named(class, before, entry)
-}
-
-fn is_named(class: DNSClass, before: &[Record], entry: &Record) -> bool
-    ensures { result ≡ list_any (λ (q : Entry RData). is_by_value class q
-        && is_same_key entry.now q) before.now }
-{
-    for known in before {
-        if is_by_value(class, known) && is_same_set(entry, known) {
-            return true;
-        }
-    }
-    false
 }
 
 fn is_by_value(class: DNSClass, entry: &Record) -> bool
@@ -113,39 +81,45 @@ fn is_by_value(class: DNSClass, entry: &Record) -> bool
     matches!(use_of(class, entry.dns_class), Use::OfZone)
 }
 
-// Whether a record of the set has the data of this one.
-fn has_data(set: &RecordSet, entry: &Record) -> bool
-    ensures { result ≡ list_any (has_data_of entry.now) set.now.records }
+// Whether each record of a set is among those that the prerequisites list for the set of this entry.
+fn are_listed(
+    records: &[Record],
+    asked: Option<&Places>,
+    class: DNSClass,
+    entries: &[Record],
+    entry: &Record,
+) -> Result<bool, AllocError>
+    ensures { IfOk result (λ b. b
+        ≡ list_all (λ (x : Entry RData). list_any (asks_for class entry.now x) entries.now) records.now) }
 {
-    for known in set.records_without_rrsigs() {
-        if known.rdata == entry.rdata {
-            return true;
+    for known in records {
+        if !is_listed(known, asked, class, entries, entry)? {
+            return Ok(false);
         }
     }
-    false
+    Ok(true)
 }
 
-// Whether each record of the set is among those that the prerequisites list for the set of this entry.
-fn are_listed(set: &RecordSet, class: DNSClass, entries: &[Record], entry: &Record) -> bool
-    ensures { result ≡ list_all (λ (x : Entry RData). list_any (asks_for class entry.now x) entries.now) set.now.records }
+fn is_listed(
+    known: &Record,
+    asked: Option<&Places>,
+    class: DNSClass,
+    entries: &[Record],
+    entry: &Record,
+) -> Result<bool, AllocError>
+    ensures { IfOk result (λ b. b ≡ list_any (asks_for class entry.now known.now) entries.now) }
 {
-    for known in set.records_without_rrsigs() {
-        if !is_listed(known, class, entries, entry) {
-            return false;
+    if let Some(listed) = look_up(entries, asked, known)? {
+        if is_by_value(class, listed) && is_same_set(entry, listed) {
+            return Ok(true);
         }
     }
-    true
-}
-
-fn is_listed(known: &Record, class: DNSClass, entries: &[Record], entry: &Record) -> bool
-    ensures { result ≡ list_any (asks_for class entry.now known.now) entries.now }
-{
-    for asked in entries {
-        if known.rdata == asked.rdata && is_by_value(class, asked) && is_same_set(entry, asked) {
-            return true;
+    for listed in entries {
+        if known.rdata == listed.rdata && is_by_value(class, listed) && is_same_set(entry, listed) {
+            return Ok(true);
         }
     }
-    false
+    Ok(false)
 }
 
 // Whether two records are of one set: of one type, and of one owner, which takes longest to tell.
@@ -153,4 +127,64 @@ fn is_same_set(a: &Record, b: &Record) -> bool
     ensures { result ≡ is_same_key a.now b.now }
 {
     a.record_type() == b.record_type() && a.name == b.name
+}
+
+// Whether one of these records has the data of this one.
+pub(crate) fn has_data(
+    records: &[Record],
+    held: Option<&Places>,
+    entry: &Record,
+) -> Result<bool, AllocError>
+    ensures { IfOk result (λ b. b ≡ list_any (has_data_of entry.now) records.now) }
+{
+    if look_up(records, held, entry)?.is_some() {
+        return Ok(true);
+    }
+    for known in records {
+        if known.rdata == entry.rdata {
+            return Ok(true);
+        }
+    }
+    Ok(false)
+}
+
+fn places_of(records: &[Record], alloc: Global) -> Result<Places, AllocError> {
+    let mut places = BTreeMap::new(alloc);
+    for place in 0..records.len() {
+        let data = canonical(&records[place])?;
+        places.insert(data, place)?;
+    }
+    Ok(places)
+}
+
+// The record of this data, if the places know it.
+fn look_up<'r>(
+    records: &'r [Record],
+    places: Option<&Places>,
+    entry: &Record,
+) -> Result<Option<&'r Record>, AllocError>
+    ensures { IfOk result (λ found. IfSome found (λ x. IsAmong records.now x.now
+        × (same_data x.now.rdata entry.now.rdata ≡ true))) }
+{
+    let Some(places) = places else {
+        return Ok(None);
+    };
+    let data = canonical(entry)?;
+    let Some(place) = places.get(&data) else {
+        return Ok(None);
+    };
+    let Some(known) = records.get(*place) else {
+        return Ok(None);
+    };
+    if known.rdata == entry.rdata {
+        return Ok(Some(known));
+    }
+    Ok(None)
+}
+
+fn canonical(entry: &Record) -> Result<Vec<u8>, AllocError> {
+    entry
+        .rdata
+        .to_canonical(entry.name.allocator())
+        .map_err(|_| AllocError)
 }

@@ -1,20 +1,16 @@
 //! The record sets of a zone, each under its key.
 
-ghost use Rattle.std.specs.List.{IsDistinct};
-ghost use Rattle.std.specs.Ordering.{on};
 ghost use Rattle.std.specs.Prelude.{◌≡◌, ◌∷◌, [], IfOk, OnOk, length};
 ghost use Rattle.base.specs.RrKey.{key_of as the_key};
-ghost use Rattle.base_data.specs.SameData.{same_data};
-ghost use Rattle.base_data.specs.declared.rdata.RData.{RData};
 ghost use Rattle.op_use.specs.AppliedRecords.{parted};
-ghost use Rattle.op_use.specs.Applying.{IsZoneMap, records_at};
+ghost use Rattle.op_use.specs.Applying.{IsZoneMap, last_ttl, records_at};
 ghost use Rattle.op_use.specs.HeldZone.{HeldZone};
-ghost use Rattle.op_use.specs.MapUpdates.{Holds, Lacks};
-ghost use Rattle.op_use.specs.Server.{record_key};
+ghost use Rattle.op_use.specs.MapFaults.{there_under};
+ghost use Rattle.op_use.specs.MapUpdates.{Holds, IsTakenSet, Lacks};
+ghost use Rattle.op_use.specs.Server.{record_key, type_of_record};
 ghost use Rattle.rr.specs.SetChanges.{joined};
-ghost use Rattle.rr.specs.declared.record.Record.{Record as Entry};
 
-use crate::apply::records::{join, part};
+use crate::apply::by_value::has_data;
 use base::{DNSClass, LowerName, Name, RecordType, RrKey};
 use rr::{Record, RecordSet};
 use std::alloc::{AllocError, Global};
@@ -24,7 +20,7 @@ use std::marker::Model;
 // The record sets of a zone. Where a growth is refused, a set that was taken out may be lost.
 #[derive(Drop)]
 pub(crate) struct Zone<'a> {
-    alloc: Global,
+    pub(super) alloc: Global,
     pub(super) origin: &'a Name,
     pub(super) class: DNSClass,
     pub(super) sets: BTreeMap<RrKey, RecordSet>,
@@ -77,14 +73,27 @@ impl<'a> Zone<'a> {
         }
     }
 
-    // Adds a record to its set, or makes a set of it.
+    // Whether the set of a record has its data.
+    pub(crate) fn has_record(&self, entry: &Record) -> Result<bool, AllocError>
+        ensures { IfOk result (λ b. b
+            ≡ there_under self.now.sets entry.now (record_key entry.now)) }
+    {
+        let key = key_of(&entry.name, entry.record_type())?;
+        match self.sets.get(&key) {
+            Some(set) => has_data(set.as_slice(), None, entry),
+            None => Ok(false),
+        }
+    }
+
+    // Adds a record to its set: in the place of equal data, or else last.
     pub(crate) fn add_record(&mut self, entry: &Record) -> Result<(), AllocError>
         ensures { OnOk result (Holds (record_key entry.now) (joined entry.now (records_at self.old.sets (record_key entry.now))) self.old self.new) }
     {
         let key = key_of(&entry.name, entry.record_type())?;
-        let mut records = self.take_records(&key);
-        join(&mut records, entry)?;
-        self.put_records(key, entry, records)?;
+        let copy = entry.clone()?;
+        let mut set = self.take_or_new(&key, entry)?;
+        set.renew(copy)?;
+        self.put_set(key, set)?;
         Ok(())
     }
 
@@ -93,10 +102,10 @@ impl<'a> Zone<'a> {
         ensures { OnOk result (Holds (record_key entry.now) (entry.now ∷ []) self.old self.new) }
     {
         let key = key_of(&entry.name, entry.record_type())?;
-        let mut records = Vec::new(self.alloc);
         let copy = entry.clone()?;
-        records.push(copy)?;
-        self.put_records(key, entry, records)?;
+        let mut set = self.empty_set(entry)?;
+        set.renew(copy)?;
+        self.put_set(key, set)?;
         Ok(())
     }
 
@@ -105,9 +114,9 @@ impl<'a> Zone<'a> {
         ensures { OnOk result (Holds (record_key entry.now) (parted entry.now (records_at self.old.sets (record_key entry.now))) self.old self.new) }
     {
         let key = key_of(&entry.name, entry.record_type())?;
-        let mut records = self.take_records(&key);
-        part(&mut records, entry);
-        self.put_records(key, entry, records)?;
+        let mut set = self.take_or_new(&key, entry)?;
+        set.part(entry);
+        self.put_set(key, set)?;
         Ok(())
     }
 
@@ -118,36 +127,43 @@ impl<'a> Zone<'a> {
         self.sets.remove(key);
     }
 
-    // Takes a set out; the answer is its records, none where there is no set.
-    fn take_records(&mut self, key: &RrKey) -> Vec<Record>
-        ensures records { result.items ≡ records_at self.old.sets key.now }
-        ensures distinct { IsDistinct (on (λ (r : Entry RData). r.rdata) same_data) (records_at self.old.sets key.now) }
-        ensures left { Lacks key.now self.old self.new }
+    // Takes a set out to be changed; the answer is one without records where there is none.
+    fn take_or_new(&mut self, key: &RrKey, entry: &Record) -> Result<RecordSet, AllocError>
+        requires { key.now ≡ record_key entry.now }
+        ensures set { IfOk result (λ set. IsTakenSet self.old.class key.now (records_at self.old.sets key.now) set) }
+        ensures left { OnOk result (Lacks key.now self.old self.new) }
     {
         match self.sets.remove(key) {
-            Some(set) => set.into_parts().records,
-            None => Vec::new(self.alloc),
+            Some(set) => Ok(set),
+            None => {
+                let set = self.empty_set(entry)?;
+                Ok(set)
+            }
         }
     }
 
-    // Puts a set of these records under the key of an entry, or nothing where there are none. An entry that deletes has
-    // the TTL 0, so a set's is that of its records (RFC 2181, 5.2).
-    fn put_records(
-        &mut self,
-        key: RrKey,
-        entry: &Record,
-        records: Vec<Record>,
-    ) -> Result<(), AllocError>
-        requires own_key { key ≡ record_key entry.now }
-        requires distinct { IsDistinct (on (λ (r : Entry RData). r.rdata) same_data) records.items }
-        ensures { OnOk result (Holds key records.items self.old self.new) }
+    // A set for a record.
+    fn empty_set(&self, entry: &Record) -> Result<RecordSet, AllocError>
+        ensures { IfOk result (λ set. set
+            ≡ record { name = entry.now.name; record_type = type_of_record entry.now; dns_class = self.now.class; ttl = 0; records = []; serial = 0 }) }
     {
-        let Some(last) = records.last() else {
+        let name = entry.name.clone()?;
+        let mut set = RecordSet::new(self.alloc, name, entry.record_type(), 0);
+        set.set_dns_class(self.class);
+        Ok(set)
+    }
+
+    // Puts a set under its key, or nothing where it has no records. An entry that deletes has the TTL 0, so a set's is
+    // that of its records (RFC 2181, 5.2).
+    fn put_set(&mut self, key: RrKey, set: RecordSet) -> Result<(), AllocError>
+        requires own { IsTakenSet self.old.class key set.records set }
+        requires ttl { set.ttl ≡ last_ttl set.records }
+        ensures { OnOk result (Holds key set.records self.old self.new) }
+    {
+        if set.is_empty() {
             self.sets.remove(&key);
             return Ok(());
-        };
-        let ttl = last.ttl;
-        let set = set_of(&entry.name, entry.record_type(), self.class, ttl, records)?;
+        }
         self.sets.insert(key, set)?;
         Ok(())
     }
@@ -159,20 +175,4 @@ pub(crate) fn key_of(owner: &Name, record_type: RecordType) -> Result<RrKey, All
 {
     let owner = LowerName::new(owner.allocator(), owner).map_err(|_| AllocError)?;
     Ok(RrKey::new(owner, record_type))
-}
-
-fn set_of(
-    owner: &Name,
-    record_type: RecordType,
-    class: DNSClass,
-    ttl: u32,
-    records: Vec<Record>,
-) -> Result<RecordSet, AllocError>
-    ensures { IfOk result (λ s. s
-        ≡ record { name = owner.now; record_type = record_type; dns_class = class; ttl = ttl; records = records.items; serial = 0 }) }
-{
-    let mut set = RecordSet::with_ttl(owner.allocator(), owner.clone()?, record_type, ttl);
-    set.set_dns_class(class);
-    set.set_records(records);
-    Ok(set)
 }

@@ -1,10 +1,10 @@
 //! An index of the data of records.
 
-ghost use Rattle.std.specs.Prelude.{◌≡◌, false, IfOk, IfSome, MatchOption, OnErr};
+ghost use Rattle.std.specs.Prelude.{◌≡◌, false, IfOk, IfSome, MatchOption, OnErr, OnOk};
 ghost use Rattle.std.specs.List.{list_any};
 ghost use Rattle.base_data.specs.Kinds.{canonical_data};
 ghost use Rattle.rr.specs.DataIndex.{IsFirstAt, IsIndexOf, IsOnlyAt, place_at};
-ghost use Rattle.rr.specs.SetChanges.{entered, has_data_of};
+ghost use Rattle.rr.specs.SetChanges.{entered, has_data_of, joined};
 
 use crate::record::Record;
 use crate::rr_set::entries::is_entry;
@@ -98,6 +98,50 @@ pub(super) fn enter_by_index(
             index: Some(places),
         });
     }
+    push_by_index(records, places, key, entry)
+}
+
+/// Puts a record in the place of the one of equal data among others whose index this is, or after them where there is
+/// none.
+pub(super) fn join_by_index(
+    records: &mut Vec<Record>,
+    places: Box<DataIndex>,
+    entry: Record,
+) -> Result<Entered, AllocError>
+    requires { IsIndexOf (place_at places.value) records.old.items }
+    ensures ok { OnOk result (records.new.items ≡ joined entry records.old.items) }
+    ensures index { IfOk result (λ done. IfSome done.index (λ after. IsIndexOf (place_at after.value) records.new.items)) }
+    ensures err { OnErr result (records.new.items ≡ records.old.items) }
+{
+    let key = key_of(&entry.rdata, *records.allocator())?;
+    if let Some(place) = place_of(&places, records, &key, &entry) {
+        set_at(records, place, entry);
+        return Ok(Entered {
+            is_new: true,
+            place,
+            index: Some(places),
+        });
+    }
+    push_by_index(records, places, key, entry)
+}
+
+/// Puts a record after others whose index this is, none of which has its data. The key is that of its data.
+fn push_by_index(
+    records: &mut Vec<Record>,
+    places: Box<DataIndex>,
+    key: Vec<u8>,
+    entry: Record,
+) -> Result<Entered, AllocError>
+    requires indexed { IsIndexOf (place_at places.value) records.old.items }
+    requires key { key.items ≡ canonical_data entry.rdata }
+    requires none { list_any (has_data_of entry) records.old.items ≡ false }
+    ensures ok { IfOk result (λ done. (done.is_new, records.new.items)
+        ≡ entered entry records.old.items) }
+    ensures joined { OnOk result (records.new.items ≡ joined entry records.old.items) }
+    ensures place { IfOk result (λ done. IsFirstAt entry.rdata records.new.items done.place) }
+    ensures index { IfOk result (λ done. IfSome done.index (λ after. IsIndexOf (place_at after.value) records.new.items)) }
+    ensures err { OnErr result (records.new.items ≡ records.old.items) }
+{
     let mut places = places;
     let place = records.len();
     records.reserve(1)?;

@@ -3,12 +3,12 @@
 ghost use Rattle.std.specs.Prelude.{◌≡◌, ◌≤◌, ◌∷◌, [], IfOk, IfSome, None, OnErr, OnOk, filter, length, map, not};
 ghost use Rattle.base_data.specs.declared.rdata.RData.{RData};
 ghost use Rattle.rr.specs.DataIndex.{IsFirstAt, IsIndexOf, place_at};
-ghost use Rattle.rr.specs.SetChanges.{entered, has_data_of};
+ghost use Rattle.rr.specs.SetChanges.{entered, has_data_of, joined};
 ghost use Rattle.rr.specs.declared.record.Record.{Record as Entry};
 
 use crate::record::Record;
-use crate::rr_set::data_index::{DataIndex, enter_by_index, index_of};
-use crate::rr_set::placing::{enter, put_alone};
+use crate::rr_set::data_index::{DataIndex, enter_by_index, index_of, join_by_index};
+use crate::rr_set::placing::{enter, join, put_alone};
 use crate::rr_set::removing::take_data;
 use crate::rr_set::setting::{set_classes, set_ttls};
 use base::DNSClass;
@@ -101,6 +101,20 @@ impl IndexedRecords {
         let done = enter_by_index(&mut self.records, places, entry)?;
         self.index = done.index;
         Ok((done.is_new, Some(done.place)))
+    }
+
+    /// Puts a record in the place of each of equal data, or after the others where there is none.
+    pub(super) fn join(&mut self, entry: Record) -> Result<(), AllocError>
+        ensures ok { OnOk result (self.new ≡ joined entry self.old) }
+        ensures err { OnErr result (self.new ≡ self.old) }
+    {
+        let known = self.index.take();
+        let Some(places) = index_for(&self.records, known, &mut self.scans)? else {
+            return join(&mut self.records, entry);
+        };
+        let done = join_by_index(&mut self.records, places, entry)?;
+        self.index = done.index;
+        Ok(())
     }
 
     /// Takes out the records with the data of this one. Takes no memory.

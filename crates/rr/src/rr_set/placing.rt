@@ -37,7 +37,7 @@ pub(super) fn put_alone(records: &mut Vec<Record>, entry: Record) -> Result<(), 
 
 /// Puts a record in the place of each of equal data, or after all where there is none. All memory is taken before the
 /// first change.
-fn join(records: &mut Vec<Record>, entry: Record) -> Result<(), AllocError>
+pub(super) fn join(records: &mut Vec<Record>, entry: Record) -> Result<(), AllocError>
     ensures ok { OnOk result (records.new.items ≡ joined entry records.old.items) }
     ensures err { OnErr result (records.new.items ≡ records.old.items) }
 {

@@ -74,6 +74,13 @@ impl RecordSet {
             RrsetRecords::RecordsOnly(entries.iter())
         }
     }
+
+    /// The records, in order.
+    pub fn as_slice(&self) -> &[Record]
+        ensures { result.now ≡ self.now.records }
+    {
+        self.records.as_slice()
+    }
 }
 
 impl IntoIterator for RecordSet {

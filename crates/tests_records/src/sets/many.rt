@@ -1,5 +1,5 @@
 use super::removing::is_taken;
-use super::{Row, address, answers, empty, may_hold, record, records, shows};
+use super::{Row, address, answers, empty, is_row, may_hold, record, records, shows};
 use base::{DNSClass, RecordType};
 use base_data::RData;
 use rr::RecordSet;
@@ -15,6 +15,10 @@ enum Change {
     Make,
     /// Its record is removed.
     Remove,
+    /// Its record of this TTL takes the place of the one of equal data.
+    Renew(u32),
+    /// Its record is taken out, as updates do.
+    Part,
 }
 
 /// Puts a record into a plain list, in the place of the one of its number or after all, and tells whether it is new.
@@ -58,6 +62,15 @@ fn leaves(alloc: Global, set: &mut RecordSet, number: u16, wanted: bool) -> Resu
     Ok(is_right)
 }
 
+/// Whether the last record of the set is the last row, and the set has its TTL.
+fn ends_as(set: &RecordSet, rows: &[Row]) -> bool {
+    match (set.as_slice().last(), rows.last()) {
+        (Some(entry), Some(row)) => is_row(entry, row) && set.ttl() == row.2,
+        (None, None) => set.ttl() == 0,
+        _ => false,
+    }
+}
+
 /// Whether a change of the set has the answer of that of the list.
 fn agrees(
     alloc: Global,
@@ -79,6 +92,18 @@ fn agrees(
         Change::Remove => {
             let is_there = take(rows, number);
             leaves(alloc, set, number, is_there)
+        }
+        Change::Renew(ttl) => {
+            put(rows, (number, DNSClass::IN, ttl))?;
+            set.renew(record(alloc, DNSClass::IN, ttl, address(number))?)?;
+            Ok(ends_as(set, rows))
+        }
+        Change::Part => {
+            take(rows, number);
+            let entry = record(alloc, DNSClass::IN, 0, address(number))?;
+            set.part(&entry);
+            drop(entry);
+            Ok(ends_as(set, rows))
         }
     }
 }
@@ -120,6 +145,22 @@ fn many_records_are_found(rt: HostRuntime) -> Result<(), Fail> {
         (Change::Make, 680, 720),
         (Change::Make, 2100, 2110),
         (Change::Remove, 0, 10),
+    ];
+    assert!(rt; is_a_list(rt.alloc(), &steps)?);
+    Ok(())
+}
+
+#[test]
+fn many_records_are_renewed(rt: HostRuntime) -> Result<(), Fail> {
+    let steps = [
+        (Change::Renew(5), 0, 1000),
+        (Change::Renew(5), 490, 510),
+        (Change::Renew(7), 500, 1100),
+        (Change::Part, 250, 300),
+        (Change::Insert(9), 275, 350),
+        (Change::Renew(3), 260, 400),
+        (Change::Part, 1090, 1110),
+        (Change::Part, 0, 1100),
     ];
     assert!(rt; is_a_list(rt.alloc(), &steps)?);
     Ok(())

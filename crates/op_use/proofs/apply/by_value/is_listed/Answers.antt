@@ -1,20 +1,28 @@
-use Rattle.op_use.proofs.ListedSteps.{passed_by, second_false, third_false}
+use Rattle.base_data.specs.SameData.{same_data}
+use Rattle.base_data.specs.declared.rdata.RData.{RData}
+use Rattle.op_use.proofs.ListedSteps.{asked_by, passed_by, second_false, third_false}
 use Rattle.op_use.proofs.apply.by_value.is_listed.Goals as goal
-use Rattle.op_use.proofs.apply.by_value.is_listed.Goals.{else-eq-via-then-eq+then-is_by_value+else-is_same_set, else-eq-via-then-eq+else-is_by_value, else-eq-via-else-eq}
+use Rattle.op_use.proofs.apply.by_value.is_listed.Goals.{else-eq-via-then-eq+then-is_by_value-2+else-is_same_set-2, else-eq-via-then-eq+else-is_by_value-2, else-eq-via-else-eq}
 use Rattle.op_use.specs.MapFaults.{asks_for, is_by_value}
 use Rattle.op_use.specs.Server.{is_same_key}
 use Rattle.rr.specs.SetChanges.{has_data_of}
-use Rattle.std.proofs.Common.{ap, false, sym, ◌&&◌, ◌≡◌, ◌∙◌}
+use Rattle.std.proofs.Common.{ap, false, sym, true, ◌&&◌, ◌≡◌, ◌∙◌}
 
-pub loop-asked-preserved : goal.loop-asked-preserved
-loop-asked-preserved c =
-    let fails : asks_for c.args.class c.args.entry.now c.args.known.now c.asked-item.result ≡ false = elim c.else-eq.branch [
-      | else-eq-via-then-eq+then-is_by_value+else-is_same_set w ↦
-          second_false (is_by_value c.args.class c.asked-item.result) _ _ (sym w.is_same_set.ensures ∙ w.if-is_same_set.false)
-      | else-eq-via-then-eq+else-is_by_value w ↦
-          ap (λ b. b && (is_same_key c.args.entry.now c.asked-item.result && has_data_of c.asked-item.result c.args.known.now)) (sym w.is_by_value.ensures ∙ w.if-is_by_value.false)
+pub returns-then-is_same_set : goal.returns-then-is_same_set
+returns-then-is_same_set c =
+    let found = rw c.in-Some.is at c.in_ok-listed.ensures in
+    sym (asked_by c.args.class c.args.entry.now c.args.known.now c.in-Some.listed.now c.args.entries.now found.0 found.1
+    (sym c.is_by_value.ensures ∙ c.if-is_by_value.true) (sym c.is_same_set.ensures ∙ c.if-is_same_set.true))
+
+pub loop-listed-preserved : goal.loop-listed-preserved
+loop-listed-preserved c =
+    let fails : asks_for c.args.class c.args.entry.now c.args.known.now c.listed-item.result ≡ false = elim c.else-eq.branch [
+      | else-eq-via-then-eq+then-is_by_value-2+else-is_same_set-2 w ↦
+          second_false (is_by_value c.args.class c.listed-item.result) _ _ (sym w.is_same_set-then-is_by_value-2.ensures ∙ w.if-is_same_set-2.false)
+      | else-eq-via-then-eq+else-is_by_value-2 w ↦
+          ap (λ b. b && (is_same_key c.args.entry.now c.listed-item.result && has_data_of c.listed-item.result c.args.known.now)) (sym w.is_by_value-then-eq.ensures ∙ w.if-is_by_value-2.false)
       | else-eq-via-else-eq w ↦
-          third_false (is_by_value c.args.class c.asked-item.result) (is_same_key c.args.entry.now c.asked-item.result) _ (sym c.eq.ensures ∙ w.if-eq.false)
+          third_false (is_by_value c.args.class c.listed-item.result) (is_same_key c.args.entry.now c.listed-item.result) _ (sym c.eq.ensures ∙ w.if-eq.false)
     ] in
-    passed_by (asks_for c.args.class c.args.entry.now c.args.known.now) c.args.entries.now c.loop-asked.asked-index c.asked-item.result _ c.loop-asked-test.true c.asked-item.is fails
-    c.loop-asked.invariant
+    passed_by (asks_for c.args.class c.args.entry.now c.args.known.now) c.args.entries.now c.loop-listed.listed-index c.listed-item.result _ c.loop-listed-test.true c.listed-item.is fails
+    c.loop-listed.invariant

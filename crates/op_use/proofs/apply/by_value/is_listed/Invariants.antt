@@ -4,5 +4,5 @@ use Rattle.std.proofs.Common.{drop, ◌≡◌}
 use Rattle.std.specs.List.{list_any}
 
 -- what is left decides
-abbrev pub invariant-loop-asked : goal.invariant-loop-asked
-invariant-loop-asked l = list_any (asks_for l.class l.entry l.known) (drop l.asked-index l.entries) ≡ list_any (asks_for l.class l.entry l.known) l.entries
+abbrev pub invariant-loop-listed : goal.invariant-loop-listed
+invariant-loop-listed l = list_any (asks_for l.class l.entry l.known) (drop l.listed-index l.entries) ≡ list_any (asks_for l.class l.entry l.known) l.entries
