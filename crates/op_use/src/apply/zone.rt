@@ -103,9 +103,9 @@ impl<'a> Zone<'a> {
     {
         let key = key_of(&entry.name, entry.record_type())?;
         let copy = entry.clone()?;
-        let mut set = self.empty_set(entry)?;
-        set.renew(copy)?;
-        self.put_set(key, set)?;
+        let mut alone = self.empty_set(entry)?;
+        alone.renew(copy)?;
+        self.put_set(key, alone)?;
         Ok(())
     }
 

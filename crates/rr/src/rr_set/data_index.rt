@@ -114,11 +114,11 @@ pub(super) fn join_by_index(
     ensures err { OnErr result (records.new.items ≡ records.old.items) }
 {
     let key = key_of(&entry.rdata, *records.allocator())?;
-    if let Some(place) = place_of(&places, records, &key, &entry) {
-        set_at(records, place, entry);
+    if let Some(known) = place_of(&places, records, &key, &entry) {
+        set_at(records, known, entry);
         return Ok(Entered {
             is_new: true,
-            place,
+            place: known,
             index: Some(places),
         });
     }
