@@ -3,7 +3,7 @@
 ghost use Rattle.std.specs.BTreeMap.{get, keys};
 ghost use Rattle.std.specs.List.{filter, list_any};
 ghost use Rattle.std.specs.Ordering.{eq_by_cmp};
-ghost use Rattle.std.specs.Prelude.{◌≡◌, ◌&&◌, ◌++◌, ◌||◌, ◌∷◌, [], IfOk, None, OnOk, cond, not};
+ghost use Rattle.std.specs.Prelude.{◌≡◌, ◌&&◌, ◌||◌, IfOk, None, cond, not};
 ghost use Rattle.base.specs.NameOrder.{same_name};
 ghost use Rattle.base.specs.RrKey.{key_cmp};
 ghost use Rattle.base.specs.declared.rr_key.RrKey.{RrKey as Key};
@@ -33,17 +33,12 @@ pub(crate) fn has_type(
         if least.name != key.name {
             return Ok(false);
         }
-        if counts(is_beside, key.record_type) {
-            return Ok(true);
+        if is_beside && is_cname(key.record_type) {
+            continue;
         }
+        return Ok(true);
     }
     Ok(false)
-}
-
-fn counts(is_beside: bool, record_type: RecordType) -> bool
-    ensures { result ≡ not (is_beside && is_cname_type record_type) }
-{
-    !(is_beside && is_cname(record_type))
 }
 
 // The keys of an owner, at the origin but those of SOA and NS.
@@ -66,17 +61,10 @@ pub(crate) fn unguarded_keys(
         if is_guarded(origin, owner, key.record_type) {
             continue;
         }
-        list_key(&mut found, key)?;
+        let copy = key.clone()?;
+        found.push(copy)?;
     }
     Ok(found)
-}
-
-fn list_key(found: &mut Vec<RrKey>, key: &RrKey) -> Result<(), AllocError>
-    ensures { OnOk result (found.new.items ≡ found.old.items ++ key.now ∷ []) }
-{
-    let copy = key.clone()?;
-    found.push(copy)?;
-    Ok(())
 }
 
 // Takes the sets under these keys out.

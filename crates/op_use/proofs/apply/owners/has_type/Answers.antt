@@ -1,9 +1,10 @@
 use Rattle.base.specs.NameOrder.{same_lower}
 use Rattle.op_use.proofs.OwnerKeys.{any_here, any_next, any_start}
 use Rattle.op_use.proofs.apply.owners.has_type.Goals as goal
+use Rattle.op_use.proofs.apply.owners.has_type.Goals.{else-is_beside-via-else-is_beside, else-is_beside-via-then-is_beside+else-is_cname}
 use Rattle.op_use.specs.Server.{is_cname}
 use Rattle.std.proofs.lemmas.Bool.{not-false}
-use Rattle.std.proofs.Common.{ap, not, sym, ◌&&◌, ◌∙◌}
+use Rattle.std.proofs.Common.{ap, false, not, sym, true, ◌&&◌, ◌≡◌, ◌∙◌}
 
 pub loop-key-init : goal.loop-key-init
 loop-key-init c = (
@@ -14,16 +15,20 @@ loop-key-init c = (
 )
 
 pub loop-key-preserved : goal.loop-key-preserved
-loop-key-preserved c = (
-  any_next c.args.owner.now (λ k. not (c.args.is_beside && is_cname k.record_type)) c.loop-key.key-iterator c.next.new.self _ _ c.in-Some.ensures.steps
-      (ap (λ k. same_lower k.name c.in-Some.key.now.name) (sym c.in_ok-least.ensures) ∙ not-false _ (sym c.ne.ensures ∙ c.if-ne.false))
-      (sym c.counts.ensures ∙ c.if-counts.false) c.loop-key.invariant.0,
-  tt,
-  tt,
-)
+loop-key-preserved c =
+    let fails : not (c.args.is_beside && is_cname c.in-Some.key.now.record_type) ≡ false
+        = λ i. not (c.if-is_beside.true i && (sym c.is_cname.ensures ∙ c.if-is_cname.true) i) in (
+      any_next c.args.owner.now (λ k. not (c.args.is_beside && is_cname k.record_type)) c.loop-key.key-iterator c.next.new.self _ _ c.in-Some.ensures.steps
+          (ap (λ k. same_lower k.name c.in-Some.key.now.name) (sym c.in_ok-least.ensures) ∙ not-false _ (sym c.ne.ensures ∙ c.if-ne.false)) fails c.loop-key.invariant.0,
+      tt,
+      tt,
+    )
 
-pub returns-then-counts : goal.returns-then-counts
-returns-then-counts c =
+pub returns-in-loop-key : goal.returns-in-loop-key
+returns-in-loop-key c =
+    let counts : not (c.args.is_beside && is_cname c.in-Some.key.now.record_type) ≡ true = elim c.else-is_beside.branch [
+      | else-is_beside-via-then-is_beside+else-is_cname w ↦ λ i. not (w.if-is_beside.true i && (sym w.is_cname.ensures ∙ w.if-is_cname.false) i)
+      | else-is_beside-via-else-is_beside w ↦ λ i. not (w.if-is_beside.false i && is_cname c.in-Some.key.now.record_type)
+    ] in
     any_here c.args.owner.now (λ k. not (c.args.is_beside && is_cname k.record_type)) c.loop-key.key-iterator c.next.new.self _ _ c.in-Some.ensures.steps
-    (ap (λ k. same_lower k.name c.in-Some.key.now.name) (sym c.in_ok-least.ensures) ∙ not-false _ (sym c.ne.ensures ∙ c.if-ne.false))
-    (sym c.counts.ensures ∙ c.if-counts.true) c.loop-key.invariant.0
+    (ap (λ k. same_lower k.name c.in-Some.key.now.name) (sym c.in_ok-least.ensures) ∙ not-false _ (sym c.ne.ensures ∙ c.if-ne.false)) counts c.loop-key.invariant.0
