@@ -115,7 +115,7 @@ impl<'a> Zone<'a> {
     {
         let key = key_of(&entry.name, entry.record_type())?;
         let mut set = self.take_or_new(&key, entry)?;
-        set.part(entry);
+        set.take_data(entry);
         self.put_set(key, set)?;
         Ok(())
     }

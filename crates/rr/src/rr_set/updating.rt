@@ -28,7 +28,7 @@ impl RecordSet {
 
     /// Takes out every record with the data of this one, of any type and number (RFC 2136, 3.4.2.4). The set then has
     /// the TTL of its last record, 0 without records. Takes no memory.
-    pub fn part(&mut self, entry: &Record)
+    pub fn take_data(&mut self, entry: &Record)
         ensures { self.new ≡ with_records self.old (filter (λ x. not (has_data_of entry.now x)) self.old.records) }
     {
         self.records.take_data(entry);

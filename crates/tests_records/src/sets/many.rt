@@ -101,7 +101,7 @@ fn agrees(
         Change::Part => {
             take(rows, number);
             let entry = record(alloc, DNSClass::IN, 0, address(number))?;
-            set.part(&entry);
+            set.take_data(&entry);
             drop(entry);
             Ok(ends_as(set, rows))
         }

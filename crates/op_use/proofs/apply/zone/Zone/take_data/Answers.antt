@@ -13,16 +13,16 @@ use Rattle.std.proofs.Common.{ap, subst, sym, ◌∙◌, ◌≡◌}
 
 pub put_set-requires-clause-own : goal.put_set-requires-clause-own
 put_set-requires-clause-own c =
-    subst (λ (z : HeldZone). IsTakenSet z.class c.in_ok-key.key c.part.new.self.records c.part.new.self) (sym c.in_ok-set.ensures.left.1)
-    (changed c.args.self.now.class c.in_ok-key.key _ (parted c.args.entry.now c.in_ok-set.set.records) c.in_ok-set.set c.part.new.self c.in_ok-set.ensures.set c.part.ensures
+    subst (λ (z : HeldZone). IsTakenSet z.class c.in_ok-key.key c.take_data.new.self.records c.take_data.new.self) (sym c.in_ok-set.ensures.left.1)
+    (changed c.args.self.now.class c.in_ok-key.key _ (parted c.args.entry.now c.in_ok-set.set.records) c.in_ok-set.set c.take_data.new.self c.in_ok-set.ensures.set c.take_data.ensures
     (distinct_parted c.args.entry.now c.in_ok-set.set.records c.in_ok-set.ensures.set.distinct))
 
 pub put_set-requires-clause-ttl : goal.put_set-requires-clause-ttl
-put_set-requires-clause-ttl c = last_of c.in_ok-set.set c.part.new.self (parted c.args.entry.now c.in_ok-set.set.records) c.part.ensures
+put_set-requires-clause-ttl c = last_of c.in_ok-set.set c.take_data.new.self (parted c.args.entry.now c.in_ok-set.set.records) c.take_data.ensures
 
 pub returns : goal.returns
 returns c =
     let same_key : c.in_ok-key.key ≡ key_of c.args.entry.now.name (type_of_record c.args.entry.now) = c.in_ok-key.ensures ∙ ap (key_of c.args.entry.now.name) c.record_type.ensures in
     moved_held _ _ _ _ _ _ same_key
-    (ap (λ (s : SetValue). s.records) c.part.ensures ∙ ap (parted c.args.entry.now) (c.in_ok-set.ensures.set.records ∙ ap (records_at c.args.self.now.sets) same_key))
+    (ap (λ (s : SetValue). s.records) c.take_data.ensures ∙ ap (parted c.args.entry.now) (c.in_ok-set.ensures.set.records ∙ ap (records_at c.args.self.now.sets) same_key))
     (put_back _ _ _ _ _ c.in_ok-set.ensures.left c.in_ok-put_set.ensures)
