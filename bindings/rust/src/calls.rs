@@ -1,0 +1,182 @@
+//! The declarations of `include/fuzsbanel.h`, and what each call's answer means.
+
+use crate::error::Error;
+use crate::walk::{Header, OptionFound, QueryFound, RecordFound};
+
+/// What is answered where the buffer has no room.
+const NO_ROOM: i64 = -100;
+
+// A `&[u8]` crosses as a pointer and then a length. Nothing compares these declarations with those of crates/capi.
+extern "C" {
+    pub fn fuzsbanel_check(message: *const u8, len: usize) -> i64;
+    pub fn fuzsbanel_cut(
+        message: *const u8,
+        len: usize,
+        limit: u16,
+        out: *mut u8,
+        cap: usize,
+        needed: *mut usize,
+    ) -> i64;
+    pub fn fuzsbanel_text(
+        message: *const u8,
+        len: usize,
+        out: *mut u8,
+        cap: usize,
+        needed: *mut usize,
+    ) -> i64;
+    pub fn fuzsbanel_header(message: *const u8, len: usize, header: *mut Header) -> i64;
+    pub fn fuzsbanel_query(
+        message: *const u8,
+        len: usize,
+        place: usize,
+        query: *mut QueryFound,
+    ) -> i64;
+    pub fn fuzsbanel_record(
+        message: *const u8,
+        len: usize,
+        place: usize,
+        record: *mut RecordFound,
+    ) -> i64;
+    pub fn fuzsbanel_option(
+        message: *const u8,
+        len: usize,
+        place: usize,
+        option: *mut OptionFound,
+    ) -> i64;
+    pub fn fuzsbanel_name(
+        message: *const u8,
+        len: usize,
+        place: usize,
+        out: *mut u8,
+        cap: usize,
+        needed: *mut usize,
+    ) -> i64;
+    pub fn fuzsbanel_zone(
+        origin: *const u8,
+        origin_len: usize,
+        text: *const u8,
+        text_len: usize,
+        out: *mut u8,
+        cap: usize,
+        needed: *mut usize,
+    ) -> i64;
+    pub fn fuzsbanel_apply(
+        update: *const u8,
+        update_len: usize,
+        origin: *const u8,
+        origin_len: usize,
+        text: *const u8,
+        text_len: usize,
+        out: *mut u8,
+        cap: usize,
+        needed: *mut usize,
+    ) -> i64;
+    pub fn fuzsbanel_create(
+        id: u16,
+        origin: *const u8,
+        origin_len: usize,
+        set: *const u8,
+        set_len: usize,
+        use_edns: bool,
+        out: *mut u8,
+        cap: usize,
+        needed: *mut usize,
+    ) -> i64;
+    pub fn fuzsbanel_append(
+        id: u16,
+        origin: *const u8,
+        origin_len: usize,
+        set: *const u8,
+        set_len: usize,
+        must_exist: bool,
+        use_edns: bool,
+        out: *mut u8,
+        cap: usize,
+        needed: *mut usize,
+    ) -> i64;
+    pub fn fuzsbanel_compare_and_swap(
+        id: u16,
+        origin: *const u8,
+        origin_len: usize,
+        current: *const u8,
+        current_len: usize,
+        next: *const u8,
+        next_len: usize,
+        use_edns: bool,
+        out: *mut u8,
+        cap: usize,
+        needed: *mut usize,
+    ) -> i64;
+    pub fn fuzsbanel_delete_by_rdata(
+        id: u16,
+        origin: *const u8,
+        origin_len: usize,
+        set: *const u8,
+        set_len: usize,
+        use_edns: bool,
+        out: *mut u8,
+        cap: usize,
+        needed: *mut usize,
+    ) -> i64;
+    pub fn fuzsbanel_delete_rrset(
+        id: u16,
+        origin: *const u8,
+        origin_len: usize,
+        owner: *const u8,
+        owner_len: usize,
+        record_type: u16,
+        use_edns: bool,
+        out: *mut u8,
+        cap: usize,
+        needed: *mut usize,
+    ) -> i64;
+    pub fn fuzsbanel_delete_all(
+        id: u16,
+        origin: *const u8,
+        origin_len: usize,
+        owner: *const u8,
+        owner_len: usize,
+        use_edns: bool,
+        out: *mut u8,
+        cap: usize,
+        needed: *mut usize,
+    ) -> i64;
+    pub fn fuzsbanel_zone_transfer(
+        id: u16,
+        origin: *const u8,
+        origin_len: usize,
+        out: *mut u8,
+        cap: usize,
+        needed: *mut usize,
+    ) -> i64;
+}
+
+/// The length or the place that was answered, or the refusal.
+pub fn length(answer: i64) -> Result<usize, Error> {
+    if answer < 0 {
+        return Err(Error::of(u8::try_from(-answer).unwrap_or(0)));
+    }
+    Ok(answer as usize)
+}
+
+/// The bytes that a call writes: it is made with a buffer of `first` bytes, and once more with what it needs.
+pub fn filled(
+    first: usize,
+    call: impl Fn(*mut u8, usize, *mut usize) -> i64,
+) -> Result<Vec<u8>, Error> {
+    let mut out = vec![0; first];
+    let mut needed = 0;
+    let mut answer = call(out.as_mut_ptr(), out.len(), &mut needed);
+    if answer == NO_ROOM {
+        out = vec![0; needed];
+        answer = call(out.as_mut_ptr(), out.len(), &mut needed);
+    }
+    let len = length(answer)?;
+    out.truncate(len);
+    Ok(out)
+}
+
+/// A text that a call wrote, which is UTF-8.
+pub fn text(bytes: Vec<u8>) -> Result<String, Error> {
+    String::from_utf8(bytes).map_err(|_| Error::Input)
+}

@@ -1,0 +1,106 @@
+//! DNS messages, zone text and updates, by the exports of a library that is proved to meet its contracts.
+//!
+//! Everything here is a call of `include/fuzsbanel.h`, whose comments say what each does; this crate adds slices, `Vec`s,
+//! [`Error`] and iterators, and no logic of DNS. It depends on nothing.
+//!
+//! ```
+//! let query = [0, 1, 1, 0, 0, 1, 0, 0, 0, 0, 0, 0, 1, b'a', 0, 0, 1, 0, 1];
+//! assert_eq!(fuzsbanel::check(&query), Ok(19));
+//! assert_eq!(fuzsbanel::check(&query[..18]), Err(fuzsbanel::Error::Short));
+//! ```
+
+mod calls;
+mod error;
+mod update;
+mod walk;
+
+pub use error::Error;
+pub use update::{
+    append, compare_and_swap, create, delete_all, delete_by_rdata, delete_rrset, zone_transfer,
+};
+pub use walk::{header, name, options, queries, records, EdnsOption, Header, Query, Record};
+
+use calls::filled;
+
+/// How many bytes the message takes that the bytes begin with (RFC 1035, 4.1).
+///
+/// # Errors
+///
+/// The message's first fault.
+pub fn check(message: &[u8]) -> Result<usize, Error> {
+    // SAFETY: the pointer and the length are those of one slice, which is borrowed for the call.
+    let answer = unsafe { calls::fuzsbanel_check(message.as_ptr(), message.len()) };
+    calls::length(answer)
+}
+
+/// The message that the bytes begin with, written again in at most `limit` bytes: what doesn't fit is left out, and TC
+/// says so (RFC 2181, 9).
+///
+/// # Errors
+///
+/// The message's first fault; [`Error::Limit`] and [`Error::Questions`] for a limit without room.
+pub fn cut(message: &[u8], limit: u16) -> Result<Vec<u8>, Error> {
+    filled(usize::from(limit), |out, cap, needed| {
+        // SAFETY: `filled` hands in a buffer of its own, and the rest is of slices that are borrowed for the call.
+        unsafe { calls::fuzsbanel_cut(message.as_ptr(), message.len(), limit, out, cap, needed) }
+    })
+}
+
+/// The text of the message that the bytes begin with.
+///
+/// # Errors
+///
+/// The message's first fault.
+pub fn text(message: &[u8]) -> Result<String, Error> {
+    calls::text(filled(4096, |out, cap, needed| {
+        // SAFETY: as in `cut`.
+        unsafe { calls::fuzsbanel_text(message.as_ptr(), message.len(), out, cap, needed) }
+    })?)
+}
+
+/// The zone of a text, as zone text: its origin, and each record on a line of its own, in the order of owners and types
+/// (RFC 1035, 5.1). An empty `origin` is none.
+///
+/// # Errors
+///
+/// The text's first fault.
+pub fn zone(origin: &str, text: &str) -> Result<String, Error> {
+    calls::text(filled(2 * text.len(), |out, cap, needed| {
+        // SAFETY: as in `cut`.
+        unsafe {
+            calls::fuzsbanel_zone(
+                origin.as_ptr(),
+                origin.len(),
+                text.as_ptr(),
+                text.len(),
+                out,
+                cap,
+                needed,
+            )
+        }
+    })?)
+}
+
+/// What a server makes of an update and the zone of a text: a line with its code, and the zone then (RFC 2136, 3).
+///
+/// # Errors
+///
+/// The update's first fault, the text's, and [`Error::Class`] for a zone of another class than IN.
+pub fn apply(update: &[u8], origin: &str, text: &str) -> Result<String, Error> {
+    calls::text(filled(2 * text.len(), |out, cap, needed| {
+        // SAFETY: as in `cut`.
+        unsafe {
+            calls::fuzsbanel_apply(
+                update.as_ptr(),
+                update.len(),
+                origin.as_ptr(),
+                origin.len(),
+                text.as_ptr(),
+                text.len(),
+                out,
+                cap,
+                needed,
+            )
+        }
+    })?)
+}

@@ -1,0 +1,190 @@
+//! Updates as bytes (RFC 2136, 2).
+//!
+//! The origin is the text of the zone's name, and a set the zone text of its records: all of one owner, in the zone, and of
+//! one type. With `use_edns` the message takes answers of up to 1232 bytes.
+
+use crate::calls::{self, filled};
+use crate::error::Error;
+
+/// How many bytes most updates fit in.
+const ROOM: usize = 512;
+
+/// Creates a set, if the zone has none of that owner and type (2.4.3).
+///
+/// # Errors
+///
+/// The first fault of the texts; [`Error::Input`] for what isn't one set in the zone.
+pub fn create(id: u16, origin: &str, set: &str, use_edns: bool) -> Result<Vec<u8>, Error> {
+    filled(ROOM, |out, cap, needed| {
+        // SAFETY: `filled` hands in a buffer of its own, and the rest is of slices that are borrowed for the call.
+        unsafe {
+            calls::fuzsbanel_create(
+                id,
+                origin.as_ptr(),
+                origin.len(),
+                set.as_ptr(),
+                set.len(),
+                use_edns,
+                out,
+                cap,
+                needed,
+            )
+        }
+    })
+}
+
+/// Adds records to a set; with `must_exist`, if the zone has one of that owner and type (2.4.1).
+///
+/// # Errors
+///
+/// Those of [`create`].
+pub fn append(
+    id: u16,
+    origin: &str,
+    set: &str,
+    must_exist: bool,
+    use_edns: bool,
+) -> Result<Vec<u8>, Error> {
+    filled(ROOM, |out, cap, needed| {
+        // SAFETY: as in `create`.
+        unsafe {
+            calls::fuzsbanel_append(
+                id,
+                origin.as_ptr(),
+                origin.len(),
+                set.as_ptr(),
+                set.len(),
+                must_exist,
+                use_edns,
+                out,
+                cap,
+                needed,
+            )
+        }
+    })
+}
+
+/// Puts a set in the place of another, if the zone has exactly that (2.4.2).
+///
+/// # Errors
+///
+/// Those of [`create`].
+pub fn compare_and_swap(
+    id: u16,
+    origin: &str,
+    current: &str,
+    next: &str,
+    use_edns: bool,
+) -> Result<Vec<u8>, Error> {
+    filled(ROOM, |out, cap, needed| {
+        // SAFETY: as in `create`.
+        unsafe {
+            calls::fuzsbanel_compare_and_swap(
+                id,
+                origin.as_ptr(),
+                origin.len(),
+                current.as_ptr(),
+                current.len(),
+                next.as_ptr(),
+                next.len(),
+                use_edns,
+                out,
+                cap,
+                needed,
+            )
+        }
+    })
+}
+
+/// Takes the data of a set out of the zone (2.5.4).
+///
+/// # Errors
+///
+/// Those of [`create`].
+pub fn delete_by_rdata(id: u16, origin: &str, set: &str, use_edns: bool) -> Result<Vec<u8>, Error> {
+    filled(ROOM, |out, cap, needed| {
+        // SAFETY: as in `create`.
+        unsafe {
+            calls::fuzsbanel_delete_by_rdata(
+                id,
+                origin.as_ptr(),
+                origin.len(),
+                set.as_ptr(),
+                set.len(),
+                use_edns,
+                out,
+                cap,
+                needed,
+            )
+        }
+    })
+}
+
+/// Takes the set of an owner and a type out of the zone (2.5.2). A relative owner ends in the origin.
+///
+/// # Errors
+///
+/// [`Error::BadText`] for what is no name, [`Error::Input`] for an owner outside the zone.
+pub fn delete_rrset(
+    id: u16,
+    origin: &str,
+    owner: &str,
+    record_type: u16,
+    use_edns: bool,
+) -> Result<Vec<u8>, Error> {
+    filled(ROOM, |out, cap, needed| {
+        // SAFETY: as in `create`.
+        unsafe {
+            calls::fuzsbanel_delete_rrset(
+                id,
+                origin.as_ptr(),
+                origin.len(),
+                owner.as_ptr(),
+                owner.len(),
+                record_type,
+                use_edns,
+                out,
+                cap,
+                needed,
+            )
+        }
+    })
+}
+
+/// Takes all sets of an owner out of the zone; at the origin SOA and NS stay (2.5.3).
+///
+/// # Errors
+///
+/// Those of [`delete_rrset`].
+pub fn delete_all(id: u16, origin: &str, owner: &str, use_edns: bool) -> Result<Vec<u8>, Error> {
+    filled(ROOM, |out, cap, needed| {
+        // SAFETY: as in `create`.
+        unsafe {
+            calls::fuzsbanel_delete_all(
+                id,
+                origin.as_ptr(),
+                origin.len(),
+                owner.as_ptr(),
+                owner.len(),
+                use_edns,
+                out,
+                cap,
+                needed,
+            )
+        }
+    })
+}
+
+/// Asks for all of a zone (RFC 5936, 2.1).
+///
+/// # Errors
+///
+/// [`Error::BadText`] for what is no name.
+pub fn zone_transfer(id: u16, origin: &str) -> Result<Vec<u8>, Error> {
+    filled(ROOM, |out, cap, needed| {
+        // SAFETY: as in `create`.
+        unsafe {
+            calls::fuzsbanel_zone_transfer(id, origin.as_ptr(), origin.len(), out, cap, needed)
+        }
+    })
+}

@@ -1,0 +1,161 @@
+//! Each call of the crate.
+
+use fuzsbanel::{Error, Query};
+
+const RESPONSE: &[u8] =
+    b"\x10\x00\x81\x80\0\x01\0\x01\0\0\0\0\x03www\x07example\x03com\0\0\x01\0\x01\
+\xc0\x0c\0\x01\0\x01\0\0\0\x02\0\x04\x5d\xb8\xd7\x0e";
+
+// RFC 2136: the zone section, a prerequisite that no set is there (2.4.3), and the record to add (2.5.1)
+const CREATION: &[u8] = b"\0\x01\x28\0\0\x01\0\x01\0\x01\0\0\x07example\0\0\x06\0\x01\
+\x03www\xc0\x0c\0\x01\0\xfe\0\0\0\0\0\0\xc0\x19\0\x01\0\x01\0\0\x01\x2c\0\x04\xc0\0\x02\x02";
+
+const ZONE: &str = "@ 3600 SOA ns hostmaster 1 2 3 4 5\n@ 3600 NS ns\n";
+
+#[test]
+fn a_message_is_checked() {
+    assert_eq!(fuzsbanel::check(RESPONSE), Ok(49));
+    assert_eq!(fuzsbanel::check(&[RESPONSE, b"more"].concat()), Ok(49));
+    assert_eq!(fuzsbanel::check(&RESPONSE[..48]), Err(Error::DataLength));
+    assert_eq!(fuzsbanel::check(b""), Err(Error::Short));
+}
+
+#[test]
+fn a_message_is_cut() {
+    assert_eq!(fuzsbanel::cut(RESPONSE, 49).as_deref(), Ok(RESPONSE));
+    let cut = fuzsbanel::cut(RESPONSE, 48).unwrap();
+    assert_eq!(cut.len(), 33);
+    assert_eq!(cut[..12], *b"\x10\0\x83\x80\0\x01\0\0\0\0\0\0");
+    assert_eq!(fuzsbanel::cut(RESPONSE, 32), Err(Error::Questions));
+    assert_eq!(fuzsbanel::cut(RESPONSE, 11), Err(Error::Limit));
+}
+
+#[test]
+fn a_message_is_walked() {
+    let header = fuzsbanel::header(RESPONSE).unwrap();
+    assert_eq!(
+        (header.id, header.queries, header.answers, header.response),
+        (4096, 1, 1, true)
+    );
+    assert!(header.recursion_desired && header.recursion_available && !header.truncated);
+    assert_eq!(
+        fuzsbanel::queries(RESPONSE).unwrap(),
+        [Query {
+            name: 12,
+            query_type: 1,
+            class: 1
+        }]
+    );
+    let records = fuzsbanel::records(RESPONSE).unwrap();
+    assert_eq!(records.len(), 1);
+    assert_eq!(
+        (records[0].record_type, records[0].class, records[0].ttl),
+        (1, 1, 2)
+    );
+    assert_eq!(records[0].data, [0x5d, 0xb8, 0xd7, 0x0e]);
+    assert_eq!(
+        fuzsbanel::name(RESPONSE, records[0].name).as_deref(),
+        Ok("www.example.com.")
+    );
+    assert_eq!(fuzsbanel::name(RESPONSE, 50), Err(Error::Short));
+    let options = fuzsbanel::options(b"\0\x0a\0\x02ab\0\x03\0\0").unwrap();
+    assert_eq!(
+        (options[0].code, options[0].data, options[1].code),
+        (10, &b"ab"[..], 3)
+    );
+    assert_eq!(fuzsbanel::options(b"\0\x0a\0\x02a"), Err(Error::Short));
+}
+
+#[test]
+fn zone_text_is_read() {
+    let zone = fuzsbanel::zone("example.", "$TTL 60\nwww A 192.0.2.1\n").unwrap();
+    assert_eq!(zone, "$ORIGIN example.\nwww.example. 60 IN A 192.0.2.1\n");
+    assert_eq!(
+        fuzsbanel::zone("example.", "www 60 A 192.0.2.300\n"),
+        Err(Error::BadText)
+    );
+    assert_eq!(
+        fuzsbanel::zone("", "www 60 A 192.0.2.1\n").map_err(Error::number),
+        Err(19)
+    );
+    assert_eq!(fuzsbanel::zone("..", ""), Err(Error::BadText));
+}
+
+#[test]
+fn updates_are_built_and_applied() {
+    let update = fuzsbanel::create(1, "example.", "www 300 A 192.0.2.2\n", false).unwrap();
+    assert_eq!(update, CREATION);
+    let zone = fuzsbanel::apply(&update, "example.", ZONE).unwrap();
+    assert!(zone.starts_with("NoError\n$ORIGIN example.\n"));
+    assert!(zone.ends_with("\nwww.example. 300 IN A 192.0.2.2\n"));
+    let again =
+        fuzsbanel::apply(&update, "example.", &format!("{ZONE}www 60 A 192.0.2.9\n")).unwrap();
+    assert!(again.starts_with("YXRRSet\n"));
+    assert!(again.ends_with("\nwww.example. 60 IN A 192.0.2.9\n"));
+}
+
+#[test]
+fn every_builder_changes_its_set() {
+    let www = "www 300 A 192.0.2.2\n";
+    let with_www = format!("{ZONE}{www}");
+    let rows = [
+        (
+            fuzsbanel::append(2, "example.", "www 300 A 192.0.2.3\n", true, false),
+            "\nwww.example. 300 IN A 192.0.2.3\n",
+        ),
+        (
+            fuzsbanel::compare_and_swap(3, "example.", www, "www 9 A 192.0.2.4\n", true),
+            "\nwww.example. 9 IN A 192.0.2.4\n",
+        ),
+    ];
+    for (update, end) in rows {
+        let zone = fuzsbanel::apply(&update.unwrap(), "example.", &with_www).unwrap();
+        assert!(
+            zone.starts_with("NoError\n") && zone.ends_with(end),
+            "{zone}"
+        );
+    }
+    let rows = [
+        fuzsbanel::delete_by_rdata(4, "example.", www, false),
+        fuzsbanel::delete_rrset(5, "example.", "www", 1, false),
+        fuzsbanel::delete_all(6, "example.", "www.example.", true),
+    ];
+    for update in rows {
+        let zone = fuzsbanel::apply(&update.unwrap(), "example.", &with_www).unwrap();
+        assert!(
+            zone.starts_with("NoError\n") && !zone.contains("www"),
+            "{zone}"
+        );
+    }
+    let transfer =
+        b"\0\x07\0\0\0\x01\0\0\0\0\0\x01\x07example\0\0\xfc\0\x01\0\0\x29\x04\xd0\0\0\0\0\0\0";
+    assert_eq!(
+        fuzsbanel::zone_transfer(7, "example.").as_deref(),
+        Ok(&transfer[..])
+    );
+}
+
+#[test]
+fn what_is_not_one_set_in_the_zone_is_refused() {
+    for set in [
+        "",
+        "www 300 A 192.0.2.2\nftp 300 A 192.0.2.3\n",
+        "www.example.org. 300 A 192.0.2.2\n",
+    ] {
+        assert_eq!(
+            fuzsbanel::create(1, "example.", set, false),
+            Err(Error::Input)
+        );
+    }
+    assert_eq!(
+        fuzsbanel::delete_all(1, "example.", "www.example.org.", false),
+        Err(Error::Input)
+    );
+}
+
+#[test]
+fn refusals_have_their_numbers() {
+    assert_eq!(Error::Memory.number(), 3);
+    assert_eq!(Error::Class.number(), 25);
+    assert_eq!(Error::BadName.to_string(), "a name is spelled wrongly");
+}

@@ -1,0 +1,15 @@
+-- What stands in the caller's buffer.
+use Rattle.std.proofs.Common.{◌∙◌, ◌<◌, ◌≤◌, inl, inr, ap, arith, drop, length, sym, subst, take, Err, List, Ok, Result, ℕ}
+use Rattle.std.proofs.lemmas.List.{take_at}
+use Rattle.std.specs.Prelude.{IfOk, Vec, ℤ}
+use Rattle.std.specs.declared.alloc.Global.{Global}
+use Rattle.capi.specs.Answer.{IsLeft, bytes_made}
+use Rattle.capi.specs.declared.refusal.Refusal.{Refusal}
+
+-- what holds of the bytes that were made holds of those that were put into a buffer with room for them
+pub put_holds : (P : List ℕ → Type 0) (made : Result (Vec ℕ Global) Refusal) (old new : List ℕ) (needed : ℕ) (result : ℤ)
+    → IfOk made (λ bytes. P bytes.items) → IsLeft (bytes_made made) old new needed result → 0 < needed → needed ≤ length old → P (take needed new)
+put_holds P (Ok bytes) old new needed result holds (inl put) some room =
+    subst P (sym (ap (take needed) put.put ∙ take_at bytes.items (drop (length bytes.items) old) needed (sym put.needs))) holds
+put_holds P (Ok bytes) old new needed result holds (inr none) some room = let small = none.small in let needs = none.needs in absurd (search arith)
+put_holds P (Err refusal) old new needed result holds none some room = let needs = none.needs in absurd (search arith)

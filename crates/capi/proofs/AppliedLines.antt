@@ -1,0 +1,92 @@
+-- The lines of a map that an update was applied to.
+use Rattle.std.proofs.Common.{List, [], ap, refl, sym, ◌∷◌, ◌++◌, ◌≡◌, ◌∙◌, ℕ}
+use Rattle.std.proofs.lemmas.Bool.{cond-false}
+use Rattle.std.proofs.lemmas.List.{nil_from_length}
+use Rattle.std.proofs.lemmas.Map.Entries.{lookup_head}
+use Rattle.std.specs.BTreeMap as tree
+use Rattle.std.specs.BTreeMap.{BTreeMap, is_at}
+use Rattle.std.specs.Cmp.{eq_by_cmp_equiv}
+use Rattle.std.specs.FinMap as fin
+use Rattle.std.specs.FinMap.Entries.{by_order}
+use Rattle.std.specs.List.Sorted.{IsStrictlySortedBy}
+use Rattle.std.specs.List.{AllByRecursion, flat_map}
+use Rattle.std.specs.Map.{keys_of, lookup}
+use Rattle.std.specs.Ordering.{is_eq, ordering_reverse}
+use Rattle.std.specs.Prelude.{Some, map}
+use Rattle.std.specs.declared.cmp.Ordering.TheVariants.{Less}
+use Rattle.base.proofs.KeyLemmas.{key_cmp-total}
+use Rattle.base.specs.Labels.{NameValue}
+use Rattle.base.specs.RrKey.{key_cmp}
+use Rattle.base.specs.declared.dns_class.DNSClass.TheVariants as classes
+use Rattle.base.specs.declared.rr_key.RrKey.{RrKey}
+use Rattle.op.specs.MessageText.{line, record_lines}
+use Rattle.op.specs.ResponseCode.{code_name}
+use Rattle.op.specs.declared.response_code.ResponseCode.{ResponseCode}
+use Rattle.op_use.specs.Applying.{IsApplied, entry_of, records_in}
+use Rattle.op_use.specs.Server.{Sections}
+use Rattle.op_use.specs.Zone.{Datum, Zone}
+use Rattle.rr.specs.RecordSet.{SetValue}
+use Rattle.txt.specs.ZoneSets.{ZoneSets}
+use Rattle.capi.specs.Applied.{applied_lines, code_word, lines_under, update_lines}
+use Rattle.capi.specs.ZoneText.{origin_line, set_lines}
+
+-- ---- entries in the order of their keys
+
+-- each is found under its key
+found_behind : (e : RrKey × SetValue) (all es : ZoneSets) → AllByRecursion (λ k. key_cmp e.0 k ≡ Less) (keys_of es)
+    → AllByRecursion (λ (f : RrKey × SetValue). lookup (is_at (key_cmp f.0)) all ≡ Some f.1) es
+    → AllByRecursion (λ (f : RrKey × SetValue). lookup (is_at (key_cmp f.0)) (e ∷ all) ≡ Some f.1) es
+found_behind e all [] above found = tt
+found_behind e all (f ∷ es) above found =
+    (cond-false _ _ _ (ap is_eq (key_cmp-total.antisymm f.0 e.0 ∙ ap ordering_reverse above.0)) ∙ found.0, found_behind e all es above.1 found.1)
+
+found_each : (es : ZoneSets) → IsStrictlySortedBy key_cmp (keys_of es)
+    → AllByRecursion (λ (e : RrKey × SetValue). lookup (is_at (key_cmp e.0)) es ≡ Some e.1) es
+unfolding IsStrictlySortedBy
+found_each [] ordered = tt
+found_each (e ∷ es) ordered =
+    (lookup_head (is_at (key_cmp e.0)) e es ((eq_by_cmp_equiv key_cmp-total).refl e.0), found_behind e es es ordered.0 (found_each es ordered.1))
+
+-- they are those of a finite map
+put_first : (k : RrKey) (v : List Datum) (es : ZoneSets) → AllByRecursion (λ q. key_cmp k q ≡ Less) (keys_of es)
+    → fin.put key_cmp k v (map entry_of es) ≡ (k, v) ∷ map entry_of es
+put_first k v [] above = refl
+put_first k v (e ∷ es) above =
+    ap (λ o. by_order o ((k, v) ∷ map entry_of (e ∷ es)) ((e.0, v) ∷ map entry_of es) (entry_of e ∷ fin.put key_cmp k v (map entry_of es))) above.0
+
+entries_are : (es : ZoneSets) → IsStrictlySortedBy key_cmp (keys_of es) → fin.entries (fin.from_entries {R = key_cmp} (map entry_of es)) ≡ map entry_of es
+unfolding IsStrictlySortedBy
+entries_are [] ordered = nil_from_length _ (sym (fin.len-entries (fin.empty {X = List Datum} {R = key_cmp})) ∙ fin.len-empty key_cmp (List Datum))
+entries_are (e ∷ es) ordered =
+    fin.entries-insert key_cmp-total (fin.from_entries (map entry_of es)) e.0 (entry_of e).1
+    ∙ ap (fin.put key_cmp e.0 (entry_of e).1) (entries_are es ordered.1) ∙ put_first e.0 (entry_of e).1 es ordered.0
+
+same_keys : (es : ZoneSets) → map (λ (e : RrKey × List Datum). e.0) (map entry_of es) ≡ keys_of es
+same_keys [] = refl
+same_keys (e ∷ es) = ap (λ ks. e.0 ∷ ks) (same_keys es)
+
+keys_are : (es : ZoneSets) → IsStrictlySortedBy key_cmp (keys_of es) → fin.keys (fin.from_entries {R = key_cmp} (map entry_of es)) ≡ keys_of es
+keys_are es ordered = ap (map (λ (e : RrKey × List Datum). e.0)) (entries_are es ordered) ∙ same_keys es
+
+-- ---- lines
+
+lines_by : (shown : RrKey → List ℕ) (es : ZoneSets) → AllByRecursion (λ (e : RrKey × SetValue). shown e.0 ≡ record_lines e.1.records) es
+    → flat_map shown (keys_of es) ≡ set_lines es
+lines_by shown [] each = refl
+lines_by shown (e ∷ es) each = λ i. each.0 i ++ lines_by shown es each.1 i
+
+module _ (name : NameValue) (m : Sections) (old new : BTreeMap RrKey SetValue) (code : ResponseCode) (ordered : tree.IsOrdered key_cmp new)
+    (after : IsApplied name classes.IN m old code new) where
+  shown_each : (es : ZoneSets) → AllByRecursion (λ (e : RrKey × SetValue). tree.get key_cmp new e.0 ≡ Some e.1) es
+      → AllByRecursion (λ (e : RrKey × SetValue). lines_under m (name, old.entries) e.0 ≡ record_lines e.1.records) es
+  shown_each [] found = tt
+  shown_each (e ∷ es) found = (ap record_lines (sym (after.exact e.0) ∙ ap records_in found.0), shown_each es found.1)
+
+  -- what is printed of the map is what the update leaves
+  pub lines_applied : applied_lines m (name, old.entries) ≡ update_lines code (name, new.entries)
+  lines_applied =
+      ap (λ (outcome : ResponseCode × Zone). line (code_word (code_name outcome.0))
+      ++ (origin_line name ++ flat_map (lines_under m (name, old.entries)) (fin.keys outcome.1.sets))) (sym after.served)
+      ∙ ap (λ lines. line (code_word (code_name code)) ++ (origin_line name ++ lines))
+      (ap (flat_map (lines_under m (name, old.entries))) (keys_are new.entries ordered)
+      ∙ lines_by (lines_under m (name, old.entries)) new.entries (shown_each new.entries (found_each new.entries ordered)))

@@ -1,0 +1,6 @@
+mod AnswerLemmas
+mod AppliedLines
+mod ApplyLemmas
+mod MessageLemmas
+mod TextLemmas
+mod UpdateLemmas

@@ -1,0 +1,81 @@
+-- What walking a message is asked for: each is read at a place, in a buffer that reaches as far.
+use Rattle.std.specs.Int.{w16, w32}
+use Rattle.std.specs.Prelude.{◌≡◌, ◌⊎◌, ℕ, ℤ, List, neg_ℤ, pos, Result, Ok, Err}
+use Rattle.base.specs.DecodeError.{decode_number}
+use Rattle.base.specs.Labels.{NameValue}
+use Rattle.base.specs.NameText.{name_text}
+use Rattle.base.specs.Names.{name_at}
+use Rattle.base.specs.Reading.{Fails, ◌>>=◌, bytes_at, number_at}
+use Rattle.base.specs.declared.error.decode_error.DecodeError.{DecodeError}
+use Rattle.rr.specs.Record.{record_at}
+use Rattle.capi.specs.Answer.{Asked}
+use Rattle.capi.specs.declared.walk.OptionFound.{OptionFound}
+use Rattle.capi.specs.declared.walk.QueryFound.{QueryFound}
+use Rattle.capi.specs.declared.walk.RecordFound.{RecordFound}
+
+-- what is found in bytes, or the first fault
+abbrev pub Found : Type 0 → Type 0
+Found A = Result A DecodeError
+
+-- What was found is this, or a fault of it; or memory ran out.
+abbrev pub Finds : {A : Type 0} → Found A → Found A → Type 0
+Finds found (Ok x) = found ≡ Ok x
+Finds found (Err e) = Fails e found
+
+-- the question at a place, and the place after it
+abbrev pub query_found : List ℕ → ℕ → Found (QueryFound × ℕ)
+query_found bytes place =
+    bytes_at place bytes 0 >>= λ before. name_at bytes before.1 >>= λ name.
+    number_at w16 bytes name.1 >>= λ type. number_at w16 bytes type.1 >>= λ class.
+    Ok (record { name = place; query_type = type.0; class = class.0 }, class.1)
+
+-- the place after the record at a place
+abbrev pub record_end : List ℕ → ℕ → Found ℕ
+record_end bytes place = bytes_at place bytes 0 >>= λ before. record_at bytes before.1 >>= λ r. Ok r.1
+
+-- the record at a place, and the place after it
+abbrev pub record_found : List ℕ → ℕ → Found (RecordFound × ℕ)
+record_found bytes place =
+    record_end bytes place >>= λ end. bytes_at place bytes 0 >>= λ before. name_at bytes before.1 >>= λ name.
+    number_at w16 bytes name.1 >>= λ type. number_at w16 bytes type.1 >>= λ class. number_at w32 bytes class.1 >>= λ ttl.
+    number_at w16 bytes ttl.1 >>= λ len.
+    Ok (record { name = place; data_place = len.1; ttl = ttl.0; record_type = type.0; class = class.0; data_len = len.0 }, end)
+
+-- the option at a place, and the place after it
+abbrev pub option_found : List ℕ → ℕ → Found (OptionFound × ℕ)
+option_found bytes place =
+    bytes_at place bytes 0 >>= λ before. number_at w16 bytes before.1 >>= λ code. number_at w16 bytes code.1 >>= λ len.
+    bytes_at len.0 bytes len.1 >>= λ text. Ok (record { data_place = len.1; code = code.0; data_len = len.0 }, text.1)
+
+-- the name at a place
+abbrev pub name_found : List ℕ → ℕ → Found NameValue
+name_found bytes place = bytes_at place bytes 0 >>= λ before. name_at bytes before.1 >>= λ name. Ok name.0
+
+-- ---- as callers are told it
+
+abbrev pub told : {A : Type 0} → Found A → Asked A
+told (Ok x) = Ok x
+told (Err fault) = Err (decode_number fault)
+
+abbrev pub found_query : List ℕ → ℕ → Asked (QueryFound × ℕ)
+found_query bytes place = told (query_found bytes place)
+
+abbrev pub found_record : List ℕ → ℕ → Asked (RecordFound × ℕ)
+found_record bytes place = told (record_found bytes place)
+
+abbrev pub found_option : List ℕ → ℕ → Asked (OptionFound × ℕ)
+found_option bytes place = told (option_found bytes place)
+
+-- the text of the name at a place
+abbrev pub name_text_at : List ℕ → ℕ → Asked (List ℕ)
+name_text_at bytes place = told (name_found bytes place >>= λ name. Ok (name_text name))
+
+-- What was found is filled in, and the place after it answered; or it stays, and minus the number of a refusal is answered.
+abbrev pub IsFilled : {P : Type 0} → Asked (P × ℕ) → P → P → ℤ → Type 0
+IsFilled (Ok found) old new result = (new ≡ found.0) × (result ≡ pos found.1)
+IsFilled (Err number) old new result = (new ≡ old) × (result ≡ neg_ℤ (pos number))
+
+-- So it is, or memory ran out.
+abbrev pub IsFound : {P : Type 0} → Asked (P × ℕ) → P → P → ℤ → Type 0
+IsFound asked old new result = IsFilled asked old new result
+    ⊎ ((new ≡ old) × (result ≡ neg_ℤ (pos 3)))

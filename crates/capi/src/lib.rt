@@ -1,0 +1,14 @@
+//! The library for callers in C, Rust and Python: `include/fuzsbanel.h` declares these calls.
+//!
+//! Each call answers a length, or minus the number of a refusal (docs/REFUSALS.md), or -100 where the caller's buffer
+//! has no room. A `Global` takes no bytes: C passes nothing for it.
+#![tactic(auto)]
+
+mod answer;
+mod applied;
+mod header;
+mod message;
+mod refusal;
+mod update;
+mod walk;
+mod zone;

@@ -1,0 +1,111 @@
+//! Messages (RFC 1035, 4.1).
+
+ghost use Rattle.std.specs.Prelude.{◌≡◌, ◌⊎◌, ◌<◌, ◌≤◌, ◌^◌, Err, IfErr, IfOk, Ok, length, take};
+ghost use Rattle.base.specs.declared.error.proto_error.ProtoError.TheVariants as refusals;
+ghost use Rattle.op.specs.Cut.{IsTooSmall, IsWritten};
+ghost use Rattle.op.specs.Fits.{Fits};
+ghost use Rattle.op.specs.Message.{message_value};
+ghost use Rattle.op.specs.MessageWritten.{message_answer};
+ghost use Rattle.capi.specs.Answer.{IsAnswered, IsNumbered, Makes};
+ghost use Rattle.capi.specs.Message.{IsCutOf, cut_of, end_of, text_of};
+
+use crate::answer::{give, number};
+use crate::refusal::Refusal;
+use base::{BinDecoder, BinEncoder, ProtoError};
+use op::Message;
+use std::alloc::Global;
+
+/// How many bytes the message takes that the bytes begin with (RFC 1035, 4.1). What comes after it isn't looked at.
+///
+/// # Errors
+///
+/// The number of the first fault, where no message begins them.
+#[unsafe(no_mangle)]
+pub extern "C" fn fuzsbanel_check(alloc: Global, message: &[u8]) -> i64
+    ensures { IsNumbered (end_of message.now) result }
+{
+    number(end(alloc, message))
+}
+
+/// Writes the message that the bytes begin with into the caller's buffer again, in at most `limit` bytes: what doesn't
+/// fit is left out, and TC says so (RFC 1035, 4.1; RFC 2181, 9).
+///
+/// # Errors
+///
+/// The number of the first fault; 1 for a limit without room for the header, 2 for one without room for the questions.
+#[unsafe(no_mangle)]
+pub extern "C" fn fuzsbanel_cut(
+    alloc: Global,
+    message: &[u8],
+    limit: u16,
+    out: &mut [u8],
+    needed: &mut usize,
+) -> i64
+    ensures exact { IsAnswered (cut_of message.now limit) out.old out.new needed.new result }
+    ensures cut { 0 < needed.new → needed.new ≤ length out.old
+        → IsCutOf message.now limit (take needed.new out.new) }
+{
+    give(cut(alloc, message, limit), out, needed)
+}
+
+/// Writes the text of the message that the bytes begin with into the caller's buffer.
+///
+/// # Errors
+///
+/// The number of the first fault.
+#[unsafe(no_mangle)]
+pub extern "C" fn fuzsbanel_text(
+    alloc: Global,
+    message: &[u8],
+    out: &mut [u8],
+    needed: &mut usize,
+) -> i64
+    ensures { IsAnswered (text_of message.now) out.old out.new needed.new result }
+{
+    give(text(alloc, message), out, needed)
+}
+
+// The place after the message that the bytes begin with.
+fn end(alloc: Global, bytes: &[u8]) -> Result<usize, Refusal>
+    ensures made { Makes (λ n. n) (end_of bytes.now) result }
+    ensures addressable { IfOk result (λ n. n < 2 ^ 63) }
+{
+    let mut decoder = BinDecoder::new(alloc, bytes);
+    let _message = Message::read(&mut decoder)?;
+    Ok(decoder.index())
+}
+
+// The bytes of a cut of the message that the bytes begin with.
+fn cut(alloc: Global, bytes: &[u8], limit: u16) -> Result<Vec<u8>, Refusal>
+    ensures exact { Makes (λ sent. sent.items) (cut_of bytes.now limit) result }
+    ensures cut { IfOk result (λ sent. IsCutOf bytes.now limit sent.items) }
+{
+    let message = Message::from_vec(alloc, bytes)?;
+    Ok(written(alloc, &message, limit)?)
+}
+
+// The bytes of the message under a limit.
+fn written(alloc: Global, message: &Message, limit: u16) -> Result<Vec<u8>, ProtoError>
+    requires { Fits (message_value message.now) }
+    ensures ok { IfOk result (λ bytes. IsWritten (message_value message.now) limit bytes.items) }
+    ensures answer { IfOk result (λ bytes. message_answer limit (message_value message.now)
+        ≡ Ok bytes.items) }
+    ensures refusal { IfErr result (λ e. (e ≡ refusals.Memory)
+        ⊎ (message_answer limit (message_value message.now) ≡ Err e)) }
+{
+    let mut bytes = Vec::new(alloc);
+    {
+        let mut encoder = BinEncoder::new(&mut bytes);
+        encoder.set_max_size(limit);
+        message.emit(&mut encoder)?;
+    }
+    Ok(bytes)
+}
+
+// The text of the message that the bytes begin with.
+fn text(alloc: Global, bytes: &[u8]) -> Result<Vec<u8>, Refusal>
+    ensures { Makes (λ text. text.items) (text_of bytes.now) result }
+{
+    let message = Message::from_vec(alloc, bytes)?;
+    Ok(message.to_string(alloc)?.into_bytes())
+}

@@ -1,0 +1,179 @@
+//! Messages that ask a server to update a zone, or for all of it (RFC 2136, 2; RFC 5936).
+//!
+//! The origin is the text of the zone's name, and a set the zone text of its records: one set, whose owner lies in the
+//! zone. Each message has the class IN, and with `use_edns` takes answers of up to 1232 bytes.
+
+ghost use Rattle.capi.specs.Answer.{IsAnswered};
+ghost use Rattle.capi.specs.Update.{append_of, create_of, delete_all_of, delete_data_of, delete_set_of, swap_of, transfer_of};
+
+mod built;
+mod sets;
+
+use crate::answer::give;
+use std::alloc::Global;
+
+/// Writes the update that creates a set into the caller's buffer: its prerequisite is that the zone has no set of that
+/// owner and type (RFC 2136, 2.4.3 and 2.5.1).
+///
+/// # Errors
+///
+/// 24 for a text that isn't UTF-8, or isn't one set in the zone; and the number of what the parser refuses.
+#[unsafe(no_mangle)]
+pub extern "C" fn fuzsbanel_create(
+    alloc: Global,
+    id: u16,
+    origin: &[u8],
+    set: &[u8],
+    use_edns: bool,
+    out: &mut [u8],
+    needed: &mut usize,
+) -> i64
+    ensures { IsAnswered (create_of id origin.now set.now use_edns) out.old out.new needed.new result }
+{
+    give(built::create(alloc, id, origin, set, use_edns), out, needed)
+}
+
+/// Writes the update that adds the records of a set into the caller's buffer; with `must_exist` its prerequisite is that
+/// the zone has a set of that owner and type (RFC 2136, 2.4.1 and 2.5.1).
+///
+/// # Errors
+///
+/// Those of `fuzsbanel_create`.
+#[unsafe(no_mangle)]
+pub extern "C" fn fuzsbanel_append(
+    alloc: Global,
+    id: u16,
+    origin: &[u8],
+    set: &[u8],
+    must_exist: bool,
+    use_edns: bool,
+    out: &mut [u8],
+    needed: &mut usize,
+) -> i64
+    ensures { IsAnswered (append_of id origin.now set.now must_exist use_edns) out.old out.new needed.new result }
+{
+    give(
+        built::append(alloc, id, origin, set, must_exist, use_edns),
+        out,
+        needed,
+    )
+}
+
+/// Writes the update that puts a set in the place of another into the caller's buffer: its prerequisite is the data of
+/// the current one (RFC 2136, 2.4.2, 2.5.4 and 2.5.1).
+///
+/// # Errors
+///
+/// Those of `fuzsbanel_create`, of the current set before the new one.
+#[unsafe(no_mangle)]
+pub extern "C" fn fuzsbanel_compare_and_swap(
+    alloc: Global,
+    id: u16,
+    origin: &[u8],
+    current: &[u8],
+    next: &[u8],
+    use_edns: bool,
+    out: &mut [u8],
+    needed: &mut usize,
+) -> i64
+    ensures { IsAnswered (swap_of id origin.now current.now next.now use_edns) out.old out.new needed.new result }
+{
+    give(
+        built::compare_and_swap(alloc, id, origin, current, next, use_edns),
+        out,
+        needed,
+    )
+}
+
+/// Writes the update that takes the data of a set out of the zone into the caller's buffer (RFC 2136, 2.5.4).
+///
+/// # Errors
+///
+/// Those of `fuzsbanel_create`.
+#[unsafe(no_mangle)]
+pub extern "C" fn fuzsbanel_delete_by_rdata(
+    alloc: Global,
+    id: u16,
+    origin: &[u8],
+    set: &[u8],
+    use_edns: bool,
+    out: &mut [u8],
+    needed: &mut usize,
+) -> i64
+    ensures { IsAnswered (delete_data_of id origin.now set.now use_edns) out.old out.new needed.new result }
+{
+    give(
+        built::delete_by_rdata(alloc, id, origin, set, use_edns),
+        out,
+        needed,
+    )
+}
+
+/// Writes the update that takes the set of an owner and a type out of the zone into the caller's buffer (RFC 2136,
+/// 2.5.2). The owner is the text of a name, which ends in the origin where it is relative.
+///
+/// # Errors
+///
+/// 24 for a text that isn't UTF-8, and for an owner outside the zone; 23 for a text that is no name.
+#[unsafe(no_mangle)]
+pub extern "C" fn fuzsbanel_delete_rrset(
+    alloc: Global,
+    id: u16,
+    origin: &[u8],
+    owner: &[u8],
+    record_type: u16,
+    use_edns: bool,
+    out: &mut [u8],
+    needed: &mut usize,
+) -> i64
+    ensures { IsAnswered (delete_set_of id origin.now owner.now record_type use_edns) out.old out.new needed.new result }
+{
+    give(
+        built::delete_rrset(alloc, id, origin, owner, record_type, use_edns),
+        out,
+        needed,
+    )
+}
+
+/// Writes the update that takes all sets of an owner out of the zone into the caller's buffer; at the origin SOA and NS
+/// stay (RFC 2136, 2.5.3 and 3.4.2.3). The owner is as `fuzsbanel_delete_rrset` has it.
+///
+/// # Errors
+///
+/// Those of `fuzsbanel_delete_rrset`.
+#[unsafe(no_mangle)]
+pub extern "C" fn fuzsbanel_delete_all(
+    alloc: Global,
+    id: u16,
+    origin: &[u8],
+    owner: &[u8],
+    use_edns: bool,
+    out: &mut [u8],
+    needed: &mut usize,
+) -> i64
+    ensures { IsAnswered (delete_all_of id origin.now owner.now use_edns) out.old out.new needed.new result }
+{
+    give(
+        built::delete_all(alloc, id, origin, owner, use_edns),
+        out,
+        needed,
+    )
+}
+
+/// Writes the question for all of a zone into the caller's buffer (RFC 5936, 2.1). It takes answers of up to 1232 bytes.
+///
+/// # Errors
+///
+/// 24 for an origin that isn't UTF-8, 23 for one that is no name.
+#[unsafe(no_mangle)]
+pub extern "C" fn fuzsbanel_zone_transfer(
+    alloc: Global,
+    id: u16,
+    origin: &[u8],
+    out: &mut [u8],
+    needed: &mut usize,
+) -> i64
+    ensures { IsAnswered (transfer_of id origin.now) out.old out.new needed.new result }
+{
+    give(built::zone_transfer(alloc, id, origin), out, needed)
+}

@@ -1,0 +1,228 @@
+//! Messages walked in the caller's buffer: nothing is copied, and places count from the buffer's first byte (RFC 1035,
+//! 4.1).
+
+ghost use Rattle.std.specs.Prelude.{◌≡◌, ◌<◌, ◌^◌, IfOk};
+ghost use Rattle.capi.specs.Answer.{IsAnswered, Makes};
+ghost use Rattle.capi.specs.Walk.{Finds, IsFound, found_option, found_query, found_record, name_text_at, option_found, query_found, record_end, record_found, name_found};
+
+use crate::answer::{give, number};
+use crate::refusal::Refusal;
+use base::{BinDecodable, BinDecoder, DecodeError, Name};
+use rr::Record;
+use std::alloc::Global;
+
+/// Where a question stands, and its fields (RFC 1035, 4.1.2).
+#[repr(C)]
+#[derive(Clone, Copy, Drop)]
+pub struct QueryFound {
+    /// The place of its name.
+    pub name: usize,
+    /// QTYPE.
+    pub query_type: u16,
+    /// The class field, with the bit that asks for a unicast response (RFC 6762, 5.4).
+    pub class: u16,
+}
+
+/// Where a record stands, and its fields (RFC 1035, 4.1.3).
+#[repr(C)]
+#[derive(Clone, Copy, Drop)]
+pub struct RecordFound {
+    /// The place of its owner.
+    pub name: usize,
+    /// The place of its data.
+    pub data_place: usize,
+    /// How many seconds it may be kept; of an OPT record, code, version and flags (RFC 6891, 6.1.3).
+    pub ttl: u32,
+    /// The type.
+    pub record_type: u16,
+    /// The class field, with the cache-flush bit (RFC 6762, 10.2); of an OPT record, the payload size.
+    pub class: u16,
+    /// How many bytes its data has.
+    pub data_len: u16,
+}
+
+/// Where an EDNS option stands in the data of an OPT record (RFC 6891, 6.1.2).
+#[repr(C)]
+#[derive(Clone, Copy, Drop)]
+pub struct OptionFound {
+    /// The place of its data.
+    pub data_place: usize,
+    /// The code.
+    pub code: u16,
+    /// How many bytes its data has.
+    pub data_len: u16,
+}
+
+/// Finds the question at a place, and answers the place after it (RFC 1035, 4.1.2). The first one stands at 12.
+///
+/// # Errors
+///
+/// The number of the first fault: 4 for a place or a question that passes the end, 5 for a name that is none. What was
+/// found before stays.
+#[unsafe(no_mangle)]
+pub extern "C" fn fuzsbanel_query(
+    alloc: Global,
+    message: &[u8],
+    place: usize,
+    found: &mut QueryFound,
+) -> i64
+    ensures { IsFound (found_query message.now place) found.old found.new result }
+{
+    match query_at(alloc, message, place) {
+        Ok((query, end)) => {
+            *found = query;
+            number(Ok(end))
+        }
+        Err(e) => number(Err(Refusal::from(e))),
+    }
+}
+
+/// Finds the record at a place, and answers the place after it (RFC 1035, 4.1.3). Its data is read, as far as its type is
+/// known, and not copied.
+///
+/// # Errors
+///
+/// The number of the first fault: 4 to 8. What was found before stays.
+#[unsafe(no_mangle)]
+pub extern "C" fn fuzsbanel_record(
+    alloc: Global,
+    message: &[u8],
+    place: usize,
+    found: &mut RecordFound,
+) -> i64
+    ensures { IsFound (found_record message.now place) found.old found.new result }
+{
+    match record_at(alloc, message, place) {
+        Ok((record, end)) => {
+            *found = record;
+            number(Ok(end))
+        }
+        Err(e) => number(Err(Refusal::from(e))),
+    }
+}
+
+/// Finds the EDNS option at a place, and answers the place after it (RFC 6891, 6.1.2). The first one stands where the
+/// data of the OPT record does, and the bytes end where that data ends.
+///
+/// # Errors
+///
+/// 4 for an option that passes the end. What was found before stays.
+#[unsafe(no_mangle)]
+pub extern "C" fn fuzsbanel_option(
+    alloc: Global,
+    bytes: &[u8],
+    place: usize,
+    found: &mut OptionFound,
+) -> i64
+    ensures { IsFound (found_option bytes.now place) found.old found.new result }
+{
+    match option_at(alloc, bytes, place) {
+        Ok((option, end)) => {
+            *found = option;
+            number(Ok(end))
+        }
+        Err(e) => number(Err(Refusal::from(e))),
+    }
+}
+
+/// Writes the text of the name at a place into the caller's buffer (RFC 1035, 5.1).
+///
+/// # Errors
+///
+/// The number of the first fault: 4 or 5.
+#[unsafe(no_mangle)]
+pub extern "C" fn fuzsbanel_name(
+    alloc: Global,
+    message: &[u8],
+    place: usize,
+    out: &mut [u8],
+    needed: &mut usize,
+) -> i64
+    ensures { IsAnswered (name_text_at message.now place) out.old out.new needed.new result }
+{
+    give(name_text(alloc, message, place), out, needed)
+}
+
+fn query_at(alloc: Global, bytes: &[u8], place: usize) -> Result<(QueryFound, usize), DecodeError>
+    ensures found { Finds (query_found bytes.now place) result }
+    ensures addressable { IfOk result (λ r. r.1 < 2 ^ 63) }
+{
+    let mut decoder = BinDecoder::new(alloc, bytes);
+    let _before = decoder.read_slice(place)?;
+    let _name = Name::read(&mut decoder)?;
+    let query_type = decoder.read_u16()?;
+    let class = decoder.read_u16()?;
+    let found = QueryFound {
+        name: place,
+        query_type,
+        class,
+    };
+    Ok((found, decoder.index()))
+}
+
+fn record_at(alloc: Global, bytes: &[u8], place: usize) -> Result<(RecordFound, usize), DecodeError>
+    ensures found { Finds (record_found bytes.now place) result }
+    ensures addressable { IfOk result (λ r. r.1 < 2 ^ 63) }
+{
+    let end = record_end(alloc, bytes, place)?;
+    let mut decoder = BinDecoder::new(alloc, bytes);
+    let _before = decoder.read_slice(place)?;
+    let _name = Name::read(&mut decoder)?;
+    let record_type = decoder.read_u16()?;
+    let class = decoder.read_u16()?;
+    let ttl = decoder.read_u32()?;
+    let data_len = decoder.read_u16()?;
+    let found = RecordFound {
+        name: place,
+        data_place: decoder.index(),
+        ttl,
+        record_type,
+        class,
+        data_len,
+    };
+    Ok((found, end))
+}
+
+// The place after the record at a place.
+fn record_end(alloc: Global, bytes: &[u8], place: usize) -> Result<usize, DecodeError>
+    ensures found { Finds (record_end bytes.now place) result }
+    ensures addressable { IfOk result (λ end. end < 2 ^ 63) }
+{
+    let mut decoder = BinDecoder::new(alloc, bytes);
+    let _before = decoder.read_slice(place)?;
+    let _record = Record::read(&mut decoder)?;
+    Ok(decoder.index())
+}
+
+fn option_at(alloc: Global, bytes: &[u8], place: usize) -> Result<(OptionFound, usize), DecodeError>
+    ensures found { Finds (option_found bytes.now place) result }
+    ensures addressable { IfOk result (λ r. r.1 < 2 ^ 63) }
+{
+    let mut decoder = BinDecoder::new(alloc, bytes);
+    let _before = decoder.read_slice(place)?;
+    let code = decoder.read_u16()?;
+    let data_len = decoder.read_u16()?;
+    let data_place = decoder.index();
+    let _text = decoder.read_slice(usize::from(data_len))?;
+    let found = OptionFound {
+        data_place,
+        code,
+        data_len,
+    };
+    Ok((found, decoder.index()))
+}
+
+fn name_text(alloc: Global, bytes: &[u8], place: usize) -> Result<Vec<u8>, Refusal>
+    ensures { Makes (λ text. text.items) (name_text_at bytes.now place) result }
+{
+    let name = name_at(alloc, bytes, place)?;
+    Ok(name.to_string(alloc)?.into_bytes())
+}
+
+fn name_at(alloc: Global, bytes: &[u8], place: usize) -> Result<Name, DecodeError>
+    ensures { Finds (name_found bytes.now place) result }
+{
+    let mut decoder = BinDecoder::new(alloc, bytes);
+    let _before = decoder.read_slice(place)?;
+    Name::read(&mut decoder)
+}

@@ -1,0 +1,192 @@
+/* DNS messages, zone text and updates, called from C11 and C++: the exports of crates/capi, each proved to meet its
+ * contract there. docs/CALLING.md has how to build the archive, and docs/REFUSALS.md what each number means.
+ *
+ * Answers. Each call answers a length or a place in bytes, 0 or more; or minus the number of a refusal; or
+ * FUZSBANEL_NO_ROOM where the caller's buffer is too small. A call with a buffer `out` of `cap` bytes sets `*needed`: to
+ * how many bytes the answer takes, also where there is no room, and to 0 where it refuses. It writes the answer at the
+ * front of `out` and nothing after it; of FUZSBANEL_NO_ROOM and of a refusal it writes nothing. So a caller may ask with
+ * a `cap` of 0 first. No text ends in a zero byte.
+ *
+ * Who owns what. The caller owns every buffer, and no call keeps one or hands one out: what a call allocates, it frees
+ * before it returns. The caller owes this, which nothing checks:
+ *   - no pointer is null, not even beside a length of 0, and as many bytes as are said stand there, fewer than 2^63;
+ *   - what a call writes to (`out`, `needed`, what is found) overlaps nothing else that the call is handed;
+ *   - a `bool` is 0 or 1;
+ *   - `malloc`, `realloc` and `free` are of one allocator, and align to 16 bytes; or else the program defines
+ *     `rattle_alloc`, `rattle_realloc` and `rattle_dealloc` itself (bindings/c/arena.c);
+ *   - no call comes from a signal handler, or from the forked child of a process with threads.
+ * Calls share nothing, so threads may call at once. */
+#ifndef FUZSBANEL_H
+#define FUZSBANEL_H
+
+#include <stdbool.h>
+#include <stddef.h>
+#include <stdint.h>
+
+#ifdef __cplusplus
+extern "C" {
+#endif
+
+/* What is answered where `out` has no room. */
+#define FUZSBANEL_NO_ROOM (-100)
+
+/* The numbers of refusals (docs/REFUSALS.md). A call answers minus the number. */
+enum fuzsbanel_refusal {
+    FUZSBANEL_LIMIT = 1,              /* the limit has no room for the header */
+    FUZSBANEL_QUESTIONS = 2,          /* the limit has no room for the questions */
+    FUZSBANEL_MEMORY = 3,             /* memory ran out */
+    FUZSBANEL_SHORT = 4,              /* the bytes end inside a field, or before the place */
+    FUZSBANEL_BAD_NAME = 5,           /* a name that is spelled wrongly */
+    FUZSBANEL_OPT_OWNER = 6,          /* an OPT record whose owner isn't the root */
+    FUZSBANEL_DATA_LENGTH = 7,        /* RDLENGTH says more bytes than are left */
+    FUZSBANEL_BAD_DATA = 8,           /* data that its type doesn't read */
+    FUZSBANEL_EMPTY_DATA = 10,        /* empty data outside an update */
+    FUZSBANEL_AFTER_SIGNATURE = 11,   /* a record after the signature */
+    FUZSBANEL_MISPLACED = 12,         /* OPT, SIG or TSIG outside the additional section */
+    FUZSBANEL_SECOND_OPT = 13,        /* a second OPT record */
+    FUZSBANEL_UNEXPECTED_TOKEN = 17,  /* zone text: a token that has no place there */
+    FUZSBANEL_LEXER = 18,             /* zone text: a character or bracket that no token has */
+    FUZSBANEL_ENTRY = 19,             /* zone text: an entry that can't be carried out */
+    FUZSBANEL_NO_INCLUDE = 20,        /* zone text: an included text, and none is handed in */
+    FUZSBANEL_UNKNOWN_TYPE = 21,      /* zone text: no record type */
+    FUZSBANEL_UNSUPPORTED_TYPE = 22,  /* zone text: a type without a text form */
+    FUZSBANEL_BAD_TEXT = 23,          /* zone text: items that are no data, name or TTL */
+    FUZSBANEL_INPUT = 24,             /* not UTF-8, or not one set within the zone */
+    FUZSBANEL_CLASS = 25              /* a record of the zone isn't of the class IN */
+};
+
+/* ---- messages (RFC 1035, 4.1) */
+
+/* How many bytes the message takes that `message` begins with: 12 or more. Bytes after it aren't looked at. Refuses with
+ * the message's first fault: 4 to 13. */
+int64_t fuzsbanel_check(const uint8_t *message, size_t len);
+
+/* Writes that message again in at most `limit` bytes, names compressed: what doesn't fit is left out, and TC says so
+ * (RFC 2181, 9). Any limit from 12 bytes and the questions on has room; `cap` may be less than `limit`. Refuses as
+ * fuzsbanel_check does, and with 1 or 2 for a limit without room. */
+int64_t fuzsbanel_cut(const uint8_t *message, size_t len, uint16_t limit, uint8_t *out, size_t cap, size_t *needed);
+
+/* Writes the text of that message, a line for the header, each question and each record. Refuses as fuzsbanel_check. */
+int64_t fuzsbanel_text(const uint8_t *message, size_t len, uint8_t *out, size_t cap, size_t *needed);
+
+/* The fields of a header (RFC 1035, 4.1.1; RFC 4035, 3.1.6). */
+struct fuzsbanel_header {
+    uint16_t id;
+    uint16_t queries;     /* how many questions, answers, authorities and additional records are counted */
+    uint16_t answers;
+    uint16_t authorities;
+    uint16_t additionals;
+    uint8_t opcode;       /* 0 to 15 */
+    uint8_t rcode;        /* the header's four bits */
+    bool response;
+    bool authoritative;
+    bool truncated;
+    bool recursion_desired;
+    bool recursion_available;
+    bool authentic_data;
+    bool checking_disabled;
+};
+
+/* Fills in the header that `message` begins with, and answers 12. Refuses with 4, and `*header` stays. What comes after
+ * the header isn't looked at. */
+int64_t fuzsbanel_header(const uint8_t *message, size_t len, struct fuzsbanel_header *header);
+
+/* ---- a message walked where it stands: nothing is copied, and places count from the first byte of `message` */
+
+/* A question: the place of its name, QTYPE, and the class field with its top bit (RFC 1035, 4.1.2; RFC 6762, 5.4). */
+struct fuzsbanel_query {
+    size_t name;
+    uint16_t query_type;
+    uint16_t class_;
+};
+
+/* A record: the places of its owner and of its data, the TTL in seconds, the type, the class field with its top bit, and
+ * how many bytes the data has (RFC 1035, 4.1.3; of an OPT record RFC 6891, 6.1.2). */
+struct fuzsbanel_record {
+    size_t name;
+    size_t data;
+    uint32_t ttl;
+    uint16_t record_type;
+    uint16_t class_;
+    uint16_t data_len;
+};
+
+/* An EDNS option: the place of its data, the code, and how many bytes the data has (RFC 6891, 6.1.2). */
+struct fuzsbanel_option {
+    size_t data;
+    uint16_t code;
+    uint16_t data_len;
+};
+
+/* Finds the question at `place`, and answers the place after it. The first stands at 12, and each other one after the one
+ * before; the header counts them. Refuses with 4 or 5, and `*query` stays. */
+int64_t fuzsbanel_query(const uint8_t *message, size_t len, size_t place, struct fuzsbanel_query *query);
+
+/* Finds the record at `place`, and answers the place after it. The first stands after the last question. Refuses with 4 to
+ * 8, and `*record` stays. */
+int64_t fuzsbanel_record(const uint8_t *message, size_t len, size_t place, struct fuzsbanel_record *record);
+
+/* Finds the option at `place`, and answers the place after it. The first stands where the data of the OPT record does;
+ * `len` is where that data ends: `data + data_len`. Refuses with 4, and `*option` stays. */
+int64_t fuzsbanel_option(const uint8_t *message, size_t len, size_t place, struct fuzsbanel_option *option);
+
+/* Writes the text of the name at `place` (RFC 1035, 5.1): 1,005 bytes at most. Refuses with 4 or 5. */
+int64_t fuzsbanel_name(const uint8_t *message, size_t len, size_t place, uint8_t *out, size_t cap, size_t *needed);
+
+/* ---- zone text (RFC 1035, 5.1), UTF-8
+ *
+ * `origin` is the text of a name, as `example.`; of no bytes, there is none. */
+
+/* Writes the zone of a text as zone text: `$ORIGIN`, and each record on a line of its own, in the order of owners and
+ * types. No text is there to be included. Refuses with 17 to 24. */
+int64_t fuzsbanel_zone(const uint8_t *origin, size_t origin_len, const uint8_t *text, size_t text_len, uint8_t *out,
+                       size_t cap, size_t *needed);
+
+/* Writes what a server makes of an update message and the zone of a text: a line with its code, as `NoError` or
+ * `YXRRSet`, and the zone then, as fuzsbanel_zone has it (RFC 2136, 3). Of any code but `NoError` the zone is as it was.
+ * Refuses with the update's first fault, as fuzsbanel_zone does, and with 25 for a zone of another class than IN. */
+int64_t fuzsbanel_apply(const uint8_t *update, size_t update_len, const uint8_t *origin, size_t origin_len,
+                        const uint8_t *text, size_t text_len, uint8_t *out, size_t cap, size_t *needed);
+
+/* ---- updates (RFC 2136, 2)
+ *
+ * Each writes the bytes of a message with this id. `origin` is the text of the zone's name, as `example.`; a set is the
+ * zone text of its records, as `www 300 A 192.0.2.1`: all of one owner, in the zone, and of one type. With `use_edns` the
+ * message takes answers of up to 1232 bytes. Each refuses with 17 to 24. */
+
+/* Creates a set, if the zone has none of that owner and type (2.4.3). */
+int64_t fuzsbanel_create(uint16_t id, const uint8_t *origin, size_t origin_len, const uint8_t *set, size_t set_len,
+                         bool use_edns, uint8_t *out, size_t cap, size_t *needed);
+
+/* Adds records to a set; with `must_exist`, if the zone has one of that owner and type (2.4.1). */
+int64_t fuzsbanel_append(uint16_t id, const uint8_t *origin, size_t origin_len, const uint8_t *set, size_t set_len,
+                         bool must_exist, bool use_edns, uint8_t *out, size_t cap, size_t *needed);
+
+/* Puts a set in the place of another, if the zone has exactly that (2.4.2). */
+int64_t fuzsbanel_compare_and_swap(uint16_t id, const uint8_t *origin, size_t origin_len, const uint8_t *current,
+                                   size_t current_len, const uint8_t *next, size_t next_len, bool use_edns, uint8_t *out,
+                                   size_t cap, size_t *needed);
+
+/* Takes the data of a set out of the zone (2.5.4). */
+int64_t fuzsbanel_delete_by_rdata(uint16_t id, const uint8_t *origin, size_t origin_len, const uint8_t *set,
+                                  size_t set_len, bool use_edns, uint8_t *out, size_t cap, size_t *needed);
+
+/* Takes the set of an owner and a type out of the zone (2.5.2). `owner` is the text of a name, which ends in the origin
+ * where it is relative. */
+int64_t fuzsbanel_delete_rrset(uint16_t id, const uint8_t *origin, size_t origin_len, const uint8_t *owner,
+                               size_t owner_len, uint16_t record_type, bool use_edns, uint8_t *out, size_t cap,
+                               size_t *needed);
+
+/* Takes all sets of an owner out of the zone; at the origin SOA and NS stay (2.5.3). */
+int64_t fuzsbanel_delete_all(uint16_t id, const uint8_t *origin, size_t origin_len, const uint8_t *owner,
+                             size_t owner_len, bool use_edns, uint8_t *out, size_t cap, size_t *needed);
+
+/* Asks for all of a zone (RFC 5936, 2.1). */
+int64_t fuzsbanel_zone_transfer(uint16_t id, const uint8_t *origin, size_t origin_len, uint8_t *out, size_t cap,
+                                size_t *needed);
+
+#ifdef __cplusplus
+}
+#endif
+
+#endif
