@@ -13,6 +13,7 @@ use Rattle.capi.specs.declared.refusal.Refusal.{Refusal}
 abbrev pub Asked : Type 0 → Type 0
 Asked A = Result A ℕ
 
+-- a call goes on with what was made, or ends with its refusal's number
 infixl 10 ◌>>=◌
 abbrev pub ◌>>=◌ : {A B : Type 0} → Asked A → (A → Asked B) → Asked B
 (Ok x) >>= f = f x
@@ -42,10 +43,12 @@ written (Err e) = Err (proto_number e)
 
 -- ---- what a call made
 
+-- the bytes that were made, or the number of the refusal
 abbrev pub bytes_made : Result (Vec ℕ Global) Refusal → Asked (List ℕ)
 bytes_made (Ok bytes) = Ok bytes.items
 bytes_made (Err refusal) = Err refusal.number
 
+-- the number that was made, or that of the refusal
 abbrev pub number_made : Result ℕ Refusal → Asked ℕ
 number_made (Ok n) = Ok n
 number_made (Err refusal) = Err refusal.number

@@ -12,6 +12,7 @@ use Rattle.capi.specs.declared.header.HeaderNumbers.{HeaderNumbers}
 abbrev pub header_of : List ℕ → Asked Header
 header_of bytes = read (header_at bytes 0)
 
+-- the fields of a header as numbers
 abbrev pub numbers_of : Header → HeaderNumbers
 numbers_of h = record {
   id = h.metadata.id;

@@ -46,32 +46,39 @@ owner_of_text origin text =
 abbrev pub sent : MessageValue → Asked (List ℕ)
 sent m = written (message_answer 65535 m)
 
+-- the bytes of the message that creates a set (RFC 2136, 2.4.3 and 2.5.1)
 abbrev pub create_of : ℕ → List ℕ → List ℕ → Bool → Asked (List ℕ)
 create_of id origin set use_edns =
     zone_name_of origin >>= λ zone. set_of_text zone set >>= λ s. sent (update_message id use_edns (create s zone))
 
+-- the bytes of the message that adds a set's records (RFC 2136, 2.5.1)
 abbrev pub append_of : ℕ → List ℕ → List ℕ → Bool → Bool → Asked (List ℕ)
 append_of id origin set must_exist use_edns =
     zone_name_of origin >>= λ zone. set_of_text zone set >>= λ s. sent (update_message id use_edns (append s zone must_exist))
 
+-- the bytes of the message that puts a set in the place of another (RFC 2136, 2.4.2)
 abbrev pub swap_of : ℕ → List ℕ → List ℕ → List ℕ → Bool → Asked (List ℕ)
 swap_of id origin current new use_edns =
     zone_name_of origin >>= λ zone. set_of_text zone current >>= λ old. set_of_text zone new >>= λ s.
     sent (update_message id use_edns (compare_and_swap old s zone))
 
+-- the bytes of the message that deletes records by their data (RFC 2136, 2.5.4)
 abbrev pub delete_data_of : ℕ → List ℕ → List ℕ → Bool → Asked (List ℕ)
 delete_data_of id origin set use_edns =
     zone_name_of origin >>= λ zone. set_of_text zone set >>= λ s. sent (update_message id use_edns (delete_by_rdata s zone))
 
+-- the bytes of the message that deletes a set (RFC 2136, 2.5.2)
 abbrev pub delete_set_of : ℕ → List ℕ → List ℕ → ℕ → Bool → Asked (List ℕ)
 delete_set_of id origin owner type use_edns =
     zone_name_of origin >>= λ zone. owner_of_text zone owner >>= λ name.
     sent (update_message id use_edns (delete_rrset (empty_record name (type_of type) classes.IN) zone))
 
+-- the bytes of the message that deletes all sets of an owner (RFC 2136, 2.5.3)
 abbrev pub delete_all_of : ℕ → List ℕ → List ℕ → Bool → Asked (List ℕ)
 delete_all_of id origin owner use_edns =
     zone_name_of origin >>= λ zone. owner_of_text zone owner >>= λ name.
     sent (update_message id use_edns (delete_all name zone classes.IN))
 
+-- the bytes of the message that asks for a zone (RFC 5936, 2.1)
 abbrev pub transfer_of : ℕ → List ℕ → Asked (List ℕ)
 transfer_of id origin = zone_name_of origin >>= λ zone. sent (transfer_message id zone None)

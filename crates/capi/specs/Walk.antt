@@ -53,16 +53,20 @@ name_found bytes place = bytes_at place bytes 0 >>= λ before. name_at bytes bef
 
 -- ---- as callers are told it
 
+-- what was found, with the number in the place of the fault
 abbrev pub told : {A : Type 0} → Found A → Asked A
 told (Ok x) = Ok x
 told (Err fault) = Err (decode_number fault)
 
+-- the question at a place, as callers are told it
 abbrev pub found_query : List ℕ → ℕ → Asked (QueryFound × ℕ)
 found_query bytes place = told (query_found bytes place)
 
+-- the record at a place, as callers are told it
 abbrev pub found_record : List ℕ → ℕ → Asked (RecordFound × ℕ)
 found_record bytes place = told (record_found bytes place)
 
+-- the option at a place, as callers are told it
 abbrev pub found_option : List ℕ → ℕ → Asked (OptionFound × ℕ)
 found_option bytes place = told (option_found bytes place)
 

@@ -43,6 +43,7 @@ zone_of_text origin text = origin_of_text origin >>= λ under. zone_under under 
 abbrev pub set_lines : ZoneSets → List ℕ
 set_lines = flat_map (λ (e : RrKey × SetValue). record_lines e.1.records)
 
+-- the line of an origin
 abbrev pub origin_line : NameValue → List ℕ
 origin_line origin = line (codes "$ORIGIN " ++ name_text origin)
 

@@ -17,7 +17,7 @@ loop-key-init c = (
 pub loop-key-preserved : goal.loop-key-preserved
 loop-key-preserved c =
     let fails : not (c.args.is_beside && is_cname c.in-Some.key.now.record_type) ≡ false
-        = λ i. not (c.if-is_beside.true i && (sym c.is_cname.ensures ∙ c.if-is_cname.true) i) in (
+    = λ i. not (c.if-is_beside.true i && (sym c.is_cname.ensures ∙ c.if-is_cname.true) i) in (
       any_next c.args.owner.now (λ k. not (c.args.is_beside && is_cname k.record_type)) c.loop-key.key-iterator c.next.new.self _ _ c.in-Some.ensures.steps
           (ap (λ k. same_lower k.name c.in-Some.key.now.name) (sym c.in_ok-least.ensures) ∙ not-false _ (sym c.ne.ensures ∙ c.if-ne.false)) fails c.loop-key.invariant.0,
       tt,

@@ -27,10 +27,10 @@ loop-key-preserved-then-is_guarded c = (
 pub loop-key-preserved : goal.loop-key-preserved
 loop-key-preserved c =
     let copied : c.push.new.self.items ≡ c.loop-key.found.items ++ c.in-Some.key.now ∷ [] = search rules in (
-  kept_here c.args.owner.now (λ k. not (same_name c.args.owner.now c.args.origin.now && (is_soa k.record_type || is_ns k.record_type)))
-      c.loop-key.found.items copied c.in-Some.ensures.steps
-      (ap (λ k. same_lower k.name c.in-Some.key.now.name) (sym c.in_ok-least.ensures) ∙ not-false _ (sym c.ne.ensures ∙ c.if-ne.false))
-      (ap not (sym c.is_guarded.ensures ∙ c.if-is_guarded.false)) c.loop-key.invariant.0,
-  tt,
-  tt,
-)
+      kept_here c.args.owner.now (λ k. not (same_name c.args.owner.now c.args.origin.now && (is_soa k.record_type || is_ns k.record_type)))
+          c.loop-key.found.items copied c.in-Some.ensures.steps
+          (ap (λ k. same_lower k.name c.in-Some.key.now.name) (sym c.in_ok-least.ensures) ∙ not-false _ (sym c.ne.ensures ∙ c.if-ne.false))
+          (ap not (sym c.is_guarded.ensures ∙ c.if-is_guarded.false)) c.loop-key.invariant.0,
+      tt,
+      tt,
+    )
