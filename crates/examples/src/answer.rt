@@ -29,7 +29,7 @@ pub fn respond(alloc: Global, received: &[u8], answers: Vec<Record>) -> Result<V
     sent(alloc, &response, limit)
 }
 
-// The response to a query that has these answers.
+/// The response to a query that has these answers.
 fn response_to(alloc: Global, query: Message, answers: Vec<Record>) -> Message
     ensures { message_value result ≡ response_to (message_value query) answers.items }
 {
@@ -44,7 +44,7 @@ fn response_to(alloc: Global, query: Message, answers: Vec<Record>) -> Message
     response
 }
 
-// The bytes of a message, as much of it as the limit has room for.
+/// The bytes of a message, as much of it as the limit has room for.
 fn sent(alloc: Global, message: &Message, limit: u16) -> Result<Vec<u8>, ProtoError>
     ensures written { Fits (message_value message.now) → IfOk result (λ bytes. IsWritten (message_value message.now) limit bytes.items) }
     ensures refused { IfErr result (λ e. (e ≡ refusals.Memory) ⊎ IsTooSmall (message_value message.now) limit e) }

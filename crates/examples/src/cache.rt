@@ -39,7 +39,7 @@ pub fn cached(alloc: Global, received: Vec<u8>, seconds: u32) -> Result<CacheEnt
     })
 }
 
-// The records with so many seconds off their TTLs.
+/// The records with so many seconds off their TTLs.
 fn run_down(records: Vec<Record>, seconds: u32) -> Vec<Record>
     ensures { result.items ≡ map (decremented seconds) records.items }
 {
@@ -50,7 +50,7 @@ fn run_down(records: Vec<Record>, seconds: u32) -> Vec<Record>
     kept
 }
 
-// Takes so many seconds off the TTL of a record.
+/// Takes so many seconds off the TTL of a record.
 fn age(entry: &mut Record, seconds: u32)
     ensures { entry.new ≡ decremented seconds entry.old }
 {

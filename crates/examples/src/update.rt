@@ -47,7 +47,7 @@ pub fn create_in(
     Ok(apply_update(alloc, &sets, origin, DNSClass::IN, &update)?)
 }
 
-// The bytes of the update that creates a set.
+/// The bytes of the update that creates a set.
 fn sent(alloc: Global, origin: &Name, set: RecordSet) -> Result<Vec<u8>, ProtoError>
     requires { is_zone_of origin.now set.name ≡ true }
     ensures written { IfOk result (λ bytes. IsSendable origin.now set → IsWritten (creating origin.now set) 65535 bytes.items) }
@@ -57,7 +57,7 @@ fn sent(alloc: Global, origin: &Name, set: RecordSet) -> Result<Vec<u8>, ProtoEr
     update.to_vec()
 }
 
-// The message that bytes begin with, if it was not cut.
+/// The message that bytes begin with, if it was not cut.
 fn received(alloc: Global, bytes: &[u8]) -> Result<Message, Refusal>
     ensures whole { IfOk result (λ m. IsReceived bytes.now (message_value m)) }
     ensures refused { IfErr result (λ e. IsNotReceived bytes.now e) }
@@ -69,7 +69,7 @@ fn received(alloc: Global, bytes: &[u8]) -> Result<Message, Refusal>
     Ok(message)
 }
 
-// The sets of a zone of the class IN.
+/// The sets of a zone of the class IN.
 fn zone_of_text(
     alloc: Global,
     origin: &Name,

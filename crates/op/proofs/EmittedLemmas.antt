@@ -100,7 +100,7 @@ emits_queries = slice_emits QueryWord plain_query query_owner query_written
 -- a part that is a slice: what is left of it before it is written, and after that
 pub record Slice (E : Type 0) : Type 0 where
   pub before : Iter E
-  pub after_it : Iter E
+  pub rest : Iter E
 
 -- the parts of a message that is composed of slices, with the records of EDNS and of the signature
 pub record Slices : Type 0 where
@@ -114,7 +114,7 @@ pub record Slices : Type 0 where
 -- the three sections are written
 abbrev pub EmitsSlices : Slices → State → Result WrittenSections ProtoError → State → Type 0
 EmitsSlices s =
-    EmitsSections emits_records emits_records emits_records s.answers.before s.answers.after_it s.authorities.before s.authorities.after_it s.additionals.before s.additionals.after_it
+    EmitsSections emits_records emits_records emits_records s.answers.before s.answers.rest s.authorities.before s.authorities.rest s.additionals.before s.additionals.rest
 
 -- fronts of three lists of records were written
 pub record ThreeFronts (xs ys zs : List (Record RData)) (a d : State) (sections : WrittenSections) : Type 0 where
@@ -130,11 +130,11 @@ SectionFronts s = ThreeFronts s.answers.before.rest.now s.authorities.before.res
 
 -- a section that is a slice is written and counted
 abbrev pub EmitsSlice : Slice (Record RData) → State → Result Written ProtoError → State → Type 0
-EmitsSlice x = EmitsPart emits_records x.before x.after_it
+EmitsSlice x = EmitsPart emits_records x.before x.rest
 
 -- of a section that is a slice a front was written
 pub records_front : (x : Slice (Record RData)) (a b : State) (w : Written) → EmitsSlice x a (Ok w) b → WritesRecords x.before.rest.now a b w.count w.is_cut
-records_front x a b w part = slice_front RecordWord plain_record record_owner record_written x.before x.after_it a b w part
+records_front x a b w part = slice_front RecordWord plain_record record_owner record_written x.before x.rest a b w part
 
 module _ (s : Slices) (sections : WrittenSections) (first last : State) where
   abbrev Third : Written → Written → Written → State → Result WrittenSections ProtoError → State → Type 0
@@ -144,7 +144,7 @@ module _ (s : Slices) (sections : WrittenSections) (first last : State) where
   Second answers authorities = AndThen (EmitsSlice s.additionals) ⊤ (Third answers authorities)
 
   abbrev First : Written → State → Result WrittenSections ProtoError → State → Type 0
-  First answers = AndThen (EmitsSlice s.authorities) (s.additionals.after_it ≡ s.additionals.before) (Second answers)
+  First answers = AndThen (EmitsSlice s.authorities) (s.additionals.rest ≡ s.additionals.before) (Second answers)
 
   third_done : {answers authorities : Written} {second third : State} → WritesRecords s.answers.before.rest.now first second answers.count answers.is_cut
       → WritesRecords s.authorities.before.rest.now second third authorities.count authorities.is_cut
@@ -271,8 +271,8 @@ assemble {m = m} {first = first} {fourth = fourth} {sixth = sixth} {h = h} {sect
 -- the composition of slices
 abbrev pub Composed : MessageValue → Slices → State → Result Header ProtoError → State → Type 0
 Composed m s =
-    Composition emits_records emits_records emits_records s.answers.before s.answers.after_it s.authorities.before s.authorities.after_it s.additionals.before s.additionals.after_it
-    m.metadata emits_queries s.queries.before s.queries.after_it s.edns s.signature
+    Composition emits_records emits_records emits_records s.answers.before s.answers.rest s.authorities.before s.authorities.rest s.additionals.before s.additionals.rest
+    m.metadata emits_queries s.queries.before s.queries.rest s.edns s.signature
 
 -- the slices are the message's
 pub record AreOf (m : MessageValue) (s : Slices) : Type 0 where
@@ -285,7 +285,7 @@ pub record AreOf (m : MessageValue) (s : Slices) : Type 0 where
 
 -- what is left of no section changes
 abbrev pub Idle : Slices → Type 0
-Idle s = (s.answers.after_it ≡ s.answers.before) × (s.authorities.after_it ≡ s.authorities.before) × (s.additionals.after_it ≡ s.additionals.before)
+Idle s = (s.answers.rest ≡ s.answers.before) × (s.authorities.rest ≡ s.authorities.before) × (s.additionals.rest ≡ s.additionals.before)
 
 module _ (m : MessageValue) (s : Slices) (are : AreOf m s) (old new : State) (h : Header) where
   abbrev Filled : ℕ → Header → State → Result Header ProtoError → State → Type 0
@@ -301,7 +301,7 @@ module _ (m : MessageValue) (s : Slices) (are : AreOf m s) (old new : State) (h 
   Sectioned place queries = AndThen (EmitsSlices s) ⊤ (Extended place queries)
 
   abbrev Asked : ℕ → State → Result Header ProtoError → State → Type 0
-  Asked place = AndThen (λ a answer b. emits_queries s.queries.before a answer s.queries.after_it b) (Idle s) (Sectioned place)
+  Asked place = AndThen (λ a answer b. emits_queries s.queries.before a answer s.queries.rest b) (Idle s) (Sectioned place)
 
   header_done : {place queries : ℕ} {first fourth sixth : State} {sections : WrittenSections} {total : Written} → Begun s.queries.before.rest.now old place queries first
       → SectionFronts s first fourth sections → TwoFronts s.edns s.signature sections.additionals fourth sixth total
@@ -326,10 +326,10 @@ module _ (m : MessageValue) (s : Slices) (are : AreOf m s) (old new : State) (h 
   sections_next : {place queries : ℕ} {first : State} → Begun s.queries.before.rest.now old place queries first → Both (EmitsSlices s) (Extended place queries) first (Ok h) new → Emitted m old new h
   sections_next {first = first} begun b = extras_next begun (sections_done s b.value first b.between b.ran) (went h b.rest)
 
-  queries_next : (place : ℕ) (kept : State) → KeepsRoom old (Ok place) kept → Both (λ a answer t. emits_queries s.queries.before a answer s.queries.after_it t) (Sectioned place) kept (Ok h) new
+  queries_next : (place : ℕ) (kept : State) → KeepsRoom old (Ok place) kept → Both (λ a answer t. emits_queries s.queries.before a answer s.queries.rest t) (Sectioned place) kept (Ok h) new
       → Emitted m old new h
   queries_next place kept room b =
-      let asked = Emits-slice QueryWord plain_query query_owner query_written s.queries.before s.queries.after_it kept b.between b.value b.ran in
+      let asked = Emits-slice QueryWord plain_query query_owner query_written s.queries.before s.queries.rest kept b.between b.value b.ran in
       sections_next (record { kept = kept; room = room; asked = asked.0; exact = asked.2; counted = asked.1 }) (went h b.rest)
 
   room_next : Both KeepsRoom Asked old (Ok h) new → Emitted m old new h

@@ -49,10 +49,10 @@ module _ (m : MessageValue) (s : Slices) (are : AreOf m s) (old new : State) (pl
       let fits = ap (λ (a : State). length a.bytes) room.1 ∙ length-append old.bytes (replicate 12 0) in
       (omega (arith, room.2, fits), subst (λ a. WritesFront QueryWord plain_query query_owner query_written m.queries a new count true) room.1 front)
 
-  pub queries_failed : (f : ProtoError) → emits_queries s.queries.before kept (Err f) s.queries.after_it new → Left m old new f
+  pub queries_failed : (f : ProtoError) → emits_queries s.queries.before kept (Err f) s.queries.rest new → Left m old new f
   queries_failed refusals.Memory run = inl refl
   queries_failed (refusals.NotAllRecordsWritten count) run =
-      let front = Emits-front QueryWord plain_query query_owner query_written s.queries.before s.queries.after_it kept new count run in
+      let front = Emits-front QueryWord plain_query query_owner query_written s.queries.before s.queries.rest kept new count run in
       inr (not_all front.0 front.2 front.1 count front.3 front.4 front.5 front.6 front.7 front.8)
   queries_failed refusals.MaxBufferSizeExceeded run = absurd run
   queries_failed refusals.NotOpt run = absurd run

@@ -56,7 +56,7 @@ module _ (k : State) (limited : IsLimited k) (e : ProtoError) where
 
   slice_failed : (x : Slice (Record RData)) (a b : State) (n : ℕ) → Took k a n → EmitsSlice x a (Err e) b → e ≡ refusals.Memory
   slice_failed x a b n took part =
-      elim (part_failed x.before x.after_it a b part.0 e part.1 part.2) [ inl memory ↦ memory | inr many ↦ few_written a b n took many ]
+      elim (part_failed x.before x.rest a b part.0 e part.1 part.2) [ inl memory ↦ memory | inr many ↦ few_written a b n took many ]
 
   -- the sections
   module _ (s : Slices) (first last : State) (took : Took k first 0) where
@@ -67,7 +67,7 @@ module _ (k : State) (limited : IsLimited k) (e : ProtoError) where
     Second answers authorities = AndThen (EmitsSlice s.additionals) ⊤ (Third answers authorities)
 
     abbrev First : Written → State → Result WrittenSections ProtoError → State → Type 0
-    First answers = AndThen (EmitsSlice s.authorities) (s.additionals.after_it ≡ s.additionals.before) (Second answers)
+    First answers = AndThen (EmitsSlice s.authorities) (s.additionals.rest ≡ s.additionals.before) (Second answers)
 
     second_failed : (answers : Written) (second : State) → WritesRecords s.answers.before.rest.now first second answers.count answers.is_cut
         → Both (EmitsSlice s.authorities) (Second answers) second (Err e) last → e ≡ refusals.Memory
@@ -142,7 +142,7 @@ module _ (m : MessageValue) (s : Slices) (are : AreOf m s) (old new : State)
   Sectioned place queries = AndThen (EmitsSlices s) ⊤ (Extended place queries)
 
   abbrev Asked : ℕ → State → Result Header ProtoError → State → Type 0
-  Asked place = AndThen (λ a answer b. emits_queries s.queries.before a answer s.queries.after_it b) (Idle s) (Sectioned place)
+  Asked place = AndThen (λ a answer b. emits_queries s.queries.before a answer s.queries.rest b) (Idle s) (Sectioned place)
 
   module _ (place : ℕ) (kept : State) (room : KeepsRoom old (Ok place) kept) where
     limit : kept.limit ≡ old.limit
@@ -179,7 +179,7 @@ module _ (m : MessageValue) (s : Slices) (are : AreOf m s) (old new : State)
     queries_next run =
         elim (failed e run) [
           | inl queries ↦ queries_failed m s are old new place kept room e queries
-          | inr b ↦ inl (asked_next b.value b.between (Emits-slice QueryWord plain_query query_owner query_written s.queries.before s.queries.after_it kept b.between b.value b.ran) b.rest)
+          | inr b ↦ inl (asked_next b.value b.between (Emits-slice QueryWord plain_query query_owner query_written s.queries.before s.queries.rest kept b.between b.value b.ran) b.rest)
         ]
       where
         asked_next : (queries : ℕ) (first : State) → EachWritten QueryWord plain_query query_owner s.queries.before.rest.now kept first × (queries ≡ length s.queries.before.rest.now) × (first ≡ after (in_turn query_written s.queries.before.rest.now) kept)

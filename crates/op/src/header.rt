@@ -77,7 +77,7 @@ impl Header {
     }
 }
 
-// QR, the opcode, AA, TC and RD.
+/// QR, the opcode, AA, TC and RD.
 fn high_byte_of(metadata: &Metadata) -> u8
     ensures { let m = metadata.now in result
         ≡ high_byte (is_response m.message_type
@@ -92,7 +92,7 @@ fn high_byte_of(metadata: &Metadata) -> u8
     response << 7 | op_code << 3 | authoritative << 2 | truncation << 1 | recursion_desired
 }
 
-// RA, AD, CD and the code.
+/// RA, AD, CD and the code.
 fn low_byte_of(metadata: &Metadata) -> u8
     ensures { let m = metadata.now in result
         ≡ low_byte m.recursion_available m.authentic_data m.checking_disabled (code_number m.response_code % 16) }
@@ -183,7 +183,7 @@ impl BinDecodable for Header {
     }
 }
 
-// The number that two bytes of a header are, the high one first.
+/// The number that two bytes of a header are, the high one first.
 #[inline(always)]
 fn number(bytes: &[u8], at: usize) -> u16
     requires { at + 2 ≤ length bytes.now }
@@ -192,7 +192,7 @@ fn number(bytes: &[u8], at: usize) -> u16
     u16::from_be_bytes([bytes[at], bytes[at + 1]])
 }
 
-// What an id and the two bytes of codes and flags after it are read as.
+/// What an id and the two bytes of codes and flags after it are read as.
 fn metadata_of(id: u16, high: u8, low: u8) -> Metadata
     ensures { result ≡ metadata_of_bytes id high low }
 {
@@ -210,7 +210,7 @@ fn metadata_of(id: u16, high: u8, low: u8) -> Metadata
     }
 }
 
-// Whether the bit is set, counted from the lowest and from 0.
+/// Whether the bit is set, counted from the lowest and from 0.
 fn bit(byte: u8, place: u32) -> bool
     requires { place < 8 }
     ensures { result ≡ bit_of (2 ^ place) byte }

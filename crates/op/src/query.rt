@@ -165,7 +165,7 @@ impl BinEncodable for Query {
     }
 }
 
-// Writes type and class, the high byte of each first. They are written at once, since that is faster.
+/// Writes type and class, the high byte of each first. They are written at once, since that is faster.
 fn emit_fields(query_type: u16, class: u16, encoder: &mut BinEncoder<'_>) -> Result<(), ProtoError>
     ensures keeps { Keeps (state_of encoder.old) (state_of encoder.new) }
     ensures fits { (query_type < 2 ^ 16) × (class < 2 ^ 16) }
@@ -177,14 +177,14 @@ fn emit_fields(query_type: u16, class: u16, encoder: &mut BinEncoder<'_>) -> Res
     encoder.emit_slice(&[type_high, type_low, class_high, class_low])
 }
 
-// What stands after the name of a question.
+/// What stands after the name of a question.
 #[derive(Clone, Copy, Drop)]
 struct Fields {
     query_type: u16,
     class: u16,
 }
 
-// Reads type and class. They are read at once, since that is faster.
+/// Reads type and class. They are read at once, since that is faster.
 fn read_fields(decoder: &mut BinDecoder<'_>) -> Result<Fields, DecodeError>
     ensures found { let B = decoder.old.bytes in let i = decoder.old.index in
         IfOk result (λ f. IsNumberAt w16 B i f.query_type × IsNumberAt w16 B (i + 2) f.class) }

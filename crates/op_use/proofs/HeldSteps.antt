@@ -30,16 +30,16 @@ pub set_updated : (rs xs : List (Record RData)) (k : RrKey) (old new : HeldZone)
     → ((n : BTreeMap RrKey SetValue) → IsSetTo old.class k xs old.sets n → IsZoneMap old.class old.sets → IsAfter old.origin old.class rs old.sets n) → IsUpdated rs old new
 set_updated rs xs k old new h step = (h.0, h.1, step h.0 h.2)
 
--- one more update
-pub updated_more : (rs : List (Record RData)) (r : Record RData) (old mid new : HeldZone) → IsUpdated rs old mid → IsUpdated (r ∷ []) mid new → IsUpdated (rs ++ r ∷ []) old new
-updated_more rs r old mid new first next = chain (subst (λ (z : HeldZone). IsUpdated (r ∷ []) z new) first.1 next) where
-  chain : IsUpdated (r ∷ []) (record old { sets = first.0 }) new → IsUpdated (rs ++ r ∷ []) old new
+-- more updates
+pub updated_more : (rs ss : List (Record RData)) (old mid new : HeldZone) → IsUpdated rs old mid → IsUpdated ss mid new → IsUpdated (rs ++ ss) old new
+updated_more rs ss old mid new first next = chain (subst (λ (z : HeldZone). IsUpdated ss z new) first.1 next) where
+  chain : IsUpdated ss (record old { sets = first.0 }) new → IsUpdated (rs ++ ss) old new
   chain h = (
     h.0,
     h.1,
     λ is_map.
         let before = first.2 is_map in
-        more_after old.origin old.class rs r old.sets first.0 h.0 before (h.2 before.is_map),
+        more_after old.origin old.class rs ss old.sets first.0 h.0 before (h.2 before.is_map),
   )
 
 pub moved_held : (k q : RrKey) (xs ys : List (Record RData)) (old new : HeldZone) → k ≡ q → xs ≡ ys → Holds k xs old new → Holds q ys old new

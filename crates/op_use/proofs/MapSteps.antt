@@ -10,15 +10,16 @@ use Rattle.base_data.specs.declared.rdata.RData.{RData}
 use Rattle.op_use.proofs.AppliedData.{Distinct, distinct_joined, distinct_one, distinct_parted}
 use Rattle.op_use.proofs.MapZones.{zone_puts}
 use Rattle.op_use.proofs.Origins.{From, back_among, front_among}
-use Rattle.op_use.proofs.ZoneSteps.{same_key}
+use Rattle.op_use.proofs.ZoneSteps.{same_key, tied}
 use Rattle.op_use.specs.AppliedRecords.{after_update, parted, records_after}
-use Rattle.op_use.specs.Applying.{IsZoneMap, IsZoneSet, TakesFrom, TakesTtls, last_ttl, names_owner, records_at, records_in, zone_of_map}
+use Rattle.op_use.specs.Applying.{IsZoneMap, IsZoneSet, TakesFrom, TakesTtls, names_owner, records_at, records_in, zone_of_map}
 use Rattle.op_use.specs.MapUpdates.{IsAfter, IsSetTo}
 use Rattle.op_use.specs.NamedChanges.{datum_of}
 use Rattle.op_use.specs.Server.{record_key, update}
 use Rattle.op_use.specs.Zone.{Zone, is_owned, put}
 use Rattle.rr.specs.RecordSet.{SetValue}
 use Rattle.rr.specs.SetChanges.{joined}
+use Rattle.rr.specs.SetUpdates.{last_ttl}
 use Rattle.rr.specs.declared.record.Record.{Record}
 use Rattle.std.proofs.Common.{ap, arith, inl, inr, refl, subst, sym, ◌∙◌, ◌⊎◌}
 use Rattle.std.proofs.lemmas.Bool.{or_parts, true≢false}
@@ -45,29 +46,32 @@ module _ (origin : NameValue) (class : DNSClass) (k : RrKey) (xs : List (Record 
   other_after r owned true q t free = absurd (true≢false (sym owned ∙ ap (is_owned r.name) (same_key k q t) ∙ free))
   other_after r owned false q t free = refl
 
-  taken_at : (r : Record RData) → From r (records_at m k) xs → (b : Bool) (q : RrKey) → eq_by_cmp key_cmp k q ≡ b → (v : Record RData)
-      → IsAmong (records_in (cond b h.set (tree.get key_cmp m q))) v → IsAmong (records_at m q) v ⊎ IsAmong (r ∷ []) v
-  taken_at r from true q t v a = subst (λ p. IsAmong (records_at m p) v ⊎ IsAmong (r ∷ []) v) (same_key k q t) (from v (subst (λ ys. IsAmong ys v) h.records a))
-  taken_at r from false q t v a = inl a
+  taken_at : (rs : List (Record RData)) → ((v : Record RData) → IsAmong xs v → IsAmong (records_at m k) v ⊎ IsAmong rs v)
+      → (b : Bool) (q : RrKey) → eq_by_cmp key_cmp k q ≡ b → (v : Record RData)
+      → IsAmong (records_in (cond b h.set (tree.get key_cmp m q))) v → IsAmong (records_at m q) v ⊎ IsAmong rs v
+  taken_at rs from true q t v a = subst (λ p. IsAmong (records_at m p) v ⊎ IsAmong rs v) (same_key k q t) (from v (subst (λ ys. IsAmong ys v) h.records a))
+  taken_at rs from false q t v a = inl a
 
   records_put : (b : Bool) (o : Option SetValue) → records_in (cond b h.set o) ≡ cond b xs (records_in o)
   records_put true o = h.records
   records_put false o = refl
 
-  ttl_at : (b : Bool) (q : RrKey) (s : SetValue) → cond b h.set (tree.get key_cmp m q) ≡ Some s → (tree.get key_cmp m q ≡ Some s) ⊎ (s.ttl ≡ last_ttl s.records)
-  ttl_at true q s e = inr (h.ttl s e)
-  ttl_at false q s e = inl e
+  ttl_at : (b : Bool) (q : RrKey) (s : SetValue) → eq_by_cmp key_cmp k q ≡ b → cond b h.set (tree.get key_cmp m q) ≡ Some s → (tree.get key_cmp m q ≡ Some s) ⊎ (s.ttl ≡ last_ttl s.records)
+  ttl_at true q s t e = subst (λ p. (tree.get key_cmp m p ≡ Some s) ⊎ (s.ttl ≡ last_ttl s.records)) (same_key k q t) (h.ttl s e)
+  ttl_at false q s t e = inl e
 
-  pub set_after : (r : Record RData) → IsZoneMap class m → is_owned r.name k ≡ true → From r (records_at m k) xs
-      → update (zone_of_map origin class m) r ≡ put (zone_of_map origin class m) k (map datum_of xs)
-      → ((q : RrKey) → after_update (zone_of_map origin class m) r q (records_at m q) ≡ cond (eq_by_cmp key_cmp k q) xs (records_at m q))
-      → IsAfter origin class (r ∷ []) m n
-  set_after r old owned from step spelled = record {
+  -- updates of this set, of which r is the first
+  pub set_after : (r : Record RData) (rs : List (Record RData)) → IsZoneMap class m → is_owned r.name k ≡ true
+      → ((v : Record RData) → IsAmong xs v → IsAmong (records_at m k) v ⊎ IsAmong (r ∷ rs) v)
+      → fold update (zone_of_map origin class m) (r ∷ rs) ≡ put (zone_of_map origin class m) k (map datum_of xs)
+      → ((q : RrKey) → records_after (zone_of_map origin class m) (r ∷ rs) q (records_at m q) ≡ cond (eq_by_cmp key_cmp k q) xs (records_at m q))
+      → IsAfter origin class (r ∷ rs) m n
+  set_after r rs old owned from step spelled = record {
     zone = zone_puts origin class m n k h.set (λ s e. (h.fits s e).filled) h.puts ∙ ap (λ ys. put (zone_of_map origin class m) k (map datum_of ys)) h.records ∙ sym step;
     is_map = kept_after old;
-    others = λ q no. h.puts q ∙ other_after r owned (eq_by_cmp key_cmp k q) q refl ((or_parts (is_owned r.name q) false no).0);
-    taken = λ q v a. taken_at r from (eq_by_cmp key_cmp k q) q refl v (subst (λ o. IsAmong (records_in o) v) (h.puts q) a);
-    ttls = λ q s e. ttl_at (eq_by_cmp key_cmp k q) q s (sym (h.puts q) ∙ e);
+    others = λ q no. h.puts q ∙ other_after r owned (eq_by_cmp key_cmp k q) q refl ((or_parts (is_owned r.name q) (names_owner rs q) no).0);
+    taken = λ q v a. taken_at (r ∷ rs) from (eq_by_cmp key_cmp k q) q refl v (subst (λ o. IsAmong (records_in o) v) (h.puts q) a);
+    ttls = λ q s e. ttl_at (eq_by_cmp key_cmp k q) q s refl (sym (h.puts q) ∙ e);
     exact = λ q. ap records_in (h.puts q) ∙ records_put (eq_by_cmp key_cmp k q) (tree.get key_cmp m q) ∙ sym (spelled q);
   }
 
@@ -82,36 +86,36 @@ same_after origin class m r old step spelled =
 pub none_after : (origin : NameValue) (class : DNSClass) (m : BTreeMap RrKey SetValue) → IsZoneMap class m → IsAfter origin class [] m m
 none_after origin class m old = record { zone = refl; is_map = old; others = λ q no. refl; taken = λ q v a. inl a; ttls = λ q s e. inl e; exact = λ q. refl }
 
-taken_chain : (rs : List (Record RData)) (r : Record RData) (m n : BTreeMap RrKey SetValue) (q : RrKey) (v : Record RData) → TakesFrom rs m n
-    → IsAmong (records_at n q) v ⊎ IsAmong (r ∷ []) v → IsAmong (records_at m q) v ⊎ IsAmong (rs ++ r ∷ []) v
-taken_chain rs r m n q v old (inl a) = front_of (old q v a) where
-  front_of : IsAmong (records_at m q) v ⊎ IsAmong rs v → IsAmong (records_at m q) v ⊎ IsAmong (rs ++ r ∷ []) v
+taken_chain : (rs ss : List (Record RData)) (m n : BTreeMap RrKey SetValue) (q : RrKey) (v : Record RData) → TakesFrom rs m n
+    → IsAmong (records_at n q) v ⊎ IsAmong ss v → IsAmong (records_at m q) v ⊎ IsAmong (rs ++ ss) v
+taken_chain rs ss m n q v old (inl a) = front_of (old q v a) where
+  front_of : IsAmong (records_at m q) v ⊎ IsAmong rs v → IsAmong (records_at m q) v ⊎ IsAmong (rs ++ ss) v
   front_of (inl a) = inl a
-  front_of (inr a) = inr (front_among rs (r ∷ []) v a)
-taken_chain rs r m n q v old (inr a) = inr (back_among rs (r ∷ []) v a)
+  front_of (inr a) = inr (front_among rs ss v a)
+taken_chain rs ss m n q v old (inr a) = inr (back_among rs ss v a)
 
 ttls_chain : (m n : BTreeMap RrKey SetValue) (q : RrKey) (s : SetValue) → TakesTtls m n → (tree.get key_cmp n q ≡ Some s) ⊎ (s.ttl ≡ last_ttl s.records)
     → (tree.get key_cmp m q ≡ Some s) ⊎ (s.ttl ≡ last_ttl s.records)
 ttls_chain m n q s old (inl e) = old q s e
 ttls_chain m n q s old (inr t) = inr t
 
-last_after : (z : Zone) (rs : List (Record RData)) (r : Record RData) (q : RrKey) (xs : List (Record RData))
-    → records_after z (rs ++ r ∷ []) q xs ≡ after_update (fold update z rs) r q (records_after z rs q xs)
-last_after z [] r q xs = refl
-last_after z (x ∷ rs) r q xs = last_after (update z x) rs r q (after_update z x q xs)
+more_records : (z : Zone) (rs ss : List (Record RData)) (q : RrKey) (xs : List (Record RData))
+    → records_after z (rs ++ ss) q xs ≡ records_after (fold update z rs) ss q (records_after z rs q xs)
+more_records z [] ss q xs = refl
+more_records z (x ∷ rs) ss q xs = more_records (update z x) rs ss q (after_update z x q xs)
 
--- one more update
-pub more_after : (origin : NameValue) (class : DNSClass) (rs : List (Record RData)) (r : Record RData) (m n p : BTreeMap RrKey SetValue) → IsAfter origin class rs m n
-    → IsAfter origin class (r ∷ []) n p → IsAfter origin class (rs ++ r ∷ []) m p
-more_after origin class rs r m n p first next = record {
-  zone = next.zone ∙ ap (λ z. update z r) first.zone ∙ sym (fold-append update (zone_of_map origin class m) rs (r ∷ []));
+-- more updates
+pub more_after : (origin : NameValue) (class : DNSClass) (rs ss : List (Record RData)) (m n p : BTreeMap RrKey SetValue) → IsAfter origin class rs m n
+    → IsAfter origin class ss n p → IsAfter origin class (rs ++ ss) m p
+more_after origin class rs ss m n p first next = record {
+  zone = next.zone ∙ ap (λ z. fold update z ss) first.zone ∙ sym (fold-append update (zone_of_map origin class m) rs ss);
   is_map = next.is_map;
   others = λ q no.
-      let parts = or_parts (names_owner rs q) (names_owner (r ∷ []) q) (sym (list_any-append (λ (x : Record RData). is_owned x.name q) rs (r ∷ [])) ∙ no) in
+      let parts = or_parts (names_owner rs q) (names_owner ss q) (sym (list_any-append (λ (x : Record RData). is_owned x.name q) rs ss) ∙ no) in
       next.others q parts.1 ∙ first.others q parts.0;
-  taken = λ q v a. taken_chain rs r m n q v first.taken (next.taken q v a);
+  taken = λ q v a. taken_chain rs ss m n q v first.taken (next.taken q v a);
   ttls = λ q s e. ttls_chain m n q s first.ttls (next.ttls q s e);
-  exact = λ q. next.exact q ∙ (λ i. after_update (first.zone i) r q (first.exact q i)) ∙ sym (last_after (zone_of_map origin class m) rs r q (records_at m q));
+  exact = λ q. next.exact q ∙ (λ i. records_after (first.zone i) ss q (first.exact q i)) ∙ sym (more_records (zone_of_map origin class m) rs ss q (records_at m q));
 }
 
 -- the steps of a change of one set
@@ -142,7 +146,7 @@ made_set {class} {k} {last = last} {xs = xs} {s = s} own apart there is h = reco
   set = Some s;
   records = ap (λ (p : SetValue). p.records) is;
   fits = λ p e. subst (λ q. IsZoneSet class k q) (sym is ∙ injected s p e) (record { own_key = sym own; own_class = refl; filled = last_filled xs last there; distinct = apart });
-  ttl = λ p e. subst (λ (q : SetValue). q.ttl ≡ last_ttl q.records) (sym is ∙ injected s p e) (sym (ttl_of_last xs last there));
+  ttl = λ p e. inr (subst (λ (q : SetValue). q.ttl ≡ last_ttl q.records) (sym is ∙ injected s p e) (sym (ttl_of_last xs last there)));
   puts = h.0;
 }
 
@@ -153,12 +157,20 @@ again : {X : Type 0} (b : Bool) (x y : Option X) (z : Option X) → cond b y (co
 again true x y z = refl
 again false x y z = refl
 
+-- a set that was taken out isn't the one that was there
+new_ttl : (k : RrKey) (m n : BTreeMap RrKey SetValue) (s : SetValue) → tree.Updates key_cmp m n k None
+    → (tree.get key_cmp n k ≡ Some s) ⊎ (s.ttl ≡ last_ttl s.records) → (tree.get key_cmp m k ≡ Some s) ⊎ (s.ttl ≡ last_ttl s.records)
+new_ttl k m n s first (inl e) = absurd (no_set (ap (λ b. cond b None (tree.get key_cmp m k)) (sym (tied k)) ∙ sym (first.0 k) ∙ e)) where
+  no_set : None ≡ Some s → ⊥
+  no_set f = absurd cc
+new_ttl k m n s first (inr t) = inr t
+
 pub chained : (class : DNSClass) (k : RrKey) (xs : List (Record RData)) (m n p : BTreeMap RrKey SetValue) → tree.Updates key_cmp m n k None → IsSetTo class k xs n p → IsSetTo class k xs m p
 chained class k xs m n p first h = record {
   set = h.set;
   records = h.records;
   fits = h.fits;
-  ttl = h.ttl;
+  ttl = λ s e. new_ttl k m n s first (h.ttl s e);
   puts = λ q. h.puts q ∙ ap (cond (eq_by_cmp key_cmp k q) h.set) (first.0 q) ∙ again (eq_by_cmp key_cmp k q) None h.set (tree.get key_cmp m q);
 }
 
@@ -172,9 +184,6 @@ distinct_at class m k old = distinct_in class k (tree.get key_cmp m k) (old k)
 
 pub join_distinct : (r : Record RData) (xs ys zs : List (Record RData)) → Distinct zs → xs ≡ zs → ys ≡ joined r xs → Distinct ys
 join_distinct r xs ys zs apart e f = subst (λ ws. Distinct ws) (sym (f ∙ ap (joined r) e)) (distinct_joined r zs apart)
-
-pub part_distinct : (r : Record RData) (xs ys zs : List (Record RData)) → Distinct zs → xs ≡ zs → ys ≡ parted r xs → Distinct ys
-part_distinct r xs ys zs apart e f = subst (λ ws. Distinct ws) (sym (f ∙ ap (parted r) e)) (distinct_parted r zs apart)
 
 pub one_distinct : (r : Record RData) (ys : List (Record RData)) → ys ≡ r ∷ [] → Distinct ys
 one_distinct r ys e = subst (λ zs. Distinct zs) (sym e) (distinct_one r)

@@ -21,7 +21,7 @@ turned true false xs ys = refl
 turned false g xs ys = refl
 
 -- what is made of the records of a record's set is made under its key
-own_at : (at : RrKey → List (Record RData)) (F : List (Record RData) → List (Record RData)) (k q : RrKey) (b : Bool) → eq_by_cmp key_cmp k q ≡ b
+pub own_at : (at : RrKey → List (Record RData)) (F : List (Record RData) → List (Record RData)) (k q : RrKey) (b : Bool) → eq_by_cmp key_cmp k q ≡ b
     → cond b (F (at q)) (at q) ≡ cond b (F (at k)) (at q)
 own_at at F k q true t = ap (λ p. F (at p)) (sym (same_key k q t))
 own_at at F k q false t = refl

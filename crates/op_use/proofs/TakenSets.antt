@@ -4,18 +4,20 @@ use Rattle.base.specs.declared.dns_class.DNSClass.{DNSClass}
 use Rattle.base.specs.declared.rr_key.RrKey.{RrKey}
 use Rattle.base_data.specs.declared.rdata.RData.{RData}
 use Rattle.op_use.proofs.AppliedData.{Distinct}
+use Rattle.op_use.proofs.Deletions.{distinct_without, left_records}
 use Rattle.op_use.proofs.MapSteps.{injected}
-use Rattle.op_use.specs.Applying.{IsZoneMap, IsZoneSet, last_ttl, records_at, records_in}
+use Rattle.op_use.specs.Applying.{IsZoneMap, IsZoneSet, records_at, records_in}
 use Rattle.op_use.specs.MapUpdates.{IsSetTo, IsTakenSet}
 use Rattle.op_use.specs.Server.{record_key, type_of_record}
 use Rattle.rr.specs.RecordSet.{SetValue}
-use Rattle.rr.specs.SetUpdates.{with_records}
+use Rattle.rr.specs.SetUpdates.{has_data_of_one, last_ttl, with_records, without, without_data}
 use Rattle.rr.specs.declared.record.Record.{Record}
-use Rattle.std.proofs.Common.{ap, refl, subst, sym}
+use Rattle.std.proofs.Common.{ap, inl, inr, refl, subst, sym, ◌∙◌, ◌⊎◌}
 use Rattle.std.specs.BTreeMap as tree
 use Rattle.std.specs.BTreeMap.{BTreeMap}
-use Rattle.std.specs.List.{IsDistinct}
-use Rattle.std.specs.Prelude.{List, None, Some, [], ◌≡◌, ◌≢◌}
+use Rattle.std.specs.List.{IsDistinct, list_any}
+use Rattle.std.specs.Ordering.{eq_by_cmp}
+use Rattle.std.specs.Prelude.{Bool, List, None, Option, Some, [], cond, false, true, ◌≡◌, ◌≢◌}
 
 -- the set that is there
 pub there : (class : DNSClass) (m : BTreeMap RrKey SetValue) (k : RrKey) (s : SetValue) → IsZoneMap class m → tree.get key_cmp m k ≡ Some s → IsTakenSet class k (records_at m k) s
@@ -47,6 +49,52 @@ put_taken class k s m n h last filled puts = record {
   set = Some s;
   records = refl;
   fits = λ p e. subst (λ q. IsZoneSet class k q) (injected s p e) (record { own_key = h.own_key; own_class = h.own_class; filled = filled; distinct = h.distinct });
-  ttl = λ p e. subst (λ (q : SetValue). q.ttl ≡ last_ttl q.records) (injected s p e) last;
+  ttl = λ p e. inr (subst (λ (q : SetValue). q.ttl ≡ last_ttl q.records) (injected s p e) last);
   puts = puts.0;
 }
+
+-- without the data of some records, and put back
+left_fits : (class : DNSClass) (k : RrKey) (es : List (Record RData)) (s : SetValue) (b : Bool) → IsZoneSet class k s
+    → (cond b (with_records s (without es s.records)) s).records ≢ [] → IsZoneSet class k (cond b (with_records s (without es s.records)) s)
+left_fits class k es s true h full = record { own_key = h.own_key; own_class = h.own_class; filled = full; distinct = distinct_without es s.records h.distinct }
+left_fits class k es s false h full = h
+
+left_ttl : (m : BTreeMap RrKey SetValue) (k : RrKey) (es : List (Record RData)) (s : SetValue) (b : Bool) → tree.get key_cmp m k ≡ Some s
+    → (tree.get key_cmp m k ≡ Some (cond b (with_records s (without es s.records)) s))
+    ⊎ ((cond b (with_records s (without es s.records)) s).ttl ≡ last_ttl (cond b (with_records s (without es s.records)) s).records)
+left_ttl m k es s true e = inr refl
+left_ttl m k es s false e = inl e
+
+again : {X : Type 0} (b : Bool) (x y z : Option X) → cond b y (cond b x z) ≡ cond b y z
+again true x y z = refl
+again false x y z = refl
+
+pub set_left : (class : DNSClass) (k : RrKey) (es : List (Record RData)) (s t : SetValue) (m n p : BTreeMap RrKey SetValue) → IsZoneMap class m
+    → tree.get key_cmp m k ≡ Some s → t ≡ without_data es s → t.records ≢ [] → tree.Updates key_cmp m n k None → tree.Updates key_cmp n p k (Some t)
+    → IsSetTo class k (without es (records_at m k)) m p
+set_left class k es s t m n p old e is full first next = record {
+  set = Some t;
+  records = ap (λ (q : SetValue). q.records) is ∙ left_records es s ∙ ap (λ o. without es (records_in o)) (sym e);
+  fits = λ q f. subst (λ x. IsZoneSet class k x) (sym is ∙ injected t q f)
+      (left_fits class k es s (list_any (has_data_of_one es) s.records) (old k s e) (subst (λ (x : SetValue). x.records ≢ []) is full));
+  ttl = λ q f. subst (λ (x : SetValue). (tree.get key_cmp m k ≡ Some x) ⊎ (x.ttl ≡ last_ttl x.records)) (sym is ∙ injected t q f)
+      (left_ttl m k es s (list_any (has_data_of_one es) s.records) e);
+  puts = λ q. next.0 q ∙ ap (cond (eq_by_cmp key_cmp k q) (Some t)) (first.0 q) ∙ again (eq_by_cmp key_cmp k q) None (Some t) (tree.get key_cmp m q);
+}
+
+-- where none are left, or were
+pub none_left : (class : DNSClass) (k : RrKey) (es : List (Record RData)) (s t : SetValue) (m n : BTreeMap RrKey SetValue)
+    → tree.get key_cmp m k ≡ Some s → t ≡ without_data es s → t.records ≡ [] → tree.Updates key_cmp m n k None
+    → IsSetTo class k (without es (records_at m k)) m n
+none_left class k es s t m n e is none first = record {
+  set = None;
+  records = sym none ∙ ap (λ (q : SetValue). q.records) is ∙ left_records es s ∙ ap (λ o. without es (records_in o)) (sym e);
+  fits = λ q f. absurd cc;
+  ttl = λ q f. absurd cc;
+  puts = first.0;
+}
+
+pub none_there : (class : DNSClass) (k : RrKey) (es : List (Record RData)) (m n : BTreeMap RrKey SetValue)
+    → tree.get key_cmp m k ≡ None → tree.Updates key_cmp m n k None → IsSetTo class k (without es (records_at m k)) m n
+none_there class k es m n e first =
+    record { set = None; records = ap (λ o. without es (records_in o)) (sym e); fits = λ q f. absurd cc; ttl = λ q f. absurd cc; puts = first.0 }

@@ -6,23 +6,25 @@ use Rattle.base.specs.declared.dns_class.DNSClass.{DNSClass}
 use Rattle.base.specs.declared.record_type.RecordType.TheVariants as types
 use Rattle.base.specs.declared.rr_key.RrKey.{RrKey}
 use Rattle.base_data.specs.declared.rdata.RData.{RData}
-use Rattle.op_use.proofs.AppliedData.{joined_data, parted_data, parted_none}
+use Rattle.op_use.proofs.AppliedData.{joined_data, parted_data}
+use Rattle.op_use.proofs.Deletions.{from_without, own, records_left, removed_data, without_one, zone_left}
 use Rattle.op_use.proofs.Deleted.{deleted_is}
 use Rattle.op_use.proofs.MapIsZone.{zone_is}
-use Rattle.op_use.proofs.MapSteps.{own_key, same_after, set_after}
+use Rattle.op_use.proofs.MapSteps.{moved, own_key, same_after, set_after}
 use Rattle.op_use.proofs.MapZones.{data_at, get_zone}
 use Rattle.op_use.proofs.Origins.{from_joined, from_none, from_one, from_parted, none_among}
 use Rattle.op_use.proofs.SpelledSteps.{alias_comes, alias_kept_out, beside_kept_out, guarded_stays, name_goes}
-use Rattle.op_use.proofs.SpelledSteps.{needed_stays, nothing_changes, other_comes, other_parts, set_goes}
+use Rattle.op_use.proofs.SpelledSteps.{needed_stays, own_at, nothing_changes, other_comes, other_parts, set_goes}
 use Rattle.op_use.proofs.ZoneSteps.{put_same, same_key, same_sets}
 use Rattle.op_use.specs.Applying.{IsZoneMap, data_of, records_at, records_in, zone_of_map}
 use Rattle.op_use.specs.AppliedRecords.{parted}
-use Rattle.op_use.specs.MapUpdates.{IsAfter, IsSetTo, Leaves}
+use Rattle.op_use.specs.MapUpdates.{IsAfter, IsSetTo, Leaves, is_deletion}
 use Rattle.op_use.specs.NamedChanges.{datum_of, is_left}
 use Rattle.op_use.specs.Server.{OfAny, OfNone, OfNothing, OfZone, added, is_any, is_cname, is_needed, record_key, removed, type_of_record, update_by, use_of}
 use Rattle.op_use.specs.Zone.{Datum, has_set, has_type_at, is_guarded, is_owned, put}
 use Rattle.rr.specs.RecordSet.{SetValue, is_soa}
-use Rattle.rr.specs.SetChanges.{has_data_of, joined}
+use Rattle.rr.specs.SetChanges.{joined}
+use Rattle.rr.specs.SetUpdates.{without}
 use Rattle.rr.specs.declared.record.Record.{Record}
 use Rattle.std.proofs.Common.{ap, inl, refl, subst, sym, ◌∙◌, ◌⊎◌}
 use Rattle.std.proofs.lemmas.Bool.{cond-false, cond-true, or_parts}
@@ -31,7 +33,7 @@ use Rattle.std.specs.BTreeMap as tree
 use Rattle.std.specs.BTreeMap.{BTreeMap}
 use Rattle.std.specs.FinMap as fin
 use Rattle.std.specs.FinMap.{FinMap}
-use Rattle.std.specs.List.{IsAmong, list_any}
+use Rattle.std.specs.List.{AllByRecursion, IsAmong, fold}
 use Rattle.std.specs.Ordering.{eq_by_cmp}
 use Rattle.std.specs.Prelude.{Bool, List, None, Option, Some, [], cond, false, length, map, nat_le, not, option_map, true, ◌&&◌, ◌||◌, ◌∷◌, ◌≡◌}
 
@@ -49,7 +51,7 @@ module _ (origin : NameValue) (class : DNSClass) (m n : BTreeMap RrKey SetValue)
 
   pub after_cname : use_of class r.dns_class ≡ OfZone → is_cname (type_of_record r) ≡ true → has_type_at (zone_of_map origin class m) r.name (λ t. not (is_cname t)) ≡ false
       → IsSetTo class (record_key r) (r ∷ []) m n → IsAfter origin class (r ∷ []) m n
-  after_cname u c h s = set_after origin class (record_key r) (r ∷ []) m n s r old (own_key r) (from_one r (records_at m (record_key r)))
+  after_cname u c h s = set_after origin class (record_key r) (r ∷ []) m n s r [] old (own_key r) (from_one r (records_at m (record_key r)))
       (ap (λ how. update_by how (zone_of_map origin class m) r) u ∙ cond-false _ _ _ (cond-true _ _ _ c ∙ h)
       ∙ ap (put (zone_of_map origin class m) (record_key r)) (cond-true _ _ _ c))
       (λ q. alias_comes (zone_of_map origin class m) r (records_at m) q u c h)
@@ -61,7 +63,7 @@ module _ (origin : NameValue) (class : DNSClass) (m n : BTreeMap RrKey SetValue)
 
   pub after_join : use_of class r.dns_class ≡ OfZone → is_cname (type_of_record r) ≡ false → has_set (zone_of_map origin class m) (key_of r.name types.CNAME) ≡ false
       → IsSetTo class (record_key r) (joined r (records_at m (record_key r))) m n → IsAfter origin class (r ∷ []) m n
-  after_join u c h s = set_after origin class (record_key r) (joined r (records_at m (record_key r))) m n s r old (own_key r) (from_joined r (records_at m (record_key r)))
+  after_join u c h s = set_after origin class (record_key r) (joined r (records_at m (record_key r))) m n s r [] old (own_key r) (from_joined r (records_at m (record_key r)))
       (ap (λ how. update_by how (zone_of_map origin class m) r) u ∙ cond-false _ _ _ (cond-false _ _ _ c ∙ h)
       ∙ ap (put (zone_of_map origin class m) (record_key r)) (cond-false _ _ _ c ∙ ap (λ xs. added xs r) (data_at origin class m (record_key r)) ∙ sym (joined_data r (records_at m (record_key r)))))
       (λ q. other_comes (zone_of_map origin class m) r (records_at m) q u c h)
@@ -70,28 +72,26 @@ module _ (origin : NameValue) (class : DNSClass) (m n : BTreeMap RrKey SetValue)
   after_kept u h = same_after origin class m r old (ap (λ how. update_by how (zone_of_map origin class m) r) u ∙ cond-true _ _ _ h)
       (λ q. needed_stays (zone_of_map origin class m) r (records_at m) q u h)
 
-  pub after_part : use_of class r.dns_class ≡ OfNone → is_needed (zone_of_map origin class m) r ≡ false → IsSetTo class (record_key r) (parted r (records_at m (record_key r))) m n
-      → IsAfter origin class (r ∷ []) m n
-  after_part u h s = set_after origin class (record_key r) (parted r (records_at m (record_key r))) m n s r old (own_key r) (from_parted r (records_at m (record_key r)))
+  pub after_part : use_of class r.dns_class ≡ OfNone → is_needed (zone_of_map origin class m) r ≡ false
+      → IsSetTo class (record_key r) (without (r ∷ []) (records_at m (record_key r))) m n → IsAfter origin class (r ∷ []) m n
+  after_part u h s =
+      let one = without_one r (records_at m (record_key r)) in
+      set_after origin class (record_key r) (parted r (records_at m (record_key r))) m n (moved class _ _ _ _ m n refl one s) r [] old (own_key r) (from_parted r (records_at m (record_key r)))
       (ap (λ how. update_by how (zone_of_map origin class m) r) u ∙ cond-false _ _ _ h
       ∙ ap (put (zone_of_map origin class m) (record_key r)) (ap (λ xs. removed xs r) (data_at origin class m (record_key r))
       ∙ sym (parted_data r (records_at m (record_key r)))))
       (λ q. other_parts (zone_of_map origin class m) r (records_at m) q u h)
 
-  same_there : (b : Bool) (q : RrKey) → eq_by_cmp key_cmp (record_key r) q ≡ b → cond b (records_at m (record_key r)) (records_at m q) ≡ records_at m q
-  same_there true q t = ap (records_at m) (same_key (record_key r) q t)
-  same_there false q t = refl
-
-  pub after_absent : use_of class r.dns_class ≡ OfNone → is_needed (zone_of_map origin class m) r ≡ false → list_any (has_data_of r) (records_at m (record_key r)) ≡ false
-      → IsAfter origin class (r ∷ []) m m
-  after_absent u h none = same_after origin class m r old
-      (ap (λ how. update_by how (zone_of_map origin class m) r) u ∙ cond-false _ _ _ h
-      ∙ ap (put (zone_of_map origin class m) (record_key r)) (ap (λ xs. removed xs r) (data_at origin class m (record_key r))
-      ∙ sym (parted_data r (records_at m (record_key r))) ∙ ap (map datum_of) (parted_none r (records_at m (record_key r)) none)
-      ∙ sym (data_at origin class m (record_key r))) ∙ put_same (zone_of_map origin class m) (record_key r) (zone_is origin class m old))
-      (λ q. other_parts (zone_of_map origin class m) r (records_at m) q u h
-      ∙ ap (λ xs. cond (eq_by_cmp key_cmp (record_key r) q) xs (records_at m q)) (parted_none r (records_at m (record_key r)) none)
-      ∙ same_there (eq_by_cmp key_cmp (record_key r) q) q refl)
+  pub after_deletions : (k : Record RData) (rs : List (Record RData)) → AllByRecursion (λ u. is_deletion (zone_of_map origin class m) k u ≡ true) (r ∷ rs)
+      → IsSetTo class (record_key k) (without (r ∷ rs) (records_at m (record_key k))) m n → IsAfter origin class (r ∷ rs) m n
+  after_deletions k rs h s =
+      set_after origin class (record_key k) (without (r ∷ rs) (records_at m (record_key k))) m n s r rs old
+      (subst (λ q. is_owned r.name q ≡ true) (own (zone_of_map origin class m) k r h.0) (own_key r)) (from_without (r ∷ rs) (records_at m (record_key k)))
+      (zone_left (zone_of_map origin class m) k r rs h
+      ∙ ap (put (zone_of_map origin class m) (record_key k)) (ap (λ ds. fold removed ds (r ∷ rs)) (data_at origin class m (record_key k))
+      ∙ removed_data (r ∷ rs) (records_at m (record_key k))))
+      (λ q. records_left (zone_of_map origin class m) k (r ∷ rs) q (records_at m q) h
+      ∙ own_at (records_at m) (without (r ∷ rs)) (record_key k) q _ refl)
 
   pub after_guarded : use_of class r.dns_class ≡ OfAny → is_any (type_of_record r) ≡ false → is_guarded (zone_of_map origin class m) r.name (type_of_record r) ≡ true
       → IsAfter origin class (r ∷ []) m m
@@ -100,7 +100,7 @@ module _ (origin : NameValue) (class : DNSClass) (m n : BTreeMap RrKey SetValue)
 
   pub after_set : use_of class r.dns_class ≡ OfAny → is_any (type_of_record r) ≡ false → is_guarded (zone_of_map origin class m) r.name (type_of_record r) ≡ false
       → IsSetTo class (record_key r) [] m n → IsAfter origin class (r ∷ []) m n
-  after_set u c h s = set_after origin class (record_key r) [] m n s r old (own_key r) (from_none r (records_at m (record_key r)))
+  after_set u c h s = set_after origin class (record_key r) [] m n s r [] old (own_key r) (from_none r (records_at m (record_key r)))
       (ap (λ how. update_by how (zone_of_map origin class m) r) u ∙ deleted_is (zone_of_map origin class m) r ∙ cond-false _ _ _ c ∙ cond-false _ _ _ h)
       (λ q. set_goes (zone_of_map origin class m) r (records_at m) q u c h)
 

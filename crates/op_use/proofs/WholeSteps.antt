@@ -9,7 +9,7 @@ use Rattle.op.specs.declared.response_code.ResponseCode.{ResponseCode}
 use Rattle.op_use.proofs.AppliedData.{any_data}
 use Rattle.op_use.proofs.MapZones.{data_at}
 use Rattle.op_use.specs.AppliedRecords.{records_after, records_answered}
-use Rattle.op_use.specs.Applying.{entry_of, IsApplied, IsZoneMap, applied, is_all_served, last_ttl, records_applied, records_at, records_in, zone_of_map}
+use Rattle.op_use.specs.Applying.{entry_of, IsApplied, IsZoneMap, applied, is_all_served, records_applied, records_at, records_in, zone_of_map}
 use Rattle.op_use.specs.MapFaults.{is_by_value, listed_under, there_under}
 use Rattle.op_use.specs.MapUpdates.{IsAfter}
 use Rattle.op_use.specs.NamedChanges.{datum_of, is_data_of}
@@ -19,6 +19,7 @@ use Rattle.op_use.specs.Server.{unless, update, use_of, zone_fault}
 use Rattle.op_use.specs.Zone.{Datum}
 use Rattle.rr.specs.RecordSet.{SetValue}
 use Rattle.rr.specs.SetChanges.{has_data_of}
+use Rattle.rr.specs.SetUpdates.{last_ttl}
 use Rattle.rr.specs.declared.record.Record.{Record}
 use Rattle.std.proofs.Common.{ap, inl, refl, subst, sym, ◌∙◌, ◌⊎◌}
 use Rattle.std.proofs.lemmas.Bool.{cond-false, cond-true}

@@ -14,13 +14,14 @@ use Rattle.op_use.specs.Server.{Sections, fault, is_any, is_cname, serve, type_o
 use Rattle.op_use.specs.SoundSet.{is_ordinary}
 use Rattle.op_use.specs.Zone.{Datum, Zone, is_owned}
 use Rattle.rr.specs.RecordSet.{SetValue, is_ns}
+use Rattle.rr.specs.SetUpdates.{last_ttl}
 use Rattle.rr.specs.declared.record.Record.{Record}
 use Rattle.std.specs.BTreeMap as tree
 use Rattle.std.specs.BTreeMap.{BTreeMap}
 use Rattle.std.specs.FinMap as fin
-use Rattle.std.specs.List.{IsAmong, IsDistinct, fold, list_all, list_any}
+use Rattle.std.specs.List.{IsAmong, IsDistinct, list_all, list_any}
 use Rattle.std.specs.Ordering.{on}
-use Rattle.std.specs.Prelude.{Bool, List, None, Option, Some, [], false, if◌then◌else◌, map, true, ◌&&◌, ◌||◌, ◌≡◌, ◌≢◌, ◌⊎◌, ℕ}
+use Rattle.std.specs.Prelude.{Bool, List, None, Option, Some, [], false, if◌then◌else◌, map, true, ◌&&◌, ◌||◌, ◌≡◌, ◌≢◌, ◌⊎◌}
 
 -- the data of a set
 abbrev pub data_of : SetValue → List Datum
@@ -108,10 +109,6 @@ abbrev pub TakesFrom : List (Record RData) → BTreeMap RrKey SetValue → BTree
     → Type 0
 TakesFrom rs old new = (k : RrKey) (x : Record RData) → IsAmong (records_at new k) x
     → IsAmong (records_at old k) x ⊎ IsAmong rs x
-
--- the TTL of the last of these records, 0 of none
-abbrev pub last_ttl : List (Record RData) → ℕ
-last_ttl rs = fold (λ ttl (r : Record RData). r.ttl) 0 rs
 
 -- each set of the new map is the one that the old map has under that key, or has the TTL of the last of its records
 abbrev pub TakesTtls : BTreeMap RrKey SetValue → BTreeMap RrKey SetValue → Type 0

@@ -6,20 +6,21 @@ use Rattle.base.specs.declared.rr_key.RrKey.{RrKey}
 use Rattle.base_data.specs.SameData.{same_data}
 use Rattle.base_data.specs.declared.rdata.RData.{RData}
 use Rattle.op_use.specs.AppliedRecords.{records_after}
-use Rattle.op_use.specs.Applying.{records_at, IsZoneMap, IsZoneSet, TakesFrom, TakesTtls, last_ttl, names_owner, records_in, zone_of_map}
+use Rattle.op_use.specs.Applying.{records_at, IsZoneMap, IsZoneSet, TakesFrom, TakesTtls, names_owner, records_in, zone_of_map}
 use Rattle.op_use.specs.HeldZone.{HeldZone, zone_of}
 use Rattle.op_use.specs.NamedChanges.{is_left, set_key}
-use Rattle.op_use.specs.Server.{OfAny, OfNone, OfNothing, OfZone, Use as UseValue, update}
-use Rattle.op_use.specs.Zone.{Zone}
+use Rattle.op_use.specs.Server.{OfAny, OfNone, OfNothing, OfZone, Use as UseValue, is_same_key, type_of_record, update, use_of}
+use Rattle.op_use.specs.Zone.{Zone, is_guarded}
 use Rattle.op_use.specs.declared.apply.class_use.Use.TheVariants as uses
 use Rattle.op_use.specs.declared.apply.class_use.Use.{Use}
-use Rattle.rr.specs.RecordSet.{SetValue}
+use Rattle.rr.specs.RecordSet.{SetValue, is_soa}
+use Rattle.rr.specs.SetUpdates.{last_ttl}
 use Rattle.rr.specs.declared.record.Record.{Record}
 use Rattle.std.specs.BTreeMap as tree
 use Rattle.std.specs.BTreeMap.{BTreeMap}
 use Rattle.std.specs.List.{IsDistinct, fold}
 use Rattle.std.specs.Ordering.{eq_by_cmp, on}
-use Rattle.std.specs.Prelude.{List, None, Option, Some, cond, false, not, ◌&&◌, ◌||◌, ◌≡◌}
+use Rattle.std.specs.Prelude.{Bool, List, None, Option, Some, cond, false, not, true, ◌&&◌, ◌||◌, ◌≡◌, ◌⊎◌}
 
 -- the new map is the old one after the updates rs
 pub record IsAfter (origin : NameValue) (class : DNSClass) (rs : List (Record RData)) (old new : BTreeMap RrKey SetValue) : Type 0 where
@@ -38,13 +39,14 @@ abbrev pub Puts : RrKey → Option SetValue → BTreeMap RrKey SetValue → BTre
 Puts k o old new = (q : RrKey)
     → tree.get key_cmp new q ≡ cond (eq_by_cmp key_cmp k q) o (tree.get key_cmp old q)
 
--- the new map has a set of these records under a key, with the TTL of the last, none where there are none, and else what
--- the old one has
+-- the new map has a set of these records under a key, the one that was there or with the TTL of the last, none where
+-- there are none, and else what the old one has
 pub record IsSetTo (class : DNSClass) (k : RrKey) (xs : List (Record RData)) (old new : BTreeMap RrKey SetValue) : Type 0 where
   pub set : Option SetValue
   pub records : records_in set ≡ xs
   pub fits : (s : SetValue) → set ≡ Some s → IsZoneSet class k s
-  pub ttl : (s : SetValue) → set ≡ Some s → s.ttl ≡ last_ttl s.records
+  pub ttl : (s : SetValue) → set ≡ Some s
+      → (tree.get key_cmp old k ≡ Some s) ⊎ (s.ttl ≡ last_ttl s.records)
   pub puts : Puts k set old new
 
 -- a set that is taken out to be changed: of this class, of this key, and with these records, no two of equal data
@@ -53,6 +55,16 @@ pub record IsTakenSet (of_class : DNSClass) (k : RrKey) (xs : List (Record RData
   pub own_class : s.dns_class ≡ of_class
   pub distinct : IsDistinct (on (λ (r : Record RData). r.rdata) same_data) s.records
   pub records : s.records ≡ xs
+
+-- whether a class asks that a record goes
+abbrev pub is_of_none : UseValue → Bool
+is_of_none OfNone = true
+is_of_none _ = false
+
+-- whether an update u deletes data of the set of r, which is no SOA and has no name servers of the zone
+abbrev pub is_deletion : Zone → Record RData → Record RData → Bool
+is_deletion z r u = is_of_none (use_of z.class u.dns_class) && is_same_key r u
+    && not (is_soa (type_of_record u)) && not (is_guarded z u.name (type_of_record u))
 
 -- the new zone is the old one after the updates rs
 abbrev pub IsUpdated : List (Record RData) → HeldZone → HeldZone → Type 0

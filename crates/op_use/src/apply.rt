@@ -62,8 +62,8 @@ pub fn apply_update(
     Ok((ResponseCode::NoError, zone.into_sets()))
 }
 
-// The code that an update is refused with, if it is: by its zone section, its prerequisites or the prescan, in this
-// order. The first test that fails is answered at once.
+/// The code that an update is refused with, if it is: by its zone section, its prerequisites or the prescan, in this
+/// order. The first test that fails is answered at once.
 fn fault(zone: &Zone, message: &Message) -> Result<Option<ResponseCode>, AllocError>
     ensures { IfOk result (λ f. f
         ≡ fault_of (zone_of zone.now) (sections_of (message_value message.now))) }

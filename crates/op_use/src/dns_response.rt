@@ -75,7 +75,7 @@ impl DnsResponse {
         match message.metadata.message_type {
             MessageType::Query => Err(ProtoError::NotAResponse),
             MessageType::Response => {
-                let buffer = written(alloc, &message)?;
+                let buffer = write(alloc, &message)?;
                 Ok(DnsResponse { message, buffer })
             }
         }
@@ -205,7 +205,7 @@ impl From<DnsResponse> for Message {
 }
 
 /// The bytes of the message, as `Message::to_vec` writes them.
-fn written(alloc: Global, message: &Message) -> Result<Vec<u8>, ProtoError>
+fn write(alloc: Global, message: &Message) -> Result<Vec<u8>, ProtoError>
     ensures succeeds { HasRoom (message_value message.now) 65535
         → IsOkUnless result ProtoError.Memory }
     ensures written { Fits (message_value message.now)

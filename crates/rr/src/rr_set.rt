@@ -16,6 +16,7 @@ mod records;
 mod removing;
 mod serial;
 mod setting;
+mod sorted_data;
 mod updating;
 
 use crate::record::Record;

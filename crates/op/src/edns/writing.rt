@@ -93,7 +93,7 @@ impl<'a> BinEncodable for RaisedEdns<'a> {
     }
 }
 
-// Writes the OPT record of EDNS with these high bits of the response code.
+/// Writes the OPT record of EDNS with these high bits of the response code.
 fn emit_raised(edns: &Edns, rcode_high: u8, encoder: &mut BinEncoder<'_>) -> Result<(), ProtoError>
     ensures keeps { Keeps (state_of encoder.old) (state_of encoder.new) }
     ensures fits { OnOk result (EdnsKept (record edns.now { rcode_high = rcode_high })) }
@@ -106,15 +106,15 @@ fn emit_raised(edns: &Edns, rcode_high: u8, encoder: &mut BinEncoder<'_>) -> Res
     emit_sized(&edns.options, encoder)
 }
 
-// The high code, the version and the flags, from the highest byte on.
+/// The high code, the version and the flags, from the highest byte on.
 fn ttl_of(rcode_high: u8, version: u8, flags: u16) -> u32
     ensures { result ≡ 16777216 * rcode_high + (65536 * version + flags) }
 {
     0x100_0000 * u32::from(rcode_high) + (0x1_0000 * u32::from(version) + u32::from(flags))
 }
 
-// Writes the name of the root, the type, the payload size and a TTL, the highest byte of each first. They are written
-// at once, since that is faster.
+/// Writes the name of the root, the type, the payload size and a TTL, the highest byte of each first. They are written
+/// at once, since that is faster.
 fn emit_front(payload: u16, ttl: u32, encoder: &mut BinEncoder<'_>) -> Result<(), ProtoError>
     ensures keeps { Keeps (state_of encoder.old) (state_of encoder.new) }
     ensures fits { (payload < 2 ^ 16) × (ttl < 2 ^ 32) }

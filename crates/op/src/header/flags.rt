@@ -69,7 +69,7 @@ impl fmt::Display for Flags {
     }
 }
 
-// A flag in a list: its name, if it is set, with a comma in front if it stands after another.
+/// A flag in a list: its name, if it is set, with a comma in front if it stands after another.
 #[derive(Clone, Copy, Drop)]
 struct Item {
     name: &'static str,

@@ -15,7 +15,7 @@ pub enum MessageType {
 }
 
 impl MessageType {
-    // What the QR bit says.
+    /// What the QR bit says.
     pub(crate) fn from_bit(bit: bool) -> MessageType
         ensures { result ≡ kind_value bit }
     {
@@ -26,7 +26,7 @@ impl MessageType {
         }
     }
 
-    // What the QR bit is set to.
+    /// What the QR bit is set to.
     pub(crate) fn bit(self) -> bool
         ensures { result ≡ is_response self }
     {

@@ -101,7 +101,7 @@ impl fmt::Display for Metadata {
     }
 }
 
-// A code by its name, or by its number where it has none.
+/// A code by its name, or by its number where it has none.
 #[derive(Clone, Copy, Drop)]
 struct Label(ResponseCode);
 

@@ -99,7 +99,7 @@ impl Message {
         Ok(section)
     }
 
-    // Reads the sections of as many records as the header counts.
+    /// Reads the sections of as many records as the header counts.
     fn read_sections(
         decoder: &mut BinDecoder<'_>,
         counts: HeaderCounts,

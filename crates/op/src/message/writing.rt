@@ -75,7 +75,7 @@ where
 }
 
 impl Message {
-    // Writes the message, and answers the header that was written.
+    /// Writes the message, and answers the header that was written.
     pub(crate) fn emit_header(&self, encoder: &mut BinEncoder<'_>) -> Result<Header, ProtoError>
         ensures keeps { Keeps (state_of encoder.old) (state_of encoder.new) }
         ensures emitted { IfOk result (λ h. Emitted (message_value self.now) (state_of encoder.old) (state_of encoder.new) h) }
@@ -102,7 +102,7 @@ impl Message {
     }
 }
 
-// The header of a message of which so much was written.
+/// The header of a message of which so much was written.
 fn header_of(
     metadata: &Metadata,
     query_count: usize,
@@ -118,7 +118,7 @@ fn header_of(
         truncation: is_cut(metadata, sections, additionals),
         ..*metadata
     };
-    Ok(numbered(
+    Ok(new_header(
         metadata,
         metadata.id,
         queries,
@@ -128,8 +128,8 @@ fn header_of(
     ))
 }
 
-// The header of these numbers, its codes and flags as they are in `metadata`.
-fn numbered(
+/// The header of these numbers, its codes and flags as they are in `metadata`.
+fn new_header(
     metadata: Metadata,
     id: u16,
     queries: u16,
@@ -154,7 +154,7 @@ fn numbered(
     }
 }
 
-// TC of a message of which so much was written.
+/// TC of a message of which so much was written.
 fn is_cut(metadata: &Metadata, sections: WrittenSections, additionals: Written) -> bool
     ensures { result ≡ (metadata.now.truncation
         || (sections.answers.is_cut || (sections.authorities.is_cut || additionals.is_cut))) }

@@ -18,13 +18,13 @@ use rr::Record;
 use std::alloc::{AllocError, Global};
 use std::collections::BTreeMap;
 
-// Where data stands among records, by its canonical form. It only says where to look first, so nothing is promised of
-// it: the record there is compared, and where it has other data, all records are, which ends the test.
+/// Where data stands among records, by its canonical form. It only says where to look first, so nothing is promised of
+/// it: the record there is compared, and where it has other data, all records are, which ends the test.
 pub(crate) type Places = BTreeMap<Vec<u8>, usize>;
 
 impl<'a> Zone<'a> {
-    // Whether the sets that prerequisites of the zone's class name are those that they list (RFC 2136, 3.2.3). A set is
-    // looked at for the first of them that names it alone.
+    /// Whether the sets that prerequisites of the zone's class name are those that they list (RFC 2136, 3.2.3). A set is
+    /// looked at for the first of them that names it alone.
     pub(crate) fn are_met(&self, entries: &[Record]) -> Result<bool, AllocError>
         ensures { IfOk result (λ b. b
             ≡ list_all (is_met (zone_of self.now) (collected (zone_of self.now) entries.now)) (collected (zone_of self.now) entries.now)) }
@@ -53,7 +53,7 @@ impl<'a> Zone<'a> {
         Ok(true)
     }
 
-    // Where the data of the prerequisites of the zone's class stands among them, under the key of each set.
+    /// Where the data of the prerequisites of the zone's class stands among them, under the key of each set.
     fn places_asked(&self, entries: &[Record]) -> Result<BTreeMap<RrKey, Places>, AllocError> {
         let mut asked: BTreeMap<RrKey, Places> = BTreeMap::new(self.alloc);
         for place in 0..entries.len() {
@@ -81,7 +81,7 @@ fn is_by_value(class: DNSClass, entry: &Record) -> bool
     matches!(use_of(class, entry.dns_class), Use::OfZone)
 }
 
-// Whether each record of a set is among those that the prerequisites list for the set of this entry.
+/// Whether each record of a set is among those that the prerequisites list for the set of this entry.
 fn are_listed(
     records: &[Record],
     asked: Option<&Places>,
@@ -122,15 +122,15 @@ fn is_listed(
     Ok(false)
 }
 
-// Whether two records are of one set: of one type, and of one owner, which takes longest to tell.
-fn is_same_set(a: &Record, b: &Record) -> bool
+/// Whether two records are of one set: of one type, and of one owner, which takes longest to tell.
+pub(crate) fn is_same_set(a: &Record, b: &Record) -> bool
     ensures { result ≡ is_same_key a.now b.now }
 {
     a.record_type() == b.record_type() && a.name == b.name
 }
 
-// Whether one of these records has the data of this one.
-pub(crate) fn has_data(
+/// Whether one of these records has the data of this one.
+fn has_data(
     records: &[Record],
     held: Option<&Places>,
     entry: &Record,
@@ -157,7 +157,7 @@ fn places_of(records: &[Record], alloc: Global) -> Result<Places, AllocError> {
     Ok(places)
 }
 
-// The record of this data, if the places know it.
+/// The record of this data, if the places know it.
 fn look_up<'r>(
     records: &'r [Record],
     places: Option<&Places>,

@@ -18,7 +18,7 @@ use rr::RecordSet;
 use std::alloc::AllocError;
 use std::collections::BTreeMap;
 
-// Whether an owner has a set, of any type or of any but CNAME.
+/// Whether an owner has a set, of any type or of any but CNAME.
 pub(crate) fn has_type(
     sets: &BTreeMap<RrKey, RecordSet>,
     owner: &Name,
@@ -41,7 +41,7 @@ pub(crate) fn has_type(
     Ok(false)
 }
 
-// The keys of an owner, at the origin but those of SOA and NS.
+/// The keys of an owner, at the origin but those of SOA and NS.
 pub(crate) fn unguarded_keys(
     sets: &BTreeMap<RrKey, RecordSet>,
     origin: &Name,
@@ -67,7 +67,7 @@ pub(crate) fn unguarded_keys(
     Ok(found)
 }
 
-// Takes the sets under these keys out.
+/// Takes the sets under these keys out.
 pub(crate) fn take_keys(sets: &mut BTreeMap<RrKey, RecordSet>, taken: &[RrKey])
     ensures { (q : Key) → get key_cmp sets.new q
         ≡ cond (list_any (λ (k : Key). eq_by_cmp key_cmp k q) taken.now) None (get key_cmp sets.old q) }

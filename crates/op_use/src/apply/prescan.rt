@@ -11,7 +11,7 @@ use op::ResponseCode;
 use rr::Record;
 
 impl<'a> Zone<'a> {
-    // The first that is wrong with the updates.
+    /// The first that is wrong with the updates.
     pub(crate) fn prescan_fault(&self, entries: &[Record]) -> Option<ResponseCode>
         ensures { result ≡ first_fault (prescan_fault (zone_of self.now)) entries.now }
     {
@@ -46,7 +46,7 @@ impl<'a> Zone<'a> {
     }
 }
 
-// A code, unless something holds.
+/// A code, unless something holds.
 pub(crate) fn unless(holds: bool, code: ResponseCode) -> Option<ResponseCode>
     ensures { result ≡ unless_so holds code }
 {

@@ -26,7 +26,7 @@ pub(crate) fn is_any(record_type: RecordType) -> bool
     matches!(record_type, RecordType::ANY)
 }
 
-// Whether a set stays where all of its owner goes: SOA and NS at the origin (RFC 2136, 3.4.2.3).
+/// Whether a set stays where all of its owner goes: SOA and NS at the origin (RFC 2136, 3.4.2.3).
 pub(crate) fn is_guarded(origin: &Name, owner: &Name, record_type: RecordType) -> bool
     ensures { result ≡ (same_name owner.now origin.now
         && (is_soa_type record_type || is_ns record_type)) }
@@ -34,7 +34,7 @@ pub(crate) fn is_guarded(origin: &Name, owner: &Name, record_type: RecordType) -
     *owner == *origin && (is_soa(record_type) || matches!(record_type, RecordType::NS))
 }
 
-// Whether updates treat a type like most.
+/// Whether updates treat a type like most.
 pub(crate) fn is_ordinary(record_type: RecordType) -> bool
     ensures { result ≡ is_ordinary_type record_type }
 {
@@ -49,7 +49,7 @@ pub(crate) fn is_ordinary(record_type: RecordType) -> bool
         || (128 <= number && number <= 255))
 }
 
-// Whether this is a query or meta type.
+/// Whether this is a query or meta type.
 pub(crate) fn is_meta(record_type: RecordType) -> bool
     ensures { result ≡ is_meta_type record_type }
 {

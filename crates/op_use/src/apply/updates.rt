@@ -1,10 +1,12 @@
 //! The last step: the updates of a message, one after the other (RFC 2136, 3.4.2).
 
-ghost use Rattle.std.specs.Prelude.{◌≡◌, ◌∷◌, [], IfOk, OnOk};
+ghost use Rattle.std.specs.List.{AllByRecursion};
+ghost use Rattle.std.specs.Prelude.{◌≡◌, ◌≤◌, ◌∷◌, [], IfOk, OnOk, length, take, true};
 ghost use Rattle.op_use.specs.HeldZone.{HeldZone, zone_of};
-ghost use Rattle.op_use.specs.MapUpdates.{IsUpdated, LacksOwner};
+ghost use Rattle.op_use.specs.MapUpdates.{IsUpdated, LacksOwner, is_deletion};
 ghost use Rattle.op_use.specs.Server.{OfAny, OfNone, OfZone, is_needed as is_needed_in, use_of as the_use};
 
+use crate::apply::by_value::is_same_set;
 use crate::apply::class_use::{Use, use_of};
 use crate::apply::owners::{has_type, take_keys, unguarded_keys};
 use crate::apply::types::{is_any, is_cname, is_guarded, is_soa};
@@ -17,10 +19,43 @@ impl<'a> Zone<'a> {
     pub(crate) fn update(&mut self, entries: &[Record]) -> Result<(), AllocError>
         ensures { OnOk result (IsUpdated entries.now self.old self.new) }
     {
-        for entry in entries {
-            self.update_by(entry)?;
+        let mut done = 0;
+        while done < entries.len() {
+            let entry = &entries[done];
+            let run = self.deletions(entry, &entries[done..]);
+            if run == 0 {
+                self.update_by(entry)?;
+                done += 1;
+            } else {
+                let key = key_of(&entry.name, entry.record_type())?;
+                self.take_data(key, &entries[done..done + run])?;
+                done += run;
+            }
         }
         Ok(())
+    }
+
+    /// How many of the first updates delete data of the set of an entry, which are then taken out at once.
+    fn deletions(&self, entry: &Record, entries: &[Record]) -> usize
+        ensures within { result ≤ length entries.now }
+        ensures each { AllByRecursion (λ r. is_deletion (zone_of self.now) entry.now r ≡ true) (take result entries.now) }
+    {
+        let mut count = 0;
+        while count < entries.len() && self.is_deletion(entry, &entries[count]) {
+            count += 1;
+        }
+        count
+    }
+
+    /// Whether an update deletes data of the set of an entry. An SOA stays, and name servers of the zone have a rule of
+    /// their own.
+    fn is_deletion(&self, entry: &Record, update: &Record) -> bool
+        ensures { result ≡ is_deletion (zone_of self.now) entry.now update.now }
+    {
+        matches!(use_of(self.class, update.dns_class), Use::OfNone)
+            && is_same_set(entry, update)
+            && !is_soa(update.record_type())
+            && !is_guarded(self.origin, &update.name, update.record_type())
     }
 
     fn update_by(&mut self, entry: &Record) -> Result<(), AllocError>
@@ -43,7 +78,7 @@ impl<'a> Zone<'a> {
         }
     }
 
-    // Adds a record: a CNAME where no other types are, another where no CNAME is (RFC 2136, 3.4.2.2).
+    /// Adds a record: a CNAME where no other types are, another where no CNAME is (RFC 2136, 3.4.2.2).
     fn add(&mut self, entry: &Record) -> Result<(), AllocError>
         requires { the_use self.old.class entry.now.dns_class ≡ OfZone }
         ensures { OnOk result (IsUpdated (entry.now ∷ []) self.old self.new) }
@@ -63,8 +98,7 @@ impl<'a> Zone<'a> {
         Ok(())
     }
 
-    // Takes equal data out, but no SOA, and not the last name server of the zone (RFC 2136, 3.4.2.4). A set without such
-    // data stays as it is.
+    /// Takes equal data out, but no SOA, and not the last name server of the zone (RFC 2136, 3.4.2.4).
     fn delete_record(&mut self, entry: &Record) -> Result<(), AllocError>
         requires { the_use self.old.class entry.now.dns_class ≡ OfNone }
         ensures { OnOk result (IsUpdated (entry.now ∷ []) self.old self.new) }
@@ -72,14 +106,12 @@ impl<'a> Zone<'a> {
         if self.is_needed(entry)? {
             return Ok(());
         }
-        if !self.has_record(entry)? {
-            return Ok(());
-        }
-        self.take_data(entry)?;
+        let key = key_of(&entry.name, entry.record_type())?;
+        self.take_data(key, &[entry.clone()?])?;
         Ok(())
     }
 
-    // Takes a set out, or all of an owner (RFC 2136, 3.4.2.3).
+    /// Takes a set out, or all of an owner (RFC 2136, 3.4.2.3).
     fn delete(&mut self, entry: &Record) -> Result<(), AllocError>
         requires { the_use self.old.class entry.now.dns_class ≡ OfAny }
         ensures { OnOk result (IsUpdated (entry.now ∷ []) self.old self.new) }
@@ -96,7 +128,7 @@ impl<'a> Zone<'a> {
         Ok(())
     }
 
-    // Takes all sets of an owner out; at the origin SOA and NS stay.
+    /// Takes all sets of an owner out; at the origin SOA and NS stay.
     fn delete_owner(&mut self, owner: &Name) -> Result<(), AllocError>
         ensures { OnOk result (LacksOwner owner.now self.old self.new) }
     {
@@ -105,7 +137,7 @@ impl<'a> Zone<'a> {
         Ok(())
     }
 
-    // Whether a record stays: an SOA, and the last name server of the zone.
+    /// Whether a record stays: an SOA, and the last name server of the zone.
     fn is_needed(&self, entry: &Record) -> Result<bool, AllocError>
         ensures { IfOk result (λ b. b ≡ is_needed_in (zone_of self.now) entry.now) }
     {

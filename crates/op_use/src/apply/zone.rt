@@ -2,22 +2,20 @@
 
 ghost use Rattle.std.specs.Prelude.{◌≡◌, ◌∷◌, [], IfOk, OnOk, length};
 ghost use Rattle.base.specs.RrKey.{key_of as the_key};
-ghost use Rattle.op_use.specs.AppliedRecords.{parted};
-ghost use Rattle.op_use.specs.Applying.{IsZoneMap, last_ttl, records_at};
+ghost use Rattle.op_use.specs.Applying.{IsZoneMap, records_at};
 ghost use Rattle.op_use.specs.HeldZone.{HeldZone};
-ghost use Rattle.op_use.specs.MapFaults.{there_under};
 ghost use Rattle.op_use.specs.MapUpdates.{Holds, IsTakenSet, Lacks};
 ghost use Rattle.op_use.specs.Server.{record_key, type_of_record};
 ghost use Rattle.rr.specs.SetChanges.{joined};
+ghost use Rattle.rr.specs.SetUpdates.{last_ttl, without};
 
-use crate::apply::by_value::has_data;
 use base::{DNSClass, LowerName, Name, RecordType, RrKey};
 use rr::{Record, RecordSet};
 use std::alloc::{AllocError, Global};
 use std::collections::BTreeMap;
 use std::marker::Model;
 
-// The record sets of a zone. Where a growth is refused, a set that was taken out may be lost.
+/// The record sets of a zone. Where a growth is refused, a set that was taken out may be lost.
 #[derive(Drop)]
 pub(crate) struct Zone<'a> {
     pub(super) alloc: Global,
@@ -63,7 +61,7 @@ impl<'a> Zone<'a> {
         self.sets
     }
 
-    // How many records are under a key.
+    /// How many records are under a key.
     pub(crate) fn count(&self, key: &RrKey) -> usize
         ensures { result ≡ length (records_at self.now.sets key.now) }
     {
@@ -73,19 +71,7 @@ impl<'a> Zone<'a> {
         }
     }
 
-    // Whether the set of a record has its data.
-    pub(crate) fn has_record(&self, entry: &Record) -> Result<bool, AllocError>
-        ensures { IfOk result (λ b. b
-            ≡ there_under self.now.sets entry.now (record_key entry.now)) }
-    {
-        let key = key_of(&entry.name, entry.record_type())?;
-        match self.sets.get(&key) {
-            Some(set) => has_data(set.as_slice(), None, entry),
-            None => Ok(false),
-        }
-    }
-
-    // Adds a record to its set: in the place of equal data, or else last.
+    /// Adds a record to its set: in the place of equal data, or else last.
     pub(crate) fn add_record(&mut self, entry: &Record) -> Result<(), AllocError>
         ensures { OnOk result (Holds (record_key entry.now) (joined entry.now (records_at self.old.sets (record_key entry.now))) self.old self.new) }
     {
@@ -97,7 +83,7 @@ impl<'a> Zone<'a> {
         Ok(())
     }
 
-    // Makes a record the only one of its set.
+    /// Makes a record the only one of its set.
     pub(crate) fn put_alone(&mut self, entry: &Record) -> Result<(), AllocError>
         ensures { OnOk result (Holds (record_key entry.now) (entry.now ∷ []) self.old self.new) }
     {
@@ -109,25 +95,28 @@ impl<'a> Zone<'a> {
         Ok(())
     }
 
-    // Takes the records of equal data out of their set.
-    pub(crate) fn take_data(&mut self, entry: &Record) -> Result<(), AllocError>
-        ensures { OnOk result (Holds (record_key entry.now) (parted entry.now (records_at self.old.sets (record_key entry.now))) self.old self.new) }
+    /// Takes the data of these records out of a set. Without such data the set stays as it is.
+    pub(crate) fn take_data(&mut self, key: RrKey, entries: &[Record]) -> Result<(), AllocError>
+        ensures { OnOk result (Holds key (without entries.now (records_at self.old.sets key)) self.old self.new) }
     {
-        let key = key_of(&entry.name, entry.record_type())?;
-        let mut set = self.take_or_new(&key, entry)?;
-        set.take_data(entry);
-        self.put_set(key, set)?;
+        let Some(mut set) = self.sets.remove(&key) else {
+            return Ok(());
+        };
+        set.take_data(entries)?;
+        if !set.is_empty() {
+            self.sets.insert(key, set)?;
+        }
         Ok(())
     }
 
-    // Takes a set out.
+    /// Takes a set out.
     pub(crate) fn take_set(&mut self, key: &RrKey)
         ensures { Holds key.now [] self.old self.new }
     {
         self.sets.remove(key);
     }
 
-    // Takes a set out to be changed; the answer is one without records where there is none.
+    /// Takes a set out to be changed; the answer is one without records where there is none.
     fn take_or_new(&mut self, key: &RrKey, entry: &Record) -> Result<RecordSet, AllocError>
         requires { key.now ≡ record_key entry.now }
         ensures set { IfOk result (λ set. IsTakenSet self.old.class key.now (records_at self.old.sets key.now) set) }
@@ -142,7 +131,7 @@ impl<'a> Zone<'a> {
         }
     }
 
-    // A set for a record.
+    /// A set for a record.
     fn empty_set(&self, entry: &Record) -> Result<RecordSet, AllocError>
         ensures { IfOk result (λ set. set
             ≡ record { name = entry.now.name; record_type = type_of_record entry.now; dns_class = self.now.class; ttl = 0; records = []; serial = 0 }) }
@@ -153,8 +142,8 @@ impl<'a> Zone<'a> {
         Ok(set)
     }
 
-    // Puts a set under its key, or nothing where it has no records. An entry that deletes has the TTL 0, so a set's is
-    // that of its records (RFC 2181, 5.2).
+    /// Puts a set under its key, or nothing where it has no records. An entry that deletes has the TTL 0, so a set's is
+    /// that of its records (RFC 2181, 5.2).
     fn put_set(&mut self, key: RrKey, set: RecordSet) -> Result<(), AllocError>
         requires own { IsTakenSet self.old.class key set.records set }
         requires ttl { set.ttl ≡ last_ttl set.records }
@@ -169,7 +158,7 @@ impl<'a> Zone<'a> {
     }
 }
 
-// The key of an owner and a type.
+/// The key of an owner and a type.
 pub(crate) fn key_of(owner: &Name, record_type: RecordType) -> Result<RrKey, AllocError>
     ensures { IfOk result (λ k. k ≡ the_key owner.now record_type) }
 {

@@ -9,7 +9,7 @@ use crate::apply::zone::Zone;
 use op::{Query, ResponseCode};
 
 impl<'a> Zone<'a> {
-    // What is wrong with the zone section.
+    /// What is wrong with the zone section.
     pub(crate) fn zone_fault(&self, queries: &[Query]) -> Option<ResponseCode>
         ensures { result ≡ zone_fault (zone_of self.now) queries.now }
     {

@@ -1,15 +1,17 @@
 //! The records of a set, in order, found by their data.
 
 ghost use Rattle.std.specs.Prelude.{◌≡◌, ◌≤◌, ◌∷◌, [], IfOk, IfSome, None, OnErr, OnOk, filter, length, map, not};
+ghost use Rattle.std.specs.List.{list_any};
 ghost use Rattle.base_data.specs.declared.rdata.RData.{RData};
 ghost use Rattle.rr.specs.DataIndex.{IsFirstAt, IsIndexOf, place_at};
 ghost use Rattle.rr.specs.SetChanges.{entered, has_data_of, joined};
+ghost use Rattle.rr.specs.SetUpdates.{has_data_of_one, without};
 ghost use Rattle.rr.specs.declared.record.Record.{Record as Entry};
 
 use crate::record::Record;
 use crate::rr_set::data_index::{DataIndex, enter_by_index, index_of, join_by_index};
 use crate::rr_set::placing::{enter, join, put_alone};
-use crate::rr_set::removing::take_data;
+use crate::rr_set::removing::{take_all, take_data};
 use crate::rr_set::setting::{set_classes, set_ttls};
 use base::DNSClass;
 use std::alloc::{AllocError, Global};
@@ -124,6 +126,23 @@ impl IndexedRecords {
         self.index = None;
         self.scans = 0;
         take_data(&mut self.records, entry);
+    }
+
+    /// Takes out the records with the data of one of these, and answers whether any went.
+    pub(super) fn take_all(&mut self, entries: &[Record]) -> Result<bool, AllocError>
+        ensures went { IfOk result (λ went. went
+            ≡ list_any (has_data_of_one entries.now) self.old) }
+        ensures ok { OnOk result (self.new ≡ without entries.now self.old) }
+        ensures err { OnErr result (self.new ≡ self.old) }
+    {
+        let count = self.records.len();
+        take_all(&mut self.records, entries)?;
+        if self.records.len() == count {
+            return Ok(false);
+        }
+        drop(self.index.take());
+        self.scans = 0;
+        Ok(true)
     }
 
     /// Sets the class of each record. Takes no memory.

@@ -1,12 +1,15 @@
 //! Takes records out of a set (RFC 2136, 3.4.2.4).
 
-ghost use Rattle.std.specs.Prelude.{◌≡◌, filter, not};
+ghost use Rattle.std.specs.Prelude.{◌≡◌, OnErr, OnOk, filter, not};
 ghost use Rattle.std.specs.List.{list_any};
 ghost use Rattle.rr.specs.SetChanges.{MayLeave, has_data_of, is_kept, remove};
+ghost use Rattle.rr.specs.SetUpdates.{without};
 
 use crate::record::Record;
 use crate::rr_set::RecordSet;
+use crate::rr_set::sorted_data::{has_equal, sorted_data};
 use base::RecordType;
+use std::alloc::AllocError;
 
 impl RecordSet {
     /// Takes out every record with the data of this one, and takes over the serial. The answer is whether any went:
@@ -54,4 +57,18 @@ pub(super) fn take_data(records: &mut Vec<Record>, entry: &Record)
     ensures { records.new.items ≡ filter (λ x. not (has_data_of entry.now x)) records.old.items }
 {
     records.retain(|known| known.rdata != entry.rdata);
+}
+
+/// Takes out the records with the data of one of these. All memory is taken before the first change.
+pub(super) fn take_all(records: &mut Vec<Record>, entries: &[Record]) -> Result<(), AllocError>
+    ensures ok { OnOk result (records.new.items ≡ without entries.now records.old.items) }
+    ensures err { OnErr result (records.new.items ≡ records.old.items) }
+{
+    if let [entry] = entries {
+        take_data(records, entry);
+        return Ok(());
+    }
+    let data = sorted_data(entries, *records.allocator())?;
+    records.retain(|known| !has_equal(&data, &known.rdata));
+    Ok(())
 }

@@ -90,7 +90,7 @@ impl ZoneSets {
         let alloc = *self.run.allocator();
         let sets = replace(&mut self.sets, BTreeMap::new(alloc));
         let run = replace(&mut self.run, Vec::new(alloc));
-        let mut whole = joined(sets, run)?;
+        let mut whole = append_run(sets, run)?;
         put(&mut whole, key, entry)?;
         self.sets = whole;
         Ok(())
@@ -106,7 +106,7 @@ impl ZoneSets {
         ensures kept { IfOk result (λ sets. AreKept sets.entries) }
     {
         let ZoneSets { sets, run } = self;
-        joined(sets, run)
+        append_run(sets, run)
     }
 }
 
@@ -147,7 +147,7 @@ fn order_to_last(
 /// # Errors
 ///
 /// If memory runs out.
-fn joined(
+fn append_run(
     sets: BTreeMap<RrKey, RecordSet>,
     run: Vec<(RrKey, RecordSet)>,
 ) -> Result<BTreeMap<RrKey, RecordSet>, AllocError>

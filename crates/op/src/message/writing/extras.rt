@@ -6,7 +6,7 @@ ghost use Rattle.base.specs.Wire.{state_of};
 ghost use Rattle.op.specs.Composition.{WritesExtras, WritesRecordItems};
 ghost use Rattle.op.specs.Fits.{opt_records, signature_records};
 
-use super::parts::{Written, added, emit_item};
+use super::parts::{Written, add_counts, emit_item};
 use crate::edns::{Edns, RaisedEdns};
 use crate::response_code::ResponseCode;
 use base::{BinEncoder, ProtoError};
@@ -26,9 +26,9 @@ pub(crate) fn emit_extras(
         (state_of encoder.old) result (state_of encoder.new) }
 {
     let opt = emit_edns(edns, response_code, encoder)?;
-    let sum = added(additionals, opt)?;
+    let sum = add_counts(additionals, opt)?;
     let signed = emit_signature(signature, encoder)?;
-    added(sum, signed)
+    add_counts(sum, signed)
 }
 
 /// Writes the OPT record of EDNS with the high bits of the response code.

@@ -58,7 +58,7 @@ fn emit_part<P: EmitAndCount>(
     ensures keeps { Keeps (state_of encoder.old) (state_of encoder.new) }
     ensures run { EmitsPart P.emits part.old part.new (state_of encoder.old) result (state_of encoder.new) }
 {
-    counted(part.emit(encoder))
+    count_items(part.emit(encoder))
 }
 
 /// Writes one item.
@@ -70,11 +70,11 @@ pub(crate) fn emit_item<E: BinEncodable>(
     ensures run { WritesItems E.word E.plain_len E.owner E.written (item.now ∷ [])
         (state_of encoder.old) result (state_of encoder.new) }
 {
-    counted(encoder.emit_all(&mut iter::once(item)))
+    count_items(encoder.emit_all(&mut iter::once(item)))
 }
 
 /// What a part's answer counts.
-fn counted(answer: Result<usize, ProtoError>) -> Result<Written, ProtoError>
+fn count_items(answer: Result<usize, ProtoError>) -> Result<Written, ProtoError>
     ensures { Counts answer result }
 {
     match answer {
@@ -87,7 +87,7 @@ fn counted(answer: Result<usize, ProtoError>) -> Result<Written, ProtoError>
 }
 
 /// Both counts together.
-pub(crate) fn added(one: Written, other: Written) -> Result<Written, ProtoError>
+pub(crate) fn add_counts(one: Written, other: Written) -> Result<Written, ProtoError>
     ensures { Adds one other result }
 {
     let count = usize::from(one.count) + usize::from(other.count);

@@ -11,10 +11,10 @@ use Rattle.op.proofs.message.Message.emit_header.Goals as goal
 -- the parts that are composed, with what EDNS and the signature are as records
 abbrev slices_of : goal.After-emit_message_parts → Slices
 slices_of c = record {
-  queries = record { before = c.iter.result; after_it = c.emit_message_parts.new.queries };
-  answers = record { before = c.iter-2.result; after_it = c.emit_message_parts.new.answers };
-  authorities = record { before = c.iter-3.result; after_it = c.emit_message_parts.new.authorities };
-  additionals = record { before = c.iter-4.result; after_it = c.emit_message_parts.new.additionals };
+  queries = record { before = c.iter.result; rest = c.emit_message_parts.new.queries };
+  answers = record { before = c.iter-2.result; rest = c.emit_message_parts.new.answers };
+  authorities = record { before = c.iter-3.result; rest = c.emit_message_parts.new.authorities };
+  additionals = record { before = c.iter-4.result; rest = c.emit_message_parts.new.additionals };
   edns = opt_records c.args.self.now.metadata.response_code (option_copied c.as_ref.result);
   signature = signature_records (option_copied c.as_deref.result);
 }

@@ -13,4 +13,4 @@ pub returns-clause-run : goal.returns-clause-run
 returns-clause-run c =
     goes c.in_ok-opt.opt _ c.in_ok-opt.ensures.run
     (goes c.in_ok-sum.sum _ (c.in_ok-sum.ensures, refl)
-    (goes c.in_ok-signed.signed _ c.in_ok-signed.ensures.run (c.added-2.ensures, refl)))
+    (goes c.in_ok-signed.signed _ c.in_ok-signed.ensures.run (c.add_counts-2.ensures, refl)))

@@ -1,6 +1,6 @@
 use Rattle.std.proofs.Common.{Err, sym, ap, ◌∙◌, subst}
 use Rattle.op.specs.Composition.{Counts}
-use Rattle.op.proofs.message.writing.parts.counted.Goals as goal
+use Rattle.op.proofs.message.writing.parts.count_items.Goals as goal
 
 pub returns-in-Ok : goal.returns-in-Ok
 returns-in-Ok c = subst (λ answer. Counts answer c.narrow.result) (sym c.in-Ok.is) c.narrow.ensures

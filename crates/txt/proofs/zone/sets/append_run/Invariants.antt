@@ -1,6 +1,6 @@
 use Rattle.std.proofs.Common.{length}
 use Rattle.txt.proofs.SetsInOrder.{AreBetween}
-use Rattle.txt.proofs.zone.sets.joined.Given as goal
+use Rattle.txt.proofs.zone.sets.append_run.Given as goal
 
 abbrev pub invariant-sets : goal.invariant-sets
 invariant-sets l = AreBetween l.fn.sets.entries l.fn.run.items l.whole.entries l.left.items
