@@ -3,6 +3,7 @@ mod AppliedLemmas
 mod BuiltLemmas
 mod Changes
 mod Deleted
+mod Deletions
 mod FollowSteps
 mod Given
 mod HeldSteps

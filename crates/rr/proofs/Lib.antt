@@ -10,4 +10,6 @@ pub mod SerialLemmas
 pub mod SetLaws
 pub mod SetSteps
 pub mod SetTidy
+pub mod SortedSteps
+pub mod WithoutSteps
 pub mod WriteSteps

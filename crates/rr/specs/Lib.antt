@@ -11,3 +11,4 @@ pub mod SetChanges
 pub mod SetLaws
 pub mod SetParts
 pub mod SetUpdates
+pub mod SortedData

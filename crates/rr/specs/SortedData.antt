@@ -10,12 +10,12 @@ use Rattle.base_data.specs.declared.rdata.RData.{RData}
 use Rattle.rr.specs.declared.record.Record.{Record}
 
 -- borrowed data in the order of data, with numbers and names as any value has them
-pub record IsInOrder (data : List (Bor RData)) : Type 0 where
-  pub sorted : IsSortedBy (λ (a b : Bor RData). is_lt (data_cmp a.now b.now)) data
-  pub fit : All (λ (d : Bor RData). FitsTypes d.now) data
+pub record IsInOrder (ds : List (Bor RData)) : Type 0 where
+  pub sorted : IsSortedBy (λ (a b : Bor RData). is_lt (data_cmp a.now b.now)) ds
+  pub fit : All (λ (d : Bor RData). FitsTypes d.now) ds
 
 -- the data of these records, in order
-pub record IsSortedDataOf (data : List (Bor RData)) (entries : List (Record RData)) : Type 0 where
-  pub in_order : IsInOrder data
+pub record IsSortedDataOf (ds : List (Bor RData)) (entries : List (Record RData)) : Type 0 where
+  pub in_order : IsInOrder ds
   pub whole : (p : RData → Bool)
-      → list_any (λ (d : Bor RData). p d.now) data ≡ list_any (λ (r : Record RData). p r.rdata) entries
+      → list_any (λ (d : Bor RData). p d.now) ds ≡ list_any (λ (r : Record RData). p r.rdata) entries

@@ -14,8 +14,14 @@ use rr::Record;
 pub(crate) fn is_supported(message: &Message) -> bool
     ensures { result ≡ is_all_served_in (sections_of (message_value message.now)) }
 {
-    message.answers.iter().all(is_supported_prerequisite)
-        && message.authorities.iter().all(is_supported_update)
+    message
+        .answers
+        .iter()
+        .all(|entry| is_supported_prerequisite(entry))
+        && message
+            .authorities
+            .iter()
+            .all(|entry| is_supported_update(entry))
 }
 
 fn is_supported_prerequisite(entry: &Record) -> bool

@@ -15,23 +15,23 @@ pub(super) fn sorted_data<'r>(
     entries: &'r [Record],
     alloc: Global,
 ) -> Result<Vec<&'r RData>, AllocError>
-    ensures { IfOk result (λ data. IsSortedDataOf data.items entries.now) }
+    ensures { IfOk result (λ sorted. IsSortedDataOf sorted.items entries.now) }
 {
-    let mut data = Vec::with_capacity(alloc, entries.len())?;
+    let mut sorted = Vec::with_capacity(alloc, entries.len())?;
     for entry in entries {
         entry.rdata.fits();
-        data.push(&entry.rdata)?;
+        sorted.push(&entry.rdata)?;
     }
-    data.sort_unstable_by(|a, b| a.canonical_cmp(b));
-    Ok(data)
+    sorted.sort_unstable_by(|a, b| a.canonical_cmp(b));
+    Ok(sorted)
 }
 
 /// Whether equal data is among data in order.
-pub(super) fn has_equal(data: &[&RData], rdata: &RData) -> bool
-    requires { IsInOrder data.now }
-    ensures { result ≡ list_any (λ d. same_data rdata.now d.now) data.now }
+pub(super) fn has_equal(sorted: &[&RData], rdata: &RData) -> bool
+    requires { IsInOrder sorted.now }
+    ensures { result ≡ list_any (λ d. same_data rdata.now d.now) sorted.now }
 {
     rdata.fits();
-    data.binary_search_by(|known| known.canonical_cmp(rdata))
+    sorted.binary_search_by(|known| known.canonical_cmp(rdata))
         .is_ok()
 }
