@@ -174,27 +174,43 @@ fn lengths_of_names(rt: HostRuntime) -> Result<(), ParseError> {
     Ok(())
 }
 
-/// How the names of two texts stand to each other: their order, whether they are equal, whether they hash alike, and
-/// whether the first is a zone of the second.
-fn compared(
-    alloc: Global,
-    one: &str,
-    other: &str,
-) -> Result<(Ordering, bool, bool, bool), ParseError> {
-    let first = name(alloc, one)?;
-    match name(alloc, other) {
-        Ok(second) => {
-            let order = first.cmp(&second);
-            let alike = hash_alike(&first, &second);
-            let said = (order, first == second, alike, first.zone_of(&second));
-            drop(first);
-            drop(second);
-            Ok(said)
+/// How the names of two texts stand to each other, if they are names: their order, whether they are equal, whether they hash
+/// alike, and whether the first is a zone of the second.
+fn compared(alloc: Global, one: &str, other: &str) -> Option<(Ordering, bool, bool, bool)> {
+    let names = (name(alloc, one), name(alloc, other));
+    let compared = match &names {
+        (Ok(first), Ok(second)) => {
+            let alike = hash_alike(first, second);
+            let is_zone = first.zone_of(second);
+            Some((first.cmp(second), first == second, alike, is_zone))
         }
-        Err(e) => {
-            drop(first);
-            Err(e)
-        }
+        _ => None,
+    };
+    drop(names);
+    compared
+}
+
+/// Whether the names of two texts have this order.
+fn have_order(alloc: Global, one: &str, other: &str, order: Ordering) -> bool {
+    match compared(alloc, one, other) {
+        Some((found, _, _, _)) => found == order,
+        None => false,
+    }
+}
+
+/// Whether the names of two texts are equal and hash alike, or are not equal.
+fn are_equal(alloc: Global, one: &str, other: &str, equal: bool) -> bool {
+    match compared(alloc, one, other) {
+        Some((_, found, alike, _)) => found == equal && (alike || !equal),
+        None => false,
+    }
+}
+
+/// Whether the name of a text lies in the zone of another, or doesn't.
+fn lies_in(alloc: Global, zone: &str, inner: &str, holds: bool) -> bool {
+    match compared(alloc, zone, inner) {
+        Some((_, _, _, found)) => found == holds,
+        None => false,
     }
 }
 
@@ -249,28 +265,23 @@ const ASCENDING: &[&'static str] = &[
 ];
 
 #[test]
-fn names_compared(rt: HostRuntime) -> Result<(), ParseError> {
-    let same = compared(rt.alloc(), "WWW.a.", "www.A.")?;
-    assert!(rt; same.1 && same.2);
-    assert!(rt; compared(rt.alloc(), "A.b.", "a.B.")?.0 == Ordering::Equal);
+fn names_compared(rt: HostRuntime) {
+    assert!(rt; are_equal(rt.alloc(), "WWW.a.", "www.A.", true));
+    assert!(rt; have_order(rt.alloc(), "A.b.", "a.B.", Ordering::Equal));
     for &(one, other) in UNEQUAL {
-        assert!(rt; !compared(rt.alloc(), one, other)?.1, "{one} {other}");
+        assert!(rt; are_equal(rt.alloc(), one, other, false), "{one} {other}");
     }
     for &(zone, inner, holds) in ZONES {
-        assert!(rt;
-            compared(rt.alloc(), zone, inner)?.3 == holds,
-            "{zone} {inner}"
-        );
+        assert!(rt; lies_in(rt.alloc(), zone, inner, holds), "{zone} {inner}");
     }
     for (i, one) in ASCENDING.iter().enumerate() {
         for (j, other) in ASCENDING.iter().enumerate() {
             assert!(rt;
-                compared(rt.alloc(), one, other)?.0 == i.cmp(&j),
+                have_order(rt.alloc(), one, other, i.cmp(&j)),
                 "{one} {other}"
             );
         }
     }
-    Ok(())
 }
 
 /// The lowered name that a text reads as.
@@ -278,7 +289,10 @@ fn lower(alloc: Global, text: &str) -> Result<LowerName, ParseError> {
     let read = name(alloc, text)?;
     let lowered = LowerName::new(alloc, &read);
     drop(read);
-    lowered.map_err(|_| ParseError::Memory)
+    match lowered {
+        Ok(lowered) => Ok(lowered),
+        Err(_) => Err(ParseError::Memory),
+    }
 }
 
 /// The order of the keys of two texts and types, and whether they are equal.
