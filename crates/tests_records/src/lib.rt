@@ -6,4 +6,6 @@ mod records;
 #[cfg(test)]
 mod refused_memory;
 #[cfg(test)]
+mod rows;
+#[cfg(test)]
 mod sets;
