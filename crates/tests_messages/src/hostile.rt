@@ -7,34 +7,37 @@ mod messages;
 mod names;
 mod rows;
 
-use base::ProtoError;
+use base::{DecodeError, ProtoError};
 use messages::MESSAGES;
 use op::Message;
 use std::alloc::Global;
 use std::test::Fail;
 use test_tools::bytes::decoded;
 
-/// The number of the refusal of a buffer, 0 where it is read.
-fn judged(alloc: Global, wire: &[u8]) -> u8 {
+/// The number of the refusal of a buffer, 0 where it is read, and what it names: how many bytes are left and the length of
+/// the data, or the type of the data.
+pub(crate) fn fault(alloc: Global, wire: &[u8]) -> (u8, usize, usize) {
     let read = Message::from_vec(alloc, wire);
-    let number = match &read {
-        Ok(_) => 0,
-        Err(fault) => fault.number(),
+    let fault = match &read {
+        Ok(_) => (0, 0, 0),
+        Err(DecodeError::IncorrectRDataLengthRead { read, len }) => (7, *read, *len),
+        Err(DecodeError::BadData(named)) => (8, usize::from(u16::from(*named)), 0),
+        Err(e) => (e.number(), 0, 0),
     };
     drop(read);
-    number
+    fault
 }
 
-/// The number of the refusal of the bytes that a text spells.
-fn judged_text(alloc: Global, text: &str) -> Result<u8, ProtoError> {
+/// The same of the bytes that a text spells.
+pub(crate) fn fault_of_text(alloc: Global, text: &str) -> Result<(u8, usize, usize), ProtoError> {
     let wire = decoded(alloc, text)?;
-    Ok(judged(alloc, &wire))
+    Ok(fault(alloc, &wire))
 }
 
 #[test]
 fn hostile_messages_are_judged(rt: HostRuntime) -> Result<(), Fail> {
     for &(what, number, text) in MESSAGES {
-        assert!(rt; judged_text(rt.alloc(), text)? == number, "{what}");
+        assert!(rt; fault_of_text(rt.alloc(), text)?.0 == number, "{what}");
     }
     Ok(())
 }

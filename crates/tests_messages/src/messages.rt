@@ -1,5 +1,6 @@
 //! Headers, questions, EDNS and messages.
 
+mod built;
 mod edns;
 mod header;
 pub(super) mod message;

@@ -63,27 +63,45 @@ fn is_written_after(alloc: Global, limit: u16, parts: &[&str]) -> Result<bool, F
     right
 }
 
+/// Limits, and what stands then: the whole message, a cut without EDNS, and a cut without answers.
+const AFTER: &[(u16, &'static [&'static str])] = &[
+    (
+        137,
+        &[
+            "abcd000780000001000100000003",
+            QUESTION,
+            TEXT_AFTER,
+            ADDRESS_AFTER,
+            EDNS,
+            SIGNATURE,
+        ],
+    ),
+    (
+        102,
+        &[
+            "abcd000782000001000100000002",
+            QUESTION,
+            TEXT_AFTER,
+            ADDRESS_AFTER,
+            SIGNATURE,
+        ],
+    ),
+    (
+        49,
+        &[
+            "abcd000782000001000000000002",
+            QUESTION,
+            ADDRESS_AFTER,
+            SIGNATURE,
+        ],
+    ),
+];
+
 #[test]
 fn what_stood_before_a_message_stays(rt: HostRuntime) -> Result<(), Fail> {
-    let header = "abcd000780000001000100000003";
-    let parts = [header, QUESTION, TEXT_AFTER, ADDRESS_AFTER, EDNS, SIGNATURE];
-    assert!(rt; is_written_after(rt.alloc(), 137, &parts)?);
-    Ok(())
-}
-
-#[test]
-fn what_stood_before_a_cut_without_edns_stays(rt: HostRuntime) -> Result<(), Fail> {
-    let header = "abcd000782000001000100000002";
-    let parts = [header, QUESTION, TEXT_AFTER, ADDRESS_AFTER, SIGNATURE];
-    assert!(rt; is_written_after(rt.alloc(), 102, &parts)?);
-    Ok(())
-}
-
-#[test]
-fn what_stood_before_a_cut_without_answers_stays(rt: HostRuntime) -> Result<(), Fail> {
-    let header = "abcd000782000001000000000002";
-    let parts = [header, QUESTION, ADDRESS_AFTER, SIGNATURE];
-    assert!(rt; is_written_after(rt.alloc(), 49, &parts)?);
+    for &(limit, parts) in AFTER {
+        assert!(rt; is_written_after(rt.alloc(), limit, parts)?, "{limit}");
+    }
     Ok(())
 }
 

@@ -1,6 +1,6 @@
 //! Names that are as long as they may be, or a byte longer, and chains of pointers.
 
-use super::judged;
+use super::fault;
 use op::Message;
 use std::alloc::{AllocError, Global};
 use std::test::Fail;
@@ -35,7 +35,7 @@ fn push_question(wire: &mut Vec<u8>, labels: &[u8], end: &[u8]) -> Result<(), Al
 fn question(alloc: Global, labels: &[u8]) -> Result<u8, AllocError> {
     let mut wire = header(alloc, 1, 0)?;
     push_question(&mut wire, labels, &[0])?;
-    Ok(judged(alloc, &wire))
+    Ok(fault(alloc, &wire).0)
 }
 
 // The same, where the last label stands in a second question, before a pointer to the first.
@@ -43,7 +43,7 @@ fn after_a_pointer(alloc: Global, labels: &[u8], last: u8) -> Result<u8, AllocEr
     let mut wire = header(alloc, 2, 0)?;
     push_question(&mut wire, labels, &[0])?;
     push_question(&mut wire, &[last], &[0xC0, 12])?;
-    Ok(judged(alloc, &wire))
+    Ok(fault(alloc, &wire).0)
 }
 
 // The same, where each label stands in a question of its own, before a pointer to the question before it: these are
@@ -54,7 +54,7 @@ fn in_steps(alloc: Global, last: u8) -> Result<u8, AllocError> {
     push_question(&mut wire, &[63], &[0xC0, 12])?;
     push_question(&mut wire, &[63], &[0xC0, 81])?;
     push_question(&mut wire, &[last], &[0xC0, 151])?;
-    Ok(judged(alloc, &wire))
+    Ok(fault(alloc, &wire).0)
 }
 
 #[test]

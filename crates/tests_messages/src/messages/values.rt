@@ -1,8 +1,8 @@
 //! Values that several tests write and read.
 
-use base::{DNSClass, Name, ParseError, ProtoError, RecordType};
+use base::{DNSClass, Name, ParseError, ProtoError};
 use base_data::{A, EdnsOption, TSIG};
-use op::{Edns, Message, Query};
+use op::{Edns, Message};
 use rr::Record;
 use std::alloc::{AllocError, Global};
 use std::net::Ipv4Addr;
@@ -45,21 +45,4 @@ pub(crate) fn if_filled(message: Message, filled: Result<(), Fail>) -> Result<Me
             Err(e)
         }
     }
-}
-
-/// Asks for the addresses of a name.
-pub(crate) fn ask(alloc: Global, message: &mut Message, name: &str) -> Result<(), Fail> {
-    let name = Name::parse(alloc, name, None)?;
-    Ok(message.add_query(Query::query(name, RecordType::A))?)
-}
-
-/// Answers `owner` `ttl` A 192.0.2.1.
-pub(crate) fn answer(
-    alloc: Global,
-    message: &mut Message,
-    owner: &str,
-    ttl: u32,
-) -> Result<(), Fail> {
-    let record = address(alloc, owner, ttl)?;
-    Ok(message.add_answer(record)?)
 }

@@ -1,9 +1,9 @@
-//! Calls on the parts of a message: truncating, stripping, iterating, and what EDNS says of payloads.
+//! Calls on the parts of a message: truncating, stripping, iterating, the signature, and what EDNS says of payloads.
 
-use crate::messages::values::{address, ask, if_filled};
+use crate::messages::built::{Kind, Part, built};
+use crate::messages::values::address;
 use base::{DNSClass, Name, RecordType};
-use base_data::RData;
-use op::{Edns, Message, OpCode, Query};
+use op::{Edns, Message, OpCode};
 use rr::Record;
 use std::alloc::Global;
 use std::test::Fail;
@@ -49,30 +49,15 @@ fn a_truncated_message_keeps_its_question_and_edns(rt: HostRuntime) -> Result<()
     Ok(())
 }
 
-// A record of `a.` whose data, one zero byte, is only carried.
-fn carried(alloc: Global, record_type: RecordType) -> Result<Record, Fail> {
-    let owner = Name::parse(alloc, "a.", None)?;
-    let data = RData::Unknown {
-        code: record_type,
-        rdata: base_data::NULL::new(vec![in alloc; 0]?),
-    };
-    Ok(Record::from_rdata(owner, 60, data))
-}
-
-// Answers A and RRSIG and an additional NSEC to a question for a type.
-fn fill(alloc: Global, message: &mut Message, asked: RecordType) -> Result<(), Fail> {
-    let name = Name::parse(alloc, "a.", None)?;
-    message.add_query(Query::query(name, asked))?;
-    message.add_answer(address(alloc, "a.", 60)?)?;
-    message.add_answer(carried(alloc, RecordType::RRSIG)?)?;
-    Ok(message.add_additional(carried(alloc, RecordType::NSEC)?)?)
-}
-
-// How many answers and additional records are left of them.
+// How many answers and additional records are left of A and RRSIG, and of NSEC, that answer a question for a type.
 fn left(alloc: Global, asked: RecordType, flag: bool) -> Result<(usize, usize), Fail> {
-    let mut message = Message::response(alloc, 1, OpCode::Query);
-    let filled = fill(alloc, &mut message, asked);
-    let message = if_filled(message, filled)?.maybe_strip_dnssec_records(flag);
+    let parts = [
+        Part::Ask("a.", asked),
+        Part::Answer("a.", 60),
+        Part::CarriedAnswer(RecordType::RRSIG),
+        Part::CarriedAdditional(RecordType::NSEC),
+    ];
+    let message = built(alloc, Kind::Response(1), &parts)?.maybe_strip_dnssec_records(flag);
     let counts = (message.answers.len(), message.additionals.len());
     drop(message);
     Ok(counts)
@@ -143,8 +128,7 @@ fn a_record_of_an_address_is_no_edns(rt: HostRuntime) -> Result<(), Fail> {
 
 // A message without EDNS says these of its payload and version, and is a response where it is made one.
 fn plain(alloc: Global) -> Result<(u16, u8, bool), Fail> {
-    let mut message = Message::query(alloc, 1);
-    ask(alloc, &mut message, "a.")?;
+    let message = built(alloc, Kind::Query(1), &[Part::Ask("a.", RecordType::A)])?;
     let said = (message.max_payload(), message.version());
     let response = message.into_response();
     let is_response = response.metadata.message_type == op::MessageType::Response;
@@ -155,5 +139,40 @@ fn plain(alloc: Global) -> Result<(u16, u8, bool), Fail> {
 #[test]
 fn a_message_without_edns_takes_512_bytes(rt: HostRuntime) -> Result<(), Fail> {
     assert!(rt; plain(rt.alloc())? == (512, 0, true));
+    Ok(())
+}
+
+// Whether the signature of a message is lent.
+fn is_signed(message: &Message) -> bool {
+    match message.signature() {
+        Some(signature) => signature.name.is_root() && signature.dns_class == DNSClass::ANY,
+        None => false,
+    }
+}
+
+// Whether the signature is taken out of a message.
+fn is_taken(message: &mut Message) -> bool {
+    match message.take_signature() {
+        Some(signature) => {
+            let is_taken = signature.name.is_root() && signature.dns_class == DNSClass::ANY;
+            drop(signature);
+            is_taken
+        }
+        None => false,
+    }
+}
+
+// Whether a message is signed, its signature can be taken, the message is signed then, and it can be taken once more.
+fn signatures(alloc: Global) -> Result<[bool; 4], Fail> {
+    let mut message = built(alloc, Kind::Response(7), &[Part::Signature])?;
+    let before = (is_signed(&message), is_taken(&mut message));
+    let after = (is_signed(&message), is_taken(&mut message));
+    drop(message);
+    Ok([before.0, before.1, after.0, after.1])
+}
+
+#[test]
+fn a_signature_is_taken_once(rt: HostRuntime) -> Result<(), Fail> {
+    assert!(rt; signatures(rt.alloc())? == [true, true, false, false]);
     Ok(())
 }

@@ -1,42 +1,43 @@
 //! What refusals name: the type of data, how many questions had room, and the question that is no name.
 
-use base::{BinDecodable, BinDecoder, BinEncoder, DecodeError, ProtoError, RecordType};
+use crate::hostile::fault_of_text;
+use base::{BinDecodable, BinDecoder, BinEncoder, ProtoError};
 use op::{Header, Message};
 use std::alloc::Global;
 use std::test::Fail;
 use test_tools::bytes::decoded;
 
-// Messages in hexadecimal that are refused for data of a type.
-const BAD_DATA: &[(RecordType, &'static str)] = &[
+// Messages in hexadecimal that are refused for their data, with the number and what it names: the type of the data, or how
+// many bytes are left and the length of the data.
+const BAD_DATA: &[((u8, usize, usize), &'static str)] = &[
     // a pointer that leaves its data, and data that its name doesn't fill
     (
-        RecordType::MX,
+        (8, MX, 0),
         "0009 8180 0001 0001 0000 0000 076578616D706C65 00 000F 0001 C00C 000F 0001 0000012C 0008 000A 046D61696C C00C",
     ),
     (
-        RecordType::MX,
+        (8, MX, 0),
         "0009 8180 0001 0001 0000 0000 076578616D706C65 00 000F 0001 C00C 000F 0001 0000012C 000A 000A 046D61696C C00C 00",
     ),
     // type 0 with data
     (
-        RecordType::ZERO,
+        (8, 0, 0),
         "A0A0 000D 0000 0001 0000 0000 00 0000 0001 00000001 0001 00",
+    ),
+    // data that the buffer ends in
+    (
+        (7, 9, 10),
+        "0009 8180 0001 0001 0000 0000 076578616D706C65 00 000F 0001 C00C 000F 0001 0000012C 000A 000A 046D61696C C00C",
     ),
 ];
 
-// Whether the message is refused for data of this type.
-fn has_bad_data(alloc: Global, text: &str, record_type: RecordType) -> Result<bool, ProtoError> {
-    let bytes = decoded(alloc, text)?;
-    let read = Message::from_vec(alloc, &bytes);
-    let is_bad = matches!(&read, Err(DecodeError::BadData(named)) if *named == record_type);
-    drop(read);
-    Ok(is_bad)
-}
+// The number of that type.
+const MX: usize = 15;
 
 #[test]
-fn bad_data_is_refused_by_its_type(rt: HostRuntime) -> Result<(), Fail> {
-    for &(record_type, text) in BAD_DATA {
-        assert!(rt; has_bad_data(rt.alloc(), text, record_type)?, "{text}");
+fn bad_data_is_refused_as_what_it_is(rt: HostRuntime) -> Result<(), Fail> {
+    for &(fault, text) in BAD_DATA {
+        assert!(rt; fault_of_text(rt.alloc(), text)? == fault, "{text}");
     }
     Ok(())
 }

@@ -1,0 +1,390 @@
+//! Messages that are put together: their texts, and their bytes.
+
+use super::values::{address, edns_with_option, if_filled, signature};
+use base::{Name, ParseError, RecordType};
+use base_data::{NULL, RData};
+use op::{Edns, Message, MessageType, OpCode, Query, ResponseCode};
+use rr::Record;
+use std::alloc::{AllocError, Global};
+use std::test::Fail;
+use test_tools::forms::has_text;
+
+/// How a message begins.
+#[derive(Clone, Copy)]
+pub(crate) enum Kind {
+    Query(u16),
+    Response(u16),
+    Refusal(u16, ResponseCode),
+    Notice(u16),
+}
+
+/// What is put into a message.
+#[derive(Clone, Copy)]
+pub(crate) enum Part {
+    /// RD, and a response code.
+    Rd,
+    Code(ResponseCode),
+    Ask(&'static str, RecordType),
+    /// Addresses of this owner, of a TTL of 60 where none is given.
+    Answer(&'static str, u32),
+    Authority(&'static str),
+    Additional(&'static str),
+    /// Records of `a.` whose data, one zero byte, is only carried.
+    CarriedAnswer(RecordType),
+    CarriedAdditional(RecordType),
+    /// `a.` 0 NULL of as many zero bytes.
+    Zeros(usize),
+    Edns,
+    /// EDNS whose own high code is 9, and EDNS with an option.
+    HighCode,
+    Options,
+    Signature,
+    /// Questions and addresses that are added at once, the questions for mail exchanges.
+    Asks(&'static [&'static str]),
+    Answers(&'static [&'static str]),
+    Authorities(&'static [&'static str]),
+    Additionals(&'static [&'static str]),
+    /// Addresses that become the section.
+    AllAnswers(&'static [&'static str]),
+    AllAuthorities(&'static [&'static str]),
+    AllAdditionals(&'static [&'static str]),
+}
+
+fn begun(alloc: Global, kind: Kind) -> Message {
+    match kind {
+        Kind::Query(id) => Message::query(alloc, id),
+        Kind::Response(id) => Message::response(alloc, id, OpCode::Query),
+        Kind::Refusal(id, code) => Message::error_msg(alloc, id, OpCode::Query, code),
+        Kind::Notice(id) => Message::new(alloc, id, MessageType::Response, OpCode::Notify),
+    }
+}
+
+fn question(alloc: Global, name: &str, asked: RecordType) -> Result<Query, ParseError> {
+    Ok(Query::query(Name::parse(alloc, name, None)?, asked))
+}
+
+/// Questions for the mail exchanges of these names.
+fn questions(alloc: Global, names: &[&str]) -> Result<Vec<Query>, ParseError> {
+    let mut queries = Vec::new(alloc);
+    for name in names {
+        queries.push(question(alloc, name, RecordType::MX)?)?;
+    }
+    Ok(queries)
+}
+
+/// Addresses of these owners.
+fn addresses(alloc: Global, owners: &[&str]) -> Result<Vec<Record>, ParseError> {
+    let mut records = Vec::new(alloc);
+    for owner in owners {
+        records.push(address(alloc, owner, 60)?)?;
+    }
+    Ok(records)
+}
+
+/// As many zero bytes.
+fn zeros(alloc: Global, len: usize) -> Result<NULL, AllocError> {
+    let mut bytes = Vec::new(alloc);
+    bytes.resize(len, 0)?;
+    Ok(NULL::new(bytes))
+}
+
+/// A record of `a.`.
+fn record(alloc: Global, ttl: u32, rdata: RData) -> Result<Record, ParseError> {
+    match Name::parse(alloc, "a.", None) {
+        Ok(owner) => Ok(Record::from_rdata(owner, ttl, rdata)),
+        Err(e) => {
+            drop(rdata);
+            Err(e)
+        }
+    }
+}
+
+fn carried(alloc: Global, code: RecordType) -> Result<Record, ParseError> {
+    let rdata = zeros(alloc, 1)?;
+    record(alloc, 60, RData::Unknown { code, rdata })
+}
+
+/// Puts a list of questions or records into a message.
+fn put_list(alloc: Global, message: &mut Message, part: Part) -> Result<(), Fail> {
+    match part {
+        Part::Asks(names) => message.add_queries(questions(alloc, names)?.into_iter())?,
+        Part::Answers(owners) => message.add_answers(addresses(alloc, owners)?.into_iter())?,
+        Part::Authorities(owners) => {
+            message.add_authorities(addresses(alloc, owners)?.into_iter())?
+        }
+        Part::Additionals(owners) => {
+            message.add_additionals(addresses(alloc, owners)?.into_iter())?
+        }
+        Part::AllAnswers(owners) => message.insert_answers(addresses(alloc, owners)?),
+        Part::AllAuthorities(owners) => message.insert_authorities(addresses(alloc, owners)?),
+        Part::AllAdditionals(owners) => message.insert_additionals(addresses(alloc, owners)?),
+        _ => {}
+    }
+    Ok(())
+}
+
+/// Puts a question or a record into a message.
+fn put_record(alloc: Global, message: &mut Message, part: Part) -> Result<(), Fail> {
+    match part {
+        Part::Ask(name, asked) => message.add_query(question(alloc, name, asked)?)?,
+        Part::Answer(owner, ttl) => message.add_answer(address(alloc, owner, ttl)?)?,
+        Part::Authority(owner) => message.add_authority(address(alloc, owner, 60)?)?,
+        Part::Additional(owner) => message.add_additional(address(alloc, owner, 60)?)?,
+        Part::CarriedAnswer(code) => message.add_answer(carried(alloc, code)?)?,
+        Part::CarriedAdditional(code) => message.add_additional(carried(alloc, code)?)?,
+        Part::Zeros(len) => {
+            message.add_answer(record(alloc, 0, RData::NULL(zeros(alloc, len)?))?)?
+        }
+        _ => put_list(alloc, message, part)?,
+    }
+    Ok(())
+}
+
+/// Puts a part into a message.
+fn put(alloc: Global, message: &mut Message, part: Part) -> Result<(), Fail> {
+    match part {
+        Part::Rd => message.metadata.recursion_desired = true,
+        Part::Code(code) => message.metadata.response_code = code,
+        Part::Edns => {
+            message.set_edns(Edns::new(alloc));
+        }
+        Part::HighCode => {
+            let mut edns = Edns::new(alloc);
+            edns.set_rcode_high(9);
+            message.set_edns(edns);
+        }
+        Part::Options => {
+            message.set_edns(edns_with_option(alloc)?);
+        }
+        Part::Signature => {
+            message.set_signature(signature(alloc)?);
+        }
+        _ => put_record(alloc, message, part)?,
+    }
+    Ok(())
+}
+
+fn fill(alloc: Global, message: &mut Message, parts: &[Part]) -> Result<(), Fail> {
+    for &part in parts {
+        put(alloc, message, part)?;
+    }
+    Ok(())
+}
+
+/// A message of these parts.
+pub(crate) fn built(alloc: Global, kind: Kind, parts: &[Part]) -> Result<Message, Fail> {
+    let mut message = begun(alloc, kind);
+    let filled = fill(alloc, &mut message, parts);
+    if_filled(message, filled)
+}
+
+/// How messages are put together, their texts, and whether they are signed.
+const TEXTS: &[(Kind, &'static [Part], &'static str, bool)] = &[
+    (
+        Kind::Query(10),
+        &[
+            Part::Ask("a.", RecordType::A),
+            Part::Answer("b.", 60),
+            Part::Edns,
+        ],
+        "; header 10:QUERY::NoError:QUERY\n; edns version: 0 dnssec_ok: false z_flags: 0 max_payload: 512 opts: 0\n; query\n;; a. IN A; mdns_unicast_response: false\n",
+        false,
+    ),
+    (
+        Kind::Refusal(7, ResponseCode::NXDomain),
+        &[
+            Part::Answer("a.", 60),
+            Part::Answer("b.", 60),
+            Part::Authority("c."),
+            Part::Additional("d."),
+        ],
+        "; header 7:RESPONSE::NXDomain:QUERY\n; query\n; answers 2\na. 60 IN A 192.0.2.1\nb. 60 IN A 192.0.2.1\n; authorities 1\nc. 60 IN A 192.0.2.1\n; additionals 1\nd. 60 IN A 192.0.2.1\n",
+        false,
+    ),
+    // a signature is no additional record
+    (
+        Kind::Notice(7),
+        &[Part::Signature],
+        "; header 7:RESPONSE::NoError:NOTIFY\n; query\n; answers 0\n; authorities 0\n; additionals 0\n",
+        true,
+    ),
+    // many are added in their order
+    (
+        Kind::Response(7),
+        &[
+            Part::Ask("y.", RecordType::A),
+            Part::Answer("z.", 5),
+            Part::Asks(&["a.", "b."]),
+            Part::Answers(&["c.", "d."]),
+            Part::Authorities(&["e.", "f."]),
+            Part::Additionals(&["g.", "h."]),
+        ],
+        "; header 7:RESPONSE::NoError:QUERY\n; query\n;; y. IN A; mdns_unicast_response: false\n\
+         ;; a. IN MX; mdns_unicast_response: false\n;; b. IN MX; mdns_unicast_response: false\n\
+         ; answers 3\nz. 5 IN A 192.0.2.1\nc. 60 IN A 192.0.2.1\nd. 60 IN A 192.0.2.1\n\
+         ; authorities 2\ne. 60 IN A 192.0.2.1\nf. 60 IN A 192.0.2.1\n\
+         ; additionals 2\ng. 60 IN A 192.0.2.1\nh. 60 IN A 192.0.2.1\n",
+        false,
+    ),
+    // sections are taken over
+    (
+        Kind::Response(7),
+        &[
+            Part::AllAnswers(&["c.", "d."]),
+            Part::AllAuthorities(&["e."]),
+            Part::AllAdditionals(&["g."]),
+        ],
+        "; header 7:RESPONSE::NoError:QUERY\n; query\n\
+         ; answers 2\nc. 60 IN A 192.0.2.1\nd. 60 IN A 192.0.2.1\n\
+         ; authorities 1\ne. 60 IN A 192.0.2.1\n; additionals 1\ng. 60 IN A 192.0.2.1\n",
+        false,
+    ),
+];
+
+/// Whether a message is no empty response.
+fn is_filled(alloc: Global, message: &Message) -> bool {
+    let empty = Message::response(alloc, 7, OpCode::Query);
+    let is_other = *message != empty;
+    drop(empty);
+    is_other
+}
+
+/// Whether the message of these parts has this text, is signed or not, and is no empty response.
+fn is_shown(
+    alloc: Global,
+    kind: Kind,
+    parts: &[Part],
+    text: &str,
+    is_signed: bool,
+) -> Result<bool, Fail> {
+    let message = built(alloc, kind, parts)?;
+    let is_shown = has_text(alloc, &message, text) && message.signature.is_some() == is_signed;
+    let is_filled = is_filled(alloc, &message);
+    drop(message);
+    Ok(is_shown && is_filled)
+}
+
+#[test]
+fn messages_are_put_together(rt: HostRuntime) -> Result<(), Fail> {
+    for &(kind, parts, text, is_signed) in TEXTS {
+        assert!(rt;
+            is_shown(rt.alloc(), kind, parts, text, is_signed)?,
+            "{text}"
+        );
+    }
+    Ok(())
+}
+
+/// The bytes of the message of these parts.
+fn bytes_of(alloc: Global, kind: Kind, parts: &[Part]) -> Result<Vec<u8>, Fail> {
+    let message = built(alloc, kind, parts)?;
+    let bytes = message.to_vec();
+    drop(message);
+    Ok(bytes?)
+}
+
+/// How messages are put together, how many bytes they have, and which these are at the end.
+const WRITTEN: &[(Kind, &'static [Part], usize, &'static [u8])] = &[
+    // a query with EDNS
+    (
+        Kind::Query(0x1234),
+        &[
+            Part::Rd,
+            Part::Code(ResponseCode::BADVERS),
+            Part::Ask("a.b.", RecordType::A),
+            Part::Edns,
+        ],
+        32,
+        b"\x12\x34\x01\x00\x00\x01\x00\x00\x00\x00\x00\x01\x01a\x01b\x00\x00\x01\x00\x01\x00\x00\x29\x02\x00\x01\x00\x00\x00\x00\x00",
+    ),
+    // the high code is that of the response
+    (
+        Kind::Response(1),
+        &[Part::Code(ResponseCode::BADVERS), Part::HighCode],
+        23,
+        b"\x00\x01\x80\x00\x00\x00\x00\x00\x00\x00\x00\x01\x00\x00\x29\x02\x00\x01\x00\x00\x00\x00\x00",
+    ),
+    // an option and a signature
+    (
+        Kind::Response(7),
+        &[Part::Options, Part::Signature],
+        41,
+        b"\x00\x07\x80\x00\x00\x00\x00\x00\x00\x00\x00\x02\x00\x00\x29\x02\x00\x00\x00\x00\x00\x00\x06\xFD\xE9\x00\x02\x01\x02\x00\x00\xFA\x00\xFF\x00\x00\x00\x00\x00\x01\xAA",
+    ),
+    // a near owner is pointed at
+    (
+        Kind::Response(1),
+        &[
+            Part::Ask("a.", RecordType::A),
+            Part::Zeros(100),
+            Part::Answer("z.a.", 0),
+            Part::Answer("z.a.", 0),
+        ],
+        165,
+        b"\x01z\xC0\x0C\x00\x01\x00\x01\x00\x00\x00\x00\x00\x04\xC0\x00\x02\x01\xC0\x83\x00\x01\x00\x01\x00\x00\x00\x00\x00\x04\xC0\x00\x02\x01",
+    ),
+    // no pointer reaches an offset past 16,383
+    (
+        Kind::Response(1),
+        &[
+            Part::Ask("a.", RecordType::A),
+            Part::Zeros(16_400),
+            Part::Answer("z.a.", 0),
+            Part::Answer("z.a.", 0),
+        ],
+        16_467,
+        b"\x01z\xC0\x0C\x00\x01\x00\x01\x00\x00\x00\x00\x00\x04\xC0\x00\x02\x01\x01z\xC0\x0C\x00\x01\x00\x01\x00\x00\x00\x00\x00\x04\xC0\x00\x02\x01",
+    ),
+];
+
+/// Whether the message of these parts has as many bytes, and these at the end.
+fn is_written(
+    alloc: Global,
+    kind: Kind,
+    parts: &[Part],
+    len: usize,
+    end: &[u8],
+) -> Result<bool, Fail> {
+    let bytes = bytes_of(alloc, kind, parts)?;
+    let is_written = bytes.len() == len && bytes.ends_with(end);
+    drop(bytes);
+    Ok(is_written)
+}
+
+#[test]
+fn messages_are_written(rt: HostRuntime) -> Result<(), Fail> {
+    for &(kind, parts, len, end) in WRITTEN {
+        assert!(rt; is_written(rt.alloc(), kind, parts, len, end)?, "{end:?}");
+    }
+    Ok(())
+}
+
+/// The code that is read of the bytes of the message of these parts.
+fn read_code(alloc: Global, parts: &[Part]) -> Result<ResponseCode, Fail> {
+    let bytes = bytes_of(alloc, Kind::Response(1), parts)?;
+    let message = Message::from_vec(alloc, &bytes);
+    drop(bytes);
+    let message = message?;
+    let code = message.metadata.response_code;
+    drop(message);
+    Ok(code)
+}
+
+// The high bits of the code stand in OPT, and nowhere without it; what doesn't fit is dropped.
+#[test]
+fn codes_are_written_and_read(rt: HostRuntime) -> Result<(), Fail> {
+    for &(parts, read) in &[
+        (
+            &[Part::Code(ResponseCode::BADVERS), Part::HighCode] as &[Part],
+            ResponseCode::BADSIG,
+        ),
+        (&[Part::Code(ResponseCode::BADVERS)], ResponseCode::NoError),
+        (
+            &[Part::Code(ResponseCode::Unknown(4097)), Part::HighCode],
+            ResponseCode::FormErr,
+        ),
+    ] {
+        assert!(rt; read_code(rt.alloc(), parts)? == read);
+    }
+    Ok(())
+}
