@@ -14,98 +14,133 @@ fn name(alloc: Global, text: &str) -> Result<Name, ParseError> {
     Name::parse(alloc, text, None)
 }
 
+// A record that is put into a response.
+#[derive(Clone, Copy)]
+enum Entry {
+    /// The start of a zone, with a TTL and a minimum.
+    Start(&'static str, u32, u32),
+    Address(&'static str),
+    Mail(&'static str),
+}
+
+fn data(alloc: Global, entry: Entry) -> RData {
+    match entry {
+        Entry::Start(_, _, minimum) => {
+            RData::SOA(SOA::new(Name::root(alloc), Name::root(alloc), 1, 2, 3, 4, minimum))
+        }
+        Entry::Address(_) => RData::A(A::new(Ipv4Addr::new(192, 0, 2, 1))),
+        Entry::Mail(_) => RData::MX(MX::new(10, Name::root(alloc))),
+    }
+}
+
+fn record(alloc: Global, entry: Entry) -> Result<Record, ParseError> {
+    let (owner, ttl) = match entry {
+        Entry::Start(owner, ttl, _) => (owner, ttl),
+        Entry::Address(owner) | Entry::Mail(owner) => (owner, 60),
+    };
+    let owner = name(alloc, owner)?;
+    Ok(Record::from_rdata(owner, ttl, data(alloc, entry)))
+}
+
+// Puts a question, answers and authorities into a message.
+fn fill(
+    alloc: Global,
+    message: &mut Message,
+    (asked, record_type): (&str, RecordType),
+    answers: &[Entry],
+    authorities: &[Entry],
+) -> Result<(), Fail> {
+    message.add_query(Query::query(name(alloc, asked)?, record_type))?;
+    for &entry in answers {
+        message.add_answer(record(alloc, entry)?)?;
+    }
+    for &entry in authorities {
+        message.add_authority(record(alloc, entry)?)?;
+    }
+    Ok(())
+}
+
 // A response to a question.
-fn asked(alloc: Global, owner: &str, record_type: RecordType) -> Result<Message, Fail> {
-    let query = Query::query(name(alloc, owner)?, record_type);
+fn response(
+    alloc: Global,
+    question: (&str, RecordType),
+    answers: &[Entry],
+    authorities: &[Entry],
+) -> Result<DnsResponse, Fail> {
     let mut message = Message::response(alloc, 1, OpCode::Query);
-    match message.add_query(query) {
-        Ok(()) => Ok(message),
+    match fill(alloc, &mut message, question, answers, authorities) {
+        Ok(()) => Ok(DnsResponse::from_message(alloc, message)?),
         Err(e) => {
             drop(message);
-            Err(e.into())
+            Err(e)
         }
     }
 }
 
-// The start of the zone `owner`, with a minimum.
-fn start(alloc: Global, owner: &str, ttl: u32, minimum: u32) -> Result<Record, Fail> {
-    let owner = name(alloc, owner)?;
-    let data = RData::SOA(SOA::new(Name::root(alloc), Name::root(alloc), 1, 2, 3, 4, minimum));
-    Ok(Record::from_rdata(owner, ttl, data))
-}
-
-fn address(alloc: Global, owner: &str) -> Result<Record, Fail> {
-    let data = RData::A(A::new(Ipv4Addr::new(192, 0, 2, 1)));
-    Ok(Record::from_rdata(name(alloc, owner)?, 60, data))
-}
-
-fn mail(alloc: Global, owner: &str) -> Result<Record, Fail> {
-    let data = RData::MX(MX::new(10, Name::root(alloc)));
-    Ok(Record::from_rdata(name(alloc, owner)?, 60, data))
-}
-
-// Whether some question is answered, and for how long the absence of an answer may be kept.
-fn says(alloc: Global, message: Message) -> Result<(bool, Option<u32>), Fail> {
-    let response = DnsResponse::from_message(alloc, message)?;
+// Whether some question is answered by a response, and for how long the absence of an answer may be kept.
+fn says(
+    alloc: Global,
+    question: (&str, RecordType),
+    answers: &[Entry],
+    authorities: &[Entry],
+) -> Result<(bool, Option<u32>), Fail> {
+    let response = response(alloc, question, answers, authorities)?;
     let said = (response.contains_answer(), response.negative_ttl());
     drop(response);
     Ok(said)
 }
 
-// What a response to a question says that has these authorities.
-fn says_by_authorities(
-    alloc: Global,
-    question: (&str, RecordType),
-    first: Result<Record, Fail>,
-    second: Option<Record>,
-) -> Result<(bool, Option<u32>), Fail> {
-    let first = first?;
-    let mut message = asked(alloc, question.0, question.1)?;
-    message.add_authority(first)?;
-    if let Some(second) = second {
-        message.add_authority(second)?;
+// A question, the answers and authorities of a response, and what it says.
+const SAID: &[(
+    (&'static str, RecordType),
+    &'static [Entry],
+    &'static [Entry],
+    (bool, Option<u32>),
+)] = &[
+    // a start of zone answers for names within
+    (
+        ("AN.EXAMPLE.", RecordType::SOA),
+        &[],
+        &[Entry::Start("EXAMPLE.", 88640, 5)],
+        (true, Some(5)),
+    ),
+    // names of answers are compared in any case
+    (
+        ("b.", RecordType::A),
+        &[],
+        &[Entry::Address("B.")],
+        (true, None),
+    ),
+    (
+        ("b.", RecordType::A),
+        &[],
+        &[Entry::Address("c.")],
+        (false, None),
+    ),
+    // the first start of zone says how long
+    (
+        ("b.", RecordType::A),
+        &[],
+        &[Entry::Start("a.", 10, 20), Entry::Start("a.", 1, 1)],
+        (false, Some(10)),
+    ),
+    // any answer answers a question of a type
+    (
+        ("b.", RecordType::A),
+        &[Entry::Mail("c.")],
+        &[],
+        (true, None),
+    ),
+];
+
+#[test]
+fn responses_say_whether_they_answer_and_for_how_long(rt: HostRuntime) -> Result<(), Fail> {
+    for (i, &(question, answers, authorities, wanted)) in SAID.iter().enumerate() {
+        assert!(rt;
+            says(rt.alloc(), question, answers, authorities)? == wanted,
+            "row {i}"
+        );
     }
-    says(alloc, message)
-}
-
-#[test]
-fn a_start_of_zone_answers_for_names_within(rt: HostRuntime) -> Result<(), Fail> {
-    let alloc = rt.alloc();
-    let question = ("AN.EXAMPLE.", RecordType::SOA);
-    let said = says_by_authorities(alloc, question, start(alloc, "EXAMPLE.", 88640, 5), None)?;
-    assert!(rt; said == (true, Some(5)));
-    Ok(())
-}
-
-#[test]
-fn names_of_answers_are_compared_in_any_case(rt: HostRuntime) -> Result<(), Fail> {
-    let alloc = rt.alloc();
-    let question = ("b.", RecordType::A);
-    assert!(rt; says_by_authorities(alloc, question, address(alloc, "B."), None)? == (true, None));
-    assert!(rt; says_by_authorities(alloc, question, address(alloc, "c."), None)? == (false, None));
-    Ok(())
-}
-
-#[test]
-fn the_first_start_of_zone_says_how_long(rt: HostRuntime) -> Result<(), Fail> {
-    let alloc = rt.alloc();
-    let question = ("b.", RecordType::A);
-    let second = start(alloc, "a.", 1, 1)?;
-    let said = says_by_authorities(alloc, question, start(alloc, "a.", 10, 20), Some(second))?;
-    assert!(rt; said == (false, Some(10)));
-    Ok(())
-}
-
-fn says_by_any_answer(alloc: Global) -> Result<(bool, Option<u32>), Fail> {
-    let answer = mail(alloc, "c.")?;
-    let mut message = asked(alloc, "b.", RecordType::A)?;
-    message.add_answer(answer)?;
-    says(alloc, message)
-}
-
-#[test]
-fn any_answer_answers_a_question_of_a_type(rt: HostRuntime) -> Result<(), Fail> {
-    assert!(rt; says_by_any_answer(rt.alloc())? == (true, None));
     Ok(())
 }
 
@@ -140,7 +175,7 @@ const RESPONSE: &[u8] =
 
 // Whether the bytes of a response to `b.` A are these, as they are written and as they were read with a byte after.
 fn has_bytes(alloc: Global) -> Result<(bool, bool), Fail> {
-    let written = DnsResponse::from_message(alloc, asked(alloc, "b.", RecordType::A)?)?;
+    let written = response(alloc, ("b.", RecordType::A), &[], &[])?;
     let is_written = are_bytes(Ok(written.into_buffer()), RESPONSE);
     let mut bytes = Vec::from_slice(alloc, RESPONSE)?;
     bytes.push(0xFF)?;

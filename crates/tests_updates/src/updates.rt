@@ -2,9 +2,7 @@
 
 mod applied;
 pub(super) mod builders;
-mod by_value;
 mod sections;
-mod transfers;
 
 ghost use Rattle.std.specs.Prelude.{◌≡◌, IfOk, true};
 ghost use Rattle.base.specs.NameOrder.{is_zone_of};

@@ -1,8 +1,9 @@
-//! The TTL of a set that an update changes.
+//! Updates that are applied: what TTL a set has then, and prerequisites by value, which ask for sets that have the data that
+//! an update lists, and no other (RFC 2136, 3.2.3).
 
 use base::{DNSClass, LowerName, Name, RecordType, RrKey};
 use examples::refusal::Refusal;
-use op::Message;
+use op::{Message, ResponseCode};
 use op_use::apply_update;
 use parsed_zone::are_sets_in;
 use rr::RecordSet;
@@ -12,34 +13,37 @@ use std::test::Fail;
 use test_tools::bytes::decoded;
 use txt::Parser;
 
+// The answer to an update in parts, and the sets of the text's zone after it.
+fn applied(
+    alloc: Global,
+    text: &str,
+    update: &[&str],
+) -> Result<(ResponseCode, BTreeMap<RrKey, RecordSet>), Refusal> {
+    let update = update.concat(alloc)?;
+    let bytes = decoded(alloc, &update)?;
+    let message = Message::from_vec(alloc, &bytes)?;
+    let origin = Name::parse(alloc, "example.", None)?;
+    let includes = BTreeMap::new(alloc);
+    let (name, sets) = Parser::new(alloc, text, &includes, Some(origin)).parse()?;
+    if !are_sets_in(&sets) {
+        return Err(Refusal::Class);
+    }
+    Ok(apply_update(alloc, &sets, &name, DNSClass::IN, &message)?)
+}
+
 // The start of `example.`, and two addresses of `www.example.`.
-const TEXT: &str =
+const TWO: &str =
     "@ 3600 SOA ns hostmaster 1 2 3 4 5\n@ NS ns\nwww 300 A 192.0.2.1\nwww 600 A 192.0.2.2\n";
 
 // An update of `example.` by one address of `www.example.`, up to the record's class.
 const UPDATE: &str =
     "0007 2800 0001 0000 0001 0000 076578616D706C65 00 0006 0001 03777777 C00C 0001";
 
-// The sets of that zone, and then those after the update whose record goes on like this.
-fn applied(alloc: Global, change: &str) -> Result<BTreeMap<RrKey, RecordSet>, Refusal> {
-    let update = [UPDATE, change].concat(alloc)?;
-    let bytes = decoded(alloc, &update)?;
-    let message = Message::from_vec(alloc, &bytes)?;
-    let origin = Name::parse(alloc, "example.", None)?;
-    let includes = BTreeMap::new(alloc);
-    let (name, sets) = Parser::new(alloc, TEXT, &includes, Some(origin)).parse()?;
-    if !are_sets_in(&sets) {
-        return Err(Refusal::Class);
-    }
-    let (_, changed) = apply_update(alloc, &sets, &name, DNSClass::IN, &message)?;
-    Ok(changed)
-}
-
-// The TTL that the set of the addresses has then, and how many records.
-fn addresses_after(alloc: Global, change: &str) -> Result<Option<(u32, usize)>, Fail> {
+// The TTL that the set of the addresses has after an update, and how many records.
+fn addresses_after(alloc: Global, update: &[&str]) -> Result<Option<(u32, usize)>, Fail> {
     let owner = Name::parse(alloc, "www.example.", None)?;
     let key = RrKey::new(LowerName::new(alloc, &owner)?, RecordType::A);
-    let sets = applied(alloc, change)?;
+    let (_, sets) = applied(alloc, TWO, update)?;
     Ok(sets.get(&key).map(|set| (set.ttl(), set.records_count())))
 }
 
@@ -53,9 +57,62 @@ fn a_set_has_the_ttl_of_its_last_record(rt: HostRuntime) -> Result<(), Fail> {
         (" 0001 0000003C 0004 C0000201", (600, 2)),
     ] {
         assert!(rt;
-            addresses_after(rt.alloc(), change)? == Some(wanted),
+            addresses_after(rt.alloc(), &[UPDATE, change])? == Some(wanted),
             "{change}"
         );
+    }
+    Ok(())
+}
+
+// The same start, two addresses of `www.example.`, and the first of them at `ftp.example.` too.
+const THREE: &str =
+    "@ 3600 SOA ns hostmaster 1 2 3 4 5\n@ NS ns\nwww 300 A 192.0.2.1\nwww 300 A 192.0.2.2\nftp 300 A 192.0.2.1\n";
+
+// An update of `example.` up to its number of prerequisites, and the zone section after it.
+const START: &str = "0007 2800 0001 ";
+
+const ZONE: &str = " 0000 0000 076578616D706C65 00 0006 0001";
+
+// Prerequisites: addresses of `www.example.` and `ftp.example.`, by their last byte.
+const WWW_1: &str = " 03777777 C00C 0001 0001 00000000 0004 C0000201";
+
+const WWW_2: &str = " 03777777 C00C 0001 0001 00000000 0004 C0000202";
+
+const WWW_3: &str = " 03777777 C00C 0001 0001 00000000 0004 C0000203";
+
+const FTP_1: &str = " 03667470 C00C 0001 0001 00000000 0004 C0000201";
+
+// What an update without changes is answered.
+fn answer(alloc: Global, update: &[&str]) -> Result<ResponseCode, Refusal> {
+    let (code, sets) = applied(alloc, THREE, update)?;
+    drop(sets);
+    Ok(code)
+}
+
+/// Updates without changes, and whether what they list is there.
+const LISTED: &[(&'static [&'static str], bool)] = &[
+    // sets are looked at one by one, whatever the order of their data, and the same data may be listed twice
+    (&[START, "0001", ZONE, FTP_1], true),
+    (&[START, "0002", ZONE, WWW_2, WWW_1], true),
+    (&[START, "0003", ZONE, WWW_2, FTP_1, WWW_1], true),
+    (&[START, "0004", ZONE, WWW_1, WWW_2, WWW_1, WWW_2], true),
+    // data that isn't listed for its own set, or that isn't there, fails the update
+    (&[START, "0001", ZONE, WWW_1], false),
+    (&[START, "0002", ZONE, WWW_1, WWW_3], false),
+    (&[START, "0003", ZONE, WWW_1, WWW_2, WWW_3], false),
+    (&[START, "0002", ZONE, WWW_2, FTP_1], false),
+    (&[START, "0003", ZONE, FTP_1, WWW_1, WWW_1], false),
+];
+
+#[test]
+fn sets_are_asked_for_by_value(rt: HostRuntime) -> Result<(), Fail> {
+    for (i, &(update, is_met)) in LISTED.iter().enumerate() {
+        let wanted = if is_met {
+            ResponseCode::NoError
+        } else {
+            ResponseCode::NXRRSet
+        };
+        assert!(rt; answer(rt.alloc(), update)? == wanted, "row {i}");
     }
     Ok(())
 }

@@ -1,38 +1,26 @@
 use super::{addresses, host, is_sent_as, name, zone_and_addresses};
 use base::DNSClass;
+use base_data::SOA;
 use op::Message;
 use op_use::update_message::{
-    append, compare_and_swap, create, delete_all, delete_by_rdata, delete_rrset,
+    append, compare_and_swap, create, delete_all, delete_by_rdata, delete_rrset, zone_transfer,
 };
 use rr::RecordSet;
 use std::alloc::Global;
 use std::test::Fail;
 
-pub(crate) const CREATED: &[u8] =
-    b"\x00\x01\x28\x00\x00\x01\x00\x01\x00\x01\x00\x01\x07example\x00\x00\x06\x00\x01\x03www\xC0\x0C\x00\x01\x00\xFE\x00\x00\x00\x00\x00\x00\
-      \xC0\x19\x00\x01\x00\x01\x00\x00\x00\x3C\x00\x04\xC0\x00\x02\x01\x00\x00\x29\x04\xD0\x00\x00\x00\x00\x00\x00";
-
-pub(crate) fn created(alloc: Global) -> Result<Message, Fail> {
+fn created(alloc: Global) -> Result<Message, Fail> {
     let (origin, set) = zone_and_addresses(alloc, 60, 1)?;
     Ok(create(alloc, 1, set, origin, true)?)
 }
 
-pub(crate) const APPENDED: &[u8] =
-    b"\x00\x03\x28\x00\x00\x01\x00\x01\x00\x01\x00\x00\x07example\x00\x00\x06\x00\x01\x03www\xC0\x0C\x00\x01\x00\xFF\x00\x00\x00\x00\x00\x00\
-      \xC0\x19\x00\x01\x00\x01\x00\x00\x00\x3C\x00\x04\xC0\x00\x02\x01";
-
-pub(crate) fn appended(alloc: Global) -> Result<Message, Fail> {
+fn appended(alloc: Global) -> Result<Message, Fail> {
     let (origin, set) = zone_and_addresses(alloc, 60, 1)?;
     Ok(append(alloc, 3, set, origin, true, false)?)
 }
 
-pub(crate) const SWAPPED: &[u8] =
-    b"\x12\x34\x28\x00\x00\x01\x00\x01\x00\x03\x00\x00\x07example\x00\x00\x06\x00\x01\x03www\xC0\x0C\x00\x01\x00\x01\x00\x00\x00\x00\x00\x04\xC0\x00\x02\x01\
-      \xC0\x19\x00\x01\x00\xFE\x00\x00\x00\x00\x00\x04\xC0\x00\x02\x01\xC0\x19\x00\x01\x00\x01\x00\x00\x00\x3C\x00\x04\xC0\x00\x02\x01\
-      \xC0\x19\x00\x01\x00\x01\x00\x00\x00\x3C\x00\x04\xC0\x00\x02\x02";
-
 // From the address 192.0.2.1 to that and 192.0.2.2.
-pub(crate) fn swapped(alloc: Global) -> Result<Message, Fail> {
+fn swapped(alloc: Global) -> Result<Message, Fail> {
     let current = addresses(alloc, 300, 1)?;
     match zone_and_addresses(alloc, 60, 2) {
         Ok((origin, new)) if origin.zone_of(current.name()) => {
@@ -46,18 +34,12 @@ pub(crate) fn swapped(alloc: Global) -> Result<Message, Fail> {
     }
 }
 
-pub(crate) const WITHOUT_DATA: &[u8] =
-    b"\x00\x04\x28\x00\x00\x01\x00\x00\x00\x01\x00\x00\x07example\x00\x00\x06\x00\x01\x03www\xC0\x0C\x00\x01\x00\xFE\x00\x00\x00\x00\x00\x04\xC0\x00\x02\x01";
-
-pub(crate) fn without_data(alloc: Global) -> Result<Message, Fail> {
+fn without_data(alloc: Global) -> Result<Message, Fail> {
     let (origin, set) = zone_and_addresses(alloc, 60, 1)?;
     Ok(delete_by_rdata(alloc, 4, set, origin, false)?)
 }
 
-pub(crate) const WITHOUT_SET: &[u8] =
-    b"\x00\x05\x28\x00\x00\x01\x00\x00\x00\x01\x00\x00\x07example\x00\x00\x06\x00\x01\x03www\xC0\x0C\x00\x01\x00\xFF\x00\x00\x00\x00\x00\x00";
-
-pub(crate) fn without_set(alloc: Global, flush: bool) -> Result<Message, Fail> {
+fn without_set(alloc: Global, flush: bool) -> Result<Message, Fail> {
     let mut gone = host(alloc, 60, 1)?;
     gone.mdns_cache_flush = flush;
     let origin = name(alloc, "example.")?;
@@ -67,15 +49,8 @@ pub(crate) fn without_set(alloc: Global, flush: bool) -> Result<Message, Fail> {
     Err(base::ProtoError::Message("a record outside the zone").into())
 }
 
-// The same of a record with the cache-flush bit.
-const WITHOUT_FLUSHED_SET: &[u8] =
-    b"\x00\x05\x28\x00\x00\x01\x00\x00\x00\x01\x00\x00\x07example\x00\x00\x06\x00\x01\x03www\xC0\x0C\x00\x01\x80\xFF\x00\x00\x00\x00\x00\x00";
-
-pub(crate) const WITHOUT_NAME: &[u8] =
-    b"\x00\x02\x28\x00\x00\x01\x00\x00\x00\x01\x00\x00\x07example\x00\x00\x06\x00\x01\xC0\x0C\x00\xFF\x00\xFF\x00\x00\x00\x00\x00\x00";
-
 // All sets of `owner`, at most, in `example.`.
-pub(crate) fn without_name(alloc: Global, owner: &str) -> Result<Message, Fail> {
+fn without_name(alloc: Global, owner: &str) -> Result<Message, Fail> {
     let gone = name(alloc, owner)?;
     let origin = name(alloc, "example.")?;
     if origin.zone_of(&gone) {
@@ -84,18 +59,127 @@ pub(crate) fn without_name(alloc: Global, owner: &str) -> Result<Message, Fail> 
     Err(base::ProtoError::Message("a name outside the zone").into())
 }
 
+// The question for all of `example.`.
+fn whole(alloc: Global) -> Result<Message, Fail> {
+    Ok(zone_transfer(alloc, 6, name(alloc, "example.")?, None)?)
+}
+
+fn start(alloc: Global) -> Result<SOA, Fail> {
+    let server = name(alloc, "ns.example.")?;
+    match name(alloc, "hostmaster.example.") {
+        Ok(mailbox) => Ok(SOA::new(server, mailbox, 1, 7200, 3600, 1209600, 300)),
+        Err(e) => {
+            drop(server);
+            Err(e.into())
+        }
+    }
+}
+
+// The question for what changed in `example.`.
+fn changes(alloc: Global) -> Result<Message, Fail> {
+    let origin = name(alloc, "example.")?;
+    match start(alloc) {
+        Ok(soa) => Ok(zone_transfer(alloc, 6, origin, Some(soa))?),
+        Err(e) => {
+            drop(origin);
+            Err(e)
+        }
+    }
+}
+
+/// What is sent.
+#[derive(Clone, Copy)]
+pub(crate) enum Sent {
+    Created,
+    Appended,
+    Swapped,
+    WithoutData,
+    /// Whether the record has the cache-flush bit.
+    WithoutSet(bool),
+    WithoutName,
+    Whole,
+    Changes,
+}
+
+/// The message that is sent.
+pub(crate) fn built(alloc: Global, sent: Sent) -> Result<Message, Fail> {
+    match sent {
+        Sent::Created => created(alloc),
+        Sent::Appended => appended(alloc),
+        Sent::Swapped => swapped(alloc),
+        Sent::WithoutData => without_data(alloc),
+        Sent::WithoutSet(flush) => without_set(alloc, flush),
+        Sent::WithoutName => without_name(alloc, "example."),
+        Sent::Whole => whole(alloc),
+        Sent::Changes => changes(alloc),
+    }
+}
+
+/// What is sent, how long it is, and its bytes.
+pub(crate) const SENT: &[(Sent, usize, &'static [u8])] = &[
+    (
+        Sent::Created,
+        68,
+        b"\x00\x01\x28\x00\x00\x01\x00\x01\x00\x01\x00\x01\x07example\x00\x00\x06\x00\x01\x03www\xC0\x0C\x00\x01\x00\xFE\x00\x00\x00\x00\x00\x00\
+      \xC0\x19\x00\x01\x00\x01\x00\x00\x00\x3C\x00\x04\xC0\x00\x02\x01\x00\x00\x29\x04\xD0\x00\x00\x00\x00\x00\x00",
+    ),
+    (
+        Sent::Appended,
+        57,
+        b"\x00\x03\x28\x00\x00\x01\x00\x01\x00\x01\x00\x00\x07example\x00\x00\x06\x00\x01\x03www\xC0\x0C\x00\x01\x00\xFF\x00\x00\x00\x00\x00\x00\
+      \xC0\x19\x00\x01\x00\x01\x00\x00\x00\x3C\x00\x04\xC0\x00\x02\x01",
+    ),
+    (
+        Sent::Swapped,
+        93,
+        b"\x12\x34\x28\x00\x00\x01\x00\x01\x00\x03\x00\x00\x07example\x00\x00\x06\x00\x01\x03www\xC0\x0C\x00\x01\x00\x01\x00\x00\x00\x00\x00\x04\xC0\x00\x02\x01\
+      \xC0\x19\x00\x01\x00\xFE\x00\x00\x00\x00\x00\x04\xC0\x00\x02\x01\xC0\x19\x00\x01\x00\x01\x00\x00\x00\x3C\x00\x04\xC0\x00\x02\x01\
+      \xC0\x19\x00\x01\x00\x01\x00\x00\x00\x3C\x00\x04\xC0\x00\x02\x02",
+    ),
+    (
+        Sent::WithoutData,
+        45,
+        b"\x00\x04\x28\x00\x00\x01\x00\x00\x00\x01\x00\x00\x07example\x00\x00\x06\x00\x01\x03www\xC0\x0C\x00\x01\x00\xFE\x00\x00\x00\x00\x00\x04\xC0\x00\x02\x01",
+    ),
+    (
+        Sent::WithoutSet(false),
+        41,
+        b"\x00\x05\x28\x00\x00\x01\x00\x00\x00\x01\x00\x00\x07example\x00\x00\x06\x00\x01\x03www\xC0\x0C\x00\x01\x00\xFF\x00\x00\x00\x00\x00\x00",
+    ),
+    (
+        Sent::WithoutSet(true),
+        41,
+        b"\x00\x05\x28\x00\x00\x01\x00\x00\x00\x01\x00\x00\x07example\x00\x00\x06\x00\x01\x03www\xC0\x0C\x00\x01\x80\xFF\x00\x00\x00\x00\x00\x00",
+    ),
+    (
+        Sent::WithoutName,
+        37,
+        b"\x00\x02\x28\x00\x00\x01\x00\x00\x00\x01\x00\x00\x07example\x00\x00\x06\x00\x01\xC0\x0C\x00\xFF\x00\xFF\x00\x00\x00\x00\x00\x00",
+    ),
+    // the questions for all of `example.`, and for what changed
+    (
+        Sent::Whole,
+        36,
+        b"\x00\x06\x00\x00\x00\x01\x00\x00\x00\x00\x00\x01\x07example\x00\x00\xFC\x00\x01\x00\x00\x29\x04\xD0\x00\x00\x00\x00\x00\x00",
+    ),
+    (
+        Sent::Changes,
+        86,
+        b"\x00\x06\x00\x00\x00\x01\x00\x00\x00\x01\x00\x01\x07example\x00\x00\xFB\x00\x01\
+          \xC0\x0C\x00\x06\x00\x01\x00\x00\x00\x00\x00\x26\x02ns\xC0\x0C\x0Ahostmaster\xC0\x0C\x00\x00\x00\x01\x00\x00\x1C\x20\x00\x00\x0E\x10\x00\x12\x75\x00\x00\x00\x01\x2C\
+          \x00\x00\x29\x04\xD0\x00\x00\x00\x00\x00\x00",
+    ),
+];
+
 #[test]
-fn updates_as_they_are_sent(rt: HostRuntime) -> Result<(), Fail> {
-    let alloc = rt.alloc();
-    assert!(rt; is_sent_as(alloc, created(alloc)?, CREATED));
-    assert!(rt; APPENDED.len() == 57);
-    assert!(rt; is_sent_as(alloc, appended(alloc)?, APPENDED));
-    assert!(rt; SWAPPED.len() == 93);
-    assert!(rt; is_sent_as(alloc, swapped(alloc)?, SWAPPED));
-    assert!(rt; is_sent_as(alloc, without_data(alloc)?, WITHOUT_DATA));
-    assert!(rt; is_sent_as(alloc, without_set(alloc, false)?, WITHOUT_SET));
-    assert!(rt; is_sent_as(alloc, without_set(alloc, true)?, WITHOUT_FLUSHED_SET));
-    assert!(rt; is_sent_as(alloc, without_name(alloc, "example.")?, WITHOUT_NAME));
+fn updates_and_questions_for_transfers_as_they_are_sent(rt: HostRuntime) -> Result<(), Fail> {
+    for &(sent, len, wire) in SENT {
+        let message = built(rt.alloc(), sent)?;
+        assert!(rt;
+            is_sent_as(rt.alloc(), message, wire) && wire.len() == len,
+            "{len}"
+        );
+    }
     Ok(())
 }
 

@@ -1,6 +1,0 @@
-use Rattle.parsed_zone.proofs.ZoneMaps.{parsed_map}
-use Rattle.tests_updates.proofs.updates.by_value.answered.Goals as goal
-use Rattle.std.proofs.Common.{sym, ◌∙◌}
-
-pub apply_update-requires : goal.apply_update-requires
-apply_update-requires c = parsed_map c.in_ok-name.sets c.in_ok-name.ensures.kept (sym c.are_sets_in.ensures ∙ c.if-not-are_sets_in.false)
