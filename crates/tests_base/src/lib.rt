@@ -1,10 +1,15 @@
-//! Tests of `base`: names, the wire, tokens, types and classes, refusals and their texts.
+//! Tests of `base` and `base_data`: names, the wire, tokens, types and classes, refusals and their texts; data of every
+//! kind, its bytes, its order and its texts.
 #![tactic(auto)]
 
+#[cfg(test)]
+mod data;
 #[cfg(test)]
 mod errors;
 #[cfg(test)]
 mod names;
+#[cfg(test)]
+mod texts;
 #[cfg(test)]
 mod tokens;
 #[cfg(test)]
