@@ -1,4 +1,4 @@
-use crate::rows::Datum::{self, Address, Text};
+use crate::rows::Datum::{self, Address, Start, Text};
 use crate::rows::Row;
 use crate::sets::{Call, Step, is_right, leaves, set_of};
 use base::DNSClass::IN;
@@ -56,11 +56,11 @@ const FIRST: Datum = Address(24);
 
 const SECOND: Datum = Address(25);
 
-const START_A: Datum = Text(SOA, &["a.", ".", "2015082403", "1", "1", "1", "1"]);
+const START_A: Datum = Start(2015082403, "a.");
 
-const START_B: Datum = Text(SOA, &["b.", ".", "2015082403", "1", "1", "1", "1"]);
+const START_B: Datum = Start(2015082403, "b.");
 
-const LATER: Datum = Text(SOA, &["c.", ".", "2015082404", "1", "1", "1", "1"]);
+const LATER: Datum = Start(2015082404, "c.");
 
 const ALIAS_A: Datum = Text(CNAME, &["a."]);
 

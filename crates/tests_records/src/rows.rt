@@ -1,7 +1,7 @@
 //! Data and records of rows.
 
 use base::{DNSClass, Name, ParseError, RecordType};
-use base_data::{A, RData, RecordData};
+use base_data::{A, RData, RecordData, SOA};
 use rr::Record;
 use std::alloc::Global;
 use std::net::Ipv4Addr;
@@ -13,6 +13,8 @@ pub(crate) enum Datum {
     Address(u16),
     /// What these items spell.
     Text(RecordType, &'static [&'static str]),
+    /// The start of a zone, of this serial and first name.
+    Start(u32, &'static str),
     /// Empty, as in updates.
     Empty(RecordType),
 }
@@ -26,11 +28,18 @@ fn address(number: u16) -> RData {
     A::new(Ipv4Addr::new(93, 184, high, low)).into_rdata()
 }
 
+/// The start of a zone, of this serial and first name.
+fn start(first: Name, serial: u32) -> RData {
+    let second = Name::root(first.allocator());
+    RData::SOA(SOA::new(first, second, serial, 1, 1, 1, 1))
+}
+
 /// The data of a row.
 pub(crate) fn data(alloc: Global, datum: Datum) -> Result<RData, ParseError> {
     match datum {
         Datum::Address(number) => Ok(address(number)),
         Datum::Text(record_type, items) => RData::from_items(alloc, record_type, items, None),
+        Datum::Start(serial, name) => Ok(start(Name::parse(alloc, name, None)?, serial)),
         Datum::Empty(record_type) => Ok(RData::Update0(record_type)),
     }
 }

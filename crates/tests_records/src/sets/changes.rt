@@ -2,7 +2,7 @@
 
 use super::Call::{Insert, Make, Remove};
 use super::{Shape, Step, leaves};
-use crate::rows::Datum::{Address, Empty, Text};
+use crate::rows::Datum::{Address, Empty, Start, Text};
 use crate::rows::Row;
 use base::DNSClass::{CH, HS, IN};
 use base::RecordType::{self, A, ANY, CNAME, NS, SOA};
@@ -26,61 +26,33 @@ const NEW: Row = (Address(24), IN, 9);
 const OTHER: Row = (Address(25), IN, 1);
 
 // Starts of `example.` of serial 5, the first of which is for no second.
-const A_OF_5_NOW: Row = (Text(SOA, &["a.", ".", "5", "1", "1", "1", "1"]), IN, 0);
+const A_OF_5_NOW: Row = (Start(5, "a."), IN, 0);
 
-const A_OF_5: Row = (Text(SOA, &["a.", ".", "5", "1", "1", "1", "1"]), IN, 5);
+const A_OF_5: Row = (Start(5, "a."), IN, 5);
 
-const B_OF_5: Row = (Text(SOA, &["b.", ".", "5", "1", "1", "1", "1"]), IN, 5);
+const B_OF_5: Row = (Start(5, "b."), IN, 5);
 
 // Starts by the last digit of a serial.
-const A_OF_3: Row = (
-    Text(SOA, &["a.", ".", "2015082403", "1", "1", "1", "1"]),
-    IN,
-    5,
-);
+const A_OF_3: Row = (Start(2015082403, "a."), IN, 5);
 
-const B_OF_3: Row = (
-    Text(SOA, &["b.", ".", "2015082403", "1", "1", "1", "1"]),
-    IN,
-    5,
-);
+const B_OF_3: Row = (Start(2015082403, "b."), IN, 5);
 
-const C_OF_4: Row = (
-    Text(SOA, &["c.", ".", "2015082404", "1", "1", "1", "1"]),
-    IN,
-    5,
-);
+const C_OF_4: Row = (Start(2015082404, "c."), IN, 5);
 
 // Starts whose serials are around the ends of their numbers.
-const A_OF_0: Row = (Text(SOA, &["a.", ".", "0", "1", "1", "1", "1"]), IN, 5);
+const A_OF_0: Row = (Start(0, "a."), IN, 5);
 
-const A_OF_1: Row = (Text(SOA, &["a.", ".", "1", "1", "1", "1", "1"]), IN, 5);
+const A_OF_1: Row = (Start(1, "a."), IN, 5);
 
-const B_OF_1: Row = (Text(SOA, &["b.", ".", "1", "1", "1", "1", "1"]), IN, 5);
+const B_OF_1: Row = (Start(1, "b."), IN, 5);
 
-const A_OF_HALF: Row = (
-    Text(SOA, &["a.", ".", "2147483648", "1", "1", "1", "1"]),
-    IN,
-    5,
-);
+const A_OF_HALF: Row = (Start(2147483648, "a."), IN, 5);
 
-const A_PAST_HALF: Row = (
-    Text(SOA, &["a.", ".", "2147483649", "1", "1", "1", "1"]),
-    IN,
-    5,
-);
+const A_PAST_HALF: Row = (Start(2147483649, "a."), IN, 5);
 
-const B_PAST_HALF: Row = (
-    Text(SOA, &["b.", ".", "2147483649", "1", "1", "1", "1"]),
-    IN,
-    5,
-);
+const B_PAST_HALF: Row = (Start(2147483649, "b."), IN, 5);
 
-const A_OF_MOST: Row = (
-    Text(SOA, &["a.", ".", "4294967295", "1", "1", "1", "1"]),
-    IN,
-    5,
-);
+const A_OF_MOST: Row = (Start(4294967295, "a."), IN, 5);
 
 // Aliases, servers, and all data of a name.
 const ALIAS_A: Row = (Text(CNAME, &["a."]), IN, 5);
@@ -96,7 +68,9 @@ const ALL: Row = (Empty(ANY), IN, 0);
 const EMPTY: Shape = (0, 0, &[]);
 
 /// What a row shows, the type of the set, the set, the steps, and the set then.
-const ROWS: &[(&'static str, RecordType, Shape, &'static [Step], Shape)] = &[
+type Case = (&'static str, RecordType, Shape, &'static [Step], Shape);
+
+const ADDRESSES: &[Case] = &[
     (
         "equal data does not come in",
         A,
@@ -184,6 +158,20 @@ const ROWS: &[(&'static str, RecordType, Shape, &'static [Step], Shape)] = &[
         &[(Insert, NEW, 5, false)],
         (1, 3, &[OLD, NEW]),
     ),
+];
+
+#[test]
+fn equal_data_is_replaced_unless_it_is_the_same(rt: HostRuntime) -> Result<(), Fail> {
+    for &(what, record_type, before, steps, after) in ADDRESSES {
+        assert!(rt;
+            leaves(rt.alloc(), record_type, before, steps, after)?,
+            "{what}"
+        );
+    }
+    Ok(())
+}
+
+const STARTS: &[Case] = &[
     (
         "a start gives way to a later one",
         SOA,
@@ -248,6 +236,20 @@ const ROWS: &[(&'static str, RecordType, Shape, &'static [Step], Shape)] = &[
         ],
         (5, 0, &[A_OF_0]),
     ),
+];
+
+#[test]
+fn a_start_gives_way_to_a_later_one(rt: HostRuntime) -> Result<(), Fail> {
+    for &(what, record_type, before, steps, after) in STARTS {
+        assert!(rt;
+            leaves(rt.alloc(), record_type, before, steps, after)?,
+            "{what}"
+        );
+    }
+    Ok(())
+}
+
+const OTHERS: &[Case] = &[
     (
         "an alias stands alone",
         CNAME,
@@ -306,8 +308,8 @@ const ROWS: &[(&'static str, RecordType, Shape, &'static [Step], Shape)] = &[
 ];
 
 #[test]
-fn rows_of_changes(rt: HostRuntime) -> Result<(), Fail> {
-    for &(what, record_type, before, steps, after) in ROWS {
+fn an_alias_stands_alone_and_the_last_server_stays(rt: HostRuntime) -> Result<(), Fail> {
+    for &(what, record_type, before, steps, after) in OTHERS {
         assert!(rt;
             leaves(rt.alloc(), record_type, before, steps, after)?,
             "{what}"
