@@ -99,67 +99,46 @@ fn outcome_with(
     Ok(outcome)
 }
 
-const NONE: Careless = Careless {
-    count: 0,
-    is_cut: false,
-};
+/// A part that answers a count, as one that is cut if `is_cut` says so.
+fn told(count: usize, is_cut: bool) -> Careless {
+    let is_cut = is_cut && count > 0;
+    Careless { count, is_cut }
+}
 
-const SEVEN: Careless = Careless {
-    count: 7,
-    is_cut: false,
-};
+/// Parts that answer these counts; where `is_cut` says so, those that count something are cut.
+fn parts_of(
+    [queries, answers, authorities, additionals]: [usize; 4],
+    is_cut: bool,
+) -> [Careless; 4] {
+    [
+        told(queries, is_cut),
+        told(answers, is_cut),
+        told(authorities, is_cut),
+        told(additionals, is_cut),
+    ]
+}
 
-const CUT_AT_SEVEN: Careless = Careless {
-    count: 7,
-    is_cut: true,
-};
-
-// The most that two bytes hold, and less and more.
-const MOST_BUT_TWO: Careless = Careless {
-    count: 65_533,
-    is_cut: false,
-};
-
-const MOST_BUT_ONE: Careless = Careless {
-    count: 65_534,
-    is_cut: false,
-};
-
-const MOST: Careless = Careless {
-    count: 65_535,
-    is_cut: false,
-};
-
-const OVER: Careless = Careless {
-    count: 65_536,
-    is_cut: false,
-};
-
-const CUT_OVER: Careless = Careless {
-    count: 65_536,
-    is_cut: true,
-};
-
-/// Parts, whether there are EDNS and a signature, and what comes of them.
-const OUTCOMES: &[([Careless; 4], bool, bool, (u8, usize, u16))] = &[
+/// What the parts count and whether they are cut, whether there are EDNS and a signature, and what comes of them.
+const OUTCOMES: &[([usize; 4], bool, bool, bool, (u8, usize, u16))] = &[
     // counts have two bytes
-    ([NONE, OVER, NONE, NONE], false, false, (14, 0, 0)),
-    ([OVER, OVER, NONE, NONE], false, false, (14, 0, 0)),
-    ([NONE, NONE, CUT_OVER, NONE], false, false, (14, 0, 0)),
-    ([OVER, NONE, NONE, NONE], false, false, (15, 0, 0)),
+    ([0, 65_536, 0, 0], false, false, false, (14, 0, 0)),
+    ([65_536, 65_536, 0, 0], false, false, false, (14, 0, 0)),
+    ([0, 0, 65_536, 0], true, false, false, (14, 0, 0)),
+    ([65_536, 0, 0, 0], false, false, false, (15, 0, 0)),
     // EDNS is counted, and the signature too
-    ([NONE, NONE, NONE, MOST], true, false, (14, 0, 0)),
-    ([NONE, NONE, NONE, MOST], false, false, (0, 0, 65_535)),
-    ([NONE, NONE, NONE, MOST_BUT_TWO], true, true, (0, 0, 65_535)),
-    ([NONE, NONE, NONE, MOST_BUT_ONE], true, true, (14, 0, 0)),
+    ([0, 0, 0, 65_535], false, true, false, (14, 0, 0)),
+    ([0, 0, 0, 65_535], false, false, false, (0, 0, 65_535)),
+    ([0, 0, 0, 65_533], false, true, true, (0, 0, 65_535)),
+    ([0, 0, 0, 65_534], false, true, true, (14, 0, 0)),
     // questions without room are refused as they say
-    ([CUT_AT_SEVEN, NONE, NONE, NONE], false, false, (2, 7, 0)),
-    ([NONE, SEVEN, NONE, NONE], false, false, (0, 7, 0)),
+    ([7, 0, 0, 0], true, false, false, (2, 7, 0)),
+    ([0, 7, 0, 0], false, false, false, (0, 7, 0)),
 ];
 
 #[test]
 fn what_parts_count_stands_in_the_header(rt: HostRuntime) -> Result<(), Fail> {
-    for (i, &(parts, has_edns, is_signed, wanted)) in OUTCOMES.iter().enumerate() {
+    for (i, &(counts, is_cut, has_edns, is_signed, wanted)) in OUTCOMES.iter().enumerate() {
+        let parts = parts_of(counts, is_cut);
         assert!(rt;
             outcome_with(rt.alloc(), parts, has_edns, is_signed)? == wanted,
             "row {i}"
@@ -180,5 +159,5 @@ fn refusal_of_its_bytes(alloc: Global, parts: [Careless; 4]) -> u8 {
 
 #[test]
 fn what_was_not_written_is_not_read(rt: HostRuntime) {
-    assert!(rt; refusal_of_its_bytes(rt.alloc(), [NONE, SEVEN, NONE, NONE]) == 4);
+    assert!(rt; refusal_of_its_bytes(rt.alloc(), parts_of([0, 7, 0, 0], false)) == 4);
 }
