@@ -135,7 +135,7 @@ fn items_of_strings(rt: HostRuntime) -> Result<(), Fail> {
     all_give(&rt, RecordType::TXT, "", QUOTES)
 }
 
-// The types without a text form.
+/// The types without a text form.
 const WITHOUT_TEXT: &[RecordType] = &[
     RecordType::ZERO,
     RecordType::NULL,

@@ -6,10 +6,10 @@
 use base::{Lexer, ParseError, Token, parse_ttl};
 use std::alloc::{AllocError, Global};
 
-// More tokens than any row has.
+/// More tokens than any row has.
 const ENOUGH: usize = 16;
 
-// One item, as rows show it.
+/// One item, as rows show it.
 fn show_item(shown: &mut String, item: &str) -> Result<(), AllocError> {
     shown.push_str("[")?;
     shown.push_str(item)?;
@@ -24,7 +24,7 @@ fn show_list(shown: &mut String, items: &[String]) -> Result<(), AllocError> {
     shown.push_str(")")
 }
 
-// A token, as rows show it, but for the space after it.
+/// A token, as rows show it, but for the space after it.
 fn show(shown: &mut String, token: &Token) -> Result<(), AllocError> {
     let sign = match token {
         Token::CharData(item) => return show_item(shown, item),
@@ -39,7 +39,7 @@ fn show(shown: &mut String, token: &Token) -> Result<(), AllocError> {
     shown.push_str(sign)
 }
 
-// How a lexer ends: at the text's end, or by its fault.
+/// How a lexer ends: at the text's end, or by its fault.
 fn shown_end(read: &Result<Option<Token>, ParseError>) -> &'static str {
     match read {
         Ok(None) => "end",
@@ -48,7 +48,7 @@ fn shown_end(read: &Result<Option<Token>, ParseError>) -> &'static str {
     }
 }
 
-// What comes of a text. At its end, and at a fault, the lexer is asked a second time and answers the same.
+/// What comes of a text. At its end, and at a fault, the lexer is asked a second time and answers the same.
 fn tokens_of(alloc: Global, text: &str) -> Result<String, AllocError> {
     let mut shown = String::new(alloc);
     let mut lexer = Lexer::new(alloc, text);
@@ -69,7 +69,7 @@ fn tokens_of(alloc: Global, text: &str) -> Result<String, AllocError> {
     Ok(shown)
 }
 
-// Each text, and its tokens.
+/// Each text, and its tokens.
 const ROWS: &[(&'static str, &'static str)] = &[
     // lines and blanks
     ("", "end"),
@@ -198,7 +198,7 @@ fn rows_of_tokens(rt: HostRuntime) -> Result<(), AllocError> {
     Ok(())
 }
 
-// Whether a text says so many seconds, or none.
+/// Whether a text says so many seconds, or none.
 fn says(text: &str, seconds: Option<u32>) -> bool {
     match parse_ttl(text) {
         Ok(read) => Some(read) == seconds,
@@ -207,7 +207,7 @@ fn says(text: &str, seconds: Option<u32>) -> bool {
     }
 }
 
-// Texts, and how many seconds they say, if they are TTLs.
+/// Texts, and how many seconds they say, if they are TTLs.
 const TTLS: &[(&'static str, Option<u32>)] = &[
     ("0", Some(0)),
     ("00060", Some(60)),

@@ -42,7 +42,7 @@ fn is_nameless_type(alloc: Global, number: u16, text: &str) -> bool {
         && has_text(alloc, &record_type, text)
 }
 
-// A type, its number and text, and whether it is of DNSSEC.
+/// A type, its number and text, and whether it is of DNSSEC.
 const TYPES: &[(RecordType, u16, &'static str, bool)] = &[
     (RecordType::ZERO, 0, "ZERO", false),
     (RecordType::A, 1, "A", false),
@@ -83,7 +83,7 @@ const NAMELESS_TYPES: &[(u16, &'static str)] = &[
     (65535, "TYPE65535"),
 ];
 
-// Texts of no type.
+/// Texts of no type.
 const NO_TYPES: &[&'static str] = &[
     "",
     "a",
@@ -155,7 +155,7 @@ fn is_nameless_class(alloc: Global, number: u16, text: &str) -> bool {
         && has_text(alloc, &class, text)
 }
 
-// A class, its number and text.
+/// A class, its number and text.
 const CLASSES: &[(DNSClass, u16, &'static str)] = &[
     (DNSClass::IN, 1, "IN"),
     (DNSClass::CH, 3, "CH"),
@@ -171,12 +171,12 @@ const NAMELESS_CLASSES: &[(u16, &'static str)] = &[
     (65535, "CLASS65535"),
 ];
 
-// Texts of no class.
+/// Texts of no class.
 const NO_CLASSES: &[&'static str] = &[
     "", "in", "Any", "CS", "OPT", "**", "* ", "INN", "CLASS1", "1",
 ];
 
-// What OPT records carry, and the payload that it stands for.
+/// What OPT records carry, and the payload that it stands for.
 const PAYLOADS: &[(u16, u16)] = &[
     (0, 512),
     (100, 512),

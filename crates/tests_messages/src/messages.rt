@@ -14,7 +14,7 @@ use test_tools::forms::has_text;
 use test_tools::hashes::hash_alike;
 use test_tools::texts::prints;
 
-// The operations: number, code and text.
+/// The operations: number, code and text.
 const OP_CODES: &[(u8, OpCode, &'static str)] = &[
     (0, OpCode::Query, "QUERY"),
     (1, OpCode::Unknown(1), "Unknown opcode (1)"),
@@ -27,7 +27,7 @@ const OP_CODES: &[(u8, OpCode, &'static str)] = &[
     (255, OpCode::Unknown(255), "Unknown opcode (255)"),
 ];
 
-// Whether the first has this order before the second.
+/// Whether the first has this order before the second.
 fn has_order<T: PartialOrd>(first: &T, second: &T, order: Ordering) -> bool {
     first.partial_cmp(second) == Some(order)
 }
@@ -49,7 +49,7 @@ fn op_codes(rt: HostRuntime) {
     assert!(rt; prints(rt.alloc(), &MessageType::Response));
 }
 
-// The response codes that have a name and a number of their own: number, code, name and text.
+/// The response codes that have a name and a number of their own: number, code, name and text.
 const CODES: &[(u16, ResponseCode, &'static str, &'static str)] = &[
     (0, ResponseCode::NoError, "NoError", "No Error"),
     (1, ResponseCode::FormErr, "FormErr", "Form Error"),
@@ -97,15 +97,15 @@ const CODES: &[(u16, ResponseCode, &'static str, &'static str)] = &[
     ),
 ];
 
-// Numbers of codes without a name.
+/// Numbers of codes without a name.
 const UNKNOWN: &[u16] = &[11, 15, 24, 4095, 4097, 65535];
 
-// Whether this response code has this name and text.
+/// Whether this response code has this name and text.
 fn is_called(alloc: Global, code: ResponseCode, name: &str, text: &str) -> bool {
     code.name().unwrap_or("") == name && code.to_str() == text && has_text(alloc, &code, text)
 }
 
-// Whether this is the response code of this number.
+/// Whether this is the response code of this number.
 fn is_numbered(number: u16, code: ResponseCode) -> bool {
     let read: ResponseCode = number.into();
     read == code && u16::from(code) == number
@@ -195,7 +195,7 @@ fn texts_of_metadata(rt: HostRuntime) {
     assert!(rt; has_text(rt.alloc(), &flags, "CD,AA,RA,AD"));
 }
 
-// A response takes over id, operation, RD and CD, and nothing else.
+/// A response takes over id, operation, RD and CD, and nothing else.
 #[test]
 fn responses(rt: HostRuntime) {
     let mut request = Metadata::new(7, MessageType::Query, OpCode::Notify);

@@ -6,7 +6,7 @@ use std::alloc::{AllocError, Global};
 use std::test::Fail;
 use test_tools::bytes::decoded;
 
-// The parts of the signed message, in hexadecimal, as they stand at its front.
+/// The parts of the signed message, in hexadecimal, as they stand at its front.
 const QUESTION: &str = "01610000010001";
 
 const TEXT: &str = "c00c001000010000003c0029\
@@ -18,7 +18,7 @@ const EDNS: &str = "00002904d0000000000018fde90014000000000000000000000000000000
 
 const SIGNATURE: &str = "0000fa00ff000000000001aa";
 
-// The same records where two bytes stand before the message.
+/// The same records where two bytes stand before the message.
 const TEXT_AFTER: &str = "c00e001000010000003c0029\
     2878787878787878787878787878787878787878787878787878787878787878787878787878787878";
 

@@ -14,10 +14,10 @@ use std::test::Fail;
 use test_tools::bytes::decoded;
 use test_tools::forms::are_bytes;
 
-// The question `www.example.com A`.
+/// The question `www.example.com A`.
 const QUESTION: &str = "03777777 076578616D706C65 03636F6D 00 0001 0001";
 
-// The answer to it, its owner a pointer to the question.
+/// The answer to it, its owner a pointer to the question.
 const ANSWER: &str = "C00C 0001 0001 00000002 0004 5DB8D70E";
 
 fn address(alloc: Global, owner: &str, ttl: u32, address: Ipv4Addr) -> Result<Record, Fail> {
@@ -25,7 +25,7 @@ fn address(alloc: Global, owner: &str, ttl: u32, address: Ipv4Addr) -> Result<Re
     Ok(Record::from_rdata(name, ttl, RData::A(A::new(address))))
 }
 
-// Whether the query of this header, the question and what stands after it is answered by such a response.
+/// Whether the query of this header, the question and what stands after it is answered by such a response.
 fn responds(alloc: Global, query: (&str, &str), response: (&str, &str)) -> Result<bool, Fail> {
     let query = [query.0, QUESTION, query.1].concat(alloc)?;
     let response = [response.0, QUESTION, ANSWER, response.1].concat(alloc)?;
@@ -62,14 +62,14 @@ fn a_query_is_answered(rt: HostRuntime) -> Result<(), Fail> {
     Ok(())
 }
 
-// A response with an answer of TTL 2, and one with an SOA of TTL 3600 and of minimum 300 among its authorities.
+/// A response with an answer of TTL 2, and one with an SOA of TTL 3600 and of minimum 300 among its authorities.
 const FOUND: &str =
     "1000 8180 0001 0001 0000 0000 03777777 076578616D706C65 00 0001 0001 C00C 0001 0001 00000002 0004 5DB8D70E";
 
 const ABSENT: &str =
     "2000 8183 0001 0000 0001 0000 03777777 076578616D706C65 00 0001 0001 C010 0006 0001 00000E10 0026 026E73 C010 0A686F73746D6173746572 C010 00000001 00001C20 00000E10 00127500 0000012C";
 
-// The TTL of the first answer, and the negative TTL, so many seconds after the response.
+/// The TTL of the first answer, and the negative TTL, so many seconds after the response.
 fn kept(alloc: Global, response: &str, seconds: u32) -> Result<(Option<u32>, Option<u32>), Fail> {
     let entry = cached(alloc, decoded(alloc, response)?, seconds)?;
     let said = (
@@ -91,7 +91,7 @@ fn ttls_run_down(rt: HostRuntime) -> Result<(), Fail> {
 
 const START: &str = "@ 3600 SOA ns hostmaster 1 2 3 4 5\n@ NS ns\n";
 
-// The code and the number of sets where an address of `www` is created in the zone of the text.
+/// The code and the number of sets where an address of `www` is created in the zone of the text.
 fn creates(alloc: Global, text: &str) -> Result<(ResponseCode, usize), Fail> {
     let origin = Name::parse(alloc, "example.", None)?;
     let set = RecordSet::try_from(address(
@@ -115,7 +115,7 @@ fn a_set_is_created_once(rt: HostRuntime) -> Result<(), Fail> {
     Ok(())
 }
 
-// Whether the text has so many sets, or is refused with this number.
+/// Whether the text has so many sets, or is refused with this number.
 fn is_checked(alloc: Global, text: &str, wanted: Result<usize, u8>) -> Result<bool, Fail> {
     let origin = Name::parse(alloc, "example.", None)?;
     Ok(checked(alloc, Some(origin), text) == wanted)

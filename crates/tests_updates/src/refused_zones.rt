@@ -6,7 +6,7 @@ use std::collections::BTreeMap;
 use std::test::Fail;
 use txt::Parser;
 
-// The origin, the text, the number of the refusal, and what it names.
+/// The origin, the text, the number of the refusal, and what it names.
 const REFUSED: &[(&'static str, &'static str, u8, &'static str)] = &[
     ("a.", "www 60 CNAME @\n", 17, "@"),
     ("a.", "$INCLUDE\n", 17, "\n"),
@@ -41,7 +41,7 @@ const REFUSED: &[(&'static str, &'static str, u8, &'static str)] = &[
     ("a.", "n 60 TYPE11 x\n", 21, "TYPE11"),
 ];
 
-// Whether the refusal names this.
+/// Whether the refusal names this.
 fn is_named(refusal: &ParseError, named: &str) -> bool {
     match refusal {
         ParseError::UnexpectedToken(Token::At) => named == "@",
@@ -53,7 +53,7 @@ fn is_named(refusal: &ParseError, named: &str) -> bool {
     }
 }
 
-// The name of a text, none of an empty one.
+/// The name of a text, none of an empty one.
 fn origin(alloc: Global, text: &str) -> Result<Option<Name>, ParseError> {
     if text.is_empty() {
         return Ok(None);
@@ -61,7 +61,7 @@ fn origin(alloc: Global, text: &str) -> Result<Option<Name>, ParseError> {
     Ok(Some(Name::parse(alloc, text, None)?))
 }
 
-// One text, `f`, which includes itself.
+/// One text, `f`, which includes itself.
 fn includes(alloc: Global) -> Result<BTreeMap<String, String>, AllocError> {
     let name = String::from_str(alloc, "f")?;
     let text = String::from_str(alloc, "$INCLUDE f\n")?;
@@ -70,7 +70,7 @@ fn includes(alloc: Global) -> Result<BTreeMap<String, String>, AllocError> {
     Ok(includes)
 }
 
-// Whether the text is refused with this number, and the refusal names this.
+/// Whether the text is refused with this number, and the refusal names this.
 fn is_refused(parser: Parser<'_>, number: u8, named: &str) -> bool {
     match parser.parse() {
         Ok(zone) => {

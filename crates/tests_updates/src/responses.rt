@@ -14,7 +14,7 @@ fn name(alloc: Global, text: &str) -> Result<Name, ParseError> {
     Name::parse(alloc, text, None)
 }
 
-// A record that is put into a response.
+/// A record that is put into a response.
 #[derive(Clone, Copy)]
 enum Entry {
     /// The start of a zone, with a TTL and a minimum.
@@ -42,7 +42,7 @@ fn record(alloc: Global, entry: Entry) -> Result<Record, ParseError> {
     Ok(Record::from_rdata(owner, ttl, data(alloc, entry)))
 }
 
-// Puts a question, answers and authorities into a message.
+/// Puts a question, answers and authorities into a message.
 fn fill(
     alloc: Global,
     message: &mut Message,
@@ -60,7 +60,7 @@ fn fill(
     Ok(())
 }
 
-// A response to a question.
+/// A response to a question.
 fn response(
     alloc: Global,
     question: (&str, RecordType),
@@ -77,7 +77,7 @@ fn response(
     }
 }
 
-// Whether some question is answered by a response, and for how long the absence of an answer may be kept.
+/// Whether some question is answered by a response, and for how long the absence of an answer may be kept.
 fn says(
     alloc: Global,
     question: (&str, RecordType),
@@ -90,7 +90,7 @@ fn says(
     Ok(said)
 }
 
-// A question, the answers and authorities of a response, and what it says.
+/// A question, the answers and authorities of a response, and what it says.
 const SAID: &[(
     (&'static str, RecordType),
     &'static [Entry],
@@ -144,7 +144,7 @@ fn responses_say_whether_they_answer_and_for_how_long(rt: HostRuntime) -> Result
     Ok(())
 }
 
-// The number of the refusal, 0 for a response.
+/// The number of the refusal, 0 for a response.
 fn refusal(made: Result<DnsResponse, ProtoError>) -> u8 {
     match made {
         Ok(response) => {
@@ -173,7 +173,7 @@ fn a_query_is_no_response(rt: HostRuntime) -> Result<(), Fail> {
 const RESPONSE: &[u8] =
     b"\x00\x01\x80\x00\x00\x01\x00\x00\x00\x00\x00\x00\x01b\x00\x00\x01\x00\x01";
 
-// Whether the bytes of a response to `b.` A are these, as they are written and as they were read with a byte after.
+/// Whether the bytes of a response to `b.` A are these, as they are written and as they were read with a byte after.
 fn has_bytes(alloc: Global) -> Result<(bool, bool), Fail> {
     let written = response(alloc, ("b.", RecordType::A), &[], &[])?;
     let is_written = are_bytes(Ok(written.into_buffer()), RESPONSE);
@@ -191,7 +191,7 @@ fn a_response_has_the_bytes_that_it_was_read_from(rt: HostRuntime) -> Result<(),
     Ok(())
 }
 
-// Whether a change of the message leaves the bytes.
+/// Whether a change of the message leaves the bytes.
 fn keeps_bytes(alloc: Global) -> Result<bool, Fail> {
     let mut response = DnsResponse::from_buffer(alloc, Vec::from_slice(alloc, RESPONSE)?)?;
     response.message_mut().metadata.id = 2;
@@ -207,7 +207,7 @@ fn a_change_leaves_the_bytes(rt: HostRuntime) -> Result<(), Fail> {
     Ok(())
 }
 
-// Whether a copy of a response has its bytes, and its message where that is taken out.
+/// Whether a copy of a response has its bytes, and its message where that is taken out.
 fn is_copied(alloc: Global) -> Result<(bool, bool), Fail> {
     let response = DnsResponse::from_buffer(alloc, Vec::from_slice(alloc, RESPONSE)?)?;
     let copy = response.clone()?;
@@ -225,7 +225,7 @@ fn a_copy_of_a_response_has_its_message_and_bytes(rt: HostRuntime) -> Result<(),
     Ok(())
 }
 
-// The id of the message that bytes begin with, and whether the address is kept.
+/// The id of the message that bytes begin with, and whether the address is kept.
 fn of_bytes(alloc: Global) -> Result<(u16, bool), Fail> {
     let addr = SocketAddr::V4(SocketAddrV4::new(Ipv4Addr::new(192, 0, 2, 1), 53));
     let serial = SerialMessage::new(Vec::from_slice(alloc, RESPONSE)?, addr);
@@ -242,7 +242,7 @@ fn a_message_of_bytes_and_an_address(rt: HostRuntime) -> Result<(), Fail> {
     Ok(())
 }
 
-// Whether bytes and an address are lent, taken apart and put together again.
+/// Whether bytes and an address are lent, taken apart and put together again.
 fn goes_round(alloc: Global) -> Result<(bool, bool), Fail> {
     let addr = SocketAddr::V4(SocketAddrV4::new(Ipv4Addr::new(192, 0, 2, 9), 5353));
     let serial = SerialMessage::from_parts(Vec::from_slice(alloc, RESPONSE)?, addr);

@@ -16,22 +16,22 @@ use std::net::Ipv4Addr;
 use std::test::Fail;
 use test_tools::forms::are_bytes;
 
-// The name of a text that has a dot at its end.
+/// The name of a text that has a dot at its end.
 fn name(alloc: Global, text: &str) -> Result<Name, ParseError> {
     Name::parse(alloc, text, None)
 }
 
-// 192.0.2.`last`.
+/// 192.0.2.`last`.
 fn address(last: u8) -> RData {
     RData::A(A::new(Ipv4Addr::new(192, 0, 2, last)))
 }
 
-// `www.example.` with this TTL and 192.0.2.`last`.
+/// `www.example.` with this TTL and 192.0.2.`last`.
 fn host(alloc: Global, ttl: u32, last: u8) -> Result<Record, ParseError> {
     Ok(Record::from_rdata(name(alloc, "www.example.")?, ttl, address(last)))
 }
 
-// The addresses 192.0.2.1, and so on up to as many, with a TTL.
+/// The addresses 192.0.2.1, and so on up to as many, with a TTL.
 fn hosts(alloc: Global, ttl: u32, count: u8) -> Result<Vec<Record>, Fail> {
     let mut records = Vec::new(alloc);
     for last in 0..count {
@@ -40,7 +40,7 @@ fn hosts(alloc: Global, ttl: u32, count: u8) -> Result<Vec<Record>, Fail> {
     Ok(records)
 }
 
-// The set of as many addresses of `www.example.`, with a TTL.
+/// The set of as many addresses of `www.example.`, with a TTL.
 fn addresses(alloc: Global, ttl: u32, count: u8) -> Result<RecordSet, Fail> {
     let owner = name(alloc, "www.example.")?;
     let records = hosts(alloc, ttl, count)?;
@@ -49,7 +49,7 @@ fn addresses(alloc: Global, ttl: u32, count: u8) -> Result<RecordSet, Fail> {
     Ok(set)
 }
 
-// The zone's origin and the set, if the set's owner lies in the zone.
+/// The zone's origin and the set, if the set's owner lies in the zone.
 fn in_zone(origin: Name, set: RecordSet) -> Result<(Name, RecordSet), Fail>
     ensures { IfOk result (λ p. is_zone_of p.0 p.1.name ≡ true) }
 {
@@ -61,7 +61,7 @@ fn in_zone(origin: Name, set: RecordSet) -> Result<(Name, RecordSet), Fail>
     Err(ProtoError::Message("a set outside the zone").into())
 }
 
-// `example.`, and as many addresses of `www.example.` with a TTL.
+/// `example.`, and as many addresses of `www.example.` with a TTL.
 fn zone_and_addresses(alloc: Global, ttl: u32, count: u8) -> Result<(Name, RecordSet), Fail>
     ensures { IfOk result (λ p. is_zone_of p.0 p.1.name ≡ true) }
 {
@@ -75,7 +75,7 @@ fn zone_and_addresses(alloc: Global, ttl: u32, count: u8) -> Result<(Name, Recor
     }
 }
 
-// Whether the message is written as these bytes, and they are read as the message.
+/// Whether the message is written as these bytes, and they are read as the message.
 fn is_sent_as(alloc: Global, message: Message, wire: &[u8]) -> bool {
     let is_written = are_bytes(message.to_vec(), wire);
     let is_read = is_read_as(alloc, wire, &message);

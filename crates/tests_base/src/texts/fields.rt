@@ -2,7 +2,7 @@
 
 use super::Row;
 
-// Items of data that is one name.
+/// Items of data that is one name.
 pub(super) const NAMES: &[Row] = &[
     (&["ns.Example."], "ns.Example."),
     (&["."], "."),
@@ -27,7 +27,7 @@ pub(super) const NAMES: &[Row] = &[
     (&["ns.", ""], "refused 23"),
 ];
 
-// The same under the origin `sub.example.`.
+/// The same under the origin `sub.example.`.
 pub(super) const NAMES_UNDER_AN_ORIGIN: &[Row] = &[
     (&["ns.Example."], "ns.Example."),
     (&["ns"], "ns.sub.example."),
@@ -40,7 +40,7 @@ pub(super) const NAMES_UNDER_AN_ORIGIN: &[Row] = &[
     (&["@", "@"], "refused 23"),
 ];
 
-// The same under the relative origin `sub`.
+/// The same under the relative origin `sub`.
 pub(super) const NAMES_UNDER_A_RELATIVE_ORIGIN: &[Row] = &[
     (&["ns"], "ns.sub."),
     (&["@"], "sub"),

@@ -30,7 +30,7 @@ pub(super) const STRINGS: &[Row] = &[
     (&[], "refused 23"),
 ];
 
-// A quote in an item is its byte, whether a backslash stands before it or not.
+/// A quote in an item is its byte, whether a backslash stands before it or not.
 pub(super) const QUOTES: &[Row] = &[
     (&[r#"a"b"#], r#""a\"b""#),
     (&[r#"a\"b"#], r#""a\"b""#),

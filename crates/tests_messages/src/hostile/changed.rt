@@ -8,10 +8,10 @@ use std::alloc::Global;
 use std::test::Fail;
 use test_tools::bytes::decoded;
 
-// What each byte becomes in turn: the shortest and the longest label, the reserved bits, a pointer, and all bits.
+/// What each byte becomes in turn: the shortest and the longest label, the reserved bits, a pointer, and all bits.
 const BYTES: &[u8] = &[0x00, 0x3F, 0x40, 0xC0, 0xFF];
 
-// What is read of the message written under a limit.
+/// What is read of the message written under a limit.
 fn read_again(alloc: Global, message: &Message, limit: u16) -> Result<Message, ProtoError> {
     let mut wire = Vec::new(alloc);
     {
@@ -22,7 +22,7 @@ fn read_again(alloc: Global, message: &Message, limit: u16) -> Result<Message, P
     Ok(Message::from_vec(alloc, &wire)?)
 }
 
-// Whether a message is read again as itself, and under 512 bytes as itself or as a cut.
+/// Whether a message is read again as itself, and under 512 bytes as itself or as a cut.
 fn comes_back(alloc: Global, message: &Message) -> Result<bool, ProtoError> {
     let whole = read_again(alloc, message, 65535)?;
     let cut = read_again(alloc, message, 512)?;
@@ -32,7 +32,7 @@ fn comes_back(alloc: Global, message: &Message) -> Result<bool, ProtoError> {
     Ok(right)
 }
 
-// Whether a buffer is refused, but not because memory ran out, or what is read of it comes back.
+/// Whether a buffer is refused, but not because memory ran out, or what is read of it comes back.
 fn is_answered(alloc: Global, wire: &[u8]) -> Result<bool, ProtoError> {
     match Message::from_vec(alloc, wire) {
         Ok(message) => comes_back(alloc, &message),
@@ -40,7 +40,7 @@ fn is_answered(alloc: Global, wire: &[u8]) -> Result<bool, ProtoError> {
     }
 }
 
-// Whether every front of a buffer is answered.
+/// Whether every front of a buffer is answered.
 fn fronts_are_answered(alloc: Global, wire: &[u8]) -> Result<bool, ProtoError> {
     let mut right = is_answered(alloc, wire)?;
     for end in 0..wire.len() {
@@ -49,7 +49,7 @@ fn fronts_are_answered(alloc: Global, wire: &[u8]) -> Result<bool, ProtoError> {
     Ok(right)
 }
 
-// Whether a buffer is answered with each byte changed in turn.
+/// Whether a buffer is answered with each byte changed in turn.
 fn changes_are_answered(alloc: Global, wire: &mut Vec<u8>) -> Result<bool, ProtoError> {
     let mut right = true;
     for place in 0..wire.len() {
@@ -65,7 +65,7 @@ fn changes_are_answered(alloc: Global, wire: &mut Vec<u8>) -> Result<bool, Proto
     Ok(right)
 }
 
-// Whether the bytes that a text spells are answered, however they are cut or changed.
+/// Whether the bytes that a text spells are answered, however they are cut or changed.
 fn all_are_answered(alloc: Global, text: &str) -> Result<bool, Fail> {
     let mut wire = decoded(alloc, text)?;
     let fronts = fronts_are_answered(alloc, &wire)?;

@@ -6,11 +6,11 @@ use std::alloc::Global;
 use std::test::Fail;
 use test_tools::bytes::decoded;
 
-// A response with a question and an address, of 49 bytes, whose data begins at 45.
+/// A response with a question and an address, of 49 bytes, whose data begins at 45.
 const WHOLE: &str =
     "1000 8180 0001 0001 0000 0000 03777777 076578616D706C65 03636F6D 00 0001 0001 C00C 0001 0001 00000002 0004 5DB8D70E";
 
-// Whether each front is refused as it must be: within a field, within the four bytes of data, not at all.
+/// Whether each front is refused as it must be: within a field, within the four bytes of data, not at all.
 fn fronts_are_judged(alloc: Global) -> Result<bool, ProtoError> {
     let wire = decoded(alloc, WHOLE)?;
     let mut right = wire.len() == 49 && fault(alloc, &wire) == (0, 0, 0);

@@ -5,14 +5,14 @@ use op::Message;
 use std::alloc::{AllocError, Global};
 use std::test::Fail;
 
-// A header with so many questions and answers.
+/// A header with so many questions and answers.
 fn header(alloc: Global, questions: u8, answers: u8) -> Result<Vec<u8>, AllocError> {
     let mut wire = Vec::new(alloc);
     wire.extend_from_slice(&[0, 1, 0, 0, 0, questions, 0, answers, 0, 0, 0, 0])?;
     Ok(wire)
 }
 
-// A label of so many bytes.
+/// A label of so many bytes.
 fn push_label(wire: &mut Vec<u8>, len: u8) -> Result<(), AllocError> {
     wire.push(len)?;
     for _ in 0..len {
@@ -21,7 +21,7 @@ fn push_label(wire: &mut Vec<u8>, len: u8) -> Result<(), AllocError> {
     Ok(())
 }
 
-// A question of these labels, and after them the root or a pointer.
+/// A question of these labels, and after them the root or a pointer.
 fn push_question(wire: &mut Vec<u8>, labels: &[u8], end: &[u8]) -> Result<(), AllocError> {
     for &len in labels {
         push_label(wire, len)?;
@@ -31,14 +31,14 @@ fn push_question(wire: &mut Vec<u8>, labels: &[u8], end: &[u8]) -> Result<(), Al
     Ok(())
 }
 
-// The number of the refusal of one question with these labels.
+/// The number of the refusal of one question with these labels.
 fn question(alloc: Global, labels: &[u8]) -> Result<u8, AllocError> {
     let mut wire = header(alloc, 1, 0)?;
     push_question(&mut wire, labels, &[0])?;
     Ok(fault(alloc, &wire).0)
 }
 
-// The same, where the last label stands in a second question, before a pointer to the first.
+/// The same, where the last label stands in a second question, before a pointer to the first.
 fn after_a_pointer(alloc: Global, labels: &[u8], last: u8) -> Result<u8, AllocError> {
     let mut wire = header(alloc, 2, 0)?;
     push_question(&mut wire, labels, &[0])?;
@@ -46,8 +46,8 @@ fn after_a_pointer(alloc: Global, labels: &[u8], last: u8) -> Result<u8, AllocEr
     Ok(fault(alloc, &wire).0)
 }
 
-// The same, where each label stands in a question of its own, before a pointer to the question before it: these are
-// at 12, 81 and 151.
+/// The same, where each label stands in a question of its own, before a pointer to the question before it: these are
+/// at 12, 81 and 151.
 fn in_steps(alloc: Global, last: u8) -> Result<u8, AllocError> {
     let mut wire = header(alloc, 4, 0)?;
     push_question(&mut wire, &[63], &[0])?;
@@ -68,14 +68,14 @@ fn names_have_at_most_255_bytes(rt: HostRuntime) -> Result<(), Fail> {
     Ok(())
 }
 
-// A pointer to a place.
+/// A pointer to a place.
 fn push_pointer(wire: &mut Vec<u8>, place: usize) -> Result<(), AllocError> {
     let target = u16::try_from(place).unwrap_or(0) | 0xC000;
     wire.extend_from_slice(&target.to_be_bytes())
 }
 
-// An answer whose data is the root and so many pointers, each to what stands before it, and an address under a pointer
-// to the last of them.
+/// An answer whose data is the root and so many pointers, each to what stands before it, and an address under a pointer
+/// to the last of them.
 fn chain(alloc: Global, hops: u16) -> Result<Vec<u8>, AllocError> {
     let mut wire = header(alloc, 0, 2)?;
     wire.extend_from_slice(&[0, 0, 10, 0, 1, 0, 0, 0, 0])?;
@@ -93,7 +93,7 @@ fn chain(alloc: Global, hops: u16) -> Result<Vec<u8>, AllocError> {
     Ok(wire)
 }
 
-// Whether the address at the end of a chain is the root's.
+/// Whether the address at the end of a chain is the root's.
 fn ends_at_the_root(alloc: Global, hops: u16) -> Result<bool, AllocError> {
     let wire = chain(alloc, hops)?;
     let read = Message::from_vec(alloc, &wire);

@@ -370,7 +370,7 @@ fn read_code(alloc: Global, parts: &[Part]) -> Result<ResponseCode, Fail> {
     Ok(code)
 }
 
-// The high bits of the code stand in OPT, and nowhere without it; what doesn't fit is dropped.
+/// The high bits of the code stand in OPT, and nowhere without it; what doesn't fit is dropped.
 #[test]
 fn codes_are_written_and_read(rt: HostRuntime) -> Result<(), Fail> {
     for &(parts, read) in &[

@@ -7,7 +7,7 @@ use rr::Record;
 use std::alloc::Global;
 use test_tools::forms::{has_text, is_copied, is_written_as};
 
-// A number, and the flags that it stands for.
+/// A number, and the flags that it stands for.
 const FLAGS: &[(u16, bool, u16)] = &[
     (0, false, 0),
     (0x8001, true, 1),
@@ -38,7 +38,7 @@ fn edns(alloc: Global) -> Edns {
     edns
 }
 
-// The payload of EDNS that was told these numbers, one after another.
+/// The payload of EDNS that was told these numbers, one after another.
 fn payload(alloc: Global, told: &[u16]) -> u16 {
     let mut edns = Edns::new(alloc);
     for number in told {
@@ -63,7 +63,7 @@ fn the_fields_of_edns(rt: HostRuntime) {
     assert!(rt; payload(rt.alloc(), &[100, DEFAULT_MAX_PAYLOAD_LEN]) == 1232);
 }
 
-// Whether one option stands there, of this code and not of the other.
+/// Whether one option stands there, of this code and not of the other.
 fn has_option(edns: &Edns, code: u16, other: u16) -> bool {
     let is_found = edns.option(code).is_some() && edns.option(other).is_none();
     is_found && edns.options().as_ref().len() == 1
@@ -77,7 +77,7 @@ fn options_are_put_and_found(rt: HostRuntime) -> Result<(), ProtoError> {
     Ok(())
 }
 
-// Whether the record of that EDNS is an OPT record of this TTL, of which the same EDNS is made.
+/// Whether the record of that EDNS is an OPT record of this TTL, of which the same EDNS is made.
 fn is_of_record(edns: &Edns, ttl: u32) -> Result<bool, ProtoError> {
     let record = Record::try_from(edns)?;
     let is_opt = record.record_type() == RecordType::OPT && record.ttl == ttl;

@@ -25,12 +25,12 @@ fn header() -> Header {
     }
 }
 
-// Whether the header's bytes are these.
+/// Whether the header's bytes are these.
 fn is_filled_as(header: &Header, bytes: &[u8; 12]) -> bool {
     header.to_bytes().as_slice() == bytes.as_slice()
 }
 
-// Whether a header with these two bytes of codes and flags has this text, and is written with these.
+/// Whether a header with these two bytes of codes and flags has this text, and is written with these.
 fn is_shown_as(alloc: Global, (high, low): (u8, u8), again: (u8, u8), text: &str) -> bool {
     let bytes = [0, 0, high, low, 0, 0, 0, 0, 0, 0, 0, 0];
     let written = [0, 0, again.0, again.1, 0, 0, 0, 0, 0, 0, 0, 0];
@@ -43,7 +43,7 @@ fn is_shown_as(alloc: Global, (high, low): (u8, u8), again: (u8, u8), text: &str
     is_shown
 }
 
-// The bytes of codes and flags, and the text of the header.
+/// The bytes of codes and flags, and the text of the header.
 const FLAGS: &[(u8, u8, &'static str)] = &[
     (0x80, 0x00, "0:RESPONSE::NoError:QUERY"),
     (0x04, 0x00, "0:QUERY:AA:NoError:QUERY"),
@@ -86,7 +86,7 @@ fn headers_on_the_wire(rt: HostRuntime) {
     assert!(rt; is_filled_as(&large, &[0, 0, 0x80, 0, 0, 0, 0, 0, 0, 0, 0, 0]));
 }
 
-// Whether no header is written after thirteen bytes of twenty-four, and none of its bytes.
+/// Whether no header is written after thirteen bytes of twenty-four, and none of its bytes.
 fn is_refused(encoder: &mut BinEncoder<'_>) -> bool {
     encoder.set_max_size(24);
     let past = header().emit(encoder);
@@ -95,7 +95,7 @@ fn is_refused(encoder: &mut BinEncoder<'_>) -> bool {
     is_full && encoder.len() == 13
 }
 
-// Writes a header into its room, after the byte that follows it.
+/// Writes a header into its room, after the byte that follows it.
 fn fill_in(encoder: &mut BinEncoder<'_>) -> Result<(), ProtoError> {
     let place = encoder.place::<Header>()?;
     encoder.emit(0xFF)?;
@@ -103,7 +103,7 @@ fn fill_in(encoder: &mut BinEncoder<'_>) -> Result<(), ProtoError> {
     Ok(())
 }
 
-// Whether a header that is filled in stands in its room, and one after it is refused.
+/// Whether a header that is filled in stands in its room, and one after it is refused.
 fn is_filled_in(alloc: Global) -> bool {
     let mut bytes = Vec::new(alloc);
     let mut encoder = BinEncoder::new(&mut bytes);

@@ -11,7 +11,7 @@ use test_tools::forms::{
 
 const WWW: &[u8] = b"\x03WWW\x07example\x03com\x00\x00\x1C\x00\x01";
 
-// Whether a question is written as these bytes, and read from them, and has this text.
+/// Whether a question is written as these bytes, and read from them, and has this text.
 fn stands_as(alloc: Global, query: Query, wire: &[u8], text: &str) -> bool {
     let stands = is_written_as(alloc, &query, wire) && is_read_as(alloc, wire, &query);
     let is_shown = has_text(alloc, &query, text);
@@ -32,7 +32,7 @@ fn a_question(rt: HostRuntime) -> Result<(), ParseError> {
     Ok(())
 }
 
-// Whether a lower question has this name, and was asked with that one, for this type in this class.
+/// Whether a lower question has this name, and was asked with that one, for this type in this class.
 fn keeps(
     alloc: Global,
     question: LowerQuery,
@@ -47,7 +47,7 @@ fn keeps(
     asks && is_lowered && is_kept
 }
 
-// What is made of that question.
+/// What is made of that question.
 pub(crate) fn lowered(alloc: Global) -> Result<LowerQuery, Fail> {
     let question: Query = read(alloc, WWW)?;
     Ok(LowerQuery::try_from(question)?)
@@ -66,7 +66,7 @@ fn a_lower_question_keeps_the_one_that_was_asked(rt: HostRuntime) -> Result<(), 
 
 const UNICAST: &[u8] = &[0x00, 0x00, 0x01, 0x80, 0x01];
 
-// Whether a question for the root asks for unicast, in this class.
+/// Whether a question for the root asks for unicast, in this class.
 fn asks_for_unicast(query: &Query, class: DNSClass) -> bool {
     query.name().is_root() && query.query_class() == class && query.mdns_unicast_response()
 }
@@ -87,7 +87,7 @@ fn the_top_bit_asks_for_unicast(rt: HostRuntime) -> Result<(), DecodeError> {
     Ok(())
 }
 
-// Whether the bytes begin with no name.
+/// Whether the bytes begin with no name.
 fn is_bad_name(alloc: Global, bytes: &[u8]) -> bool {
     let refused: Result<Query, DecodeError> = read(alloc, bytes);
     let is_bad = matches!(&refused, Err(DecodeError::BadName));
@@ -108,7 +108,7 @@ fn questions_that_are_read_as_others_or_refused(rt: HostRuntime) -> Result<(), D
     Ok(())
 }
 
-// The question that the setters make, in this class.
+/// The question that the setters make, in this class.
 fn set(alloc: Global, class: DNSClass) -> Result<Query, ParseError> {
     let name = Name::parse(alloc, "a.", None)?;
     let mut query = Query::new(alloc);
@@ -120,7 +120,7 @@ fn set(alloc: Global, class: DNSClass) -> Result<Query, ParseError> {
     Ok(query)
 }
 
-// Whether the question that the setters make in this class is the question for `A.` in IN, and is its copy.
+/// Whether the question that the setters make in this class is the question for `A.` in IN, and is its copy.
 fn is_other(alloc: Global, class: DNSClass) -> Result<(bool, bool), ParseError> {
     let query = set(alloc, class)?;
     match Name::parse(alloc, "A.", None) {

@@ -8,7 +8,7 @@ use base::DNSClass::{CH, HS, IN};
 use base::RecordType::{self, A, ANY, CNAME, NS, SOA};
 use std::test::Fail;
 
-// Addresses of each class, with TTLs.
+/// Addresses of each class, with TTLs.
 const FIRST: Row = (Address(24), IN, 5);
 
 const SECOND: Row = (Address(25), IN, 5);
@@ -25,21 +25,21 @@ const NEW: Row = (Address(24), IN, 9);
 
 const OTHER: Row = (Address(25), IN, 1);
 
-// Starts of `example.` of serial 5, the first of which is for no second.
+/// Starts of `example.` of serial 5, the first of which is for no second.
 const A_OF_5_NOW: Row = (Start(5, "a."), IN, 0);
 
 const A_OF_5: Row = (Start(5, "a."), IN, 5);
 
 const B_OF_5: Row = (Start(5, "b."), IN, 5);
 
-// Starts by the last digit of a serial.
+/// Starts by the last digit of a serial.
 const A_OF_3: Row = (Start(2015082403, "a."), IN, 5);
 
 const B_OF_3: Row = (Start(2015082403, "b."), IN, 5);
 
 const C_OF_4: Row = (Start(2015082404, "c."), IN, 5);
 
-// Starts whose serials are around the ends of their numbers.
+/// Starts whose serials are around the ends of their numbers.
 const A_OF_0: Row = (Start(0, "a."), IN, 5);
 
 const A_OF_1: Row = (Start(1, "a."), IN, 5);
@@ -54,7 +54,7 @@ const B_PAST_HALF: Row = (Start(2147483649, "b."), IN, 5);
 
 const A_OF_MOST: Row = (Start(4294967295, "a."), IN, 5);
 
-// Aliases, servers, and all data of a name.
+/// Aliases, servers, and all data of a name.
 const ALIAS_A: Row = (Text(CNAME, &["a."]), IN, 5);
 
 const ALIAS_B: Row = (Text(CNAME, &["b."]), IN, 5);

@@ -13,7 +13,7 @@ use std::test::Fail;
 use test_tools::bytes::decoded;
 use txt::Parser;
 
-// The answer to an update in parts, and the sets of the text's zone after it.
+/// The answer to an update in parts, and the sets of the text's zone after it.
 fn applied(
     alloc: Global,
     text: &str,
@@ -31,15 +31,15 @@ fn applied(
     Ok(apply_update(alloc, &sets, &name, DNSClass::IN, &message)?)
 }
 
-// The start of `example.`, and two addresses of `www.example.`.
+/// The start of `example.`, and two addresses of `www.example.`.
 const TWO: &str =
     "@ 3600 SOA ns hostmaster 1 2 3 4 5\n@ NS ns\nwww 300 A 192.0.2.1\nwww 600 A 192.0.2.2\n";
 
-// An update of `example.` by one address of `www.example.`, up to the record's class.
+/// An update of `example.` by one address of `www.example.`, up to the record's class.
 const UPDATE: &str =
     "0007 2800 0001 0000 0001 0000 076578616D706C65 00 0006 0001 03777777 C00C 0001";
 
-// The TTL that the set of the addresses has after an update, and how many records.
+/// The TTL that the set of the addresses has after an update, and how many records.
 fn addresses_after(alloc: Global, update: &[&str]) -> Result<Option<(u32, usize)>, Fail> {
     let owner = Name::parse(alloc, "www.example.", None)?;
     let key = RrKey::new(LowerName::new(alloc, &owner)?, RecordType::A);
@@ -64,16 +64,16 @@ fn a_set_has_the_ttl_of_its_last_record(rt: HostRuntime) -> Result<(), Fail> {
     Ok(())
 }
 
-// The same start, two addresses of `www.example.`, and the first of them at `ftp.example.` too.
+/// The same start, two addresses of `www.example.`, and the first of them at `ftp.example.` too.
 const THREE: &str =
     "@ 3600 SOA ns hostmaster 1 2 3 4 5\n@ NS ns\nwww 300 A 192.0.2.1\nwww 300 A 192.0.2.2\nftp 300 A 192.0.2.1\n";
 
-// An update of `example.` up to its number of prerequisites, and the zone section after it.
+/// An update of `example.` up to its number of prerequisites, and the zone section after it.
 const START: &str = "0007 2800 0001 ";
 
 const ZONE: &str = " 0000 0000 076578616D706C65 00 0006 0001";
 
-// Prerequisites: addresses of `www.example.` and `ftp.example.`, by their last byte.
+/// Prerequisites: addresses of `www.example.` and `ftp.example.`, by their last byte.
 const WWW_1: &str = " 03777777 C00C 0001 0001 00000000 0004 C0000201";
 
 const WWW_2: &str = " 03777777 C00C 0001 0001 00000000 0004 C0000202";
@@ -82,7 +82,7 @@ const WWW_3: &str = " 03777777 C00C 0001 0001 00000000 0004 C0000203";
 
 const FTP_1: &str = " 03667470 C00C 0001 0001 00000000 0004 C0000201";
 
-// What an update without changes is answered.
+/// What an update without changes is answered.
 fn answer(alloc: Global, update: &[&str]) -> Result<ResponseCode, Refusal> {
     let (code, sets) = applied(alloc, THREE, update)?;
     drop(sets);

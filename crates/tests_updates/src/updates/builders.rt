@@ -19,7 +19,7 @@ fn appended(alloc: Global) -> Result<Message, Fail> {
     Ok(append(alloc, 3, set, origin, true, false)?)
 }
 
-// From the address 192.0.2.1 to that and 192.0.2.2.
+/// From the address 192.0.2.1 to that and 192.0.2.2.
 fn swapped(alloc: Global) -> Result<Message, Fail> {
     let current = addresses(alloc, 300, 1)?;
     match zone_and_addresses(alloc, 60, 2) {
@@ -49,7 +49,7 @@ fn without_set(alloc: Global, flush: bool) -> Result<Message, Fail> {
     Err(base::ProtoError::Message("a record outside the zone").into())
 }
 
-// All sets of `owner`, at most, in `example.`.
+/// All sets of `owner`, at most, in `example.`.
 fn without_name(alloc: Global, owner: &str) -> Result<Message, Fail> {
     let gone = name(alloc, owner)?;
     let origin = name(alloc, "example.")?;
@@ -59,7 +59,7 @@ fn without_name(alloc: Global, owner: &str) -> Result<Message, Fail> {
     Err(base::ProtoError::Message("a name outside the zone").into())
 }
 
-// The question for all of `example.`.
+/// The question for all of `example.`.
 fn whole(alloc: Global) -> Result<Message, Fail> {
     Ok(zone_transfer(alloc, 6, name(alloc, "example.")?, None)?)
 }
@@ -75,7 +75,7 @@ fn start(alloc: Global) -> Result<SOA, Fail> {
     }
 }
 
-// The question for what changed in `example.`.
+/// The question for what changed in `example.`.
 fn changes(alloc: Global) -> Result<Message, Fail> {
     let origin = name(alloc, "example.")?;
     match start(alloc) {
@@ -183,7 +183,7 @@ fn updates_and_questions_for_transfers_as_they_are_sent(rt: HostRuntime) -> Resu
     Ok(())
 }
 
-// What a swap of no current data asks for.
+/// What a swap of no current data asks for.
 fn count_of_prerequisites(alloc: Global) -> Result<usize, Fail> {
     let none = RecordSet::new(alloc, name(alloc, "www.example.")?, base::RecordType::A, 0);
     let (origin, new) = zone_and_addresses(alloc, 60, 1)?;

@@ -9,7 +9,7 @@ use rr::Record;
 use std::alloc::{AllocError, Global};
 use std::test::Fail;
 
-// Adds the zone `example.`, three prerequisites, three updates and an additional record, with TTLs from 0 to 6.
+/// Adds the zone `example.`, three prerequisites, three updates and an additional record, with TTLs from 0 to 6.
 fn fill<M: UpdateMessage>(alloc: Global, message: &mut M) -> Result<(), Fail> {
     message.add_zone(Query::query(name(alloc, "example.")?, RecordType::SOA))?;
     message.add_pre_requisite(host(alloc, 0, 1)?)?;
@@ -19,7 +19,7 @@ fn fill<M: UpdateMessage>(alloc: Global, message: &mut M) -> Result<(), Fail> {
     Ok(message.add_additional(host(alloc, 6, 1)?)?)
 }
 
-// Whether the records have these TTLs.
+/// Whether the records have these TTLs.
 fn have_ttls(records: &[Record], ttls: &[u32]) -> bool {
     let are_equal = records
         .iter()
@@ -28,7 +28,7 @@ fn have_ttls(records: &[Record], ttls: &[u32]) -> bool {
     records.len() == ttls.len() && are_equal
 }
 
-// Whether the message of this id has all that, and no signature.
+/// Whether the message of this id has all that, and no signature.
 fn is_filled<M: UpdateMessage>(message: &M, id: u16) -> bool {
     let names_zone = match message.zones().first() {
         Some(zone) => zone.query_type() == RecordType::SOA,
@@ -40,7 +40,7 @@ fn is_filled<M: UpdateMessage>(message: &M, id: u16) -> bool {
     message.id() == id && message.zones().len() == 1 && names_zone && asks && changes && has_more
 }
 
-// An update that was filled.
+/// An update that was filled.
 fn filled(alloc: Global) -> Result<Message, Fail> {
     let mut message = Message::query(alloc, 9);
     message.metadata.op_code = OpCode::Update;
@@ -63,19 +63,19 @@ fn sections_have_what_was_added(rt: HostRuntime) -> Result<(), Fail> {
     Ok(())
 }
 
-// Whether the message has a signature.
+/// Whether the message has a signature.
 fn is_signed<M: UpdateMessage>(message: &M) -> bool {
     message.signature().is_some()
 }
 
-// A signature of one byte.
+/// A signature of one byte.
 fn signature(alloc: Global) -> Result<Box<Record<TSIG>>, AllocError> {
     let rdata = TSIG::new(vec![in alloc; 0xAA]?);
     let signature = Record::from_rdata(Name::root(alloc), 0, rdata);
     Ok(Box::new(alloc, signature)?)
 }
 
-// Whether a message is signed before a signature is set, and after.
+/// Whether a message is signed before a signature is set, and after.
 fn are_signed(alloc: Global) -> Result<(bool, bool), AllocError> {
     let signature = signature(alloc)?;
     let mut message = Message::query(alloc, 9);

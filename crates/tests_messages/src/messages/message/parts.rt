@@ -10,7 +10,7 @@ use std::test::Fail;
 use test_tools::bytes::decoded;
 use test_tools::forms::are_bytes;
 
-// A response with a question, an answer, an additional record, EDNS with an option, and a signature.
+/// A response with a question, an answer, an additional record, EDNS with an option, and a signature.
 const SIGNED: &str = "000780000001000100000003\
     01610000010001\
     c00c001000010000003c0029\
@@ -26,7 +26,7 @@ pub(crate) fn signed(alloc: Global) -> Result<Message, Fail> {
     Ok(message?)
 }
 
-// The bytes of the message without its records and its signature.
+/// The bytes of the message without its records and its signature.
 pub(crate) fn truncated(alloc: Global) -> Result<Vec<u8>, Fail> {
     let message = signed(alloc)?;
     let cut = message.truncate();
@@ -49,7 +49,7 @@ fn a_truncated_message_keeps_its_question_and_edns(rt: HostRuntime) -> Result<()
     Ok(())
 }
 
-// How many answers and additional records are left of A and RRSIG, and of NSEC, that answer a question for a type.
+/// How many answers and additional records are left of A and RRSIG, and of NSEC, that answer a question for a type.
 fn left(alloc: Global, asked: RecordType, flag: bool) -> Result<(usize, usize), Fail> {
     let parts = [
         Part::Ask("a.", asked),
@@ -71,7 +71,7 @@ fn records_of_dnssec_are_stripped_unless_asked_for(rt: HostRuntime) -> Result<()
     Ok(())
 }
 
-// How many records the iterator over all sections gives, and how many are left when they are taken.
+/// How many records the iterator over all sections gives, and how many are left when they are taken.
 fn counted(alloc: Global) -> Result<(usize, usize, usize), Fail> {
     let mut message = signed(alloc)?;
     let all = message.all_sections().count();
@@ -87,7 +87,7 @@ fn each_record_of_a_section_is_given_once(rt: HostRuntime) -> Result<(), Fail> {
     Ok(())
 }
 
-// The payload of EDNS made of an OPT record by hand, that of a message with it, and whether it is written as 512.
+/// The payload of EDNS made of an OPT record by hand, that of a message with it, and whether it is written as 512.
 fn payload(alloc: Global) -> Result<(u16, u16, bool), Fail> {
     let mut by_hand = Record::update0(Name::root(alloc), 0, RecordType::OPT);
     by_hand.dns_class = DNSClass::Unknown(100);
@@ -109,7 +109,7 @@ fn a_small_payload_is_taken_as_512(rt: HostRuntime) -> Result<(), Fail> {
     Ok(())
 }
 
-// The number of the refusal of EDNS out of a record of an address.
+/// The number of the refusal of EDNS out of a record of an address.
 fn of_address(alloc: Global) -> Result<u8, Fail> {
     match Edns::try_from(&address(alloc, "a.", 60)?) {
         Ok(edns) => {
@@ -126,7 +126,7 @@ fn a_record_of_an_address_is_no_edns(rt: HostRuntime) -> Result<(), Fail> {
     Ok(())
 }
 
-// A message without EDNS says these of its payload and version, and is a response where it is made one.
+/// A message without EDNS says these of its payload and version, and is a response where it is made one.
 fn plain(alloc: Global) -> Result<(u16, u8, bool), Fail> {
     let message = built(alloc, Kind::Query(1), &[Part::Ask("a.", RecordType::A)])?;
     let said = (message.max_payload(), message.version());
@@ -142,7 +142,7 @@ fn a_message_without_edns_takes_512_bytes(rt: HostRuntime) -> Result<(), Fail> {
     Ok(())
 }
 
-// Whether the signature of a message is lent.
+/// Whether the signature of a message is lent.
 fn is_signed(message: &Message) -> bool {
     match message.signature() {
         Some(signature) => signature.name.is_root() && signature.dns_class == DNSClass::ANY,
@@ -150,7 +150,7 @@ fn is_signed(message: &Message) -> bool {
     }
 }
 
-// Whether the signature is taken out of a message.
+/// Whether the signature is taken out of a message.
 fn is_taken(message: &mut Message) -> bool {
     match message.take_signature() {
         Some(signature) => {
@@ -162,7 +162,7 @@ fn is_taken(message: &mut Message) -> bool {
     }
 }
 
-// Whether a message is signed, its signature can be taken, the message is signed then, and it can be taken once more.
+/// Whether a message is signed, its signature can be taken, the message is signed then, and it can be taken once more.
 fn signatures(alloc: Global) -> Result<[bool; 4], Fail> {
     let mut message = built(alloc, Kind::Response(7), &[Part::Signature])?;
     let before = (is_signed(&message), is_taken(&mut message));

@@ -18,7 +18,7 @@ const SIGN: [u8; 12] = [
     0x00, 0x00, 0xFA, 0x00, 0xFF, 0x00, 0x00, 0x00, 0x00, 0x00, 0x01, 0xAA,
 ];
 
-// Whether a copy is the same message.
+/// Whether a copy is the same message.
 fn is_copied(message: &Message) -> bool {
     let copied: Result<Message, AllocError> = message.clone();
     let same = match &copied {
@@ -29,7 +29,7 @@ fn is_copied(message: &Message) -> bool {
     same
 }
 
-// Whether the bytes begin with this question alone, and it ends there.
+/// Whether the bytes begin with this question alone, and it ends there.
 fn is_asked(alloc: Global, bytes: &[u8], queries: &Vec<Query>, end: usize) -> bool {
     let mut decoder = BinDecoder::new(alloc, bytes);
     let found = Message::read_queries(&mut decoder, 1);
@@ -41,7 +41,7 @@ fn is_asked(alloc: Global, bytes: &[u8], queries: &Vec<Query>, end: usize) -> bo
     same && decoder.index() == end
 }
 
-// Whether a message fills the bytes, asks what stands after its header, has one answer, and is the same as its copy.
+/// Whether a message fills the bytes, asks what stands after its header, has one answer, and is the same as its copy.
 fn is_whole(alloc: Global, bytes: &[u8], question: &[u8]) -> bool {
     let mut decoder = BinDecoder::new(alloc, bytes);
     let read = Message::read(&mut decoder);
@@ -61,7 +61,7 @@ fn a_message_is_read_at_its_place(rt: HostRuntime) {
     assert!(rt; is_whole(rt.alloc(), &WWW, &WWW[12..]));
 }
 
-// Whether so many records are refused before the additionals, since one of this type is among them.
+/// Whether so many records are refused before the additionals, since one of this type is among them.
 fn is_misplaced(alloc: Global, bytes: &[u8], count: usize, record_type: RecordType) -> bool {
     let mut decoder = BinDecoder::new(alloc, bytes);
     let refused = Message::read_records(&mut decoder, count, false, OpCode::Query);
@@ -79,7 +79,7 @@ fn records_that_stand_among_additionals_alone(rt: HostRuntime) {
     assert!(rt; is_misplaced(rt.alloc(), &SIGN, 1, RecordType::TSIG));
 }
 
-// Whether this is EDNS that nobody has set.
+/// Whether this is EDNS that nobody has set.
 fn is_new(alloc: Global, edns: &Option<Edns>) -> bool {
     let new = Some(Edns::new(alloc));
     let is_new = *edns == new;
@@ -87,8 +87,8 @@ fn is_new(alloc: Global, edns: &Option<Edns>) -> bool {
     is_new
 }
 
-// What is read of so many additional records: the other records, whether there is EDNS, and that nobody has set it, and
-// whether there is a signature.
+/// What is read of so many additional records: the other records, whether there is EDNS, and that nobody has set it, and
+/// whether there is a signature.
 fn additionals(alloc: Global, bytes: &[u8], count: usize) -> Option<(usize, bool, bool, bool)> {
     let mut decoder = BinDecoder::new(alloc, bytes);
     let found = Message::read_records(&mut decoder, count, true, OpCode::Query);

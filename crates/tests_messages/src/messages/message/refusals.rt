@@ -7,8 +7,8 @@ use std::alloc::Global;
 use std::test::Fail;
 use test_tools::bytes::decoded;
 
-// Messages in hexadecimal that are refused for their data, with the number and what it names: the type of the data, or how
-// many bytes are left and the length of the data.
+/// Messages in hexadecimal that are refused for their data, with the number and what it names: the type of the data, or how
+/// many bytes are left and the length of the data.
 const BAD_DATA: &[((u8, usize, usize), &'static str)] = &[
     // a pointer that leaves its data, and data that its name doesn't fill
     (
@@ -31,7 +31,7 @@ const BAD_DATA: &[((u8, usize, usize), &'static str)] = &[
     ),
 ];
 
-// The number of that type.
+/// The number of that type.
 const MX: usize = 15;
 
 #[test]
@@ -42,13 +42,13 @@ fn bad_data_is_refused_as_what_it_is(rt: HostRuntime) -> Result<(), Fail> {
     Ok(())
 }
 
-// Two questions: the header has 12 bytes, the first question 9, and the second 8.
+/// Two questions: the header has 12 bytes, the first question 9, and the second 8.
 const QUESTIONS: &str = "0007 0100 0002 0000 0000 0000 0161 0162 00 0001 0001 0163 C00E 0001 0001";
 
-// Limits under which a question of the message has no room, and how many stand before it.
+/// Limits under which a question of the message has no room, and how many stand before it.
 const WITHOUT_ROOM: &[(u16, usize)] = &[(28, 1), (21, 1), (20, 0), (12, 0)];
 
-// How many questions of the message are written under a limit, where one has no room.
+/// How many questions of the message are written under a limit, where one has no room.
 fn written_under(alloc: Global, message: &Message, limit: u16) -> Option<usize> {
     let mut bytes = Vec::new(alloc);
     let mut encoder = BinEncoder::new(&mut bytes);
@@ -78,7 +78,7 @@ fn questions_without_room_are_counted(rt: HostRuntime) -> Result<(), Fail> {
     Ok(())
 }
 
-// The number of the refusal of the next question, 0 where it is read.
+/// The number of the refusal of the next question, 0 where it is read.
 fn next_question(decoder: &mut BinDecoder<'_>) -> u8 {
     let read = Message::read_queries(decoder, 1);
     let number = match &read {
@@ -89,7 +89,7 @@ fn next_question(decoder: &mut BinDecoder<'_>) -> u8 {
     number
 }
 
-// The numbers of the first question of a message and of the second.
+/// The numbers of the first question of a message and of the second.
 fn in_turn(alloc: Global, text: &str) -> Result<(u8, u8), Fail> {
     let bytes = decoded(alloc, text)?;
     let mut decoder = BinDecoder::new(alloc, &bytes);
@@ -97,7 +97,7 @@ fn in_turn(alloc: Global, text: &str) -> Result<(u8, u8), Fail> {
     Ok((next_question(&mut decoder), next_question(&mut decoder)))
 }
 
-// The first name is a pointer to byte 4; the second one leads to byte 0, where a pointer leads forward to byte 4.
+/// The first name is a pointer to byte 4; the second one leads to byte 0, where a pointer leads forward to byte 4.
 #[test]
 fn a_known_target_is_not_led_to_from_before(rt: HostRuntime) -> Result<(), Fail> {
     let text = "C004 0000 0002 0000 0000 0000 C004 0001 0001 C000 0001 0001";
