@@ -32,6 +32,7 @@ pub(super) fn has_equal(sorted: &[&RData], rdata: &RData) -> bool
     ensures { result ≡ list_any (λ d. same_data rdata.now d.now) sorted.now }
 {
     rdata.fits();
-    sorted.binary_search_by(|known| known.canonical_cmp(rdata))
+    sorted
+        .binary_search_by(|known| known.canonical_cmp(rdata))
         .is_ok()
 }
