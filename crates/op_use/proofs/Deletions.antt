@@ -6,13 +6,15 @@ use Rattle.base.specs.declared.rr_key.RrKey.{RrKey}
 use Rattle.base_data.specs.SameData.{same_data}
 use Rattle.base_data.specs.declared.rdata.RData.{RData}
 use Rattle.op_use.proofs.AppliedData.{Distinct, distinct_parted, parted_data}
+use Rattle.op_use.proofs.MapSteps.{taken_more}
 use Rattle.op_use.proofs.Origins.{back_among, from_parted, front_among}
 use Rattle.op_use.proofs.ZoneSteps.{at_put, put_put, same_key}
 use Rattle.op_use.specs.AppliedRecords.{after_by, after_update, parted, records_after}
 use Rattle.op_use.specs.MapUpdates.{is_deletion, is_of_none}
 use Rattle.op_use.specs.NamedChanges.{datum_of}
-use Rattle.op_use.specs.Server.{OfAny, OfNone, OfNothing, OfZone, Use, at, is_needed, is_same_key, is_under, record_key, removed, type_of_record, update, update_by, use_of}
-use Rattle.op_use.specs.Zone.{Datum, Zone, is_guarded, put}
+use Rattle.op_use.specs.Server.{OfAny, OfNone, OfNothing, OfZone, Use, is_needed, is_same_key, is_under, record_key, removed, type_of_record, update, update_by, use_of}
+use Rattle.op_use.specs.Zone.{Zone, at, is_guarded, put}
+use Rattle.rr.proofs.WithoutSteps.{without_none}
 use Rattle.rr.specs.RecordSet.{SetValue, is_soa}
 use Rattle.rr.specs.SetChanges.{has_data_of}
 use Rattle.rr.specs.SetUpdates.{has_data_of_one, with_records, without, without_data}
@@ -21,7 +23,7 @@ use Rattle.std.proofs.Common.{ap, inl, inr, refl, subst, sym, ◌∙◌, ◌⊎�
 use Rattle.std.proofs.lemmas.Bool.{and_parts, cond-false, or_parts}
 use Rattle.std.specs.List.{AllByRecursion, IsAmong, filter, fold, list_any}
 use Rattle.std.specs.Ordering.{eq_by_cmp}
-use Rattle.std.specs.Prelude.{Bool, List, [], cond, false, map, nat_le, length, not, true, ◌&&◌, ◌++◌, ◌||◌, ◌∷◌, ◌≡◌}
+use Rattle.std.specs.Prelude.{Bool, List, [], cond, false, length, map, nat_le, not, slice_index_or, take, true, ℕ, ◌&&◌, ◌++◌, ◌+◌, ◌<◌, ◌||◌, ◌∷◌, ◌≡◌}
 
 -- records without the data of some, one after the other
 pub without_nothing : (xs : List (Record RData)) → without [] xs ≡ xs
@@ -40,13 +42,6 @@ without_more r rs (x ∷ xs) = more_at r rs x xs (has_data_of r x) refl (without
 
 pub without_one : (r : Record RData) (xs : List (Record RData)) → without (r ∷ []) xs ≡ parted r xs
 without_one r xs = without_more r [] xs ∙ without_nothing (parted r xs)
-
--- where none has such data, all stay
-pub without_none : (rs xs : List (Record RData)) → list_any (has_data_of_one rs) xs ≡ false → without rs xs ≡ xs
-without_none rs [] h = refl
-without_none rs (x ∷ xs) h =
-    let parts = or_parts (has_data_of_one rs x) (list_any (has_data_of_one rs) xs) h in
-    ap (λ b. cond (not b) (x ∷ without rs xs) (without rs xs)) parts.0 ∙ ap (λ ys. x ∷ ys) (without_none rs xs parts.1)
 
 pub distinct_without : (rs xs : List (Record RData)) → Distinct xs → Distinct (without rs xs)
 distinct_without [] xs h = subst (λ ys. Distinct ys) (sym (without_nothing xs)) h
@@ -92,20 +87,20 @@ module _ (z : Zone) (k r : Record RData) (h : is_deletion z k r ≡ true) where
   parts : (is_of_none (use_of z.class r.dns_class) ≡ true) × (is_same_key k r ≡ true) × (is_soa (type_of_record r) ≡ false)
       × (is_guarded z r.name (type_of_record r) ≡ false)
   parts =
-      let first = and_parts (is_of_none (use_of z.class r.dns_class)) _ h in
-      let second = and_parts (is_same_key k r) _ first.1 in
-      let third = and_parts (not (is_soa (type_of_record r))) _ second.1 in
-      (first.0, second.0, is_false _ third.0, is_false _ third.1)
+      let first = and_parts _ (not (is_guarded z r.name (type_of_record r))) h in
+      let second = and_parts _ (not (is_soa (type_of_record r))) first.0 in
+      let third = and_parts (is_of_none (use_of z.class r.dns_class)) (is_same_key k r) second.0 in
+      (third.0, third.1, is_false _ second.1, is_false _ first.1)
 
   deletes : use_of z.class r.dns_class ≡ OfNone
   deletes = is_none _ parts.0
 
   pub own : record_key r ≡ record_key k
-  own = sym (same_key (record_key k) (record_key r) parts.1.0)
+  own = sym (same_key (record_key k) (record_key r) parts.1)
 
   pub free : is_needed z r ≡ false
-  free = ap (λ b. b || (is_guarded z r.name (type_of_record r) && nat_le (length (at z (record_key r))) 1)) parts.1.1.0
-      ∙ ap (λ b. b && nat_le (length (at z (record_key r))) 1) parts.1.1.1
+  free = ap (λ b. b || (is_guarded z r.name (type_of_record r) && nat_le (length (at z (record_key r))) 1)) parts.2
+      ∙ ap (λ b. b && nat_le (length (at z (record_key r))) 1) parts.3
 
   zone_next : update z r ≡ put z (record_key k) (removed (at z (record_key k)) r)
   zone_next = ap (λ how. update_by how z r) deletes ∙ cond-false _ _ _ free ∙ ap (λ q. put z q (removed (at z q) r)) own
@@ -139,3 +134,12 @@ records_left z k (r ∷ rs) q xs h =
     (λ i. records_after (zone_next z k r h.0 i) rs q (records_next z k r h.0 q xs i))
     ∙ records_left (put z (record_key k) (removed (at z (record_key k)) r)) k rs q (cond (eq_by_cmp key_cmp (record_key k) q) (parted r xs) xs) h.1
     ∙ cond_more r rs xs (eq_by_cmp key_cmp (record_key k) q)
+
+-- one more of them
+all_append : {X : Type 0} (P : X → Type 0) (xs ys : List X) → AllByRecursion P xs → AllByRecursion P ys → AllByRecursion P (xs ++ ys)
+all_append P [] ys h k = k
+all_append P (x ∷ xs) ys h k = (h.0, all_append P xs ys h.1 k)
+
+pub all_next : (P : Record RData → Type 0) (xs : List (Record RData)) (n : ℕ) (x : Record RData) → n < length xs → x ≡ slice_index_or xs n x
+    → AllByRecursion P (take n xs) → P x → AllByRecursion P (take (n + 1) xs)
+all_next P xs n x below is h p = subst (AllByRecursion P) (taken_more xs n x below is) (all_append P (take n xs) (x ∷ []) h (p, tt))

@@ -5,18 +5,23 @@ use Rattle.base.specs.declared.dns_class.DNSClass.{DNSClass}
 use Rattle.base.specs.declared.rr_key.RrKey.{RrKey}
 use Rattle.base_data.specs.declared.rdata.RData.{RData}
 use Rattle.op_use.proofs.MapSteps.{chained, more_after, none_after}
-use Rattle.op_use.specs.Applying.{IsZoneMap, IsZoneSet}
+use Rattle.op_use.proofs.UpdateSteps.{after_deletions}
+use Rattle.op_use.specs.Applying.{IsZoneMap, IsZoneSet, records_at}
 use Rattle.op_use.specs.HeldZone.{HeldZone, zone_of}
-use Rattle.op_use.specs.MapUpdates.{Holds, IsAfter, IsSetTo, IsUpdated, Lacks, LacksOwner, Leaves}
+use Rattle.op_use.specs.MapUpdates.{Holds, IsAfter, IsSetTo, IsUpdated, Lacks, LacksOwner, Leaves, is_deletion}
+use Rattle.op_use.specs.Server.{record_key}
 use Rattle.op_use.specs.Zone.{Zone}
 use Rattle.rr.specs.RecordSet.{SetValue}
+use Rattle.rr.specs.SetUpdates.{without}
 use Rattle.rr.specs.declared.record.Record.{Record}
-use Rattle.std.proofs.Common.{ap, arith, refl, subst, sym, ◌∙◌}
+use Rattle.std.proofs.Common.{ap, arith, drop, refl, subst, suc, sym, take, zero, ◌∙◌}
+use Rattle.std.proofs.Math.Seq.{take-add}
+use Rattle.std.proofs.lemmas.List.{length-drop, length-take-le, take_all}
 use Rattle.std.specs.BTreeMap as tree
 use Rattle.std.specs.BTreeMap.{BTreeMap}
-use Rattle.std.specs.List.{slice_get}
+use Rattle.std.specs.List.{AllByRecursion, slice_get}
 use Rattle.std.specs.Ordering.{eq_by_cmp}
-use Rattle.std.specs.Prelude.{Bool, List, None, Some, [], cond, false, length, true, ◌-◌, ◌++◌, ◌∷◌, ◌≡◌}
+use Rattle.std.specs.Prelude.{Bool, List, None, Some, [], cond, false, length, true, ℕ, ◌+◌, ◌-◌, ◌++◌, ◌<◌, ◌∷◌, ◌≡◌, ◌≤◌}
 
 pub none_updated : (z : HeldZone) → IsUpdated [] z z
 none_updated z = (z.sets, refl, λ h. none_after z.origin z.class z.sets h)
@@ -91,3 +96,36 @@ pub all_updated : (z new : HeldZone) (origin : NameValue) (class : DNSClass) (m 
 all_updated z new origin class m rs e h old = step (subst (λ (y : HeldZone). IsUpdated rs y new) e h) where
   step : IsUpdated rs (record { origin = origin; class = class; sets = m }) new → IsAfter origin class rs m new.sets
   step u = subst (λ n. IsAfter origin class rs m n) (sym (ap (λ (y : HeldZone). y.sets) u.1)) (u.2 old)
+
+-- deletions of data of one set
+pub deletions_updated : (k : Record RData) (ds : List (Record RData)) (old new : HeldZone) → 0 < length ds → AllByRecursion (λ u. is_deletion (zone_of old) k u ≡ true) ds
+    → Holds (record_key k) (without ds (records_at old.sets (record_key k))) old new → IsUpdated ds old new
+deletions_updated k [] old new some all h = absurd (omega (arith, some))
+deletions_updated k (r ∷ rs) old new some all h = set_updated (r ∷ rs) _ _ old new h (λ n put is_map. after_deletions old.origin old.class old.sets n r is_map k rs all put)
+
+module _ (es : List (Record RData)) (i n : ℕ) (below : i < length es) (some : n ≡ 0 → ⊥) (within : n ≤ length (take (length es - i) (drop i es))) where
+  rest_is : take (length es - i) (drop i es) ≡ drop i es
+  rest_is = take_all (length es - i) (drop i es) (omega (arith, length-drop i es))
+
+  fits : n ≤ length (drop i es)
+  fits = subst (λ ds. n ≤ length ds) rest_is within
+
+  pub run_within : i + n ≤ length es
+  run_within = omega (arith, fits, length-drop i es, below)
+
+  run_some : 0 < length (take n (drop i es))
+  run_some = omega (arith, length-take-le n (drop i es) fits, not_none n some) where
+    not_none : (k : ℕ) → (k ≡ 0 → ⊥) → 0 < k
+    not_none zero h = absurd (h refl)
+    not_none (suc k) h = omega arith
+
+  pub run_updated : (k : Record RData) (key : RrKey) (old mid new : HeldZone) → key ≡ record_key k
+      → AllByRecursion (λ u. is_deletion (zone_of mid) k u ≡ true) (take n (take (length es - i) (drop i es)))
+      → Holds key (without (take ((i + n) - i) (drop i es)) (records_at mid.sets key)) mid new → IsUpdated (take i es) old mid → IsUpdated (take (i + n) es) old new
+  run_updated k key old mid new is all h before =
+      let count : (i + n) - i ≡ n = omega arith in
+      let ds = take n (drop i es) in
+      let held = moved_held key (record_key k) _ (without ds (records_at mid.sets (record_key k))) mid new is
+      (λ j. without (take (count j) (drop i es)) (records_at mid.sets (is j))) h in
+      let step = deletions_updated k ds mid new run_some (subst (λ rs. AllByRecursion (λ u. is_deletion (zone_of mid) k u ≡ true) (take n rs)) rest_is all) held in
+      subst (λ rs. IsUpdated rs old new) (sym (take-add i n es)) (updated_more (take i es) ds old mid new before step)

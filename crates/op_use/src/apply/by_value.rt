@@ -130,11 +130,7 @@ pub(crate) fn is_same_set(a: &Record, b: &Record) -> bool
 }
 
 /// Whether one of these records has the data of this one.
-fn has_data(
-    records: &[Record],
-    held: Option<&Places>,
-    entry: &Record,
-) -> Result<bool, AllocError>
+fn has_data(records: &[Record], held: Option<&Places>, entry: &Record) -> Result<bool, AllocError>
     ensures { IfOk result (λ b. b ≡ list_any (has_data_of entry.now) records.now) }
 {
     if look_up(records, held, entry)?.is_some() {

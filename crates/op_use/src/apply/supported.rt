@@ -1,5 +1,6 @@
 //! The first step: whether an update is of types that are supported.
 
+ghost use Rattle.std.specs.List.{list_all};
 ghost use Rattle.std.specs.Prelude.{◌≡◌};
 ghost use Rattle.op.specs.Message.{message_value};
 ghost use Rattle.op_use.specs.Applying.{is_all_served as is_all_served_in, is_served as is_served_record, is_served_prerequisite};
@@ -14,14 +15,29 @@ use rr::Record;
 pub(crate) fn is_supported(message: &Message) -> bool
     ensures { result ≡ is_all_served_in (sections_of (message_value message.now)) }
 {
-    message
-        .answers
-        .iter()
-        .all(|entry| is_supported_prerequisite(entry))
-        && message
-            .authorities
-            .iter()
-            .all(|entry| is_supported_update(entry))
+    are_prerequisites_supported(&message.answers) && are_updates_supported(&message.authorities)
+}
+
+fn are_prerequisites_supported(entries: &[Record]) -> bool
+    ensures { result ≡ list_all is_served_prerequisite entries.now }
+{
+    for entry in entries {
+        if !is_supported_prerequisite(entry) {
+            return false;
+        }
+    }
+    true
+}
+
+fn are_updates_supported(entries: &[Record]) -> bool
+    ensures { result ≡ list_all is_served_record entries.now }
+{
+    for entry in entries {
+        if !is_supported_update(entry) {
+            return false;
+        }
+    }
+    true
 }
 
 fn is_supported_prerequisite(entry: &Record) -> bool

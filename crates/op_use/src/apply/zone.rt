@@ -103,9 +103,10 @@ impl<'a> Zone<'a> {
             return Ok(());
         };
         set.take_data(entries)?;
-        if !set.is_empty() {
-            self.sets.insert(key, set)?;
+        if set.is_empty() {
+            return Ok(());
         }
+        self.sets.insert(key, set)?;
         Ok(())
     }
 

@@ -1,28 +1,58 @@
-use Rattle.base.specs.RrKey.{key_of}
-use Rattle.op_use.proofs.AppliedData.{distinct_parted}
-use Rattle.op_use.proofs.HeldSteps.{moved_held, put_back}
-use Rattle.op_use.proofs.TakenSets.{changed, last_of}
+use Rattle.op_use.proofs.HeldSteps.{removed_map}
+use Rattle.op_use.proofs.MapSteps.{kept_after}
+use Rattle.op_use.proofs.TakenSets.{none_left, none_there, set_left}
+use Rattle.op_use.proofs.WholeSteps.{map_copy}
 use Rattle.op_use.proofs.apply.zone.Zone.take_data.Goals as goal
-use Rattle.op_use.specs.AppliedRecords.{parted}
 use Rattle.op_use.specs.Applying.{records_at}
 use Rattle.op_use.specs.HeldZone.{HeldZone}
-use Rattle.op_use.specs.MapUpdates.{IsTakenSet}
-use Rattle.op_use.specs.Server.{type_of_record}
-use Rattle.rr.specs.RecordSet.{SetValue}
-use Rattle.std.proofs.Common.{ap, subst, sym, ◌∙◌, ◌≡◌}
+use Rattle.op_use.specs.MapUpdates.{Holds}
+use Rattle.rr.specs.SetUpdates.{without}
+use Rattle.std.proofs.Common.{refl, subst, sym, ◌∙◌}
+use Rattle.std.proofs.lemmas.Bool.{true≢false}
 
-pub put_set-requires-clause-own : goal.put_set-requires-clause-own
-put_set-requires-clause-own c =
-    subst (λ (z : HeldZone). IsTakenSet z.class c.in_ok-key.key c.take_data.new.self.records c.take_data.new.self) (sym c.in_ok-set.ensures.left.1)
-    (changed c.args.self.now.class c.in_ok-key.key _ (parted c.args.entry.now c.in_ok-set.set.records) c.in_ok-set.set c.take_data.new.self c.in_ok-set.ensures.set c.take_data.ensures
-    (distinct_parted c.args.entry.now c.in_ok-set.set.records c.in_ok-set.ensures.set.distinct))
+pub invariant_of-self : goal.invariant_of-self
+invariant_of-self c = removed_map c.self.inside.class c.args.key c.self.inside.sets c.remove.new.self c.self.invariant c.remove.ensures.updates
 
-pub put_set-requires-clause-ttl : goal.put_set-requires-clause-ttl
-put_set-requires-clause-ttl c = last_of c.in_ok-set.set c.take_data.new.self (parted c.args.entry.now c.in_ok-set.set.records) c.take_data.ensures
+pub returns-in_default : goal.returns-in_default
+returns-in_default c =
+    subst (λ (z : HeldZone). Holds c.args.key (without c.args.entries.now (records_at z.sets c.args.key)) z (record { origin = c.self.inside.origin.now; class = c.self.inside.class; sets = c.remove.new.self })) c.self.view_is (
+      c.remove.new.self,
+      refl,
+      none_there c.self.inside.class c.args.key c.args.entries.now c.self.inside.sets c.remove.new.self (sym c.in_default.ensures.value) c.remove.ensures.updates,
+    )
+
+pub invariant_of-self-in_err-take_data : goal.invariant_of-self-in_err-take_data
+invariant_of-self-in_err-take_data c = removed_map c.self.inside.class c.args.key c.self.inside.sets c.remove.new.self c.self.invariant c.remove.ensures.updates
+
+pub invariant_of-self-in_err-insert : goal.invariant_of-self-in_err-insert
+invariant_of-self-in_err-insert c =
+    map_copy c.self.inside.origin.now c.self.inside.class c.remove.new.self c.insert.new.self c.in_err-insert.ensures.err
+    (removed_map c.self.inside.class c.args.key c.self.inside.sets c.remove.new.self c.self.invariant c.remove.ensures.updates)
+
+pub invariant_of-self-then-is_empty : goal.invariant_of-self-then-is_empty
+invariant_of-self-then-is_empty c = removed_map c.self.inside.class c.args.key c.self.inside.sets c.remove.new.self c.self.invariant c.remove.ensures.updates
+
+pub returns-then-is_empty : goal.returns-then-is_empty
+returns-then-is_empty c =
+    subst (λ (z : HeldZone). Holds c.args.key (without c.args.entries.now (records_at z.sets c.args.key)) z (record { origin = c.self.inside.origin.now; class = c.self.inside.class; sets = c.remove.new.self })) c.self.view_is (
+      c.remove.new.self,
+      refl,
+      none_left c.self.inside.class c.args.key c.args.entries.now c.in-Some.set c.take_data.new.self c.self.inside.sets c.remove.new.self (sym c.in-Some.ensures.value)
+          c.in_ok-take_data.ensures.ok (c.is_empty.ensures.0 c.if-is_empty.true) c.remove.ensures.updates,
+    )
+
+pub invariant_of-self-2 : goal.invariant_of-self-2
+invariant_of-self-2 c =
+    kept_after c.self.inside.origin.now c.self.inside.class c.args.key (without c.args.entries.now (records_at c.self.inside.sets c.args.key)) c.self.inside.sets c.insert.new.self
+    (set_left c.self.inside.class c.args.key c.args.entries.now c.in-Some.set c.take_data.new.self c.self.inside.sets c.remove.new.self c.insert.new.self c.self.invariant
+    (sym c.in-Some.ensures.value) c.in_ok-take_data.ensures.ok (λ e. true≢false (sym (c.is_empty.ensures.1 e) ∙ c.if-is_empty.false)) c.remove.ensures.updates c.in_ok-insert.ensures.updates)
+    c.self.invariant
 
 pub returns : goal.returns
 returns c =
-    let same_key : c.in_ok-key.key ≡ key_of c.args.entry.now.name (type_of_record c.args.entry.now) = c.in_ok-key.ensures ∙ ap (key_of c.args.entry.now.name) c.record_type.ensures in
-    moved_held _ _ _ _ _ _ same_key
-    (ap (λ (s : SetValue). s.records) c.take_data.ensures ∙ ap (parted c.args.entry.now) (c.in_ok-set.ensures.set.records ∙ ap (records_at c.args.self.now.sets) same_key))
-    (put_back _ _ _ _ _ c.in_ok-set.ensures.left c.in_ok-put_set.ensures)
+    subst (λ (z : HeldZone). Holds c.args.key (without c.args.entries.now (records_at z.sets c.args.key)) z (record { origin = c.self.inside.origin.now; class = c.self.inside.class; sets = c.insert.new.self })) c.self.view_is (
+      c.insert.new.self,
+      refl,
+      set_left c.self.inside.class c.args.key c.args.entries.now c.in-Some.set c.take_data.new.self c.self.inside.sets c.remove.new.self c.insert.new.self c.self.invariant
+          (sym c.in-Some.ensures.value) c.in_ok-take_data.ensures.ok (λ e. true≢false (sym (c.is_empty.ensures.1 e) ∙ c.if-is_empty.false)) c.remove.ensures.updates c.in_ok-insert.ensures.updates,
+    )
