@@ -3,14 +3,14 @@ use Rattle.base_data.specs.SameData.{same_data}
 use Rattle.base_data.specs.declared.rdata.RData.{RData}
 use Rattle.rr.specs.RecordSet.{SetValue}
 use Rattle.rr.specs.SetChanges.{has_data_of}
-use Rattle.rr.specs.SetUpdates.{has_data_of_one, with_records, without, without_data}
+use Rattle.rr.specs.SetUpdates.{has_data_of_one, without, without_data}
 use Rattle.rr.specs.SortedData.{IsSortedDataOf}
 use Rattle.rr.specs.declared.record.Record.{Record}
-use Rattle.std.proofs.Common.{ap, arith, get_or, refl, subst, sym, ◌∙◌}
-use Rattle.std.proofs.lemmas.Bool.{cond-false, cond-true, or_parts}
+use Rattle.std.proofs.Common.{ap, arith, get_or, refl, sym, ◌∙◌}
+use Rattle.std.proofs.lemmas.Bool.{cond-false, or_parts}
 use Rattle.std.specs.Borrow.{Bor}
 use Rattle.std.specs.List.{filter, list_any}
-use Rattle.std.specs.Prelude.{Bool, List, [], cond, false, length, not, suc, true, ℕ, ◌+◌, ◌<◌, ◌∷◌, ◌||◌, ◌≡◌, ◌≢◌, ◌≤◌}
+use Rattle.std.specs.Prelude.{Bool, List, [], cond, false, length, not, true, ◌<◌, ◌∷◌, ◌||◌, ◌≡◌, ◌≢◌, ◌≤◌}
 
 without_same : (rs : List (Record RData)) (p : Record RData → Bool) → ((x : Record RData) → p x ≡ not (has_data_of_one rs x)) → (xs : List (Record RData))
     → filter p xs ≡ without rs xs

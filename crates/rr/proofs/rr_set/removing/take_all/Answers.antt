@@ -3,7 +3,7 @@ use Rattle.base_data.specs.declared.rdata.RData.{RData}
 use Rattle.rr.proofs.WithoutSteps.{without_only, without_sorted}
 use Rattle.rr.proofs.rr_set.removing.take_all.Goals as goal
 use Rattle.rr.specs.declared.record.Record.{Record}
-use Rattle.std.proofs.Common.{Bor, arith, not, rules, ◌∙◌}
+use Rattle.std.proofs.Common.{Bor, not, rules, ◌∙◌}
 use Rattle.std.proofs.lemmas.Fn.{filter_same}
 use Rattle.std.specs.List.{list_any}
 
