@@ -9,9 +9,9 @@ from common import ROOT
 
 SOURCES = os.path.join(ROOT, "scripts", "measuring")
 
-# the crates below the program that loops over its input, and those above them up to `dnsmsg`
+# the crates below the program that loops over its input, and those between them and `dnsmsg` or `capi`
 BELOW = ["base", "base_data", "rr", "op", "txt"]
-ABOVE = ["op_use", "parsed_zone", "dnsmsg"]
+BETWEEN = ["op_use", "parsed_zone"]
 
 
 def copy_commit(root, copy):
@@ -24,6 +24,13 @@ def copy_kept(root, copy, crates):
     for crate in crates:
         if os.path.isdir(f"{root}/crates/{crate}/out"):
             shutil.copytree(f"{root}/crates/{crate}/out", f"{copy}/crates/{crate}/out")
+
+
+def run_or_end(command, folder):
+    """Runs a command in a folder, and ends with what it said where it fails."""
+    ran = subprocess.run(command, cwd=folder, stdin=subprocess.DEVNULL, capture_output=True, text=True, check=False)
+    if ran.returncode:
+        sys.exit(ran.stdout + ran.stderr)
 
 
 def built(crate, name, words):
@@ -64,6 +71,20 @@ def allocations(program, words, given):
     said, _ = under(["--tool=memcheck", "--leak-check=no"], program, words, given)
     times, size = re.search(r"total heap usage: ([\d,]+) allocs, .* ([\d,]+) bytes allocated", said).groups()
     return int(times.replace(",", "")), int(size.replace(",", ""))
+
+
+def of_one(program, what, given, times):
+    """Instructions of one of the loops over this input, of so many that are counted; nothing of what is refused."""
+    once, printed = instructions(program, [what, "1"], given)
+    if int(printed) <= 0:
+        return None
+    return round((instructions(program, [what, str(1 + times)], given)[0] - once) / times)
+
+
+def memory_of_one(program, what, given):
+    """How often one of the loops asked for memory or let some grow, and for how many bytes in all."""
+    few, many = (allocations(program, [what, times], given) for times in ("1", "3"))
+    return [(after - before) / 2 for before, after in zip(few, many)]
 
 
 def most_bytes(program, words, given):

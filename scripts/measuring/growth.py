@@ -5,7 +5,7 @@ import sys
 import messages
 import updates
 import zones
-from counting import instructions, most_bytes, seconds
+from counting import instructions, most_bytes, of_one, seconds
 
 PARTS = ["text", "messages", "updates", "checkers"]
 GOAL = 2.3
@@ -78,10 +78,7 @@ def measure_messages(program):
     right = True
     for what, shapes in (("read", READ), ("write", WRITTEN)):
         for name, size, make in shapes:
-            counts = []
-            for given in (make(size * 1024 - 4), make(2 * size * 1024 - 4)):
-                once, thrice = (instructions(program, [what, times], given)[0] for times in ("1", "3"))
-                counts.append((thrice - once) // 2)
+            counts = [of_one(program, what, make(twice * size * 1024 - 4), 2) for twice in (1, 2)]
             right = line(f"{what}: {name}", [len(make(size * 1024 - 4))], counts) and right
     return right
 

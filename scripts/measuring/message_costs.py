@@ -1,27 +1,52 @@
-"""What reading and writing a message cost."""
-from counting import allocations, instructions
-from messages import all_messages
+"""What reading and writing a message cost, beside trust-dns-proto."""
+from statistics import geometric_mean
+
+from counting import memory_of_one, of_one
+from messages import ORDINARY, all_messages
 
 NAMES = [name for name, *_ in all_messages()]
+ORDINARY_NAMES = [make.__name__ for make in ORDINARY]
+SHOWN = [*ORDINARY_NAMES, "chained64", "bare64", "plain64", "owners16"]
+
+# what is measured, its heading, and how many times the instructions of the other library it may take
+MEASURED = [("read", "Read", 0.65), ("write", "Written", 0.45)]
+HEADINGS = ["Instructions", "of trust-dns", "Ratio", "Allocations", "of trust-dns", "Bytes allocated", "of trust-dns"]
 
 
-def costs(program, message, what, times):
-    """Instructions, allocations and bytes allocated of one loop, and what one loop printed."""
-    one, printed = instructions(program, [what, "1"], message)
-    more, _ = instructions(program, [what, str(1 + times)], message)
-    few, many = (allocations(program, [what, loops], message) for loops in ("1", "3"))
-    return f"{(more - one) / times:.0f} {(many[0] - few[0]) / 2:.1f} {(many[1] - few[1]) / 2:.0f}", printed.strip()
+def costs(program, what, message, times):
+    """Instructions, allocations and bytes allocated of one loop; nothing of what is refused or of no program."""
+    count = program and of_one(program, what, message, times)
+    return count and [count, *memory_of_one(program, what, message)]
 
 
-def measure(program, names):
-    """Prints what each of these messages costs, or each of all, by the program that loops over its input."""
-    print("message bytes | reading: instructions, allocations, bytes | writing: the same | the names' memory: the same",
-          flush=True)
-    for name, message, times in all_messages():
-        if names and name not in names:
-            continue
-        line = []
-        for what in ("read", "write", "memory"):
-            cost, printed = costs(program, message, what, times)
-            line.append(cost if printed != b"0" or what == "memory" else f"{cost} (refused)")
-        print(name, len(message), "|", " | ".join(line), flush=True)
+def cells(own, other):
+    """The cells of two costs, one beside the other in each."""
+    return [cell for pair in zip(own or [None] * 3, other or [None] * 3)
+            for cell in (f"{count:,.0f}" if count else "-" for count in pair)]
+
+
+def table(program, trust_dns, messages, what, heading, goal):
+    """Prints a row for each message, and the geometric mean of the ratios of the ordinary ones."""
+    print(f"| {heading} | Bytes |", " | ".join(HEADINGS), "|")
+    print("|---" * (2 + len(HEADINGS)) + "|", flush=True)
+    ratios = {}
+    for name, message, times in messages:
+        own, other = (costs(one, what, message, times) for one in (program, trust_dns))
+        if own and other:
+            ratios[name] = own[0] / other[0]
+        first, second, *rest = cells(own, other)
+        ratio = f"{ratios[name]:.2f}" + (f", above {goal}" if ratios[name] > goal else "") if name in ratios else "-"
+        print("|", " | ".join([f"`{name}`", f"{len(message):,}", first, second, ratio, *rest]), "|", flush=True)
+    if ordinary := [ratio for name, ratio in ratios.items() if name in ORDINARY_NAMES]:
+        print(f"| geometric mean of the {len(ordinary)} ordinary | | | | {geometric_mean(ordinary):.2f} | | | | |")
+    print()
+
+
+def measure(program, trust_dns, names):
+    """Prints what each of these messages costs, or each of those in docs/SPEED.md."""
+    messages = [one for one in all_messages() if one[0] in (names or SHOWN)]
+    for what, heading, goal in MEASURED:
+        table(program, trust_dns, messages, what, heading, goal)
+    for name, message, times in messages:
+        if memory := of_one(program, "memory", message, times):
+            print(f"`{name}`: {memory:,} instructions for the memory of the questions' names alone", flush=True)

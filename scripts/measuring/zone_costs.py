@@ -1,5 +1,5 @@
 """What a record of a zone costs."""
-from counting import ABOVE, BELOW, built, copy_commit, copy_kept, instructions
+from counting import BELOW, BETWEEN, built, copy_commit, copy_kept, instructions
 
 # how many addresses a zone has
 ZONES = {"zone1000": 1_000, "zone10000": 10_000}
@@ -14,7 +14,7 @@ def zone(count):
 def measure(root, copy, names):
     """Prints what a record costs of each of these zones, or of each of all, by a copy of the last commit."""
     copy_commit(root, copy)
-    copy_kept(root, copy, BELOW + ABOVE)
+    copy_kept(root, copy, [*BELOW, *BETWEEN, "dnsmsg"])
     program = built(f"{copy}/crates/dnsmsg", "dnsmsg", ["header"])
     print("zone | instructions a record", flush=True)
     for name, count in ZONES.items():
