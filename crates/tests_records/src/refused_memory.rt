@@ -1,9 +1,9 @@
 use crate::rows::Datum::{self, Address, Start, Text};
 use crate::rows::Row;
-use crate::sets::{Call, Step, is_right, leaves, set_of};
+use crate::sets::{Call, Step, is_right, leaves, records, set_of};
 use base::DNSClass::IN;
 use base::RecordType::{self, A, CNAME, NS, SOA};
-use rr::RecordSet;
+use rr::{Record, RecordSet};
 use std::alloc::Global;
 use std::test::Fail;
 
@@ -147,5 +147,28 @@ fn addresses_are_put_in_by_an_index(rt: HostRuntime) -> Result<(), Fail> {
         drop(set);
         assert!(rt; filled?);
     }
+    Ok(())
+}
+
+/// Whether data is taken out of the set. Where memory is refused, the set has to be what it was.
+fn parts(set: &mut RecordSet, gone: &[Record]) -> Result<bool, Fail> {
+    let before = set.clone()?;
+    match set.take_data(gone) {
+        Ok(went) => Ok(went && set.records_count() == 1),
+        Err(e) if *set == before => Err(e.into()),
+        Err(_) => Ok(false),
+    }
+}
+
+#[test]
+fn data_is_taken_out_at_once(rt: HostRuntime) -> Result<(), Fail> {
+    let rows = [
+        (Address(0), IN, 5),
+        (Address(1), IN, 5),
+        (Address(2), IN, 5),
+    ];
+    let mut set = set_of(rt.alloc(), A, (5, 0, &rows))?;
+    let gone = records(rt.alloc(), &rows[1..])?;
+    assert!(rt; parts(&mut set, &gone)?);
     Ok(())
 }

@@ -41,7 +41,7 @@ pub(crate) type Step = (Call, Row, u32, bool);
 pub(crate) type Shape = (u32, u32, &'static [Row]);
 
 /// The records of these rows.
-fn records(alloc: Global, rows: &[Row]) -> Result<Vec<Record>, ParseError> {
+pub(crate) fn records(alloc: Global, rows: &[Row]) -> Result<Vec<Record>, ParseError> {
     let mut records = Vec::new(alloc);
     for &row in rows {
         records.push(record(alloc, OWNER, row)?)?;
@@ -138,10 +138,7 @@ fn lent(set: &mut RecordSet, call: Call, entry: &Record, serial: u32) -> Result<
             set.renew(entry.clone()?)?;
             Ok(true)
         }
-        Call::Part => {
-            set.take_data(entry);
-            Ok(true)
-        }
+        Call::Part => Ok(set.take_data(&[entry.clone()?])?),
     }
 }
 

@@ -42,11 +42,7 @@ fn take(rows: &mut Vec<Row>, number: u16) -> bool {
 fn answer(rows: &mut Vec<Row>, call: Call, number: u16, ttl: u32) -> Result<bool, AllocError> {
     match call {
         Call::Insert => put(rows, number, ttl),
-        Call::Remove => Ok(take(rows, number)),
-        Call::Part => {
-            take(rows, number);
-            Ok(true)
-        }
+        Call::Remove | Call::Part => Ok(take(rows, number)),
         _ => {
             put(rows, number, ttl)?;
             Ok(true)
@@ -149,5 +145,57 @@ fn many_records_are_renewed(rt: HostRuntime) -> Result<(), Fail> {
         (Call::Part, 0, 0, 1100),
     ];
     assert!(rt; agree_from_nothing(rt.alloc(), &changes)?);
+    Ok(())
+}
+
+/// Takes the addresses of a range out of the set at once, and out of a plain list one by one: whether both answer alike
+/// and leave the same.
+fn part_alike(
+    alloc: Global,
+    set: &mut RecordSet,
+    rows: &mut Vec<Row>,
+    (from, to): (u16, u16),
+) -> Result<bool, Fail> {
+    let mut gone = Vec::new(alloc);
+    let mut wanted = false;
+    for number in from..to {
+        gone.push((Datum::Address(number), DNSClass::NONE, 0))?;
+        wanted = take(rows, number) || wanted;
+    }
+    let went = set.take_data(&records(alloc, &gone)?)?;
+    Ok(went == wanted && ends_as(alloc, set, rows)? && shows(alloc, set, rows)?)
+}
+
+#[test]
+fn many_are_taken_out_at_once(rt: HostRuntime) -> Result<(), Fail> {
+    let mut rows = Vec::new(rt.alloc());
+    for number in 0..2000u16 {
+        rows.push((Datum::Address(number), DNSClass::IN, u32::from(number)))?;
+    }
+    let mut set = set_of(rt.alloc(), RecordType::A, (1999, 0, &rows))?;
+    for run in [
+        (3000, 3002),
+        (0, 1),
+        (100, 900),
+        (100, 900),
+        (1990, 2010),
+        (950, 950),
+        (1, 2000),
+    ] {
+        assert!(rt;
+            part_alike(rt.alloc(), &mut set, &mut rows, run)?,
+            "{run:?}"
+        );
+    }
+    Ok(())
+}
+
+#[test]
+fn a_set_that_loses_nothing_keeps_its_ttl(rt: HostRuntime) -> Result<(), Fail> {
+    let rows = [(Datum::Address(0), DNSClass::IN, 60)];
+    let mut set = set_of(rt.alloc(), RecordType::A, (5, 0, &rows))?;
+    let other = records(rt.alloc(), &[(Datum::Address(1), DNSClass::NONE, 0); 2])?;
+    assert_eq!(rt; set.take_data(&other)?, false);
+    assert_eq!(rt; set.ttl(), 5);
     Ok(())
 }
