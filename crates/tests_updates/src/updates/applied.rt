@@ -116,3 +116,77 @@ fn sets_are_asked_for_by_value(rt: HostRuntime) -> Result<(), Fail> {
     }
     Ok(())
 }
+
+/// The start of `example.` with two name servers, two addresses of `www.example.` and one of `ftp.example.`.
+const SERVERS: &str =
+    "@ 3600 SOA ns hostmaster 1 2 3 4 5\n@ NS ns\n@ NS ns2\nwww 300 A 192.0.2.1\nwww 300 A 192.0.2.2\nftp 300 A 192.0.2.1\n";
+
+/// An update of `example.` up to its number of updates, and the zone section after it.
+const DELETES: &str = "0007 2800 0001 0000 ";
+
+const OF_ZONE: &str = " 0000 076578616D706C65 00 0006 0001";
+
+/// Deletions of data: of addresses by their last byte, and of both name servers.
+const NOT_WWW_1: &str = " 03777777 C00C 0001 00FE 00000000 0004 C0000201";
+
+const NOT_WWW_2: &str = " 03777777 C00C 0001 00FE 00000000 0004 C0000202";
+
+const NOT_WWW_3: &str = " 03777777 C00C 0001 00FE 00000000 0004 C0000203";
+
+const NOT_FTP_1: &str = " 03667470 C00C 0001 00FE 00000000 0004 C0000201";
+
+const NOT_NS: &str = " C00C 0002 00FE 00000000 0005 026E73 C00C";
+
+const NOT_NS_2: &str = " C00C 0002 00FE 00000000 0006 036E7332 C00C";
+
+/// How many records the sets of `www.example.`, `ftp.example.` and the name servers have.
+const SETS: [(&'static str, RecordType); 3] = [
+    ("www.example.", RecordType::A),
+    ("ftp.example.", RecordType::A),
+    ("example.", RecordType::NS),
+];
+
+/// Deletions that follow one another, and how many records are left in each of the sets (RFC 2136, 3.4.2.4).
+const LEFT: &[(&'static [&'static str], [usize; 3])] = &[
+    (&[DELETES, "0002", OF_ZONE, NOT_WWW_1, NOT_WWW_2], [0, 1, 2]),
+    (
+        &[DELETES, "0003", OF_ZONE, NOT_WWW_1, NOT_WWW_2, NOT_FTP_1],
+        [0, 0, 2],
+    ),
+    (
+        &[DELETES, "0003", OF_ZONE, NOT_WWW_1, NOT_FTP_1, NOT_WWW_1],
+        [1, 0, 2],
+    ),
+    (&[DELETES, "0002", OF_ZONE, NOT_WWW_3, NOT_WWW_3], [2, 1, 2]),
+    // what is added between two deletions goes with the second
+    (
+        &[DELETES, "0003", OF_ZONE, NOT_WWW_1, WWW_1, NOT_WWW_1],
+        [1, 1, 2],
+    ),
+    // the last name server stays
+    (&[DELETES, "0002", OF_ZONE, NOT_NS, NOT_NS_2], [2, 1, 1]),
+    (
+        &[DELETES, "0003", OF_ZONE, NOT_NS, NOT_NS, NOT_NS_2],
+        [2, 1, 1],
+    ),
+];
+
+/// How many records each set has after an update.
+fn counts_after(alloc: Global, update: &[&str]) -> Result<[usize; 3], Fail> {
+    let (_, sets) = applied(alloc, SERVERS, update)?;
+    let mut counts = [0; 3];
+    for (i, &(owner, record_type)) in SETS.iter().enumerate() {
+        let owner = Name::parse(alloc, owner, None)?;
+        let key = RrKey::new(LowerName::new(alloc, &owner)?, record_type);
+        counts[i] = sets.get(&key).map_or(0, |set| set.records_count());
+    }
+    Ok(counts)
+}
+
+#[test]
+fn deletions_follow_one_another(rt: HostRuntime) -> Result<(), Fail> {
+    for (i, &(update, left)) in LEFT.iter().enumerate() {
+        assert!(rt; counts_after(rt.alloc(), update)? == left, "row {i}");
+    }
+    Ok(())
+}
