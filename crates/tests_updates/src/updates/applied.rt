@@ -139,14 +139,8 @@ const NOT_NS: &str = " C00C 0002 00FE 00000000 0005 026E73 C00C";
 
 const NOT_NS_2: &str = " C00C 0002 00FE 00000000 0006 036E7332 C00C";
 
-/// How many records the sets of `www.example.`, `ftp.example.` and the name servers have.
-const SETS: [(&'static str, RecordType); 3] = [
-    ("www.example.", RecordType::A),
-    ("ftp.example.", RecordType::A),
-    ("example.", RecordType::NS),
-];
-
-/// Deletions that follow one another, and how many records are left in each of the sets (RFC 2136, 3.4.2.4).
+/// Deletions that follow one another, and how many addresses of `www.example.` and of `ftp.example.` and name servers are
+/// left (RFC 2136, 3.4.2.4).
 const LEFT: &[(&'static [&'static str], [usize; 3])] = &[
     (&[DELETES, "0002", OF_ZONE, NOT_WWW_1, NOT_WWW_2], [0, 1, 2]),
     (
@@ -171,16 +165,26 @@ const LEFT: &[(&'static [&'static str], [usize; 3])] = &[
     ),
 ];
 
+/// How many records the set of an owner and a type has.
+fn count(
+    alloc: Global,
+    sets: &BTreeMap<RrKey, RecordSet>,
+    owner: &str,
+    record_type: RecordType,
+) -> Result<usize, Fail> {
+    let owner = Name::parse(alloc, owner, None)?;
+    let key = RrKey::new(LowerName::new(alloc, &owner)?, record_type);
+    Ok(sets.get(&key).map_or(0, |set| set.records_count()))
+}
+
 /// How many records each set has after an update.
 fn counts_after(alloc: Global, update: &[&str]) -> Result<[usize; 3], Fail> {
     let (_, sets) = applied(alloc, SERVERS, update)?;
-    let mut counts = [0; 3];
-    for (i, &(owner, record_type)) in SETS.iter().enumerate() {
-        let owner = Name::parse(alloc, owner, None)?;
-        let key = RrKey::new(LowerName::new(alloc, &owner)?, record_type);
-        counts[i] = sets.get(&key).map_or(0, |set| set.records_count());
-    }
-    Ok(counts)
+    Ok([
+        count(alloc, &sets, "www.example.", RecordType::A)?,
+        count(alloc, &sets, "ftp.example.", RecordType::A)?,
+        count(alloc, &sets, "example.", RecordType::NS)?,
+    ])
 }
 
 #[test]
