@@ -1,9 +1,6 @@
 -- Deletions of data of one set, one after the other.
-use Rattle.base.specs.Labels.{NameValue}
 use Rattle.base.specs.RrKey.{key_cmp}
-use Rattle.base.specs.declared.dns_class.DNSClass.{DNSClass}
 use Rattle.base.specs.declared.rr_key.RrKey.{RrKey}
-use Rattle.base_data.specs.SameData.{same_data}
 use Rattle.base_data.specs.declared.rdata.RData.{RData}
 use Rattle.op_use.proofs.AppliedData.{Distinct, distinct_parted, parted_data}
 use Rattle.op_use.proofs.MapSteps.{taken_more}
@@ -20,8 +17,8 @@ use Rattle.rr.specs.SetChanges.{has_data_of}
 use Rattle.rr.specs.SetUpdates.{has_data_of_one, with_records, without, without_data}
 use Rattle.rr.specs.declared.record.Record.{Record}
 use Rattle.std.proofs.Common.{ap, inl, inr, refl, subst, sym, ◌∙◌, ◌⊎◌}
-use Rattle.std.proofs.lemmas.Bool.{and_parts, cond-false, or_parts}
-use Rattle.std.specs.List.{AllByRecursion, IsAmong, filter, fold, list_any}
+use Rattle.std.proofs.lemmas.Bool.{and_parts, cond-false}
+use Rattle.std.specs.List.{AllByRecursion, IsAmong, fold, list_any}
 use Rattle.std.specs.Ordering.{eq_by_cmp}
 use Rattle.std.specs.Prelude.{Bool, List, [], cond, false, length, map, nat_le, not, slice_index_or, take, true, ℕ, ◌&&◌, ◌++◌, ◌+◌, ◌<◌, ◌||◌, ◌∷◌, ◌≡◌}
 

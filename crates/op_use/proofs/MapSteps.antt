@@ -7,11 +7,11 @@ use Rattle.base.specs.declared.dns_class.DNSClass.{DNSClass}
 use Rattle.base.specs.declared.record_type.RecordType.{RecordType}
 use Rattle.base.specs.declared.rr_key.RrKey.{RrKey}
 use Rattle.base_data.specs.declared.rdata.RData.{RData}
-use Rattle.op_use.proofs.AppliedData.{Distinct, distinct_joined, distinct_one, distinct_parted}
+use Rattle.op_use.proofs.AppliedData.{Distinct, distinct_joined, distinct_one}
 use Rattle.op_use.proofs.MapZones.{zone_puts}
-use Rattle.op_use.proofs.Origins.{From, back_among, front_among}
+use Rattle.op_use.proofs.Origins.{back_among, front_among}
 use Rattle.op_use.proofs.ZoneSteps.{same_key, tied}
-use Rattle.op_use.specs.AppliedRecords.{after_update, parted, records_after}
+use Rattle.op_use.specs.AppliedRecords.{after_update, records_after}
 use Rattle.op_use.specs.Applying.{IsZoneMap, IsZoneSet, TakesFrom, TakesTtls, names_owner, records_at, records_in, zone_of_map}
 use Rattle.op_use.specs.MapUpdates.{IsAfter, IsSetTo}
 use Rattle.op_use.specs.NamedChanges.{datum_of}

@@ -9,13 +9,12 @@ use Rattle.base_data.specs.declared.rdata.RData.{RData}
 use Rattle.op_use.proofs.AppliedData.{joined_data, parted_data}
 use Rattle.op_use.proofs.Deletions.{from_without, own, records_left, removed_data, without_one, zone_left}
 use Rattle.op_use.proofs.Deleted.{deleted_is}
-use Rattle.op_use.proofs.MapIsZone.{zone_is}
 use Rattle.op_use.proofs.MapSteps.{moved, own_key, same_after, set_after}
 use Rattle.op_use.proofs.MapZones.{data_at, get_zone}
 use Rattle.op_use.proofs.Origins.{from_joined, from_none, from_one, from_parted, none_among}
 use Rattle.op_use.proofs.SpelledSteps.{alias_comes, alias_kept_out, beside_kept_out, guarded_stays, name_goes}
 use Rattle.op_use.proofs.SpelledSteps.{needed_stays, own_at, nothing_changes, other_comes, other_parts, set_goes}
-use Rattle.op_use.proofs.ZoneSteps.{put_same, same_key, same_sets}
+use Rattle.op_use.proofs.ZoneSteps.{same_sets}
 use Rattle.op_use.specs.Applying.{IsZoneMap, data_of, records_at, records_in, zone_of_map}
 use Rattle.op_use.specs.AppliedRecords.{parted}
 use Rattle.op_use.specs.MapUpdates.{IsAfter, IsSetTo, Leaves, is_deletion}
@@ -34,8 +33,7 @@ use Rattle.std.specs.BTreeMap.{BTreeMap}
 use Rattle.std.specs.FinMap as fin
 use Rattle.std.specs.FinMap.{FinMap}
 use Rattle.std.specs.List.{AllByRecursion, IsAmong, fold}
-use Rattle.std.specs.Ordering.{eq_by_cmp}
-use Rattle.std.specs.Prelude.{Bool, List, None, Option, Some, [], cond, false, length, map, nat_le, not, option_map, true, ◌&&◌, ◌||◌, ◌∷◌, ◌≡◌}
+use Rattle.std.specs.Prelude.{Bool, List, None, Option, Some, [], cond, false, length, nat_le, not, option_map, true, ◌&&◌, ◌||◌, ◌∷◌, ◌≡◌}
 
 -- whether a record stays, by the map's records
 pub counted : (origin : NameValue) (class : DNSClass) (m : BTreeMap RrKey SetValue) (r : Record RData) → is_needed (zone_of_map origin class m) r

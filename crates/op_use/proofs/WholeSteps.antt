@@ -4,7 +4,7 @@ use Rattle.base.specs.RrKey.{key_cmp}
 use Rattle.base.specs.declared.dns_class.DNSClass.{DNSClass}
 use Rattle.base.specs.declared.rr_key.RrKey.{RrKey}
 use Rattle.base_data.specs.declared.rdata.RData.{RData}
-use Rattle.op.specs.declared.response_code.ResponseCode.TheVariants.{NXRRSet, NoError, NotImp}
+use Rattle.op.specs.declared.response_code.ResponseCode.TheVariants.{NoError, NotImp}
 use Rattle.op.specs.declared.response_code.ResponseCode.{ResponseCode}
 use Rattle.op_use.proofs.AppliedData.{any_data}
 use Rattle.op_use.proofs.MapZones.{data_at}
@@ -13,9 +13,9 @@ use Rattle.op_use.specs.Applying.{entry_of, IsApplied, IsZoneMap, applied, is_al
 use Rattle.op_use.specs.MapFaults.{is_by_value, listed_under, there_under}
 use Rattle.op_use.specs.MapUpdates.{IsAfter}
 use Rattle.op_use.specs.NamedChanges.{datum_of, is_data_of}
-use Rattle.op_use.specs.Server.{Fault, Sections, and_then, answer, collected, fault, first_fault, is_met}
-use Rattle.op_use.specs.Server.{is_of_zone, is_same_key, prerequisite_fault, prescan_fault, record_key}
-use Rattle.op_use.specs.Server.{unless, update, use_of, zone_fault}
+use Rattle.op_use.specs.Server.{Fault, Sections, answer, collected, fault, is_met}
+use Rattle.op_use.specs.Server.{is_of_zone, is_same_key, record_key}
+use Rattle.op_use.specs.Server.{update, use_of}
 use Rattle.op_use.specs.Zone.{Datum}
 use Rattle.rr.specs.RecordSet.{SetValue}
 use Rattle.rr.specs.SetChanges.{has_data_of}

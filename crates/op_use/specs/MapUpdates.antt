@@ -20,7 +20,7 @@ use Rattle.std.specs.BTreeMap as tree
 use Rattle.std.specs.BTreeMap.{BTreeMap}
 use Rattle.std.specs.List.{IsDistinct, fold}
 use Rattle.std.specs.Ordering.{eq_by_cmp, on}
-use Rattle.std.specs.Prelude.{Bool, List, None, Option, Some, cond, false, not, true, ◌&&◌, ◌||◌, ◌≡◌, ◌⊎◌}
+use Rattle.std.specs.Prelude.{Bool, List, None, Option, Some, cond, false, not, true, ◌&&◌, ◌≡◌, ◌⊎◌}
 
 -- the new map is the old one after the updates rs
 pub record IsAfter (origin : NameValue) (class : DNSClass) (rs : List (Record RData)) (old new : BTreeMap RrKey SetValue) : Type 0 where

@@ -1,5 +1,4 @@
 use Rattle.base.specs.RrKey.{key_cmp, key_of}
-use Rattle.base.specs.declared.rr_key.RrKey.{RrKey}
 use Rattle.op_use.proofs.ListedSteps.{AreComplete, all_done, all_next, complete_at, complete_is, known_more, not_listed, not_there, one_fails, passed, passes, there_is}
 use Rattle.op_use.proofs.WholeSteps.{all_met_same}
 use Rattle.op_use.proofs.apply.zone.Zone.are_met.Goals as goal
