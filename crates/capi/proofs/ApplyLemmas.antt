@@ -1,5 +1,5 @@
 -- What an update makes of the zone of a text.
-use Rattle.std.proofs.Common.{Err, List, Ok, Result, ap, inl, inr, ℕ, ◌≡◌, ◌⊎◌, ◌∙◌}
+use Rattle.std.proofs.Common.{Err, List, Ok, ap, inl, inr, ℕ, ◌≡◌, ◌⊎◌, ◌∙◌}
 use Rattle.base.specs.Labels.{NameValue}
 use Rattle.op.proofs.MessageStands.{message_again}
 use Rattle.op.specs.Message.{IsMessageAt, MessageValue}

@@ -5,8 +5,6 @@ use Rattle.base.specs.NameOf.{name_of}
 use Rattle.base.specs.NameOrder.{is_zone_of}
 use Rattle.base.specs.RecordType.{type_of}
 use Rattle.base.specs.declared.dns_class.DNSClass.TheVariants as classes
-use Rattle.base.specs.declared.rr_key.RrKey.{RrKey}
-use Rattle.base_data.specs.declared.rdata.RData.{RData}
 use Rattle.op.specs.Message.{MessageValue}
 use Rattle.op.specs.MessageWritten.{message_answer}
 use Rattle.op_use.specs.UpdateMessage.{append, compare_and_swap, create, delete_all, delete_by_rdata, delete_rrset, empty_record, transfer_message, update_message}
