@@ -8,7 +8,7 @@ use Rattle.dnsmsg.proofs.apply_command.apply.Goals as goal
 
 pub returns-in_err-name : goal.returns-in_err-name
 returns-in_err-name c =
-    let p = err_from_is_err_and c.from_residual-in_err-name.result c.from_residual-in_err-name.ensures.1 in
+    let p = err_from_is_err_and c.from_residual.result c.from_residual.ensures.1 in
     rw (p.1, p.2) (text_refused (message_value c.args.message.now) c.args.origin c.args.text.now (zone_number c.in_err-name.field-0.0) c.in_err-name.ensures.zone)
 
 pub returns-in_err-lines_after : goal.returns-in_err-lines_after
