@@ -1,6 +1,4 @@
 mod AnswerLemmas
-mod AppliedLines
 mod ApplyLemmas
 mod MessageLemmas
 mod TextLemmas
-mod UpdateLemmas

@@ -4,9 +4,7 @@ use Rattle.std.specs.declared.alloc.Global.{Global}
 use Rattle.base.specs.DecodeError.{decode_number}
 use Rattle.base.specs.ProtoError.{proto_number}
 use Rattle.base.specs.Reading.{Read}
-use Rattle.base.specs.TextFaults.{Fault}
 use Rattle.base.specs.declared.error.proto_error.ProtoError.{ProtoError}
-use Rattle.parsed_zone.specs.Faults.{fault_number}
 use Rattle.capi.specs.declared.refusal.Refusal.{Refusal}
 
 -- what a call is asked for, or the number of its refusal
@@ -30,11 +28,6 @@ read (Err fault) = Err (decode_number fault)
 abbrev pub place_after : {A : Type 0} → Read A → Asked ℕ
 place_after (Ok (x, end)) = Ok end
 place_after (Err fault) = Err (decode_number fault)
-
--- what zone text defines
-abbrev pub parsed : {A : Type 0} → Result A Fault → Asked A
-parsed (Ok x) = Ok x
-parsed (Err fault) = Err (fault_number fault)
 
 -- what is written of a message
 abbrev pub written : {A : Type 0} → Result A ProtoError → Asked A

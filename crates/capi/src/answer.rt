@@ -39,7 +39,7 @@ pub fn number(made: Result<usize, Refusal>) -> i64
     }
 }
 
-// Puts bytes at the front of a buffer.
+/// Puts bytes at the front of a buffer.
 fn put(bytes: &[u8], out: &mut [u8])
     requires { length bytes.now ≤ length out.old }
     ensures { out.new ≡ bytes.now ++ drop (length bytes.now) out.old }
@@ -48,6 +48,7 @@ fn put(bytes: &[u8], out: &mut [u8])
     front.copy_from_slice(bytes);
 }
 
+/// A length as it is answered.
 fn length(len: usize) -> i64
     requires { len < 2 ^ 63 }
     ensures { result ≡ pos len }
@@ -55,6 +56,7 @@ fn length(len: usize) -> i64
     len as i64
 }
 
+/// A refusal as it is answered.
 fn refused(refusal: Refusal) -> i64
     ensures { result ≡ neg_ℤ (pos refusal.number) }
 {

@@ -13,7 +13,7 @@ use std::alloc::Global;
 
 /// The fields of a header, its counts among them.
 #[repr(C)]
-#[derive(Clone, Copy, Drop)]
+#[derive(Drop)]
 pub struct HeaderNumbers {
     /// The id.
     pub id: u16,
@@ -64,12 +64,14 @@ pub extern "C" fn fuzsbanel_header(alloc: Global, message: &[u8], header: &mut H
     }
 }
 
+/// The header that the bytes begin with.
 fn read(alloc: Global, bytes: &[u8]) -> Result<Header, Refusal>
     ensures { Makes (λ header. header) (header_of bytes.now) result }
 {
     Ok(Header::read(&mut BinDecoder::new(alloc, bytes))?)
 }
 
+/// The fields of a header as numbers.
 fn numbers(header: &Header) -> HeaderNumbers
     ensures { result ≡ numbers_of header.now }
 {
@@ -92,6 +94,7 @@ fn numbers(header: &Header) -> HeaderNumbers
     }
 }
 
+/// Whether the bit QR is set.
 fn is_response(message_type: MessageType) -> bool
     ensures { result ≡ is_response message_type }
 {

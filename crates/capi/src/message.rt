@@ -65,7 +65,7 @@ pub extern "C" fn fuzsbanel_text(
     give(text(alloc, message), out, needed)
 }
 
-// The place after the message that the bytes begin with.
+/// The place after the message that the bytes begin with.
 fn end(alloc: Global, bytes: &[u8]) -> Result<usize, Refusal>
     ensures made { Makes (λ n. n) (end_of bytes.now) result }
     ensures addressable { IfOk result (λ n. n < 2 ^ 63) }
@@ -75,7 +75,7 @@ fn end(alloc: Global, bytes: &[u8]) -> Result<usize, Refusal>
     Ok(decoder.index())
 }
 
-// The bytes of a cut of the message that the bytes begin with.
+/// The bytes of a cut of the message that the bytes begin with.
 fn cut(alloc: Global, bytes: &[u8], limit: u16) -> Result<Vec<u8>, Refusal>
     ensures exact { Makes (λ sent. sent.items) (cut_of bytes.now limit) result }
     ensures cut { IfOk result (λ sent. IsCutOf bytes.now limit sent.items) }
@@ -84,7 +84,7 @@ fn cut(alloc: Global, bytes: &[u8], limit: u16) -> Result<Vec<u8>, Refusal>
     Ok(written(alloc, &message, limit)?)
 }
 
-// The bytes of the message under a limit.
+/// The bytes of the message under a limit.
 fn written(alloc: Global, message: &Message, limit: u16) -> Result<Vec<u8>, ProtoError>
     requires { Fits (message_value message.now) }
     ensures ok { IfOk result (λ bytes. IsWritten (message_value message.now) limit bytes.items) }
@@ -102,7 +102,7 @@ fn written(alloc: Global, message: &Message, limit: u16) -> Result<Vec<u8>, Prot
     Ok(bytes)
 }
 
-// The text of the message that the bytes begin with.
+/// The text of the message that the bytes begin with.
 fn text(alloc: Global, bytes: &[u8]) -> Result<Vec<u8>, Refusal>
     ensures { Makes (λ text. text.items) (text_of bytes.now) result }
 {

@@ -4,12 +4,14 @@ ghost use Rattle.std.specs.Prelude.{◌≡◌};
 ghost use Rattle.base.specs.DecodeError.{decode_number};
 ghost use Rattle.base.specs.ParseError.{parse_number};
 ghost use Rattle.base.specs.ProtoError.{proto_number};
+ghost use Rattle.parsed_zone.specs.Faults.{zone_number};
 
 use base::{DecodeError, ParseError, ProtoError};
+use parsed_zone::ZoneRefusal;
 use std::alloc::AllocError;
 
 /// A refusal, as C sees it.
-#[derive(Clone, Copy, Drop)]
+#[derive(Drop)]
 pub struct Refusal {
     /// Its number (docs/REFUSALS.md).
     pub number: u8,
@@ -18,8 +20,6 @@ pub struct Refusal {
 impl Refusal {
     /// The text or the set isn't what the call takes.
     pub const INPUT: Refusal = Refusal { number: 24 };
-    /// A set or a record of the zone isn't of the class IN.
-    pub const CLASS: Refusal = Refusal { number: 25 };
 }
 
 impl From<AllocError> for Refusal {
@@ -50,6 +50,14 @@ impl From<ParseError> for Refusal {
     ghost from_gives = { λ e refusal. refusal.number ≡ parse_number e };
 
     fn from(e: ParseError) -> Refusal {
+        Refusal { number: e.number() }
+    }
+}
+
+impl From<ZoneRefusal> for Refusal {
+    ghost from_gives = { λ e refusal. refusal.number ≡ zone_number e };
+
+    fn from(e: ZoneRefusal) -> Refusal {
         Refusal { number: e.number() }
     }
 }

@@ -10,6 +10,7 @@ mod built;
 mod sets;
 
 use crate::answer::give;
+use crate::update::built::{Change, transfer, update};
 use std::alloc::Global;
 
 /// Writes the update that creates a set into the caller's buffer: its prerequisite is that the zone has no set of that
@@ -28,9 +29,11 @@ pub extern "C" fn fuzsbanel_create(
     out: &mut [u8],
     needed: &mut usize,
 ) -> i64
-    ensures { IsAnswered (create_of id origin.now set.now use_edns) out.old out.new needed.new result }
+    ensures { IsAnswered (create_of id origin.now set.now use_edns)
+        out.old out.new needed.new result }
 {
-    give(built::create(alloc, id, origin, set, use_edns), out, needed)
+    let change = Change::Create(set);
+    give(update(alloc, id, origin, change, use_edns), out, needed)
 }
 
 /// Writes the update that adds the records of a set into the caller's buffer; with `must_exist` its prerequisite is that
@@ -50,13 +53,11 @@ pub extern "C" fn fuzsbanel_append(
     out: &mut [u8],
     needed: &mut usize,
 ) -> i64
-    ensures { IsAnswered (append_of id origin.now set.now must_exist use_edns) out.old out.new needed.new result }
+    ensures { IsAnswered (append_of id origin.now set.now must_exist use_edns)
+        out.old out.new needed.new result }
 {
-    give(
-        built::append(alloc, id, origin, set, must_exist, use_edns),
-        out,
-        needed,
-    )
+    let change = Change::Append(set, must_exist);
+    give(update(alloc, id, origin, change, use_edns), out, needed)
 }
 
 /// Writes the update that puts a set in the place of another into the caller's buffer: its prerequisite is the data of
@@ -76,13 +77,11 @@ pub extern "C" fn fuzsbanel_compare_and_swap(
     out: &mut [u8],
     needed: &mut usize,
 ) -> i64
-    ensures { IsAnswered (swap_of id origin.now current.now next.now use_edns) out.old out.new needed.new result }
+    ensures { IsAnswered (swap_of id origin.now current.now next.now use_edns)
+        out.old out.new needed.new result }
 {
-    give(
-        built::compare_and_swap(alloc, id, origin, current, next, use_edns),
-        out,
-        needed,
-    )
+    let change = Change::CompareAndSwap(current, next);
+    give(update(alloc, id, origin, change, use_edns), out, needed)
 }
 
 /// Writes the update that takes the data of a set out of the zone into the caller's buffer (RFC 2136, 2.5.4).
@@ -100,13 +99,11 @@ pub extern "C" fn fuzsbanel_delete_by_rdata(
     out: &mut [u8],
     needed: &mut usize,
 ) -> i64
-    ensures { IsAnswered (delete_data_of id origin.now set.now use_edns) out.old out.new needed.new result }
+    ensures { IsAnswered (delete_data_of id origin.now set.now use_edns)
+        out.old out.new needed.new result }
 {
-    give(
-        built::delete_by_rdata(alloc, id, origin, set, use_edns),
-        out,
-        needed,
-    )
+    let change = Change::DeleteByRdata(set);
+    give(update(alloc, id, origin, change, use_edns), out, needed)
 }
 
 /// Writes the update that takes the set of an owner and a type out of the zone into the caller's buffer (RFC 2136,
@@ -126,13 +123,11 @@ pub extern "C" fn fuzsbanel_delete_rrset(
     out: &mut [u8],
     needed: &mut usize,
 ) -> i64
-    ensures { IsAnswered (delete_set_of id origin.now owner.now record_type use_edns) out.old out.new needed.new result }
+    ensures { IsAnswered (delete_set_of id origin.now owner.now record_type use_edns)
+        out.old out.new needed.new result }
 {
-    give(
-        built::delete_rrset(alloc, id, origin, owner, record_type, use_edns),
-        out,
-        needed,
-    )
+    let change = Change::DeleteRrset(owner, record_type);
+    give(update(alloc, id, origin, change, use_edns), out, needed)
 }
 
 /// Writes the update that takes all sets of an owner out of the zone into the caller's buffer; at the origin SOA and NS
@@ -151,13 +146,11 @@ pub extern "C" fn fuzsbanel_delete_all(
     out: &mut [u8],
     needed: &mut usize,
 ) -> i64
-    ensures { IsAnswered (delete_all_of id origin.now owner.now use_edns) out.old out.new needed.new result }
+    ensures { IsAnswered (delete_all_of id origin.now owner.now use_edns)
+        out.old out.new needed.new result }
 {
-    give(
-        built::delete_all(alloc, id, origin, owner, use_edns),
-        out,
-        needed,
-    )
+    let change = Change::DeleteAll(owner);
+    give(update(alloc, id, origin, change, use_edns), out, needed)
 }
 
 /// Writes the question for all of a zone into the caller's buffer (RFC 5936, 2.1). It takes answers of up to 1232 bytes.
@@ -175,5 +168,5 @@ pub extern "C" fn fuzsbanel_zone_transfer(
 ) -> i64
     ensures { IsAnswered (transfer_of id origin.now) out.old out.new needed.new result }
 {
-    give(built::zone_transfer(alloc, id, origin), out, needed)
+    give(transfer(alloc, id, origin), out, needed)
 }

@@ -3,7 +3,7 @@
 
 ghost use Rattle.std.specs.Prelude.{◌≡◌, ◌<◌, ◌^◌, IfOk};
 ghost use Rattle.capi.specs.Answer.{IsAnswered, Makes};
-ghost use Rattle.capi.specs.Walk.{Finds, IsFound, found_option, found_query, found_record, name_text_at, option_found, query_found, record_end, record_found, name_found};
+ghost use Rattle.capi.specs.Walk.{Finds, IsFound, found_option, found_query, found_record, name_text_at, option_found, query_found, record_end, record_found, name_found, told};
 
 use crate::answer::{give, number};
 use crate::refusal::Refusal;
@@ -13,7 +13,7 @@ use std::alloc::Global;
 
 /// Where a question stands, and its fields (RFC 1035, 4.1.2).
 #[repr(C)]
-#[derive(Clone, Copy, Drop)]
+#[derive(Drop)]
 pub struct QueryFound {
     /// The place of its name.
     pub name: usize,
@@ -25,7 +25,7 @@ pub struct QueryFound {
 
 /// Where a record stands, and its fields (RFC 1035, 4.1.3).
 #[repr(C)]
-#[derive(Clone, Copy, Drop)]
+#[derive(Drop)]
 pub struct RecordFound {
     /// The place of its owner.
     pub name: usize,
@@ -43,7 +43,7 @@ pub struct RecordFound {
 
 /// Where an EDNS option stands in the data of an OPT record (RFC 6891, 6.1.2).
 #[repr(C)]
-#[derive(Clone, Copy, Drop)]
+#[derive(Drop)]
 pub struct OptionFound {
     /// The place of its data.
     pub data_place: usize,
@@ -68,13 +68,7 @@ pub extern "C" fn fuzsbanel_query(
 ) -> i64
     ensures { IsFound (found_query message.now place) found.old found.new result }
 {
-    match query_at(alloc, message, place) {
-        Ok((query, end)) => {
-            *found = query;
-            number(Ok(end))
-        }
-        Err(e) => number(Err(Refusal::from(e))),
-    }
+    fill(query_at(alloc, message, place), found)
 }
 
 /// Finds the record at a place, and answers the place after it (RFC 1035, 4.1.3). Its data is read, as far as its type is
@@ -92,13 +86,7 @@ pub extern "C" fn fuzsbanel_record(
 ) -> i64
     ensures { IsFound (found_record message.now place) found.old found.new result }
 {
-    match record_at(alloc, message, place) {
-        Ok((record, end)) => {
-            *found = record;
-            number(Ok(end))
-        }
-        Err(e) => number(Err(Refusal::from(e))),
-    }
+    fill(record_at(alloc, message, place), found)
 }
 
 /// Finds the EDNS option at a place, and answers the place after it (RFC 6891, 6.1.2). The first one stands where the
@@ -116,13 +104,7 @@ pub extern "C" fn fuzsbanel_option(
 ) -> i64
     ensures { IsFound (found_option bytes.now place) found.old found.new result }
 {
-    match option_at(alloc, bytes, place) {
-        Ok((option, end)) => {
-            *found = option;
-            number(Ok(end))
-        }
-        Err(e) => number(Err(Refusal::from(e))),
-    }
+    fill(option_at(alloc, bytes, place), found)
 }
 
 /// Writes the text of the name at a place into the caller's buffer (RFC 1035, 5.1).
@@ -143,6 +125,21 @@ pub extern "C" fn fuzsbanel_name(
     give(name_text(alloc, message, place), out, needed)
 }
 
+/// Fills in what was found, and answers the place after it; or else answers why nothing was.
+fn fill<T: Drop>(made: Result<(T, usize), DecodeError>, found: &mut T) -> i64
+    requires { IfOk made (λ r. r.1 < 2 ^ 63) }
+    ensures { (asked : _) → Finds asked made → IsFound (told asked) found.old found.new result }
+{
+    match made {
+        Ok((it, end)) => {
+            *found = it;
+            number(Ok(end))
+        }
+        Err(e) => number(Err(Refusal::from(e))),
+    }
+}
+
+/// The question at a place, and the place after it.
 fn query_at(alloc: Global, bytes: &[u8], place: usize) -> Result<(QueryFound, usize), DecodeError>
     ensures found { Finds (query_found bytes.now place) result }
     ensures addressable { IfOk result (λ r. r.1 < 2 ^ 63) }
@@ -160,6 +157,7 @@ fn query_at(alloc: Global, bytes: &[u8], place: usize) -> Result<(QueryFound, us
     Ok((found, decoder.index()))
 }
 
+/// The record at a place, and the place after it.
 fn record_at(alloc: Global, bytes: &[u8], place: usize) -> Result<(RecordFound, usize), DecodeError>
     ensures found { Finds (record_found bytes.now place) result }
     ensures addressable { IfOk result (λ r. r.1 < 2 ^ 63) }
@@ -183,7 +181,7 @@ fn record_at(alloc: Global, bytes: &[u8], place: usize) -> Result<(RecordFound, 
     Ok((found, end))
 }
 
-// The place after the record at a place.
+/// The place after the record at a place.
 fn record_end(alloc: Global, bytes: &[u8], place: usize) -> Result<usize, DecodeError>
     ensures found { Finds (record_end bytes.now place) result }
     ensures addressable { IfOk result (λ end. end < 2 ^ 63) }
@@ -194,6 +192,7 @@ fn record_end(alloc: Global, bytes: &[u8], place: usize) -> Result<usize, Decode
     Ok(decoder.index())
 }
 
+/// The option at a place, and the place after it.
 fn option_at(alloc: Global, bytes: &[u8], place: usize) -> Result<(OptionFound, usize), DecodeError>
     ensures found { Finds (option_found bytes.now place) result }
     ensures addressable { IfOk result (λ r. r.1 < 2 ^ 63) }
@@ -212,6 +211,7 @@ fn option_at(alloc: Global, bytes: &[u8], place: usize) -> Result<(OptionFound, 
     Ok((found, decoder.index()))
 }
 
+/// The text of the name at a place.
 fn name_text(alloc: Global, bytes: &[u8], place: usize) -> Result<Vec<u8>, Refusal>
     ensures { Makes (λ text. text.items) (name_text_at bytes.now place) result }
 {
@@ -219,6 +219,7 @@ fn name_text(alloc: Global, bytes: &[u8], place: usize) -> Result<Vec<u8>, Refus
     Ok(name.to_string(alloc)?.into_bytes())
 }
 
+/// The name at a place.
 fn name_at(alloc: Global, bytes: &[u8], place: usize) -> Result<Name, DecodeError>
     ensures { Finds (name_found bytes.now place) result }
 {

@@ -1,23 +1,18 @@
 //! Zone text (RFC 1035, 5.1).
 
-ghost use Rattle.std.specs.BTreeMap.{IsOrdered};
-ghost use Rattle.std.specs.Prelude.{◌≡◌, ◌++◌, IfOk, OnOk};
-ghost use Rattle.std.specs.String.{string_bytes};
-ghost use Rattle.base.specs.RrKey.{key_cmp};
-ghost use Rattle.op.specs.MessageText.{line, record_lines};
-ghost use Rattle.rr.specs.Record.{record_text};
+ghost use Rattle.std.specs.Prelude.{◌≡◌, IfOk};
 ghost use Rattle.txt.specs.ZoneSets.{AreKept};
 ghost use Rattle.capi.specs.Answer.{IsAnswered, Makes};
-ghost use Rattle.capi.specs.ZoneText.{canonical_text, characters, name_of_text, origin_line, origin_of_text, set_lines, zone_lines, zone_of_text, zone_under};
+ghost use Rattle.capi.specs.ZoneText.{canonical_text, characters, name_of_text, origin_of_text, zone_of_text};
 
 use crate::answer::give;
 use crate::refusal::Refusal;
 use base::{Name, RrKey};
-use rr::{Record, RecordSet};
-use std::alloc::{AllocError, Global};
+use parsed_zone::{zone_lines, zone_of_bytes};
+use rr::RecordSet;
+use std::alloc::Global;
 use std::collections::BTreeMap;
 use std::str;
-use txt::Parser;
 
 /// Writes the zone of a text into the caller's buffer, as zone text: the origin, and each record on a line of its own, in
 /// the order of owners and types (RFC 1035, 5.1). The origin is the text of a name, or empty for none. No text is there to
@@ -39,12 +34,12 @@ pub extern "C" fn fuzsbanel_zone(
     give(canonical(alloc, origin, text), out, needed)
 }
 
-// The zone of a text, as text.
+/// The zone of a text, as text.
 fn canonical(alloc: Global, origin: &[u8], text: &[u8]) -> Result<Vec<u8>, Refusal>
     ensures { Makes (λ lines. lines.items) (canonical_text origin.now text.now) result }
 {
     let (name, sets) = zone_of(alloc, origin, text)?;
-    Ok(lines_of(alloc, &name, sets)?.into_bytes())
+    Ok(zone_lines(alloc, &name, sets)?.into_bytes())
 }
 
 /// The origin at the end of a zone's text, and its sets.
@@ -61,28 +56,10 @@ pub fn zone_of(
     ensures kept { IfOk result (λ r. AreKept r.1.entries) }
 {
     let origin = origin_of(alloc, origin)?;
-    zone_under(alloc, origin, text)
+    Ok(zone_of_bytes(alloc, origin, text)?)
 }
 
-/// The same under an origin, if there is one.
-///
-/// # Errors
-///
-/// 24 for a text that isn't UTF-8, and the number of what the parser refuses.
-pub fn zone_under(
-    alloc: Global,
-    origin: Option<Name>,
-    text: &[u8],
-) -> Result<(Name, BTreeMap<RrKey, RecordSet>), Refusal>
-    ensures zone { Makes (λ r. (r.0, r.1.entries)) (zone_under origin text.now) result }
-    ensures kept { IfOk result (λ r. AreKept r.1.entries) }
-{
-    let text = characters_of(text)?;
-    let includes = BTreeMap::new(alloc);
-    Ok(Parser::new(alloc, text, &includes, origin).parse()?)
-}
-
-// The origin that a text names, if it isn't empty.
+/// The origin that a text names, if it isn't empty.
 fn origin_of(alloc: Global, text: &[u8]) -> Result<Option<Name>, Refusal>
     ensures { Makes (λ origin. origin) (origin_of_text text.now) result }
 {
@@ -116,32 +93,4 @@ pub fn characters_of(text: &[u8]) -> Result<&str, Refusal>
         Ok(text) => Ok(text),
         Err(_) => Err(Refusal::INPUT),
     }
-}
-
-/// The origin and the records of a zone, a line each.
-pub fn lines_of(
-    alloc: Global,
-    name: &Name,
-    sets: BTreeMap<RrKey, RecordSet>,
-) -> Result<String, AllocError>
-    ensures lines { IfOk result (λ lines. string_bytes lines
-        ≡ zone_lines (name.now, sets.entries)) }
-    ensures ordered { IfOk result (λ _. IsOrdered key_cmp sets) }
-{
-    let mut lines = format!(in alloc; "$ORIGIN {name}\n")?;
-    for (_key, set) in sets {
-        add_records(set.into_parts().records, &mut lines)?;
-    }
-    Ok(lines)
-}
-
-// Adds the records, a line each.
-fn add_records(records: Vec<Record>, lines: &mut String) -> Result<(), AllocError>
-    ensures { OnOk result (string_bytes lines.new
-        ≡ string_bytes lines.old ++ record_lines records.items) }
-{
-    for entry in records {
-        writeln!(lines, "{entry}")?;
-    }
-    Ok(())
 }

@@ -1,4 +1,3 @@
-mod AppliedLines
 mod ApplyLemmas
 mod CutLemmas
 mod InputLemmas

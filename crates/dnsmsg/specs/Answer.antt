@@ -1,5 +1,5 @@
 -- What a run prints, and the status that it ends with.
-use Rattle.std.specs.Prelude.{◌≡◌, ◌⊎◌, ℕ, List, [], ◌∷◌, ◌++◌, codes, Option}
+use Rattle.std.specs.Prelude.{◌≡◌, ◌⊎◌, ℕ, List, [], ◌∷◌, ◌++◌, codes, Option, Result, Ok, Err}
 use Rattle.std.specs.Fmt.{decimal}
 use Rattle.std.specs.Io.KnownBytes.{Appends}
 
@@ -15,6 +15,11 @@ done text = record { text = text; status = 0 }
 -- the refusal of this number
 abbrev pub refused : ℕ → Answer
 refused number = record { text = codes "refused " ++ decimal number ++ 10 ∷ []; status = 1 }
+
+-- these lines, or the refusal of a number
+abbrev pub answer_of : Result (List ℕ) ℕ → Answer
+answer_of (Ok lines) = done lines
+answer_of (Err number) = refused number
 
 -- the words name no command
 abbrev pub usage : Answer

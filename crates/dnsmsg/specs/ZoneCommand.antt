@@ -1,16 +1,11 @@
 -- What the command `zone` prints.
-use Rattle.std.specs.List.{after_first, before_first, flat_map, list_all, list_any}
-use Rattle.std.specs.Prelude.{ℕ, Bool, ◌==◌, List, [], ◌∷◌, ◌++◌, codes, if◌then◌else◌, Option, Some, None, Result, Ok, Err}
-use Rattle.std.specs.Str.{bytes_eq, is_utf8}
+use Rattle.std.specs.List.{after_first, before_first, list_all, list_any}
+use Rattle.std.specs.Prelude.{ℕ, Bool, ◌==◌, List, [], ◌∷◌, if◌then◌else◌, Option, Some, None, Result, Ok, Err}
+use Rattle.std.specs.Str.{bytes_eq}
 use Rattle.base.specs.Labels.{NameValue}
-use Rattle.base.specs.NameText.{name_text}
-use Rattle.base.specs.TextFaults.{Fault}
-use Rattle.base.specs.declared.rr_key.RrKey.{RrKey}
-use Rattle.op.specs.MessageText.{line, record_lines}
-use Rattle.rr.specs.RecordSet.{SetValue}
-use Rattle.txt.specs.Zone.{Texts, zone_of}
+use Rattle.txt.specs.Zone.{Texts}
 use Rattle.txt.specs.ZoneSets.{ZoneSets}
-use Rattle.parsed_zone.specs.Faults.{fault_number}
+use Rattle.parsed_zone.specs.ZoneText.{zone_lines, zone_of_bytes}
 use Rattle.dnsmsg.specs.Answer.{Answer, done, refused}
 
 -- ---- included texts, NAME=TEXT each
@@ -39,23 +34,11 @@ are_texts words = list_all (λ word. list_any is_equals word) words
 
 -- ---- the answer
 
--- the records of all sets, in the order of their keys, a line each
-abbrev pub set_lines : ZoneSets → List ℕ
-set_lines = flat_map (λ (e : RrKey × SetValue). record_lines e.1.records)
-
--- the line of an origin
-abbrev pub origin_line : NameValue → List ℕ
-origin_line origin = line (codes "$ORIGIN " ++ name_text origin)
-
--- the origin and the records of a zone
-abbrev pub zone_lines : NameValue × ZoneSets → List ℕ
-zone_lines zone = origin_line zone.0 ++ set_lines zone.1
-
--- the lines of a zone that was read, or the number of the fault
-abbrev pub answer_to_zone : Result (NameValue × ZoneSets) Fault → Answer
+-- the lines of a zone that was read, or the number of the refusal
+abbrev pub answer_to_zone : Result (NameValue × ZoneSets) ℕ → Answer
 answer_to_zone (Ok zone) = done (zone_lines zone)
-answer_to_zone (Err fault) = refused (fault_number fault)
+answer_to_zone (Err number) = refused number
 
 -- the answer to a text under an origin, with the texts that these words hand in; refusal 24 where it isn't UTF-8
 unfoldable pub zone_answer : Option NameValue → List (List ℕ) → List ℕ → Answer
-zone_answer origin words input = if is_utf8 input then answer_to_zone (zone_of (text_named words) origin input) else refused 24
+zone_answer origin words input = answer_to_zone (zone_of_bytes (text_named words) origin input)

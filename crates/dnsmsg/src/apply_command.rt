@@ -1,28 +1,19 @@
 //! The command `apply`.
 
-ghost use Rattle.std.specs.BTreeMap.{IsOrdered};
 ghost use Rattle.std.specs.Prelude.{◌≡◌, ◌⊎◌, Err, IfErr, IfOk, Ok};
 ghost use Rattle.std.specs.String.{string_bytes};
-ghost use Rattle.base.specs.RrKey.{key_cmp};
 ghost use Rattle.dnsmsg.specs.Answering.{Answers};
-ghost use Rattle.dnsmsg.specs.ApplyCommand.{answer_to_text, answer_to_update, first_word, update_lines, update_of};
+ghost use Rattle.dnsmsg.specs.ApplyCommand.{answer_to_text, first_word, update_of};
 ghost use Rattle.dnsmsg.specs.Refusal.{refusal_number};
 ghost use Rattle.dnsmsg.specs.Words.{texts};
 ghost use Rattle.op.specs.Message.{message_value};
-ghost use Rattle.txt.specs.ZoneSets.{AreKept};
 
 use crate::hex_input::decoded;
 use crate::refusal::Refusal;
-use crate::zone_command::{included_texts, zone_lines};
-use base::{DNSClass, Name, RrKey};
-use op::{Message, ResponseCode};
-use op_use::apply_update;
-use parsed_zone::are_sets_in;
-use rr::RecordSet;
-use std::alloc::{AllocError, Global};
-use std::collections::BTreeMap;
-use std::str;
-use txt::Parser;
+use base::Name;
+use op::Message;
+use parsed_zone::{lines_after, zone_of_bytes};
+use std::alloc::Global;
 
 /// The update whose bytes the first word spells in hexadecimal.
 ///
@@ -63,43 +54,6 @@ pub fn apply(
 ) -> Result<String, Refusal>
     ensures { Answers string_bytes (answer_to_text (message_value message.now) origin text.now) result }
 {
-    let Ok(text) = str::from_utf8(text) else {
-        return Err(Refusal::Input);
-    };
-    let includes = included_texts(alloc, &[])?;
-    let (name, sets) = Parser::new(alloc, text, &includes, origin).parse()?;
-    apply_to_sets(alloc, message, &name, &sets)
-}
-
-fn apply_to_sets(
-    alloc: Global,
-    message: &Message,
-    name: &Name,
-    sets: &BTreeMap<RrKey, RecordSet>,
-) -> Result<String, Refusal>
-    requires { AreKept sets.now.entries }
-    ensures { Answers string_bytes (answer_to_update (message_value message.now) (name.now, sets.now.entries)) result }
-{
-    if !are_sets_in(sets) {
-        return Err(Refusal::Class);
-    }
-    let (code, changed) = apply_update(alloc, sets, name, DNSClass::IN, message)?;
-    Ok(update_lines(alloc, code, name, changed)?)
-}
-
-// The code and the zone.
-fn update_lines(
-    alloc: Global,
-    code: ResponseCode,
-    name: &Name,
-    sets: BTreeMap<RrKey, RecordSet>,
-) -> Result<String, AllocError>
-    ensures lines { IfOk result (λ lines. string_bytes lines
-        ≡ update_lines code (name.now, sets.entries)) }
-    ensures ordered { IfOk result (λ _. IsOrdered key_cmp sets) }
-{
-    let word = code.name().unwrap_or("");
-    let mut lines = format!(in alloc; "{word}\n")?;
-    lines.push_str(&zone_lines(alloc, name, sets)?)?;
-    Ok(lines)
+    let (name, sets) = zone_of_bytes(alloc, origin, text)?;
+    Ok(lines_after(alloc, message, &name, &sets)?)
 }

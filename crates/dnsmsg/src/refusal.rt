@@ -6,7 +6,8 @@ ghost use Rattle.dnsmsg.specs.Refusal.{refusal_number};
 ghost use Rattle.dnsmsg.specs.declared.refusal.Failure.TheVariants as failures;
 ghost use Rattle.dnsmsg.specs.declared.refusal.Refusal.TheVariants as refusals;
 
-use base::{DecodeError, ParseError, ProtoError};
+use base::{DecodeError, ProtoError};
+use parsed_zone::ZoneRefusal;
 use std::alloc::AllocError;
 
 /// Why a command printed nothing of its own.
@@ -18,10 +19,8 @@ pub enum Refusal {
     Decode(DecodeError),
     /// A call of the library was refused.
     Proto(ProtoError),
-    /// The text is no zone's.
-    Parse(ParseError),
-    /// A set or a record of the zone isn't of the class IN.
-    Class,
+    /// The zone isn't read, or isn't updated.
+    Zone(ZoneRefusal),
 }
 
 impl Refusal {
@@ -33,8 +32,7 @@ impl Refusal {
             Refusal::Input => 24,
             Refusal::Decode(e) => e.number(),
             Refusal::Proto(e) => e.number(),
-            Refusal::Parse(e) => e.number(),
-            Refusal::Class => 25,
+            Refusal::Zone(e) => e.number(),
         }
     }
 }
@@ -63,11 +61,11 @@ impl From<ProtoError> for Refusal {
     }
 }
 
-impl From<ParseError> for Refusal {
-    ghost from_gives = { λ p e. e ≡ refusals.Parse p };
+impl From<ZoneRefusal> for Refusal {
+    ghost from_gives = { λ z e. e ≡ refusals.Zone z };
 
-    fn from(e: ParseError) -> Refusal {
-        Refusal::Parse(e)
+    fn from(e: ZoneRefusal) -> Refusal {
+        Refusal::Zone(e)
     }
 }
 

@@ -1,24 +1,18 @@
 //! The command `zone`.
 
-ghost use Rattle.std.specs.BTreeMap.{IsOrdered};
-ghost use Rattle.std.specs.Prelude.{◌≡◌, ◌++◌, ℕ, IfOk, List, OnOk};
+ghost use Rattle.std.specs.Prelude.{◌≡◌, ℕ, IfOk, List};
 ghost use Rattle.std.specs.List.{after_first, before_first};
 ghost use Rattle.std.specs.String.{string_bytes};
-ghost use Rattle.base.specs.RrKey.{key_cmp};
-ghost use Rattle.op.specs.MessageText.{line, record_lines};
-ghost use Rattle.rr.specs.Record.{record_text};
 ghost use Rattle.txt.specs.Steps.{texts_in};
 ghost use Rattle.dnsmsg.specs.Answering.{Answers};
 ghost use Rattle.dnsmsg.specs.Words.{texts};
-ghost use Rattle.dnsmsg.specs.ZoneCommand.{is_equals, origin_line, set_lines, text_named, zone_answer, zone_lines};
+ghost use Rattle.dnsmsg.specs.ZoneCommand.{is_equals, text_named, zone_answer};
 
 use crate::refusal::Refusal;
-use base::{Name, RrKey};
-use rr::{Record, RecordSet};
+use base::Name;
+use parsed_zone::{zone_lines, zone_with_texts};
 use std::alloc::{AllocError, Global};
 use std::collections::BTreeMap;
-use std::str;
-use txt::Parser;
 
 /// What is printed of the zone whose text this is, with the texts that the words hand in, NAME=TEXT each: the line of
 /// its origin, and every record in the order of owners and types (RFC 1035, 5.1).
@@ -34,19 +28,13 @@ pub fn zone(
 ) -> Result<String, Refusal>
     ensures { Answers string_bytes (zone_answer origin (texts words.now) text.now) result }
 {
-    let Ok(text) = str::from_utf8(text) else {
-        return Err(Refusal::Input);
-    };
     let includes = included_texts(alloc, words)?;
-    let (name, sets) = Parser::new(alloc, text, &includes, origin).parse()?;
+    let (name, sets) = zone_with_texts(alloc, origin, &includes, text)?;
     Ok(zone_lines(alloc, &name, sets)?)
 }
 
 // The texts that words hand in, by their names. The last word of a name stands.
-pub(crate) fn included_texts(
-    alloc: Global,
-    words: &[String],
-) -> Result<BTreeMap<String, String>, AllocError>
+fn included_texts(alloc: Global, words: &[String]) -> Result<BTreeMap<String, String>, AllocError>
     ensures { IfOk result (λ includes. (name : List ℕ)
         → texts_in includes name ≡ text_named (texts words.now) name) }
 {
@@ -70,32 +58,4 @@ fn name_and_text(word: &str) -> (&str, &str)
         Some(parts) => parts,
         None => (word, ""),
     }
-}
-
-// The origin and the records of the sets, a line each.
-pub(crate) fn zone_lines(
-    alloc: Global,
-    name: &Name,
-    sets: BTreeMap<RrKey, RecordSet>,
-) -> Result<String, AllocError>
-    ensures lines { IfOk result (λ lines. string_bytes lines
-        ≡ zone_lines (name.now, sets.entries)) }
-    ensures ordered { IfOk result (λ _. IsOrdered key_cmp sets) }
-{
-    let mut lines = format!(in alloc; "$ORIGIN {name}\n")?;
-    for (_key, set) in sets {
-        add_records(set.into_parts().records, &mut lines)?;
-    }
-    Ok(lines)
-}
-
-// Adds the records, a line each.
-fn add_records(records: Vec<Record>, lines: &mut String) -> Result<(), AllocError>
-    ensures { OnOk result (string_bytes lines.new
-        ≡ string_bytes lines.old ++ record_lines records.items) }
-{
-    for entry in records {
-        writeln!(lines, "{entry}")?;
-    }
-    Ok(())
 }

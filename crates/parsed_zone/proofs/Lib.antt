@@ -1,1 +1,3 @@
+mod AppliedLines
+pub mod TextLemmas
 pub mod ZoneMaps

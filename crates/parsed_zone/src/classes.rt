@@ -22,12 +22,14 @@ pub fn are_sets_in(sets: &BTreeMap<RrKey, RecordSet>) -> bool
     true
 }
 
+/// Whether the set and each of its records are.
 fn is_set_in(set: &RecordSet) -> bool
     ensures { result ≡ is_set_in set.now }
 {
     is_in(set.dns_class()) && are_records_in(set)
 }
 
+/// Whether each record of the set is.
 fn are_records_in(set: &RecordSet) -> bool
     ensures { result ≡ list_all (λ (r : Entry RData). is_in_class r.dns_class) set.now.records }
 {
@@ -39,6 +41,7 @@ fn are_records_in(set: &RecordSet) -> bool
     true
 }
 
+/// Whether the class is IN.
 fn is_in(class: DNSClass) -> bool
     ensures { result ≡ is_in_class class }
 {

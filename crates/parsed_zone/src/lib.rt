@@ -1,7 +1,13 @@
-//! A parsed zone that is served: whether it is of the class IN, and that updates may be applied to it.
+//! A zone that is parsed from bytes, written as text, and updated.
 #![tactic(auto)]
 
+pub mod applying;
 pub mod classes;
 pub mod laws;
+pub mod refusal;
+pub mod zone_text;
 
+pub use applying::lines_after;
 pub use classes::are_sets_in;
+pub use refusal::ZoneRefusal;
+pub use zone_text::{zone_lines, zone_of_bytes, zone_with_texts};

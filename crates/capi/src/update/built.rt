@@ -1,114 +1,99 @@
-//! The bytes of the messages that the builders make of texts.
+//! The bytes of the messages that are built of texts.
 
 ghost use Rattle.std.specs.Prelude.{◌≡◌};
 ghost use Rattle.op.specs.Message.{message_value};
 ghost use Rattle.capi.specs.Answer.{Makes};
-ghost use Rattle.capi.specs.Update.{append_of, create_of, delete_all_of, delete_data_of, delete_set_of, sent, swap_of, transfer_of};
+ghost use Rattle.capi.specs.Update.{asked_of, change_asked, sent, transfer_of};
 
 use crate::refusal::Refusal;
 use crate::update::sets::{origin_of, owner_in, set_in};
-use base::{DNSClass, RecordType};
+use base::{DNSClass, Name, RecordType};
 use op::Message;
 use op_use::update_message as builders;
 use rr::Record;
 use std::alloc::Global;
 
-pub fn create(
+/// What an update asks for, with the texts of the sets or of the owner that it is about.
+#[derive(Drop)]
+pub enum Change<'a> {
+    /// A set is created.
+    Create(&'a [u8]),
+    /// The records of a set are added, where it must exist or needn't.
+    Append(&'a [u8], bool),
+    /// The first set is there, and the second takes its place.
+    CompareAndSwap(&'a [u8], &'a [u8]),
+    /// The data of a set goes.
+    DeleteByRdata(&'a [u8]),
+    /// The set of an owner and a type goes.
+    DeleteRrset(&'a [u8], u16),
+    /// All sets of an owner go.
+    DeleteAll(&'a [u8]),
+}
+
+/// The bytes of the update of a zone.
+pub fn update(
     alloc: Global,
     id: u16,
     origin: &[u8],
-    set: &[u8],
+    change: Change,
     use_edns: bool,
 ) -> Result<Vec<u8>, Refusal>
-    ensures { Makes (λ bytes. bytes.items) (create_of id origin.now set.now use_edns) result }
+    ensures { Makes (λ bytes. bytes.items)
+        (asked_of origin.now (change_asked id use_edns change.entry)) result }
 {
-    let origin = origin_of(alloc, origin)?;
-    let set = set_in(alloc, &origin, set)?;
-    bytes_of(&builders::create(alloc, id, set, origin, use_edns)?)
+    let zone = origin_of(alloc, origin)?;
+    bytes_of(&message(alloc, id, zone, change, use_edns)?)
 }
 
-pub fn append(
+/// The update of a zone of this name.
+fn message(
     alloc: Global,
     id: u16,
-    origin: &[u8],
-    set: &[u8],
-    must_exist: bool,
+    zone: Name,
+    change: Change,
     use_edns: bool,
-) -> Result<Vec<u8>, Refusal>
-    ensures { Makes (λ bytes. bytes.items) (append_of id origin.now set.now must_exist use_edns) result }
+) -> Result<Message, Refusal>
+    ensures { Makes message_value (change_asked id use_edns change.entry zone) result }
 {
-    let origin = origin_of(alloc, origin)?;
-    let set = set_in(alloc, &origin, set)?;
-    bytes_of(&builders::append(alloc, id, set, origin, must_exist, use_edns)?)
+    match change {
+        Change::Create(set) => {
+            let set = set_in(alloc, &zone, set)?;
+            Ok(builders::create(alloc, id, set, zone, use_edns)?)
+        }
+        Change::Append(set, must_exist) => {
+            let set = set_in(alloc, &zone, set)?;
+            Ok(builders::append(alloc, id, set, zone, must_exist, use_edns)?)
+        }
+        Change::CompareAndSwap(current, next) => {
+            let current = set_in(alloc, &zone, current)?;
+            let next = set_in(alloc, &zone, next)?;
+            Ok(builders::compare_and_swap(alloc, id, current, next, zone, use_edns)?)
+        }
+        Change::DeleteByRdata(set) => {
+            let set = set_in(alloc, &zone, set)?;
+            Ok(builders::delete_by_rdata(alloc, id, set, zone, use_edns)?)
+        }
+        Change::DeleteRrset(owner, record_type) => {
+            let owner = owner_in(alloc, &zone, owner)?;
+            let entry = Record::update0(owner, 0, RecordType::from(record_type));
+            Ok(builders::delete_rrset(alloc, id, entry, zone, use_edns)?)
+        }
+        Change::DeleteAll(owner) => {
+            let owner = owner_in(alloc, &zone, owner)?;
+            Ok(builders::delete_all(alloc, id, owner, zone, DNSClass::IN, use_edns)?)
+        }
+    }
 }
 
-pub fn compare_and_swap(
-    alloc: Global,
-    id: u16,
-    origin: &[u8],
-    current: &[u8],
-    next: &[u8],
-    use_edns: bool,
-) -> Result<Vec<u8>, Refusal>
-    ensures { Makes (λ bytes. bytes.items) (swap_of id origin.now current.now next.now use_edns) result }
-{
-    let origin = origin_of(alloc, origin)?;
-    let current = set_in(alloc, &origin, current)?;
-    let next = set_in(alloc, &origin, next)?;
-    bytes_of(&builders::compare_and_swap(alloc, id, current, next, origin, use_edns)?)
-}
-
-pub fn delete_by_rdata(
-    alloc: Global,
-    id: u16,
-    origin: &[u8],
-    set: &[u8],
-    use_edns: bool,
-) -> Result<Vec<u8>, Refusal>
-    ensures { Makes (λ bytes. bytes.items) (delete_data_of id origin.now set.now use_edns) result }
-{
-    let origin = origin_of(alloc, origin)?;
-    let set = set_in(alloc, &origin, set)?;
-    bytes_of(&builders::delete_by_rdata(alloc, id, set, origin, use_edns)?)
-}
-
-pub fn delete_rrset(
-    alloc: Global,
-    id: u16,
-    origin: &[u8],
-    owner: &[u8],
-    record_type: u16,
-    use_edns: bool,
-) -> Result<Vec<u8>, Refusal>
-    ensures { Makes (λ bytes. bytes.items) (delete_set_of id origin.now owner.now record_type use_edns) result }
-{
-    let origin = origin_of(alloc, origin)?;
-    let owner = owner_in(alloc, &origin, owner)?;
-    let entry = Record::update0(owner, 0, RecordType::from(record_type));
-    bytes_of(&builders::delete_rrset(alloc, id, entry, origin, use_edns)?)
-}
-
-pub fn delete_all(
-    alloc: Global,
-    id: u16,
-    origin: &[u8],
-    owner: &[u8],
-    use_edns: bool,
-) -> Result<Vec<u8>, Refusal>
-    ensures { Makes (λ bytes. bytes.items) (delete_all_of id origin.now owner.now use_edns) result }
-{
-    let origin = origin_of(alloc, origin)?;
-    let owner = owner_in(alloc, &origin, owner)?;
-    bytes_of(&builders::delete_all(alloc, id, owner, origin, DNSClass::IN, use_edns)?)
-}
-
-pub fn zone_transfer(alloc: Global, id: u16, origin: &[u8]) -> Result<Vec<u8>, Refusal>
+/// The bytes of the question for all of a zone.
+pub fn transfer(alloc: Global, id: u16, origin: &[u8]) -> Result<Vec<u8>, Refusal>
     ensures { Makes (λ bytes. bytes.items) (transfer_of id origin.now) result }
 {
-    let origin = origin_of(alloc, origin)?;
-    bytes_of(&builders::zone_transfer(alloc, id, origin, None)?)
+    let zone = origin_of(alloc, origin)?;
+    bytes_of(&builders::zone_transfer(alloc, id, zone, None)?)
 }
 
+/// The bytes of a message.
 fn bytes_of(message: &Message) -> Result<Vec<u8>, Refusal>
     ensures { Makes (λ bytes. bytes.items) (sent (message_value message.now)) result }
 {

@@ -6,8 +6,9 @@ ghost use Rattle.capi.specs.Answer.{Makes};
 ghost use Rattle.capi.specs.Update.{only_set, owner_of_text, set_of_text, within, zone_name_of};
 
 use crate::refusal::Refusal;
-use crate::zone::{characters_of, name_of, zone_under};
+use crate::zone::{characters_of, name_of};
 use base::{Name, RrKey};
+use parsed_zone::zone_of_bytes;
 use rr::RecordSet;
 use std::alloc::Global;
 use std::collections::BTreeMap;
@@ -26,7 +27,7 @@ pub fn set_in(alloc: Global, origin: &Name, text: &[u8]) -> Result<RecordSet, Re
     ensures made { Makes (λ set. set) (set_of_text origin.now text.now) result }
     ensures within { IfOk result (λ set. is_zone_of origin.now set.name ≡ true) }
 {
-    let (_origin, sets) = zone_under(alloc, Some(origin.clone()?), text)?;
+    let (_origin, sets) = zone_of_bytes(alloc, Some(origin.clone()?), text)?;
     let set = only_set(sets)?;
     within(origin, set)
 }
@@ -44,7 +45,7 @@ pub fn owner_in(alloc: Global, origin: &Name, text: &[u8]) -> Result<Name, Refus
     Ok(owner)
 }
 
-// The set, if there is exactly one.
+/// The set, if there is exactly one.
 fn only_set(sets: BTreeMap<RrKey, RecordSet>) -> Result<RecordSet, Refusal>
     ensures { Makes (λ set. set) (only_set sets.entries) result }
 {
@@ -58,7 +59,7 @@ fn only_set(sets: BTreeMap<RrKey, RecordSet>) -> Result<RecordSet, Refusal>
     Ok(set)
 }
 
-// The set, if its owner lies in the zone.
+/// The set, if its owner lies in the zone.
 fn within(origin: &Name, set: RecordSet) -> Result<RecordSet, Refusal>
     ensures made { Makes (λ set. set) (within origin.now set) result }
     ensures within { IfOk result (λ set. is_zone_of origin.now set.name ≡ true) }

@@ -1,6 +1,6 @@
 -- The lines of a map that an update was applied to.
-use Rattle.std.proofs.Common.{List, [], ap, refl, sym, ◌∷◌, ◌++◌, ◌≡◌, ◌∙◌, ℕ}
-use Rattle.std.proofs.lemmas.Bool.{cond-false}
+use Rattle.std.proofs.Common.{List, Ok, [], ap, refl, sym, true, ◌∷◌, ◌++◌, ◌≡◌, ◌∙◌, ℕ}
+use Rattle.std.proofs.lemmas.Bool.{cond-false, cond-true}
 use Rattle.std.proofs.lemmas.List.{nil_from_length}
 use Rattle.std.proofs.lemmas.Map.Entries.{lookup_head}
 use Rattle.std.specs.BTreeMap as tree
@@ -27,25 +27,26 @@ use Rattle.op_use.specs.Server.{Sections}
 use Rattle.op_use.specs.Zone.{Datum, Zone}
 use Rattle.rr.specs.RecordSet.{SetValue}
 use Rattle.txt.specs.ZoneSets.{ZoneSets}
-use Rattle.capi.specs.Applied.{applied_lines, code_word, lines_under, update_lines}
-use Rattle.capi.specs.ZoneText.{origin_line, set_lines}
+use Rattle.parsed_zone.specs.Classes.{are_sets_in}
+use Rattle.parsed_zone.specs.Applied.{applied_lines, code_word, lines_after, lines_under, update_lines}
+use Rattle.parsed_zone.specs.ZoneText.{origin_line, set_lines}
 
 -- ---- entries in the order of their keys
 
 -- each is found under its key
-found_behind : (e : RrKey × SetValue) (all es : ZoneSets) → AllByRecursion (λ k. key_cmp e.0 k ≡ Less) (keys_of es)
+found_after : (e : RrKey × SetValue) (all es : ZoneSets) → AllByRecursion (λ k. key_cmp e.0 k ≡ Less) (keys_of es)
     → AllByRecursion (λ (f : RrKey × SetValue). lookup (is_at (key_cmp f.0)) all ≡ Some f.1) es
     → AllByRecursion (λ (f : RrKey × SetValue). lookup (is_at (key_cmp f.0)) (e ∷ all) ≡ Some f.1) es
-found_behind e all [] above found = tt
-found_behind e all (f ∷ es) above found =
-    (cond-false _ _ _ (ap is_eq (key_cmp-total.antisymm f.0 e.0 ∙ ap ordering_reverse above.0)) ∙ found.0, found_behind e all es above.1 found.1)
+found_after e all [] above found = tt
+found_after e all (f ∷ es) above found =
+    (cond-false _ _ _ (ap is_eq (key_cmp-total.antisymm f.0 e.0 ∙ ap ordering_reverse above.0)) ∙ found.0, found_after e all es above.1 found.1)
 
 found_each : (es : ZoneSets) → IsStrictlySortedBy key_cmp (keys_of es)
     → AllByRecursion (λ (e : RrKey × SetValue). lookup (is_at (key_cmp e.0)) es ≡ Some e.1) es
 unfolding IsStrictlySortedBy
 found_each [] ordered = tt
 found_each (e ∷ es) ordered =
-    (lookup_head (is_at (key_cmp e.0)) e es ((eq_by_cmp_equiv key_cmp-total).refl e.0), found_behind e es es ordered.0 (found_each es ordered.1))
+    (lookup_head (is_at (key_cmp e.0)) e es ((eq_by_cmp_equiv key_cmp-total).refl e.0), found_after e es es ordered.0 (found_each es ordered.1))
 
 -- they are those of a finite map
 put_first : (k : RrKey) (v : List Datum) (es : ZoneSets) → AllByRecursion (λ q. key_cmp k q ≡ Less) (keys_of es)
@@ -90,3 +91,7 @@ module _ (name : NameValue) (m : Sections) (old new : BTreeMap RrKey SetValue) (
       ∙ ap (λ lines. line (code_word (code_name code)) ++ (origin_line name ++ lines))
       (ap (flat_map (lines_under m (name, old.entries))) (keys_are new.entries ordered)
       ∙ lines_by (lines_under m (name, old.entries)) new.entries (shown_each new.entries (found_each new.entries ordered)))
+
+  -- and so the lines of the map answer the update
+  pub lines_answered : (text : List ℕ) → are_sets_in old.entries ≡ true → text ≡ update_lines code (name, new.entries) → lines_after m (name, old.entries) ≡ Ok text
+  lines_answered text all is = cond-true _ _ _ all ∙ ap Ok (lines_applied ∙ sym is)

@@ -1,7 +1,0 @@
-use Rattle.std.proofs.Common.{◌≡◌, ◌++◌}
-use Rattle.std.specs.String.{string_bytes}
-use Rattle.capi.specs.ZoneText.{origin_line, set_lines}
-use Rattle.capi.proofs.zone.lines_of.Given as goal
-
-abbrev pub invariant-loop-key : goal.invariant-loop-key
-invariant-loop-key l = string_bytes l.lines ++ set_lines l._key-iterator ≡ origin_line l.name ++ set_lines l.fn.sets.entries

@@ -1,0 +1,33 @@
+-- A zone as it is read of bytes, and the lines that it is written as.
+use Rattle.std.specs.List.{flat_map}
+use Rattle.std.specs.Prelude.{ℕ, List, ◌++◌, codes, if◌then◌else◌, Option, None, Result, Err}
+use Rattle.std.specs.Str.{is_utf8}
+use Rattle.base.specs.Labels.{NameValue}
+use Rattle.base.specs.NameText.{name_text}
+use Rattle.base.specs.declared.rr_key.RrKey.{RrKey}
+use Rattle.op.specs.MessageText.{line, record_lines}
+use Rattle.rr.specs.RecordSet.{SetValue}
+use Rattle.txt.specs.Zone.{Texts, zone_of}
+use Rattle.txt.specs.ZoneSets.{ZoneSets}
+use Rattle.parsed_zone.specs.Faults.{numbered}
+
+-- no text may be included
+abbrev pub no_texts : Texts
+no_texts name = None
+
+-- the zone of the text that bytes are, under an origin, if there is one, or the number of its fault; 24 where they aren't
+-- UTF-8
+abbrev pub zone_of_bytes : Texts → Option NameValue → List ℕ → Result (NameValue × ZoneSets) ℕ
+zone_of_bytes texts origin bytes = if is_utf8 bytes then numbered (zone_of texts origin bytes) else Err 24
+
+-- the records of all sets, in the order of their keys, a line each
+abbrev pub set_lines : ZoneSets → List ℕ
+set_lines = flat_map (λ (e : RrKey × SetValue). record_lines e.1.records)
+
+-- the line of an origin
+abbrev pub origin_line : NameValue → List ℕ
+origin_line origin = line (codes "$ORIGIN " ++ name_text origin)
+
+-- the origin and the records of a zone
+abbrev pub zone_lines : NameValue × ZoneSets → List ℕ
+zone_lines zone = origin_line zone.0 ++ set_lines zone.1

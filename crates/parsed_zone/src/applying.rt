@@ -1,0 +1,67 @@
+//! What an update makes of a zone, as text (RFC 2136, 3).
+
+ghost use Rattle.std.specs.BTreeMap.{IsOrdered};
+ghost use Rattle.std.specs.Prelude.{◌≡◌, IfOk};
+ghost use Rattle.std.specs.String.{string_bytes};
+ghost use Rattle.base.specs.RrKey.{key_cmp};
+ghost use Rattle.op.specs.Message.{message_value};
+ghost use Rattle.op_use.specs.Server.{sections_of};
+ghost use Rattle.txt.specs.ZoneSets.{AreKept};
+ghost use Rattle.parsed_zone.specs.Applied.{lines_after, update_lines};
+ghost use Rattle.parsed_zone.specs.Faults.{Makes};
+
+use crate::classes::are_sets_in;
+use crate::refusal::ZoneRefusal;
+use crate::zone_text::zone_lines;
+use base::{DNSClass, Name, RrKey};
+use op::{Message, ResponseCode};
+use op_use::apply_update;
+use rr::RecordSet;
+use std::alloc::{AllocError, Global};
+use std::collections::BTreeMap;
+
+/// The name of the code that a server answers an update with, on a line, and the lines of the zone then (RFC 2136, 3).
+/// With any code but NoError the zone is as it was.
+///
+/// The sets are such as `zone_of_bytes` answers.
+///
+/// # Errors
+///
+/// `Class` for a set or a record of another class than IN, and `Memory`.
+pub fn lines_after(
+    alloc: Global,
+    message: &Message,
+    name: &Name,
+    sets: &BTreeMap<RrKey, RecordSet>,
+) -> Result<String, ZoneRefusal>
+    requires { AreKept sets.now.entries }
+    ensures { Makes string_bytes
+        (lines_after (sections_of (message_value message.now)) (name.now, sets.now.entries))
+        result }
+{
+    if !are_sets_in(sets) {
+        return Err(ZoneRefusal::Class);
+    }
+    // An update is refused for memory alone.
+    let Ok((code, changed)) = apply_update(alloc, sets, name, DNSClass::IN, message) else {
+        return Err(ZoneRefusal::Memory);
+    };
+    Ok(update_lines(alloc, code, name, changed)?)
+}
+
+/// The code and the zone.
+fn update_lines(
+    alloc: Global,
+    code: ResponseCode,
+    name: &Name,
+    sets: BTreeMap<RrKey, RecordSet>,
+) -> Result<String, AllocError>
+    ensures lines { IfOk result (λ lines. string_bytes lines
+        ≡ update_lines code (name.now, sets.entries)) }
+    ensures ordered { IfOk result (λ _. IsOrdered key_cmp sets) }
+{
+    let word = code.name().unwrap_or("");
+    let mut lines = format!(in alloc; "{word}\n")?;
+    lines.push_str(&zone_lines(alloc, name, sets)?)?;
+    Ok(lines)
+}

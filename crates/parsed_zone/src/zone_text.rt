@@ -1,0 +1,91 @@
+//! A zone as text (RFC 1035, 5.1).
+
+ghost use Rattle.std.specs.BTreeMap.{IsOrdered};
+ghost use Rattle.std.specs.Prelude.{◌≡◌, ◌++◌, IfOk, OnOk};
+ghost use Rattle.std.specs.String.{string_bytes};
+ghost use Rattle.base.specs.RrKey.{key_cmp};
+ghost use Rattle.op.specs.MessageText.{line, record_lines};
+ghost use Rattle.rr.specs.Record.{record_text};
+ghost use Rattle.txt.specs.Steps.{texts_in};
+ghost use Rattle.txt.specs.ZoneSets.{AreKept};
+ghost use Rattle.parsed_zone.specs.Faults.{Makes};
+ghost use Rattle.parsed_zone.specs.ZoneText.{no_texts, origin_line, set_lines, zone_lines, zone_of_bytes};
+
+use crate::refusal::ZoneRefusal;
+use base::{Name, RrKey};
+use rr::{Record, RecordSet};
+use std::alloc::{AllocError, Global};
+use std::collections::BTreeMap;
+use std::str;
+use txt::Parser;
+
+/// The zone of the text that bytes are, under an origin, if there is one. No text is there to be included.
+///
+/// # Errors
+///
+/// `NotUtf8`, `Parse` for what the parser refuses, and `Memory`.
+pub fn zone_of_bytes(
+    alloc: Global,
+    origin: Option<Name>,
+    bytes: &[u8],
+) -> Result<(Name, BTreeMap<RrKey, RecordSet>), ZoneRefusal>
+    ensures zone { Makes (λ r. (r.0, r.1.entries))
+        (zone_of_bytes no_texts origin bytes.now) result }
+    ensures kept { IfOk result (λ r. AreKept r.1.entries) }
+{
+    let none = BTreeMap::new(alloc);
+    zone_with_texts(alloc, origin, &none, bytes)
+}
+
+/// The same with texts that may be included by their names.
+///
+/// # Errors
+///
+/// Those of `zone_of_bytes`.
+pub fn zone_with_texts(
+    alloc: Global,
+    origin: Option<Name>,
+    includes: &BTreeMap<String, String>,
+    bytes: &[u8],
+) -> Result<(Name, BTreeMap<RrKey, RecordSet>), ZoneRefusal>
+    ensures zone { Makes (λ r. (r.0, r.1.entries))
+        (zone_of_bytes (texts_in includes.now) origin bytes.now) result }
+    ensures kept { IfOk result (λ r. AreKept r.1.entries) }
+{
+    let Ok(text) = str::from_utf8(bytes) else {
+        return Err(ZoneRefusal::NotUtf8);
+    };
+    Ok(Parser::new(alloc, text, includes, origin).parse()?)
+}
+
+/// The origin and the records of a zone, a line each, in the order of owners and types.
+///
+/// # Errors
+///
+/// If memory runs out.
+pub fn zone_lines(
+    alloc: Global,
+    name: &Name,
+    sets: BTreeMap<RrKey, RecordSet>,
+) -> Result<String, AllocError>
+    ensures lines { IfOk result (λ lines. string_bytes lines
+        ≡ zone_lines (name.now, sets.entries)) }
+    ensures ordered { IfOk result (λ _. IsOrdered key_cmp sets) }
+{
+    let mut lines = format!(in alloc; "$ORIGIN {name}\n")?;
+    for (_key, set) in sets {
+        add_records(set.into_parts().records, &mut lines)?;
+    }
+    Ok(lines)
+}
+
+/// Adds the records, a line each.
+fn add_records(records: Vec<Record>, lines: &mut String) -> Result<(), AllocError>
+    ensures { OnOk result (string_bytes lines.new
+        ≡ string_bytes lines.old ++ record_lines records.items) }
+{
+    for entry in records {
+        writeln!(lines, "{entry}")?;
+    }
+    Ok(())
+}
