@@ -72,7 +72,7 @@ impl Command {
     }
 }
 
-// The command of an origin and of included texts, NAME=TEXT each.
+/// The command of an origin and of included texts, NAME=TEXT each.
 #[tactic(auto, unfolding(crate::specs::ZoneWords::zone_named))]
 fn zone(alloc: Global, origin: &str, included: &[String]) -> Result<Option<Command>, AllocError>
     ensures value { IfOk result (λ command. command ≡ zone_named origin.now (texts included.now)) }
@@ -88,7 +88,7 @@ fn zone(alloc: Global, origin: &str, included: &[String]) -> Result<Option<Comma
     }
 }
 
-// The command of an origin and of an update, one word.
+/// The command of an origin and of an update, one word.
 fn apply(alloc: Global, origin: &str, others: &[String]) -> Result<Option<Command>, AllocError>
     ensures value { IfOk result (λ command. command ≡ apply_named origin.now (texts others.now)) }
     ensures memory { IfErr result (λ _. is_one (texts others.now) ≡ true) }
@@ -103,7 +103,7 @@ fn apply(alloc: Global, origin: &str, others: &[String]) -> Result<Option<Comman
     }
 }
 
-// The origin that a word names, if it names one: `-` for none, else a name.
+/// The origin that a word names, if it names one: `-` for none, else a name.
 fn named_origin(alloc: Global, word: &str) -> Result<Option<Option<Name>>, AllocError>
     ensures value { IfOk result (λ origin. origin ≡ origin_named word.now) }
     ensures parsed { IfErr result (λ _. bytes_eq word.now (codes "-") ≡ false) }
@@ -118,7 +118,7 @@ fn named_origin(alloc: Global, word: &str) -> Result<Option<Option<Name>>, Alloc
     }
 }
 
-// Whether each word has a name before an equals sign.
+/// Whether each word has a name before an equals sign.
 fn are_texts(words: &[String]) -> bool
     ensures { result ≡ are_texts (texts words.now) }
 {

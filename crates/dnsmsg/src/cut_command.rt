@@ -31,7 +31,7 @@ pub fn cut(alloc: Global, text: &[u8], limit: u16) -> Result<String, Refusal>
     Ok(hex_line(alloc, &written)?)
 }
 
-// The bytes of the message under a limit.
+/// The bytes of the message under a limit.
 fn written(alloc: Global, message: &Message, limit: u16) -> Result<Vec<u8>, ProtoError>
     requires { Fits (message_value message.now) }
     ensures ok { IfOk result (λ bytes. IsWritten (message_value message.now) limit bytes.items) }

@@ -28,7 +28,7 @@ pub fn header(alloc: Global, text: &[u8]) -> Result<String, Refusal>
     Ok(lines(alloc, &header)?)
 }
 
-// The metadata, the counts, and the header written again, a line each.
+/// The metadata, the counts, and the header written again, a line each.
 fn lines(alloc: Global, header: &Header) -> Result<String, ProtoError>
     ensures value { IfOk result (λ text. string_bytes text ≡ header_lines header.now) }
     ensures only { IsOkUnless result ProtoError.Memory }
@@ -58,7 +58,7 @@ fn three_lines(alloc: Global, first: &str, second: &str, third: &str) -> Result<
     format!(in alloc; "{first}\n{second}\n{third}\n")
 }
 
-// The bytes of the header.
+/// The bytes of the header.
 fn written(alloc: Global, header: &Header) -> Result<Vec<u8>, ProtoError>
     ensures value { IfOk result (λ bytes. bytes.items ≡ header_bytes (raw_header header.now)) }
     ensures only { IsOkUnless result ProtoError.Memory }

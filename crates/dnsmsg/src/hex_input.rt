@@ -9,7 +9,7 @@ use base::ProtoError;
 use hex::FromHexError;
 use std::alloc::{AllocError, Global};
 
-// Whether the byte only sets others apart.
+/// Whether the byte only sets others apart.
 fn is_blank(byte: u8) -> bool
     ensures { result ≡ is_blank byte }
 {

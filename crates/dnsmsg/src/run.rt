@@ -50,7 +50,7 @@ pub fn run<R: Read, W: Write>(alloc: Global, words: &[String], input: &mut R, ou
 }
 
 impl Command {
-    // What the command prints of the input, where these are all words. An update is judged before the input is read.
+    /// What the command prints of the input, where these are all words. An update is judged before the input is read.
     fn answer<R: Read>(
         self,
         alloc: Global,
@@ -83,7 +83,7 @@ impl Command {
     }
 }
 
-// The words after the command and the origin.
+/// The words after the command and the origin.
 fn after_origin(words: &[String]) -> &[String]
     ensures { texts result.now ≡ words_after_origin (texts words.now) }
 {

@@ -16,7 +16,7 @@ use std::alloc::{AllocError, Global};
 use std::io::Read;
 use std::process::Abort;
 
-// The words as the program gets them.
+/// The words as the program gets them.
 fn words_of(alloc: Global, words: &[&str]) -> Result<Vec<String>, AllocError> {
     let mut texts = Vec::new(alloc);
     for word in words {
@@ -25,7 +25,7 @@ fn words_of(alloc: Global, words: &[&str]) -> Result<Vec<String>, AllocError> {
     Ok(texts)
 }
 
-// The status and the output of a run.
+/// The status and the output of a run.
 fn ran<R: Read>(alloc: Global, words: &[&str], input: &mut R) -> Result<(u8, Vec<u8>), AllocError> {
     let texts = words_of(alloc, words)?;
     let mut output = Vec::new(alloc);
@@ -33,16 +33,16 @@ fn ran<R: Read>(alloc: Global, words: &[&str], input: &mut R) -> Result<(u8, Vec
     Ok((status, output))
 }
 
-// Parts of a text.
+/// Parts of a text.
 type Parts = &'static [&'static str];
 
-// The words, the parts of the input, the status, and the parts of what is printed.
+/// The words, the parts of the input, the status, and the parts of what is printed.
 type Row = (&'static [&'static str], Parts, u8, Parts);
 
-// What is printed where the words name no command.
+/// What is printed where the words name no command.
 const USAGE: Parts = &["usage: dnsmsg COMMAND [WORDS]\n"];
 
-// A run ends with this status and prints this.
+/// A run ends with this status and prints this.
 fn gives(
     rt: &(impl Abort + AllocGlobal),
     words: &[&str],
@@ -59,7 +59,7 @@ fn gives(
     Ok(())
 }
 
-// The same of an input and a text in parts.
+/// The same of an input and a text in parts.
 fn parts_give(
     rt: &(impl Abort + AllocGlobal),
     words: &[&str],
@@ -72,7 +72,7 @@ fn parts_give(
     gives(rt, words, &input, status, &printed)
 }
 
-// Each row gives what it says.
+/// Each row gives what it says.
 fn all_give(rt: &(impl Abort + AllocGlobal), rows: &[Row]) -> Result<(), AllocError> {
     for &(words, input, status, printed) in rows {
         parts_give(rt, words, input, status, printed)?;

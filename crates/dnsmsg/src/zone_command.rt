@@ -33,7 +33,7 @@ pub fn zone(
     Ok(zone_lines(alloc, &name, sets)?)
 }
 
-// The texts that words hand in, by their names. The last word of a name stands.
+/// The texts that words hand in, by their names. The last word of a name stands.
 fn included_texts(alloc: Global, words: &[String]) -> Result<BTreeMap<String, String>, AllocError>
     ensures { IfOk result (λ includes. (name : List ℕ)
         → texts_in includes name ≡ text_named (texts words.now) name) }
@@ -49,7 +49,7 @@ fn included_texts(alloc: Global, words: &[String]) -> Result<BTreeMap<String, St
     Ok(includes)
 }
 
-// What stands before the first equals sign, and what after it.
+/// What stands before the first equals sign, and what after it.
 fn name_and_text(word: &str) -> (&str, &str)
     ensures { (result.0.now ≡ before_first is_equals word.now)
         × (result.1.now ≡ after_first is_equals word.now) }

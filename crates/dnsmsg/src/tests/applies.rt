@@ -4,17 +4,17 @@ use super::{Parts, Row, USAGE, all_give, parts_give};
 use std::alloc::AllocError;
 use std::process::Abort;
 
-// The parts of an update of `example.`, of the zone's text, and of what is printed.
+/// The parts of an update of `example.`, of the zone's text, and of what is printed.
 type Applied = (Parts, Parts, Parts);
 
-// The start of `example.` and its name server.
+/// The start of `example.` and its name server.
 const START: &str = "@ 3600 SOA ns hostmaster 1 2 3 4 5\n@ NS ns\n";
 
 const WWW: &str = "www 300 A 192.0.2.1\n";
 
 const ALIAS: &str = "www 300 CNAME ns\n";
 
-// How these are printed.
+/// How these are printed.
 const SHOWN: &str =
     "$ORIGIN example.\nexample. 3600 IN NS ns.example.\nexample. 3600 IN SOA ns.example. hostmaster.example. 1 2 3 4 5\n";
 
@@ -22,7 +22,7 @@ const SHOWN_WWW: &str = "www.example. 300 IN A 192.0.2.1\n";
 
 const SHOWN_ALIAS: &str = "www.example. 300 IN CNAME ns.example.\n";
 
-// An update of `example.` up to its one prerequisite, and up to its one change.
+/// An update of `example.` up to its one prerequisite, and up to its one change.
 const ASK: &str = "0007 2800 0001 0001 0000 0000 076578616D706C65 00 0006 0001";
 
 const CHANGE: &str = "0007 2800 0001 0000 0001 0000 076578616D706C65 00 0006 0001";
@@ -50,13 +50,13 @@ const DELETE_DATA: &str =
 const DELETE_SET: &str =
     "0005 2800 0001 0000 0001 0000 076578616D706C65 00 0006 0001 03777777 C00C 0001 00FF 00000000 0000";
 
-// The zone before the update of ten.
+/// The zone before the update of ten.
 const TEN_TEXT: &str =
     "@ 3600 SOA ns hostmaster 1 2 3 4 5\n@ NS ns\n@ NS ns2\n@ MX 10 mail\nns A 192.0.2.1\nns2 A 192.0.2.2\nmail 600 A 192.0.2.3\nwww 300 A 192.0.2.4\nwww A 192.0.2.5\n";
 
 const TEN_MORE: &str = "ftp 300 CNAME www\nold A 192.0.2.6\nold TXT gone\n";
 
-// And how it is printed.
+/// And how it is printed.
 const TEN_SHOWN: &str =
     "$ORIGIN example.\nexample. 3600 IN NS ns.example.\nexample. 3600 IN NS ns2.example.\nexample. 3600 IN SOA ns.example. hostmaster.example. 1 2 3 4 5\nexample. 3600 IN MX 10 mail.example.\n";
 
@@ -65,21 +65,21 @@ const TEN_SHOWN_MORE: &str =
      ns2.example. 3600 IN A 192.0.2.2\nold.example. 300 IN A 192.0.2.6\nold.example. 300 IN TXT \"gone\"\n\
      www.example. 300 IN A 192.0.2.4\nwww.example. 300 IN A 192.0.2.5\n";
 
-// Its header, and the zone section.
+/// Its header, and the zone section.
 const TEN_START: &str = "1F2E 2800 0001 000A 000A 0000 076578616D706C65 00 0006 0001";
 
-// Ten prerequisites (RFC 2136, 2.4): www has the addresses 192.0.2.4 and 192.0.2.5 and no other; the zone has mail
-// exchanges, and ns an address; old is in use, and new isn't; www has no address of IPv6; ftp is an alias; old has the
-// one text gone; mail is in use.
+/// Ten prerequisites (RFC 2136, 2.4): www has the addresses 192.0.2.4 and 192.0.2.5 and no other; the zone has mail
+/// exchanges, and ns an address; old is in use, and new isn't; www has no address of IPv6; ftp is an alias; old has the
+/// one text gone; mail is in use.
 const TEN_ASKED: &str =
     "03777777 C00C 0001 0001 00000000 0004 C0000204 C019 0001 0001 00000000 0004 C0000205 C00C 000F 00FF 00000000 0000 026E73 C00C 0001 00FF 00000000 0000 036F6C64 C00C 00FF 00FF 00000000 0000";
 
 const TEN_ASKED_MORE: &str =
     "036E6577 C00C 00FF 00FE 00000000 0000 C019 001C 00FE 00000000 0000 03667470 C00C 0005 00FF 00000000 0000 036F6C64 C00C 0010 0001 00000000 0005 04676F6E65 046D61696C C00C 00FF 00FF 00000000 0000";
 
-// Ten changes (RFC 2136, 2.5): www is given 2001:db8::4, the address that it has with 60 seconds, loses 192.0.2.5 and is
-// given 192.0.2.7; all of old goes; new becomes an alias of www; the alias of ftp goes, and ftp is given an address; ns2
-// is no server any more; the mail exchanges go.
+/// Ten changes (RFC 2136, 2.5): www is given 2001:db8::4, the address that it has with 60 seconds, loses 192.0.2.5 and is
+/// given 192.0.2.7; all of old goes; new becomes an alias of www; the alias of ftp goes, and ftp is given an address; ns2
+/// is no server any more; the mail exchanges go.
 const TEN_CHANGES: &str =
     "C019 001C 0001 0000003C 0010 20010DB8000000000000000000000004 C019 0001 0001 0000003C 0004 C0000204 C019 0001 \
      00FE 00000000 0004 C0000205 C019 0001 0001 0000003C 0004 C0000207 036F6C64 C00C 00FF 00FF 00000000 0000";
@@ -88,13 +88,13 @@ const TEN_CHANGES_MORE: &str =
     "036E6577 C00C 0005 0001 0000003C 0002 C019 03667470 C00C 0005 00FF 00000000 0000 03667470 C00C 0001 \
      0001 0000003C 0004 C0000208 C00C 0002 00FE 00000000 0006 036E7332 C00C C00C 000F 00FF 00000000 0000";
 
-// The zone then, by RFC 2136, 3.4.2.
+/// The zone then, by RFC 2136, 3.4.2.
 const TEN_LEFT: &str =
     "ftp.example. 60 IN A 192.0.2.8\nmail.example. 600 IN A 192.0.2.3\nnew.example. 60 IN CNAME www.example.\n\
      ns.example. 3600 IN A 192.0.2.1\nns2.example. 3600 IN A 192.0.2.2\nwww.example. 60 IN A 192.0.2.4\n\
      www.example. 60 IN A 192.0.2.7\nwww.example. 60 IN AAAA 2001:db8::4\n";
 
-// Updates, the texts of zones, and what is printed of them.
+/// Updates, the texts of zones, and what is printed of them.
 const APPLIED: &[Applied] = &[
     // a set is swapped once
     (
@@ -295,7 +295,7 @@ const APPLIED: &[Applied] = &[
     ),
 ];
 
-// The update of a row leaves what the row says.
+/// The update of a row leaves what the row says.
 fn leaves(
     rt: &(impl Abort + AllocGlobal),
     update: &[&str],

@@ -5,7 +5,7 @@ use std::io::{self, ErrorKind, Read, Write};
 
 const HEADER: &[u8] = b"0110AA83 88776655 44332211\n";
 
-// Gives as many bytes of a header as it has left, and then fails with an error of this kind.
+/// Gives as many bytes of a header as it has left, and then fails with an error of this kind.
 #[derive(Drop)]
 struct BrokenReader {
     left: usize,
@@ -23,7 +23,7 @@ impl Read for BrokenReader {
     }
 }
 
-// Fails at its first write.
+/// Fails at its first write.
 #[derive(Drop)]
 struct BrokenWriter;
 
@@ -37,7 +37,7 @@ impl Write for BrokenWriter {
     }
 }
 
-// The status, and how many bytes are printed, where the reader fails after so many bytes.
+/// The status, and how many bytes are printed, where the reader fails after so many bytes.
 fn cut_off(
     alloc: Global,
     words: &[&str],
@@ -78,7 +78,7 @@ fn an_update_is_judged_before_the_input_is_read(rt: HostRuntime) -> Result<(), A
     Ok(())
 }
 
-// The status where the output takes nothing.
+/// The status where the output takes nothing.
 fn unwritten(alloc: Global, words: &[&str], mut input: &[u8]) -> Result<u8, AllocError> {
     let texts = words_of(alloc, words)?;
     Ok(run(alloc, &texts, &mut input, &mut BrokenWriter))
@@ -92,7 +92,7 @@ fn a_writer_that_fails_is_status_three(rt: HostRuntime) -> Result<(), AllocError
     Ok(())
 }
 
-// Counts how often it is read, and has nothing to give.
+/// Counts how often it is read, and has nothing to give.
 #[derive(Drop)]
 struct CountingReader {
     calls: u32,
@@ -105,7 +105,7 @@ impl Read for CountingReader {
     }
 }
 
-// The status, and how often the input was read.
+/// The status, and how often the input was read.
 fn read_so_often(alloc: Global, words: &[&str]) -> Result<(u8, u32), AllocError> {
     let mut input = CountingReader { calls: 0 };
     let (status, _output) = ran(alloc, words, &mut input)?;
@@ -127,7 +127,7 @@ fn wrong_words_are_judged_before_the_input_is_read(rt: HostRuntime) -> Result<()
     Ok(())
 }
 
-// Takes as many bytes as it has room for, one at a time, and then fails.
+/// Takes as many bytes as it has room for, one at a time, and then fails.
 #[derive(Drop)]
 struct NarrowWriter {
     room: usize,
@@ -151,7 +151,7 @@ impl Write for NarrowWriter {
     }
 }
 
-// The status where the output takes so many bytes, and whether those begin the line that is wanted.
+/// The status where the output takes so many bytes, and whether those begin the line that is wanted.
 fn written_before_it_fails(
     alloc: Global,
     words: &[&str],

@@ -12,7 +12,7 @@ const WWW: &str = "100081800001000100000000037777770765\
 const WWW_CUT: &str = "1000838000010000000000000377777707\
     6578616d706c6503636f6d0000010001";
 
-// A response with a question, an answer of 53 bytes, an additional record of 16, EDNS of 35 and a signature of 12.
+/// A response with a question, an answer of 53 bytes, an additional record of 16, EDNS of 35 and a signature of 12.
 const SIGNED: &str = "000780000001000100000003\
     01610000010001\
     c00c001000010000003c0029\
@@ -21,7 +21,7 @@ const SIGNED: &str = "000780000001000100000003\
     00002904d0000000000018fde900140000000000000000000000000000000000000000\
     0000fa00ff000000000001aa";
 
-// A response whose answer and additional record have the same owner, which is stored with the answer.
+/// A response whose answer and additional record have the same owner, which is stored with the answer.
 const SAME_OWNER: &str = "000880000001000100000001\
     01610000010001\
     0178c00c001000010000003c0029\
@@ -134,13 +134,13 @@ fn rows_of_cuts(rt: HostRuntime) -> Result<(), AllocError> {
     all_give(&rt, ROWS)
 }
 
-// The status and the output under a limit.
+/// The status and the output under a limit.
 fn cut(alloc: Global, input: &str, limit: u16) -> Result<(u8, Vec<u8>), AllocError> {
     let number = format!(in alloc; "{limit}")?;
     ran(alloc, &["cut", &number], &mut input.as_bytes())
 }
 
-// Whether the limit gives a message of this many bytes that begins with this header.
+/// Whether the limit gives a message of this many bytes that begins with this header.
 fn begins(
     alloc: Global,
     input: &str,
@@ -152,13 +152,13 @@ fn begins(
     Ok(status == 0 && printed.len() / 2 == len && printed.starts_with(header.as_bytes()))
 }
 
-// Whether the limit is refused with this line.
+/// Whether the limit is refused with this line.
 fn is_refused(alloc: Global, input: &str, limit: u16, line: &str) -> Result<bool, AllocError> {
     let (status, printed) = cut(alloc, input, limit)?;
     Ok(status == 1 && printed.as_slice() == line.as_bytes())
 }
 
-// Whether each limit from `first` to `last` gives a message of this many bytes that begins with this header.
+/// Whether each limit from `first` to `last` gives a message of this many bytes that begins with this header.
 fn all_begin(
     alloc: Global,
     input: &str,
@@ -175,7 +175,7 @@ fn all_begin(
     Ok(true)
 }
 
-// A message, the first and the last of some limits, and the length and the header of what is written under each of them.
+/// A message, the first and the last of some limits, and the length and the header of what is written under each of them.
 const LIMITS: &[(&'static str, u16, u16, usize, &'static str)] = &[
     (SIGNED, 19, 30, 19, "000782000001000000000000"),
     (SIGNED, 31, 34, 31, "000782000001000000000001"),

@@ -114,18 +114,18 @@ fn rows_of_included_texts(rt: HostRuntime) -> Result<(), AllocError> {
     all_give(&rt, INCLUDED)
 }
 
-// A text of a chain: its name, and what it includes.
+/// A text of a chain: its name, and what it includes.
 fn link(alloc: Global, place: usize) -> Result<String, AllocError> {
     let next = place.saturating_add(1);
     format!(in alloc; "{place}=$INCLUDE {next}\n")
 }
 
-// The last text of a chain.
+/// The last text of a chain.
 fn end_of_chain(alloc: Global, place: usize, last: &str) -> Result<String, AllocError> {
     format!(in alloc; "{place}={last}")
 }
 
-// The words of a zone under `a.` with so many texts, each including the next, and with the last of them.
+/// The words of a zone under `a.` with so many texts, each including the next, and with the last of them.
 fn chain(alloc: Global, length: usize, last: &str) -> Result<Vec<String>, AllocError> {
     let mut words = Vec::new(alloc);
     words.push(String::from_str(alloc, "zone")?)?;
@@ -137,7 +137,7 @@ fn chain(alloc: Global, length: usize, last: &str) -> Result<Vec<String>, AllocE
     Ok(words)
 }
 
-// A chain of so many included texts, and one that includes the first, ends with this status and prints this.
+/// A chain of so many included texts, and one that includes the first, ends with this status and prints this.
 fn chain_gives(
     rt: &(impl Abort + AllocGlobal),
     length: usize,
@@ -157,11 +157,11 @@ fn chain_gives(
     Ok(())
 }
 
-// What is printed of a chain that ends with an address.
+/// What is printed of a chain that ends with an address.
 const FOUND: &str = "$ORIGIN a.\nx.a. 5 IN A 192.0.2.1\n";
 
-// How many texts are included, the last of them, the status, and what is printed. The depth is tested before the text is
-// looked up: what one text less deep is not found isn't looked for there.
+/// How many texts are included, the last of them, the status, and what is printed. The depth is tested before the text is
+/// looked up: what one text less deep is not found isn't looked for there.
 const CHAINS: &[(usize, &'static str, u8, &'static str)] = &[
     (1, "x 5 A 192.0.2.1\n", 0, FOUND),
     (255, "x 5 A 192.0.2.1\n", 0, FOUND),

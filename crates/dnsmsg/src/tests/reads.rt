@@ -135,7 +135,7 @@ example. 300 IN MX 10 mail.example.
     ),
 ];
 
-// Records, and the headers of messages with so many of them.
+/// Records, and the headers of messages with so many of them.
 const A: &str = "00 00 01 00 01 00 00 00 00 00 04 7F 00 00 01";
 
 const OPT: &str = "00 00 29 02 00 00 00 00 00 00 00";
@@ -166,7 +166,7 @@ const ADDITIONALS: &str = "00 01 00 00 00 00 00 00 00 00 00 03";
 
 const EXTENDED: &str = "00 01 00 00 00 00 00 01 00 00 00 02";
 
-// An exchange up to the length of its data, and after it.
+/// An exchange up to the length of its data, and after it.
 const EXCHANGE: &str =
     "00 09 81 80 00 01 00 01 00 00 00 00 07 65 78 61 6D 70 6C 65 00 00 0F 00 01 C0 0C 00 0F 00 01 00 00 01 2C 00";
 

@@ -3,7 +3,7 @@
 use super::{Row, USAGE, all_give};
 use std::alloc::AllocError;
 
-// The words of a text under the origin `a.`.
+/// The words of a text under the origin `a.`.
 const A: &[&str] = &["zone", "a."];
 
 const ZONES: &[Row] = &[
