@@ -115,9 +115,15 @@ fn put_list(alloc: Global, message: &mut Message, part: Part) -> Result<(), Fail
         Part::Additionals(owners) => {
             message.add_additionals(addresses(alloc, owners)?.into_iter())?
         }
-        Part::AllAnswers(owners) => message.insert_answers(addresses(alloc, owners)?),
-        Part::AllAuthorities(owners) => message.insert_authorities(addresses(alloc, owners)?),
-        Part::AllAdditionals(owners) => message.insert_additionals(addresses(alloc, owners)?),
+        Part::AllAnswers(owners) if message.answers.is_empty() => {
+            message.insert_answers(addresses(alloc, owners)?)
+        }
+        Part::AllAuthorities(owners) if message.authorities.is_empty() => {
+            message.insert_authorities(addresses(alloc, owners)?)
+        }
+        Part::AllAdditionals(owners) if message.additionals.is_empty() => {
+            message.insert_additionals(addresses(alloc, owners)?)
+        }
         _ => {}
     }
     Ok(())
