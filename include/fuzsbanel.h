@@ -181,9 +181,10 @@ int64_t fuzsbanel_delete_rrset(uint16_t id, const uint8_t *origin, size_t origin
 int64_t fuzsbanel_delete_all(uint16_t id, const uint8_t *origin, size_t origin_len, const uint8_t *owner,
                              size_t owner_len, bool use_edns, uint8_t *out, size_t cap, size_t *needed);
 
-/* Asks for all of a zone (RFC 5936, 2.1). */
-int64_t fuzsbanel_zone_transfer(uint16_t id, const uint8_t *origin, size_t origin_len, uint8_t *out, size_t cap,
-                                size_t *needed);
+/* Asks for all of a zone (RFC 5936, 2.1), or for what changed since an SOA (RFC 1995, 3): zone text of one record at the
+ * origin, as `@ 300 SOA ns hostmaster 1 7200 3600 1209600 300`; an empty text asks for all. */
+int64_t fuzsbanel_zone_transfer(uint16_t id, const uint8_t *origin, size_t origin_len, const uint8_t *last_soa,
+                                size_t last_soa_len, uint8_t *out, size_t cap, size_t *needed);
 
 #ifdef __cplusplus
 }

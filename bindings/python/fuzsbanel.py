@@ -166,7 +166,7 @@ CALLS = {
     "delete_by_rdata": ID + BYTES + BYTES + EDNS + OUT,
     "delete_rrset": ID + BYTES + BYTES + [ctypes.c_uint16] + EDNS + OUT,
     "delete_all": ID + BYTES + BYTES + EDNS + OUT,
-    "zone_transfer": ID + BYTES + OUT,
+    "zone_transfer": ID + BYTES + BYTES + OUT,
 }
 for word, types in CALLS.items():
     call = getattr(LIBRARY, "fuzsbanel_" + word)
@@ -300,9 +300,9 @@ def delete_all(id_: int, origin: str, owner: str, use_edns: bool = False) -> byt
     return filled(512, "delete_all", id_, origin, owner, use_edns)
 
 
-def zone_transfer(id_: int, origin: str) -> bytes:
-    """The question for all of a zone."""
-    return filled(512, "zone_transfer", id_, origin)
+def zone_transfer(id_: int, origin: str, last_soa: str = "") -> bytes:
+    """The question for all of a zone, or for what changed since the SOA that is zone text of one record."""
+    return filled(512, "zone_transfer", id_, origin, last_soa)
 
 
 def show(message: bytes) -> None:

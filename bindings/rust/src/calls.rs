@@ -145,6 +145,8 @@ extern "C" {
         id: u16,
         origin: *const u8,
         origin_len: usize,
+        last_soa: *const u8,
+        last_soa_len: usize,
         out: *mut u8,
         cap: usize,
         needed: *mut usize,

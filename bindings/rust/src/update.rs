@@ -175,16 +175,31 @@ pub fn delete_all(id: u16, origin: &str, owner: &str, use_edns: bool) -> Result<
     })
 }
 
-/// Asks for all of a zone (RFC 5936, 2.1).
+/// Asks for all of a zone (RFC 5936, 2.1), or for what changed since an SOA (RFC 1995, 3), which is zone text of one
+/// record at the origin.
 ///
 /// # Errors
 ///
-/// [`Error::BadText`] for what is no name.
-pub fn zone_transfer(id: u16, origin: &str) -> Result<Vec<u8>, Error> {
+/// [`Error::BadText`] for an origin that is no name; what the parser refuses; [`Error::Input`] for a text that is not
+/// one SOA at the origin.
+pub fn zone_transfer(id: u16, origin: &str, last_soa: Option<&str>) -> Result<Vec<u8>, Error> {
+    let last = last_soa.unwrap_or("");
+    if last_soa.is_some() && last.is_empty() {
+        return Err(Error::Input);
+    }
     filled(ROOM, |out, cap, needed| {
         // SAFETY: as in `create`.
         unsafe {
-            calls::fuzsbanel_zone_transfer(id, origin.as_ptr(), origin.len(), out, cap, needed)
+            calls::fuzsbanel_zone_transfer(
+                id,
+                origin.as_ptr(),
+                origin.len(),
+                last.as_ptr(),
+                last.len(),
+                out,
+                cap,
+                needed,
+            )
         }
     })
 }

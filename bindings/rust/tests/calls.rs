@@ -130,9 +130,23 @@ fn every_builder_changes_its_set() {
     let transfer =
         b"\0\x07\0\0\0\x01\0\0\0\0\0\x01\x07example\0\0\xfc\0\x01\0\0\x29\x04\xd0\0\0\0\0\0\0";
     assert_eq!(
-        fuzsbanel::zone_transfer(7, "example.").as_deref(),
+        fuzsbanel::zone_transfer(7, "example.", None).as_deref(),
         Ok(&transfer[..])
     );
+    let changes = b"\0\x06\0\0\0\x01\0\0\0\x01\0\x01\x07example\0\0\xfb\0\x01\xc0\x0c\0\x06\0\x01\0\0\0\0\0\x26\
+        \x02ns\xc0\x0c\x0ahostmaster\xc0\x0c\0\0\0\x01\0\0\x1c\x20\0\0\x0e\x10\0\x12\x75\0\0\0\x01\x2c\
+        \0\0\x29\x04\xd0\0\0\0\0\0\0";
+    let soa = "@ 300 SOA ns hostmaster 1 7200 3600 1209600 300\n";
+    assert_eq!(
+        fuzsbanel::zone_transfer(6, "example.", Some(soa)).as_deref(),
+        Ok(&changes[..])
+    );
+    for other in ["", "www 300 A 192.0.2.1\n", "sub 300 SOA a b 1 2 3 4 5\n"] {
+        assert_eq!(
+            fuzsbanel::zone_transfer(6, "example.", Some(other)),
+            Err(Error::Input)
+        );
+    }
 }
 
 #[test]

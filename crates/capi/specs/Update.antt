@@ -1,15 +1,19 @@
 -- What the builders of updates are asked for, as texts.
-use Rattle.std.specs.Prelude.{ℕ, Bool, List, [], ◌∷◌, if◌then◌else◌, Some, None, Ok, Err, true}
+use Rattle.std.specs.Prelude.{ℕ, Bool, List, [], ◌∷◌, if◌then◌else◌, Option, Some, None, Ok, Err, slice_get, true}
 use Rattle.base.specs.Labels.{NameValue}
 use Rattle.base.specs.NameOf.{name_of}
-use Rattle.base.specs.NameOrder.{is_zone_of}
+use Rattle.base.specs.NameOrder.{is_zone_of, same_name}
 use Rattle.base.specs.RecordType.{type_of}
 use Rattle.base.specs.declared.dns_class.DNSClass.TheVariants as classes
 use Rattle.op.specs.Message.{MessageValue}
 use Rattle.op.specs.MessageWritten.{message_answer}
 use Rattle.op_use.specs.UpdateMessage.{append, compare_and_swap, create, delete_all, delete_by_rdata, delete_rrset, empty_record, transfer_message, update_message}
 use Rattle.op_use.specs.Server.{Sections}
+use Rattle.base_data.specs.declared.rdata.RData.{RData}
+use Rattle.base_data.specs.declared.rdata.RData.TheVariants as kinds
+use Rattle.base_data.specs.declared.rdata.soa.SOA.{SOA}
 use Rattle.rr.specs.RecordSet.{SetValue}
+use Rattle.rr.specs.declared.record.Record.{Record}
 use Rattle.txt.specs.ZoneSets.{ZoneSets}
 use Rattle.parsed_zone.specs.Faults.{numbered}
 use Rattle.parsed_zone.specs.ZoneText.{no_texts, zone_of_bytes}
@@ -44,6 +48,22 @@ abbrev pub owner_of_text : NameValue → List ℕ → Asked NameValue
 owner_of_text origin text =
     characters text >>= λ chars. numbered (name_of chars (Some origin)) >>= λ owner.
     if is_zone_of origin owner then Ok owner else Err 24
+
+-- the SOA that data is; else 24
+abbrev pub soa_of : RData → Asked (Option SOA)
+soa_of (kinds.SOA soa) = Ok (Some soa)
+soa_of _ = Err 24
+
+-- the SOA of a record that may be there; else 24
+abbrev pub soa_of_record : Option (Record RData) → Asked (Option SOA)
+soa_of_record (Some r) = soa_of r.rdata
+soa_of_record None = Err 24
+
+-- the SOA of a zone that zone text has as its one record; none of an empty text
+abbrev pub soa_of_text : NameValue → List ℕ → Asked (Option SOA)
+soa_of_text zone [] = Ok None
+soa_of_text zone (b ∷ bs) = set_of_text zone (b ∷ bs) >>= λ set.
+    if same_name set.name zone then soa_of_record (slice_get set.records 0) else Err 24
 
 -- ---- messages
 
@@ -106,6 +126,7 @@ delete_set_of id origin owner type use_edns = asked_of origin (by_owner id use_e
 abbrev pub delete_all_of : ℕ → List ℕ → List ℕ → Bool → Asked (List ℕ)
 delete_all_of id origin owner use_edns = asked_of origin (by_owner id use_edns (λ name zone. delete_all name zone classes.IN) owner)
 
--- the bytes of the message that asks for a zone (RFC 5936, 2.1)
-abbrev pub transfer_of : ℕ → List ℕ → Asked (List ℕ)
-transfer_of id origin = asked_of origin (λ zone. Ok (transfer_message id zone None))
+-- the bytes of the message that asks for a zone (RFC 5936, 2.1), or for what changed since an SOA (RFC 1995, 3)
+abbrev pub transfer_of : ℕ → List ℕ → List ℕ → Asked (List ℕ)
+transfer_of id origin last =
+    asked_of origin (λ zone. soa_of_text zone last >>= λ soa. Ok (transfer_message id zone soa))

@@ -23,7 +23,7 @@ pub fn give(made: Result<Vec<u8>, Refusal>, out: &mut [u8], needed: &mut usize) 
         }
         Err(refusal) => {
             *needed = 0;
-            refused(refusal)
+            refusal_code(refusal)
         }
     }
 }
@@ -35,7 +35,7 @@ pub fn number(made: Result<usize, Refusal>) -> i64
 {
     match made {
         Ok(n) => length(n),
-        Err(refusal) => refused(refusal),
+        Err(refusal) => refusal_code(refusal),
     }
 }
 
@@ -57,7 +57,7 @@ fn length(len: usize) -> i64
 }
 
 /// A refusal as it is answered.
-fn refused(refusal: Refusal) -> i64
+fn refusal_code(refusal: Refusal) -> i64
     ensures { result ≡ neg_ℤ (pos refusal.number) }
 {
     -i64::from(refusal.number)

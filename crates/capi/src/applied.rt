@@ -29,11 +29,11 @@ pub extern "C" fn fuzsbanel_apply(
     ensures { IsAnswered (applied_text update.now origin.now text.now)
         out.old out.new needed.new result }
 {
-    give(applied(alloc, update, origin, text), out, needed)
+    give(apply(alloc, update, origin, text), out, needed)
 }
 
 /// The code and the zone after the update.
-fn applied(alloc: Global, update: &[u8], origin: &[u8], text: &[u8]) -> Result<Vec<u8>, Refusal>
+fn apply(alloc: Global, update: &[u8], origin: &[u8], text: &[u8]) -> Result<Vec<u8>, Refusal>
     ensures { Makes (λ lines. lines.items) (applied_text update.now origin.now text.now) result }
 {
     let message = Message::from_vec(alloc, update)?;

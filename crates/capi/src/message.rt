@@ -81,11 +81,11 @@ fn cut(alloc: Global, bytes: &[u8], limit: u16) -> Result<Vec<u8>, Refusal>
     ensures cut { IfOk result (λ sent. IsCutOf bytes.now limit sent.items) }
 {
     let message = Message::from_vec(alloc, bytes)?;
-    Ok(written(alloc, &message, limit)?)
+    Ok(bytes_within(alloc, &message, limit)?)
 }
 
 /// The bytes of the message under a limit.
-fn written(alloc: Global, message: &Message, limit: u16) -> Result<Vec<u8>, ProtoError>
+fn bytes_within(alloc: Global, message: &Message, limit: u16) -> Result<Vec<u8>, ProtoError>
     requires { Fits (message_value message.now) }
     ensures ok { IfOk result (λ bytes. IsWritten (message_value message.now) limit bytes.items) }
     ensures answer { IfOk result (λ bytes. message_answer limit (message_value message.now)

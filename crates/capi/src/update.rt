@@ -1,4 +1,4 @@
-//! Messages that ask a server to update a zone, or for all of it (RFC 2136, 2; RFC 5936).
+//! Messages that ask a server to update a zone, for all of it, or for what changed (RFC 2136, 2; RFC 5936; RFC 1995).
 //!
 //! The origin is the text of the zone's name, and a set the zone text of its records: one set, whose owner lies in the
 //! zone. Each message has the class IN, and with `use_edns` takes answers of up to 1232 bytes.
@@ -153,20 +153,25 @@ pub extern "C" fn fuzsbanel_delete_all(
     give(update(alloc, id, origin, change, use_edns), out, needed)
 }
 
-/// Writes the question for all of a zone into the caller's buffer (RFC 5936, 2.1). It takes answers of up to 1232 bytes.
+/// Writes the question for all of a zone into the caller's buffer (RFC 5936, 2.1), or for what changed since an SOA
+/// (RFC 1995, 3). It takes answers of up to 1232 bytes. The SOA is zone text of one record at the origin; an empty text
+/// asks for all.
 ///
 /// # Errors
 ///
-/// 24 for an origin that isn't UTF-8, 23 for one that is no name.
+/// 24 for a text that isn't UTF-8, and for one that is another record, or more of them; 23 for an origin that is no
+/// name; and the number of what the parser refuses.
 #[unsafe(no_mangle)]
 pub extern "C" fn fuzsbanel_zone_transfer(
     alloc: Global,
     id: u16,
     origin: &[u8],
+    last_soa: &[u8],
     out: &mut [u8],
     needed: &mut usize,
 ) -> i64
-    ensures { IsAnswered (transfer_of id origin.now) out.old out.new needed.new result }
+    ensures { IsAnswered (transfer_of id origin.now last_soa.now)
+        out.old out.new needed.new result }
 {
-    give(transfer(alloc, id, origin), out, needed)
+    give(transfer(alloc, id, origin, last_soa), out, needed)
 }

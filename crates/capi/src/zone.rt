@@ -31,11 +31,11 @@ pub extern "C" fn fuzsbanel_zone(
 ) -> i64
     ensures { IsAnswered (canonical_text origin.now text.now) out.old out.new needed.new result }
 {
-    give(canonical(alloc, origin, text), out, needed)
+    give(canonical_text(alloc, origin, text), out, needed)
 }
 
 /// The zone of a text, as text.
-fn canonical(alloc: Global, origin: &[u8], text: &[u8]) -> Result<Vec<u8>, Refusal>
+fn canonical_text(alloc: Global, origin: &[u8], text: &[u8]) -> Result<Vec<u8>, Refusal>
     ensures { Makes (λ lines. lines.items) (canonical_text origin.now text.now) result }
 {
     let (name, sets) = zone_of(alloc, origin, text)?;

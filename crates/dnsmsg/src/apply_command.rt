@@ -8,7 +8,7 @@ ghost use Rattle.dnsmsg.specs.Refusal.{refusal_number};
 ghost use Rattle.dnsmsg.specs.Words.{texts};
 ghost use Rattle.op.specs.Message.{message_value};
 
-use crate::hex_input::decoded;
+use crate::hex_input::decode;
 use crate::refusal::Refusal;
 use base::Name;
 use op::Message;
@@ -26,7 +26,7 @@ pub fn update(alloc: Global, words: &[String]) -> Result<Message, Refusal>
     ensures refused { IfErr result (λ e. (refusal_number e ≡ 3)
         ⊎ (update_of (texts words.now) ≡ Err (refusal_number e))) }
 {
-    let bytes = decoded(alloc, first_word(words).as_bytes())?;
+    let bytes = decode(alloc, first_word(words).as_bytes())?;
     Ok(Message::from_vec(alloc, &bytes)?)
 }
 

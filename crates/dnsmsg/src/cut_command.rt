@@ -9,7 +9,7 @@ ghost use Rattle.op.specs.Message.{message_value};
 ghost use Rattle.op.specs.MessageWritten.{message_answer};
 ghost use Rattle.dnsmsg.specs.CutCommand.{CutAnswers, hex_line};
 
-use crate::hex_input::decoded;
+use crate::hex_input::decode;
 use crate::refusal::Refusal;
 use base::{BinEncoder, ProtoError};
 use op::Message;
@@ -25,14 +25,14 @@ use std::alloc::{AllocError, Global};
 pub fn cut(alloc: Global, text: &[u8], limit: u16) -> Result<String, Refusal>
     ensures { CutAnswers limit text.now result }
 {
-    let bytes = decoded(alloc, text)?;
+    let bytes = decode(alloc, text)?;
     let message = Message::from_vec(alloc, &bytes)?;
-    let written = written(alloc, &message, limit)?;
+    let written = bytes_within(alloc, &message, limit)?;
     Ok(hex_line(alloc, &written)?)
 }
 
 /// The bytes of the message under a limit.
-fn written(alloc: Global, message: &Message, limit: u16) -> Result<Vec<u8>, ProtoError>
+fn bytes_within(alloc: Global, message: &Message, limit: u16) -> Result<Vec<u8>, ProtoError>
     requires { Fits (message_value message.now) }
     ensures ok { IfOk result (λ bytes. IsWritten (message_value message.now) limit bytes.items) }
     ensures err { IfErr result (λ e. (e ≡ refusals.Memory)

@@ -6,7 +6,7 @@ ghost use Rattle.op.specs.Header.{header_bytes, raw_header};
 ghost use Rattle.dnsmsg.specs.Answering.{Answers};
 ghost use Rattle.dnsmsg.specs.HeaderCommand.{header_answer, header_lines, counts_text, three_lines};
 
-use crate::hex_input::decoded;
+use crate::hex_input::decode;
 use crate::refusal::Refusal;
 use base::{BinDecodable, BinDecoder, BinEncodable, BinEncoder, ProtoError};
 use op::{Header, HeaderCounts};
@@ -20,7 +20,7 @@ use std::alloc::{AllocError, Global};
 pub fn header(alloc: Global, text: &[u8]) -> Result<String, Refusal>
     ensures { Answers string_bytes (header_answer text.now) result }
 {
-    let bytes = decoded(alloc, text)?;
+    let bytes = decode(alloc, text)?;
     if bytes.len() != 12 {
         return Err(Refusal::Input);
     }
@@ -33,7 +33,7 @@ fn lines(alloc: Global, header: &Header) -> Result<String, ProtoError>
     ensures value { IfOk result (λ text. string_bytes text ≡ header_lines header.now) }
     ensures only { IsOkUnless result ProtoError.Memory }
 {
-    let bytes = written(alloc, header)?;
+    let bytes = bytes_of(alloc, header)?;
     let metadata = header.metadata.to_string(alloc)?;
     let counts = counts_text(alloc, &header.counts)?;
     let hexadecimal = hex::encode(alloc, bytes)?;
@@ -59,7 +59,7 @@ fn three_lines(alloc: Global, first: &str, second: &str, third: &str) -> Result<
 }
 
 /// The bytes of the header.
-fn written(alloc: Global, header: &Header) -> Result<Vec<u8>, ProtoError>
+fn bytes_of(alloc: Global, header: &Header) -> Result<Vec<u8>, ProtoError>
     ensures value { IfOk result (λ bytes. bytes.items ≡ header_bytes (raw_header header.now)) }
     ensures only { IsOkUnless result ProtoError.Memory }
 {

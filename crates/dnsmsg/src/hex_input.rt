@@ -29,7 +29,7 @@ fn without_blanks(alloc: Global, text: &[u8]) -> Result<Vec<u8>, AllocError>
 /// # Errors
 ///
 /// 24 for a text that isn't hexadecimal; `Memory` if memory runs out.
-pub fn decoded(alloc: Global, text: &[u8]) -> Result<Vec<u8>, Refusal>
+pub fn decode(alloc: Global, text: &[u8]) -> Result<Vec<u8>, Refusal>
     ensures { Decodes (bytes_of text.now) result }
 {
     let digits = without_blanks(alloc, text)?;

@@ -4,7 +4,7 @@ ghost use Rattle.std.specs.String.{string_bytes};
 ghost use Rattle.dnsmsg.specs.Answering.{Answers};
 ghost use Rattle.dnsmsg.specs.ReadCommand.{read_answer};
 
-use crate::hex_input::decoded;
+use crate::hex_input::decode;
 use crate::refusal::Refusal;
 use op::Message;
 use std::alloc::Global;
@@ -19,7 +19,7 @@ use std::alloc::Global;
 pub fn read(alloc: Global, text: &[u8]) -> Result<String, Refusal>
     ensures { Answers string_bytes (read_answer text.now) result }
 {
-    let bytes = decoded(alloc, text)?;
+    let bytes = decode(alloc, text)?;
     let message = Message::from_vec(alloc, &bytes)?;
     Ok(message.to_string(alloc)?)
 }

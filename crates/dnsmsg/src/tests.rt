@@ -26,7 +26,11 @@ fn words_of(alloc: Global, words: &[&str]) -> Result<Vec<String>, AllocError> {
 }
 
 /// The status and the output of a run.
-fn ran<R: Read>(alloc: Global, words: &[&str], input: &mut R) -> Result<(u8, Vec<u8>), AllocError> {
+fn run_on<R: Read>(
+    alloc: Global,
+    words: &[&str],
+    input: &mut R,
+) -> Result<(u8, Vec<u8>), AllocError> {
     let texts = words_of(alloc, words)?;
     let mut output = Vec::new(alloc);
     let status = run(alloc, &texts, input, &mut output);
@@ -50,7 +54,7 @@ fn gives(
     status: u8,
     printed: &str,
 ) -> Result<(), AllocError> {
-    let (ended, output) = ran(rt.alloc(), words, &mut input.as_bytes())?;
+    let (ended, output) = run_on(rt.alloc(), words, &mut input.as_bytes())?;
     assert_eq!(rt;
         (ended, output.as_slice()),
         (status, printed.as_bytes()),

@@ -26,7 +26,7 @@ pub fn respond(alloc: Global, received: &[u8], answers: Vec<Record>) -> Result<V
     let query = Message::from_vec(alloc, received)?;
     let limit = query.max_payload();
     let response = response_to(alloc, query, answers);
-    sent(alloc, &response, limit)
+    bytes_within(alloc, &response, limit)
 }
 
 /// The response to a query that has these answers.
@@ -45,7 +45,7 @@ fn response_to(alloc: Global, query: Message, answers: Vec<Record>) -> Message
 }
 
 /// The bytes of a message, as much of it as the limit has room for.
-fn sent(alloc: Global, message: &Message, limit: u16) -> Result<Vec<u8>, ProtoError>
+fn bytes_within(alloc: Global, message: &Message, limit: u16) -> Result<Vec<u8>, ProtoError>
     ensures written { Fits (message_value message.now) → IfOk result (λ bytes. IsWritten (message_value message.now) limit bytes.items) }
     ensures refused { IfErr result (λ e. (e ≡ refusals.Memory) ⊎ IsTooSmall (message_value message.now) limit e) }
 {

@@ -24,7 +24,7 @@ pub struct CacheEntry {
 /// # Errors
 ///
 /// `Decode` where no message begins what was received; `NotAResponse` for a query; `Memory` if memory runs out.
-pub fn cached(alloc: Global, received: Vec<u8>, seconds: u32) -> Result<CacheEntry, ProtoError>
+pub fn cache_entry(alloc: Global, received: Vec<u8>, seconds: u32) -> Result<CacheEntry, ProtoError>
     ensures kept { IfOk result (λ entry. IsCached received.items seconds entry) }
     ensures refused { IfErr result (λ e. IsRefusedResponse received.items e) }
 {

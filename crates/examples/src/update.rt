@@ -41,14 +41,14 @@ pub fn create_in(
     ensures refused { IfErr result (λ e. IsUnsent origin.now set e ⊎ IsNoZone origin.now text.now e) }
 {
     built_updates_apply_as_named();
-    let bytes = sent(alloc, origin, set)?;
-    let update = received(alloc, &bytes)?;
+    let bytes = update_bytes(alloc, origin, set)?;
+    let update = whole_message(alloc, &bytes)?;
     let sets = zone_of_text(alloc, origin, text)?;
     Ok(apply_update(alloc, &sets, origin, DNSClass::IN, &update)?)
 }
 
 /// The bytes of the update that creates a set.
-fn sent(alloc: Global, origin: &Name, set: RecordSet) -> Result<Vec<u8>, ProtoError>
+fn update_bytes(alloc: Global, origin: &Name, set: RecordSet) -> Result<Vec<u8>, ProtoError>
     requires { is_zone_of origin.now set.name ≡ true }
     ensures written { IfOk result (λ bytes. IsSendable origin.now set → IsWritten (creating origin.now set) 65535 bytes.items) }
     ensures refused { IfErr result (λ e. (e ≡ refusals.Memory) ⊎ IsTooSmall (creating origin.now set) 65535 e) }
@@ -58,7 +58,7 @@ fn sent(alloc: Global, origin: &Name, set: RecordSet) -> Result<Vec<u8>, ProtoEr
 }
 
 /// The message that bytes begin with, if it was not cut.
-fn received(alloc: Global, bytes: &[u8]) -> Result<Message, Refusal>
+fn whole_message(alloc: Global, bytes: &[u8]) -> Result<Message, Refusal>
     ensures whole { IfOk result (λ m. IsReceived bytes.now (message_value m)) }
     ensures refused { IfErr result (λ e. IsNotReceived bytes.now e) }
 {

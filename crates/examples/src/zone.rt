@@ -14,7 +14,7 @@ use txt::Parser;
 /// # Errors
 ///
 /// The number of what the parser refuses.
-pub fn checked(alloc: Global, origin: Option<Name>, text: &str) -> Result<usize, u8>
+pub fn check(alloc: Global, origin: Option<Name>, text: &str) -> Result<usize, u8>
     ensures { Counts (zone_of no_texts origin text.now) result }
 {
     let includes = BTreeMap::new(alloc);

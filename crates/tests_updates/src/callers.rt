@@ -3,9 +3,9 @@
 use base::Name;
 use base_data::{A, RData};
 use examples::answer::respond;
-use examples::cache::cached;
+use examples::cache::cache_entry;
 use examples::update::create_in;
-use examples::zone::checked;
+use examples::zone::check;
 use op::ResponseCode;
 use rr::{Record, RecordSet};
 use std::alloc::Global;
@@ -71,7 +71,7 @@ const ABSENT: &str =
 
 /// The TTL of the first answer, and the negative TTL, so many seconds after the response.
 fn kept(alloc: Global, response: &str, seconds: u32) -> Result<(Option<u32>, Option<u32>), Fail> {
-    let entry = cached(alloc, decoded(alloc, response)?, seconds)?;
+    let entry = cache_entry(alloc, decoded(alloc, response)?, seconds)?;
     let said = (
         entry.answers.first().map(|answer| answer.ttl),
         entry.negative_ttl,
@@ -118,7 +118,7 @@ fn a_set_is_created_once(rt: HostRuntime) -> Result<(), Fail> {
 /// Whether the text has so many sets, or is refused with this number.
 fn is_checked(alloc: Global, text: &str, wanted: Result<usize, u8>) -> Result<bool, Fail> {
     let origin = Name::parse(alloc, "example.", None)?;
-    Ok(checked(alloc, Some(origin), text) == wanted)
+    Ok(check(alloc, Some(origin), text) == wanted)
 }
 
 #[test]

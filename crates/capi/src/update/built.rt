@@ -6,7 +6,7 @@ ghost use Rattle.capi.specs.Answer.{Makes};
 ghost use Rattle.capi.specs.Update.{asked_of, change_asked, sent, transfer_of};
 
 use crate::refusal::Refusal;
-use crate::update::sets::{origin_of, owner_in, set_in};
+use crate::update::sets::{origin_of, owner_in, set_in, soa_in};
 use base::{DNSClass, Name, RecordType};
 use op::Message;
 use op_use::update_message as builders;
@@ -85,12 +85,13 @@ fn message(
     }
 }
 
-/// The bytes of the question for all of a zone.
-pub fn transfer(alloc: Global, id: u16, origin: &[u8]) -> Result<Vec<u8>, Refusal>
-    ensures { Makes (λ bytes. bytes.items) (transfer_of id origin.now) result }
+/// The bytes of the question for all of a zone, or for what changed since the SOA of a text.
+pub fn transfer(alloc: Global, id: u16, origin: &[u8], last_soa: &[u8]) -> Result<Vec<u8>, Refusal>
+    ensures { Makes (λ bytes. bytes.items) (transfer_of id origin.now last_soa.now) result }
 {
     let zone = origin_of(alloc, origin)?;
-    bytes_of(&builders::zone_transfer(alloc, id, zone, None)?)
+    let last = soa_in(alloc, &zone, last_soa)?;
+    bytes_of(&builders::zone_transfer(alloc, id, zone, last)?)
 }
 
 /// The bytes of a message.

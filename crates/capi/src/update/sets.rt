@@ -3,11 +3,12 @@
 ghost use Rattle.std.specs.Prelude.{◌≡◌, IfOk, true};
 ghost use Rattle.base.specs.NameOrder.{is_zone_of};
 ghost use Rattle.capi.specs.Answer.{Makes};
-ghost use Rattle.capi.specs.Update.{only_set, owner_of_text, set_of_text, within, zone_name_of};
+ghost use Rattle.capi.specs.Update.{only_set, owner_of_text, set_of_text, soa_of, soa_of_text, within, zone_name_of};
 
 use crate::refusal::Refusal;
 use crate::zone::{characters_of, name_of};
 use base::{Name, RrKey};
+use base_data::{RData, SOA};
 use parsed_zone::zone_of_bytes;
 use rr::RecordSet;
 use std::alloc::Global;
@@ -43,6 +44,33 @@ pub fn owner_in(alloc: Global, origin: &Name, text: &[u8]) -> Result<Name, Refus
         return Err(Refusal::INPUT);
     }
     Ok(owner)
+}
+
+/// The SOA of a zone that zone text has as its one record; none of an empty text.
+pub fn soa_in(alloc: Global, origin: &Name, text: &[u8]) -> Result<Option<SOA>, Refusal>
+    ensures { Makes (λ soa. soa) (soa_of_text origin.now text.now) result }
+{
+    if text.is_empty() {
+        return Ok(None);
+    }
+    let set = set_in(alloc, origin, text)?;
+    if *set.name() != *origin {
+        return Err(Refusal::INPUT);
+    }
+    match set.record() {
+        Some(first) => soa_of(&first.rdata),
+        None => Err(Refusal::INPUT),
+    }
+}
+
+/// The SOA that data is.
+fn soa_of(rdata: &RData) -> Result<Option<SOA>, Refusal>
+    ensures { Makes (λ soa. soa) (soa_of rdata.now) result }
+{
+    match rdata {
+        RData::SOA(soa) => Ok(Some(soa.clone()?)),
+        _ => Err(Refusal::INPUT),
+    }
 }
 
 /// The set, if there is exactly one.

@@ -1,4 +1,4 @@
-use super::{ran, words_of};
+use super::{run_on, words_of};
 use crate::run::run;
 use std::alloc::{AllocError, Global};
 use std::io::{self, ErrorKind, Read, Write};
@@ -44,7 +44,7 @@ fn cut_off(
     left: usize,
     kind: ErrorKind,
 ) -> Result<(u8, usize), AllocError> {
-    let (status, output) = ran(alloc, words, &mut BrokenReader { left, kind })?;
+    let (status, output) = run_on(alloc, words, &mut BrokenReader { left, kind })?;
     Ok((status, output.len()))
 }
 
@@ -108,7 +108,7 @@ impl Read for CountingReader {
 /// The status, and how often the input was read.
 fn read_so_often(alloc: Global, words: &[&str]) -> Result<(u8, u32), AllocError> {
     let mut input = CountingReader { calls: 0 };
-    let (status, _output) = ran(alloc, words, &mut input)?;
+    let (status, _output) = run_on(alloc, words, &mut input)?;
     Ok((status, input.calls))
 }
 

@@ -1,6 +1,6 @@
 //! Rows of the command `cut`, and tables of limits.
 
-use super::{Row, USAGE, all_give, ran};
+use super::{Row, USAGE, all_give, run_on};
 use std::alloc::{AllocError, Global};
 
 const CUT: &[&str] = &["cut", "65535"];
@@ -137,7 +137,7 @@ fn rows_of_cuts(rt: HostRuntime) -> Result<(), AllocError> {
 /// The status and the output under a limit.
 fn cut(alloc: Global, input: &str, limit: u16) -> Result<(u8, Vec<u8>), AllocError> {
     let number = format!(in alloc; "{limit}")?;
-    ran(alloc, &["cut", &number], &mut input.as_bytes())
+    run_on(alloc, &["cut", &number], &mut input.as_bytes())
 }
 
 /// Whether the limit gives a message of this many bytes that begins with this header.

@@ -5,7 +5,7 @@ use Rattle.op.specs.Cut.{IsWritten}
 use Rattle.op.specs.Message.{MessageValue}
 use Rattle.op_use.specs.SoundSet.{IsSendable}
 use Rattle.examples.specs.Callers.{creating}
-use Rattle.examples.proofs.update.sent.Goals as goal
+use Rattle.examples.proofs.update.update_bytes.Goals as goal
 
 -- a fact of a result under a premise is one of its value
 under : {X E : Type 0} (S : Type 0) (P : X → Type 0) (r : Result X E) → (S → IfOk r P) → IfOk r (λ x. S → P x)

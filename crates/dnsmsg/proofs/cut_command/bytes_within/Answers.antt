@@ -2,7 +2,7 @@ use Rattle.std.proofs.Common.{ap, ◌∙◌, rules}
 use Rattle.base.specs.State.{State}
 use Rattle.op.specs.Message.{message_value}
 use Rattle.op.proofs.AnswerLemmas.{new_answer, new_of}
-use Rattle.dnsmsg.proofs.cut_command.written.Goals as goal
+use Rattle.dnsmsg.proofs.cut_command.bytes_within.Goals as goal
 
 pub returns-clause-answer : goal.returns-clause-answer
 returns-clause-answer c =

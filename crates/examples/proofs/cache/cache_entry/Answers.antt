@@ -1,6 +1,6 @@
 use Rattle.std.proofs.Common.{ap, map, rules, ◌∙◌}
 use Rattle.rr.specs.Record.{decremented}
-use Rattle.examples.proofs.cache.cached.Goals as goal
+use Rattle.examples.proofs.cache.cache_entry.Goals as goal
 
 pub returns-clause-kept : goal.returns-clause-kept
 returns-clause-kept c =

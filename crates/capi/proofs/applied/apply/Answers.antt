@@ -6,7 +6,7 @@ use Rattle.std.specs.declared.alloc.Global.{Global}
 use Rattle.op.specs.Message.{message_value}
 use Rattle.parsed_zone.specs.Faults.{zone_number}
 use Rattle.capi.proofs.ApplyLemmas.{lines_refused, update_answered, zone_unread}
-use Rattle.capi.proofs.applied.applied.Goals as goal
+use Rattle.capi.proofs.applied.apply.Goals as goal
 
 pub returns-in_err-name : goal.returns-in_err-name
 returns-in_err-name c =
