@@ -3,8 +3,8 @@ use Rattle.std.specs.Prelude.{Bool, true, false, List, []}
 use Rattle.std.specs.Slice.Iter.{iter_rest}
 use Rattle.base_data.specs.declared.rdata.RData.{RData}
 use Rattle.rr.specs.declared.record.Record.{Record}
-use Rattle.rr.specs.declared.rr_set.records.RrsetRecords.{RrsetRecords}
-use Rattle.rr.specs.declared.rr_set.records.RrsetRecords.TheVariants as forms
+use Rattle.rr.specs.declared.rr_set.RrsetRecords.{RrsetRecords}
+use Rattle.rr.specs.declared.rr_set.RrsetRecords.TheVariants as forms
 
 -- the records that are left
 abbrev pub records_left : RrsetRecords → List (Record RData)

@@ -1,6 +1,6 @@
 -- The parts of a record set.
 use Rattle.rr.specs.RecordSet.{SetValue}
-use Rattle.rr.specs.declared.rr_set.parts.RecordSetParts.{RecordSetParts}
+use Rattle.rr.specs.declared.rr_set.RecordSetParts.{RecordSetParts}
 
 -- the set of these parts
 abbrev pub parts_value : RecordSetParts → SetValue

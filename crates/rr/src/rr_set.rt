@@ -1,31 +1,30 @@
 //! Record sets: the records of one owner and type (RFC 2181, 5).
 
-ghost use Rattle.std.specs.Prelude.{◌≡◌, ◌↔◌, IsTrue, List, [], MatchResult, length, option_copied, slice_get};
+ghost use Rattle.base_data.specs.declared.rdata.RData.{RData};
+ghost use Rattle.rr.specs.RecordSet.{SetValue, empty_set, in_class, same_set, same_set-equiv, set_of, with_ttl};
+ghost use Rattle.rr.specs.RrsetRecords.{is_of_empty, records_left};
+ghost use Rattle.rr.specs.SetParts.{parts_value};
+ghost use Rattle.rr.specs.declared.record.Record.{Record as Entry};
+ghost use Rattle.std.specs.Cmp.{partial_equiv_from_equiv};
+ghost use Rattle.std.specs.Global.{Global};
+ghost use Rattle.std.specs.Iterator.{UpTo, YieldsFirstRef, item_count};
+ghost use Rattle.std.specs.Iterator.Runs.{EveryRun, ItemsAre};
+ghost use Rattle.std.specs.Iterator.SizeHint.{IsWithinCount};
+ghost use Rattle.std.specs.Prelude.{IfSome, IsTrue, MatchResult, Some, [], length, option_copied, slice_get, ◌<◌, ◌↔◌, ◌≡◌};
+ghost use Rattle.std.specs.Vec.Iter.{into_iter_items, into_iter_len, into_iter_steps};
 ghost use Rattle.base.specs.declared.error.proto_error.ProtoError.TheVariants as refusals;
-ghost use Rattle.rr.specs.RecordSet.{SetValue, empty_set, set_of};
 
-mod compare;
-mod data_index;
-mod entries;
+mod changes;
 mod indexed_records;
-mod inserting;
 pub mod laws;
-mod parts;
-mod placing;
-mod records;
-mod removing;
-mod serial;
-mod setting;
-mod sorted_data;
-mod updating;
+mod scanning;
 
 use crate::record::Record;
 use crate::rr_set::indexed_records::IndexedRecords;
 use base::{DNSClass, Name, ProtoError, RecordType};
-pub use parts::RecordSetParts;
-pub use records::RrsetRecords;
 use std::alloc::{AllocError, Global};
 use std::marker::Model;
+use std::{slice, vec};
 
 /// The records of one owner and type, in order.
 ///
@@ -174,5 +173,175 @@ impl TryFrom<Record> for RecordSet {
         records.push(entry)?;
         set.set_records(records);
         Ok(set)
+    }
+}
+
+impl RecordSet {
+    /// Sets the class of the set and of each record. Takes no memory.
+    pub fn set_dns_class(&mut self, dns_class: DNSClass)
+        ensures { self.new ≡ in_class self.old dns_class }
+    {
+        self.dns_class = dns_class;
+        self.records.set_dns_class(dns_class);
+    }
+
+    /// Sets the TTL, in seconds, of the set and of each record. Takes no memory.
+    pub fn set_ttl(&mut self, ttl: u32)
+        ensures { self.new ≡ with_ttl self.old ttl }
+    {
+        self.ttl = ttl;
+        self.records.set_ttl(ttl);
+    }
+
+    /// Replaces the records. Nothing is asked of them, so the set need not be tidy then. Takes no memory.
+    pub fn set_records(&mut self, records: Vec<Record>)
+        ensures { self.new ≡ record self.old { records = records.items } }
+    {
+        self.records = IndexedRecords::of(records);
+    }
+}
+
+impl PartialEq for RecordSet {
+    ghost eq = { same_set };
+
+    ghost laws = { partial_equiv_from_equiv same_set-equiv };
+
+    /// Equal owners, equal records in the same order, and the same type, class, TTL and serial.
+    fn eq(&self, other: &RecordSet) -> bool {
+        self.name == other.name
+            && self.record_type == other.record_type
+            && self.dns_class == other.dns_class
+            && self.ttl == other.ttl
+            && self.records.as_slice() == other.records.as_slice()
+            && self.serial == other.serial
+    }
+}
+
+impl Eq for RecordSet {
+    ghost laws = { same_set-equiv };
+}
+
+/// The parts of a record set.
+#[derive(Clone, Debug, Drop, PartialEq, Eq)]
+pub struct RecordSetParts {
+    /// The owner of the records.
+    pub name: Name,
+    /// The type of the records.
+    pub record_type: RecordType,
+    /// The class of the set.
+    pub dns_class: DNSClass,
+    /// The TTL of the set, in seconds.
+    pub ttl: u32,
+    /// The records, in order.
+    pub records: Vec<Record>,
+    /// The serial of the last change.
+    pub serial: u32,
+}
+
+impl RecordSet {
+    /// The parts of the set. Takes no memory.
+    pub fn into_parts(self) -> RecordSetParts
+        ensures { parts_value result ≡ self }
+    {
+        RecordSetParts {
+            name: self.name,
+            record_type: self.record_type,
+            dns_class: self.dns_class,
+            ttl: self.ttl,
+            records: self.records.into_vec(),
+            serial: self.serial,
+        }
+    }
+}
+
+impl From<RecordSet> for RecordSetParts {
+    ghost from_gives = { λ set parts. parts_value parts ≡ set };
+
+    /// The parts of the set, as `into_parts` answers them.
+    fn from(set: RecordSet) -> RecordSetParts {
+        set.into_parts()
+    }
+}
+
+/// The records of a set that are left.
+#[derive(Debug, Drop)]
+pub enum RrsetRecords<'r> {
+    /// Those of a set without records.
+    Empty,
+    /// Those of a set with records, which may all have been given.
+    RecordsOnly(slice::Iter<'r, Record>),
+}
+
+impl<'r> RrsetRecords<'r> {
+    /// Whether the set had no records. Once all records of another set were given, it is false still.
+    pub fn is_empty(&self) -> bool
+        ensures { result ≡ is_of_empty self.now }
+    {
+        matches!(self, RrsetRecords::Empty)
+    }
+}
+
+impl<'r> Iterator for RrsetRecords<'r> {
+    type Item = &'r Record;
+
+    ghost next_gives = { YieldsFirstRef records_left };
+
+    ghost remaining = { item_count records_left };
+
+    fn next(&mut self) -> Option<&'r Record> {
+        match self {
+            RrsetRecords::Empty => None,
+            RrsetRecords::RecordsOnly(entries) => entries.next(),
+        }
+    }
+
+    /// Exactly how many records are left.
+    fn size_hint(&self) -> (usize, Option<usize>)
+        ensures lower { IsWithinCount result.0 (item_count records_left self.now) }
+        ensures upper { IfSome result.1 (UpTo (item_count records_left self.now)) }
+        ensures exact { (result.0 ≡ length (records_left self.now))
+            × (result.1 ≡ Some (length (records_left self.now))) }
+    {
+        let left = match self {
+            RrsetRecords::Empty => 0,
+            RrsetRecords::RecordsOnly(entries) => entries.len(),
+        };
+        (left, Some(left))
+    }
+}
+
+impl RecordSet {
+    /// The records, in order, each once.
+    pub fn records_without_rrsigs(&self) -> RrsetRecords<'_>
+        ensures records { records_left result ≡ self.now.records }
+        ensures empty { IsTrue (is_of_empty result) ↔ (self.now.records ≡ []) }
+    {
+        let entries = self.records.as_slice();
+        if entries.is_empty() {
+            RrsetRecords::Empty
+        } else {
+            RrsetRecords::RecordsOnly(entries.iter())
+        }
+    }
+
+    /// The records, in order.
+    pub fn as_slice(&self) -> &[Record]
+        ensures { result.now ≡ self.now.records }
+    {
+        self.records.as_slice()
+    }
+}
+
+impl IntoIterator for RecordSet {
+    type Item = Record;
+
+    type IntoIter = vec::IntoIter<Record>;
+
+    ghost into_iter_gives = { λ set iter. (into_iter_items iter ≡ set.records) × (into_iter_len iter ≡ length set.records)
+        × EveryRun (into_iter_steps {X = Entry RData} {Z = Global}) (λ p. ItemsAre p (into_iter_items p.from)) };
+
+    /// The records, in order, each once. Takes no memory.
+    fn into_iter(self) -> vec::IntoIter<Record> {
+        self.records.into_vec().into_iter()
     }
 }

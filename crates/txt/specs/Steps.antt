@@ -34,8 +34,8 @@ use Rattle.txt.specs.Entries.{
 }
 use Rattle.txt.specs.Zone.{State, Texts, apply, carried, settled, stopped, ◌>>=◌}
 use Rattle.txt.specs.ZoneSets.{ZoneSets}
-use Rattle.txt.specs.declared.zone.setting.Setting.{Setting as Stated}
-use Rattle.txt.specs.declared.zone.setting.Setting.TheVariants as stated
+use Rattle.txt.specs.declared.zone.context.Setting.{Setting as Stated}
+use Rattle.txt.specs.declared.zone.context.Setting.TheVariants as stated
 use Rattle.txt.specs.declared.zone.context.Step.{Step}
 use Rattle.txt.specs.declared.zone.context.Step.TheVariants as steps
 

@@ -9,9 +9,7 @@ ghost use Rattle.txt.specs.ZoneSets.{AreKept};
 mod context;
 pub mod laws;
 mod sets;
-mod setting;
 mod texts;
-mod tokens;
 
 use crate::zone::context::Context;
 use crate::zone::texts::read_texts;

@@ -1,20 +1,19 @@
 //! What is in force between the entries of a text, and how an entry changes it.
 
-ghost use Rattle.std.specs.Prelude.{◌≡◌, ℕ, List, IfOk, OnOk, Ok, Some, map};
-ghost use Rattle.std.specs.Str.{str_to_ascii_uppercase};
-ghost use Rattle.std.specs.String.{string_bytes};
 ghost use Rattle.base.specs.NameOf.{name_of};
 ghost use Rattle.base.specs.TextFaults.{Gives};
 ghost use Rattle.base.specs.TokenList.{symbols};
 ghost use Rattle.base.specs.Tokens.{texts};
 ghost use Rattle.base_data.specs.Kinds.{data_of};
-ghost use Rattle.txt.specs.Steps.{AnswersStep, Goes, Makes, Takes, setting_value, took_at, took_default, took_include, took_include_end, took_named, took_origin, took_typed, took_words};
-ghost use Rattle.txt.specs.Zone.{State, absolute, answered, beginning, record_of, recorded, set_by, spent, with_record};
+ghost use Rattle.std.specs.Prelude.{IfErr, IfOk, List, None, Ok, OnOk, Some, map, ℕ, ◌≡◌};
+ghost use Rattle.std.specs.Str.{str_to_ascii_uppercase};
+ghost use Rattle.std.specs.String.{string_bytes};
+ghost use Rattle.txt.specs.Entries.{setting_of};
+ghost use Rattle.txt.specs.Steps.{AnswersStep, Goes, Makes, Reads, ReadsToken, Takes, setting_value, took_at, took_default, took_include, took_include_end, took_items, took_named, took_origin, took_typed, took_words};
+ghost use Rattle.txt.specs.Zone.{State, absolute, answered, beginning, record_of, recorded, set_by, spent, type_named, with_record};
 ghost use Rattle.txt.specs.ZoneSets.{AreKept};
 
 use crate::zone::sets::ZoneSets;
-use crate::zone::setting::{Setting, setting_of, type_of_text};
-use crate::zone::tokens::{read_items, read_token, texts_of};
 use base::{DNSClass, Lexer, Name, ParseError, RecordType, RrKey, Token, parse_ttl};
 use base_data::RData;
 use rr::{Record, RecordSet};
@@ -57,6 +56,15 @@ pub(super) enum Step {
     End,
 }
 
+/// What an item states before the type.
+#[derive(Drop)]
+enum Setting {
+    /// The TTL of the next record, in seconds.
+    Ttl(u32),
+    /// The class of the records from here on.
+    Class(DNSClass),
+}
+
 impl Context {
     /// What is in force before the first entry; the origin is made absolute. Takes no memory.
     pub(super) fn new(alloc: Global, origin: Option<Name>) -> Context
@@ -96,7 +104,7 @@ impl Context {
                 Ok(Step::Applied)
             }
             Some(Token::At) => {
-                self.take_at(lexer)?;
+                self.take_at_sign(lexer)?;
                 Ok(Step::Applied)
             }
             Some(Token::CharData(word)) => {
@@ -108,7 +116,7 @@ impl Context {
     }
 
     /// After the sign @: the owner is the origin, and then comes the rest of the line.
-    fn take_at(&mut self, lexer: &mut Lexer<'_>) -> Result<(), ParseError>
+    fn take_at_sign(&mut self, lexer: &mut Lexer<'_>) -> Result<(), ParseError>
         ensures { Goes result self.new (symbols lexer.new) (took_at self.old (symbols lexer.old)) }
     {
         let origin = self.copy_origin()?;
@@ -120,13 +128,13 @@ impl Context {
     fn take_named(&mut self, word: String, lexer: &mut Lexer<'_>) -> Result<(), ParseError>
         ensures { Goes result self.new (symbols lexer.new) (took_named self.old (string_bytes word) (symbols lexer.old)) }
     {
-        let name = self.name(word.as_str())?;
+        let name = self.parse_name(word.as_str())?;
         self.set_owner(Some(name));
         self.take_line(lexer)
     }
 
     /// The name that a text names, under the origin.
-    fn name(&self, text: &str) -> Result<Name, ParseError>
+    fn parse_name(&self, text: &str) -> Result<Name, ParseError>
         ensures { Gives (λ n. n) result (name_of text.now self.now.origin) }
     {
         Name::parse(self.alloc, text, self.origin.as_ref())
@@ -186,7 +194,7 @@ impl Context {
                 Token::EOL => return Ok(()),
                 Token::CharData(word) => {
                     match setting_of(word) {
-                        Ok(setting) => self.set(setting),
+                        Ok(setting) => self.apply_setting(setting),
                         Err(raised) => return self.take_record(raised, lexer),
                     }
                 }
@@ -196,7 +204,7 @@ impl Context {
     }
 
     /// Carries out what an item states.
-    fn set(&mut self, setting: Setting)
+    fn apply_setting(&mut self, setting: Setting)
         ensures { self.new ≡ set_by self.old (setting_value setting) }
     {
         match setting {
@@ -213,14 +221,14 @@ impl Context {
         let record_type = type_of_text(raised)?;
         let mut items = replace(&mut self.items, Vec::new(self.alloc));
         read_items(&mut items, lexer)?;
-        let rdata = self.data(record_type, &items)?;
+        let rdata = self.parse_data(record_type, &items)?;
         self.items = items;
-        self.record(rdata)?;
+        self.add_record(rdata)?;
         Ok(())
     }
 
     /// The data of a type that items name, under the origin.
-    fn data(&self, record_type: RecordType, items: &[String]) -> Result<RData, ParseError>
+    fn parse_data(&self, record_type: RecordType, items: &[String]) -> Result<RData, ParseError>
         ensures { Gives (λ d. d) result (data_of record_type (texts items.now) self.now.origin) }
     {
         // The data of most records is one item, which needs no list of its own.
@@ -239,18 +247,18 @@ impl Context {
     }
 
     /// Makes a record of data, with what is in force.
-    fn record(&mut self, rdata: RData) -> Result<(), ParseError>
+    fn add_record(&mut self, rdata: RData) -> Result<(), ParseError>
         ensures { Makes result self.new (recorded self.old rdata) }
     {
-        let entry = self.record_of(rdata)?;
+        let entry = self.new_record(rdata)?;
         self.add(entry)?;
-        self.spend();
+        self.use_up_ttl();
         Ok(())
     }
 
     /// The record of data, with what is in force: the owner, made absolute, and the pending TTL, else the default,
     /// else the last.
-    fn record_of(&self, rdata: RData) -> Result<Record, ParseError>
+    fn new_record(&self, rdata: RData) -> Result<Record, ParseError>
         ensures { Gives (λ r. r) result (record_of self.now rdata) }
     {
         let Some(owner) = &self.owner else {
@@ -277,7 +285,7 @@ impl Context {
     }
 
     /// The pending TTL becomes the last, and is used up.
-    fn spend(&mut self)
+    fn use_up_ttl(&mut self)
         ensures { self.new ≡ spent self.old }
     {
         if self.pending.is_some() {
@@ -358,4 +366,73 @@ fn end_include(name: String, lexer: &mut Lexer<'_>) -> Result<Step, ParseError>
         )),
         other => Err(ParseError::UnexpectedToken(other)),
     }
+}
+
+/// What an item states before the type: a TTL, else a class, its ASCII letters raised. Where it is neither, the item
+/// comes back with its letters raised.
+#[tactic(auto, unfolding(crate::specs::Entries::setting_of))]
+fn setting_of(word: String) -> Result<Setting, String>
+    ensures setting { IfOk result (λ setting. setting_of (string_bytes word)
+        ≡ Some (setting_value setting)) }
+    ensures none { IfErr result (λ _. setting_of (string_bytes word) ≡ None) }
+    ensures raised { IfErr result (λ raised. string_bytes raised
+        ≡ str_to_ascii_uppercase (string_bytes word)) }
+{
+    if let Ok(ttl) = parse_ttl(word.as_str()) {
+        return Ok(Setting::Ttl(ttl));
+    }
+    let mut raised = word;
+    raised.make_ascii_uppercase();
+    match DNSClass::from_text(raised.as_str()) {
+        Some(dns_class) => Ok(Setting::Class(dns_class)),
+        None => Err(raised),
+    }
+}
+
+/// The type that a text names whose ASCII letters are raised.
+fn type_of_text(raised: String) -> Result<RecordType, ParseError>
+    ensures { (word : List ℕ) → string_bytes raised ≡ str_to_ascii_uppercase word
+        → Gives (λ t. t) result (type_named word) }
+{
+    match RecordType::from_text(raised.as_str()) {
+        Some(record_type) => Ok(record_type),
+        None => Err(ParseError::UnknownRecordType(raised)),
+    }
+}
+
+/// The next token of a text.
+fn read_token(lexer: &mut Lexer<'_>) -> Result<Option<Token>, ParseError>
+    ensures { ReadsToken result (symbols lexer.old) (symbols lexer.new) }
+{
+    lexer.next_token()
+}
+
+/// Puts the items of the data, up to the end of the line or of the text, in the place of others.
+fn read_items(items: &mut Vec<String>, lexer: &mut Lexer<'_>) -> Result<(), ParseError>
+    ensures { Reads (λ _. texts items.new.items) result (symbols lexer.new) (took_items (symbols lexer.old)) }
+{
+    items.clear();
+    'items: loop {
+        let Some(token) = read_token(lexer)? else {
+            // The end of the text ends its last line too.
+            return Ok(());
+        };
+        match token {
+            Token::EOL => return Ok(()),
+            Token::CharData(word) => items.push(word)?,
+            Token::List(mut words) => items.append(&mut words)?,
+            other => return Err(ParseError::UnexpectedToken(other)),
+        }
+    }
+}
+
+/// The text of each item.
+fn texts_of(alloc: Global, items: &[String]) -> Result<Vec<&str>, AllocError>
+    ensures { IfOk result (λ lent. map (λ text. text.now) lent.items ≡ texts items.now) }
+{
+    let mut lent = Vec::new(alloc);
+    for item in items {
+        lent.push(item.as_str())?;
+    }
+    Ok(lent)
 }

@@ -56,16 +56,16 @@ returns-in_ok-take_line-in-Some-Blank c =
     let here = rw c.in-Some-Blank.field-0-is at (rw c.in-Some-Blank.is at c.in_ok-read_token.ensures) in
     taken_blank c.args.self.now here ∙ c.in_ok-take_line-in-Some-Blank.ensures
 
-pub returns-in_err-take_at-in-Some-At : goal.returns-in_err-take_at-in-Some-At
-returns-in_err-take_at-in-Some-At c =
-    let p = err_from_is_err_and c.from_residual-in_err-take_at-in-Some-At.result c.from_residual-in_err-take_at-in-Some-At.ensures.1 in
+pub returns-in_err-take_at_sign-in-Some-At : goal.returns-in_err-take_at_sign-in-Some-At
+returns-in_err-take_at_sign-in-Some-At c =
+    let p = err_from_is_err_and c.from_residual-in_err-take_at_sign-in-Some-At.result c.from_residual-in_err-take_at_sign-in-Some-At.ensures.1 in
     let here = rw c.in-Some-At.field-0-is at (rw c.in-Some-At.is at c.in_ok-read_token.ensures) in
-    rw (p.1, p.2) (Fails-through c.in_err-take_at-in-Some-At.field-0.0 (λ fault is. taken_at c.args.self.now here ∙ is) c.in_err-take_at-in-Some-At.ensures)
+    rw (p.1, p.2) (Fails-through c.in_err-take_at_sign-in-Some-At.field-0.0 (λ fault is. taken_at c.args.self.now here ∙ is) c.in_err-take_at_sign-in-Some-At.ensures)
 
-pub returns-in_ok-take_at-in-Some-At : goal.returns-in_ok-take_at-in-Some-At
-returns-in_ok-take_at-in-Some-At c =
+pub returns-in_ok-take_at_sign-in-Some-At : goal.returns-in_ok-take_at_sign-in-Some-At
+returns-in_ok-take_at_sign-in-Some-At c =
     let here = rw c.in-Some-At.field-0-is at (rw c.in-Some-At.is at c.in_ok-read_token.ensures) in
-    taken_at c.args.self.now here ∙ c.in_ok-take_at-in-Some-At.ensures
+    taken_at c.args.self.now here ∙ c.in_ok-take_at_sign-in-Some-At.ensures
 
 pub returns-in_err-take_named-in-Some-CharData : goal.returns-in_err-take_named-in-Some-CharData
 returns-in_err-take_named-in-Some-CharData c =

@@ -29,7 +29,7 @@ returns-in-Err c =
 pub words-preserved : goal.words-preserved
 words-preserved c =
     let here = rw c.in-CharData.is at (rw c.in-Some.is at c.in_ok-token.ensures) in
-    ap (λ (s : State). took_words s (symbols c.read_token.new.lexer)) c.set.ensures
+    ap (λ (s : State). took_words s (symbols c.read_token.new.lexer)) c.apply_setting.ensures
     ∙ sym (words_set c.words.self (setting_value c.in-Ok.setting) (string_bytes c.in-CharData.word) here c.in-Ok.ensures.setting) ∙ c.words.invariant
 
 pub returns-in_default-token : goal.returns-in_default-token
