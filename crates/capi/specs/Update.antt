@@ -41,7 +41,8 @@ within origin set = if is_zone_of origin set.name then Ok set else Err 24
 -- the one set that zone text has, if its owner lies in the zone
 abbrev pub set_of_text : NameValue → List ℕ → Asked SetValue
 set_of_text origin text =
-    zone_of_bytes no_texts (Some origin) text >>= λ zone. only_set zone.1 >>= λ set. within origin set
+    zone_of_bytes no_texts (Some origin) text >>= λ zone. only_set zone.1
+    >>= λ set. within origin set
 
 -- the name of a text, if it lies in the zone; a relative one ends in the origin
 abbrev pub owner_of_text : NameValue → List ℕ → Asked NameValue
@@ -76,16 +77,21 @@ abbrev pub asked_of : List ℕ → (NameValue → Asked MessageValue) → Asked 
 asked_of origin build = zone_name_of origin >>= λ zone. build zone >>= λ m. sent m
 
 -- the update of a zone of a name that is built of the set of a text
-abbrev pub by_set : ℕ → Bool → (SetValue → NameValue → Sections) → List ℕ → NameValue → Asked MessageValue
-by_set id use_edns build set zone = set_of_text zone set >>= λ s. Ok (update_message id use_edns (build s zone))
+abbrev pub by_set : ℕ → Bool → (SetValue → NameValue → Sections) → List ℕ → NameValue
+    → Asked MessageValue
+by_set id use_edns build set zone = set_of_text zone set
+    >>= λ s. Ok (update_message id use_edns (build s zone))
 
 -- the same of the owner of a text
-abbrev pub by_owner : ℕ → Bool → (NameValue → NameValue → Sections) → List ℕ → NameValue → Asked MessageValue
-by_owner id use_edns build owner zone = owner_of_text zone owner >>= λ name. Ok (update_message id use_edns (build name zone))
+abbrev pub by_owner : ℕ → Bool → (NameValue → NameValue → Sections) → List ℕ → NameValue
+    → Asked MessageValue
+by_owner id use_edns build owner zone = owner_of_text zone owner
+    >>= λ name. Ok (update_message id use_edns (build name zone))
 
 -- the update that puts a set in the place of another
 abbrev pub by_sets : ℕ → Bool → List ℕ → List ℕ → NameValue → Asked MessageValue
-by_sets id use_edns current next zone = set_of_text zone current >>= λ old. by_set id use_edns (compare_and_swap old) next zone
+by_sets id use_edns current next zone = set_of_text zone current
+    >>= λ old. by_set id use_edns (compare_and_swap old) next zone
 
 -- what deletes the set of an owner and of the type of a number
 abbrev pub without_set : ℕ → NameValue → NameValue → Sections
@@ -94,11 +100,16 @@ without_set type owner zone = delete_rrset (empty_record owner (type_of type) cl
 -- the update that a change asks for
 abbrev pub change_asked : ℕ → Bool → Change → NameValue → Asked MessageValue
 change_asked id use_edns (changes.Create set) zone = by_set id use_edns create set.now zone
-change_asked id use_edns (changes.Append set must_exist) zone = by_set id use_edns (λ s z. append s z must_exist) set.now zone
-change_asked id use_edns (changes.CompareAndSwap current next) zone = by_sets id use_edns current.now next.now zone
-change_asked id use_edns (changes.DeleteByRdata set) zone = by_set id use_edns delete_by_rdata set.now zone
-change_asked id use_edns (changes.DeleteRrset owner type) zone = by_owner id use_edns (without_set type) owner.now zone
-change_asked id use_edns (changes.DeleteAll owner) zone = by_owner id use_edns (λ name z. delete_all name z classes.IN) owner.now zone
+change_asked id use_edns (changes.Append set must_exist) zone =
+    by_set id use_edns (λ s z. append s z must_exist) set.now zone
+change_asked id use_edns (changes.CompareAndSwap current next) zone =
+    by_sets id use_edns current.now next.now zone
+change_asked id use_edns (changes.DeleteByRdata set) zone =
+    by_set id use_edns delete_by_rdata set.now zone
+change_asked id use_edns (changes.DeleteRrset owner type) zone =
+    by_owner id use_edns (without_set type) owner.now zone
+change_asked id use_edns (changes.DeleteAll owner) zone =
+    by_owner id use_edns (λ name z. delete_all name z classes.IN) owner.now zone
 
 -- ---- their bytes
 
@@ -108,7 +119,8 @@ create_of id origin set use_edns = asked_of origin (by_set id use_edns create se
 
 -- the bytes of the message that adds a set's records (RFC 2136, 2.5.1)
 abbrev pub append_of : ℕ → List ℕ → List ℕ → Bool → Bool → Asked (List ℕ)
-append_of id origin set must_exist use_edns = asked_of origin (by_set id use_edns (λ s zone. append s zone must_exist) set)
+append_of id origin set must_exist use_edns =
+    asked_of origin (by_set id use_edns (λ s zone. append s zone must_exist) set)
 
 -- the bytes of the message that puts a set in the place of another (RFC 2136, 2.4.2)
 abbrev pub swap_of : ℕ → List ℕ → List ℕ → List ℕ → Bool → Asked (List ℕ)
@@ -120,11 +132,13 @@ delete_data_of id origin set use_edns = asked_of origin (by_set id use_edns dele
 
 -- the bytes of the message that deletes a set (RFC 2136, 2.5.2)
 abbrev pub delete_set_of : ℕ → List ℕ → List ℕ → ℕ → Bool → Asked (List ℕ)
-delete_set_of id origin owner type use_edns = asked_of origin (by_owner id use_edns (without_set type) owner)
+delete_set_of id origin owner type use_edns =
+    asked_of origin (by_owner id use_edns (without_set type) owner)
 
 -- the bytes of the message that deletes all sets of an owner (RFC 2136, 2.5.3)
 abbrev pub delete_all_of : ℕ → List ℕ → List ℕ → Bool → Asked (List ℕ)
-delete_all_of id origin owner use_edns = asked_of origin (by_owner id use_edns (λ name zone. delete_all name zone classes.IN) owner)
+delete_all_of id origin owner use_edns =
+    asked_of origin (by_owner id use_edns (λ name zone. delete_all name zone classes.IN) owner)
 
 -- the bytes of the message that asks for a zone (RFC 5936, 2.1), or for what changed since an SOA (RFC 1995, 3)
 abbrev pub transfer_of : ℕ → List ℕ → List ℕ → Asked (List ℕ)

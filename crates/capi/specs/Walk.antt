@@ -31,25 +31,41 @@ query_found bytes place =
 
 -- the place after the record at a place
 abbrev pub record_end : List ℕ → ℕ → Found ℕ
-record_end bytes place = bytes_at place bytes 0 >>= λ before. record_at bytes before.1 >>= λ r. Ok r.1
+record_end bytes place = bytes_at place bytes 0 >>= λ before. record_at bytes before.1
+    >>= λ r. Ok r.1
 
 -- the record at a place, and the place after it
 abbrev pub record_found : List ℕ → ℕ → Found (RecordFound × ℕ)
 record_found bytes place =
-    record_end bytes place >>= λ end. bytes_at place bytes 0 >>= λ before. name_at bytes before.1 >>= λ name.
-    number_at w16 bytes name.1 >>= λ type. number_at w16 bytes type.1 >>= λ class. number_at w32 bytes class.1 >>= λ ttl.
+    record_end bytes place >>= λ end. bytes_at place bytes 0 >>= λ before. name_at bytes before.1
+    >>= λ name.
+    number_at w16 bytes name.1 >>= λ type. number_at w16 bytes type.1
+    >>= λ class. number_at w32 bytes class.1 >>= λ ttl.
     number_at w16 bytes ttl.1 >>= λ len.
-    Ok (record { name = place; data_place = len.1; ttl = ttl.0; record_type = type.0; class = class.0; data_len = len.0 }, end)
+    Ok (
+      record {
+        name = place;
+        data_place = len.1;
+        ttl = ttl.0;
+        record_type = type.0;
+        class = class.0;
+        data_len = len.0;
+      },
+      end,
+    )
 
 -- the option at a place, and the place after it
 abbrev pub option_found : List ℕ → ℕ → Found (OptionFound × ℕ)
 option_found bytes place =
-    bytes_at place bytes 0 >>= λ before. number_at w16 bytes before.1 >>= λ code. number_at w16 bytes code.1 >>= λ len.
-    bytes_at len.0 bytes len.1 >>= λ text. Ok (record { data_place = len.1; code = code.0; data_len = len.0 }, text.1)
+    bytes_at place bytes 0 >>= λ before. number_at w16 bytes before.1
+    >>= λ code. number_at w16 bytes code.1 >>= λ len.
+    bytes_at len.0 bytes len.1
+    >>= λ text. Ok (record { data_place = len.1; code = code.0; data_len = len.0 }, text.1)
 
 -- the name at a place
 abbrev pub name_found : List ℕ → ℕ → Found NameValue
-name_found bytes place = bytes_at place bytes 0 >>= λ before. name_at bytes before.1 >>= λ name. Ok name.0
+name_found bytes place = bytes_at place bytes 0 >>= λ before. name_at bytes before.1
+    >>= λ name. Ok name.0
 
 -- ---- as callers are told it
 

@@ -41,4 +41,6 @@ IsAnswered answer status old new = IsPrinted answer status old new
 
 -- An answer was given that this relation allows, or, where memory ran out, the refusal for that.
 abbrev pub IsGivenBy : (Answer → Type 0) → ℕ → Option (List ℕ) → Option (List ℕ) → Type 0
-IsGivenBy IsAnswer status old new = ((answer : Answer) × IsAnswer answer × IsPrinted answer status old new) ⊎ IsPrinted (refused 3) status old new
+IsGivenBy IsAnswer status old new =
+    ((answer : Answer) × IsAnswer answer × IsPrinted answer status old new)
+    ⊎ IsPrinted (refused 3) status old new

@@ -25,8 +25,10 @@ use Rattle.dnsmsg.specs.declared.command.MessageCommand.TheVariants as on_messag
 -- the command of one or two words on a message
 abbrev pub message_command : List (List ℕ) → Option MessageCommand
 message_command [] = None
-message_command (word ∷ []) = if bytes_eq word (codes "header") then Some on_message.Header else (if bytes_eq word (codes "read") then Some on_message.Read else None)
-message_command (word ∷ (number ∷ [])) = if bytes_eq word (codes "cut") then option_map on_message.Cut (limit_of number) else None
+message_command (word ∷ []) = if bytes_eq word (codes "header") then Some on_message.Header
+    else (if bytes_eq word (codes "read") then Some on_message.Read else None)
+message_command (word ∷ (number ∷ [])) = if bytes_eq word (codes "cut")
+    then option_map on_message.Cut (limit_of number) else None
 message_command (word ∷ (next ∷ (other ∷ others))) = None
 
 -- the command that words name, if they name one
@@ -41,20 +43,30 @@ command_of (word ∷ (next ∷ others)) =
 -- What a command's call answers to a text, where these are all words.
 abbrev pub CommandAnswers : Command → List (List ℕ) → List ℕ → Result (String Global) Refusal
     → Type 0
-CommandAnswers (command.OnMessage on_message.Header) words text result = Answers string_bytes (header_answer text) result
-CommandAnswers (command.OnMessage on_message.Read) words text result = Answers string_bytes (read_answer text) result
-CommandAnswers (command.OnMessage (on_message.Cut limit)) words text result = CutAnswers limit text result
-CommandAnswers (command.Zone origin) words text result = Answers string_bytes (zone_answer origin (words_after_origin words) text) result
-CommandAnswers (command.Apply origin) words text result = Answers string_bytes (apply_answer origin (words_after_origin words) text) result
+CommandAnswers (command.OnMessage on_message.Header) words text result =
+    Answers string_bytes (header_answer text) result
+CommandAnswers (command.OnMessage on_message.Read) words text result =
+    Answers string_bytes (read_answer text) result
+CommandAnswers (command.OnMessage (on_message.Cut limit)) words text result =
+    CutAnswers limit text result
+CommandAnswers (command.Zone origin) words text result =
+    Answers string_bytes (zone_answer origin (words_after_origin words) text) result
+CommandAnswers (command.Apply origin) words text result =
+    Answers string_bytes (apply_answer origin (words_after_origin words) text) result
 
 -- What a run of a command gives: the answer to the text, or, where memory ran out, the refusal for that.
 abbrev pub IsGiven : Command → List (List ℕ) → List ℕ → ℕ → Option (List ℕ) → Option (List ℕ)
     → Type 0
-IsGiven (command.OnMessage on_message.Header) words text status old new = IsAnswered (header_answer text) status old new
-IsGiven (command.OnMessage on_message.Read) words text status old new = IsAnswered (read_answer text) status old new
-IsGiven (command.OnMessage (on_message.Cut limit)) words text status old new = IsCutGiven limit text status old new
-IsGiven (command.Zone origin) words text status old new = IsAnswered (zone_answer origin (words_after_origin words) text) status old new
-IsGiven (command.Apply origin) words text status old new = IsAnswered (apply_answer origin (words_after_origin words) text) status old new
+IsGiven (command.OnMessage on_message.Header) words text status old new =
+    IsAnswered (header_answer text) status old new
+IsGiven (command.OnMessage on_message.Read) words text status old new =
+    IsAnswered (read_answer text) status old new
+IsGiven (command.OnMessage (on_message.Cut limit)) words text status old new =
+    IsCutGiven limit text status old new
+IsGiven (command.Zone origin) words text status old new =
+    IsAnswered (zone_answer origin (words_after_origin words) text) status old new
+IsGiven (command.Apply origin) words text status old new =
+    IsAnswered (apply_answer origin (words_after_origin words) text) status old new
 
 -- the number of a refusal, where there is one
 abbrev pub number_refused : {X : Type 0} → Result X ℕ → Option ℕ
@@ -70,8 +82,10 @@ refused_word (command.OnMessage message) words = None
 -- What a command answers, over the input as far as it is known; nothing is said where the input failed.
 abbrev pub Gives : Command → List (List ℕ) → Option (List ℕ) → Result (String Global) Failure
     → Type 0
-Gives command words input (Ok lines) = IfSome input (λ text. CommandAnswers command words text (Ok lines))
-Gives command words input (Err (failures.Refused refusal)) = IfSome input (λ text. CommandAnswers command words text (Err refusal))
+Gives command words input (Ok lines) =
+    IfSome input (λ text. CommandAnswers command words text (Ok lines))
+Gives command words input (Err (failures.Refused refusal)) =
+    IfSome input (λ text. CommandAnswers command words text (Err refusal))
 Gives command words input (Err failures.Broken) = ⊤
 
 -- It is refused with this number, or with 3 because memory ran out.

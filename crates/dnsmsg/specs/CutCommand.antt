@@ -23,8 +23,10 @@ hex_line bytes = encode_lower bytes ++ 10 ∷ []
 -- these a new encoder answers, which message and limit decide.
 abbrev pub CutsMessage : MessageValue → ℕ → Answer → Type 0
 CutsMessage m limit answer =
-    ((B : List ℕ) × (IsWritten m limit B × (message_answer limit m ≡ Ok B)) × (answer ≡ done (hex_line B)))
-    ⊎ ((e : ProtoError) × (IsTooSmall m limit e × (message_answer limit m ≡ Err e)) × (answer ≡ refused (proto_number e)))
+    ((B : List ℕ) × (IsWritten m limit B × (message_answer limit m ≡ Ok B))
+    × (answer ≡ done (hex_line B)))
+    ⊎ ((e : ProtoError) × (IsTooSmall m limit e × (message_answer limit m ≡ Err e))
+    × (answer ≡ refused (proto_number e)))
 
 -- the answer to a message that was read, or the number of the fault that reading met
 abbrev pub CutsRead : ℕ → Read MessageValue → Answer → Type 0

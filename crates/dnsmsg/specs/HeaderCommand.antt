@@ -15,7 +15,10 @@ use Rattle.dnsmsg.specs.HexInput.{bytes_of}
 
 -- the word `counts` and the four counts, with a space between each two
 abbrev pub counts_text : HeaderCounts → List ℕ
-counts_text counts = join_with_byte 32 (codes "counts" ∷ decimal counts.queries ∷ decimal counts.answers ∷ decimal counts.authorities ∷ decimal counts.additionals ∷ [])
+counts_text counts =
+    join_with_byte 32
+    (codes "counts" ∷ decimal counts.queries ∷ decimal counts.answers ∷ decimal counts.authorities
+    ∷ decimal counts.additionals ∷ [])
 
 -- three texts, each with the end of its line
 abbrev pub three_lines : List ℕ → List ℕ → List ℕ → List ℕ
@@ -23,7 +26,9 @@ three_lines first second third = first ++ (10 ∷ second ++ (10 ∷ third ++ (10
 
 -- the metadata, the counts, and the header written again in hexadecimal, a line each
 abbrev pub header_lines : Header → List ℕ
-header_lines h = three_lines (metadata_text h.metadata) (counts_text h.counts) (encode_lower (header_bytes (raw_header h)))
+header_lines h =
+    three_lines (metadata_text h.metadata) (counts_text h.counts)
+    (encode_lower (header_bytes (raw_header h)))
 
 -- the lines of a header that was read, or the number of the fault
 abbrev pub answer_to_read : Read Header → Answer
@@ -32,7 +37,8 @@ answer_to_read (Err fault) = refused (decode_number fault)
 
 -- the answer to the bytes of the input: refusal 24 unless they are twelve
 abbrev pub answer_to_bytes : Result (List ℕ) FromHexError → Answer
-answer_to_bytes (Ok bytes) = if length bytes == 12 then answer_to_read (header_at bytes 0) else refused 24
+answer_to_bytes (Ok bytes) = if length bytes == 12 then answer_to_read (header_at bytes 0)
+    else refused 24
 answer_to_bytes (Err fault) = refused 24
 
 -- the answer to a text of exactly twelve bytes in hexadecimal, and to any other

@@ -6,4 +6,6 @@ use Rattle.std.specs.Str.Parse.{digits_value}
 
 -- one decimal digit or more, of a number of up to 65,535
 abbrev pub limit_of : List ℕ → Option ℕ
-limit_of word = if list_all is_ascii_digit word && (nat_lt 0 (length word) && nat_lt (digits_value 10 word) 65536) then Some (digits_value 10 word) else None
+limit_of word = if list_all is_ascii_digit word
+    && (nat_lt 0 (length word) && nat_lt (digits_value 10 word) 65536)
+    then Some (digits_value 10 word) else None

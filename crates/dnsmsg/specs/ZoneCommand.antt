@@ -16,7 +16,8 @@ is_equals c = c == 61
 
 -- the text of a word, where the word is of this name: the first = ends the name
 abbrev pub text_in : List ℕ → List ℕ → Option (List ℕ)
-text_in word name = if bytes_eq (before_first is_equals word) name then Some (after_first is_equals word) else None
+text_in word name = if bytes_eq (before_first is_equals word) name
+    then Some (after_first is_equals word) else None
 
 -- the first of two texts, if it is there, else the second
 abbrev pub or_else : Option (List ℕ) → Option (List ℕ) → Option (List ℕ)

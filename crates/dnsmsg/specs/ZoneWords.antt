@@ -16,11 +16,13 @@ origin_under (Err fault) = None
 
 -- the origin that a word names, if it names one: `-` for none, else a name
 abbrev pub origin_named : List ℕ → Option (Option NameValue)
-origin_named word = if bytes_eq word (codes "-") then Some None else origin_under (name_of word None)
+origin_named word = if bytes_eq word (codes "-") then Some None
+    else origin_under (name_of word None)
 
 -- the command of an origin and of included texts, if each of these has a name
 unfoldable pub zone_named : List ℕ → List (List ℕ) → Option Command
-zone_named origin words = if are_texts words then option_map command.Zone (origin_named origin) else None
+zone_named origin words = if are_texts words then option_map command.Zone (origin_named origin)
+    else None
 
 -- the command of an origin and of an update, one word
 abbrev pub apply_named : List ℕ → List (List ℕ) → Option Command
@@ -36,7 +38,8 @@ is_one (word ∷ (next ∷ words)) = false
 
 -- whether the words after the origin are those that a command with an origin takes
 abbrev pub are_taken : List ℕ → List (List ℕ) → Bool
-are_taken name words = if bytes_eq name (codes "zone") then are_texts words else (bytes_eq name (codes "apply") && is_one words)
+are_taken name words = if bytes_eq name (codes "zone") then are_texts words
+    else (bytes_eq name (codes "apply") && is_one words)
 
 -- whether the words have an origin that is parsed: any but `-`, of a command that takes the words after it
 abbrev pub parses_origin : List (List ℕ) → Bool

@@ -52,7 +52,8 @@ pub fn apply(
     origin: Option<Name>,
     text: &[u8],
 ) -> Result<String, Refusal>
-    ensures { Answers string_bytes (answer_to_text (message_value message.now) origin text.now) result }
+    ensures { Answers string_bytes (answer_to_text (message_value message.now) origin text.now)
+        result }
 {
     let (name, sets) = zone_of_bytes(alloc, origin, text)?;
     Ok(lines_after(alloc, message, &name, &sets)?)

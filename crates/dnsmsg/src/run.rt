@@ -33,10 +33,12 @@ pub fn run<R: Read, W: Write>(alloc: Global, words: &[String], input: &mut R, ou
     ensures judged { (command : Asked) → command_of (texts words.now) ≡ Some command
         → IfSome (refused_word command (texts words.now))
         (λ n. (input.new ≡ input.old)
-        × (result ≢ broken → IsAnswered (refused n) result (W.contents output.old) (W.contents output.new))) }
+        × (result ≢ broken
+        → IsAnswered (refused n) result (W.contents output.old) (W.contents output.new))) }
     ensures answered { (command : Asked) → command_of (texts words.now) ≡ Some command
         → result ≢ broken → IfSome (R.remaining input.old)
-        (λ text. IsGiven command (texts words.now) text result (W.contents output.old) (W.contents output.new)) }
+        (λ text. IsGiven command (texts words.now) text result (W.contents output.old)
+        (W.contents output.new)) }
 {
     match Command::from_words(alloc, words) {
         Ok(None) => print_usage(output),

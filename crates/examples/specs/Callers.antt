@@ -46,22 +46,30 @@ response_edns (Some edns) = Some new_edns
 
 -- the response to a query that has these answers (RFC 1035, 4.1.1; RFC 6895, 2)
 abbrev pub response_to : MessageValue → List (Record RData) → MessageValue
-response_to query answers = record (empty_message (response_metadata query.metadata)) { queries = query.queries; answers = answers; edns = response_edns query.edns }
+response_to query answers =
+    record (empty_message (response_metadata query.metadata)) {
+      queries = query.queries;
+      answers = answers;
+      edns = response_edns query.edns;
+    }
 
 -- A query begins the bytes that were received; what was sent is, if each answer fits the wire, a cut of the response under
 -- what the client takes, and is read as that cut.
-pub record IsAnswered (received : List ℕ) (answers : List (Record RData)) (sent : List ℕ) : Type 0 where
-  pub query : MessageValue
-  pub end : ℕ
-  pub stands : IsMessageAt received 0 query end
-  pub cut : All (FitsPlain query.metadata.op_code) answers → IsWritten (response_to query answers) (payload_taken query.edns) sent
+pub record IsAnswered (received : List ℕ) (answers : List (Record RData)) (sent : List ℕ) : Type 0
+  where
+    pub query : MessageValue
+    pub end : ℕ
+    pub stands : IsMessageAt received 0 query end
+    pub cut : All (FitsPlain query.metadata.op_code) answers
+        → IsWritten (response_to query answers) (payload_taken query.edns) sent
 
 -- The questions have no room under what the client takes.
-pub record HasNoRoom (received : List ℕ) (answers : List (Record RData)) (e : ProtoError) : Type 0 where
-  pub query : MessageValue
-  pub end : ℕ
-  pub stands : IsMessageAt received 0 query end
-  pub small : IsTooSmall (response_to query answers) (payload_taken query.edns) e
+pub record HasNoRoom (received : List ℕ) (answers : List (Record RData)) (e : ProtoError) : Type 0
+  where
+    pub query : MessageValue
+    pub end : ℕ
+    pub stands : IsMessageAt received 0 query end
+    pub small : IsTooSmall (response_to query answers) (payload_taken query.edns) e
 
 -- why there was no answer: what reading met, questions without room, or memory ran out
 abbrev pub IsUnanswered : List ℕ → List (Record RData) → ProtoError → Type 0
@@ -88,7 +96,8 @@ abbrev pub no_texts : Texts
 no_texts name = None
 
 -- these sets are the zone of the text under the origin, and updates of the class IN may be applied to them
-pub record IsZoneOfText (origin : NameValue) (text : List ℕ) (sets : BTreeMap RrKey SetValue) : Type 0 where
+pub record IsZoneOfText (origin : NameValue) (text : List ℕ) (sets : BTreeMap RrKey SetValue) : Type
+    0 where
   pub last_origin : NameValue
   pub parsed : zone_of no_texts (Some origin) text ≡ Ok (last_origin, sets.entries)
   pub is_map : IsZoneMap classes.IN sets
@@ -108,11 +117,14 @@ abbrev pub creating : NameValue → SetValue → MessageValue
 creating origin s = update_message 1 false (create s origin)
 
 -- The zone of the text, before the update that creates a set and after it.
-pub record IsCreated (origin : NameValue) (text : List ℕ) (s : SetValue) (code : ResponseCode) (new : BTreeMap RrKey SetValue) : Type 0 where
+pub record IsCreated (origin : NameValue) (text : List ℕ) (s : SetValue) (code : ResponseCode)
+    (new : BTreeMap RrKey SetValue) : Type 0 where
   pub old : BTreeMap RrKey SetValue
   pub before : IsZoneOfText origin text old
-  pub change : IsSendable origin s → s.dns_class ≡ classes.IN → NoCname (zone_of_map origin classes.IN old) s.name
-      → ◌≡◌ {A = ResponseCode × Zone} (code, zone_of_map origin classes.IN new) (creation (zone_of_map origin classes.IN old) s)
+  pub change : IsSendable origin s → s.dns_class ≡ classes.IN
+      → NoCname (zone_of_map origin classes.IN old) s.name
+      → ◌≡◌ {A = ResponseCode × Zone} (code, zone_of_map origin classes.IN new)
+      (creation (zone_of_map origin classes.IN old) s)
 
 -- a zone of the text, of another class than IN
 pub record IsOtherZone (origin : NameValue) (text : List ℕ) : Type 0 where
@@ -144,7 +156,8 @@ IsNotReceived bytes e = ⊥
 -- uncompressed questions without room; or bytes, such as a message is written as, that are not received whole
 abbrev pub IsUnsent : NameValue → SetValue → Refusal → Type 0
 IsUnsent origin s (refused.Proto e) = (e ≡ refusals.Memory) ⊎ IsTooSmall (creating origin s) 65535 e
-IsUnsent origin s e = (B : List ℕ) × (IsSendable origin s → IsWritten (creating origin s) 65535 B) × IsNotReceived B e
+IsUnsent origin s e = (B : List ℕ) × (IsSendable origin s → IsWritten (creating origin s) 65535 B)
+    × IsNotReceived B e
 
 -- ---- zone text that is checked
 

@@ -46,8 +46,10 @@ fn response_to(alloc: Global, query: Message, answers: Vec<Record>) -> Message
 
 /// The bytes of a message, as much of it as the limit has room for.
 fn bytes_within(alloc: Global, message: &Message, limit: u16) -> Result<Vec<u8>, ProtoError>
-    ensures written { Fits (message_value message.now) → IfOk result (λ bytes. IsWritten (message_value message.now) limit bytes.items) }
-    ensures refused { IfErr result (λ e. (e ≡ refusals.Memory) ⊎ IsTooSmall (message_value message.now) limit e) }
+    ensures written { Fits (message_value message.now)
+        → IfOk result (λ bytes. IsWritten (message_value message.now) limit bytes.items) }
+    ensures refused { IfErr result
+        (λ e. (e ≡ refusals.Memory) ⊎ IsTooSmall (message_value message.now) limit e) }
 {
     let mut bytes = Vec::new(alloc);
     {

@@ -38,7 +38,8 @@ pub fn create_in(
 ) -> Result<(ResponseCode, BTreeMap<RrKey, RecordSet>), Refusal>
     requires { is_zone_of origin.now set.name ≡ true }
     ensures created { IfOk result (λ r. IsCreated origin.now text.now set r.0 r.1) }
-    ensures refused { IfErr result (λ e. IsUnsent origin.now set e ⊎ IsNoZone origin.now text.now e) }
+    ensures refused { IfErr result
+        (λ e. IsUnsent origin.now set e ⊎ IsNoZone origin.now text.now e) }
 {
     built_updates_apply_as_named();
     let bytes = update_bytes(alloc, origin, set)?;
@@ -50,8 +51,11 @@ pub fn create_in(
 /// The bytes of the update that creates a set.
 fn update_bytes(alloc: Global, origin: &Name, set: RecordSet) -> Result<Vec<u8>, ProtoError>
     requires { is_zone_of origin.now set.name ≡ true }
-    ensures written { IfOk result (λ bytes. IsSendable origin.now set → IsWritten (creating origin.now set) 65535 bytes.items) }
-    ensures refused { IfErr result (λ e. (e ≡ refusals.Memory) ⊎ IsTooSmall (creating origin.now set) 65535 e) }
+    ensures written { IfOk result
+        (λ bytes. IsSendable origin.now set
+        → IsWritten (creating origin.now set) 65535 bytes.items) }
+    ensures refused { IfErr result
+        (λ e. (e ≡ refusals.Memory) ⊎ IsTooSmall (creating origin.now set) 65535 e) }
 {
     let update = create(alloc, 1, set, origin.clone()?, false)?;
     update.to_vec()

@@ -26,8 +26,11 @@ abbrev pub AppliesUncut : MessageValue → (Zone → Type 0) → (Zone → Respo
 AppliesUncut m Premise outcome =
     (limit : ℕ) (B : List ℕ) (c : MessageValue) (k : IsCut m limit B c) → IsUncut k
     → (n : MessageValue) (e : ℕ) → IsMessageAt B 0 n e
-    → (origin : NameValue) (class : DNSClass) (old new : BTreeMap RrKey SetValue) (code : ResponseCode) → IsZoneMap class old → Premise (zone_of_map origin class old)
-    → IsApplied origin class (sections_of n) old code new → ◌≡◌ {A = ResponseCode × Zone} (code, zone_of_map origin class new) (outcome (zone_of_map origin class old))
+    → (origin : NameValue) (class : DNSClass) (old new : BTreeMap RrKey SetValue)
+    (code : ResponseCode) → IsZoneMap class old → Premise (zone_of_map origin class old)
+    → IsApplied origin class (sections_of n) old code new
+    → ◌≡◌ {A = ResponseCode × Zone} (code, zone_of_map origin class new)
+    (outcome (zone_of_map origin class old))
 
 -- a map to which updates may be applied is a zone
 abbrev pub MapsAreZones : Type 0
@@ -43,36 +46,43 @@ RecordsHoldTheData = (z : Zone) (m : Sections) (k : RrKey) (xs : List (Record RD
 -- what comes of a map by what `create` builds
 abbrev pub CreateApplies : Type 0
 CreateApplies = (id : ℕ) (s : SetValue) (origin : NameValue) (use_edns : Bool)
-    → AppliesUncut (update_message id use_edns (create s origin)) (λ z. IsGiven z origin s × NoCname z s.name)
+    → AppliesUncut (update_message id use_edns (create s origin))
+    (λ z. IsGiven z origin s × NoCname z s.name)
     (λ z. if has_set z (set_key s) then (YXRRSet, z) else (NoError, merged z s))
 
 -- what comes of a map by what `append` builds
 abbrev pub AppendApplies : Type 0
 AppendApplies = (id : ℕ) (s : SetValue) (origin : NameValue) (must_exist use_edns : Bool)
-    → AppliesUncut (update_message id use_edns (append s origin must_exist)) (λ z. IsGiven z origin s × NoCname z s.name)
+    → AppliesUncut (update_message id use_edns (append s origin must_exist))
+    (λ z. IsGiven z origin s × NoCname z s.name)
     (λ z. if must_exist && not (has_set z (set_key s)) then (NXRRSet, z) else (NoError, merged z s))
 
 -- what comes of a map by what `compare_and_swap` builds
 abbrev pub SwapApplies : Type 0
 SwapApplies = (id : ℕ) (current new : SetValue) (origin : NameValue) (use_edns : Bool)
     → AppliesUncut (update_message id use_edns (compare_and_swap current new origin))
-    (λ z. (current.records ≢ []) × IsGiven z origin current × IsGiven z origin new × NoCname z new.name)
-    (λ z. if has_data_of_set z current then (NoError, merged (less_key z (set_key current)) new) else (NXRRSet, z))
+    (λ z. (current.records ≢ []) × IsGiven z origin current × IsGiven z origin new
+    × NoCname z new.name)
+    (λ z. if has_data_of_set z current then (NoError, merged (less_key z (set_key current)) new)
+    else (NXRRSet, z))
 
 -- what comes of a map by what `delete_by_rdata` builds
 abbrev pub DeleteDataApplies : Type 0
 DeleteDataApplies = (id : ℕ) (s : SetValue) (origin : NameValue) (use_edns : Bool)
-    → AppliesUncut (update_message id use_edns (delete_by_rdata s origin)) (λ z. IsGiven z origin s) (λ z. (NoError, less_data z s))
+    → AppliesUncut (update_message id use_edns (delete_by_rdata s origin)) (λ z. IsGiven z origin s)
+    (λ z. (NoError, less_data z s))
 
 -- what comes of a map by what `delete_rrset` builds
 abbrev pub DeleteSetApplies : Type 0
 DeleteSetApplies = (id : ℕ) (r : Record RData) (origin : NameValue) (use_edns : Bool)
     → AppliesUncut (update_message id use_edns (delete_rrset r origin))
-    (λ z. IsZone z × IsFor z origin r.name r.dns_class × (is_plain_class r.dns_class ≡ true) × (is_ordinary (type_of_data r.rdata) ≡ true))
+    (λ z. IsZone z × IsFor z origin r.name r.dns_class × (is_plain_class r.dns_class ≡ true)
+    × (is_ordinary (type_of_data r.rdata) ≡ true))
     (λ z. (NoError, less_key z (key_of r.name (type_of_data r.rdata))))
 
 -- what comes of a map by what `delete_all` builds
 abbrev pub DeleteNameApplies : Type 0
 DeleteNameApplies = (id : ℕ) (owner origin : NameValue) (class : DNSClass) (use_edns : Bool)
-    → AppliesUncut (update_message id use_edns (delete_all owner origin class)) (λ z. IsZone z × IsFor z origin owner class × (is_plain_class class ≡ true))
+    → AppliesUncut (update_message id use_edns (delete_all owner origin class))
+    (λ z. IsZone z × IsFor z origin owner class × (is_plain_class class ≡ true))
     (λ z. (NoError, less_name z owner))

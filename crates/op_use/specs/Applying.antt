@@ -33,7 +33,8 @@ entry_of e = (e.0, data_of e.1)
 
 -- the zone whose sets stand under their keys
 abbrev pub zone_of_sets : NameValue → DNSClass → List (RrKey × SetValue) → Zone
-zone_of_sets origin class sets = record { origin = origin; class = class; sets = fin.from_entries (map entry_of sets) }
+zone_of_sets origin class sets =
+    record { origin = origin; class = class; sets = fin.from_entries (map entry_of sets) }
 
 -- the zone whose sets a map holds
 abbrev pub zone_of_map : NameValue → DNSClass → BTreeMap RrKey SetValue → Zone
@@ -82,7 +83,8 @@ applied z m = if is_all_served m then serve z m else (NotImp, z)
 -- The records xs under a key after an update is applied, each as it is spelled: as they were where it isn't served or
 -- is refused.
 abbrev pub records_applied : Zone → Sections → RrKey → List (Record RData) → List (Record RData)
-records_applied z m k xs = if is_all_served m then records_answered z m.updates (fault z m) k xs else xs
+records_applied z m k xs = if is_all_served m then records_answered z m.updates (fault z m) k xs
+    else xs
 
 -- whether an update names the owner of a key
 abbrev pub names_owner : List (Record RData) → RrKey → Bool
@@ -118,7 +120,8 @@ TakesTtls old new = (k : RrKey) (s : SetValue) → tree.get key_cmp new k ≡ So
 -- The code and the new map are those that a server makes of the zone; the new map may be updated again; what no update
 -- names stays; each record was there or came with the updates; each set was there or has the TTL of the last of its
 -- records; and which records, how spelled and in which order is told too.
-pub record IsApplied (origin : NameValue) (class : DNSClass) (s : Sections) (old : BTreeMap RrKey SetValue) (code : ResponseCode) (new : BTreeMap RrKey SetValue)
+pub record IsApplied (origin : NameValue) (class : DNSClass) (s : Sections)
+    (old : BTreeMap RrKey SetValue) (code : ResponseCode) (new : BTreeMap RrKey SetValue)
     : Type 0 where
   pub served : (code, zone_of_map origin class new) ≡ applied (zone_of_map origin class old) s
   pub is_map : IsZoneMap class new

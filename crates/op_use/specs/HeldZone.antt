@@ -32,5 +32,8 @@ zone_of z = zone_of_map z.origin z.class z.sets
 -- it is stored as its fields
 abbrev pub held_code : Coded HeldZone
 held_code = code_by (NameValue × (DNSClass × BTreeMap RrKey SetValue))
-    (coded× name_row.coded (coded× class_row.coded (map_row key_row set_row global_row ord_ghosts eq_ghosts partial_ghosts global_ghosts).coded))
-    (λ z. (z.origin, (z.class, z.sets))) (λ p. record { origin = p.0; class = p.1.0; sets = p.1.1 }) (λ _. refl)
+    (coded× name_row.coded
+    (coded× class_row.coded
+    (map_row key_row set_row global_row ord_ghosts eq_ghosts partial_ghosts global_ghosts).coded))
+    (λ z. (z.origin, (z.class, z.sets))) (λ p. record { origin = p.0; class = p.1.0; sets = p.1.1 })
+    (λ _. refl)

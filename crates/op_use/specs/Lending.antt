@@ -8,4 +8,6 @@ use Rattle.op_use.specs.contracts.dns_response.DnsResponse.{the_row as response_
 
 -- the response ends with the message that is left after the reference, and the bytes that it had
 abbrev pub LendsMessage : MutBor ResponseValue → MutBor Message → Fml
-LendsMessage response message = Lends response_row message_row response message (λ (w : Message). record response.now { message = message_value w })
+LendsMessage response message =
+    Lends response_row message_row response message
+    (λ (w : Message). record response.now { message = message_value w })

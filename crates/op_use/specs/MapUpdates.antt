@@ -23,7 +23,8 @@ use Rattle.std.specs.Ordering.{eq_by_cmp, on}
 use Rattle.std.specs.Prelude.{Bool, List, None, Option, Some, cond, false, not, true, ◌&&◌, ◌≡◌, ◌⊎◌}
 
 -- the new map is the old one after the updates rs
-pub record IsAfter (origin : NameValue) (class : DNSClass) (rs : List (Record RData)) (old new : BTreeMap RrKey SetValue) : Type 0 where
+pub record IsAfter (origin : NameValue) (class : DNSClass) (rs : List (Record RData))
+    (old new : BTreeMap RrKey SetValue) : Type 0 where
   pub zone : zone_of_map origin class new ≡ fold update (zone_of_map origin class old) rs
   pub is_map : IsZoneMap class new
   pub others : (k : RrKey) → names_owner rs k ≡ false
@@ -41,7 +42,8 @@ Puts k o old new = (q : RrKey)
 
 -- the new map has a set of these records under a key, the one that was there or with the TTL of the last, none where
 -- there are none, and else what the old one has
-pub record IsSetTo (class : DNSClass) (k : RrKey) (xs : List (Record RData)) (old new : BTreeMap RrKey SetValue) : Type 0 where
+pub record IsSetTo (class : DNSClass) (k : RrKey) (xs : List (Record RData))
+    (old new : BTreeMap RrKey SetValue) : Type 0 where
   pub set : Option SetValue
   pub records : records_in set ≡ xs
   pub fits : (s : SetValue) → set ≡ Some s → IsZoneSet class k s
@@ -50,7 +52,8 @@ pub record IsSetTo (class : DNSClass) (k : RrKey) (xs : List (Record RData)) (ol
   pub puts : Puts k set old new
 
 -- a set that is taken out to be changed: of this class, of this key, and with these records, no two of equal data
-pub record IsTakenSet (of_class : DNSClass) (k : RrKey) (xs : List (Record RData)) (s : SetValue) : Type 0 where
+pub record IsTakenSet (of_class : DNSClass) (k : RrKey) (xs : List (Record RData))
+    (s : SetValue) : Type 0 where
   pub own_key : set_key s ≡ k
   pub own_class : s.dns_class ≡ of_class
   pub distinct : IsDistinct (on (λ (r : Record RData). r.rdata) same_data) s.records

@@ -31,15 +31,19 @@ renewed (r ∷ rs) d = if is_data_of d r then datum_of r else renewed rs d
 -- the records whose data is not among xs
 abbrev pub others : List Datum → List (Record RData) → List Datum
 others xs [] = []
-others xs (r ∷ rs) = if list_any (λ d. is_data_of d r) xs then others xs rs else datum_of r ∷ others xs rs
+others xs (r ∷ rs) = if list_any (λ d. is_data_of d r) xs then others xs rs else datum_of r
+    ∷ others xs rs
 
 -- equal data is replaced at its place, other data goes last in the set's order
 abbrev pub merged : Zone → SetValue → Zone
-merged z s = put z (set_key s) (map (renewed s.records) (at z (set_key s)) ++ others (at z (set_key s)) s.records)
+merged z s =
+    put z (set_key s)
+    (map (renewed s.records) (at z (set_key s)) ++ others (at z (set_key s)) s.records)
 
 -- data equal to one of the set is gone
 abbrev pub less_data : Zone → SetValue → Zone
-less_data z s = put z (set_key s) (filter (λ d. not (list_any (is_data_of d) s.records)) (at z (set_key s)))
+less_data z s =
+    put z (set_key s) (filter (λ d. not (list_any (is_data_of d) s.records)) (at z (set_key s)))
 
 -- the key is gone
 abbrev pub less_key : Zone → RrKey → Zone

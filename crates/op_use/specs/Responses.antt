@@ -18,10 +18,11 @@ use Rattle.op.specs.Parts.{all_records}
 -- the first of the records that is the start of a zone
 abbrev pub first_soa : List (Record RData) → Option (Record SOA)
 first_soa [] = None
-first_soa (r ∷ rs) = or_found (option_map (λ rdata. holding rdata r) (soa_in r.rdata)) (first_soa rs) where
-  or_found : Option (Record SOA) → Option (Record SOA) → Option (Record SOA)
-  or_found (Some x) next = Some x
-  or_found None next = next
+first_soa (r ∷ rs) =
+    or_found (option_map (λ rdata. holding rdata r) (soa_in r.rdata)) (first_soa rs) where
+      or_found : Option (Record SOA) → Option (Record SOA) → Option (Record SOA)
+      or_found (Some x) next = Some x
+      or_found None next = next
 
 -- the first authority that is the start of a zone
 abbrev pub soa : MessageValue → Option (Record SOA)
@@ -43,7 +44,8 @@ is_of type r = same_type (type_of_data r.rdata) type
 -- whether the records answer a question
 abbrev pub answers_by : RecordType → MessageValue → Query → Bool
 answers_by types.ANY m q = list_any (λ r. same_name r.name q.name) (all_records m)
-answers_by types.SOA m q = list_any (λ r. is_of types.SOA r && is_zone_of r.name q.name) (all_records m)
+answers_by types.SOA m q =
+    list_any (λ r. is_of types.SOA r && is_zone_of r.name q.name) (all_records m)
 answers_by type m q = not (is_empty_list m.answers)
     || list_any (λ r. is_of type r && same_name r.name q.name) (all_records m)
 

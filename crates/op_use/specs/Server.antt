@@ -90,19 +90,24 @@ unless false code = Some code
 
 -- 1. the zone section
 abbrev pub zone_fault : Zone → List Query → Fault
-zone_fault z (q ∷ []) = and_then (unless (is_soa q.query_type) FormErr) (unless (same_name q.name z.origin && same_class q.query_class z.class) NotAuth)
+zone_fault z (q ∷ []) =
+    and_then (unless (is_soa q.query_type) FormErr)
+    (unless (same_name q.name z.origin && same_class q.query_class z.class) NotAuth)
 zone_fault z _ = Some FormErr
 
 -- 2. a prerequisite: whether the set that it names is there, or any of its owner
 abbrev pub is_found : Zone → Record RData → Bool
-is_found z r = if is_any (type_of_record r) then has_type_at z r.name (λ _. true) else has_set z (record_key r)
+is_found z r = if is_any (type_of_record r) then has_type_at z r.name (λ _. true)
+    else has_set z (record_key r)
 
 -- what is wrong with it, where it is known whether what it names is there
 abbrev pub prerequisite_by : Use → Bool → Record RData → Fault
 prerequisite_by OfAny found r =
-    and_then (unless (is_empty_data r.rdata) FormErr) (unless found (if is_any (type_of_record r) then NXDomain else NXRRSet))
+    and_then (unless (is_empty_data r.rdata) FormErr)
+    (unless found (if is_any (type_of_record r) then NXDomain else NXRRSet))
 prerequisite_by OfNone found r =
-    and_then (unless (is_empty_data r.rdata) FormErr) (unless (not found) (if is_any (type_of_record r) then YXDomain else YXRRSet))
+    and_then (unless (is_empty_data r.rdata) FormErr)
+    (unless (not found) (if is_any (type_of_record r) then YXDomain else YXRRSet))
 prerequisite_by OfZone found r = None
 prerequisite_by OfNothing found r = Some FormErr
 
@@ -110,7 +115,8 @@ prerequisite_by OfNothing found r = Some FormErr
 abbrev pub prerequisite_fault : Zone → Record RData → Fault
 prerequisite_fault z r =
     and_then (unless (r.ttl == 0) FormErr)
-    (and_then (unless (is_zone_of z.origin r.name) NotZone) (prerequisite_by (use_of z.class r.dns_class) (is_found z r) r))
+    (and_then (unless (is_zone_of z.origin r.name) NotZone)
+    (prerequisite_by (use_of z.class r.dns_class) (is_found z r) r))
 
 -- whether a record is of the zone's class
 abbrev pub is_of_zone : Use → Bool
@@ -133,22 +139,29 @@ is_met z rs r =
 
 -- what is wrong with the prerequisites, first each by itself (RFC 2136, 3.2)
 abbrev pub prerequisites_fault : Zone → List (Record RData) → Fault
-prerequisites_fault z rs = and_then (first_fault (prerequisite_fault z) rs) (unless (list_all (is_met z (collected z rs)) (collected z rs)) NXRRSet)
+prerequisites_fault z rs =
+    and_then (first_fault (prerequisite_fault z) rs)
+    (unless (list_all (is_met z (collected z rs)) (collected z rs)) NXRRSet)
 
 -- 3. the prescan of an update
 abbrev pub prescan_by : Use → Record RData → Fault
 prescan_by OfZone r = unless (not (is_meta (type_of_record r))) FormErr
-prescan_by OfAny r = unless (r.ttl == 0 && is_empty_data r.rdata && (not (is_meta (type_of_record r)) || is_any (type_of_record r))) FormErr
+prescan_by OfAny r =
+    unless (r.ttl == 0 && is_empty_data r.rdata
+    && (not (is_meta (type_of_record r)) || is_any (type_of_record r))) FormErr
 prescan_by OfNone r = unless (r.ttl == 0 && not (is_meta (type_of_record r))) FormErr
 prescan_by OfNothing r = Some FormErr
 
 -- what is wrong with one update (RFC 2136, 3.4.1.3)
 abbrev pub prescan_fault : Zone → Record RData → Fault
-prescan_fault z r = and_then (unless (is_zone_of z.origin r.name) NotZone) (prescan_by (use_of z.class r.dns_class) r)
+prescan_fault z r =
+    and_then (unless (is_zone_of z.origin r.name) NotZone)
+    (prescan_by (use_of z.class r.dns_class) r)
 
 -- 4. equal data is replaced at its place, other data goes last
 abbrev pub added : List Datum → Record RData → List Datum
-added xs r = if list_any (λ d. is_data_of d r) xs then map (λ d. if is_data_of d r then datum_of r else d) xs else xs ++ datum_of r ∷ []
+added xs r = if list_any (λ d. is_data_of d r) xs
+    then map (λ d. if is_data_of d r then datum_of r else d) xs else xs ++ datum_of r ∷ []
 
 -- without the data
 abbrev pub removed : List Datum → Record RData → List Datum
@@ -156,7 +169,8 @@ removed xs r = filter (λ d. not (is_data_of d r)) xs
 
 -- whether a record isn't added: a CNAME beside another type, another type beside a CNAME (3.4.2.2)
 abbrev pub is_kept_out : Zone → Record RData → Bool
-is_kept_out z r = if is_cname (type_of_record r) then has_type_at z r.name (λ t. not (is_cname t)) else has_set z (key_of r.name types.CNAME)
+is_kept_out z r = if is_cname (type_of_record r) then has_type_at z r.name (λ t. not (is_cname t))
+    else has_set z (key_of r.name types.CNAME)
 
 -- a CNAME stands alone in its set, another record among others
 abbrev pub alone_or : {X : Type 0} → Record RData → X → List X → List X
@@ -183,9 +197,11 @@ is_needed z r = is_soa (type_of_record r)
 
 -- an update
 abbrev pub update_by : Use → Zone → Record RData → Zone
-update_by OfZone z r = if is_kept_out z r then z else put z (record_key r) (with_datum r (at z (record_key r)))
+update_by OfZone z r = if is_kept_out z r then z
+    else put z (record_key r) (with_datum r (at z (record_key r)))
 update_by OfAny z r = record z { sets = fin.retain_keys z.sets (λ k. not (goes_with z r k)) }
-update_by OfNone z r = if is_needed z r then z else put z (record_key r) (removed (at z (record_key r)) r)
+update_by OfNone z r = if is_needed z r then z
+    else put z (record_key r) (removed (at z (record_key r)) r)
 update_by OfNothing z r = z
 
 -- what one update makes of a zone (RFC 2136, 3.4.2.7)
@@ -194,7 +210,9 @@ update z r = update_by (use_of z.class r.dns_class) z r
 
 -- the code of the first test that fails, if one does
 abbrev pub fault : Zone → Sections → Fault
-fault z m = and_then (zone_fault z m.zones) (and_then (prerequisites_fault z m.prerequisites) (first_fault (prescan_fault z) m.updates))
+fault z m =
+    and_then (zone_fault z m.zones)
+    (and_then (prerequisites_fault z m.prerequisites) (first_fault (prescan_fault z) m.updates))
 
 -- the code of a fault and the zone as it was, or NoError and the zone after all updates
 abbrev pub answer : Zone → List (Record RData) → Fault → ResponseCode × Zone

@@ -63,7 +63,16 @@ server name = kinds.NS (record { name = name })
 
 -- an SOA
 abbrev pub start : RData
-start = kinds.SOA (record { mname = www; rname = www; serial = 1; refresh = 7200; retry = 3600; expire = 1209600; minimum = 300 })
+start = kinds.SOA
+    (record {
+      mname = www;
+      rname = www;
+      serial = 1;
+      refresh = 7200;
+      retry = 3600;
+      expire = 1209600;
+      minimum = 300;
+    })
 
 --- ---- zones
 
@@ -93,13 +102,15 @@ two_addresses = entry www types.A (host 300 1 ∷ host 300 2 ∷ []) ∷ []
 
 -- the start and the server of the zone
 abbrev pub origin_sets : List Entry
-origin_sets = entry example types.SOA (lasting 300 start ∷ []) ∷ entry example types.NS (lasting 300 (server www) ∷ []) ∷ []
+origin_sets = entry example types.SOA (lasting 300 start ∷ [])
+    ∷ entry example types.NS (lasting 300 (server www) ∷ []) ∷ []
 
 --- ---- updates
 
 -- a record of a class
 abbrev pub holding : DNSClass → NameValue → ℕ → RData → Record RData
-holding class owner ttl rdata = record { name = owner; dns_class = class; ttl = ttl; rdata = rdata; mdns_cache_flush = false }
+holding class owner ttl rdata =
+    record { name = owner; dns_class = class; ttl = ttl; rdata = rdata; mdns_cache_flush = false }
 
 -- an update of `example.` with prerequisites alone
 abbrev pub needs : List (Record RData) → Sections
@@ -111,7 +122,8 @@ asks updates = sections example classes.IN [] updates
 
 -- the question that names a zone
 abbrev pub question : NameValue → RecordType → DNSClass → Query
-question name type class = record { name = name; query_type = type; query_class = class; mdns_unicast_response = false }
+question name type class =
+    record { name = name; query_type = type; query_class = class; mdns_unicast_response = false }
 
 -- with these questions, and nothing else
 abbrev pub questions : List Query → Sections
@@ -145,14 +157,17 @@ addresses ns = record {
 -- the zone section (3.1)
 pub record ZoneSectionRows : Type 0 where
   pub none : Answers (questions []) FormErr
-  pub two : Answers (questions (question example types.SOA classes.IN ∷ question example types.SOA classes.IN ∷ [])) FormErr
+  pub two : Answers
+      (questions
+      (question example types.SOA classes.IN ∷ question example types.SOA classes.IN ∷ [])) FormErr
   pub no_start : Answers (questions (question example types.A classes.IN ∷ [])) FormErr
   pub other_zone : Answers (questions (question elsewhere types.SOA classes.IN ∷ [])) NotAuth
   pub part_of_zone : Answers (questions (question www types.SOA classes.IN ∷ [])) NotAuth
   pub other_class : Answers (questions (question example types.SOA classes.CH ∷ [])) NotAuth
   -- the type is tested before the name
   pub type_first : Answers (questions (question elsewhere types.A classes.IN ∷ [])) FormErr
-  pub own_zone : Answers (questions (question (named (codes "EXAMPLE" ∷ [])) types.SOA classes.IN ∷ [])) NoError
+  pub own_zone : Answers
+      (questions (question (named (codes "EXAMPLE" ∷ [])) types.SOA classes.IN ∷ [])) NoError
 
 -- the prerequisites (3.2.5), in the order of the RFC
 pub record PrerequisiteRows : Type 0 where
@@ -170,26 +185,45 @@ pub record PrerequisiteRows : Type 0 where
   pub no_set : Answers (needs (empty_record www types.MX classes.NONE ∷ [])) NoError
   -- a set with just this data, in any order
   pub less : Answers (needs (holding classes.IN www 0 (address 1) ∷ [])) NXRRSet
-  pub other : Answers (needs (holding classes.IN www 0 (address 1) ∷ holding classes.IN www 0 (address 3) ∷ [])) NXRRSet
-  pub more : Answers (needs (holding classes.IN www 0 (address 1) ∷ holding classes.IN www 0 (address 2) ∷ holding classes.IN www 0 (address 3) ∷ [])) NXRRSet
-  pub same : Answers (needs (holding classes.IN www 0 (address 2) ∷ holding classes.IN www 0 (address 1) ∷ [])) NoError
+  pub other : Answers
+      (needs (holding classes.IN www 0 (address 1) ∷ holding classes.IN www 0 (address 3) ∷ []))
+      NXRRSet
+  pub more : Answers
+      (needs (holding classes.IN www 0 (address 1) ∷ holding classes.IN www 0 (address 2)
+      ∷ holding classes.IN www 0 (address 3) ∷ [])) NXRRSet
+  pub same : Answers
+      (needs (holding classes.IN www 0 (address 2) ∷ holding classes.IN www 0 (address 1) ∷ []))
+      NoError
   pub other_class : Answers (needs (empty_record www types.A classes.CH ∷ [])) FormErr
   -- the first that fails says the code
-  pub first : Answers (needs (empty_record www types.A classes.ANY ∷ empty_record www types.ANY classes.NONE ∷ empty_record www types.MX classes.ANY ∷ []))
+  pub first : Answers
+      (needs (empty_record www types.A classes.ANY ∷ empty_record www types.ANY classes.NONE
+      ∷ empty_record www types.MX classes.ANY ∷ []))
       YXDomain
 
 -- which of two tests that fail says the code: zone section, prerequisites and prescan in this order, and of a prerequisite
 -- first its TTL, then its owner
 pub record OrderRows : Type 0 where
   pub zone_section : Answers
-      (record { zones = question elsewhere types.SOA classes.IN ∷ []; prerequisites = empty_record www types.MX classes.ANY ∷ []; updates = [] }) NotAuth
-  pub prerequisites : Answers (sections example classes.IN (empty_record www types.MX classes.ANY ∷ []) (holding classes.IN elsewhere 60 (address 3) ∷ [])) NXRRSet
-  pub by_value : Answers (sections example classes.IN (holding classes.IN www 0 (address 1) ∷ []) (holding classes.IN elsewhere 60 (address 3) ∷ [])) NXRRSet
+      (record {
+        zones = question elsewhere types.SOA classes.IN ∷ [];
+        prerequisites = empty_record www types.MX classes.ANY ∷ [];
+        updates = [];
+      }) NotAuth
+  pub prerequisites : Answers
+      (sections example classes.IN (empty_record www types.MX classes.ANY ∷ [])
+      (holding classes.IN elsewhere 60 (address 3) ∷ [])) NXRRSet
+  pub by_value : Answers
+      (sections example classes.IN (holding classes.IN www 0 (address 1) ∷ [])
+      (holding classes.IN elsewhere 60 (address 3) ∷ [])) NXRRSet
   -- those by value come after all others
-  pub by_value_last : Answers (needs (holding classes.IN www 0 (address 1) ∷ empty_record unused types.ANY classes.ANY ∷ [])) NXDomain
+  pub by_value_last : Answers
+      (needs (holding classes.IN www 0 (address 1) ∷ empty_record unused types.ANY classes.ANY
+      ∷ [])) NXDomain
   pub ttl : Answers (needs (holding classes.ANY elsewhere 1 (address 1) ∷ [])) FormErr
   pub owner : Answers (needs (holding classes.ANY elsewhere 0 (address 1) ∷ [])) NotZone
-  pub owner_of_an_update : Answers (asks (holding classes.NONE elsewhere 1 (address 1) ∷ [])) NotZone
+  pub owner_of_an_update : Answers (asks (holding classes.NONE elsewhere 1 (address 1) ∷ []))
+      NotZone
 
 -- the prescan of the updates (3.4.1.3), in the order of the RFC
 pub record PrescanRows : Type 0 where
@@ -204,73 +238,110 @@ pub record PrescanRows : Type 0 where
   pub none_meta : Answers (asks (empty_record www types.AXFR classes.NONE ∷ [])) FormErr
   pub other_class : Answers (asks (holding classes.CH www 60 (address 3) ∷ [])) FormErr
   -- an update that would do is not done before one that is refused
-  pub nothing_before : Answers (asks (holding classes.IN www 60 (address 3) ∷ holding classes.IN elsewhere 60 (address 3) ∷ [])) NotZone
+  pub nothing_before : Answers
+      (asks (holding classes.IN www 60 (address 3) ∷ holding classes.IN elsewhere 60 (address 3)
+      ∷ [])) NotZone
 
 -- what is added (3.4.2.2)
 pub record AddRows : Type 0 where
-  pub new_set : Makes [] (asks (holding classes.IN www 60 (address 1) ∷ [])) (entry www types.A (host 60 1 ∷ []) ∷ [])
-  pub new_data : Makes (entry www types.A (host 300 1 ∷ []) ∷ []) (asks (holding classes.IN www 60 (address 2) ∷ []))
+  pub new_set : Makes [] (asks (holding classes.IN www 60 (address 1) ∷ []))
+      (entry www types.A (host 60 1 ∷ []) ∷ [])
+  pub new_data : Makes (entry www types.A (host 300 1 ∷ []) ∷ [])
+      (asks (holding classes.IN www 60 (address 2) ∷ []))
       (entry www types.A (host 300 1 ∷ host 60 2 ∷ []) ∷ [])
   -- equal data is replaced at its place: its time to live, and the spelling of its names
-  pub equal_data : Makes two_addresses (asks (holding classes.IN www 60 (address 1) ∷ [])) (entry www types.A (host 60 1 ∷ host 300 2 ∷ []) ∷ [])
-  pub equal_names : Makes (entry www types.MX (lasting 300 (mail www) ∷ []) ∷ []) (asks (holding classes.IN www 300 (mail raised_www) ∷ []))
+  pub equal_data : Makes two_addresses (asks (holding classes.IN www 60 (address 1) ∷ []))
+      (entry www types.A (host 60 1 ∷ host 300 2 ∷ []) ∷ [])
+  pub equal_names : Makes (entry www types.MX (lasting 300 (mail www) ∷ []) ∷ [])
+      (asks (holding classes.IN www 300 (mail raised_www) ∷ []))
       (entry www types.MX (lasting 300 (mail raised_www) ∷ []) ∷ [])
   -- an owner is the same in whatever case
   pub same_owner : Makes two_addresses (asks (holding classes.IN raised_www 300 (address 3) ∷ []))
       (entry www types.A (host 300 1 ∷ host 300 2 ∷ host 300 3 ∷ []) ∷ [])
   -- a name server of the zone comes beside the first
-  pub other_server : Makes (entry example types.NS (lasting 300 (server www) ∷ []) ∷ entry www types.A (host 300 1 ∷ []) ∷ [])
+  pub other_server : Makes
+      (entry example types.NS (lasting 300 (server www) ∷ []) ∷ entry www types.A (host 300 1 ∷ [])
+      ∷ [])
       (asks (holding classes.IN example 60 (server example) ∷ []))
-      (entry example types.NS (lasting 300 (server www) ∷ lasting 60 (server example) ∷ []) ∷ entry www types.A (host 300 1 ∷ []) ∷ [])
+      (entry example types.NS (lasting 300 (server www) ∷ lasting 60 (server example) ∷ [])
+      ∷ entry www types.A (host 300 1 ∷ []) ∷ [])
   -- nothing stands beside a CNAME, and there is one
-  pub beside_alias : Makes (entry www types.CNAME (lasting 300 (alias_of example) ∷ []) ∷ []) (asks (holding classes.IN www 60 (address 1) ∷ []))
+  pub beside_alias : Makes (entry www types.CNAME (lasting 300 (alias_of example) ∷ []) ∷ [])
+      (asks (holding classes.IN www 60 (address 1) ∷ []))
       (entry www types.CNAME (lasting 300 (alias_of example) ∷ []) ∷ [])
-  pub alias_beside : Makes two_addresses (asks (holding classes.IN www 60 (alias_of example) ∷ [])) two_addresses
-  pub other_alias : Makes (entry www types.CNAME (lasting 300 (alias_of example) ∷ []) ∷ []) (asks (holding classes.IN www 60 (alias_of unused) ∷ []))
+  pub alias_beside : Makes two_addresses (asks (holding classes.IN www 60 (alias_of example) ∷ []))
+      two_addresses
+  pub other_alias : Makes (entry www types.CNAME (lasting 300 (alias_of example) ∷ []) ∷ [])
+      (asks (holding classes.IN www 60 (alias_of unused) ∷ []))
       (entry www types.CNAME (lasting 60 (alias_of unused) ∷ []) ∷ [])
 
 -- sets that go, of one type or of all (3.4.2.3)
 pub record DeleteSetRows : Type 0 where
-  pub one_type : Makes (entry www types.A (host 300 1 ∷ host 300 2 ∷ []) ∷ entry www types.MX (lasting 300 (mail www) ∷ []) ∷ [])
-      (asks (empty_record www types.A classes.ANY ∷ [])) (entry www types.MX (lasting 300 (mail www) ∷ []) ∷ [])
-  pub not_there : Makes two_addresses (asks (empty_record www types.MX classes.ANY ∷ [])) two_addresses
+  pub one_type : Makes
+      (entry www types.A (host 300 1 ∷ host 300 2 ∷ [])
+      ∷ entry www types.MX (lasting 300 (mail www) ∷ []) ∷ [])
+      (asks (empty_record www types.A classes.ANY ∷ []))
+      (entry www types.MX (lasting 300 (mail www) ∷ []) ∷ [])
+  pub not_there : Makes two_addresses (asks (empty_record www types.MX classes.ANY ∷ []))
+      two_addresses
   pub all_types : Makes
-      (entry www types.A (host 300 1 ∷ []) ∷ entry www types.MX (lasting 300 (mail www) ∷ []) ∷ entry example types.A (host 300 7 ∷ []) ∷ [])
-      (asks (empty_record www types.ANY classes.ANY ∷ [])) (entry example types.A (host 300 7 ∷ []) ∷ [])
+      (entry www types.A (host 300 1 ∷ []) ∷ entry www types.MX (lasting 300 (mail www) ∷ [])
+      ∷ entry example types.A (host 300 7 ∷ []) ∷ [])
+      (asks (empty_record www types.ANY classes.ANY ∷ []))
+      (entry example types.A (host 300 7 ∷ []) ∷ [])
   -- SOA and NS stay at the origin, and an NS below it goes
-  pub start_stays : Makes origin_sets (asks (empty_record example types.SOA classes.ANY ∷ [])) origin_sets
-  pub servers_stay : Makes origin_sets (asks (empty_record example types.NS classes.ANY ∷ [])) origin_sets
-  pub both_stay : Makes (entry example types.A (host 300 7 ∷ []) ∷ origin_sets) (asks (empty_record example types.ANY classes.ANY ∷ [])) origin_sets
-  pub below : Makes (entry www types.NS (lasting 300 (server www) ∷ []) ∷ origin_sets) (asks (empty_record www types.NS classes.ANY ∷ [])) origin_sets
+  pub start_stays : Makes origin_sets (asks (empty_record example types.SOA classes.ANY ∷ []))
+      origin_sets
+  pub servers_stay : Makes origin_sets (asks (empty_record example types.NS classes.ANY ∷ []))
+      origin_sets
+  pub both_stay : Makes (entry example types.A (host 300 7 ∷ []) ∷ origin_sets)
+      (asks (empty_record example types.ANY classes.ANY ∷ [])) origin_sets
+  pub below : Makes (entry www types.NS (lasting 300 (server www) ∷ []) ∷ origin_sets)
+      (asks (empty_record www types.NS classes.ANY ∷ [])) origin_sets
 
 -- records that go (3.4.2.4)
 pub record DeleteRecordRows : Type 0 where
-  pub one : Makes two_addresses (asks (holding classes.NONE www 0 (address 2) ∷ [])) (entry www types.A (host 300 1 ∷ []) ∷ [])
-  pub last : Makes (entry www types.A (host 300 1 ∷ []) ∷ []) (asks (holding classes.NONE www 0 (address 1) ∷ [])) []
-  pub not_there : Makes two_addresses (asks (holding classes.NONE www 0 (address 3) ∷ [])) two_addresses
+  pub one : Makes two_addresses (asks (holding classes.NONE www 0 (address 2) ∷ []))
+      (entry www types.A (host 300 1 ∷ []) ∷ [])
+  pub last : Makes (entry www types.A (host 300 1 ∷ []) ∷ [])
+      (asks (holding classes.NONE www 0 (address 1) ∷ [])) []
+  pub not_there : Makes two_addresses (asks (holding classes.NONE www 0 (address 3) ∷ []))
+      two_addresses
   -- an SOA stays, and so does the last NS of the origin
   pub start_stays : Makes origin_sets (asks (holding classes.NONE example 0 start ∷ [])) origin_sets
-  pub last_server_stays : Makes origin_sets (asks (holding classes.NONE example 0 (server www) ∷ [])) origin_sets
-  pub one_server : Makes (entry example types.NS (lasting 300 (server www) ∷ lasting 300 (server example) ∷ []) ∷ [])
-      (asks (holding classes.NONE example 0 (server www) ∷ [])) (entry example types.NS (lasting 300 (server example) ∷ []) ∷ [])
+  pub last_server_stays : Makes origin_sets
+      (asks (holding classes.NONE example 0 (server www) ∷ [])) origin_sets
+  pub one_server : Makes
+      (entry example types.NS (lasting 300 (server www) ∷ lasting 300 (server example) ∷ []) ∷ [])
+      (asks (holding classes.NONE example 0 (server www) ∷ []))
+      (entry example types.NS (lasting 300 (server example) ∷ []) ∷ [])
   -- below the origin an SOA stays too, and the last NS goes
-  pub start_below_stays : Makes (entry www types.SOA (lasting 300 start ∷ []) ∷ []) (asks (holding classes.NONE www 0 start ∷ []))
+  pub start_below_stays : Makes (entry www types.SOA (lasting 300 start ∷ []) ∷ [])
+      (asks (holding classes.NONE www 0 start ∷ []))
       (entry www types.SOA (lasting 300 start ∷ []) ∷ [])
-  pub server_below : Makes (entry www types.NS (lasting 300 (server www) ∷ []) ∷ origin_sets) (asks (holding classes.NONE www 0 (server www) ∷ [])) origin_sets
+  pub server_below : Makes (entry www types.NS (lasting 300 (server www) ∷ []) ∷ origin_sets)
+      (asks (holding classes.NONE www 0 (server www) ∷ [])) origin_sets
   -- updates are done in turn
   pub in_turn : Makes (entry example types.NS (lasting 300 (server www) ∷ []) ∷ [])
-      (asks (holding classes.IN example 300 (server example) ∷ holding classes.NONE example 0 (server www) ∷ []))
+      (asks (holding classes.IN example 300 (server example)
+      ∷ holding classes.NONE example 0 (server www) ∷ []))
       (entry example types.NS (lasting 300 (server example) ∷ []) ∷ [])
 
 -- what builders send
 pub record BuilderRows : Type 0 where
   -- a set is swapped where it is there, whatever its time to live, and else isn't
-  pub swapped : Makes (entry www types.A (host 300 1 ∷ []) ∷ []) (compare_and_swap (addresses (1 ∷ [])) (addresses (1 ∷ 2 ∷ [])) example)
+  pub swapped : Makes (entry www types.A (host 300 1 ∷ []) ∷ [])
+      (compare_and_swap (addresses (1 ∷ [])) (addresses (1 ∷ 2 ∷ [])) example)
       (entry www types.A (host 60 1 ∷ host 60 2 ∷ []) ∷ [])
-  pub not_swapped : Refuses (entry www types.A (host 300 9 ∷ []) ∷ []) (compare_and_swap (addresses (1 ∷ [])) (addresses (1 ∷ 2 ∷ [])) example) NXRRSet
+  pub not_swapped : Refuses (entry www types.A (host 300 9 ∷ []) ∷ [])
+      (compare_and_swap (addresses (1 ∷ [])) (addresses (1 ∷ 2 ∷ [])) example) NXRRSet
   -- a set is made where there is none, and else isn't
-  pub created : Makes [] (create (addresses (1 ∷ [])) example) (entry www types.A (host 60 1 ∷ []) ∷ [])
-  pub not_created : Refuses (entry www types.A (host 300 9 ∷ []) ∷ []) (create (addresses (1 ∷ [])) example) YXRRSet
+  pub created : Makes [] (create (addresses (1 ∷ [])) example)
+      (entry www types.A (host 60 1 ∷ []) ∷ [])
+  pub not_created : Refuses (entry www types.A (host 300 9 ∷ []) ∷ [])
+      (create (addresses (1 ∷ [])) example) YXRRSet
   -- of the origin SOA and NS stay, and all else goes; other owners keep what they have
-  pub cleared : Makes (entry example types.A (host 300 7 ∷ []) ∷ entry www types.A (host 300 1 ∷ []) ∷ origin_sets) (delete_all example example classes.IN)
+  pub cleared : Makes
+      (entry example types.A (host 300 7 ∷ []) ∷ entry www types.A (host 300 1 ∷ []) ∷ origin_sets)
+      (delete_all example example classes.IN)
       (entry www types.A (host 300 1 ∷ []) ∷ origin_sets)

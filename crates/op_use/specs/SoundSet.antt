@@ -27,7 +27,9 @@ is_plain_class _ = true
 
 -- the numbers of types that updates treat alike: not 0, NS, CNAME, SOA, WKS, SIG, OPT, nor query and meta types
 abbrev pub is_ordinary_number : ℕ → Bool
-is_ordinary_number n = not (n == 0 || n == 2 || n == 5 || n == 6 || n == 11 || n == 24 || n == 41 || (nat_le 128 n && nat_le n 255))
+is_ordinary_number n =
+    not (n == 0 || n == 2 || n == 5 || n == 6 || n == 11 || n == 24 || n == 41
+    || (nat_le 128 n && nat_le n 255))
 
 -- a type that updates treat like most
 abbrev pub is_ordinary : RecordType → Bool
@@ -37,7 +39,8 @@ is_ordinary type = is_ordinary_number (type_number type)
 -- no two of them have equal data.
 pub record IsSound (s : SetValue) : Type 0 where
   pub own_owner : AllByRecursion (λ (r : Record RData). same_name r.name s.name ≡ true) s.records
-  pub own_type : AllByRecursion (λ (r : Record RData). type_of_data r.rdata ≡ s.record_type) s.records
+  pub own_type : AllByRecursion (λ (r : Record RData). type_of_data r.rdata ≡ s.record_type)
+      s.records
   pub own_class : AllByRecursion (λ (r : Record RData). r.dns_class ≡ s.dns_class) s.records
   pub class : is_plain_class s.dns_class ≡ true
   pub distinct : IsDistinct (on (λ (r : Record RData). r.rdata) same_data) s.records
@@ -79,12 +82,13 @@ pub record IsSendable (origin : NameValue) (s : SetValue) : Type 0 where
   pub sent : IsSent s
 
 -- an owner, an ordinary type and a class that can be sent so
-pub record IsSendableKey (origin owner : NameValue) (type : RecordType) (class : DNSClass) : Type 0 where
-  pub rooted : origin.absolute ≡ true
-  pub owned : owner.absolute ≡ true
-  pub ordinary : is_ordinary type ≡ true
-  pub type_reads : type_of (type_number type) ≡ type
-  pub sent_class : IsSentClass class
+pub record IsSendableKey (origin owner : NameValue) (type : RecordType) (class : DNSClass) : Type 0
+  where
+    pub rooted : origin.absolute ≡ true
+    pub owned : owner.absolute ≡ true
+    pub ordinary : is_ordinary type ≡ true
+    pub type_reads : type_of (type_number type) ≡ type
+    pub sent_class : IsSentClass class
 
 -- an owner and a class that can be sent so
 pub record IsSendableOwner (origin owner : NameValue) (class : DNSClass) : Type 0 where

@@ -26,19 +26,25 @@ MeansUncut m Premise outcome =
 
 -- Where the zone has no set of that owner and type, the set is merged into it; else YXRRSet.
 abbrev pub CreatesSet : SetValue → NameValue → MessageValue → Type 0
-CreatesSet s origin m = MeansUncut m (λ z. IsGiven z origin s × NoCname z s.name) (λ z. if has_set z (set_key s) then (YXRRSet, z) else (NoError, merged z s))
+CreatesSet s origin m =
+    MeansUncut m (λ z. IsGiven z origin s × NoCname z s.name)
+    (λ z. if has_set z (set_key s) then (YXRRSet, z) else (NoError, merged z s))
 
 -- The set is merged into the zone; where it is asked for and the zone has none of that owner and type, NXRRSet.
 abbrev pub AppendsToSet : SetValue → NameValue → Bool → MessageValue → Type 0
 AppendsToSet s origin must_exist m =
-    MeansUncut m (λ z. IsGiven z origin s × NoCname z s.name) (λ z. if must_exist && not (has_set z (set_key s)) then (NXRRSet, z) else (NoError, merged z s))
+    MeansUncut m (λ z. IsGiven z origin s × NoCname z s.name)
+    (λ z. if must_exist && not (has_set z (set_key s)) then (NXRRSet, z) else (NoError, merged z s))
 
 -- Where the zone has exactly the data of the current set, in any order and whatever the times to live, that set goes and
 -- the new one is merged into the zone; else NXRRSet.
 abbrev pub SwapsSets : SetValue → SetValue → NameValue → MessageValue → Type 0
 SwapsSets current new origin m =
-    MeansUncut m (λ z. (current.records ≢ []) × IsGiven z origin current × IsGiven z origin new × NoCname z new.name)
-    (λ z. if has_data_of_set z current then (NoError, merged (less_key z (set_key current)) new) else (NXRRSet, z))
+    MeansUncut m
+    (λ z. (current.records ≢ []) × IsGiven z origin current × IsGiven z origin new
+    × NoCname z new.name)
+    (λ z. if has_data_of_set z current then (NoError, merged (less_key z (set_key current)) new)
+    else (NXRRSet, z))
 
 -- Data equal to one of the set's goes.
 abbrev pub DeletesData : SetValue → NameValue → MessageValue → Type 0
@@ -47,10 +53,13 @@ DeletesData s origin m = MeansUncut m (λ z. IsGiven z origin s) (λ z. (NoError
 -- The set of the record's owner and type goes.
 abbrev pub DeletesSet : Record RData → NameValue → MessageValue → Type 0
 DeletesSet r origin m =
-    MeansUncut m (λ z. IsZone z × IsFor z origin r.name r.dns_class × (is_plain_class r.dns_class ≡ true) × (is_ordinary (type_of_data r.rdata) ≡ true))
+    MeansUncut m
+    (λ z. IsZone z × IsFor z origin r.name r.dns_class × (is_plain_class r.dns_class ≡ true)
+    × (is_ordinary (type_of_data r.rdata) ≡ true))
     (λ z. (NoError, less_key z (key_of r.name (type_of_data r.rdata))))
 
 -- All sets of the owner go; at the origin SOA and NS stay.
 abbrev pub DeletesName : NameValue → NameValue → DNSClass → MessageValue → Type 0
 DeletesName owner origin class m =
-    MeansUncut m (λ z. IsZone z × IsFor z origin owner class × (is_plain_class class ≡ true)) (λ z. (NoError, less_name z owner))
+    MeansUncut m (λ z. IsZone z × IsFor z origin owner class × (is_plain_class class ≡ true))
+    (λ z. (NoError, less_name z owner))

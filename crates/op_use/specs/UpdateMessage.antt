@@ -23,7 +23,14 @@ use Rattle.op.specs.declared.op_code.OpCode.TheVariants as op_codes
 
 -- a record without data
 abbrev pub empty_record : NameValue → RecordType → DNSClass → Record RData
-empty_record owner type class = record { name = owner; dns_class = class; ttl = 0; rdata = rdata.Update0 type; mdns_cache_flush = false }
+empty_record owner type class =
+    record {
+      name = owner;
+      dns_class = class;
+      ttl = 0;
+      rdata = rdata.Update0 type;
+      mdns_cache_flush = false;
+    }
 
 -- a record in another class, with time to live 0
 abbrev pub in_class : DNSClass → Record RData → Record RData
@@ -31,7 +38,8 @@ in_class class r = record r { dns_class = class; ttl = 0 }
 
 -- the record without its data, in class ANY, with TTL 0 (RFC 2136, 2.5.2)
 abbrev pub emptied : Record RData → Record RData
-emptied r = record r { dns_class = classes.ANY; ttl = 0; rdata = rdata.Update0 (type_of_data r.rdata) }
+emptied r =
+    record r { dns_class = classes.ANY; ttl = 0; rdata = rdata.Update0 (type_of_data r.rdata) }
 
 -- a record with time to live 0
 abbrev pub without_ttl : Record RData → Record RData
@@ -40,22 +48,32 @@ without_ttl r = record r { ttl = 0 }
 -- the zone's question, prerequisites and updates (RFC 2136, 2.3 to 2.5)
 abbrev pub sections : NameValue → DNSClass → List (Record RData) → List (Record RData) → Sections
 sections origin class prerequisites updates = record {
-  zones = record { name = origin; query_type = types.SOA; query_class = class; mdns_unicast_response = false } ∷ [];
+  zones = record {
+    name = origin;
+    query_type = types.SOA;
+    query_class = class;
+    mdns_unicast_response = false;
+  } ∷ [];
   prerequisites = prerequisites;
   updates = updates;
 }
 
 -- the set must not exist (RFC 2136, 2.4.3), and is added (2.5.1)
 abbrev pub create : SetValue → NameValue → Sections
-create s origin = sections origin s.dns_class (empty_record s.name s.record_type classes.NONE ∷ []) s.records
+create s origin =
+    sections origin s.dns_class (empty_record s.name s.record_type classes.NONE ∷ []) s.records
 
 -- the set must exist where that is asked for (RFC 2136, 2.4.1), and the records are added (2.5.1)
 abbrev pub append : SetValue → NameValue → Bool → Sections
-append s origin must_exist = sections origin s.dns_class (if must_exist then empty_record s.name s.record_type classes.ANY ∷ [] else []) s.records
+append s origin must_exist =
+    sections origin s.dns_class
+    (if must_exist then empty_record s.name s.record_type classes.ANY ∷ [] else []) s.records
 
 -- the current data must be there (RFC 2136, 2.4.2), goes (2.5.4), and the new is added (2.5.1)
 abbrev pub compare_and_swap : SetValue → SetValue → NameValue → Sections
-compare_and_swap current new origin = sections origin new.dns_class (map without_ttl current.records) (map (in_class classes.NONE) current.records ++ new.records)
+compare_and_swap current new origin =
+    sections origin new.dns_class (map without_ttl current.records)
+    (map (in_class classes.NONE) current.records ++ new.records)
 
 -- the data goes (RFC 2136, 2.5.4)
 abbrev pub delete_by_rdata : SetValue → NameValue → Sections
@@ -67,7 +85,8 @@ delete_rrset r origin = sections origin r.dns_class [] (emptied r ∷ [])
 
 -- all sets of the owner go (RFC 2136, 2.5.3)
 abbrev pub delete_all : NameValue → NameValue → DNSClass → Sections
-delete_all owner origin class = sections origin class [] (empty_record owner types.ANY classes.ANY ∷ [])
+delete_all owner origin class =
+    sections origin class [] (empty_record owner types.ANY classes.ANY ∷ [])
 
 -- EDNS of an update: 1232 bytes are taken
 abbrev pub update_edns : Bool → Option Edns
@@ -92,13 +111,26 @@ transfer_type (Some soa) = types.IXFR
 
 -- the record of an SOA of this owner, with time to live 0
 abbrev pub start_of : NameValue → SOA → Record RData
-start_of origin soa = record { name = origin; dns_class = classes.IN; ttl = 0; rdata = rdata.SOA soa; mdns_cache_flush = false }
+start_of origin soa =
+    record {
+      name = origin;
+      dns_class = classes.IN;
+      ttl = 0;
+      rdata = rdata.SOA soa;
+      mdns_cache_flush = false;
+    }
 
 -- The question for a transfer of a zone: of all of it (RFC 5936, 2.1), or of what changed since an SOA (RFC 1995, 3).
 abbrev pub transfer_message : ℕ → NameValue → Option SOA → MessageValue
 transfer_message id origin last_soa = record {
   metadata = plain_metadata id message_types.Query op_codes.Query;
-  queries = record { name = origin; query_type = transfer_type last_soa; query_class = classes.IN; mdns_unicast_response = false } ∷ [];
+  queries =
+      record {
+        name = origin;
+        query_type = transfer_type last_soa;
+        query_class = classes.IN;
+        mdns_unicast_response = false;
+      } ∷ [];
   answers = [];
   authorities = listed (option_map (start_of origin) last_soa);
   additionals = [];

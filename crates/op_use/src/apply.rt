@@ -48,7 +48,9 @@ pub fn apply_update(
     message: &Message,
 ) -> Result<(ResponseCode, BTreeMap<RrKey, RecordSet>), ProtoError>
     requires { IsZoneMap class sets.now }
-    ensures applied { IfOk result (λ r. IsApplied origin.now class (sections_of (message_value message.now)) sets.now r.0 r.1) }
+    ensures applied { IfOk result
+        (λ r. IsApplied origin.now class (sections_of (message_value message.now)) sets.now r.0
+        r.1) }
     ensures only { IsOkUnless result ProtoError.Memory }
 {
     let mut zone = Zone::new(alloc, origin, class, sets.clone()?);

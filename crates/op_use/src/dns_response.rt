@@ -210,7 +210,8 @@ fn write(alloc: Global, message: &Message) -> Result<Vec<u8>, ProtoError>
         → IsOkUnless result ProtoError.Memory }
     ensures written { Fits (message_value message.now)
         → IfOk result (λ bytes. IsWritten (message_value message.now) 65535 bytes.items) }
-    ensures emitted { IfOk result (λ bytes. EmittedNew (message_value message.now) 65535 bytes.items) }
+    ensures emitted { IfOk result
+        (λ bytes. EmittedNew (message_value message.now) 65535 bytes.items) }
     ensures exact { IfOk result (λ bytes. bytes.items
         ≡ message_bytes 65535 (message_value message.now)) }
     ensures refused { IfErr result (λ e. (e ≡ ProtoError.Memory)
@@ -257,7 +258,8 @@ fn answers_query(message: &Message, query: &Query) -> bool
 
 /// Whether any record has the name.
 fn has_name(message: &Message, name: &Name) -> bool
-    ensures { result ≡ list_any (λ r. same_name r.name name.now) (all_records (message_value message.now)) }
+    ensures { result
+        ≡ list_any (λ r. same_name r.name name.now) (all_records (message_value message.now)) }
 {
     for record in message.all_sections() {
         if record.name == *name {

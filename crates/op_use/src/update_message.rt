@@ -41,7 +41,9 @@ pub trait UpdateMessage: Debug {
     /// Adds a prerequisite after the others (RFC 2136, 2.4). The message stays as it was where this is refused.
     fn add_pre_requisite(&mut self, prerequisite: Record) -> Result<(), ProtoError>
         ensures ok { OnOk result (message self.new
-            ≡ record (message self.old) { answers = (message self.old).answers ++ prerequisite ∷ [] }) }
+            ≡ record (message self.old) {
+              answers = (message self.old).answers ++ prerequisite ∷ [];
+            }) }
         ensures err { OnErr result (message self.new ≡ message self.old) }
         ensures only { IsOkUnless result ProtoError.Memory };
 
@@ -53,7 +55,8 @@ pub trait UpdateMessage: Debug {
     ) -> Result<(), ProtoError>
         requires can { I.can_next prerequisites }
         requires countable { IsCountable (I.remaining prerequisites) }
-        ensures added { AddsGiven I.next_gives prerequisites (message self.old).answers (message self.new).answers result }
+        ensures added { AddsGiven I.next_gives prerequisites (message self.old).answers
+            (message self.new).answers result }
         ensures others { message self.new
             ≡ record (message self.old) { answers = (message self.new).answers } }
         ensures only { IsOkUnless result ProtoError.Memory };
@@ -61,7 +64,9 @@ pub trait UpdateMessage: Debug {
     /// Adds an update after the others (RFC 2136, 2.5). The message stays as it was where this is refused.
     fn add_update(&mut self, update: Record) -> Result<(), ProtoError>
         ensures ok { OnOk result (message self.new
-            ≡ record (message self.old) { authorities = (message self.old).authorities ++ update ∷ [] }) }
+            ≡ record (message self.old) {
+              authorities = (message self.old).authorities ++ update ∷ [];
+            }) }
         ensures err { OnErr result (message self.new ≡ message self.old) }
         ensures only { IsOkUnless result ProtoError.Memory };
 
@@ -73,7 +78,8 @@ pub trait UpdateMessage: Debug {
     ) -> Result<(), ProtoError>
         requires can { I.can_next updates }
         requires countable { IsCountable (I.remaining updates) }
-        ensures added { AddsGiven I.next_gives updates (message self.old).authorities (message self.new).authorities result }
+        ensures added { AddsGiven I.next_gives updates (message self.old).authorities
+            (message self.new).authorities result }
         ensures others { message self.new
             ≡ record (message self.old) { authorities = (message self.new).authorities } }
         ensures only { IsOkUnless result ProtoError.Memory };
@@ -81,7 +87,10 @@ pub trait UpdateMessage: Debug {
     /// Adds an additional record after the others. The message stays as it was where this is refused.
     fn add_additional(&mut self, additional: Record) -> Result<(), ProtoError>
         ensures ok { OnOk result (message self.new
-            ≡ record (message self.old) { additionals = (message self.old).additionals ++ additional ∷ [] }) }
+            ≡ record (message self.old) {
+              additionals = (message self.old).additionals ++ additional
+                  ∷ [];
+            }) }
         ensures err { OnErr result (message self.new ≡ message self.old) }
         ensures only { IsOkUnless result ProtoError.Memory };
 

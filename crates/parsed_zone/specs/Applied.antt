@@ -30,7 +30,8 @@ zone_in zone = zone_of_sets zone.0 classes.IN zone.1
 
 -- the records that an update leaves under a key, a line each
 abbrev pub lines_under : Sections → NameValue × ZoneSets → RrKey → List ℕ
-lines_under m zone k = record_lines (records_applied (zone_in zone) m k (records_in (set_at zone.1 k)))
+lines_under m zone k =
+    record_lines (records_applied (zone_in zone) m k (records_in (set_at zone.1 k)))
 
 -- the code, the origin, and the records that an update leaves, in the order of their keys
 abbrev pub applied_lines : Sections → NameValue × ZoneSets → List ℕ

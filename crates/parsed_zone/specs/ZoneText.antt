@@ -18,7 +18,8 @@ no_texts name = None
 -- the zone of the text that bytes are, under an origin, if there is one, or the number of its fault; 24 where they aren't
 -- UTF-8
 abbrev pub zone_of_bytes : Texts → Option NameValue → List ℕ → Result (NameValue × ZoneSets) ℕ
-zone_of_bytes texts origin bytes = if is_utf8 bytes then numbered (zone_of texts origin bytes) else Err 24
+zone_of_bytes texts origin bytes = if is_utf8 bytes then numbered (zone_of texts origin bytes)
+    else Err 24
 
 -- the records of all sets, in the order of their keys, a line each
 abbrev pub set_lines : ZoneSets → List ℕ

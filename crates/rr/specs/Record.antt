@@ -105,7 +105,8 @@ fields_of type class ttl = to_be_bytes w16 type ++ (to_be_bytes w16 class ++ to_
 abbrev pub record_written : Record RData → Writing
 record_written r =
     let raw = raw_record r in
-    both (name raw.labels) (both (just (fields_of raw.type raw.class raw.ttl)) (sized (data_written raw.rdata)))
+    both (name raw.labels)
+    (both (just (fields_of raw.type raw.class raw.ttl)) (sized (data_written raw.rdata)))
 
 -- the bytes of a record without compression
 abbrev pub plain_record : Record RData → ℕ
@@ -113,7 +114,14 @@ plain_record r = plain_len r.name.labels + (10 + plain_data r.rdata)
 
 -- the record with its data seen so
 abbrev pub with_data : {R N : Type 0} → (R → N) → Record R → Record N
-with_data seen r = record { name = r.name; dns_class = r.dns_class; ttl = r.ttl; rdata = seen r.rdata; mdns_cache_flush = r.mdns_cache_flush }
+with_data seen r =
+    record {
+      name = r.name;
+      dns_class = r.dns_class;
+      ttl = r.ttl;
+      rdata = seen r.rdata;
+      mdns_cache_flush = r.mdns_cache_flush;
+    }
 
 -- the record with this data in place of its own
 abbrev pub holding : {R N : Type 0} → N → Record R → Record N
@@ -148,9 +156,19 @@ body_at owner type bytes i = do
   class ← number_at w16 bytes i
   ttl ← number_at w32 bytes class.1
   len ← number_at w16 bytes ttl.1
-  if nat_lt (length bytes) (len.1 + len.0) then Err (faults.IncorrectRDataLengthRead (length bytes - len.1) len.0) else (do
-    rdata ← rdata_at type len.0 bytes len.1
-    Ok (record { name = owner; dns_class = class_value type class.0; ttl = ttl.0; rdata = rdata.0; mdns_cache_flush = flush_value type class.0 }, rdata.1))
+  if nat_lt (length bytes) (len.1 + len.0)
+      then Err (faults.IncorrectRDataLengthRead (length bytes - len.1) len.0) else (do
+        rdata ← rdata_at type len.0 bytes len.1
+        Ok (
+          record {
+            name = owner;
+            dns_class = class_value type class.0;
+            ttl = ttl.0;
+            rdata = rdata.0;
+            mdns_cache_flush = flush_value type class.0;
+          },
+          rdata.1,
+        ))
 
 -- The record that stands at i, or its first fault: that of its name or type, then an owner of an OPT record that isn't
 -- the root, then what comes after.
@@ -158,7 +176,8 @@ unfoldable pub record_at : List ℕ → ℕ → Read (Record RData)
 record_at bytes i = do
   owner ← name_at bytes i
   type ← number_at w16 bytes owner.1
-  if is_opt_type (type_of type.0) && not (length owner.0.labels == 0) then Err (faults.EdnsNameNotRoot owner.0) else body_at owner.0 (type_of type.0) bytes type.1
+  if is_opt_type (type_of type.0) && not (length owner.0.labels == 0)
+      then Err (faults.EdnsNameNotRoot owner.0) else body_at owner.0 (type_of type.0) bytes type.1
 
 -- the names of a record: its owner's, and those of its data from the left
 abbrev pub record_names : Record RData → List NameValue
@@ -204,4 +223,9 @@ pub data IsRecordFault (B : List ℕ) (i : ℕ) : DecodeError → Type 0 where
 -- name, TTL, class, type and data
 abbrev pub record_text : Record RData → List ℕ
 record_text r =
-    name_text r.name ++ (codes " " ++ (decimal r.ttl ++ (codes " " ++ (class_text r.dns_class ++ (codes " " ++ (type_text (type_of_data r.rdata) ++ (codes " " ++ data_text r.rdata)))))))
+    name_text r.name
+    ++ (codes " "
+    ++ (decimal r.ttl
+    ++ (codes " "
+    ++ (class_text r.dns_class
+    ++ (codes " " ++ (type_text (type_of_data r.rdata) ++ (codes " " ++ data_text r.rdata)))))))

@@ -19,10 +19,13 @@ same_class = (class_eq.ghosts).eq
 -- Whether records have the same name, letters in either case, the same class, and data that is equal in this sense. TTL
 -- and cache-flush bit are not looked at (RFC 2136, 1.1.1).
 abbrev pub same_record : {R : Type 0} → (R → R → Bool) → Record R → Record R → Bool
-same_record same = eq_of_both (on (λ r. r.name) same_name) (eq_of_both (on (λ r. r.dns_class) same_class) (on (λ r. r.rdata) same))
+same_record same =
+    eq_of_both (on (λ r. r.name) same_name)
+    (eq_of_both (on (λ r. r.dns_class) same_class) (on (λ r. r.rdata) same))
 
 -- the order: by name, type, class, TTL and data in turn
 abbrev pub record_cmp : Record RData → Record RData → Ordering
 record_cmp =
     then_cmp (on (λ r. r.name) name_cmp) (then_cmp (on (λ r. type_of_data r.rdata) type_cmp)
-    (then_cmp (on (λ r. r.dns_class) class_cmp) (then_cmp (on (λ r. r.ttl) nat_cmp) (on (λ r. r.rdata) data_cmp))))
+    (then_cmp (on (λ r. r.dns_class) class_cmp)
+    (then_cmp (on (λ r. r.ttl) nat_cmp) (on (λ r. r.rdata) data_cmp))))

@@ -19,7 +19,9 @@ same_class-equiv = class_laws
 -- being the same record is an equivalence, where being the same data is one
 pub same_record-equiv : {R : Type 0} {same : R → R → Bool} → IsEquivalence same
     → IsEquivalence (same_record same)
-same_record-equiv equiv = and_equiv (on_equiv (λ r. r.name) (same_by-equiv folded)) (and_equiv (on_equiv (λ r. r.dns_class) same_class-equiv) (on_equiv (λ r. r.rdata) equiv))
+same_record-equiv equiv =
+    and_equiv (on_equiv (λ r. r.name) (same_by-equiv folded))
+    (and_equiv (on_equiv (λ r. r.dns_class) same_class-equiv) (on_equiv (λ r. r.rdata) equiv))
 
 -- the order of types is total
 pub type_cmp-total : IsTotalOrder type_cmp
@@ -32,5 +34,7 @@ class_cmp-total = search (comparing, rules)
 -- the order of records is total
 pub record_cmp-total : IsTotalOrder record_cmp
 record_cmp-total =
-    then_total (on_total (λ r. r.name) (cmp_by-total folded)) (then_total (on_total (λ r. type_of_data r.rdata) type_cmp-total)
-    (then_total (on_total (λ r. r.dns_class) class_cmp-total) (then_total (on_total (λ r. r.ttl) nat_cmp_total) (on_total (λ r. r.rdata) data_cmp-total))))
+    then_total (on_total (λ r. r.name) (cmp_by-total folded))
+    (then_total (on_total (λ r. type_of_data r.rdata) type_cmp-total)
+    (then_total (on_total (λ r. r.dns_class) class_cmp-total)
+    (then_total (on_total (λ r. r.ttl) nat_cmp_total) (on_total (λ r. r.rdata) data_cmp-total))))

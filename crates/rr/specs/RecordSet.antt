@@ -33,19 +33,43 @@ pub record SetValue : Type 0 where
 
 -- the set without records in the class IN
 abbrev pub empty_set : NameValue → RecordType → ℕ → ℕ → SetValue
-empty_set name type ttl serial = record { name = name; record_type = type; dns_class = classes.IN; ttl = ttl; records = []; serial = serial }
+empty_set name type ttl serial =
+    record {
+      name = name;
+      record_type = type;
+      dns_class = classes.IN;
+      ttl = ttl;
+      records = [];
+      serial = serial;
+    }
 
 -- the set of one record
 abbrev pub set_of : Record RData → SetValue
-set_of r = record { name = r.name; record_type = type_of_data r.rdata; dns_class = r.dns_class; ttl = r.ttl; records = r ∷ []; serial = 0 }
+set_of r =
+    record {
+      name = r.name;
+      record_type = type_of_data r.rdata;
+      dns_class = r.dns_class;
+      ttl = r.ttl;
+      records = r ∷ [];
+      serial = 0;
+    }
 
 -- a class for the set and each of its records
 abbrev pub in_class : SetValue → DNSClass → SetValue
-in_class set class = record set { dns_class = class; records = map (λ (r : Record RData). record r { dns_class = class }) set.records }
+in_class set class =
+    record set {
+      dns_class = class;
+      records = map (λ (r : Record RData). record r { dns_class = class }) set.records;
+    }
 
 -- a time to live for the set and each of its records
 abbrev pub with_ttl : SetValue → ℕ → SetValue
-with_ttl set ttl = record set { ttl = ttl; records = map (λ (r : Record RData). record r { ttl = ttl }) set.records }
+with_ttl set ttl =
+    record set {
+      ttl = ttl;
+      records = map (λ (r : Record RData). record r { ttl = ttl }) set.records;
+    }
 
 -- whether this is the type of the start of a zone
 abbrev pub is_soa : RecordType → Bool
@@ -59,7 +83,8 @@ is_ns _ = false
 
 -- A tidy set: its records have its type, no two of them have equal data, and there is at most one SOA.
 pub record IsTidy (set : SetValue) : Type 0 where
-  pub own_type : AllByRecursion (λ (r : Record RData). type_of_data r.rdata ≡ set.record_type) set.records
+  pub own_type : AllByRecursion (λ (r : Record RData). type_of_data r.rdata ≡ set.record_type)
+      set.records
   pub distinct : IsDistinct (on (λ (r : Record RData). r.rdata) same_data) set.records
   pub single : is_soa set.record_type ≡ true → length set.records ≤ 1
 
@@ -74,11 +99,17 @@ same_entry-equiv = same_record-equiv data_laws
 -- whether sets are equal field by field, names, classes and records as those are
 abbrev pub same_set : SetValue → SetValue → Bool
 same_set =
-    eq_of_both (on (λ s. s.name) same_name) (eq_of_both (on (λ s. s.record_type) same_type) (eq_of_both (on (λ s. s.dns_class) same_class)
-    (eq_of_both (on (λ s. s.ttl) nat_eq) (eq_of_both (on (λ s. s.records) (pointwise same_entry)) (on (λ s. s.serial) nat_eq)))))
+    eq_of_both (on (λ s. s.name) same_name)
+    (eq_of_both (on (λ s. s.record_type) same_type) (eq_of_both (on (λ s. s.dns_class) same_class)
+    (eq_of_both (on (λ s. s.ttl) nat_eq)
+    (eq_of_both (on (λ s. s.records) (pointwise same_entry)) (on (λ s. s.serial) nat_eq)))))
 
 -- being the same set is an equivalence
 pub same_set-equiv : IsEquivalence same_set
 same_set-equiv =
-    and_equiv (on_equiv (λ s. s.name) (same_by-equiv folded)) (and_equiv (on_equiv (λ s. s.record_type) type_laws) (and_equiv (on_equiv (λ s. s.dns_class) same_class-equiv)
-    (and_equiv (on_equiv (λ s. s.ttl) nat_eq_equiv) (and_equiv (on_equiv (λ s. s.records) (lists_equiv same_entry-equiv)) (on_equiv (λ s. s.serial) nat_eq_equiv)))))
+    and_equiv (on_equiv (λ s. s.name) (same_by-equiv folded))
+    (and_equiv (on_equiv (λ s. s.record_type) type_laws)
+    (and_equiv (on_equiv (λ s. s.dns_class) same_class-equiv)
+    (and_equiv (on_equiv (λ s. s.ttl) nat_eq_equiv)
+    (and_equiv (on_equiv (λ s. s.records) (lists_equiv same_entry-equiv))
+    (on_equiv (λ s. s.serial) nat_eq_equiv)))))

@@ -80,7 +80,14 @@ entered r xs = if has_entry r xs then (false, xs) else (true, joined r xs)
 abbrev pub insert : SetValue → Record RData → ℕ → Bool × SetValue
 insert set r serial =
     if is_left set.record_type set.records r then (false, set)
-    else (true, record set { records = joined r (beside set.record_type set.records); ttl = r.ttl; serial = serial })
+    else (
+      true,
+      record set {
+        records = joined r (beside set.record_type set.records);
+        ttl = r.ttl;
+        serial = serial;
+      },
+    )
 
 -- whether r goes into the records of a set of a type, and the records then
 abbrev pub put : RecordType → Record RData → List (Record RData) → Bool × List (Record RData)
@@ -88,7 +95,14 @@ put type r xs = if is_left type xs r then (false, xs) else (true, joined r (besi
 
 -- the record that a set makes of data: its name and its time to live, in the class IN
 abbrev pub own_record : SetValue → RData → Record RData
-own_record set rdata = record { name = set.name; dns_class = classes.IN; ttl = set.ttl; rdata = rdata; mdns_cache_flush = false }
+own_record set rdata =
+    record {
+      name = set.name;
+      dns_class = classes.IN;
+      ttl = set.ttl;
+      rdata = rdata;
+      mdns_cache_flush = false;
+    }
 
 -- the answer of `add_rdata` and the set then
 abbrev pub add_data : SetValue → RData → Bool × SetValue
@@ -105,8 +119,12 @@ is_kept set type = is_soa type || (is_ns type && nat_le (length set.records) 1)
 -- the answer of `remove` and the set then
 abbrev pub remove : SetValue → Record RData → ℕ → Bool × SetValue
 remove set r serial =
-    if is_kept set (type_of_data r.rdata) || not (list_any (has_data_of r) set.records) then (false, set)
-    else (true, record set { records = filter (λ x. not (has_data_of r x)) set.records; serial = serial })
+    if is_kept set (type_of_data r.rdata) || not (list_any (has_data_of r) set.records)
+    then (false, set)
+    else (
+      true,
+      record set { records = filter (λ x. not (has_data_of r x)) set.records; serial = serial },
+    )
 
 -- records with others set at their places, one after the other
 abbrev pub renewed : List (ℕ × Record RData) → List (Record RData) → List (Record RData)

@@ -80,4 +80,5 @@ SerialRises = (set : SetValue) (x r : Record RData) (xs : List (Record RData)) (
 abbrev pub SerialStays : Type 0
 SerialStays = (set : SetValue) (x r : Record RData) (xs : List (Record RData)) (serial : ℕ)
     → set.record_type ≡ types.SOA → set.records ≡ x ∷ xs
-    → is_later x.rdata r.rdata ≡ false → ◌≡◌ {A = Bool × SetValue} (insert set r serial) (false, set)
+    → is_later x.rdata r.rdata ≡ false
+    → ◌≡◌ {A = Bool × SetValue} (insert set r serial) (false, set)

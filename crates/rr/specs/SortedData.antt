@@ -18,4 +18,5 @@ pub record IsInOrder (ds : List (Bor RData)) : Type 0 where
 pub record IsSortedDataOf (ds : List (Bor RData)) (entries : List (Record RData)) : Type 0 where
   pub in_order : IsInOrder ds
   pub whole : (p : RData → Bool)
-      → list_any (λ (d : Bor RData). p d.now) ds ≡ list_any (λ (r : Record RData). p r.rdata) entries
+      → list_any (λ (d : Bor RData). p d.now) ds
+      ≡ list_any (λ (r : Record RData). p r.rdata) entries

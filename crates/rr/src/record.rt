@@ -35,7 +35,14 @@ pub struct Record<R: RecordData = RData> {
 impl Record<RData> {
     /// The record of empty data of a type, in the class IN, as updates have it (RFC 2136, 2.4). Takes no memory.
     pub fn update0(name: Name, ttl: u32, record_type: RecordType) -> Record<RData>
-        ensures { result ≡ record { name = name; dns_class = DNSClass.IN; ttl = ttl; rdata = kinds.Update0 record_type; mdns_cache_flush = false } }
+        ensures { result
+            ≡ record {
+              name = name;
+              dns_class = DNSClass.IN;
+              ttl = ttl;
+              rdata = kinds.Update0 record_type;
+              mdns_cache_flush = false;
+            } }
     {
         Record::from_rdata(name, ttl, RData::Update0(record_type))
     }
@@ -52,7 +59,14 @@ impl Record<RData> {
 impl<R: RecordData> Record<R> {
     /// The record of this data, in the class IN. Takes no memory.
     pub fn from_rdata(name: Name, ttl: u32, rdata: R) -> Record<R>
-        ensures { result ≡ record { name = name; dns_class = DNSClass.IN; ttl = ttl; rdata = rdata; mdns_cache_flush = false } }
+        ensures { result
+            ≡ record {
+              name = name;
+              dns_class = DNSClass.IN;
+              ttl = ttl;
+              rdata = rdata;
+              mdns_cache_flush = false;
+            } }
     {
         Record {
             name,

@@ -100,7 +100,8 @@ impl<'a, R: RecordData> TryFrom<&'a Record<RData>> for RecordRef<'a, R> {
     type Error = &'a Record<RData>;
 
     ghost try_from_gives = { λ entry result. MatchResult result
-        (λ r. option_map (λ rdata. holding rdata entry.now) (R.of_rdata entry.now.rdata) ≡ Some (seen r))
+        (λ r. option_map (λ rdata. holding rdata entry.now) (R.of_rdata entry.now.rdata)
+        ≡ Some (seen r))
         (λ same. (same ≡ entry) × (R.of_rdata entry.now.rdata ≡ None)) };
 
     /// The record, borrowed, if its data is of the kind. Else the record itself is the error.

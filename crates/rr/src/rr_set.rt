@@ -43,7 +43,15 @@ pub struct RecordSet {
 impl Model for RecordSet {
     ghost Value = { SetValue };
 
-    ghost view = { λ s. record { name = s.name; record_type = s.record_type; dns_class = s.dns_class; ttl = s.ttl; records = s.records; serial = s.serial } };
+    ghost view = { λ s.
+        record {
+          name = s.name;
+          record_type = s.record_type;
+          dns_class = s.dns_class;
+          ttl = s.ttl;
+          records = s.records;
+          serial = s.serial;
+        } };
 }
 
 impl RecordSet {
@@ -156,7 +164,8 @@ impl Clone for RecordSet {
 impl TryFrom<Record> for RecordSet {
     type Error = ProtoError;
 
-    ghost try_from_gives = { λ entry result. MatchResult result (λ set. set ≡ set_of entry) (λ e. e ≡ refusals.Memory) };
+    ghost try_from_gives = { λ entry result. MatchResult result (λ set. set ≡ set_of entry)
+        (λ e. e ≡ refusals.Memory) };
 
     /// The set of one record, with its name, type, class and TTL, and the serial 0.
     ///
@@ -337,8 +346,10 @@ impl IntoIterator for RecordSet {
 
     type IntoIter = vec::IntoIter<Record>;
 
-    ghost into_iter_gives = { λ set iter. (into_iter_items iter ≡ set.records) × (into_iter_len iter ≡ length set.records)
-        × EveryRun (into_iter_steps {X = Entry RData} {Z = Global}) (λ p. ItemsAre p (into_iter_items p.from)) };
+    ghost into_iter_gives = { λ set iter. (into_iter_items iter ≡ set.records)
+        × (into_iter_len iter ≡ length set.records)
+        × EveryRun (into_iter_steps {X = Entry RData} {Z = Global})
+        (λ p. ItemsAre p (into_iter_items p.from)) };
 
     /// The records, in order, each once. Takes no memory.
     fn into_iter(self) -> vec::IntoIter<Record> {

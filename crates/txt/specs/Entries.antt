@@ -70,7 +70,10 @@ stop_of (other ∷ rest) = (refused (fault_at other), rest)
 
 -- what stands from a type on, and where the next entry begins
 abbrev pub typed_at : List ℕ → List Symbol → (List Setting × Body) × List Symbol
-typed_at word rest = (([], typed word (items_of rest).0 (stop_of (items_of rest).1).0), (stop_of (items_of rest).1).1)
+typed_at word rest = (
+  ([], typed word (items_of rest).0 (stop_of (items_of rest).1).0),
+  (stop_of (items_of rest).1).1,
+)
 
 -- an item that is a setting stands before the rest of the line; another is its type
 abbrev pub word_of : Option Setting → List ℕ → List Symbol → (List Setting × Body) × List Symbol
@@ -105,7 +108,8 @@ default_of (other ∷ rest) = (faulty_entry (fault_at other), rest)
 abbrev pub include_end : List ℕ → List Symbol → Entry × List Symbol
 include_end name [] = (nothing, [])
 include_end name (symbol eol ∷ rest) = (include_entry name, rest)
-include_end name (symbol (char_data word) ∷ rest) = (faulty_entry (says (codes "Domain name for $INCLUDE is not supported")), rest)
+include_end name (symbol (char_data word) ∷ rest) =
+    (faulty_entry (says (codes "Domain name for $INCLUDE is not supported")), rest)
 include_end name (other ∷ rest) = (faulty_entry (fault_at other), rest)
 
 -- the entry after $INCLUDE, and what stands after it

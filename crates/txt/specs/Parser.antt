@@ -17,7 +17,9 @@ pub record ParserValue : Type 0 where
 
 -- the names and the texts of a map
 abbrev pub named_texts : BTreeMap (String Global) (String Global) → List (List ℕ × List ℕ)
-named_texts includes = map (λ (e : String Global × String Global). (string_bytes e.0, string_bytes e.1)) includes.entries
+named_texts includes =
+    map (λ (e : String Global × String Global). (string_bytes e.0, string_bytes e.1))
+    includes.entries
 
 -- the text of a name, if there is one
 abbrev pub text_among : List (List ℕ × List ℕ) → Texts

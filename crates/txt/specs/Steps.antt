@@ -56,7 +56,8 @@ taken_by s (Some (include_entry name, rest)) = Ok (opens name rest)
 taken_by s (Some (nothing, rest)) = went_on (apply s nothing) rest
 taken_by s (Some (origin_entry text, rest)) = went_on (apply s (origin_entry text)) rest
 taken_by s (Some (ttl_entry text, rest)) = went_on (apply s (ttl_entry text)) rest
-taken_by s (Some (owner_line owner settings body, rest)) = went_on (apply s (owner_line owner settings body)) rest
+taken_by s (Some (owner_line owner settings body, rest)) =
+    went_on (apply s (owner_line owner settings body)) rest
 taken_by s (Some (faulty_entry fault, rest)) = went_on (apply s (faulty_entry fault)) rest
 
 -- what stands next in a list of tokens, and what it makes
@@ -108,7 +109,8 @@ Reads view (Err e) to made = Fails e made
 
 -- the items of the data, and where the next entry begins
 abbrev pub items_read : List Symbol → Result (List (List ℕ) × List Symbol) Fault
-items_read from = stopped (stop_of (items_of from).1).0 ((items_of from).0, (stop_of (items_of from).1).1)
+items_read from =
+    stopped (stop_of (items_of from).1).0 ((items_of from).0, (stop_of (items_of from).1).1)
 
 -- what stands after $ORIGIN, and what it makes
 unfoldable pub took_origin : State → List Symbol → Result Taken Fault
@@ -136,7 +138,8 @@ took_at s rest = took_words (record s { owner = s.origin }) rest
 
 -- the owner is the name that the text names
 abbrev pub took_named : State → List ℕ → List Symbol → Result Taken Fault
-took_named s word rest = name_of word s.origin >>= λ name. took_words (record s { owner = Some name }) rest
+took_named s word rest = name_of word s.origin
+    >>= λ name. took_words (record s { owner = Some name }) rest
 
 -- what stands after the text of a type, and what it makes
 unfoldable pub took_typed : State → List ℕ → List Symbol → Result Taken Fault

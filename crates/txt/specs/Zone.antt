@@ -64,7 +64,9 @@ absolute name = record name { absolute = true }
 
 -- the type that a text names, its letters raised
 abbrev pub type_named : List ℕ → Result RecordType Fault
-type_named word = ok_or (type_from_text (str_to_ascii_uppercase word)) (unknown_type (str_to_ascii_uppercase word))
+type_named word =
+    ok_or (type_from_text (str_to_ascii_uppercase word))
+    (unknown_type (str_to_ascii_uppercase word))
 
 -- the owner in force
 abbrev pub owner_in : State → Result NameValue Fault
@@ -77,13 +79,21 @@ else_of (Some ttl) other = Some ttl
 
 -- the pending TTL, else the default (RFC 2308, 4), else the last stated one (RFC 1035, 5.1)
 abbrev pub ttl_in : State → Result ℕ Fault
-ttl_in s = ok_or (else_of s.pending (else_of s.default_ttl s.last_ttl)) (says (codes "record ttl not specified"))
+ttl_in s =
+    ok_or (else_of s.pending (else_of s.default_ttl s.last_ttl))
+    (says (codes "record ttl not specified"))
 
 -- the record of this data, with what is in force
 abbrev pub record_of : State → RData → Result (Record RData) Fault
 record_of s rdata =
     owner_in s >>= λ owner. ttl_in s >>= λ ttl.
-    Ok (record { name = absolute owner; dns_class = s.dns_class; ttl = ttl; rdata = rdata; mdns_cache_flush = false })
+    Ok (record {
+      name = absolute owner;
+      dns_class = s.dns_class;
+      ttl = ttl;
+      rdata = rdata;
+      mdns_cache_flush = false;
+    })
 
 -- the sets with one more record
 abbrev pub with_record : State → Record RData → Result State Fault
@@ -123,7 +133,8 @@ settled s (setting ∷ settings) = settled (set_by s setting) settings
 abbrev pub carried : State → Body → Result State Fault
 carried s (untyped stop) = stopped stop s
 carried s (typed word items stop) =
-    type_named word >>= λ type. stopped stop items >>= λ words. data_of type words s.origin >>= λ rdata. recorded s rdata
+    type_named word >>= λ type. stopped stop items >>= λ words. data_of type words s.origin
+    >>= λ rdata. recorded s rdata
 
 -- the owner of a line: a name, the origin, or the last owner
 abbrev pub owned : State → Owner → Result State Fault
@@ -135,7 +146,8 @@ owned s (named text) = name_of text s.origin >>= λ name. Ok (record s { owner =
 unfoldable pub apply : State → Entry → Result State Fault
 apply s nothing = Ok s
 apply s (origin_entry text) = name_of text None >>= λ name. Ok (record s { origin = Some name })
-apply s (ttl_entry text) = ok_or (ttl_of text) bad_ttl >>= λ ttl. Ok (record s { default_ttl = Some ttl })
+apply s (ttl_entry text) = ok_or (ttl_of text) bad_ttl
+    >>= λ ttl. Ok (record s { default_ttl = Some ttl })
 apply s (include_entry name) = Ok s
 apply s (owner_line owner settings body) = owned s owner >>= λ t. carried (settled t settings) body
 apply s (faulty_entry fault) = Err fault
@@ -169,7 +181,8 @@ restored name s = record s { origin = name }
 abbrev pub opened : (State → List ℕ → Result State Fault) → State → List ℕ → Option (List ℕ)
     → Result State Fault
 opened within s name None = Err (not_found name)
-opened within s name (Some text) = fold within s (entries_of (whole_text text)) >>= λ t. Ok (restored s.origin t)
+opened within s name (Some text) = fold within s (entries_of (whole_text text))
+    >>= λ t. Ok (restored s.origin t)
 
 -- what an included text does, where so many more texts may be open; the depth is tested before the text is looked up
 unfoldable pub included : Texts → ℕ → State → List ℕ → Result State Fault
@@ -186,7 +199,16 @@ folded_text texts s text = fold (included texts max_depth) s (entries_of (whole_
 
 -- what is in force before the first entry; the origin is made absolute
 abbrev pub beginning : Option NameValue → State
-beginning name = record { origin = option_map absolute name; owner = None; dns_class = classes.IN; pending = None; default_ttl = None; last_ttl = None; sets = [] }
+beginning name =
+    record {
+      origin = option_map absolute name;
+      owner = None;
+      dns_class = classes.IN;
+      pending = None;
+      default_ttl = None;
+      last_ttl = None;
+      sets = [];
+    }
 
 -- the origin and the sets; that there is an origin is tested last
 abbrev pub answered : State → Result (NameValue × ZoneSets) Fault

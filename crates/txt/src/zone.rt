@@ -35,7 +35,8 @@ impl<'a> Model for Parser<'a> {
 
     ghost Value = { ParserValue };
 
-    ghost view = { λ p. record { text = p.text.now; includes = named_texts p.includes.now; origin = p.origin } };
+    ghost view = { λ p.
+        record { text = p.text.now; includes = named_texts p.includes.now; origin = p.origin } };
 }
 
 impl<'a> Parser<'a> {
@@ -47,7 +48,8 @@ impl<'a> Parser<'a> {
         includes: &'a BTreeMap<String, String>,
         origin: Option<Name>,
     ) -> Parser<'a>
-        ensures { result ≡ record { text = text.now; includes = named_texts includes.now; origin = origin } }
+        ensures { result
+            ≡ record { text = text.now; includes = named_texts includes.now; origin = origin } }
     {
         Parser {
             alloc,
@@ -76,7 +78,8 @@ impl<'a> Parser<'a> {
     /// for too many open texts, and `IncludeNotFound` for a text that was not handed in; at the very end, `Message` where
     /// no origin is in force. `Memory` if memory runs out, at any time.
     pub fn parse(self) -> Result<(Name, BTreeMap<RrKey, RecordSet>), ParseError>
-        ensures zone { Gives (λ r. (r.0, r.1.entries)) result (zone_of (text_among self.entry.includes) self.entry.origin self.entry.text) }
+        ensures zone { Gives (λ r. (r.0, r.1.entries)) result
+            (zone_of (text_among self.entry.includes) self.entry.origin self.entry.text) }
         ensures kept { IfOk result (λ r. AreKept r.1.entries) }
     {
         let Parser {

@@ -27,7 +27,8 @@ impl<'a> Zone<'a> {
     /// looked at for the first of them that names it alone.
     pub(crate) fn are_met(&self, entries: &[Record]) -> Result<bool, AllocError>
         ensures { IfOk result (λ b. b
-            ≡ list_all (is_met (zone_of self.now) (collected (zone_of self.now) entries.now)) (collected (zone_of self.now) entries.now)) }
+            ≡ list_all (is_met (zone_of self.now) (collected (zone_of self.now) entries.now))
+            (collected (zone_of self.now) entries.now)) }
     {
         let asked = self.places_asked(entries)?;
         let mut held = BTreeMap::new(self.alloc);
@@ -90,7 +91,8 @@ fn are_listed(
     entry: &Record,
 ) -> Result<bool, AllocError>
     ensures { IfOk result (λ b. b
-        ≡ list_all (λ (x : Entry RData). list_any (asks_for class entry.now x) entries.now) records.now) }
+        ≡ list_all (λ (x : Entry RData). list_any (asks_for class entry.now x) entries.now)
+        records.now) }
 {
     for known in records {
         if !is_listed(known, asked, class, entries, entry)? {

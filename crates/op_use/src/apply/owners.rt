@@ -70,7 +70,8 @@ pub(crate) fn unguarded_keys(
 /// Takes the sets under these keys out.
 pub(crate) fn take_keys(sets: &mut BTreeMap<RrKey, RecordSet>, taken: &[RrKey])
     ensures { (q : Key) → get key_cmp sets.new q
-        ≡ cond (list_any (λ (k : Key). eq_by_cmp key_cmp k q) taken.now) None (get key_cmp sets.old q) }
+        ≡ cond (list_any (λ (k : Key). eq_by_cmp key_cmp k q) taken.now) None
+        (get key_cmp sets.old q) }
 {
     for key in taken {
         sets.remove(key);

@@ -38,7 +38,8 @@ impl<'a> Zone<'a> {
     /// How many of the first updates delete data of the set of an entry, which are then taken out at once.
     fn deletions(&self, entry: &Record, entries: &[Record]) -> usize
         ensures within { result ≤ length entries.now }
-        ensures each { AllByRecursion (λ r. is_deletion (zone_of self.now) entry.now r ≡ true) (take result entries.now) }
+        ensures each { AllByRecursion (λ r. is_deletion (zone_of self.now) entry.now r ≡ true)
+            (take result entries.now) }
     {
         let mut count = 0;
         while count < entries.len() && self.is_deletion(entry, &entries[count]) {

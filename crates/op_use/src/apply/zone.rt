@@ -73,7 +73,10 @@ impl<'a> Zone<'a> {
 
     /// Adds a record to its set: in the place of equal data, or else last.
     pub(crate) fn add_record(&mut self, entry: &Record) -> Result<(), AllocError>
-        ensures { OnOk result (Holds (record_key entry.now) (joined entry.now (records_at self.old.sets (record_key entry.now))) self.old self.new) }
+        ensures { OnOk result
+            (Holds (record_key entry.now)
+            (joined entry.now (records_at self.old.sets (record_key entry.now))) self.old
+            self.new) }
     {
         let key = key_of(&entry.name, entry.record_type())?;
         let copy = entry.clone()?;
@@ -97,7 +100,8 @@ impl<'a> Zone<'a> {
 
     /// Takes the data of these records out of a set. Without such data the set stays as it is.
     pub(crate) fn take_data(&mut self, key: RrKey, entries: &[Record]) -> Result<(), AllocError>
-        ensures { OnOk result (Holds key (without entries.now (records_at self.old.sets key)) self.old self.new) }
+        ensures { OnOk result
+            (Holds key (without entries.now (records_at self.old.sets key)) self.old self.new) }
     {
         let Some(mut set) = self.sets.remove(&key) else {
             return Ok(());
@@ -120,7 +124,8 @@ impl<'a> Zone<'a> {
     /// Takes a set out to be changed; the answer is one without records where there is none.
     fn take_or_new(&mut self, key: &RrKey, entry: &Record) -> Result<RecordSet, AllocError>
         requires { key.now ≡ record_key entry.now }
-        ensures set { IfOk result (λ set. IsTakenSet self.old.class key.now (records_at self.old.sets key.now) set) }
+        ensures set { IfOk result
+            (λ set. IsTakenSet self.old.class key.now (records_at self.old.sets key.now) set) }
         ensures left { OnOk result (Lacks key.now self.old self.new) }
     {
         match self.sets.remove(key) {
@@ -135,7 +140,14 @@ impl<'a> Zone<'a> {
     /// A set for a record.
     fn empty_set(&self, entry: &Record) -> Result<RecordSet, AllocError>
         ensures { IfOk result (λ set. set
-            ≡ record { name = entry.now.name; record_type = type_of_record entry.now; dns_class = self.now.class; ttl = 0; records = []; serial = 0 }) }
+            ≡ record {
+              name = entry.now.name;
+              record_type = type_of_record entry.now;
+              dns_class = self.now.class;
+              ttl = 0;
+              records = [];
+              serial = 0;
+            }) }
     {
         let name = entry.name.clone()?;
         let mut set = RecordSet::new(self.alloc, name, entry.record_type(), 0);

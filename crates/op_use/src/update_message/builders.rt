@@ -190,7 +190,9 @@ pub fn delete_rrset(
     requires within { is_zone_of origin entry.name ≡ true }
     ensures built { IfOk result (λ m. message_value m
         ≡ update_message id use_edns (delete_set_sections entry origin)) }
-    ensures fits { IfOk result (λ m. IsSendableKey origin entry.name (type_of_data entry.rdata) entry.dns_class → Fits (message_value m)) }
+    ensures fits { IfOk result
+        (λ m. IsSendableKey origin entry.name (type_of_data entry.rdata) entry.dns_class
+        → Fits (message_value m)) }
     ensures means { IfOk result (λ m. DeletesSet entry origin (message_value m)) }
     ensures only { IsOkUnless result ProtoError.Memory }
 {
@@ -284,7 +286,8 @@ fn update(
     use_edns: bool,
 ) -> Result<Message, ProtoError>
     ensures built { IfOk result (λ m. message_value m
-        ≡ update_message id use_edns (sections origin dns_class prerequisites.items updates.items)) }
+        ≡ update_message id use_edns
+        (sections origin dns_class prerequisites.items updates.items)) }
     ensures only { IsOkUnless result ProtoError.Memory }
 {
     let mut zone = Query::query(origin, RecordType::SOA);

@@ -105,10 +105,13 @@ fn read_body(
     name: Name,
     record_type: RecordType,
 ) -> Result<Record<RData>, DecodeError>
-    ensures read { Reads (λ x. x) decoder.old decoder.new result (body_at name record_type decoder.old.bytes decoder.old.index) }
+    ensures read { Reads (λ x. x) decoder.old decoder.new result
+        (body_at name record_type decoder.old.bytes decoder.old.index) }
     ensures counts { Counts decoder.old decoder.new result }
     ensures passed { Passes decoder.old decoder.new result }
-    ensures adds { IfOk result (λ r. AddsPassed (data_places r.rdata decoder.old.bytes (decoder.old.index + 8)) decoder.old decoder.new) }
+    ensures adds { IfOk result
+        (λ r. AddsPassed (data_places r.rdata decoder.old.bytes (decoder.old.index + 8)) decoder.old
+        decoder.new) }
 {
     let Fields { class, ttl, len } = read_fields(decoder)?;
     let (dns_class, mdns_cache_flush) = class_of_field(record_type, class);

@@ -21,7 +21,8 @@ impl<R: RecordData> BinEncodable for Record<R> {
 
     ghost fits = { λ r. RecordKept (with_data R.as_rdata r) (R.fits r.rdata) };
 
-    ghost says = { λ r. record_says (with_data R.as_rdata r) (any_says (R.as_rdata r.rdata) (R.written r.rdata) (R.keeps_written r.rdata)
+    ghost says = { λ r. record_says (with_data R.as_rdata r)
+        (any_says (R.as_rdata r.rdata) (R.written r.rdata) (R.keeps_written r.rdata)
         (λ B i e. (R.keeps_word r.rdata B i e).1) (R.keeps_len r.rdata) (R.says r.rdata)) };
 
     /// Writes name, type, class with the cache-flush bit, TTL, and the data after the number of its bytes (RFC 1035,

@@ -98,7 +98,8 @@ impl RecordSet {
     fn enter(&mut self, entry: Record, serial: u32) -> Result<(bool, Option<usize>), AllocError>
         requires { MayEnter self.old entry }
         ensures ok { IfOk result (λ done. (done.0, self.new) ≡ insert self.old entry serial) }
-        ensures place { IfOk result (λ done. IfSome done.1 (IsFirstAt entry.rdata self.new.records)) }
+        ensures place { IfOk result
+            (λ done. IfSome done.1 (IsFirstAt entry.rdata self.new.records)) }
         ensures err { OnErr result (self.new ≡ self.old) }
     {
         let ttl = entry.ttl;

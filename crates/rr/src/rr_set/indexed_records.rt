@@ -45,7 +45,8 @@ impl Model for IndexedRecords {
 
     ghost view = { λ r. r.records.items };
 
-    ghost invariant = { λ r. IfSome r.index (λ places. IsIndexOf (place_at places.value) r.records.items) };
+    ghost invariant = { λ r. IfSome r.index
+        (λ places. IsIndexOf (place_at places.value) r.records.items) };
 }
 
 impl IndexedRecords {
@@ -149,7 +150,8 @@ impl IndexedRecords {
 
     /// Sets the class of each record. Takes no memory.
     pub(super) fn set_dns_class(&mut self, dns_class: DNSClass)
-        ensures { self.new ≡ map (λ (r : Entry RData). record r { dns_class = dns_class }) self.old }
+        ensures { self.new
+            ≡ map (λ (r : Entry RData). record r { dns_class = dns_class }) self.old }
     {
         set_classes(&mut self.records, dns_class);
     }
@@ -170,7 +172,8 @@ fn index_for(
     scans: &mut u8,
 ) -> Result<Option<Box<DataIndex>>, AllocError>
     requires { IfSome known (λ places. IsIndexOf (place_at places.value) records.now.items) }
-    ensures index { IfOk result (λ index. IfSome index (λ places. IsIndexOf (place_at places.value) records.now.items)) }
+    ensures index { IfOk result
+        (λ index. IfSome index (λ places. IsIndexOf (place_at places.value) records.now.items)) }
 {
     if known.is_some() || records.len() <= FEW {
         return Ok(known);
@@ -221,7 +224,8 @@ fn key_of(rdata: &RData, alloc: Global) -> Result<Vec<u8>, AllocError>
 
 /// The index of these records, or none where two of them have one canonical form.
 fn index_of(records: &Vec<Record>) -> Result<Option<Box<DataIndex>>, AllocError>
-    ensures index { IfOk result (λ index. IfSome index (λ places. IsIndexOf (place_at places.value) records.now.items)) }
+    ensures index { IfOk result
+        (λ index. IfSome index (λ places. IsIndexOf (place_at places.value) records.now.items)) }
 {
     let alloc = *records.allocator();
     let mut places = BTreeMap::new(alloc);
@@ -264,7 +268,8 @@ fn enter_by_index(
     ensures ok { IfOk result (λ done. (done.is_new, records.new.items)
         ≡ entered entry records.old.items) }
     ensures place { IfOk result (λ done. IsFirstAt entry.rdata records.new.items done.place) }
-    ensures index { IfOk result (λ done. IfSome done.index (λ after. IsIndexOf (place_at after.value) records.new.items)) }
+    ensures index { IfOk result
+        (λ done. IfSome done.index (λ after. IsIndexOf (place_at after.value) records.new.items)) }
     ensures err { OnErr result (records.new.items ≡ records.old.items) }
 {
     let key = key_of(&entry.rdata, *records.allocator())?;
@@ -295,7 +300,8 @@ fn join_by_index(
 ) -> Result<Entered, AllocError>
     requires { IsIndexOf (place_at places.value) records.old.items }
     ensures ok { OnOk result (records.new.items ≡ joined entry records.old.items) }
-    ensures index { IfOk result (λ done. IfSome done.index (λ after. IsIndexOf (place_at after.value) records.new.items)) }
+    ensures index { IfOk result
+        (λ done. IfSome done.index (λ after. IsIndexOf (place_at after.value) records.new.items)) }
     ensures err { OnErr result (records.new.items ≡ records.old.items) }
 {
     let key = key_of(&entry.rdata, *records.allocator())?;
@@ -324,7 +330,8 @@ fn push_by_index(
         ≡ entered entry records.old.items) }
     ensures joined { OnOk result (records.new.items ≡ joined entry records.old.items) }
     ensures place { IfOk result (λ done. IsFirstAt entry.rdata records.new.items done.place) }
-    ensures index { IfOk result (λ done. IfSome done.index (λ after. IsIndexOf (place_at after.value) records.new.items)) }
+    ensures index { IfOk result
+        (λ done. IfSome done.index (λ after. IsIndexOf (place_at after.value) records.new.items)) }
     ensures err { OnErr result (records.new.items ≡ records.old.items) }
 {
     let mut places = places;

@@ -61,7 +61,8 @@ pub(super) fn join(records: &mut Vec<Record>, entry: Record) -> Result<(), Alloc
 fn copies_for(records: &Vec<Record>, entry: &Record) -> Result<Vec<(usize, Record)>, AllocError>
     ensures renewed { IfOk result (λ copies. renewed copies.items records.now.items
         ≡ replaced entry.now records.now.items) }
-    ensures within { IfOk result (λ copies. AllByRecursion (λ p. p.0 < length records.now.items) copies.items) }
+    ensures within { IfOk result
+        (λ copies. AllByRecursion (λ p. p.0 < length records.now.items) copies.items) }
     ensures any { IfOk result (λ copies. (length copies.items == 0)
         ≡ not (list_any (has_data_of entry.now) records.now.items)) }
 {

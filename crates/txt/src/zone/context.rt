@@ -42,7 +42,16 @@ impl Model for Context {
 
     ghost Value = { State };
 
-    ghost view = { λ c. record { origin = c.origin; owner = c.owner; dns_class = c.dns_class; pending = c.pending; default_ttl = c.default_ttl; last_ttl = c.last_ttl; sets = c.sets } };
+    ghost view = { λ c.
+        record {
+          origin = c.origin;
+          owner = c.owner;
+          dns_class = c.dns_class;
+          pending = c.pending;
+          default_ttl = c.default_ttl;
+          last_ttl = c.last_ttl;
+          sets = c.sets;
+        } };
 }
 
 /// What was met between entries.
@@ -126,7 +135,8 @@ impl Context {
 
     /// After an owner's text: the name that it names, and then the rest of the line.
     fn take_named(&mut self, word: String, lexer: &mut Lexer<'_>) -> Result<(), ParseError>
-        ensures { Goes result self.new (symbols lexer.new) (took_named self.old (string_bytes word) (symbols lexer.old)) }
+        ensures { Goes result self.new (symbols lexer.new)
+            (took_named self.old (string_bytes word) (symbols lexer.old)) }
     {
         let name = self.parse_name(word.as_str())?;
         self.set_owner(Some(name));
@@ -149,7 +159,8 @@ impl Context {
 
     /// After `$ORIGIN`: the name becomes the origin.
     fn take_origin(&mut self, lexer: &mut Lexer<'_>) -> Result<(), ParseError>
-        ensures { Goes result self.new (symbols lexer.new) (took_origin self.old (symbols lexer.old)) }
+        ensures { Goes result self.new (symbols lexer.new)
+            (took_origin self.old (symbols lexer.old)) }
     {
         let Some(token) = read_token(lexer)? else {
             return Ok(());
@@ -165,7 +176,8 @@ impl Context {
 
     /// After `$TTL`: the TTL becomes the default.
     fn take_default(&mut self, lexer: &mut Lexer<'_>) -> Result<(), ParseError>
-        ensures { Goes result self.new (symbols lexer.new) (took_default self.old (symbols lexer.old)) }
+        ensures { Goes result self.new (symbols lexer.new)
+            (took_default self.old (symbols lexer.old)) }
     {
         let Some(token) = read_token(lexer)? else {
             return Ok(());
@@ -184,7 +196,8 @@ impl Context {
 
     /// After an owner: settings, and then the end of the line, or a type and its data.
     fn take_line(&mut self, lexer: &mut Lexer<'_>) -> Result<(), ParseError>
-        ensures { Goes result self.new (symbols lexer.new) (took_words self.old (symbols lexer.old)) }
+        ensures { Goes result self.new (symbols lexer.new)
+            (took_words self.old (symbols lexer.old)) }
     {
         'words: loop {
             let Some(token) = read_token(lexer)? else {
@@ -216,7 +229,8 @@ impl Context {
     /// After the type's text, its ASCII letters raised: the items of the data, and then the record.
     fn take_record(&mut self, raised: String, lexer: &mut Lexer<'_>) -> Result<(), ParseError>
         ensures { (word : List ℕ) → string_bytes raised ≡ str_to_ascii_uppercase word
-            → Goes result self.new (symbols lexer.new) (took_typed self.old word (symbols lexer.old)) }
+            → Goes result self.new (symbols lexer.new)
+            (took_typed self.old word (symbols lexer.old)) }
     {
         let record_type = type_of_text(raised)?;
         let mut items = replace(&mut self.items, Vec::new(self.alloc));
@@ -241,7 +255,8 @@ impl Context {
 
     /// The data of a type that texts name, under the origin.
     fn data_of(&self, record_type: RecordType, items: &[&str]) -> Result<RData, ParseError>
-        ensures { Gives (λ d. d) result (data_of record_type (map (λ item. item.now) items.now) self.now.origin) }
+        ensures { Gives (λ d. d) result
+            (data_of record_type (map (λ item. item.now) items.now) self.now.origin) }
     {
         RData::from_items(self.alloc, record_type, items, self.origin.as_ref())
     }
@@ -354,7 +369,8 @@ fn take_include(lexer: &mut Lexer<'_>) -> Result<Step, ParseError>
 /// After the name of an included text: the end of the line.
 fn end_include(name: String, lexer: &mut Lexer<'_>) -> Result<Step, ParseError>
     ensures { (s : State)
-        → Takes result s s (symbols lexer.new) (took_include_end s (string_bytes name) (symbols lexer.old)) }
+        → Takes result s s (symbols lexer.new)
+        (took_include_end s (string_bytes name) (symbols lexer.old)) }
 {
     let Some(token) = read_token(lexer)? else {
         return Ok(Step::Applied);
@@ -409,7 +425,8 @@ fn read_token(lexer: &mut Lexer<'_>) -> Result<Option<Token>, ParseError>
 
 /// Puts the items of the data, up to the end of the line or of the text, in the place of others.
 fn read_items(items: &mut Vec<String>, lexer: &mut Lexer<'_>) -> Result<(), ParseError>
-    ensures { Reads (λ _. texts items.new.items) result (symbols lexer.new) (took_items (symbols lexer.old)) }
+    ensures { Reads (λ _. texts items.new.items) result (symbols lexer.new)
+        (took_items (symbols lexer.old)) }
 {
     items.clear();
     'items: loop {

@@ -42,7 +42,8 @@ impl Model for ZoneSets {
 
     ghost view = { λ z. z.sets.entries ++ z.run.items };
 
-    ghost invariant = { λ z. AreKept (z.sets.entries ++ z.run.items) × IsStrictlySortedBy key_cmp (keys_of (z.sets.entries ++ z.run.items)) };
+    ghost invariant = { λ z. AreKept (z.sets.entries ++ z.run.items)
+        × IsStrictlySortedBy key_cmp (keys_of (z.sets.entries ++ z.run.items)) };
 }
 
 impl ZoneSets {
@@ -187,7 +188,8 @@ fn put(sets: &mut BTreeMap<RrKey, RecordSet>, key: RrKey, entry: Record) -> Resu
 fn enter(set: &mut RecordSet, entry: Record) -> Result<(), ParseError>
     requires { IsKept (record_key entry) set.old }
     ensures value { (sets : Sets)
-        → Adds result (set_value (is_at (key_cmp (record_key entry))) sets set.new) (added_to sets entry (Some set.old)) }
+        → Adds result (set_value (is_at (key_cmp (record_key entry))) sets set.new)
+        (added_to sets entry (Some set.old)) }
     ensures kept { IsKept (record_key entry) set.new }
 {
     if entry.record_type() == RecordType::SOA {
