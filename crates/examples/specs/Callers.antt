@@ -55,21 +55,21 @@ response_to query answers =
 
 -- A query begins the bytes that were received; what was sent is, if each answer fits the wire, a cut of the response under
 -- what the client takes, and is read as that cut.
-pub record IsAnswered (received : List ℕ) (answers : List (Record RData)) (sent : List ℕ) : Type 0
-  where
-    pub query : MessageValue
-    pub end : ℕ
-    pub stands : IsMessageAt received 0 query end
-    pub cut : All (FitsPlain query.metadata.op_code) answers
-        → IsWritten (response_to query answers) (payload_taken query.edns) sent
+pub record IsAnswered (received : List ℕ) (answers : List (Record RData))
+    (sent : List ℕ) : Type 0 where
+  pub query : MessageValue
+  pub end : ℕ
+  pub stands : IsMessageAt received 0 query end
+  pub cut : All (FitsPlain query.metadata.op_code) answers
+      → IsWritten (response_to query answers) (payload_taken query.edns) sent
 
 -- The questions have no room under what the client takes.
-pub record HasNoRoom (received : List ℕ) (answers : List (Record RData)) (e : ProtoError) : Type 0
-  where
-    pub query : MessageValue
-    pub end : ℕ
-    pub stands : IsMessageAt received 0 query end
-    pub small : IsTooSmall (response_to query answers) (payload_taken query.edns) e
+pub record HasNoRoom (received : List ℕ) (answers : List (Record RData))
+    (e : ProtoError) : Type 0 where
+  pub query : MessageValue
+  pub end : ℕ
+  pub stands : IsMessageAt received 0 query end
+  pub small : IsTooSmall (response_to query answers) (payload_taken query.edns) e
 
 -- why there was no answer: what reading met, questions without room, or memory ran out
 abbrev pub IsUnanswered : List ℕ → List (Record RData) → ProtoError → Type 0

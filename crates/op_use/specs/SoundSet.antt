@@ -82,13 +82,13 @@ pub record IsSendable (origin : NameValue) (s : SetValue) : Type 0 where
   pub sent : IsSent s
 
 -- an owner, an ordinary type and a class that can be sent so
-pub record IsSendableKey (origin owner : NameValue) (type : RecordType) (class : DNSClass) : Type 0
-  where
-    pub rooted : origin.absolute ≡ true
-    pub owned : owner.absolute ≡ true
-    pub ordinary : is_ordinary type ≡ true
-    pub type_reads : type_of (type_number type) ≡ type
-    pub sent_class : IsSentClass class
+pub record IsSendableKey (origin owner : NameValue) (type : RecordType)
+    (class : DNSClass) : Type 0 where
+  pub rooted : origin.absolute ≡ true
+  pub owned : owner.absolute ≡ true
+  pub ordinary : is_ordinary type ≡ true
+  pub type_reads : type_of (type_number type) ≡ type
+  pub sent_class : IsSentClass class
 
 -- an owner and a class that can be sent so
 pub record IsSendableOwner (origin owner : NameValue) (class : DNSClass) : Type 0 where
