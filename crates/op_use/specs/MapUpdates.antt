@@ -11,8 +11,8 @@ use Rattle.op_use.specs.HeldZone.{HeldZone, zone_of}
 use Rattle.op_use.specs.NamedChanges.{is_left, set_key}
 use Rattle.op_use.specs.Server.{OfAny, OfNone, OfNothing, OfZone, Use as UseValue, is_same_key, type_of_record, update, use_of}
 use Rattle.op_use.specs.Zone.{Zone, is_guarded}
-use Rattle.op_use.specs.declared.apply.class_use.Use.TheVariants as uses
-use Rattle.op_use.specs.declared.apply.class_use.Use.{Use}
+use Rattle.op_use.specs.declared.apply.rules.Use.TheVariants as uses
+use Rattle.op_use.specs.declared.apply.rules.Use.{Use}
 use Rattle.rr.specs.RecordSet.{SetValue, is_soa}
 use Rattle.rr.specs.SetUpdates.{last_ttl}
 use Rattle.rr.specs.declared.record.Record.{Record}

@@ -6,14 +6,11 @@ ghost use Rattle.op_use.specs.Applying.{IsApplied, IsZoneMap};
 ghost use Rattle.op_use.specs.HeldZone.{HeldZone, zone_of};
 ghost use Rattle.op_use.specs.Server.{fault as fault_of, sections_of};
 
-mod by_value;
-mod class_use;
 pub mod laws;
-mod owners;
 mod prerequisites;
 mod prescan;
+mod rules;
 mod supported;
-mod types;
 mod updates;
 mod zone;
 mod zone_section;

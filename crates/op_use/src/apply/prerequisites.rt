@@ -1,17 +1,23 @@
 //! The third step: the prerequisites of an update (RFC 2136, 3.2).
 
-ghost use Rattle.std.specs.Prelude.{◌≡◌, IfOk};
+ghost use Rattle.base_data.specs.SameData.{same_data};
+ghost use Rattle.base_data.specs.declared.rdata.RData.{RData};
 ghost use Rattle.op_use.specs.HeldZone.{HeldZone, zone_of};
-ghost use Rattle.op_use.specs.Server.{first_fault, is_found as is_found_in, prerequisite_fault, prerequisites_fault};
+ghost use Rattle.op_use.specs.MapFaults.{asks_for, is_by_value};
+ghost use Rattle.op_use.specs.Server.{collected, first_fault, is_found as is_found_in, is_met, is_same_key, prerequisite_fault, prerequisites_fault};
+ghost use Rattle.rr.specs.SetChanges.{has_data_of};
+ghost use Rattle.rr.specs.declared.record.Record.{Record as Entry};
+ghost use Rattle.std.specs.List.{IsAmong, list_all, list_any};
+ghost use Rattle.std.specs.Prelude.{IfOk, IfSome, true, ◌≡◌};
 
-use crate::apply::class_use::{Use, use_of};
-use crate::apply::owners::has_type;
 use crate::apply::prescan::unless;
-use crate::apply::types::is_any;
-use crate::apply::zone::{Zone, key_of};
+use crate::apply::rules::{Use, is_any, use_of};
+use crate::apply::zone::{Zone, has_type, key_of};
+use base::{DNSClass, RrKey};
 use op::ResponseCode;
 use rr::Record;
-use std::alloc::AllocError;
+use std::alloc::{AllocError, Global};
+use std::collections::BTreeMap;
 
 impl<'a> Zone<'a> {
     /// What is wrong with the prerequisites: first what is with each by itself, and then with the sets that those of the
@@ -90,4 +96,173 @@ impl<'a> Zone<'a> {
         let key = key_of(&entry.name, entry.record_type())?;
         Ok(self.sets.contains_key(&key))
     }
+}
+
+/// Where data stands among records, by its canonical form. It only says where to look first, so nothing is promised of
+/// it: the record there is compared, and where it has other data, all records are, which ends the test.
+pub(crate) type Places = BTreeMap<Vec<u8>, usize>;
+
+impl<'a> Zone<'a> {
+    /// Whether the sets that prerequisites of the zone's class name are those that they list (RFC 2136, 3.2.3). A set is
+    /// looked at for the first of them that names it alone.
+    pub(crate) fn are_met(&self, entries: &[Record]) -> Result<bool, AllocError>
+        ensures { IfOk result (λ b. b
+            ≡ list_all (is_met (zone_of self.now) (collected (zone_of self.now) entries.now))
+            (collected (zone_of self.now) entries.now)) }
+    {
+        let asked = self.places_asked(entries)?;
+        let mut held = BTreeMap::new(self.alloc);
+        for entry in entries {
+            if !is_by_value(self.class, entry) {
+                continue;
+            }
+            let key = key_of(&entry.name, entry.record_type())?;
+            let Some(set) = self.sets.get(&key) else {
+                return Ok(false);
+            };
+            if !held.contains_key(&key) {
+                if !are_listed(set.as_slice(), asked.get(&key), self.class, entries, entry)? {
+                    return Ok(false);
+                }
+                let places = places_of(set.as_slice(), self.alloc)?;
+                held.insert(key.clone()?, places)?;
+            }
+            if !has_data(set.as_slice(), held.get(&key), entry)? {
+                return Ok(false);
+            }
+        }
+        Ok(true)
+    }
+
+    /// Where the data of the prerequisites of the zone's class stands among them, under the key of each set.
+    fn places_asked(&self, entries: &[Record]) -> Result<BTreeMap<RrKey, Places>, AllocError> {
+        let mut asked: BTreeMap<RrKey, Places> = BTreeMap::new(self.alloc);
+        for place in 0..entries.len() {
+            let entry = &entries[place];
+            if !is_by_value(self.class, entry) {
+                continue;
+            }
+            let key = key_of(&entry.name, entry.record_type())?;
+            let data = canonical(entry)?;
+            if let Some(places) = asked.get_mut(&key) {
+                places.insert(data, place)?;
+                continue;
+            }
+            let mut places = BTreeMap::new(self.alloc);
+            places.insert(data, place)?;
+            asked.insert(key, places)?;
+        }
+        Ok(asked)
+    }
+}
+
+fn is_by_value(class: DNSClass, entry: &Record) -> bool
+    ensures { result ≡ is_by_value class entry.now }
+{
+    matches!(use_of(class, entry.dns_class), Use::OfZone)
+}
+
+/// Whether each record of a set is among those that the prerequisites list for the set of this entry.
+fn are_listed(
+    records: &[Record],
+    asked: Option<&Places>,
+    class: DNSClass,
+    entries: &[Record],
+    entry: &Record,
+) -> Result<bool, AllocError>
+    ensures { IfOk result (λ b. b
+        ≡ list_all (λ (x : Entry RData). list_any (asks_for class entry.now x) entries.now)
+        records.now) }
+{
+    for known in records {
+        if !is_listed(known, asked, class, entries, entry)? {
+            return Ok(false);
+        }
+    }
+    Ok(true)
+}
+
+fn is_listed(
+    known: &Record,
+    asked: Option<&Places>,
+    class: DNSClass,
+    entries: &[Record],
+    entry: &Record,
+) -> Result<bool, AllocError>
+    ensures { IfOk result (λ b. b ≡ list_any (asks_for class entry.now known.now) entries.now) }
+{
+    if let Some(listed) = look_up(entries, asked, known)? {
+        if is_by_value(class, listed) && is_same_set(entry, listed) {
+            return Ok(true);
+        }
+    }
+    for listed in entries {
+        if known.rdata == listed.rdata && is_by_value(class, listed) && is_same_set(entry, listed) {
+            return Ok(true);
+        }
+    }
+    Ok(false)
+}
+
+/// Whether two records are of one set: of one type, and of one owner, which takes longest to tell.
+pub(crate) fn is_same_set(a: &Record, b: &Record) -> bool
+    ensures { result ≡ is_same_key a.now b.now }
+{
+    a.record_type() == b.record_type() && a.name == b.name
+}
+
+/// Whether one of these records has the data of this one.
+fn has_data(records: &[Record], held: Option<&Places>, entry: &Record) -> Result<bool, AllocError>
+    ensures { IfOk result (λ b. b ≡ list_any (has_data_of entry.now) records.now) }
+{
+    if look_up(records, held, entry)?.is_some() {
+        return Ok(true);
+    }
+    for known in records {
+        if known.rdata == entry.rdata {
+            return Ok(true);
+        }
+    }
+    Ok(false)
+}
+
+fn places_of(records: &[Record], alloc: Global) -> Result<Places, AllocError> {
+    let mut places = BTreeMap::new(alloc);
+    for place in 0..records.len() {
+        let data = canonical(&records[place])?;
+        places.insert(data, place)?;
+    }
+    Ok(places)
+}
+
+/// The record of this data, if the places know it.
+fn look_up<'r>(
+    records: &'r [Record],
+    places: Option<&Places>,
+    entry: &Record,
+) -> Result<Option<&'r Record>, AllocError>
+    ensures { IfOk result (λ found. IfSome found (λ x. IsAmong records.now x.now
+        × (same_data x.now.rdata entry.now.rdata ≡ true))) }
+{
+    let Some(places) = places else {
+        return Ok(None);
+    };
+    let data = canonical(entry)?;
+    let Some(place) = places.get(&data) else {
+        return Ok(None);
+    };
+    let Some(known) = records.get(*place) else {
+        return Ok(None);
+    };
+    if known.rdata == entry.rdata {
+        return Ok(Some(known));
+    }
+    Ok(None)
+}
+
+fn canonical(entry: &Record) -> Result<Vec<u8>, AllocError> {
+    entry
+        .rdata
+        .to_canonical(entry.name.allocator())
+        .map_err(|_| AllocError)
 }

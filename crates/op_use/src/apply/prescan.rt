@@ -1,11 +1,10 @@
 //! The fourth step: a look at the updates before the first is carried out (RFC 2136, 3.4.1).
 
-ghost use Rattle.std.specs.Prelude.{◌≡◌};
 ghost use Rattle.op_use.specs.HeldZone.{HeldZone, zone_of};
 ghost use Rattle.op_use.specs.Server.{first_fault, prescan_fault, unless as unless_so};
+ghost use Rattle.std.specs.Prelude.{◌≡◌};
 
-use crate::apply::class_use::{Use, use_of};
-use crate::apply::types::{is_any, is_meta};
+use crate::apply::rules::{Use, is_any, is_meta, use_of};
 use crate::apply::zone::Zone;
 use op::ResponseCode;
 use rr::Record;

@@ -1,12 +1,12 @@
 //! The first step: whether an update is of types that are supported.
 
-ghost use Rattle.std.specs.List.{list_all};
-ghost use Rattle.std.specs.Prelude.{◌≡◌};
 ghost use Rattle.op.specs.Message.{message_value};
 ghost use Rattle.op_use.specs.Applying.{is_all_served as is_all_served_in, is_served as is_served_record, is_served_prerequisite};
 ghost use Rattle.op_use.specs.Server.{sections_of};
+ghost use Rattle.std.specs.List.{list_all};
+ghost use Rattle.std.specs.Prelude.{◌≡◌};
 
-use crate::apply::types::{is_any, is_cname, is_ordinary};
+use crate::apply::rules::{is_any, is_cname, is_ordinary};
 use base::{DNSClass, RecordType};
 use op::Message;
 use rr::Record;

@@ -1,16 +1,14 @@
 //! The last step: the updates of a message, one after the other (RFC 2136, 3.4.2).
 
-ghost use Rattle.std.specs.List.{AllByRecursion};
-ghost use Rattle.std.specs.Prelude.{◌≡◌, ◌≤◌, ◌∷◌, [], IfOk, OnOk, length, take, true};
 ghost use Rattle.op_use.specs.HeldZone.{HeldZone, zone_of};
 ghost use Rattle.op_use.specs.MapUpdates.{IsUpdated, LacksOwner, is_deletion};
 ghost use Rattle.op_use.specs.Server.{OfAny, OfNone, OfZone, is_needed as is_needed_in, use_of as the_use};
+ghost use Rattle.std.specs.List.{AllByRecursion};
+ghost use Rattle.std.specs.Prelude.{IfOk, OnOk, [], length, take, true, ◌∷◌, ◌≡◌, ◌≤◌};
 
-use crate::apply::by_value::is_same_set;
-use crate::apply::class_use::{Use, use_of};
-use crate::apply::owners::{has_type, take_keys, unguarded_keys};
-use crate::apply::types::{is_any, is_cname, is_guarded, is_soa};
-use crate::apply::zone::{Zone, key_of};
+use crate::apply::prerequisites::is_same_set;
+use crate::apply::rules::{Use, is_any, is_cname, is_guarded, is_soa, use_of};
+use crate::apply::zone::{Zone, has_type, key_of, take_keys, unguarded_keys};
 use base::{Name, RecordType};
 use rr::Record;
 use std::alloc::AllocError;

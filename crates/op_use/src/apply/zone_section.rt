@@ -1,10 +1,10 @@
 //! The second step: the zone section of an update (RFC 2136, 3.1).
 
-ghost use Rattle.std.specs.Prelude.{◌≡◌};
 ghost use Rattle.op_use.specs.HeldZone.{HeldZone, zone_of};
 ghost use Rattle.op_use.specs.Server.{zone_fault};
+ghost use Rattle.std.specs.Prelude.{◌≡◌};
 
-use crate::apply::types::is_soa;
+use crate::apply::rules::is_soa;
 use crate::apply::zone::Zone;
 use op::{Query, ResponseCode};
 

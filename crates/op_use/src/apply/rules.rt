@@ -1,12 +1,43 @@
-//! Types that updates treat in their own ways (RFC 2136, 2.4, 2.5 and 3.4.2).
+//! What classes and types ask of an update (RFC 2136, 2.4, 2.5 and 3.4.2).
 
-ghost use Rattle.std.specs.Prelude.{◌≡◌, ◌&&◌, ◌||◌};
 ghost use Rattle.base.specs.NameOrder.{same_name};
-ghost use Rattle.op_use.specs.Server.{is_any as is_any_type, is_cname as is_cname_type, is_meta as is_meta_type};
+ghost use Rattle.op_use.specs.MapUpdates.{use_value};
+ghost use Rattle.op_use.specs.Server.{is_any as is_any_type, is_cname as is_cname_type, is_meta as is_meta_type, use_of as the_use};
 ghost use Rattle.op_use.specs.SoundSet.{is_ordinary as is_ordinary_type};
 ghost use Rattle.rr.specs.RecordSet.{is_ns, is_soa as is_soa_type};
+ghost use Rattle.std.specs.Prelude.{◌&&◌, ◌||◌, ◌≡◌};
 
-use base::{Name, RecordType};
+use base::{DNSClass, Name, RecordType};
+
+/// What a class asks for.
+#[derive(Clone, Copy, Drop)]
+pub(crate) enum Use {
+    /// As a prerequisite, that something is there; as an update, that it goes.
+    OfAny,
+    /// As a prerequisite, that something isn't there; as an update, that a record goes.
+    OfNone,
+    /// As a prerequisite, that a set is this; as an update, that a record comes.
+    OfZone,
+    /// Nothing that is known.
+    OfNothing,
+}
+
+/// What a class asks for in a zone of this class.
+pub(crate) fn use_of(zone_class: DNSClass, class: DNSClass) -> Use
+    ensures { use_value result ≡ the_use zone_class class }
+{
+    match class {
+        DNSClass::ANY => Use::OfAny,
+        DNSClass::NONE => Use::OfNone,
+        other => {
+            if other == zone_class {
+                Use::OfZone
+            } else {
+                Use::OfNothing
+            }
+        }
+    }
+}
 
 pub(crate) fn is_soa(record_type: RecordType) -> bool
     ensures { result ≡ is_soa_type record_type }

@@ -1,5 +1,5 @@
 use Rattle.base_data.specs.declared.rdata.RData.{RData}
-use Rattle.op_use.proofs.apply.by_value.are_listed.Given as goal
+use Rattle.op_use.proofs.apply.prerequisites.are_listed.Given as goal
 use Rattle.op_use.specs.MapFaults.{asks_for}
 use Rattle.rr.specs.declared.record.Record.{Record}
 use Rattle.std.proofs.Common.{drop, ◌≡◌}

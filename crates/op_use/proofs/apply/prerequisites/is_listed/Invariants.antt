@@ -1,4 +1,4 @@
-use Rattle.op_use.proofs.apply.by_value.is_listed.Given as goal
+use Rattle.op_use.proofs.apply.prerequisites.is_listed.Given as goal
 use Rattle.op_use.specs.MapFaults.{asks_for}
 use Rattle.std.proofs.Common.{drop, ◌≡◌}
 use Rattle.std.specs.List.{list_any}

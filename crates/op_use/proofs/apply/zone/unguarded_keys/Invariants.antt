@@ -1,7 +1,7 @@
 use Rattle.base.specs.NameOrder.{same_name}
 use Rattle.base.specs.declared.rr_key.RrKey.{RrKey}
 use Rattle.op_use.proofs.OwnerKeys.{owned_entry, passes}
-use Rattle.op_use.proofs.apply.owners.unguarded_keys.Given as goal
+use Rattle.op_use.proofs.apply.zone.unguarded_keys.Given as goal
 use Rattle.rr.specs.RecordSet.{is_ns, is_soa}
 use Rattle.std.proofs.Common.{not, ◌&&◌, ◌++◌, ◌||◌, ◌≡◌}
 use Rattle.std.specs.BTreeMap.{keys}

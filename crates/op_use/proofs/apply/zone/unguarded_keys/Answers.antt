@@ -1,6 +1,6 @@
 use Rattle.base.specs.NameOrder.{same_lower, same_name}
 use Rattle.op_use.proofs.OwnerKeys.{kept_here, kept_next, kept_start}
-use Rattle.op_use.proofs.apply.owners.unguarded_keys.Goals as goal
+use Rattle.op_use.proofs.apply.zone.unguarded_keys.Goals as goal
 use Rattle.rr.specs.RecordSet.{is_ns, is_soa}
 use Rattle.std.proofs.lemmas.Bool.{not-false}
 use Rattle.std.proofs.Common.{[], ap, not, rules, sym, ◌&&◌, ◌++◌, ◌||◌, ◌∙◌, ◌∷◌, ◌≡◌}

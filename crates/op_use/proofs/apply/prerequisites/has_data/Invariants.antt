@@ -1,4 +1,4 @@
-use Rattle.op_use.proofs.apply.by_value.has_data.Given as goal
+use Rattle.op_use.proofs.apply.prerequisites.has_data.Given as goal
 use Rattle.rr.specs.SetChanges.{has_data_of}
 use Rattle.std.proofs.Common.{drop, ◌≡◌}
 use Rattle.std.specs.List.{list_any}

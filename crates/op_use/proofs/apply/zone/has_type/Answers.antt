@@ -1,7 +1,7 @@
 use Rattle.base.specs.NameOrder.{same_lower}
 use Rattle.op_use.proofs.OwnerKeys.{any_here, any_next, any_start}
-use Rattle.op_use.proofs.apply.owners.has_type.Goals as goal
-use Rattle.op_use.proofs.apply.owners.has_type.Goals.{else-is_beside-via-else-is_beside, else-is_beside-via-then-is_beside+else-is_cname}
+use Rattle.op_use.proofs.apply.zone.has_type.Goals as goal
+use Rattle.op_use.proofs.apply.zone.has_type.Goals.{else-is_beside-via-else-is_beside, else-is_beside-via-then-is_beside+else-is_cname}
 use Rattle.op_use.specs.Server.{is_cname}
 use Rattle.std.proofs.lemmas.Bool.{not-false}
 use Rattle.std.proofs.Common.{ap, false, not, sym, true, ◌&&◌, ◌≡◌, ◌∙◌}

@@ -1,6 +1,6 @@
 use Rattle.base.specs.RrKey.{key_cmp}
 use Rattle.base.specs.declared.rr_key.RrKey.{RrKey}
-use Rattle.op_use.proofs.apply.owners.take_keys.Given as goal
+use Rattle.op_use.proofs.apply.zone.take_keys.Given as goal
 use Rattle.std.proofs.Common.{None, cond, take, ◌≡◌}
 use Rattle.std.specs.BTreeMap.{get}
 use Rattle.std.specs.List.{list_any}

@@ -1,6 +1,6 @@
 use Rattle.op_use.proofs.ListedSteps.{asked_by, passed_by, second_false, third_false}
-use Rattle.op_use.proofs.apply.by_value.is_listed.Goals as goal
-use Rattle.op_use.proofs.apply.by_value.is_listed.Goals.{else-eq-via-then-eq+then-is_by_value-2+else-is_same_set-2, else-eq-via-then-eq+else-is_by_value-2, else-eq-via-else-eq}
+use Rattle.op_use.proofs.apply.prerequisites.is_listed.Goals as goal
+use Rattle.op_use.proofs.apply.prerequisites.is_listed.Goals.{else-eq-via-then-eq+then-is_by_value-2+else-is_same_set-2, else-eq-via-then-eq+else-is_by_value-2, else-eq-via-else-eq}
 use Rattle.op_use.specs.MapFaults.{asks_for, is_by_value}
 use Rattle.op_use.specs.Server.{is_same_key}
 use Rattle.rr.specs.SetChanges.{has_data_of}

@@ -1,6 +1,6 @@
 use Rattle.base.specs.declared.rr_key.RrKey.{RrKey}
 use Rattle.op_use.proofs.OwnerKeys.{owned_entry, passes}
-use Rattle.op_use.proofs.apply.owners.has_type.Given as goal
+use Rattle.op_use.proofs.apply.zone.has_type.Given as goal
 use Rattle.op_use.specs.Server.{is_cname}
 use Rattle.std.proofs.Common.{not, ◌&&◌, ◌≡◌}
 use Rattle.std.specs.BTreeMap.{keys}
