@@ -11,7 +11,8 @@ use Rattle.base.specs.Written.{Writing, piece_at, after, in_turn}
 abbrev pub IsCountable : Count → Type 0
 IsCountable count = UpTo count (2 ^ 64 - 1)
 
-module _ {E : Type 0} (word : E → List ℕ → ℕ → ℕ → Type 0) (plain : E → ℕ) (owner : E → List (List ℕ)) where
+module _ {E : Type 0} (word : E → List ℕ → ℕ → ℕ → Type 0) (plain : E → ℕ)
+    (owner : E → List (List ℕ)) where
   -- each item was written after the one before it
   abbrev pub EachWritten : List E → State → State → Type 0
   EachWritten [] a b = b ≡ a

@@ -44,7 +44,8 @@ pub record Compresses (owner : List (List ℕ)) (old new : State) : Type 0 where
 
 -- A value was written: its word stands in every buffer that holds what was written, all suffixes
 -- stored until then are spelled there, and no more bytes were taken than without compression.
-pub record Writes (word : List ℕ → ℕ → ℕ → Type 0) (plain : ℕ) (owner : List (List ℕ)) (old new : State) : Type 0 where
+pub record Writes (word : List ℕ → ℕ → ℕ → Type 0) (plain : ℕ) (owner : List (List ℕ))
+    (old new : State) : Type 0 where
   pub word_stands : (B : List ℕ) → Holds old new B → word B (length old.bytes) (length new.bytes)
   pub valid : (B : List ℕ) → Holds old new B → IsValid new B
   pub at_most : length new.bytes ≤ length old.bytes + plain

@@ -68,7 +68,8 @@ abbrev pub completed : Option NameValue → List (List ℕ) × Bool → Result N
 completed origin (labels, true) = Ok (record { labels = labels; absolute = true })
 completed None (labels, false) = Ok (record { labels = labels; absolute = false })
 completed (Some o) (labels, false) =
-    if nat_le (plain_len (labels ++ o.labels)) 255 then Ok (record { labels = labels ++ o.labels; absolute = true }) else Err bad_name
+    if nat_le (plain_len (labels ++ o.labels)) 255
+    then Ok (record { labels = labels ++ o.labels; absolute = true }) else Err bad_name
 
 -- the same of labels, where the text has them
 abbrev pub completed_if : Option NameValue → Option (List (List ℕ) × Bool) → Result NameValue Fault

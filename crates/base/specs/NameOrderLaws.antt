@@ -20,14 +20,16 @@ labels_decide = pointwise_decides bytes_decides
 turned_Decides : (b : Bool) (xs ys : List (List ℕ)) → Decides b (reverse xs ≡ reverse ys)
     → Decides b (xs ≡ ys)
 turned_Decides b xs ys d =
-    (λ e. sym (reverse-reverse xs) ∙ ap reverse (d.0 e) ∙ reverse-reverse ys, λ e. d.1 (ap reverse e))
+    (λ e. sym (reverse-reverse xs) ∙ ap reverse (d.0 e)
+    ∙ reverse-reverse ys, λ e. d.1 (ap reverse e))
 
 -- the order of labels tells apart exactly those that are not the same
 pub labels_tie : (xs ys : List (List ℕ)) → same_labels xs ys ≡ is_eq (labels_cmp xs ys)
 labels_tie xs ys =
     one_answer (same_labels xs ys) (is_eq (labels_cmp xs ys)) (labels_decide xs ys)
     (turned_Decides (is_eq (labels_cmp xs ys)) xs ys
-    (rw (← lists_ties (slice_cmp nat_cmp) (lists_ties nat_cmp unsigned_ties) (reverse xs) (reverse ys)) (labels_decide (reverse xs) (reverse ys))))
+    (rw (← lists_ties (slice_cmp nat_cmp) (lists_ties nat_cmp unsigned_ties) (reverse xs)
+    (reverse ys)) (labels_decide (reverse xs) (reverse ys))))
 
 flags_tie : (a b : Bool) → beq a b ≡ is_eq (bool_cmp a b)
 flags_tie true true = refl
@@ -44,16 +46,20 @@ module _ (shown : NameValue → List (List ℕ)) where
 
   -- names are the same exactly where the order does not tell them apart
   pub same_by-tie : (a b : NameValue) → same_by shown a b ≡ is_eq (cmp_by shown a b)
-  same_by-tie a b = both_tied _ _ (bool_cmp a.absolute b.absolute) (labels_cmp (shown a) (shown b)) (flags_tie a.absolute b.absolute) (labels_tie (shown a) (shown b))
+  same_by-tie a b = both_tied _ _ (bool_cmp a.absolute b.absolute) (labels_cmp (shown a) (shown b))
+      (flags_tie a.absolute b.absolute) (labels_tie (shown a) (shown b))
 
   pub cmp_by-partial : IsPartialOrder (same_by shown) (as_partial_cmp (cmp_by shown))
-  cmp_by-partial = partial_order_from_agreeing_total (cmp_by shown) cmp_by-total (λ _ _. refl) same_by-tie
+  cmp_by-partial =
+      partial_order_from_agreeing_total (cmp_by shown) cmp_by-total (λ _ _. refl) same_by-tie
 
   -- names that are the same are fed alike
   pub fed_by-same : (a b : NameValue) → same_by shown a b ≡ true → fed_by shown a ≡ fed_by shown b
   fed_by-same a b h =
-      (fed.and-Alike (fed.on_Alike (λ (n : NameValue). n.absolute) (fed.same_Alike fed.bool booleans_Decides))
-      (fed.on_Alike shown (fed.same_Alike (λ (labels : List (List ℕ)). wire_of labels ∷ []) labels_decide))).fed a b h
+      (fed.and-Alike
+      (fed.on_Alike (λ (n : NameValue). n.absolute) (fed.same_Alike fed.bool booleans_Decides))
+      (fed.on_Alike shown
+      (fed.same_Alike (λ (labels : List (List ℕ)). wire_of labels ∷ []) labels_decide))).fed a b h
 
   -- names that are the same have the same flag, and the same labels as they are shown
   pub same_by-is : (a b : NameValue)
@@ -66,7 +72,8 @@ module _ (shown : NameValue → List (List ℕ)) where
     same_shown h = (labels_decide (shown a) (shown b)).0 (second_so (beq a.absolute b.absolute) _ h)
 
     both : (a.absolute ≡ b.absolute) × (shown a ≡ shown b) → IsTrue (same_by shown a b)
-    both h = rw ((booleans_Decides a.absolute b.absolute).1 h.0) ((labels_decide (shown a) (shown b)).1 h.1)
+    both h = rw ((booleans_Decides a.absolute b.absolute).1 h.0)
+    ((labels_decide (shown a) (shown b)).1 h.1)
 
   -- and so have those that the order does not tell apart
   pub cmp_by-ties : (a b : NameValue)

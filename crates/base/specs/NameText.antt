@@ -15,7 +15,8 @@ decimal_text b = 92 ∷ (48 + b / 100) ∷ (48 + b / 10 % 10) ∷ (48 + b % 10) 
 
 -- the text of a byte: itself if it is printable and no space, with a backslash before it if it is special
 abbrev pub byte_text : ℕ → List ℕ
-byte_text b = if nat_lt b 33 || nat_lt 126 b then decimal_text b else (if is_special b then 92 ∷ b ∷ [] else b ∷ [])
+byte_text b = if nat_lt b 33 || nat_lt 126 b then decimal_text b
+    else (if is_special b then 92 ∷ b ∷ [] else b ∷ [])
 
 -- the text of a label: that of its bytes, one after another
 abbrev pub label_text : List ℕ → List ℕ
@@ -57,7 +58,8 @@ pub data IsCharText (text : List ℕ) : Character → Type 0 where
 unfoldable pub decimal_char : ℕ → List ℕ → Option (Character × List ℕ)
 decimal_char x (y ∷ z ∷ rest) =
     let number = 100 * (x - 48) + 10 * (y - 48) + (z - 48) in
-    if is_ascii_digit y && is_ascii_digit z && nat_lt number 256 then Some (byte number, rest) else None
+    if is_ascii_digit y && is_ascii_digit z && nat_lt number 256 then Some (byte number, rest)
+    else None
 decimal_char x _ = None
 
 -- The character after a backslash: the byte of three decimal digits, or any other of ASCII as a byte.

@@ -18,7 +18,9 @@ part_at bytes i =
     let b = slice_index bytes i in
     if nat_le (length bytes) i then Err faults.InsufficientBytes
     else (if b == 0 then Ok zero_byte
-    else (if nat_lt b 64 then (if nat_lt (length bytes) (i + 1 + b) then Err faults.InsufficientBytes else Ok (label_of b))
+    else (if nat_lt b 64
+    then (if nat_lt (length bytes) (i + 1 + b) then Err faults.InsufficientBytes
+    else Ok (label_of b))
     else (if nat_lt b 192 then Err faults.BadName
     else (if nat_le (length bytes) (i + 1) then Err faults.InsufficientBytes
     else Ok (pointer_to (target b (slice_index bytes (i + 1))))))))
@@ -41,8 +43,10 @@ abbrev pub after_part : (ℕ → ℕ → ℕ → Labels) → List ℕ → ℕ �
 after_part again bytes s i used zero_byte = Ok ([], i + 1)
 after_part again bytes s i used (label_of len) =
     if nat_lt 255 (used + len + 2) then Err faults.BadName
-    else with_label (slice_range bytes (i + 1) (i + 1 + len)) (again s (i + 1 + len) (used + len + 1))
-after_part again bytes s i used (pointer_to t) = if nat_le s t then Err faults.BadName else ending (i + 2) (again t t used)
+    else with_label (slice_range bytes (i + 1) (i + 1 + len))
+    (again s (i + 1 + len) (used + len + 1))
+after_part again bytes s i used (pointer_to t) = if nat_le s t then Err faults.BadName
+    else ending (i + 2) (again t t used)
 
 -- the labels from i on, of as many parts at most
 unfoldable pub walk : ℕ → List ℕ → ℕ → ℕ → ℕ → Labels

@@ -14,7 +14,8 @@ targets ps = map (λ p. p.target) ps
 
 -- the labels from there on are those after each pointer
 abbrev pub AreSpelled : List ℕ → List ℕ → List Passed → Type 0
-AreSpelled bytes labels ps = All (λ p. (p.from ≤ length labels) × IsKept bytes p.target (drop p.from labels)) ps
+AreSpelled bytes labels ps =
+    All (λ p. (p.from ≤ length labels) × IsKept bytes p.target (drop p.from labels)) ps
 
 -- the labels that the last of these pointers led to
 abbrev pub IsLast : List ℕ → List ℕ → List Passed → Type 0

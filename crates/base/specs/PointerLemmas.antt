@@ -17,7 +17,8 @@ length-wire_of (x ∷ xs) = omega (arith, length-append x (wire_of xs), length-w
 pub spelled_from_later : {B : List ℕ} {labels : List (List ℕ)} {s i e : ℕ} (t : ℕ) → s ≤ t
     → Spelled B labels s i e → Spelled B labels t i e
 spelled_from_later t le (ends h) = ends h
-spelled_from_later t le (label h some small at rest) = label h some small at (spelled_from_later t le rest)
+spelled_from_later t le (label h some small at rest) =
+    label h some small at (spelled_from_later t le rest)
 spelled_from_later t le (pointer h next high below rest) = pointer h next high (omega arith) rest
 
 stands_bytes : (xs B : List ℕ) (i : ℕ) → 0 < length xs → Stands xs B i → BytesAt anywhere B i xs
@@ -34,15 +35,20 @@ byte_first x xs B i s =
 
 -- where a zero byte stands, the root is spelled
 pub root_stands : (B : List ℕ) (s i e : ℕ) → Stands (0 ∷ []) B i → e ≡ i + 1 → Spelled B [] s i e
-root_stands B s i e stands is = subst (λ (n : ℕ). Spelled B [] s i n) (sym is) (ends (byte_first 0 [] B i stands))
+root_stands B s i e stands is =
+    subst (λ (n : ℕ). Spelled B [] s i n) (sym is) (ends (byte_first 0 [] B i stands))
 
 -- where a label with its length stands, and labels are spelled after it, all are spelled
 pub label_stands : (B x : List ℕ) (xs : List (List ℕ)) (s i e : ℕ) → 1 ≤ length x → length x ≤ 63
     → Stands (length x ∷ x) B i → Spelled B xs s (i + (1 + length x)) e → Spelled B (x ∷ xs) s i e
 label_stands B x xs s i e some small stands rest =
-    let bytes : Stands x B (i + 1) = stands_part (length x ∷ []) x [] B i (subst (λ (ys : List ℕ). Stands ys B i) (ap (λ (ys : List ℕ). length x ∷ ys) (sym (append-nil x))) stands) in
+    let bytes : Stands x B (i + 1) =
+    stands_part (length x ∷ []) x [] B i
+    (subst (λ (ys : List ℕ). Stands ys B i)
+    (ap (λ (ys : List ℕ). length x ∷ ys) (sym (append-nil x))) stands) in
     let next : i + (1 + length x) ≡ i + 1 + length x = omega arith in
-    label (byte_first (length x) x B i stands) some small (stands_bytes x B (i + 1) (omega arith) bytes) (subst (λ (j : ℕ). Spelled B xs s j e) next rest)
+    label (byte_first (length x) x B i stands) some small
+    (stands_bytes x B (i + 1) (omega arith) bytes) (subst (λ (j : ℕ). Spelled B xs s j e) next rest)
 
 -- where a pointer stands, the labels are spelled that are spelled at its target
 pub pointer_stands : {B : List ℕ} {labels : List (List ℕ)} {s i t f e : ℕ} → t < s → t < 16384
@@ -51,10 +57,13 @@ pub pointer_stands : {B : List ℕ} {labels : List (List ℕ)} {s i t f e : ℕ}
 pointer_stands {B} {labels} {s} {i} {t} {f} {e} below near stands rest is =
     let n = 49152 + t in
     let same : target (n / 256 % 256) (n % 256) ≡ t = omega arith in
-    let first : ByteAt anywhere B i (n / 256 % 256) = byte_first (n / 256 % 256) (n % 256 ∷ []) B i stands in
-    let second : ByteAt anywhere B (i + 1) (n % 256) = stands_byte (to_be_bytes w16 n) B i 1 (omega arith) stands in
+    let first : ByteAt anywhere B i (n / 256 % 256) =
+    byte_first (n / 256 % 256) (n % 256 ∷ []) B i stands in
+    let second : ByteAt anywhere B (i + 1) (n % 256) =
+    stands_byte (to_be_bytes w16 n) B i 1 (omega arith) stands in
     subst (λ (m : ℕ). Spelled B labels s i m) (sym is)
-    (pointer first second (omega arith) (omega arith) (subst (λ (m : ℕ). Spelled B labels m m f) (sym same) rest))
+    (pointer first second (omega arith) (omega arith)
+    (subst (λ (m : ℕ). Spelled B labels m m f) (sym same) rest))
 
 -- labels and a zero byte, with no pointer
 pub labels_stand : (B : List ℕ) (labels : List (List ℕ)) (s i : ℕ) → AreLabels labels
@@ -62,12 +71,18 @@ pub labels_stand : (B : List ℕ) (labels : List (List ℕ)) (s i : ℕ) → Are
 unfolding wire_of
 labels_stand B [] s i are stands = root_stands B s i (i + plain_len []) stands (omega arith)
 labels_stand B (x ∷ xs) s i are stands =
-    let split : ((length x ∷ x) ++ wire_of xs) ++ 0 ∷ [] ≡ (length x ∷ x) ++ ((wire_of xs ++ 0 ∷ []) ++ []) =
-    append_assoc (length x ∷ x) (wire_of xs) (0 ∷ []) ∙ ap (λ (ys : List ℕ). (length x ∷ x) ++ ys) (sym (append-nil (wire_of xs ++ 0 ∷ []))) in
-    let all : Stands ((length x ∷ x) ++ ((wire_of xs ++ 0 ∷ []) ++ [])) B i = subst (λ (ys : List ℕ). Stands ys B i) split stands in
+    let split : ((length x ∷ x) ++ wire_of xs) ++ 0 ∷ [] ≡ (length x ∷ x)
+    ++ ((wire_of xs ++ 0 ∷ []) ++ []) =
+    append_assoc (length x ∷ x) (wire_of xs) (0 ∷ [])
+    ∙ ap (λ (ys : List ℕ). (length x ∷ x) ++ ys) (sym (append-nil (wire_of xs ++ 0 ∷ []))) in
+    let all : Stands ((length x ∷ x) ++ ((wire_of xs ++ 0 ∷ []) ++ [])) B i =
+    subst (λ (ys : List ℕ). Stands ys B i) split stands in
     let place : i + length (length x ∷ x) ≡ i + (1 + length x) = omega arith in
-    let after : Stands (wire_of xs ++ 0 ∷ []) B (i + (1 + length x)) = subst (Stands (wire_of xs ++ 0 ∷ []) B) place (stands_part (length x ∷ x) (wire_of xs ++ 0 ∷ []) [] B i all) in
+    let after : Stands (wire_of xs ++ 0 ∷ []) B (i + (1 + length x)) =
+    subst (Stands (wire_of xs ++ 0 ∷ []) B) place
+    (stands_part (length x ∷ x) (wire_of xs ++ 0 ∷ []) [] B i all) in
     let rest = labels_stand B xs s (i + (1 + length x)) are.1 after in
     let end : i + (1 + length x) + plain_len xs ≡ i + plain_len (x ∷ xs) = omega arith in
-    label_stands B x xs s i (i + plain_len (x ∷ xs)) are.0.some are.0.short (first_stands (length x ∷ x) ((wire_of xs ++ 0 ∷ []) ++ []) B i all)
+    label_stands B x xs s i (i + plain_len (x ∷ xs)) are.0.some are.0.short
+    (first_stands (length x ∷ x) ((wire_of xs ++ 0 ∷ []) ++ []) B i all)
     (subst (λ (e : ℕ). Spelled B xs s (i + (1 + length x)) e) end rest)

@@ -19,5 +19,7 @@ begun bytes = record { bytes = bytes; index = 0; kept = set.empty; jumps = 0 }
 -- a decoder is stored as the tuple of its fields
 abbrev pub reader_code : Coded Reader
 reader_code =
-    code_by (List ℕ × (ℕ × (set.FinSet nat_cmp × ℕ))) (coded× (coded_list coded_ℕ) (coded× coded_ℕ (coded× (set.code coded_ℕ) coded_ℕ)))
-    (λ r. (r.bytes, (r.index, (r.kept, r.jumps)))) (λ p. record { bytes = p.0; index = p.1.0; kept = p.1.1.0; jumps = p.1.1.1 }) (λ _. refl)
+    code_by (List ℕ × (ℕ × (set.FinSet nat_cmp × ℕ)))
+    (coded× (coded_list coded_ℕ) (coded× coded_ℕ (coded× (set.code coded_ℕ) coded_ℕ)))
+    (λ r. (r.bytes, (r.index, (r.kept, r.jumps))))
+    (λ p. record { bytes = p.0; index = p.1.0; kept = p.1.1.0; jumps = p.1.1.1 }) (λ _. refl)

@@ -34,12 +34,15 @@ Reads view old new (Err e) read = Fails e read
 
 -- the byte at a place
 abbrev pub byte_at : List ℕ → ℕ → Read ℕ
-byte_at bytes i = if nat_lt i (length bytes) then Ok (slice_index bytes i, i + 1) else Err faults.InsufficientBytes
+byte_at bytes i = if nat_lt i (length bytes) then Ok (slice_index bytes i, i + 1)
+    else Err faults.InsufficientBytes
 
 -- the number at a place, of one, two or four bytes, the highest first
 abbrev pub number_at : Width → List ℕ → ℕ → Read ℕ
-number_at w bytes i = if nat_lt (length bytes) (i + byte_len w) then Err faults.InsufficientBytes else Ok (from_be_bytes w (take (byte_len w) (drop i bytes)), i + byte_len w)
+number_at w bytes i = if nat_lt (length bytes) (i + byte_len w) then Err faults.InsufficientBytes
+    else Ok (from_be_bytes w (take (byte_len w) (drop i bytes)), i + byte_len w)
 
 -- as many bytes from a place on
 abbrev pub bytes_at : ℕ → List ℕ → ℕ → Read (List ℕ)
-bytes_at len bytes i = if nat_lt (length bytes) (i + len) then Err faults.InsufficientBytes else Ok (take len (drop i bytes), i + len)
+bytes_at len bytes i = if nat_lt (length bytes) (i + len) then Err faults.InsufficientBytes
+    else Ok (take len (drop i bytes), i + len)

@@ -45,7 +45,8 @@ pub near : (x : List ℕ) (xs : List (List ℕ)) (at : ℕ) (stored : List Store
 near x xs at stored = near_by x xs at stored (nat_le 16384 at) refl
 
 -- what holds of the suffix, if it is near, holds of all that is added
-pub near_all : (P : Stored → Type 0) (x : List ℕ) (xs : List (List ℕ)) (at : ℕ) (stored : List Stored) (n : Near x xs at stored)
+pub near_all : (P : Stored → Type 0) (x : List ℕ) (xs : List (List ℕ)) (at : ℕ)
+    (stored : List Stored) (n : Near x xs at stored)
     → (at < 16384 → P (record { labels = x ∷ xs; offset = at })) → All P n.added
 near_all P x xs at stored n holds = elim n.which [
   | inl far ↦ All-same P n.added [] far.0 (All-nil P)
@@ -58,11 +59,14 @@ found_any : (ts : List Stored) (labels : List (List ℕ)) (o : ℕ) → found_in
 found_any [] labels o is = absurd (let no = is in cc)
 found_any (t ∷ ts) labels o is = elim (cases_Bool (same_labels t.labels labels)) [
   | inl same ↦
-      let at : ◌≡◌ {A = Option ℕ} (Some t.offset) (Some o) = sym (ap (λ (b : Bool). cond b (Some t.offset) (found_in ts labels)) same) ∙ is in
+      let at : ◌≡◌ {A = Option ℕ} (Some t.offset) (Some o) = sym
+      (ap (λ (b : Bool). cond b (Some t.offset) (found_in ts labels)) same) ∙ is in
       let place : t.offset ≡ o = cc in
       (0, t, omega arith, refl, ((labels_decide t.labels labels).0 same, place))
   | inr differ ↦
-      let (k, u, inside, at, holds) = found_any ts labels o (sym (ap (λ (b : Bool). cond b (Some t.offset) (found_in ts labels)) differ) ∙ is) in
+      let (k, u, inside, at, holds) =
+      found_any ts labels o
+      (sym (ap (λ (b : Bool). cond b (Some t.offset) (found_in ts labels)) differ) ∙ is) in
       (suc k, u, omega (arith, inside), at, holds)
 ]
 
@@ -72,11 +76,13 @@ unfound : (ts : List Stored) (labels : List (List ℕ)) → found_in ts labels �
 unfound [] labels is = All-nil (λ (t : Stored). t.labels ≢ labels)
 unfound (t ∷ ts) labels is = elim (cases_Bool (same_labels t.labels labels)) [
   | inl same ↦
-      let at : ◌≡◌ {A = Option ℕ} (Some t.offset) None = sym (ap (λ (b : Bool). cond b (Some t.offset) (found_in ts labels)) same) ∙ is in
+      let at : ◌≡◌ {A = Option ℕ} (Some t.offset) None = sym
+      (ap (λ (b : Bool). cond b (Some t.offset) (found_in ts labels)) same) ∙ is in
       absurd cc
   | inr differ ↦ All-cons (λ (u : Stored). u.labels ≢ labels) t ts
       (λ equal. let yes = (labels_decide t.labels labels).1 equal in absurd cc)
-      (unfound ts labels (sym (ap (λ (b : Bool). cond b (Some t.offset) (found_in ts labels)) differ) ∙ is))
+      (unfound ts labels
+      (sym (ap (λ (b : Bool). cond b (Some t.offset) (found_in ts labels)) differ) ∙ is))
 ]
 
 -- a name with a label is written as a pointer to where it is stored, or as that label and the others
@@ -90,8 +96,17 @@ HasLabel x xs at stored = All (λ t. t.labels ≢ x ∷ xs) stored
 
 name_by : (x : List ℕ) (xs : List (List ℕ)) (at : ℕ) (stored : List Stored) (r : Option ℕ)
     → found_in stored (x ∷ xs) ≡ r → PointsTo x xs at stored ⊎ HasLabel x xs at stored
-name_by x xs at stored (Some o) is = inl (o, found_any stored (x ∷ xs) o is, ap (λ (r : Option ℕ). pointer_or (both (label_of x xs) (name xs)) r at stored) is)
-name_by x xs at stored None is = inr (unfound stored (x ∷ xs) is, ap (λ (r : Option ℕ). pointer_or (both (label_of x xs) (name xs)) r at stored) is)
+name_by x xs at stored (Some o) is =
+    inl (
+      o,
+      found_any stored (x ∷ xs) o is,
+      ap (λ (r : Option ℕ). pointer_or (both (label_of x xs) (name xs)) r at stored) is,
+    )
+name_by x xs at stored None is =
+    inr (
+      unfound stored (x ∷ xs) is,
+      ap (λ (r : Option ℕ). pointer_or (both (label_of x xs) (name xs)) r at stored) is,
+    )
 
 name_cases : (x : List ℕ) (xs : List (List ℕ)) (at : ℕ) (stored : List Stored)
     → PointsTo x xs at stored ⊎ HasLabel x xs at stored
@@ -133,9 +148,13 @@ Begun-next x xs s at stored B has b =
       are = b.are.1;
       table = b.table;
       longer = All-append (λ (t : Stored). size_of xs < size_of t.labels) b.own n.added
-          (All-weaker (λ (t : Stored). size_of (x ∷ xs) < size_of t.labels) (λ (t : Stored). size_of xs < size_of t.labels) (λ t more. omega (arith, more)) b.own b.longer)
-          (near_all (λ (t : Stored). size_of xs < size_of t.labels) x xs at stored n (λ early. omega arith));
-      stands = last_stands (length x ∷ x) (rest_of x xs at stored).bytes B at (label_bytes x xs s at stored B has b);
+          (All-weaker (λ (t : Stored). size_of (x ∷ xs) < size_of t.labels)
+          (λ (t : Stored). size_of xs < size_of t.labels) (λ t more. omega (arith, more)) b.own
+          b.longer)
+          (near_all (λ (t : Stored). size_of xs < size_of t.labels) x xs at stored n
+          (λ early. omega arith));
+      stands = last_stands (length x ∷ x) (rest_of x xs at stored).bytes B at
+          (label_bytes x xs s at stored B has b);
     }
 
 -- where the whole ends
@@ -143,7 +162,12 @@ ends_at : (x : List ℕ) (xs : List (List ℕ)) (at : ℕ) (stored : List Stored
     → HasLabel x xs at stored
     → next x at + length (rest_of x xs at stored).bytes
     ≡ at + length (name (x ∷ xs) at stored).bytes
-ends_at x xs at stored has = omega (arith, ap (λ (p : Piece). length p.bytes) has.1, length-append (length x ∷ x) (rest_of x xs at stored).bytes)
+ends_at x xs at stored has =
+    omega (
+      arith,
+      ap (λ (p : Piece). length p.bytes) has.1,
+      length-append (length x ∷ x) (rest_of x xs at stored).bytes,
+    )
 
 -- what is among all elements, and is none of the last ones, is among the first
 any_old : (rest : List (List ℕ)) (o : ℕ) (old own stored : List Stored) → stored ≡ old ++ own
@@ -151,11 +175,23 @@ any_old : (rest : List (List ℕ)) (o : ℕ) (old own stored : List Stored) → 
     → Any (λ t. (t.labels ≡ rest) × (t.offset ≡ o)) stored
     → Any (λ t. (t.labels ≡ rest) × (t.offset ≡ o)) old
 any_old rest o old own stored is longer (k, t, inside, at, holds) = elim (cases_lt k (length old)) [
-  | inl low ↦ (k, t, low, sym (get_or_append_left old own t k low) ∙ sym (ap (λ (ts : List Stored). get_or ts k t) is) ∙ at, holds)
+  | inl low ↦ (
+    k,
+    t,
+    low,
+    sym (get_or_append_left old own t k low)
+        ∙ sym (ap (λ (ts : List Stored). get_or ts k t) is) ∙ at,
+    holds,
+  )
   | inr high ↦
-      let there : get_or own (k - length old) t ≡ t = sym (get_or-append_right old own (length old) k t refl high) ∙ sym (ap (λ (ts : List Stored). get_or ts k t) is) ∙ at in
-      let small : k - length old < length own = omega (arith, inside, ap length is, length-append old own) in
-      let more : size_of rest < size_of t.labels = subst (λ (u : Stored). size_of rest < size_of u.labels) there (longer (k - length old) t small) in
+      let there : get_or own (k - length old) t
+      ≡ t = sym (get_or-append_right old own (length old) k t refl high)
+      ∙ sym (ap (λ (ts : List Stored). get_or ts k t) is) ∙ at in
+      let small : k - length old < length own =
+      omega (arith, inside, ap length is, length-append old own) in
+      let more : size_of rest < size_of t.labels =
+      subst (λ (u : Stored). size_of rest < size_of u.labels) there
+      (longer (k - length old) t small) in
       absurd (omega (arith, more, ap size_of holds.0))
 ]
 
@@ -165,24 +201,33 @@ points : (x : List ℕ) (xs : List (List ℕ)) (s at o : ℕ) (old : List Stored
     → Spelled B (x ∷ xs) s at (at + length (to_be_bytes w16 (49152 + o)))
 points x xs s at o old B table (k, t, inside, is_at, is) stands =
     let spelled : IsSpelled B s t = subst (IsSpelled B s) is_at (table k t inside) in
-    let there : Spelled B (x ∷ xs) o o spelled.end = subst (λ (n : ℕ). Spelled B (x ∷ xs) n n spelled.end) is.1
-    (subst (λ (ls : List (List ℕ)). Spelled B ls t.offset t.offset spelled.end) is.0 spelled.spelled) in
-    pointer_stands (omega (arith, is.1, spelled.below)) (omega (arith, is.1, spelled.fits)) stands there (omega arith)
+    let there : Spelled B (x ∷ xs) o o spelled.end =
+    subst (λ (n : ℕ). Spelled B (x ∷ xs) n n spelled.end) is.1
+    (subst (λ (ls : List (List ℕ)). Spelled B ls t.offset t.offset spelled.end) is.0
+    spelled.spelled) in
+    pointer_stands (omega (arith, is.1, spelled.below)) (omega (arith, is.1, spelled.fits)) stands
+    there (omega arith)
 
 -- where what is written stands, the name is spelled
 name_spelled : (labels : List (List ℕ)) (s at : ℕ) (stored : List Stored) (B : List ℕ)
     → Begun labels s at stored B → Spelled B labels s at (at + length (name labels at stored).bytes)
-name_spelled [] s at stored B b = root_stands B s at (at + length (name [] at stored).bytes) b.stands (omega arith)
+name_spelled [] s at stored B b =
+    root_stands B s at (at + length (name [] at stored).bytes) b.stands (omega arith)
 name_spelled (x ∷ xs) s at stored B b = elim (name_cases x xs at stored) [
   | inl (o, any, same) ↦
       subst (λ (p : Piece). Spelled B (x ∷ xs) s at (at + length p.bytes)) (sym same)
-      (points x xs s at o b.old B b.table (any_old (x ∷ xs) o b.old b.own stored b.is b.longer any) (subst (λ (p : Piece). Stands p.bytes B at) same b.stands))
+      (points x xs s at o b.old B b.table (any_old (x ∷ xs) o b.old b.own stored b.is b.longer any)
+      (subst (λ (p : Piece). Stands p.bytes B at) same b.stands))
   | inr has ↦
-      let rest = name_spelled xs s (next x at) (label_of x xs at stored).suffixes B (Begun-next x xs s at stored B has b) in
+      let rest =
+      name_spelled xs s (next x at) (label_of x xs at stored).suffixes B
+      (Begun-next x xs s at stored B has b) in
       let place : next x at ≡ at + (1 + length x) = omega arith in
       let end = subst (λ (e : ℕ). Spelled B xs s (next x at) e) (ends_at x xs at stored has) rest in
-      label_stands B x xs s at (at + length (name (x ∷ xs) at stored).bytes) b.are.0.some b.are.0.short
-      (first_stands (length x ∷ x) (rest_of x xs at stored).bytes B at (label_bytes x xs s at stored B has b))
+      label_stands B x xs s at (at + length (name (x ∷ xs) at stored).bytes) b.are.0.some
+      b.are.0.short
+      (first_stands (length x ∷ x) (rest_of x xs at stored).bytes B at
+      (label_bytes x xs s at stored B has b))
       (subst (λ (i : ℕ). Spelled B xs s i (at + length (name (x ∷ xs) at stored).bytes)) place end)
 ]
 
@@ -194,12 +239,20 @@ record Added (labels : List (List ℕ)) (at : ℕ) (stored : List Stored) : Type
 
 name_added : (labels : List (List ℕ)) (at : ℕ) (stored : List Stored) → Added labels at stored
 name_added [] at stored = record {
-  adds = record { added = []; is = sym (append-nil stored); offsets = All-nil (λ (t : Stored). at ≤ t.offset) };
+  adds = record {
+    added = [];
+    is = sym (append-nil stored);
+    offsets = All-nil (λ (t : Stored). at ≤ t.offset);
+  };
   valid = λ s B b. All-nil (IsSpelled B (at + length (name [] at stored).bytes));
 }
 name_added (x ∷ xs) at stored = elim (name_cases x xs at stored) [
   | inl (o, any, same) ↦ record {
-    adds = record { added = []; is = ap (λ (p : Piece). p.suffixes) same ∙ sym (append-nil stored); offsets = All-nil (λ (t : Stored). at ≤ t.offset) };
+    adds = record {
+      added = [];
+      is = ap (λ (p : Piece). p.suffixes) same ∙ sym (append-nil stored);
+      offsets = All-nil (λ (t : Stored). at ≤ t.offset);
+    };
     valid = λ s B b. All-nil (IsSpelled B (at + length (name (x ∷ xs) at stored).bytes));
   }
   | inr has ↦
@@ -212,15 +265,22 @@ name_added (x ∷ xs) at stored = elim (name_cases x xs at stored) [
           is = ap (λ (p : Piece). p.suffixes) has.1 ∙ rest.adds.is
               ∙ ap (λ (ts : List Stored). ts ++ rest.adds.added) n.is
               ∙ append_assoc stored n.added rest.adds.added;
-          offsets = All-append (λ (t : Stored). at ≤ t.offset) n.added rest.adds.added (near_all (λ (t : Stored). at ≤ t.offset) x xs at stored n (λ early. omega arith))
-              (All-weaker (λ (t : Stored). next x at ≤ t.offset) (λ (t : Stored). at ≤ t.offset) (λ t later. omega (arith, later)) rest.adds.added rest.adds.offsets);
+          offsets =
+              All-append (λ (t : Stored). at ≤ t.offset) n.added rest.adds.added
+              (near_all (λ (t : Stored). at ≤ t.offset) x xs at stored n (λ early. omega arith))
+              (All-weaker (λ (t : Stored). next x at ≤ t.offset) (λ (t : Stored). at ≤ t.offset)
+              (λ t later. omega (arith, later)) rest.adds.added rest.adds.offsets);
         };
         valid = λ s B b.
             let e = at + length (name (x ∷ xs) at stored).bytes in
-            let whole : Spelled B (x ∷ xs) at at e = spelled_from_later at b.le (name_spelled (x ∷ xs) s at stored B b) in
+            let whole : Spelled B (x ∷ xs) at at e =
+            spelled_from_later at b.le (name_spelled (x ∷ xs) s at stored B b) in
             All-append (IsSpelled B e) n.added rest.adds.added
-            (near_all (IsSpelled B e) x xs at stored n (λ early. record { below = omega (arith, end); fits = early; end = e; spelled = whole }))
-            (subst (λ (m : ℕ). All (IsSpelled B m) rest.adds.added) end (rest.valid s B (Begun-next x xs s at stored B has b)));
+            (near_all (IsSpelled B e) x xs at stored n
+            (λ early.
+            record { below = omega (arith, end); fits = early; end = e; spelled = whole }))
+            (subst (λ (m : ℕ). All (IsSpelled B m) rest.adds.added) end
+            (rest.valid s B (Begun-next x xs s at stored B has b)));
       }
 ]
 
@@ -246,16 +306,23 @@ name_short (x ∷ xs) [] at stored (k, t, inside, is_at, is) = elim (name_cases 
   | inl (o, found, same) ↦ omega (arith, ap (λ (p : Piece). length p.bytes) same)
   | inr has ↦ absurd (has.0 k t inside (ap (λ (u : Stored). u.labels) is_at ∙ sym is))
 ]
-name_short (x ∷ xs) (y ∷ front) at stored (k, t, inside, is_at, is) = elim (name_cases x xs at stored) [
-  | inl (o, found, same) ↦ omega (arith, ap (λ (p : Piece). length p.bytes) same)
-  | inr has ↦
-      let first : x ≡ y = cc in
-      let tail : xs ≡ front ++ t.labels = cc in
-      let n = near x xs at stored in
-      let more : Any (λ u. xs ≡ front ++ u.labels) (label_of x xs at stored).suffixes =
-      any_append (λ u. xs ≡ front ++ u.labels) stored n.added (label_of x xs at stored).suffixes n.is (k, t, inside, is_at, tail) in
-      omega (arith, name_short xs front (next x at) (label_of x xs at stored).suffixes more, ends_at x xs at stored has, ap length first)
-]
+name_short (x ∷ xs) (y ∷ front) at stored (k, t, inside, is_at, is) =
+    elim (name_cases x xs at stored) [
+      | inl (o, found, same) ↦ omega (arith, ap (λ (p : Piece). length p.bytes) same)
+      | inr has ↦
+          let first : x ≡ y = cc in
+          let tail : xs ≡ front ++ t.labels = cc in
+          let n = near x xs at stored in
+          let more : Any (λ u. xs ≡ front ++ u.labels) (label_of x xs at stored).suffixes =
+          any_append (λ u. xs ≡ front ++ u.labels) stored n.added (label_of x xs at stored).suffixes
+          n.is (k, t, inside, is_at, tail) in
+          omega (
+            arith,
+            name_short xs front (next x at) (label_of x xs at stored).suffixes more,
+            ends_at x xs at stored has,
+            ap length first,
+          )
+    ]
 
 -- and no more than without pointers
 name_at_most : (labels : List (List ℕ)) (at : ℕ) (stored : List Stored)
@@ -263,11 +330,17 @@ name_at_most : (labels : List (List ℕ)) (at : ℕ) (stored : List Stored)
 name_at_most [] at stored = omega arith
 name_at_most (x ∷ xs) at stored = elim (name_cases x xs at stored) [
   | inl (o, found, same) ↦ omega (arith, ap (λ (p : Piece). length p.bytes) same)
-  | inr has ↦ omega (arith, name_at_most xs (next x at) (label_of x xs at stored).suffixes, ends_at x xs at stored has)
+  | inr has ↦ omega (
+    arith,
+    name_at_most xs (next x at) (label_of x xs at stored).suffixes,
+    ends_at x xs at stored has,
+  )
 ]
 
 -- the label's suffix is stored, and stays
-stored_here : (P : Stored → Type 0) (x : List ℕ) (xs : List (List ℕ)) (at : ℕ) (stored : List Stored) → HasLabel x xs at stored → at < 16384 → P (record { labels = x ∷ xs; offset = at })
+stored_here : (P : Stored → Type 0) (x : List ℕ) (xs : List (List ℕ)) (at : ℕ)
+    (stored : List Stored) → HasLabel x xs at stored → at < 16384
+    → P (record { labels = x ∷ xs; offset = at })
     → Any P (name (x ∷ xs) at stored).suffixes
 stored_here P x xs at stored has early holds =
     let n = near x xs at stored in
@@ -275,50 +348,68 @@ stored_here P x xs at stored has early holds =
     elim n.which [
       | inl far ↦ absurd (omega (arith, far.1))
       | inr close ↦
-          let pushed = subst (Any P) (sym (n.is ∙ ap (λ (ts : List Stored). stored ++ ts) close.0)) (Any-push P stored (record { labels = x ∷ xs; offset = at }) holds) in
-          subst (λ (p : Piece). Any P p.suffixes) (sym has.1) (any_append P (label_of x xs at stored).suffixes rest.adds.added (rest_of x xs at stored).suffixes rest.adds.is pushed)
+          let pushed =
+          subst (Any P) (sym (n.is ∙ ap (λ (ts : List Stored). stored ++ ts) close.0))
+          (Any-push P stored (record { labels = x ∷ xs; offset = at }) holds) in
+          subst (λ (p : Piece). Any P p.suffixes) (sym has.1)
+          (any_append P (label_of x xs at stored).suffixes rest.adds.added
+          (rest_of x xs at stored).suffixes rest.adds.is pushed)
     ]
 
 name_stores : (labels : List (List ℕ)) (at : ℕ) (stored : List Stored) → labels ≢ [] → at < 16384
     → Any (λ t. t.labels ≡ labels) (name labels at stored).suffixes
 name_stores [] at stored some early = absurd (some refl)
 name_stores (x ∷ xs) at stored some early = elim (name_cases x xs at stored) [
-  | inl (o, (k, t, inside, is_at, holds), same) ↦ subst (λ (p : Piece). Any (λ t. t.labels ≡ x ∷ xs) p.suffixes) (sym same) (k, t, inside, is_at, holds.0)
+  | inl (o, (k, t, inside, is_at, holds), same) ↦ subst
+      (λ (p : Piece). Any (λ t. t.labels ≡ x ∷ xs) p.suffixes) (sym same)
+      (k, t, inside, is_at, holds.0)
   | inr has ↦ stored_here (λ t. t.labels ≡ x ∷ xs) x xs at stored has early refl
 ]
 
 -- each suffix that is written by labels, and begins early, is stored where it begins
 pub name_each : (front back : List (List ℕ)) (at : ℕ) (stored : List Stored)
     → size_of front + 2 < length (name (front ++ back) at stored).bytes → at + size_of front < 16384
-    → Any (λ t. (t.labels ≡ back) × (t.offset ≡ at + size_of front)) (name (front ++ back) at stored).suffixes
+    → Any (λ t. (t.labels ≡ back) × (t.offset ≡ at + size_of front))
+    (name (front ++ back) at stored).suffixes
 name_each [] [] at stored more early = absurd (omega (arith, more))
 name_each [] (x ∷ xs) at stored more early = elim (name_cases x xs at stored) [
   | inl (o, found, same) ↦ absurd (omega (arith, more, ap (λ (p : Piece). length p.bytes) same))
-  | inr has ↦ stored_here (λ t. (t.labels ≡ x ∷ xs) × (t.offset ≡ at + 0)) x xs at stored has (omega (arith, early)) (refl, omega arith)
+  | inr has ↦ stored_here (λ t. (t.labels ≡ x ∷ xs) × (t.offset ≡ at + 0)) x xs at stored has
+      (omega (arith, early)) (refl, omega arith)
 ]
 name_each (y ∷ front) back at stored more early = elim (name_cases y (front ++ back) at stored) [
   | inl (o, found, same) ↦ absurd (omega (arith, more, ap (λ (p : Piece). length p.bytes) same))
   | inr has ↦
       let end = ends_at y (front ++ back) at stored has in
-      let (k, t, inside, is_at, holds) = name_each front back (next y at) (label_of y (front ++ back) at stored).suffixes (omega (arith, more, end)) (omega (arith, early)) in
-      subst (λ (p : Piece). Any (λ t. (t.labels ≡ back) × (t.offset ≡ at + size_of (y ∷ front))) p.suffixes) (sym has.1) (k, t, inside, is_at, (holds.0, omega (arith, holds.1)))
+      let (k, t, inside, is_at, holds) =
+      name_each front back (next y at) (label_of y (front ++ back) at stored).suffixes
+      (omega (arith, more, end)) (omega (arith, early)) in
+      subst (λ (p : Piece). Any (λ t. (t.labels ≡ back) × (t.offset ≡ at + size_of (y ∷ front)))
+      p.suffixes) (sym has.1) (k, t, inside, is_at, (holds.0, omega (arith, holds.1)))
 ]
 
 -- what is written of a name is its word
 pub Says-name : (labels : List (List ℕ))
     → Says (name labels) (AreNameLabels labels) (NameAt labels) (plain_len labels) labels
 Says-name labels = record {
-  word_stands = λ ok B at stored h. (name_spelled labels at at stored B (name_begun labels at stored B ok.0 h), ok.1);
+  word_stands =
+      λ ok B at stored h.
+      (name_spelled labels at at stored B (name_begun labels at stored B ok.0 h), ok.1);
   valid = λ ok B at stored h.
       let added = name_added labels at stored in
       let e = at + length (name labels at stored).bytes in
-      All-same (IsSpelled B e) (name labels at stored).suffixes (stored ++ added.adds.added) added.adds.is
-      (All-append (IsSpelled B e) stored added.adds.added (later_table B at e stored (omega arith) h.table) (added.valid at B (name_begun labels at stored B ok.0 h)));
+      All-same (IsSpelled B e) (name labels at stored).suffixes (stored ++ added.adds.added)
+      added.adds.is
+      (All-append (IsSpelled B e) stored added.adds.added
+      (later_table B at e stored (omega arith) h.table)
+      (added.valid at B (name_begun labels at stored B ok.0 h)));
   at_most = λ at stored. name_at_most labels at stored;
   adds = λ at stored. (name_added labels at stored).adds;
   owned = record {
     end = λ at stored. at + length (name labels at stored).bytes;
-    spelled = λ ok some B at stored h. name_spelled labels at at stored B (name_begun labels at stored B ok.0 h);
+    spelled =
+        λ ok some B at stored h. name_spelled labels at at stored B
+        (name_begun labels at stored B ok.0 h);
     short = λ some at stored front any. omega (arith, name_short labels front at stored any);
     stores = λ some at stored early. name_stores labels at stored some early;
   };
@@ -328,8 +419,11 @@ Says-name labels = record {
 pub Says-plain_name : (labels : List (List ℕ))
     → Says (plain_name labels) (AreNameLabels labels) (NameAt labels) (plain_len labels) []
 Says-plain_name labels =
-    let len : length (wire_of labels ++ 0 ∷ []) ≡ plain_len labels = length-append (wire_of labels) (0 ∷ []) ∙ ap (λ (n : ℕ). n + 1) (length-wire_of labels) in
-    Says-just (AreNameLabels labels) (NameAt labels) (plain_len labels) (wire_of labels ++ 0 ∷ []) (omega (arith, len)) (λ ok B at small stands. (
-      subst (λ (n : ℕ). Spelled B labels at at (at + n)) (sym len) (labels_stand B labels at at ok.0 stands),
+    let len : length (wire_of labels ++ 0 ∷ []) ≡ plain_len labels =
+    length-append (wire_of labels) (0 ∷ []) ∙ ap (λ (n : ℕ). n + 1) (length-wire_of labels) in
+    Says-just (AreNameLabels labels) (NameAt labels) (plain_len labels) (wire_of labels ++ 0 ∷ [])
+    (omega (arith, len)) (λ ok B at small stands. (
+      subst (λ (n : ℕ). Spelled B labels at at (at + n)) (sym len)
+          (labels_stand B labels at at ok.0 stands),
       ok.1,
     ))

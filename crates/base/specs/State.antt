@@ -21,7 +21,8 @@ appended xs s = record s { bytes = s.bytes ++ xs }
 
 -- with these bytes in the place of as many from start on
 abbrev pub overwritten : ℕ → List ℕ → State → State
-overwritten start xs s = record s { bytes = take start s.bytes ++ (xs ++ drop (start + length xs) s.bytes) }
+overwritten start xs s =
+    record s { bytes = take start s.bytes ++ (xs ++ drop (start + length xs) s.bytes) }
 
 -- cut back to as many bytes and suffixes
 abbrev pub cut : ℕ → ℕ → State → State
@@ -29,11 +30,13 @@ cut len count s = record s { bytes = take len s.bytes; suffixes = take count s.s
 
 -- with a suffix that was written at a place, unless the place is too far for a pointer (RFC 1035, 4.1.4)
 abbrev pub stored : List (List ℕ) → ℕ → State → State
-stored labels at s = if nat_le 16384 at then s else record s { suffixes = s.suffixes ++ record { labels = labels; offset = at } ∷ [] }
+stored labels at s = if nat_le 16384 at then s
+    else record s { suffixes = s.suffixes ++ record { labels = labels; offset = at } ∷ [] }
 
 -- the first four bytes and the next four as numbers, the lowest first, added in four bytes; the first four where there are fewer than eight,
 -- and 0 where there are fewer than four
 abbrev pub front_number : List ℕ → ℕ
-front_number (a ∷ b ∷ c ∷ d ∷ e ∷ f ∷ g ∷ h ∷ rest) = (from_le_bytes w32 (a ∷ b ∷ c ∷ d ∷ []) + from_le_bytes w32 (e ∷ f ∷ g ∷ h ∷ [])) % 2 ^ 32
+front_number (a ∷ b ∷ c ∷ d ∷ e ∷ f ∷ g ∷ h ∷ rest) =
+    (from_le_bytes w32 (a ∷ b ∷ c ∷ d ∷ []) + from_le_bytes w32 (e ∷ f ∷ g ∷ h ∷ [])) % 2 ^ 32
 front_number (a ∷ b ∷ c ∷ d ∷ rest) = from_le_bytes w32 (a ∷ b ∷ c ∷ d ∷ [])
 front_number bytes = 0

@@ -9,7 +9,8 @@ len_at kept place = get_or kept (place - 1) 0
 
 -- the labels at a place, and none at 0
 abbrev pub labels_in : List ℕ → ℕ → Option (List ℕ)
-labels_in kept place = if place == 0 then None else Some (slice_range kept place (place + len_at kept place))
+labels_in kept place = if place == 0 then None
+    else Some (slice_range kept place (place + len_at kept place))
 
 -- the labels at a place are there
 abbrev pub IsInside : List ℕ → ℕ → Type 0

@@ -79,12 +79,14 @@ before front (Some cut) = Some (front ++ cut.0, cut.1)
 -- whether a backslash stands before the text, which keeps its first byte.
 unfoldable pub item : Bool → List ℕ → Option (List ℕ × List ℕ)
 item kept [] = if kept then None else Some ([], [])
-item kept (c ∷ text) = if not kept && ends_item c then Some ([], c ∷ text) else before (c ∷ []) (item (not kept && c == 92) text)
+item kept (c ∷ text) = if not kept && ends_item c then Some ([], c ∷ text)
+    else before (c ∷ []) (item (not kept && c == 92) text)
 
 -- What stands before the next " that no backslash keeps, and what is after that; none where there is no such ".
 unfoldable pub quoted : Bool → List ℕ → Option (List ℕ × List ℕ)
 quoted kept [] = None
-quoted kept (c ∷ text) = if not kept && c == 34 then Some ([], text) else before (c ∷ []) (quoted (not kept && c == 92) text)
+quoted kept (c ∷ text) = if not kept && c == 34 then Some ([], text)
+    else before (c ∷ []) (quoted (not kept && c == 92) text)
 
 -- whether a text begins with this byte
 abbrev pub begins_with : ℕ → List ℕ → Bool
@@ -99,7 +101,8 @@ separates c = is_blank c || is_line_end c
 abbrev pub past_separators : Bool → List ℕ → List ℕ
 past_separators in_comment [] = []
 past_separators true (c ∷ text) = past_separators (if is_line_end c then false else true) text
-past_separators false (c ∷ text) = if c == 59 then past_separators true text else (if separates c then past_separators false text else c ∷ text)
+past_separators false (c ∷ text) = if c == 59 then past_separators true text
+    else (if separates c then past_separators false text else c ∷ text)
 
 -- what stands next within parentheses: their end, what has no place there, or an item
 pub data Element : Type 0 where
@@ -197,5 +200,6 @@ begins_blank (c ∷ text) = is_blank c
 -- what comes next: at the beginning of a line its blanks are a token, and elsewhere they only separate
 unfoldable pub next : Unread → Next
 next unread =
-    if unread.at_line_start && begins_blank unread.text then token blank (within_line (past_blanks unread.text))
+    if unread.at_line_start && begins_blank unread.text
+    then token blank (within_line (past_blanks unread.text))
     else visible (past_comment (past_blanks unread.text))

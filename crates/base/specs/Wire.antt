@@ -15,7 +15,13 @@ Encoder = BinEncoder SuffixTable ghosts
 
 -- the bytes written so far, the limit, and the suffixes stored, with their places
 abbrev pub state_of : Encoder → State
-state_of e = record { buffer = e.buffer.ghost_name; bytes = e.buffer.now.items; limit = e.limit; suffixes = e.suffixes }
+state_of e =
+    record {
+      buffer = e.buffer.ghost_name;
+      bytes = e.buffer.now.items;
+      limit = e.limit;
+      suffixes = e.suffixes;
+    }
 
 -- the vector that an encoder writes to
 abbrev pub vector_of : {T : Type 0} {g : Ghosts T} → BinEncoder T g → Vec ℕ Global

@@ -51,7 +51,8 @@ pub stands_part : (xs ys zs B : List ℕ) (i : ℕ) → Stands (xs ++ (ys ++ zs)
 stands_part xs ys zs B i s =
     let n = length (xs ++ (ys ++ zs)) in
     let rest = drop n (drop i B) in
-    let whole : drop i B ≡ (xs ++ (ys ++ zs)) ++ rest = sym (take-append-drop n (drop i B)) ∙ ap (λ front. front ++ rest) s.is in
+    let whole : drop i B ≡ (xs ++ (ys ++ zs)) ++ rest = sym (take-append-drop n (drop i B))
+    ∙ ap (λ front. front ++ rest) s.is in
     let after : drop (i + length xs) B ≡ ys ++ (zs ++ rest) =
     sym (drop-drop (length xs) i B)
     ∙ ap (drop (length xs)) (whole ∙ append_assoc xs (ys ++ zs) rest)

@@ -30,7 +30,8 @@ after f s = record s { bytes = s.bytes ++ (piece_at f s).bytes; suffixes = (piec
 -- pass it, and else if memory runs out.
 abbrev pub Exactly : {X : Type 0} → Writing → State → State → Result X ProtoError → Type 0
 Exactly f a b (Ok x) = b ≡ after f a
-Exactly f a b (Err refusals.MaxBufferSizeExceeded) = a.limit < length a.bytes + length (piece_at f a).bytes
+Exactly f a b (Err refusals.MaxBufferSizeExceeded) = a.limit
+    < length a.bytes + length (piece_at f a).bytes
 Exactly f a b (Err refusals.Memory) = Unit {0}
 Exactly f a b (Err e) = ⊥
 
@@ -54,7 +55,11 @@ in_turn f (x ∷ xs) = both (f x) (in_turn f xs)
 abbrev pub sized : Writing → Writing
 sized f at stored =
     let inner = f (at + 2) stored in
-    record { bytes = to_be_bytes w16 (length inner.bytes) ++ inner.bytes; suffixes = inner.suffixes }
+    record {
+      bytes = to_be_bytes w16 (length inner.bytes)
+          ++ inner.bytes;
+      suffixes = inner.suffixes;
+    }
 
 -- a pointer to an offset (RFC 1035, 4.1.4)
 abbrev pub pointer : ℕ → Writing
@@ -76,14 +81,16 @@ abbrev pub label_of : List ℕ → List (List ℕ) → Writing
 label_of x xs at stored =
     record {
       bytes = length x ∷ x;
-      suffixes = if nat_le 16384 at then stored else stored ++ record { labels = x ∷ xs; offset = at } ∷ [];
+      suffixes = if nat_le 16384 at then stored else stored
+          ++ record { labels = x ∷ xs; offset = at } ∷ [];
     }
 
 -- A name, compressed: a pointer to where all its labels are stored, if they are; else its first label, and then
 -- the rest of it in the same way. After the last label comes the zero byte (RFC 1035, 4.1.4).
 abbrev pub name : List (List ℕ) → Writing
 name [] = just (0 ∷ [])
-name (x ∷ xs) = λ at stored. pointer_or (both (label_of x xs) (name xs)) (found_in stored (x ∷ xs)) at stored
+name (x ∷ xs) =
+    λ at stored. pointer_or (both (label_of x xs) (name xs)) (found_in stored (x ∷ xs)) at stored
 
 -- a name without compression: its labels and the zero byte (RFC 1035, 3.1)
 abbrev pub plain_name : List (List ℕ) → Writing

@@ -157,7 +157,8 @@ impl Ord for DNSClass {
 impl PartialOrd for DNSClass {
     ghost partial_cmp = { as_partial_cmp class_cmp };
 
-    ghost laws = { partial_order_from_own_ties (Prim.search (comparing, rules)) (Prim.search (comparing, rules)) };
+    ghost laws = { partial_order_from_own_ties (Prim.search (comparing, rules))
+        (Prim.search (comparing, rules)) };
 
     fn partial_cmp(&self, other: &DNSClass) -> Option<Ordering> {
         Some(self.cmp(other))

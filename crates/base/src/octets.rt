@@ -184,7 +184,7 @@ impl Clone for Octets {
 
     fn clone(&self) -> Result<Octets, AllocError> {
         let held = match &self.held {
-            Held::Inside(room) => Held::Inside(room.copied()),
+            Held::Inside(room) => Held::Inside(room.copy()),
             Held::Outside { mark, bytes } => Held::Outside {
                 mark: *mark,
                 bytes: bytes.clone()?,

@@ -83,7 +83,7 @@ impl RecordType {
     pub fn from_text(text: &str) -> Option<RecordType>
         ensures { result ≡ type_from_text text.now }
     {
-        for named in RecordType::named() {
+        for named in RecordType::with_names() {
             if named.name() == Some(text) {
                 return Some(named);
             }
@@ -92,7 +92,7 @@ impl RecordType {
     }
 
     /// The types that have a name (RFC 1035, 3.2.2 and 3.2.3; RFC 6895, 3.1).
-    fn named() -> array::IntoIter<RecordType, 27>
+    fn with_names() -> array::IntoIter<RecordType, 27>
         ensures { array_into_iter_items result ≡ named_types }
     {
         [

@@ -19,4 +19,6 @@ cname_of = one_name_of (λ name. record { name = name })
 
 -- what is known of the data
 abbrev pub cname_kind : CNAME → Kind
-cname_kind x = name_kind 3 x.name (name x.name.labels) (Says-unowned (name x.name.labels) (Says-name x.name.labels))
+cname_kind x =
+    name_kind 3 x.name (name x.name.labels)
+    (Says-unowned (name x.name.labels) (Says-name x.name.labels))

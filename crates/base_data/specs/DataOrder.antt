@@ -14,4 +14,7 @@ flags_cmp = slice_cmp bool_cmp
 
 -- the order: by the bytes of the canonical form, what is a beginning before what it begins; by type; by kind; by the flags of names
 abbrev pub data_cmp : RData → RData → Ordering
-data_cmp = then_cmp (on canonical_data bytes_cmp) (then_cmp (on type_of_data type_cmp) (then_cmp (on kind_rank nat_cmp) (on name_flags flags_cmp)))
+data_cmp =
+    then_cmp (on canonical_data bytes_cmp)
+    (then_cmp (on type_of_data type_cmp)
+    (then_cmp (on kind_rank nat_cmp) (on name_flags flags_cmp)))

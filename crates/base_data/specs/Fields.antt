@@ -16,7 +16,8 @@ field >>? made = option_and_then made field
 -- the number that an item of decimal digits alone says, one at least, where it is below 2 to as many bits
 unfoldable pub number_item : ℕ → List ℕ → Option ℕ
 number_item bits text =
-    if all_ascii_digits text && nat_lt 0 (length text) && nat_lt (digits_value 10 text) (2 ^ bits) then Some (digits_value 10 text) else None
+    if all_ascii_digits text && nat_lt 0 (length text) && nat_lt (digits_value 10 text) (2 ^ bits)
+    then Some (digits_value 10 text) else None
 
 -- the four bytes of an item that is dotted decimal
 unfoldable pub ipv4_item : List ℕ → Option (List ℕ)

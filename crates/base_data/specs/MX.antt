@@ -53,7 +53,8 @@ mx_kind x = record {
   plain = plain_mx x;
   written = both (just (to_be_bytes w16 x.preference)) (name x.exchange.labels);
   kept = (x.preference < 2 ^ 16) × AreNameLabels x.exchange.labels;
-  says = Says-both (just (to_be_bytes w16 x.preference)) (name x.exchange.labels) (Says-number x.preference)
+  says = Says-both (just (to_be_bytes w16 x.preference)) (name x.exchange.labels)
+      (Says-number x.preference)
       (Says-unowned (name x.exchange.labels) (Says-name x.exchange.labels));
   readable = x.exchange.absolute ≡ true;
   text = mx_text x;

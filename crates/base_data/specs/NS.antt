@@ -19,4 +19,6 @@ ns_of = one_name_of (λ name. record { name = name })
 
 -- what is known of the data
 abbrev pub ns_kind : NS → Kind
-ns_kind x = name_kind 2 x.name (name x.name.labels) (Says-unowned (name x.name.labels) (Says-name x.name.labels))
+ns_kind x =
+    name_kind 2 x.name (name x.name.labels)
+    (Says-unowned (name x.name.labels) (Says-name x.name.labels))

@@ -36,11 +36,14 @@ options_wire (option ∷ options) = option_wire option ++ options_wire options
 
 -- what is written of an option: its code, the number of its bytes, and those
 abbrev pub option_written : OptionValue → Writing
-option_written option = both (just (to_be_bytes w16 option.code)) (both (just (to_be_bytes w16 (length option.bytes))) (just option.bytes))
+option_written option =
+    both (just (to_be_bytes w16 option.code))
+    (both (just (to_be_bytes w16 (length option.bytes))) (just option.bytes))
 
 -- an option stands here
 abbrev pub option_word : OptionValue → List ℕ → ℕ → ℕ → Type 0
-option_word option = Then (Number w16 option.code) (Then (Number w16 (length option.bytes)) (Bytes option.bytes))
+option_word option =
+    Then (Number w16 option.code) (Then (Number w16 (length option.bytes)) (Bytes option.bytes))
 
 -- how many bytes an option is: its code, the number of its bytes, and those
 abbrev pub option_len : OptionValue → ℕ
@@ -48,7 +51,8 @@ option_len option = 2 + (2 + length option.bytes)
 
 -- options stand here, back to back
 abbrev pub options_word : List OptionValue → List ℕ → ℕ → ℕ → Type 0
-options_word options B i e = BackToBack (λ (j : ℕ) (option : OptionValue) (k : ℕ). option_word option B j k) i options e
+options_word options B i e =
+    BackToBack (λ (j : ℕ) (option : OptionValue) (k : ℕ). option_word option B j k) i options e
 
 -- how many bytes options are
 abbrev pub options_len : List OptionValue → ℕ
@@ -66,7 +70,8 @@ unfoldable pub options_to : ℕ → ℕ → List ℕ → ℕ → Read (List Opti
 options_to zero end bytes i = Ok ([], i)
 options_to (suc n) end bytes i =
     if nat_le end i then Ok ([], i)
-    else (option_at bytes i >>= λ first. options_to n end bytes first.1 >>= λ others. Ok (first.0 ∷ others.0, others.1))
+    else (option_at bytes i >>= λ first. options_to n end bytes first.1
+    >>= λ others. Ok (first.0 ∷ others.0, others.1))
 
 -- The options that begin within as many bytes. An option takes a byte at least, so as many options suffice.
 unfoldable pub opt_at : ℕ → List ℕ → ℕ → Read (List OptionValue)
@@ -82,7 +87,9 @@ first_option code options = find (has_code code) options
 
 -- with an option in the place of the first of its code, or after all others where none has its code
 abbrev pub with_option : OptionValue → List OptionValue → List OptionValue
-with_option option options = option_map_or (λ i. slice_set options i option) (position (has_code option.code) options) (options ++ option ∷ [])
+with_option option options =
+    option_map_or (λ i. slice_set options i option) (position (has_code option.code) options)
+    (options ++ option ∷ [])
 
 -- without the options of a code
 abbrev pub without_code : ℕ → List OptionValue → List OptionValue
@@ -100,19 +107,27 @@ same_options = pointwise same_option
 pub option_says : (option : OptionValue)
     → Says (option_written option) (FitsOption option) (option_word option) (option_len option) []
 option_says option =
-    Says-weaker (option_written option) (FitsOption option) (λ ok. (ok.0, (ok.1, tt))) (λ ok B i e word. word) (omega arith)
-    (Says-both (just (to_be_bytes w16 option.code)) (both (just (to_be_bytes w16 (length option.bytes))) (just option.bytes)) (Says-number option.code)
-    (Says-both (just (to_be_bytes w16 (length option.bytes))) (just option.bytes) (Says-number (length option.bytes)) (Says-bytes option.bytes)))
+    Says-weaker (option_written option) (FitsOption option) (λ ok. (ok.0, (ok.1, tt)))
+    (λ ok B i e word. word) (omega arith)
+    (Says-both (just (to_be_bytes w16 option.code))
+    (both (just (to_be_bytes w16 (length option.bytes))) (just option.bytes))
+    (Says-number option.code)
+    (Says-both (just (to_be_bytes w16 (length option.bytes))) (just option.bytes)
+    (Says-number (length option.bytes)) (Says-bytes option.bytes)))
 
 -- where what is written of options stands, they stand
 pub options_say : (options : List OptionValue)
-    → Says (in_turn option_written options) (All FitsOption options) (options_word options) (options_len options) []
+    → Says (in_turn option_written options) (All FitsOption options) (options_word options)
+    (options_len options) []
 options_say [] = Says-just (All FitsOption []) (options_word []) 0 [] (omega arith)
-    (λ ok B at small h. let same : at ≡ at + 0 = omega arith in subst (λ (e : ℕ). options_word [] B at e) same none)
+    (λ ok B at small h. let same : at ≡ at + 0 = omega arith
+    in subst (λ (e : ℕ). options_word [] B at e) same none)
 options_say (option ∷ options) =
     Says-weaker (in_turn option_written (option ∷ options)) (All FitsOption (option ∷ options))
-    (λ ok. (All-head FitsOption option options ok, All-tail FitsOption option options ok)) (λ ok B i e word. more word.1 word.2) (omega arith)
-    (Says-both (option_written option) (in_turn option_written options) (option_says option) (options_say options))
+    (λ ok. (All-head FitsOption option options ok, All-tail FitsOption option options ok))
+    (λ ok B i e word. more word.1 word.2) (omega arith)
+    (Says-both (option_written option) (in_turn option_written options) (option_says option)
+    (options_say options))
 
 -- what is known of the data
 abbrev pub opt_kind : List OptionValue → Kind

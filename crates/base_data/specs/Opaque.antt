@@ -21,7 +21,8 @@ hex_text bytes = flat_map byte_hex bytes
 
 -- data of a type that has no text of its own: \#, the number of bytes, and the bytes if there are any
 abbrev pub opaque_text : List ℕ → List ℕ
-opaque_text bytes = if length bytes == 0 then codes "\\# 0" else codes "\\# " ++ decimal (length bytes) ++ codes " " ++ hex_text bytes
+opaque_text bytes = if length bytes == 0 then codes "\\# 0" else codes "\\# "
+    ++ decimal (length bytes) ++ codes " " ++ hex_text bytes
 
 -- the same bytes
 abbrev pub same_bytes : List ℕ → List ℕ → Bool

@@ -19,4 +19,6 @@ ptr_of = one_name_of (λ name. record { name = name })
 
 -- what is known of the data
 abbrev pub ptr_kind : PTR → Kind
-ptr_kind x = name_kind 4 x.name (name x.name.labels) (Says-unowned (name x.name.labels) (Says-name x.name.labels))
+ptr_kind x =
+    name_kind 4 x.name (name x.name.labels)
+    (Says-unowned (name x.name.labels) (Says-name x.name.labels))

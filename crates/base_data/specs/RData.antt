@@ -35,4 +35,5 @@ filling type end (Err e) = Err (in_data type e)
 
 -- The data of a type and a length: none where the length is 0, and else what fills the length exactly.
 unfoldable pub rdata_at : RecordType → ℕ → List ℕ → ℕ → Read RData
-rdata_at type len bytes i = if len == 0 then Ok (kinds.Update0 type, i) else filling type (i + len) (kind_at type len bytes i)
+rdata_at type len bytes i = if len == 0 then Ok (kinds.Update0 type, i)
+    else filling type (i + len) (kind_at type len bytes i)

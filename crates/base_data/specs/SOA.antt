@@ -28,14 +28,34 @@ soa_at bytes i = do
   retry ← number_at w32 bytes refresh.1
   expire ← number_at w32 bytes retry.1
   minimum ← number_at w32 bytes expire.1
-  Ok (record { mname = mname.0; rname = rname.0; serial = serial.0; refresh = refresh.0; retry = retry.0; expire = expire.0; minimum = minimum.0 }, minimum.1)
+  Ok (
+    record {
+      mname = mname.0;
+      rname = rname.0;
+      serial = serial.0;
+      refresh = refresh.0;
+      retry = retry.0;
+      expire = expire.0;
+      minimum = minimum.0;
+    },
+    minimum.1,
+  )
 
 -- the data that seven items name: two names, a decimal version and four times, which may have units
 unfoldable pub soa_of : List (List ℕ) → Option NameValue → Option SOA
 soa_of (mname ∷ rname ∷ serial ∷ refresh ∷ retry ∷ expire ∷ minimum ∷ []) origin =
     name_item mname origin >>? λ m. name_item rname origin >>? λ r.
-    number_item 32 serial >>? λ s. ttl_of refresh >>? λ f. ttl_of retry >>? λ t. ttl_of expire >>? λ e. ttl_of minimum >>? λ n.
-    Some (record { mname = m; rname = r; serial = s; refresh = f; retry = t; expire = e; minimum = n })
+    number_item 32 serial >>? λ s. ttl_of refresh >>? λ f. ttl_of retry >>? λ t.
+    ttl_of expire >>? λ e. ttl_of minimum >>? λ n.
+    Some (record {
+      mname = m;
+      rname = r;
+      serial = s;
+      refresh = f;
+      retry = t;
+      expire = e;
+      minimum = n;
+    })
 soa_of _ origin = None
 
 -- each number takes four bytes
@@ -49,11 +69,15 @@ pub record SOAFits (x : SOA) : Type 0 where
 -- the version and the times as they are written, one after another
 abbrev pub soa_numbers : SOA → List ℕ
 soa_numbers x = to_be_bytes w32 x.serial
-    ++ (to_be_bytes w32 x.refresh ++ (to_be_bytes w32 x.retry ++ (to_be_bytes w32 x.expire ++ to_be_bytes w32 x.minimum)))
+    ++ (to_be_bytes w32 x.refresh
+    ++ (to_be_bytes w32 x.retry ++ (to_be_bytes w32 x.expire ++ to_be_bytes w32 x.minimum)))
 
 -- the word that they are
 abbrev pub SOANumbers : SOA → List ℕ → ℕ → ℕ → Type 0
-SOANumbers x = Then (Number w32 x.serial) (Then (Number w32 x.refresh) (Then (Number w32 x.retry) (Then (Number w32 x.expire) (Number w32 x.minimum))))
+SOANumbers x =
+    Then (Number w32 x.serial)
+    (Then (Number w32 x.refresh)
+    (Then (Number w32 x.retry) (Then (Number w32 x.expire) (Number w32 x.minimum))))
 
 -- the word that the fields are written as, one after another
 abbrev pub SOAWord : SOA → List ℕ → ℕ → ℕ → Type 0
@@ -67,7 +91,13 @@ plain_soa x = plain_len x.mname.labels + (plain_len x.rname.labels + 20)
 abbrev pub soa_text : SOA → List ℕ
 soa_text x = name_text x.mname ++
     (codes " " ++ (name_text x.rname ++
-    (codes " " ++ (decimal x.serial ++ (codes " " ++ (decimal x.refresh ++ (codes " " ++ (decimal x.retry ++ (codes " " ++ (decimal x.expire ++ (codes " " ++ (decimal x.minimum))))))))))))
+    (codes " "
+    ++ (decimal x.serial
+    ++ (codes " "
+    ++ (decimal x.refresh
+    ++ (codes " "
+    ++ (decimal x.retry
+    ++ (codes " " ++ (decimal x.expire ++ (codes " " ++ (decimal x.minimum))))))))))))
 
 -- the bytes of the numbers are the numbers
 pub soa_numbers_stand : (x : SOA) (B : List ℕ) (i : ℕ) → SOAFits x → Stands (soa_numbers x) B i
@@ -83,16 +113,31 @@ soa_numbers_stand x B i fits s =
     let after_c = last_stands c (d ++ e) B (i + 4 + 4) after_b in
     let after_d = last_stands d e B (i + 4 + 4 + 4) after_c in (
       _,
-      (number32_stands x.serial B i fits.serial (first_stands a (b ++ (c ++ (d ++ e))) B i s), refl),
+      (
+        number32_stands x.serial B i fits.serial (first_stands a (b ++ (c ++ (d ++ e))) B i s),
+        refl,
+      ),
       (
         _,
-        (number32_stands x.refresh B (i + 4) fits.refresh (first_stands b (c ++ (d ++ e)) B (i + 4) after_a), refl),
+        (
+          number32_stands x.refresh B (i + 4) fits.refresh
+              (first_stands b (c ++ (d ++ e)) B (i + 4) after_a),
+          refl,
+        ),
         (
           _,
-          (number32_stands x.retry B (i + 4 + 4) fits.retry (first_stands c (d ++ e) B (i + 4 + 4) after_b), refl),
+          (
+            number32_stands x.retry B (i + 4 + 4) fits.retry
+                (first_stands c (d ++ e) B (i + 4 + 4) after_b),
+            refl,
+          ),
           (
             _,
-            (number32_stands x.expire B (i + 4 + 4 + 4) fits.expire (first_stands d e B (i + 4 + 4 + 4) after_c), refl),
+            (
+              number32_stands x.expire B (i + 4 + 4 + 4) fits.expire
+                  (first_stands d e B (i + 4 + 4 + 4) after_c),
+              refl,
+            ),
             (number32_stands x.minimum B (i + 4 + 4 + 4 + 4) fits.minimum after_d, omega arith),
           ),
         ),
@@ -113,8 +158,10 @@ soa_kind x = record {
   kept = AreNameLabels x.mname.labels × (AreNameLabels x.rname.labels × SOAFits x);
   says = Says-both (name x.mname.labels) (both (name x.rname.labels) (just (soa_numbers x)))
       (Says-unowned (name x.mname.labels) (Says-name x.mname.labels))
-      (Says-both (name x.rname.labels) (just (soa_numbers x)) (Says-unowned (name x.rname.labels) (Says-name x.rname.labels))
-      (Says-just (SOAFits x) (SOANumbers x) 20 (soa_numbers x) (omega arith) (λ fits B at small h. soa_numbers_stand x B at fits h)));
+      (Says-both (name x.rname.labels) (just (soa_numbers x))
+      (Says-unowned (name x.rname.labels) (Says-name x.rname.labels))
+      (Says-just (SOAFits x) (SOANumbers x) 20 (soa_numbers x) (omega arith)
+      (λ fits B at small h. soa_numbers_stand x B at fits h)));
   readable = (x.mname.absolute ≡ true) × (x.rname.absolute ≡ true);
   text = soa_text x;
   canonical = name_octets x.mname ++ name_octets x.rname ++ to_be_bytes w32 x.serial
@@ -124,7 +171,9 @@ soa_kind x = record {
   places = soa_places;
   flags = x.mname.absolute ∷ x.rname.absolute ∷ [];
   fits = AreLabels x.mname.labels × AreLabels x.rname.labels × SOAFits x;
-  items = Some (name_text x.mname ∷ name_text x.rname ∷ decimal x.serial ∷ decimal x.refresh ∷ decimal x.retry
+  items = Some
+      (name_text x.mname ∷ name_text x.rname ∷ decimal x.serial ∷ decimal x.refresh
+      ∷ decimal x.retry
       ∷ decimal x.expire ∷ decimal x.minimum ∷ []);
   shown = bare;
   spelled = HasText x.mname × HasText x.rname × SOAFits x;

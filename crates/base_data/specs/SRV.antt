@@ -24,7 +24,10 @@ srv_at bytes i = do
   weight ← number_at w16 bytes priority.1
   port ← number_at w16 bytes weight.1
   target ← name_at bytes port.1
-  Ok (record { priority = priority.0; weight = weight.0; port = port.0; target = target.0 }, target.1)
+  Ok (
+    record { priority = priority.0; weight = weight.0; port = port.0; target = target.0 },
+    target.1,
+  )
 
 -- the data that four items name
 unfoldable pub srv_of : List (List ℕ) → Option NameValue → Option SRV
@@ -36,7 +39,9 @@ srv_of _ origin = None
 
 -- the word that the fields are written as, one after another
 abbrev pub SRVWord : SRV → List ℕ → ℕ → ℕ → Type 0
-SRVWord x = Then (Number w16 x.priority) (Then (Number w16 x.weight) (Then (Number w16 x.port) (NameAt x.target.labels)))
+SRVWord x =
+    Then (Number w16 x.priority)
+    (Then (Number w16 x.weight) (Then (Number w16 x.port) (NameAt x.target.labels)))
 
 -- each number takes two bytes
 pub record SRVFits (x : SRV) : Type 0 where
@@ -82,7 +87,8 @@ plain_srv x = 2 + (2 + (2 + (plain_len x.target.labels)))
 -- the fields, with a space between each two
 abbrev pub srv_text : SRV → List ℕ
 srv_text x = decimal x.priority
-    ++ (codes " " ++ (decimal x.weight ++ (codes " " ++ (decimal x.port ++ (codes " " ++ (name_text x.target))))))
+    ++ (codes " "
+    ++ (decimal x.weight ++ (codes " " ++ (decimal x.port ++ (codes " " ++ (name_text x.target))))))
 
 -- its name stands after six bytes (RFC 2782)
 abbrev pub srv_places : List ℕ → ℕ → List ℕ
@@ -96,10 +102,12 @@ srv_kind x = record {
   plain = plain_srv x;
   written = both (just (srv_numbers x)) (plain_name x.target.labels);
   kept = SRVFits x × AreNameLabels x.target.labels;
-  says = Says-weaker (both (just (srv_numbers x)) (plain_name x.target.labels)) (SRVFits x × AreNameLabels x.target.labels) (λ ok. ok)
+  says = Says-weaker (both (just (srv_numbers x)) (plain_name x.target.labels))
+      (SRVFits x × AreNameLabels x.target.labels) (λ ok. ok)
       (λ ok B i e w. (w.1.0, w.1.1, (w.1.2.0, w.1.2.1, (w.0, w.1.2.2, w.2)))) (omega arith)
       (Says-both (just (srv_numbers x)) (plain_name x.target.labels)
-      (Says-just (SRVFits x) (SRVNumbers x) 6 (srv_numbers x) (omega arith) (λ fits B at small h. srv_numbers_stand x B at fits h))
+      (Says-just (SRVFits x) (SRVNumbers x) 6 (srv_numbers x) (omega arith)
+      (λ fits B at small h. srv_numbers_stand x B at fits h))
       (Says-plain_name x.target.labels));
   readable = x.target.absolute ≡ true;
   text = srv_text x;

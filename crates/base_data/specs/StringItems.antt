@@ -14,9 +14,12 @@ pub data EscapePart : Type 0 where
 -- what a byte is after as much of an escape: a byte of the string or none, and as much of an escape then
 abbrev pub escape_step : EscapePart → ℕ → Option (Option ℕ × EscapePart)
 escape_step no_escape c = if c == 92 then Some (None, backslash) else Some (Some c, no_escape)
-escape_step backslash c = if is_ascii_digit c then Some (None, one_digit (c - 48)) else Some (Some c, no_escape)
-escape_step (one_digit n) c = if is_ascii_digit c then Some (None, two_digits (n * 10 + (c - 48))) else None
-escape_step (two_digits n) c = if is_ascii_digit c && nat_lt (n * 10 + (c - 48)) 256 then Some (Some (n * 10 + (c - 48)), no_escape) else None
+escape_step backslash c = if is_ascii_digit c then Some (None, one_digit (c - 48))
+    else Some (Some c, no_escape)
+escape_step (one_digit n) c = if is_ascii_digit c then Some (None, two_digits (n * 10 + (c - 48)))
+    else None
+escape_step (two_digits n) c = if is_ascii_digit c && nat_lt (n * 10 + (c - 48)) 256
+    then Some (Some (n * 10 + (c - 48)), no_escape) else None
 
 -- these before those of the rest
 abbrev pub before : {A : Type 0} → List A → Option (List A) → Option (List A)

@@ -30,7 +30,8 @@ are_strings bytes = bytes_eq (wire_of (labels_of bytes)) bytes
 
 -- the strings of as many bytes
 abbrev pub txt_at : ℕ → List ℕ → ℕ → Read (List (List ℕ))
-txt_at len bytes i = bytes_at len bytes i >>= λ r. if are_strings r.0 then Ok (labels_of r.0, r.1) else Err faults.InsufficientBytes
+txt_at len bytes i = bytes_at len bytes i >>= λ r. if are_strings r.0 then Ok (labels_of r.0, r.1)
+    else Err faults.InsufficientBytes
 
 -- the strings of one item or more
 unfoldable pub txt_of : List (List ℕ) → Option (List (List ℕ))
@@ -39,7 +40,8 @@ txt_of items = string_items items
 
 -- the text of a byte: itself if it is printable or a space, with a backslash before a quote and a backslash
 abbrev pub string_byte : ℕ → List ℕ
-string_byte b = if nat_lt b 32 || nat_lt 126 b then decimal_text b else (if b == 34 || b == 92 then 92 ∷ b ∷ [] else b ∷ [])
+string_byte b = if nat_lt b 32 || nat_lt 126 b then decimal_text b
+    else (if b == 34 || b == 92 then 92 ∷ b ∷ [] else b ∷ [])
 
 -- an item in quotes
 abbrev pub quoted : List ℕ → List ℕ

@@ -133,10 +133,13 @@ impl RData {
     ) -> Result<RData, DecodeError>
         requires some { 0 < len }
         requires few { set.len decoder.old.kept ≤ 16384 }
-        ensures read { Reads (λ x. x) decoder.old decoder.new result (kind_at record_type len decoder.old.bytes decoder.old.index) }
+        ensures read { Reads (λ x. x) decoder.old decoder.new result
+            (kind_at record_type len decoder.old.bytes decoder.old.index) }
         ensures counts { Counts decoder.old decoder.new result }
         ensures passed { Passes decoder.old decoder.new result }
-        ensures adds { IfOk result (λ d. AddsPassed (data_places d decoder.old.bytes decoder.old.index) decoder.old decoder.new) }
+        ensures adds { IfOk result
+            (λ d. AddsPassed (data_places d decoder.old.bytes decoder.old.index) decoder.old
+            decoder.new) }
     {
         match record_type {
             RecordType::A => read_as::<A>(decoder),

@@ -40,7 +40,8 @@ pub trait RecordData: Eq + Clone + BinEncodable + fmt::Display + Drop {
     ghost borrows_back: { (r : Self) → of_rdata (as_rdata r) ≡ Some r };
 
     /// As data of any record, data has the word and the length that it had.
-    ghost keeps_word: { (r : Self) (B : List ℕ) (i e : ℕ) → DataWord (as_rdata r) B i e ↔ Self.word r B i e };
+    ghost keeps_word: { (r : Self) (B : List ℕ) (i e : ℕ) → DataWord (as_rdata r) B i e
+        ↔ Self.word r B i e };
 
     ghost keeps_len: { (r : Self) → plain_data (as_rdata r) ≡ Self.plain_len r };
 
@@ -50,7 +51,8 @@ pub trait RecordData: Eq + Clone + BinEncodable + fmt::Display + Drop {
     ghost keeps_text: { (r : Self) → Some (data_text (as_rdata r)) ≡ Self.output r };
 
     /// As data of any record, data is equal where it was.
-    ghost keeps_equality: { (r s : Self) → ⟦<RData as PartialEq>⟧.eq (as_rdata r) (as_rdata s) ≡ Self.eq r s };
+    ghost keeps_equality: { (r s : Self) → ⟦<RData as PartialEq>⟧.eq (as_rdata r) (as_rdata s)
+        ≡ Self.eq r s };
 }
 
 impl RecordData for RData {

@@ -123,7 +123,8 @@ fn same_in_any_case(left: &[u8], right: &[u8]) -> bool
     requires left_labels { AreLabels (labels_of left.now) }
     requires right { IsLabelRun right.now }
     requires right_labels { AreLabels (labels_of right.now) }
-    ensures { result ≡ same_labels (folded_labels (labels_of left.now)) (folded_labels (labels_of right.now)) }
+    ensures { result
+        ≡ same_labels (folded_labels (labels_of left.now)) (folded_labels (labels_of right.now)) }
 {
     left.eq_ignore_ascii_case(right)
 }
@@ -156,7 +157,8 @@ fn past_labels(wire: &[u8], count: usize) -> &[u8]
 
 /// The order of two labels, their ASCII letters in lower case.
 fn cmp_label(left: &[u8], right: &[u8]) -> Ordering
-    ensures { result ≡ slice_cmp nat_cmp (map to_ascii_lowercase left.now) (map to_ascii_lowercase right.now) }
+    ensures { result
+        ≡ slice_cmp nat_cmp (map to_ascii_lowercase left.now) (map to_ascii_lowercase right.now) }
 {
     let shared = left.len().min(right.len());
     let (front, others) = (&left[..shared], &right[..shared]);
@@ -179,7 +181,8 @@ fn cmp_labels(left: &[u8], right: &[u8]) -> Option<Ordering>
     requires right { IsLabelRun right.now }
     ensures some { IfSome result (λ order. (length (labels_of left.now)
         ≡ length (labels_of right.now))
-        × (order ≡ labels_cmp (folded_labels (labels_of left.now)) (folded_labels (labels_of right.now)))) }
+        × (order ≡ labels_cmp (folded_labels (labels_of left.now))
+        (folded_labels (labels_of right.now)))) }
     ensures none { IfNone result (length (labels_of left.now) ≢ length (labels_of right.now)) }
 {
     let mut order = Ordering::Equal;

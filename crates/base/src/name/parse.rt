@@ -189,7 +189,9 @@ fn gather_name(text: &[u8], origin: Option<&Name>, room: &mut [u8; ROOM]) -> Opt
     requires no_origin { text.now ≢ 64 ∷ [] }
     ensures none { IfNone result ((name : NameValue)
         → IsNameText text.now (option_copied origin.entry) name → ⊥) }
-    ensures some { IfSome result (λ r. IsNameText text.now (option_copied origin.entry) (record { labels = labels_of (take r.0 room.new); absolute = r.1 })) }
+    ensures some { IfSome result
+        (λ r. IsNameText text.now (option_copied origin.entry)
+        (record { labels = labels_of (take r.0 room.new); absolute = r.1 })) }
     ensures wire { IfSome result (λ r. IsWire (take r.0 room.new)) }
     ensures used { IfSome result (λ r. r.0 ≤ 254) }
 {

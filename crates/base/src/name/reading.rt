@@ -106,8 +106,10 @@ fn gather<'a>(
     ensures used { IfOk result (λ r. r.used ≤ 254) }
     ensures end { IfOk result (λ r. r.end ≤ length decoder.old.bytes) }
     ensures wire { IfOk result (λ r. IsWire (take r.used room.new)) }
-    ensures kept { IfOk result (λ r. AreSpelled decoder.old.bytes (take r.used room.new) passed.new) }
-    ensures last { IfOk result (λ r. IfSome r.last (λ labels. IsLast labels.now (take r.used room.new) passed.new)) }
+    ensures kept { IfOk result
+        (λ r. AreSpelled decoder.old.bytes (take r.used room.new) passed.new) }
+    ensures last { IfOk result
+        (λ r. IfSome r.last (λ labels. IsLast labels.now (take r.used room.new) passed.new)) }
     ensures followed { Followed (targets passed.new) decoder.old decoder.new }
     ensures these { IfOk result (λ r.
         PassesThese decoder.old.bytes decoder.old.kept decoder.old.index (targets passed.new)) }
@@ -208,11 +210,13 @@ struct Piece<'d> {
 /// along pointers.
 fn one_piece<'d>(decoder: &'d BinDecoder<'_>) -> Option<Piece<'d>>
     ensures own { IfSome result (λ p. p.used ≤ length p.own.now) }
-    ensures read { IfSome result (λ p. labels_at decoder.now.bytes decoder.now.index decoder.now.index 0
+    ensures read { IfSome result
+        (λ p. labels_at decoder.now.bytes decoder.now.index decoder.now.index 0
         ≡ Ok (labels_of (take p.used p.own.now ++ p.kept.now), p.end)) }
     ensures wire { IfSome result (λ p. IsWire (take p.used p.own.now ++ p.kept.now)) }
     ensures end { IfSome result (λ p. p.end ≤ length decoder.now.bytes) }
-    ensures these { IfSome result (λ _. PassesThese decoder.now.bytes decoder.now.kept decoder.now.index []) }
+    ensures these { IfSome result
+        (λ _. PassesThese decoder.now.bytes decoder.now.kept decoder.now.index []) }
 {
     let first = decoder.index();
     let own = decoder.rest();
@@ -270,12 +274,16 @@ impl BinDecodable for Name {
     /// bytes; `Memory` if memory runs out.
     #[tactic(auto, unfolding(crate::specs::Names::name_at))]
     fn read(decoder: &mut BinDecoder<'_>) -> Result<Name, DecodeError>
-        ensures read { Reads (λ x. x) decoder.old decoder.new result (name_at decoder.old.bytes decoder.old.index) }
+        ensures read { Reads (λ x. x) decoder.old decoder.new result
+            (name_at decoder.old.bytes decoder.old.index) }
         ensures counts { Counts decoder.old decoder.new result }
         ensures passed { Passes decoder.old decoder.new result }
-        ensures passes { IfOk result (λ n. (h : Spelled decoder.old.bytes n.labels decoder.old.index decoder.old.index decoder.new.index)
+        ensures passes { IfOk result
+            (λ n. (h : Spelled decoder.old.bytes n.labels decoder.old.index decoder.old.index
+            decoder.new.index)
             → decoder.new.kept ≡ set.union decoder.old.kept (set.from_list (passed h))) }
-        ensures adds { IfOk result (λ _. AddsPassed (decoder.old.index ∷ []) decoder.old decoder.new) }
+        ensures adds { IfOk result
+            (λ _. AddsPassed (decoder.old.index ∷ []) decoder.old decoder.new) }
     {
         if let Some(
             Piece {

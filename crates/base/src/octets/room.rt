@@ -103,7 +103,7 @@ impl Room {
     }
 
     /// The same again.
-    pub(crate) fn copied(&self) -> Room
+    pub(crate) fn copy(&self) -> Room
         ensures { result ≡ self.now }
     {
         Room {

@@ -212,7 +212,8 @@ fn take_element(alloc: Global, text: &str) -> Result<(Option<String>, &str), Par
 
 /// The items within parentheses and what is after the closing one, of the text after the opening one.
 pub(super) fn take_list(alloc: Global, text: &str) -> Result<(Vec<String>, &str), ParseError>
-    ensures { CutsOff (λ r. (texts r.0.items, r.1.now)) result (list_items (length text.now) text.now) }
+    ensures { CutsOff (λ r. (texts r.0.items, r.1.now)) result
+        (list_items (length text.now) text.now) }
 {
     let mut items = Vec::new(alloc);
     let mut rest = text;

@@ -26,10 +26,13 @@ pub trait BinDecodable: Drop {
     ///
     /// The first fault; `Memory` if memory runs out. A decoder that refused isn't used again.
     fn read(decoder: &mut BinDecoder<'_>) -> Result<Self, DecodeError>
-        ensures read { Reads (λ x. x) decoder.old decoder.new result (read_at decoder.old.bytes decoder.old.index) }
+        ensures read { Reads (λ x. x) decoder.old decoder.new result
+            (read_at decoder.old.bytes decoder.old.index) }
         ensures counts { Counts decoder.old decoder.new result }
         ensures passed { Passes decoder.old decoder.new result }
-        ensures adds { IfOk result (λ _. AddsPassed (names_at decoder.old.bytes decoder.old.index) decoder.old decoder.new) };
+        ensures adds { IfOk result
+            (λ _. AddsPassed (names_at decoder.old.bytes decoder.old.index) decoder.old
+            decoder.new) };
 }
 
 impl BinDecodable for u16 {

@@ -41,9 +41,17 @@ impl<'a> Model for BinDecoder<'a> {
 
     ghost coded = { reader_code };
 
-    ghost view = { λ d. record { bytes = d.buffer.now; index = d.index; kept = targets_of d.plain d.others; jumps = d.jumps } };
+    ghost view = { λ d.
+        record {
+          bytes = d.buffer.now;
+          index = d.index;
+          kept = targets_of d.plain d.others;
+          jumps = d.jumps;
+        } };
 
-    ghost invariant = { λ d. (d.index ≤ length d.buffer.now) × (ArePlain d.buffer.now d.plain × (AreKept d.buffer.now d.others × IsClosed d.buffer.now (targets_of d.plain d.others))) };
+    ghost invariant = { λ d. (d.index ≤ length d.buffer.now)
+        × (ArePlain d.buffer.now d.plain
+        × (AreKept d.buffer.now d.others × IsClosed d.buffer.now (targets_of d.plain d.others))) };
 }
 
 impl<'a> BinDecoder<'a> {
@@ -180,7 +188,8 @@ impl<'a> BinDecoder<'a> {
     /// `InsufficientBytes` where none is left.
     pub fn pop(&mut self) -> Result<u8, DecodeError>
         ensures only { IsOkUnless result DecodeError.InsufficientBytes }
-        ensures read { Reads (λ b. b) self.old self.new result (byte_at self.old.bytes self.old.index) }
+        ensures read { Reads (λ b. b) self.old self.new result
+            (byte_at self.old.bytes self.old.index) }
         ensures counts { Counts self.old self.new result }
         ensures passed { Passes self.old self.new result }
         ensures kept { self.new.kept ≡ self.old.kept }
@@ -201,7 +210,8 @@ impl<'a> BinDecoder<'a> {
     /// `InsufficientBytes` where fewer are left.
     pub fn read_u16(&mut self) -> Result<u16, DecodeError>
         ensures only { IsOkUnless result DecodeError.InsufficientBytes }
-        ensures read { Reads (λ n. n) self.old self.new result (number_at w16 self.old.bytes self.old.index) }
+        ensures read { Reads (λ n. n) self.old self.new result
+            (number_at w16 self.old.bytes self.old.index) }
         ensures counts { Counts self.old self.new result }
         ensures passed { Passes self.old self.new result }
         ensures kept { self.new.kept ≡ self.old.kept }
@@ -222,7 +232,8 @@ impl<'a> BinDecoder<'a> {
     /// `InsufficientBytes` where fewer are left.
     pub fn read_u32(&mut self) -> Result<u32, DecodeError>
         ensures only { IsOkUnless result DecodeError.InsufficientBytes }
-        ensures read { Reads (λ n. n) self.old self.new result (number_at w32 self.old.bytes self.old.index) }
+        ensures read { Reads (λ n. n) self.old self.new result
+            (number_at w32 self.old.bytes self.old.index) }
         ensures counts { Counts self.old self.new result }
         ensures passed { Passes self.old self.new result }
         ensures kept { self.new.kept ≡ self.old.kept }
@@ -243,7 +254,8 @@ impl<'a> BinDecoder<'a> {
     /// `InsufficientBytes` where fewer are left.
     pub fn read_slice(&mut self, len: usize) -> Result<&'a [u8], DecodeError>
         ensures only { IsOkUnless result DecodeError.InsufficientBytes }
-        ensures read { Reads (λ bytes. bytes.now) self.old self.new result (bytes_at len self.old.bytes self.old.index) }
+        ensures read { Reads (λ bytes. bytes.now) self.old self.new result
+            (bytes_at len self.old.bytes self.old.index) }
         ensures counts { Counts self.old self.new result }
         ensures passed { Passes self.old self.new result }
         ensures kept { self.new.kept ≡ self.old.kept }

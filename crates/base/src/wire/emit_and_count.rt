@@ -29,7 +29,8 @@ pub trait EmitAndCount {
         requires { can_emit self.old }
         ensures keeps { Keeps (state_of encoder.old) (state_of encoder.new) }
         ensures valid { StaysValid (state_of encoder.old) (state_of encoder.new) result }
-        ensures emits { emits self.old (state_of encoder.old) result self.new (state_of encoder.new) };
+        ensures emits { emits self.old (state_of encoder.old) result self.new
+            (state_of encoder.new) };
 }
 
 impl<E: BinEncodable + Drop, I: Iterator<Item = E>> EmitAndCount for I {

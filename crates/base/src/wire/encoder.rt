@@ -45,7 +45,12 @@ impl<'a> BinEncoder<'a> {
     /// An encoder over the emptied vector, with the limit of 65,535 bytes. Takes no memory.
     pub fn new(buffer: &'a mut Vec<u8>) -> BinEncoder<'a>
         ensures { state_of result
-            ≡ record { buffer = buffer.entry.ghost_name; bytes = []; limit = 65535; suffixes = [] } }
+            ≡ record {
+              buffer = buffer.entry.ghost_name;
+              bytes = [];
+              limit = 65535;
+              suffixes = [];
+            } }
     {
         buffer.clear();
         let alloc = *buffer.allocator();
@@ -128,7 +133,9 @@ impl<'a> BinEncoder<'a> {
         ensures within { OnOk result (length (state_of self.new).bytes
             ≤ (state_of self.old).limit) }
         ensures refuses { Refuses (length bytes.now) (state_of self.old) result }
-        ensures full { (state_of self.old).limit < length (state_of self.old).bytes + length bytes.now → IsErrOf result ProtoError.MaxBufferSizeExceeded }
+        ensures full { (state_of self.old).limit
+            < length (state_of self.old).bytes + length bytes.now
+            → IsErrOf result ProtoError.MaxBufferSizeExceeded }
     {
         let limit = usize::from(self.limit);
         if limit < self.buffer.len() || limit - self.buffer.len() < bytes.len() {

@@ -47,7 +47,8 @@ pub fn filled_room_is_free<E: BinEncodable>()
     ensures writes { (x : E) (room filling : List ℕ) (a c : State) → length filling ≡ length room
         → Keeps (appended room a) c
         → Writes (E.word x) (E.plain_len x) (E.owner x) (appended room a) c
-        → Writes (E.word x) (E.plain_len x) (E.owner x) (appended filling a) (overwritten (length a.bytes) filling c) }
+        → Writes (E.word x) (E.plain_len x) (E.owner x) (appended filling a)
+        (overwritten (length a.bytes) filling c) }
 {}
 
 /// Of values that are written in turn under a limit, those that fit are the first of them, and the own bytes of the next

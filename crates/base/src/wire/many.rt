@@ -19,10 +19,13 @@ pub fn read_many<T: BinDecodable>(
     decoder: &mut BinDecoder<'_>,
     count: usize,
 ) -> Result<Vec<T>, DecodeError>
-    ensures read { Reads (λ v. v.items) decoder.old decoder.new result (many_at T.read_at count decoder.old.bytes decoder.old.index) }
+    ensures read { Reads (λ v. v.items) decoder.old decoder.new result
+        (many_at T.read_at count decoder.old.bytes decoder.old.index) }
     ensures counts { Counts decoder.old decoder.new result }
     ensures passed { Passes decoder.old decoder.new result }
-    ensures adds { IfOk result (λ _. AddsPassed (many_names T.read_at T.names_at count decoder.old.bytes decoder.old.index) decoder.old decoder.new) }
+    ensures adds { IfOk result
+        (λ _. AddsPassed (many_names T.read_at T.names_at count decoder.old.bytes decoder.old.index)
+        decoder.old decoder.new) }
 {
     let mut values = Vec::new(decoder.allocator());
     for _ in 0..count {

@@ -42,7 +42,8 @@ impl Model for Suffix {
 
     ghost view = { λ s. record { labels = labels_of s.labels.items; offset = s.offset } };
 
-    ghost invariant = { λ s. IsWire s.labels.items × ((s.offset < 16384) × (s.front ≡ front_number s.labels.items)) };
+    ghost invariant = { λ s. IsWire s.labels.items
+        × ((s.offset < 16384) × (s.front ≡ front_number s.labels.items)) };
 }
 
 impl Suffix {

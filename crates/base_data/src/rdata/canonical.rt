@@ -148,7 +148,8 @@ impl<'a> Model for CanonicalOctets<'a> {
 
     ghost Value = { List ℕ };
 
-    ghost view = { λ c. c.front ++ (c.first ++ (c.second ++ (c.back ++ (c.rest.now ++ options_wire c.options.now)))) };
+    ghost view = { λ c. c.front
+        ++ (c.first ++ (c.second ++ (c.back ++ (c.rest.now ++ options_wire c.options.now)))) };
 }
 
 impl<'a> CanonicalOctets<'a> {

@@ -42,7 +42,9 @@ fn any_from_items<R: TextData>(
     items: &[&str],
     origin: Option<&Name>,
 ) -> Result<RData, ParseError>
-    ensures { Gives (λ d. d) result (any_of R.as_rdata record_type (R.of_items (map (λ item. item.now) items.now) (option_copied origin.entry))) }
+    ensures { Gives (λ d. d) result
+        (any_of R.as_rdata record_type
+        (R.of_items (map (λ item. item.now) items.now) (option_copied origin.entry))) }
 {
     match R::from_items(alloc, items, origin)? {
         Some(rdata) => Ok(rdata.into_rdata()),
@@ -89,7 +91,8 @@ impl RData {
         requires can { I.can_next items }
         requires finite { IsFinite (I.remaining items) }
         ensures { (result ≡ Err ParseError.Memory) ⊎ ((all : List S) × Drains I.next_gives items all
-            × Gives (λ d. d) result (data_of record_type (map S.text all) (option_copied origin.entry))) }
+            × Gives (λ d. d) result
+            (data_of record_type (map S.text all) (option_copied origin.entry))) }
     {
         let mut held = Vec::new(alloc);
         for item in items {
@@ -112,7 +115,8 @@ impl RData {
         items: &[&str],
         origin: Option<&Name>,
     ) -> Result<RData, ParseError>
-        ensures { Gives (λ d. d) result (data_of record_type (map (λ item. item.now) items.now) (option_copied origin.entry)) }
+        ensures { Gives (λ d. d) result
+            (data_of record_type (map (λ item. item.now) items.now) (option_copied origin.entry)) }
     {
         match record_type {
             RecordType::A => any_from_items::<A>(alloc, record_type, items, origin),

@@ -26,10 +26,13 @@ impl RData {
         record_type: RecordType,
         len: u16,
     ) -> Result<RData, DecodeError>
-        ensures read { Reads (λ x. x) decoder.old decoder.new result (rdata_at record_type len decoder.old.bytes decoder.old.index) }
+        ensures read { Reads (λ x. x) decoder.old decoder.new result
+            (rdata_at record_type len decoder.old.bytes decoder.old.index) }
         ensures counts { Counts decoder.old decoder.new result }
         ensures passed { Passes decoder.old decoder.new result }
-        ensures adds { IfOk result (λ d. AddsPassed (data_places d decoder.old.bytes decoder.old.index) decoder.old decoder.new) }
+        ensures adds { IfOk result
+            (λ d. AddsPassed (data_places d decoder.old.bytes decoder.old.index) decoder.old
+            decoder.new) }
     {
         let end = decoder.index() + usize::from(len);
         if len == 0 {
@@ -74,7 +77,8 @@ pub(crate) trait SizedData: RecordData {
     /// The first fault; `Memory` if memory runs out. A decoder that refused isn't used again.
     fn read(decoder: &mut BinDecoder<'_>, len: u16) -> Result<Self, DecodeError>
         requires { 0 < len }
-        ensures read { Reads (λ x. x) decoder.old decoder.new result (sized_at len decoder.old.bytes decoder.old.index) }
+        ensures read { Reads (λ x. x) decoder.old decoder.new result
+            (sized_at len decoder.old.bytes decoder.old.index) }
         ensures counts { Counts decoder.old decoder.new result }
         ensures passed { Passes decoder.old decoder.new result }
         ensures adds { IfOk result (λ _. AddsPassed [] decoder.old decoder.new) };
@@ -84,10 +88,12 @@ pub(crate) trait SizedData: RecordData {
 pub(crate) fn read_as<R: BinDecodable + RecordData>(
     decoder: &mut BinDecoder<'_>,
 ) -> Result<RData, DecodeError>
-    ensures read { Reads (λ x. x) decoder.old decoder.new result (as_any R.as_rdata (R.read_at decoder.old.bytes decoder.old.index)) }
+    ensures read { Reads (λ x. x) decoder.old decoder.new result
+        (as_any R.as_rdata (R.read_at decoder.old.bytes decoder.old.index)) }
     ensures counts { Counts decoder.old decoder.new result }
     ensures passed { Passes decoder.old decoder.new result }
-    ensures adds { IfOk result (λ _. AddsPassed (R.names_at decoder.old.bytes decoder.old.index) decoder.old decoder.new) }
+    ensures adds { IfOk result
+        (λ _. AddsPassed (R.names_at decoder.old.bytes decoder.old.index) decoder.old decoder.new) }
 {
     Ok(R::read(decoder)?.into_rdata())
 }
@@ -98,7 +104,8 @@ pub(crate) fn read_sized<R: SizedData>(
     len: u16,
 ) -> Result<RData, DecodeError>
     requires { 0 < len }
-    ensures read { Reads (λ x. x) decoder.old decoder.new result (as_any R.as_rdata (R.sized_at len decoder.old.bytes decoder.old.index)) }
+    ensures read { Reads (λ x. x) decoder.old decoder.new result
+        (as_any R.as_rdata (R.sized_at len decoder.old.bytes decoder.old.index)) }
     ensures counts { Counts decoder.old decoder.new result }
     ensures passed { Passes decoder.old decoder.new result }
     ensures adds { IfOk result (λ _. AddsPassed [] decoder.old decoder.new) }
@@ -113,7 +120,8 @@ pub(crate) fn read_carried(
     len: u16,
 ) -> Result<RData, DecodeError>
     requires { 0 < len }
-    ensures read { Reads (λ x. x) decoder.old decoder.new result (as_any (kinds.Unknown code) (bytes_at len decoder.old.bytes decoder.old.index)) }
+    ensures read { Reads (λ x. x) decoder.old decoder.new result
+        (as_any (kinds.Unknown code) (bytes_at len decoder.old.bytes decoder.old.index)) }
     ensures counts { Counts decoder.old decoder.new result }
     ensures passed { Passes decoder.old decoder.new result }
     ensures adds { IfOk result (λ _. AddsPassed [] decoder.old decoder.new) }

@@ -46,7 +46,16 @@ impl SOA {
         expire: u32,
         minimum: u32,
     ) -> SOA
-        ensures { result ≡ record { mname = mname; rname = rname; serial = serial; refresh = refresh; retry = retry; expire = expire; minimum = minimum } }
+        ensures { result
+            ≡ record {
+              mname = mname;
+              rname = rname;
+              serial = serial;
+              refresh = refresh;
+              retry = retry;
+              expire = expire;
+              minimum = minimum;
+            } }
     {
         SOA {
             mname,

@@ -32,7 +32,8 @@ pub struct SRV {
 impl SRV {
     /// The data of these fields.
     pub fn new(priority: u16, weight: u16, port: u16, target: Name) -> SRV
-        ensures { result ≡ record { priority = priority; weight = weight; port = port; target = target } }
+        ensures { result
+            ≡ record { priority = priority; weight = weight; port = port; target = target } }
     {
         SRV {
             priority,

@@ -25,7 +25,8 @@ impl<'a> BinEncoder<'a> {
         requires countable { IsCountable (I.remaining items.old) }
         ensures keeps { Keeps (state_of self.old) (state_of self.new) }
         ensures valid { StaysValid (state_of self.old) (state_of self.new) result }
-        ensures emits { EmitsAll E.word E.plain_len E.owner E.written I.next_gives items.old items.new
+        ensures emits { EmitsAll E.word E.plain_len E.owner E.written I.next_gives items.old
+            items.new
             (state_of self.old) (state_of self.new) result }
     {
         let mut count = 0;

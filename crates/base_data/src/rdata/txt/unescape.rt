@@ -64,7 +64,7 @@ fn escape_step(state: Escape, byte: u8) -> Option<(Option<u8>, Escape)>
 /// # Errors
 ///
 /// If memory runs out.
-fn unescaped(alloc: Global, text: &[u8]) -> Result<Option<Vec<u8>>, AllocError>
+fn unescape(alloc: Global, text: &[u8]) -> Result<Option<Vec<u8>>, AllocError>
     ensures { IfOk result (λ r. option_map (λ v. v.items) r ≡ unescaped no_escape text.now) }
 {
     let mut bytes = Vec::new(alloc);
@@ -94,7 +94,7 @@ pub(crate) fn string_item(alloc: Global, item: &str) -> Result<Option<Vec<u8>>, 
     ensures string { IfOk result (λ r. option_map (λ v. v.items) r ≡ string_item item.now) }
     ensures short { IfOk result (λ r. IfSome r (λ v. length v.items ≤ 255)) }
 {
-    let Some(bytes) = unescaped(alloc, item.as_bytes())? else {
+    let Some(bytes) = unescape(alloc, item.as_bytes())? else {
         return Ok(None);
     };
     if bytes.len() > 255 {

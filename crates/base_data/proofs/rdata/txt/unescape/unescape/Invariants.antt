@@ -1,7 +1,7 @@
 use Rattle.std.proofs.Common.{◌≡◌, drop}
 use Rattle.base_data.specs.Escape.{escape_of}
 use Rattle.base_data.specs.StringItems.{no_escape, before, unescaped}
-use Rattle.base_data.proofs.rdata.txt.unescape.unescaped.Given as goal
+use Rattle.base_data.proofs.rdata.txt.unescape.unescape.Given as goal
 
 -- the bytes so far, before those of the rest, are all
 abbrev pub invariant-loop-c : goal.invariant-loop-c

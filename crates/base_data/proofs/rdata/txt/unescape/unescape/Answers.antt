@@ -4,8 +4,8 @@ use Rattle.std.specs.Option.{option_map}
 use Rattle.base_data.specs.Escape.{escape_of}
 use Rattle.base_data.specs.StringItems.{EscapePart, no_escape, before, byte_list, ends_outside, unescaped}
 use Rattle.base_data.proofs.StringItemLemmas.{ends_not, unescaped_ends, unescaped_moved, unescaped_steps, unescaped_stops}
-use Rattle.base_data.proofs.rdata.txt.unescape.unescaped.Goals as goal
-use Rattle.base_data.proofs.rdata.txt.unescape.unescaped.Goals.{in-Some-byte+in_ok-push, in_default-byte}
+use Rattle.base_data.proofs.rdata.txt.unescape.unescape.Goals as goal
+use Rattle.base_data.proofs.rdata.txt.unescape.unescape.Goals.{in-Some-byte+in_ok-push, in_default-byte}
 
 -- what a step answers, as the definition says it
 abbrev stepped : Option (Option ℕ × Escape) → Option (Option ℕ × EscapePart)
