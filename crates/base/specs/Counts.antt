@@ -1,4 +1,5 @@
 -- What reading keeps, and how many pointers it follows.
+use Rattle.base.specs.declared.limits.TheConstants.{POINTER_LIMIT}
 use Rattle.std.specs.Prelude.{◌≡◌, ℕ, ◌<◌, ◌≤◌, List, Result, Ok, Err, All}
 use Rattle.std.specs.FinSet as set
 use Rattle.base.specs.Passing.{NamesPass}
@@ -19,8 +20,8 @@ IsCounted r = r.jumps ≡ set.len r.kept
 -- A read from there leaves it so where it doesn't refuse, and never are more followed than a pointer can name offsets
 -- (RFC 1035, 4.1.4).
 abbrev pub Counts : {X E : Type 0} → Reader → Reader → Result X E → Type 0
-Counts old new (Ok x) = IsCounted old → IsCounted new × (new.jumps ≤ 16384)
-Counts old new (Err e) = IsCounted old → new.jumps ≤ 16384
+Counts old new (Ok x) = IsCounted old → IsCounted new × (new.jumps ≤ POINTER_LIMIT)
+Counts old new (Err e) = IsCounted old → new.jumps ≤ POINTER_LIMIT
 
 -- a read that doesn't refuse keeps no other offsets than those that names pass
 abbrev pub Passes : {X E : Type 0} → Reader → Reader → Result X E → Type 0

@@ -1,4 +1,5 @@
 -- Classes: their numbers, texts and order (RFC 1035, 3.2.4 and 3.2.5; RFC 2136, 2.4; RFC 6891, 6.1.2; RFC 6895, 3.2).
+use Rattle.base.specs.declared.limits.TheConstants.{MIN_PAYLOAD}
 use Rattle.std.specs.Prelude.{ℕ, ◌+◌, ◌%◌, nat_le, Bool, true, false, Option, Some, List, [], ◌∷◌, ◌++◌, ◌==◌, codes, if◌then◌else◌, nat_lt}
 use Rattle.std.specs.declared.cmp.Ordering.{Ordering}
 use Rattle.std.specs.Fmt.{decimal}
@@ -48,7 +49,7 @@ field_top field = nat_le 32768 field
 
 -- the class field of an OPT record: the sender's payload size, of 512 bytes at least (RFC 6891, 6.1.2 and 6.2.3)
 abbrev pub opt_class : ℕ → DNSClass
-opt_class payload = if nat_lt payload 512 then classes.OPT 512 else classes.OPT payload
+opt_class payload = if nat_lt payload MIN_PAYLOAD then classes.OPT MIN_PAYLOAD else classes.OPT payload
 
 -- whether the class has a name
 abbrev pub is_named_class : DNSClass → Bool

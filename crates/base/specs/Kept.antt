@@ -1,4 +1,5 @@
 -- The labels at offsets that pointers led to.
+use Rattle.base.specs.declared.limits.TheConstants.{POINTER_LIMIT}
 use Rattle.std.specs.Prelude.{◌≡◌, ℕ, suc, Bool, ◌==◌, ◌<◌, ◌++◌, List, [], ◌∷◌, Option, Some, None, All, map, get_or}
 use Rattle.std.specs.FinSet as set
 use Rattle.std.specs.List.{list_any}
@@ -10,7 +11,7 @@ use Rattle.base.specs.Spelling.{Spelled}
 -- these bytes are the labels that are spelled at t
 pub record IsKept (bytes : List ℕ) (t : ℕ) (items : List ℕ) : Type 0 where
   pub end : ℕ
-  pub near : t < 16384
+  pub near : t < POINTER_LIMIT
   pub wire : IsWire items
   pub spelled : Spelled bytes (labels_of items) t t end
 

@@ -1,4 +1,5 @@
 -- A domain name as a list of labels (RFC 1035, 3.1), and its labels in one run of bytes.
+use Rattle.base.specs.declared.limits.TheConstants.{MAX_LABEL, MAX_LABELS, MAX_NAME}
 use Rattle.std.specs.Prelude.{◌≡◌, ℕ, ◌+◌, ◌≤◌, Bool, List, [], ◌∷◌, ◌++◌, length, take, drop, zero, suc}
 
 -- the labels from the left, and whether the name is absolute
@@ -18,7 +19,7 @@ plain_len labels = size_of labels + 1
 -- a label has 1 to 63 bytes
 pub record IsLabel (label : List ℕ) : Type 0 where
   pub some : 1 ≤ length label
-  pub short : length label ≤ 63
+  pub short : length label ≤ MAX_LABEL
 
 -- each is a label
 abbrev pub AreLabels : List (List ℕ) → Type 0
@@ -27,7 +28,7 @@ AreLabels (label ∷ labels) = IsLabel label × AreLabels labels
 
 -- labels of a name: it has at most 255 bytes (RFC 1035, 2.3.4)
 abbrev pub AreNameLabels : List (List ℕ) → Type 0
-AreNameLabels labels = AreLabels labels × (plain_len labels ≤ 255)
+AreNameLabels labels = AreLabels labels × (plain_len labels ≤ MAX_NAME)
 
 -- the labels as bytes, each with its length before it
 unfoldable pub wire_of : List (List ℕ) → List ℕ
@@ -52,4 +53,4 @@ IsLabelRun bytes = wire_of (labels_of bytes) ≡ bytes
 pub record IsWire (bytes : List ℕ) : Type 0 where
   pub whole : IsLabelRun bytes
   pub labels : AreLabels (labels_of bytes)
-  pub short : length bytes ≤ 254
+  pub short : length bytes ≤ MAX_LABELS

@@ -1,4 +1,5 @@
 -- The laws of everything that is written.
+use Rattle.base.specs.declared.limits.TheConstants.{POINTER_LIMIT}
 use Rattle.std.specs.Prelude.{◌≡◌, ◌≢◌, ℕ, ◌+◌, ◌<◌, ◌≤◌, max, List, [], ◌++◌, length, drop, All, Any}
 use Rattle.base.specs.Labels.{size_of}
 use Rattle.base.specs.Spelling.{Spelled}
@@ -8,7 +9,7 @@ use Rattle.base.specs.State.{State, Stored}
 -- a stored suffix is spelled at its offset, where a pointer of a name written from n on can point
 pub record IsSpelled (B : List ℕ) (n : ℕ) (t : Stored) : Type 0 where
   pub below : t.offset < n
-  pub fits : t.offset < 16384
+  pub fits : t.offset < POINTER_LIMIT
   pub end : ℕ
   pub spelled : Spelled B t.labels t.offset t.offset end
 
@@ -40,7 +41,7 @@ pub record Compresses (owner : List (List ℕ)) (old new : State) : Type 0 where
   pub short : owner ≢ [] → (front : List (List ℕ))
       → Any (λ t. owner ≡ front ++ t.labels) old.suffixes
       → end ≤ length old.bytes + (size_of front + 2)
-  pub stored : owner ≢ [] → length old.bytes < 16384 → Any (λ t. t.labels ≡ owner) new.suffixes
+  pub stored : owner ≢ [] → length old.bytes < POINTER_LIMIT → Any (λ t. t.labels ≡ owner) new.suffixes
 
 -- A value was written: its word stands in every buffer that holds what was written, all suffixes
 -- stored until then are spelled there, and no more bytes were taken than without compression.
@@ -56,5 +57,5 @@ pub record Writes (word : List ℕ → ℕ → ℕ → Type 0) (plain : ℕ) (ow
 pub record StoresSuffixes (labels : List (List ℕ)) (old new : State) : Type 0 where
   pub each : (front back : List (List ℕ)) → labels ≡ front ++ back
       → length old.bytes + size_of front + 2 < length new.bytes
-      → length old.bytes + size_of front < 16384
+      → length old.bytes + size_of front < POINTER_LIMIT
       → Any (λ t. (t.labels ≡ back) × (t.offset ≡ length old.bytes + size_of front)) new.suffixes

@@ -1,4 +1,5 @@
 -- The name that a text names, as a function (RFC 1035, 5.1).
+use Rattle.base.specs.declared.limits.TheConstants.{MAX_LABEL, MAX_NAME}
 use Rattle.std.specs.Prelude.{ℕ, zero, suc, Bool, true, false, ◌&&◌, List, [], ◌∷◌, ◌++◌, length, nat_le, if◌then◌else◌, Option, Some, None, Result, Ok, Err}
 use Rattle.std.specs.Str.{bytes_eq}
 use Rattle.base.specs.Labels.{NameValue, plain_len}
@@ -43,11 +44,11 @@ without_end (x ∷ y ∷ ys) = (x ∷ (without_end (y ∷ ys)).0, (without_end (
 -- each has 1 to 63 bytes (RFC 1035, 2.3.4)
 abbrev pub are_labels : List (List ℕ) → Bool
 are_labels [] = true
-are_labels (x ∷ xs) = nat_le 1 (length x) && nat_le (length x) 63 && are_labels xs
+are_labels (x ∷ xs) = nat_le 1 (length x) && nat_le (length x) MAX_LABEL && are_labels xs
 
 -- one label or more, each of 1 to 63 bytes, of a name of at most 255 bytes (RFC 1035, 2.3.4)
 abbrev pub is_name : List (List ℕ) → Bool
-is_name labels = nat_le 1 (length labels) && are_labels labels && nat_le (plain_len labels) 255
+is_name labels = nat_le 1 (length labels) && are_labels labels && nat_le (plain_len labels) MAX_NAME
 
 -- labels, if they are those of a name
 abbrev pub if_name : List (List ℕ) × Bool → Option (List (List ℕ) × Bool)
@@ -68,7 +69,7 @@ abbrev pub completed : Option NameValue → List (List ℕ) × Bool → Result N
 completed origin (labels, true) = Ok (record { labels = labels; absolute = true })
 completed None (labels, false) = Ok (record { labels = labels; absolute = false })
 completed (Some o) (labels, false) =
-    if nat_le (plain_len (labels ++ o.labels)) 255
+    if nat_le (plain_len (labels ++ o.labels)) MAX_NAME
     then Ok (record { labels = labels ++ o.labels; absolute = true }) else Err bad_name
 
 -- the same of labels, where the text has them

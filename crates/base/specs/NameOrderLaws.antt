@@ -19,9 +19,11 @@ labels_decide = pointwise_decides bytes_decides
 -- lists are the same exactly where their reverses are
 turned_Decides : (b : Bool) (xs ys : List (List ℕ)) → Decides b (reverse xs ≡ reverse ys)
     → Decides b (xs ≡ ys)
-turned_Decides b xs ys d =
-    (λ e. sym (reverse-reverse xs) ∙ ap reverse (d.0 e)
-    ∙ reverse-reverse ys, λ e. d.1 (ap reverse e))
+turned_Decides b xs ys d = (
+  λ e. sym (reverse-reverse xs) ∙ ap reverse (d.0 e)
+      ∙ reverse-reverse ys,
+  λ e. d.1 (ap reverse e),
+)
 
 -- the order of labels tells apart exactly those that are not the same
 pub labels_tie : (xs ys : List (List ℕ)) → same_labels xs ys ≡ is_eq (labels_cmp xs ys)
@@ -72,8 +74,9 @@ module _ (shown : NameValue → List (List ℕ)) where
     same_shown h = (labels_decide (shown a) (shown b)).0 (second_so (beq a.absolute b.absolute) _ h)
 
     both : (a.absolute ≡ b.absolute) × (shown a ≡ shown b) → IsTrue (same_by shown a b)
-    both h = rw ((booleans_Decides a.absolute b.absolute).1 h.0)
-    ((labels_decide (shown a) (shown b)).1 h.1)
+    both h =
+        rw ((booleans_Decides a.absolute b.absolute).1 h.0)
+        ((labels_decide (shown a) (shown b)).1 h.1)
 
   -- and so have those that the order does not tell apart
   pub cmp_by-ties : (a b : NameValue)

@@ -1,4 +1,5 @@
 -- The text of names (RFC 1035, 5.1; RFC 4343, 2.1).
+use Rattle.base.specs.declared.limits.TheConstants.{MAX_NAME}
 use Rattle.std.specs.Prelude.{◌≡◌, ◌≢◌, ℕ, Bool, true, false, ◌+◌, ◌-◌, ◌*◌, ◌/◌, ◌%◌, ◌<◌, ◌≤◌, ◌&&◌}
 use Rattle.std.specs.Prelude.{◌||◌, ◌==◌, List, [], ◌∷◌, ◌++◌, map, nat_lt, nat_le, if◌then◌else◌, Option, Some, None, IsTrue}
 use Rattle.std.specs.Char.{is_ascii_digit}
@@ -95,7 +96,7 @@ pub record IsLabelsText (text : List ℕ) (labels : List (List ℕ)) (absolute :
   pub reads : AreCharsOf text (dotted labels ++ (if absolute then dot ∷ [] else []))
   pub some : labels ≢ []
   pub each : AreLabels labels
-  pub short : plain_len labels ≤ 255
+  pub short : plain_len labels ≤ MAX_NAME
 
 -- The text names this name, where an origin may be given: a dot alone the root; a sign @ alone the origin;
 -- labels with a dot at the end an absolute name, and without one a relative name, or the absolute one that
@@ -109,5 +110,5 @@ pub data IsNameText (text : List ℕ) (origin : Option NameValue) : NameValue �
       → IsLabelsText text labels false
       → IsNameText text origin (record { labels = labels; absolute = false })
   is_completed : {o : NameValue} {labels : List (List ℕ)} → origin ≡ Some o → text ≢ 64 ∷ []
-      → IsLabelsText text labels false → plain_len (labels ++ o.labels) ≤ 255
+      → IsLabelsText text labels false → plain_len (labels ++ o.labels) ≤ MAX_NAME
       → IsNameText text origin (record { labels = labels ++ o.labels; absolute = true })

@@ -1,4 +1,5 @@
 -- Reading a name: the labels and the place after them, or the first fault (RFC 1035, 4.1.4).
+use Rattle.base.specs.declared.limits.TheConstants.{MAX_NAME}
 use Rattle.std.specs.Prelude.{ℕ, zero, suc, ◌+◌, ◌-◌, ◌==◌, List, [], ◌∷◌, length, slice_index, slice_range, nat_lt, nat_le, if◌then◌else◌, Result, Ok, Err, true}
 use Rattle.base.specs.declared.error.decode_error.DecodeError.{DecodeError}
 use Rattle.base.specs.declared.error.decode_error.DecodeError.TheVariants as faults
@@ -42,7 +43,7 @@ ending e read = read >>= λ r. Ok (r.0, e)
 abbrev pub after_part : (ℕ → ℕ → ℕ → Labels) → List ℕ → ℕ → ℕ → ℕ → NamePart → Labels
 after_part again bytes s i used zero_byte = Ok ([], i + 1)
 after_part again bytes s i used (label_of len) =
-    if nat_lt 255 (used + len + 2) then Err faults.BadName
+    if nat_lt MAX_NAME (used + len + 2) then Err faults.BadName
     else with_label (slice_range bytes (i + 1) (i + 1 + len))
     (again s (i + 1 + len) (used + len + 1))
 after_part again bytes s i used (pointer_to t) = if nat_le s t then Err faults.BadName

@@ -1,4 +1,5 @@
 -- The pointers that reading a name followed.
+use Rattle.base.specs.declared.limits.TheConstants.{POINTER_LIMIT}
 use Rattle.std.specs.Prelude.{◌≡◌, ℕ, true, ◌+◌, ◌^◌, ◌<◌, ◌≤◌, List, [], ◌∷◌, length, drop, map, All}
 use Rattle.std.specs.FinSet as set
 use Rattle.std.specs.Ordering.{nat_cmp}
@@ -40,4 +41,4 @@ pub record Followed (ts : List ℕ) (old new : Reader) : Type 0 where
   pub now : new ≡ record old { jumps = new.jumps }
   pub jumps : old.jumps + length ts < 2 ^ 64 → new.jumps ≡ old.jumps + length ts
   pub all : set.len (inserted ts old.kept) ≡ set.len old.kept + length ts
-  pub few : set.len old.kept ≤ 16384 → set.len (inserted ts old.kept) ≤ 16384
+  pub few : set.len old.kept ≤ POINTER_LIMIT → set.len (inserted ts old.kept) ≤ POINTER_LIMIT

@@ -1,4 +1,5 @@
 -- Spellings that are written: a zero byte, a label, and a pointer (RFC 1035, 4.1.4).
+use Rattle.base.specs.declared.limits.TheConstants.{MAX_LABEL, POINTER_LIMIT}
 use Rattle.std.proofs.Common.{◌≡◌, ℕ, ◌+◌, ◌/◌, ◌%◌, ◌<◌, ◌≤◌, List, [], ◌∷◌, ◌++◌, length, length-append, refl, ap, sym, ◌∙◌, subst, append_assoc, arith}
 use Rattle.std.proofs.lemmas.List.{append-nil}
 use Rattle.std.specs.Int.{w16, to_be_bytes}
@@ -39,7 +40,7 @@ root_stands B s i e stands is =
     subst (λ (n : ℕ). Spelled B [] s i n) (sym is) (ends (byte_first 0 [] B i stands))
 
 -- where a label with its length stands, and labels are spelled after it, all are spelled
-pub label_stands : (B x : List ℕ) (xs : List (List ℕ)) (s i e : ℕ) → 1 ≤ length x → length x ≤ 63
+pub label_stands : (B x : List ℕ) (xs : List (List ℕ)) (s i e : ℕ) → 1 ≤ length x → length x ≤ MAX_LABEL
     → Stands (length x ∷ x) B i → Spelled B xs s (i + (1 + length x)) e → Spelled B (x ∷ xs) s i e
 label_stands B x xs s i e some small stands rest =
     let bytes : Stands x B (i + 1) =
@@ -51,7 +52,7 @@ label_stands B x xs s i e some small stands rest =
     (stands_bytes x B (i + 1) (omega arith) bytes) (subst (λ (j : ℕ). Spelled B xs s j e) next rest)
 
 -- where a pointer stands, the labels are spelled that are spelled at its target
-pub pointer_stands : {B : List ℕ} {labels : List (List ℕ)} {s i t f e : ℕ} → t < s → t < 16384
+pub pointer_stands : {B : List ℕ} {labels : List (List ℕ)} {s i t f e : ℕ} → t < s → t < POINTER_LIMIT
     → Stands (to_be_bytes w16 (49152 + t)) B i → Spelled B labels t t f → e ≡ i + 2
     → Spelled B labels s i e
 pointer_stands {B} {labels} {s} {i} {t} {f} {e} below near stands rest is =

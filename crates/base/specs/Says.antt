@@ -1,4 +1,5 @@
 -- What is known of what is written, of the definition alone: where it stands, its word stands.
+use Rattle.base.specs.declared.limits.TheConstants.{POINTER_LIMIT}
 use Rattle.std.specs.Prelude.{◌≡◌, ◌≢◌, ℕ, ◌+◌, ◌^◌, ◌<◌, ◌≤◌, List, [], ◌++◌, length, All, Any}
 use Rattle.base.specs.Labels.{size_of}
 use Rattle.base.specs.Laws.{IsSpelled}
@@ -26,7 +27,7 @@ pub record IsOwned (f : Writing) (fits : Type 0) (owner : List (List ℕ)) : Typ
       → IsThere f B at stored → Spelled B owner at at (end at stored)
   pub short : owner ≢ [] → (at : ℕ) (stored : List Stored) (front : List (List ℕ))
       → Any (λ t. owner ≡ front ++ t.labels) stored → end at stored ≤ at + (size_of front + 2)
-  pub stores : owner ≢ [] → (at : ℕ) (stored : List Stored) → at < 16384
+  pub stores : owner ≢ [] → (at : ℕ) (stored : List Stored) → at < POINTER_LIMIT
       → Any (λ t. t.labels ≡ owner) (f at stored).suffixes
 
 -- What is written of a value whose parts fit is a word, and all suffixes stored until then are spelled. It has at most

@@ -1,4 +1,5 @@
 -- What is known of what is written of a name.
+use Rattle.base.specs.declared.limits.TheConstants.{POINTER_LIMIT}
 use Rattle.std.proofs.Common.{◌≡◌, ◌≢◌, ℕ, suc, ◌+◌, ◌-◌, ◌<◌, ◌≤◌, ◌⊎◌, inl, inr, List, [], ◌∷◌, ◌++◌, length, get_or, refl, ap, sym, ◌∙◌, subst, append_assoc, arith, length-append, Bool, true, false, cond}
 use Rattle.std.specs.Prelude.{Option, Some, None, All, Any, nat_le}
 use Rattle.std.specs.Int.{w16, to_be_bytes}
@@ -23,31 +24,31 @@ use Rattle.base.specs.Written.{Piece, both, pointer, found_in, pointer_or, label
 pub record Near (x : List ℕ) (xs : List (List ℕ)) (at : ℕ) (stored : List Stored) : Type 0 where
   pub added : List Stored
   pub is : (label_of x xs at stored).suffixes ≡ stored ++ added
-  pub which : ((added ≡ []) × (16384 ≤ at))
-      ⊎ ((added ≡ record { labels = x ∷ xs; offset = at } ∷ []) × (at < 16384))
+  pub which : ((added ≡ []) × (POINTER_LIMIT ≤ at))
+      ⊎ ((added ≡ record { labels = x ∷ xs; offset = at } ∷ []) × (at < POINTER_LIMIT))
 
 near_by : (x : List ℕ) (xs : List (List ℕ)) (at : ℕ) (stored : List Stored) (far : Bool)
-    → nat_le 16384 at ≡ far → Near x xs at stored
+    → nat_le POINTER_LIMIT at ≡ far → Near x xs at stored
 near_by x xs at stored true is = record {
   added = [];
   is = ap (λ (b : Bool). cond b stored (stored ++ record { labels = x ∷ xs; offset = at } ∷ [])) is
       ∙ sym (append-nil stored);
-  which = inl (refl, leb-true 16384 at is);
+  which = inl (refl, leb-true POINTER_LIMIT at is);
 }
 near_by x xs at stored false is = record {
   added = record { labels = x ∷ xs; offset = at } ∷ [];
   is = ap (λ (b : Bool). cond b stored (stored ++ record { labels = x ∷ xs; offset = at } ∷ [])) is;
-  which = inr (refl, leb-false 16384 at is);
+  which = inr (refl, leb-false POINTER_LIMIT at is);
 }
 
 -- what storing a label's suffix adds
 pub near : (x : List ℕ) (xs : List (List ℕ)) (at : ℕ) (stored : List Stored) → Near x xs at stored
-near x xs at stored = near_by x xs at stored (nat_le 16384 at) refl
+near x xs at stored = near_by x xs at stored (nat_le POINTER_LIMIT at) refl
 
 -- what holds of the suffix, if it is near, holds of all that is added
 pub near_all : (P : Stored → Type 0) (x : List ℕ) (xs : List (List ℕ)) (at : ℕ)
     (stored : List Stored) (n : Near x xs at stored)
-    → (at < 16384 → P (record { labels = x ∷ xs; offset = at })) → All P n.added
+    → (at < POINTER_LIMIT → P (record { labels = x ∷ xs; offset = at })) → All P n.added
 near_all P x xs at stored n holds = elim n.which [
   | inl far ↦ All-same P n.added [] far.0 (All-nil P)
   | inr close ↦ All-same P n.added _ close.0 (All-cons P _ [] (holds close.1) (All-nil P))
@@ -339,7 +340,7 @@ name_at_most (x ∷ xs) at stored = elim (name_cases x xs at stored) [
 
 -- the label's suffix is stored, and stays
 stored_here : (P : Stored → Type 0) (x : List ℕ) (xs : List (List ℕ)) (at : ℕ)
-    (stored : List Stored) → HasLabel x xs at stored → at < 16384
+    (stored : List Stored) → HasLabel x xs at stored → at < POINTER_LIMIT
     → P (record { labels = x ∷ xs; offset = at })
     → Any P (name (x ∷ xs) at stored).suffixes
 stored_here P x xs at stored has early holds =
@@ -356,7 +357,7 @@ stored_here P x xs at stored has early holds =
           (rest_of x xs at stored).suffixes rest.adds.is pushed)
     ]
 
-name_stores : (labels : List (List ℕ)) (at : ℕ) (stored : List Stored) → labels ≢ [] → at < 16384
+name_stores : (labels : List (List ℕ)) (at : ℕ) (stored : List Stored) → labels ≢ [] → at < POINTER_LIMIT
     → Any (λ t. t.labels ≡ labels) (name labels at stored).suffixes
 name_stores [] at stored some early = absurd (some refl)
 name_stores (x ∷ xs) at stored some early = elim (name_cases x xs at stored) [
@@ -368,7 +369,7 @@ name_stores (x ∷ xs) at stored some early = elim (name_cases x xs at stored) [
 
 -- each suffix that is written by labels, and begins early, is stored where it begins
 pub name_each : (front back : List (List ℕ)) (at : ℕ) (stored : List Stored)
-    → size_of front + 2 < length (name (front ++ back) at stored).bytes → at + size_of front < 16384
+    → size_of front + 2 < length (name (front ++ back) at stored).bytes → at + size_of front < POINTER_LIMIT
     → Any (λ t. (t.labels ≡ back) × (t.offset ≡ at + size_of front))
     (name (front ++ back) at stored).suffixes
 name_each [] [] at stored more early = absurd (omega (arith, more))

@@ -1,4 +1,5 @@
 -- How a name is spelled in a message (RFC 1035, 4.1.4).
+use Rattle.base.specs.declared.limits.TheConstants.{MAX_LABEL, MAX_NAME}
 use Rattle.std.specs.Prelude.{◌≡◌, ℕ, ◌+◌, ◌-◌, ◌*◌, ◌<◌, ◌≤◌, ◌⊎◌, Bool, IsTrue, List, [], ◌∷◌, length, slice_index, true}
 use Rattle.base.specs.Labels.{NameValue, plain_len}
 
@@ -23,7 +24,7 @@ target b c = 256 * (b - 192) + c
 pub data SpelledIn (looks : ℕ → Type 0) (bytes : List ℕ) : ℕ → ℕ → List (List ℕ) → ℕ → Type 0 where
   ends : {s i : ℕ} → ByteAt looks bytes i 0 → SpelledIn looks bytes s i [] (i + 1)
   label : {s i e : ℕ} {x : List ℕ} {xs : List (List ℕ)} → ByteAt looks bytes i (length x)
-      → 1 ≤ length x → length x ≤ 63 → BytesAt looks bytes (i + 1) x
+      → 1 ≤ length x → length x ≤ MAX_LABEL → BytesAt looks bytes (i + 1) x
       → SpelledIn looks bytes s (i + 1 + length x) xs e → SpelledIn looks bytes s i (x ∷ xs) e
   pointer : {s i b c e : ℕ} {xs : List (List ℕ)} → ByteAt looks bytes i b
       → ByteAt looks bytes (i + 1) c → 192 ≤ b → target b c < s
@@ -53,7 +54,7 @@ Spelled bytes labels s i e = SpelledIn anywhere bytes s i labels e
 -- a name stands from i up to e: absolute, and of at most 255 bytes without compression
 pub record IsNameAt (bytes : List ℕ) (i : ℕ) (name : NameValue) (e : ℕ) : Type 0 where
   pub spelled : Spelled bytes name.labels i i e
-  pub short : plain_len name.labels ≤ 255
+  pub short : plain_len name.labels ≤ MAX_NAME
   pub absolute : name.absolute ≡ true
 
 -- these names stand at these places

@@ -1,4 +1,5 @@
 -- An encoder as its contracts see it.
+use Rattle.base.specs.declared.limits.TheConstants.{POINTER_LIMIT}
 use Rattle.std.specs.Prelude.{ℕ, ◌+◌, ◌%◌, ◌^◌, List, [], ◌∷◌, ◌++◌, length, take, drop, nat_le, if◌then◌else◌}
 use Rattle.std.specs.Int.{w32, from_le_bytes}
 
@@ -30,7 +31,7 @@ cut len count s = record s { bytes = take len s.bytes; suffixes = take count s.s
 
 -- with a suffix that was written at a place, unless the place is too far for a pointer (RFC 1035, 4.1.4)
 abbrev pub stored : List (List ℕ) → ℕ → State → State
-stored labels at s = if nat_le 16384 at then s
+stored labels at s = if nat_le POINTER_LIMIT at then s
     else record s { suffixes = s.suffixes ++ record { labels = labels; offset = at } ∷ [] }
 
 -- the first four bytes and the next four as numbers, the lowest first, added in four bytes; the first four where there are fewer than eight,

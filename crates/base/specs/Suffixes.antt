@@ -1,4 +1,5 @@
 -- The table of suffixes: a list in order of offset, and an ordered index of it.
+use Rattle.base.specs.declared.limits.TheConstants.{POINTER_LIMIT}
 use Rattle.std.specs.Prelude.{◌≡◌, ◌≢◌, ℕ, ◌<◌, ◌++◌, List, Option, Some, Vec, All, Any}
 use Rattle.std.specs.BTreeMap.{BTreeMap, get_by}
 use Rattle.std.specs.Cmp.Lexicographic.{slice_cmp}
@@ -27,7 +28,7 @@ pub record IsIndexed (find : List ℕ → Option ℕ) (list : List Stored) : Typ
   pub once : AllPairs (λ s t. s.labels ≢ t.labels) list
   pub kept : All (λ t. find (wire_of t.labels) ≡ Some t.offset) list
   pub found : (bytes : List ℕ) (o : ℕ) → find bytes ≡ Some o
-      → (o < 16384) × Any (λ t. (wire_of t.labels ≡ bytes) × (t.offset ≡ o)) list
+      → (o < POINTER_LIMIT) × Any (λ t. (wire_of t.labels ≡ bytes) × (t.offset ≡ o)) list
 
 -- The first suffixes stand in a list alone, the others in a second one with an index of it; all stand in order of offset, each once.
 pub record IsTable (find : List ℕ → Option ℕ) (first others : List Stored) : Type 0 where

@@ -1,4 +1,5 @@
 -- What stands where in a message: bytes, numbers, names, and words made of them.
+use Rattle.base.specs.declared.limits.TheConstants.{MAX_NAME}
 use Rattle.std.specs.Prelude.{◌≡◌, ℕ, ◌+◌, ◌≤◌, List, [], ◌∷◌, length, take, drop}
 use Rattle.std.specs.Int.{Width, w16, byte_len, from_be_bytes}
 use Rattle.base.specs.Labels.{plain_len}
@@ -39,4 +40,4 @@ Sized word B i e = (n : ℕ) × (e ≡ i + 2 + n) × IsNumberAt w16 B i n × wor
 
 -- a name of these labels
 abbrev pub NameAt : List (List ℕ) → List ℕ → ℕ → ℕ → Type 0
-NameAt labels B i e = Spelled B labels i i e × (plain_len labels ≤ 255)
+NameAt labels B i e = Spelled B labels i i e × (plain_len labels ≤ MAX_NAME)

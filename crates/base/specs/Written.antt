@@ -1,5 +1,6 @@
 -- What is written of a value: a function of the place where it begins and of the suffixes stored until then
 -- (RFC 1035, 4.1 and 4.1.4).
+use Rattle.base.specs.declared.limits.TheConstants.{POINTER_LIMIT}
 use Rattle.std.specs.Prelude.{◌≡◌, ℕ, ◌+◌, ◌<◌, List, [], ◌∷◌, ◌++◌, length, Option, Some, None, Result, Ok, Err, nat_le, if◌then◌else◌}
 use Rattle.std.specs.Int.{w16, to_be_bytes}
 use Rattle.base.specs.declared.error.proto_error.ProtoError.{ProtoError}
@@ -81,7 +82,7 @@ abbrev pub label_of : List ℕ → List (List ℕ) → Writing
 label_of x xs at stored =
     record {
       bytes = length x ∷ x;
-      suffixes = if nat_le 16384 at then stored else stored
+      suffixes = if nat_le POINTER_LIMIT at then stored else stored
           ++ record { labels = x ∷ xs; offset = at } ∷ [];
     }
 

@@ -1,5 +1,6 @@
 //! The classes (RFC 1035, 3.2.4 and 3.2.5; RFC 6895, 3.2).
 
+ghost use Rattle.base.specs.declared.limits.TheConstants.{MIN_PAYLOAD};
 ghost use Rattle.std.specs.Prelude.{◌≡◌, ◌^◌, ◌<◌, ◌≤◌, ◌⊎◌, ℕ, List, IsTrue, Some, None, false, codes};
 ghost use Rattle.std.proofs.Common.{rules};
 ghost use Rattle.std.specs.Cmp.{partial_order_from_own_ties};
@@ -7,6 +8,7 @@ ghost use Rattle.std.specs.Cmp.Rules.{comparing};
 ghost use Rattle.std.specs.Ordering.{as_partial_cmp};
 ghost use Rattle.base.specs.DNSClass.{class_cmp, class_field, class_from_text, class_number, class_of, class_rank, class_text, field_class, field_top, is_named_class, is_opt_class, opt_class};
 
+use crate::limits::MIN_PAYLOAD;
 use std::cmp::Ordering;
 use std::fmt;
 
@@ -52,7 +54,7 @@ impl DNSClass {
     pub fn for_opt(payload: u16) -> DNSClass
         ensures { result ≡ opt_class payload }
     {
-        DNSClass::OPT(payload.max(512))
+        DNSClass::OPT(payload.max(MIN_PAYLOAD))
     }
 
     /// The class field of a question or record: the number, with its top bit set where `top_bit` says so:
@@ -176,8 +178,8 @@ pub fn class_round_trip()
 /// A payload size is kept from 512 on, and a smaller one is 512 (RFC 6891, 6.2.3).
 pub fn payload_sizes()
     ensures payload { (n : ℕ) → IsTrue (is_opt_class (opt_class n)) }
-    ensures kept { (n : ℕ) → 512 ≤ n → class_number (opt_class n) ≡ n }
-    ensures raised { (n : ℕ) → n < 512 → class_number (opt_class n) ≡ 512 }
+    ensures kept { (n : ℕ) → MIN_PAYLOAD ≤ n → class_number (opt_class n) ≡ n }
+    ensures raised { (n : ℕ) → n < MIN_PAYLOAD → class_number (opt_class n) ≡ MIN_PAYLOAD }
 {}
 
 /// The text of a named class is read as that class and `*` as ANY, and that of another is not read; what is read as

@@ -3,6 +3,7 @@
 
 pub mod dns_class;
 pub mod error;
+pub mod limits;
 pub mod lower_name;
 pub mod name;
 mod octets;

@@ -1,5 +1,6 @@
 //! Domain names (RFC 1035, 3.1).
 
+ghost use Rattle.base.specs.declared.limits.TheConstants.{MAX_LABELS, MAX_NAME};
 ghost use Rattle.std.specs.Prelude.{◌≡◌, ◌+◌, ◌<◌, ◌≤◌, ◌↔◌, [], ◌∷◌, ◌++◌, true, length, IsTrue, IfSome, MatchOption, slice_get};
 ghost use Rattle.std.specs.Option.{option_copied};
 ghost use Rattle.base.specs.Labels.{AreLabels, IsLabelRun, plain_len, wire_of, labels_of};
@@ -82,7 +83,7 @@ impl Name {
     pub fn label_count(&self) -> usize
         ensures count { result ≡ length self.now.labels }
         ensures labels { AreLabels self.now.labels }
-        ensures short { plain_len self.now.labels ≤ 255 }
+        ensures short { plain_len self.now.labels ≤ MAX_NAME }
     {
         let mut count = 0;
         let mut rest = self.as_wire();
@@ -115,8 +116,8 @@ impl Name {
         ensures whole { IsLabelRun result.now }
         ensures cut { labels_of result.now ≡ self.now.labels }
         ensures labels { AreLabels self.now.labels }
-        ensures short { length result.now ≤ 254 }
-        ensures plain { plain_len self.now.labels ≤ 255 }
+        ensures short { length result.now ≤ MAX_LABELS }
+        ensures plain { plain_len self.now.labels ≤ MAX_NAME }
     {
         self.octets.as_slice()
     }

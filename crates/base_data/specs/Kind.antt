@@ -1,4 +1,5 @@
 -- What is known of data of one kind: one value for each kind, in the kind's own file.
+use Rattle.base.specs.declared.limits.TheConstants.{MAX_NAME}
 use Rattle.std.specs.Prelude.{◌≡◌, ◌≢◌, ℕ, ◌<◌, ◌≤◌, Bool, false, All, List, [], length, Option}
 use Rattle.base.specs.Labels.{AreLabels, NameValue, plain_len}
 use Rattle.base.specs.Says.{Says}
@@ -53,7 +54,7 @@ pub record HasText (name : NameValue) : Type 0 where
   pub some : name.absolute ≡ false → name.labels ≢ []
   pub bytes : All (All (λ b. b < 256)) name.labels
   pub labels : AreLabels name.labels
-  pub short : plain_len name.labels ≤ 255
+  pub short : plain_len name.labels ≤ MAX_NAME
 
 -- as many bytes
 pub record AreOctets (n : ℕ) (octets : List ℕ) : Type 0 where

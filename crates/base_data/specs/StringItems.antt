@@ -1,5 +1,6 @@
 -- Character strings from the items of a text (RFC 1035, 5.1): a backslash and three decimal digits up to 255 are the
 -- byte of that number, a backslash and another byte are that byte, and any other byte is itself, a quote too.
+use Rattle.base.specs.declared.limits.TheConstants.{MAX_STRING}
 use Rattle.std.specs.Prelude.{◌≡◌, ◌≢◌, ◌<◌, false, true, ℕ, ◌+◌, ◌-◌, ◌*◌, ◌==◌, ◌&&◌, List, [], ◌∷◌, ◌++◌, length, nat_lt, nat_le, if◌then◌else◌, Option, Some, None}
 use Rattle.std.specs.Char.{is_ascii_digit}
 
@@ -50,7 +51,7 @@ unescaped state (c ∷ text) = step_on (λ s. unescaped s text) (escape_step sta
 -- bytes of a string, 255 at most
 abbrev pub if_short : Option (List ℕ) → Option (List ℕ)
 if_short None = None
-if_short (Some bytes) = if nat_le (length bytes) 255 then Some bytes else None
+if_short (Some bytes) = if nat_le (length bytes) MAX_STRING then Some bytes else None
 
 -- the character string that an item is
 unfoldable pub string_item : List ℕ → Option (List ℕ)

@@ -1,4 +1,5 @@
 -- Texts: character strings, each a byte for its length and as many bytes (RFC 1035, 3.3 and 3.3.14).
+use Rattle.base.specs.declared.limits.TheConstants.{MAX_STRING}
 use Rattle.std.specs.Prelude.{◌≡◌, ◌≢◌, ℕ, Bool, All, ◌<◌, ◌≤◌, ◌||◌, ◌==◌, List, [], ◌∷◌, ◌++◌, length, map, nat_lt, if◌then◌else◌, Ok, Err, Option, Some, None}
 use Rattle.std.specs.List.{flat_map, join_with_byte}
 use Rattle.std.specs.Ordering.{on}
@@ -16,7 +17,7 @@ use Rattle.base.specs.Written.{just}
 
 -- each string has up to 255 bytes
 abbrev pub AreShort : List (List ℕ) → Type 0
-AreShort strings = All (λ string. length string ≤ 255) strings
+AreShort strings = All (λ string. length string ≤ MAX_STRING) strings
 
 -- bytes that are strings, each with its length before it: one string at least, each of up to 255 bytes
 pub record IsText (bytes : List ℕ) : Type 0 where

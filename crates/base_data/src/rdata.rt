@@ -1,6 +1,7 @@
 //! The kinds of record data, each in a file of its own, and the data of any record: what goes through all kinds
 //! stands here.
 
+ghost use Rattle.base.specs.declared.limits.TheConstants.{POINTER_LIMIT};
 ghost use Rattle.std.specs.Prelude.{◌≡◌, ◌<◌, ◌≤◌, [], IfOk, Some, take};
 ghost use Rattle.std.specs.FinSet as set;
 ghost use Rattle.base.specs.Counts.{Counts, Passes};
@@ -132,7 +133,7 @@ impl RData {
         len: u16,
     ) -> Result<RData, DecodeError>
         requires some { 0 < len }
-        requires few { set.len decoder.old.kept ≤ 16384 }
+        requires few { set.len decoder.old.kept ≤ POINTER_LIMIT }
         ensures read { Reads (λ x. x) decoder.old decoder.new result
             (kind_at record_type len decoder.old.bytes decoder.old.index) }
         ensures counts { Counts decoder.old decoder.new result }

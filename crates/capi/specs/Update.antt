@@ -1,4 +1,5 @@
 -- What the builders of updates are asked for, as texts.
+use Rattle.base.specs.declared.limits.TheConstants.{MAX_MESSAGE}
 use Rattle.std.specs.Prelude.{ℕ, Bool, List, [], ◌∷◌, if◌then◌else◌, Option, Some, None, Ok, Err, slice_get, true}
 use Rattle.base.specs.Labels.{NameValue}
 use Rattle.base.specs.NameOf.{name_of}
@@ -70,7 +71,7 @@ soa_of_text zone (b ∷ bs) = set_of_text zone (b ∷ bs) >>= λ set.
 
 -- the bytes of a message
 abbrev pub sent : MessageValue → Asked (List ℕ)
-sent m = written (message_answer 65535 m)
+sent m = written (message_answer MAX_MESSAGE m)
 
 -- the bytes of the message that is built of the name of a zone
 abbrev pub asked_of : List ℕ → (NameValue → Asked MessageValue) → Asked (List ℕ)

@@ -1,4 +1,5 @@
 -- What the callers that docs/CALLING.md quotes promise.
+use Rattle.base.specs.declared.limits.TheConstants.{MAX_MESSAGE}
 use Rattle.std.specs.BTreeMap.{BTreeMap}
 use Rattle.std.specs.Option.{option_map}
 use Rattle.std.specs.Prelude.{All, Err, List, None, Ok, Option, Result, Some, false, if◌then◌else◌, length, map, true, ℕ, ◌-◌, ◌≡◌, ◌⊎◌}
@@ -155,8 +156,8 @@ IsNotReceived bytes e = ⊥
 
 -- uncompressed questions without room; or bytes, such as a message is written as, that are not received whole
 abbrev pub IsUnsent : NameValue → SetValue → Refusal → Type 0
-IsUnsent origin s (refused.Proto e) = (e ≡ refusals.Memory) ⊎ IsTooSmall (creating origin s) 65535 e
-IsUnsent origin s e = (B : List ℕ) × (IsSendable origin s → IsWritten (creating origin s) 65535 B)
+IsUnsent origin s (refused.Proto e) = (e ≡ refusals.Memory) ⊎ IsTooSmall (creating origin s) MAX_MESSAGE e
+IsUnsent origin s e = (B : List ℕ) × (IsSendable origin s → IsWritten (creating origin s) MAX_MESSAGE B)
     × IsNotReceived B e
 
 -- ---- zone text that is checked

@@ -1,5 +1,6 @@
 //! Creates a record set in the zone of a text, by an update that is sent and received.
 
+ghost use Rattle.base.specs.declared.limits.TheConstants.{MAX_MESSAGE};
 ghost use Rattle.std.specs.Prelude.{◌≡◌, ◌⊎◌, IfErr, IfOk, true};
 ghost use Rattle.base.specs.NameOrder.{is_zone_of};
 ghost use Rattle.base.specs.declared.error.proto_error.ProtoError.TheVariants as refusals;
@@ -53,9 +54,9 @@ fn update_bytes(alloc: Global, origin: &Name, set: RecordSet) -> Result<Vec<u8>,
     requires { is_zone_of origin.now set.name ≡ true }
     ensures written { IfOk result
         (λ bytes. IsSendable origin.now set
-        → IsWritten (creating origin.now set) 65535 bytes.items) }
+        → IsWritten (creating origin.now set) MAX_MESSAGE bytes.items) }
     ensures refused { IfErr result
-        (λ e. (e ≡ refusals.Memory) ⊎ IsTooSmall (creating origin.now set) 65535 e) }
+        (λ e. (e ≡ refusals.Memory) ⊎ IsTooSmall (creating origin.now set) MAX_MESSAGE e) }
 {
     let update = create(alloc, 1, set, origin.clone()?, false)?;
     update.to_vec()

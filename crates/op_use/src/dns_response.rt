@@ -1,5 +1,6 @@
 //! Responses, and what they say (RFC 1035, 4.1; RFC 2308, 5).
 
+ghost use Rattle.base.specs.declared.limits.TheConstants.{MAX_MESSAGE};
 ghost use Rattle.std.specs.Prelude.{◌≡◌, ◌⊎◌, ◌&&◌, ◌↔◌, ℕ, IfErr, IfOk, IsOkUnless, MatchResult, Err, Ok};
 ghost use Rattle.std.specs.Borrow.{sem};
 ghost use Rattle.std.specs.List.{list_any};
@@ -55,22 +56,22 @@ impl DnsResponse {
             × IsResponse (message_value message)) }
         ensures query { (result ≡ Err ProtoError.NotAResponse) ↔ IsQuery (message_value message) }
         ensures succeeds { IsResponse (message_value message)
-            → HasRoom (message_value message) 65535 → IsOkUnless result ProtoError.Memory }
+            → HasRoom (message_value message) MAX_MESSAGE → IsOkUnless result ProtoError.Memory }
         ensures written { Fits (message_value message)
-            → IfOk result (λ r. IsWritten (message_value message) 65535 r.buffer) }
-        ensures emitted { IfOk result (λ r. EmittedNew (message_value message) 65535 r.buffer) }
-        ensures exact { IfOk result (λ r. r.buffer ≡ message_bytes 65535 (message_value message)) }
+            → IfOk result (λ r. IsWritten (message_value message) MAX_MESSAGE r.buffer) }
+        ensures emitted { IfOk result (λ r. EmittedNew (message_value message) MAX_MESSAGE r.buffer) }
+        ensures exact { IfOk result (λ r. r.buffer ≡ message_bytes MAX_MESSAGE (message_value message)) }
         ensures refused { IsResponse (message_value message)
             → IfErr result (λ e. (e ≡ ProtoError.Memory)
-            ⊎ IsTooSmall (message_value message) 65535 e) }
+            ⊎ IsTooSmall (message_value message) MAX_MESSAGE e) }
         ensures left { IsResponse (message_value message)
             → IfErr result (λ e. (e ≡ ProtoError.Memory)
-            ⊎ LeavesNew (message_value message) 65535 e) }
-        ensures answer { IfOk result (λ r. message_answer 65535 (message_value message)
+            ⊎ LeavesNew (message_value message) MAX_MESSAGE e) }
+        ensures answer { IfOk result (λ r. message_answer MAX_MESSAGE (message_value message)
             ≡ Ok r.buffer) }
         ensures refusal { IsResponse (message_value message)
             → IfErr result (λ e. (e ≡ ProtoError.Memory)
-            ⊎ (message_answer 65535 (message_value message) ≡ Err e)) }
+            ⊎ (message_answer MAX_MESSAGE (message_value message) ≡ Err e)) }
     {
         match message.metadata.message_type {
             MessageType::Query => Err(ProtoError::NotAResponse),
@@ -206,22 +207,22 @@ impl From<DnsResponse> for Message {
 
 /// The bytes of the message, as `Message::to_vec` writes them.
 fn write(alloc: Global, message: &Message) -> Result<Vec<u8>, ProtoError>
-    ensures succeeds { HasRoom (message_value message.now) 65535
+    ensures succeeds { HasRoom (message_value message.now) MAX_MESSAGE
         → IsOkUnless result ProtoError.Memory }
     ensures written { Fits (message_value message.now)
-        → IfOk result (λ bytes. IsWritten (message_value message.now) 65535 bytes.items) }
+        → IfOk result (λ bytes. IsWritten (message_value message.now) MAX_MESSAGE bytes.items) }
     ensures emitted { IfOk result
-        (λ bytes. EmittedNew (message_value message.now) 65535 bytes.items) }
+        (λ bytes. EmittedNew (message_value message.now) MAX_MESSAGE bytes.items) }
     ensures exact { IfOk result (λ bytes. bytes.items
-        ≡ message_bytes 65535 (message_value message.now)) }
+        ≡ message_bytes MAX_MESSAGE (message_value message.now)) }
     ensures refused { IfErr result (λ e. (e ≡ ProtoError.Memory)
-        ⊎ IsTooSmall (message_value message.now) 65535 e) }
+        ⊎ IsTooSmall (message_value message.now) MAX_MESSAGE e) }
     ensures left { IfErr result (λ e. (e ≡ ProtoError.Memory)
-        ⊎ LeavesNew (message_value message.now) 65535 e) }
-    ensures answer { IfOk result (λ bytes. message_answer 65535 (message_value message.now)
+        ⊎ LeavesNew (message_value message.now) MAX_MESSAGE e) }
+    ensures answer { IfOk result (λ bytes. message_answer MAX_MESSAGE (message_value message.now)
         ≡ Ok bytes.items) }
     ensures refusal { IfErr result (λ e. (e ≡ ProtoError.Memory)
-        ⊎ (message_answer 65535 (message_value message.now) ≡ Err e)) }
+        ⊎ (message_answer MAX_MESSAGE (message_value message.now) ≡ Err e)) }
 {
     let mut buffer = Vec::new(alloc);
     {

@@ -1,5 +1,6 @@
 //! Comparing names: ASCII letters are the same in either case (RFC 4343, 3; RFC 4034, 6.1).
 
+ghost use Rattle.base.specs.declared.limits.TheConstants.{MAX_LABELS};
 ghost use Rattle.std.specs.Prelude.{◌≡◌, ◌≢◌, ◌≤◌, ◌↔◌, ◌++◌, ℕ, List, IfNone, IfOk, IfSome, IsTrue, true, false, take, drop, length, map, refl};
 ghost use Rattle.std.specs.Char.{to_ascii_lowercase};
 ghost use Rattle.std.specs.Cmp.{partial_equiv_from_equiv};
@@ -9,14 +10,12 @@ ghost use Rattle.base.specs.Labels.{NameValue, AreLabels, IsLabelRun, labels_of}
 ghost use Rattle.base.specs.NameOrder.{canonical_cmp, is_zone_of, folded, folded_labels, lowered, labels_cmp, same_labels, same_name, name_cmp, name_fed};
 ghost use Rattle.base.specs.NameOrderLaws.{same_by-equiv, same_by-tie, cmp_by-total, cmp_by-partial, fed_by-same};
 
+use crate::limits::MAX_LABELS;
 use crate::name::{Name, first_label};
 use crate::octets::Octets;
 use std::alloc::{AllocError, Global};
 use std::cmp::Ordering;
 use std::hash::{Hash, Hasher};
-
-/// The bytes of the labels of the longest name, each with its length before it (RFC 1035, 2.3.4).
-const ROOM: usize = 254;
 
 impl Name {
     /// Whether `other` lies in the zone of this name, or is this name: the labels of this name are the
@@ -74,7 +73,7 @@ impl Hash for Name {
     /// Feeds the flag, and the labels with their ASCII letters in lower case, so that equal names hash alike.
     fn hash<H: Hasher>(&self, state: &mut H) {
         self.is_fqdn().hash(state);
-        let mut room = [0; ROOM];
+        let mut room = [0; MAX_LABELS];
         let wire = self.as_wire();
         lower_into(wire, &mut room);
         state.write(&room[..wire.len()]);
@@ -130,8 +129,8 @@ fn same_in_any_case(left: &[u8], right: &[u8]) -> bool
 }
 
 /// Puts bytes in lower case at the front of `room`.
-fn lower_into(wire: &[u8], room: &mut [u8; ROOM])
-    requires { length wire.now ≤ 254 }
+fn lower_into(wire: &[u8], room: &mut [u8; MAX_LABELS])
+    requires { length wire.now ≤ MAX_LABELS }
     ensures { take (length wire.now) room.new ≡ map to_ascii_lowercase wire.now }
 {
     let front = &mut room[..wire.len()];

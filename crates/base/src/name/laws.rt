@@ -1,5 +1,6 @@
 //! Laws of the definitions that names are read and written by.
 
+ghost use Rattle.base.specs.declared.limits.TheConstants.{MAX_NAME};
 ghost use Rattle.std.specs.Prelude.{◌≡◌, ◌≢◌, ◌↔◌, ℕ, ◌+◌, ◌<◌, ◌≤◌, List, [], ◌++◌, length, take, drop, All, Bool, Option, false};
 ghost use Rattle.base.specs.Compression.{IsCompressed};
 ghost use Rattle.base.specs.Faults.{IsFaulty};
@@ -43,7 +44,7 @@ pub fn spellings_stay()
 /// names one name at most (RFC 1035, 5.1).
 pub fn text_is_name()
     ensures named { (n : NameValue) → All (All (λ b. b < 256)) n.labels → AreLabels n.labels
-        → plain_len n.labels ≤ 255
+        → plain_len n.labels ≤ MAX_NAME
         → (n.absolute ≡ false → n.labels ≢ []) → IsNameText (name_text n) None n }
     ensures once { (text : List ℕ) (origin : Option NameValue) (a b : NameValue)
         → IsNameText text origin a → IsNameText text origin b → a ≡ b }

@@ -1,5 +1,6 @@
 //! Reads the text of names (RFC 1035, 5.1).
 
+ghost use Rattle.base.specs.declared.limits.TheConstants.{MAX_LABELS};
 ghost use Rattle.std.specs.Prelude.{◌≡◌, ◌↔◌, ◌⊎◌, ◌<◌, ◌≤◌, ◌≢◌, List, ℕ, Bool, [], ◌∷◌, length, take, IfNone, IfOk, IfErr, IfSome, IsTrue};
 ghost use Rattle.std.specs.Char.{is_ascii_digit};
 ghost use Rattle.std.specs.Option.{option_copied, option_map};
@@ -10,15 +11,10 @@ ghost use Rattle.base.specs.TextChar.{character_of};
 ghost use Rattle.base.specs.TextFaults.{Gives};
 
 use crate::error::ParseError;
+use crate::limits::{MAX_LABEL, MAX_LABELS};
 use crate::name::Name;
 use crate::octets::Octets;
 use std::alloc::Global;
-
-/// The bytes of the labels of the longest name, each with its length before it (RFC 1035, 2.3.4).
-const ROOM: usize = 254;
-
-/// The bytes of the longest label (RFC 1035, 2.3.4).
-const LONGEST_LABEL: usize = 63;
 
 /// A character of the text of a name.
 #[derive(Drop)]
@@ -69,7 +65,7 @@ impl Name {
             };
             return Ok(origin.clone()?);
         }
-        let mut room = [0; ROOM];
+        let mut room = [0; MAX_LABELS];
         let Some((used, is_fqdn)) = gather_name(text.as_bytes(), origin, &mut room) else {
             return Err(ParseError::BadName);
         };
@@ -139,12 +135,12 @@ fn first_char(text: &[u8]) -> Option<(TextChar, &[u8])>
 
 /// Gathers the labels of a text, each with its length before it, in `room`. Answers how many bytes they
 /// are, and whether the text ends with a dot; none where the text is no labels.
-fn gather_labels(text: &[u8], room: &mut [u8; ROOM]) -> Option<(usize, bool)>
+fn gather_labels(text: &[u8], room: &mut [u8; MAX_LABELS]) -> Option<(usize, bool)>
     ensures none { IfNone result ((labels : List (List ℕ)) (absolute : Bool)
         → IsLabelsText text.now labels absolute → ⊥) }
     ensures some { IfSome result (λ r. IsLabelsText text.now (labels_of (take r.0 room.new)) r.1) }
     ensures wire { IfSome result (λ r. IsWire (take r.0 room.new)) }
-    ensures used { IfSome result (λ r. r.0 ≤ 254) }
+    ensures used { IfSome result (λ r. r.0 ≤ MAX_LABELS) }
 {
     let mut used = 0;
     let mut len = 0;
@@ -153,7 +149,7 @@ fn gather_labels(text: &[u8], room: &mut [u8; ROOM]) -> Option<(usize, bool)>
         rest = tail;
         match c {
             TextChar::Byte(b) => {
-                if len >= LONGEST_LABEL || used + 1 + len >= ROOM {
+                if len >= MAX_LABEL || used + 1 + len >= MAX_LABELS {
                     return None;
                 }
                 room[used + 1 + len] = b;
@@ -184,7 +180,11 @@ fn gather_labels(text: &[u8], room: &mut [u8; ROOM]) -> Option<(usize, bool)>
 
 /// Gathers the labels of the name that a text names, completed by the origin, in `room`. Answers how many
 /// bytes they are, and whether the name is absolute; none where the text names nothing.
-fn gather_name(text: &[u8], origin: Option<&Name>, room: &mut [u8; ROOM]) -> Option<(usize, bool)>
+fn gather_name(
+    text: &[u8],
+    origin: Option<&Name>,
+    room: &mut [u8; MAX_LABELS],
+) -> Option<(usize, bool)>
     requires no_root { text.now ≢ 46 ∷ [] }
     requires no_origin { text.now ≢ 64 ∷ [] }
     ensures none { IfNone result ((name : NameValue)
@@ -193,7 +193,7 @@ fn gather_name(text: &[u8], origin: Option<&Name>, room: &mut [u8; ROOM]) -> Opt
         (λ r. IsNameText text.now (option_copied origin.entry)
         (record { labels = labels_of (take r.0 room.new); absolute = r.1 })) }
     ensures wire { IfSome result (λ r. IsWire (take r.0 room.new)) }
-    ensures used { IfSome result (λ r. r.0 ≤ 254) }
+    ensures used { IfSome result (λ r. r.0 ≤ MAX_LABELS) }
 {
     let Some((used, is_fqdn)) = gather_labels(text, room) else {
         return None;
@@ -206,7 +206,7 @@ fn gather_name(text: &[u8], origin: Option<&Name>, room: &mut [u8; ROOM]) -> Opt
     };
     let wire = origin.as_wire();
     let end = used + wire.len();
-    if end > ROOM {
+    if end > MAX_LABELS {
         return None;
     }
     room[used..end].copy_from_slice(wire);

@@ -1,5 +1,6 @@
 //! Reads a name (RFC 1035, 4.1.4).
 
+ghost use Rattle.base.specs.declared.limits.TheConstants.{MAX_LABELS, POINTER_LIMIT};
 ghost use Rattle.std.specs.Prelude.{◌≡◌, ℕ, ◌<◌, ◌≤◌, ◌+◌, ◌++◌, ◌∷◌, [], Ok, Err, length, take, slice_range, IfOk, IfSome, OnOk, OnErr, IsOkUnless, MatchResult};
 ghost use Rattle.std.specs.FinSet as set;
 ghost use Rattle.base.specs.Counts.{Counts, Passes};
@@ -12,16 +13,11 @@ ghost use Rattle.base.specs.Reading.{Fails, Reads};
 ghost use Rattle.base.specs.Spelling.{Spelled};
 
 use crate::error::DecodeError;
+use crate::limits::{MAX_LABELS, MAX_NAME};
 use crate::name::Name;
 use crate::name::trail::{Passed, Trail};
 use crate::octets::Octets;
 use crate::wire::{BinDecodable, BinDecoder};
-
-/// The bytes of the longest name (RFC 1035, 2.3.4).
-const LONGEST: usize = 255;
-
-/// The bytes of its labels, each with its length before it: all but the final zero byte.
-const ROOM: usize = 254;
 
 /// How many bytes are copied at once for a short label.
 const PIECE: usize = 16;
@@ -42,7 +38,7 @@ enum Part {
 fn part_of(buffer: &[u8], at: usize) -> Result<Part, DecodeError>
     ensures value { MatchResult result (λ p. part_at buffer.now at ≡ Ok (part p))
         (λ e. part_at buffer.now at ≡ Err e) }
-    ensures near { (t : ℕ) → part_at buffer.now at ≡ Ok (pointer_to t) → t < 16384 }
+    ensures near { (t : ℕ) → part_at buffer.now at ≡ Ok (pointer_to t) → t < POINTER_LIMIT }
 {
     if at >= buffer.len() {
         return Err(DecodeError::InsufficientBytes);
@@ -68,13 +64,13 @@ fn part_of(buffer: &[u8], at: usize) -> Result<Part, DecodeError>
 
 /// Copies a label with its length after what is used of the room. A short one is copied as one block of 16 bytes where
 /// both sides have as many, since a fixed number is copied faster.
-fn copy_label(buffer: &[u8], at: usize, size: usize, room: &mut [u8; ROOM], used: usize)
+fn copy_label(buffer: &[u8], at: usize, size: usize, room: &mut [u8; MAX_LABELS], used: usize)
     requires there { at + size ≤ length buffer.now }
-    requires fits { used + size ≤ 254 }
+    requires fits { used + size ≤ MAX_LABELS }
     ensures { take (used + size) room.new
         ≡ take used room.old ++ slice_range buffer.now at (at + size) }
 {
-    if size <= PIECE && used + PIECE <= ROOM && at + PIECE <= buffer.len() {
+    if size <= PIECE && used + PIECE <= MAX_LABELS && at + PIECE <= buffer.len() {
         room[used..used + PIECE].copy_from_slice(&buffer[at..at + PIECE]);
     } else {
         room[used..used + size].copy_from_slice(&buffer[at..at + size]);
@@ -95,7 +91,7 @@ struct Gathered<'a> {
 /// Gathers the labels of the name at the decoder's place in `room`, and the pointers that were followed.
 fn gather<'a>(
     decoder: &mut BinDecoder<'a>,
-    room: &mut [u8; ROOM],
+    room: &mut [u8; MAX_LABELS],
     passed: &mut Trail,
 ) -> Result<Gathered<'a>, DecodeError>
     requires none { passed.old ≡ [] }
@@ -103,7 +99,7 @@ fn gather<'a>(
         (λ r. labels_at decoder.old.bytes decoder.old.index decoder.old.index 0
         ≡ Ok (labels_of (take r.used room.new), r.end))
         (λ e. Fails e (labels_at decoder.old.bytes decoder.old.index decoder.old.index 0)) }
-    ensures used { IfOk result (λ r. r.used ≤ 254) }
+    ensures used { IfOk result (λ r. r.used ≤ MAX_LABELS) }
     ensures end { IfOk result (λ r. r.end ≤ length decoder.old.bytes) }
     ensures wire { IfOk result (λ r. IsWire (take r.used room.new)) }
     ensures kept { IfOk result
@@ -132,7 +128,7 @@ fn gather<'a>(
             }
             Part::Label(len) => {
                 let size = 1 + usize::from(len);
-                if used + size + 1 > LONGEST {
+                if used + size + 1 > MAX_NAME {
                     return Err(DecodeError::BadName);
                 }
                 copy_label(piece, at, size, room, used);
@@ -145,7 +141,7 @@ fn gather<'a>(
                 }
                 let after = end.unwrap_or(start + at + 2);
                 if let Some(labels) = decoder.labels_at(target) {
-                    if used + labels.len() + 1 > LONGEST {
+                    if used + labels.len() + 1 > MAX_NAME {
                         return Err(DecodeError::BadName);
                     }
                     room[used..used + labels.len()].copy_from_slice(labels);
@@ -234,7 +230,7 @@ fn one_piece<'d>(decoder: &'d BinDecoder<'_>) -> Option<Piece<'d>>
             }
             Ok(Part::Label(len)) => {
                 let size = 1 + usize::from(len);
-                if used + size + 1 > LONGEST {
+                if used + size + 1 > MAX_NAME {
                     return None;
                 }
                 used += size;
@@ -244,7 +240,7 @@ fn one_piece<'d>(decoder: &'d BinDecoder<'_>) -> Option<Piece<'d>>
                     return None;
                 }
                 let kept = decoder.labels_at(target)?;
-                if used + kept.len() + 1 > LONGEST {
+                if used + kept.len() + 1 > MAX_NAME {
                     return None;
                 }
                 return Some(Piece {
@@ -298,7 +294,7 @@ impl BinDecodable for Name {
             decoder.move_to(end);
             return Ok(Name { octets });
         }
-        let mut room = [0; ROOM];
+        let mut room = [0; MAX_LABELS];
         let mut passed = Trail::new(decoder.allocator());
         let Gathered { used, end, last } = gather(decoder, &mut room, &mut passed)?;
         let octets = Octets::from_front(decoder.allocator(), &room, used, true)?;

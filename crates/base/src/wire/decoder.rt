@@ -1,5 +1,6 @@
 //! Reads a message's bytes.
 
+ghost use Rattle.base.specs.declared.limits.TheConstants.{POINTER_LIMIT};
 ghost use Rattle.std.specs.Prelude.{◌≡◌, ℕ, true, ◌+◌, ◌-◌, ◌^◌, ◌<◌, ◌≤◌, length, min, drop, nat_le, is_some, IfSome, OnOk, OnErr, IsOkUnless};
 ghost use Rattle.std.specs.FinSet as set;
 ghost use Rattle.std.specs.Int.{w16, w32};
@@ -10,13 +11,11 @@ ghost use Rattle.base.specs.Reader.{begun};
 ghost use Rattle.base.specs.Reading.{Reads, byte_at, bytes_at, number_at};
 
 use crate::error::DecodeError;
+use crate::limits::POINTER_LIMIT;
 use crate::wire::plain::PlainTargets;
 use crate::wire::target_table::TargetTable;
 use std::alloc::Global;
 use std::marker::Model;
-
-/// How many offsets a pointer can name (RFC 1035, 4.1.4).
-const FARTHEST: usize = 16384;
 
 /// Reads values one by one from a buffer, which a name in it may point back into.
 #[derive(Drop)]
@@ -74,7 +73,7 @@ impl<'a> BinDecoder<'a> {
         ensures value { result ≡ self.now.index }
         ensures inside { result ≤ length self.now.bytes }
         ensures addressable { length self.now.bytes < 2 ^ 63 }
-        ensures few { set.len self.now.kept ≤ 16384 }
+        ensures few { set.len self.now.kept ≤ POINTER_LIMIT }
     {
         self.index
     }
@@ -82,7 +81,7 @@ impl<'a> BinDecoder<'a> {
     /// How many bytes are left.
     pub fn len(&self) -> usize
         ensures left { result ≡ length self.now.bytes - self.now.index }
-        ensures few { set.len self.now.kept ≤ 16384 }
+        ensures few { set.len self.now.kept ≤ POINTER_LIMIT }
     {
         self.buffer.len() - self.index
     }
@@ -96,7 +95,7 @@ impl<'a> BinDecoder<'a> {
 
     /// The allocator that values read here take their memory from.
     pub fn allocator(&self) -> Global
-        ensures few { set.len self.now.kept ≤ 16384 }
+        ensures few { set.len self.now.kept ≤ POINTER_LIMIT }
     {
         self.alloc
     }
@@ -125,7 +124,7 @@ impl<'a> BinDecoder<'a> {
     /// that is refused.
     pub fn jumps(&self) -> usize
         ensures value { result ≡ self.now.jumps }
-        ensures few { set.len self.now.kept ≤ 16384 }
+        ensures few { set.len self.now.kept ≤ POINTER_LIMIT }
     {
         self.jumps
     }
@@ -133,7 +132,7 @@ impl<'a> BinDecoder<'a> {
     /// The labels at an offset that a pointer led to, each with its length before it, where they are kept.
     pub(crate) fn labels_at(&self, target: u16) -> Option<&[u8]>
         ensures is { is_some result ≡ set.contains self.now.kept target }
-        ensures near { (q : ℕ) → set.contains self.now.kept q ≡ true → q < 16384 }
+        ensures near { (q : ℕ) → set.contains self.now.kept q ≡ true → q < POINTER_LIMIT }
         ensures spelled { IfSome result (λ labels. IsKept self.now.bytes target labels.now) }
         ensures closed { IsClosed self.now.bytes self.now.kept }
     {
@@ -168,7 +167,7 @@ impl<'a> BinDecoder<'a> {
         ensures err { OnErr result (self.new ≡ self.old) }
         ensures only { IsOkUnless result DecodeError.Memory }
     {
-        let most = self.buffer.len().min(FARTHEST) as u16;
+        let most = self.buffer.len().min(POINTER_LIMIT) as u16;
         self.others.keep(target, labels, most)?;
         Ok(())
     }

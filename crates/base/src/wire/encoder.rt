@@ -1,5 +1,6 @@
 //! Writes a message's bytes under a limit.
 
+ghost use Rattle.base.specs.declared.limits.TheConstants.{MAX_MESSAGE};
 ghost use Rattle.std.specs.Prelude.{◌≡◌, ◌+◌, ◌-◌, ◌^◌, ◌<◌, ◌≤◌, [], ◌∷◌, ◌++◌, length, take, drop, replicate, All, OnOk, OnErr, IfOk, IsErrOf, ◌==◌};
 ghost use Rattle.std.specs.Int.{w16, w32, to_be_bytes};
 ghost use Rattle.base.specs.State.{appended, overwritten};
@@ -9,6 +10,7 @@ mod rollback;
 mod table;
 
 use crate::error::ProtoError;
+use crate::limits::MAX_MESSAGE;
 use crate::wire::encodable::EncodedSize;
 use crate::wire::place::Place;
 use crate::wire::suffix_table::{HasSuffixes, SuffixTable};
@@ -48,7 +50,7 @@ impl<'a> BinEncoder<'a> {
             ≡ record {
               buffer = buffer.entry.ghost_name;
               bytes = [];
-              limit = 65535;
+              limit = MAX_MESSAGE;
               suffixes = [];
             } }
     {
@@ -56,7 +58,7 @@ impl<'a> BinEncoder<'a> {
         let alloc = *buffer.allocator();
         BinEncoder {
             buffer,
-            limit: u16::MAX,
+            limit: MAX_MESSAGE,
             suffixes: SuffixTable::new(alloc),
         }
     }

@@ -1,5 +1,6 @@
 //! Suffixes of names that were written.
 
+ghost use Rattle.base.specs.declared.limits.TheConstants.{POINTER_LIMIT};
 ghost use Rattle.std.specs.Prelude.{◌≡◌, ◌<◌, ◌↔◌, IfOk, IsTrue};
 ghost use Rattle.base.specs.Labels.{IsLabelRun, wire_of, labels_of, IsWire};
 ghost use Rattle.base.specs.State.{front_number};
@@ -43,14 +44,14 @@ impl Model for Suffix {
     ghost view = { λ s. record { labels = labels_of s.labels.items; offset = s.offset } };
 
     ghost invariant = { λ s. IsWire s.labels.items
-        × ((s.offset < 16384) × (s.front ≡ front_number s.labels.items)) };
+        × ((s.offset < POINTER_LIMIT) × (s.front ≡ front_number s.labels.items)) };
 }
 
 impl Suffix {
     /// The suffix of these labels, each with its length before it, at an offset.
     pub(crate) fn new(alloc: Global, wire: &[u8], offset: u16) -> Result<Suffix, AllocError>
         requires wire { IsWire wire.now }
-        requires near { offset < 16384 }
+        requires near { offset < POINTER_LIMIT }
         ensures { IfOk result (λ suffix. suffix
             ≡ record { labels = labels_of wire.now; offset = offset }) }
     {
@@ -88,7 +89,7 @@ impl Suffix {
     /// The offset.
     pub(crate) fn offset(&self) -> u16
         ensures value { result ≡ self.now.offset }
-        ensures near { result < 16384 }
+        ensures near { result < POINTER_LIMIT }
     {
         self.offset
     }

@@ -1,5 +1,6 @@
 //! The suffixes of names that were written, with an index of them (RFC 1035, 4.1.4).
 
+ghost use Rattle.base.specs.declared.limits.TheConstants.{MAX_LABELS, POINTER_LIMIT};
 ghost use Rattle.std.specs.Prelude.{◌≡◌, ◌≢◌, ◌<◌, ◌≤◌, ◌++◌, ◌∷◌, [], length, take, All, Any, MatchOption, OnOk, OnErr, IfSome};
 ghost use Rattle.base.specs.Labels.{labels_of, IsWire};
 ghost use Rattle.base.specs.State.{front_number};
@@ -29,7 +30,7 @@ const KEY: usize = 258;
 /// Puts the key of a suffix of these labels at the front of the room, and answers how many bytes it has. The number of
 /// their first bytes stands before the labels, so that most keys differ early.
 fn key_into(wire: &[u8], front: u32, room: &mut [u8; KEY]) -> usize
-    requires short { length wire.now ≤ 254 }
+    requires short { length wire.now ≤ MAX_LABELS }
     requires front { front ≡ front_number wire.now }
     ensures len { result ≤ 258 }
     ensures key { take result room.new ≡ index_key wire.now }
@@ -93,7 +94,7 @@ impl SuffixTable {
         requires { IsWire wire.now }
         ensures found { MatchOption result (All (λ t. t.labels ≢ labels_of wire.now) self.now)
             (λ offset. Any (λ t. (t.labels ≡ labels_of wire.now) × (t.offset ≡ offset)) self.now) }
-        ensures near { IfSome result (λ offset. offset < 16384) }
+        ensures near { IfSome result (λ offset. offset < POINTER_LIMIT) }
         ensures value { result ≡ found_in self.now (labels_of wire.now) }
     {
         let front = front_number(wire);
@@ -117,7 +118,7 @@ impl SuffixTable {
     /// If memory runs out, with nothing stored.
     pub(crate) fn store(&mut self, wire: &[u8], at: u16) -> Result<(), ProtoError>
         requires wire { IsWire wire.now }
-        requires near { at < 16384 }
+        requires near { at < POINTER_LIMIT }
         requires absent { All (λ t. t.labels ≢ labels_of wire.now) self.old }
         requires later { All (λ t. t.offset < at) self.old }
         ensures ok { OnOk result (self.new

@@ -1,8 +1,10 @@
 //! The labels at offsets that pointers led to.
 
+ghost use Rattle.base.specs.declared.limits.TheConstants.{MAX_LABELS};
 ghost use Rattle.std.specs.Prelude.{◌≡◌, ◌≢◌, ℕ, ◌<◌, ◌≤◌, [], None, Some, length, get_or, OnErr, OnOk};
 ghost use Rattle.base.specs.Targets.{labels_now};
 
+use crate::limits::MAX_LABELS;
 use std::alloc::{AllocError, Global};
 use std::marker::Model;
 
@@ -20,7 +22,7 @@ pub(crate) struct TargetTable {
 const STEP: usize = 256;
 
 /// Room for the labels of the longest name (RFC 1035, 2.3.4) and their number.
-const LONGEST: usize = 255;
+const ENTRY: usize = 1 + MAX_LABELS;
 
 /// Makes places up to an offset, the new ones without labels, with room for as many offsets as there may be. They are copied
 /// many at once, since that is faster than one by one.
@@ -81,7 +83,7 @@ impl TargetTable {
     ///
     /// If memory runs out, with the table as it was.
     pub(crate) fn keep(&mut self, target: u16, labels: &[u8], most: u16) -> Result<(), AllocError>
-        requires { length labels.now ≤ 254 }
+        requires { length labels.now ≤ MAX_LABELS }
         ensures ok { OnOk result (get_or self.new target None ≡ Some labels.now) }
         ensures others { (q : ℕ) → q ≢ target
             → OnOk result (get_or self.new q None ≡ get_or self.old q None) }
@@ -89,7 +91,7 @@ impl TargetTable {
     {
         let target = usize::from(target);
         let room = if self.kept.is_empty() {
-            LONGEST
+            ENTRY
         } else {
             1 + labels.len()
         };

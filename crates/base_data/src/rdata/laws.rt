@@ -1,5 +1,6 @@
 //! Laws of data: when it is equal, its order, and what holds of each kind.
 
+ghost use Rattle.base.specs.declared.limits.TheConstants.{MAX_STRING};
 ghost use Rattle.std.specs.Prelude.{◌≡◌, ◌≤◌, ◌↔◌, ℕ, List, IsTrue, None, Ok, Some, length, map, true};
 ghost use Rattle.std.specs.List.{join_with_byte};
 ghost use Rattle.std.specs.Cmp.{IsTotalOrder};
@@ -123,7 +124,7 @@ pub fn addresses_are_their_texts()
 /// decimal digits up to 255 are the byte of that number (RFC 1035, 5.1).
 pub fn strings_are_their_pieces()
     ensures { (text bytes : List ℕ)
-        → (string_item text ≡ Some bytes) ↔ (IsStringText text bytes × (length bytes ≤ 255)) }
+        → (string_item text ≡ Some bytes) ↔ (IsStringText text bytes × (length bytes ≤ MAX_STRING)) }
 {}
 
 /// The text of data of a kind with a text form is its items with one space between each two (RFC 1035, 5.1), strings

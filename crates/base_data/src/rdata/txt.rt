@@ -1,5 +1,6 @@
 //! Texts.
 
+ghost use Rattle.base.specs.declared.limits.TheConstants.{MAX_STRING};
 ghost use Rattle.std.specs.Prelude.{◌≡◌, ◌≢◌, ◌<◌, ◌≤◌, ◌↔◌, ℕ, List, [], ◌∷◌, ◌++◌, All, IfOk, IsOkUnless, IsTrue, OnOk, length, map, refl, Some};
 ghost use Rattle.std.specs.Cmp.{partial_equiv_from_equiv};
 ghost use Rattle.base.specs.Labels.{wire_of, labels_of};
@@ -54,7 +55,7 @@ impl TXT {
     /// `Memory` alone, if memory runs out.
     pub fn new(alloc: Global, strings: &[&[u8]]) -> Result<TXT, ProtoError>
         requires some { strings.now ≢ [] }
-        requires short { All (λ string. length string.now ≤ 255) strings.now }
+        requires short { All (λ string. length string.now ≤ MAX_STRING) strings.now }
         ensures value { IfOk result (λ text. text ≡ map (λ string. string.now) strings.now) }
         ensures only { IsOkUnless result ProtoError.Memory }
     {
@@ -86,7 +87,7 @@ impl TXT {
 
 /// Puts a string after those before it, with its length.
 fn push_string(bytes: &mut Vec<u8>, string: &[u8]) -> Result<(), AllocError>
-    requires { length string.now ≤ 255 }
+    requires { length string.now ≤ MAX_STRING }
     ensures { OnOk result (bytes.new.items ≡ bytes.old.items ++ (length string.now ∷ string.now)) }
 {
     bytes.push(string.len() as u8)?;

@@ -1,5 +1,6 @@
 //! The suffixes that were written, and where (RFC 1035, 4.1.4).
 
+ghost use Rattle.base.specs.declared.limits.TheConstants.{POINTER_LIMIT};
 ghost use Rattle.std.specs.Prelude.{◌≡◌, ◌<◌, ◌≢◌, length, All, Any, MatchOption, OnOk, OnErr, IfSome};
 ghost use Rattle.base.specs.Labels.{labels_of, IsWire};
 ghost use Rattle.base.specs.State.{stored};
@@ -7,10 +8,8 @@ ghost use Rattle.base.specs.Wire.{state_of, IsMemory};
 ghost use Rattle.base.specs.Written.{found_in};
 
 use crate::error::ProtoError;
+use crate::limits::POINTER_LIMIT;
 use crate::wire::encoder::BinEncoder;
-
-/// Offsets from here on don't fit a pointer (RFC 1035, 4.1.4).
-const FIRST_FAR: usize = 16384;
 
 impl<'a> BinEncoder<'a> {
     /// Where a stored suffix of these labels, each with its length before it, is spelled. Letters are compared as they
@@ -21,7 +20,7 @@ impl<'a> BinEncoder<'a> {
             (λ t. t.labels ≢ labels_of wire.now) (state_of self.now).suffixes)
             (λ offset. Any (λ t. (t.labels ≡ labels_of wire.now)
             × (t.offset ≡ offset)) (state_of self.now).suffixes) }
-        ensures near { IfSome result (λ offset. offset < 16384) }
+        ensures near { IfSome result (λ offset. offset < POINTER_LIMIT) }
         ensures value { result ≡ found_in (state_of self.now).suffixes (labels_of wire.now) }
     {
         self.suffixes.find(wire)
@@ -43,7 +42,7 @@ impl<'a> BinEncoder<'a> {
         ensures err { OnErr result (state_of self.new ≡ state_of self.old) }
         ensures memory { IsMemory result }
     {
-        if at >= FIRST_FAR {
+        if at >= POINTER_LIMIT {
             return Ok(());
         }
         self.suffixes.store(wire, at as u16)

@@ -1,5 +1,6 @@
 //! An EDNS option.
 
+ghost use Rattle.base.specs.declared.limits.TheConstants.{MAX_DATA};
 ghost use Rattle.std.specs.Prelude.{◌≡◌, ◌≤◌, length};
 ghost use Rattle.std.specs.Cmp.{partial_equiv_from_equiv};
 ghost use Rattle.base_data.specs.Equality.{same_option-equiv};
@@ -25,13 +26,13 @@ impl Model for EdnsOption {
 
     ghost view = { λ o. record { code = o.code; bytes = o.bytes.items } };
 
-    ghost invariant = { λ o. length o.bytes.items ≤ 65535 };
+    ghost invariant = { λ o. length o.bytes.items ≤ MAX_DATA };
 }
 
 impl EdnsOption {
     /// The option of this code and these bytes, 65,535 at most.
     pub fn new(code: u16, bytes: Vec<u8>) -> EdnsOption
-        requires { length bytes.items ≤ 65535 }
+        requires { length bytes.items ≤ MAX_DATA }
         ensures { result ≡ record { code = code; bytes = bytes.items } }
     {
         EdnsOption { code, bytes }
@@ -47,7 +48,7 @@ impl EdnsOption {
     /// The bytes, 65,535 at most.
     pub fn bytes(&self) -> &[u8]
         ensures value { result.now ≡ self.now.bytes }
-        ensures short { length self.now.bytes ≤ 65535 }
+        ensures short { length self.now.bytes ≤ MAX_DATA }
     {
         &self.bytes
     }

@@ -1,9 +1,11 @@
 //! Reads character strings from the items of a text (RFC 1035, 5.1).
 
+ghost use Rattle.base.specs.declared.limits.TheConstants.{MAX_STRING};
 ghost use Rattle.std.specs.Prelude.{◌≡◌, ◌≤◌, IfOk, IfSome, length, option_map};
 ghost use Rattle.base_data.specs.Escape.{escape_of};
 ghost use Rattle.base_data.specs.StringItems.{escape_step, no_escape, string_item, unescaped};
 
+use base::limits::MAX_STRING;
 use std::alloc::{AllocError, Global};
 
 /// How much of an escape was read.
@@ -92,12 +94,12 @@ fn unescape(alloc: Global, text: &[u8]) -> Result<Option<Vec<u8>>, AllocError>
 #[tactic(auto, unfolding(crate::specs::StringItems::string_item))]
 pub(crate) fn string_item(alloc: Global, item: &str) -> Result<Option<Vec<u8>>, AllocError>
     ensures string { IfOk result (λ r. option_map (λ v. v.items) r ≡ string_item item.now) }
-    ensures short { IfOk result (λ r. IfSome r (λ v. length v.items ≤ 255)) }
+    ensures short { IfOk result (λ r. IfSome r (λ v. length v.items ≤ MAX_STRING)) }
 {
     let Some(bytes) = unescape(alloc, item.as_bytes())? else {
         return Ok(None);
     };
-    if bytes.len() > 255 {
+    if bytes.len() > MAX_STRING {
         return Ok(None);
     }
     Ok(Some(bytes))
