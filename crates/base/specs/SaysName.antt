@@ -151,8 +151,7 @@ Begun-next x xs s at stored B has b =
       longer = All-append (λ (t : Stored). size_of xs < size_of t.labels) b.own n.added
           (All-weaker (λ (t : Stored). size_of (x ∷ xs) < size_of t.labels)
           (λ (t : Stored). size_of xs < size_of t.labels) (λ t more. omega (arith, more)) b.own
-          b.longer)
-          (near_all (λ (t : Stored). size_of xs < size_of t.labels) x xs at stored n
+          b.longer) (near_all (λ (t : Stored). size_of xs < size_of t.labels) x xs at stored n
           (λ early. omega arith));
       stands = last_stands (length x ∷ x) (rest_of x xs at stored).bytes B at
           (label_bytes x xs s at stored B has b);
@@ -226,8 +225,7 @@ name_spelled (x ∷ xs) s at stored B b = elim (name_cases x xs at stored) [
       let place : next x at ≡ at + (1 + length x) = omega arith in
       let end = subst (λ (e : ℕ). Spelled B xs s (next x at) e) (ends_at x xs at stored has) rest in
       label_stands B x xs s at (at + length (name (x ∷ xs) at stored).bytes) b.are.0.some
-      b.are.0.short
-      (first_stands (length x ∷ x) (rest_of x xs at stored).bytes B at
+      b.are.0.short (first_stands (length x ∷ x) (rest_of x xs at stored).bytes B at
       (label_bytes x xs s at stored B has b))
       (subst (λ (i : ℕ). Spelled B xs s i (at + length (name (x ∷ xs) at stored).bytes)) place end)
 ]
@@ -400,8 +398,7 @@ Says-name labels = record {
       let added = name_added labels at stored in
       let e = at + length (name labels at stored).bytes in
       All-same (IsSpelled B e) (name labels at stored).suffixes (stored ++ added.adds.added)
-      added.adds.is
-      (All-append (IsSpelled B e) stored added.adds.added
+      added.adds.is (All-append (IsSpelled B e) stored added.adds.added
       (later_table B at e stored (omega arith) h.table)
       (added.valid at B (name_begun labels at stored B ok.0 h)));
   at_most = λ at stored. name_at_most labels at stored;

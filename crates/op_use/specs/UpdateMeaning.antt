@@ -40,8 +40,7 @@ AppendsToSet s origin must_exist m =
 -- the new one is merged into the zone; else NXRRSet.
 abbrev pub SwapsSets : SetValue → SetValue → NameValue → MessageValue → Type 0
 SwapsSets current new origin m =
-    MeansUncut m
-    (λ z. (current.records ≢ []) × IsGiven z origin current × IsGiven z origin new
+    MeansUncut m (λ z. (current.records ≢ []) × IsGiven z origin current × IsGiven z origin new
     × NoCname z new.name)
     (λ z. if has_data_of_set z current then (NoError, merged (less_key z (set_key current)) new)
     else (NXRRSet, z))

@@ -26,8 +26,7 @@ impl<'a> BinEncoder<'a> {
         ensures keeps { Keeps (state_of self.old) (state_of self.new) }
         ensures valid { StaysValid (state_of self.old) (state_of self.new) result }
         ensures emits { EmitsAll E.word E.plain_len E.owner E.written I.next_gives items.old
-            items.new
-            (state_of self.old) (state_of self.new) result }
+            items.new (state_of self.old) (state_of self.new) result }
     {
         let mut count = 0;
         while let Some(item) = items.next() {
