@@ -40,14 +40,13 @@ pub fn cache_entry(alloc: Global, received: Vec<u8>, seconds: u32) -> Result<Cac
 }
 
 /// The records with so many seconds off their TTLs.
-fn run_down(records: Vec<Record>, seconds: u32) -> Vec<Record>
+fn run_down(mut records: Vec<Record>, seconds: u32) -> Vec<Record>
     ensures { result.items ≡ map (decremented seconds) records.items }
 {
-    let mut kept = records;
-    for entry in kept.iter_mut() {
+    for entry in records.iter_mut() {
         age(entry, seconds);
     }
-    kept
+    records
 }
 
 /// Takes so many seconds off the TTL of a record.

@@ -195,9 +195,7 @@ fn gather_name(
     ensures wire { IfSome result (λ r. IsWire (take r.0 room.new)) }
     ensures used { IfSome result (λ r. r.0 ≤ MAX_LABELS) }
 {
-    let Some((used, is_fqdn)) = gather_labels(text, room) else {
-        return None;
-    };
+    let (used, is_fqdn) = gather_labels(text, room)?;
     if is_fqdn {
         return Some((used, true));
     }

@@ -30,27 +30,12 @@ fn ttl_step(sum: u32, begun: Option<u32>, c: u8) -> Option<(u32, Option<u32>)>
         → ttl_sum sum begun (c ∷ rest) ≡ ttl_sum r.0 r.1 rest) }
 {
     if c.is_ascii_digit() {
-        let Some(tens) = begun.unwrap_or(0).checked_mul(10) else {
-            return None;
-        };
-        let Some(number) = tens.checked_add(u32::from(c - b'0')) else {
-            return None;
-        };
+        let tens = begun.unwrap_or(0).checked_mul(10)?;
+        let number = tens.checked_add(u32::from(c - b'0'))?;
         return Some((sum, Some(number)));
     }
-    let Some(number) = begun else {
-        return None;
-    };
-    let Some(unit) = unit_of(c) else {
-        return None;
-    };
-    let Some(seconds) = number.checked_mul(unit) else {
-        return None;
-    };
-    let Some(total) = sum.checked_add(seconds) else {
-        return None;
-    };
-    Some((total, None))
+    let seconds = begun?.checked_mul(unit_of(c)?)?;
+    Some((sum.checked_add(seconds)?, None))
 }
 
 /// The seconds that a text says; none where it is no TTL text, or says too many.
@@ -64,9 +49,7 @@ pub(crate) fn ttl_of(text: &[u8]) -> Option<u32>
     let mut sum: u32 = 0;
     let mut begun: Option<u32> = None;
     for c in text {
-        let Some((next_sum, next_begun)) = ttl_step(sum, begun, *c) else {
-            return None;
-        };
+        let (next_sum, next_begun) = ttl_step(sum, begun, *c)?;
         sum = next_sum;
         begun = next_begun;
     }

@@ -74,14 +74,13 @@ fn soa_of(rdata: &RData) -> Result<Option<SOA>, Refusal>
 }
 
 /// The set, if there is exactly one.
-fn only_set(sets: BTreeMap<RrKey, RecordSet>) -> Result<RecordSet, Refusal>
+fn only_set(mut sets: BTreeMap<RrKey, RecordSet>) -> Result<RecordSet, Refusal>
     ensures { Makes (λ set. set) (only_set sets.entries) result }
 {
-    let mut rest = sets;
-    let Some((_key, set)) = rest.pop_first() else {
+    let Some((_key, set)) = sets.pop_first() else {
         return Err(Refusal::INPUT);
     };
-    if !rest.is_empty() {
+    if !sets.is_empty() {
         return Err(Refusal::INPUT);
     }
     Ok(set)

@@ -321,24 +321,22 @@ fn empty_record(name: Name, record_type: RecordType, dns_class: DNSClass) -> Rec
 }
 
 /// The records in the class NONE, with TTL 0: they ask that their data goes (RFC 2136, 2.5.4).
-fn with_class_none(records: Vec<Record>) -> Vec<Record>
+fn with_class_none(mut records: Vec<Record>) -> Vec<Record>
     ensures { result.items ≡ map (in_class classes.NONE) records.items }
 {
-    let mut gone = records;
-    for record in gone.iter_mut() {
+    for record in records.iter_mut() {
         record.dns_class = DNSClass::NONE;
         record.ttl = 0;
     }
-    gone
+    records
 }
 
 /// The records with TTL 0: they ask that their data is there (RFC 2136, 2.4.2).
-fn with_zero_ttl(records: Vec<Record>) -> Vec<Record>
+fn with_zero_ttl(mut records: Vec<Record>) -> Vec<Record>
     ensures { result.items ≡ map without_ttl records.items }
 {
-    let mut expected = records;
-    for record in expected.iter_mut() {
+    for record in records.iter_mut() {
         record.ttl = 0;
     }
-    expected
+    records
 }

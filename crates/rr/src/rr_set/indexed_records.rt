@@ -319,7 +319,7 @@ fn join_by_index(
 /// Puts a record after others whose index this is, none of which has its data. The key is that of its data.
 fn push_by_index(
     records: &mut Vec<Record>,
-    places: Box<DataIndex>,
+    mut places: Box<DataIndex>,
     key: Vec<u8>,
     entry: Record,
 ) -> Result<Entered, AllocError>
@@ -334,7 +334,6 @@ fn push_by_index(
         (λ done. IfSome done.index (λ after. IsIndexOf (place_at after.value) records.new.items)) }
     ensures err { OnErr result (records.new.items ≡ records.old.items) }
 {
-    let mut places = places;
     let place = records.len();
     records.reserve(1)?;
     let tied = places.insert(key, place)?.is_some();

@@ -344,12 +344,11 @@ impl Context {
 }
 
 /// The name, absolute.
-fn absolute(name: Name) -> Name
+fn absolute(mut name: Name) -> Name
     ensures { result ≡ absolute name }
 {
-    let mut whole = name;
-    whole.set_fqdn(true);
-    whole
+    name.set_fqdn(true);
+    name
 }
 
 /// After `$INCLUDE`: the name of a text, and the end of the line.

@@ -19,6 +19,7 @@ pub struct EdnsOption {
 }
 
 impl Model for EdnsOption {
+    ghost use Rattle.base.specs.declared.limits.TheConstants.{MAX_DATA};
     ghost use Rattle.std.specs.Prelude.{◌≤◌, length};
     ghost use Rattle.base_data.specs.OPT.{OptionValue};
 

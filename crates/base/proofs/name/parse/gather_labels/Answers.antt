@@ -5,17 +5,17 @@ use Rattle.base.specs.declared.name.parse.TextChar.{TextChar}
 use Rattle.base.specs.TextChar.{character_of}
 use Rattle.base.proofs.ParseLemmas.{Holds, holds_none, holds_byte, holds_dot, stops_at_byte, stops_at_char, stops_at_dot, stops_at_start, reads_absolute, reads_relative, wire_put}
 use Rattle.base.proofs.name.parse.gather_labels.Goals as goal
-use Rattle.base.proofs.name.parse.gather_labels.Goals.{then-len-ge-LONGEST_LABEL-via-then-len-ge-LONGEST_LABEL, then-len-ge-LONGEST_LABEL-via-else-len-ge-LONGEST_LABEL+then-used-len-ge-ROOM}
+use Rattle.base.proofs.name.parse.gather_labels.Goals.{then-len-ge-MAX_LABEL-via-then-len-ge-MAX_LABEL, then-len-ge-MAX_LABEL-via-else-len-ge-MAX_LABEL+then-used-len-ge-MAX_LABELS}
 
 pub chars-init : goal.chars-init
 chars-init c = holds_none c.args.text.now c.args.room.now c.told-room
 
-pub returns-then-len-ge-LONGEST_LABEL-clause-none :
-    goal.returns-then-len-ge-LONGEST_LABEL-clause-none
-returns-then-len-ge-LONGEST_LABEL-clause-none c =
-    let long : 63 ≤ c.chars.len ⊎ 254 ≤ c.chars.used + 1 + c.chars.len = elim c.then-len-ge-LONGEST_LABEL.branch [
-      | then-len-ge-LONGEST_LABEL-via-then-len-ge-LONGEST_LABEL w ↦ inl (omega (arith, w.if-len-ge-LONGEST_LABEL.true))
-      | then-len-ge-LONGEST_LABEL-via-else-len-ge-LONGEST_LABEL+then-used-len-ge-ROOM w ↦ inr (omega (arith, w.if-used-len-ge-ROOM.true))
+pub returns-then-len-ge-MAX_LABEL-clause-none :
+    goal.returns-then-len-ge-MAX_LABEL-clause-none
+returns-then-len-ge-MAX_LABEL-clause-none c =
+    let long : 63 ≤ c.chars.len ⊎ 254 ≤ c.chars.used + 1 + c.chars.len = elim c.then-len-ge-MAX_LABEL.branch [
+      | then-len-ge-MAX_LABEL-via-then-len-ge-MAX_LABEL w ↦ inl (omega (arith, w.if-len-ge-MAX_LABEL.true))
+      | then-len-ge-MAX_LABEL-via-else-len-ge-MAX_LABEL+then-used-len-ge-MAX_LABELS w ↦ inr (omega (arith, w.if-used-len-ge-MAX_LABELS.true))
     ] in
     stops_at_byte c.chars.invariant (sym c.in-Some.ensures.value ∙ ap (λ (d : TextChar). Some (character_of d, c.in-Some.tail.now)) c.in-Byte.is) long
 

@@ -16,10 +16,10 @@ pub returns-in_default-origin-clause-some : goal.returns-in_default-origin-claus
 returns-in_default-origin-clause-some c =
     is_relative (ap option_copied c.in_default-origin.is) c.requires.no_origin (subst (IsLabelsText _ _) c.if-is_fqdn.false c.in-Some.ensures.some)
 
-pub returns-then-end-gt-ROOM-clause-none : goal.returns-then-end-gt-ROOM-clause-none
-returns-then-end-gt-ROOM-clause-none c = λ name.
+pub returns-then-end-gt-MAX_LABELS-clause-none : goal.returns-then-end-gt-MAX_LABELS-clause-none
+returns-then-end-gt-MAX_LABELS-clause-none c = λ name.
     completes_not (subst (IsLabelsText _ _) c.if-is_fqdn.false c.in-Some.ensures.some) c.in-Some.ensures.wire c.requires.no_origin (ap option_copied c.in-Some-origin.is) c.as_wire-wire.ensures.value
-    (omega (arith, c.if-end-gt-ROOM.true, length-take-le c.in-Some.used c.gather_labels.new.room (omega (arith, c.in-Some.ensures.used, c.gather_labels.array_long))))
+    (omega (arith, c.if-end-gt-MAX_LABELS.true, length-take-le c.in-Some.used c.gather_labels.new.room (omega (arith, c.in-Some.ensures.used, c.gather_labels.array_long))))
 
 pub returns-clause-some : goal.returns-clause-some
 returns-clause-some c =
@@ -32,7 +32,7 @@ returns-clause-some c =
     subst (λ (bytes : List ℕ). IsNameText c.args.text.now (option_copied c.args.origin) (record { labels = labels_of bytes; absolute = true }))
     (sym (whole ∙ ap (λ (xs : List ℕ). take used room ++ xs) copied))
     (completes (subst (IsLabelsText _ _) c.if-is_fqdn.false c.in-Some.ensures.some) c.in-Some.ensures.wire c.requires.no_origin
-    (ap option_copied c.in-Some-origin.is) c.as_wire-wire.ensures.value (omega (arith, c.if-end-gt-ROOM.false, front)))
+    (ap option_copied c.in-Some-origin.is) c.as_wire-wire.ensures.value (omega (arith, c.if-end-gt-MAX_LABELS.false, front)))
 
 pub returns-clause-wire : goal.returns-clause-wire
 returns-clause-wire c =
@@ -43,4 +43,4 @@ returns-clause-wire c =
     let copied : c.copy_from_slice.new.self ≡ wire = c.copy_from_slice.ensures.after in
     let whole = take-put_mid used (used + length wire - used) room c.copy_from_slice.new.self (used + length wire) (omega (arith, ap length copied)) (omega (arith, front)) in
     subst IsWire (sym (whole ∙ ap (λ (xs : List ℕ). take used room ++ xs) copied))
-    (IsWire-appended _ _ _ c.in-Some.ensures.wire c.as_wire-wire.ensures.value c.as_wire-wire.ensures.labels (omega (arith, c.if-end-gt-ROOM.false, front)))
+    (IsWire-appended _ _ _ c.in-Some.ensures.wire c.as_wire-wire.ensures.value c.as_wire-wire.ensures.labels (omega (arith, c.if-end-gt-MAX_LABELS.false, front)))

@@ -85,9 +85,9 @@ returns-in-Root-clause-later c =
     let is = part_is_there bytes c.parts.piece.now c.parts.start c.parts.at (Ok zero_byte) c.parts.invariant.piece (c.in_ok-part_of.ensures.value ∙ ap found c.in-Root.is) in
     Lead-root bytes c.parts.start (c.parts.start + c.parts.at) c.args.decoder.now.kept c.parts.passed is c.parts.invariant.lead
 
-pub returns-then-used-size-gt-LONGEST-clause-read :
-    goal.returns-then-used-size-gt-LONGEST-clause-read
-returns-then-used-size-gt-LONGEST-clause-read c =
+pub returns-then-used-size-gt-MAX_NAME-clause-read :
+    goal.returns-then-used-size-gt-MAX_NAME-clause-read
+returns-then-used-size-gt-MAX_NAME-clause-read c =
     let is = part_is_there c.args.decoder.now.bytes c.parts.piece.now c.parts.start c.parts.at (Ok (label_of c.in-Label.len)) c.parts.invariant.piece (c.in_ok-part_of.ensures.value ∙ ap found c.in-Label.is) in
     at_long c.parts.invariant.gathers c.in-Label.len is (omega arith)
 
@@ -184,9 +184,9 @@ parts-preserved c =
 kept_is : (B C : List ℕ) (t : ℕ) (xs : List ℕ) → C ≡ B → IsKept C t xs → IsKept B t xs
 kept_is B C t xs same kept = subst (λ (bytes : List ℕ). IsKept bytes t xs) same kept
 
-pub returns-then-used-labels-gt-LONGEST-clause-read :
-    goal.returns-then-used-labels-gt-LONGEST-clause-read
-returns-then-used-labels-gt-LONGEST-clause-read c =
+pub returns-then-used-labels-gt-MAX_NAME-clause-read :
+    goal.returns-then-used-labels-gt-MAX_NAME-clause-read
+returns-then-used-labels-gt-MAX_NAME-clause-read c =
     let bytes = c.args.decoder.now.bytes in
     let is = part_is_there bytes c.parts.piece.now c.parts.start c.parts.at (Ok (pointer_to c.in-Pointer.target)) c.parts.invariant.piece (c.in_ok-part_of.ensures.value ∙ ap found c.in-Pointer.is) in
     at_kept_long c.parts.invariant.gathers is (omega arith) (kept_is _ _ _ _ (bytes_are c.parts.invariant.follows) c.in-Some.ensures.spelled) (omega arith)
@@ -206,7 +206,7 @@ kept : (c : goal.After-copy_from_slice) → IsKept c.args.decoder.now.bytes c.in
 kept c = kept_is _ _ _ _ (bytes_are c.parts.invariant.follows) c.in-Some.ensures.spelled
 
 short : (c : goal.After-copy_from_slice) → c.parts.used + length c.in-Some.labels.now + 1 ≤ 255
-short c = omega (arith, c.if-used-labels-gt-LONGEST.false)
+short c = omega (arith, c.if-used-labels-gt-MAX_NAME.false)
 
 -- the labels in the room after it was copied
 whole : (c : goal.After-copy_from_slice) → take (c.parts.used + length c.in-Some.labels.now) (put_mid c.parts.used (c.parts.used + length c.in-Some.labels.now - c.parts.used) c.parts.room c.copy_from_slice.new.self) ≡ take c.parts.used c.parts.room ++ c.in-Some.labels.now

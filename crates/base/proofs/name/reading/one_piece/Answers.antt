@@ -37,9 +37,9 @@ pub labels-preserved : goal.labels-preserved
 labels-preserved c =
     let r = c.args.decoder.now in
     let is = part_is_there r.bytes c.rest-own.result.now r.index c.labels.used _ c.rest-own.ensures (c.in-Ok-Label.ensures.value ∙ ap found c.in-Ok-Label.field-0-is) in
-    walked_label c.labels.invariant c.in-Ok-Label.len (1 + c.from-size.result) is (omega (arith, c.from-size.ensures)) (omega (arith, c.if-used-size-gt-LONGEST.false))
+    walked_label c.labels.invariant c.in-Ok-Label.len (1 + c.from-size.result) is (omega (arith, c.from-size.ensures)) (omega (arith, c.if-used-size-gt-MAX_NAME.false))
 
-kept : (c : goal.Else-used-kept-gt-LONGEST) → IsName c.args.decoder.now
+kept : (c : goal.Else-used-kept-gt-MAX_NAME) → IsName c.args.decoder.now
     (take c.labels.used c.rest-own.result.now ++ c.in_ok-kept-in-Ok-Pointer.kept.now)
     (c.index-first.result + c.labels.used + 2)
 kept c =
@@ -50,7 +50,7 @@ kept c =
     let below : c.in-Ok-Pointer.target < r.index = omega (arith, c.from.ensures, c.if-from-first.false, c.index-first.ensures.value) in
     let there : IsKept r.bytes c.in-Ok-Pointer.target items = c.in_ok-kept-in-Ok-Pointer.ensures.spelled in
     lent r own items c.index-first.result c.labels.used 2 c.rest-own.ensures c.index-first.ensures.value
-    (name_kept c.labels.invariant items is below there (omega (arith, c.if-used-kept-gt-LONGEST.false))
+    (name_kept c.labels.invariant items is below there (omega (arith, c.if-used-kept-gt-MAX_NAME.false))
     (sym c.in_ok-kept-in-Ok-Pointer.ensures.is) c.in_ok-kept-in-Ok-Pointer.ensures.closed)
 
 pub returns-in-Ok-Pointer-clause-read : goal.returns-in-Ok-Pointer-clause-read
