@@ -206,5 +206,6 @@ pub fn class_order()
     ensures payload_next { (n : ℕ)
         → ⟦<DNSClass as Ord>⟧.cmp (DNSClass.OPT n) (DNSClass.Unknown n) ≡ Ordering.Less }
     ensures exact { (a b : DNSClass) → ⟦<DNSClass as Ord>⟧.cmp a b ≡ Ordering.Equal → a ≡ b }
+    // Classes that are equal by `==` are the same one.
     ensures same { (a b : DNSClass) → IsTrue (⟦<DNSClass as PartialEq>⟧.eq a b) → a ≡ b }
 {}

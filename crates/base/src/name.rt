@@ -113,10 +113,14 @@ impl Name {
     /// The labels from the left, each with its length before it, without a final zero byte.
     pub fn as_wire(&self) -> &[u8]
         ensures value { result.now ≡ wire_of self.now.labels }
+        // The bytes are labels, each with its length before it, and nothing else.
         ensures whole { IsLabelRun result.now }
+        // Cut at their lengths, they are the labels of the name.
         ensures cut { labels_of result.now ≡ self.now.labels }
         ensures labels { AreLabels self.now.labels }
+        // The labels take at most 254 bytes, since the final zero byte makes 255.
         ensures short { length result.now ≤ MAX_LABELS }
+        // The name has at most 255 bytes without compression, the final zero byte counted.
         ensures plain { plain_len self.now.labels ≤ MAX_NAME }
     {
         self.octets.as_slice()
@@ -140,6 +144,7 @@ pub(crate) fn first_label(wire: &[u8]) -> Option<(&[u8], &[u8])>
         (λ r. labels_of wire.now ≡ r.0.now ∷ labels_of r.1.now) }
     ensures bytes { MatchOption result (wire.now ≡ [])
         (λ r. wire.now ≡ (length r.0.now ∷ r.0.now) ++ r.1.now) }
+    // The rest is again labels, each with its length before it.
     ensures others { IfSome result (λ r. IsLabelRun r.1.now) }
     ensures shorter { IfSome result (λ r. length r.1.now < length wire.now) }
 {

@@ -361,5 +361,6 @@ pub fn type_order()
     ensures named_first { (t : RecordType) → IsTrue (is_named_type t)
         → ⟦<RecordType as Ord>⟧.cmp t (RecordType.Unknown (type_number t)) ≡ Ordering.Less }
     ensures exact { (a b : RecordType) → ⟦<RecordType as Ord>⟧.cmp a b ≡ Ordering.Equal → a ≡ b }
+    // Types that are equal by `==` are the same one.
     ensures same { (a b : RecordType) → IsTrue (⟦<RecordType as PartialEq>⟧.eq a b) → a ≡ b }
 {}

@@ -133,11 +133,14 @@ impl RData {
         len: u16,
     ) -> Result<RData, DecodeError>
         requires some { 0 < len }
+        // No more targets of pointers are kept than a pointer can lead to.
         requires few { set.len decoder.old.kept ≤ POINTER_LIMIT }
         ensures read { Reads (λ x. x) decoder.old decoder.new result
             (kind_at record_type len decoder.old.bytes decoder.old.index) }
+        // These two are as of every read: see `BinDecodable::read`.
         ensures counts { Counts decoder.old decoder.new result }
         ensures passed { Passes decoder.old decoder.new result }
+        // The targets that the names of the data pass are kept in addition, and no others.
         ensures adds { IfOk result
             (λ d. AddsPassed (data_places d decoder.old.bytes decoder.old.index) decoder.old
             decoder.new) }

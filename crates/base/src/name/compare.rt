@@ -23,6 +23,7 @@ impl Name {
     pub fn zone_of(&self, other: &Name) -> bool
         ensures last_labels { IsTrue result
             ↔ ((front : List (List ℕ)) × (folded other.now ≡ front ++ folded self.now)) }
+        // The answer is that of the definition `is_zone_of`, which other contracts cite.
         ensures test { result ≡ is_zone_of self.now other.now }
     {
         let (count, others) = (self.label_count(), other.label_count());
@@ -142,6 +143,7 @@ fn lower_into(wire: &[u8], room: &mut [u8; MAX_LABELS])
 fn past_labels(wire: &[u8], count: usize) -> &[u8]
     requires { IsLabelRun wire.now }
     ensures labels { labels_of result.now ≡ drop count (labels_of wire.now) }
+    // What is left is again labels, each with its length before it.
     ensures whole { IsLabelRun result.now }
 {
     let mut rest = wire;

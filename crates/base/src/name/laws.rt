@@ -26,9 +26,11 @@ pub fn reading_is_spelling()
 pub fn spellings_stay()
     ensures once { (bytes : List ℕ) (s i e f : ℕ) (xs ys : List (List ℕ)) → Spelled bytes xs s i e
         → Spelled bytes ys s i f → (xs ≡ ys) × (e ≡ f) }
+    // Where no byte that is looked at changes, the spelling stays.
     ensures kept { (looks : ℕ → Bool) (old new : List ℕ) (s i e : ℕ) (xs : List (List ℕ))
         → KeepsSeen (among looks) old new
         → SpelledIn (among looks) old s i xs e → SpelledIn (among looks) new s i xs e }
+    // What is spelled by looking at some places is spelled.
     ensures anywhere { (looks : ℕ → Bool) (bytes : List ℕ) (s i e : ℕ) (xs : List (List ℕ))
         → SpelledIn (among looks) bytes s i xs e → Spelled bytes xs s i e }
     ensures longer { (from to : ℕ) (bytes more : List ℕ) (s i e : ℕ) (xs : List (List ℕ))

@@ -44,6 +44,7 @@ impl Name {
         ensures refused { (result ≡ Err ParseError.BadName)
             ↔ ((name : NameValue) → IsNameText text.now (option_copied origin.entry) name → ⊥) }
         ensures err { IfErr result (λ e. (e ≡ ParseError.Memory) ⊎ (e ≡ ParseError.BadName)) }
+        // The name or the fault is that of the definition `name_of`, unless memory runs out.
         ensures reads { Gives (λ n. n) result (name_of text.now (option_copied origin.entry)) }
     {
         Name::parse_text(alloc, text, origin)
@@ -139,6 +140,7 @@ fn gather_labels(text: &[u8], room: &mut [u8; MAX_LABELS]) -> Option<(usize, boo
     ensures none { IfNone result ((labels : List (List ℕ)) (absolute : Bool)
         → IsLabelsText text.now labels absolute → ⊥) }
     ensures some { IfSome result (λ r. IsLabelsText text.now (labels_of (take r.0 room.new)) r.1) }
+    // The bytes gathered are labels of 1 to 63 bytes, each with its length before it.
     ensures wire { IfSome result (λ r. IsWire (take r.0 room.new)) }
     ensures used { IfSome result (λ r. r.0 ≤ MAX_LABELS) }
 {
@@ -192,6 +194,7 @@ fn gather_name(
     ensures some { IfSome result
         (λ r. IsNameText text.now (option_copied origin.entry)
         (record { labels = labels_of (take r.0 room.new); absolute = r.1 })) }
+    // The bytes gathered are labels of 1 to 63 bytes, each with its length before it.
     ensures wire { IfSome result (λ r. IsWire (take r.0 room.new)) }
     ensures used { IfSome result (λ r. r.0 ≤ MAX_LABELS) }
 {

@@ -38,6 +38,7 @@ enum Part {
 fn part_of(buffer: &[u8], at: usize) -> Result<Part, DecodeError>
     ensures value { MatchResult result (λ p. part_at buffer.now at ≡ Ok (part p))
         (λ e. part_at buffer.now at ≡ Err e) }
+    // A pointer has 14 bits for its offset, which is therefore below 16,384.
     ensures near { (t : ℕ) → part_at buffer.now at ≡ Ok (pointer_to t) → t < POINTER_LIMIT }
 {
     if at >= buffer.len() {
@@ -65,7 +66,9 @@ fn part_of(buffer: &[u8], at: usize) -> Result<Part, DecodeError>
 /// Copies a label with its length after what is used of the room. A short one is copied as one block of 16 bytes where
 /// both sides have as many, since a fixed number is copied faster.
 fn copy_label(buffer: &[u8], at: usize, size: usize, room: &mut [u8; MAX_LABELS], used: usize)
+    // The bytes to be copied lie within the buffer.
     requires there { at + size ≤ length buffer.now }
+    // After what is used, the room has space for them.
     requires fits { used + size ≤ MAX_LABELS }
     ensures { take (used + size) room.new
         ≡ take used room.old ++ slice_range buffer.now at (at + size) }
@@ -101,14 +104,21 @@ fn gather<'a>(
         (λ e. Fails e (labels_at decoder.old.bytes decoder.old.index decoder.old.index 0)) }
     ensures used { IfOk result (λ r. r.used ≤ MAX_LABELS) }
     ensures end { IfOk result (λ r. r.end ≤ length decoder.old.bytes) }
+    // The bytes gathered are labels of 1 to 63 bytes, each with its length before it.
     ensures wire { IfOk result (λ r. IsWire (take r.used room.new)) }
+    // From where a pointer was followed, the labels gathered are those that its target spells.
     ensures kept { IfOk result
         (λ r. AreSpelled decoder.old.bytes (take r.used room.new) passed.new) }
+    // The labels lent are those that the last pointer led to.
     ensures last { IfOk result
         (λ r. IfSome r.last (λ labels. IsLast labels.now (take r.used room.new) passed.new)) }
+    // The targets are distinct, and none was kept before; but for the count of pointers followed,
+    // which grows by their number, the decoder stays as it was.
     ensures followed { Followed (targets passed.new) decoder.old decoder.new }
+    // The name passes these targets and, beside them, only offsets that were kept before.
     ensures these { IfOk result (λ r.
         PassesThese decoder.old.bytes decoder.old.kept decoder.old.index (targets passed.new)) }
+    // From each target only kept offsets are passed, and those that were followed after it.
     ensures later { IfOk result (λ r. PassLater decoder.old.bytes decoder.old.kept passed.new) }
 {
     let first = decoder.index();
@@ -169,11 +179,15 @@ fn keep_all<'a>(
     passed: &Trail,
     last: Option<&'a [u8]>,
 ) -> Result<(), DecodeError>
+    // From where a pointer was followed, the labels are those that its target spells.
     requires spelled { AreSpelled decoder.old.bytes labels.now passed.now }
+    // The labels lent are those that the last pointer led to.
     requires last { IfSome last (λ lent. IsLast lent.now labels.now passed.now) }
+    // From each target only kept offsets are passed, and those that were followed after it.
     requires later { PassLater decoder.old.bytes decoder.old.kept passed.now }
     ensures ok { OnOk result (decoder.new
         ≡ record decoder.old { kept = inserted (targets passed.now) decoder.old.kept }) }
+    // A refusal leaves the count of pointers followed as it was.
     ensures err { OnErr result (decoder.new.jumps ≡ decoder.old.jumps) }
     ensures only { IsOkUnless result DecodeError.Memory }
 {
@@ -211,6 +225,7 @@ fn one_piece<'d>(decoder: &'d BinDecoder<'_>) -> Option<Piece<'d>>
         ≡ Ok (labels_of (take p.used p.own.now ++ p.kept.now), p.end)) }
     ensures wire { IfSome result (λ p. IsWire (take p.used p.own.now ++ p.kept.now)) }
     ensures end { IfSome result (λ p. p.end ≤ length decoder.now.bytes) }
+    // The name passes kept offsets alone.
     ensures these { IfSome result
         (λ _. PassesThese decoder.now.bytes decoder.now.kept decoder.now.index []) }
 {
@@ -272,12 +287,18 @@ impl BinDecodable for Name {
     fn read(decoder: &mut BinDecoder<'_>) -> Result<Name, DecodeError>
         ensures read { Reads (λ x. x) decoder.old decoder.new result
             (name_at decoder.old.bytes decoder.old.index) }
+        // Where as many pointers were followed as targets are kept, that stays so after `Ok`, and
+        // even after a refusal no more were followed than a pointer can name offsets.
         ensures counts { Counts decoder.old decoder.new result }
+        // Where exactly those targets are kept that the names before the place pass, that stays so
+        // after `Ok`.
         ensures passed { Passes decoder.old decoder.new result }
+        // The targets of the pointers in the name's spelling are kept in addition, and no others.
         ensures passes { IfOk result
             (λ n. (h : Spelled decoder.old.bytes n.labels decoder.old.index decoder.old.index
             decoder.new.index)
             → decoder.new.kept ≡ set.union decoder.old.kept (set.from_list (passed h))) }
+        // The same, said as of every read: see `BinDecodable::read`.
         ensures adds { IfOk result
             (λ _. AddsPassed (decoder.old.index ∷ []) decoder.old decoder.new) }
     {

@@ -64,8 +64,12 @@ impl Name {
     pub fn emit_plain(&self, encoder: &mut BinEncoder<'_>) -> Result<(), ProtoError>
         ensures state { OnOk result (state_of encoder.new
             ≡ appended (wire_of self.now.labels ++ 0 ∷ []) (state_of encoder.old)) }
+        // Whatever the answer, what stood before stays, and no byte is written past the limit.
         ensures keeps { Keeps (state_of encoder.old) (state_of encoder.new) }
+        // After `Ok` the labels have 1 to 63 bytes each, and the name has at most 255.
         ensures fits { OnOk result (AreNameLabels self.now.labels) }
+        // After `Ok` exactly the uncompressed name was written; refused for the limit only where
+        // that would pass it.
         ensures exact { Exactly (plain_name self.now.labels)
             (state_of encoder.old) (state_of encoder.new) result }
     {

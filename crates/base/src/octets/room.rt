@@ -72,6 +72,7 @@ impl Room {
     /// The first `used` of these bytes. All that have room are copied, since a fixed number is copied faster.
     pub(crate) fn from_front(alloc: Global, slice: &[u8], used: usize, mark: bool) -> Room
         requires few { used ≤ 29 }
+        // There are at least the 29 bytes that are copied.
         requires enough { 29 ≤ length slice.now }
         ensures { result ≡ record { items = take used slice.now; mark = mark } }
     {
@@ -153,7 +154,9 @@ impl Room {
 #[inline(always)]
 fn copy_ends(bytes: &mut [u8; INSIDE], slice: &[u8], piece: usize)
     requires few { length slice.now ≤ 29 }
+    // The slice is no shorter than a piece.
     requires long { piece ≤ length slice.now }
+    // Two pieces cover it.
     requires short { length slice.now ≤ piece + piece }
     ensures { take (length slice.now) bytes.new ≡ slice.now }
 {

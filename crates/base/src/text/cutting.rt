@@ -29,6 +29,7 @@ fn ends_item(c: u8) -> bool
 fn item_len(text: &[u8]) -> Option<usize>
     ensures value { option_map (λ n. (take n text.now, drop n text.now)) result
         ≡ item false text.now }
+    // The item ends between two characters of the text.
     ensures boundary { IfSome result (λ n. IsCharBoundary text.now n) }
 {
     let mut at = 0;
@@ -53,7 +54,9 @@ fn item_len(text: &[u8]) -> Option<usize>
 fn quoted_len(text: &[u8]) -> Option<usize>
     ensures value { option_map (λ n. (take n text.now, drop (n + 1) text.now)) result
         ≡ quoted false text.now }
+    // The quotation mark begins a character of the text.
     ensures boundary { IfSome result (λ n. IsCharBoundary text.now n) }
+    // After so many bytes stands a `"`.
     ensures quote { IfSome result (λ n. (n < length text.now) × (get_or text.now n 0 ≡ 34)) }
 {
     let mut kept = false;

@@ -58,6 +58,7 @@ impl<'a> Lexer<'a> {
     pub fn next_token(&mut self) -> Result<Option<Token>, ParseError>
         ensures value { AnswersNext result self.new (next self.old) }
         ensures stays { Stays result self.old self.new }
+        // At the end of the text, for blanks and at the end of a line, nothing is refused.
         ensures certain { TakesNone (next self.old) → IsTrue (is_ok result) }
     {
         if self.at_line_start && begins_blank(self.rest) {

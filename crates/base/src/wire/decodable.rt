@@ -28,8 +28,14 @@ pub trait BinDecodable: Drop {
     fn read(decoder: &mut BinDecoder<'_>) -> Result<Self, DecodeError>
         ensures read { Reads (λ x. x) decoder.old decoder.new result
             (read_at decoder.old.bytes decoder.old.index) }
+        // Where as many pointers were followed as targets are kept, that stays so after `Ok`, and
+        // even after a refusal no more were followed than a pointer can name offsets.
         ensures counts { Counts decoder.old decoder.new result }
+        // Where exactly those targets are kept that the names before the place pass, that stays so
+        // after `Ok`.
         ensures passed { Passes decoder.old decoder.new result }
+        // The targets that the names at the places of `names_at` pass are kept in addition, and no
+        // others.
         ensures adds { IfOk result
             (λ _. AddsPassed (names_at decoder.old.bytes decoder.old.index) decoder.old
             decoder.new) };

@@ -71,8 +71,11 @@ impl<'a> BinDecoder<'a> {
     /// The place that is read next, in bytes from the buffer's start.
     pub fn index(&self) -> usize
         ensures value { result ≡ self.now.index }
+        // The place is inside the buffer or at its end.
         ensures inside { result ≤ length self.now.bytes }
+        // A buffer has fewer than 2^63 bytes.
         ensures addressable { length self.now.bytes < 2 ^ 63 }
+        // No more targets of pointers are kept than a pointer can lead to.
         ensures few { set.len self.now.kept ≤ POINTER_LIMIT }
     {
         self.index
@@ -81,6 +84,7 @@ impl<'a> BinDecoder<'a> {
     /// How many bytes are left.
     pub fn len(&self) -> usize
         ensures left { result ≡ length self.now.bytes - self.now.index }
+        // No more targets of pointers are kept than a pointer can lead to.
         ensures few { set.len self.now.kept ≤ POINTER_LIMIT }
     {
         self.buffer.len() - self.index
@@ -95,6 +99,7 @@ impl<'a> BinDecoder<'a> {
 
     /// The allocator that values read here take their memory from.
     pub fn allocator(&self) -> Global
+        // No more targets of pointers are kept than a pointer can lead to.
         ensures few { set.len self.now.kept ≤ POINTER_LIMIT }
     {
         self.alloc
@@ -112,6 +117,7 @@ impl<'a> BinDecoder<'a> {
     pub(crate) fn follow(&mut self, target: u16) -> &'a [u8]
         requires { target ≤ length self.old.bytes }
         ensures lent { result.now ≡ drop target self.old.bytes }
+        // The count of pointers followed grows by one, unless it is the largest `usize` already.
         ensures counted { self.new
             ≡ record self.old { jumps = min (self.old.jumps + 1) usize.MAX } }
     {
@@ -124,6 +130,7 @@ impl<'a> BinDecoder<'a> {
     /// that is refused.
     pub fn jumps(&self) -> usize
         ensures value { result ≡ self.now.jumps }
+        // No more targets of pointers are kept than a pointer can lead to.
         ensures few { set.len self.now.kept ≤ POINTER_LIMIT }
     {
         self.jumps
@@ -131,9 +138,13 @@ impl<'a> BinDecoder<'a> {
 
     /// The labels at an offset that a pointer led to, each with its length before it, where they are kept.
     pub(crate) fn labels_at(&self, target: u16) -> Option<&[u8]>
+        // There are labels exactly for the offsets that the decoder keeps.
         ensures is { is_some result ≡ set.contains self.now.kept target }
+        // Each offset that is kept is below 16,384, so that a pointer can name it.
         ensures near { (q : ℕ) → set.contains self.now.kept q ≡ true → q < POINTER_LIMIT }
+        // They are the labels that are spelled at the offset.
         ensures spelled { IfSome result (λ labels. IsKept self.now.bytes target labels.now) }
+        // What is spelled at a kept offset passes kept offsets alone.
         ensures closed { IsClosed self.now.bytes self.now.kept }
     {
         match self.others.find(target) {
@@ -145,7 +156,9 @@ impl<'a> BinDecoder<'a> {
     /// Keeps the labels at an offset that a pointer led to, which stand in the buffer as they are: they are lent, as long
     /// as there is room, and else copied.
     pub(crate) fn keep_lent(&mut self, target: u16, labels: &'a [u8]) -> Result<(), DecodeError>
+        // These are the labels that are spelled at the offset.
         requires kept { IsKept self.old.bytes target labels.now }
+        // What is spelled there passes kept offsets alone.
         requires after { PassesKept self.old.bytes self.old.kept target }
         ensures ok { OnOk result (self.new
             ≡ record self.old { kept = set.insert self.old.kept target }) }
@@ -160,7 +173,9 @@ impl<'a> BinDecoder<'a> {
 
     /// Keeps a copy of the labels at an offset that a pointer led to.
     pub(crate) fn keep_copy(&mut self, target: u16, labels: &[u8]) -> Result<(), DecodeError>
+        // These are the labels that are spelled at the offset.
         requires kept { IsKept self.old.bytes target labels.now }
+        // What is spelled there passes kept offsets alone.
         requires after { PassesKept self.old.bytes self.old.kept target }
         ensures ok { OnOk result (self.new
             ≡ record self.old { kept = set.insert self.old.kept target }) }
@@ -189,8 +204,10 @@ impl<'a> BinDecoder<'a> {
         ensures only { IsOkUnless result DecodeError.InsufficientBytes }
         ensures read { Reads (λ b. b) self.old self.new result
             (byte_at self.old.bytes self.old.index) }
+        // These two are as of every read: see `BinDecodable::read`.
         ensures counts { Counts self.old self.new result }
         ensures passed { Passes self.old self.new result }
+        // No target of a pointer is kept in addition.
         ensures kept { self.new.kept ≡ self.old.kept }
     {
         match self.buffer.get(self.index) {
@@ -211,8 +228,10 @@ impl<'a> BinDecoder<'a> {
         ensures only { IsOkUnless result DecodeError.InsufficientBytes }
         ensures read { Reads (λ n. n) self.old self.new result
             (number_at w16 self.old.bytes self.old.index) }
+        // These two are as of every read: see `BinDecodable::read`.
         ensures counts { Counts self.old self.new result }
         ensures passed { Passes self.old self.new result }
+        // No target of a pointer is kept in addition.
         ensures kept { self.new.kept ≡ self.old.kept }
     {
         match &self.buffer[self.index..] {
@@ -233,8 +252,10 @@ impl<'a> BinDecoder<'a> {
         ensures only { IsOkUnless result DecodeError.InsufficientBytes }
         ensures read { Reads (λ n. n) self.old self.new result
             (number_at w32 self.old.bytes self.old.index) }
+        // These two are as of every read: see `BinDecodable::read`.
         ensures counts { Counts self.old self.new result }
         ensures passed { Passes self.old self.new result }
+        // No target of a pointer is kept in addition.
         ensures kept { self.new.kept ≡ self.old.kept }
     {
         match &self.buffer[self.index..] {
@@ -255,8 +276,10 @@ impl<'a> BinDecoder<'a> {
         ensures only { IsOkUnless result DecodeError.InsufficientBytes }
         ensures read { Reads (λ bytes. bytes.now) self.old self.new result
             (bytes_at len self.old.bytes self.old.index) }
+        // These two are as of every read: see `BinDecodable::read`.
         ensures counts { Counts self.old self.new result }
         ensures passed { Passes self.old self.new result }
+        // No target of a pointer is kept in addition.
         ensures kept { self.new.kept ≡ self.old.kept }
     {
         let start = self.index;

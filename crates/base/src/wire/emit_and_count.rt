@@ -27,7 +27,9 @@ pub trait EmitAndCount {
     /// Where not all fit, refused with `NotAllRecordsWritten` and the number of those that stand.
     fn emit(&mut self, encoder: &mut BinEncoder<'_>) -> Result<usize, ProtoError>
         requires { can_emit self.old }
+        // Whatever the answer, what stood before stays, and no byte is written past the limit.
         ensures keeps { Keeps (state_of encoder.old) (state_of encoder.new) }
+        // After `Ok`, and where not all fit, each stored suffix is spelled at its offset.
         ensures valid { StaysValid (state_of encoder.old) (state_of encoder.new) result }
         ensures emits { emits self.old (state_of encoder.old) result self.new
             (state_of encoder.new) };

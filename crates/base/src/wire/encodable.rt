@@ -41,8 +41,12 @@ pub trait BinEncodable {
     ///
     /// `MaxBufferSizeExceeded` where a byte would pass the limit; `Memory` if memory runs out. What stood before stays.
     fn emit(&self, encoder: &mut BinEncoder<'_>) -> Result<(), ProtoError>
+        // Whatever the answer, what stood before stays, and no byte is written past the limit.
         ensures keeps { Keeps (state_of encoder.old) (state_of encoder.new) }
+        // After `Ok`, the value's numbers are in range and its labels those of names.
         ensures fits { OnOk result (fits self.now) }
+        // After `Ok` exactly `written` of the value was written; refused for the limit only where
+        // that would pass it.
         ensures exact { Exactly (written self.now)
             (state_of encoder.old) (state_of encoder.new) result };
 
@@ -65,6 +69,7 @@ pub trait EncodedSize: BinEncodable {
     fn fill(&self, room: &mut [u8])
         requires { length room.old ≡ LEN }
         ensures bytes { room.new ≡ encoded self.now }
+        // Wherever these bytes stand in a buffer, the value stands in wire form.
         ensures word { (B : List ℕ) (i : ℕ) → Stands (encoded self.now) B i
             → Self.word self.now B i (i + LEN) };
 }

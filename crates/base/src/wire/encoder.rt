@@ -23,7 +23,9 @@ pub struct BinEncoder<'a, T: HasSuffixes = SuffixTable> {
     buffer: &'a mut Vec<u8>,
     limit: u16,
     suffixes: T,
+    // At most 65,535 bytes may be written.
     ghost narrow: { limit < 2 ^ 16 },
+    // Each stored suffix begins within the bytes that were written.
     ghost below: { All (λ t. t.offset < length buffer.now.items) (T.suffixes suffixes) },
 }
 
@@ -79,9 +81,12 @@ impl<'a> BinEncoder<'a> {
     pub fn emit(&mut self, byte: u8) -> Result<(), ProtoError>
         ensures ok { OnOk result (state_of self.new ≡ appended (byte ∷ []) (state_of self.old)) }
         ensures err { OnErr result (state_of self.new ≡ state_of self.old) }
+        // After `Ok` no byte stands past the limit.
         ensures within { OnOk result (length (state_of self.new).bytes
             ≤ (state_of self.old).limit) }
+        // Refused for the limit only where the byte would pass it, and else for memory alone.
         ensures refuses { Refuses 1 (state_of self.old) result }
+        // Where the byte would pass the limit, the answer is `MaxBufferSizeExceeded`.
         ensures full { (state_of self.old).limit < length (state_of self.old).bytes + 1
             → IsErrOf result ProtoError.MaxBufferSizeExceeded }
     {
@@ -97,9 +102,12 @@ impl<'a> BinEncoder<'a> {
         ensures ok { OnOk result (state_of self.new
             ≡ appended (to_be_bytes w16 number) (state_of self.old)) }
         ensures err { OnErr result (state_of self.new ≡ state_of self.old) }
+        // After `Ok` no byte stands past the limit.
         ensures within { OnOk result (length (state_of self.new).bytes
             ≤ (state_of self.old).limit) }
+        // Refused for the limit only where two bytes would pass it, and else for memory alone.
         ensures refuses { Refuses 2 (state_of self.old) result }
+        // Where two bytes would pass the limit, the answer is `MaxBufferSizeExceeded`.
         ensures full { (state_of self.old).limit < length (state_of self.old).bytes + 2
             → IsErrOf result ProtoError.MaxBufferSizeExceeded }
     {
@@ -115,9 +123,12 @@ impl<'a> BinEncoder<'a> {
         ensures ok { OnOk result (state_of self.new
             ≡ appended (to_be_bytes w32 number) (state_of self.old)) }
         ensures err { OnErr result (state_of self.new ≡ state_of self.old) }
+        // After `Ok` no byte stands past the limit.
         ensures within { OnOk result (length (state_of self.new).bytes
             ≤ (state_of self.old).limit) }
+        // Refused for the limit only where four bytes would pass it, and else for memory alone.
         ensures refuses { Refuses 4 (state_of self.old) result }
+        // Where four bytes would pass the limit, the answer is `MaxBufferSizeExceeded`.
         ensures full { (state_of self.old).limit < length (state_of self.old).bytes + 4
             → IsErrOf result ProtoError.MaxBufferSizeExceeded }
     {
@@ -132,9 +143,12 @@ impl<'a> BinEncoder<'a> {
     pub fn emit_slice(&mut self, bytes: &[u8]) -> Result<(), ProtoError>
         ensures ok { OnOk result (state_of self.new ≡ appended bytes.now (state_of self.old)) }
         ensures err { OnErr result (state_of self.new ≡ state_of self.old) }
+        // After `Ok` no byte stands past the limit.
         ensures within { OnOk result (length (state_of self.new).bytes
             ≤ (state_of self.old).limit) }
+        // Refused for the limit only where the bytes would pass it, and else for memory alone.
         ensures refuses { Refuses (length bytes.now) (state_of self.old) result }
+        // Where the bytes would pass the limit, the answer is `MaxBufferSizeExceeded`.
         ensures full { (state_of self.old).limit
             < length (state_of self.old).bytes + length bytes.now
             → IsErrOf result ProtoError.MaxBufferSizeExceeded }
@@ -171,11 +185,15 @@ impl<'a> BinEncoder<'a> {
             ≡ appended (replicate T.LEN 0) (state_of self.old))
             × (place ≡ length (state_of self.old).bytes)) }
         ensures err { OnErr result (state_of self.new ≡ state_of self.old) }
+        // After `Ok` no byte stands past the limit.
         ensures within { OnOk result (length (state_of self.new).bytes
             ≤ (state_of self.old).limit) }
+        // Refused for the limit only where the room would pass it, and else for memory alone.
         ensures refuses { Refuses T.LEN (state_of self.old) result }
+        // Where the room would pass the limit, the answer is `MaxBufferSizeExceeded`.
         ensures full { (state_of self.old).limit < length (state_of self.old).bytes + T.LEN
             → IsErrOf result ProtoError.MaxBufferSizeExceeded }
+        // The limit is at most 65,535 bytes.
         ensures narrow { (state_of self.old).limit < 2 ^ 16 }
     {
         let start = self.buffer.len();

@@ -21,8 +21,10 @@ pub fn read_many<T: BinDecodable>(
 ) -> Result<Vec<T>, DecodeError>
     ensures read { Reads (λ v. v.items) decoder.old decoder.new result
         (many_at T.read_at count decoder.old.bytes decoder.old.index) }
+    // These two are as of every read: see `BinDecodable::read`.
     ensures counts { Counts decoder.old decoder.new result }
     ensures passed { Passes decoder.old decoder.new result }
+    // The targets that the names of all these values pass are kept in addition, and no others.
     ensures adds { IfOk result
         (λ _. AddsPassed (many_names T.read_at T.names_at count decoder.old.bytes decoder.old.index)
         decoder.old decoder.new) }

@@ -50,7 +50,9 @@ impl<'a> PlainTargets<'a> {
 
     /// The labels at an offset, if it is one of these.
     pub(crate) fn find(&self, target: u16) -> Option<&'a [u8]>
+        // Labels are found exactly for the offsets that are kept here.
         ensures is { is_some result ≡ is_target self.now target }
+        // They are those that were kept with the offset.
         ensures there { IfSome result (λ labels. Any (HasLabels target labels.now) self.now) }
     {
         for plain in &self.room[..self.count] {
@@ -65,6 +67,7 @@ impl<'a> PlainTargets<'a> {
     pub(crate) fn keep(&mut self, target: u16, labels: &'a [u8]) -> bool
         ensures kept { result ≡ true
             → self.new ≡ self.old ++ record { target = target; labels = labels.entry } ∷ [] }
+        // Where there is no room, nothing changes.
         ensures full { result ≡ false → self.new ≡ self.old }
     {
         if self.count == ROOM {

@@ -18,8 +18,12 @@ pub fn emit_sized<R: BinEncodable>(
     value: &R,
     encoder: &mut BinEncoder<'_>,
 ) -> Result<(), ProtoError>
+    // Whatever the answer, what stood before stays, and no byte is written past the limit.
     ensures keeps { Keeps (state_of encoder.old) (state_of encoder.new) }
+    // After `Ok`, the value's numbers are in range and its labels those of names.
     ensures fits { OnOk result (R.fits value.now) }
+    // After `Ok` exactly the length and the value were written; refused for the limit only where
+    // they would pass it.
     ensures exact { Exactly (sized (R.written value.now))
         (state_of encoder.old) (state_of encoder.new) result }
 {

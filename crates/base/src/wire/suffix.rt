@@ -52,6 +52,7 @@ impl Suffix {
     /// The suffix of these labels, each with its length before it, at an offset.
     pub(crate) fn new(alloc: Global, wire: &[u8], offset: u16) -> Result<Suffix, AllocError>
         requires wire { IsWire wire.now }
+        // A pointer can name the offset.
         requires near { offset < POINTER_LIMIT }
         ensures { IfOk result (λ suffix. suffix
             ≡ record { labels = labels_of wire.now; offset = offset }) }
@@ -80,7 +81,9 @@ impl Suffix {
 
     /// Whether the suffix has these labels, each with its length before it, byte for byte.
     pub(crate) fn is(&self, wire: &[u8], front: u32) -> bool
+        // These are labels, each with its length before it.
         requires run { IsLabelRun wire.now }
+        // This is the number of their first bytes.
         requires front { front ≡ front_number wire.now }
         ensures { IsTrue result ↔ (self.now.labels ≡ labels_of wire.now) }
     {
@@ -90,6 +93,7 @@ impl Suffix {
     /// The offset.
     pub(crate) fn offset(&self) -> u16
         ensures value { result ≡ self.now.offset }
+        // A pointer can name the offset.
         ensures near { result < POINTER_LIMIT }
     {
         self.offset

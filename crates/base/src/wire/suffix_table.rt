@@ -94,7 +94,9 @@ impl SuffixTable {
         requires { IsWire wire.now }
         ensures found { MatchOption result (All (λ t. t.labels ≢ labels_of wire.now) self.now)
             (λ offset. Any (λ t. (t.labels ≡ labels_of wire.now) × (t.offset ≡ offset)) self.now) }
+        // A pointer can name the offset.
         ensures near { IfSome result (λ offset. offset < POINTER_LIMIT) }
+        // It is that of the first stored suffix of exactly these labels.
         ensures value { result ≡ found_in self.now (labels_of wire.now) }
     {
         let front = front_number(wire);
@@ -118,12 +120,15 @@ impl SuffixTable {
     /// If memory runs out, with nothing stored.
     pub(crate) fn store(&mut self, wire: &[u8], at: u16) -> Result<(), ProtoError>
         requires wire { IsWire wire.now }
+        // A pointer can name the offset.
         requires near { at < POINTER_LIMIT }
         requires absent { All (λ t. t.labels ≢ labels_of wire.now) self.old }
+        // It is after the offsets of all stored suffixes.
         requires later { All (λ t. t.offset < at) self.old }
         ensures ok { OnOk result (self.new
             ≡ self.old ++ record { labels = labels_of wire.now; offset = at } ∷ []) }
         ensures err { OnErr result (self.new ≡ self.old) }
+        // A refusal is `Memory`.
         ensures memory { IsMemory result }
     {
         let alloc = *self.first.allocator();
@@ -164,6 +169,7 @@ impl SuffixTable {
     fn push_first(first: &mut Vec<Suffix>, suffix: Suffix) -> Result<(), ProtoError>
         ensures ok { OnOk result (first.new.items ≡ first.old.items ++ suffix ∷ []) }
         ensures err { OnErr result (first.new.items ≡ first.old.items) }
+        // A refusal is `Memory`.
         ensures memory { IsMemory result }
     {
         if first.is_empty() {

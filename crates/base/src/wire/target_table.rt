@@ -29,7 +29,9 @@ const ENTRY: usize = 1 + MAX_LABELS;
 fn reach(places: &mut Vec<usize>, target: usize, most: usize) -> Result<(), AllocError>
     requires below { target < 65536 }
     requires few { most < 65536 }
+    // The offset has a place.
     ensures there { OnOk result (target < length places.new.items) }
+    // Each offset has the place that it had, and a new one has 0, for none.
     ensures same { (q : ℕ) → get_or places.new.items q 0 ≡ get_or places.old.items q 0 }
     ensures err { OnErr result (places.new.items ≡ places.old.items) }
 {
@@ -85,6 +87,7 @@ impl TargetTable {
     pub(crate) fn keep(&mut self, target: u16, labels: &[u8], most: u16) -> Result<(), AllocError>
         requires { length labels.now ≤ MAX_LABELS }
         ensures ok { OnOk result (get_or self.new target None ≡ Some labels.now) }
+        // What is kept for other offsets stays.
         ensures others { (q : ℕ) → q ≢ target
             → OnOk result (get_or self.new q None ≡ get_or self.old q None) }
         ensures err { OnErr result (self.new ≡ self.old) }

@@ -257,6 +257,7 @@ impl RData {
     /// [`ProtoError::Memory`] if memory runs out.
     pub fn to_canonical(&self, alloc: Global) -> Result<Vec<u8>, ProtoError>
         ensures ok { IfOk result (λ bytes. bytes.items ≡ canonical_data self.now) }
+        // A refusal is `Memory`.
         ensures memory { IsMemory result }
     {
         let mut bytes = Vec::new(alloc);

@@ -13,7 +13,10 @@ use base::{BinEncoder, ProtoError};
 ///
 /// `MaxBufferSizeExceeded` where a byte would pass the limit; `Memory` if memory runs out. What stood before stays.
 pub(crate) fn emit_bytes(bytes: &[u8], encoder: &mut BinEncoder<'_>) -> Result<(), ProtoError>
+    // Whatever the answer, what stood before stays, and no byte is written past the limit.
     ensures keeps { Keeps (state_of encoder.old) (state_of encoder.new) }
+    // After `Ok` exactly these bytes were written; refused for the limit only where they would
+    // pass it.
     ensures exact { Exactly (just bytes.now) (state_of encoder.old) (state_of encoder.new) result }
 {
     encoder.emit_slice(bytes)
@@ -21,7 +24,10 @@ pub(crate) fn emit_bytes(bytes: &[u8], encoder: &mut BinEncoder<'_>) -> Result<(
 
 /// Writes a number of two bytes, the high one first.
 pub(crate) fn emit_u16(number: u16, encoder: &mut BinEncoder<'_>) -> Result<(), ProtoError>
+    // Whatever the answer, what stood before stays, and no byte is written past the limit.
     ensures keeps { Keeps (state_of encoder.old) (state_of encoder.new) }
+    // After `Ok` exactly this number was written; refused for the limit only where it
+    // would pass it.
     ensures exact { Exactly (just (to_be_bytes w16 number))
         (state_of encoder.old) (state_of encoder.new) result }
 {

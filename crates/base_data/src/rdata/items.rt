@@ -88,6 +88,7 @@ impl RData {
         items: I,
         origin: Option<&Name>,
     ) -> Result<RData, ParseError>
+        // The iterator may be asked for its next item.
         requires can { I.can_next items }
         requires finite { IsFinite (I.remaining items) }
         ensures { (result ≡ Err ParseError.Memory) ⊎ ((all : List S) × Drains I.next_gives items all

@@ -28,8 +28,10 @@ impl RData {
     ) -> Result<RData, DecodeError>
         ensures read { Reads (λ x. x) decoder.old decoder.new result
             (rdata_at record_type len decoder.old.bytes decoder.old.index) }
+        // These two are as of every read: see `BinDecodable::read`.
         ensures counts { Counts decoder.old decoder.new result }
         ensures passed { Passes decoder.old decoder.new result }
+        // The targets that the names of the data pass are kept in addition, and no others.
         ensures adds { IfOk result
             (λ d. AddsPassed (data_places d decoder.old.bytes decoder.old.index) decoder.old
             decoder.new) }
@@ -79,8 +81,10 @@ pub(crate) trait SizedData: RecordData {
         requires { 0 < len }
         ensures read { Reads (λ x. x) decoder.old decoder.new result
             (sized_at len decoder.old.bytes decoder.old.index) }
+        // These two are as of every read: see `BinDecodable::read`.
         ensures counts { Counts decoder.old decoder.new result }
         ensures passed { Passes decoder.old decoder.new result }
+        // The data has no names, so no target of a pointer is kept in addition.
         ensures adds { IfOk result (λ _. AddsPassed [] decoder.old decoder.new) };
 }
 
@@ -90,8 +94,10 @@ pub(crate) fn read_as<R: BinDecodable + RecordData>(
 ) -> Result<RData, DecodeError>
     ensures read { Reads (λ x. x) decoder.old decoder.new result
         (as_any R.as_rdata (R.read_at decoder.old.bytes decoder.old.index)) }
+    // These two are as of every read: see `BinDecodable::read`.
     ensures counts { Counts decoder.old decoder.new result }
     ensures passed { Passes decoder.old decoder.new result }
+    // The targets that the names of the data pass are kept in addition, and no others.
     ensures adds { IfOk result
         (λ _. AddsPassed (R.names_at decoder.old.bytes decoder.old.index) decoder.old decoder.new) }
 {
@@ -106,8 +112,10 @@ pub(crate) fn read_sized<R: SizedData>(
     requires { 0 < len }
     ensures read { Reads (λ x. x) decoder.old decoder.new result
         (as_any R.as_rdata (R.sized_at len decoder.old.bytes decoder.old.index)) }
+    // These two are as of every read: see `BinDecodable::read`.
     ensures counts { Counts decoder.old decoder.new result }
     ensures passed { Passes decoder.old decoder.new result }
+    // The data has no names, so no target of a pointer is kept in addition.
     ensures adds { IfOk result (λ _. AddsPassed [] decoder.old decoder.new) }
 {
     Ok(R::read(decoder, len)?.into_rdata())
@@ -122,8 +130,10 @@ pub(crate) fn read_carried(
     requires { 0 < len }
     ensures read { Reads (λ x. x) decoder.old decoder.new result
         (as_any (kinds.Unknown code) (bytes_at len decoder.old.bytes decoder.old.index)) }
+    // These two are as of every read: see `BinDecodable::read`.
     ensures counts { Counts decoder.old decoder.new result }
     ensures passed { Passes decoder.old decoder.new result }
+    // The data has no names, so no target of a pointer is kept in addition.
     ensures adds { IfOk result (λ _. AddsPassed [] decoder.old decoder.new) }
 {
     let rdata = NULL::read(decoder, len)?;

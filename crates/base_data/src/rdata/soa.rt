@@ -185,6 +185,7 @@ impl SOA {
     /// The version and the times as they are written, the highest byte of each first.
     pub(crate) fn number_octets(&self) -> [u8; 20]
         ensures bytes { result ≡ soa_numbers self.now }
+        // Each of the numbers is below 2^32.
         ensures fits { SOAFits self.now }
     {
         let &SOA {

@@ -132,6 +132,7 @@ impl SRV {
     /// The numbers as they are written, the high byte of each first.
     pub(crate) fn number_octets(&self) -> [u8; 6]
         ensures bytes { result ≡ srv_numbers self.now }
+        // Each of the numbers is below 2^16.
         ensures fits { SRVFits self.now }
     {
         let &SRV {

@@ -69,7 +69,9 @@ impl TXT {
     /// The strings, from the first on.
     pub fn strings(&self) -> Strings<'_>
         ensures strings { result ≡ self.now }
+        // There is one string at least.
         ensures some { self.now ≢ [] }
+        // Each string has up to 255 bytes.
         ensures short { AreShort self.now }
     {
         Strings::new(&self.bytes)
@@ -78,7 +80,9 @@ impl TXT {
     /// The strings as they stand on the wire, each with its length before it.
     pub(crate) fn as_wire(&self) -> &[u8]
         ensures value { result.now ≡ wire_of self.now }
+        // The bytes are strings, each with its length before it, and nothing else.
         ensures whole { wire_of (labels_of result.now) ≡ result.now }
+        // Cut at their lengths, they are the strings of the data.
         ensures strings { labels_of result.now ≡ self.now }
     {
         &self.bytes
@@ -97,6 +101,7 @@ fn push_string(bytes: &mut Vec<u8>, string: &[u8]) -> Result<(), AllocError>
 /// Whether bytes are strings, each with its length before it, that fill them exactly.
 fn are_strings(bytes: &[u8]) -> bool
     ensures value { result ≡ are_strings bytes.now }
+    // Where they are, each string has up to 255 bytes.
     ensures short { IsTrue result → AreShort (labels_of bytes.now) }
 {
     let mut rest = bytes;

@@ -21,10 +21,15 @@ impl<'a> BinEncoder<'a> {
         &mut self,
         items: &mut I,
     ) -> Result<usize, ProtoError>
+        // The iterator may be asked for its next item.
         requires can { I.can_next items.old }
+        // It gives no more items than a `usize` can count.
         requires countable { IsCountable (I.remaining items.old) }
+        // Whatever the answer, what stood before stays, and no byte is written past the limit.
         ensures keeps { Keeps (state_of self.old) (state_of self.new) }
+        // After `Ok`, and where not all fit, each stored suffix is spelled at its offset.
         ensures valid { StaysValid (state_of self.old) (state_of self.new) result }
+        // The items were written in turn: all of them, or those before the first that has no room.
         ensures emits { EmitsAll E.word E.plain_len E.owner E.written I.next_gives items.old
             items.new (state_of self.old) (state_of self.new) result }
     {

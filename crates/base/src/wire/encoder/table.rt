@@ -20,7 +20,9 @@ impl<'a> BinEncoder<'a> {
             (λ t. t.labels ≢ labels_of wire.now) (state_of self.now).suffixes)
             (λ offset. Any (λ t. (t.labels ≡ labels_of wire.now)
             × (t.offset ≡ offset)) (state_of self.now).suffixes) }
+        // A pointer can name the offset.
         ensures near { IfSome result (λ offset. offset < POINTER_LIMIT) }
+        // It is that of the first stored suffix of exactly these labels.
         ensures value { result ≡ found_in (state_of self.now).suffixes (labels_of wire.now) }
     {
         self.suffixes.find(wire)
@@ -34,12 +36,15 @@ impl<'a> BinEncoder<'a> {
     /// If memory runs out, with nothing stored.
     pub(crate) fn store(&mut self, wire: &[u8], at: usize) -> Result<(), ProtoError>
         requires wire { IsWire wire.now }
+        // The suffix begins within the bytes that were written.
         requires stands { at < length (state_of self.old).bytes }
         requires absent { All (λ t. t.labels ≢ labels_of wire.now) (state_of self.old).suffixes }
+        // It begins after all stored suffixes.
         requires later { All (λ t. t.offset < at) (state_of self.old).suffixes }
         ensures ok { OnOk result (state_of self.new
             ≡ stored (labels_of wire.now) at (state_of self.old)) }
         ensures err { OnErr result (state_of self.new ≡ state_of self.old) }
+        // A refusal is `Memory`.
         ensures memory { IsMemory result }
     {
         if at >= POINTER_LIMIT {

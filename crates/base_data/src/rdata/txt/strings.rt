@@ -58,6 +58,7 @@ pub(crate) fn first_string(wire: &[u8]) -> Option<(&[u8], &[u8])>
         (λ r. labels_of wire.now ≡ r.0.now ∷ labels_of r.1.now) }
     ensures bytes { MatchOption result (wire.now ≡ [])
         (λ r. wire.now ≡ (length r.0.now ∷ r.0.now) ++ r.1.now) }
+    // The rest is again strings, each with its length before it.
     ensures others { IfSome result (λ r. wire_of (labels_of r.1.now) ≡ r.1.now) }
     ensures shorter { IfSome result (λ r. length r.1.now < length wire.now) }
 {
