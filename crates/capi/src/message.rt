@@ -41,7 +41,9 @@ pub extern "C" fn fuzsbanel_cut(
     out: &mut [u8],
     needed: &mut usize,
 ) -> i64
+    // The bytes or the refusal are those of the definition `cut_of`, unless memory runs out.
     ensures exact { IsAnswered (cut_of message.now limit) out.old out.new needed.new result }
+    // Bytes that the caller's buffer has room for are a cut of the message, and are read as that.
     ensures cut { 0 < needed.new → needed.new ≤ length out.old
         → IsCutOf message.now limit (take needed.new out.new) }
 {
@@ -68,6 +70,7 @@ pub extern "C" fn fuzsbanel_text(
 /// The place after the message that the bytes begin with.
 fn end(alloc: Global, bytes: &[u8]) -> Result<usize, Refusal>
     ensures made { Makes (λ n. n) (end_of bytes.now) result }
+    // The place is below 2^63, so that it can be answered as an `i64`.
     ensures addressable { IfOk result (λ n. n < 2 ^ 63) }
 {
     let mut decoder = BinDecoder::new(alloc, bytes);
@@ -77,6 +80,7 @@ fn end(alloc: Global, bytes: &[u8]) -> Result<usize, Refusal>
 
 /// The bytes of a cut of the message that the bytes begin with.
 fn cut(alloc: Global, bytes: &[u8], limit: u16) -> Result<Vec<u8>, Refusal>
+    // The bytes or the refusal are those of the definition `cut_of`, unless memory runs out.
     ensures exact { Makes (λ sent. sent.items) (cut_of bytes.now limit) result }
     ensures cut { IfOk result (λ sent. IsCutOf bytes.now limit sent.items) }
 {
@@ -88,8 +92,10 @@ fn cut(alloc: Global, bytes: &[u8], limit: u16) -> Result<Vec<u8>, Refusal>
 fn bytes_within(alloc: Global, message: &Message, limit: u16) -> Result<Vec<u8>, ProtoError>
     requires { Fits (message_value message.now) }
     ensures ok { IfOk result (λ bytes. IsWritten (message_value message.now) limit bytes.items) }
+    // The bytes are what the definition `message_answer` gives.
     ensures answer { IfOk result (λ bytes. message_answer limit (message_value message.now)
         ≡ Ok bytes.items) }
+    // Refused with what it gives, unless memory runs out.
     ensures refusal { IfErr result (λ e. (e ≡ refusals.Memory)
         ⊎ (message_answer limit (message_value message.now) ≡ Err e)) }
 {

@@ -142,6 +142,7 @@ fn fill<T: Drop>(made: Result<(T, usize), DecodeError>, found: &mut T) -> i64
 /// The question at a place, and the place after it.
 fn query_at(alloc: Global, bytes: &[u8], place: usize) -> Result<(QueryFound, usize), DecodeError>
     ensures found { Finds (query_found bytes.now place) result }
+    // The place is below 2^63, so that it can be answered as an `i64`.
     ensures addressable { IfOk result (λ r. r.1 < 2 ^ 63) }
 {
     let mut decoder = BinDecoder::new(alloc, bytes);
@@ -160,6 +161,7 @@ fn query_at(alloc: Global, bytes: &[u8], place: usize) -> Result<(QueryFound, us
 /// The record at a place, and the place after it.
 fn record_at(alloc: Global, bytes: &[u8], place: usize) -> Result<(RecordFound, usize), DecodeError>
     ensures found { Finds (record_found bytes.now place) result }
+    // The place is below 2^63, so that it can be answered as an `i64`.
     ensures addressable { IfOk result (λ r. r.1 < 2 ^ 63) }
 {
     let end = record_end(alloc, bytes, place)?;
@@ -184,6 +186,7 @@ fn record_at(alloc: Global, bytes: &[u8], place: usize) -> Result<(RecordFound, 
 /// The place after the record at a place.
 fn record_end(alloc: Global, bytes: &[u8], place: usize) -> Result<usize, DecodeError>
     ensures found { Finds (record_end bytes.now place) result }
+    // The place is below 2^63, so that it can be answered as an `i64`.
     ensures addressable { IfOk result (λ end. end < 2 ^ 63) }
 {
     let mut decoder = BinDecoder::new(alloc, bytes);
@@ -195,6 +198,7 @@ fn record_end(alloc: Global, bytes: &[u8], place: usize) -> Result<usize, Decode
 /// The option at a place, and the place after it.
 fn option_at(alloc: Global, bytes: &[u8], place: usize) -> Result<(OptionFound, usize), DecodeError>
     ensures found { Finds (option_found bytes.now place) result }
+    // The place is below 2^63, so that it can be answered as an `i64`.
     ensures addressable { IfOk result (λ r. r.1 < 2 ^ 63) }
 {
     let mut decoder = BinDecoder::new(alloc, bytes);

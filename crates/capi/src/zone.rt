@@ -53,6 +53,7 @@ pub fn zone_of(
     text: &[u8],
 ) -> Result<(Name, BTreeMap<RrKey, RecordSet>), Refusal>
     ensures zone { Makes (λ r. (r.0, r.1.entries)) (zone_of_text origin.now text.now) result }
+    // Each set stands under the key of its owner and type, has a record and is tidy.
     ensures kept { IfOk result (λ r. AreKept r.1.entries) }
 {
     let origin = origin_of(alloc, origin)?;

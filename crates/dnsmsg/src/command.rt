@@ -58,6 +58,7 @@ impl Command {
     /// If memory runs out while an origin is parsed.
     pub fn from_words(alloc: Global, words: &[String]) -> Result<Option<Command>, AllocError>
         ensures value { IfOk result (λ command. command ≡ command_of (texts words.now)) }
+        // Memory runs out only where the words have an origin that is parsed.
         ensures memory { IfErr result (λ _. parses_origin (texts words.now) ≡ true) }
     {
         if let [word, origin, others @ ..] = words {
@@ -76,7 +77,9 @@ impl Command {
 #[tactic(auto, unfolding(crate::specs::ZoneWords::zone_named))]
 fn zone(alloc: Global, origin: &str, included: &[String]) -> Result<Option<Command>, AllocError>
     ensures value { IfOk result (λ command. command ≡ zone_named origin.now (texts included.now)) }
+    // Memory runs out only where each of the words after the origin is NAME=TEXT.
     ensures memory { IfErr result (λ _. are_texts (texts included.now) ≡ true) }
+    // It runs out only where the origin isn't `-`.
     ensures parsed { IfErr result (λ _. bytes_eq origin.now (codes "-") ≡ false) }
 {
     if !are_texts(included) {
@@ -91,7 +94,9 @@ fn zone(alloc: Global, origin: &str, included: &[String]) -> Result<Option<Comma
 /// The command of an origin and of an update, one word.
 fn apply(alloc: Global, origin: &str, others: &[String]) -> Result<Option<Command>, AllocError>
     ensures value { IfOk result (λ command. command ≡ apply_named origin.now (texts others.now)) }
+    // Memory runs out only where one word is after the origin.
     ensures memory { IfErr result (λ _. is_one (texts others.now) ≡ true) }
+    // It runs out only where the origin isn't `-`.
     ensures parsed { IfErr result (λ _. bytes_eq origin.now (codes "-") ≡ false) }
 {
     let [_update] = others else {
@@ -106,6 +111,7 @@ fn apply(alloc: Global, origin: &str, others: &[String]) -> Result<Option<Comman
 /// The origin that a word names, if it names one: `-` for none, else a name.
 fn named_origin(alloc: Global, word: &str) -> Result<Option<Option<Name>>, AllocError>
     ensures value { IfOk result (λ origin. origin ≡ origin_named word.now) }
+    // Memory runs out only where the word isn't `-`.
     ensures parsed { IfErr result (λ _. bytes_eq word.now (codes "-") ≡ false) }
 {
     if word == "-" {

@@ -37,8 +37,10 @@ fn bytes_within(alloc: Global, message: &Message, limit: u16) -> Result<Vec<u8>,
     ensures ok { IfOk result (λ bytes. IsWritten (message_value message.now) limit bytes.items) }
     ensures err { IfErr result (λ e. (e ≡ refusals.Memory)
         ⊎ IsTooSmall (message_value message.now) limit e) }
+    // The bytes are what the definition `message_answer` gives.
     ensures answer { IfOk result (λ bytes. message_answer limit (message_value message.now)
         ≡ Ok bytes.items) }
+    // Refused with what it gives, unless memory runs out.
     ensures refusal { IfErr result (λ e. (e ≡ refusals.Memory)
         ⊎ (message_answer limit (message_value message.now) ≡ Err e)) }
 {

@@ -27,14 +27,20 @@ const BROKEN: u8 = 3;
 /// before anything is read, and so is the update that `apply` has among them.
 pub fn run<R: Read, W: Write>(alloc: Global, words: &[String], input: &mut R, output: &mut W) -> u8
     ensures statuses { result ≤ 3 }
+    // Where the words name no command, the input isn't read.
     ensures unread { command_of (texts words.now) ≡ None → input.new ≡ input.old }
+    // Unless writing fails, the usage line is printed then, or refusal 3 where an origin was
+    // parsed and memory ran out.
     ensures wrong_words { command_of (texts words.now) ≡ None → result ≢ broken
         → IsTurnedAway (texts words.now) result (W.contents output.old) (W.contents output.new) }
+    // Words that hold a faulty update are refused with its number, and the input isn't read.
     ensures judged { (command : Asked) → command_of (texts words.now) ≡ Some command
         → IfSome (refused_word command (texts words.now))
         (λ n. (input.new ≡ input.old)
         × (result ≢ broken
         → IsAnswered (refused n) result (W.contents output.old) (W.contents output.new))) }
+    // Unless a read or a write fails, the command's answer to the input is printed, or refusal 3
+    // where memory ran out.
     ensures answered { (command : Asked) → command_of (texts words.now) ≡ Some command
         → result ≢ broken → IfSome (R.remaining input.old)
         (λ text. IsGiven command (texts words.now) text result (W.contents output.old)
@@ -59,7 +65,9 @@ impl Command {
         words: &[String],
         input: &mut R,
     ) -> Result<String, Failure>
+        // The answer is that of the command to the input, unless a read fails.
         ensures gives { Gives self (texts words.now) (R.remaining input.old) result }
+        // Words that hold a faulty update are refused with its number, and the input isn't read.
         ensures judged { IfSome (refused_word self (texts words.now))
             (λ n. (input.new ≡ input.old) × IsRefused n result) }
     {

@@ -46,6 +46,7 @@ fn response_to(alloc: Global, query: Message, answers: Vec<Record>) -> Message
 
 /// The bytes of a message, as much of it as the limit has room for.
 fn bytes_within(alloc: Global, message: &Message, limit: u16) -> Result<Vec<u8>, ProtoError>
+    // Of a message that fits, the bytes are a cut under the limit, and are read as that cut.
     ensures written { Fits (message_value message.now)
         → IfOk result (λ bytes. IsWritten (message_value message.now) limit bytes.items) }
     ensures refused { IfErr result

@@ -25,6 +25,7 @@ pub struct CacheEntry {
 ///
 /// `Decode` where no message begins what was received; `NotAResponse` for a query; `Memory` if memory runs out.
 pub fn cache_entry(alloc: Global, received: Vec<u8>, seconds: u32) -> Result<CacheEntry, ProtoError>
+    // The entry has the response's answers and negative TTL, with so many seconds off.
     ensures kept { IfOk result (λ entry. IsCached received.items seconds entry) }
     ensures refused { IfErr result (λ e. IsRefusedResponse received.items e) }
 {

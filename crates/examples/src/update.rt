@@ -38,6 +38,7 @@ pub fn create_in(
     set: RecordSet,
 ) -> Result<(ResponseCode, BTreeMap<RrKey, RecordSet>), Refusal>
     requires { is_zone_of origin.now set.name ≡ true }
+    // The change is told for a set that can be sent, of class IN, whose owner has no CNAME there.
     ensures created { IfOk result (λ r. IsCreated origin.now text.now set r.0 r.1) }
     ensures refused { IfErr result
         (λ e. IsUnsent origin.now set e ⊎ IsNoZone origin.now text.now e) }
@@ -52,6 +53,7 @@ pub fn create_in(
 /// The bytes of the update that creates a set.
 fn update_bytes(alloc: Global, origin: &Name, set: RecordSet) -> Result<Vec<u8>, ProtoError>
     requires { is_zone_of origin.now set.name ≡ true }
+    // Where the set can be sent, the bytes are a cut of that message, and are read as that cut.
     ensures written { IfOk result
         (λ bytes. IsSendable origin.now set
         → IsWritten (creating origin.now set) MAX_MESSAGE bytes.items) }
@@ -64,6 +66,7 @@ fn update_bytes(alloc: Global, origin: &Name, set: RecordSet) -> Result<Vec<u8>,
 
 /// The message that bytes begin with, if it was not cut.
 fn whole_message(alloc: Global, bytes: &[u8]) -> Result<Message, Refusal>
+    // A message begins the bytes, and its TC bit isn't set.
     ensures whole { IfOk result (λ m. IsReceived bytes.now (message_value m)) }
     ensures refused { IfErr result (λ e. IsNotReceived bytes.now e) }
 {

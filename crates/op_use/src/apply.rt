@@ -45,6 +45,8 @@ pub fn apply_update(
     message: &Message,
 ) -> Result<(ResponseCode, BTreeMap<RrKey, RecordSet>), ProtoError>
     requires { IsZoneMap class sets.now }
+    // The code and the zone are those that a server makes (RFC 2136, 3); the new map may be updated
+    // again; and the records of each set, their order and their spelling are told too.
     ensures applied { IfOk result
         (λ r. IsApplied origin.now class (sections_of (message_value message.now)) sets.now r.0
         r.1) }

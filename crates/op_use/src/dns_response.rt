@@ -52,23 +52,33 @@ impl DnsResponse {
     /// `NotAResponse` for a query, before anything is written; `NotAllRecordsWritten` where the questions don't fit
     /// 65,535 bytes, with the number of those before the first that doesn't; `Memory` if memory runs out.
     pub fn from_message(alloc: Global, message: Message) -> Result<DnsResponse, ProtoError>
+        // The response has this message, which is a response by its QR bit.
         ensures same { IfOk result (λ r. (r.message ≡ message_value message)
             × IsResponse (message_value message)) }
+        // Refused with `NotAResponse` exactly where the message is a query by its QR bit.
         ensures query { (result ≡ Err ProtoError.NotAResponse) ↔ IsQuery (message_value message) }
+        // A response whose header and uncompressed questions have room is refused for memory alone.
         ensures succeeds { IsResponse (message_value message)
             → HasRoom (message_value message) MAX_MESSAGE → IsOkUnless result ProtoError.Memory }
+        // Of a message that fits, the bytes are a cut under 65,535 bytes, and are read as that cut.
         ensures written { Fits (message_value message)
             → IfOk result (λ r. IsWritten (message_value message) MAX_MESSAGE r.buffer) }
+        // Of any message, all questions and a front of each other part were written.
         ensures emitted { IfOk result (λ r. EmittedNew (message_value message) MAX_MESSAGE r.buffer) }
+        // The bytes are exactly those of the definition `message_bytes`.
         ensures exact { IfOk result (λ r. r.buffer ≡ message_bytes MAX_MESSAGE (message_value message)) }
+        // A response is refused only for memory, or where its uncompressed questions have no room.
         ensures refused { IsResponse (message_value message)
             → IfErr result (λ e. (e ≡ ProtoError.Memory)
             ⊎ IsTooSmall (message_value message) MAX_MESSAGE e) }
+        // The number in such a refusal is that of the questions before the first that has no room.
         ensures left { IsResponse (message_value message)
             → IfErr result (λ e. (e ≡ ProtoError.Memory)
             ⊎ LeavesNew (message_value message) MAX_MESSAGE e) }
+        // The bytes are what the definition `message_answer` gives.
         ensures answer { IfOk result (λ r. message_answer MAX_MESSAGE (message_value message)
             ≡ Ok r.buffer) }
+        // A response is refused with what `message_answer` gives, unless memory runs out.
         ensures refusal { IsResponse (message_value message)
             → IfErr result (λ e. (e ≡ ProtoError.Memory)
             ⊎ (message_answer MAX_MESSAGE (message_value message) ≡ Err e)) }
@@ -91,13 +101,17 @@ impl DnsResponse {
     pub fn from_buffer(alloc: Global, buffer: Vec<u8>) -> Result<DnsResponse, ProtoError>
         ensures found { IfOk result (λ r. ((e : ℕ) × IsMessageAt buffer.items 0 r.message e)
             × IsResponse r.message × (r.buffer ≡ buffer.items)) }
+        // Where a message begins the bytes, it is that one; refused only for a query or for memory.
         ensures only { (m : MessageValue) (e : ℕ) → IsMessageAt buffer.items 0 m e
             → MatchResult result (λ r. r.message ≡ m)
             (λ f. (f ≡ ProtoError.Decode DecodeError.Memory)
             ⊎ ((f ≡ ProtoError.NotAResponse) × IsQuery m)) }
+        // Refused only so: `NotAResponse` for a query, `Decode` of the first fault or of `Memory`.
         ensures refused { IfErr result (λ f. IsRefusedResponse buffer.items f) }
+        // Unless memory ran out, that is the first fault in the terms of the standard.
         ensures fault { (f : DecodeError) → result ≡ Err (ProtoError.Decode f)
             → (f ≡ DecodeError.Memory) ⊎ IsMessageFault buffer.items 0 f }
+        // A message that was read can stand on the wire, and is read there as it was.
         ensures fits { IfOk result (λ r. Fits r.message) }
     {
         let message = Message::from_vec(alloc, &buffer)?;
@@ -116,6 +130,8 @@ impl DnsResponse {
 
     /// The message, to be changed. A change leaves the bytes as they are.
     pub fn message_mut(&mut self) -> &mut Message
+        // When the borrow of the answer ends, the response has the message as it was left, and its
+        // bytes as before.
         ensures* writes_back { sem 𝓛 (LendsMessage self.entry result) }
         ensures value { message_value result.now ≡ self.old.message }
     {
@@ -207,6 +223,7 @@ impl From<DnsResponse> for Message {
 
 /// The bytes of the message, as `Message::to_vec` writes them.
 fn write(alloc: Global, message: &Message) -> Result<Vec<u8>, ProtoError>
+    // These clauses are those of `DnsResponse::from_message`, of a query as well.
     ensures succeeds { HasRoom (message_value message.now) MAX_MESSAGE
         → IsOkUnless result ProtoError.Memory }
     ensures written { Fits (message_value message.now)

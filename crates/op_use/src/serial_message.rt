@@ -75,11 +75,15 @@ impl SerialMessage {
     pub fn to_message(&self) -> Result<Message, DecodeError>
         ensures found { IfOk result (λ m. (e : ℕ)
             × IsMessageAt self.now.bytes 0 (message_value m) e) }
+        // Where a message begins the bytes, it is that one, unless memory runs out.
         ensures only { (m : MessageValue) (e : ℕ) → IsMessageAt self.now.bytes 0 m e
             → MatchResult result (λ read. message_value read ≡ m) (λ f. f ≡ DecodeError.Memory) }
+        // A refusal is the fault of the definition `message_at`, or memory ran out.
         ensures refused { IfErr result (λ f. Fails f (message_at self.now.bytes 0)) }
+        // Unless memory ran out, that is the first fault in the terms of the standard.
         ensures fault { IfErr result (λ f. (f ≡ DecodeError.Memory)
             ⊎ IsMessageFault self.now.bytes 0 f) }
+        // A message that was read can stand on the wire, and is read there as it was.
         ensures fits { IfOk result (λ m. Fits (message_value m)) }
     {
         Message::from_vec(*self.message.allocator(), &self.message)

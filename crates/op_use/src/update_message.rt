@@ -53,10 +53,14 @@ pub trait UpdateMessage: Debug {
         &mut self,
         prerequisites: I,
     ) -> Result<(), ProtoError>
+        // The iterator may be asked for its next item.
         requires can { I.can_next prerequisites }
+        // It gives no more items than a `usize` can count.
         requires countable { IsCountable (I.remaining prerequisites) }
+        // All items stand after the others, or those before the item for which there was no memory.
         ensures added { AddsGiven I.next_gives prerequisites (message self.old).answers
             (message self.new).answers result }
+        // Whatever the answer, all else of the message stays.
         ensures others { message self.new
             ≡ record (message self.old) { answers = (message self.new).answers } }
         ensures only { IsOkUnless result ProtoError.Memory };
@@ -76,10 +80,14 @@ pub trait UpdateMessage: Debug {
         &mut self,
         updates: I,
     ) -> Result<(), ProtoError>
+        // The iterator may be asked for its next item.
         requires can { I.can_next updates }
+        // It gives no more items than a `usize` can count.
         requires countable { IsCountable (I.remaining updates) }
+        // All items stand after the others, or those before the item for which there was no memory.
         ensures added { AddsGiven I.next_gives updates (message self.old).authorities
             (message self.new).authorities result }
+        // Whatever the answer, all else of the message stays.
         ensures others { message self.new
             ≡ record (message self.old) { authorities = (message self.new).authorities } }
         ensures only { IsOkUnless result ProtoError.Memory };

@@ -58,6 +58,7 @@ fn update_lines(
 ) -> Result<String, AllocError>
     ensures lines { IfOk result (λ lines. string_bytes lines
         ≡ update_lines code (name.now, sets.entries)) }
+    // The sets that were handed in stand in the order of their keys, each once.
     ensures ordered { IfOk result (λ _. IsOrdered key_cmp sets) }
 {
     let word = code.name().unwrap_or("");

@@ -31,6 +31,7 @@ pub fn zone_of_bytes(
 ) -> Result<(Name, BTreeMap<RrKey, RecordSet>), ZoneRefusal>
     ensures zone { Makes (λ r. (r.0, r.1.entries))
         (zone_of_bytes no_texts origin bytes.now) result }
+    // Each set stands under the key of its owner and type, has a record and is tidy.
     ensures kept { IfOk result (λ r. AreKept r.1.entries) }
 {
     let none = BTreeMap::new(alloc);
@@ -50,6 +51,7 @@ pub fn zone_with_texts(
 ) -> Result<(Name, BTreeMap<RrKey, RecordSet>), ZoneRefusal>
     ensures zone { Makes (λ r. (r.0, r.1.entries))
         (zone_of_bytes (texts_in includes.now) origin bytes.now) result }
+    // Each set stands under the key of its owner and type, has a record and is tidy.
     ensures kept { IfOk result (λ r. AreKept r.1.entries) }
 {
     let Ok(text) = str::from_utf8(bytes) else {
@@ -70,6 +72,7 @@ pub fn zone_lines(
 ) -> Result<String, AllocError>
     ensures lines { IfOk result (λ lines. string_bytes lines
         ≡ zone_lines (name.now, sets.entries)) }
+    // The sets that were handed in stand in the order of their keys, each once.
     ensures ordered { IfOk result (λ _. IsOrdered key_cmp sets) }
 {
     let mut lines = format!(in alloc; "$ORIGIN {name}\n")?;

@@ -109,6 +109,7 @@ impl<R: RecordData> Record<R> {
 
     /// Takes seconds off the TTL, down to 0. The other fields stay.
     pub fn decrement_ttl(&mut self, offset: u32) -> &mut Record<R>
+        // The reference that is answered is `self` itself.
         ensures same { result.ghost_name ≡ self.entry.ghost_name }
         ensures value { result.now ≡ decremented offset self.old }
     {

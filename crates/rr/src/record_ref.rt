@@ -30,6 +30,7 @@ impl<'a, R: RecordData> RecordRef<'a, R> {
     pub fn to_owned(&self) -> Result<Record<R>, ProtoError>
         ensures ok { IfOk result (λ r. R.is_clone (seen self.now).rdata r.rdata
             × (r ≡ holding r.rdata (seen self.now))) }
+        // A refusal is `Memory`.
         ensures memory { IsMemory result }
     {
         Ok(Record {

@@ -323,6 +323,7 @@ impl RecordSet {
     /// The records, in order, each once.
     pub fn records_without_rrsigs(&self) -> RrsetRecords<'_>
         ensures records { records_left result ≡ self.now.records }
+        // The answer's `is_empty` is true exactly where the set has no records.
         ensures empty { IsTrue (is_of_empty result) ↔ (self.now.records ≡ []) }
     {
         let entries = self.records.as_slice();

@@ -78,8 +78,10 @@ impl<'a> Parser<'a> {
     /// for too many open texts, and `IncludeNotFound` for a text that was not handed in; at the very end, `Message` where
     /// no origin is in force. `Memory` if memory runs out, at any time.
     pub fn parse(self) -> Result<(Name, BTreeMap<RrKey, RecordSet>), ParseError>
+        // The zone or the fault is that of the definition `zone_of`, unless memory runs out.
         ensures zone { Gives (λ r. (r.0, r.1.entries)) result
             (zone_of (text_among self.entry.includes) self.entry.origin self.entry.text) }
+        // Each set stands under the key of its owner and type, has a record and is tidy.
         ensures kept { IfOk result (λ r. AreKept r.1.entries) }
     {
         let Parser {

@@ -26,6 +26,7 @@ pub fn origin_of(alloc: Global, text: &[u8]) -> Result<Name, Refusal>
 /// The one set that zone text has, if its owner lies in the zone.
 pub fn set_in(alloc: Global, origin: &Name, text: &[u8]) -> Result<RecordSet, Refusal>
     ensures made { Makes (λ set. set) (set_of_text origin.now text.now) result }
+    // The set's owner lies in the zone.
     ensures within { IfOk result (λ set. is_zone_of origin.now set.name ≡ true) }
 {
     let (_origin, sets) = zone_of_bytes(alloc, Some(origin.clone()?), text)?;
@@ -36,6 +37,7 @@ pub fn set_in(alloc: Global, origin: &Name, text: &[u8]) -> Result<RecordSet, Re
 /// The name of a text that lies in the zone; a relative one ends in the origin.
 pub fn owner_in(alloc: Global, origin: &Name, text: &[u8]) -> Result<Name, Refusal>
     ensures made { Makes (λ owner. owner) (owner_of_text origin.now text.now) result }
+    // The name lies in the zone.
     ensures within { IfOk result (λ owner. is_zone_of origin.now owner ≡ true) }
 {
     let text = characters_of(text)?;
@@ -89,6 +91,7 @@ fn only_set(mut sets: BTreeMap<RrKey, RecordSet>) -> Result<RecordSet, Refusal>
 /// The set, if its owner lies in the zone.
 fn within(origin: &Name, set: RecordSet) -> Result<RecordSet, Refusal>
     ensures made { Makes (λ set. set) (within origin.now set) result }
+    // The set's owner lies in the zone.
     ensures within { IfOk result (λ set. is_zone_of origin.now set.name ≡ true) }
 {
     if !origin.zone_of(set.name()) {

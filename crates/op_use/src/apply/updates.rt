@@ -35,7 +35,9 @@ impl<'a> Zone<'a> {
 
     /// How many of the first updates delete data of the set of an entry, which are then taken out at once.
     fn deletions(&self, entry: &Record, entries: &[Record]) -> usize
+        // There are no more of them than updates.
         ensures within { result ≤ length entries.now }
+        // Each of these first updates deletes data of the set of the entry.
         ensures each { AllByRecursion (λ r. is_deletion (zone_of self.now) entry.now r ≡ true)
             (take result entries.now) }
     {

@@ -132,8 +132,10 @@ impl<'a> Zone<'a> {
     /// Takes a set out to be changed; the answer is one without records where there is none.
     fn take_or_new(&mut self, key: &RrKey, entry: &Record) -> Result<RecordSet, AllocError>
         requires { key.now ≡ record_key entry.now }
+        // It is of the key and of the zone's class, and has the records that were under the key.
         ensures set { IfOk result
             (λ set. IsTakenSet self.old.class key.now (records_at self.old.sets key.now) set) }
+        // The zone is then without that set, and else as it was.
         ensures left { OnOk result (Lacks key.now self.old self.new) }
     {
         match self.sets.remove(key) {
@@ -166,7 +168,9 @@ impl<'a> Zone<'a> {
     /// Puts a set under its key, or nothing where it has no records. An entry that deletes has the TTL 0, so a set's is
     /// that of its records (RFC 2181, 5.2).
     fn put_set(&mut self, key: RrKey, set: RecordSet) -> Result<(), AllocError>
+        // It is of the key and of the zone's class, and no two of its records have equal data.
         requires own { IsTakenSet self.old.class key set.records set }
+        // The set's TTL is that of the last of its records.
         requires ttl { set.ttl ≡ last_ttl set.records }
         ensures { OnOk result (Holds key set.records self.old self.new) }
     {

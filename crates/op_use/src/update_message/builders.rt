@@ -37,7 +37,10 @@ pub fn create(
     requires within { is_zone_of origin rrset.name ≡ true }
     ensures built { IfOk result (λ m. message_value m
         ≡ update_message id use_edns (create_sections rrset origin)) }
+    // Where the set can be sent in an update, the message can stand on the wire.
     ensures fits { IfOk result (λ m. IsSendable origin rrset → Fits (message_value m)) }
+    // What a server reads from uncut bytes merges the set into a zone that meets the premises, or
+    // is answered YXRRSet where the zone has a set of that owner and type.
     ensures means { IfOk result (λ m. CreatesSet rrset origin (message_value m)) }
     ensures only { IsOkUnless result ProtoError.Memory }
 {
@@ -74,7 +77,10 @@ pub fn append(
     requires within { is_zone_of origin rrset.name ≡ true }
     ensures built { IfOk result (λ m. message_value m
         ≡ update_message id use_edns (append_sections rrset origin must_exist)) }
+    // Where the set can be sent in an update, the message can stand on the wire.
     ensures fits { IfOk result (λ m. IsSendable origin rrset → Fits (message_value m)) }
+    // What a server reads from uncut bytes merges the set into a zone that meets the premises, or
+    // is answered NXRRSet where it must exist and the zone has none of that owner and type.
     ensures means { IfOk result (λ m. AppendsToSet rrset origin must_exist (message_value m)) }
     ensures only { IsOkUnless result ProtoError.Memory }
 {
@@ -116,8 +122,11 @@ pub fn compare_and_swap(
     requires new_within { is_zone_of origin new.name ≡ true }
     ensures built { IfOk result (λ m. message_value m
         ≡ update_message id use_edns (swap_sections current new origin)) }
+    // Where both sets can be sent in an update, the message can stand on the wire.
     ensures fits { IfOk result (λ m. IsSendable origin current → IsSendable origin new
         → Fits (message_value m)) }
+    // What a server reads from uncut bytes puts the new set in the place of the current one in a
+    // zone that meets the premises, or is answered NXRRSet where the zone has other data there.
     ensures means { IfOk result (λ m. SwapsSets current new origin (message_value m)) }
     ensures only { IsOkUnless result ProtoError.Memory }
 {
@@ -154,7 +163,10 @@ pub fn delete_by_rdata(
     requires within { is_zone_of origin rrset.name ≡ true }
     ensures built { IfOk result (λ m. message_value m
         ≡ update_message id use_edns (delete_data_sections rrset origin)) }
+    // Where the set can be sent in an update, the message can stand on the wire.
     ensures fits { IfOk result (λ m. IsSendable origin rrset → Fits (message_value m)) }
+    // What a server reads from uncut bytes takes data equal to the set's out of a zone that meets
+    // the premises.
     ensures means { IfOk result (λ m. DeletesData rrset origin (message_value m)) }
     ensures only { IsOkUnless result ProtoError.Memory }
 {
@@ -190,9 +202,12 @@ pub fn delete_rrset(
     requires within { is_zone_of origin entry.name ≡ true }
     ensures built { IfOk result (λ m. message_value m
         ≡ update_message id use_edns (delete_set_sections entry origin)) }
+    // Where owner, type and class can be sent in an update, the message can stand on the wire.
     ensures fits { IfOk result
         (λ m. IsSendableKey origin entry.name (type_of_data entry.rdata) entry.dns_class
         → Fits (message_value m)) }
+    // What a server reads from uncut bytes takes the set of that owner and type out of a zone that
+    // meets the premises.
     ensures means { IfOk result (λ m. DeletesSet entry origin (message_value m)) }
     ensures only { IsOkUnless result ProtoError.Memory }
 {
@@ -231,8 +246,11 @@ pub fn delete_all(
     requires within { is_zone_of origin name ≡ true }
     ensures built { IfOk result (λ m. message_value m
         ≡ update_message id use_edns (delete_all_sections name origin dns_class)) }
+    // Where owner and class can be sent in an update, the message can stand on the wire.
     ensures fits { IfOk result (λ m. IsSendableOwner origin name dns_class
         → Fits (message_value m)) }
+    // What a server reads from uncut bytes takes all sets of the owner out of a zone that meets the
+    // premises; at the origin SOA and NS stay.
     ensures means { IfOk result (λ m. DeletesName name origin dns_class (message_value m)) }
     ensures only { IsOkUnless result ProtoError.Memory }
 {

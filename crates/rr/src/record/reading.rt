@@ -68,14 +68,19 @@ struct Fields {
 
 /// Reads class, TTL and length. They are read at once, since that is faster.
 fn read_fields(decoder: &mut BinDecoder<'_>) -> Result<Fields, DecodeError>
+    // Class, TTL and RDLENGTH stand at the place, one after another.
     ensures found { let B = decoder.old.bytes in let i = decoder.old.index in
         IfOk result (λ f. IsNumberAt w16 B i f.class × IsNumberAt w32 B (i + 2) f.ttl
         × IsNumberAt w16 B (i + 6) f.len) }
+    // The decoder stands after these eight bytes.
     ensures after { OnOk result ((decoder.new.index ≡ decoder.old.index + 8)
         × (decoder.new.bytes ≡ decoder.old.bytes)) }
+    // Refused only where fewer than eight bytes are left.
     ensures short { IfErr result (λ e. (e ≡ DecodeError.InsufficientBytes)
         × (length decoder.old.bytes < decoder.old.index + 8)) }
+    // No target of a pointer is kept in addition.
     ensures kept { decoder.new.kept ≡ decoder.old.kept }
+    // These two are as of every read: see `BinDecodable::read`.
     ensures counts { Counts decoder.old decoder.new result }
     ensures passed { Passes decoder.old decoder.new result }
 {
@@ -107,8 +112,10 @@ fn read_body(
 ) -> Result<Record<RData>, DecodeError>
     ensures read { Reads (λ x. x) decoder.old decoder.new result
         (body_at name record_type decoder.old.bytes decoder.old.index) }
+    // These two are as of every read: see `BinDecodable::read`.
     ensures counts { Counts decoder.old decoder.new result }
     ensures passed { Passes decoder.old decoder.new result }
+    // The targets that the names of the data pass are kept in addition, and no others.
     ensures adds { IfOk result
         (λ r. AddsPassed (data_places r.rdata decoder.old.bytes (decoder.old.index + 8)) decoder.old
         decoder.new) }

@@ -46,8 +46,12 @@ fn emit_fields(
     ttl: u32,
     encoder: &mut BinEncoder<'_>,
 ) -> Result<(), ProtoError>
+    // Whatever the answer, what stood before stays, and no byte is written past the limit.
     ensures keeps { Keeps (state_of encoder.old) (state_of encoder.new) }
+    // Type and class are below 2^16, and the TTL is below 2^32.
     ensures fits { FieldsFit record_type class ttl }
+    // After `Ok` exactly these eight bytes were written; refused for the limit only where they
+    // would pass it.
     ensures exact { Exactly (just (fields_of record_type class ttl))
         (state_of encoder.old) (state_of encoder.new) result }
 {

@@ -36,6 +36,7 @@ impl RecordSet {
         requires { MayEnter self.old entry }
         ensures ok { IfOk result (λ is_new. (is_new, self.new) ≡ insert self.old entry serial) }
         ensures err { OnErr result (self.new ≡ self.old) }
+        // A refusal is `Memory`.
         ensures memory { IsMemory result }
     {
         let (is_new, _) = self.enter(entry, serial)?;
@@ -54,6 +55,7 @@ impl RecordSet {
         requires { MayAdd self.old rdata }
         ensures ok { IfOk result (λ is_new. (is_new, self.new) ≡ add_data self.old rdata) }
         ensures err { OnErr result (self.new ≡ self.old) }
+        // A refusal is `Memory`.
         ensures memory { IsMemory result }
     {
         let entry = Record::from_rdata(self.name.clone()?, self.ttl, rdata);
@@ -72,6 +74,8 @@ impl RecordSet {
         requires { MayAdd self.old rdata.now }
         ensures ok { IfOk result (λ found. option_map (λ entry. entry.now) found
             ≡ first_of rdata.now (add_data self.old rdata.now).1.records) }
+        // When the borrow of the answer ends, the set is as `add_rdata` leaves it; after a refusal
+        // it is as it was.
         ensures* after { sem 𝓛 (follows_so the_row the_row self.entry.ghost_name none (λ _ _. ⊤)
             (λ n. IfOk result (λ _. n ≡ (add_data self.old rdata.now).1)
             × OnErr result (n ≡ self.old))) }
@@ -85,6 +89,7 @@ impl RecordSet {
     fn add_copy(&mut self, rdata: &RData) -> Result<Option<usize>, AllocError>
         requires { MayAdd self.old rdata.now }
         ensures ok { OnOk result (self.new ≡ (add_data self.old rdata.now).1) }
+        // A place that is told is that of the first record of equal data.
         ensures place { IfOk result (λ place. IfSome place (IsFirstAt rdata.now self.new.records)) }
         ensures err { OnErr result (self.new ≡ self.old) }
     {
@@ -98,6 +103,7 @@ impl RecordSet {
     fn enter(&mut self, entry: Record, serial: u32) -> Result<(bool, Option<usize>), AllocError>
         requires { MayEnter self.old entry }
         ensures ok { IfOk result (λ done. (done.0, self.new) ≡ insert self.old entry serial) }
+        // A place that is told is that of the first record of equal data.
         ensures place { IfOk result
             (λ done. IfSome done.1 (IsFirstAt entry.rdata self.new.records)) }
         ensures err { OnErr result (self.new ≡ self.old) }
@@ -133,6 +139,7 @@ fn put(
 ) -> Result<(bool, Option<usize>), AllocError>
     requires { holds_one record_type ≡ true → length records.old ≤ 1 }
     ensures ok { IfOk result (λ done. (done.0, records.new) ≡ put record_type entry records.old) }
+    // A place that is told is that of the first record of equal data.
     ensures place { IfOk result (λ done. IfSome done.1 (IsFirstAt entry.rdata records.new)) }
     ensures err { OnErr result (records.new ≡ records.old) }
 {

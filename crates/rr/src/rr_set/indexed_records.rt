@@ -96,6 +96,7 @@ impl IndexedRecords {
     /// where the first record of its data stands then, if an index told that.
     pub(super) fn enter(&mut self, entry: Record) -> Result<(bool, Option<usize>), AllocError>
         ensures ok { IfOk result (λ done. (done.0, self.new) ≡ entered entry self.old) }
+        // A place that is told is that of the first record of equal data.
         ensures place { IfOk result (λ done. IfSome done.1 (IsFirstAt entry.rdata self.new)) }
         ensures err { OnErr result (self.new ≡ self.old) }
     {
@@ -172,6 +173,7 @@ fn index_for(
     scans: &mut u8,
 ) -> Result<Option<Box<DataIndex>>, AllocError>
     requires { IfSome known (λ places. IsIndexOf (place_at places.value) records.now.items) }
+    // An index that is answered has the place of each of these records.
     ensures index { IfOk result
         (λ index. IfSome index (λ places. IsIndexOf (place_at places.value) records.now.items)) }
 {
@@ -224,6 +226,7 @@ fn key_of(rdata: &RData, alloc: Global) -> Result<Vec<u8>, AllocError>
 
 /// The index of these records, or none where two of them have one canonical form.
 fn index_of(records: &Vec<Record>) -> Result<Option<Box<DataIndex>>, AllocError>
+    // An index that is answered has the place of each of these records.
     ensures index { IfOk result
         (λ index. IfSome index (λ places. IsIndexOf (place_at places.value) records.now.items)) }
 {
@@ -267,7 +270,9 @@ fn enter_by_index(
     requires { IsIndexOf (place_at places.value) records.old.items }
     ensures ok { IfOk result (λ done. (done.is_new, records.new.items)
         ≡ entered entry records.old.items) }
+    // The place is that of the first record of equal data.
     ensures place { IfOk result (λ done. IsFirstAt entry.rdata records.new.items done.place) }
+    // An index that is answered has the place of each record then.
     ensures index { IfOk result
         (λ done. IfSome done.index (λ after. IsIndexOf (place_at after.value) records.new.items)) }
     ensures err { OnErr result (records.new.items ≡ records.old.items) }
@@ -300,6 +305,7 @@ fn join_by_index(
 ) -> Result<Entered, AllocError>
     requires { IsIndexOf (place_at places.value) records.old.items }
     ensures ok { OnOk result (records.new.items ≡ joined entry records.old.items) }
+    // An index that is answered has the place of each record then.
     ensures index { IfOk result
         (λ done. IfSome done.index (λ after. IsIndexOf (place_at after.value) records.new.items)) }
     ensures err { OnErr result (records.new.items ≡ records.old.items) }
@@ -328,8 +334,11 @@ fn push_by_index(
     requires none { list_any (has_data_of entry) records.old.items ≡ false }
     ensures ok { IfOk result (λ done. (done.is_new, records.new.items)
         ≡ entered entry records.old.items) }
+    // The records are the same as where equal data would be replaced, since none has this data.
     ensures joined { OnOk result (records.new.items ≡ joined entry records.old.items) }
+    // The place is that of the first record of equal data.
     ensures place { IfOk result (λ done. IsFirstAt entry.rdata records.new.items done.place) }
+    // An index that is answered has the place of each record then.
     ensures index { IfOk result
         (λ done. IfSome done.index (λ after. IsIndexOf (place_at after.value) records.new.items)) }
     ensures err { OnErr result (records.new.items ≡ records.old.items) }

@@ -59,10 +59,13 @@ pub(super) fn join(records: &mut Vec<Record>, entry: Record) -> Result<(), Alloc
 
 /// A copy of the record for each place whose record has the same data.
 fn copies_for(records: &Vec<Record>, entry: &Record) -> Result<Vec<(usize, Record)>, AllocError>
+    // With each copy set at its place, equal data is replaced by the record.
     ensures renewed { IfOk result (λ copies. renewed copies.items records.now.items
         ≡ replaced entry.now records.now.items) }
+    // Each place is that of one of the records.
     ensures within { IfOk result
         (λ copies. AllByRecursion (λ p. p.0 < length records.now.items) copies.items) }
+    // There are no copies exactly where no record has the data.
     ensures any { IfOk result (λ copies. (length copies.items == 0)
         ≡ not (list_any (has_data_of entry.now) records.now.items)) }
 {

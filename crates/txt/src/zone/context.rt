@@ -316,6 +316,7 @@ impl Context {
     /// `Message` where there is no origin.
     pub(super) fn answer(self) -> Result<(Name, BTreeMap<RrKey, RecordSet>), ParseError>
         ensures zone { Gives (λ r. (r.0, r.1.entries)) result (answered self) }
+        // Each set stands under the key of its owner and type, has a record and is tidy.
         ensures kept { IfOk result (λ r. AreKept r.1.entries) }
     {
         let Context { origin, sets, .. } = self;

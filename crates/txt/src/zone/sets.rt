@@ -104,6 +104,7 @@ impl ZoneSets {
     /// If memory runs out.
     pub(super) fn into_map(self) -> Result<BTreeMap<RrKey, RecordSet>, AllocError>
         ensures entries { IfOk result (λ sets. sets.entries ≡ self) }
+        // Each set stands under the key of its owner and type, has a record and is tidy.
         ensures kept { IfOk result (λ sets. AreKept sets.entries) }
     {
         let ZoneSets { sets, run } = self;
@@ -127,8 +128,10 @@ fn order_to_last(
     key: &RrKey,
 ) -> Ordering
     requires { IsStrictlySortedBy key_cmp (keys_of (sets.now.entries ++ run.now)) }
+    // Equal only where the run's last set has this key.
     ensures last { result ≡ Equal
         → (set : SetValue) × (slice_get run.now (length run.now - 1) ≡ Some (key.now, set)) }
+    // Greater only where the key comes after all that are there.
     ensures above { result ≡ Greater
         → AllByRecursion (λ e. key_cmp key.now e.0 ≡ Greater) (sets.now.entries ++ run.now) }
 {
@@ -166,9 +169,12 @@ fn append_run(
 /// Puts a record into the set under its key, or into a new one.
 fn put(sets: &mut BTreeMap<RrKey, RecordSet>, key: RrKey, entry: Record) -> Result<(), ParseError>
     requires key { key ≡ record_key entry }
+    // Each set stands under the key of its owner and type, has a record and is tidy.
     requires kept { AreKept sets.old.entries }
     ensures value { Adds result sets.new.entries (added sets.old.entries entry) }
+    // After `Ok` the same holds again.
     ensures kept { OnOk result (AreKept sets.new.entries) }
+    // After `Ok` the sets stand in the order of their keys, each once.
     ensures ordered { OnOk result (IsOrdered key_cmp sets.new) }
 {
     match sets.entry(key)? {
@@ -190,6 +196,7 @@ fn enter(set: &mut RecordSet, entry: Record) -> Result<(), ParseError>
     ensures value { (sets : Sets)
         → Adds result (set_value (is_at (key_cmp (record_key entry))) sets set.new)
         (added_to sets entry (Some set.old)) }
+    // The set still stands under its key, has a record and is tidy.
     ensures kept { IsKept (record_key entry) set.new }
 {
     if entry.record_type() == RecordType::SOA {
