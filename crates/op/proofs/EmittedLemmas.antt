@@ -22,8 +22,8 @@ use Rattle.op.specs.Message.{MessageValue}
 use Rattle.op.specs.declared.edns.Edns.{Edns}
 use Rattle.op.specs.Query.{QueryWord, plain_query, query_written}
 use Rattle.op.specs.declared.header.Header.{Header}
-use Rattle.op.specs.declared.message.writing.parts.WrittenSections.{WrittenSections}
-use Rattle.op.specs.declared.message.writing.parts.Written.{Written}
+use Rattle.op.specs.declared.message.writing.WrittenSections.{WrittenSections}
+use Rattle.op.specs.declared.message.writing.Written.{Written}
 use Rattle.op.specs.declared.query.Query.{Query}
 use Rattle.op.proofs.RunLemmas.{Both, went}
 use Rattle.base.specs.Written.{Writing, after, in_turn}

@@ -12,7 +12,7 @@ use Rattle.base.proofs.ItemLemmas.{Each-map}
 use Rattle.op.specs.Composition.{Counts, Narrows, WritesItems}
 use Rattle.op.specs.Cut.{NoRoom, any_lost}
 use Rattle.op.specs.Emitted.{WritesFront}
-use Rattle.op.specs.declared.message.writing.parts.Written.{Written}
+use Rattle.op.specs.declared.message.writing.Written.{Written}
 use Rattle.base.specs.Written.{Passes, Writing, after, in_turn}
 use Rattle.base.proofs.WrittenLemmas.{in_turn-map}
 

@@ -16,8 +16,8 @@ use Rattle.op.specs.Fits.{plain_queries}
 use Rattle.op.specs.Message.{MessageValue}
 use Rattle.op.specs.Query.{QueryWord, plain_query, query_written}
 use Rattle.op.specs.declared.header.Header.{Header}
-use Rattle.op.specs.declared.message.writing.parts.WrittenSections.{WrittenSections}
-use Rattle.op.specs.declared.message.writing.parts.Written.{Written}
+use Rattle.op.specs.declared.message.writing.WrittenSections.{WrittenSections}
+use Rattle.op.specs.declared.message.writing.Written.{Written}
 use Rattle.op.specs.declared.query.Query.{Query}
 use Rattle.op.proofs.EmittedLemmas.{AreOf, Composed, EmitsSlice, EmitsSlices, Idle, SectionFronts, Slice, Slices, emits_queries, emits_records, records_front, sections_done}
 use Rattle.op.proofs.RefusalLemmas.{Left, queries_failed, room_failed}

@@ -12,8 +12,8 @@ use Rattle.op.specs.Emitted.{WritesFront, record_owner}
 use Rattle.op.specs.Header.{IsNarrow, header_bytes, raw_header}
 use Rattle.op.specs.declared.header.Header.{Header}
 use Rattle.op.specs.declared.header.metadata.Metadata.{Metadata}
-use Rattle.op.specs.declared.message.writing.parts.Written.{Written}
-use Rattle.op.specs.declared.message.writing.parts.WrittenSections.{WrittenSections}
+use Rattle.op.specs.declared.message.writing.Written.{Written}
+use Rattle.op.specs.declared.message.writing.WrittenSections.{WrittenSections}
 use Rattle.base.specs.Written.{Writing}
 
 -- ---- runs one after another

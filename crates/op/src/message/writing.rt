@@ -1,29 +1,126 @@
-//! Writes messages (RFC 1035, 4.1).
+//! Writes messages (RFC 1035, 4.1; RFC 2181, 9).
 
-ghost use Rattle.std.specs.Prelude.{◌≡◌, ◌||◌, ◌<◌, ◌^◌, [], drop, Err, IfErr, IfOk, length, Ok, ◌⊎◌};
-ghost use Rattle.std.specs.Option.{option_copied};
+ghost use Rattle.std.specs.Prelude.{◌≡◌, ◌⊎◌, [], drop, Err, IfErr, IfOk, IsOkUnless, length, Ok, ◌||◌, ◌<◌, ◌^◌, ◌∷◌};
 ghost use Rattle.base.specs.Laws.{Keeps};
 ghost use Rattle.base.specs.Wire.{state_of};
-ghost use Rattle.op.specs.Composition.{Composition, HasHeader};
-ghost use Rattle.op.specs.Cut.{IsTooSmall};
-ghost use Rattle.op.specs.Emitted.{Emitted, Leaves};
-ghost use Rattle.op.specs.Fits.{opt_records, signature_records};
-ghost use Rattle.op.specs.Header.{IsNarrow};
+ghost use Rattle.op.specs.Cut.{IsTooSmall, IsWritten};
+ghost use Rattle.op.specs.Emitted.{Emitted, EmittedNew, Leaves, LeavesNew};
+ghost use Rattle.op.specs.Fits.{Fits, HasRoom, opt_records, signature_records};
 ghost use Rattle.op.specs.Message.{message_value};
-ghost use Rattle.op.specs.MessageWritten.{message_answer_at, message_written};
+ghost use Rattle.op.specs.MessageWritten.{message_answer, message_answer_at, message_bytes, message_written};
 ghost use Rattle.base.specs.Written.{after};
+ghost use Rattle.op.specs.declared.header.Header.{Header as WrittenHeader};
+ghost use Rattle.std.specs.Option.{option_copied};
+ghost use Rattle.op.specs.Composition.{Composition, HasHeader, WritesExtras, WritesRecordItems, Adds, Counts, EmitsPart, EmitsSections, Narrows, WritesItems};
+ghost use Rattle.op.specs.Header.{IsNarrow};
 
-mod extras;
-mod parts;
-
-use crate::edns::Edns;
+use crate::edns::{Edns, RaisedEdns};
 use crate::header::{Header, HeaderCounts, Metadata};
 use crate::message::Message;
-use base::{BinEncoder, EmitAndCount, ProtoError};
+use crate::response_code::ResponseCode;
+use base::{BinEncodable, BinEncoder, EmitAndCount, ProtoError};
 use base_data::TSIG;
-use extras::emit_extras;
-use parts::{Written, WrittenSections, emit_sections};
 use rr::Record;
+use std::iter;
+
+/// The bytes that a new message has room for at first: as many as fit a datagram (RFC 1035, 4.2.1).
+const ROOM: usize = 512;
+
+impl Message {
+    /// Writes the message after what the encoder holds: a header, the questions, answers, authorities and additional
+    /// records, EDNS and the signature (RFC 1035, 4.1).
+    ///
+    /// What doesn't fit the limit is cut, each part by itself and before the first item that doesn't fit, and TC says
+    /// so. Into a new encoder, of a message that fits the wire, this writes a cut of the message, which is read as
+    /// exactly that.
+    ///
+    /// # Errors
+    ///
+    /// `MaxBufferSizeExceeded` where the header doesn't fit, and then nothing is written; `NotAllRecordsWritten` where
+    /// the questions don't, with the number of those that are written, all before the first that doesn't fit; `Memory`
+    /// if memory runs out. A new encoder with room for header and questions uncompressed refuses for memory alone.
+    #[tactic(auto, using(crate::proofs::AnswerLemmas::only_memory))]
+    pub fn emit(&self, encoder: &mut BinEncoder<'_>) -> Result<(), ProtoError>
+        ensures keeps { Keeps (state_of encoder.old) (state_of encoder.new) }
+        ensures emitted { IfOk result (λ _. (h : WrittenHeader)
+            × Emitted (message_value self.now) (state_of encoder.old) (state_of encoder.new) h) }
+        ensures exact { IfOk result (λ _. state_of encoder.new
+            ≡ after (message_written (state_of encoder.old).limit (message_value self.now)) (state_of encoder.old)) }
+        ensures written { Fits (message_value self.now) → (state_of encoder.old).bytes ≡ []
+            → (state_of encoder.old).suffixes ≡ []
+            → IfOk result (λ _. IsWritten (message_value self.now) (state_of encoder.old).limit (state_of encoder.new).bytes) }
+        ensures succeeds { (state_of encoder.old).bytes ≡ [] → (state_of encoder.old).suffixes ≡ []
+            → HasRoom (message_value self.now) (state_of encoder.old).limit
+            → IsOkUnless result ProtoError.Memory }
+        ensures answer { IfOk result (λ _. message_answer_at (state_of encoder.old).limit (message_value self.now)
+            (length (state_of encoder.old).bytes) (state_of encoder.old).suffixes
+            ≡ Ok (drop (length (state_of encoder.old).bytes) (state_of encoder.new).bytes)) }
+        ensures refused { IfErr result (λ e. (e ≡ ProtoError.Memory)
+            ⊎ (Leaves (message_value self.now) (state_of encoder.old) e (state_of encoder.new)
+            × (message_answer_at (state_of encoder.old).limit (message_value self.now)
+            (length (state_of encoder.old).bytes) (state_of encoder.old).suffixes ≡ Err e))) }
+    {
+        self.emit_header(encoder)?;
+        Ok(())
+    }
+
+    /// The bytes of the message, cut at 65,535 bytes (RFC 1035, 4.2.2): what `emit` leaves in a new encoder.
+    ///
+    /// # Errors
+    ///
+    /// `NotAllRecordsWritten` where the questions don't fit, with the number of those before the first that doesn't;
+    /// `Memory` if memory runs out.
+    pub fn to_vec(&self) -> Result<Vec<u8>, ProtoError>
+        ensures succeeds { HasRoom (message_value self.now) 65535
+            → IsOkUnless result ProtoError.Memory }
+        ensures exact { IfOk result (λ bytes. bytes.items
+            ≡ message_bytes 65535 (message_value self.now)) }
+        ensures written { Fits (message_value self.now)
+            → IfOk result (λ bytes. IsWritten (message_value self.now) 65535 bytes.items) }
+        ensures refused { IfErr result (λ e. (e ≡ ProtoError.Memory)
+            ⊎ IsTooSmall (message_value self.now) 65535 e) }
+        ensures emitted { IfOk result (λ bytes. EmittedNew (message_value self.now) 65535 bytes.items) }
+        ensures left { IfErr result (λ e. (e ≡ ProtoError.Memory)
+            ⊎ LeavesNew (message_value self.now) 65535 e) }
+        ensures answer { IfOk result (λ bytes. message_answer 65535 (message_value self.now)
+            ≡ Ok bytes.items) }
+        ensures refusal { IfErr result (λ e. (e ≡ ProtoError.Memory)
+            ⊎ (message_answer 65535 (message_value self.now) ≡ Err e)) }
+    {
+        let mut buffer = Vec::with_capacity(*self.queries.allocator(), ROOM)?;
+        {
+            let mut encoder = BinEncoder::new(&mut buffer);
+            self.emit(&mut encoder)?;
+        }
+        Ok(buffer)
+    }
+
+    /// Writes the message, and answers the header that was written.
+    pub(crate) fn emit_header(&self, encoder: &mut BinEncoder<'_>) -> Result<Header, ProtoError>
+        ensures keeps { Keeps (state_of encoder.old) (state_of encoder.new) }
+        ensures emitted { IfOk result (λ h. Emitted (message_value self.now) (state_of encoder.old) (state_of encoder.new) h) }
+        ensures exact { IfOk result (λ _. state_of encoder.new
+            ≡ after (message_written (state_of encoder.old).limit (message_value self.now)) (state_of encoder.old)) }
+        ensures answer { IfOk result (λ _. message_answer_at (state_of encoder.old).limit (message_value self.now)
+            (length (state_of encoder.old).bytes) (state_of encoder.old).suffixes
+            ≡ Ok (drop (length (state_of encoder.old).bytes) (state_of encoder.new).bytes)) }
+        ensures refused { IfErr result (λ e. (e ≡ ProtoError.Memory)
+            ⊎ (Leaves (message_value self.now) (state_of encoder.old) e (state_of encoder.new)
+            × (message_answer_at (state_of encoder.old).limit (message_value self.now)
+            (length (state_of encoder.old).bytes) (state_of encoder.old).suffixes ≡ Err e))) }
+    {
+        emit_message_parts(
+            &self.metadata,
+            &mut self.queries.iter(),
+            &mut self.answers.iter(),
+            &mut self.authorities.iter(),
+            &mut self.additionals.iter(),
+            self.edns.as_ref(),
+            self.signature.as_deref(),
+            encoder,
+        )
+    }
+}
 
 /// Writes a message of its parts: a header, the questions, answers, authorities and additional records, EDNS and the
 /// signature (RFC 1035, 4.1). Answers the header that was written.
@@ -72,34 +169,6 @@ where
     let header = header_of(metadata, query_count, sections, extras)?;
     encoder.replace(place, &header);
     Ok(header)
-}
-
-impl Message {
-    /// Writes the message, and answers the header that was written.
-    pub(crate) fn emit_header(&self, encoder: &mut BinEncoder<'_>) -> Result<Header, ProtoError>
-        ensures keeps { Keeps (state_of encoder.old) (state_of encoder.new) }
-        ensures emitted { IfOk result (λ h. Emitted (message_value self.now) (state_of encoder.old) (state_of encoder.new) h) }
-        ensures exact { IfOk result (λ _. state_of encoder.new
-            ≡ after (message_written (state_of encoder.old).limit (message_value self.now)) (state_of encoder.old)) }
-        ensures answer { IfOk result (λ _. message_answer_at (state_of encoder.old).limit (message_value self.now)
-            (length (state_of encoder.old).bytes) (state_of encoder.old).suffixes
-            ≡ Ok (drop (length (state_of encoder.old).bytes) (state_of encoder.new).bytes)) }
-        ensures refused { IfErr result (λ e. (e ≡ ProtoError.Memory)
-            ⊎ (Leaves (message_value self.now) (state_of encoder.old) e (state_of encoder.new)
-            × (message_answer_at (state_of encoder.old).limit (message_value self.now)
-            (length (state_of encoder.old).bytes) (state_of encoder.old).suffixes ≡ Err e))) }
-    {
-        emit_message_parts(
-            &self.metadata,
-            &mut self.queries.iter(),
-            &mut self.answers.iter(),
-            &mut self.authorities.iter(),
-            &mut self.additionals.iter(),
-            self.edns.as_ref(),
-            self.signature.as_deref(),
-            encoder,
-        )
-    }
 }
 
 /// The header of a message of which so much was written.
@@ -163,4 +232,153 @@ fn is_cut(metadata: &Metadata, sections: WrittenSections, additionals: Written) 
         || sections.answers.is_cut
         || sections.authorities.is_cut
         || additionals.is_cut
+}
+
+/// Writes OPT and the signature, and answers the count of these and the additional records before them.
+fn emit_extras(
+    additionals: Written,
+    edns: Option<&Edns>,
+    response_code: ResponseCode,
+    signature: Option<&Record<TSIG>>,
+    encoder: &mut BinEncoder<'_>,
+) -> Result<Written, ProtoError>
+    ensures keeps { Keeps (state_of encoder.old) (state_of encoder.new) }
+    ensures run { WritesExtras (opt_records response_code (option_copied edns.entry)) (signature_records (option_copied signature.entry)) additionals
+        (state_of encoder.old) result (state_of encoder.new) }
+{
+    let opt = emit_edns(edns, response_code, encoder)?;
+    let sum = add_counts(additionals, opt)?;
+    let signed = emit_signature(signature, encoder)?;
+    add_counts(sum, signed)
+}
+
+/// Writes the OPT record of EDNS with the high bits of the response code.
+fn emit_edns(
+    edns: Option<&Edns>,
+    response_code: ResponseCode,
+    encoder: &mut BinEncoder<'_>,
+) -> Result<Written, ProtoError>
+    ensures keeps { Keeps (state_of encoder.old) (state_of encoder.new) }
+    ensures run { WritesRecordItems (opt_records response_code (option_copied edns.entry)) (state_of encoder.old) result (state_of encoder.new) }
+{
+    let Some(edns) = edns else {
+        return Ok(NOTHING);
+    };
+    let raised = RaisedEdns {
+        edns,
+        rcode_high: response_code.high(),
+    };
+    emit_item(&raised, encoder)
+}
+
+/// Writes the signature.
+fn emit_signature(
+    signature: Option<&Record<TSIG>>,
+    encoder: &mut BinEncoder<'_>,
+) -> Result<Written, ProtoError>
+    ensures keeps { Keeps (state_of encoder.old) (state_of encoder.new) }
+    ensures run { WritesRecordItems (signature_records (option_copied signature.entry)) (state_of encoder.old) result (state_of encoder.new) }
+{
+    match signature {
+        Some(signature) => emit_item(signature, encoder),
+        None => Ok(NOTHING),
+    }
+}
+
+const NOTHING: Written = Written {
+    count: 0,
+    is_cut: false,
+};
+
+/// What was written of a part.
+#[derive(Clone, Copy, Drop)]
+struct Written {
+    /// How many items stand.
+    pub count: u16,
+    /// Whether an item had no room.
+    pub is_cut: bool,
+}
+
+/// What was written of the sections of records.
+#[derive(Clone, Copy, Drop)]
+struct WrittenSections {
+    pub answers: Written,
+    pub authorities: Written,
+    pub additionals: Written,
+}
+
+/// Writes three sections. A cut one doesn't stop the next.
+fn emit_sections<A: EmitAndCount, N: EmitAndCount, D: EmitAndCount>(
+    answers: &mut A,
+    authorities: &mut N,
+    additionals: &mut D,
+    encoder: &mut BinEncoder<'_>,
+) -> Result<WrittenSections, ProtoError>
+    requires answers { A.can_emit answers.old }
+    requires authorities { N.can_emit authorities.old }
+    requires additionals { D.can_emit additionals.old }
+    ensures keeps { Keeps (state_of encoder.old) (state_of encoder.new) }
+    ensures run { EmitsSections A.emits N.emits D.emits answers.old answers.new authorities.old authorities.new additionals.old additionals.new
+        (state_of encoder.old) result (state_of encoder.new) }
+{
+    let answers = emit_part(answers, encoder)?;
+    let authorities = emit_part(authorities, encoder)?;
+    let additionals = emit_part(additionals, encoder)?;
+    Ok(WrittenSections {
+        answers,
+        authorities,
+        additionals,
+    })
+}
+
+/// Writes a part.
+fn emit_part<P: EmitAndCount>(
+    part: &mut P,
+    encoder: &mut BinEncoder<'_>,
+) -> Result<Written, ProtoError>
+    requires { P.can_emit part.old }
+    ensures keeps { Keeps (state_of encoder.old) (state_of encoder.new) }
+    ensures run { EmitsPart P.emits part.old part.new (state_of encoder.old) result (state_of encoder.new) }
+{
+    count_items(part.emit(encoder))
+}
+
+/// Writes one item.
+fn emit_item<E: BinEncodable>(item: &E, encoder: &mut BinEncoder<'_>) -> Result<Written, ProtoError>
+    ensures keeps { Keeps (state_of encoder.old) (state_of encoder.new) }
+    ensures run { WritesItems E.word E.plain_len E.owner E.written (item.now ∷ [])
+        (state_of encoder.old) result (state_of encoder.new) }
+{
+    count_items(encoder.emit_all(&mut iter::once(item)))
+}
+
+/// What a part's answer counts.
+fn count_items(answer: Result<usize, ProtoError>) -> Result<Written, ProtoError>
+    ensures { Counts answer result }
+{
+    match answer {
+        Ok(count) => narrow(count, false),
+        Err(error) => match error {
+            ProtoError::NotAllRecordsWritten { count } => narrow(count, true),
+            other => Err(other),
+        },
+    }
+}
+
+/// Both counts together.
+fn add_counts(one: Written, other: Written) -> Result<Written, ProtoError>
+    ensures { Adds one other result }
+{
+    let count = usize::from(one.count) + usize::from(other.count);
+    narrow(count, one.is_cut || other.is_cut)
+}
+
+/// The count in two bytes.
+fn narrow(count: usize, is_cut: bool) -> Result<Written, ProtoError>
+    ensures { Narrows count is_cut result }
+{
+    match u16::try_from(count) {
+        Ok(count) => Ok(Written { count, is_cut }),
+        Err(_) => Err(ProtoError::Message("too many records to fit in header count")),
+    }
 }
