@@ -82,7 +82,7 @@ module _ (m : MessageValue) (old : State) where
   answer_if new (Ok h) e = emitted_answers new h e
   answer_if new (Err f) e = tt
 
-  refusal_answers : (new : State) (f : ProtoError) → (f ≡ refusals.Memory) ⊎ Leaves m old f new
+  pub refusal_answers : (new : State) (f : ProtoError) → (f ≡ refusals.Memory) ⊎ Leaves m old f new
       → (f ≡ refusals.Memory) ⊎ (Leaves m old f new × (answer ≡ Err f))
   refusal_answers new f (inl memory) = inl memory
   refusal_answers new f (inr left) = inr (left, left_answers new f left)

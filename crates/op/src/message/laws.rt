@@ -1,32 +1,32 @@
-//! Laws of messages: what reading means, what is written under a limit, and truncating and stripping. Each is the contract
-//! of an empty function.
+//! Laws of messages: what reading means (RFC 1035, 4.1), what is written under a limit, truncating and stripping. Each
+//! is the contract of an empty function.
 
-ghost use Rattle.std.specs.Prelude.{◌≡◌, ◌<◌, ◌↔◌, ℕ, All, Bool, IsTrue, List, length, Ok, Err, ◌≤◌, ◌++◌, ◌⊎◌, [], false, true};
 ghost use Rattle.std.specs.Cmp.{IsEquivalence};
 ghost use Rattle.std.specs.Cmp.Lexicographic.{pointwise};
 ghost use Rattle.std.specs.Option.{option_eq, option_map};
+ghost use Rattle.std.specs.Prelude.{◌≡◌, ◌<◌, ◌↔◌, ◌≤◌, ◌++◌, ◌⊎◌, [], All, Bool, Err, false, IsTrue, length, List, Ok, true, ℕ};
 ghost use Rattle.base.specs.Many.{many_at};
 ghost use Rattle.base.specs.Spelling.{NamesStand};
-ghost use Rattle.base.specs.Words.{BackToBack};
-ghost use Rattle.op.specs.Cut.{IsCut, IsUncut, as_written, IsTooSmall, raised};
-ghost use Rattle.op.specs.Fault.{IsMessageFault, IsQueriesFault, IsSectionFault};
-ghost use Rattle.op.specs.Fits.{Fits, listed, signature_record};
-ghost use Rattle.op.specs.Message.{IsMessageAt, MessageValue, message_at};
-ghost use Rattle.op.specs.Places.{message_names, message_places};
-ghost use Rattle.op.specs.Query.{IsQueryAt, query_at, query_written};
-ghost use Rattle.op.specs.Section.{IsSectionAt, SectionValue, section_at};
-ghost use Rattle.op.specs.declared.message.Message.{Message};
-ghost use Rattle.op.specs.declared.query.Query.{Query};
 ghost use Rattle.base.specs.State.{State, Stored};
-ghost use Rattle.base.specs.Written.{Passes, after, fitting, in_turn, that_fit};
-ghost use Rattle.base_data.specs.declared.rdata.RData.{RData};
+ghost use Rattle.base.specs.Words.{BackToBack};
+ghost use Rattle.base.specs.Written.{after, fitting, in_turn, Passes, that_fit};
 ghost use Rattle.base.specs.declared.error.proto_error.ProtoError.{ProtoError};
-ghost use Rattle.op.specs.EdnsRecord.{edns_record};
-ghost use Rattle.op.specs.Emitted.{Leaves};
-ghost use Rattle.op.specs.MessageWritten.{AreWhole, LostForRoom, parts_of};
+ghost use Rattle.base_data.specs.declared.rdata.RData.{RData};
 ghost use Rattle.rr.specs.Record.{record_written};
 ghost use Rattle.rr.specs.declared.record.Record.{Record};
+ghost use Rattle.op.specs.Cut.{as_written, IsCut, IsTooSmall, IsUncut, raised};
+ghost use Rattle.op.specs.EdnsRecord.{edns_record};
+ghost use Rattle.op.specs.Emitted.{Leaves};
+ghost use Rattle.op.specs.Fault.{IsMessageFault, IsQueriesFault, IsSectionFault};
+ghost use Rattle.op.specs.Fits.{Fits, listed, signature_record};
+ghost use Rattle.op.specs.Message.{IsMessageAt, message_at, MessageValue};
+ghost use Rattle.op.specs.MessageWritten.{AreWhole, LostForRoom, parts_of};
 ghost use Rattle.op.specs.Parts.{stripped, truncated};
+ghost use Rattle.op.specs.Places.{message_names, message_places};
+ghost use Rattle.op.specs.Query.{IsQueryAt, query_at, query_written};
+ghost use Rattle.op.specs.Section.{IsSectionAt, section_at, SectionValue};
+ghost use Rattle.op.specs.declared.message.Message.{Message};
+ghost use Rattle.op.specs.declared.query.Query.{Query};
 
 use crate::edns::Edns;
 use crate::message::Message;

@@ -1,17 +1,17 @@
 //! Reads messages (RFC 1035, 4.1).
 
-ghost use Rattle.std.specs.Prelude.{◌≡◌, ◌⊎◌, ◌+◌, ℕ, Err, IfErr, IfOk, MatchResult, Ok, OnOk, IsOkUnless};
+ghost use Rattle.std.specs.Prelude.{◌≡◌, ◌⊎◌, ◌+◌, Err, IfErr, IfOk, IsOkUnless, MatchResult, Ok, OnOk, ℕ};
 ghost use Rattle.base.specs.Counts.{Counts, Passes};
 ghost use Rattle.base.specs.Many.{many_at};
 ghost use Rattle.base.specs.Passing.{AddsPassed};
 ghost use Rattle.base.specs.Reading.{Fails, Reads};
 ghost use Rattle.op.specs.Fault.{IsMessageFault, IsQueriesFault, IsSectionFault};
 ghost use Rattle.op.specs.Fits.{Fits};
-ghost use Rattle.op.specs.Message.{IsMessageAt, MessageValue, high_code, message_at, message_value};
+ghost use Rattle.op.specs.Message.{high_code, IsMessageAt, message_at, message_value, MessageValue};
 ghost use Rattle.op.specs.Places.{message_places, queries_places, records_places};
 ghost use Rattle.op.specs.Query.{query_at};
 ghost use Rattle.op.specs.ReadsOrDecodes.{ReadsOrDecodes};
-ghost use Rattle.op.specs.Section.{parts_value, section_at, section_value, sections_at, sections_value, empty_section, fault_of, is_additional_type, options_in, tested, with_record};
+ghost use Rattle.op.specs.Section.{empty_section, fault_of, is_additional_type, options_in, parts_value, section_at, section_value, sections_at, sections_value, tested, with_record};
 
 use crate::edns::{Edns, opt_edns};
 use crate::header::{Header, HeaderCounts, Metadata};
@@ -75,6 +75,7 @@ impl Message {
         Ok((section.records, section.edns, section.signature))
     }
 
+    /// Reads a section of `count` records, each of which is tested before the next one is read.
     fn read_section(
         decoder: &mut BinDecoder<'_>,
         count: usize,
@@ -198,8 +199,11 @@ fn with_high_code(metadata: Metadata, edns: &Option<Edns>) -> Metadata
 /// The records of a section that were read so far.
 #[derive(Drop)]
 struct Section {
+    /// The ordinary records in their order.
     records: Vec<Record>,
+    /// What an OPT record says.
     edns: Option<Edns>,
+    /// The signature, after which no record stands.
     signature: Option<Box<Record<TSIG>>>,
 }
 

@@ -1,23 +1,21 @@
 //! Writes messages (RFC 1035, 4.1; RFC 2181, 9).
 
-ghost use Rattle.std.specs.Prelude.{◌≡◌, ◌⊎◌, [], drop, Err, IfErr, IfOk, IsOkUnless, length, Ok, ◌||◌, ◌<◌, ◌^◌, ◌∷◌};
+ghost use Rattle.std.specs.Option.{option_copied};
+ghost use Rattle.std.specs.Prelude.{◌≡◌, ◌⊎◌, [], ◌<◌, ◌^◌, drop, Err, IfErr, IfOk, IsOkUnless, length, Ok};
 ghost use Rattle.base.specs.Laws.{Keeps};
 ghost use Rattle.base.specs.Wire.{state_of};
+ghost use Rattle.base.specs.Written.{after};
+ghost use Rattle.op.specs.Composition.{Adds, Composition, Counts, EmitsPart, HasHeader, Narrows, WritesItems};
 ghost use Rattle.op.specs.Cut.{IsTooSmall, IsWritten};
 ghost use Rattle.op.specs.Emitted.{Emitted, EmittedNew, Leaves, LeavesNew};
-ghost use Rattle.op.specs.Fits.{Fits, HasRoom, opt_records, signature_records};
+ghost use Rattle.op.specs.Fits.{Fits, HasRoom, listed, opt_records, signature_records};
 ghost use Rattle.op.specs.Message.{message_value};
 ghost use Rattle.op.specs.MessageWritten.{message_answer, message_answer_at, message_bytes, message_written};
-ghost use Rattle.base.specs.Written.{after};
 ghost use Rattle.op.specs.declared.header.Header.{Header as WrittenHeader};
-ghost use Rattle.std.specs.Option.{option_copied};
-ghost use Rattle.op.specs.Composition.{Composition, HasHeader, WritesExtras, WritesRecordItems, Adds, Counts, EmitsPart, EmitsSections, Narrows, WritesItems};
-ghost use Rattle.op.specs.Header.{IsNarrow};
 
 use crate::edns::{Edns, RaisedEdns};
 use crate::header::{Header, HeaderCounts, Metadata};
 use crate::message::Message;
-use crate::response_code::ResponseCode;
 use base::{BinEncodable, BinEncoder, EmitAndCount, ProtoError};
 use base_data::TSIG;
 use rr::Record;
@@ -60,7 +58,16 @@ impl Message {
             × (message_answer_at (state_of encoder.old).limit (message_value self.now)
             (length (state_of encoder.old).bytes) (state_of encoder.old).suffixes ≡ Err e))) }
     {
-        self.emit_header(encoder)?;
+        emit_message_parts(
+            &self.metadata,
+            &mut self.queries.iter(),
+            &mut self.answers.iter(),
+            &mut self.authorities.iter(),
+            &mut self.additionals.iter(),
+            self.edns.as_ref(),
+            self.signature.as_deref(),
+            encoder,
+        )?;
         Ok(())
     }
 
@@ -93,32 +100,6 @@ impl Message {
             self.emit(&mut encoder)?;
         }
         Ok(buffer)
-    }
-
-    /// Writes the message, and answers the header that was written.
-    pub(crate) fn emit_header(&self, encoder: &mut BinEncoder<'_>) -> Result<Header, ProtoError>
-        ensures keeps { Keeps (state_of encoder.old) (state_of encoder.new) }
-        ensures emitted { IfOk result (λ h. Emitted (message_value self.now) (state_of encoder.old) (state_of encoder.new) h) }
-        ensures exact { IfOk result (λ _. state_of encoder.new
-            ≡ after (message_written (state_of encoder.old).limit (message_value self.now)) (state_of encoder.old)) }
-        ensures answer { IfOk result (λ _. message_answer_at (state_of encoder.old).limit (message_value self.now)
-            (length (state_of encoder.old).bytes) (state_of encoder.old).suffixes
-            ≡ Ok (drop (length (state_of encoder.old).bytes) (state_of encoder.new).bytes)) }
-        ensures refused { IfErr result (λ e. (e ≡ ProtoError.Memory)
-            ⊎ (Leaves (message_value self.now) (state_of encoder.old) e (state_of encoder.new)
-            × (message_answer_at (state_of encoder.old).limit (message_value self.now)
-            (length (state_of encoder.old).bytes) (state_of encoder.old).suffixes ≡ Err e))) }
-    {
-        emit_message_parts(
-            &self.metadata,
-            &mut self.queries.iter(),
-            &mut self.answers.iter(),
-            &mut self.authorities.iter(),
-            &mut self.additionals.iter(),
-            self.edns.as_ref(),
-            self.signature.as_deref(),
-            encoder,
-        )
     }
 }
 
@@ -163,175 +144,33 @@ where
 {
     let place = encoder.place::<Header>()?;
     let query_count = queries.emit(encoder)?;
-    let sections = emit_sections(answers, authorities, additionals, encoder)?;
-    let code = metadata.response_code;
-    let extras = emit_extras(sections.additionals, edns, code, signature, encoder)?;
-    let header = header_of(metadata, query_count, sections, extras)?;
+    let answers = emit_part(answers, encoder)?;
+    let authorities = emit_part(authorities, encoder)?;
+    let additionals = emit_part(additionals, encoder)?;
+    let high = metadata.response_code.high();
+    let raised = edns.map(|edns| RaisedEdns {
+        edns,
+        rcode_high: high,
+    });
+    let opt = emit_item(raised.as_ref(), encoder)?;
+    let sum = add_counts(additionals, opt)?;
+    let signed = emit_item(signature, encoder)?;
+    let total = add_counts(sum, signed)?;
+    let header = header_of(*metadata, query_count, answers, authorities, total)?;
     encoder.replace(place, &header);
     Ok(header)
 }
-
-/// The header of a message of which so much was written.
-fn header_of(
-    metadata: &Metadata,
-    query_count: usize,
-    sections: WrittenSections,
-    additionals: Written,
-) -> Result<Header, ProtoError>
-    ensures { HasHeader metadata.now query_count sections additionals result }
-{
-    let Ok(queries) = u16::try_from(query_count) else {
-        return Err(ProtoError::Message("too many queries to fit in header count"));
-    };
-    let metadata = Metadata {
-        truncation: is_cut(metadata, sections, additionals),
-        ..*metadata
-    };
-    Ok(new_header(
-        metadata,
-        metadata.id,
-        queries,
-        sections.answers.count,
-        sections.authorities.count,
-        additionals.count,
-    ))
-}
-
-/// The header of these numbers, its codes and flags as they are in `metadata`.
-fn new_header(
-    metadata: Metadata,
-    id: u16,
-    queries: u16,
-    answers: u16,
-    authorities: u16,
-    additionals: u16,
-) -> Header
-    ensures header { result ≡ record {
-      metadata = record metadata { id = id };
-      counts = record { queries = queries; answers = answers; authorities = authorities; additionals = additionals };
-    } }
-    ensures narrow { IsNarrow result.metadata.id result.counts }
-{
-    Header {
-        metadata: Metadata { id, ..metadata },
-        counts: HeaderCounts {
-            queries,
-            answers,
-            authorities,
-            additionals,
-        },
-    }
-}
-
-/// TC of a message of which so much was written.
-fn is_cut(metadata: &Metadata, sections: WrittenSections, additionals: Written) -> bool
-    ensures { result ≡ (metadata.now.truncation
-        || (sections.answers.is_cut || (sections.authorities.is_cut || additionals.is_cut))) }
-{
-    metadata.truncation
-        || sections.answers.is_cut
-        || sections.authorities.is_cut
-        || additionals.is_cut
-}
-
-/// Writes OPT and the signature, and answers the count of these and the additional records before them.
-fn emit_extras(
-    additionals: Written,
-    edns: Option<&Edns>,
-    response_code: ResponseCode,
-    signature: Option<&Record<TSIG>>,
-    encoder: &mut BinEncoder<'_>,
-) -> Result<Written, ProtoError>
-    ensures keeps { Keeps (state_of encoder.old) (state_of encoder.new) }
-    ensures run { WritesExtras (opt_records response_code (option_copied edns.entry)) (signature_records (option_copied signature.entry)) additionals
-        (state_of encoder.old) result (state_of encoder.new) }
-{
-    let opt = emit_edns(edns, response_code, encoder)?;
-    let sum = add_counts(additionals, opt)?;
-    let signed = emit_signature(signature, encoder)?;
-    add_counts(sum, signed)
-}
-
-/// Writes the OPT record of EDNS with the high bits of the response code.
-fn emit_edns(
-    edns: Option<&Edns>,
-    response_code: ResponseCode,
-    encoder: &mut BinEncoder<'_>,
-) -> Result<Written, ProtoError>
-    ensures keeps { Keeps (state_of encoder.old) (state_of encoder.new) }
-    ensures run { WritesRecordItems (opt_records response_code (option_copied edns.entry)) (state_of encoder.old) result (state_of encoder.new) }
-{
-    let Some(edns) = edns else {
-        return Ok(NOTHING);
-    };
-    let raised = RaisedEdns {
-        edns,
-        rcode_high: response_code.high(),
-    };
-    emit_item(&raised, encoder)
-}
-
-/// Writes the signature.
-fn emit_signature(
-    signature: Option<&Record<TSIG>>,
-    encoder: &mut BinEncoder<'_>,
-) -> Result<Written, ProtoError>
-    ensures keeps { Keeps (state_of encoder.old) (state_of encoder.new) }
-    ensures run { WritesRecordItems (signature_records (option_copied signature.entry)) (state_of encoder.old) result (state_of encoder.new) }
-{
-    match signature {
-        Some(signature) => emit_item(signature, encoder),
-        None => Ok(NOTHING),
-    }
-}
-
-const NOTHING: Written = Written {
-    count: 0,
-    is_cut: false,
-};
 
 /// What was written of a part.
 #[derive(Clone, Copy, Drop)]
 struct Written {
     /// How many items stand.
-    pub count: u16,
+    count: u16,
     /// Whether an item had no room.
-    pub is_cut: bool,
+    is_cut: bool,
 }
 
-/// What was written of the sections of records.
-#[derive(Clone, Copy, Drop)]
-struct WrittenSections {
-    pub answers: Written,
-    pub authorities: Written,
-    pub additionals: Written,
-}
-
-/// Writes three sections. A cut one doesn't stop the next.
-fn emit_sections<A: EmitAndCount, N: EmitAndCount, D: EmitAndCount>(
-    answers: &mut A,
-    authorities: &mut N,
-    additionals: &mut D,
-    encoder: &mut BinEncoder<'_>,
-) -> Result<WrittenSections, ProtoError>
-    requires answers { A.can_emit answers.old }
-    requires authorities { N.can_emit authorities.old }
-    requires additionals { D.can_emit additionals.old }
-    ensures keeps { Keeps (state_of encoder.old) (state_of encoder.new) }
-    ensures run { EmitsSections A.emits N.emits D.emits answers.old answers.new authorities.old authorities.new additionals.old additionals.new
-        (state_of encoder.old) result (state_of encoder.new) }
-{
-    let answers = emit_part(answers, encoder)?;
-    let authorities = emit_part(authorities, encoder)?;
-    let additionals = emit_part(additionals, encoder)?;
-    Ok(WrittenSections {
-        answers,
-        authorities,
-        additionals,
-    })
-}
-
-/// Writes a part.
+/// Writes a part, and counts what has room.
 fn emit_part<P: EmitAndCount>(
     part: &mut P,
     encoder: &mut BinEncoder<'_>,
@@ -343,16 +182,22 @@ fn emit_part<P: EmitAndCount>(
     count_items(part.emit(encoder))
 }
 
-/// Writes one item.
-fn emit_item<E: BinEncodable>(item: &E, encoder: &mut BinEncoder<'_>) -> Result<Written, ProtoError>
+/// Writes an item if there is one, and counts it if it has room.
+fn emit_item<E: BinEncodable>(
+    item: Option<&E>,
+    encoder: &mut BinEncoder<'_>,
+) -> Result<Written, ProtoError>
     ensures keeps { Keeps (state_of encoder.old) (state_of encoder.new) }
-    ensures run { WritesItems E.word E.plain_len E.owner E.written (item.now ∷ [])
+    ensures run { WritesItems E.word E.plain_len E.owner E.written (listed (option_copied item.entry))
         (state_of encoder.old) result (state_of encoder.new) }
 {
-    count_items(encoder.emit_all(&mut iter::once(item)))
+    match item {
+        Some(item) => count_items(encoder.emit_all(&mut iter::once(item))),
+        None => narrow(0, false),
+    }
 }
 
-/// What a part's answer counts.
+/// What a part's answer counts: all its items, or those before the one that had no room.
 fn count_items(answer: Result<usize, ProtoError>) -> Result<Written, ProtoError>
     ensures { Counts answer result }
 {
@@ -365,7 +210,7 @@ fn count_items(answer: Result<usize, ProtoError>) -> Result<Written, ProtoError>
     }
 }
 
-/// Both counts together.
+/// Two counts together, cut where either is.
 fn add_counts(one: Written, other: Written) -> Result<Written, ProtoError>
     ensures { Adds one other result }
 {
@@ -373,7 +218,7 @@ fn add_counts(one: Written, other: Written) -> Result<Written, ProtoError>
     narrow(count, one.is_cut || other.is_cut)
 }
 
-/// The count in two bytes.
+/// A count in two bytes, as a header holds it.
 fn narrow(count: usize, is_cut: bool) -> Result<Written, ProtoError>
     ensures { Narrows count is_cut result }
 {
@@ -381,4 +226,33 @@ fn narrow(count: usize, is_cut: bool) -> Result<Written, ProtoError>
         Ok(count) => Ok(Written { count, is_cut }),
         Err(_) => Err(ProtoError::Message("too many records to fit in header count")),
     }
+}
+
+/// The header of a message of which so much was written: its own codes and flags, but that TC is set too where a part
+/// is cut.
+fn header_of(
+    metadata: Metadata,
+    query_count: usize,
+    answers: Written,
+    authorities: Written,
+    additionals: Written,
+) -> Result<Header, ProtoError>
+    ensures { HasHeader metadata query_count answers authorities additionals result }
+{
+    let Ok(queries) = u16::try_from(query_count) else {
+        return Err(ProtoError::Message("too many queries to fit in header count"));
+    };
+    let is_cut = answers.is_cut || authorities.is_cut || additionals.is_cut;
+    Ok(Header {
+        metadata: Metadata {
+            truncation: metadata.truncation || is_cut,
+            ..metadata
+        },
+        counts: HeaderCounts {
+            queries,
+            answers: answers.count,
+            authorities: authorities.count,
+            additionals: additionals.count,
+        },
+    })
 }
