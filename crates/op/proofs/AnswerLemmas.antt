@@ -1,5 +1,5 @@
 -- What an encoder answers to a message is decided by the message, the limit, the place and the suffixes stored.
-use Rattle.std.proofs.Common.{◌≡◌, ◌⊎◌, ℕ, ◌+◌, ◌<◌, ◌≤◌, Bool, true, false, List, [], ◌++◌, length, refl, ap, sym, ◌∙◌, inl, inr, subst, arith, length-append, Result, Ok, Err}
+use Rattle.std.proofs.Common.{◌≡◌, ◌⊎◌, ℕ, ◌+◌, ◌≤◌, Bool, true, false, List, [], ◌++◌, length, refl, ap, sym, ◌∙◌, inl, inr, subst, arith, length-append, Result, Ok, Err}
 use Rattle.std.specs.Prelude.{IfErr, IfOk, drop, if◌then◌else◌, nat_lt, replicate}
 use Rattle.std.proofs.lemmas.Bool.{le-ltb, lt-ltb}
 use Rattle.std.proofs.Math.Seq.{drop-append_seam}

@@ -4,7 +4,7 @@
 ghost use Rattle.std.specs.Cmp.{IsEquivalence};
 ghost use Rattle.std.specs.Cmp.Lexicographic.{pointwise};
 ghost use Rattle.std.specs.Option.{option_eq, option_map};
-ghost use Rattle.std.specs.Prelude.{◌≡◌, ◌<◌, ◌↔◌, ◌≤◌, ◌++◌, ◌⊎◌, [], All, Bool, Err, false, IsTrue, length, List, Ok, true, ℕ};
+ghost use Rattle.std.specs.Prelude.{◌≡◌, ◌<◌, ◌↔◌, ◌≤◌, ◌++◌, [], All, Bool, Err, false, IsTrue, length, List, Ok, true, ℕ};
 ghost use Rattle.base.specs.Many.{many_at};
 ghost use Rattle.base.specs.Spelling.{NamesStand};
 ghost use Rattle.base.specs.State.{State, Stored};

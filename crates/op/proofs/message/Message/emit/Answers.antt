@@ -4,7 +4,7 @@ use Rattle.base.specs.Wire.{state_of}
 use Rattle.base.specs.declared.error.proto_error.ProtoError.TheVariants as refusals
 use Rattle.op.proofs.AnswerLemmas.{emitted_answers, only_memory, refusal_answers}
 use Rattle.op.proofs.CutOf.{written_of}
-use Rattle.op.proofs.EmittedLemmas.{AreOf, Slices, emitted_of, raised_edns, slices, unboxed}
+use Rattle.op.proofs.EmittedLemmas.{emitted_of, raised_edns, slices, unboxed}
 use Rattle.op.proofs.MessageWrittenLemmas.{emitted_exact}
 use Rattle.op.proofs.SucceedsLemmas.{composed_failed}
 use Rattle.op.specs.Emitted.{Emitted, Leaves}

@@ -2,6 +2,7 @@ use Rattle.std.proofs.Common.{refl, ap, ◌∙◌, Err, Ok, replicate, rules}
 use Rattle.std.specs.Option.{option_copied}
 use Rattle.std.proofs.lemmas.Result.{err_from_is_err_and}
 use Rattle.base.proofs.LawLemmas.{Keeps-same, Keeps-appended, Keeps-then}
+use Rattle.base.specs.Laws.{Keeps}
 use Rattle.base.specs.State.{overwritten}
 use Rattle.base.specs.Wire.{state_of}
 use Rattle.op.proofs.FrontLemmas.{opt_items, signature_items}
@@ -10,8 +11,12 @@ use Rattle.op.proofs.RunLemmas.{goes, stops}
 use Rattle.op.specs.Composition.{WritesRecordItems}
 use Rattle.op.specs.Fits.{opt_records, signature_records}
 use Rattle.op.specs.Header.{header_bytes, raw_header}
-use Rattle.op.proofs.message.writing.emit_message_parts.Goals.{In_ok-opt, In_ok-signed}
+use Rattle.op.proofs.message.writing.emit_message_parts.Goals.{In_ok-opt, In_ok-query_count, In_ok-signed}
 use Rattle.op.proofs.message.writing.emit_message_parts.Goals as goal
+
+-- what stood before the questions stays
+begun : (g : _) (c : In_ok-query_count g) → Keeps (state_of c.args.encoder.now) (state_of c.emit.new.encoder)
+begun g c = Keeps-then (Keeps-appended (replicate 12 0) (state_of c.args.encoder.now) (state_of c.place.new.self) c.in_ok-place.ensures.ok.0 c.in_ok-place.ensures.within) c.emit.ensures.keeps
 
 -- the OPT record was written
 opt_of : (g : _) (c : In_ok-opt g) → WritesRecordItems (opt_records c.args.metadata.now.response_code (option_copied c.args.edns))
@@ -137,49 +142,31 @@ pub returns-in_err-place-clause-keeps : goal.returns-in_err-place-clause-keeps
 returns-in_err-place-clause-keeps g c = Keeps-same (state_of c.args.encoder.now) (state_of c.place.new.self) c.in_err-place.ensures.err
 
 pub returns-in_err-query_count-clause-keeps : goal.returns-in_err-query_count-clause-keeps
-returns-in_err-query_count-clause-keeps g c =
-    let room = Keeps-appended (replicate 12 0) (state_of c.args.encoder.now) (state_of c.place.new.self) c.in_ok-place.ensures.ok.0 c.in_ok-place.ensures.within in
-    Keeps-then room c.emit.ensures.keeps
+returns-in_err-query_count-clause-keeps g c = Keeps-then (Keeps-appended (replicate 12 0) (state_of c.args.encoder.now) (state_of c.place.new.self) c.in_ok-place.ensures.ok.0 c.in_ok-place.ensures.within) c.emit.ensures.keeps
 
 pub returns-in_err-answers-clause-keeps : goal.returns-in_err-answers-clause-keeps
-returns-in_err-answers-clause-keeps g c =
-    let room = Keeps-appended (replicate 12 0) (state_of c.args.encoder.now) (state_of c.place.new.self) c.in_ok-place.ensures.ok.0 c.in_ok-place.ensures.within in
-    Keeps-then room (Keeps-then c.emit.ensures.keeps c.emit_part.ensures.keeps)
+returns-in_err-answers-clause-keeps g c = Keeps-then (begun g (goal.at.returns-in_err-answers-clause-keeps g c).In_ok-query_count) c.emit_part.ensures.keeps
 
 pub returns-in_err-authorities-clause-keeps : goal.returns-in_err-authorities-clause-keeps
-returns-in_err-authorities-clause-keeps g c =
-    let room = Keeps-appended (replicate 12 0) (state_of c.args.encoder.now) (state_of c.place.new.self) c.in_ok-place.ensures.ok.0 c.in_ok-place.ensures.within in
-    Keeps-then room (Keeps-then c.emit.ensures.keeps (Keeps-then c.emit_part.ensures.keeps c.emit_part-2.ensures.keeps))
+returns-in_err-authorities-clause-keeps g c = Keeps-then (begun g (goal.at.returns-in_err-authorities-clause-keeps g c).In_ok-query_count) (Keeps-then c.emit_part.ensures.keeps c.emit_part-2.ensures.keeps)
 
 pub returns-in_err-additionals-clause-keeps : goal.returns-in_err-additionals-clause-keeps
-returns-in_err-additionals-clause-keeps g c =
-    let room = Keeps-appended (replicate 12 0) (state_of c.args.encoder.now) (state_of c.place.new.self) c.in_ok-place.ensures.ok.0 c.in_ok-place.ensures.within in
-    Keeps-then room (Keeps-then c.emit.ensures.keeps (Keeps-then c.emit_part.ensures.keeps (Keeps-then c.emit_part-2.ensures.keeps c.emit_part-3.ensures.keeps)))
+returns-in_err-additionals-clause-keeps g c = Keeps-then (begun g (goal.at.returns-in_err-additionals-clause-keeps g c).In_ok-query_count) (Keeps-then c.emit_part.ensures.keeps (Keeps-then c.emit_part-2.ensures.keeps c.emit_part-3.ensures.keeps))
 
 pub returns-in_err-opt-clause-keeps : goal.returns-in_err-opt-clause-keeps
-returns-in_err-opt-clause-keeps g c =
-    let room = Keeps-appended (replicate 12 0) (state_of c.args.encoder.now) (state_of c.place.new.self) c.in_ok-place.ensures.ok.0 c.in_ok-place.ensures.within in
-    Keeps-then room (Keeps-then c.emit.ensures.keeps (Keeps-then c.emit_part.ensures.keeps (Keeps-then c.emit_part-2.ensures.keeps (Keeps-then c.emit_part-3.ensures.keeps c.emit_item.ensures.keeps))))
+returns-in_err-opt-clause-keeps g c = Keeps-then (begun g (goal.at.returns-in_err-opt-clause-keeps g c).In_ok-query_count) (Keeps-then c.emit_part.ensures.keeps (Keeps-then c.emit_part-2.ensures.keeps (Keeps-then c.emit_part-3.ensures.keeps c.emit_item.ensures.keeps)))
 
 pub returns-in_err-sum-clause-keeps : goal.returns-in_err-sum-clause-keeps
-returns-in_err-sum-clause-keeps g c =
-    let room = Keeps-appended (replicate 12 0) (state_of c.args.encoder.now) (state_of c.place.new.self) c.in_ok-place.ensures.ok.0 c.in_ok-place.ensures.within in
-    Keeps-then room (Keeps-then c.emit.ensures.keeps (Keeps-then c.emit_part.ensures.keeps (Keeps-then c.emit_part-2.ensures.keeps (Keeps-then c.emit_part-3.ensures.keeps c.emit_item.ensures.keeps))))
+returns-in_err-sum-clause-keeps g c = Keeps-then (begun g (goal.at.returns-in_err-sum-clause-keeps g c).In_ok-query_count) (Keeps-then c.emit_part.ensures.keeps (Keeps-then c.emit_part-2.ensures.keeps (Keeps-then c.emit_part-3.ensures.keeps c.emit_item.ensures.keeps)))
 
 pub returns-in_err-signed-clause-keeps : goal.returns-in_err-signed-clause-keeps
-returns-in_err-signed-clause-keeps g c =
-    let room = Keeps-appended (replicate 12 0) (state_of c.args.encoder.now) (state_of c.place.new.self) c.in_ok-place.ensures.ok.0 c.in_ok-place.ensures.within in
-    Keeps-then room (Keeps-then c.emit.ensures.keeps (Keeps-then c.emit_part.ensures.keeps (Keeps-then c.emit_part-2.ensures.keeps (Keeps-then c.emit_part-3.ensures.keeps (Keeps-then c.emit_item.ensures.keeps c.emit_item-2.ensures.keeps)))))
+returns-in_err-signed-clause-keeps g c = Keeps-then (begun g (goal.at.returns-in_err-signed-clause-keeps g c).In_ok-query_count) (Keeps-then c.emit_part.ensures.keeps (Keeps-then c.emit_part-2.ensures.keeps (Keeps-then c.emit_part-3.ensures.keeps (Keeps-then c.emit_item.ensures.keeps c.emit_item-2.ensures.keeps))))
 
 pub returns-in_err-total-clause-keeps : goal.returns-in_err-total-clause-keeps
-returns-in_err-total-clause-keeps g c =
-    let room = Keeps-appended (replicate 12 0) (state_of c.args.encoder.now) (state_of c.place.new.self) c.in_ok-place.ensures.ok.0 c.in_ok-place.ensures.within in
-    Keeps-then room (Keeps-then c.emit.ensures.keeps (Keeps-then c.emit_part.ensures.keeps (Keeps-then c.emit_part-2.ensures.keeps (Keeps-then c.emit_part-3.ensures.keeps (Keeps-then c.emit_item.ensures.keeps c.emit_item-2.ensures.keeps)))))
+returns-in_err-total-clause-keeps g c = Keeps-then (begun g (goal.at.returns-in_err-total-clause-keeps g c).In_ok-query_count) (Keeps-then c.emit_part.ensures.keeps (Keeps-then c.emit_part-2.ensures.keeps (Keeps-then c.emit_part-3.ensures.keeps (Keeps-then c.emit_item.ensures.keeps c.emit_item-2.ensures.keeps))))
 
 pub returns-in_err-header-clause-keeps : goal.returns-in_err-header-clause-keeps
-returns-in_err-header-clause-keeps g c =
-    let room = Keeps-appended (replicate 12 0) (state_of c.args.encoder.now) (state_of c.place.new.self) c.in_ok-place.ensures.ok.0 c.in_ok-place.ensures.within in
-    Keeps-then room (Keeps-then c.emit.ensures.keeps (Keeps-then c.emit_part.ensures.keeps (Keeps-then c.emit_part-2.ensures.keeps (Keeps-then c.emit_part-3.ensures.keeps (Keeps-then c.emit_item.ensures.keeps c.emit_item-2.ensures.keeps)))))
+returns-in_err-header-clause-keeps g c = Keeps-then (begun g (goal.at.returns-in_err-header-clause-keeps g c).In_ok-query_count) (Keeps-then c.emit_part.ensures.keeps (Keeps-then c.emit_part-2.ensures.keeps (Keeps-then c.emit_part-3.ensures.keeps (Keeps-then c.emit_item.ensures.keeps c.emit_item-2.ensures.keeps))))
 
 pub returns-clause-keeps : goal.returns-clause-keeps
 returns-clause-keeps g c =
@@ -187,36 +174,3 @@ returns-clause-keeps g c =
     let header = c.in_ok-header.header in
     let filled = c.replace.ensures.state ∙ ap (λ at. overwritten at (header_bytes (raw_header header)) (state_of c.emit_item-2.new.encoder)) kept.1 in
     room_filled header _ _ _ _ kept.0 c.in_ok-place.ensures.within (Keeps-then c.emit.ensures.keeps (Keeps-then c.emit_part.ensures.keeps (Keeps-then c.emit_part-2.ensures.keeps (Keeps-then c.emit_part-3.ensures.keeps (Keeps-then c.emit_item.ensures.keeps c.emit_item-2.ensures.keeps))))) filled
-
-pub returns-in_err-place-clause-narrow : goal.returns-in_err-place-clause-narrow
-returns-in_err-place-clause-narrow g c = c.place.ensures.narrow
-
-pub returns-in_err-query_count-clause-narrow : goal.returns-in_err-query_count-clause-narrow
-returns-in_err-query_count-clause-narrow g c = c.place.ensures.narrow
-
-pub returns-in_err-answers-clause-narrow : goal.returns-in_err-answers-clause-narrow
-returns-in_err-answers-clause-narrow g c = c.place.ensures.narrow
-
-pub returns-in_err-authorities-clause-narrow : goal.returns-in_err-authorities-clause-narrow
-returns-in_err-authorities-clause-narrow g c = c.place.ensures.narrow
-
-pub returns-in_err-additionals-clause-narrow : goal.returns-in_err-additionals-clause-narrow
-returns-in_err-additionals-clause-narrow g c = c.place.ensures.narrow
-
-pub returns-in_err-opt-clause-narrow : goal.returns-in_err-opt-clause-narrow
-returns-in_err-opt-clause-narrow g c = c.place.ensures.narrow
-
-pub returns-in_err-sum-clause-narrow : goal.returns-in_err-sum-clause-narrow
-returns-in_err-sum-clause-narrow g c = c.place.ensures.narrow
-
-pub returns-in_err-signed-clause-narrow : goal.returns-in_err-signed-clause-narrow
-returns-in_err-signed-clause-narrow g c = c.place.ensures.narrow
-
-pub returns-in_err-total-clause-narrow : goal.returns-in_err-total-clause-narrow
-returns-in_err-total-clause-narrow g c = c.place.ensures.narrow
-
-pub returns-in_err-header-clause-narrow : goal.returns-in_err-header-clause-narrow
-returns-in_err-header-clause-narrow g c = c.place.ensures.narrow
-
-pub returns-clause-narrow : goal.returns-clause-narrow
-returns-clause-narrow g c = c.place.ensures.narrow
