@@ -1,5 +1,5 @@
 -- What an encoder answers to a message is decided by the message, the limit, the place and the suffixes stored.
-use Rattle.std.proofs.Common.{◌≡◌, ◌⊎◌, ℕ, ◌+◌, ◌<◌, ◌≤◌, Bool, true, false, List, [], ◌++◌, length, refl, ap, sym, ◌∙◌, inl, inr, subst, arith, length-append, Result, Ok, Err}
+use Rattle.std.proofs.Common.{◌≡◌, ◌⊎◌, ℕ, ◌+◌, ◌≤◌, Bool, true, false, List, [], ◌++◌, length, refl, ap, sym, ◌∙◌, inl, inr, subst, arith, length-append, Result, Ok, Err}
 use Rattle.std.specs.Prelude.{IfErr, IfOk, drop, if◌then◌else◌, nat_lt, replicate}
 use Rattle.std.proofs.lemmas.Bool.{le-ltb, lt-ltb}
 use Rattle.std.proofs.Math.Seq.{drop-append_seam}
@@ -82,7 +82,7 @@ module _ (m : MessageValue) (old : State) where
   answer_if new (Ok h) e = emitted_answers new h e
   answer_if new (Err f) e = tt
 
-  refusal_answers : (new : State) (f : ProtoError) → (f ≡ refusals.Memory) ⊎ Leaves m old f new
+  pub refusal_answers : (new : State) (f : ProtoError) → (f ≡ refusals.Memory) ⊎ Leaves m old f new
       → (f ≡ refusals.Memory) ⊎ (Leaves m old f new × (answer ≡ Err f))
   refusal_answers new f (inl memory) = inl memory
   refusal_answers new f (inr left) = inr (left, left_answers new f left)

@@ -12,7 +12,7 @@ use Rattle.base.proofs.SliceLemmas.{Emits-front, Emits-slice}
 use Rattle.base_data.specs.declared.rdata.RData.{RData}
 use Rattle.rr.specs.Record.{RecordWord, plain_record, record_written}
 use Rattle.rr.specs.declared.record.Record.{Record}
-use Rattle.op.specs.Composition.{Adds, AndThen, Composition, Counts, EmitsPart, EmitsSections, FillsIn, HasHeader, KeepsRoom, Tests, WritesExtras, WritesRecordItems}
+use Rattle.op.specs.Composition.{Adds, AndThen, Composition, Counts, EmitsPart, FillsIn, HasHeader, KeepsRoom, Tests, WritesRecordItems}
 use Rattle.op.specs.Cut.{raised}
 use Rattle.op.specs.EdnsRecord.{edns_record}
 use Rattle.op.specs.Emitted.{Emitted, WritesFront, WritesRecords, query_owner, record_owner}
@@ -22,10 +22,9 @@ use Rattle.op.specs.Message.{MessageValue}
 use Rattle.op.specs.declared.edns.Edns.{Edns}
 use Rattle.op.specs.Query.{QueryWord, plain_query, query_written}
 use Rattle.op.specs.declared.header.Header.{Header}
-use Rattle.op.specs.declared.message.writing.parts.WrittenSections.{WrittenSections}
-use Rattle.op.specs.declared.message.writing.parts.Written.{Written}
+use Rattle.op.specs.declared.message.writing.Written.{Written}
 use Rattle.op.specs.declared.query.Query.{Query}
-use Rattle.op.proofs.RunLemmas.{Both, went}
+use Rattle.op.proofs.RunLemmas.{went}
 use Rattle.base.specs.Written.{Writing, after, in_turn}
 
 -- ---- parts that are slices
@@ -111,22 +110,13 @@ pub record Slices : Type 0 where
   pub edns : List (Record RData)
   pub signature : List (Record RData)
 
--- the three sections are written
-abbrev pub EmitsSlices : Slices → State → Result WrittenSections ProtoError → State → Type 0
-EmitsSlices s =
-    EmitsSections emits_records emits_records emits_records s.answers.before s.answers.rest s.authorities.before s.authorities.rest s.additionals.before s.additionals.rest
-
 -- fronts of three lists of records were written
-pub record ThreeFronts (xs ys zs : List (Record RData)) (a d : State) (sections : WrittenSections) : Type 0 where
-  pub second : State
-  pub third : State
-  pub answers : WritesRecords xs a second sections.answers.count sections.answers.is_cut
-  pub authorities : WritesRecords ys second third sections.authorities.count sections.authorities.is_cut
-  pub additionals : WritesRecords zs third d sections.additionals.count sections.additionals.is_cut
-
--- fronts of the sections of slices were written
-abbrev pub SectionFronts : Slices → State → State → WrittenSections → Type 0
-SectionFronts s = ThreeFronts s.answers.before.rest.now s.authorities.before.rest.now s.additionals.before.rest.now
+record ThreeFronts (xs ys zs : List (Record RData)) (a d : State) (answers authorities additionals : Written) : Type 0 where
+  second : State
+  third : State
+  answers_front : WritesRecords xs a second answers.count answers.is_cut
+  authorities_front : WritesRecords ys second third authorities.count authorities.is_cut
+  additionals_front : WritesRecords zs third d additionals.count additionals.is_cut
 
 -- a section that is a slice is written and counted
 abbrev pub EmitsSlice : Slice (Record RData) → State → Result Written ProtoError → State → Type 0
@@ -136,85 +126,16 @@ EmitsSlice x = EmitsPart emits_records x.before x.rest
 pub records_front : (x : Slice (Record RData)) (a b : State) (w : Written) → EmitsSlice x a (Ok w) b → WritesRecords x.before.rest.now a b w.count w.is_cut
 records_front x a b w part = slice_front RecordWord plain_record record_owner record_written x.before x.rest a b w part
 
-module _ (s : Slices) (sections : WrittenSections) (first last : State) where
-  abbrev Third : Written → Written → Written → State → Result WrittenSections ProtoError → State → Type 0
-  Third answers authorities additionals = Tests (λ result. result ≡ Ok (record { answers = answers; authorities = authorities; additionals = additionals }))
-
-  abbrev Second : Written → Written → State → Result WrittenSections ProtoError → State → Type 0
-  Second answers authorities = AndThen (EmitsSlice s.additionals) ⊤ (Third answers authorities)
-
-  abbrev First : Written → State → Result WrittenSections ProtoError → State → Type 0
-  First answers = AndThen (EmitsSlice s.authorities) (s.additionals.rest ≡ s.additionals.before) (Second answers)
-
-  third_done : {answers authorities : Written} {second third : State} → WritesRecords s.answers.before.rest.now first second answers.count answers.is_cut
-      → WritesRecords s.authorities.before.rest.now second third authorities.count authorities.is_cut
-      → Both (EmitsSlice s.additionals) (Third answers authorities) third (Ok sections) last → SectionFronts s first last sections
-  third_done {answers} {authorities} {second} {third} one two b =
-      let rest = s.additionals.before.rest.now in
-      let additionals = records_front s.additionals third b.between b.value b.ran in
-      let are : sections ≡ record { answers = answers; authorities = authorities; additionals = b.value } = same_value sections _ b.rest.0 in
-      subst (SectionFronts s first last) (sym are) (record {
-        second = second;
-        third = third;
-        answers = one;
-        authorities = two;
-        additionals = subst (λ a. WritesRecords rest third a b.value.count b.value.is_cut) (sym b.rest.1) additionals;
-      })
-
-  second_done : {answers : Written} {second : State} → WritesRecords s.answers.before.rest.now first second answers.count answers.is_cut
-      → Both (EmitsSlice s.authorities) (Second answers) second (Ok sections) last → SectionFronts s first last sections
-  second_done {second = second} one b = third_done one (records_front s.authorities second b.between b.value b.ran) (went sections b.rest)
-
-  first_done : Both (EmitsSlice s.answers) First first (Ok sections) last → SectionFronts s first last sections
-  first_done b = second_done (records_front s.answers first b.between b.value b.ran) (went sections b.rest)
-
-  pub sections_done : EmitsSlices s first (Ok sections) last → SectionFronts s first last sections
-  sections_done run = first_done (went sections run)
-
 -- OPT and the signature were written, and counted with the additionals before them
-pub record TwoFronts (edns signature : List (Record RData)) (additionals : Written) (a c : State) (total : Written) : Type 0 where
-  pub fifth : State
-  pub opt : Written
-  pub sum : Written
-  pub signed : Written
-  pub opt_front : WritesRecords edns a fifth opt.count opt.is_cut
-  pub added : Adds additionals opt (Ok sum)
-  pub signature_front : WritesRecords signature fifth c signed.count signed.is_cut
-  pub added_too : Adds sum signed (Ok total)
-
-module _ (edns signature : List (Record RData)) (additionals total : Written) (fourth last : State) where
-  abbrev Fourth : Written → Written → State → Result Written ProtoError → State → Type 0
-  Fourth sum signed = Tests (Adds sum signed)
-
-  abbrev Third_extra : Written → State → Result Written ProtoError → State → Type 0
-  Third_extra sum = AndThen (WritesRecordItems signature) ⊤ (Fourth sum)
-
-  abbrev Second_extra : Written → State → Result Written ProtoError → State → Type 0
-  Second_extra opt = AndThen (Tests (Adds additionals opt)) ⊤ Third_extra
-
-  signed_done : (opt sum : Written) (fifth fifth' : State) → WritesRecords edns fourth fifth opt.count opt.is_cut → Adds additionals opt (Ok sum) → fifth' ≡ fifth
-      → Both (WritesRecordItems signature) (Fourth sum) fifth' (Ok total) last → TwoFronts edns signature additionals fourth last total
-  signed_done opt sum fifth fifth' front added same b = record {
-    fifth = fifth;
-    opt = opt;
-    sum = sum;
-    signed = b.value;
-    opt_front = front;
-    added = added;
-    signature_front =
-        subst (λ s. WritesRecords signature fifth s b.value.count b.value.is_cut) (sym b.rest.1) (subst (λ s. WritesRecords signature s b.between b.value.count b.value.is_cut) same b.ran);
-    added_too = b.rest.0;
-  }
-
-  sum_done : (opt : Written) (fifth : State) → WritesRecords edns fourth fifth opt.count opt.is_cut → Both (Tests (Adds additionals opt)) Third_extra fifth (Ok total) last
-      → TwoFronts edns signature additionals fourth last total
-  sum_done opt fifth front b = signed_done opt b.value fifth b.between front b.ran.0 b.ran.1 (went total b.rest)
-
-  opt_done : Both (WritesRecordItems edns) Second_extra fourth (Ok total) last → TwoFronts edns signature additionals fourth last total
-  opt_done b = sum_done b.value b.between b.ran (went total b.rest)
-
-  pub extras_done : WritesExtras edns signature additionals fourth (Ok total) last → TwoFronts edns signature additionals fourth last total
-  extras_done run = opt_done (went total run)
+record TwoFronts (edns signature : List (Record RData)) (additionals : Written) (a c : State) (total : Written) : Type 0 where
+  fifth : State
+  opt : Written
+  sum : Written
+  signed : Written
+  opt_front : WritesRecords edns a fifth opt.count opt.is_cut
+  added : Adds additionals opt (Ok sum)
+  signature_front : WritesRecords signature fifth c signed.count signed.is_cut
+  added_too : Adds sum signed (Ok total)
 
 -- room was kept for the header, and the questions were written after it
 record Begun (queries : List Query) (old : State) (place count : ℕ) (first : State) : Type 0 where
@@ -225,13 +146,13 @@ record Begun (queries : List Query) (old : State) (place count : ℕ) (first : S
   counted : count ≡ length queries
 
 -- the pieces of a message that was written
-assemble : {m : MessageValue} {old first fourth sixth new : State} {h : Header} {place queries : ℕ} {sections : WrittenSections} {total : Written} → Begun m.queries old place queries first
-    → ThreeFronts m.answers m.authorities m.additionals first fourth sections
-    → TwoFronts (listed (option_map edns_record (raised m))) (listed (option_map signature_record m.signature)) sections.additionals fourth sixth total
-    → HasHeader m.metadata queries sections total (Ok h)
+assemble : {m : MessageValue} {old first fourth sixth new : State} {h : Header} {place queries : ℕ} {answers authorities additionals total : Written} → Begun m.queries old place queries first
+    → ThreeFronts m.answers m.authorities m.additionals first fourth answers authorities additionals
+    → TwoFronts (listed (option_map edns_record (raised m))) (listed (option_map signature_record m.signature)) additionals fourth sixth total
+    → HasHeader m.metadata queries answers authorities total (Ok h)
     → new ≡ overwritten place (header_bytes (raw_header h)) sixth
     → Emitted m old new h
-assemble {m = m} {first = first} {fourth = fourth} {sixth = sixth} {h = h} {sections = sections} {total = total} begun three two header filled =
+assemble {m = m} {first = first} {fourth = fourth} {sixth = sixth} {h = h} {answers = answers} {authorities = authorities} {additionals = additionals} {total = total} begun three two header filled =
     let fields = header.1 in
     record {
       kept = begun.kept;
@@ -241,12 +162,12 @@ assemble {m = m} {first = first} {fourth = fourth} {sixth = sixth} {h = h} {sect
       fourth = fourth;
       fifth = two.fifth;
       sixth = sixth;
-      answers_cut = sections.answers.is_cut;
-      authorities_cut = sections.authorities.is_cut;
-      additionals_cut = sections.additionals.is_cut;
+      answers_cut = answers.is_cut;
+      authorities_cut = authorities.is_cut;
+      additionals_cut = additionals.is_cut;
       edns_cut = two.opt.is_cut;
       signature_cut = two.signed.is_cut;
-      additional_count = sections.additionals.count;
+      additional_count = additionals.count;
       edns_count = two.opt.count;
       signature_count = two.signed.count;
       narrow = header.0;
@@ -254,17 +175,17 @@ assemble {m = m} {first = first} {fourth = fourth} {sixth = sixth} {h = h} {sect
       room = begun.room.2;
       queries = begun.asked;
       asked = begun.exact;
-      answers = subst (λ n. WritesRecords m.answers first three.second n sections.answers.is_cut) (sym (ap (λ k. k.counts.answers) fields)) three.answers;
-      authorities = subst (λ n. WritesRecords m.authorities three.second three.third n sections.authorities.is_cut) (sym (ap (λ k. k.counts.authorities) fields)) three.authorities;
-      additionals = three.additionals;
+      answers = subst (λ n. WritesRecords m.answers first three.second n answers.is_cut) (sym (ap (λ k. k.counts.answers) fields)) three.answers_front;
+      authorities = subst (λ n. WritesRecords m.authorities three.second three.third n authorities.is_cut) (sym (ap (λ k. k.counts.authorities) fields)) three.authorities_front;
+      additionals = three.additionals_front;
       edns = two.opt_front;
       signature = two.signature_front;
       query_count = ap (λ k. k.counts.queries) fields ∙ begun.counted;
-      sum = ap (λ k. k.counts.additionals) fields ∙ three_counted sections.additionals two.opt two.sum two.signed total two.added two.added_too;
+      sum = ap (λ k. k.counts.additionals) fields ∙ three_counted additionals two.opt two.sum two.signed total two.added two.added_too;
       metadata =
           ap (λ k. k.metadata) fields
-          ∙ ap (λ p. record m.metadata { truncation = m.metadata.truncation || (sections.answers.is_cut || (sections.authorities.is_cut || p)) })
-          (any_three sections.additionals two.opt two.sum two.signed total two.added two.added_too);
+          ∙ ap (λ p. record m.metadata { truncation = m.metadata.truncation || (answers.is_cut || (authorities.is_cut || p)) })
+          (any_three additionals two.opt two.sum two.signed total two.added two.added_too);
       header = filled ∙ ap (λ n. overwritten n (header_bytes (raw_header h)) sixth) begun.room.0;
     }
 
@@ -287,56 +208,85 @@ pub record AreOf (m : MessageValue) (s : Slices) : Type 0 where
 abbrev pub Idle : Slices → Type 0
 Idle s = (s.answers.rest ≡ s.answers.before) × (s.authorities.rest ≡ s.authorities.before) × (s.additionals.rest ≡ s.additionals.before)
 
-module _ (m : MessageValue) (s : Slices) (are : AreOf m s) (old new : State) (h : Header) where
-  abbrev Filled : ℕ → Header → State → Result Header ProtoError → State → Type 0
-  Filled place header = FillsIn place header
+-- what follows each part of a message of slices
+module _ (m : MessageValue) (s : Slices) where
+  abbrev pub Headed : ℕ → ℕ → Written → Written → Written → State → Result Header ProtoError → State → Type 0
+  Headed place queries answers authorities total = AndThen (Tests (HasHeader m.metadata queries answers authorities total)) ⊤ (FillsIn place)
 
-  abbrev Headed : ℕ → ℕ → WrittenSections → Written → State → Result Header ProtoError → State → Type 0
-  Headed place queries sections additionals = AndThen (Tests (HasHeader m.metadata queries sections additionals)) ⊤ (Filled place)
+  abbrev pub Extended : ℕ → ℕ → Written → Written → Written → State → Result Header ProtoError → State → Type 0
+  Extended place queries answers authorities additionals =
+      AndThen (WritesRecordItems s.edns) ⊤ (λ opt.
+      AndThen (Tests (Adds additionals opt)) ⊤ (λ sum.
+      AndThen (WritesRecordItems s.signature) ⊤ (λ signed.
+      AndThen (Tests (Adds sum signed)) ⊤ (Headed place queries answers authorities))))
 
-  abbrev Extended : ℕ → ℕ → WrittenSections → State → Result Header ProtoError → State → Type 0
-  Extended place queries sections = AndThen (WritesExtras s.edns s.signature sections.additionals) ⊤ (Headed place queries sections)
+  abbrev pub Sectioned : ℕ → ℕ → State → Result Header ProtoError → State → Type 0
+  Sectioned place queries =
+      AndThen (EmitsSlice s.answers) ((s.authorities.rest ≡ s.authorities.before) × (s.additionals.rest ≡ s.additionals.before)) (λ answers.
+      AndThen (EmitsSlice s.authorities) (s.additionals.rest ≡ s.additionals.before) (λ authorities.
+      AndThen (EmitsSlice s.additionals) ⊤ (Extended place queries answers authorities)))
 
-  abbrev Sectioned : ℕ → ℕ → State → Result Header ProtoError → State → Type 0
-  Sectioned place queries = AndThen (EmitsSlices s) ⊤ (Extended place queries)
-
-  abbrev Asked : ℕ → State → Result Header ProtoError → State → Type 0
+  abbrev pub Asked : ℕ → State → Result Header ProtoError → State → Type 0
   Asked place = AndThen (λ a answer b. emits_queries s.queries.before a answer s.queries.rest b) (Idle s) (Sectioned place)
 
-  header_done : {place queries : ℕ} {first fourth sixth : State} {sections : WrittenSections} {total : Written} → Begun s.queries.before.rest.now old place queries first
-      → SectionFronts s first fourth sections → TwoFronts s.edns s.signature sections.additionals fourth sixth total
-      → Both (Tests (HasHeader m.metadata queries sections total)) (Filled place) sixth (Ok h) new → Emitted m old new h
-  header_done {place} {queries} {first} {fourth} {sixth} {sections} {total} begun three two b =
+module _ (m : MessageValue) (s : Slices) (are : AreOf m s) (old new : State) (h : Header) where
+  header_done : {place queries : ℕ} {first fourth sixth : State} {answers authorities additionals total : Written} → Begun s.queries.before.rest.now old place queries first
+      → ThreeFronts s.answers.before.rest.now s.authorities.before.rest.now s.additionals.before.rest.now first fourth answers authorities additionals
+      → TwoFronts s.edns s.signature additionals fourth sixth total
+      → Headed m s place queries answers authorities total sixth (Ok h) new → Emitted m old new h
+  header_done {place} {queries} {first} {fourth} {sixth} {answers} {authorities} {additionals} {total} begun three two run =
+      let b = went h run in
       let same : b.value ≡ h = sym (same_value h b.value b.rest.0) in
       assemble
       (subst (λ xs. Begun xs old place queries first) are.queries begun)
-      (subst (λ xs. ThreeFronts xs m.authorities m.additionals first fourth sections) are.answers
-      (subst (λ xs. ThreeFronts s.answers.before.rest.now xs m.additionals first fourth sections) are.authorities
-      (subst (λ xs. ThreeFronts s.answers.before.rest.now s.authorities.before.rest.now xs first fourth sections) are.additionals three)))
-      (subst (λ xs. TwoFronts xs (listed (option_map signature_record m.signature)) sections.additionals fourth sixth total) are.edns_is
-      (subst (λ xs. TwoFronts s.edns xs sections.additionals fourth sixth total) are.signature_is two))
-      (subst (λ k. HasHeader m.metadata queries sections total (Ok k)) same b.ran.0)
+      (subst (λ xs. ThreeFronts xs m.authorities m.additionals first fourth answers authorities additionals) are.answers
+      (subst (λ xs. ThreeFronts s.answers.before.rest.now xs m.additionals first fourth answers authorities additionals) are.authorities
+      (subst (λ xs. ThreeFronts s.answers.before.rest.now s.authorities.before.rest.now xs first fourth answers authorities additionals) are.additionals three)))
+      (subst (λ xs. TwoFronts xs (listed (option_map signature_record m.signature)) additionals fourth sixth total) are.edns_is
+      (subst (λ xs. TwoFronts s.edns xs additionals fourth sixth total) are.signature_is two))
+      (subst (λ k. HasHeader m.metadata queries answers authorities total (Ok k)) same b.ran.0)
       (b.rest.1 ∙ ap (λ a. overwritten place (header_bytes (raw_header b.value)) a) b.ran.1 ∙ ap (λ k. overwritten place (header_bytes (raw_header k)) sixth) same)
 
-  extras_next : {place queries : ℕ} {first fourth : State} {sections : WrittenSections} → Begun s.queries.before.rest.now old place queries first → SectionFronts s first fourth sections
-      → Both (WritesExtras s.edns s.signature sections.additionals) (Headed place queries sections) fourth (Ok h) new → Emitted m old new h
-  extras_next {fourth = fourth} {sections = sections} begun three b =
-      header_done begun three (extras_done s.edns s.signature sections.additionals b.value fourth b.between b.ran) (went h b.rest)
+  extras_next : {place queries : ℕ} {first fourth : State} {answers authorities additionals : Written} → Begun s.queries.before.rest.now old place queries first
+      → ThreeFronts s.answers.before.rest.now s.authorities.before.rest.now s.additionals.before.rest.now first fourth answers authorities additionals
+      → Extended m s place queries answers authorities additionals fourth (Ok h) new → Emitted m old new h
+  extras_next begun three run =
+      let opt = went h run in
+      let sum = went h opt.rest in
+      let signed = went h sum.rest in
+      let total = went h signed.rest in
+      header_done {sixth = total.between} {total = total.value} begun three (record {
+        fifth = opt.between;
+        opt = opt.value;
+        sum = sum.value;
+        signed = signed.value;
+        opt_front = opt.ran;
+        added = sum.ran.0;
+        signature_front =
+            subst (λ b. WritesRecords s.signature opt.between b signed.value.count signed.value.is_cut) (sym total.ran.1)
+            (subst (λ a. WritesRecords s.signature a signed.between signed.value.count signed.value.is_cut) sum.ran.1 signed.ran);
+        added_too = total.ran.0;
+      }) total.rest
 
-  sections_next : {place queries : ℕ} {first : State} → Begun s.queries.before.rest.now old place queries first → Both (EmitsSlices s) (Extended place queries) first (Ok h) new → Emitted m old new h
-  sections_next {first = first} begun b = extras_next begun (sections_done s b.value first b.between b.ran) (went h b.rest)
-
-  queries_next : (place : ℕ) (kept : State) → KeepsRoom old (Ok place) kept → Both (λ a answer t. emits_queries s.queries.before a answer s.queries.rest t) (Sectioned place) kept (Ok h) new
-      → Emitted m old new h
-  queries_next place kept room b =
-      let asked = Emits-slice QueryWord plain_query query_owner query_written s.queries.before s.queries.rest kept b.between b.value b.ran in
-      sections_next (record { kept = kept; room = room; asked = asked.0; exact = asked.2; counted = asked.1 }) (went h b.rest)
-
-  room_next : Both KeepsRoom Asked old (Ok h) new → Emitted m old new h
-  room_next b = queries_next b.value b.between b.ran (went h b.rest)
+  sections_next : {place queries : ℕ} {first : State} → Begun s.queries.before.rest.now old place queries first → Sectioned m s place queries first (Ok h) new → Emitted m old new h
+  sections_next {first = first} begun run =
+      let answers = went h run in
+      let authorities = went h answers.rest in
+      let additionals = went h authorities.rest in
+      extras_next begun (record {
+        second = answers.between;
+        third = authorities.between;
+        answers_front = records_front s.answers first answers.between answers.value answers.ran;
+        authorities_front = records_front s.authorities answers.between authorities.between authorities.value authorities.ran;
+        additionals_front = records_front s.additionals authorities.between additionals.between additionals.value additionals.ran;
+      }) additionals.rest
 
   pub emitted_of : Composed m s old (Ok h) new → Emitted m old new h
-  emitted_of run = room_next (went h run)
+  emitted_of run =
+      let room = went h run in
+      let asked = went h room.rest in
+      let all = Emits-slice QueryWord plain_query query_owner query_written s.queries.before s.queries.rest room.between asked.between asked.value asked.ran in
+      sections_next (record { kept = room.between; room = room.ran; asked = all.0; exact = all.2; counted = all.1 }) asked.rest
 
 -- the OPT record of EDNS with another high code
 raised_list : (f : Edns → Edns) (o : Option Edns) → listed (option_map (λ e. edns_record (f e)) o) ≡ listed (option_map edns_record (option_map f o))
@@ -355,3 +305,14 @@ pub unboxed : {X B : Type 0} (value : B → X) (o : Option B) (r : Option (Bor X
 unboxed value None r is = ap option_copied is
 unboxed value (Some x) (Some y) is = ap Some is
 unboxed value (Some x) None is = absurd is
+
+-- the iterators over the parts of a message, as they are before it is written and after that, with what EDNS and the signature are as records
+abbrev pub slices : (q q' : Iter Query) (a a' n n' d d' : Iter (Record RData)) → List (Record RData) → List (Record RData) → Slices
+slices q q' a a' n n' d d' edns signature = record {
+  queries = record { before = q; rest = q' };
+  answers = record { before = a; rest = a' };
+  authorities = record { before = n; rest = n' };
+  additionals = record { before = d; rest = d' };
+  edns = edns;
+  signature = signature;
+}

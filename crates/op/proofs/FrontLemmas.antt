@@ -1,5 +1,7 @@
 -- Items that were written, and those that had no room, are a front.
 use Rattle.std.proofs.Common.{◌≡◌, ℕ, ◌+◌, ◌<◌, Bool, true, false, List, [], ◌∷◌, ◌++◌, length, map, refl, ap, sym, ◌∙◌, subst, arith, Option, Some, None, Result, Ok, Err, Bor, ◌⊎◌, inl, inr}
+use Rattle.std.specs.Prelude.{IsSomeAnd, MatchOption}
+use Rattle.std.specs.Option.{option_copied, option_map}
 use Rattle.std.specs.Iterator.{Yields}
 use Rattle.std.specs.Iterator.Adapters.{once_item, once_steps}
 use Rattle.std.specs.declared.iter.Once.{Once}
@@ -9,10 +11,19 @@ use Rattle.base.specs.State.{State}
 use Rattle.base.specs.declared.error.proto_error.ProtoError.{ProtoError}
 use Rattle.base.specs.declared.error.proto_error.ProtoError.TheVariants as refusals
 use Rattle.base.proofs.ItemLemmas.{Each-map}
-use Rattle.op.specs.Composition.{Counts, Narrows, WritesItems}
+use Rattle.base_data.specs.declared.rdata.RData.{RData}
+use Rattle.rr.specs.Record.{RecordWord, plain_record, record_written}
+use Rattle.rr.specs.declared.record.Record.{Record}
+use Rattle.op.specs.Composition.{Counts, Narrows, WritesItems, WritesRecordItems}
 use Rattle.op.specs.Cut.{NoRoom, any_lost}
-use Rattle.op.specs.Emitted.{WritesFront}
-use Rattle.op.specs.declared.message.writing.parts.Written.{Written}
+use Rattle.op.specs.EdnsRecord.{edns_record}
+use Rattle.op.specs.Emitted.{WritesFront, record_owner}
+use Rattle.op.specs.Fits.{listed, opt_records, signature_record, signature_records}
+use Rattle.op.specs.ResponseCode.{code_high}
+use Rattle.op.specs.declared.edns.Edns.{Edns}
+use Rattle.op.specs.declared.edns.writing.RaisedEdns.{RaisedEdns}
+use Rattle.op.specs.declared.message.writing.Written.{Written}
+use Rattle.op.specs.declared.response_code.ResponseCode.{ResponseCode}
 use Rattle.base.specs.Written.{Passes, Writing, after, in_turn}
 use Rattle.base.proofs.WrittenLemmas.{in_turn-map}
 
@@ -63,6 +74,21 @@ module _ {E : Type 0} (word : E → List ℕ → ℕ → ℕ → Type 0) (plain 
     passes = passes;
   }
   no_item {n = n} x a b (Err e) none each full exact passes count narrows = let zero : n ≡ 0 = count ∙ ap length none in absurd (omega (arith, zero, narrows.0))
+
+  -- of none nothing is written
+  pub none_written : (a : State) (result : Result Written ProtoError) → Narrows 0 false result → WritesItems word plain owner f [] a result a
+  none_written a (Ok written) narrows = record {
+    kept = [];
+    lost = [];
+    whole = refl;
+    written = refl;
+    counted = ap (λ w. w.count) narrows.1;
+    tells = ap (λ w. w.is_cut) narrows.1;
+    full = tt;
+    exact = ap (λ (bytes : List ℕ). record a { bytes = bytes }) (sym (append-nil a.bytes));
+    passes = tt;
+  }
+  none_written a (Err e) narrows = absurd (omega (arith, narrows.0))
 
   module _ (item : Bor E) (s t : Once (Bor E)) (a b : State) where
     pub one_item : (answer : Result ℕ ProtoError) (result : Result Written ProtoError) → once_item s ≡ Some item
@@ -120,3 +146,39 @@ module _ {A E : Type 0} (view : A → E) (word : E → List ℕ → ℕ → ℕ 
       → WritesItems word plain owner f (map view xs) a result b
   items_map xs a b (Ok written) front = front_map xs a b written.count written.is_cut front
   items_map xs a b (Err e) memory = memory
+
+-- ---- an item that there may be, as a record
+
+map_listed : {A E : Type 0} (view : A → E) (o : Option A) → map view (listed o) ≡ listed (option_map view o)
+map_listed view None = refl
+map_listed view (Some x) = refl
+
+-- the record that stands for a value, if there is one
+module _ {A : Type 0} (view : A → Record RData) (o : Option A) (a b : State) (result : Result Written ProtoError) where
+  abbrev pub WritesViewed : Type 0
+  WritesViewed = WritesItems (λ x. RecordWord (view x)) (λ x. plain_record (view x)) (λ x. record_owner (view x)) (λ x. record_written (view x)) (listed o) a result b
+
+  viewed_items : WritesViewed → WritesRecordItems (listed (option_map view o)) a result b
+  viewed_items run = subst (λ rs. WritesRecordItems rs a result b) (map_listed view o) (items_map view RecordWord plain_record record_owner record_written (listed o) a b result run)
+
+pub signature_items : (o : Option (Record (List ℕ))) (a b : State) (result : Result Written ProtoError) → WritesViewed signature_record o a b result
+    → WritesRecordItems (signature_records o) a result b
+signature_items = viewed_items signature_record
+
+-- the record of EDNS with the high bits that are written
+abbrev pub raised_record : RaisedEdns → Record RData
+raised_record r = edns_record (record r.edns.now { rcode_high = r.rcode_high })
+
+module _ (code : ResponseCode) (high : ℕ) (is : high ≡ code_high code) where
+  raised_is : (P : Bor Edns → RaisedEdns → Type 0) → ((e : Bor Edns) (x : RaisedEdns) → P e x → x ≡ record { edns = e; rcode_high = high })
+      → (o : Option (Bor Edns)) (r : Option RaisedEdns) → MatchOption o (r ≡ None) (λ e. IsSomeAnd r (P e))
+      → listed (option_map raised_record r) ≡ opt_records code (option_copied o)
+  raised_is P made None r none = ap (λ x. listed (option_map raised_record x)) none
+  raised_is P made (Some e) (Some x) holds = ap (λ y. raised_record y ∷ []) (made e x holds) ∙ ap (λ h. edns_record (record e.now { rcode_high = h }) ∷ []) is
+  raised_is P made (Some e) None holds = absurd holds
+
+  pub opt_items : (o : Option (Bor Edns)) (r seen : Option RaisedEdns) (P : Bor Edns → RaisedEdns → Type 0) → ((e : Bor Edns) (x : RaisedEdns) → P e x → x ≡ record { edns = e; rcode_high = high })
+      → MatchOption o (r ≡ None) (λ e. IsSomeAnd r (P e)) → seen ≡ r → (a b : State) (result : Result Written ProtoError) → WritesViewed raised_record seen a b result
+      → WritesRecordItems (opt_records code (option_copied o)) a result b
+  opt_items o r seen P made cases same a b result run =
+      subst (λ rs. WritesRecordItems rs a result b) (ap (λ x. listed (option_map raised_record x)) same ∙ raised_is P made o r cases) (viewed_items raised_record seen a b result run)

@@ -1,6 +1,6 @@
 -- How a message is put together from its parts (RFC 1035, 4.1).
 -- A run relates an encoder's state to the answer of what was done with it and to the state after that.
-use Rattle.std.specs.Prelude.{◌≡◌, ◌⊎◌, ℕ, Bool, true, false, ◌+◌, ◌<◌, ◌≤◌, ◌^◌, ◌||◌, List, codes, length, replicate, ⊤, Result, Ok, Err}
+use Rattle.std.specs.Prelude.{◌≡◌, ℕ, Bool, true, false, ◌+◌, ◌<◌, ◌≤◌, ◌^◌, ◌||◌, List, codes, length, replicate, ⊤, Result, Ok, Err}
 use Rattle.base.specs.State.{State, appended, overwritten}
 use Rattle.base.specs.Wire.{Refuses}
 use Rattle.base.specs.declared.error.proto_error.ProtoError.{ProtoError}
@@ -12,8 +12,7 @@ use Rattle.op.specs.Emitted.{WritesFront, record_owner}
 use Rattle.op.specs.Header.{IsNarrow, header_bytes, raw_header}
 use Rattle.op.specs.declared.header.Header.{Header}
 use Rattle.op.specs.declared.header.metadata.Metadata.{Metadata}
-use Rattle.op.specs.declared.message.writing.parts.Written.{Written}
-use Rattle.op.specs.declared.message.writing.parts.WrittenSections.{WrittenSections}
+use Rattle.op.specs.declared.message.writing.Written.{Written}
 use Rattle.base.specs.Written.{Writing}
 
 -- ---- runs one after another
@@ -85,24 +84,15 @@ abbrev pub WritesRecordItems : List (Record RData) → State → Result Written 
     → Type 0
 WritesRecordItems = WritesItems RecordWord plain_record record_owner record_written
 
--- OPT and the signature after the additionals, the sum of all tested after each
-abbrev pub WritesExtras : List (Record RData) → List (Record RData) → Written → State
-    → Result Written ProtoError → State → Type 0
-WritesExtras edns signature additionals =
-    AndThen (WritesRecordItems edns) ⊤ (λ opt.
-    AndThen (Tests (Adds additionals opt)) ⊤ (λ sum.
-    AndThen (WritesRecordItems signature) ⊤ (λ signed.
-    Tests (Adds sum signed))))
-
 -- The header of a message: TC where the message has it or a part was cut. The questions' count is tested here.
-abbrev pub HasHeader : Metadata → ℕ → WrittenSections → Written → Result Header ProtoError → Type 0
-HasHeader metadata queries sections additionals (Ok h) =
+abbrev pub HasHeader : Metadata → ℕ → Written → Written → Written → Result Header ProtoError → Type 0
+HasHeader metadata queries answers authorities additionals (Ok h) =
     IsNarrow h.metadata.id h.counts
     × (h ≡ record {
-      metadata = record metadata { truncation = metadata.truncation || (sections.answers.is_cut || (sections.authorities.is_cut || additionals.is_cut)) };
-      counts = record { queries = queries; answers = sections.answers.count; authorities = sections.authorities.count; additionals = additionals.count };
+      metadata = record metadata { truncation = metadata.truncation || (answers.is_cut || (authorities.is_cut || additionals.is_cut)) };
+      counts = record { queries = queries; answers = answers.count; authorities = authorities.count; additionals = additionals.count };
     })
-HasHeader metadata queries sections additionals (Err e) = (2 ^ 16 ≤ queries)
+HasHeader metadata queries answers authorities additionals (Err e) = (2 ^ 16 ≤ queries)
     × Says (codes "too many queries to fit in header count") e
 
 -- the header is written into the room that was kept for it
@@ -113,15 +103,8 @@ FillsIn place header a result b = (result ≡ Ok header)
 -- the answers A, the authorities N and the additionals D, each before it was written and after that
 module _ {A N D : Type 0} (emits_a : A → State → Result ℕ ProtoError → A → State → Type 0) (emits_n : N → State → Result ℕ ProtoError → N → State → Type 0)
     (emits_d : D → State → Result ℕ ProtoError → D → State → Type 0) (a a' : A) (n n' : N) (d d' : D) where
-  -- three sections, each whatever became of the one before it
-  abbrev pub EmitsSections : State → Result WrittenSections ProtoError → State → Type 0
-  EmitsSections =
-      AndThen (EmitsPart emits_a a a') ((n' ≡ n) × (d' ≡ d)) (λ answers.
-      AndThen (EmitsPart emits_n n n') (d' ≡ d) (λ authorities.
-      AndThen (EmitsPart emits_d d d') ⊤ (λ additionals.
-      Tests (λ result. result ≡ Ok (record { answers = answers; authorities = authorities; additionals = additionals })))))
-
-  -- A message: room for the header, the questions Q, three sections, OPT and the signature, and the header into its room.
+  -- A message: room for the header, the questions Q, three sections, each whatever became of the one before it, OPT and the
+  -- signature, the sum of all additional records tested after each, and the header into its room.
   abbrev pub Composition : {Q : Type 0} → Metadata
       → (Q → State → Result ℕ ProtoError → Q → State → Type 0) → Q → Q → List (Record RData)
       → List (Record RData) → State
@@ -129,7 +112,12 @@ module _ {A N D : Type 0} (emits_a : A → State → Result ℕ ProtoError → A
   Composition metadata emits_q q q' edns signature =
       AndThen KeepsRoom ((q' ≡ q) × (a' ≡ a) × (n' ≡ n) × (d' ≡ d)) (λ place.
       AndThen (λ s answer t. emits_q q s answer q' t) ((a' ≡ a) × (n' ≡ n) × (d' ≡ d)) (λ queries.
-      AndThen EmitsSections ⊤ (λ sections.
-      AndThen (WritesExtras edns signature sections.additionals) ⊤ (λ additionals.
-      AndThen (Tests (HasHeader metadata queries sections additionals)) ⊤ (λ header.
-      FillsIn place header)))))
+      AndThen (EmitsPart emits_a a a') ((n' ≡ n) × (d' ≡ d)) (λ answers.
+      AndThen (EmitsPart emits_n n n') (d' ≡ d) (λ authorities.
+      AndThen (EmitsPart emits_d d d') ⊤ (λ additionals.
+      AndThen (WritesRecordItems edns) ⊤ (λ opt.
+      AndThen (Tests (Adds additionals opt)) ⊤ (λ sum.
+      AndThen (WritesRecordItems signature) ⊤ (λ signed.
+      AndThen (Tests (Adds sum signed)) ⊤ (λ total.
+      AndThen (Tests (HasHeader metadata queries answers authorities total)) ⊤ (λ header.
+      FillsIn place header))))))))))

@@ -20,8 +20,8 @@ use Rattle.rr.specs.declared.record.Record.{Record}
 use Rattle.op.specs.EdnsFlags.{flags_of_number}
 use Rattle.op.specs.declared.edns.Edns.{Edns}
 use Rattle.op.specs.declared.header.header_counts.HeaderCounts.{HeaderCounts}
-use Rattle.op.specs.declared.message.section.Section.{Section}
-use Rattle.op.specs.declared.message.section.Sections.{Sections}
+use Rattle.op.specs.declared.message.reading.Section.{Section}
+use Rattle.op.specs.declared.message.reading.Sections.{Sections}
 use Rattle.op.specs.declared.op_code.OpCode.{OpCode}
 use Rattle.op.specs.declared.op_code.OpCode.TheVariants as op_codes
 

@@ -1,29 +1,107 @@
-//! Writes messages (RFC 1035, 4.1).
+//! Writes messages (RFC 1035, 4.1; RFC 2181, 9).
 
-ghost use Rattle.std.specs.Prelude.{◌≡◌, ◌||◌, ◌<◌, ◌^◌, [], drop, Err, IfErr, IfOk, length, Ok, ◌⊎◌};
 ghost use Rattle.std.specs.Option.{option_copied};
+ghost use Rattle.std.specs.Prelude.{◌≡◌, ◌⊎◌, [], ◌<◌, ◌^◌, drop, Err, IfErr, IfOk, IsOkUnless, length, Ok};
 ghost use Rattle.base.specs.Laws.{Keeps};
 ghost use Rattle.base.specs.Wire.{state_of};
-ghost use Rattle.op.specs.Composition.{Composition, HasHeader};
-ghost use Rattle.op.specs.Cut.{IsTooSmall};
-ghost use Rattle.op.specs.Emitted.{Emitted, Leaves};
-ghost use Rattle.op.specs.Fits.{opt_records, signature_records};
-ghost use Rattle.op.specs.Header.{IsNarrow};
-ghost use Rattle.op.specs.Message.{message_value};
-ghost use Rattle.op.specs.MessageWritten.{message_answer_at, message_written};
 ghost use Rattle.base.specs.Written.{after};
+ghost use Rattle.op.specs.Composition.{Adds, Composition, Counts, EmitsPart, HasHeader, Narrows, WritesItems};
+ghost use Rattle.op.specs.Cut.{IsTooSmall, IsWritten};
+ghost use Rattle.op.specs.Emitted.{Emitted, EmittedNew, Leaves, LeavesNew};
+ghost use Rattle.op.specs.Fits.{Fits, HasRoom, listed, opt_records, signature_records};
+ghost use Rattle.op.specs.Message.{message_value};
+ghost use Rattle.op.specs.MessageWritten.{message_answer, message_answer_at, message_bytes, message_written};
+ghost use Rattle.op.specs.declared.header.Header.{Header as WrittenHeader};
 
-mod extras;
-mod parts;
-
-use crate::edns::Edns;
+use crate::edns::{Edns, RaisedEdns};
 use crate::header::{Header, HeaderCounts, Metadata};
 use crate::message::Message;
-use base::{BinEncoder, EmitAndCount, ProtoError};
+use base::{BinEncodable, BinEncoder, EmitAndCount, ProtoError};
 use base_data::TSIG;
-use extras::emit_extras;
-use parts::{Written, WrittenSections, emit_sections};
 use rr::Record;
+use std::iter;
+
+/// The bytes that a new message has room for at first: as many as fit a datagram (RFC 1035, 4.2.1).
+const ROOM: usize = 512;
+
+impl Message {
+    /// Writes the message after what the encoder holds: a header, the questions, answers, authorities and additional
+    /// records, EDNS and the signature (RFC 1035, 4.1).
+    ///
+    /// What doesn't fit the limit is cut, each part by itself and before the first item that doesn't fit, and TC says
+    /// so. Into a new encoder, of a message that fits the wire, this writes a cut of the message, which is read as
+    /// exactly that.
+    ///
+    /// # Errors
+    ///
+    /// `MaxBufferSizeExceeded` where the header doesn't fit, and then nothing is written; `NotAllRecordsWritten` where
+    /// the questions don't, with the number of those that are written, all before the first that doesn't fit; `Memory`
+    /// if memory runs out. A new encoder with room for header and questions uncompressed refuses for memory alone.
+    #[tactic(auto, using(crate::proofs::AnswerLemmas::only_memory))]
+    pub fn emit(&self, encoder: &mut BinEncoder<'_>) -> Result<(), ProtoError>
+        ensures keeps { Keeps (state_of encoder.old) (state_of encoder.new) }
+        ensures emitted { IfOk result (λ _. (h : WrittenHeader)
+            × Emitted (message_value self.now) (state_of encoder.old) (state_of encoder.new) h) }
+        ensures exact { IfOk result (λ _. state_of encoder.new
+            ≡ after (message_written (state_of encoder.old).limit (message_value self.now)) (state_of encoder.old)) }
+        ensures written { Fits (message_value self.now) → (state_of encoder.old).bytes ≡ []
+            → (state_of encoder.old).suffixes ≡ []
+            → IfOk result (λ _. IsWritten (message_value self.now) (state_of encoder.old).limit (state_of encoder.new).bytes) }
+        ensures succeeds { (state_of encoder.old).bytes ≡ [] → (state_of encoder.old).suffixes ≡ []
+            → HasRoom (message_value self.now) (state_of encoder.old).limit
+            → IsOkUnless result ProtoError.Memory }
+        ensures answer { IfOk result (λ _. message_answer_at (state_of encoder.old).limit (message_value self.now)
+            (length (state_of encoder.old).bytes) (state_of encoder.old).suffixes
+            ≡ Ok (drop (length (state_of encoder.old).bytes) (state_of encoder.new).bytes)) }
+        ensures refused { IfErr result (λ e. (e ≡ ProtoError.Memory)
+            ⊎ (Leaves (message_value self.now) (state_of encoder.old) e (state_of encoder.new)
+            × (message_answer_at (state_of encoder.old).limit (message_value self.now)
+            (length (state_of encoder.old).bytes) (state_of encoder.old).suffixes ≡ Err e))) }
+    {
+        emit_message_parts(
+            &self.metadata,
+            &mut self.queries.iter(),
+            &mut self.answers.iter(),
+            &mut self.authorities.iter(),
+            &mut self.additionals.iter(),
+            self.edns.as_ref(),
+            self.signature.as_deref(),
+            encoder,
+        )?;
+        Ok(())
+    }
+
+    /// The bytes of the message, cut at 65,535 bytes (RFC 1035, 4.2.2): what `emit` leaves in a new encoder.
+    ///
+    /// # Errors
+    ///
+    /// `NotAllRecordsWritten` where the questions don't fit, with the number of those before the first that doesn't;
+    /// `Memory` if memory runs out.
+    pub fn to_vec(&self) -> Result<Vec<u8>, ProtoError>
+        ensures succeeds { HasRoom (message_value self.now) 65535
+            → IsOkUnless result ProtoError.Memory }
+        ensures exact { IfOk result (λ bytes. bytes.items
+            ≡ message_bytes 65535 (message_value self.now)) }
+        ensures written { Fits (message_value self.now)
+            → IfOk result (λ bytes. IsWritten (message_value self.now) 65535 bytes.items) }
+        ensures refused { IfErr result (λ e. (e ≡ ProtoError.Memory)
+            ⊎ IsTooSmall (message_value self.now) 65535 e) }
+        ensures emitted { IfOk result (λ bytes. EmittedNew (message_value self.now) 65535 bytes.items) }
+        ensures left { IfErr result (λ e. (e ≡ ProtoError.Memory)
+            ⊎ LeavesNew (message_value self.now) 65535 e) }
+        ensures answer { IfOk result (λ bytes. message_answer 65535 (message_value self.now)
+            ≡ Ok bytes.items) }
+        ensures refusal { IfErr result (λ e. (e ≡ ProtoError.Memory)
+            ⊎ (message_answer 65535 (message_value self.now) ≡ Err e)) }
+    {
+        let mut buffer = Vec::with_capacity(*self.queries.allocator(), ROOM)?;
+        {
+            let mut encoder = BinEncoder::new(&mut buffer);
+            self.emit(&mut encoder)?;
+        }
+        Ok(buffer)
+    }
+}
 
 /// Writes a message of its parts: a header, the questions, answers, authorities and additional records, EDNS and the
 /// signature (RFC 1035, 4.1). Answers the header that was written.
@@ -66,101 +144,115 @@ where
 {
     let place = encoder.place::<Header>()?;
     let query_count = queries.emit(encoder)?;
-    let sections = emit_sections(answers, authorities, additionals, encoder)?;
-    let code = metadata.response_code;
-    let extras = emit_extras(sections.additionals, edns, code, signature, encoder)?;
-    let header = header_of(metadata, query_count, sections, extras)?;
+    let answers = emit_part(answers, encoder)?;
+    let authorities = emit_part(authorities, encoder)?;
+    let additionals = emit_part(additionals, encoder)?;
+    let high = metadata.response_code.high();
+    let raised = edns.map(|edns| RaisedEdns {
+        edns,
+        rcode_high: high,
+    });
+    let opt = emit_item(raised.as_ref(), encoder)?;
+    let sum = add_counts(additionals, opt)?;
+    let signed = emit_item(signature, encoder)?;
+    let total = add_counts(sum, signed)?;
+    let header = header_of(*metadata, query_count, answers, authorities, total)?;
     encoder.replace(place, &header);
     Ok(header)
 }
 
-impl Message {
-    /// Writes the message, and answers the header that was written.
-    pub(crate) fn emit_header(&self, encoder: &mut BinEncoder<'_>) -> Result<Header, ProtoError>
-        ensures keeps { Keeps (state_of encoder.old) (state_of encoder.new) }
-        ensures emitted { IfOk result (λ h. Emitted (message_value self.now) (state_of encoder.old) (state_of encoder.new) h) }
-        ensures exact { IfOk result (λ _. state_of encoder.new
-            ≡ after (message_written (state_of encoder.old).limit (message_value self.now)) (state_of encoder.old)) }
-        ensures answer { IfOk result (λ _. message_answer_at (state_of encoder.old).limit (message_value self.now)
-            (length (state_of encoder.old).bytes) (state_of encoder.old).suffixes
-            ≡ Ok (drop (length (state_of encoder.old).bytes) (state_of encoder.new).bytes)) }
-        ensures refused { IfErr result (λ e. (e ≡ ProtoError.Memory)
-            ⊎ (Leaves (message_value self.now) (state_of encoder.old) e (state_of encoder.new)
-            × (message_answer_at (state_of encoder.old).limit (message_value self.now)
-            (length (state_of encoder.old).bytes) (state_of encoder.old).suffixes ≡ Err e))) }
-    {
-        emit_message_parts(
-            &self.metadata,
-            &mut self.queries.iter(),
-            &mut self.answers.iter(),
-            &mut self.authorities.iter(),
-            &mut self.additionals.iter(),
-            self.edns.as_ref(),
-            self.signature.as_deref(),
-            encoder,
-        )
+/// What was written of a part.
+#[derive(Clone, Copy, Drop)]
+struct Written {
+    /// How many items stand.
+    count: u16,
+    /// Whether an item had no room.
+    is_cut: bool,
+}
+
+/// Writes a part, and counts what has room.
+fn emit_part<P: EmitAndCount>(
+    part: &mut P,
+    encoder: &mut BinEncoder<'_>,
+) -> Result<Written, ProtoError>
+    requires { P.can_emit part.old }
+    ensures keeps { Keeps (state_of encoder.old) (state_of encoder.new) }
+    ensures run { EmitsPart P.emits part.old part.new (state_of encoder.old) result (state_of encoder.new) }
+{
+    count_items(part.emit(encoder))
+}
+
+/// Writes an item if there is one, and counts it if it has room.
+fn emit_item<E: BinEncodable>(
+    item: Option<&E>,
+    encoder: &mut BinEncoder<'_>,
+) -> Result<Written, ProtoError>
+    ensures keeps { Keeps (state_of encoder.old) (state_of encoder.new) }
+    ensures run { WritesItems E.word E.plain_len E.owner E.written (listed (option_copied item.entry))
+        (state_of encoder.old) result (state_of encoder.new) }
+{
+    match item {
+        Some(item) => count_items(encoder.emit_all(&mut iter::once(item))),
+        None => narrow(0, false),
     }
 }
 
-/// The header of a message of which so much was written.
-fn header_of(
-    metadata: &Metadata,
-    query_count: usize,
-    sections: WrittenSections,
-    additionals: Written,
-) -> Result<Header, ProtoError>
-    ensures { HasHeader metadata.now query_count sections additionals result }
+/// What a part's answer counts: all its items, or those before the one that had no room.
+fn count_items(answer: Result<usize, ProtoError>) -> Result<Written, ProtoError>
+    ensures { Counts answer result }
 {
-    let Ok(queries) = u16::try_from(query_count) else {
-        return Err(ProtoError::Message("too many queries to fit in header count"));
-    };
-    let metadata = Metadata {
-        truncation: is_cut(metadata, sections, additionals),
-        ..*metadata
-    };
-    Ok(new_header(
-        metadata,
-        metadata.id,
-        queries,
-        sections.answers.count,
-        sections.authorities.count,
-        additionals.count,
-    ))
-}
-
-/// The header of these numbers, its codes and flags as they are in `metadata`.
-fn new_header(
-    metadata: Metadata,
-    id: u16,
-    queries: u16,
-    answers: u16,
-    authorities: u16,
-    additionals: u16,
-) -> Header
-    ensures header { result ≡ record {
-      metadata = record metadata { id = id };
-      counts = record { queries = queries; answers = answers; authorities = authorities; additionals = additionals };
-    } }
-    ensures narrow { IsNarrow result.metadata.id result.counts }
-{
-    Header {
-        metadata: Metadata { id, ..metadata },
-        counts: HeaderCounts {
-            queries,
-            answers,
-            authorities,
-            additionals,
+    match answer {
+        Ok(count) => narrow(count, false),
+        Err(error) => match error {
+            ProtoError::NotAllRecordsWritten { count } => narrow(count, true),
+            other => Err(other),
         },
     }
 }
 
-/// TC of a message of which so much was written.
-fn is_cut(metadata: &Metadata, sections: WrittenSections, additionals: Written) -> bool
-    ensures { result ≡ (metadata.now.truncation
-        || (sections.answers.is_cut || (sections.authorities.is_cut || additionals.is_cut))) }
+/// Two counts together, cut where either is.
+fn add_counts(one: Written, other: Written) -> Result<Written, ProtoError>
+    ensures { Adds one other result }
 {
-    metadata.truncation
-        || sections.answers.is_cut
-        || sections.authorities.is_cut
-        || additionals.is_cut
+    let count = usize::from(one.count) + usize::from(other.count);
+    narrow(count, one.is_cut || other.is_cut)
+}
+
+/// A count in two bytes, as a header holds it.
+fn narrow(count: usize, is_cut: bool) -> Result<Written, ProtoError>
+    ensures { Narrows count is_cut result }
+{
+    match u16::try_from(count) {
+        Ok(count) => Ok(Written { count, is_cut }),
+        Err(_) => Err(ProtoError::Message("too many records to fit in header count")),
+    }
+}
+
+/// The header of a message of which so much was written: its own codes and flags, but that TC is set too where a part
+/// is cut.
+fn header_of(
+    metadata: Metadata,
+    query_count: usize,
+    answers: Written,
+    authorities: Written,
+    additionals: Written,
+) -> Result<Header, ProtoError>
+    ensures { HasHeader metadata query_count answers authorities additionals result }
+{
+    let Ok(queries) = u16::try_from(query_count) else {
+        return Err(ProtoError::Message("too many queries to fit in header count"));
+    };
+    let is_cut = answers.is_cut || authorities.is_cut || additionals.is_cut;
+    Ok(Header {
+        metadata: Metadata {
+            truncation: metadata.truncation || is_cut,
+            ..metadata
+        },
+        counts: HeaderCounts {
+            queries,
+            answers: answers.count,
+            authorities: authorities.count,
+            additionals: additionals.count,
+        },
+    })
 }

@@ -1,37 +1,33 @@
-use Rattle.std.proofs.Common.{refl, ap, ◌∙◌, Err, replicate}
+use Rattle.std.proofs.Common.{refl, ap, ◌∙◌, Err, Ok, replicate, rules}
+use Rattle.std.specs.Option.{option_copied}
 use Rattle.std.proofs.lemmas.Result.{err_from_is_err_and}
 use Rattle.base.proofs.LawLemmas.{Keeps-same, Keeps-appended, Keeps-then}
+use Rattle.base.specs.Laws.{Keeps}
 use Rattle.base.specs.State.{overwritten}
 use Rattle.base.specs.Wire.{state_of}
+use Rattle.op.proofs.FrontLemmas.{opt_items, signature_items}
 use Rattle.op.proofs.HeaderRoom.{room_filled}
 use Rattle.op.proofs.RunLemmas.{goes, stops}
+use Rattle.op.specs.Composition.{WritesRecordItems}
+use Rattle.op.specs.Fits.{opt_records, signature_records}
 use Rattle.op.specs.Header.{header_bytes, raw_header}
+use Rattle.op.proofs.message.writing.emit_message_parts.Goals.{In_ok-opt, In_ok-query_count, In_ok-signed}
 use Rattle.op.proofs.message.writing.emit_message_parts.Goals as goal
 
-pub returns-in_err-place-clause-keeps : goal.returns-in_err-place-clause-keeps
-returns-in_err-place-clause-keeps g c = Keeps-same (state_of c.args.encoder.now) (state_of c.place.new.self) c.in_err-place.ensures.err
+-- what stood before the questions stays
+begun : (g : _) (c : In_ok-query_count g) → Keeps (state_of c.args.encoder.now) (state_of c.emit.new.encoder)
+begun g c = Keeps-then (Keeps-appended (replicate 12 0) (state_of c.args.encoder.now) (state_of c.place.new.self) c.in_ok-place.ensures.ok.0 c.in_ok-place.ensures.within) c.emit.ensures.keeps
 
-pub returns-in_err-sections-clause-keeps : goal.returns-in_err-sections-clause-keeps
-returns-in_err-sections-clause-keeps g c =
-    let room = Keeps-appended (replicate 12 0) (state_of c.args.encoder.now) (state_of c.place.new.self) c.in_ok-place.ensures.ok.0 c.in_ok-place.ensures.within in
-    Keeps-then room (Keeps-then c.emit.ensures.keeps c.emit_sections.ensures.keeps)
+-- the OPT record was written
+opt_of : (g : _) (c : In_ok-opt g) → WritesRecordItems (opt_records c.args.metadata.now.response_code (option_copied c.args.edns))
+    (state_of c.emit_part-3.new.encoder) (Ok c.in_ok-opt.opt) (state_of c.emit_item.new.encoder)
+opt_of g c =
+    opt_items c.args.metadata.now.response_code c.high-high.result c.high-high.ensures c.args.edns c.map-raised.result (option_copied c.as_ref.result) _ (λ e x made. search rules) c.map-raised.ensures.cases c.as_ref.ensures.value
+    (state_of c.emit_part-3.new.encoder) (state_of c.emit_item.new.encoder) (Ok c.in_ok-opt.opt) c.in_ok-opt.ensures.run
 
-pub returns-in_err-extras-clause-keeps : goal.returns-in_err-extras-clause-keeps
-returns-in_err-extras-clause-keeps g c =
-    let room = Keeps-appended (replicate 12 0) (state_of c.args.encoder.now) (state_of c.place.new.self) c.in_ok-place.ensures.ok.0 c.in_ok-place.ensures.within in
-    Keeps-then room (Keeps-then c.emit.ensures.keeps (Keeps-then c.emit_sections.ensures.keeps c.emit_extras.ensures.keeps))
-
-pub returns-in_err-header-clause-keeps : goal.returns-in_err-header-clause-keeps
-returns-in_err-header-clause-keeps g c =
-    let room = Keeps-appended (replicate 12 0) (state_of c.args.encoder.now) (state_of c.place.new.self) c.in_ok-place.ensures.ok.0 c.in_ok-place.ensures.within in
-    Keeps-then room (Keeps-then c.emit.ensures.keeps (Keeps-then c.emit_sections.ensures.keeps c.emit_extras.ensures.keeps))
-
-pub returns-clause-keeps : goal.returns-clause-keeps
-returns-clause-keeps g c =
-    let kept = c.in_ok-place.ensures.ok in
-    let header = c.in_ok-header.header in
-    let filled = c.replace.ensures.state ∙ ap (λ at. overwritten at (header_bytes (raw_header header)) (state_of c.emit_extras.new.encoder)) kept.1 in
-    room_filled header _ _ _ _ kept.0 c.in_ok-place.ensures.within (Keeps-then c.emit.ensures.keeps (Keeps-then c.emit_sections.ensures.keeps c.emit_extras.ensures.keeps)) filled
+-- the signature was written
+signed_of : (g : _) (c : In_ok-signed g) → WritesRecordItems (signature_records (option_copied c.args.signature)) (state_of c.emit_item.new.encoder) (Ok c.in_ok-signed.signed) (state_of c.emit_item-2.new.encoder)
+signed_of g c = signature_items (option_copied c.args.signature) (state_of c.emit_item.new.encoder) (state_of c.emit_item-2.new.encoder) (Ok c.in_ok-signed.signed) c.in_ok-signed.ensures.run
 
 pub returns-in_err-place-clause-run : goal.returns-in_err-place-clause-run
 returns-in_err-place-clause-run g c =
@@ -44,57 +40,137 @@ returns-in_err-query_count-clause-run g c =
     goes c.in_ok-place.place (state_of c.place.new.self) (c.in_ok-place.ensures.ok.1, c.in_ok-place.ensures.ok.0, c.in_ok-place.ensures.within)
     (stops c.in_err-query_count.field-0.0 c.in_err-query_count.ensures.emits (is.1 ∙ ap (λ e. Err e) is.2) (refl, refl, refl))
 
-pub returns-in_err-sections-clause-run : goal.returns-in_err-sections-clause-run
-returns-in_err-sections-clause-run g c =
-    let is = err_from_is_err_and c.from_residual-in_err-sections.result c.from_residual-in_err-sections.ensures.1 in
+pub returns-in_err-answers-clause-run : goal.returns-in_err-answers-clause-run
+returns-in_err-answers-clause-run g c =
+    let is = err_from_is_err_and c.from_residual-in_err-answers.result c.from_residual-in_err-answers.ensures.1 in
     goes c.in_ok-place.place (state_of c.place.new.self) (c.in_ok-place.ensures.ok.1, c.in_ok-place.ensures.ok.0, c.in_ok-place.ensures.within)
     (goes c.in_ok-query_count.query_count (state_of c.emit.new.encoder) c.in_ok-query_count.ensures.emits
-    (stops c.in_err-sections.field-0.0 c.in_err-sections.ensures.run (is.1 ∙ ap (λ e. Err e) is.2) tt))
+    (stops c.in_err-answers.field-0.0 c.in_err-answers.ensures.run (is.1 ∙ ap (λ e. Err e) is.2) (refl, refl)))
 
-pub returns-in_err-extras-clause-run : goal.returns-in_err-extras-clause-run
-returns-in_err-extras-clause-run g c =
-    let is = err_from_is_err_and c.from_residual-in_err-extras.result c.from_residual-in_err-extras.ensures.1 in
+pub returns-in_err-authorities-clause-run : goal.returns-in_err-authorities-clause-run
+returns-in_err-authorities-clause-run g c =
+    let is = err_from_is_err_and c.from_residual-in_err-authorities.result c.from_residual-in_err-authorities.ensures.1 in
     goes c.in_ok-place.place (state_of c.place.new.self) (c.in_ok-place.ensures.ok.1, c.in_ok-place.ensures.ok.0, c.in_ok-place.ensures.within)
     (goes c.in_ok-query_count.query_count (state_of c.emit.new.encoder) c.in_ok-query_count.ensures.emits
-    (goes c.in_ok-sections.sections (state_of c.emit_sections.new.encoder) c.in_ok-sections.ensures.run
-    (stops c.in_err-extras.field-0.0 c.in_err-extras.ensures.run (is.1 ∙ ap (λ e. Err e) is.2) tt)))
+    (goes c.in_ok-answers.answers (state_of c.emit_part.new.encoder) c.in_ok-answers.ensures.run
+    (stops c.in_err-authorities.field-0.0 c.in_err-authorities.ensures.run (is.1 ∙ ap (λ e. Err e) is.2) refl)))
+
+pub returns-in_err-additionals-clause-run : goal.returns-in_err-additionals-clause-run
+returns-in_err-additionals-clause-run g c =
+    let is = err_from_is_err_and c.from_residual-in_err-additionals.result c.from_residual-in_err-additionals.ensures.1 in
+    goes c.in_ok-place.place (state_of c.place.new.self) (c.in_ok-place.ensures.ok.1, c.in_ok-place.ensures.ok.0, c.in_ok-place.ensures.within)
+    (goes c.in_ok-query_count.query_count (state_of c.emit.new.encoder) c.in_ok-query_count.ensures.emits
+    (goes c.in_ok-answers.answers (state_of c.emit_part.new.encoder) c.in_ok-answers.ensures.run
+    (goes c.in_ok-authorities.authorities (state_of c.emit_part-2.new.encoder) c.in_ok-authorities.ensures.run
+    (stops c.in_err-additionals.field-0.0 c.in_err-additionals.ensures.run (is.1 ∙ ap (λ e. Err e) is.2) tt))))
+
+pub returns-in_err-opt-clause-run : goal.returns-in_err-opt-clause-run
+returns-in_err-opt-clause-run g c =
+    let is = err_from_is_err_and c.from_residual-in_err-opt.result c.from_residual-in_err-opt.ensures.1 in
+    goes c.in_ok-place.place (state_of c.place.new.self) (c.in_ok-place.ensures.ok.1, c.in_ok-place.ensures.ok.0, c.in_ok-place.ensures.within)
+    (goes c.in_ok-query_count.query_count (state_of c.emit.new.encoder) c.in_ok-query_count.ensures.emits
+    (goes c.in_ok-answers.answers (state_of c.emit_part.new.encoder) c.in_ok-answers.ensures.run
+    (goes c.in_ok-authorities.authorities (state_of c.emit_part-2.new.encoder) c.in_ok-authorities.ensures.run
+    (goes c.in_ok-additionals.additionals (state_of c.emit_part-3.new.encoder) c.in_ok-additionals.ensures.run
+    (stops c.in_err-opt.field-0.0 c.in_err-opt.ensures.run (is.1 ∙ ap (λ e. Err e) is.2) tt)))))
+
+pub returns-in_err-sum-clause-run : goal.returns-in_err-sum-clause-run
+returns-in_err-sum-clause-run g c =
+    let is = err_from_is_err_and c.from_residual-in_err-sum.result c.from_residual-in_err-sum.ensures.1 in
+    goes c.in_ok-place.place (state_of c.place.new.self) (c.in_ok-place.ensures.ok.1, c.in_ok-place.ensures.ok.0, c.in_ok-place.ensures.within)
+    (goes c.in_ok-query_count.query_count (state_of c.emit.new.encoder) c.in_ok-query_count.ensures.emits
+    (goes c.in_ok-answers.answers (state_of c.emit_part.new.encoder) c.in_ok-answers.ensures.run
+    (goes c.in_ok-authorities.authorities (state_of c.emit_part-2.new.encoder) c.in_ok-authorities.ensures.run
+    (goes c.in_ok-additionals.additionals (state_of c.emit_part-3.new.encoder) c.in_ok-additionals.ensures.run
+    (goes c.in_ok-opt.opt (state_of c.emit_item.new.encoder) (opt_of g (goal.at.returns-in_err-sum-clause-run g c).In_ok-opt)
+    (stops c.in_err-sum.field-0.0 (c.in_err-sum.ensures, refl) (is.1 ∙ ap (λ e. Err e) is.2) tt))))))
+
+pub returns-in_err-signed-clause-run : goal.returns-in_err-signed-clause-run
+returns-in_err-signed-clause-run g c =
+    let is = err_from_is_err_and c.from_residual-in_err-signed.result c.from_residual-in_err-signed.ensures.1 in
+    goes c.in_ok-place.place (state_of c.place.new.self) (c.in_ok-place.ensures.ok.1, c.in_ok-place.ensures.ok.0, c.in_ok-place.ensures.within)
+    (goes c.in_ok-query_count.query_count (state_of c.emit.new.encoder) c.in_ok-query_count.ensures.emits
+    (goes c.in_ok-answers.answers (state_of c.emit_part.new.encoder) c.in_ok-answers.ensures.run
+    (goes c.in_ok-authorities.authorities (state_of c.emit_part-2.new.encoder) c.in_ok-authorities.ensures.run
+    (goes c.in_ok-additionals.additionals (state_of c.emit_part-3.new.encoder) c.in_ok-additionals.ensures.run
+    (goes c.in_ok-opt.opt (state_of c.emit_item.new.encoder) (opt_of g (goal.at.returns-in_err-signed-clause-run g c).In_ok-opt)
+    (goes c.in_ok-sum.sum (state_of c.emit_item.new.encoder) (c.in_ok-sum.ensures, refl)
+    (stops c.in_err-signed.field-0.0 c.in_err-signed.ensures.run (is.1 ∙ ap (λ e. Err e) is.2) tt)))))))
+
+pub returns-in_err-total-clause-run : goal.returns-in_err-total-clause-run
+returns-in_err-total-clause-run g c =
+    let is = err_from_is_err_and c.from_residual-in_err-total.result c.from_residual-in_err-total.ensures.1 in
+    goes c.in_ok-place.place (state_of c.place.new.self) (c.in_ok-place.ensures.ok.1, c.in_ok-place.ensures.ok.0, c.in_ok-place.ensures.within)
+    (goes c.in_ok-query_count.query_count (state_of c.emit.new.encoder) c.in_ok-query_count.ensures.emits
+    (goes c.in_ok-answers.answers (state_of c.emit_part.new.encoder) c.in_ok-answers.ensures.run
+    (goes c.in_ok-authorities.authorities (state_of c.emit_part-2.new.encoder) c.in_ok-authorities.ensures.run
+    (goes c.in_ok-additionals.additionals (state_of c.emit_part-3.new.encoder) c.in_ok-additionals.ensures.run
+    (goes c.in_ok-opt.opt (state_of c.emit_item.new.encoder) (opt_of g (goal.at.returns-in_err-total-clause-run g c).In_ok-opt)
+    (goes c.in_ok-sum.sum (state_of c.emit_item.new.encoder) (c.in_ok-sum.ensures, refl)
+    (goes c.in_ok-signed.signed (state_of c.emit_item-2.new.encoder) (signed_of g (goal.at.returns-in_err-total-clause-run g c).In_ok-signed)
+    (stops c.in_err-total.field-0.0 (c.in_err-total.ensures, refl) (is.1 ∙ ap (λ e. Err e) is.2) tt))))))))
 
 pub returns-in_err-header-clause-run : goal.returns-in_err-header-clause-run
 returns-in_err-header-clause-run g c =
     let is = err_from_is_err_and c.from_residual-in_err-header.result c.from_residual-in_err-header.ensures.1 in
     goes c.in_ok-place.place (state_of c.place.new.self) (c.in_ok-place.ensures.ok.1, c.in_ok-place.ensures.ok.0, c.in_ok-place.ensures.within)
     (goes c.in_ok-query_count.query_count (state_of c.emit.new.encoder) c.in_ok-query_count.ensures.emits
-    (goes c.in_ok-sections.sections (state_of c.emit_sections.new.encoder) c.in_ok-sections.ensures.run
-    (goes c.in_ok-extras.extras (state_of c.emit_extras.new.encoder) c.in_ok-extras.ensures.run
-    (stops c.in_err-header.field-0.0 (c.in_err-header.ensures, refl) (is.1 ∙ ap (λ e. Err e) is.2) tt))))
+    (goes c.in_ok-answers.answers (state_of c.emit_part.new.encoder) c.in_ok-answers.ensures.run
+    (goes c.in_ok-authorities.authorities (state_of c.emit_part-2.new.encoder) c.in_ok-authorities.ensures.run
+    (goes c.in_ok-additionals.additionals (state_of c.emit_part-3.new.encoder) c.in_ok-additionals.ensures.run
+    (goes c.in_ok-opt.opt (state_of c.emit_item.new.encoder) (opt_of g (goal.at.returns-in_err-header-clause-run g c).In_ok-opt)
+    (goes c.in_ok-sum.sum (state_of c.emit_item.new.encoder) (c.in_ok-sum.ensures, refl)
+    (goes c.in_ok-signed.signed (state_of c.emit_item-2.new.encoder) (signed_of g (goal.at.returns-in_err-header-clause-run g c).In_ok-signed)
+    (goes c.in_ok-total.total (state_of c.emit_item-2.new.encoder) (c.in_ok-total.ensures, refl)
+    (stops c.in_err-header.field-0.0 (c.in_err-header.ensures, refl) (is.1 ∙ ap (λ e. Err e) is.2) tt)))))))))
 
 pub returns-clause-run : goal.returns-clause-run
 returns-clause-run g c =
     goes c.in_ok-place.place (state_of c.place.new.self) (c.in_ok-place.ensures.ok.1, c.in_ok-place.ensures.ok.0, c.in_ok-place.ensures.within)
     (goes c.in_ok-query_count.query_count (state_of c.emit.new.encoder) c.in_ok-query_count.ensures.emits
-    (goes c.in_ok-sections.sections (state_of c.emit_sections.new.encoder) c.in_ok-sections.ensures.run
-    (goes c.in_ok-extras.extras (state_of c.emit_extras.new.encoder) c.in_ok-extras.ensures.run
-    (goes c.in_ok-header.header (state_of c.emit_extras.new.encoder) (c.in_ok-header.ensures, refl) (refl, c.replace.ensures.state)))))
+    (goes c.in_ok-answers.answers (state_of c.emit_part.new.encoder) c.in_ok-answers.ensures.run
+    (goes c.in_ok-authorities.authorities (state_of c.emit_part-2.new.encoder) c.in_ok-authorities.ensures.run
+    (goes c.in_ok-additionals.additionals (state_of c.emit_part-3.new.encoder) c.in_ok-additionals.ensures.run
+    (goes c.in_ok-opt.opt (state_of c.emit_item.new.encoder) (opt_of g (goal.at.returns-clause-run g c).In_ok-opt)
+    (goes c.in_ok-sum.sum (state_of c.emit_item.new.encoder) (c.in_ok-sum.ensures, refl)
+    (goes c.in_ok-signed.signed (state_of c.emit_item-2.new.encoder) (signed_of g (goal.at.returns-clause-run g c).In_ok-signed)
+    (goes c.in_ok-total.total (state_of c.emit_item-2.new.encoder) (c.in_ok-total.ensures, refl)
+    (goes c.in_ok-header.header (state_of c.emit_item-2.new.encoder) (c.in_ok-header.ensures, refl)
+    (refl, c.replace.ensures.state))))))))))
+
+pub returns-in_err-place-clause-keeps : goal.returns-in_err-place-clause-keeps
+returns-in_err-place-clause-keeps g c = Keeps-same (state_of c.args.encoder.now) (state_of c.place.new.self) c.in_err-place.ensures.err
 
 pub returns-in_err-query_count-clause-keeps : goal.returns-in_err-query_count-clause-keeps
-returns-in_err-query_count-clause-keeps g c =
-    let room = Keeps-appended (replicate 12 0) (state_of c.args.encoder.now) (state_of c.place.new.self) c.in_ok-place.ensures.ok.0 c.in_ok-place.ensures.within in
-    Keeps-then room c.emit.ensures.keeps
+returns-in_err-query_count-clause-keeps g c = Keeps-then (Keeps-appended (replicate 12 0) (state_of c.args.encoder.now) (state_of c.place.new.self) c.in_ok-place.ensures.ok.0 c.in_ok-place.ensures.within) c.emit.ensures.keeps
 
-pub returns-in_err-place-clause-narrow : goal.returns-in_err-place-clause-narrow
-returns-in_err-place-clause-narrow g c = c.place.ensures.narrow
+pub returns-in_err-answers-clause-keeps : goal.returns-in_err-answers-clause-keeps
+returns-in_err-answers-clause-keeps g c = Keeps-then (begun g (goal.at.returns-in_err-answers-clause-keeps g c).In_ok-query_count) c.emit_part.ensures.keeps
 
-pub returns-in_err-query_count-clause-narrow : goal.returns-in_err-query_count-clause-narrow
-returns-in_err-query_count-clause-narrow g c = c.place.ensures.narrow
+pub returns-in_err-authorities-clause-keeps : goal.returns-in_err-authorities-clause-keeps
+returns-in_err-authorities-clause-keeps g c = Keeps-then (begun g (goal.at.returns-in_err-authorities-clause-keeps g c).In_ok-query_count) (Keeps-then c.emit_part.ensures.keeps c.emit_part-2.ensures.keeps)
 
-pub returns-in_err-sections-clause-narrow : goal.returns-in_err-sections-clause-narrow
-returns-in_err-sections-clause-narrow g c = c.place.ensures.narrow
+pub returns-in_err-additionals-clause-keeps : goal.returns-in_err-additionals-clause-keeps
+returns-in_err-additionals-clause-keeps g c = Keeps-then (begun g (goal.at.returns-in_err-additionals-clause-keeps g c).In_ok-query_count) (Keeps-then c.emit_part.ensures.keeps (Keeps-then c.emit_part-2.ensures.keeps c.emit_part-3.ensures.keeps))
 
-pub returns-in_err-extras-clause-narrow : goal.returns-in_err-extras-clause-narrow
-returns-in_err-extras-clause-narrow g c = c.place.ensures.narrow
+pub returns-in_err-opt-clause-keeps : goal.returns-in_err-opt-clause-keeps
+returns-in_err-opt-clause-keeps g c = Keeps-then (begun g (goal.at.returns-in_err-opt-clause-keeps g c).In_ok-query_count) (Keeps-then c.emit_part.ensures.keeps (Keeps-then c.emit_part-2.ensures.keeps (Keeps-then c.emit_part-3.ensures.keeps c.emit_item.ensures.keeps)))
 
-pub returns-in_err-header-clause-narrow : goal.returns-in_err-header-clause-narrow
-returns-in_err-header-clause-narrow g c = c.place.ensures.narrow
+pub returns-in_err-sum-clause-keeps : goal.returns-in_err-sum-clause-keeps
+returns-in_err-sum-clause-keeps g c = Keeps-then (begun g (goal.at.returns-in_err-sum-clause-keeps g c).In_ok-query_count) (Keeps-then c.emit_part.ensures.keeps (Keeps-then c.emit_part-2.ensures.keeps (Keeps-then c.emit_part-3.ensures.keeps c.emit_item.ensures.keeps)))
 
-pub returns-clause-narrow : goal.returns-clause-narrow
-returns-clause-narrow g c = c.place.ensures.narrow
+pub returns-in_err-signed-clause-keeps : goal.returns-in_err-signed-clause-keeps
+returns-in_err-signed-clause-keeps g c = Keeps-then (begun g (goal.at.returns-in_err-signed-clause-keeps g c).In_ok-query_count) (Keeps-then c.emit_part.ensures.keeps (Keeps-then c.emit_part-2.ensures.keeps (Keeps-then c.emit_part-3.ensures.keeps (Keeps-then c.emit_item.ensures.keeps c.emit_item-2.ensures.keeps))))
+
+pub returns-in_err-total-clause-keeps : goal.returns-in_err-total-clause-keeps
+returns-in_err-total-clause-keeps g c = Keeps-then (begun g (goal.at.returns-in_err-total-clause-keeps g c).In_ok-query_count) (Keeps-then c.emit_part.ensures.keeps (Keeps-then c.emit_part-2.ensures.keeps (Keeps-then c.emit_part-3.ensures.keeps (Keeps-then c.emit_item.ensures.keeps c.emit_item-2.ensures.keeps))))
+
+pub returns-in_err-header-clause-keeps : goal.returns-in_err-header-clause-keeps
+returns-in_err-header-clause-keeps g c = Keeps-then (begun g (goal.at.returns-in_err-header-clause-keeps g c).In_ok-query_count) (Keeps-then c.emit_part.ensures.keeps (Keeps-then c.emit_part-2.ensures.keeps (Keeps-then c.emit_part-3.ensures.keeps (Keeps-then c.emit_item.ensures.keeps c.emit_item-2.ensures.keeps))))
+
+pub returns-clause-keeps : goal.returns-clause-keeps
+returns-clause-keeps g c =
+    let kept = c.in_ok-place.ensures.ok in
+    let header = c.in_ok-header.header in
+    let filled = c.replace.ensures.state ∙ ap (λ at. overwritten at (header_bytes (raw_header header)) (state_of c.emit_item-2.new.encoder)) kept.1 in
+    room_filled header _ _ _ _ kept.0 c.in_ok-place.ensures.within (Keeps-then c.emit.ensures.keeps (Keeps-then c.emit_part.ensures.keeps (Keeps-then c.emit_part-2.ensures.keeps (Keeps-then c.emit_part-3.ensures.keeps (Keeps-then c.emit_item.ensures.keeps c.emit_item-2.ensures.keeps))))) filled

@@ -1,5 +1,0 @@
-use Rattle.op.proofs.PartLemmas.{message_whole}
-use Rattle.op.proofs.message.limit_laws.a_message_with_room_is_whole.Goals as goal
-
-pub returns : goal.returns
-returns c = message_whole

@@ -1,5 +1,0 @@
-use Rattle.op.proofs.SucceedsLemmas.{no_room}
-use Rattle.op.proofs.message.limit_laws.a_refused_message_has_no_room.Goals as goal
-
-pub returns : goal.returns
-returns c = no_room
