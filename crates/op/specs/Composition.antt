@@ -24,7 +24,8 @@ Continues stays next (Ok x) b result c = next x b result c
 Continues stays next (Err e) b result c = (result ≡ Err e) × (c ≡ b) × stays
 
 -- one run, and the next one with its value
-pub record AndThen {X Y : Type 0} (first : State → Result X ProtoError → State → Type 0) (stays : Type 0) (next : X → State → Result Y ProtoError → State → Type 0) (old : State)
+pub record AndThen {X Y : Type 0} (first : State → Result X ProtoError → State → Type 0)
+    (stays : Type 0) (next : X → State → Result Y ProtoError → State → Type 0) (old : State)
     (result : Result Y ProtoError) (new : State) : Type 0 where
   pub answer : Result X ProtoError
   pub between : State
@@ -76,7 +77,8 @@ EmitsPart emits part end a result b = (answer : Result ℕ ProtoError) × emits 
 abbrev pub WritesItems : {E : Type 0} → (E → List ℕ → ℕ → ℕ → Type 0) → (E → ℕ)
     → (E → List (List ℕ))
     → (E → Writing) → List E → State → Result Written ProtoError → State → Type 0
-WritesItems word plain owner f xs a (Ok written) b = WritesFront word plain owner f xs a b written.count written.is_cut
+WritesItems word plain owner f xs a (Ok written) b =
+    WritesFront word plain owner f xs a b written.count written.is_cut
 WritesItems word plain owner f xs a (Err e) b = e ≡ refusals.Memory
 
 -- a front of these records is written, or memory ran out
@@ -85,12 +87,22 @@ abbrev pub WritesRecordItems : List (Record RData) → State → Result Written 
 WritesRecordItems = WritesItems RecordWord plain_record record_owner record_written
 
 -- The header of a message: TC where the message has it or a part was cut. The questions' count is tested here.
-abbrev pub HasHeader : Metadata → ℕ → Written → Written → Written → Result Header ProtoError → Type 0
+abbrev pub HasHeader : Metadata → ℕ → Written → Written → Written → Result Header ProtoError
+    → Type 0
 HasHeader metadata queries answers authorities additionals (Ok h) =
     IsNarrow h.metadata.id h.counts
     × (h ≡ record {
-      metadata = record metadata { truncation = metadata.truncation || (answers.is_cut || (authorities.is_cut || additionals.is_cut)) };
-      counts = record { queries = queries; answers = answers.count; authorities = authorities.count; additionals = additionals.count };
+      metadata =
+          record metadata {
+            truncation = metadata.truncation
+                || (answers.is_cut || (authorities.is_cut || additionals.is_cut));
+          };
+      counts = record {
+        queries = queries;
+        answers = answers.count;
+        authorities = authorities.count;
+        additionals = additionals.count;
+      };
     })
 HasHeader metadata queries answers authorities additionals (Err e) = (2 ^ 16 ≤ queries)
     × Says (codes "too many queries to fit in header count") e
@@ -101,8 +113,10 @@ FillsIn place header a result b = (result ≡ Ok header)
     × (b ≡ overwritten place (header_bytes (raw_header header)) a)
 
 -- the answers A, the authorities N and the additionals D, each before it was written and after that
-module _ {A N D : Type 0} (emits_a : A → State → Result ℕ ProtoError → A → State → Type 0) (emits_n : N → State → Result ℕ ProtoError → N → State → Type 0)
-    (emits_d : D → State → Result ℕ ProtoError → D → State → Type 0) (a a' : A) (n n' : N) (d d' : D) where
+module _ {A N D : Type 0} (emits_a : A → State → Result ℕ ProtoError → A → State → Type 0)
+    (emits_n : N → State → Result ℕ ProtoError → N → State → Type 0)
+    (emits_d : D → State → Result ℕ ProtoError → D → State → Type 0) (a a' : A) (n n' : N)
+    (d d' : D) where
   -- A message: room for the header, the questions Q, three sections, each whatever became of the one before it, OPT and the
   -- signature, the sum of all additional records tested after each, and the header into its room.
   abbrev pub Composition : {Q : Type 0} → Metadata

@@ -1,4 +1,5 @@
 -- What stands of a message that was written under a limit (RFC 1035, 4.1.1; RFC 2181, 9; RFC 6891, 6.1.3).
+use Rattle.base.specs.declared.limits.TheConstants.{POINTER_LIMIT}
 use Rattle.std.specs.Prelude.{◌≡◌, ◌≢◌, ℕ, Bool, true, false, All, ◌+◌, ◌%◌, ◌<◌, ◌≤◌, ◌||◌, List, [], ◌∷◌, ◌++◌, length, Option, Some, None, Ok}
 use Rattle.std.specs.Option.{option_map}
 use Rattle.base.specs.Labels.{size_of}
@@ -25,7 +26,8 @@ NoRoom plain limit place [] = Unit {0}
 NoRoom plain limit place (x ∷ xs) = limit < place + plain x
 
 -- What is kept is a front of the whole, and ends at this place; the next one had no room.
-pub record IsFront {X : Type 0} (plain : X → ℕ) (limit place : ℕ) (whole kept : List X) : Type 0 where
+pub record IsFront {X : Type 0} (plain : X → ℕ) (limit place : ℕ) (whole kept : List X) : Type
+    0 where
   pub lost : List X
   pub front : whole ≡ kept ++ lost
   pub full : NoRoom plain limit place lost
@@ -45,7 +47,8 @@ pub record Owner : Type 0 where
 
 -- A later owner that ends in all labels of an earlier one, to which a pointer can point, has a pointer there.
 abbrev pub IsCompressed : Owner → Owner → Type 0
-IsCompressed earlier later = earlier.labels ≢ [] → earlier.start < 16384 → (front : List (List ℕ))
+IsCompressed earlier later = earlier.labels ≢ [] → earlier.start < POINTER_LIMIT
+    → (front : List (List ℕ))
     → later.labels ≡ front ++ earlier.labels → later.end ≤ later.start + (size_of front + 2)
 
 -- so has each owner for each before it
@@ -54,10 +57,15 @@ AreCompressed [] = Unit {0}
 AreCompressed (o ∷ os) = All (IsCompressed o) os × AreCompressed os
 
 -- the owners of words that stand back to back
-unfoldable pub owners_by : {A : Type 0} {Word : ℕ → A → ℕ → Type 0} (labels : A → List (List ℕ)) (end : (i : ℕ) (x : A) (e : ℕ) → Word i x e → ℕ) {i e : ℕ} {xs : List A}
+unfoldable pub owners_by : {A : Type 0} {Word : ℕ → A → ℕ → Type 0} (labels : A → List (List ℕ))
+    (end : (i : ℕ) (x : A) (e : ℕ) → Word i x e → ℕ) {i e : ℕ} {xs : List A}
     → BackToBack Word i xs e → List Owner
 owners_by labels end none = []
-owners_by labels end (more {i = i} {j = j} {x = x} word rest) = record { start = i; labels = labels x; end = end i x j word } ∷ owners_by labels end rest
+owners_by labels end (more {i = i} {j = j} {x = x} word rest) = record {
+  start = i;
+  labels = labels x;
+  end = end i x j word;
+} ∷ owners_by labels end rest
 
 -- the owners of questions that stand back to back
 abbrev pub query_owners : {B : List ℕ} {i e : ℕ} {qs : List Query} → BackToBack (IsQueryAt B) i qs e
@@ -72,7 +80,8 @@ record_owners d = owners_by (λ r. r.name.labels) (λ i r e word. word.word.owne
 -- the owners of a message, in order
 abbrev pub owners : {B : List ℕ} {i e : ℕ} {m : MessageValue} → IsMessageAt B i m e → List Owner
 owners w = query_owners w.queries_stand
-    ++ (record_owners w.answers_stand ++ (record_owners w.authorities_stand ++ record_owners w.additionals_stand))
+    ++ (record_owners w.answers_stand
+    ++ (record_owners w.authorities_stand ++ record_owners w.additionals_stand))
 
 -- ---- the cut
 
@@ -88,7 +97,10 @@ code_range (Some e) = 4096
 -- the message as the wire has it: its code as far as it is written, and the raised EDNS
 abbrev pub as_written : MessageValue → MessageValue
 as_written m = record m {
-  metadata = record m.metadata { response_code = code_value (code_number m.metadata.response_code % code_range m.edns) };
+  metadata =
+      record m.metadata {
+        response_code = code_value (code_number m.metadata.response_code % code_range m.edns);
+      };
   edns = raised m;
 }
 
@@ -100,20 +112,26 @@ pub record IsCut (m : MessageValue) (limit : ℕ) (B : List ℕ) (c : MessageVal
   -- the additionals as they stand: c's, then OPT, then the signature
   pub additionals_end : ℕ
   pub edns_end : ℕ
-  pub additionals_stand : BackToBack (IsRecordAt B) word.authorities_end c.additionals additionals_end
-  pub edns_stands : BackToBack (IsRecordAt B) additionals_end (listed (option_map edns_record c.edns)) edns_end
-  pub signature_stands : BackToBack (IsRecordAt B) edns_end (listed (option_map signature_record c.signature)) (length B)
+  pub additionals_stand : BackToBack (IsRecordAt B) word.authorities_end c.additionals
+      additionals_end
+  pub edns_stands : BackToBack (IsRecordAt B) additionals_end
+      (listed (option_map edns_record c.edns)) edns_end
+  pub signature_stands : BackToBack (IsRecordAt B) edns_end
+      (listed (option_map signature_record c.signature)) (length B)
   -- all questions, and fronts of all else
   pub queries : c.queries ≡ m.queries
   pub answers : IsFront plain_record limit word.answers_end m.answers c.answers
   pub authorities : IsFront plain_record limit word.authorities_end m.authorities c.authorities
   pub additionals : IsFront plain_record limit additionals_end m.additionals c.additionals
   pub edns : IsFront plain_edns limit edns_end (listed (raised m)) (listed c.edns)
-  pub signature : IsFront (λ r. plain_record (signature_record r)) limit (length B) (listed m.signature) (listed c.signature)
+  pub signature : IsFront (λ r. plain_record (signature_record r)) limit (length B)
+      (listed m.signature) (listed c.signature)
   -- the code as far as it is written, TC, and every other field
   pub metadata : c.metadata ≡ record m.metadata {
     truncation = m.metadata.truncation
-        || (any_lost answers.lost || (any_lost authorities.lost || (any_lost additionals.lost || (any_lost edns.lost || any_lost signature.lost))));
+        || (any_lost answers.lost
+        || (any_lost authorities.lost
+        || (any_lost additionals.lost || (any_lost edns.lost || any_lost signature.lost))));
     response_code = code_value (code_number m.metadata.response_code % code_range c.edns);
   }
   -- owners that end in an earlier owner point to it

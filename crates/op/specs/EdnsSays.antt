@@ -13,4 +13,5 @@ EdnsKept e = RecordKept (edns_record e) (KeptData (opt_data e.options))
 
 -- where what is written of EDNS stands, its OPT record stands
 pub edns_says : (e : Edns) → Says (edns_written e) (EdnsKept e) (EdnsWord e) (plain_edns e) []
-edns_says e = Says-unowned (edns_written e) (record_says (edns_record e) (data_says (opt_data e.options)))
+edns_says e =
+    Says-unowned (edns_written e) (record_says (edns_record e) (data_says (opt_data e.options)))

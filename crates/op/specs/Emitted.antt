@@ -19,7 +19,8 @@ use Rattle.op.specs.declared.query.Query.{Query}
 use Rattle.base.specs.Written.{Passes, Writing, after, in_turn}
 
 -- Of the values a front was written: all that come before one that had no room.
-pub record WritesFront {E : Type 0} (word : E → List ℕ → ℕ → ℕ → Type 0) (plain : E → ℕ) (owner : E → List (List ℕ))
+pub record WritesFront {E : Type 0} (word : E → List ℕ → ℕ → ℕ → Type 0) (plain : E → ℕ)
+    (owner : E → List (List ℕ))
     (f : E → Writing) (xs : List E) (a b : State) (n : ℕ) (is_cut : Bool) : Type 0 where
   pub kept : List E
   pub lost : List E
@@ -69,12 +70,18 @@ pub record Emitted (m : MessageValue) (old new : State) (h : Header) : Type 0 wh
   pub answers : WritesRecords m.answers first second h.counts.answers answers_cut
   pub authorities : WritesRecords m.authorities second third h.counts.authorities authorities_cut
   pub additionals : WritesRecords m.additionals third fourth additional_count additionals_cut
-  pub edns : WritesRecords (listed (option_map edns_record (raised m))) fourth fifth edns_count edns_cut
-  pub signature : WritesRecords (listed (option_map signature_record m.signature)) fifth sixth signature_count signature_cut
+  pub edns : WritesRecords (listed (option_map edns_record (raised m))) fourth fifth edns_count
+      edns_cut
+  pub signature : WritesRecords (listed (option_map signature_record m.signature)) fifth sixth
+      signature_count signature_cut
   pub query_count : h.counts.queries ≡ length m.queries
   pub sum : h.counts.additionals ≡ additional_count + (edns_count + signature_count)
   pub metadata : h.metadata
-      ≡ record m.metadata { truncation = m.metadata.truncation || (answers_cut || (authorities_cut || (additionals_cut || (edns_cut || signature_cut)))) }
+      ≡ record m.metadata {
+        truncation = m.metadata.truncation
+            || (answers_cut
+            || (authorities_cut || (additionals_cut || (edns_cut || signature_cut))));
+      }
   pub header : new ≡ overwritten (length old.bytes) (header_bytes (raw_header h)) sixth
 
 -- What a refusal but for memory leaves: nothing was written where the header had no room; else room for the header, and as
@@ -83,7 +90,8 @@ abbrev pub Leaves : MessageValue → State → ProtoError → State → Type 0
 Leaves m old refusals.MaxBufferSizeExceeded new = (old.limit < length old.bytes + 12) × (new ≡ old)
 Leaves m old (refusals.NotAllRecordsWritten count) new =
     (length old.bytes + 12 ≤ old.limit)
-    × WritesFront QueryWord plain_query query_owner query_written m.queries (appended (replicate 12 0) old) new count true
+    × WritesFront QueryWord plain_query query_owner query_written m.queries
+    (appended (replicate 12 0) old) new count true
 Leaves m old _ new = ⊥
 
 -- ---- by a new encoder

@@ -26,28 +26,32 @@ pub record IsQueriesFault (count : ℕ) (B : List ℕ) (i : ℕ) (f : DecodeErro
 -- The first test that a record fails after a section: it is empty outside an Update and no OPT record (RFC 2136, 2.4); it
 -- stands after a signature (RFC 8945, 5.1); it belongs among additionals and isn't there (RFC 2931, 3.1; RFC 6891, 6.1.1;
 -- RFC 8945, 5.1); it is a second OPT record (RFC 6891, 6.1.1).
-pub data IsMisplaced (is_additional_section : Bool) (op : OpCode) (before : SectionValue) (r : Record RData) : DecodeError → Type 0 where
+pub data IsMisplaced (is_additional_section : Bool) (op : OpCode) (before : SectionValue)
+    (r : Record RData) : DecodeError → Type 0 where
   empty : is_empty_data r.rdata ≡ true → is_update op ≡ false → is_opt r ≡ false
       → IsMisplaced is_additional_section op before r faults.InvalidEmptyRecord
   after_signature : HasNeededData op r → before.signature ≢ None
       → IsMisplaced is_additional_section op before r faults.RecordAfterSig
   elsewhere : HasNeededData op r → before.signature ≡ None → is_additional_section ≡ false
       → is_additional r ≡ true
-      → IsMisplaced is_additional_section op before r (faults.RecordNotInAdditionalSection (type_of_data r.rdata))
+      → IsMisplaced is_additional_section op before r
+      (faults.RecordNotInAdditionalSection (type_of_data r.rdata))
   second_edns : HasNeededData op r → before.signature ≡ None
       → (is_additional_section ≡ false → is_additional r ≡ false) → before.edns ≢ None
       → is_opt r ≡ true
       → IsMisplaced is_additional_section op before r faults.DuplicateEdns
 
 -- A section of fewer records stands than are counted, and what stands after it is no record, or one that may not stand there.
-pub record IsSectionFault (is_additional_section : Bool) (op : OpCode) (count : ℕ) (B : List ℕ) (i : ℕ) (f : DecodeError) : Type 0 where
+pub record IsSectionFault (is_additional_section : Bool) (op : OpCode) (count : ℕ) (B : List ℕ)
+    (i : ℕ) (f : DecodeError) : Type 0 where
   pub number : ℕ
   pub before : SectionValue
   pub place : ℕ
   pub stands : IsSectionAt is_additional_section op number B i before place
   pub fewer : number < count
   pub fault : IsRecordFault B place f
-      ⊎ ((r : Record RData) × (e : ℕ) × IsRecordAt B place r e × IsMisplaced is_additional_section op before r f)
+      ⊎ ((r : Record RData) × (e : ℕ) × IsRecordAt B place r e
+      × IsMisplaced is_additional_section op before r f)
 
 -- a header stands at i, and after it as many questions as it counts, up to j
 pub record HasQuestions (B : List ℕ) (i : ℕ) (h : Header) (j : ℕ) : Type 0 where

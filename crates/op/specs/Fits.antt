@@ -1,4 +1,5 @@
 -- Messages that the wire can carry (RFC 1035, 4.1; RFC 2136, 2.4 and 2.5; RFC 6891, 6.1; RFC 8945, 5.1).
+use Rattle.base.specs.declared.limits.TheConstants.{MIN_PAYLOAD}
 use Rattle.std.specs.Prelude.{◌≡◌, ℕ, All, ◌+◌, ◌/◌, ◌%◌, ◌<◌, ◌≤◌, List, [], ◌∷◌, Option, Some, None, false}
 use Rattle.std.specs.Option.{option_map}
 use Rattle.base_data.specs.declared.rdata.RData.{RData}
@@ -53,7 +54,7 @@ pub record FitsAdditional (op : OpCode) (r : Record RData) : Type 0 where
 
 -- EDNS that fits: its payload size is read as it is, and its flags have no 16th bit
 pub record FitsEdns (e : Edns) : Type 0 where
-  pub payload : 512 ≤ e.max_payload
+  pub payload : MIN_PAYLOAD ≤ e.max_payload
   pub version : e.version < 256
   pub z : e.flags.z < 32768
 

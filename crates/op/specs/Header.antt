@@ -98,18 +98,21 @@ weighed weight false = 0
 -- the sum of the bits of byte 2: QR, the opcode, AA, TC and RD
 abbrev pub high_byte : Bool → ℕ → Bool → Bool → Bool → ℕ
 high_byte response opcode authoritative truncation recursion_desired =
-    weighed 128 response + (8 * opcode + (weighed 4 authoritative + (weighed 2 truncation + weighed 1 recursion_desired)))
+    weighed 128 response +
+    (8 * opcode + (weighed 4 authoritative + (weighed 2 truncation + weighed 1 recursion_desired)))
 
 -- the sum of the bits of byte 3: RA, AD, CD and the code, with bit 0x40 clear
 abbrev pub low_byte : Bool → Bool → Bool → ℕ → ℕ
 low_byte recursion_available authentic_data checking_disabled code =
-    weighed 128 recursion_available + (weighed 32 authentic_data + (weighed 16 checking_disabled + code))
+    weighed 128 recursion_available +
+    (weighed 32 authentic_data + (weighed 16 checking_disabled + code))
 
 -- the bytes that fields are written as
 abbrev pub header_bytes : RawHeader → List ℕ
 header_bytes r =
     to_be_bytes w16 r.id
-    ++ (high_byte r.response r.opcode r.authoritative r.truncation r.recursion_desired ∷ low_byte r.recursion_available r.authentic_data r.checking_disabled r.code ∷ [])
+    ++ (high_byte r.response r.opcode r.authoritative r.truncation r.recursion_desired
+    ∷ low_byte r.recursion_available r.authentic_data r.checking_disabled r.code ∷ [])
     ++ to_be_bytes w16 r.counts.queries ++ to_be_bytes w16 r.counts.answers
     ++ to_be_bytes w16 r.counts.authorities ++ to_be_bytes w16 r.counts.additionals
 
@@ -158,7 +161,18 @@ header_at bytes i = do
   answers ← number_at w16 bytes queries.1
   authorities ← number_at w16 bytes answers.1
   additionals ← number_at w16 bytes authorities.1
-  Ok (record { metadata = metadata_of_bytes id.0 high.0 low.0; counts = record { queries = queries.0; answers = answers.0; authorities = authorities.0; additionals = additionals.0 } }, additionals.1)
+  Ok (
+    record {
+      metadata = metadata_of_bytes id.0 high.0 low.0;
+      counts = record {
+        queries = queries.0;
+        answers = answers.0;
+        authorities = authorities.0;
+        additionals = additionals.0;
+      };
+    },
+    additionals.1,
+  )
 
 -- ---- order
 

@@ -34,7 +34,8 @@ record HighBits (r a t d : Bool) (o n : ℕ) : Type 0 where
 high_sum : (r a t d : Bool) (o : ℕ)
     → high_byte r o a t d
     ≡ from_bool r * 128 + (8 * o + (from_bool a * 4 + (from_bool t * 2 + from_bool d)))
-high_sum r a t d o = rw (weighed_is 128 r, weighed_is 4 a, weighed_is 2 t, weighed_is 1 d) (omega arith)
+high_sum r a t d o =
+    rw (weighed_is 128 r, weighed_is 4 a, weighed_is 2 t, weighed_is 1 d) (omega arith)
 
 high_bits : (r a t d : Bool) (o n : ℕ) → o < 16
     → n ≡ from_bool r * 128 + (8 * o + (from_bool a * 4 + (from_bool t * 2 + from_bool d)))
@@ -82,8 +83,10 @@ raw_stands r B i narrow op code s =
     let xs = header_bytes r in
     let high = high_byte r.response r.opcode r.authoritative r.truncation r.recursion_desired in
     let low = low_byte r.recursion_available r.authentic_data r.checking_disabled r.code in
-    let h = high_bits r.response r.authoritative r.truncation r.recursion_desired r.opcode high op (high_sum r.response r.authoritative r.truncation r.recursion_desired r.opcode) in
-    let l = low_bits r.recursion_available r.authentic_data r.checking_disabled r.code low code (low_sum r.recursion_available r.authentic_data r.checking_disabled r.code) in
+    let h = high_bits r.response r.authoritative r.truncation r.recursion_desired r.opcode high op
+    (high_sum r.response r.authoritative r.truncation r.recursion_desired r.opcode) in
+    let l = low_bits r.recursion_available r.authentic_data r.checking_disabled r.code low code
+    (low_sum r.recursion_available r.authentic_data r.checking_disabled r.code) in
     let id = to_be_bytes w16 r.id in
     let flags : List ℕ = high ∷ low ∷ [] in
     let queries = to_be_bytes w16 r.counts.queries in
@@ -91,7 +94,8 @@ raw_stands r B i narrow op code s =
     let authorities = to_be_bytes w16 r.counts.authorities in
     let additionals = to_be_bytes w16 r.counts.additionals in
     record {
-      id = number16_stands r.id B i narrow.identifier (first_stands id (flags ++ queries ++ answers ++ authorities ++ additionals) B i s);
+      id = number16_stands r.id B i narrow.identifier
+          (first_stands id (flags ++ queries ++ answers ++ authorities ++ additionals) B i s);
       high = high;
       high_stands = stands_byte xs B i 2 (lit< tt) s;
       response = h.response;
@@ -105,19 +109,30 @@ raw_stands r B i narrow op code s =
       authentic_data = l.authentic_data;
       checking_disabled = l.checking_disabled;
       code = l.code_is;
-      queries = number16_stands r.counts.queries B (i + 4) narrow.queries (stands_part (id ++ flags) queries (answers ++ authorities ++ additionals) B i s);
-      answers = number16_stands r.counts.answers B (i + 6) narrow.answers (stands_part (id ++ flags ++ queries) answers (authorities ++ additionals) B i s);
-      authorities = number16_stands r.counts.authorities B (i + 8) narrow.authorities (stands_part (id ++ flags ++ queries ++ answers) authorities additionals B i s);
-      additionals = number16_stands r.counts.additionals B (i + 10) narrow.additionals (stands_part (id ++ flags ++ queries ++ answers ++ authorities) additionals [] B i s);
+      queries =
+          number16_stands r.counts.queries B (i + 4) narrow.queries
+          (stands_part (id ++ flags) queries (answers ++ authorities ++ additionals) B i s);
+      answers =
+          number16_stands r.counts.answers B (i + 6) narrow.answers
+          (stands_part (id ++ flags ++ queries) answers (authorities ++ additionals) B i s);
+      authorities =
+          number16_stands r.counts.authorities B (i + 8) narrow.authorities
+          (stands_part (id ++ flags ++ queries ++ answers) authorities additionals B i s);
+      additionals =
+          number16_stands r.counts.additionals B (i + 10) narrow.additionals
+          (stands_part (id ++ flags ++ queries ++ answers ++ authorities) additionals [] B i s);
     }
 
 -- where the bytes of a header stand, its word does
 pub header_stands : (h : Header) (B : List ℕ) (i : ℕ) → IsNarrow h.metadata.id h.counts
     → Stands (header_bytes (raw_header h)) B i → HeaderWord h B i (i + 12)
-header_stands h B i narrow s = (raw_stands (raw_header h) B i narrow (omega arith) (omega arith) s, refl)
+header_stands h B i narrow s =
+    (raw_stands (raw_header h) B i narrow (omega arith) (omega arith) s, refl)
 
 -- the law of what is written of a header (RFC 1035, 4.1.1)
 pub header_says : (h : Header)
-    → Says (just (header_bytes (raw_header h))) (IsNarrow h.metadata.id h.counts) (HeaderWord h) 12 []
+    → Says (just (header_bytes (raw_header h))) (IsNarrow h.metadata.id h.counts)
+    (HeaderWord h) 12 []
 header_says h =
-    Says-just (IsNarrow h.metadata.id h.counts) (HeaderWord h) 12 (header_bytes (raw_header h)) (omega arith) (λ narrow B at small stands. header_stands h B at narrow stands)
+    Says-just (IsNarrow h.metadata.id h.counts) (HeaderWord h) 12 (header_bytes (raw_header h))
+    (omega arith) (λ narrow B at small stands. header_stands h B at narrow stands)

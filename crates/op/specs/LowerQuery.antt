@@ -9,4 +9,6 @@ use Rattle.op.specs.declared.query.Query.{Query}
 -- the name in lower case, type and class
 abbrev pub lower_query_text : Query → List ℕ
 lower_query_text q = codes "name: "
-    ++ (name_text (lowered q.name) ++ (codes " type: " ++ (type_text q.query_type ++ (codes " class: " ++ class_text q.query_class))))
+    ++ (name_text (lowered q.name)
+    ++ (codes " type: "
+    ++ (type_text q.query_type ++ (codes " class: " ++ class_text q.query_class))))

@@ -41,12 +41,22 @@ message_value m = record {
 
 -- a message with nothing after its header
 abbrev pub empty_message : Metadata → MessageValue
-empty_message metadata = record { metadata = metadata; queries = []; answers = []; authorities = []; additionals = []; edns = None; signature = None }
+empty_message metadata =
+    record {
+      metadata = metadata;
+      queries = [];
+      answers = [];
+      authorities = [];
+      additionals = [];
+      edns = None;
+      signature = None;
+    }
 
 -- the code of a header with the eight bits of EDNS above it (RFC 6891, 6.1.3)
 abbrev pub high_code : Option Edns → Metadata → Metadata
 high_code None metadata = metadata
-high_code (Some edns) metadata = record metadata { response_code = code_from edns.rcode_high (code_low metadata.response_code) }
+high_code (Some edns) metadata =
+    record metadata { response_code = code_from edns.rcode_high (code_low metadata.response_code) }
 
 -- the message of a header, questions, answers, authorities, and what stands among additionals
 abbrev pub message_of : Metadata → List Query → List (Record RData) → List (Record RData)
@@ -78,7 +88,12 @@ pub record IsMessageAt (B : List ℕ) (i : ℕ) (m : MessageValue) (e : ℕ) : T
   pub additionals_stand : BackToBack (IsRecordAt B) authorities_end additionals e
   -- as many as the counts say
   pub counts : header.counts
-      ≡ record { queries = length m.queries; answers = length answers; authorities = length authorities; additionals = length additionals }
+      ≡ record {
+        queries = length m.queries;
+        answers = length answers;
+        authorities = length authorities;
+        additionals = length additionals;
+      }
   -- empty data, and the places of OPT, SIG and TSIG
   pub answers_plain : All (IsPlain header.metadata.op_code) answers
   pub authorities_plain : All (IsPlain header.metadata.op_code) authorities
@@ -86,7 +101,8 @@ pub record IsMessageAt (B : List ℕ) (i : ℕ) (m : MessageValue) (e : ℕ) : T
   pub signature_last : EndsWithSignature additionals
   pub one_opt : AtMostOneOpt additionals
   -- the message
-  pub message : m ≡ message_of header.metadata m.queries answers authorities (section_of additionals)
+  pub message : m
+      ≡ message_of header.metadata m.queries answers authorities (section_of additionals)
 
 -- the message that stands at i, or its first fault: header, questions, answers, authorities, additionals
 unfoldable pub message_at : List ℕ → ℕ → Read MessageValue
@@ -94,4 +110,8 @@ message_at bytes i = do
   header ← header_at bytes i
   queries ← many_at query_at header.0.counts.queries bytes header.1
   sections ← sections_at header.0.metadata.op_code header.0.counts bytes queries.1
-  Ok (message_of header.0.metadata queries.0 sections.0.answers.records sections.0.authorities.records sections.0.additionals, sections.1)
+  Ok (
+    message_of header.0.metadata queries.0 sections.0.answers.records
+        sections.0.authorities.records sections.0.additionals,
+    sections.1,
+  )

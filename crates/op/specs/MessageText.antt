@@ -48,7 +48,8 @@ section_lines name rs = codes "; "
 -- answers, authorities and additionals
 abbrev pub sections_text : MessageValue → List ℕ
 sections_text m = section_lines (codes "answers") m.answers
-    ++ (section_lines (codes "authorities") m.authorities ++ section_lines (codes "additionals") m.additionals)
+    ++ (section_lines (codes "authorities") m.authorities
+    ++ section_lines (codes "additionals") m.additionals)
 
 -- whether the sections of records are printed: of a response, and of an Update (RFC 2136, 2.2)
 abbrev pub shows_sections : Metadata → Bool

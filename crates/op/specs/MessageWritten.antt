@@ -29,7 +29,12 @@ abbrev pub part : {E : Type 0} → (E → Writing) → ℕ → List E → ℕ �
 part f limit xs at stored =
     let kept = that_fit f limit xs at stored in
     let piece = in_turn f kept at stored in
-    record { kept = kept; is_cut = nat_lt (length kept) (length xs); end = at + length piece.bytes; piece = piece }
+    record {
+      kept = kept;
+      is_cut = nat_lt (length kept) (length xs);
+      end = at + length piece.bytes;
+      piece = piece;
+    }
 
 -- the own bytes of the first of these, if there is one, would pass the limit at this place
 abbrev pub FirstPasses : {E : Type 0} → (E → Writing) → ℕ → ℕ → List Stored → List E → Type 0
@@ -56,8 +61,10 @@ parts_of limit m at stored =
     let answers = part_after record_written limit m.answers queries in
     let authorities = part_after record_written limit m.authorities answers in
     let additionals = part_after record_written limit m.additionals authorities in
-    let edns = part_after record_written limit (listed (option_map edns_record (raised m))) additionals in
-    let signature = part_after record_written limit (listed (option_map signature_record m.signature)) edns in
+    let edns =
+    part_after record_written limit (listed (option_map edns_record (raised m))) additionals in
+    let signature =
+    part_after record_written limit (listed (option_map signature_record m.signature)) edns in
     record {
       queries = queries;
       answers = answers;
@@ -77,7 +84,8 @@ pub record AreWhole (p : Parts) : Type 0 where
   pub signature : p.signature.is_cut ≡ false
 
 -- What a part lost stood after what it kept, and the first of it would have passed the limit by its own bytes.
-pub record LostForRoom {E : Type 0} (f : E → Writing) (limit : ℕ) (xs : List E) (p : Part E) : Type 0 where
+pub record LostForRoom {E : Type 0} (f : E → Writing) (limit : ℕ) (xs : List E)
+    (p : Part E) : Type 0 where
   pub lost : List E
   pub whole : xs ≡ p.kept ++ lost
   pub passes : FirstPasses f limit p.end p.piece.suffixes lost
@@ -101,7 +109,8 @@ header_of m p = record {
 abbrev pub body : Parts → Writing
 body p =
     both (in_turn query_written p.queries.kept) (both (in_turn record_written p.answers.kept)
-    (both (in_turn record_written p.authorities.kept) (both (in_turn record_written p.additionals.kept)
+    (both (in_turn record_written p.authorities.kept)
+    (both (in_turn record_written p.additionals.kept)
     (both (in_turn record_written p.edns.kept) (in_turn record_written p.signature.kept)))))
 
 -- A message under a limit: a header of twelve bytes, and its parts.
@@ -120,7 +129,8 @@ abbrev pub message_answer_at : ℕ → MessageValue → ℕ → List Stored → 
 message_answer_at limit m at stored =
     let asked = part query_written limit m.queries (at + 12) stored in
     if nat_lt limit (at + 12) then Err refusals.MaxBufferSizeExceeded
-    else (if asked.is_cut then Err (refusals.NotAllRecordsWritten (length asked.kept)) else Ok (message_written limit m at stored).bytes)
+    else (if asked.is_cut then Err (refusals.NotAllRecordsWritten (length asked.kept))
+    else Ok (message_written limit m at stored).bytes)
 
 -- what a new encoder answers to a message under a limit, unless memory runs out
 abbrev pub message_answer : ℕ → MessageValue → Result (List ℕ) ProtoError

@@ -51,14 +51,18 @@ metadata_flags metadata = record {
 -- id, type, flags, code and operation, with a colon between each two
 abbrev pub metadata_text : Metadata → List ℕ
 metadata_text metadata = join_with_byte 58
-    (decimal metadata.id ∷ message_type_text metadata.message_type ∷ flags_text (metadata_flags metadata)
+    (decimal metadata.id ∷ message_type_text metadata.message_type
+    ∷ flags_text (metadata_flags metadata)
     ∷ code_label metadata.response_code ∷ op_text metadata.op_code ∷ [])
 
 -- by the fields in turn
 abbrev pub metadata_cmp : Metadata → Metadata → Ordering
 metadata_cmp =
-    then_cmp (on (λ m. m.id) nat_cmp) (then_cmp (on (λ m. m.message_type) message_type_cmp) (then_cmp (on (λ m. m.op_code) op_cmp)
+    then_cmp (on (λ m. m.id) nat_cmp)
+    (then_cmp (on (λ m. m.message_type) message_type_cmp) (then_cmp (on (λ m. m.op_code) op_cmp)
     (then_cmp (on (λ m. m.authoritative) bool_cmp) (then_cmp (on (λ m. m.truncation) bool_cmp)
-    (then_cmp (on (λ m. m.recursion_desired) bool_cmp) (then_cmp (on (λ m. m.recursion_available) bool_cmp)
-    (then_cmp (on (λ m. m.authentic_data) bool_cmp) (then_cmp (on (λ m. m.checking_disabled) bool_cmp)
+    (then_cmp (on (λ m. m.recursion_desired) bool_cmp)
+    (then_cmp (on (λ m. m.recursion_available) bool_cmp)
+    (then_cmp (on (λ m. m.authentic_data) bool_cmp)
+    (then_cmp (on (λ m. m.checking_disabled) bool_cmp)
     (on (λ m. m.response_code) code_cmp)))))))))

@@ -1,4 +1,5 @@
 -- What calls make of the parts of a message.
+use Rattle.base.specs.declared.limits.TheConstants.{MIN_PAYLOAD}
 use Rattle.std.specs.Prelude.{◌≡◌, ℕ, Bool, true, false, not, ◌||◌, ◌++◌, List, [], ◌∷◌, filter, max, Option, Some, None, Result, Ok, Err}
 use Rattle.std.specs.Iterator.{YieldsThen}
 use Rattle.base.specs.RecordType.{is_dnssec_type, same_type}
@@ -20,7 +21,11 @@ without_sections m = record m { answers = []; authorities = []; additionals = []
 
 -- the message cut to what a client must have: metadata with TC, the questions and EDNS (RFC 2181, 9)
 abbrev pub truncated : MessageValue → MessageValue
-truncated m = record (empty_message (record m.metadata { truncation = true })) { queries = m.queries; edns = m.edns }
+truncated m =
+    record (empty_message (record m.metadata { truncation = true })) {
+      queries = m.queries;
+      edns = m.edns;
+    }
 
 -- whether a record is of the type that was asked for, or none of DNSSEC (RFC 4035, 3.2.1)
 abbrev pub is_for_all : RecordType → Record RData → Bool
@@ -43,8 +48,8 @@ stripped false m = stripped_by m.queries m
 
 -- the bytes of the largest answer that the sender takes: 512 without EDNS, and at least that with it (RFC 6891, 6.2.3 and 6.2.5)
 abbrev pub payload_taken : Option Edns → ℕ
-payload_taken None = 512
-payload_taken (Some e) = max 512 e.max_payload
+payload_taken None = MIN_PAYLOAD
+payload_taken (Some e) = max MIN_PAYLOAD e.max_payload
 
 -- the version of EDNS, 0 without it
 abbrev pub edns_version : Option Edns → ℕ

@@ -26,7 +26,9 @@ records_places count bytes i = many_names record_at record_places count bytes i
 -- those of what a header that was read counts: questions, and after them the records of the three sections
 abbrev pub counted_places : Read Header → List ℕ → List ℕ
 counted_places (Ok (header, i)) bytes = queries_places header.counts.queries bytes i
-    ++ records_places (header.counts.answers + header.counts.authorities + header.counts.additionals) bytes (place_after (many_at query_at header.counts.queries bytes i))
+    ++ records_places
+    (header.counts.answers + header.counts.authorities + header.counts.additionals) bytes
+    (place_after (many_at query_at header.counts.queries bytes i))
 counted_places (Err e) bytes = []
 
 -- the places of the names of the message that stands at i, of questions and records

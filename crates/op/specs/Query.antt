@@ -60,7 +60,8 @@ QueryWord q B i e = IsRawQueryAt B i (raw_query q) e
 
 -- what is written of a question: its name, type and class
 abbrev pub query_written : Query → Writing
-query_written q = let raw = raw_query q in both (name raw.labels) (just (to_be_bytes w16 raw.type ++ to_be_bytes w16 raw.class))
+query_written q = let raw = raw_query q
+    in both (name raw.labels) (just (to_be_bytes w16 raw.type ++ to_be_bytes w16 raw.class))
 
 -- the bytes of a question without compression
 abbrev pub plain_query : Query → ℕ
@@ -80,19 +81,37 @@ query_at bytes i = do
   owner ← name_at bytes i
   type ← number_at w16 bytes owner.1
   class ← number_at w16 bytes type.1
-  Ok (record { name = owner.0; query_type = type_of type.0; query_class = field_class class.0; mdns_unicast_response = field_top class.0 }, class.1)
+  Ok (
+    record {
+      name = owner.0;
+      query_type = type_of type.0;
+      query_class = field_class class.0;
+      mdns_unicast_response = field_top class.0;
+    },
+    class.1,
+  )
 
 -- The first fault of a question at i: that of its name, or the end of the buffer in type or class.
 abbrev pub IsQueryFault : List ℕ → ℕ → DecodeError → Type 0
 IsQueryFault B i f = IsFaulty B i i 0 f
-    ⊎ ((name : NameValue) × (m : ℕ) × IsNameAt B i name m × (length B < m + 4) × (f ≡ faults.InsufficientBytes))
+    ⊎ ((name : NameValue) × (m : ℕ) × IsNameAt B i name m × (length B < m + 4)
+    × (f ≡ faults.InsufficientBytes))
 
 -- name, class and type, and whether a unicast response is asked for
 abbrev pub query_text : Query → List ℕ
 query_text q =
     name_text q.name ++ (codes " " ++ (class_text q.query_class ++
-    (codes " " ++ (type_text q.query_type ++ (codes "; mdns_unicast_response: " ++ (if q.mdns_unicast_response then codes "true" else codes "false"))))))
+    (codes " "
+    ++ (type_text q.query_type
+    ++ (codes "; mdns_unicast_response: "
+    ++ (if q.mdns_unicast_response then codes "true" else codes "false"))))))
 
 -- the question for a type of a name, in the class IN and answered by multicast
 abbrev pub plain_question : NameValue → RecordType → Query
-plain_question name query_type = record { name = name; query_type = query_type; query_class = classes.IN; mdns_unicast_response = false }
+plain_question name query_type =
+    record {
+      name = name;
+      query_type = query_type;
+      query_class = classes.IN;
+      mdns_unicast_response = false;
+    }

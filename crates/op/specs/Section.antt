@@ -80,7 +80,14 @@ edns_of r = edns_value (class_number r.dns_class) r.ttl (options_in r.rdata)
 
 -- a signature's record
 abbrev pub signature_of : Record RData → Record (List ℕ)
-signature_of r = record { name = r.name; dns_class = r.dns_class; ttl = r.ttl; rdata = signature_in r.rdata; mdns_cache_flush = r.mdns_cache_flush }
+signature_of r =
+    record {
+      name = r.name;
+      dns_class = r.dns_class;
+      ttl = r.ttl;
+      rdata = signature_in r.rdata;
+      mdns_cache_flush = r.mdns_cache_flush;
+    }
 
 -- what the records of a section are: ordinary records, EDNS and a signature
 pub record SectionValue : Type 0 where
@@ -90,12 +97,22 @@ pub record SectionValue : Type 0 where
 
 -- a section that is being read, as contracts see it
 abbrev pub section_value : Section → SectionValue
-section_value s = record { records = s.records.items; edns = s.edns; signature = option_map (λ b. b.value) s.signature }
+section_value s =
+    record {
+      records = s.records.items;
+      edns = s.edns;
+      signature = option_map (λ b. b.value) s.signature;
+    }
 
 -- what reading a section answers, as contracts see it
 abbrev pub parts_value : Vec (Record RData) × Option Edns × Option (Box (Record (List ℕ)))
     → SectionValue
-parts_value parts = record { records = parts.0.items; edns = parts.1; signature = option_map (λ b. b.value) parts.2 }
+parts_value parts =
+    record {
+      records = parts.0.items;
+      edns = parts.1;
+      signature = option_map (λ b. b.value) parts.2;
+    }
 
 -- what records become: EDNS and a signature by themselves, and the other records in their order
 abbrev pub section_of : List (Record RData) → SectionValue
@@ -122,7 +139,8 @@ abbrev pub fault_of : Bool → OpCode → SectionValue → Record RData → Opti
 fault_of is_additional_section op s r =
     if is_empty_data r.rdata && not (is_update op || is_opt r) then Some faults.InvalidEmptyRecord
     else (if is_some s.signature then Some faults.RecordAfterSig
-    else (if not is_additional_section && is_additional r then Some (faults.RecordNotInAdditionalSection (type_of_data r.rdata))
+    else (if not is_additional_section && is_additional r
+    then Some (faults.RecordNotInAdditionalSection (type_of_data r.rdata))
     else (if is_some s.edns && is_opt r then Some faults.DuplicateEdns
     else None)))
 
@@ -133,7 +151,8 @@ unless_fault (Some fault) s = Err fault
 
 -- a section with a record that was read after its records, if the record may stand there
 abbrev pub tested : Bool → OpCode → SectionValue → Record RData → Result SectionValue DecodeError
-tested is_additional_section op s r = unless_fault (fault_of is_additional_section op s r) (with_record s r)
+tested is_additional_section op s r =
+    unless_fault (fault_of is_additional_section op s r) (with_record s r)
 
 -- A section with as many records more, each tested before the next is read, or the first fault.
 unfoldable pub section_from : Bool → OpCode → SectionValue → ℕ → List ℕ → ℕ → Read SectionValue
@@ -145,7 +164,8 @@ section_from is_additional_section op s (suc n) bytes i = do
 
 -- the section of as many records at a place
 abbrev pub section_at : Bool → OpCode → ℕ → List ℕ → ℕ → Read SectionValue
-section_at is_additional_section op count bytes i = section_from is_additional_section op empty_section count bytes i
+section_at is_additional_section op count bytes i =
+    section_from is_additional_section op empty_section count bytes i
 
 -- what the three sections of a message are
 pub record SectionsValue : Type 0 where
@@ -155,7 +175,12 @@ pub record SectionsValue : Type 0 where
 
 -- the sections of a message that is being read, as contracts see them
 abbrev pub sections_value : Sections → SectionsValue
-sections_value s = record { answers = section_value s.answers; authorities = section_value s.authorities; additionals = section_value s.additionals }
+sections_value s =
+    record {
+      answers = section_value s.answers;
+      authorities = section_value s.authorities;
+      additionals = section_value s.additionals;
+    }
 
 -- the three sections at a place, one after another
 abbrev pub sections_at : OpCode → HeaderCounts → List ℕ → ℕ → Read SectionsValue
@@ -163,7 +188,10 @@ sections_at op counts bytes i = do
   answers ← section_at false op counts.answers bytes i
   authorities ← section_at false op counts.authorities bytes answers.1
   additionals ← section_at true op counts.additionals bytes authorities.1
-  Ok (record { answers = answers.0; authorities = authorities.0; additionals = additionals.0 }, additionals.1)
+  Ok (
+    record { answers = answers.0; authorities = authorities.0; additionals = additionals.0 },
+    additionals.1,
+  )
 
 -- ---- the word of a section
 
@@ -187,7 +215,8 @@ AtMostOneOpt rs = length (filter is_opt rs) ≤ 1
 
 -- Records back to back, as many as are counted, which stand in B from i up to e and may stand in the section, and
 -- what they are together.
-pub record IsSectionAt (is_additional_section : Bool) (op : OpCode) (count : ℕ) (B : List ℕ) (i : ℕ) (s : SectionValue) (e : ℕ) : Type 0 where
+pub record IsSectionAt (is_additional_section : Bool) (op : OpCode) (count : ℕ) (B : List ℕ) (i : ℕ)
+    (s : SectionValue) (e : ℕ) : Type 0 where
   pub records : List (Record RData)
   pub words : BackToBack (IsRecordAt B) i records e
   pub counted : length records ≡ count

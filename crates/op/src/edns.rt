@@ -1,5 +1,6 @@
 //! EDNS: what an OPT record says (RFC 6891).
 
+ghost use Rattle.base.specs.declared.limits.TheConstants.{MIN_PAYLOAD};
 ghost use Rattle.std.specs.Prelude.{◌≡◌, ◌⊎◌, MatchResult, Some, max};
 ghost use Rattle.std.specs.Option.{option_copied};
 ghost use Rattle.base_data.specs.OPT.{first_option};
@@ -12,6 +13,7 @@ ghost use Rattle.std.specs.Borrow.{sem};
 mod edns_flags;
 mod writing;
 
+use base::limits::MIN_PAYLOAD;
 use base::{DNSClass, ProtoError, RecordType};
 use base_data::{EdnsOption, OPT, RData};
 pub use edns_flags::{EdnsFlags, flags_are_their_number};
@@ -48,7 +50,7 @@ impl Edns {
             rcode_high: 0,
             version: 0,
             flags: EdnsFlags::default(),
-            max_payload: 512,
+            max_payload: MIN_PAYLOAD,
             options: OPT::new(Vec::new(alloc)),
         }
     }
@@ -142,9 +144,9 @@ impl Edns {
     /// Sets the payload size, of 512 bytes at least (RFC 6891, 6.2.3).
     pub fn set_max_payload(&mut self, max_payload: u16) -> &mut Edns
         ensures same { result.ghost_name ≡ self.entry.ghost_name }
-        ensures value { result.now ≡ record self.old { max_payload = max 512 max_payload } }
+        ensures value { result.now ≡ record self.old { max_payload = max MIN_PAYLOAD max_payload } }
     {
-        self.max_payload = max_payload.max(512);
+        self.max_payload = max_payload.max(MIN_PAYLOAD);
         self
     }
 }
@@ -152,7 +154,8 @@ impl Edns {
 impl TryFrom<&Record> for Edns {
     type Error = ProtoError;
 
-    ghost try_from_gives = { λ opt result. MatchResult result (λ edns. IsOptData opt.now.rdata × (edns ≡ edns_of opt.now))
+    ghost try_from_gives = { λ opt result. MatchResult result
+        (λ edns. IsOptData opt.now.rdata × (edns ≡ edns_of opt.now))
         (λ e. (e ≡ refusals.Memory) ⊎ ((e ≡ refusals.NotOpt) × ¬ (IsOptData opt.now.rdata))) };
 
     /// What an OPT record says (RFC 6891, 6.1.3). Its class number is the payload size, below 512 too.

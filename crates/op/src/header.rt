@@ -95,7 +95,8 @@ fn high_byte_of(metadata: &Metadata) -> u8
 /// RA, AD, CD and the code.
 fn low_byte_of(metadata: &Metadata) -> u8
     ensures { let m = metadata.now in result
-        ≡ low_byte m.recursion_available m.authentic_data m.checking_disabled (code_number m.response_code % 16) }
+        ≡ low_byte m.recursion_available m.authentic_data m.checking_disabled
+        (code_number m.response_code % 16) }
 {
     let recursion_available = u8::from(metadata.recursion_available);
     let authentic_data = u8::from(metadata.authentic_data);
@@ -160,7 +161,8 @@ impl BinDecodable for Header {
     /// `InsufficientBytes` where fewer than twelve bytes are left.
     #[tactic(auto, using(base::proofs::AddsLemmas::adds_none), unfolding(crate::specs::Header::header_at))]
     fn read(decoder: &mut BinDecoder<'_>) -> Result<Header, DecodeError>
-        ensures read { Reads (λ x. x) decoder.old decoder.new result (header_at decoder.old.bytes decoder.old.index) }
+        ensures read { Reads (λ x. x) decoder.old decoder.new result
+            (header_at decoder.old.bytes decoder.old.index) }
         ensures counts { Counts decoder.old decoder.new result }
         ensures passed { Passes decoder.old decoder.new result }
         ensures adds { IfOk result (λ _. AddsPassed [] decoder.old decoder.new) }
@@ -187,7 +189,8 @@ impl BinDecodable for Header {
 #[inline(always)]
 fn number(bytes: &[u8], at: usize) -> u16
     requires { at + 2 ≤ length bytes.now }
-    ensures { result ≡ from_be_bytes w16 (slice_index bytes.now (at + 0) ∷ slice_index bytes.now (at + 1) ∷ []) }
+    ensures { result
+        ≡ from_be_bytes w16 (slice_index bytes.now (at + 0) ∷ slice_index bytes.now (at + 1) ∷ []) }
 {
     u16::from_be_bytes([bytes[at], bytes[at + 1]])
 }

@@ -86,7 +86,8 @@ impl LowerQuery {
 impl TryFrom<Query> for LowerQuery {
     type Error = ProtoError;
 
-    ghost try_from_gives = { λ query result. MatchResult result (λ lower. lower ≡ query) (λ e. e ≡ refusals.Memory) };
+    ghost try_from_gives = { λ query result. MatchResult result (λ lower. lower ≡ query)
+        (λ e. e ≡ refusals.Memory) };
 
     /// The question with its name in lower case beside it (RFC 4343, 3), as `query` answers it.
     ///

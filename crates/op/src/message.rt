@@ -20,6 +20,7 @@ use crate::op_code::OpCode;
 use crate::query::Query;
 use crate::response_code::ResponseCode;
 pub use base::EmitAndCount;
+use base::limits::MIN_PAYLOAD;
 use base::{ProtoError, RecordType};
 use base_data::TSIG;
 use rr::Record;
@@ -88,7 +89,10 @@ impl Message {
         response_code: ResponseCode,
     ) -> Message
         ensures { message_value result
-            ≡ empty_message (record (plain_metadata id MessageType.Response op_code) { response_code = response_code }) }
+            ≡ empty_message
+            (record (plain_metadata id MessageType.Response op_code) {
+              response_code = response_code;
+            }) }
     {
         let mut message = Message::response(alloc, id, op_code);
         message.metadata.response_code = response_code;
@@ -102,7 +106,9 @@ impl Message {
     /// If memory runs out; the message stays as it was then.
     pub fn add_query(&mut self, query: Query) -> Result<(), ProtoError>
         ensures ok { OnOk result (message_value self.new
-            ≡ record (message_value self.old) { queries = (message_value self.old).queries ++ query ∷ [] }) }
+            ≡ record (message_value self.old) {
+              queries = (message_value self.old).queries ++ query ∷ [];
+            }) }
         ensures err { OnErr result (message_value self.new ≡ message_value self.old) }
         ensures only { IsOkUnless result ProtoError.Memory }
     {
@@ -116,7 +122,9 @@ impl Message {
     /// If memory runs out; the message stays as it was then.
     pub fn add_answer(&mut self, answer: Record) -> Result<(), ProtoError>
         ensures ok { OnOk result (message_value self.new
-            ≡ record (message_value self.old) { answers = (message_value self.old).answers ++ answer ∷ [] }) }
+            ≡ record (message_value self.old) {
+              answers = (message_value self.old).answers ++ answer ∷ [];
+            }) }
         ensures err { OnErr result (message_value self.new ≡ message_value self.old) }
         ensures only { IsOkUnless result ProtoError.Memory }
     {
@@ -130,7 +138,9 @@ impl Message {
     /// If memory runs out; the message stays as it was then.
     pub fn add_authority(&mut self, authority: Record) -> Result<(), ProtoError>
         ensures ok { OnOk result (message_value self.new
-            ≡ record (message_value self.old) { authorities = (message_value self.old).authorities ++ authority ∷ [] }) }
+            ≡ record (message_value self.old) {
+              authorities = (message_value self.old).authorities ++ authority ∷ [];
+            }) }
         ensures err { OnErr result (message_value self.new ≡ message_value self.old) }
         ensures only { IsOkUnless result ProtoError.Memory }
     {
@@ -144,7 +154,9 @@ impl Message {
     /// If memory runs out; the message stays as it was then.
     pub fn add_additional(&mut self, additional: Record) -> Result<(), ProtoError>
         ensures ok { OnOk result (message_value self.new
-            ≡ record (message_value self.old) { additionals = (message_value self.old).additionals ++ additional ∷ [] }) }
+            ≡ record (message_value self.old) {
+              additionals = (message_value self.old).additionals ++ additional ∷ [];
+            }) }
         ensures err { OnErr result (message_value self.new ≡ message_value self.old) }
         ensures only { IsOkUnless result ProtoError.Memory }
     {
@@ -180,7 +192,8 @@ impl Message {
     ) -> Result<(), ProtoError>
         requires can { I.can_next queries }
         requires countable { IsCountable (I.remaining queries) }
-        ensures added { AddsGiven I.next_gives queries (message_value self.old).queries (message_value self.new).queries result }
+        ensures added { AddsGiven I.next_gives queries (message_value self.old).queries
+            (message_value self.new).queries result }
         ensures others { message_value self.new
             ≡ record (message_value self.old) { queries = (message_value self.new).queries } }
         ensures only { IsOkUnless result ProtoError.Memory }
@@ -199,7 +212,8 @@ impl Message {
     ) -> Result<(), ProtoError>
         requires can { I.can_next records }
         requires countable { IsCountable (I.remaining records) }
-        ensures added { AddsGiven I.next_gives records (message_value self.old).answers (message_value self.new).answers result }
+        ensures added { AddsGiven I.next_gives records (message_value self.old).answers
+            (message_value self.new).answers result }
         ensures others { message_value self.new
             ≡ record (message_value self.old) { answers = (message_value self.new).answers } }
         ensures only { IsOkUnless result ProtoError.Memory }
@@ -218,9 +232,12 @@ impl Message {
     ) -> Result<(), ProtoError>
         requires can { I.can_next records }
         requires countable { IsCountable (I.remaining records) }
-        ensures added { AddsGiven I.next_gives records (message_value self.old).authorities (message_value self.new).authorities result }
+        ensures added { AddsGiven I.next_gives records (message_value self.old).authorities
+            (message_value self.new).authorities result }
         ensures others { message_value self.new
-            ≡ record (message_value self.old) { authorities = (message_value self.new).authorities } }
+            ≡ record (message_value self.old) {
+              authorities = (message_value self.new).authorities;
+            } }
         ensures only { IsOkUnless result ProtoError.Memory }
     {
         Ok(append(&mut self.authorities, records)?)
@@ -237,9 +254,12 @@ impl Message {
     ) -> Result<(), ProtoError>
         requires can { I.can_next records }
         requires countable { IsCountable (I.remaining records) }
-        ensures added { AddsGiven I.next_gives records (message_value self.old).additionals (message_value self.new).additionals result }
+        ensures added { AddsGiven I.next_gives records (message_value self.old).additionals
+            (message_value self.new).additionals result }
         ensures others { message_value self.new
-            ≡ record (message_value self.old) { additionals = (message_value self.new).additionals } }
+            ≡ record (message_value self.old) {
+              additionals = (message_value self.new).additionals;
+            } }
         ensures only { IsOkUnless result ProtoError.Memory }
     {
         Ok(append(&mut self.additionals, records)?)
@@ -278,8 +298,8 @@ impl Message {
         ensures { result ≡ payload_taken self.now.edns }
     {
         match &self.edns {
-            Some(edns) => edns.max_payload().max(512),
-            None => 512,
+            Some(edns) => edns.max_payload().max(MIN_PAYLOAD),
+            None => MIN_PAYLOAD,
         }
     }
 
@@ -310,7 +330,10 @@ impl Message {
 
     /// The message as a response: QR alone changes (RFC 1035, 4.1.1). Takes no memory.
     pub fn into_response(mut self) -> Message
-        ensures { result ≡ record self { metadata = record self.metadata { message_type = MessageType.Response } } }
+        ensures { result
+            ≡ record self {
+              metadata = record self.metadata { message_type = MessageType.Response };
+            } }
     {
         self.metadata.message_type = MessageType::Response;
         self

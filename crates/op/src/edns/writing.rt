@@ -18,7 +18,8 @@ use rr::Record;
 impl TryFrom<&Edns> for Record {
     type Error = ProtoError;
 
-    ghost try_from_gives = { λ edns result. MatchResult result (λ opt. opt ≡ edns_record edns.now) (λ e. e ≡ refusals.Memory) };
+    ghost try_from_gives = { λ edns result. MatchResult result (λ opt. opt ≡ edns_record edns.now)
+        (λ e. e ≡ refusals.Memory) };
 
     /// The OPT record: its owner is the root, its class the payload size, and its TTL the high code, the version and
     /// the flags (RFC 6891, 6.1.2 and 6.1.3). Without options its data is empty data of type OPT.

@@ -80,7 +80,8 @@ impl Metadata {
 
     /// Puts an OPT record's eight bits above the lowest four of the code, and keeps no others (RFC 6891, 6.1.3).
     pub fn merge_response_code(&mut self, high: u8)
-        ensures { self.new ≡ record self.old { response_code = code_from high (code_low self.old.response_code) } }
+        ensures { self.new
+            ≡ record self.old { response_code = code_from high (code_low self.old.response_code) } }
     {
         self.response_code = ResponseCode::from(high, self.response_code.low());
     }

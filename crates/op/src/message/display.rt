@@ -83,7 +83,9 @@ impl fmt::Display for SectionLines<'_> {
 struct SectionsText<'a>(&'a Message);
 
 impl fmt::Display for SectionsText<'_> {
-    ghost output = { λ text. Some (if shows_sections text.0.now.metadata then sections_text (message_value text.0.now) else []) };
+    ghost output = { λ text.
+        Some (if shows_sections text.0.now.metadata then sections_text (message_value text.0.now)
+        else []) };
 
     fn fmt<W: fmt::Write>(&self, f: &mut fmt::Formatter<W>) -> fmt::Result {
         if !shows_sections(&self.0.metadata) {

@@ -43,7 +43,8 @@ pub fn reading_is_the_message_word()
         → (message_at B i ≡ Ok (m, e)) ↔ IsMessageAt B i m e }
     ensures once { (B : List ℕ) (i : ℕ) (m n : MessageValue) (e f : ℕ) → IsMessageAt B i m e
         → IsMessageAt B i n f → (m ≡ n) × (e ≡ f) }
-    ensures section { (is_additional : Bool) (op : _) (count : ℕ) (B : List ℕ) (i : ℕ) (s : SectionValue) (e : ℕ)
+    ensures section { (is_additional : Bool) (op : _) (count : ℕ) (B : List ℕ) (i : ℕ)
+        (s : SectionValue) (e : ℕ)
         → (section_at is_additional op count B i ≡ Ok (s, e))
         ↔ IsSectionAt is_additional op count B i s e }
     ensures questions { (count : ℕ) (B : List ℕ) (i : ℕ) (qs : List Query) (e : ℕ)
@@ -51,7 +52,8 @@ pub fn reading_is_the_message_word()
         ↔ (BackToBack (IsQueryAt B) i qs e × (length qs ≡ count)) }
     ensures fault { (B : List ℕ) (i : ℕ) (f : DecodeError)
         → (message_at B i ≡ Err f) ↔ IsMessageFault B i f }
-    ensures section_fault { (is_additional : Bool) (op : _) (count : ℕ) (B : List ℕ) (i : ℕ) (f : DecodeError)
+    ensures section_fault { (is_additional : Bool) (op : _) (count : ℕ) (B : List ℕ) (i : ℕ)
+        (f : DecodeError)
         → (section_at is_additional op count B i ≡ Err f)
         ↔ IsSectionFault is_additional op count B i f }
     ensures questions_fault { (count : ℕ) (B : List ℕ) (i : ℕ) (f : DecodeError)
@@ -89,9 +91,12 @@ pub fn equal_messages()
         → IsTrue (⟦<Message as PartialEq>⟧.eq a b) ↔ ((a.metadata ≡ b.metadata)
         × IsTrue (pointwise ⟦<Query as PartialEq>⟧.eq a.queries.items b.queries.items)
         × IsTrue (pointwise ⟦<Record<RData> as PartialEq>⟧.eq a.answers.items b.answers.items)
-        × IsTrue (pointwise ⟦<Record<RData> as PartialEq>⟧.eq a.authorities.items b.authorities.items)
-        × IsTrue (pointwise ⟦<Record<RData> as PartialEq>⟧.eq a.additionals.items b.additionals.items)
-        × IsTrue (option_eq ⟦<Record<TSIG> as PartialEq>⟧.eq (option_map (λ s. s.value) a.signature) (option_map (λ s. s.value) b.signature))
+        × IsTrue (pointwise ⟦<Record<RData> as PartialEq>⟧.eq a.authorities.items
+        b.authorities.items)
+        × IsTrue (pointwise ⟦<Record<RData> as PartialEq>⟧.eq a.additionals.items
+        b.additionals.items)
+        × IsTrue (option_eq ⟦<Record<TSIG> as PartialEq>⟧.eq (option_map (λ s. s.value) a.signature)
+        (option_map (λ s. s.value) b.signature))
         × IsTrue (option_eq ⟦<Edns as PartialEq>⟧.eq a.edns b.edns)) }
     ensures equivalence { IsEquivalence ⟦<Message as PartialEq>⟧.eq }
 {}
@@ -150,7 +155,8 @@ pub fn what_a_message_loses_did_not_fit()
     ensures additionals { (limit : ℕ) (m : MessageValue) (at : ℕ) (stored : List Stored)
         → LostForRoom record_written limit m.additionals (parts_of limit m at stored).additionals }
     ensures edns { (limit : ℕ) (m : MessageValue) (at : ℕ) (stored : List Stored)
-        → LostForRoom record_written limit (listed (option_map edns_record (raised m))) (parts_of limit m at stored).edns }
+        → LostForRoom record_written limit (listed (option_map edns_record (raised m)))
+        (parts_of limit m at stored).edns }
     ensures signature { (limit : ℕ) (m : MessageValue) (at : ℕ) (stored : List Stored)
         → LostForRoom record_written limit (listed (option_map signature_record m.signature))
         (parts_of limit m at stored).signature }

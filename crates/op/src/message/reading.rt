@@ -36,13 +36,16 @@ impl Message {
         decoder: &mut BinDecoder<'_>,
         count: usize,
     ) -> Result<Vec<Query>, ProtoError>
-        ensures read { ReadsOrDecodes (λ v. v.items) decoder.old decoder.new result (many_at query_at count decoder.old.bytes decoder.old.index) }
+        ensures read { ReadsOrDecodes (λ v. v.items) decoder.old decoder.new result
+            (many_at query_at count decoder.old.bytes decoder.old.index) }
         ensures counts { Counts decoder.old decoder.new result }
         ensures passed { Passes decoder.old decoder.new result }
         ensures fault { (f : DecodeError) → result ≡ Err (ProtoError.Decode f)
             → (f ≡ DecodeError.Memory)
             ⊎ IsQueriesFault count decoder.old.bytes decoder.old.index f }
-        ensures adds { IfOk result (λ _. AddsPassed (queries_places count decoder.old.bytes decoder.old.index) decoder.old decoder.new) }
+        ensures adds { IfOk result
+            (λ _. AddsPassed (queries_places count decoder.old.bytes decoder.old.index) decoder.old
+            decoder.new) }
     {
         Ok(read_many::<Query>(decoder, count)?)
     }
@@ -64,12 +67,15 @@ impl Message {
         is_additional: bool,
         op_code: OpCode,
     ) -> Result<(Vec<Record>, Option<Edns>, Option<Box<Record<TSIG>>>), DecodeError>
-        ensures read { Reads parts_value decoder.old decoder.new result (section_at is_additional op_code count decoder.old.bytes decoder.old.index) }
+        ensures read { Reads parts_value decoder.old decoder.new result
+            (section_at is_additional op_code count decoder.old.bytes decoder.old.index) }
         ensures fault { IfErr result (λ f. (f ≡ DecodeError.Memory)
             ⊎ IsSectionFault is_additional op_code count decoder.old.bytes decoder.old.index f) }
         ensures counts { Counts decoder.old decoder.new result }
         ensures passed { Passes decoder.old decoder.new result }
-        ensures adds { IfOk result (λ _. AddsPassed (records_places count decoder.old.bytes decoder.old.index) decoder.old decoder.new) }
+        ensures adds { IfOk result
+            (λ _. AddsPassed (records_places count decoder.old.bytes decoder.old.index) decoder.old
+            decoder.new) }
     {
         let section = Message::read_section(decoder, count, is_additional, op_code)?;
         Ok((section.records, section.edns, section.signature))
@@ -82,10 +88,13 @@ impl Message {
         is_additional: bool,
         op_code: OpCode,
     ) -> Result<Section, DecodeError>
-        ensures read { Reads section_value decoder.old decoder.new result (section_at is_additional op_code count decoder.old.bytes decoder.old.index) }
+        ensures read { Reads section_value decoder.old decoder.new result
+            (section_at is_additional op_code count decoder.old.bytes decoder.old.index) }
         ensures counts { Counts decoder.old decoder.new result }
         ensures passed { Passes decoder.old decoder.new result }
-        ensures adds { IfOk result (λ _. AddsPassed (records_places count decoder.old.bytes decoder.old.index) decoder.old decoder.new) }
+        ensures adds { IfOk result
+            (λ _. AddsPassed (records_places count decoder.old.bytes decoder.old.index) decoder.old
+            decoder.new) }
     {
         let mut section = Section::new(decoder.allocator());
         // a count that lies takes no more room than the bytes that are left could fill
@@ -105,10 +114,14 @@ impl Message {
         counts: HeaderCounts,
         op_code: OpCode,
     ) -> Result<Sections, DecodeError>
-        ensures read { Reads sections_value decoder.old decoder.new result (sections_at op_code counts decoder.old.bytes decoder.old.index) }
+        ensures read { Reads sections_value decoder.old decoder.new result
+            (sections_at op_code counts decoder.old.bytes decoder.old.index) }
         ensures counts { Counts decoder.old decoder.new result }
         ensures passed { Passes decoder.old decoder.new result }
-        ensures adds { IfOk result (λ _. AddsPassed (records_places (counts.answers + counts.authorities + counts.additionals) decoder.old.bytes decoder.old.index) decoder.old decoder.new) }
+        ensures adds { IfOk result
+            (λ _. AddsPassed
+            (records_places (counts.answers + counts.authorities + counts.additionals)
+            decoder.old.bytes decoder.old.index) decoder.old decoder.new) }
     {
         let answers = Message::read_section(decoder, usize::from(counts.answers), false, op_code)?;
         let authorities = Message::read_section(
@@ -139,12 +152,15 @@ impl Message {
     /// The first fault; `Memory` if memory runs out. A decoder that refused isn't used again.
     #[tactic(auto, unfolding(crate::specs::Message::message_at))]
     pub fn read(decoder: &mut BinDecoder<'_>) -> Result<Message, DecodeError>
-        ensures read { Reads message_value decoder.old decoder.new result (message_at decoder.old.bytes decoder.old.index) }
+        ensures read { Reads message_value decoder.old decoder.new result
+            (message_at decoder.old.bytes decoder.old.index) }
         ensures fault { IfErr result (λ f. (f ≡ DecodeError.Memory)
             ⊎ IsMessageFault decoder.old.bytes decoder.old.index f) }
         ensures counts { Counts decoder.old decoder.new result }
         ensures passed { Passes decoder.old decoder.new result }
-        ensures adds { IfOk result (λ _. AddsPassed (message_places decoder.old.bytes decoder.old.index) decoder.old decoder.new) }
+        ensures adds { IfOk result
+            (λ _. AddsPassed (message_places decoder.old.bytes decoder.old.index) decoder.old
+            decoder.new) }
     {
         let header = Header::read(decoder)?;
         let queries = read_many::<Query>(decoder, usize::from(header.counts.queries))?;
@@ -254,7 +270,8 @@ impl Section {
     ) -> Result<(), DecodeError>
         ensures ok { OnOk result (tested is_additional op_code (section_value self.old) next
             ≡ Ok (section_value self.new)) }
-        ensures err { IfErr result (λ e. Fails e (tested is_additional op_code (section_value self.old) next)) }
+        ensures err { IfErr result
+            (λ e. Fails e (tested is_additional op_code (section_value self.old) next)) }
     {
         match self.fault_of(&next, is_additional, op_code) {
             Some(fault) => Err(fault),

@@ -28,7 +28,8 @@ impl<'a> Model for AllSections<'a> {
 
     ghost Value = { List (Entry RData) };
 
-    ghost view = { λ s. iter_rest s.answers ++ (iter_rest s.authorities ++ iter_rest s.additionals) };
+    ghost view = { λ s. iter_rest s.answers
+        ++ (iter_rest s.authorities ++ iter_rest s.additionals) };
 }
 
 impl<'a> Iterator for AllSections<'a> {
@@ -68,7 +69,8 @@ impl Model for TakeAllSections {
 
     ghost Value = { List (Entry RData) };
 
-    ghost view = { λ s. into_iter_items s.answers ++ (into_iter_items s.authorities ++ into_iter_items s.additionals) };
+    ghost view = { λ s. into_iter_items s.answers
+        ++ (into_iter_items s.authorities ++ into_iter_items s.additionals) };
 }
 
 impl Iterator for TakeAllSections {

@@ -1,5 +1,6 @@
 //! Writes messages (RFC 1035, 4.1; RFC 2181, 9).
 
+ghost use Rattle.base.specs.declared.limits.TheConstants.{MAX_MESSAGE};
 ghost use Rattle.std.specs.Option.{option_copied};
 ghost use Rattle.std.specs.Prelude.{◌≡◌, ◌⊎◌, [], ◌<◌, ◌^◌, drop, Err, IfErr, IfOk, IsOkUnless, length, Ok};
 ghost use Rattle.base.specs.Laws.{Keeps};
@@ -16,13 +17,14 @@ ghost use Rattle.op.specs.declared.header.Header.{Header as WrittenHeader};
 use crate::edns::{Edns, RaisedEdns};
 use crate::header::{Header, HeaderCounts, Metadata};
 use crate::message::Message;
+use base::limits::MIN_PAYLOAD;
 use base::{BinEncodable, BinEncoder, EmitAndCount, ProtoError};
 use base_data::TSIG;
 use rr::Record;
 use std::iter;
 
 /// The bytes that a new message has room for at first: as many as fit a datagram (RFC 1035, 4.2.1).
-const ROOM: usize = 512;
+const ROOM: usize = MIN_PAYLOAD as usize;
 
 impl Message {
     /// Writes the message after what the encoder holds: a header, the questions, answers, authorities and additional
@@ -43,14 +45,18 @@ impl Message {
         ensures emitted { IfOk result (λ _. (h : WrittenHeader)
             × Emitted (message_value self.now) (state_of encoder.old) (state_of encoder.new) h) }
         ensures exact { IfOk result (λ _. state_of encoder.new
-            ≡ after (message_written (state_of encoder.old).limit (message_value self.now)) (state_of encoder.old)) }
+            ≡ after (message_written (state_of encoder.old).limit (message_value self.now))
+            (state_of encoder.old)) }
         ensures written { Fits (message_value self.now) → (state_of encoder.old).bytes ≡ []
             → (state_of encoder.old).suffixes ≡ []
-            → IfOk result (λ _. IsWritten (message_value self.now) (state_of encoder.old).limit (state_of encoder.new).bytes) }
+            → IfOk result
+            (λ _. IsWritten (message_value self.now) (state_of encoder.old).limit
+            (state_of encoder.new).bytes) }
         ensures succeeds { (state_of encoder.old).bytes ≡ [] → (state_of encoder.old).suffixes ≡ []
             → HasRoom (message_value self.now) (state_of encoder.old).limit
             → IsOkUnless result ProtoError.Memory }
-        ensures answer { IfOk result (λ _. message_answer_at (state_of encoder.old).limit (message_value self.now)
+        ensures answer { IfOk result
+            (λ _. message_answer_at (state_of encoder.old).limit (message_value self.now)
             (length (state_of encoder.old).bytes) (state_of encoder.old).suffixes
             ≡ Ok (drop (length (state_of encoder.old).bytes) (state_of encoder.new).bytes)) }
         ensures refused { IfErr result (λ e. (e ≡ ProtoError.Memory)
@@ -78,21 +84,22 @@ impl Message {
     /// `NotAllRecordsWritten` where the questions don't fit, with the number of those before the first that doesn't;
     /// `Memory` if memory runs out.
     pub fn to_vec(&self) -> Result<Vec<u8>, ProtoError>
-        ensures succeeds { HasRoom (message_value self.now) 65535
+        ensures succeeds { HasRoom (message_value self.now) MAX_MESSAGE
             → IsOkUnless result ProtoError.Memory }
         ensures exact { IfOk result (λ bytes. bytes.items
-            ≡ message_bytes 65535 (message_value self.now)) }
+            ≡ message_bytes MAX_MESSAGE (message_value self.now)) }
         ensures written { Fits (message_value self.now)
-            → IfOk result (λ bytes. IsWritten (message_value self.now) 65535 bytes.items) }
+            → IfOk result (λ bytes. IsWritten (message_value self.now) MAX_MESSAGE bytes.items) }
         ensures refused { IfErr result (λ e. (e ≡ ProtoError.Memory)
-            ⊎ IsTooSmall (message_value self.now) 65535 e) }
-        ensures emitted { IfOk result (λ bytes. EmittedNew (message_value self.now) 65535 bytes.items) }
+            ⊎ IsTooSmall (message_value self.now) MAX_MESSAGE e) }
+        ensures emitted { IfOk result
+            (λ bytes. EmittedNew (message_value self.now) MAX_MESSAGE bytes.items) }
         ensures left { IfErr result (λ e. (e ≡ ProtoError.Memory)
-            ⊎ LeavesNew (message_value self.now) 65535 e) }
-        ensures answer { IfOk result (λ bytes. message_answer 65535 (message_value self.now)
+            ⊎ LeavesNew (message_value self.now) MAX_MESSAGE e) }
+        ensures answer { IfOk result (λ bytes. message_answer MAX_MESSAGE (message_value self.now)
             ≡ Ok bytes.items) }
         ensures refusal { IfErr result (λ e. (e ≡ ProtoError.Memory)
-            ⊎ (message_answer 65535 (message_value self.now) ≡ Err e)) }
+            ⊎ (message_answer MAX_MESSAGE (message_value self.now) ≡ Err e)) }
     {
         let mut buffer = Vec::with_capacity(*self.queries.allocator(), ROOM)?;
         {
@@ -136,9 +143,11 @@ where
     requires authorities { N.can_emit authorities.old }
     requires additionals { D.can_emit additionals.old }
     ensures keeps { Keeps (state_of encoder.old) (state_of encoder.new) }
-    ensures run { Composition A.emits N.emits D.emits answers.old answers.new authorities.old authorities.new additionals.old additionals.new
+    ensures run { Composition A.emits N.emits D.emits answers.old answers.new authorities.old
+        authorities.new additionals.old additionals.new
         metadata.now Q.emits queries.old queries.new
-        (opt_records metadata.now.response_code (option_copied edns.entry)) (signature_records (option_copied signature.entry))
+        (opt_records metadata.now.response_code (option_copied edns.entry))
+        (signature_records (option_copied signature.entry))
         (state_of encoder.old) result (state_of encoder.new) }
     ensures narrow { (state_of encoder.old).limit < 2 ^ 16 }
 {
@@ -177,7 +186,8 @@ fn emit_part<P: EmitAndCount>(
 ) -> Result<Written, ProtoError>
     requires { P.can_emit part.old }
     ensures keeps { Keeps (state_of encoder.old) (state_of encoder.new) }
-    ensures run { EmitsPart P.emits part.old part.new (state_of encoder.old) result (state_of encoder.new) }
+    ensures run { EmitsPart P.emits part.old part.new (state_of encoder.old) result
+        (state_of encoder.new) }
 {
     count_items(part.emit(encoder))
 }
@@ -188,7 +198,8 @@ fn emit_item<E: BinEncodable>(
     encoder: &mut BinEncoder<'_>,
 ) -> Result<Written, ProtoError>
     ensures keeps { Keeps (state_of encoder.old) (state_of encoder.new) }
-    ensures run { WritesItems E.word E.plain_len E.owner E.written (listed (option_copied item.entry))
+    ensures run { WritesItems E.word E.plain_len E.owner E.written
+        (listed (option_copied item.entry))
         (state_of encoder.old) result (state_of encoder.new) }
 {
     match item {
