@@ -78,6 +78,8 @@ impl Edns {
 
     /// The flags, to be changed (RFC 6891, 6.1.4).
     pub fn flags_mut(&mut self) -> &mut EdnsFlags
+        // When the borrow of the answer ends, EDNS has the flags as they were left, and all else as
+        // before.
         ensures* writes_back { sem 𝓛 (LendsFlags self.entry result) }
         ensures value { result.now ≡ self.old.flags }
     {
@@ -107,6 +109,8 @@ impl Edns {
 
     /// The options, to be changed (RFC 6891, 6.1.2).
     pub fn options_mut(&mut self) -> &mut OPT
+        // When the borrow of the answer ends, EDNS has the options as they were left, and all else
+        // as before.
         ensures* writes_back { sem 𝓛 (LendsOptions self.entry result) }
         ensures value { result.now ≡ self.old.options }
     {
@@ -115,6 +119,7 @@ impl Edns {
 
     /// Sets the high 8 bits of the response code (RFC 6891, 6.1.3). What a message writes there is its own code's.
     pub fn set_rcode_high(&mut self, rcode_high: u8) -> &mut Edns
+        // The reference that is answered is `self` itself.
         ensures same { result.ghost_name ≡ self.entry.ghost_name }
         ensures value { result.now ≡ record self.old { rcode_high = rcode_high } }
     {
@@ -124,6 +129,7 @@ impl Edns {
 
     /// Sets the version (RFC 6891, 6.1.3).
     pub fn set_version(&mut self, version: u8) -> &mut Edns
+        // The reference that is answered is `self` itself.
         ensures same { result.ghost_name ≡ self.entry.ghost_name }
         ensures value { result.now ≡ record self.old { version = version } }
     {
@@ -133,6 +139,7 @@ impl Edns {
 
     /// Sets DO (RFC 3225, 3). The other flags stay.
     pub fn set_dnssec_ok(&mut self, dnssec_ok: bool) -> &mut Edns
+        // The reference that is answered is `self` itself.
         ensures same { result.ghost_name ≡ self.entry.ghost_name }
         ensures value { result.now
             ≡ record self.old { flags = record self.old.flags { dnssec_ok = dnssec_ok } } }
@@ -143,6 +150,7 @@ impl Edns {
 
     /// Sets the payload size, of 512 bytes at least (RFC 6891, 6.2.3).
     pub fn set_max_payload(&mut self, max_payload: u16) -> &mut Edns
+        // The reference that is answered is `self` itself.
         ensures same { result.ghost_name ≡ self.entry.ghost_name }
         ensures value { result.now ≡ record self.old { max_payload = max MIN_PAYLOAD max_payload } }
     {

@@ -45,7 +45,9 @@ impl Header {
     /// has more than four bits spills into QR.
     pub fn to_bytes(&self) -> [u8; 12]
         ensures bytes { result ≡ header_bytes (raw_header self.now) }
+        // ID and counts are below 2^16.
         ensures narrow { IsNarrow self.now.metadata.id self.now.counts }
+        // Wherever these bytes stand in a buffer, the header stands in wire form.
         ensures word { (B : List ℕ) (i : ℕ) → Stands (header_bytes (raw_header self.now)) B i
             → HeaderWord self.now B i (i + 12) }
     {
@@ -124,13 +126,18 @@ impl BinEncodable for Header {
     ///
     /// `MaxBufferSizeExceeded` where a byte would pass the limit; `Memory` if memory runs out. Nothing is written then.
     fn emit(&self, encoder: &mut BinEncoder<'_>) -> Result<(), ProtoError>
+        // Whatever the answer, what stood before stays, and no byte is written past the limit.
         ensures keeps { Keeps (state_of encoder.old) (state_of encoder.new) }
+        // After `Ok`, ID and counts are below 2^16.
         ensures fits { OnOk result (IsNarrow self.now.metadata.id self.now.counts) }
+        // After `Ok` exactly these twelve bytes were written; refused for the limit only where they
+        // would pass it.
         ensures exact { Exactly (just (header_bytes (raw_header self.now)))
             (state_of encoder.old) (state_of encoder.new) result }
         ensures ok { OnOk result (state_of encoder.new
             ≡ appended (header_bytes (raw_header self.now)) (state_of encoder.old)) }
         ensures err { OnErr result (state_of encoder.new ≡ state_of encoder.old) }
+        // Where twelve bytes would pass the limit, the answer is `MaxBufferSizeExceeded`.
         ensures full { (state_of encoder.old).limit < length (state_of encoder.old).bytes + 12
             → IsErrOf result ProtoError.MaxBufferSizeExceeded }
     {
@@ -163,12 +170,16 @@ impl BinDecodable for Header {
     fn read(decoder: &mut BinDecoder<'_>) -> Result<Header, DecodeError>
         ensures read { Reads (λ x. x) decoder.old decoder.new result
             (header_at decoder.old.bytes decoder.old.index) }
+        // These two are as of every read: see `BinDecodable::read`.
         ensures counts { Counts decoder.old decoder.new result }
         ensures passed { Passes decoder.old decoder.new result }
+        // A header has no names, so no target of a pointer is kept in addition.
         ensures adds { IfOk result (λ _. AddsPassed [] decoder.old decoder.new) }
+        // The header stands at the place, and the decoder after its twelve bytes.
         ensures found { IfOk result (λ h. IsHeaderAt decoder.old.bytes decoder.old.index h
             × (decoder.new.index ≡ decoder.old.index + 12)) }
         ensures only { IsOkUnless result DecodeError.InsufficientBytes }
+        // Refused with `InsufficientBytes` exactly where fewer than twelve bytes are left.
         ensures short { length decoder.old.bytes < decoder.old.index + 12
             ↔ IsErrOf result DecodeError.InsufficientBytes }
     {
@@ -224,8 +235,10 @@ fn bit(byte: u8, place: u32) -> bool
 /// Reading a header is the header word, and a header can't be read exactly where fewer than twelve bytes
 /// are left (RFC 1035, 4.1.1).
 pub fn reading_is_the_header_word()
+    // A header is read exactly where its word stands, and ends twelve bytes after that place.
     ensures word { (B : List ℕ) (i : ℕ) (h : Header) (e : ℕ)
         → (header_at B i ≡ Ok (h, e)) ↔ (IsHeaderAt B i h × (e ≡ i + 12)) }
+    // Refused exactly where fewer than twelve bytes are left, with `InsufficientBytes`.
     ensures fault { (B : List ℕ) (i : ℕ) (f : DecodeError)
         → (header_at B i ≡ Err f) ↔ ((f ≡ DecodeError.InsufficientBytes) × (length B < i + 12)) }
 {}

@@ -165,6 +165,7 @@ impl Message {
 
     /// Sets what the OPT record says (RFC 6891, 6.1). All else stays.
     pub fn set_edns(&mut self, edns: Edns) -> &mut Message
+        // The reference that is answered is `self` itself.
         ensures same { result.ghost_name ≡ self.entry.ghost_name }
         ensures value { result.now ≡ record self.old { edns = Some edns } }
     {
@@ -174,6 +175,7 @@ impl Message {
 
     /// Sets the signature (RFC 8945, 5.1). All else stays.
     pub fn set_signature(&mut self, signature: Box<Record<TSIG>>) -> &mut Message
+        // The reference that is answered is `self` itself.
         ensures same { result.ghost_name ≡ self.entry.ghost_name }
         ensures value { result.now ≡ record self.old { signature = Some signature } }
     {
@@ -190,10 +192,14 @@ impl Message {
         &mut self,
         queries: I,
     ) -> Result<(), ProtoError>
+        // The iterator may be asked for its next item.
         requires can { I.can_next queries }
+        // It gives no more items than a `usize` can count.
         requires countable { IsCountable (I.remaining queries) }
+        // All items stand after the others, or those before the item for which there was no memory.
         ensures added { AddsGiven I.next_gives queries (message_value self.old).queries
             (message_value self.new).queries result }
+        // Whatever the answer, all else of the message stays.
         ensures others { message_value self.new
             ≡ record (message_value self.old) { queries = (message_value self.new).queries } }
         ensures only { IsOkUnless result ProtoError.Memory }
@@ -210,10 +216,14 @@ impl Message {
         &mut self,
         records: I,
     ) -> Result<(), ProtoError>
+        // The iterator may be asked for its next item.
         requires can { I.can_next records }
+        // It gives no more items than a `usize` can count.
         requires countable { IsCountable (I.remaining records) }
+        // All items stand after the others, or those before the item for which there was no memory.
         ensures added { AddsGiven I.next_gives records (message_value self.old).answers
             (message_value self.new).answers result }
+        // Whatever the answer, all else of the message stays.
         ensures others { message_value self.new
             ≡ record (message_value self.old) { answers = (message_value self.new).answers } }
         ensures only { IsOkUnless result ProtoError.Memory }
@@ -230,10 +240,14 @@ impl Message {
         &mut self,
         records: I,
     ) -> Result<(), ProtoError>
+        // The iterator may be asked for its next item.
         requires can { I.can_next records }
+        // It gives no more items than a `usize` can count.
         requires countable { IsCountable (I.remaining records) }
+        // All items stand after the others, or those before the item for which there was no memory.
         ensures added { AddsGiven I.next_gives records (message_value self.old).authorities
             (message_value self.new).authorities result }
+        // Whatever the answer, all else of the message stays.
         ensures others { message_value self.new
             ≡ record (message_value self.old) {
               authorities = (message_value self.new).authorities;
@@ -252,10 +266,14 @@ impl Message {
         &mut self,
         records: I,
     ) -> Result<(), ProtoError>
+        // The iterator may be asked for its next item.
         requires can { I.can_next records }
+        // It gives no more items than a `usize` can count.
         requires countable { IsCountable (I.remaining records) }
+        // All items stand after the others, or those before the item for which there was no memory.
         ensures added { AddsGiven I.next_gives records (message_value self.old).additionals
             (message_value self.new).additionals result }
+        // Whatever the answer, all else of the message stays.
         ensures others { message_value self.new
             ≡ record (message_value self.old) {
               additionals = (message_value self.new).additionals;
@@ -410,7 +428,9 @@ fn append<T: Drop, I: Iterator<Item = T> + Drop>(
     list: &mut Vec<T>,
     items: I,
 ) -> Result<(), AllocError>
+    // The iterator may be asked for its next item.
     requires can { I.can_next items }
+    // It gives no more items than a `usize` can count.
     requires countable { IsCountable (I.remaining items) }
     ensures { AddsGiven I.next_gives items list.old.items list.new.items result }
 {

@@ -58,6 +58,7 @@ impl Query {
 
     /// Asks for another name. The other fields stay.
     pub fn set_name(&mut self, name: Name) -> &mut Query
+        // The reference that is answered is `self` itself.
         ensures same { result.ghost_name ≡ self.entry.ghost_name }
         ensures value { result.now ≡ record self.old { name = name } }
     {
@@ -67,6 +68,7 @@ impl Query {
 
     /// Asks for another type. The other fields stay.
     pub fn set_query_type(&mut self, query_type: RecordType) -> &mut Query
+        // The reference that is answered is `self` itself.
         ensures same { result.ghost_name ≡ self.entry.ghost_name }
         ensures value { result.now ≡ record self.old { query_type = query_type } }
     {
@@ -76,6 +78,7 @@ impl Query {
 
     /// Asks in another class. The other fields stay.
     pub fn set_query_class(&mut self, query_class: DNSClass) -> &mut Query
+        // The reference that is answered is `self` itself.
         ensures same { result.ghost_name ≡ self.entry.ghost_name }
         ensures value { result.now ≡ record self.old { query_class = query_class } }
     {
@@ -85,6 +88,7 @@ impl Query {
 
     /// Asks for an answer by unicast, or not (RFC 6762, 5.4). The other fields stay.
     pub fn set_mdns_unicast_response(&mut self, flag: bool) -> &mut Query
+        // The reference that is answered is `self` itself.
         ensures same { result.ghost_name ≡ self.entry.ghost_name }
         ensures value { result.now ≡ record self.old { mdns_unicast_response = flag } }
     {
@@ -167,8 +171,12 @@ impl BinEncodable for Query {
 
 /// Writes type and class, the high byte of each first. They are written at once, since that is faster.
 fn emit_fields(query_type: u16, class: u16, encoder: &mut BinEncoder<'_>) -> Result<(), ProtoError>
+    // Whatever the answer, what stood before stays, and no byte is written past the limit.
     ensures keeps { Keeps (state_of encoder.old) (state_of encoder.new) }
+    // Type and class are below 2^16.
     ensures fits { (query_type < 2 ^ 16) × (class < 2 ^ 16) }
+    // After `Ok` exactly these four bytes were written; refused for the limit only where they would
+    // pass it.
     ensures exact { Exactly (just (to_be_bytes w16 query_type ++ to_be_bytes w16 class))
         (state_of encoder.old) (state_of encoder.new) result }
 {
@@ -186,13 +194,18 @@ struct Fields {
 
 /// Reads type and class. They are read at once, since that is faster.
 fn read_fields(decoder: &mut BinDecoder<'_>) -> Result<Fields, DecodeError>
+    // Type and class stand at the place, one after the other.
     ensures found { let B = decoder.old.bytes in let i = decoder.old.index in
         IfOk result (λ f. IsNumberAt w16 B i f.query_type × IsNumberAt w16 B (i + 2) f.class) }
+    // The decoder stands after these four bytes.
     ensures after { OnOk result ((decoder.new.index ≡ decoder.old.index + 4)
         × (decoder.new.bytes ≡ decoder.old.bytes)) }
+    // Refused only where fewer than four bytes are left.
     ensures short { IfErr result (λ e. (e ≡ DecodeError.InsufficientBytes)
         × (length decoder.old.bytes < decoder.old.index + 4)) }
+    // No target of a pointer is kept in addition.
     ensures kept { decoder.new.kept ≡ decoder.old.kept }
+    // These two are as of every read: see `BinDecodable::read`.
     ensures counts { Counts decoder.old decoder.new result }
     ensures passed { Passes decoder.old decoder.new result }
 {
@@ -248,12 +261,16 @@ impl fmt::Display for Query {
 /// that fits, and was written, is read as the same question; of one whose class number has the top bit, that
 /// bit is read as the wish for a unicast response.
 pub fn reading_is_the_question_word()
+    // A question is read, with its end, exactly where its word stands.
     ensures word { (B : List ℕ) (i : ℕ) (q : Query) (e : ℕ)
         → (query_at B i ≡ Ok (q, e)) ↔ IsQueryAt B i q e }
+    // Reading a question is refused exactly with its first fault in the terms of the standard.
     ensures fault { (B : List ℕ) (i : ℕ) (f : DecodeError)
         → (query_at B i ≡ Err f) ↔ IsQueryFault B i f }
+    // Where a question was written, the question stands that its fields on the wire are read as.
     ensures written { (B : List ℕ) (i : ℕ) (q : Query) (e : ℕ) → QueryWord q B i e
         → IsQueryAt B i (query_value (raw_query q)) e }
+    // Of a question that fits, that is the same question.
     ensures same { (q : Query) → FitsQuery q → query_value (raw_query q) ≡ q }
 {}
 

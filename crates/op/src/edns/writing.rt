@@ -96,8 +96,12 @@ impl<'a> BinEncodable for RaisedEdns<'a> {
 
 /// Writes the OPT record of EDNS with these high bits of the response code.
 fn emit_raised(edns: &Edns, rcode_high: u8, encoder: &mut BinEncoder<'_>) -> Result<(), ProtoError>
+    // Whatever the answer, what stood before stays, and no byte is written past the limit.
     ensures keeps { Keeps (state_of encoder.old) (state_of encoder.new) }
+    // After `Ok`, the numbers of the OPT record and of its options are in range.
     ensures fits { OnOk result (EdnsKept (record edns.now { rcode_high = rcode_high })) }
+    // After `Ok` exactly this OPT record was written; refused for the limit only where it would
+    // pass it.
     ensures exact { Exactly (edns_written (record edns.now { rcode_high = rcode_high }))
         (state_of encoder.old) (state_of encoder.new) result }
 {
@@ -117,8 +121,12 @@ fn ttl_of(rcode_high: u8, version: u8, flags: u16) -> u32
 /// Writes the name of the root, the type, the payload size and a TTL, the highest byte of each first. They are written
 /// at once, since that is faster.
 fn emit_front(payload: u16, ttl: u32, encoder: &mut BinEncoder<'_>) -> Result<(), ProtoError>
+    // Whatever the answer, what stood before stays, and no byte is written past the limit.
     ensures keeps { Keeps (state_of encoder.old) (state_of encoder.new) }
+    // The payload size is below 2^16, and the TTL is below 2^32.
     ensures fits { (payload < 2 ^ 16) × (ttl < 2 ^ 32) }
+    // After `Ok` exactly these nine bytes were written; refused for the limit only where they would
+    // pass it.
     ensures exact { Exactly (just (0 ∷ fields_of (type_number RecordType.OPT) payload ttl))
         (state_of encoder.old) (state_of encoder.new) result }
 {

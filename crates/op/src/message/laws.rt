@@ -39,23 +39,31 @@ use rr::Record;
 /// begins one at most; and it refuses with the first fault of what stands there. The same for the records of a
 /// section, and for questions back to back (RFC 1035, 4.1).
 pub fn reading_is_the_message_word()
+    // A message is read, with its end, exactly where its word stands.
     ensures word { (B : List ℕ) (i : ℕ) (m : MessageValue) (e : ℕ)
         → (message_at B i ≡ Ok (m, e)) ↔ IsMessageAt B i m e }
+    // At a place one message at most begins, and it has one end.
     ensures once { (B : List ℕ) (i : ℕ) (m n : MessageValue) (e f : ℕ) → IsMessageAt B i m e
         → IsMessageAt B i n f → (m ≡ n) × (e ≡ f) }
+    // The records of a section are read exactly where as many stand back to back as are counted,
+    // and each may stand there.
     ensures section { (is_additional : Bool) (op : _) (count : ℕ) (B : List ℕ) (i : ℕ)
         (s : SectionValue) (e : ℕ)
         → (section_at is_additional op count B i ≡ Ok (s, e))
         ↔ IsSectionAt is_additional op count B i s e }
+    // Questions are read exactly where as many stand back to back as are counted.
     ensures questions { (count : ℕ) (B : List ℕ) (i : ℕ) (qs : List Query) (e : ℕ)
         → (many_at query_at count B i ≡ Ok (qs, e))
         ↔ (BackToBack (IsQueryAt B) i qs e × (length qs ≡ count)) }
+    // Reading a message is refused exactly with its first fault in the terms of the standard.
     ensures fault { (B : List ℕ) (i : ℕ) (f : DecodeError)
         → (message_at B i ≡ Err f) ↔ IsMessageFault B i f }
+    // The same of the records of a section.
     ensures section_fault { (is_additional : Bool) (op : _) (count : ℕ) (B : List ℕ) (i : ℕ)
         (f : DecodeError)
         → (section_at is_additional op count B i ≡ Err f)
         ↔ IsSectionFault is_additional op count B i f }
+    // The same of questions.
     ensures questions_fault { (count : ℕ) (B : List ℕ) (i : ℕ) (f : DecodeError)
         → (many_at query_at count B i ≡ Err f) ↔ IsQueriesFault count B i f }
 {}
@@ -69,7 +77,9 @@ pub fn names_of_a_message_stand_at_their_places()
 
 /// A message that was read fits, and an uncut cut of it is the same message.
 pub fn what_is_read_fits()
+    // A message that was read can stand on the wire, and is read there as it was.
     ensures fits { (B : List ℕ) (i : ℕ) (m : MessageValue) (e : ℕ) → IsMessageAt B i m e → Fits m }
+    // A cut of it that loses nothing, under any limit, is read as the same message.
     ensures uncut { (B : List ℕ) (i : ℕ) (m : MessageValue) (e : ℕ) → IsMessageAt B i m e
         → All (λ b. b < 256) B
         → (limit : ℕ) (C : List ℕ) (c : MessageValue) (k : IsCut m limit C c) → IsUncut k → c ≡ m }
@@ -154,6 +164,7 @@ pub fn what_a_message_loses_did_not_fit()
         → LostForRoom record_written limit m.authorities (parts_of limit m at stored).authorities }
     ensures additionals { (limit : ℕ) (m : MessageValue) (at : ℕ) (stored : List Stored)
         → LostForRoom record_written limit m.additionals (parts_of limit m at stored).additionals }
+    // EDNS is written as an OPT record, which has the high bits of the response code.
     ensures edns { (limit : ℕ) (m : MessageValue) (at : ℕ) (stored : List Stored)
         → LostForRoom record_written limit (listed (option_map edns_record (raised m)))
         (parts_of limit m at stored).edns }

@@ -36,13 +36,17 @@ impl Message {
         decoder: &mut BinDecoder<'_>,
         count: usize,
     ) -> Result<Vec<Query>, ProtoError>
+        // A refusal is `Decode` of the fault that reading so many questions meets, or of `Memory`.
         ensures read { ReadsOrDecodes (λ v. v.items) decoder.old decoder.new result
             (many_at query_at count decoder.old.bytes decoder.old.index) }
+        // These two are as of every read: see `BinDecodable::read`.
         ensures counts { Counts decoder.old decoder.new result }
         ensures passed { Passes decoder.old decoder.new result }
+        // Unless memory ran out, `Decode` has the first fault in the terms of the standard.
         ensures fault { (f : DecodeError) → result ≡ Err (ProtoError.Decode f)
             → (f ≡ DecodeError.Memory)
             ⊎ IsQueriesFault count decoder.old.bytes decoder.old.index f }
+        // The targets that the names of these questions pass are kept in addition, and no others.
         ensures adds { IfOk result
             (λ _. AddsPassed (queries_places count decoder.old.bytes decoder.old.index) decoder.old
             decoder.new) }
@@ -69,10 +73,13 @@ impl Message {
     ) -> Result<(Vec<Record>, Option<Edns>, Option<Box<Record<TSIG>>>), DecodeError>
         ensures read { Reads parts_value decoder.old decoder.new result
             (section_at is_additional op_code count decoder.old.bytes decoder.old.index) }
+        // A refusal is the first fault in the terms of the standard, unless memory ran out.
         ensures fault { IfErr result (λ f. (f ≡ DecodeError.Memory)
             ⊎ IsSectionFault is_additional op_code count decoder.old.bytes decoder.old.index f) }
+        // These two are as of every read: see `BinDecodable::read`.
         ensures counts { Counts decoder.old decoder.new result }
         ensures passed { Passes decoder.old decoder.new result }
+        // The targets that the names of these records pass are kept in addition, and no others.
         ensures adds { IfOk result
             (λ _. AddsPassed (records_places count decoder.old.bytes decoder.old.index) decoder.old
             decoder.new) }
@@ -90,8 +97,10 @@ impl Message {
     ) -> Result<Section, DecodeError>
         ensures read { Reads section_value decoder.old decoder.new result
             (section_at is_additional op_code count decoder.old.bytes decoder.old.index) }
+        // These two are as of every read: see `BinDecodable::read`.
         ensures counts { Counts decoder.old decoder.new result }
         ensures passed { Passes decoder.old decoder.new result }
+        // The targets that the names of these records pass are kept in addition, and no others.
         ensures adds { IfOk result
             (λ _. AddsPassed (records_places count decoder.old.bytes decoder.old.index) decoder.old
             decoder.new) }
@@ -116,8 +125,10 @@ impl Message {
     ) -> Result<Sections, DecodeError>
         ensures read { Reads sections_value decoder.old decoder.new result
             (sections_at op_code counts decoder.old.bytes decoder.old.index) }
+        // These two are as of every read: see `BinDecodable::read`.
         ensures counts { Counts decoder.old decoder.new result }
         ensures passed { Passes decoder.old decoder.new result }
+        // The targets that the names of all these records pass are kept in addition, and no others.
         ensures adds { IfOk result
             (λ _. AddsPassed
             (records_places (counts.answers + counts.authorities + counts.additionals)
@@ -154,10 +165,13 @@ impl Message {
     pub fn read(decoder: &mut BinDecoder<'_>) -> Result<Message, DecodeError>
         ensures read { Reads message_value decoder.old decoder.new result
             (message_at decoder.old.bytes decoder.old.index) }
+        // A refusal is the first fault in the terms of the standard, unless memory ran out.
         ensures fault { IfErr result (λ f. (f ≡ DecodeError.Memory)
             ⊎ IsMessageFault decoder.old.bytes decoder.old.index f) }
+        // These two are as of every read: see `BinDecodable::read`.
         ensures counts { Counts decoder.old decoder.new result }
         ensures passed { Passes decoder.old decoder.new result }
+        // The targets that the names of the message pass are kept in addition, and no others.
         ensures adds { IfOk result
             (λ _. AddsPassed (message_places decoder.old.bytes decoder.old.index) decoder.old
             decoder.new) }
@@ -189,12 +203,17 @@ impl Message {
     ///
     /// The buffer's first fault; `Memory` if memory runs out.
     pub fn from_vec(alloc: Global, buffer: &[u8]) -> Result<Message, DecodeError>
+        // The message that is answered stands, in wire form, at the start of the buffer.
         ensures found { IfOk result (λ m. (e : ℕ) × IsMessageAt buffer.now 0 (message_value m) e) }
+        // Where a message begins the buffer, it is that one, unless memory runs out.
         ensures only { (m : MessageValue) (e : ℕ) → IsMessageAt buffer.now 0 m e
             → MatchResult result (λ read. message_value read ≡ m) (λ f. f ≡ DecodeError.Memory) }
+        // A refusal is the fault of the definition `message_at`, or memory ran out.
         ensures refused { IfErr result (λ f. Fails f (message_at buffer.now 0)) }
+        // Unless memory ran out, that is the first fault in the terms of the standard.
         ensures fault { IfErr result (λ f. (f ≡ DecodeError.Memory)
             ⊎ IsMessageFault buffer.now 0 f) }
+        // A message that was read can stand on the wire, and is read there as it was.
         ensures fits { IfOk result (λ m. Fits (message_value m)) }
     {
         Message::read(&mut BinDecoder::new(alloc, buffer))
@@ -268,8 +287,10 @@ impl Section {
         is_additional: bool,
         op_code: OpCode,
     ) -> Result<(), DecodeError>
+        // After `Ok` the record passes all tests, and the section has it in addition.
         ensures ok { OnOk result (tested is_additional op_code (section_value self.old) next
             ≡ Ok (section_value self.new)) }
+        // A refusal is the first test that the record fails, or memory ran out.
         ensures err { IfErr result
             (λ e. Fails e (tested is_additional op_code (section_value self.old) next)) }
     {

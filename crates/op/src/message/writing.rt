@@ -41,24 +41,34 @@ impl Message {
     /// if memory runs out. A new encoder with room for header and questions uncompressed refuses for memory alone.
     #[tactic(auto, using(crate::proofs::AnswerLemmas::only_memory))]
     pub fn emit(&self, encoder: &mut BinEncoder<'_>) -> Result<(), ProtoError>
+        // Whatever the answer, what stood before stays, and no byte is written past the limit.
         ensures keeps { Keeps (state_of encoder.old) (state_of encoder.new) }
+        // Of any message, all questions and a front of each other part were written, after a header
+        // that counts what stands, with TC where anything is lost.
         ensures emitted { IfOk result (λ _. (h : WrittenHeader)
             × Emitted (message_value self.now) (state_of encoder.old) (state_of encoder.new) h) }
+        // The bytes and suffixes added are exactly those of the definition `message_written`.
         ensures exact { IfOk result (λ _. state_of encoder.new
             ≡ after (message_written (state_of encoder.old).limit (message_value self.now))
             (state_of encoder.old)) }
+        // Of a message that fits, the bytes of a new encoder are a cut under its limit, and are
+        // read as that cut.
         ensures written { Fits (message_value self.now) → (state_of encoder.old).bytes ≡ []
             → (state_of encoder.old).suffixes ≡ []
             → IfOk result
             (λ _. IsWritten (message_value self.now) (state_of encoder.old).limit
             (state_of encoder.new).bytes) }
+        // With room for header and uncompressed questions, a new encoder refuses for memory alone.
         ensures succeeds { (state_of encoder.old).bytes ≡ [] → (state_of encoder.old).suffixes ≡ []
             → HasRoom (message_value self.now) (state_of encoder.old).limit
             → IsOkUnless result ProtoError.Memory }
+        // The bytes that are added are what the definition `message_answer_at` gives.
         ensures answer { IfOk result
             (λ _. message_answer_at (state_of encoder.old).limit (message_value self.now)
             (length (state_of encoder.old).bytes) (state_of encoder.old).suffixes
             ≡ Ok (drop (length (state_of encoder.old).bytes) (state_of encoder.new).bytes)) }
+        // Refused for memory, or as `message_answer_at` gives: nothing is written where the header
+        // has no room, and else room for it and the questions before the first without room.
         ensures refused { IfErr result (λ e. (e ≡ ProtoError.Memory)
             ⊎ (Leaves (message_value self.now) (state_of encoder.old) e (state_of encoder.new)
             × (message_answer_at (state_of encoder.old).limit (message_value self.now)
@@ -84,20 +94,28 @@ impl Message {
     /// `NotAllRecordsWritten` where the questions don't fit, with the number of those before the first that doesn't;
     /// `Memory` if memory runs out.
     pub fn to_vec(&self) -> Result<Vec<u8>, ProtoError>
+        // A message whose header and uncompressed questions have room is refused for memory alone.
         ensures succeeds { HasRoom (message_value self.now) MAX_MESSAGE
             → IsOkUnless result ProtoError.Memory }
+        // The bytes are exactly those of the definition `message_bytes`.
         ensures exact { IfOk result (λ bytes. bytes.items
             ≡ message_bytes MAX_MESSAGE (message_value self.now)) }
+        // Of a message that fits, the bytes are a cut under 65,535 bytes, and are read as that cut.
         ensures written { Fits (message_value self.now)
             → IfOk result (λ bytes. IsWritten (message_value self.now) MAX_MESSAGE bytes.items) }
+        // Refused only for memory, or where the uncompressed questions have no room.
         ensures refused { IfErr result (λ e. (e ≡ ProtoError.Memory)
             ⊎ IsTooSmall (message_value self.now) MAX_MESSAGE e) }
+        // Of any message, all questions and a front of each other part were written.
         ensures emitted { IfOk result
             (λ bytes. EmittedNew (message_value self.now) MAX_MESSAGE bytes.items) }
+        // The number of a refusal is that of the questions before the first that has no room.
         ensures left { IfErr result (λ e. (e ≡ ProtoError.Memory)
             ⊎ LeavesNew (message_value self.now) MAX_MESSAGE e) }
+        // The bytes are what the definition `message_answer` gives.
         ensures answer { IfOk result (λ bytes. message_answer MAX_MESSAGE (message_value self.now)
             ≡ Ok bytes.items) }
+        // Refused with what `message_answer` gives, unless memory runs out.
         ensures refusal { IfErr result (λ e. (e ≡ ProtoError.Memory)
             ⊎ (message_answer MAX_MESSAGE (message_value self.now) ≡ Err e)) }
     {
@@ -138,17 +156,22 @@ where
     A: EmitAndCount,
     N: EmitAndCount,
     D: EmitAndCount,
+    // These four are what `EmitAndCount::emit` of each part requires.
     requires queries { Q.can_emit queries.old }
     requires answers { A.can_emit answers.old }
     requires authorities { N.can_emit authorities.old }
     requires additionals { D.can_emit additionals.old }
+    // Whatever the answer, what stood before stays, and no byte is written past the limit.
     ensures keeps { Keeps (state_of encoder.old) (state_of encoder.new) }
+    // Room for the header is kept, the parts are written in turn, each as its own `emit` says, and
+    // the header is filled in. A refusal ends it, but for a part after the questions that is cut.
     ensures run { Composition A.emits N.emits D.emits answers.old answers.new authorities.old
         authorities.new additionals.old additionals.new
         metadata.now Q.emits queries.old queries.new
         (opt_records metadata.now.response_code (option_copied edns.entry))
         (signature_records (option_copied signature.entry))
         (state_of encoder.old) result (state_of encoder.new) }
+    // The limit is at most 65,535 bytes.
     ensures narrow { (state_of encoder.old).limit < 2 ^ 16 }
 {
     let place = encoder.place::<Header>()?;
@@ -185,7 +208,9 @@ fn emit_part<P: EmitAndCount>(
     encoder: &mut BinEncoder<'_>,
 ) -> Result<Written, ProtoError>
     requires { P.can_emit part.old }
+    // Whatever the answer, what stood before stays, and no byte is written past the limit.
     ensures keeps { Keeps (state_of encoder.old) (state_of encoder.new) }
+    // The part was written as its own `emit` says, and its items counted up to where it is cut.
     ensures run { EmitsPart P.emits part.old part.new (state_of encoder.old) result
         (state_of encoder.new) }
 {
@@ -197,7 +222,9 @@ fn emit_item<E: BinEncodable>(
     item: Option<&E>,
     encoder: &mut BinEncoder<'_>,
 ) -> Result<Written, ProtoError>
+    // Whatever the answer, what stood before stays, and no byte is written past the limit.
     ensures keeps { Keeps (state_of encoder.old) (state_of encoder.new) }
+    // An item was written, or is cut since it has no room; refused for memory alone.
     ensures run { WritesItems E.word E.plain_len E.owner E.written
         (listed (option_copied item.entry))
         (state_of encoder.old) result (state_of encoder.new) }
@@ -231,6 +258,7 @@ fn add_counts(one: Written, other: Written) -> Result<Written, ProtoError>
 
 /// A count in two bytes, as a header holds it.
 fn narrow(count: usize, is_cut: bool) -> Result<Written, ProtoError>
+    // Refused, with a `Message`, exactly where the count passes 65,535.
     ensures { Narrows count is_cut result }
 {
     match u16::try_from(count) {
@@ -248,6 +276,7 @@ fn header_of(
     authorities: Written,
     additionals: Written,
 ) -> Result<Header, ProtoError>
+    // Refused, with a `Message`, exactly where the questions are more than 65,535.
     ensures { HasHeader metadata query_count answers authorities additionals result }
 {
     let Ok(queries) = u16::try_from(query_count) else {
