@@ -1,6 +1,6 @@
 -- What an encoder answers to a message is decided by the message, the limit, the place and the suffixes stored.
 use Rattle.std.proofs.Common.{◌≡◌, ◌⊎◌, ℕ, ◌+◌, ◌≤◌, Bool, true, false, List, [], ◌++◌, length, refl, ap, sym, ◌∙◌, inl, inr, subst, arith, length-append, Result, Ok, Err}
-use Rattle.std.specs.Prelude.{IfErr, IfOk, drop, if◌then◌else◌, nat_lt, replicate}
+use Rattle.std.specs.Prelude.{drop, if◌then◌else◌, nat_lt, replicate}
 use Rattle.std.proofs.lemmas.Bool.{le-ltb, lt-ltb}
 use Rattle.std.proofs.Math.Seq.{drop-append_seam}
 use Rattle.base.specs.State.{State, Stored, appended}
@@ -77,20 +77,10 @@ module _ (m : MessageValue) (old : State) where
   left_answers new refusals.NotAResponse left = absurd left
   left_answers new (refusals.Decode d) left = absurd left
 
-  pub answer_if : (new : State) (result : Result Header ProtoError) → IfOk result (λ h. Emitted m old new h)
-      → IfOk result (λ _. answer ≡ Ok (drop (length old.bytes) new.bytes))
-  answer_if new (Ok h) e = emitted_answers new h e
-  answer_if new (Err f) e = tt
-
   pub refusal_answers : (new : State) (f : ProtoError) → (f ≡ refusals.Memory) ⊎ Leaves m old f new
       → (f ≡ refusals.Memory) ⊎ (Leaves m old f new × (answer ≡ Err f))
   refusal_answers new f (inl memory) = inl memory
   refusal_answers new f (inr left) = inr (left, left_answers new f left)
-
-  pub refusal_if : (new : State) (result : Result Header ProtoError) → IfErr result (λ f. (f ≡ refusals.Memory) ⊎ Leaves m old f new)
-      → IfErr result (λ f. (f ≡ refusals.Memory) ⊎ (Leaves m old f new × (answer ≡ Err f)))
-  refusal_if new (Ok h) left = tt
-  refusal_if new (Err f) left = refusal_answers new f left
 
 -- ---- of an encoder that is new
 

@@ -1,6 +1,6 @@
 -- A message that was composed of slices was emitted.
 use Rattle.std.proofs.Common.{◌≡◌, ℕ, ◌+◌, Bool, true, false, List, [], ◌∷◌, length, refl, ap, sym, ◌∙◌, subst, arith, Result, Ok, Err, Bor, Iter}
-use Rattle.std.specs.Prelude.{◌||◌, ⊤, IfOk, IsSomeAnd, MatchOption, Option, Some, None}
+use Rattle.std.specs.Prelude.{◌||◌, ⊤, IsSomeAnd, MatchOption, Option, Some, None}
 use Rattle.std.specs.Option.{option_copied, option_map}
 use Rattle.std.proofs.iter.Yields.{fronts}
 use Rattle.std.proofs.lemmas.List.{append-nil}
@@ -295,10 +295,6 @@ raised_list f (Some e) = refl
 
 pub raised_edns : (m : MessageValue) (seen : Option Edns) → seen ≡ m.edns → opt_records m.metadata.response_code seen ≡ listed (option_map edns_record (raised m))
 raised_edns m seen same = ap (opt_records m.metadata.response_code) same ∙ raised_list (with_high_bits m.metadata.response_code) m.edns
-
-pub emitted_if : {m : MessageValue} {s : Slices} {old new : State} → AreOf m s → (result : Result Header ProtoError) → Composed m s old result new → IfOk result (λ h. Emitted m old new h)
-emitted_if {m} {s} {old} {new} are (Ok h) run = emitted_of m s are old new h run
-emitted_if are (Err e) run = tt
 
 -- what a box holds, borrowed
 pub unboxed : {X B : Type 0} (value : B → X) (o : Option B) (r : Option (Bor X)) → MatchOption o (r ≡ None) (λ x. IsSomeAnd r (λ y. y.now ≡ value x)) → option_copied r ≡ option_map value o

@@ -1,14 +1,13 @@
 -- What is written of a message, part by part.
 use Rattle.std.proofs.Common.{◌≡◌, ℕ, ◌+◌, ◌≤◌, Bool, List, [], ◌∷◌, ◌++◌, length, take, drop, refl, ap, sym, ◌∙◌, subst, append_assoc, arith, length-append}
-use Rattle.std.specs.Prelude.{◌||◌, nat_lt, replicate, Result, Ok, Err, IfOk}
+use Rattle.std.specs.Prelude.{◌||◌, nat_lt, replicate}
 use Rattle.std.specs.Option.{option_map}
 use Rattle.std.proofs.lemmas.Bool.{le-ltb, lt-ltb}
 use Rattle.std.proofs.lemmas.List.{append-nil}
 use Rattle.std.proofs.Math.Seq.{drop-append_seam, take-append_seam}
 use Rattle.base.specs.Laws.{Keeps}
 use Rattle.base.specs.State.{State, Stored, appended, overwritten}
-use Rattle.base.specs.declared.error.proto_error.ProtoError.{ProtoError}
-use Rattle.base.specs.Written.{Piece, Writing, piece_at, after, both, fitting, in_turn, just, that_fit, Passes}
+use Rattle.base.specs.Written.{Writing, piece_at, after, both, fitting, in_turn, just, that_fit, Passes}
 use Rattle.base.proofs.ItemLemmas.{Each-keeps}
 use Rattle.base.proofs.FittingLemmas.{Fits-front}
 use Rattle.base.proofs.WrittenLemmas.{after-both}
@@ -237,7 +236,3 @@ module _ (m : MessageValue) (old new : State) (h : Header) (e : Emitted m old ne
   -- The bytes of a message that was emitted are a function of the message and the limit.
   pub emitted_exact : length (header_bytes (raw_header h)) ≡ 12 → new ≡ after (message_written old.limit m) old
   emitted_exact twelve = message_exact old.limit m old e.kept e.first e.second e.third e.fourth e.fifth e.sixth e.place are_parts new h header_is twelve e.header
-
-pub exact_if : (m : MessageValue) (old new : State) (result : Result Header ProtoError) → IfOk result (λ h. Emitted m old new h) → IfOk result (λ _. new ≡ after (message_written old.limit m) old)
-exact_if m old new (Ok h) e = emitted_exact m old new h e refl
-exact_if m old new (Err e) emitted = tt

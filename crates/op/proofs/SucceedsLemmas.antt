@@ -1,6 +1,6 @@
 -- A message of slices is refused for memory, or where header or questions have no room, whatever the encoder holds.
 use Rattle.std.proofs.Common.{◌≡◌, ◌⊎◌, ℕ, true, ◌+◌, ◌<◌, ◌≤◌, ◌^◌, List, [], ◌∷◌, length, inl, inr, ap, sym, ◌∙◌, subst, arith, length-append, Result, Ok, Err, Iter}
-use Rattle.std.specs.Prelude.{IfErr, replicate}
+use Rattle.std.specs.Prelude.{replicate}
 use Rattle.base.specs.Items.{EachWritten}
 use Rattle.base.specs.State.{State, appended}
 use Rattle.base.specs.declared.error.proto_error.ProtoError.{ProtoError}
@@ -15,7 +15,6 @@ use Rattle.op.specs.Emitted.{Leaves, WritesFront, WritesRecords, query_owner, re
 use Rattle.op.specs.Fits.{plain_queries}
 use Rattle.op.specs.Message.{MessageValue}
 use Rattle.op.specs.Query.{QueryWord, plain_query, query_written}
-use Rattle.op.specs.declared.header.Header.{Header}
 use Rattle.op.specs.declared.message.writing.Written.{Written}
 use Rattle.op.specs.declared.query.Query.{Query}
 use Rattle.op.proofs.EmittedLemmas.{AreOf, Asked, Composed, EmitsSlice, Extended, Headed, Sectioned, Slice, Slices, emits_records, records_front}
@@ -128,11 +127,6 @@ module _ (m : MessageValue) (s : Slices) (are : AreOf m s) (old new : State)
 
   pub composed_failed : Composed m s old (Err e) new → Left m old new e
   composed_failed run = elim (failed e run) [ inl room ↦ room_failed m old new e room | inr b ↦ queries_next b.value b.between b.ran b.rest ]
-
-pub left_if : {m : MessageValue} {s : Slices} {old new : State} → AreOf m s → (result : Result Header ProtoError) → Composed m s old result new
-    → old.limit < 2 ^ 16 → IfErr result (λ e. (e ≡ refusals.Memory) ⊎ Leaves m old e new)
-left_if are (Ok h) run small = tt
-left_if {m} {s} {old} {new} are (Err e) run small = composed_failed m s are old new small e run
 
 -- ---- what follows of the limit
 
