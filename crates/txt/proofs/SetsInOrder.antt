@@ -2,11 +2,10 @@
 use Rattle.std.proofs.Common.{◌≡◌, ◌-◌, [], ◌∷◌, ◌++◌, length, refl, ap, sym, ◌∙◌, subst, arith, append_assoc, length-append, Bool, true, false, suc, Option, Some, None, Ok}
 use Rattle.std.proofs.lemmas.List.{append-nil}
 use Rattle.std.proofs.lemmas.Map.{lookup-none}
-use Rattle.std.proofs.lemmas.Map.Made.{update_all_none}
 use Rattle.std.proofs.lemmas.Map.Entries.{lookup_tail, none_below_head, none_past_head}
 use Rattle.std.proofs.lemmas.Map.Keys.{IsDistinct-from_sorted, sorted_tail}
-use Rattle.std.specs.BTreeMap.{BTreeMap, IsFromIterResult, insert_entry, is_at}
-use Rattle.std.specs.Cmp.{eq_by_cmp_equiv, tied_itself}
+use Rattle.std.specs.BTreeMap.{insert_entry, is_at}
+use Rattle.std.specs.Cmp.{IsEquivalence, eq_by_cmp_equiv, tied_itself}
 use Rattle.std.specs.List.{AllByRecursion, slice_get}
 use Rattle.std.specs.List.Sorted.{IsStrictlySortedBy}
 use Rattle.std.specs.Map.{keys_of, set_value, update, update_all}
@@ -240,54 +239,6 @@ one_more_put {sets} {run} {whole} {left} e rest more order is last put =
 
 pub all_put : {sets run whole left : ZoneSets} → left ≡ [] → AreBetween sets run whole left → whole ≡ sets ++ run
 all_put {sets} none is = is.have ∙ ap (λ (zs : ZoneSets). sets ++ zs) (ap (λ (zs : ZoneSets). zs ++ is.put) (sym none) ∙ is.all)
-
--- ---- a map that is made of a run
-first_found : (e : RrKey × SetValue) (es : ZoneSets) → set_at (e ∷ es) e.0 ≡ Some e.1
-first_found e es = let own : key_cmp e.0 e.0 ≡ Equal = tied_itself key_cmp-total e.0 in rw own refl
-
-none_after : (e : RrKey × SetValue) (es : ZoneSets) (q : RrKey) → AreInOrder (e ∷ es) → eq_by_cmp key_cmp q e.0 ≡ true → set_at es q ≡ None
-none_after e es q order tied =
-    lookup-none (is_at (key_cmp q)) es (none_past_head (eq_by_cmp_equiv key_cmp-total) q e es (IsDistinct-from_sorted key_cmp (keys_of (e ∷ es)) order) tied)
-
--- of two lists in order that have the same under each key, the first entries and the others are the same
-module _ (x y : RrKey × SetValue) (xs ys : ZoneSets) (s : AreInOrder (x ∷ xs)) (t : AreInOrder (y ∷ ys)) (h : (q : RrKey) → set_at (x ∷ xs) q ≡ set_at (y ∷ ys) q) where
-  ties : (o : Ordering) → key_cmp x.0 y.0 ≡ o → key_cmp x.0 y.0 ≡ Equal
-  ties Less is =
-      let no : Some x.1 ≡ None = sym (first_found x xs) ∙ h x.0 ∙ lookup-none (is_at (key_cmp x.0)) (y ∷ ys) (none_below_head key_cmp-total x.0 y ys t is) in
-      absurd cc
-  ties Equal is = is
-  ties Greater is =
-      let no : Some y.1 ≡ None = sym (first_found y ys) ∙ sym (h y.0) ∙ lookup-none (is_at (key_cmp y.0)) (x ∷ xs) (none_below_head key_cmp-total y.0 x xs s (flipped_back x.0 y.0 is)) in
-      absurd cc
-
-  one_key : x.0 ≡ y.0
-  one_key = key_cmp-exact x.0 y.0 (ties (key_cmp x.0 y.0) refl)
-
-  one_value : x.1 ≡ y.1
-  one_value =
-      let same : Some x.1 ≡ Some y.1 = sym (first_found x xs) ∙ h x.0 ∙ ap (set_at (y ∷ ys)) one_key ∙ first_found y ys in
-      cc
-
-  later_same : (q : RrKey) → set_at xs q ≡ set_at ys q
-  later_same q = by (eq_by_cmp key_cmp q x.0) refl where
-    by : (b : Bool) → eq_by_cmp key_cmp q x.0 ≡ b → set_at xs q ≡ set_at ys q
-    by true is = none_after x xs q s is ∙ sym (none_after y ys q t (ap (eq_by_cmp key_cmp q) (sym one_key) ∙ is))
-    by false is = sym (lookup_tail (is_at (key_cmp q)) x xs is) ∙ h q ∙ lookup_tail (is_at (key_cmp q)) y ys (ap (eq_by_cmp key_cmp q) (sym one_key) ∙ is)
-
-same_list : (es fs : ZoneSets) → AreInOrder es → AreInOrder fs → ((q : RrKey) → set_at es q ≡ set_at fs q) → es ≡ fs
-same_list [] [] s t h = refl
-same_list [] (y ∷ ys) s t h = let no : None ≡ Some y.1 = h y.0 ∙ first_found y ys in absurd cc
-same_list (x ∷ xs) [] s t h = let no : Some x.1 ≡ None = sym (first_found x xs) ∙ h x.0 in absurd cc
-same_list (x ∷ xs) (y ∷ ys) s t h =
-    let rest = same_list xs ys (sorted_tail key_cmp x.0 (keys_of xs) s) (sorted_tail key_cmp y.0 (keys_of ys) t) (later_same x y xs ys s t h) in
-    ap (λ (k : RrKey). (k, x.1) ∷ xs) (one_key x y xs ys s t h) ∙ ap (λ (v : SetValue). (y.0, v) ∷ xs) (one_value x y xs ys s t h)
-    ∙ ap (λ (zs : ZoneSets). y ∷ zs) rest
-
--- it has the sets of the run
-pub made_of_run : (run : ZoneSets) (made : BTreeMap RrKey SetValue) → AreInOrder run → IsFromIterResult key_cmp run made → made.entries ≡ run
-made_of_run run made order is =
-    same_list made.entries run is.1 order (λ q. is.0 q
-    ∙ update_all_none (eq_by_cmp_equiv key_cmp-total) (eq_by_cmp key_cmp) (λ x y. refl) run q (IsDistinct-from_sorted key_cmp (keys_of run) order))
 
 -- a set under a key that is there takes the place of the one there
 pub put_there : (es : ZoneSets) (key : RrKey) (old new : SetValue) → AreInOrder es → set_at es key ≡ Some old → insert_entry key_cmp es key new ≡ set_value (is_at (key_cmp key)) es new

@@ -146,8 +146,7 @@ fn order_to_last(
 
 /// The map with the sets of a run, whose keys are above all of the map.
 ///
-/// An empty map is made of the whole run at once. Into another the last set goes first: so each is below those before
-/// it, and a map looks for its place from the lowest key on.
+/// The last one goes in first: so each is below those before it, and a map looks for its place from the lowest key on.
 ///
 /// # Errors
 ///
@@ -159,11 +158,6 @@ fn append_run(
     requires { IsStrictlySortedBy key_cmp (keys_of (sets.entries ++ run.items)) }
     ensures { IfOk result (λ whole. whole.entries ≡ sets.entries ++ run.items) }
 {
-    if sets.is_empty() {
-        let alloc = *run.allocator();
-        let made = BTreeMap::from_iter(alloc, run)?;
-        return Ok(made);
-    }
     let mut whole = sets;
     let mut left = run;
     'sets: while let Some((key, set)) = left.pop() {
