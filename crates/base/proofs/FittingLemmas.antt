@@ -58,7 +58,8 @@ module _ {A : Type 0} (f : A → Writing) (limit : ℕ) where
       ∙ ap (λ (n : ℕ). y ∷ that_fit f limit (kept ++ lost) n (piece_at (f y) a).suffixes) (sym place)
       ∙ ap (λ (xs : List A). y ∷ xs) (Fits-front kept lost m b rest within full)
 
-  -- and whatever the values and the limit are, those that fit are a front of them, and the first of the others would pass the limit
+  -- and whatever the values and the limit are, those that fit are a front of them, and the first of the others would
+  -- pass the limit
   pub Fits-cut : (xs : List A) (a : State) → (lost : List A) × (xs ≡ that_fit f limit xs (length a.bytes) a.suffixes ++ lost) × Passes f limit (after (fitting f limit xs) a) lost
   Fits-cut [] a = ([], refl, tt)
   Fits-cut (x ∷ xs) a = elim (cases_lt limit (length a.bytes + length (piece_at (f x) a).bytes)) [

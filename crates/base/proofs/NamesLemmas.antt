@@ -13,7 +13,8 @@ pub names_both : {bytes places others : List ℕ} {names after_them : List NameV
 names_both no_more rest = rest
 names_both (one_more at first) rest = one_more at (names_both first rest)
 
--- Where each word is read as its value, and the names of each value stand at their places, so do those of words back to back.
+-- Where each word is read as its value, and the names of each value stand at their places, so do those of words back to
+-- back.
 pub names_of_many : {A : Type 0} {Word : ℕ → A → ℕ → Type 0} {i e : ℕ} {xs : List A} (read : List ℕ → ℕ → Read A) (places : List ℕ → ℕ → List ℕ) (names : A → List NameValue) (bytes : List ℕ)
     → ((i : ℕ) (x : A) (e : ℕ) → Word i x e → read bytes i ≡ Ok (x, e)) → ((i : ℕ) (x : A) (e : ℕ) → read bytes i ≡ Ok (x, e) → NamesStand bytes (places bytes i) (names x))
     → BackToBack Word i xs e → NamesStand bytes (many_names read places (length xs) bytes i) (flat_map names xs)

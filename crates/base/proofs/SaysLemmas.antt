@@ -1,5 +1,5 @@
--- What follows of the states of an encoder from what is known of what is written: what stood stays, it was written as its
--- word, and it was refused only where it has too many bytes.
+-- What follows of the states of an encoder from what is known of what is written: what stood stays, it was written as
+-- its word, and it was refused only where it has too many bytes.
 use Rattle.std.proofs.Common.{◌≡◌, ℕ, ◌+◌, ◌^◌, ◌<◌, ◌≤◌, List, ◌∷◌, length, refl, ap, sym, subst, arith, length-append}
 use Rattle.std.specs.Prelude.{Result, Ok, Err, OnOk, All, Any, max}
 use Rattle.std.proofs.Math.Seq.{drop-append_seam}

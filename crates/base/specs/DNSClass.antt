@@ -13,7 +13,8 @@ use Rattle.base.specs.declared.dns_class.DNSClass.TheVariants as classes
 abbrev pub named_classes : List DNSClass
 named_classes = classes.IN ∷ classes.CH ∷ classes.HS ∷ classes.NONE ∷ classes.ANY ∷ []
 
--- the number on the wire (RFC 1035, 3.2.4 and 3.2.5; RFC 2136, 2.4); an OPT record has a payload size there (RFC 6891, 6.1.2)
+-- the number on the wire (RFC 1035, 3.2.4 and 3.2.5; RFC 2136, 2.4); an OPT record has a payload size there (RFC 6891,
+-- 6.1.2)
 abbrev pub class_number : DNSClass → ℕ
 class_number classes.IN = 1
 class_number classes.CH = 3
@@ -49,7 +50,8 @@ field_top field = nat_le 32768 field
 
 -- the class field of an OPT record: the sender's payload size, of 512 bytes at least (RFC 6891, 6.1.2 and 6.2.3)
 abbrev pub opt_class : ℕ → DNSClass
-opt_class payload = if nat_lt payload MIN_PAYLOAD then classes.OPT MIN_PAYLOAD else classes.OPT payload
+opt_class payload = if nat_lt payload MIN_PAYLOAD then classes.OPT MIN_PAYLOAD
+    else classes.OPT payload
 
 -- whether the class has a name
 abbrev pub is_named_class : DNSClass → Bool

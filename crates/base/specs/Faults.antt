@@ -17,12 +17,13 @@ pub data IsFaulty (bytes : List ℕ) : ℕ → ℕ → ℕ → DecodeError → T
       → IsFaulty bytes s i used faults.InsufficientBytes
   bad_bits : {s i used b : ℕ} → ByteAt anywhere bytes i b → 64 ≤ b → b < 192
       → IsFaulty bytes s i used faults.BadName
-  long : {s i used n : ℕ} → ByteAt anywhere bytes i n → 1 ≤ n → n ≤ MAX_LABEL → i + 1 + n ≤ length bytes
-      → MAX_NAME < used + (1 + n) + 1 → IsFaulty bytes s i used faults.BadName
+  long : {s i used n : ℕ} → ByteAt anywhere bytes i n → 1 ≤ n → n ≤ MAX_LABEL
+      → i + 1 + n ≤ length bytes → MAX_NAME < used + (1 + n) + 1
+      → IsFaulty bytes s i used faults.BadName
   forward : {s i used b c : ℕ} → ByteAt anywhere bytes i b → ByteAt anywhere bytes (i + 1) c
       → 192 ≤ b → s ≤ target b c → IsFaulty bytes s i used faults.BadName
-  after_label : {s i used n : ℕ} {f : DecodeError} → ByteAt anywhere bytes i n → 1 ≤ n → n ≤ MAX_LABEL
-      → i + 1 + n ≤ length bytes → used + (1 + n) + 1 ≤ MAX_NAME
+  after_label : {s i used n : ℕ} {f : DecodeError} → ByteAt anywhere bytes i n → 1 ≤ n
+      → n ≤ MAX_LABEL → i + 1 + n ≤ length bytes → used + (1 + n) + 1 ≤ MAX_NAME
       → IsFaulty bytes s (i + 1 + n) (used + (1 + n)) f → IsFaulty bytes s i used f
   after_pointer : {s i used b c : ℕ} {f : DecodeError} → ByteAt anywhere bytes i b
       → ByteAt anywhere bytes (i + 1) c → 192 ≤ b → target b c < s

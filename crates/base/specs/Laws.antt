@@ -41,7 +41,8 @@ pub record Compresses (owner : List (List ℕ)) (old new : State) : Type 0 where
   pub short : owner ≢ [] → (front : List (List ℕ))
       → Any (λ t. owner ≡ front ++ t.labels) old.suffixes
       → end ≤ length old.bytes + (size_of front + 2)
-  pub stored : owner ≢ [] → length old.bytes < POINTER_LIMIT → Any (λ t. t.labels ≡ owner) new.suffixes
+  pub stored : owner ≢ [] → length old.bytes < POINTER_LIMIT
+      → Any (λ t. t.labels ≡ owner) new.suffixes
 
 -- A value was written: its word stands in every buffer that holds what was written, all suffixes
 -- stored until then are spelled there, and no more bytes were taken than without compression.

@@ -63,8 +63,8 @@ labels_of_chars (Some cs) = if_name (without_end (pieces cs))
 unfoldable pub text_labels : List ℕ → Option (List (List ℕ) × Bool)
 text_labels text = labels_of_chars (chars (length text) text)
 
--- The name of these labels. With a dot at the end it is absolute and complete; else it is relative, and the origin, where
--- one is given, stands after it (RFC 1035, 5.1).
+-- The name of these labels. With a dot at the end it is absolute and complete; else it is relative, and the origin,
+-- where one is given, stands after it (RFC 1035, 5.1).
 abbrev pub completed : Option NameValue → List (List ℕ) × Bool → Result NameValue Fault
 completed origin (labels, true) = Ok (record { labels = labels; absolute = true })
 completed None (labels, false) = Ok (record { labels = labels; absolute = false })

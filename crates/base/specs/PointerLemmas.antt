@@ -40,8 +40,9 @@ root_stands B s i e stands is =
     subst (λ (n : ℕ). Spelled B [] s i n) (sym is) (ends (byte_first 0 [] B i stands))
 
 -- where a label with its length stands, and labels are spelled after it, all are spelled
-pub label_stands : (B x : List ℕ) (xs : List (List ℕ)) (s i e : ℕ) → 1 ≤ length x → length x ≤ MAX_LABEL
-    → Stands (length x ∷ x) B i → Spelled B xs s (i + (1 + length x)) e → Spelled B (x ∷ xs) s i e
+pub label_stands : (B x : List ℕ) (xs : List (List ℕ)) (s i e : ℕ) → 1 ≤ length x
+    → length x ≤ MAX_LABEL → Stands (length x ∷ x) B i → Spelled B xs s (i + (1 + length x)) e
+    → Spelled B (x ∷ xs) s i e
 label_stands B x xs s i e some small stands rest =
     let bytes : Stands x B (i + 1) =
     stands_part (length x ∷ []) x [] B i
@@ -52,9 +53,9 @@ label_stands B x xs s i e some small stands rest =
     (stands_bytes x B (i + 1) (omega arith) bytes) (subst (λ (j : ℕ). Spelled B xs s j e) next rest)
 
 -- where a pointer stands, the labels are spelled that are spelled at its target
-pub pointer_stands : {B : List ℕ} {labels : List (List ℕ)} {s i t f e : ℕ} → t < s → t < POINTER_LIMIT
-    → Stands (to_be_bytes w16 (49152 + t)) B i → Spelled B labels t t f → e ≡ i + 2
-    → Spelled B labels s i e
+pub pointer_stands : {B : List ℕ} {labels : List (List ℕ)} {s i t f e : ℕ} → t < s
+    → t < POINTER_LIMIT → Stands (to_be_bytes w16 (49152 + t)) B i → Spelled B labels t t f
+    → e ≡ i + 2 → Spelled B labels s i e
 pointer_stands {B} {labels} {s} {i} {t} {f} {e} below near stands rest is =
     let n = 49152 + t in
     let same : target (n / 256 % 256) (n % 256) ≡ t = omega arith in

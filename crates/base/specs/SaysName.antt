@@ -355,8 +355,8 @@ stored_here P x xs at stored has early holds =
           (rest_of x xs at stored).suffixes rest.adds.is pushed)
     ]
 
-name_stores : (labels : List (List ℕ)) (at : ℕ) (stored : List Stored) → labels ≢ [] → at < POINTER_LIMIT
-    → Any (λ t. t.labels ≡ labels) (name labels at stored).suffixes
+name_stores : (labels : List (List ℕ)) (at : ℕ) (stored : List Stored) → labels ≢ []
+    → at < POINTER_LIMIT → Any (λ t. t.labels ≡ labels) (name labels at stored).suffixes
 name_stores [] at stored some early = absurd (some refl)
 name_stores (x ∷ xs) at stored some early = elim (name_cases x xs at stored) [
   | inl (o, (k, t, inside, is_at, holds), same) ↦ subst
@@ -367,7 +367,8 @@ name_stores (x ∷ xs) at stored some early = elim (name_cases x xs at stored) [
 
 -- each suffix that is written by labels, and begins early, is stored where it begins
 pub name_each : (front back : List (List ℕ)) (at : ℕ) (stored : List Stored)
-    → size_of front + 2 < length (name (front ++ back) at stored).bytes → at + size_of front < POINTER_LIMIT
+    → size_of front + 2 < length (name (front ++ back) at stored).bytes
+    → at + size_of front < POINTER_LIMIT
     → Any (λ t. (t.labels ≡ back) × (t.offset ≡ at + size_of front))
     (name (front ++ back) at stored).suffixes
 name_each [] [] at stored more early = absurd (omega (arith, more))

@@ -34,8 +34,8 @@ abbrev pub stored : List (List ℕ) → ℕ → State → State
 stored labels at s = if nat_le POINTER_LIMIT at then s
     else record s { suffixes = s.suffixes ++ record { labels = labels; offset = at } ∷ [] }
 
--- the first four bytes and the next four as numbers, the lowest first, added in four bytes; the first four where there are fewer than eight,
--- and 0 where there are fewer than four
+-- the first four bytes and the next four as numbers, the lowest first, added in four bytes; the first four where there
+-- are fewer than eight, and 0 where there are fewer than four
 abbrev pub front_number : List ℕ → ℕ
 front_number (a ∷ b ∷ c ∷ d ∷ e ∷ f ∷ g ∷ h ∷ rest) =
     (from_le_bytes w32 (a ∷ b ∷ c ∷ d ∷ []) + from_le_bytes w32 (e ∷ f ∷ g ∷ h ∷ [])) % 2 ^ 32

@@ -30,7 +30,8 @@ pub record IsIndexed (find : List ℕ → Option ℕ) (list : List Stored) : Typ
   pub found : (bytes : List ℕ) (o : ℕ) → find bytes ≡ Some o
       → (o < POINTER_LIMIT) × Any (λ t. (wire_of t.labels ≡ bytes) × (t.offset ≡ o)) list
 
--- The first suffixes stand in a list alone, the others in a second one with an index of it; all stand in order of offset, each once.
+-- The first suffixes stand in a list alone, the others in a second one with an index of it; all stand in order of
+-- offset, each once.
 pub record IsTable (find : List ℕ → Option ℕ) (first others : List Stored) : Type 0 where
   pub rises : AllPairs (λ s t. s.offset < t.offset) (first ++ others)
   pub once : AllPairs (λ s t. s.labels ≢ t.labels) (first ++ others)

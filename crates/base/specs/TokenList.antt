@@ -37,8 +37,8 @@ symbols unread = listing next_symbol (length unread.text) unread
 abbrev pub whole_text : List ℕ → Unread
 whole_text text = record { text = text; at_line_start = true }
 
--- A text that ends with the end of a line: its last byte is a line feed or a carriage return, and its last token the end
--- of a line. So the byte stands in no parentheses and no quotes, and no backslash keeps it (RFC 1035, 5.1).
+-- A text that ends with the end of a line: its last byte is a line feed or a carriage return, and its last token the
+-- end of a line. So the byte stands in no parentheses and no quotes, and no backslash keeps it (RFC 1035, 5.1).
 pub record EndsWithALine (text : List ℕ) : Type 0 where
   pub byte : ℕ
   pub last : last_or None text ≡ Some byte

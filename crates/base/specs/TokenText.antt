@@ -2,7 +2,8 @@
 use Rattle.std.specs.Prelude.{◌≡◌, ℕ, ◌<◌, ◌==◌, Bool, true, false, List, [], ◌∷◌, ◌++◌, length}
 use Rattle.base.specs.Tokens.{begins_with, ends_item, is_line_end, separates}
 
--- Bytes that nothing ends: a backslash keeps the byte after it, whichever it is, and no other byte is one that ends them.
+-- Bytes that nothing ends: a backslash keeps the byte after it, whichever it is, and no other byte is one that ends
+-- them.
 pub data Unended (ends : ℕ → Bool) : List ℕ → Type 0 where
   no_more : Unended ends []
   plain : (c : ℕ) (rest : List ℕ) → ends c ≡ false → (c == 92) ≡ false → Unended ends rest
@@ -34,8 +35,8 @@ pub data Gap : List ℕ → Type 0 where
   separator : (c : ℕ) (rest : List ℕ) → separates c ≡ true → Gap rest → Gap (c ∷ rest)
   comment : (xs rest : List ℕ) → CommentRest xs → Gap rest → Gap (59 ∷ xs ++ rest)
 
--- The items of a list, from after its opening parenthesis to its closing one: none of them begins with $ or is empty, save
--- in quotes.
+-- The items of a list, from after its opening parenthesis to its closing one: none of them begins with $ or is empty,
+-- save in quotes.
 pub data IsList : List (List ℕ) → List ℕ → Type 0 where
   closed : (gap : List ℕ) → Gap gap → IsList [] (gap ++ 41 ∷ [])
   item_first : (gap word inner : List ℕ) (words : List (List ℕ)) → Gap gap → IsItem word

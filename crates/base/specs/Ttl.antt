@@ -27,8 +27,8 @@ abbrev pub ttl_on : (ℕ → Option ℕ) → Option ℕ → Option ℕ
 ttl_on more None = None
 ttl_on more (Some sum) = more sum
 
--- The sum of groups of digits and a unit, which the last may lack; from the sum so far, and the number of the group begun,
--- if there is one.
+-- The sum of groups of digits and a unit, which the last may lack; from the sum so far, and the number of the group
+-- begun, if there is one.
 unfoldable pub ttl_sum : ℕ → Option ℕ → List ℕ → Option ℕ
 ttl_sum sum begun [] = Some (sum + unwrap_or begun 0)
 ttl_sum sum begun (c ∷ text) =

@@ -21,7 +21,8 @@ enum Held {
 
 /// A list of bytes that doesn't grow, and a mark.
 ///
-/// Up to 29 bytes stand inside the value and take no memory. The mark stands beside them, so that the value has 32 bytes.
+/// Up to 29 bytes stand inside the value and take no memory. The mark stands beside them, so that the value has 32
+/// bytes.
 #[derive(Debug)]
 pub(crate) struct Octets {
     held: Held,

@@ -1,4 +1,5 @@
--- The order of record data: by the bytes of the canonical form (RFC 4034, 6.2 and 6.3), and then by what these leave open.
+-- The order of record data: by the bytes of the canonical form (RFC 4034, 6.2 and 6.3), and then by what these leave
+-- open.
 use Rattle.std.specs.Prelude.{Bool, List}
 use Rattle.std.specs.Cmp.Lexicographic.{slice_cmp}
 use Rattle.std.specs.Ordering.{bool_cmp, nat_cmp, on, then_cmp}
@@ -12,7 +13,8 @@ use Rattle.base_data.specs.declared.rdata.RData.{RData}
 abbrev pub flags_cmp : List Bool → List Bool → Ordering
 flags_cmp = slice_cmp bool_cmp
 
--- the order: by the bytes of the canonical form, what is a beginning before what it begins; by type; by kind; by the flags of names
+-- the order: by the bytes of the canonical form, what is a beginning before what it begins; by type; by kind; by the
+-- flags of names
 abbrev pub data_cmp : RData → RData → Ordering
 data_cmp =
     then_cmp (on canonical_data bytes_cmp)

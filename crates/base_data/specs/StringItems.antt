@@ -4,8 +4,8 @@ use Rattle.base.specs.declared.limits.TheConstants.{MAX_STRING}
 use Rattle.std.specs.Prelude.{◌≡◌, ◌≢◌, ◌<◌, false, true, ℕ, ◌+◌, ◌-◌, ◌*◌, ◌==◌, ◌&&◌, List, [], ◌∷◌, ◌++◌, length, nat_lt, nat_le, if◌then◌else◌, Option, Some, None}
 use Rattle.std.specs.Char.{is_ascii_digit}
 
--- What of an escape stands before a byte: nothing; the backslash; the backslash and a digit, of this number; the backslash
--- and two digits, of this number.
+-- What of an escape stands before a byte: nothing; the backslash; the backslash and a digit, of this number; the
+-- backslash and two digits, of this number.
 pub data EscapePart : Type 0 where
   no_escape : EscapePart
   backslash : EscapePart
@@ -67,8 +67,8 @@ unfoldable pub string_items : List (List ℕ) → Option (List (List ℕ))
 string_items [] = Some []
 string_items (text ∷ texts) = put_before (string_item text) (string_items texts)
 
--- A text says these bytes, piece by piece: a byte that is no backslash is itself; a backslash and a byte that is no digit
--- are that byte; a backslash and three digits are the byte of that number.
+-- A text says these bytes, piece by piece: a byte that is no backslash is itself; a backslash and a byte that is no
+-- digit are that byte; a backslash and three digits are the byte of that number.
 pub data IsStringText : List ℕ → List ℕ → Type 0 where
   is_end : IsStringText [] []
   is_plain : {c : ℕ} {text bytes : List ℕ} → c ≢ 92 → IsStringText text bytes

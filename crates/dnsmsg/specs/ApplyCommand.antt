@@ -17,8 +17,8 @@ abbrev pub answer_to_parsed : MessageValue → Result (NameValue × ZoneSets) �
 answer_to_parsed m (Ok zone) = answer_of (lines_after (sections_of m) zone)
 answer_to_parsed m (Err number) = refused number
 
--- the answer to zone text under an origin, without texts to include; refusal 24 where it isn't UTF-8, 25 for another class
--- than IN
+-- the answer to zone text under an origin, without texts to include; refusal 24 where it isn't UTF-8, 25 for another
+-- class than IN
 abbrev pub answer_to_text : MessageValue → Option NameValue → List ℕ → Answer
 answer_to_text m origin input = answer_to_parsed m (zone_of_bytes no_texts origin input)
 

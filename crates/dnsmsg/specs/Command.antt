@@ -73,7 +73,8 @@ abbrev pub number_refused : {X : Type 0} → Result X ℕ → Option ℕ
 number_refused (Ok x) = None
 number_refused (Err number) = Some number
 
--- the number that the words of a command are refused with before the input is read, if they are: that of a faulty update
+-- the number that the words of a command are refused with before the input is read, if they are: that of a faulty
+-- update
 abbrev pub refused_word : Command → List (List ℕ) → Option ℕ
 refused_word (command.Apply origin) words = number_refused (update_of (words_after_origin words))
 refused_word (command.Zone origin) words = None
@@ -95,8 +96,8 @@ IsRefused number (Err (failures.Refused refusal)) = (refusal_number refusal ≡ 
     ⊎ (refusal_number refusal ≡ number)
 IsRefused number (Err failures.Broken) = ⊥
 
--- What a run of words that name no command gives: the usage line, or, where they have an origin that has to be parsed, the
--- refusal because memory ran out.
+-- What a run of words that name no command gives: the usage line, or, where they have an origin that has to be parsed,
+-- the refusal because memory ran out.
 abbrev pub IsTurnedAway : List (List ℕ) → ℕ → Option (List ℕ) → Option (List ℕ) → Type 0
 IsTurnedAway words status old new = IsPrinted usage status old new
     ⊎ ((parses_origin words ≡ true) × IsPrinted (refused 3) status old new)

@@ -19,8 +19,8 @@ use Rattle.dnsmsg.specs.declared.refusal.Refusal.{Refusal}
 abbrev pub hex_line : List ℕ → List ℕ
 hex_line bytes = encode_lower bytes ++ 10 ∷ []
 
--- The answer is a cut of the message under the limit, or that the limit has no room for header and questions: whichever of
--- these a new encoder answers, which message and limit decide.
+-- The answer is a cut of the message under the limit, or that the limit has no room for header and questions: whichever
+-- of these a new encoder answers, which message and limit decide.
 abbrev pub CutsMessage : MessageValue → ℕ → Answer → Type 0
 CutsMessage m limit answer =
     ((B : List ℕ) × (IsWritten m limit B × (message_answer limit m ≡ Ok B))

@@ -39,13 +39,13 @@ fn first_word(words: &[String]) -> &str
     }
 }
 
-/// What is printed of an update and of the zone whose text this is: the name of the server's code, and the zone then, as
-/// `zone` prints it (RFC 2136, 3). No text is there to be included.
+/// What is printed of an update and of the zone whose text this is: the name of the server's code, and the zone then,
+/// as `zone` prints it (RFC 2136, 3). No text is there to be included.
 ///
 /// # Errors
 ///
-/// 24 for a text that isn't UTF-8, the number of what the parser refuses, 25 for a set or a record of another class than
-/// IN, and 3 if memory runs out.
+/// 24 for a text that isn't UTF-8, the number of what the parser refuses, 25 for a set or a record of another class
+/// than IN, and 3 if memory runs out.
 pub fn apply(
     alloc: Global,
     message: &Message,

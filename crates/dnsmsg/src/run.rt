@@ -23,8 +23,8 @@ const BROKEN: u8 = 3;
 /// Does what the words ask for: reads the input to its end, and writes to the output and nowhere else.
 ///
 /// Answers the exit status: 0; 1 with the line `refused N`, N the number of the refusal; 2 with the usage line for
-/// words that name no command; 3 where a read or a write failed, with no line of a refusal beside it. The words are judged
-/// before anything is read, and so is the update that `apply` has among them.
+/// words that name no command; 3 where a read or a write failed, with no line of a refusal beside it. The words are
+/// judged before anything is read, and so is the update that `apply` has among them.
 pub fn run<R: Read, W: Write>(alloc: Global, words: &[String], input: &mut R, output: &mut W) -> u8
     ensures statuses { result ≤ 3 }
     // Where the words name no command, the input isn't read.

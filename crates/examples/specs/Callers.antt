@@ -54,8 +54,8 @@ response_to query answers =
       edns = response_edns query.edns;
     }
 
--- A query begins the bytes that were received; what was sent is, if each answer fits the wire, a cut of the response under
--- what the client takes, and is read as that cut.
+-- A query begins the bytes that were received; what was sent is, if each answer fits the wire, a cut of the response
+-- under what the client takes, and is read as that cut.
 pub record IsAnswered (received : List ℕ) (answers : List (Record RData))
     (sent : List ℕ) : Type 0 where
   pub query : MessageValue
@@ -80,8 +80,8 @@ IsUnanswered received answers e = HasNoRoom received answers e
 
 -- ---- a cache entry
 
--- A response begins the bytes; the entry has its answers with so many seconds off their TTLs, down to 0, and its negative
--- TTL less as many (RFC 1035, 3.2.1; RFC 2308, 5).
+-- A response begins the bytes; the entry has its answers with so many seconds off their TTLs, down to 0, and its
+-- negative TTL less as many (RFC 1035, 3.2.1; RFC 2308, 5).
 pub record IsCached (received : List ℕ) (seconds : ℕ) (entry : CacheEntry) : Type 0 where
   pub response : MessageValue
   pub end : ℕ
@@ -156,9 +156,10 @@ IsNotReceived bytes e = ⊥
 
 -- uncompressed questions without room; or bytes, such as a message is written as, that are not received whole
 abbrev pub IsUnsent : NameValue → SetValue → Refusal → Type 0
-IsUnsent origin s (refused.Proto e) = (e ≡ refusals.Memory) ⊎ IsTooSmall (creating origin s) MAX_MESSAGE e
-IsUnsent origin s e = (B : List ℕ) × (IsSendable origin s → IsWritten (creating origin s) MAX_MESSAGE B)
-    × IsNotReceived B e
+IsUnsent origin s (refused.Proto e) =
+    (e ≡ refusals.Memory) ⊎ IsTooSmall (creating origin s) MAX_MESSAGE e
+IsUnsent origin s e = (B : List ℕ)
+    × (IsSendable origin s → IsWritten (creating origin s) MAX_MESSAGE B) × IsNotReceived B e
 
 -- ---- zone text that is checked
 

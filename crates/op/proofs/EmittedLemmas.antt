@@ -302,7 +302,8 @@ unboxed value None r is = ap option_copied is
 unboxed value (Some x) (Some y) is = ap Some is
 unboxed value (Some x) None is = absurd is
 
--- the iterators over the parts of a message, as they are before it is written and after that, with what EDNS and the signature are as records
+-- the iterators over the parts of a message, as they are before it is written and after that, with what EDNS and the
+-- signature are as records
 abbrev pub slices : (q q' : Iter Query) (a a' n n' d d' : Iter (Record RData)) → List (Record RData) → List (Record RData) → Slices
 slices q q' a a' n n' d d' edns signature = record {
   queries = record { before = q; rest = q' };

@@ -17,7 +17,8 @@ use Rattle.base.specs.Written.{Writing}
 
 -- ---- runs one after another
 
--- after a value comes the next run; a refusal is the answer of the whole, nothing more is written, and what is left stays as it was
+-- after a value comes the next run; a refusal is the answer of the whole, nothing more is written, and what is left
+-- stays as it was
 abbrev pub Continues : {X Y : Type 0} → Type 0 → (X → State → Result Y ProtoError → State → Type 0)
     → Result X ProtoError → State → Result Y ProtoError → State → Type 0
 Continues stays next (Ok x) b result c = next x b result c
@@ -117,8 +118,8 @@ module _ {A N D : Type 0} (emits_a : A → State → Result ℕ ProtoError → A
     (emits_n : N → State → Result ℕ ProtoError → N → State → Type 0)
     (emits_d : D → State → Result ℕ ProtoError → D → State → Type 0) (a a' : A) (n n' : N)
     (d d' : D) where
-  -- A message: room for the header, the questions Q, three sections, each whatever became of the one before it, OPT and the
-  -- signature, the sum of all additional records tested after each, and the header into its room.
+  -- A message: room for the header, the questions Q, three sections, each whatever became of the one before it, OPT and
+  -- the signature, the sum of all additional records tested after each, and the header into its room.
   abbrev pub Composition : {Q : Type 0} → Metadata
       → (Q → State → Result ℕ ProtoError → Q → State → Type 0) → Q → Q → List (Record RData)
       → List (Record RData) → State

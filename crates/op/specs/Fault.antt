@@ -1,4 +1,5 @@
--- The first fault of a message (RFC 1035, 4.1; RFC 6891, 6.1.1; RFC 8945, 5.1): what stands before it, back to back, and the first test that fails after that.
+-- The first fault of a message (RFC 1035, 4.1; RFC 6891, 6.1.1; RFC 8945, 5.1): what stands before it, back to back,
+-- and the first test that fails after that.
 use Rattle.std.specs.Prelude.{◌≡◌, ◌≢◌, ◌⊎◌, ℕ, Bool, true, false, ◌+◌, ◌<◌, List, length, None}
 use Rattle.base.specs.Words.{BackToBack}
 use Rattle.base.specs.declared.error.decode_error.DecodeError.{DecodeError}
@@ -23,9 +24,9 @@ pub record IsQueriesFault (count : ℕ) (B : List ℕ) (i : ℕ) (f : DecodeErro
   pub fewer : length queries < count
   pub fault : IsQueryFault B place f
 
--- The first test that a record fails after a section: it is empty outside an Update and no OPT record (RFC 2136, 2.4); it
--- stands after a signature (RFC 8945, 5.1); it belongs among additionals and isn't there (RFC 2931, 3.1; RFC 6891, 6.1.1;
--- RFC 8945, 5.1); it is a second OPT record (RFC 6891, 6.1.1).
+-- The first test that a record fails after a section: it is empty outside an Update and no OPT record (RFC 2136, 2.4);
+-- it stands after a signature (RFC 8945, 5.1); it belongs among additionals and isn't there (RFC 2931, 3.1; RFC 6891,
+-- 6.1.1; RFC 8945, 5.1); it is a second OPT record (RFC 6891, 6.1.1).
 pub data IsMisplaced (is_additional_section : Bool) (op : OpCode) (before : SectionValue)
     (r : Record RData) : DecodeError → Type 0 where
   empty : is_empty_data r.rdata ≡ true → is_update op ≡ false → is_opt r ≡ false
@@ -41,7 +42,8 @@ pub data IsMisplaced (is_additional_section : Bool) (op : OpCode) (before : Sect
       → is_opt r ≡ true
       → IsMisplaced is_additional_section op before r faults.DuplicateEdns
 
--- A section of fewer records stands than are counted, and what stands after it is no record, or one that may not stand there.
+-- A section of fewer records stands than are counted, and what stands after it is no record, or one that may not stand
+-- there.
 pub record IsSectionFault (is_additional_section : Bool) (op : OpCode) (count : ℕ) (B : List ℕ)
     (i : ℕ) (f : DecodeError) : Type 0 where
   pub number : ℕ
@@ -60,8 +62,8 @@ pub record HasQuestions (B : List ℕ) (i : ℕ) (h : Header) (j : ℕ) : Type 0
   pub queries_stand : BackToBack (IsQueryAt B) (i + 12) queries j
   pub counted : length queries ≡ h.counts.queries
 
--- The first fault of a message at i: fewer bytes than a header has; that of a question; that of a section, in their order, each
--- after all that stands before it.
+-- The first fault of a message at i: fewer bytes than a header has; that of a question; that of a section, in their
+-- order, each after all that stands before it.
 pub data IsMessageFault (B : List ℕ) (i : ℕ) : DecodeError → Type 0 where
   cut_header : length B < i + 12 → IsMessageFault B i faults.InsufficientBytes
   in_queries : {h : Header} {f : DecodeError} → IsHeaderAt B i h

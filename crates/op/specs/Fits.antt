@@ -38,8 +38,8 @@ with_high_bits code e = record e { rcode_high = code_number code / 16 % 256 }
 abbrev pub opt_records : ResponseCode → Option Edns → List (Record RData)
 opt_records code edns = listed (option_map (λ e. edns_record (with_high_bits code e)) edns)
 
--- A record of answers or authorities that fits. If its data is empty, the message is an Update; it is no OPT, SIG or TSIG,
--- which stand among additionals alone.
+-- A record of answers or authorities that fits. If its data is empty, the message is an Update; it is no OPT, SIG or
+-- TSIG, which stand among additionals alone.
 pub record FitsPlain (op : OpCode) (r : Record RData) : Type 0 where
   pub fits : FitsRecord r
   pub given : HasNeededData op r

@@ -46,7 +46,8 @@ abbrev pub stripped : Bool → MessageValue → MessageValue
 stripped true m = m
 stripped false m = stripped_by m.queries m
 
--- the bytes of the largest answer that the sender takes: 512 without EDNS, and at least that with it (RFC 6891, 6.2.3 and 6.2.5)
+-- the bytes of the largest answer that the sender takes: 512 without EDNS, and at least that with it (RFC 6891, 6.2.3
+-- and 6.2.5)
 abbrev pub payload_taken : Option Edns → ℕ
 payload_taken None = MIN_PAYLOAD
 payload_taken (Some e) = max MIN_PAYLOAD e.max_payload

@@ -11,7 +11,8 @@ abbrev pub FailsToDecode : {Y : Type 0} → ProtoError → Result Y DecodeError 
 FailsToDecode (refusals.Decode f) read = Fails f read
 FailsToDecode _ read = ⊥
 
--- What a call answered, seen by view, is what reading gives, and the decoder stands after it; a refusal wraps reading's.
+-- What a call answered, seen by view, is what reading gives, and the decoder stands after it; a refusal wraps
+-- reading's.
 abbrev pub ReadsOrDecodes : {X Y : Type 0} → (X → Y) → Reader → Reader → Result X ProtoError
     → Result (Y × ℕ) DecodeError → Type 0
 ReadsOrDecodes view old new (Ok x) read = (read ≡ Ok (view x, new.index)) × (new.bytes ≡ old.bytes)

@@ -1,4 +1,5 @@
--- The sections of a message: the tests on their records, and what becomes of them (RFC 1035, 4.1; RFC 6891, 6.1.1; RFC 8945, 5.1).
+-- The sections of a message: the tests on their records, and what becomes of them (RFC 1035, 4.1; RFC 6891, 6.1.1; RFC
+-- 8945, 5.1).
 use Rattle.std.specs.Prelude.{◌≡◌, All, ℕ, Bool, true, false, not, ◌&&◌, ◌||◌, ◌≤◌, ◌/◌, ◌%◌, ◌++◌, List, [], ◌∷◌, length, filter, find, Option, Some, None}
 use Rattle.std.specs.Prelude.{if◌then◌else◌, is_some, zero, suc, Ok, Err, Result}
 use Rattle.std.specs.Global.{Box, Vec}
@@ -64,7 +65,8 @@ abbrev pub options_in : RData → List OptionValue
 options_in (kinds.OPT options) = options
 options_in _ = []
 
--- What an OPT record says: its TTL is the high code, the version and the flags, its class the payload size (RFC 6891, 6.1.3).
+-- What an OPT record says: its TTL is the high code, the version and the flags, its class the payload size (RFC 6891,
+-- 6.1.3).
 abbrev pub edns_value : ℕ → ℕ → List OptionValue → Edns
 edns_value payload ttl options = record {
   rcode_high = ttl / 16777216;

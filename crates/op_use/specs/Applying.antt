@@ -40,7 +40,8 @@ zone_of_sets origin class sets =
 abbrev pub zone_of_map : NameValue → DNSClass → BTreeMap RrKey SetValue → Zone
 zone_of_map origin class m = zone_of_sets origin class m.entries
 
--- A set that a zone of a class may have under a key: its own key, not empty, of that class, no two records of equal data.
+-- A set that a zone of a class may have under a key: its own key, not empty, of that class, no two records of equal
+-- data.
 pub record IsZoneSet (of_class : DNSClass) (k : RrKey) (s : SetValue) : Type 0 where
   pub own_key : set_key s ≡ k
   pub own_class : s.dns_class ≡ of_class
@@ -62,7 +63,8 @@ abbrev pub is_class_none : DNSClass → Bool
 is_class_none classes.NONE = true
 is_class_none _ = false
 
--- whether a record is of a type that is served: an ordinary one, NS or CNAME, or ANY where it names all types of an owner
+-- whether a record is of a type that is served: an ordinary one, NS or CNAME, or ANY where it names all types of an
+-- owner
 abbrev pub is_served : Record RData → Bool
 is_served r = is_ordinary (type_of_record r) || is_ns (type_of_record r)
     || is_cname (type_of_record r) || (is_any (type_of_record r) && is_class_any r.dns_class)

@@ -201,8 +201,8 @@ pub record PrerequisiteRows : Type 0 where
       ∷ empty_record www types.MX classes.ANY ∷ []))
       YXDomain
 
--- which of two tests that fail says the code: zone section, prerequisites and prescan in this order, and of a prerequisite
--- first its TTL, then its owner
+-- which of two tests that fail says the code: zone section, prerequisites and prescan in this order, and of a
+-- prerequisite first its TTL, then its owner
 pub record OrderRows : Type 0 where
   pub zone_section : Answers
       (record {

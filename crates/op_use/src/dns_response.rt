@@ -64,9 +64,11 @@ impl DnsResponse {
         ensures written { Fits (message_value message)
             → IfOk result (λ r. IsWritten (message_value message) MAX_MESSAGE r.buffer) }
         // Of any message, all questions and a front of each other part were written.
-        ensures emitted { IfOk result (λ r. EmittedNew (message_value message) MAX_MESSAGE r.buffer) }
+        ensures emitted { IfOk result
+            (λ r. EmittedNew (message_value message) MAX_MESSAGE r.buffer) }
         // The bytes are exactly those of the definition `message_bytes`.
-        ensures exact { IfOk result (λ r. r.buffer ≡ message_bytes MAX_MESSAGE (message_value message)) }
+        ensures exact { IfOk result
+            (λ r. r.buffer ≡ message_bytes MAX_MESSAGE (message_value message)) }
         // A response is refused only for memory, or where its uncompressed questions have no room.
         ensures refused { IsResponse (message_value message)
             → IfErr result (λ e. (e ≡ ProtoError.Memory)

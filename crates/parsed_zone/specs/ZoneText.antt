@@ -15,8 +15,8 @@ use Rattle.parsed_zone.specs.Faults.{numbered}
 abbrev pub no_texts : Texts
 no_texts name = None
 
--- the zone of the text that bytes are, under an origin, if there is one, or the number of its fault; 24 where they aren't
--- UTF-8
+-- the zone of the text that bytes are, under an origin, if there is one, or the number of its fault; 24 where they
+-- aren't UTF-8
 abbrev pub zone_of_bytes : Texts → Option NameValue → List ℕ → Result (NameValue × ZoneSets) ℕ
 zone_of_bytes texts origin bytes = if is_utf8 bytes then numbered (zone_of texts origin bytes)
     else Err 24

@@ -37,7 +37,8 @@ fields_stand type class ttl B i fits stands =
     let ttls = to_be_bytes w32 ttl in
     let after =
     stands_part types (classes ++ ttls) [] B i
-    (subst (λ (xs : List ℕ). Stands (types ++ xs) B i) (sym (append-nil (classes ++ ttls))) stands) in
+    (subst (λ (xs : List ℕ). Stands (types ++ xs) B i)
+    (sym (append-nil (classes ++ ttls))) stands) in
     let last =
     stands_part classes ttls [] B (i + 2)
     (subst (λ (xs : List ℕ). Stands (classes ++ xs) B (i + 2)) (sym (append-nil ttls)) after) in (

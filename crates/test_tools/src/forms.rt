@@ -1,5 +1,5 @@
-//! What the tests ask of a value: its text, its bytes, and what is read of bytes. Where memory is wanting, each question
-//! is answered by no.
+//! What the tests ask of a value: its text, its bytes, and what is read of bytes. Where memory is wanting, each
+//! question is answered by no.
 
 use base::{BinDecodable, BinDecoder, BinEncodable, BinEncoder, DecodeError, ProtoError};
 use std::alloc::{AllocError, Global};

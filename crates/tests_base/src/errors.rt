@@ -72,7 +72,8 @@ fn refusals_of_zone_text(rt: HostRuntime) {
     drop(refusals);
 }
 
-/// Whether the refusal of a text that isn't there, and that of a type, have their numbers, and the second names the type.
+/// Whether the refusal of a text that isn't there, and that of a type, have their numbers, and the second names the
+/// type.
 fn are_named(alloc: Global, file: &str, record_type: &str, text: &str) -> Result<bool, AllocError> {
     let missing = ParseError::IncludeNotFound(String::from_str(alloc, file)?);
     let number = missing.number();

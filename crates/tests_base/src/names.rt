@@ -130,8 +130,8 @@ fn extent_of(
 
 const WHOLE: usize = usize::MAX;
 
-/// The lengths of the labels and what stands after them, how many bytes are left, a place, and the name there: the number
-/// of its refusal, 0 for none, its labels and its end.
+/// The lengths of the labels and what stands after them, how many bytes are left, a place, and the name there: the
+/// number of its refusal, 0 for none, its labels and its end.
 const LONG: &[(
     &'static [u8],
     &'static [u8],

@@ -14,8 +14,8 @@ use std::alloc::Global;
 use std::test::Fail;
 use test_tools::bytes::decoded;
 
-/// The number of the refusal of a buffer, 0 where it is read, and what it names: how many bytes are left and the length of
-/// the data, or the type of the data.
+/// The number of the refusal of a buffer, 0 where it is read, and what it names: how many bytes are left and the length
+/// of the data, or the type of the data.
 pub(crate) fn fault(alloc: Global, wire: &[u8]) -> (u8, usize, usize) {
     let read = Message::from_vec(alloc, wire);
     let fault = match &read {

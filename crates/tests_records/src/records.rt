@@ -157,8 +157,8 @@ fn signature(alloc: Global) -> Result<Record<TSIG>, Fail> {
     Ok(entry)
 }
 
-/// Whether the signature, as a record of its kind, is written as these bytes, and they are read as it, as a record of any
-/// data.
+/// Whether the signature, as a record of its kind, is written as these bytes, and they are read as it, as a record of
+/// any data.
 fn signature_stands_as(alloc: Global, bytes: &[u8]) -> Result<bool, Fail> {
     let entry = signature(alloc)?;
     let written = is_written_as(alloc, &entry, bytes);

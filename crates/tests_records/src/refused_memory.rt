@@ -127,8 +127,8 @@ fn data_is_put_in_and_removed(rt: HostRuntime) -> Result<(), Fail> {
     Ok(())
 }
 
-/// Whether as many addresses as an index is made for go in, in this way: 25 of them, 24 times the first again, and three
-/// more, of which the first makes the index.
+/// Whether as many addresses as an index is made for go in, in this way: 25 of them, 24 times the first again, and
+/// three more, of which the first makes the index.
 fn fills(alloc: Global, set: &mut RecordSet, way: Call) -> Result<bool, Fail> {
     let mut right = true;
     for number in 0..52u16 {

@@ -74,7 +74,8 @@ pub(crate) fn set_of(
 #[tactic(auto, using(crate::proofs::SetCalls::one_type))]
 fn may_hold(set: &RecordSet, record_type: RecordType) -> bool
     ensures typed { result ≡ true → record_type ≡ set.now.record_type }
-    ensures single { result ≡ true → holds_one set.now.record_type ≡ true → length set.now.records ≤ 1 }
+    ensures single { result ≡ true → holds_one set.now.record_type ≡ true
+        → length set.now.records ≤ 1 }
 {
     if record_type != set.record_type() {
         return false;

@@ -35,8 +35,8 @@ setting_by (Some ttl) class = Some (ttl_is ttl)
 setting_by None (Some class) = Some (class_is class)
 setting_by None None = None
 
--- what an item before the type states, TTL and class in any order (RFC 1035, 5.1): a TTL text, else a class, its letters
--- raised; none where it is neither
+-- what an item before the type states, TTL and class in any order (RFC 1035, 5.1): a TTL text, else a class, its
+-- letters raised; none where it is neither
 unfoldable pub setting_of : List ℕ → Option Setting
 setting_of word = setting_by (ttl_of word) (class_from_text (str_to_ascii_uppercase word))
 

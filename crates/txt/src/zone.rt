@@ -72,11 +72,11 @@ impl<'a> Parser<'a> {
     /// # Errors
     ///
     /// The first entry that has a fault decides, and within it the order from left to right: `UnexpectedToken` and
-    /// `Lexer` where such a token stands; `BadName`, `BadTtl` and `UnknownRecordType` for an item that is none; `Message`
-    /// for a name after the name of an included text, at that name; at the end of an entry, `UnsupportedRecordType` and
-    /// `BadData` for the items of data, `Message` where no owner or no TTL is in force, for a second SOA of an owner and
-    /// for too many open texts, and `IncludeNotFound` for a text that was not handed in; at the very end, `Message` where
-    /// no origin is in force. `Memory` if memory runs out, at any time.
+    /// `Lexer` where such a token stands; `BadName`, `BadTtl` and `UnknownRecordType` for an item that is none;
+    /// `Message` for a name after the name of an included text, at that name; at the end of an entry,
+    /// `UnsupportedRecordType` and `BadData` for the items of data, `Message` where no owner or no TTL is in force, for
+    /// a second SOA of an owner and for too many open texts, and `IncludeNotFound` for a text that was not handed in;
+    /// at the very end, `Message` where no origin is in force. `Memory` if memory runs out, at any time.
     pub fn parse(self) -> Result<(Name, BTreeMap<RrKey, RecordSet>), ParseError>
         // The zone or the fault is that of the definition `zone_of`, unless memory runs out.
         ensures zone { Gives (λ r. (r.0, r.1.entries)) result

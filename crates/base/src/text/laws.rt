@@ -23,8 +23,8 @@ pub fn tokens_of_texts_in_turn()
         ≡ symbols (whole_text a) ++ symbols (whole_text (past_line_end e.byte b)) }
 {}
 
-/// What an item, a quoted text and a list are: what is cut off a text is one of that shape, and where a text begins with
-/// one, that is cut off (RFC 1035, 5.1).
+/// What an item, a quoted text and a list are: what is cut off a text is one of that shape, and where a text begins
+/// with one, that is cut off (RFC 1035, 5.1).
 pub fn tokens_have_three_shapes()
     ensures item { (text word rest : List ℕ) → (item false text ≡ Some (word, rest))
         ↔ ((text ≡ word ++ rest) × IsItem word × EndsItem rest) }

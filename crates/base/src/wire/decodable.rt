@@ -8,8 +8,8 @@ use crate::wire::decoder::BinDecoder;
 
 /// A value that can be read.
 ///
-/// `read_at` is what a buffer spells at a place: the value and the place after it, or the first fault. `names_at` are the
-/// places of the names of the value that is read there.
+/// `read_at` is what a buffer spells at a place: the value and the place after it, or the first fault. `names_at` are
+/// the places of the names of the value that is read there.
 pub trait BinDecodable: Drop {
     ghost use Rattle.std.specs.Prelude.{ℕ, List, [], IfOk};
     ghost use Rattle.base.specs.Counts.{Counts, Passes};

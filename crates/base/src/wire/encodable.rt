@@ -11,13 +11,14 @@ use crate::wire::encoder::BinEncoder;
 
 /// A value that can be written.
 ///
-/// `word` relates a buffer to the places where what is written of the value begins and ends there,
-/// `plain_len` is how many bytes it takes with every name uncompressed, `owner` are the labels of the name
-/// of a question or record, none for all else. `written` are the bytes, and the suffixes stored after them, by the place
-/// where they begin and the suffixes stored until then. `fits` is what the type keeps of the value: that its numbers
-/// are in range, and its labels those of names.
+/// `word` relates a buffer to the places where what is written of the value begins and ends there, `plain_len` is how
+/// many bytes it takes with every name uncompressed, `owner` are the labels of the name of a question or record, none
+/// for all else. `written` are the bytes, and the suffixes stored after them, by the place where they begin and the
+/// suffixes stored until then. `fits` is what the type keeps of the value: that its numbers are in range, and its
+/// labels those of names.
 ///
-/// That what is written is the word, has at most as many bytes and compresses the owner is a law of `written`, by itself.
+/// That what is written is the word, has at most as many bytes and compresses the owner is a law of `written`, by
+/// itself.
 pub trait BinEncodable {
     ghost use Rattle.std.specs.Prelude.{ℕ, List, [], OnOk};
     ghost use Rattle.base.specs.Laws.{Keeps};

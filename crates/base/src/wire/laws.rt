@@ -13,8 +13,8 @@ ghost use Rattle.base.specs.declared.error.proto_error.ProtoError.{ProtoError};
 
 use crate::wire::encodable::BinEncodable;
 
-/// A new decoder keeps nothing and has followed no pointer, so that the clauses `counts` and `passed` of each read tell of all that is
-/// read from there on.
+/// A new decoder keeps nothing and has followed no pointer, so that the clauses `counts` and `passed` of each read tell
+/// of all that is read from there on.
 pub fn a_new_decoder_is_counted()
     ensures counted { (bytes : List ℕ) → IsCounted (begun bytes) }
     ensures passed { (bytes : List ℕ) → IsPassed (begun bytes) }
@@ -51,8 +51,8 @@ pub fn filled_room_is_free<E: BinEncodable>()
         (overwritten (length a.bytes) filling c) }
 {}
 
-/// Of values that are written in turn under a limit, those that fit are the first of them, and the own bytes of the next
-/// one would pass the limit. All fit where there is room for all, and under a larger limit no fewer fit.
+/// Of values that are written in turn under a limit, those that fit are the first of them, and the own bytes of the
+/// next one would pass the limit. All fit where there is room for all, and under a larger limit no fewer fit.
 pub fn what_fits_under_a_limit<E: BinEncodable>()
     ensures first { (limit : ℕ) (values : List E) (s : State) → (lost : List E)
         × (values ≡ that_fit E.written limit values (length s.bytes) s.suffixes ++ lost)

@@ -19,8 +19,8 @@ pub struct Suffix {
     front: u32,
 }
 
-/// A number of the first eight bytes, by which most labels are told from others; of the first four where there are fewer
-/// than eight, and 0 where there are fewer than four.
+/// A number of the first eight bytes, by which most labels are told from others; of the first four where there are
+/// fewer than eight, and 0 where there are fewer than four.
 pub(crate) fn front_number(wire: &[u8]) -> u32
     ensures { result ≡ front_number wire.now }
 {

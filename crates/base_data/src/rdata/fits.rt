@@ -5,9 +5,9 @@ ghost use Rattle.base_data.specs.Kinds.{FitsTypes};
 use crate::rdata::RData;
 
 impl RData {
-    /// Tells a caller what is true of all data: its numbers have the bits of their types, the labels of its names have 1
-    /// to 63 bytes (RFC 1035, 2.3.4), and each EDNS option has 65,535 bytes at most (RFC 6891, 6.1.2). So the order of
-    /// data ties exactly equal data. Goes through the options of an OPT record, and nothing else takes time.
+    /// Tells a caller what is true of all data: its numbers have the bits of their types, the labels of its names have
+    /// 1 to 63 bytes (RFC 1035, 2.3.4), and each EDNS option has 65,535 bytes at most (RFC 6891, 6.1.2). So the order
+    /// of data ties exactly equal data. Goes through the options of an OPT record, and nothing else takes time.
     pub fn fits(&self)
         ensures { FitsTypes self.now }
     {

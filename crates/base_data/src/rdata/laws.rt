@@ -91,8 +91,8 @@ pub fn equal_data_has_one_type()
     ensures { (a b : AnyData) → same_data a b ≡ true → type_of_data a ≡ type_of_data b }
 {}
 
-/// The order of data is total, and ties exactly equal data, as `RData::fits` says of any data that it has the bits of its
-/// types (RFC 4034, 6.2 and 6.3).
+/// The order of data is total, and ties exactly equal data, as `RData::fits` says of any data that it has the bits of
+/// its types (RFC 4034, 6.2 and 6.3).
 pub fn data_order()
     ensures total { IsTotalOrder data_cmp }
     ensures ties { (a b : AnyData) → FitsTypes a → FitsTypes b
@@ -112,7 +112,8 @@ pub fn data_of_each_kind()
 {}
 
 /// Addresses as items: four decimal numbers below 256 with dots between them and without leading zeros, and groups of
-/// hexadecimal digits with colons between them, of which one `::` stands for the zeros that are left out (RFC 4291, 2.2).
+/// hexadecimal digits with colons between them, of which one `::` stands for the zeros that are left out (RFC 4291,
+/// 2.2).
 pub fn addresses_are_their_texts()
     ensures ipv4 { (text bytes : List ℕ) → (ipv4_item text ≡ Some bytes) ↔ IsDotted text bytes }
     ensures ipv6 { (text bytes : List ℕ) → (ipv6_item text ≡ Some bytes)
@@ -124,7 +125,8 @@ pub fn addresses_are_their_texts()
 /// decimal digits up to 255 are the byte of that number (RFC 1035, 5.1).
 pub fn strings_are_their_pieces()
     ensures { (text bytes : List ℕ)
-        → (string_item text ≡ Some bytes) ↔ (IsStringText text bytes × (length bytes ≤ MAX_STRING)) }
+        → (string_item text ≡ Some bytes)
+        ↔ (IsStringText text bytes × (length bytes ≤ MAX_STRING)) }
 {}
 
 /// The text of data of a kind with a text form is its items with one space between each two (RFC 1035, 5.1), strings

@@ -77,9 +77,9 @@ const TEN_ASKED: &str =
 const TEN_ASKED_MORE: &str =
     "036E6577 C00C 00FF 00FE 00000000 0000 C019 001C 00FE 00000000 0000 03667470 C00C 0005 00FF 00000000 0000 036F6C64 C00C 0010 0001 00000000 0005 04676F6E65 046D61696C C00C 00FF 00FF 00000000 0000";
 
-/// Ten changes (RFC 2136, 2.5): www is given 2001:db8::4, the address that it has with 60 seconds, loses 192.0.2.5 and is
-/// given 192.0.2.7; all of old goes; new becomes an alias of www; the alias of ftp goes, and ftp is given an address; ns2
-/// is no server any more; the mail exchanges go.
+/// Ten changes (RFC 2136, 2.5): www is given 2001:db8::4, the address that it has with 60 seconds, loses 192.0.2.5 and
+/// is given 192.0.2.7; all of old goes; new becomes an alias of www; the alias of ftp goes, and ftp is given an
+/// address; ns2 is no server any more; the mail exchanges go.
 const TEN_CHANGES: &str =
     "C019 001C 0001 0000003C 0010 20010DB8000000000000000000000004 C019 0001 0001 0000003C 0004 C0000204 C019 0001 \
      00FE 00000000 0004 C0000205 C019 0001 0001 0000003C 0004 C0000207 036F6C64 C00C 00FF 00FF 00000000 0000";

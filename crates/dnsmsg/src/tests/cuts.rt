@@ -175,7 +175,8 @@ fn all_begin(
     Ok(true)
 }
 
-/// A message, the first and the last of some limits, and the length and the header of what is written under each of them.
+/// A message, the first and the last of some limits, and the length and the header of what is written under each of
+/// them.
 const LIMITS: &[(&'static str, u16, u16, usize, &'static str)] = &[
     (SIGNED, 19, 30, 19, "000782000001000000000000"),
     (SIGNED, 31, 34, 31, "000782000001000000000001"),

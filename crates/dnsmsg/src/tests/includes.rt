@@ -160,8 +160,8 @@ fn chain_gives(
 /// What is printed of a chain that ends with an address.
 const FOUND: &str = "$ORIGIN a.\nx.a. 5 IN A 192.0.2.1\n";
 
-/// How many texts are included, the last of them, the status, and what is printed. The depth is tested before the text is
-/// looked up: what one text less deep is not found isn't looked for there.
+/// How many texts are included, the last of them, the status, and what is printed. The depth is tested before the text
+/// is looked up: what one text less deep is not found isn't looked for there.
 const CHAINS: &[(usize, &'static str, u8, &'static str)] = &[
     (1, "x 5 A 192.0.2.1\n", 0, FOUND),
     (255, "x 5 A 192.0.2.1\n", 0, FOUND),

@@ -85,9 +85,9 @@ pub fn what_is_read_fits()
         → (limit : ℕ) (C : List ℕ) (c : MessageValue) (k : IsCut m limit C c) → IsUncut k → c ≡ m }
 {}
 
-/// An uncut cut of a message is that message, whatever it holds, but for what the wire can't have: the code as far as it
-/// is written, in four bits or with EDNS in twelve, and the high bits of EDNS, which are the code's (RFC 1035, 4.1.1;
-/// RFC 6891, 6.1.3).
+/// An uncut cut of a message is that message, whatever it holds, but for what the wire can't have: the code as far as
+/// it is written, in four bits or with EDNS in twelve, and the high bits of EDNS, which are the code's (RFC 1035,
+/// 4.1.1; RFC 6891, 6.1.3).
 pub fn uncut_is_the_message()
     ensures { (m : MessageValue) (limit : ℕ) (C : List ℕ) (c : MessageValue) (k : IsCut m limit C c)
         → IsUncut k → c ≡ as_written m }
@@ -133,7 +133,8 @@ pub fn what_has_room_is_kept()
         → that_fit query_written limit qs (length s.bytes) s.suffixes ≡ qs }
 {}
 
-/// A larger limit never keeps fewer of the records that begin at one place, after the same suffixes. The same of questions.
+/// A larger limit never keeps fewer of the records that begin at one place, after the same suffixes. The same of
+/// questions.
 pub fn a_larger_limit_keeps_no_fewer()
     ensures records { (small large : ℕ) → small ≤ large
         → (rs : List (Record RData)) (at : ℕ) (stored : List Stored)
@@ -145,16 +146,16 @@ pub fn a_larger_limit_keeps_no_fewer()
         ≤ length (that_fit query_written large qs at stored) }
 {}
 
-/// What `Message::emit` leaves in an encoder that held nothing, where memory didn't run out, tells of a limit without room
-/// for the header, or for the header and the questions uncompressed (RFC 1035, 4.1; RFC 2181, 9).
+/// What `Message::emit` leaves in an encoder that held nothing, where memory didn't run out, tells of a limit without
+/// room for the header, or for the header and the questions uncompressed (RFC 1035, 4.1; RFC 2181, 9).
 pub fn a_refused_message_has_no_room()
     ensures { (m : MessageValue) (old new : State) (e : ProtoError) → old.bytes ≡ []
         → Leaves m old e new → IsTooSmall m old.limit e }
 {}
 
-/// What a message loses under a limit didn't fit: of each part, its questions, answers, authorities, additionals, EDNS and
-/// signature, a front is kept, and the first that is lost would have passed the limit by its own bytes, compressed as
-/// they are (RFC 1035, 4.1 and 4.1.4; RFC 2181, 9).
+/// What a message loses under a limit didn't fit: of each part, its questions, answers, authorities, additionals, EDNS
+/// and signature, a front is kept, and the first that is lost would have passed the limit by its own bytes, compressed
+/// as they are (RFC 1035, 4.1 and 4.1.4; RFC 2181, 9).
 pub fn what_a_message_loses_did_not_fit()
     ensures queries { (limit : ℕ) (m : MessageValue) (at : ℕ) (stored : List Stored)
         → LostForRoom query_written limit m.queries (parts_of limit m at stored).queries }
@@ -173,8 +174,8 @@ pub fn what_a_message_loses_did_not_fit()
         (parts_of limit m at stored).signature }
 {}
 
-/// Under a limit with room for all of a message nothing is lost: where no part is cut under some limit, none is under any
-/// other that its end doesn't pass, and the bytes are the same.
+/// Under a limit with room for all of a message nothing is lost: where no part is cut under some limit, none is under
+/// any other that its end doesn't pass, and the bytes are the same.
 pub fn a_message_with_room_is_whole()
     ensures { (larger limit : ℕ) (m : MessageValue) (at : ℕ) (stored : List Stored)
         → AreWhole (parts_of larger m at stored)

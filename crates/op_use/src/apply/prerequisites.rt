@@ -20,8 +20,8 @@ use std::alloc::{AllocError, Global};
 use std::collections::BTreeMap;
 
 impl<'a> Zone<'a> {
-    /// What is wrong with the prerequisites: first what is with each by itself, and then with the sets that those of the
-    /// zone's class list.
+    /// What is wrong with the prerequisites: first what is with each by itself, and then with the sets that those of
+    /// the zone's class list.
     pub(crate) fn prerequisites_fault(
         &self,
         entries: &[Record],
@@ -103,8 +103,8 @@ impl<'a> Zone<'a> {
 pub(crate) type Places = BTreeMap<Vec<u8>, usize>;
 
 impl<'a> Zone<'a> {
-    /// Whether the sets that prerequisites of the zone's class name are those that they list (RFC 2136, 3.2.3). A set is
-    /// looked at for the first of them that names it alone.
+    /// Whether the sets that prerequisites of the zone's class name are those that they list (RFC 2136, 3.2.3). A set
+    /// is looked at for the first of them that names it alone.
     pub(crate) fn are_met(&self, entries: &[Record]) -> Result<bool, AllocError>
         ensures { IfOk result (λ b. b
             ≡ list_all (is_met (zone_of self.now) (collected (zone_of self.now) entries.now))

@@ -32,8 +32,8 @@ fn is_read(alloc: Global, record_type: RecordType, wire: &[u8], any: &RData) -> 
     same
 }
 
-/// Whether a copy of data is data of any record of that type, is taken out again, and is read of these bytes where there
-/// are any.
+/// Whether a copy of data is data of any record of that type, is taken out again, and is read of these bytes where
+/// there are any.
 fn is_taken_out<R: RecordData>(
     alloc: Global,
     value: &R,
@@ -52,8 +52,8 @@ fn is_taken_out<R: RecordData>(
     }
 }
 
-/// Whether data could be made, is of this type, isn't empty, is written as these bytes, has this text, and is taken out of
-/// the data of any record.
+/// Whether data could be made, is of this type, isn't empty, is written as these bytes, has this text, and is taken out
+/// of the data of any record.
 fn is_data<R: RecordData, E: Drop>(
     alloc: Global,
     made: Result<R, E>,

@@ -55,8 +55,8 @@ fn two_options_of_three(rt: HostRuntime) -> Result<(), ProtoError> {
 /// Two options of one code.
 const ONE_CODE_TWICE: [u8; 9] = [0, 3, 0, 0, 0, 3, 0, 1, 7];
 
-/// Whether options are written as they stood, and of two of code 3 the first is found, one more takes its place, and both
-/// are removed.
+/// Whether options are written as they stood, and of two of code 3 the first is found, one more takes its place, and
+/// both are removed.
 fn go_by_the_first(alloc: Global, mut options: OPT) -> bool {
     let stand = is_written_as(alloc, &options, &ONE_CODE_TWICE);
     let found = is_found(&options, 3, &[]);

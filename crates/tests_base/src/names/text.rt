@@ -174,8 +174,8 @@ fn lengths_of_names(rt: HostRuntime) -> Result<(), ParseError> {
     Ok(())
 }
 
-/// How the names of two texts stand to each other, if they are names: their order, whether they are equal, whether they hash
-/// alike, and whether the first is a zone of the second.
+/// How the names of two texts stand to each other, if they are names: their order, whether they are equal, whether they
+/// hash alike, and whether the first is a zone of the second.
 fn compared(alloc: Global, one: &str, other: &str) -> Option<(Ordering, bool, bool, bool)> {
     let names = (name(alloc, one), name(alloc, other));
     let compared = match &names {

@@ -184,7 +184,8 @@ const FIRST_ALONE: &[(Step, u8)] = &[
     (Plain(AB), 1),
 ];
 
-/// Whether a second name and a plain one are refused, where only the first fits in eight bytes, and no more are written.
+/// Whether a second name and a plain one are refused, where only the first fits in eight bytes, and no more are
+/// written.
 fn is_first_alone(alloc: Global) -> bool {
     let mut bytes = Vec::new(alloc);
     let mut encoder = BinEncoder::new(&mut bytes);

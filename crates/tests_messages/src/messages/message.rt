@@ -59,8 +59,8 @@ fn emitted(
     )
 }
 
-/// What comes of such a message: the number of the refusal, how many items were written before one that had no room, or how
-/// many answers are counted, and how many additional records.
+/// What comes of such a message: the number of the refusal, how many items were written before one that had no room, or
+/// how many answers are counted, and how many additional records.
 fn outcome(
     alloc: Global,
     parts: [Careless; 4],

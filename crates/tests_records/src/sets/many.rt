@@ -73,8 +73,8 @@ fn ends_as(alloc: Global, set: &RecordSet, rows: &[Row]) -> Result<bool, ParseEr
     }
 }
 
-/// Whether a call has the answer of that of the list, and the set ends as the list after those of updates. A record that
-/// the set makes has the set's TTL.
+/// Whether a call has the answer of that of the list, and the set ends as the list after those of updates. A record
+/// that the set makes has the set's TTL.
 fn agrees(
     alloc: Global,
     set: &mut RecordSet,
@@ -90,8 +90,8 @@ fn agrees(
     Ok(same && (!is_of_update || ends_as(alloc, set, rows)?))
 }
 
-/// Whether the changes of the set answer as those of the list and leave the same. Then the set is given the list backward,
-/// and they are made again.
+/// Whether the changes of the set answer as those of the list and leave the same. Then the set is given the list
+/// backward, and they are made again.
 fn agree(alloc: Global, set: &mut RecordSet, changes: &[Change]) -> Result<bool, Fail> {
     let mut rows = Vec::new(alloc);
     let mut right = true;

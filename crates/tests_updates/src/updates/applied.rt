@@ -1,5 +1,5 @@
-//! Updates that are applied: what TTL a set has then, and prerequisites by value, which ask for sets that have the data that
-//! an update lists, and no other (RFC 2136, 3.2.3).
+//! Updates that are applied: what TTL a set has then, and prerequisites by value, which ask for sets that have the data
+//! that an update lists, and no other (RFC 2136, 3.2.3).
 
 use base::{DNSClass, LowerName, Name, RecordType, RrKey};
 use examples::refusal::Refusal;
@@ -139,8 +139,8 @@ const NOT_NS: &str = " C00C 0002 00FE 00000000 0005 026E73 C00C";
 
 const NOT_NS_2: &str = " C00C 0002 00FE 00000000 0006 036E7332 C00C";
 
-/// Deletions that follow one another, and how many addresses of `www.example.` and of `ftp.example.` and name servers are
-/// left (RFC 2136, 3.4.2.4).
+/// Deletions that follow one another, and how many addresses of `www.example.` and of `ftp.example.` and name servers
+/// are left (RFC 2136, 3.4.2.4).
 const LEFT: &[(&'static [&'static str], [usize; 3])] = &[
     (&[DELETES, "0002", OF_ZONE, NOT_WWW_1, NOT_WWW_2], [0, 1, 2]),
     (

@@ -87,8 +87,8 @@ fn is_new(alloc: Global, edns: &Option<Edns>) -> bool {
     is_new
 }
 
-/// What is read of so many additional records: the other records, whether there is EDNS, and that nobody has set it, and
-/// whether there is a signature.
+/// What is read of so many additional records: the other records, whether there is EDNS, and that nobody has set it,
+/// and whether there is a signature.
 fn additionals(alloc: Global, bytes: &[u8], count: usize) -> Option<(usize, bool, bool, bool)> {
     let mut decoder = BinDecoder::new(alloc, bytes);
     let found = Message::read_records(&mut decoder, count, true, OpCode::Query);

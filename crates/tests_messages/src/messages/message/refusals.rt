@@ -7,8 +7,8 @@ use std::alloc::Global;
 use std::test::Fail;
 use test_tools::bytes::decoded;
 
-/// Messages in hexadecimal that are refused for their data, with the number and what it names: the type of the data, or how
-/// many bytes are left and the length of the data.
+/// Messages in hexadecimal that are refused for their data, with the number and what it names: the type of the data, or
+/// how many bytes are left and the length of the data.
 const BAD_DATA: &[((u8, usize, usize), &'static str)] = &[
     // a pointer that leaves its data, and data that its name doesn't fill
     (
