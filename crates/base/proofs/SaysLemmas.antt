@@ -75,17 +75,23 @@ name-stores labels a b is = record {
       subst (λ (ts : List Stored). Any (λ t. (t.labels ≡ back) × (t.offset ≡ length a.bytes + size_of front)) ts) (sym (ap (λ (u : State). u.suffixes) is))
       (subst (λ (ls : List (List ℕ)). Any (λ t. (t.labels ≡ back) × (t.offset ≡ length a.bytes + size_of front)) (name ls (length a.bytes) a.suffixes).suffixes) (sym parts)
       (name_each front back (length a.bytes) a.suffixes
-      (omega (arith, more, ap (λ (u : State). length u.bytes) is, length-append a.bytes (piece_at (name labels) a).bytes, ap (λ (ls : List (List ℕ)). length (name ls (length a.bytes) a.suffixes).bytes) parts))
+      (omega (arith, more, ap (λ (u : State). length u.bytes) is, length-append a.bytes (piece_at
+          (name labels) a).bytes, ap (λ (ls : List (List ℕ)). length (name ls (length a.bytes)
+          a.suffixes).bytes) parts))
       early));
 }
 
 -- what was written exactly was written as its word
-pub Exactly-writes : {X F : Type 0} {word : List ℕ → ℕ → ℕ → Type 0} {plain : ℕ} {owner : List (List ℕ)} (r : Result X ProtoError) (f : Writing) (a b : State) → Says f F word plain owner → Exactly f a b r → OnOk r F
+pub Exactly-writes : {X F : Type 0} {word : List ℕ → ℕ → ℕ → Type 0} {plain : ℕ} {owner : List (List
+    ℕ)} (r : Result X ProtoError) (f : Writing) (a b : State) → Says f F word plain owner → Exactly
+    f a b r → OnOk r F
     → length b.bytes ≤ max (length a.bytes) a.limit → a.limit < 2 ^ 16 → OnOk r (Writes word plain owner a b)
 Exactly-writes (Ok x) f a b says is ok within narrow = Says-writes f a b says ok is within narrow
 Exactly-writes (Err e) f a b says is ok within narrow = tt
 
-pub Says-refuses : {X F : Type 0} {word : List ℕ → ℕ → ℕ → Type 0} {plain : ℕ} {owner : List (List ℕ)} (r : Result X ProtoError) (f : Writing) (a b : State) → Says f F word plain owner → Exactly f a b r
+pub Says-refuses : {X F : Type 0} {word : List ℕ → ℕ → ℕ → Type 0} {plain : ℕ} {owner : List (List
+    ℕ)} (r : Result X ProtoError) (f : Writing) (a b : State) → Says f F word plain owner → Exactly
+    f a b r
     → Refuses plain a r
 Says-refuses {plain = plain} r f a b says is = Exactly-refuses r plain f a b (says.at_most (length a.bytes) a.suffixes) is
 

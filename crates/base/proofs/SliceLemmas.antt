@@ -50,11 +50,15 @@ module _ {E : Type 0} (word : E → List ℕ → ℕ → ℕ → Type 0) (plain 
   )
 
 -- What was written of a slice is a function of its elements, the place and the suffixes stored: as many of them as fit.
-module _ {E : Type 0} (word : E → List ℕ → ℕ → ℕ → Type 0) (plain : E → ℕ) (owner : E → List (List ℕ)) (written : E → Writing) (s t : Iter E) (a b : State) (n : ℕ) (begun : length a.bytes ≤ a.limit) where
+module _ {E : Type 0} (word : E → List ℕ → ℕ → ℕ → Type 0) (plain : E → ℕ) (owner : E → List (List
+    ℕ)) (written : E → Writing) (s t : Iter E) (a b : State) (n : ℕ) (begun : length a.bytes ≤
+    a.limit) where
   abbrev pub Fitting : Type 0
   Fitting = (b ≡ after (fitting written a.limit s.rest.now) a) × (n ≡ length (that_fit written a.limit s.rest.now (length a.bytes) a.suffixes))
 
-  are_fitting : (kept lost : List E) → s.rest.now ≡ kept ++ lost → EachWritten word plain owner kept a b → b ≡ after (in_turn written kept) a → n ≡ length kept → Passes written a.limit b lost → Fitting
+  are_fitting : (kept lost : List E) → s.rest.now ≡ kept ++ lost → EachWritten word plain owner kept
+      a b → b ≡ after (in_turn written kept) a → n ≡ length kept → Passes written a.limit b lost →
+      Fitting
   are_fitting kept lost whole each exact counted full =
       let within : length b.bytes ≤ a.limit = omega (arith, begun, (Each-keeps word plain owner kept a b each).within) in
       let same : that_fit written a.limit s.rest.now (length a.bytes) a.suffixes ≡ kept =

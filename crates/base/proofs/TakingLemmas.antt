@@ -46,6 +46,8 @@ visible_takes (c ∷ text) first is goes = go (c == 34) refl (c == 40) refl (c =
   go false quotes false o false k = rw (no_end, quotes, o, k) (item_takes (item false (c ∷ text)))
 
 -- what comes next where no blanks of a line's beginning do
-pub next_visible : (unread : Unread) (rest text : List ℕ) → (unread.at_line_start && begins_blank unread.text) ≡ false → rest ≡ past_blanks unread.text → text ≡ past_comment rest → next unread ≡ visible text
+pub next_visible : (unread : Unread) (rest text : List ℕ) → (unread.at_line_start && begins_blank
+    unread.text) ≡ false → rest ≡ past_blanks unread.text → text ≡ past_comment rest → next unread ≡
+    visible text
 unfolding next
 next_visible unread rest text off skipped at = rw off (ap visible (ap past_comment (sym skipped) ∙ sym at))

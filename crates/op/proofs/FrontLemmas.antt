@@ -45,7 +45,9 @@ once_yields s t x (y ∷ ys) item (u, step, yields) =
 
 module _ {E : Type 0} (word : E → List ℕ → ℕ → ℕ → Type 0) (plain : E → ℕ) (owner : E → List (List ℕ)) (f : E → Writing) where
   -- of one item that was written, or wasn't
-  whole_item : {x : E} {xs : List E} {n : ℕ} (a b : State) (result : Result Written ProtoError) → xs ≡ x ∷ [] → EachWritten word plain owner xs a b → b ≡ after (in_turn f xs) a → n ≡ length xs → Narrows n false result
+  whole_item : {x : E} {xs : List E} {n : ℕ} (a b : State) (result : Result Written ProtoError) → xs
+      ≡ x ∷ [] → EachWritten word plain owner xs a b → b ≡ after (in_turn f xs) a → n ≡ length xs →
+      Narrows n false result
       → WritesItems word plain owner f (x ∷ []) a result b
   whole_item {xs = xs} a b (Ok written) all each exact count narrows = record {
     kept = xs;
@@ -92,7 +94,9 @@ module _ {E : Type 0} (word : E → List ℕ → ℕ → ℕ → Type 0) (plain 
 
   module _ (item : Bor E) (s t : Once (Bor E)) (a b : State) where
     pub one_item : (answer : Result ℕ ProtoError) (result : Result Written ProtoError) → once_item s ≡ Some item
-        → EmitsAll (λ (x : Bor E). word x.now) (λ x. plain x.now) (λ x. owner x.now) (λ x. f x.now) once_steps s t a b answer → Counts answer result → WritesItems word plain owner f (item.now ∷ []) a result b
+        → EmitsAll (λ (x : Bor E). word x.now) (λ x. plain x.now) (λ x. owner x.now) (λ x. f x.now)
+            once_steps s t a b answer → Counts answer result → WritesItems word plain owner f
+            (item.now ∷ []) a result b
     one_item (Ok n) result first (xs, (u, yields, stop), each, count, exact) counts =
         elim (once_yields s u item xs first yields) [
           | inl (none, left) ↦ absurd (let is = stop.0 in cc)

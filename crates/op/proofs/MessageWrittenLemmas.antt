@@ -71,7 +71,9 @@ pub record AreParts (limit : ℕ) (m : MessageValue) (kept first second third fo
   pub edns : fifth ≡ after (fitting record_written limit (listed (option_map edns_record (raised m)))) fourth
   pub signature : sixth ≡ after (fitting record_written limit (listed (option_map signature_record m.signature))) fifth
 
-module _ (limit : ℕ) (m : MessageValue) (old kept first second third fourth fifth sixth : State) (room : kept ≡ appended (replicate 12 0) old) (are : AreParts limit m kept first second third fourth fifth sixth) where
+module _ (limit : ℕ) (m : MessageValue) (old kept first second third fourth fifth sixth : State)
+    (room : kept ≡ appended (replicate 12 0) old) (are : AreParts limit m kept first second third
+    fourth fifth sixth) where
   abbrev pub parts : Parts
   parts = parts_of limit m (length old.bytes + 12) old.suffixes
 

@@ -85,7 +85,9 @@ module _ {E : Type 0} (f : E → Writing) where
       let fits = subst (λ (ys : List E). at + length (in_turn f ys at stored).bytes ≤ limit) all room in
       ap (λ (ys : List E). part_of xs ys at stored) (all_fit f limit xs at stored fits ∙ sym all)
 
-  pub part_grows : (small large : ℕ) → small ≤ large → (xs : List E) (at : ℕ) (stored : List Stored) → (part f small xs at stored).is_cut ≡ false → part f large xs at stored ≡ part f small xs at stored
+  pub part_grows : (small large : ℕ) → small ≤ large → (xs : List E) (at : ℕ) (stored : List Stored)
+      → (part f small xs at stored).is_cut ≡ false → part f large xs at stored ≡ part f small xs at
+      stored
   part_grows small large more xs at stored uncut =
       let all = kept_all small xs at stored uncut in
       let grown = no_fewer_fit f small large xs at stored more in
@@ -94,7 +96,9 @@ module _ {E : Type 0} (f : E → Writing) where
       let sum = ap length cut.whole ∙ length-append kept cut.lost in
       let longer = ap length grown.1 ∙ length-append (that_fit f small xs at stored) grown.0 in
       let none : length grown.0 ≡ 0 = omega (arith, sum, longer, ap length all) in
-      let same : kept ≡ that_fit f small xs at stored = grown.1 ∙ ap (λ (ys : List E). that_fit f small xs at stored ++ ys) (nil_from_length grown.0 none) ∙ append-nil (that_fit f small xs at stored) in
+      let same : kept ≡ that_fit f small xs at stored = grown.1 ∙ ap (λ (ys : List E). that_fit f
+          small xs at stored ++ ys) (nil_from_length grown.0 none) ∙ append-nil (that_fit f small xs
+          at stored) in
       ap (λ (ys : List E). part_of xs ys at stored) same
 
   -- a part ends no earlier than the one before it

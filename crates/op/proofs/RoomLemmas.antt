@@ -63,7 +63,9 @@ took_queries qs k t each =
     record { keeps = keeps; bytes = omega (arith, ap length keeps.bytes, length-append k.bytes keeps.appended) }
 
 -- after more records
-pub took_more : (rs : List (Record RData)) (k s t : State) (n : ℕ) → Took k s n → EachWritten RecordWord plain_record record_owner rs s t → t ≡ after (in_turn record_written rs) s → Took k t (n + length rs)
+pub took_more : (rs : List (Record RData)) (k s t : State) (n : ℕ) → Took k s n → EachWritten
+    RecordWord plain_record record_owner rs s t → t ≡ after (in_turn record_written rs) s → Took k t
+    (n + length rs)
 took_more rs k s t n took each exact = record {
   keeps = Keeps-then took.keeps (Each-keeps RecordWord plain_record record_owner rs s t each);
   bytes = omega (arith, took.bytes, length_after (in_turn record_written rs) s t exact, each_some record_written record_some rs (length s.bytes) s.suffixes);
@@ -84,7 +86,9 @@ took_few limited took = omega (arith, took.bytes, took.keeps.within, limited.wit
 -- and so are questions
 pub queries_few : (qs : List Query) (k t : State) → IsLimited k → EachWritten QueryWord plain_query query_owner qs k t → t ≡ after (in_turn query_written qs) k → length qs < 2 ^ 16
 queries_few qs k t limited each exact =
-    omega (arith, length_after (in_turn query_written qs) k t exact, each_some query_written query_some qs (length k.bytes) k.suffixes, (Each-keeps QueryWord plain_query query_owner qs k t each).within, limited.within, limited.small)
+    omega (arith, length_after (in_turn query_written qs) k t exact, each_some query_written
+        query_some qs (length k.bytes) k.suffixes, (Each-keeps QueryWord plain_query query_owner qs
+        k t each).within, limited.within, limited.small)
 
 pub queries_within : (qs : List Query) (a b : State) → EachWritten QueryWord plain_query query_owner qs a b → length b.bytes ≤ length a.bytes + plain_queries qs
 queries_within [] a b same = omega (arith, ap (λ (s : State). length s.bytes) same)

@@ -119,7 +119,9 @@ module _ (m : MessageValue) (s : Slices) (are : AreOf m s) (old new : State)
           | inr b ↦ inl (asked_next b.value b.between (Emits-slice QueryWord plain_query query_owner query_written s.queries.before s.queries.rest kept b.between b.value b.ran) b.rest)
         ]
       where
-        asked_next : (queries : ℕ) (first : State) → EachWritten QueryWord plain_query query_owner s.queries.before.rest.now kept first × (queries ≡ length s.queries.before.rest.now) × (first ≡ after (in_turn query_written s.queries.before.rest.now) kept)
+        asked_next : (queries : ℕ) (first : State) → EachWritten QueryWord plain_query query_owner
+            s.queries.before.rest.now kept first × (queries ≡ length s.queries.before.rest.now) ×
+            (first ≡ after (in_turn query_written s.queries.before.rest.now) kept)
             → Sectioned m s place queries first (Err e) new → e ≡ refusals.Memory
         asked_next queries first asked rest =
             let few = queries_few s.queries.before.rest.now kept first limited asked.0 asked.2 in

@@ -93,7 +93,9 @@ module _ (origin : NameValue) (class : DNSClass) (m n : BTreeMap RrKey SetValue)
 
   pub after_guarded : use_of class r.dns_class ≡ OfAny → is_any (type_of_record r) ≡ false → is_guarded (zone_of_map origin class m) r.name (type_of_record r) ≡ true
       → IsAfter origin class (r ∷ []) m m
-  after_guarded u c h = same_after origin class m r old (ap (λ how. update_by how (zone_of_map origin class m) r) u ∙ deleted_is (zone_of_map origin class m) r ∙ cond-false _ _ _ c ∙ cond-true _ _ _ h)
+  after_guarded u c h = same_after origin class m r old (ap (λ how. update_by how (zone_of_map
+      origin class m) r) u ∙ deleted_is (zone_of_map origin class m) r ∙ cond-false _ _ _ c ∙
+      cond-true _ _ _ h)
       (λ q. guarded_stays (zone_of_map origin class m) r (records_at m) q u c h)
 
   pub after_set : use_of class r.dns_class ≡ OfAny → is_any (type_of_record r) ≡ false → is_guarded (zone_of_map origin class m) r.name (type_of_record r) ≡ false

@@ -22,11 +22,15 @@ begun g c = Keeps-then (Keeps-appended (replicate 12 0) (state_of c.args.encoder
 opt_of : (g : _) (c : In_ok-opt g) → WritesRecordItems (opt_records c.args.metadata.now.response_code (option_copied c.args.edns))
     (state_of c.emit_part-3.new.encoder) (Ok c.in_ok-opt.opt) (state_of c.emit_item.new.encoder)
 opt_of g c =
-    opt_items c.args.metadata.now.response_code c.high-high.result c.high-high.ensures c.args.edns c.map-raised.result (option_copied c.as_ref.result) _ (λ e x made. search rules) c.map-raised.ensures.cases c.as_ref.ensures.value
+    opt_items c.args.metadata.now.response_code c.high-high.result c.high-high.ensures c.args.edns
+        c.map-raised.result (option_copied c.as_ref.result) _ (λ e x made. search rules)
+        c.map-raised.ensures.cases c.as_ref.ensures.value
     (state_of c.emit_part-3.new.encoder) (state_of c.emit_item.new.encoder) (Ok c.in_ok-opt.opt) c.in_ok-opt.ensures.run
 
 -- the signature was written
-signed_of : (g : _) (c : In_ok-signed g) → WritesRecordItems (signature_records (option_copied c.args.signature)) (state_of c.emit_item.new.encoder) (Ok c.in_ok-signed.signed) (state_of c.emit_item-2.new.encoder)
+signed_of : (g : _) (c : In_ok-signed g) → WritesRecordItems (signature_records (option_copied
+    c.args.signature)) (state_of c.emit_item.new.encoder) (Ok c.in_ok-signed.signed) (state_of
+    c.emit_item-2.new.encoder)
 signed_of g c = signature_items (option_copied c.args.signature) (state_of c.emit_item.new.encoder) (state_of c.emit_item-2.new.encoder) (Ok c.in_ok-signed.signed) c.in_ok-signed.ensures.run
 
 pub returns-in_err-place-clause-run : goal.returns-in_err-place-clause-run
@@ -142,35 +146,60 @@ pub returns-in_err-place-clause-keeps : goal.returns-in_err-place-clause-keeps
 returns-in_err-place-clause-keeps g c = Keeps-same (state_of c.args.encoder.now) (state_of c.place.new.self) c.in_err-place.ensures.err
 
 pub returns-in_err-query_count-clause-keeps : goal.returns-in_err-query_count-clause-keeps
-returns-in_err-query_count-clause-keeps g c = Keeps-then (Keeps-appended (replicate 12 0) (state_of c.args.encoder.now) (state_of c.place.new.self) c.in_ok-place.ensures.ok.0 c.in_ok-place.ensures.within) c.emit.ensures.keeps
+returns-in_err-query_count-clause-keeps g c = Keeps-then (Keeps-appended (replicate 12 0) (state_of
+    c.args.encoder.now) (state_of c.place.new.self) c.in_ok-place.ensures.ok.0
+    c.in_ok-place.ensures.within) c.emit.ensures.keeps
 
 pub returns-in_err-answers-clause-keeps : goal.returns-in_err-answers-clause-keeps
 returns-in_err-answers-clause-keeps g c = Keeps-then (begun g (goal.at.returns-in_err-answers-clause-keeps g c).In_ok-query_count) c.emit_part.ensures.keeps
 
 pub returns-in_err-authorities-clause-keeps : goal.returns-in_err-authorities-clause-keeps
-returns-in_err-authorities-clause-keeps g c = Keeps-then (begun g (goal.at.returns-in_err-authorities-clause-keeps g c).In_ok-query_count) (Keeps-then c.emit_part.ensures.keeps c.emit_part-2.ensures.keeps)
+returns-in_err-authorities-clause-keeps g c = Keeps-then (begun g
+    (goal.at.returns-in_err-authorities-clause-keeps g c).In_ok-query_count) (Keeps-then
+    c.emit_part.ensures.keeps c.emit_part-2.ensures.keeps)
 
 pub returns-in_err-additionals-clause-keeps : goal.returns-in_err-additionals-clause-keeps
-returns-in_err-additionals-clause-keeps g c = Keeps-then (begun g (goal.at.returns-in_err-additionals-clause-keeps g c).In_ok-query_count) (Keeps-then c.emit_part.ensures.keeps (Keeps-then c.emit_part-2.ensures.keeps c.emit_part-3.ensures.keeps))
+returns-in_err-additionals-clause-keeps g c = Keeps-then (begun g
+    (goal.at.returns-in_err-additionals-clause-keeps g c).In_ok-query_count) (Keeps-then
+    c.emit_part.ensures.keeps (Keeps-then c.emit_part-2.ensures.keeps c.emit_part-3.ensures.keeps))
 
 pub returns-in_err-opt-clause-keeps : goal.returns-in_err-opt-clause-keeps
-returns-in_err-opt-clause-keeps g c = Keeps-then (begun g (goal.at.returns-in_err-opt-clause-keeps g c).In_ok-query_count) (Keeps-then c.emit_part.ensures.keeps (Keeps-then c.emit_part-2.ensures.keeps (Keeps-then c.emit_part-3.ensures.keeps c.emit_item.ensures.keeps)))
+returns-in_err-opt-clause-keeps g c = Keeps-then (begun g (goal.at.returns-in_err-opt-clause-keeps g
+    c).In_ok-query_count) (Keeps-then c.emit_part.ensures.keeps (Keeps-then
+    c.emit_part-2.ensures.keeps (Keeps-then c.emit_part-3.ensures.keeps c.emit_item.ensures.keeps)))
 
 pub returns-in_err-sum-clause-keeps : goal.returns-in_err-sum-clause-keeps
-returns-in_err-sum-clause-keeps g c = Keeps-then (begun g (goal.at.returns-in_err-sum-clause-keeps g c).In_ok-query_count) (Keeps-then c.emit_part.ensures.keeps (Keeps-then c.emit_part-2.ensures.keeps (Keeps-then c.emit_part-3.ensures.keeps c.emit_item.ensures.keeps)))
+returns-in_err-sum-clause-keeps g c = Keeps-then (begun g (goal.at.returns-in_err-sum-clause-keeps g
+    c).In_ok-query_count) (Keeps-then c.emit_part.ensures.keeps (Keeps-then
+    c.emit_part-2.ensures.keeps (Keeps-then c.emit_part-3.ensures.keeps c.emit_item.ensures.keeps)))
 
 pub returns-in_err-signed-clause-keeps : goal.returns-in_err-signed-clause-keeps
-returns-in_err-signed-clause-keeps g c = Keeps-then (begun g (goal.at.returns-in_err-signed-clause-keeps g c).In_ok-query_count) (Keeps-then c.emit_part.ensures.keeps (Keeps-then c.emit_part-2.ensures.keeps (Keeps-then c.emit_part-3.ensures.keeps (Keeps-then c.emit_item.ensures.keeps c.emit_item-2.ensures.keeps))))
+returns-in_err-signed-clause-keeps g c = Keeps-then (begun g
+    (goal.at.returns-in_err-signed-clause-keeps g c).In_ok-query_count) (Keeps-then
+    c.emit_part.ensures.keeps (Keeps-then c.emit_part-2.ensures.keeps (Keeps-then
+    c.emit_part-3.ensures.keeps (Keeps-then c.emit_item.ensures.keeps
+    c.emit_item-2.ensures.keeps))))
 
 pub returns-in_err-total-clause-keeps : goal.returns-in_err-total-clause-keeps
-returns-in_err-total-clause-keeps g c = Keeps-then (begun g (goal.at.returns-in_err-total-clause-keeps g c).In_ok-query_count) (Keeps-then c.emit_part.ensures.keeps (Keeps-then c.emit_part-2.ensures.keeps (Keeps-then c.emit_part-3.ensures.keeps (Keeps-then c.emit_item.ensures.keeps c.emit_item-2.ensures.keeps))))
+returns-in_err-total-clause-keeps g c = Keeps-then (begun g
+    (goal.at.returns-in_err-total-clause-keeps g c).In_ok-query_count) (Keeps-then
+    c.emit_part.ensures.keeps (Keeps-then c.emit_part-2.ensures.keeps (Keeps-then
+    c.emit_part-3.ensures.keeps (Keeps-then c.emit_item.ensures.keeps
+    c.emit_item-2.ensures.keeps))))
 
 pub returns-in_err-header-clause-keeps : goal.returns-in_err-header-clause-keeps
-returns-in_err-header-clause-keeps g c = Keeps-then (begun g (goal.at.returns-in_err-header-clause-keeps g c).In_ok-query_count) (Keeps-then c.emit_part.ensures.keeps (Keeps-then c.emit_part-2.ensures.keeps (Keeps-then c.emit_part-3.ensures.keeps (Keeps-then c.emit_item.ensures.keeps c.emit_item-2.ensures.keeps))))
+returns-in_err-header-clause-keeps g c = Keeps-then (begun g
+    (goal.at.returns-in_err-header-clause-keeps g c).In_ok-query_count) (Keeps-then
+    c.emit_part.ensures.keeps (Keeps-then c.emit_part-2.ensures.keeps (Keeps-then
+    c.emit_part-3.ensures.keeps (Keeps-then c.emit_item.ensures.keeps
+    c.emit_item-2.ensures.keeps))))
 
 pub returns-clause-keeps : goal.returns-clause-keeps
 returns-clause-keeps g c =
     let kept = c.in_ok-place.ensures.ok in
     let header = c.in_ok-header.header in
     let filled = c.replace.ensures.state ∙ ap (λ at. overwritten at (header_bytes (raw_header header)) (state_of c.emit_item-2.new.encoder)) kept.1 in
-    room_filled header _ _ _ _ kept.0 c.in_ok-place.ensures.within (Keeps-then c.emit.ensures.keeps (Keeps-then c.emit_part.ensures.keeps (Keeps-then c.emit_part-2.ensures.keeps (Keeps-then c.emit_part-3.ensures.keeps (Keeps-then c.emit_item.ensures.keeps c.emit_item-2.ensures.keeps))))) filled
+    room_filled header _ _ _ _ kept.0 c.in_ok-place.ensures.within (Keeps-then c.emit.ensures.keeps
+        (Keeps-then c.emit_part.ensures.keeps (Keeps-then c.emit_part-2.ensures.keeps (Keeps-then
+        c.emit_part-3.ensures.keeps (Keeps-then c.emit_item.ensures.keeps
+        c.emit_item-2.ensures.keeps))))) filled

@@ -24,7 +24,9 @@ loop-option-preserved c =
     record {
       keeps = Keeps-then c.loop-option.invariant.keeps c.in_ok-emit.ensures.keeps;
       fits = All-more FitsOption c.args.self.now i option inside c.loop-option.invariant.fits (subst FitsOption at c.in_ok-emit.ensures.fits);
-      exact = c.in_ok-emit.ensures.exact ∙ ap (after (option_written option)) c.loop-option.invariant.exact ∙ sym (after-more option_written c.args.self.now i option (state_of c.args.encoder.now) inside at);
+      exact = c.in_ok-emit.ensures.exact ∙ ap (after (option_written option))
+          c.loop-option.invariant.exact ∙ sym (after-more option_written c.args.self.now i option
+          (state_of c.args.encoder.now) inside at);
     }
 
 pub returns-in_err-emit-clause-exact : goal.returns-in_err-emit-clause-exact
@@ -34,5 +36,7 @@ returns-in_err-emit-clause-exact c =
     let i = c.loop-option.option-index in
     let option = c.option-item.result in
     let inside : i < length c.args.self.now = omega (arith, c.loop-option-test.true, ap length same) in
-    rw (p.1, p.2) (Exactly-in_turn option_written c.args.self.now i option (Unit {0}) (Unit {0}) c.in_err-emit.field-0.0 (state_of c.args.encoder.now) (state_of c.loop-option.encoder) (state_of c.emit.new.encoder) inside
+    rw (p.1, p.2) (Exactly-in_turn option_written c.args.self.now i option (Unit {0}) (Unit {0})
+        c.in_err-emit.field-0.0 (state_of c.args.encoder.now) (state_of c.loop-option.encoder)
+        (state_of c.emit.new.encoder) inside
     (c.option-item.is ∙ ap (λ xs. get_or xs i option) same) c.loop-option.invariant.exact c.in_err-emit.ensures.exact)
