@@ -182,9 +182,19 @@ cmp_less m n i in_m in_n = grind (arith, nat_tests)
 
 -- at the shorter length one of two lists has ended
 shorter_ended : (m n i : ℕ) → i ≡ min m n → m - i ≡ 0 ⊎ n - i ≡ 0
-shorter_ended m n i is = elim (one_ended m n) [ inl below ↦ inl (omega (arith, below, is ∙
-    min-eq_left (omega (arith, below)))) | inr above ↦ inr (omega (arith, is ∙ min-eq_right (omega
-    (arith, above)))) ]
+shorter_ended m n i is = elim (one_ended m n) [
+  | inl below ↦ inl (omega (
+    arith,
+    below,
+    is ∙
+        min-eq_left (omega (arith, below)),
+  ))
+  | inr above ↦ inr (omega (
+    arith,
+    is ∙ min-eq_right (omega
+        (arith, above)),
+  ))
+]
 
 -- where the shorter list has ended, the longer is the greater
 pub ended_after : (xs ys : List ℕ) (i : ℕ) → i ≡ min (length xs) (length ys)

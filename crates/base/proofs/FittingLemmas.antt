@@ -53,9 +53,14 @@ module _ {A : Type 0} (f : A → Writing) (limit : ℕ) where
       let m = after (f y) a in
       let rest : b ≡ after (in_turn f kept) m = is ∙ after-both (f y) (in_turn f kept) a in
       let place : length m.bytes ≡ length a.bytes + length (piece_at (f y) a).bytes = length-append a.bytes (piece_at (f y) a).bytes in
-      let fits : length a.bytes + length (piece_at (f y) a).bytes ≤ limit = omega (arith, within,
-          place, ap (λ (u : State). length u.bytes) rest, length-append m.bytes (piece_at (in_turn f
-          kept) m).bytes) in
+      let fits : length a.bytes + length (piece_at (f y) a).bytes ≤ limit = omega (
+        arith,
+        within,
+        place,
+        ap (λ (u : State). length u.bytes) rest,
+        length-append m.bytes (piece_at (in_turn f
+            kept) m).bytes,
+      ) in
       first_fits f limit y (kept ++ lost) (length a.bytes) a.suffixes fits
       ∙ ap (λ (n : ℕ). y ∷ that_fit f limit (kept ++ lost) n (piece_at (f y) a).suffixes) (sym place)
       ∙ ap (λ (xs : List A). y ∷ xs) (Fits-front kept lost m b rest within full)

@@ -75,9 +75,15 @@ name-stores labels a b is = record {
       subst (λ (ts : List Stored). Any (λ t. (t.labels ≡ back) × (t.offset ≡ length a.bytes + size_of front)) ts) (sym (ap (λ (u : State). u.suffixes) is))
       (subst (λ (ls : List (List ℕ)). Any (λ t. (t.labels ≡ back) × (t.offset ≡ length a.bytes + size_of front)) (name ls (length a.bytes) a.suffixes).suffixes) (sym parts)
       (name_each front back (length a.bytes) a.suffixes
-      (omega (arith, more, ap (λ (u : State). length u.bytes) is, length-append a.bytes (piece_at
-          (name labels) a).bytes, ap (λ (ls : List (List ℕ)). length (name ls (length a.bytes)
-          a.suffixes).bytes) parts))
+      (omega (
+        arith,
+        more,
+        ap (λ (u : State). length u.bytes) is,
+        length-append a.bytes (piece_at
+            (name labels) a).bytes,
+        ap (λ (ls : List (List ℕ)). length (name ls (length a.bytes)
+            a.suffixes).bytes) parts,
+      ))
       early));
 }
 

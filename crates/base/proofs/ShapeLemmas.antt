@@ -306,10 +306,13 @@ more_list {text} {rest} word after others words first is list = by first.found_i
       let shape = quoted_there t word after cut in
       let tail : first.byte ∷ first.more ≡ 34 ∷ word ++ (34 ∷ inner ++ rest) = begins ∙ ap (λ (x : List ℕ). 34 ∷ x) (shape.0 ∙ ap (λ (x : List ℕ). word ++ 34 ∷ x) list.1) in
       let whole : text ≡ first.gap ++ 34 ∷ word ++ 34 ∷ inner ++ rest =
-      first.at ∙ ap (λ (x : List ℕ). first.gap ++ x) tail ∙ sym (append_assoc first.gap (34 ∷ word) (34 ∷ inner ++ rest)) ∙ sym (append_assoc (first.gap ++ 34 ∷ word) (34 ∷ inner) rest) in
-      (first.gap ++ 34 ∷ word ++ 34 ∷ inner, whole, subst (λ (ws : List (List ℕ)). IsList ws
-          (first.gap ++ 34 ∷ word ++ 34 ∷ inner)) (sym is) (quoted_first first.gap word inner others
-          first.apart shape.1 list.2))
+      first.at ∙ ap (λ (x : List ℕ). first.gap ++ x) tail ∙ sym (append_assoc first.gap (34 ∷ word) (34 ∷ inner ++ rest)) ∙ sym (append_assoc (first.gap ++ 34 ∷ word) (34 ∷ inner) rest) in (
+        first.gap ++ 34 ∷ word ++ 34 ∷ inner,
+        whole,
+        subst (λ (ws : List (List ℕ)). IsList ws
+            (first.gap ++ 34 ∷ word ++ 34 ∷ inner)) (sym is) (quoted_first first.gap word inner others
+            first.apart shape.1 list.2),
+      )
   by (inr (cut, dollar, opens, closing, quote)) =
       let c = first.byte in
       let shape = item_there (c ∷ first.more) word after cut in
@@ -321,11 +324,14 @@ more_list {text} {rest} word after others words first is list = by first.found_i
       let ends = ends_before inner rest (omega (arith, list_some list.2)) (subst EndsItem list.1 shape.2) in
       let whole : text ≡ first.gap ++ word ++ inner ++ rest =
       first.at ∙ ap (λ (x : List ℕ). first.gap ++ x) (shape.0 ∙ ap (λ (x : List ℕ). word ++ x)
-          list.1) ∙ sym (append_assoc first.gap word (inner ++ rest)) ∙ sym (append_assoc (first.gap
-          ++ word) inner rest) in
-      (first.gap ++ word ++ inner, whole, subst (λ (ws : List (List ℕ)). IsList ws (first.gap ++
-          word ++ inner)) (sym is) (item_first first.gap word inner others first.apart shape.1 some
-          begins ends list.2))
+      list.1) ∙ sym (append_assoc first.gap word (inner ++ rest)) ∙ sym (append_assoc (first.gap
+      ++ word) inner rest) in (
+        first.gap ++ word ++ inner,
+        whole,
+        subst (λ (ws : List (List ℕ)). IsList ws (first.gap ++
+            word ++ inner)) (sym is) (item_first first.gap word inner others first.apart shape.1 some
+            begins ends list.2),
+      )
 
 list_there : (steps : ℕ) (text : List ℕ) (words : List (List ℕ)) (rest : List ℕ) → list_items steps text ≡ Some (words, rest) → ListOf text words rest
 list_there zero text words rest is = absurd (cc (sym (listed_zero text) ∙ is))
@@ -384,8 +390,8 @@ list_back (suc steps) rest enough (quoted_first gap word inner words apart shape
     let tail = inner ++ rest in
     let at : element (past_separators false (34 ∷ word ++ 34 ∷ tail)) ≡ one word tail = element_quoted (word ++ 34 ∷ tail) ∙ ap element_of (quoted_back tail shape) in
     listed_after steps gap (34 ∷ word ++ 34 ∷ tail) (gap ++ 34 ∷ word ++ 34 ∷ inner ++ rest) (one
-        word tail) apart (append_assoc (gap ++ 34 ∷ word) (34 ∷ inner) rest ∙ append_assoc gap (34 ∷
-        word) (34 ∷ tail)) at
+    word tail) apart (append_assoc (gap ++ 34 ∷ word) (34 ∷ inner) rest ∙ append_assoc gap (34 ∷
+    word) (34 ∷ tail)) at
     ∙ ap (put word) (list_back steps rest (omega (arith, enough)) others)
 
 pub list_shape : (text rest : List ℕ) (words : List (List ℕ)) → (list_items (length text) text ≡ Some (words, rest)) ↔ ((inner : List ℕ) × (text ≡ inner ++ rest) × IsList words inner)

@@ -1,11 +1,11 @@
 -- What the orders and equalities of names are: an equivalence, a total order, and which of them agree.
 use Rattle.std.specs.Prelude.{◌≡◌, ℕ, Bool, true, false, List, [], ◌∷◌, reverse, refl, IsTrue, ◌↔◌}
-use Rattle.std.proofs.Common.{rules, ap, sym, ◌∙◌}
+use Rattle.std.proofs.Common.{ap, sym, ◌∙◌}
 use Rattle.std.proofs.lemmas.List.{reverse-reverse}
 use Rattle.std.specs.Bool.{beq, Decides, one_answer}
-use Rattle.std.specs.Cmp.{IsEquivalence, IsPartialOrder, IsTotalOrder, Equal-is, booleans_Decides, both_tied, first_so, second_so, partial_order_from_agreeing_total, unsigned_ties}
+use Rattle.std.proofs.lemmas.Cmp.{and_equiv, lists_equiv, lists_total, nat_cmp_total, nat_eq_equiv, on_equiv, on_total, then_total}
+use Rattle.std.specs.Cmp.{IsEquivalence, IsPartialOrder, IsTotalOrder, Equal-is, bool_cmp_total, bool_eq_equiv, booleans_Decides, both_tied, first_so, second_so, partial_order_from_agreeing_total, unsigned_ties}
 use Rattle.std.specs.Cmp.Lexicographic.{bytes_decides, lists_ties, pointwise_decides, slice_cmp}
-use Rattle.std.specs.Cmp.Rules.{comparing}
 use Rattle.std.specs.Hash as fed
 use Rattle.std.specs.Ordering.{as_partial_cmp, bool_cmp, is_eq, nat_cmp}
 use Rattle.std.specs.declared.cmp.Ordering.TheVariants.{Equal}
@@ -41,10 +41,12 @@ flags_tie false false = refl
 
 module _ (shown : NameValue → List (List ℕ)) where
   pub same_by-equiv : IsEquivalence (same_by shown)
-  same_by-equiv = search (comparing, rules) depth 9
+  same_by-equiv = and_equiv (on_equiv (λ n. n.absolute) bool_eq_equiv)
+      (on_equiv shown (lists_equiv (lists_equiv nat_eq_equiv)))
 
   pub cmp_by-total : IsTotalOrder (cmp_by shown)
-  cmp_by-total = search (comparing, rules) depth 9
+  cmp_by-total = then_total (on_total (λ n. n.absolute) bool_cmp_total)
+      (on_total shown (on_total reverse (lists_total (lists_total nat_cmp_total))))
 
   -- names are the same exactly where the order does not tell them apart
   pub same_by-tie : (a b : NameValue) → same_by shown a b ≡ is_eq (cmp_by shown a b)

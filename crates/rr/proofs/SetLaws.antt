@@ -82,8 +82,12 @@ held_so r set changed true held h = cc
 held_so r set changed false held h = held
 
 pub true_holds : (set : SetValue) (r : Record RData) (serial : ℕ) → (insert set r serial).0 ≡ true → has_entry r (insert set r serial).1.records ≡ true
-true_holds set r serial = held_so r set (record set { records = joined r (beside set.record_type
-    set.records); ttl = r.ttl; serial = serial }) (is_left set.record_type set.records r) (held_by r
+true_holds set r serial = held_so r set (record set {
+  records = joined r (beside set.record_type
+      set.records);
+  ttl = r.ttl;
+  serial = serial;
+}) (is_left set.record_type set.records r) (held_by r
     (beside set.record_type set.records) _ refl)
 
 -- the last name server stays

@@ -1,12 +1,10 @@
 -- Equality of records is an equivalence, and their order is total.
 use Rattle.std.specs.Prelude.{Bool}
-use Rattle.std.proofs.Common.{rules}
 use Rattle.std.specs.Cmp.{IsEquivalence, IsTotalOrder, and_equiv, nat_cmp_total, on_equiv, on_total, then_total}
-use Rattle.std.specs.Cmp.Rules.{comparing}
-use Rattle.base.specs.DNSClass.{class_cmp}
+use Rattle.base.specs.DNSClass.{class_cmp, class_number, class_rank}
 use Rattle.base.specs.NameOrder.{folded}
 use Rattle.base.specs.NameOrderLaws.{cmp_by-total, same_by-equiv}
-use Rattle.base.specs.RecordType.{type_cmp}
+use Rattle.base.specs.RecordType.{type_cmp, type_number, type_rank}
 use Rattle.base.specs.contracts.dns_class.DNSClassEq.TheImpl.Laws.{laws-law as class_laws}
 use Rattle.base_data.specs.Kinds.{type_of_data}
 use Rattle.base_data.proofs.Comparing.{data_cmp-total}
@@ -25,11 +23,13 @@ same_record-equiv equiv =
 
 -- the order of types is total
 pub type_cmp-total : IsTotalOrder type_cmp
-type_cmp-total = search (comparing, rules)
+type_cmp-total =
+    then_total (on_total type_number nat_cmp_total) (on_total type_rank nat_cmp_total)
 
 -- the order of classes is total
 pub class_cmp-total : IsTotalOrder class_cmp
-class_cmp-total = search (comparing, rules)
+class_cmp-total =
+    then_total (on_total class_number nat_cmp_total) (on_total class_rank nat_cmp_total)
 
 -- the order of records is total
 pub record_cmp-total : IsTotalOrder record_cmp

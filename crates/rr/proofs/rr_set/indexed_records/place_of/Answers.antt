@@ -16,8 +16,8 @@ returns-then-eq c =
     let len : c.len-count.result ≡ length c.args.records.now.items = search rules in
     let inside : c.in-Some.place.now < length c.args.records.now.items = omega (arith, len) in
     found_at c.args.places.now c.args.records.now.items c.args.key.now c.args.entry.now.rdata
-        c.requires.indexed c.requires.key c.in-Some.place.now c.index.result.now
-        c.in-Some.ensures.value inside c.index.ensures (sym c.eq.ensures ∙ c.if-eq.true)
+    c.requires.indexed c.requires.key c.in-Some.place.now c.index.result.now
+    c.in-Some.ensures.value inside c.index.ensures (sym c.eq.ensures ∙ c.if-eq.true)
 
 pub returns : goal.returns
 returns c = other_there c.args.places.now c.args.records.now.items c.args.key.now

@@ -40,9 +40,16 @@ loop-label-preserved c =
     ∙ ap (λ m. stored (x ∷ xs) (length s.bytes) m) wrote ∙ label-after x xs s in
     let within : length s.bytes + (1 + length x) ≤ s.limit = omega (arith, c.in_ok-emit_slice.ensures.within, ap (λ (m : State). length m.bytes) wrote, length-append s.bytes (length x ∷ x)) in
     record {
-      wire = record { whole = c.in-Some.ensures.others; labels = (subst AreLabels is
-          c.loop-label.invariant.wire.labels).1; short = omega (arith, c.in-Some.ensures.shorter,
-          c.loop-label.invariant.wire.short) };
+      wire = record {
+        whole = c.in-Some.ensures.others;
+        labels = (subst AreLabels is
+            c.loop-label.invariant.wire.labels).1;
+        short = omega (
+          arith,
+          c.in-Some.ensures.shorter,
+          c.loop-label.invariant.wire.short,
+        );
+      };
       keeps = Keeps-then c.loop-label.invariant.keeps (Keeps-label x xs s z st within);
       exact = c.loop-label.invariant.exact ∙ name-label _ x xs s is c.in_default-find.ensures.value ∙ ap (after (name xs)) (sym st);
     }
@@ -80,5 +87,5 @@ returns-clause-keeps c =
 pub returns-in-Some-find-clause-keeps : goal.returns-in-Some-find-clause-keeps
 returns-in-Some-find-clause-keeps c =
     Keeps-then c.loop-label.invariant.keeps (Keeps-either c.emit_u16.result (to_be_bytes w16 (49152
-        + c.in-Some-find.offset)) _ _ c.emit_u16.ensures.ok c.emit_u16.ensures.err
-        c.emit_u16.ensures.within)
+    + c.in-Some-find.offset)) _ _ c.emit_u16.ensures.ok c.emit_u16.ensures.err
+    c.emit_u16.ensures.within)

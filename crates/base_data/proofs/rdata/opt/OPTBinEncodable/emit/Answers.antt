@@ -37,6 +37,6 @@ returns-in_err-emit-clause-exact c =
     let option = c.option-item.result in
     let inside : i < length c.args.self.now = omega (arith, c.loop-option-test.true, ap length same) in
     rw (p.1, p.2) (Exactly-in_turn option_written c.args.self.now i option (Unit {0}) (Unit {0})
-        c.in_err-emit.field-0.0 (state_of c.args.encoder.now) (state_of c.loop-option.encoder)
-        (state_of c.emit.new.encoder) inside
+    c.in_err-emit.field-0.0 (state_of c.args.encoder.now) (state_of c.loop-option.encoder)
+    (state_of c.emit.new.encoder) inside
     (c.option-item.is ∙ ap (λ xs. get_or xs i option) same) c.loop-option.invariant.exact c.in_err-emit.ensures.exact)

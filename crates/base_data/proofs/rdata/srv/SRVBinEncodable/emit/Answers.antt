@@ -15,11 +15,11 @@ returns-in_err-emit_bytes-clause-exact c =
     let x = c.args.self.now in
     let is = err_from_is_err_and c.from_residual.result c.from_residual.ensures.1 in
     rw (is.1, is.2) (Exactly-first (Unit {0}) (Unit {0}) c.in_err-emit_bytes.field-0.0 (just
-        (srv_numbers x)) (plain_name x.target.labels) (state_of c.args.encoder.now) (state_of
-        c.emit_bytes.new.encoder) (state_of c.emit_bytes.new.encoder)
+    (srv_numbers x)) (plain_name x.target.labels) (state_of c.args.encoder.now) (state_of
+    c.emit_bytes.new.encoder) (state_of c.emit_bytes.new.encoder)
     (Exactly-same {X = Unit {0}} (Err c.in_err-emit_bytes.field-0.0) _ _ (state_of
-        c.args.encoder.now) (state_of c.emit_bytes.new.encoder) (ap just
-        c.number_octets.ensures.bytes) c.in_err-emit_bytes.ensures.exact))
+    c.args.encoder.now) (state_of c.emit_bytes.new.encoder) (ap just
+    c.number_octets.ensures.bytes) c.in_err-emit_bytes.ensures.exact))
 
 pub returns-clause-exact : goal.returns-clause-exact
 returns-clause-exact c =

@@ -18,11 +18,11 @@ returns-in_err-emit-clause-exact c =
     let o = c.args.self.now in
     let is = err_from_is_err_and c.from_residual.result c.from_residual.ensures.1 in
     rw (is.1, is.2) (Exactly-first (Unit {0}) (Unit {0}) c.in_err-emit.field-0.0 (just (to_be_bytes
-        w16 o.code)) (both (just (to_be_bytes w16 (length o.bytes))) (just o.bytes)) (state_of
-        c.args.encoder.now) (state_of c.emit.new.encoder) (state_of c.emit.new.encoder)
+    w16 o.code)) (both (just (to_be_bytes w16 (length o.bytes))) (just o.bytes)) (state_of
+    c.args.encoder.now) (state_of c.emit.new.encoder) (state_of c.emit.new.encoder)
     (Exactly-same {X = Unit {0}} (Err c.in_err-emit.field-0.0) _ _ (state_of c.args.encoder.now)
-        (state_of c.emit.new.encoder) (ap (λ (n : ℕ). just (to_be_bytes w16 n)) c.code.ensures)
-        c.in_err-emit.ensures.exact))
+    (state_of c.emit.new.encoder) (ap (λ (n : ℕ). just (to_be_bytes w16 n)) c.code.ensures)
+    c.in_err-emit.ensures.exact))
 
 pub returns-in_err-emit-2-clause-exact : goal.returns-in_err-emit-2-clause-exact
 returns-in_err-emit-2-clause-exact c =
@@ -30,15 +30,15 @@ returns-in_err-emit-2-clause-exact c =
     let a = state_of c.args.encoder.now in
     let is = err_from_is_err_and c.from_residual-in_err-emit-2.result c.from_residual-in_err-emit-2.ensures.1 in
     rw (is.1, is.2) (Exactly-then {X = Unit {0}} (Err c.in_err-emit-2.field-0.0) (just (to_be_bytes
-        w16 o.code)) (both (just (to_be_bytes w16 (length o.bytes))) (just o.bytes)) a (state_of
-        c.emit.new.encoder) (state_of c.emit-2.new.encoder)
+    w16 o.code)) (both (just (to_be_bytes w16 (length o.bytes))) (just o.bytes)) a (state_of
+    c.emit.new.encoder) (state_of c.emit-2.new.encoder)
     (c.in_ok-emit.ensures.exact ∙ ap (λ (n : ℕ). after (just (to_be_bytes w16 n)) a) c.code.ensures)
     (Exactly-first (Unit {0}) (Unit {0}) c.in_err-emit-2.field-0.0 (just (to_be_bytes w16 (length
-        o.bytes))) (just o.bytes) (state_of c.emit.new.encoder) (state_of c.emit-2.new.encoder)
-        (state_of c.emit-2.new.encoder)
+    o.bytes))) (just o.bytes) (state_of c.emit.new.encoder) (state_of c.emit-2.new.encoder)
+    (state_of c.emit-2.new.encoder)
     (Exactly-same {X = Unit {0}} (Err c.in_err-emit-2.field-0.0) _ _ (state_of c.emit.new.encoder)
-        (state_of c.emit-2.new.encoder) (ap (λ (xs : List ℕ). just (to_be_bytes w16 (length xs)))
-        c.bytes-bytes.ensures.value) c.in_err-emit-2.ensures.exact)))
+    (state_of c.emit-2.new.encoder) (ap (λ (xs : List ℕ). just (to_be_bytes w16 (length xs)))
+    c.bytes-bytes.ensures.value) c.in_err-emit-2.ensures.exact)))
 
 pub returns-clause-exact : goal.returns-clause-exact
 returns-clause-exact c =
