@@ -2,7 +2,7 @@
 use Rattle.std.proofs.Common.{◌≡◌, ℕ, ◌+◌, ◌<◌, ◌≤◌, inl, inr, List, [], ◌∷◌, ◌++◌, length, refl, ap, sym, ◌∙◌, subst, arith, length-append, Bool, cond}
 use Rattle.std.proofs.lemmas.Bool.{cases_lt, le-leb, lt-leb}
 use Rattle.base.specs.State.{State, Stored}
-use Rattle.base.specs.Written.{Writing, piece_at, after, in_turn, that_fit, fitting, Passes}
+use Rattle.base.specs.Written.{Writing, piece_at, after, in_turn, that_fit, fitting, FirstPasses}
 use Rattle.base.proofs.WrittenLemmas.{after-both, after-none}
 
 module _ {A : Type 0} (f : A → Writing) where
@@ -43,7 +43,7 @@ module _ {A : Type 0} (f : A → Writing) where
 
 module _ {A : Type 0} (f : A → Writing) (limit : ℕ) where
   -- those that were written are those that fit, if the next one would pass the limit
-  pub Fits-front : (kept lost : List A) (a b : State) → b ≡ after (in_turn f kept) a → length b.bytes ≤ limit → Passes f limit b lost
+  pub Fits-front : (kept lost : List A) (a b : State) → b ≡ after (in_turn f kept) a → length b.bytes ≤ limit → FirstPasses f limit b lost
       → that_fit f limit (kept ++ lost) (length a.bytes) a.suffixes ≡ kept
   Fits-front [] [] a b is within full = refl
   Fits-front [] (x ∷ lost) a b is within full =
@@ -67,7 +67,7 @@ module _ {A : Type 0} (f : A → Writing) (limit : ℕ) where
 
   -- and whatever the values and the limit are, those that fit are a front of them, and the first of the others would
   -- pass the limit
-  pub Fits-cut : (xs : List A) (a : State) → (lost : List A) × (xs ≡ that_fit f limit xs (length a.bytes) a.suffixes ++ lost) × Passes f limit (after (fitting f limit xs) a) lost
+  pub Fits-cut : (xs : List A) (a : State) → (lost : List A) × (xs ≡ that_fit f limit xs (length a.bytes) a.suffixes ++ lost) × FirstPasses f limit (after (fitting f limit xs) a) lost
   Fits-cut [] a = ([], refl, tt)
   Fits-cut (x ∷ xs) a = elim (cases_lt limit (length a.bytes + length (piece_at (f x) a).bytes)) [
     | inl full ↦
@@ -87,6 +87,6 @@ module _ {A : Type 0} (f : A → Writing) (limit : ℕ) where
         sym (after-both (f x) (in_turn f (that_fit f limit xs (length m.bytes) m.suffixes)) a) ∙ ap (λ (ys : List A). after (in_turn f ys) a) (sym first) in (
           lost,
           ap (λ (ys : List A). x ∷ ys) whole ∙ ap (λ (ys : List A). ys ++ lost) (sym first),
-          subst (λ (u : State). Passes f limit u lost) later full,
+          subst (λ (u : State). FirstPasses f limit u lost) later full,
         )
   ]

@@ -6,7 +6,7 @@ use Rattle.std.specs.Iterator.{Yields}
 use Rattle.base.specs.declared.error.proto_error.ProtoError.TheVariants as refusals
 use Rattle.base.specs.State.{State}
 use Rattle.base.specs.Items.{EachWritten, EmitsAll}
-use Rattle.base.specs.Written.{Writing, piece_at, after, in_turn, that_fit, fitting, Passes}
+use Rattle.base.specs.Written.{Writing, piece_at, after, in_turn, that_fit, fitting, FirstPasses}
 use Rattle.base.proofs.ItemLemmas.{Each-keeps, Each-map}
 use Rattle.base.proofs.FittingLemmas.{Fits-front}
 use Rattle.base.proofs.WrittenLemmas.{in_turn-map}
@@ -57,7 +57,7 @@ module _ {E : Type 0} (word : E → List ℕ → ℕ → ℕ → Type 0) (plain 
   Fitting = (b ≡ after (fitting written a.limit s.rest.now) a) × (n ≡ length (that_fit written a.limit s.rest.now (length a.bytes) a.suffixes))
 
   are_fitting : (kept lost : List E) → s.rest.now ≡ kept ++ lost → EachWritten word plain owner kept
-      a b → b ≡ after (in_turn written kept) a → n ≡ length kept → Passes written a.limit b lost →
+      a b → b ≡ after (in_turn written kept) a → n ≡ length kept → FirstPasses written a.limit b lost →
       Fitting
   are_fitting kept lost whole each exact counted full =
       let within : length b.bytes ≤ a.limit = omega (arith, begun, (Each-keeps word plain owner kept a b each).within) in

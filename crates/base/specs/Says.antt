@@ -30,8 +30,8 @@ pub record IsOwned (f : Writing) (fits : Type 0) (owner : List (List ℕ)) : Typ
   pub stores : owner ≢ [] → (at : ℕ) (stored : List Stored) → at < POINTER_LIMIT
       → Any (λ t. t.labels ≡ owner) (f at stored).suffixes
 
--- What is written of a value whose parts fit is a word, and all suffixes stored until then are spelled. It has at most
--- as many bytes, and stores its suffixes after those that are there.
+-- What is written of a value whose parts fit is a word, and all suffixes stored until then are spelled. It has no
+-- more bytes than uncompressed, and stores its suffixes after those that are there.
 pub record Says (f : Writing) (fits : Type 0) (word : List ℕ → ℕ → ℕ → Type 0) (plain : ℕ)
     (owner : List (List ℕ)) : Type 0 where
   pub word_stands : fits → (B : List ℕ) (at : ℕ) (stored : List Stored) → IsThere f B at stored

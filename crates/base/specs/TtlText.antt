@@ -3,8 +3,8 @@ use Rattle.std.specs.Prelude.{◌≡◌, ℕ, ◌+◌, ◌*◌, ◌^◌, ◌<◌
 use Rattle.std.specs.Str.Parse.{IsNumeral, digits_value}
 use Rattle.base.specs.Ttl.{unit_of}
 
--- Texts of so many seconds: groups of a decimal number and a unit, one at least, of which the last may lack its unit
--- and then says seconds.
+-- The texts that say a number of seconds: groups of a decimal number and a unit, one at least, of which the last may
+-- lack its unit and then says seconds.
 pub data SaysSeconds : List ℕ → ℕ → Type 0 where
   seconds : (digits : List ℕ) → IsNumeral 10 digits → SaysSeconds digits (digits_value 10 digits)
   group : (digits : List ℕ) (c unit : ℕ) → IsNumeral 10 digits → unit_of c ≡ Some unit

@@ -9,7 +9,7 @@ use Rattle.base.specs.Spelling.{Spelled}
 pub record Stands (xs bytes : List ℕ) (i : ℕ) : Type 0 where
   pub is : take (length xs) (drop i bytes) ≡ xs
 
--- a number of as many bytes stands at i, the high one first (RFC 1035, 2.3.2)
+-- a number of width w stands at i, the high byte first (RFC 1035, 2.3.2)
 pub record IsNumberAt (w : Width) (bytes : List ℕ) (i n : ℕ) : Type 0 where
   pub inside : i + byte_len w ≤ length bytes
   pub is : n ≡ from_be_bytes w (take (byte_len w) (drop i bytes))
@@ -30,7 +30,7 @@ Then first second B i e = (m : ℕ) × first B i m × second B m e
 abbrev pub Bytes : List ℕ → List ℕ → ℕ → ℕ → Type 0
 Bytes xs B i e = Stands xs B i × (e ≡ i + length xs)
 
--- a number of as many bytes
+-- a number of width w
 abbrev pub Number : Width → ℕ → List ℕ → ℕ → ℕ → Type 0
 Number w n B i e = IsNumberAt w B i n × (e ≡ i + byte_len w)
 

@@ -111,6 +111,6 @@ abbrev pub fitting : {A : Type 0} → (A → Writing) → ℕ → List A → Wri
 fitting f limit xs at stored = in_turn f (that_fit f limit xs at stored) at stored
 
 -- the own bytes of the first of these, if there is one, would pass the limit
-abbrev pub Passes : {A : Type 0} → (A → Writing) → ℕ → State → List A → Type 0
-Passes f limit s [] = Unit {0}
-Passes f limit s (x ∷ xs) = limit < length s.bytes + length (piece_at (f x) s).bytes
+abbrev pub FirstPasses : {A : Type 0} → (A → Writing) → ℕ → State → List A → Type 0
+FirstPasses f limit s [] = Unit {0}
+FirstPasses f limit s (x ∷ xs) = limit < length s.bytes + length (piece_at (f x) s).bytes

@@ -41,7 +41,7 @@ impl Model for Name {
 }
 
 impl Name {
-    /// The absolute name without labels. Takes no memory.
+    /// The root: the absolute name without labels. Takes no memory.
     pub fn root(alloc: Global) -> Name
         ensures { result ≡ record { labels = []; absolute = true } }
     {
@@ -55,7 +55,7 @@ impl Name {
         self.octets.allocator()
     }
 
-    /// Whether this is the absolute name without labels.
+    /// Whether this is the root, the absolute name without labels.
     pub fn is_root(&self) -> bool
         ensures { IsTrue result ↔ (self.now ≡ record { labels = []; absolute = true }) }
     {
@@ -94,7 +94,7 @@ impl Name {
         count
     }
 
-    /// The label at `i`, counted from the left and from 0, without its length; none past the last.
+    /// The label at index `i`, from the left and from 0, without its length byte; none after the last.
     pub fn label(&self, i: usize) -> Option<&[u8]>
         ensures { option_copied result ≡ slice_get self.now.labels i }
     {

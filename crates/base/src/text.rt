@@ -1,4 +1,4 @@
-//! The tokens of zone text and the texts of TTLs (RFC 1035, 5.1): the lower half of `serialize::txt`.
+//! The tokens of zone text and the texts of TTLs (RFC 1035, 5.1), the lexer of the original's `serialize::txt`.
 
 mod cutting;
 pub mod laws;

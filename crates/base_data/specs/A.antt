@@ -18,7 +18,7 @@ unfoldable pub a_of : List (List ℕ) → Option A
 a_of (address ∷ []) = option_map (λ octets. record { octets = octets }) (ipv4_item address)
 a_of _ = None
 
--- what is known of the data
+-- the kind A
 abbrev pub a_kind : A → Kind
 a_kind x = record {
   rank = 0;

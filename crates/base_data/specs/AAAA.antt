@@ -23,7 +23,7 @@ aaaa_of _ = None
 abbrev pub aaaa_text : List ℕ → List ℕ
 aaaa_text octets = hex_groups_text (segments_of octets)
 
--- as many groups from here on are zero
+-- the len groups from start on are zero
 pub record AreZeros (groups : List ℕ) (start len : ℕ) : Type 0 where
   pub inside : start + len ≤ length groups
   pub zeros : take len (drop start groups) ≡ replicate len 0
@@ -34,7 +34,7 @@ pub record IsFirstLongest (groups : List ℕ) (start len : ℕ) : Type 0 where
   pub longest : (s n : ℕ) → AreZeros groups s n → n ≤ len
   pub first : (s : ℕ) → AreZeros groups s len → start ≤ s
 
--- what is known of the data
+-- the kind AAAA
 abbrev pub aaaa_kind : AAAA → Kind
 aaaa_kind x = record {
   rank = 1;

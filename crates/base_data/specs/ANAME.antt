@@ -1,4 +1,4 @@
--- Names that lend their addresses to the owner (ANAME).
+-- ANAME data: a name whose addresses the owner has too.
 use Rattle.std.specs.Prelude.{◌≡◌, ℕ, List, [], ◌∷◌, ◌++◌, Option}
 use Rattle.base.specs.Labels.{NameValue, wire_of}
 use Rattle.base.specs.Reading.{Read}
@@ -20,6 +20,6 @@ aname_of = one_name_of (λ name. record { name = name })
 abbrev pub aname_wire : ANAME → List ℕ
 aname_wire x = wire_of x.name.labels ++ 0 ∷ []
 
--- what is known of the data
+-- the kind ANAME
 abbrev pub aname_kind : ANAME → Kind
 aname_kind x = name_kind 5 x.name (plain_name x.name.labels) (Says-plain_name x.name.labels)

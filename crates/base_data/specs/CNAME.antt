@@ -17,7 +17,7 @@ cname_at = one_name_at (λ name. record { name = name })
 unfoldable pub cname_of : List (List ℕ) → Option NameValue → Option CNAME
 cname_of = one_name_of (λ name. record { name = name })
 
--- what is known of the data
+-- the kind CNAME
 abbrev pub cname_kind : CNAME → Kind
 cname_kind x =
     name_kind 3 x.name (name x.name.labels)

@@ -56,7 +56,7 @@ pub record HasText (name : NameValue) : Type 0 where
   pub labels : AreLabels name.labels
   pub short : plain_len name.labels ≤ MAX_NAME
 
--- as many bytes
+-- n bytes
 pub record AreOctets (n : ℕ) (octets : List ℕ) : Type 0 where
   pub count : length octets ≡ n
   pub bytes : All (λ b. b < 256) octets

@@ -41,11 +41,11 @@ plain_mx x = 2 + (plain_len x.exchange.labels)
 abbrev pub mx_text : MX → List ℕ
 mx_text x = decimal x.preference ++ (codes " " ++ (name_text x.exchange))
 
--- its name stands after two bytes (RFC 1035, 3.3.9)
+-- the exchange begins after the preference, a number of two bytes (RFC 1035, 3.3.9)
 abbrev pub mx_places : List ℕ → ℕ → List ℕ
 mx_places bytes i = (i + 2) ∷ []
 
--- what is known of the data
+-- the kind MX
 abbrev pub mx_kind : MX → Kind
 mx_kind x = record {
   rank = 6;

@@ -17,7 +17,7 @@ ns_at = one_name_at (λ name. record { name = name })
 unfoldable pub ns_of : List (List ℕ) → Option NameValue → Option NS
 ns_of = one_name_of (λ name. record { name = name })
 
--- what is known of the data
+-- the kind NS
 abbrev pub ns_kind : NS → Kind
 ns_kind x =
     name_kind 2 x.name (name x.name.labels)

@@ -1,4 +1,4 @@
--- Pointers to names (RFC 1035, 3.3.12).
+-- PTR data, a domain name pointer (RFC 1035, 3.3.12).
 use Rattle.std.specs.Prelude.{ℕ, List, Option}
 use Rattle.base.specs.Labels.{NameValue}
 use Rattle.base.specs.Reading.{Read}
@@ -17,7 +17,7 @@ ptr_at = one_name_at (λ name. record { name = name })
 unfoldable pub ptr_of : List (List ℕ) → Option NameValue → Option PTR
 ptr_of = one_name_of (λ name. record { name = name })
 
--- what is known of the data
+-- the kind PTR
 abbrev pub ptr_kind : PTR → Kind
 ptr_kind x =
     name_kind 4 x.name (name x.name.labels)

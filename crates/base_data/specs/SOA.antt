@@ -1,4 +1,4 @@
--- The start of a zone of authority (RFC 1035, 3.3.13).
+-- The SOA of a zone (RFC 1035, 3.3.13).
 use Rattle.std.specs.Prelude.{ℕ, List, Ok, ◌+◌, ◌^◌, ◌<◌, ◌++◌, codes, [], ◌∷◌, ◌≡◌, true, Option, Some, None}
 use Rattle.std.proofs.Common.{refl, arith}
 use Rattle.std.specs.Int.{w32, to_be_bytes}
@@ -148,7 +148,7 @@ soa_numbers_stand x B i fits s =
 abbrev pub soa_places : List ℕ → ℕ → List ℕ
 soa_places bytes i = i ∷ place_after (name_at bytes i) ∷ []
 
--- what is known of the data
+-- the kind SOA
 abbrev pub soa_kind : SOA → Kind
 soa_kind x = record {
   rank = 7;

@@ -94,7 +94,7 @@ srv_text x = decimal x.priority
 abbrev pub srv_places : List ℕ → ℕ → List ℕ
 srv_places bytes i = (i + 6) ∷ []
 
--- what is known of the data
+-- the kind SRV
 abbrev pub srv_kind : SRV → Kind
 srv_kind x = record {
   rank = 8;

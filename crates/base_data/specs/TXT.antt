@@ -1,4 +1,4 @@
--- Texts: character strings, each a byte for its length and as many bytes (RFC 1035, 3.3 and 3.3.14).
+-- Texts: character strings, each a byte for its length and that number of bytes (RFC 1035, 3.3 and 3.3.14).
 use Rattle.base.specs.declared.limits.TheConstants.{MAX_STRING}
 use Rattle.std.specs.Prelude.{◌≡◌, ◌≢◌, ℕ, Bool, All, ◌<◌, ◌≤◌, ◌||◌, ◌==◌, List, [], ◌∷◌, ◌++◌, length, map, nat_lt, if◌then◌else◌, Ok, Err, Option, Some, None}
 use Rattle.std.specs.List.{flat_map, join_with_byte}
@@ -29,7 +29,7 @@ pub record IsText (bytes : List ℕ) : Type 0 where
 abbrev pub are_strings : List ℕ → Bool
 are_strings bytes = bytes_eq (wire_of (labels_of bytes)) bytes
 
--- the strings of as many bytes
+-- the strings of len bytes
 abbrev pub txt_at : ℕ → List ℕ → ℕ → Read (List (List ℕ))
 txt_at len bytes i = bytes_at len bytes i >>= λ r. if are_strings r.0 then Ok (labels_of r.0, r.1)
     else Err faults.InsufficientBytes
@@ -66,7 +66,7 @@ pub record AreStrings (strings : List (List ℕ)) : Type 0 where
   pub bytes : All (All (λ b. b < 256)) strings
   pub short : AreShort strings
 
--- what is known of the data
+-- the kind TXT
 abbrev pub txt_kind : List (List ℕ) → Kind
 txt_kind x = record {
   rank = 9;

@@ -62,7 +62,7 @@ pub enum RData {
     AAAA(AAAA),
     /// A server of a zone.
     NS(NS),
-    /// What an alias stands for.
+    /// The canonical name of an alias.
     CNAME(CNAME),
     /// A name that is pointed to.
     PTR(PTR),
@@ -70,7 +70,7 @@ pub enum RData {
     ANAME(ANAME),
     /// A host that takes mail.
     MX(MX),
-    /// The start of a zone.
+    /// The SOA of a zone.
     SOA(SOA),
     /// A host that has a service.
     SRV(SRV),

@@ -73,6 +73,6 @@ adds_message {header} {count} {questions} {old} {first} {second} {new} header_is
     let both : AddsPassed (queries_places count first.bytes first.index ++ records_places n second.bytes second.index) old new = adds_both none (adds_both asked records) in
     let there : counted_places (Ok (header, first.index)) old.bytes ≡ message_places old.bytes old.index = sym (ap (λ (r : Read Header). counted_places r old.bytes) header_is) in
     subst (λ (places : List ℕ). AddsPassed places old new) there (subst (λ (qs : List ℕ). AddsPassed
-        (qs ++ records_places n old.bytes (place_after (many_at query_at header.counts.queries
-        old.bytes first.index))) old new) questions_there
+    (qs ++ records_places n old.bytes (place_after (many_at query_at header.counts.queries
+    old.bytes first.index))) old new) questions_there
     (subst (λ (rs : List ℕ). AddsPassed (queries_places count first.bytes first.index ++ rs) old new) records_there both))

@@ -64,7 +64,19 @@ options_kept [] fits = tt
 options_kept (option ∷ options) fits = fits
 
 pub edns_kept : (e : Edns) (payload ttl : ℕ) → payload ≡ class_number (opt_class e.max_payload) → ttl ≡ opt_ttl e → (payload < 2 ^ 16) × (ttl < 2 ^ 32) → All FitsOption e.options → EdnsKept e
-edns_kept e payload ttl payload_is ttl_is fits options =
-    ((tt, omega arith), (record { type_fits = subst (λ (n : ℕ). n < 2 ^ 16) (opt_type e.options)
-        (omega arith); class_fits = omega (arith, fits.0, payload_is); ttl_fits = omega (arith,
-        fits.1, ttl_is) }, options_kept e.options options))
+edns_kept e payload ttl payload_is ttl_is fits options = (
+  (tt, omega arith),
+  (
+    record {
+      type_fits = subst (λ (n : ℕ). n < 2 ^ 16) (opt_type e.options)
+          (omega arith);
+      class_fits = omega (arith, fits.0, payload_is);
+      ttl_fits = omega (
+        arith,
+        fits.1,
+        ttl_is,
+      );
+    },
+    options_kept e.options options,
+  ),
+)

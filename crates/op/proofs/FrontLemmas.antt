@@ -24,7 +24,7 @@ use Rattle.op.specs.declared.edns.Edns.{Edns}
 use Rattle.op.specs.declared.edns.writing.RaisedEdns.{RaisedEdns}
 use Rattle.op.specs.declared.message.writing.Written.{Written}
 use Rattle.op.specs.declared.response_code.ResponseCode.{ResponseCode}
-use Rattle.base.specs.Written.{Passes, Writing, after, in_turn}
+use Rattle.base.specs.Written.{FirstPasses, Writing, after, in_turn}
 use Rattle.base.proofs.WrittenLemmas.{in_turn-map}
 
 -- the one item came, or is still to come
@@ -63,7 +63,7 @@ module _ {E : Type 0} (word : E → List ℕ → ℕ → ℕ → Type 0) (plain 
   whole_item {n = n} a b (Err e) all each exact count narrows = let one : n ≡ 1 = count ∙ ap length all in absurd (omega (arith, one, narrows.0))
 
   no_item : {xs : List E} {n : ℕ} (x : E) (a b : State) (result : Result Written ProtoError) → xs ≡ [] → EachWritten word plain owner xs a b → a.limit < length b.bytes + plain x
-      → b ≡ after (in_turn f xs) a → Passes f a.limit b (x ∷ []) → n ≡ length xs → Narrows n true result → WritesItems word plain owner f (x ∷ []) a result b
+      → b ≡ after (in_turn f xs) a → FirstPasses f a.limit b (x ∷ []) → n ≡ length xs → Narrows n true result → WritesItems word plain owner f (x ∷ []) a result b
   no_item {xs} x a b (Ok written) none each full exact passes count narrows = record {
     kept = xs;
     lost = x ∷ [];
@@ -95,8 +95,8 @@ module _ {E : Type 0} (word : E → List ℕ → ℕ → ℕ → Type 0) (plain 
   module _ (item : Bor E) (s t : Once (Bor E)) (a b : State) where
     pub one_item : (answer : Result ℕ ProtoError) (result : Result Written ProtoError) → once_item s ≡ Some item
         → EmitsAll (λ (x : Bor E). word x.now) (λ x. plain x.now) (λ x. owner x.now) (λ x. f x.now)
-            once_steps s t a b answer → Counts answer result → WritesItems word plain owner f
-            (item.now ∷ []) a result b
+        once_steps s t a b answer → Counts answer result → WritesItems word plain owner f
+        (item.now ∷ []) a result b
     one_item (Ok n) result first (xs, (u, yields, stop), each, count, exact) counts =
         elim (once_yields s u item xs first yields) [
           | inl (none, left) ↦ absurd (let is = stop.0 in cc)
@@ -108,7 +108,7 @@ module _ {E : Type 0} (word : E → List ℕ → ℕ → ℕ → Type 0) (plain 
           | inl (none, left) ↦ no_item item.now a b result (ap (map (λ x. x.now)) none) (Each-map (λ x. x.now) word plain owner xs a b each)
               (let is = step.0 in let same : x ≡ item = cc in subst (λ (y : Bor E). a.limit < length b.bytes + plain y.now) same full)
               (exact ∙ ap (λ g. after g a) (in_turn-map (λ x. x.now) f xs))
-              (let is = step.0 in let same : x ≡ item = cc in subst (λ (y : Bor E). Passes f a.limit b (y.now ∷ [])) same passes) (count ∙ sym (length-map xs (λ x. x.now))) counts
+              (let is = step.0 in let same : x ≡ item = cc in subst (λ (y : Bor E). FirstPasses f a.limit b (y.now ∷ [])) same passes) (count ∙ sym (length-map xs (λ x. x.now))) counts
           | inr (all, left) ↦ absurd (let is = step.0 in cc)
         ]
     one_item (Err refusals.Memory) result first emits counts = rw counts refl
@@ -120,7 +120,7 @@ module _ {E : Type 0} (word : E → List ℕ → ℕ → ℕ → Type 0) (plain 
 
 -- items whose words are read of a value are that value's items
 module _ {A E : Type 0} (view : A → E) (word : E → List ℕ → ℕ → ℕ → Type 0) (plain : E → ℕ) (owner : E → List (List ℕ)) (f : E → Writing) where
-  passes_map : (limit : ℕ) (b : State) (xs : List A) → Passes (λ x. f (view x)) limit b xs → Passes f limit b (map view xs)
+  passes_map : (limit : ℕ) (b : State) (xs : List A) → FirstPasses (λ x. f (view x)) limit b xs → FirstPasses f limit b (map view xs)
   passes_map limit b [] full = full
   passes_map limit b (x ∷ xs) full = full
 

@@ -46,8 +46,8 @@ names_of_message B i m e w =
       ap (λ c. c.additionals) w.counts,
     ) in
     let begins : w.queries_end ≡ place_after (many_at query_at counts.queries B (i + 12)) = sym (ap
-        place_after questions_are) ∙ ap (λ (k : ℕ). place_after (many_at query_at k B (i + 12)))
-        asked_count in
+    place_after questions_are) ∙ ap (λ (k : ℕ). place_after (many_at query_at k B (i + 12)))
+    asked_count in
     let there : records_places (length records) B w.queries_end
     ≡ records_places (counts.answers + counts.authorities + counts.additionals) B (place_after (many_at query_at counts.queries B (i + 12))) =
     ap (λ (n : ℕ). records_places n B w.queries_end) count ∙ ap (records_places (counts.answers + counts.authorities + counts.additionals) B) begins in

@@ -7,7 +7,7 @@ use Rattle.std.proofs.lemmas.List.{append-nil}
 use Rattle.std.proofs.Math.Seq.{drop-append_seam, take-append_seam}
 use Rattle.base.specs.Laws.{Keeps}
 use Rattle.base.specs.State.{State, Stored, appended, overwritten}
-use Rattle.base.specs.Written.{Writing, piece_at, after, both, fitting, in_turn, just, that_fit, Passes}
+use Rattle.base.specs.Written.{Writing, piece_at, after, both, fitting, in_turn, just, that_fit, FirstPasses}
 use Rattle.base.proofs.ItemLemmas.{Each-keeps}
 use Rattle.base.proofs.FittingLemmas.{Fits-front}
 use Rattle.base.proofs.WrittenLemmas.{after-both}
@@ -130,7 +130,7 @@ module _ {E : Type 0} {word : E → List ℕ → ℕ → ℕ → Type 0} {plain 
     (w : WritesFront word plain owner f xs a b n is_cut) (limit : ℕ) (same : a.limit ≡ limit) (within : length b.bytes ≤ limit) where
   front_fits : that_fit f limit xs (length a.bytes) a.suffixes ≡ w.kept
   front_fits = ap (λ (ys : List E). that_fit f limit ys (length a.bytes) a.suffixes) w.whole
-      ∙ Fits-front f limit w.kept w.lost a b w.exact within (subst (λ (l : ℕ). Passes f l b w.lost) same w.passes)
+      ∙ Fits-front f limit w.kept w.lost a b w.exact within (subst (λ (l : ℕ). FirstPasses f l b w.lost) same w.passes)
 
   front_exact : b ≡ after (fitting f limit xs) a
   front_exact = w.exact ∙ ap (λ (ys : List E). after (in_turn f ys) a) (sym front_fits)

@@ -97,8 +97,8 @@ module _ {E : Type 0} (f : E → Writing) where
       let longer = ap length grown.1 ∙ length-append (that_fit f small xs at stored) grown.0 in
       let none : length grown.0 ≡ 0 = omega (arith, sum, longer, ap length all) in
       let same : kept ≡ that_fit f small xs at stored = grown.1 ∙ ap (λ (ys : List E). that_fit f
-          small xs at stored ++ ys) (nil_from_length grown.0 none) ∙ append-nil (that_fit f small xs
-          at stored) in
+      small xs at stored ++ ys) (nil_from_length grown.0 none) ∙ append-nil (that_fit f small xs
+      at stored) in
       ap (λ (ys : List E). part_of xs ys at stored) same
 
   -- a part ends no earlier than the one before it

@@ -12,7 +12,7 @@ use Rattle.op.specs.Message.{MessageValue}
 use Rattle.op.specs.Query.{QueryWord, plain_query, query_written}
 use Rattle.op.specs.declared.query.Query.{Query}
 use Rattle.op.proofs.EmittedLemmas.{AreOf, Slices, emits_queries}
-use Rattle.base.specs.Written.{Passes, after, in_turn}
+use Rattle.base.specs.Written.{FirstPasses, after, in_turn}
 
 -- ---- no room
 
@@ -32,7 +32,7 @@ room_failed m old new (refusals.Decode d) run = absurd run.1
 module _ (m : MessageValue) (s : Slices) (are : AreOf m s) (old new : State) (place : ℕ) (kept : State) (room : KeepsRoom old (Ok place) kept) where
   -- the questions before one that had no room
   not_all : (xs rest : List Query) (x : Query) (count : ℕ) → s.queries.before.rest.now ≡ xs ++ x ∷ rest → EachWritten QueryWord plain_query query_owner xs kept new → count ≡ length xs
-      → kept.limit < length new.bytes + plain_query x → new ≡ after (in_turn query_written xs) kept → Passes query_written kept.limit new (x ∷ rest)
+      → kept.limit < length new.bytes + plain_query x → new ≡ after (in_turn query_written xs) kept → FirstPasses query_written kept.limit new (x ∷ rest)
       → Leaves m old (refusals.NotAllRecordsWritten count) new
   not_all xs rest x count whole each counted full exact passes =
       let front : WritesFront QueryWord plain_query query_owner query_written m.queries kept new count true = record {

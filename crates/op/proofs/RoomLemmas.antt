@@ -86,9 +86,16 @@ took_few limited took = omega (arith, took.bytes, took.keeps.within, limited.wit
 -- and so are questions
 pub queries_few : (qs : List Query) (k t : State) → IsLimited k → EachWritten QueryWord plain_query query_owner qs k t → t ≡ after (in_turn query_written qs) k → length qs < 2 ^ 16
 queries_few qs k t limited each exact =
-    omega (arith, length_after (in_turn query_written qs) k t exact, each_some query_written
-        query_some qs (length k.bytes) k.suffixes, (Each-keeps QueryWord plain_query query_owner qs
-        k t each).within, limited.within, limited.small)
+    omega (
+      arith,
+      length_after (in_turn query_written qs) k t exact,
+      each_some query_written
+          query_some qs (length k.bytes) k.suffixes,
+      (Each-keeps QueryWord plain_query query_owner qs
+          k t each).within,
+      limited.within,
+      limited.small,
+    )
 
 pub queries_within : (qs : List Query) (a b : State) → EachWritten QueryWord plain_query query_owner qs a b → length b.bytes ≤ length a.bytes + plain_queries qs
 queries_within [] a b same = omega (arith, ap (λ (s : State). length s.bytes) same)

@@ -16,7 +16,7 @@ use Rattle.op.specs.Message.{MessageValue}
 use Rattle.op.specs.Query.{QueryWord, plain_query, query_written}
 use Rattle.op.specs.declared.header.Header.{Header}
 use Rattle.op.specs.declared.query.Query.{Query}
-use Rattle.base.specs.Written.{Passes, Writing, after, in_turn}
+use Rattle.base.specs.Written.{FirstPasses, Writing, after, in_turn}
 
 -- Of the values a front was written: all that come before one that had no room.
 pub record WritesFront {E : Type 0} (word : E → List ℕ → ℕ → ℕ → Type 0) (plain : E → ℕ)
@@ -30,7 +30,7 @@ pub record WritesFront {E : Type 0} (word : E → List ℕ → ℕ → ℕ → T
   pub tells : is_cut ≡ any_lost lost
   pub full : NoRoom plain a.limit (length b.bytes) lost
   pub exact : b ≡ after (in_turn f kept) a
-  pub passes : Passes f a.limit b lost
+  pub passes : FirstPasses f a.limit b lost
 
 -- the labels of a question's name
 abbrev pub query_owner : Query → List (List ℕ)
@@ -85,7 +85,7 @@ pub record Emitted (m : MessageValue) (old new : State) (h : Header) : Type 0 wh
   pub header : new ≡ overwritten (length old.bytes) (header_bytes (raw_header h)) sixth
 
 -- What a refusal but for memory leaves: nothing was written where the header had no room; else room for the header, and
--- as many questions as the refusal says, which are all before one that had no room.
+-- the first count questions, up to one that had no room.
 abbrev pub Leaves : MessageValue → State → ProtoError → State → Type 0
 Leaves m old refusals.MaxBufferSizeExceeded new = (old.limit < length old.bytes + 12) × (new ≡ old)
 Leaves m old (refusals.NotAllRecordsWritten count) new =

@@ -55,7 +55,7 @@ pub record IsSectionFault (is_additional_section : Bool) (op : OpCode) (count : 
       ⊎ ((r : Record RData) × (e : ℕ) × IsRecordAt B place r e
       × IsMisplaced is_additional_section op before r f)
 
--- a header stands at i, and after it as many questions as it counts, up to j
+-- a header stands at i, and after it the number of questions that it says, up to j
 pub record HasQuestions (B : List ℕ) (i : ℕ) (h : Header) (j : ℕ) : Type 0 where
   pub header_stands : IsHeaderAt B i h
   pub queries : List Query

@@ -86,7 +86,7 @@ pub record IsMessageAt (B : List ℕ) (i : ℕ) (m : MessageValue) (e : ℕ) : T
   pub answers_stand : BackToBack (IsRecordAt B) queries_end answers answers_end
   pub authorities_stand : BackToBack (IsRecordAt B) answers_end authorities authorities_end
   pub additionals_stand : BackToBack (IsRecordAt B) authorities_end additionals e
-  -- as many as the counts say
+  -- the header counts what stands
   pub counts : header.counts
       ≡ record {
         queries = length m.queries;

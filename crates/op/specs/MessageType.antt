@@ -21,6 +21,6 @@ abbrev pub is_response : MessageType → Bool
 is_response kind.Response = true
 is_response kind.Query = false
 
--- queries before responses
+-- the order: queries before responses
 abbrev pub message_type_cmp : MessageType → MessageType → Ordering
 message_type_cmp = on (λ m. from_bool (is_response m)) nat_cmp

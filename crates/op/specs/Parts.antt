@@ -27,7 +27,7 @@ truncated m =
       edns = m.edns;
     }
 
--- whether a record is of the type that was asked for, or none of DNSSEC (RFC 4035, 3.2.1)
+-- whether a record is sent also to a client without DNSSEC: of the asked type, or no DNSSEC type (RFC 4035, 3.2.1)
 abbrev pub is_for_all : RecordType → Record RData → Bool
 is_for_all asked r = same_type (type_of_data r.rdata) asked
     || not (is_dnssec_type (type_of_data r.rdata))

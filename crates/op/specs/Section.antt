@@ -156,7 +156,7 @@ abbrev pub tested : Bool → OpCode → SectionValue → Record RData → Result
 tested is_additional_section op s r =
     unless_fault (fault_of is_additional_section op s r) (with_record s r)
 
--- A section with as many records more, each tested before the next is read, or the first fault.
+-- The section s with n more records, each tested before the next is read, or the first fault.
 unfoldable pub section_from : Bool → OpCode → SectionValue → ℕ → List ℕ → ℕ → Read SectionValue
 section_from is_additional_section op s zero bytes i = Ok (s, i)
 section_from is_additional_section op s (suc n) bytes i = do
@@ -164,7 +164,7 @@ section_from is_additional_section op s (suc n) bytes i = do
   more ← tested is_additional_section op s next.0
   section_from is_additional_section op more n bytes next.1
 
--- the section of as many records at a place
+-- the section of count records at a place
 abbrev pub section_at : Bool → OpCode → ℕ → List ℕ → ℕ → Read SectionValue
 section_at is_additional_section op count bytes i =
     section_from is_additional_section op empty_section count bytes i
@@ -215,8 +215,8 @@ EndsWithSignature (r ∷ rs) = (is_signature r ≡ true → rs ≡ []) × EndsWi
 abbrev pub AtMostOneOpt : List (Record RData) → Type 0
 AtMostOneOpt rs = length (filter is_opt rs) ≤ 1
 
--- Records back to back, as many as are counted, which stand in B from i up to e and may stand in the section, and
--- what they are together.
+-- The section s that count records make, which stand back to back in B from i up to e, and each of which may stand in
+-- the section.
 pub record IsSectionAt (is_additional_section : Bool) (op : OpCode) (count : ℕ) (B : List ℕ) (i : ℕ)
     (s : SectionValue) (e : ℕ) : Type 0 where
   pub records : List (Record RData)

@@ -1,4 +1,4 @@
-//! Questions with their names in lower case, by which records are looked up.
+//! Questions that also have their name in lower case, by which records are looked up.
 
 ghost use Rattle.std.specs.Prelude.{◌≡◌, IfOk, IsOkUnless, MatchResult, Some};
 ghost use Rattle.base.specs.declared.error.proto_error.ProtoError.TheVariants as refusals;
@@ -44,13 +44,13 @@ impl LowerQuery {
     /// # Errors
     ///
     /// `Memory` alone, if memory runs out.
-    pub fn query(alloc: Global, query: Query) -> Result<LowerQuery, ProtoError>
-        ensures value { IfOk result (λ lower. lower ≡ query) }
+    pub fn query(alloc: Global, question: Query) -> Result<LowerQuery, ProtoError>
+        ensures value { IfOk result (λ lower. lower ≡ question) }
         ensures only { IsOkUnless result ProtoError.Memory }
     {
         Ok(LowerQuery {
-            name: LowerName::new(alloc, &query.name)?,
-            original: query,
+            name: LowerName::new(alloc, &question.name)?,
+            original: question,
         })
     }
 
@@ -161,7 +161,7 @@ impl BinDecodable for LowerQuery {
     ///
     /// # Errors
     ///
-    /// As `Query::read` is; `Memory` also where there is none for the name in lower case.
+    /// The fault of `Query::read`; `Memory` also where the name in lower case can't be allocated.
     fn read(decoder: &mut BinDecoder<'_>) -> Result<LowerQuery, DecodeError> {
         let original = Query::read(decoder)?;
         let name = LowerName::new(decoder.allocator(), &original.name).map_err(

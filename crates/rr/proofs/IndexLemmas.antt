@@ -244,7 +244,7 @@ module _ (m : BTreeMap (Vec ℕ Global) ℕ) (rs : List (Record RData)) (ks : Li
   pub found_at : (p : ℕ) (e : Record RData) → Some p ≡ place_at m ks → p < length rs → e ≡ get_or rs p e → same_data e.rdata rdata ≡ true → IsOnlyAt rdata rs p
   found_at p e at inside is same = only_at (place_at m) rs rdata p e h (ap (place_at m) (sym key) ∙ sym at) inside is same
 
--- whether an equal record of the same time to live is there, by the record of equal data
+-- whether an equal record of the same TTL is there, by the record of equal data
 no_entry : (r : Record RData) (rs : List (Record RData)) → list_any (has_data_of r) rs ≡ false → has_entry r rs ≡ false
 no_entry r [] h = refl
 no_entry r (x ∷ xs) h =

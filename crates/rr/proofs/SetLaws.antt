@@ -166,8 +166,8 @@ kept_or false false h = refl
 soa_kept : (set : SetValue) (t : RecordType) → t ≡ types.SOA → is_kept set t ≡ true
 soa_kept set t e = ap (λ u. is_kept set u) e
 
-pub start_stays : (set : SetValue) (r : Record RData) (serial : ℕ) → IsTidy set → set.record_type ≡ types.SOA → ◌≡◌ {A = Bool × SetValue} (remove set r serial) (false, set)
-start_stays set r serial tidy soa =
+pub soa_stays : (set : SetValue) (r : Record RData) (serial : ℕ) → IsTidy set → set.record_type ≡ types.SOA → ◌≡◌ {A = Bool × SetValue} (remove set r serial) (false, set)
+soa_stays set r serial tidy soa =
     cond-true (is_kept set (type_of_data r.rdata) || not (list_any (has_data_of r) set.records)) _ _ (kept_or (is_kept set (type_of_data r.rdata)) (list_any (has_data_of r) set.records)
     (λ any. soa_kept set (type_of_data r.rdata) (in_type set.record_type r set.records tidy.own_type any ∙ soa)))
 

@@ -23,7 +23,7 @@ and_yes : (a : Bool) → a ≡ (a && true)
 and_yes true = refl
 and_yes false = refl
 
--- what a record of another time to live, of other data and of another class is not
+-- what a record of another TTL, of other data and of another class is not
 pub other_ttl : (x r : Record RData) → nat_eq x.ttl r.ttl ≡ false → false ≡ (same_entry x r && nat_eq x.ttl r.ttl)
 other_ttl x r h = and_no (same_entry x r) ∙ ap (λ b. same_entry x r && b) (sym h)
 

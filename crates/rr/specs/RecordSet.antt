@@ -22,7 +22,7 @@ use Rattle.rr.specs.RecordOrder.{same_class, same_record}
 use Rattle.rr.specs.RecordOrderLaws.{same_class-equiv, same_record-equiv}
 use Rattle.rr.specs.declared.record.Record.{Record}
 
--- a set: its owner, type and class, its records in order, and the time to live and the serial of its last change
+-- a set: its owner, type and class, its records in order, and the TTL and the serial of its last change
 pub record SetValue : Type 0 where
   pub name : NameValue
   pub record_type : RecordType
@@ -63,7 +63,7 @@ in_class set class =
       records = map (λ (r : Record RData). record r { dns_class = class }) set.records;
     }
 
--- a time to live for the set and each of its records
+-- a TTL for the set and each of its records
 abbrev pub with_ttl : SetValue → ℕ → SetValue
 with_ttl set ttl =
     record set {
@@ -71,12 +71,12 @@ with_ttl set ttl =
       records = map (λ (r : Record RData). record r { ttl = ttl }) set.records;
     }
 
--- whether this is the type of the start of a zone
+-- whether this is the type SOA
 abbrev pub is_soa : RecordType → Bool
 is_soa types.SOA = true
 is_soa _ = false
 
--- whether this is the type of name servers
+-- whether this is the type NS
 abbrev pub is_ns : RecordType → Bool
 is_ns types.NS = true
 is_ns _ = false

@@ -59,7 +59,7 @@ replaced r (x ∷ xs) = (if has_data_of r x then r else x) ∷ replaced r xs
 abbrev pub joined : Record RData → List (Record RData) → List (Record RData)
 joined r xs = replaced r xs ++ (if list_any (has_data_of r) xs then [] else r ∷ [])
 
--- whether some record is equal to r and has its time to live
+-- whether some record is equal to r and has its TTL
 abbrev pub has_entry : Record RData → List (Record RData) → Bool
 has_entry r xs = list_any (λ x. same_entry x r && nat_eq x.ttl r.ttl) xs
 
@@ -68,7 +68,7 @@ abbrev pub beside : RecordType → List (Record RData) → List (Record RData)
 beside type xs = if holds_one type then [] else xs
 
 -- whether `insert` leaves the records of a set of a type as they are: an SOA stays where the new one isn't later, and
--- an equal record where the new one has its time to live
+-- an equal record where the new one has its TTL
 abbrev pub is_left : RecordType → List (Record RData) → Record RData → Bool
 is_left type xs r = (is_soa type && stays xs r.rdata) || has_entry r (beside type xs)
 
@@ -76,7 +76,7 @@ is_left type xs r = (is_soa type && stays xs r.rdata) || has_entry r (beside typ
 abbrev pub entered : Record RData → List (Record RData) → Bool × List (Record RData)
 entered r xs = if has_entry r xs then (false, xs) else (true, joined r xs)
 
--- The answer of `insert` and the set then. A change takes over the record's time to live, and the serial.
+-- The answer of `insert` and the set then. A change takes over the record's TTL, and the serial.
 abbrev pub insert : SetValue → Record RData → ℕ → Bool × SetValue
 insert set r serial =
     if is_left set.record_type set.records r then (false, set)
@@ -93,7 +93,7 @@ insert set r serial =
 abbrev pub put : RecordType → Record RData → List (Record RData) → Bool × List (Record RData)
 put type r xs = if is_left type xs r then (false, xs) else (true, joined r (beside type xs))
 
--- the record that a set makes of data: its name and its time to live, in the class IN
+-- the record that a set makes of data: its name and its TTL, in the class IN
 abbrev pub own_record : SetValue → RData → Record RData
 own_record set rdata =
     record {

@@ -40,7 +40,7 @@ abbrev pub FalseKeeps : Type 0
 FalseKeeps = (set : SetValue) (r : Record RData) (serial : ℕ) → (insert set r serial).0 ≡ false
     → (insert set r serial).1 ≡ set
 
--- after an `insert` that answers true the set holds an equal record of the new time to live
+-- after an `insert` that answers true the set holds an equal record of the new TTL
 abbrev pub TrueHolds : Type 0
 TrueHolds = (set : SetValue) (r : Record RData) (serial : ℕ) → (insert set r serial).0 ≡ true
     → has_entry r (insert set r serial).1.records ≡ true
@@ -57,8 +57,8 @@ LastServerStays = (set : SetValue) → IsTidy set → is_ns set.record_type ≡ 
     → StaysFilled set
 
 -- nothing is removed from a tidy set of an SOA
-abbrev pub StartStays : Type 0
-StartStays = (set : SetValue) (r : Record RData) (serial : ℕ) → IsTidy set
+abbrev pub SOAStays : Type 0
+SOAStays = (set : SetValue) (r : Record RData) (serial : ℕ) → IsTidy set
     → set.record_type ≡ types.SOA → ◌≡◌ {A = Bool × SetValue} (remove set r serial) (false, set)
 
 -- Both are SOA data, the new one of a greater serial.

@@ -27,7 +27,7 @@ pub enum ParseError {
     /// An included text that was not handed in.
     #[error("no text named {0} to include")]
     IncludeNotFound(String),
-    /// A text that is no record type, its ASCII letters raised.
+    /// A text that is no record type, in upper case.
     #[error("unknown record type: {0}")]
     UnknownRecordType(String),
     /// A type without a text form.

@@ -139,7 +139,7 @@ fn lower_into(wire: &[u8], room: &mut [u8; MAX_LABELS])
     front.make_ascii_lowercase();
 }
 
-/// What is after as many labels.
+/// The labels after the first `count`.
 fn past_labels(wire: &[u8], count: usize) -> &[u8]
     requires { IsLabelRun wire.now }
     ensures labels { labels_of result.now ≡ drop count (labels_of wire.now) }

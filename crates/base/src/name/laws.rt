@@ -22,7 +22,7 @@ pub fn reading_is_spelling()
 
 /// A spelling has one list of labels and one end. It stays where no byte that its pieces look at changes, whatever
 /// becomes of the others: so where bytes are added after it, and where a range that it doesn't look at is replaced by
-/// as many other bytes. What is spelled by looking at some places is spelled (RFC 1035, 4.1.4).
+/// other bytes of the same number. What is spelled by looking at some places is spelled (RFC 1035, 4.1.4).
 pub fn spellings_stay()
     ensures once { (bytes : List ℕ) (s i e f : ℕ) (xs ys : List (List ℕ)) → Spelled bytes xs s i e
         → Spelled bytes ys s i f → (xs ≡ ys) × (e ≡ f) }

@@ -14,7 +14,8 @@ use crate::error::ParseError;
 use crate::text::Token;
 use std::alloc::Global;
 
-/// Whether an item ends before this byte. Most bytes of an item are above all but one of those that end it.
+/// Whether an item ends before this byte. All bytes that end one but `;` are at most `)`, and most bytes of an item are
+/// greater.
 fn ends_item(c: u8) -> bool
     ensures { result ≡ ends_item c }
 {
@@ -24,7 +25,7 @@ fn ends_item(c: u8) -> bool
     matches!(c, b' ' | b'\t' | b'\n' | b'\r' | b'(' | b')' | b'"')
 }
 
-/// How many bytes the item has that a text begins with; none where a backslash ends the text.
+/// The length in bytes of the item that a text begins with; none where the text ends with the item's backslash.
 #[tactic(auto, unfolding(crate::specs::Tokens::item))]
 fn item_len(text: &[u8]) -> Option<usize>
     ensures value { option_map (λ n. (take n text.now, drop n text.now)) result
@@ -49,14 +50,14 @@ fn item_len(text: &[u8]) -> Option<usize>
     Some(text.len())
 }
 
-/// How many bytes stand before the next `"` that no backslash keeps; none where there is no such `"`.
+/// How many bytes stand before the next `"` that no backslash escapes; none where there is no such `"`.
 #[tactic(auto, unfolding(crate::specs::Tokens::quoted))]
 fn quoted_len(text: &[u8]) -> Option<usize>
     ensures value { option_map (λ n. (take n text.now, drop (n + 1) text.now)) result
         ≡ quoted false text.now }
     // The quotation mark begins a character of the text.
     ensures boundary { IfSome result (λ n. IsCharBoundary text.now n) }
-    // After so many bytes stands a `"`.
+    // After these n bytes stands a `"`.
     ensures quote { IfSome result (λ n. (n < length text.now) × (get_or text.now n 0 ≡ 34)) }
 {
     let mut kept = false;
@@ -128,7 +129,7 @@ pub(super) fn past_blanks(text: &str) -> &str
     rest
 }
 
-/// What stands from the end of the line on.
+/// The text from the end of its first line on, that end included.
 fn line_end(text: &str) -> &str
     ensures { result.now ≡ line_end text.now }
 {
@@ -191,7 +192,7 @@ pub(super) fn take_quoted(alloc: Global, text: &str) -> Result<(String, &str), P
     Ok((String::from_str(alloc, word)?, past_first(rest)))
 }
 
-/// What stands next within parentheses, none where they close, and what is after it.
+/// The next item or quoted text within parentheses, none where they close, and what is after it.
 #[tactic(auto, unfolding(crate::specs::Tokens::element))]
 fn take_element(alloc: Global, text: &str) -> Result<(Option<String>, &str), ParseError>
     ensures { AnswersElement result (element (past_separators false text.now)) }
@@ -243,7 +244,7 @@ pub(super) fn past_line_end(text: &str) -> &str
     rest
 }
 
-/// The token that an item is outside parentheses.
+/// The token of an item outside parentheses.
 pub(super) fn token_of(word: String) -> Result<Token, ParseError>
     ensures { AnswersItem result (string_bytes word) }
 {
@@ -254,7 +255,7 @@ pub(super) fn token_of(word: String) -> Result<Token, ParseError>
     }
 }
 
-/// The same for an item that begins as signs do.
+/// The same for an item that begins with `@` or `$`.
 fn sign_of(word: String) -> Result<Token, ParseError>
     ensures { AnswersItem result (string_bytes word) }
 {

@@ -17,8 +17,8 @@ use crate::wire::encoder::BinEncoder;
 /// suffixes stored until then. `fits` is what the type keeps of the value: that its numbers are in range, and its
 /// labels those of names.
 ///
-/// That what is written is the word, has at most as many bytes and compresses the owner is a law of `written`, by
-/// itself.
+/// That what is written is the word, has no more than `plain_len` bytes and compresses the owner is a law of `written`,
+/// by itself.
 pub trait BinEncodable {
     ghost use Rattle.std.specs.Prelude.{ℕ, List, [], OnOk};
     ghost use Rattle.base.specs.Laws.{Keeps};
@@ -54,7 +54,7 @@ pub trait BinEncodable {
     ghost says: { (x : Self) → Says (written x) (fits x) (word x) (plain_len x) (owner x) };
 }
 
-/// A value that takes as many bytes whatever it is, so that room can be kept for it.
+/// A value that always takes the same number of bytes, `LEN`, so that room can be kept for it.
 pub trait EncodedSize: BinEncodable {
     ghost use Rattle.std.specs.Prelude.{◌≡◌, ◌+◌, ℕ, List, length};
     ghost use Rattle.base.specs.Words.{Stands};

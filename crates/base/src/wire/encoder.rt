@@ -175,7 +175,7 @@ impl<'a> BinEncoder<'a> {
         self.buffer.is_empty()
     }
 
-    /// Keeps room for a value that comes later: appends as many zero bytes as it takes.
+    /// Keeps room for a value that comes later: appends `T::LEN` zero bytes.
     ///
     /// # Errors
     ///

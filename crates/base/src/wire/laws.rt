@@ -8,7 +8,7 @@ ghost use Rattle.base.specs.Passing.{AddsPassed, NamesPass};
 ghost use Rattle.base.specs.Reader.{Reader, begun};
 ghost use Rattle.base.specs.State.{State, Stored, appended, overwritten};
 ghost use Rattle.base.specs.Wire.{Refuses};
-ghost use Rattle.base.specs.Written.{in_turn, that_fit, after, fitting, Exactly, Passes};
+ghost use Rattle.base.specs.Written.{in_turn, that_fit, after, fitting, Exactly, FirstPasses};
 ghost use Rattle.base.specs.declared.error.proto_error.ProtoError.{ProtoError};
 
 use crate::wire::encodable::BinEncodable;
@@ -27,8 +27,8 @@ pub fn a_new_decoder_keeps_what_is_passed()
         → (offsets : List ℕ) × NamesPass bytes names offsets × (new.kept ≡ set.from_list offsets) }
 {}
 
-/// What an emit wrote is the word of its value, has at most as many bytes as without compression, compresses the owner,
-/// and leaves each stored suffix spelled; and it is refused for the limit only where as many bytes would pass it.
+/// What an emit wrote is the word of its value, has no more bytes than uncompressed, compresses the owner, and leaves
+/// each stored suffix spelled; and it is refused for the limit only where the uncompressed bytes would pass it.
 pub fn what_is_written_is_its_word<E: BinEncodable>()
     ensures writes { (x : E) (a b : State) (answer : Result (Unit {0}) ProtoError) → Keeps a b
         → a.limit < 2 ^ 16
@@ -56,7 +56,7 @@ pub fn filled_room_is_free<E: BinEncodable>()
 pub fn what_fits_under_a_limit<E: BinEncodable>()
     ensures first { (limit : ℕ) (values : List E) (s : State) → (lost : List E)
         × (values ≡ that_fit E.written limit values (length s.bytes) s.suffixes ++ lost)
-        × Passes E.written limit (after (fitting E.written limit values) s) lost }
+        × FirstPasses E.written limit (after (fitting E.written limit values) s) lost }
     ensures all { (limit : ℕ) (values : List E) (at : ℕ) (stored : List Stored)
         → at + length (in_turn E.written values at stored).bytes ≤ limit
         → that_fit E.written limit values at stored ≡ values }

@@ -48,13 +48,13 @@ impl RData {
                     Err(DecodeError::BadData(record_type))
                 }
             }
-            Err(e) => Err(inside(record_type, e)),
+            Err(e) => Err(fault_in_data(record_type, e)),
         }
     }
 }
 
-/// The fault of data that has a fault inside.
-fn inside(record_type: RecordType, fault: DecodeError) -> DecodeError
+/// The fault of data of a type in which a fault was met.
+fn fault_in_data(record_type: RecordType, fault: DecodeError) -> DecodeError
     ensures { result ≡ in_data record_type fault }
 {
     match fault {

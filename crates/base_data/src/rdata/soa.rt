@@ -1,4 +1,4 @@
-//! The start of a zone of authority.
+//! The SOA of a zone.
 
 ghost use Rattle.std.specs.Prelude.{◌≡◌, Some, refl};
 ghost use Rattle.base_data.specs.SOA.{SOAFits, SOAWord, plain_soa, soa_at, soa_kind, soa_numbers, soa_of, soa_places, soa_text};
@@ -16,7 +16,7 @@ use base::{
 use std::alloc::{AllocError, Global};
 use std::fmt;
 
-/// The start of a zone (RFC 1035, 3.3.13).
+/// The SOA of a zone (RFC 1035, 3.3.13).
 #[derive(Debug, Drop, PartialEq, Eq)]
 pub struct SOA {
     /// The zone's primary server (MNAME).

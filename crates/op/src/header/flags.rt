@@ -22,7 +22,7 @@ pub struct Flags {
     pub checking_disabled: bool,
 }
 
-/// The short names of those that are set, in the order RD, CD, TC, AA, RA, AD, with commas between them.
+/// The short names of the flags that are set, in the order RD, CD, TC, AA, RA, AD, with commas between them.
 impl fmt::Display for Flags {
     ghost output = { λ flags. Some (flags_text flags) };
 

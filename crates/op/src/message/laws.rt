@@ -9,7 +9,7 @@ ghost use Rattle.base.specs.Many.{many_at};
 ghost use Rattle.base.specs.Spelling.{NamesStand};
 ghost use Rattle.base.specs.State.{State, Stored};
 ghost use Rattle.base.specs.Words.{BackToBack};
-ghost use Rattle.base.specs.Written.{after, fitting, in_turn, Passes, that_fit};
+ghost use Rattle.base.specs.Written.{after, fitting, in_turn, FirstPasses, that_fit};
 ghost use Rattle.base.specs.declared.error.proto_error.ProtoError.{ProtoError};
 ghost use Rattle.base_data.specs.declared.rdata.RData.{RData};
 ghost use Rattle.rr.specs.Record.{record_written};
@@ -45,13 +45,13 @@ pub fn reading_is_the_message_word()
     // At a place one message at most begins, and it has one end.
     ensures once { (B : List ℕ) (i : ℕ) (m n : MessageValue) (e f : ℕ) → IsMessageAt B i m e
         → IsMessageAt B i n f → (m ≡ n) × (e ≡ f) }
-    // The records of a section are read exactly where as many stand back to back as are counted,
-    // and each may stand there.
+    // The records of a section are read exactly where `count` of them stand back to back, and each
+    // may stand there.
     ensures section { (is_additional : Bool) (op : _) (count : ℕ) (B : List ℕ) (i : ℕ)
         (s : SectionValue) (e : ℕ)
         → (section_at is_additional op count B i ≡ Ok (s, e))
         ↔ IsSectionAt is_additional op count B i s e }
-    // Questions are read exactly where as many stand back to back as are counted.
+    // Questions are read exactly where `count` of them stand back to back.
     ensures questions { (count : ℕ) (B : List ℕ) (i : ℕ) (qs : List Query) (e : ℕ)
         → (many_at query_at count B i ≡ Ok (qs, e))
         ↔ (BackToBack (IsQueryAt B) i qs e × (length qs ≡ count)) }
@@ -117,10 +117,10 @@ pub fn what_is_cut_did_not_fit()
     ensures records { (limit : ℕ) (rs : List (Record RData)) (s : State)
         → (lost : List (Record RData))
         × (rs ≡ that_fit record_written limit rs (length s.bytes) s.suffixes ++ lost)
-        × Passes record_written limit (after (fitting record_written limit rs) s) lost }
+        × FirstPasses record_written limit (after (fitting record_written limit rs) s) lost }
     ensures questions { (limit : ℕ) (qs : List Query) (s : State) → (lost : List Query)
         × (qs ≡ that_fit query_written limit qs (length s.bytes) s.suffixes ++ lost)
-        × Passes query_written limit (after (fitting query_written limit qs) s) lost }
+        × FirstPasses query_written limit (after (fitting query_written limit qs) s) lost }
 {}
 
 /// Where all records have room together, compressed as they are, none is cut. The same of questions.

@@ -36,7 +36,7 @@ impl Message {
         decoder: &mut BinDecoder<'_>,
         count: usize,
     ) -> Result<Vec<Query>, ProtoError>
-        // A refusal is `Decode` of the fault that reading so many questions meets, or of `Memory`.
+        // A refusal is `Decode` of the fault met in reading `count` questions, or of `Memory`.
         ensures read { ReadsOrDecodes (λ v. v.items) decoder.old decoder.new result
             (many_at query_at count decoder.old.bytes decoder.old.index) }
         // These two are as of every read: see `BinDecodable::read`.
@@ -46,7 +46,7 @@ impl Message {
         ensures fault { (f : DecodeError) → result ≡ Err (ProtoError.Decode f)
             → (f ≡ DecodeError.Memory)
             ⊎ IsQueriesFault count decoder.old.bytes decoder.old.index f }
-        // The targets that the names of these questions pass are kept in addition, and no others.
+        // The decoder now also keeps the targets of these names' pointers, and no others.
         ensures adds { IfOk result
             (λ _. AddsPassed (queries_places count decoder.old.bytes decoder.old.index) decoder.old
             decoder.new) }
@@ -79,7 +79,7 @@ impl Message {
         // These two are as of every read: see `BinDecodable::read`.
         ensures counts { Counts decoder.old decoder.new result }
         ensures passed { Passes decoder.old decoder.new result }
-        // The targets that the names of these records pass are kept in addition, and no others.
+        // The decoder now also keeps the targets of these names' pointers, and no others.
         ensures adds { IfOk result
             (λ _. AddsPassed (records_places count decoder.old.bytes decoder.old.index) decoder.old
             decoder.new) }
@@ -100,13 +100,13 @@ impl Message {
         // These two are as of every read: see `BinDecodable::read`.
         ensures counts { Counts decoder.old decoder.new result }
         ensures passed { Passes decoder.old decoder.new result }
-        // The targets that the names of these records pass are kept in addition, and no others.
+        // The decoder now also keeps the targets of these names' pointers, and no others.
         ensures adds { IfOk result
             (λ _. AddsPassed (records_places count decoder.old.bytes decoder.old.index) decoder.old
             decoder.new) }
     {
         let mut section = Section::new(decoder.allocator());
-        // a count that lies takes no more room than the bytes that are left could fill
+        // a count that is too high makes no more room than the bytes left could fill
         if count > 2 {
             section.reserve(count.min(decoder.len() / SHORTEST))?;
         }
@@ -117,7 +117,7 @@ impl Message {
         Ok(section)
     }
 
-    /// Reads the sections of as many records as the header counts.
+    /// Reads the three sections, each of the number of records that the header says.
     fn read_sections(
         decoder: &mut BinDecoder<'_>,
         counts: HeaderCounts,
@@ -128,7 +128,7 @@ impl Message {
         // These two are as of every read: see `BinDecodable::read`.
         ensures counts { Counts decoder.old decoder.new result }
         ensures passed { Passes decoder.old decoder.new result }
-        // The targets that the names of all these records pass are kept in addition, and no others.
+        // The decoder now also keeps the targets of these names' pointers, and no others.
         ensures adds { IfOk result
             (λ _. AddsPassed
             (records_places (counts.answers + counts.authorities + counts.additionals)
@@ -171,7 +171,7 @@ impl Message {
         // These two are as of every read: see `BinDecodable::read`.
         ensures counts { Counts decoder.old decoder.new result }
         ensures passed { Passes decoder.old decoder.new result }
-        // The targets that the names of the message pass are kept in addition, and no others.
+        // The decoder now also keeps the targets of these names' pointers, and no others.
         ensures adds { IfOk result
             (λ _. AddsPassed (message_places decoder.old.bytes decoder.old.index) decoder.old
             decoder.new) }
@@ -262,7 +262,7 @@ impl Section {
         }
     }
 
-    /// Makes room for as many records more.
+    /// Makes room for `count` more records.
     ///
     /// # Errors
     ///
@@ -300,7 +300,7 @@ impl Section {
         }
     }
 
-    /// The first test that a record fails after those that were read.
+    /// The first test that the next record fails, given those read before.
     fn fault_of(&self, next: &Record, is_additional: bool, op_code: OpCode) -> Option<DecodeError>
         ensures { result ≡ fault_of is_additional op_code (section_value self.now) next.now }
     {

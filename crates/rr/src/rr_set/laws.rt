@@ -1,7 +1,7 @@
 //! Laws of record sets.
 
 ghost use Rattle.rr.specs.SerialOrder.{GrowsByAdding, NotBothGreater, NotGreaterThanItself, UndefinedHalfway};
-ghost use Rattle.rr.specs.SetLaws.{AddKeepsTidy, EmptyIsTidy, FalseKeeps, InsertKeepsTidy, LastServerStays, OneIsTidy, RemoveKeepsTidy, SerialRises, SerialStays, StartStays, TrueHolds};
+ghost use Rattle.rr.specs.SetLaws.{AddKeepsTidy, EmptyIsTidy, FalseKeeps, InsertKeepsTidy, LastServerStays, OneIsTidy, RemoveKeepsTidy, SerialRises, SerialStays, SOAStays, TrueHolds};
 
 /// Sets are tidy from the first on: no equal data comes in, and all records have the set's type (RFC 2181, 5).
 pub fn sets_are_tidy()
@@ -22,7 +22,7 @@ pub fn inserts_answer_for_the_set()
 /// What a tidy set keeps: its last name server stays, and so does an SOA (RFC 2136, 3.4.2.4).
 pub fn tidy_sets_keep_their_records()
     ensures last_server { LastServerStays }
-    ensures start { StartStays }
+    ensures soa { SOAStays }
 {}
 
 /// How serials compare (RFC 1982, 3.2): none is greater than itself, of two one at most is, and of two different ones

@@ -25,7 +25,7 @@ impl<'a> BinEncoder<'a> {
         }
     }
 
-    /// Cuts back to as many bytes and suffixes. These are spelled below the cut.
+    /// Cuts back to the marked number of bytes and suffixes. Those suffixes begin before the cut.
     pub(crate) fn roll_back(&mut self, mark: Mark)
         requires { All (λ t. t.offset < mark.len) (take mark.count (state_of self.old).suffixes) }
         ensures { state_of self.new ≡ cut mark.len mark.count (state_of self.old) }

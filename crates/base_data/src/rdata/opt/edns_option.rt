@@ -107,7 +107,7 @@ impl BinEncodable for EdnsOption {
 impl BinDecodable for EdnsOption {
     ghost read_at = { option_at };
 
-    /// Reads a code, a number, and as many bytes (RFC 6891, 6.1.2).
+    /// Reads a code, a length, and that number of bytes (RFC 6891, 6.1.2).
     ///
     /// # Errors
     ///

@@ -23,8 +23,8 @@ opt_of : (g : _) (c : In_ok-opt g) → WritesRecordItems (opt_records c.args.met
     (state_of c.emit_part-3.new.encoder) (Ok c.in_ok-opt.opt) (state_of c.emit_item.new.encoder)
 opt_of g c =
     opt_items c.args.metadata.now.response_code c.high-high.result c.high-high.ensures c.args.edns
-        c.map-raised.result (option_copied c.as_ref.result) _ (λ e x made. search rules)
-        c.map-raised.ensures.cases c.as_ref.ensures.value
+    c.map-raised.result (option_copied c.as_ref.result) _ (λ e x made. search rules)
+    c.map-raised.ensures.cases c.as_ref.ensures.value
     (state_of c.emit_part-3.new.encoder) (state_of c.emit_item.new.encoder) (Ok c.in_ok-opt.opt) c.in_ok-opt.ensures.run
 
 -- the signature was written
@@ -200,6 +200,6 @@ returns-clause-keeps g c =
     let header = c.in_ok-header.header in
     let filled = c.replace.ensures.state ∙ ap (λ at. overwritten at (header_bytes (raw_header header)) (state_of c.emit_item-2.new.encoder)) kept.1 in
     room_filled header _ _ _ _ kept.0 c.in_ok-place.ensures.within (Keeps-then c.emit.ensures.keeps
-        (Keeps-then c.emit_part.ensures.keeps (Keeps-then c.emit_part-2.ensures.keeps (Keeps-then
-        c.emit_part-3.ensures.keeps (Keeps-then c.emit_item.ensures.keeps
-        c.emit_item-2.ensures.keeps))))) filled
+    (Keeps-then c.emit_part.ensures.keeps (Keeps-then c.emit_part-2.ensures.keeps (Keeps-then
+    c.emit_part-3.ensures.keeps (Keeps-then c.emit_item.ensures.keeps
+    c.emit_item-2.ensures.keeps))))) filled
