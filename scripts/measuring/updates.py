@@ -50,7 +50,7 @@ KINDS = {
     "adds an address to a new name": (False, lambda n: record(new(n), A, IN, 60, address(n)), False),
     "adds an address to one name": (False, lambda n: record("one", A, IN, 60, address(n)), False),
     "renews an address": (False, lambda n: record(old(n), A, IN, 60, address(n)), False),
-    "adds an alias": (False, lambda n: record(new(n), CNAME, IN, 60, "C00C"), False),
+    "adds a CNAME": (False, lambda n: record(new(n), CNAME, IN, 60, "C00C"), False),
     "deletes an address": (False, lambda n: record(old(n), A, NONE, 0, address(n)), False),
     "deletes a set": (False, lambda n: record(old(n), A, ANY), False),
     "deletes a name": (False, lambda n: record(old(n), ALL, ANY), False),

@@ -5,9 +5,9 @@ use Rattle.base.specs.declared.error.decode_error.DecodeError.{DecodeError}
 use Rattle.base.specs.declared.error.decode_error.DecodeError.TheVariants as faults
 use Rattle.base.specs.Spelling.{ByteAt, anywhere, target}
 
--- The fault of a name from i on, in a piece that begins at s, where the labels before took used bytes: the buffer ends
--- before a part or inside a label or pointer; top bits 01 or 10; more than 255 bytes with the final one; a pointer that
--- doesn't go below its piece's start; or a fault that comes after a label or a pointer.
+-- The fault of a name from i on, in a piece that begins at s, where the labels before took `used` bytes: the buffer
+-- ends before a part or inside a label or pointer; top bits 01 or 10; more than 255 bytes with the final one; a pointer
+-- that doesn't go below its piece's start; or a fault that comes after a label or a pointer.
 pub data IsFaulty (bytes : List ℕ) : ℕ → ℕ → ℕ → DecodeError → Type 0 where
   ended : {s i used : ℕ} → length bytes ≤ i → IsFaulty bytes s i used faults.InsufficientBytes
   cut_label : {s i used n : ℕ} → ByteAt anywhere bytes i n → 1 ≤ n → n ≤ MAX_LABEL

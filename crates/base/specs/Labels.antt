@@ -35,7 +35,7 @@ unfoldable pub wire_of : List (List ℕ) → List ℕ
 wire_of [] = []
 wire_of (label ∷ labels) = (length label ∷ label) ++ wire_of labels
 
--- the labels of such bytes, of the first n labels
+-- the labels of such bytes, the first n of them
 unfoldable pub cut_labels : ℕ → List ℕ → List (List ℕ)
 cut_labels zero bytes = []
 cut_labels (suc n) [] = []

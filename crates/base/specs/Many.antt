@@ -10,7 +10,7 @@ many_at read (suc n) bytes i = do
   others ← many_at read n bytes first.1
   Ok (first.0 ∷ others.0, others.1)
 
--- The places of the names of n values, each at the place after the one before it, where names says those of one.
+-- The places of the names of n values, each at the place after the one before it, where `names` says those of one.
 unfoldable pub many_names : {A : Type 0} → (List ℕ → ℕ → Read A) → (List ℕ → ℕ → List ℕ) → ℕ
     → List ℕ → ℕ → List ℕ
 many_names read names zero bytes i = []

@@ -17,7 +17,7 @@ abbrev pub chars_on : (List ℕ → Option (List Character)) → Option (Charact
 chars_on more None = None
 chars_on more (Some found) = char_on found.0 (more found.1)
 
--- the characters of a text, which has steps of them at most
+-- the characters of a text, `steps` of them at most
 unfoldable pub chars : ℕ → List ℕ → Option (List Character)
 chars steps [] = Some []
 chars zero (c ∷ text) = None

@@ -7,7 +7,8 @@ use Rattle.base.specs.Labels.{NameValue}
 use Rattle.base.specs.Reading.{Read, ◌>>=◌}
 use Rattle.base.specs.Spelling.{target}
 
--- What stands at a place of a name: the zero byte that ends it, a label of len bytes, or a pointer to an offset.
+-- What stands at a place of a name: the zero byte that ends it, a label of this number of bytes, or a pointer to this
+-- offset.
 pub data NamePart : Type 0 where
   zero_byte : NamePart
   label_of : ℕ → NamePart
@@ -38,8 +39,8 @@ with_label x read = read >>= λ r. Ok (x ∷ r.0, r.1)
 abbrev pub ending : ℕ → Labels → Labels
 ending e read = read >>= λ r. Ok (r.0, e)
 
--- The labels from a part on, in a piece that begins at s, where the labels before took used bytes; what comes after
--- the part is read by again.
+-- The labels from a part on, in a piece that begins at s, where the labels before took `used` bytes; what comes after
+-- the part is read by `again`.
 abbrev pub after_part : (ℕ → ℕ → ℕ → Labels) → List ℕ → ℕ → ℕ → ℕ → NamePart → Labels
 after_part again bytes s i used zero_byte = Ok ([], i + 1)
 after_part again bytes s i used (label_of len) =
@@ -49,13 +50,13 @@ after_part again bytes s i used (label_of len) =
 after_part again bytes s i used (pointer_to t) = if nat_le s t then Err faults.BadName
     else ending (i + 2) (again t t used)
 
--- the labels from i on, of n parts at most, in a piece that begins at s, where the labels before took used bytes
+-- the labels from i on, of n parts at most, in a piece that begins at s, where the labels before took `used` bytes
 unfoldable pub walk : ℕ → List ℕ → ℕ → ℕ → ℕ → Labels
 walk zero bytes s i used = Err faults.BadName
 walk (suc n) bytes s i used = part_at bytes i >>= after_part (walk n bytes) bytes s i used
 
--- The labels from i on, in a piece that begins at s, where the labels before took used bytes. A label takes two bytes
--- at least and a pointer goes below s, so s + 256 - used parts suffice.
+-- The labels from i on, in a piece that begins at s, where the labels before took `used` bytes. A label takes two bytes
+-- at least and a pointer goes below s, so `s + 256 - used` parts suffice.
 unfoldable pub labels_at : List ℕ → ℕ → ℕ → ℕ → Labels
 labels_at bytes s i used = walk (s + 256 - used) bytes s i used
 

@@ -42,7 +42,7 @@ abbrev pub number_at : Width → List ℕ → ℕ → Read ℕ
 number_at w bytes i = if nat_lt (length bytes) (i + byte_len w) then Err faults.InsufficientBytes
     else Ok (from_be_bytes w (take (byte_len w) (drop i bytes)), i + byte_len w)
 
--- len bytes from a place on
+-- `len` bytes from a place on
 abbrev pub bytes_at : ℕ → List ℕ → ℕ → Read (List ℕ)
 bytes_at len bytes i = if nat_lt (length bytes) (i + len) then Err faults.InsufficientBytes
     else Ok (take len (drop i bytes), i + len)

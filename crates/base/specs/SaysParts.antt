@@ -218,7 +218,7 @@ Says-unowned {F = F} f s = record {
   owned = no_owner f F;
 }
 
--- a word that follows from the one that is written, and a number of bytes that is no less
+-- a word that follows from the one that is written, and `more` bytes for `plain`
 pub Says-weaker : {F : Type 0} {word other : List ℕ → ℕ → ℕ → Type 0} {plain more : ℕ}
     {owner : List (List ℕ)} (f : Writing) (G : Type 0) → (G → F)
     → (G → (B : List ℕ) (i e : ℕ) → word B i e → other B i e) → plain ≤ more

@@ -20,12 +20,12 @@ pub record State : Type 0 where
 abbrev pub appended : List ℕ → State → State
 appended xs s = record s { bytes = s.bytes ++ xs }
 
--- with the bytes xs in the place of length xs bytes from start on
+-- with the bytes xs in the place of `length xs` bytes from `start` on
 abbrev pub overwritten : ℕ → List ℕ → State → State
 overwritten start xs s =
     record s { bytes = take start s.bytes ++ (xs ++ drop (start + length xs) s.bytes) }
 
--- cut back to len bytes and count suffixes
+-- cut back to `len` bytes and `count` suffixes
 abbrev pub cut : ℕ → ℕ → State → State
 cut len count s = record s { bytes = take len s.bytes; suffixes = take count s.suffixes }
 

@@ -8,7 +8,7 @@ abbrev pub followed : {S A : Type 0} → (S → List A) → Option (A × S) → 
 followed more None = []
 followed more (Some found) = found.0 ∷ more found.1
 
--- what a step gives one after the other, at most steps times
+-- what a step gives one after the other, at most `steps` times
 unfoldable pub listing : {S A : Type 0} → (S → Option (A × S)) → ℕ → S → List A
 listing step zero s = []
 listing step (suc steps) s = followed (listing step steps) (step s)

@@ -27,7 +27,7 @@ state_of e =
 abbrev pub vector_of : {T : Type 0} {g : Ghosts T} → BinEncoder T g → Vec ℕ Global
 vector_of e = e.buffer.now
 
--- of n bytes at most: refused for the limit only where n more bytes would pass it, and else for memory alone
+-- what takes n bytes at most is refused for the limit only where n more bytes would pass it, and else for memory alone
 abbrev pub Refuses : {X : Type 0} → ℕ → State → Result X ProtoError → Type 0
 Refuses n s (Ok _) = Unit {0}
 Refuses n s (Err refusals.MaxBufferSizeExceeded) = s.limit < length s.bytes + n

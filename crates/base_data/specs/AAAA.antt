@@ -23,7 +23,7 @@ aaaa_of _ = None
 abbrev pub aaaa_text : List ℕ → List ℕ
 aaaa_text octets = hex_groups_text (segments_of octets)
 
--- the len groups from start on are zero
+-- the `len` groups from `start` on are zero
 pub record AreZeros (groups : List ℕ) (start len : ℕ) : Type 0 where
   pub inside : start + len ≤ length groups
   pub zeros : take len (drop start groups) ≡ replicate len 0

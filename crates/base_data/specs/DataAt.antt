@@ -4,7 +4,7 @@ use Rattle.base.specs.declared.record_type.RecordType.{RecordType}
 use Rattle.base_data.specs.Kinds.{DataWord, IsReadable, type_of_data}
 use Rattle.base_data.specs.declared.rdata.RData.{RData}
 
--- The data d of a type stands in B from i, and fills len bytes.
+-- The data d of a type stands in B from i, and fills `len` bytes.
 pub record IsDataAt (B : List ℕ) (i : ℕ) (type : RecordType) (len : ℕ) (d : RData) : Type 0 where
   pub type_is : type_of_data d ≡ type
   pub word : DataWord d B i (i + len)

@@ -13,7 +13,7 @@ infixl 10 ◌>>?◌
 abbrev pub ◌>>?◌ : {A B : Type 0} → Option A → (A → Option B) → Option B
 field >>? made = option_and_then made field
 
--- the number that an item of decimal digits alone says, one at least, where it is below 2 ^ bits
+-- the number that an item of decimal digits alone says, one at least, where it is below `2 ^ bits`
 unfoldable pub number_item : ℕ → List ℕ → Option ℕ
 number_item bits text =
     if all_ascii_digits text && nat_lt 0 (length text) && nat_lt (digits_value 10 text) (2 ^ bits)

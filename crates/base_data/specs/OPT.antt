@@ -65,7 +65,7 @@ option_at bytes i =
     number_at w16 bytes i >>= λ code. number_at w16 bytes code.1 >>= λ len.
     bytes_at len.0 bytes len.1 >>= λ text. Ok (record { code = code.0; bytes = text.0 }, text.1)
 
--- the options from i up to end, n of them at most
+-- the options from i up to `end`, n of them at most
 unfoldable pub options_to : ℕ → ℕ → List ℕ → ℕ → Read (List OptionValue)
 options_to zero end bytes i = Ok ([], i)
 options_to (suc n) end bytes i =
@@ -73,7 +73,7 @@ options_to (suc n) end bytes i =
     else (option_at bytes i >>= λ first. options_to n end bytes first.1
     >>= λ others. Ok (first.0 ∷ others.0, others.1))
 
--- The options that begin within len bytes from i. An option takes a byte at least, so len of them suffice.
+-- The options that begin within `len` bytes from i. An option takes a byte at least, so `len` of them suffice.
 unfoldable pub opt_at : ℕ → List ℕ → ℕ → Read (List OptionValue)
 opt_at len bytes i = options_to len (i + len) bytes i
 

@@ -29,7 +29,7 @@ pub record IsText (bytes : List ℕ) : Type 0 where
 abbrev pub are_strings : List ℕ → Bool
 are_strings bytes = bytes_eq (wire_of (labels_of bytes)) bytes
 
--- the strings of len bytes
+-- the strings of `len` bytes
 abbrev pub txt_at : ℕ → List ℕ → ℕ → Read (List (List ℕ))
 txt_at len bytes i = bytes_at len bytes i >>= λ r. if are_strings r.0 then Ok (labels_of r.0, r.1)
     else Err faults.InsufficientBytes

@@ -80,8 +80,8 @@ IsUnanswered received answers e = HasNoRoom received answers e
 
 -- ---- a cache entry
 
--- A response begins the bytes; the entry has its answers with so many seconds off their TTLs, down to 0, and its
--- negative TTL less as many (RFC 1035, 3.2.1; RFC 2308, 5).
+-- A response begins the bytes; the entry has its answers with `seconds` off their TTLs, down to 0, and its negative TTL
+-- with `seconds` off too (RFC 1035, 3.2.1; RFC 2308, 5).
 pub record IsCached (received : List ℕ) (seconds : ℕ) (entry : CacheEntry) : Type 0 where
   pub response : MessageValue
   pub end : ℕ

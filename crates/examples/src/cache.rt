@@ -19,13 +19,13 @@ pub struct CacheEntry {
     pub negative_ttl: Option<u32>,
 }
 
-/// What a cache has of the response that was received so many seconds ago: TTLs are run down, to 0 (RFC 1035, 3.2.1).
+/// What a cache has of a response that was received `seconds` seconds ago: TTLs are run down, to 0 (RFC 1035, 3.2.1).
 ///
 /// # Errors
 ///
 /// `Decode` where no message begins what was received; `NotAResponse` for a query; `Memory` if memory runs out.
 pub fn cache_entry(alloc: Global, received: Vec<u8>, seconds: u32) -> Result<CacheEntry, ProtoError>
-    // The entry has the response's answers and negative TTL, with so many seconds off.
+    // The entry has the response's answers and negative TTL, with `seconds` seconds off.
     ensures kept { IfOk result (λ entry. IsCached received.items seconds entry) }
     ensures refused { IfErr result (λ e. IsRefusedResponse received.items e) }
 {
@@ -40,7 +40,7 @@ pub fn cache_entry(alloc: Global, received: Vec<u8>, seconds: u32) -> Result<Cac
     })
 }
 
-/// The records with so many seconds off their TTLs.
+/// The records with `seconds` seconds off their TTLs.
 fn run_down(mut records: Vec<Record>, seconds: u32) -> Vec<Record>
     ensures { result.items ≡ map (decremented seconds) records.items }
 {
@@ -50,7 +50,7 @@ fn run_down(mut records: Vec<Record>, seconds: u32) -> Vec<Record>
     records
 }
 
-/// Takes so many seconds off the TTL of a record.
+/// Takes `seconds` seconds off the TTL of a record.
 fn age(entry: &mut Record, seconds: u32)
     ensures { entry.new ≡ decremented seconds entry.old }
 {

@@ -85,7 +85,7 @@ pub record Emitted (m : MessageValue) (old new : State) (h : Header) : Type 0 wh
   pub header : new ≡ overwritten (length old.bytes) (header_bytes (raw_header h)) sixth
 
 -- What a refusal but for memory leaves: nothing was written where the header had no room; else room for the header, and
--- the first count questions, up to one that had no room.
+-- the first `count` questions, up to one that had no room.
 abbrev pub Leaves : MessageValue → State → ProtoError → State → Type 0
 Leaves m old refusals.MaxBufferSizeExceeded new = (old.limit < length old.bytes + 12) × (new ≡ old)
 Leaves m old (refusals.NotAllRecordsWritten count) new =

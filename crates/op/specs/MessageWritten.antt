@@ -123,8 +123,8 @@ message_written limit m at stored =
 abbrev pub message_bytes : ℕ → MessageValue → List ℕ
 message_bytes limit m = (message_written limit m 0 []).bytes
 
--- What an encoder that holds at bytes, and these suffixes, answers to a message under a limit, unless memory runs out:
--- what is written; or that the header has no room; or that not all questions have, and how many of them do.
+-- What an encoder that holds `at` bytes, and these suffixes, answers to a message under a limit, unless memory runs
+-- out: what is written; or that the header has no room; or that not all questions have, and how many of them do.
 abbrev pub message_answer_at : ℕ → MessageValue → ℕ → List Stored → Result (List ℕ) ProtoError
 message_answer_at limit m at stored =
     let asked = part query_written limit m.queries (at + 12) stored in

@@ -15,11 +15,11 @@ use Rattle.rr.specs.Record.{record_at, record_names, record_places}
 abbrev pub query_places : List ℕ → ℕ → List ℕ
 query_places bytes i = i ∷ []
 
--- those of count questions, one after another
+-- those of `count` questions, one after another
 abbrev pub queries_places : ℕ → List ℕ → ℕ → List ℕ
 queries_places count bytes i = many_names query_at query_places count bytes i
 
--- and of count records
+-- and of `count` records
 abbrev pub records_places : ℕ → List ℕ → ℕ → List ℕ
 records_places count bytes i = many_names record_at record_places count bytes i
 

@@ -164,7 +164,7 @@ section_from is_additional_section op s (suc n) bytes i = do
   more ← tested is_additional_section op s next.0
   section_from is_additional_section op more n bytes next.1
 
--- the section of count records at a place
+-- the section of `count` records at a place
 abbrev pub section_at : Bool → OpCode → ℕ → List ℕ → ℕ → Read SectionValue
 section_at is_additional_section op count bytes i =
     section_from is_additional_section op empty_section count bytes i
@@ -215,7 +215,7 @@ EndsWithSignature (r ∷ rs) = (is_signature r ≡ true → rs ≡ []) × EndsWi
 abbrev pub AtMostOneOpt : List (Record RData) → Type 0
 AtMostOneOpt rs = length (filter is_opt rs) ≤ 1
 
--- The section s that count records make, which stand back to back in B from i up to e, and each of which may stand in
+-- The section s that `count` records make, which stand back to back in B from i up to e, and each of which may stand in
 -- the section.
 pub record IsSectionAt (is_additional_section : Bool) (op : OpCode) (count : ℕ) (B : List ℕ) (i : ℕ)
     (s : SectionValue) (e : ℕ) : Type 0 where

@@ -1,4 +1,4 @@
--- What the builders send is served, and makes the named change of a map.
+-- What the builders send is supported, and makes the named change of a map.
 use Rattle.std.proofs.Common.{Bool, List, [], ap, false, map, refl, true, ◌&&◌, ◌++◌, ◌||◌, ◌∙◌, ◌∷◌, ◌≡◌, ◌≢◌}
 use Rattle.std.proofs.lemmas.Bool.{cond-true}
 use Rattle.std.proofs.lemmas.List.Folds.{list_all-append}
@@ -14,7 +14,7 @@ use Rattle.op.specs.declared.response_code.ResponseCode.{ResponseCode}
 use Rattle.op_use.proofs.BuiltLemmas.{read_sections}
 use Rattle.op_use.proofs.MapIsZone.{zone_is}
 use Rattle.op_use.proofs.Meaning.{append_changes, compare_and_swap_changes, create_changes, delete_all_changes, delete_by_rdata_changes, delete_rrset_changes}
-use Rattle.op_use.specs.Applying.{applied, is_all_served, is_class_any, is_class_none, is_served, is_served_prerequisite, zone_of_map}
+use Rattle.op_use.specs.Applying.{applied, is_all_supported, is_class_any, is_class_none, is_supported, is_supported_prerequisite, zone_of_map}
 use Rattle.op_use.specs.AppliedMeaning.{AppendApplies, AppliesUncut, CreateApplies, DeleteDataApplies, DeleteNameApplies, DeleteSetApplies, MapsAreZones, SwapApplies}
 use Rattle.op_use.specs.Server.{is_any, is_cname, sections_of, serve, type_of_record}
 use Rattle.op_use.specs.SoundSet.{IsFor, IsGiven, IsSound, NoCname, is_ordinary, is_plain_class}
@@ -23,44 +23,44 @@ use Rattle.op_use.specs.Zone.{IsZone, Zone}
 use Rattle.rr.specs.RecordSet.{SetValue, is_ns}
 use Rattle.rr.specs.declared.record.Record.{Record}
 
--- ---- what is served
+-- ---- what is supported
 
-served_one : (t : RecordType) → is_ordinary t ≡ true → (r : Record RData) → type_of_data r.rdata ≡ t → is_served r ≡ true
-served_one t plain r own =
+supported_one : (t : RecordType) → is_ordinary t ≡ true → (r : Record RData) → type_of_data r.rdata ≡ t → is_supported r ≡ true
+supported_one t plain r own =
     ap (λ (b : Bool). b || is_ns (type_of_record r) || is_cname (type_of_record r) || (is_any (type_of_record r) && is_class_any r.dns_class)) (ap is_ordinary own ∙ plain)
 
-asked_one : (t : RecordType) → is_ordinary t ≡ true → (r : Record RData) → type_of_data r.rdata ≡ t → is_served_prerequisite r ≡ true
-asked_one t plain r own = ap (λ (b : Bool). b || (is_any (type_of_record r) && is_class_none r.dns_class)) (served_one t plain r own)
+asked_one : (t : RecordType) → is_ordinary t ≡ true → (r : Record RData) → type_of_data r.rdata ≡ t → is_supported_prerequisite r ≡ true
+asked_one t plain r own = ap (λ (b : Bool). b || (is_any (type_of_record r) && is_class_none r.dns_class)) (supported_one t plain r own)
 
 -- records of one ordinary type, changed but for their data
 served_as : (f : Record RData → Record RData) → ((r : Record RData) → type_of_data (f r).rdata ≡ type_of_data r.rdata) → (t : RecordType) → is_ordinary t ≡ true → (rs : List (Record RData))
-    → AllByRecursion (λ (r : Record RData). type_of_data r.rdata ≡ t) rs → list_all is_served (map f rs) ≡ true
+    → AllByRecursion (λ (r : Record RData). type_of_data r.rdata ≡ t) rs → list_all is_supported (map f rs) ≡ true
 served_as f same t plain [] own = refl
-served_as f same t plain (r ∷ rs) own = λ i. served_one t plain (f r) (same r ∙ own.0) i && served_as f same t plain rs own.1 i
+served_as f same t plain (r ∷ rs) own = λ i. supported_one t plain (f r) (same r ∙ own.0) i && served_as f same t plain rs own.1 i
 
 asked_as : (f : Record RData → Record RData) → ((r : Record RData) → type_of_data (f r).rdata ≡ type_of_data r.rdata) → (t : RecordType) → is_ordinary t ≡ true → (rs : List (Record RData))
-    → AllByRecursion (λ (r : Record RData). type_of_data r.rdata ≡ t) rs → list_all is_served_prerequisite (map f rs) ≡ true
+    → AllByRecursion (λ (r : Record RData). type_of_data r.rdata ≡ t) rs → list_all is_supported_prerequisite (map f rs) ≡ true
 asked_as f same t plain [] own = refl
 asked_as f same t plain (r ∷ rs) own = λ i. asked_one t plain (f r) (same r ∙ own.0) i && asked_as f same t plain rs own.1 i
 
 served_all : (t : RecordType) → is_ordinary t ≡ true → (rs : List (Record RData))
-    → AllByRecursion (λ (r : Record RData). type_of_data r.rdata ≡ t) rs → list_all is_served rs ≡ true
+    → AllByRecursion (λ (r : Record RData). type_of_data r.rdata ≡ t) rs → list_all is_supported rs ≡ true
 served_all t plain [] own = refl
-served_all t plain (r ∷ rs) own = λ i. served_one t plain r own.0 i && served_all t plain rs own.1 i
+served_all t plain (r ∷ rs) own = λ i. supported_one t plain r own.0 i && served_all t plain rs own.1 i
 
-served_set : (s : SetValue) → IsSound s → is_ordinary s.record_type ≡ true → list_all is_served s.records ≡ true
-served_set s sound plain = served_all s.record_type plain s.records sound.own_type
+supported_set : (s : SetValue) → IsSound s → is_ordinary s.record_type ≡ true → list_all is_supported s.records ≡ true
+supported_set s sound plain = served_all s.record_type plain s.records sound.own_type
 
-asked_empty : (owner : NameValue) (t : RecordType) (c : DNSClass) → is_ordinary t ≡ true → list_all is_served_prerequisite (empty_record owner t c ∷ []) ≡ true
+asked_empty : (owner : NameValue) (t : RecordType) (c : DNSClass) → is_ordinary t ≡ true → list_all is_supported_prerequisite (empty_record owner t c ∷ []) ≡ true
 asked_empty owner t c plain = λ i. asked_one t plain (empty_record owner t c) refl i && true
 
-served_append : (s : SetValue) (origin : NameValue) (must_exist : Bool) → IsSound s → is_ordinary s.record_type ≡ true → is_all_served (append s origin must_exist) ≡ true
-served_append s origin true sound plain = λ i. asked_empty s.name s.record_type classes.ANY plain i && served_set s sound plain i
-served_append s origin false sound plain = served_set s sound plain
+supported_append : (s : SetValue) (origin : NameValue) (must_exist : Bool) → IsSound s → is_ordinary s.record_type ≡ true → is_all_supported (append s origin must_exist) ≡ true
+supported_append s origin true sound plain = λ i. asked_empty s.name s.record_type classes.ANY plain i && supported_set s sound plain i
+supported_append s origin false sound plain = supported_set s sound plain
 
 -- ---- what is applied
 
-applies : (m : MessageValue) (Premise : Zone → Type 0) (outcome : Zone → ResponseCode × Zone) → ((z : Zone) → Premise z → is_all_served (sections_of m) ≡ true)
+applies : (m : MessageValue) (Premise : Zone → Type 0) (outcome : Zone → ResponseCode × Zone) → ((z : Zone) → Premise z → is_all_supported (sections_of m) ≡ true)
     → ((z : Zone) → Premise z → serve z (sections_of m) ≡ outcome z) → AppliesUncut m Premise outcome
 applies m Premise outcome all means limit B c k uncut n e word origin class old new code is_map premise h =
     let z : Zone = zone_of_map origin class old in
@@ -72,27 +72,27 @@ maps_are_zones = zone_is
 pub create_applies : CreateApplies
 create_applies id s origin use_edns =
     applies _ _ _
-    (λ (z : Zone) (p : IsGiven z origin s × NoCname z s.name) i. asked_empty s.name s.record_type classes.NONE p.0.ordinary i && served_set s p.0.sound p.0.ordinary i)
+    (λ (z : Zone) (p : IsGiven z origin s × NoCname z s.name) i. asked_empty s.name s.record_type classes.NONE p.0.ordinary i && supported_set s p.0.sound p.0.ordinary i)
     (λ (z : Zone) (p : IsGiven z origin s × NoCname z s.name). create_changes z s origin p.0 p.1)
 
 pub append_applies : AppendApplies
 append_applies id s origin must_exist use_edns =
-    applies _ _ _ (λ (z : Zone) (p : IsGiven z origin s × NoCname z s.name). served_append s origin must_exist p.0.sound p.0.ordinary)
+    applies _ _ _ (λ (z : Zone) (p : IsGiven z origin s × NoCname z s.name). supported_append s origin must_exist p.0.sound p.0.ordinary)
     (λ (z : Zone) (p : IsGiven z origin s × NoCname z s.name). append_changes z s origin must_exist p.0 p.1)
 
 -- what a swap needs
 abbrev Swaps : SetValue → SetValue → NameValue → Zone → Type 0
 Swaps current new origin z = (current.records ≢ []) × IsGiven z origin current × IsGiven z origin new × NoCname z new.name
 
-served_swap : (current new : SetValue) (origin : NameValue) (z : Zone) → Swaps current new origin z → list_all is_served (map (in_class classes.NONE) current.records ++ new.records) ≡ true
-served_swap current new origin z p =
-    list_all-append is_served (map (in_class classes.NONE) current.records) new.records
-    ∙ (λ i. served_as (in_class classes.NONE) (λ r. refl) current.record_type p.1.ordinary current.records p.1.sound.own_type i && served_set new p.2.sound p.2.ordinary i)
+supported_swap : (current new : SetValue) (origin : NameValue) (z : Zone) → Swaps current new origin z → list_all is_supported (map (in_class classes.NONE) current.records ++ new.records) ≡ true
+supported_swap current new origin z p =
+    list_all-append is_supported (map (in_class classes.NONE) current.records) new.records
+    ∙ (λ i. served_as (in_class classes.NONE) (λ r. refl) current.record_type p.1.ordinary current.records p.1.sound.own_type i && supported_set new p.2.sound p.2.ordinary i)
 
 pub swap_applies : SwapApplies
 swap_applies id current new origin use_edns =
     applies _ _ _
-    (λ (z : Zone) (p : Swaps current new origin z) i. asked_as without_ttl (λ r. refl) current.record_type p.1.ordinary current.records p.1.sound.own_type i && served_swap current new origin z p i)
+    (λ (z : Zone) (p : Swaps current new origin z) i. asked_as without_ttl (λ r. refl) current.record_type p.1.ordinary current.records p.1.sound.own_type i && supported_swap current new origin z p i)
     (λ (z : Zone) (p : Swaps current new origin z). compare_and_swap_changes z current new origin p.1 p.2 p.3 p.0)
 
 pub delete_data_applies : DeleteDataApplies
@@ -110,7 +110,7 @@ DeletesAt owner origin class z = IsZone z × IsFor z origin owner class × (is_p
 pub delete_set_applies : DeleteSetApplies
 delete_set_applies id r origin use_edns =
     applies _ _ _
-    (λ (z : Zone) (p : DeletesOf r origin z) i. served_one (type_of_data r.rdata) p.3 (emptied r) refl i && true)
+    (λ (z : Zone) (p : DeletesOf r origin z) i. supported_one (type_of_data r.rdata) p.3 (emptied r) refl i && true)
     (λ (z : Zone) (p : DeletesOf r origin z). delete_rrset_changes z r origin p.0 p.1 p.2 p.3)
 
 pub delete_name_applies : DeleteNameApplies

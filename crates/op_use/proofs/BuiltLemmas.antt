@@ -154,7 +154,7 @@ create_fits id s origin use_edns g =
     sections_fit id use_edns origin s.dns_class _ _ g.rooted g.sent.class
     (one_fits _ (empty_fits s.name s.record_type classes.NONE g.sent.absolute (sent_type s g.sent g.ordinary) none_class)) (records_fit s g.sound g.ordinary g.sent)
 
--- records in the class NONE, and without a time to live
+-- records in the class NONE, and without a TTL
 in_none : (r : Record RData) → is_opt_type (type_of_data r.rdata) ≡ false → FitsRecord r → FitsRecord (in_class classes.NONE r)
 in_none r plain fits = record {
   reads = record { type_reads = fits.reads.type_reads; root = fits.reads.root; readable = fits.reads.readable };

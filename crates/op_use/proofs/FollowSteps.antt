@@ -8,7 +8,7 @@ use Rattle.op_use.proofs.AppliedData.{joined_data, parted_data}
 use Rattle.op_use.proofs.ZoneSteps.{get_with_set, kept, same_key}
 use Rattle.op_use.specs.AppliedMeaning.{RecordsHoldTheData}
 use Rattle.op_use.specs.AppliedRecords.{after_by, after_update, parted, records_after, records_answered}
-use Rattle.op_use.specs.Applying.{is_all_served}
+use Rattle.op_use.specs.Applying.{is_all_supported}
 use Rattle.op_use.specs.NamedChanges.{datum_of}
 use Rattle.op_use.specs.Server.{Fault, OfAny, OfNone, OfNothing, OfZone, Sections, Use as UseValue, added, answer, fault, goes_with, is_cname, is_needed, record_key, removed, is_under}
 use Rattle.op_use.specs.Server.{type_of_record, update, update_by, use_of}
@@ -80,4 +80,4 @@ module _ (z : Zone) (m : Sections) (k : RrKey) (xs : List (Record RData)) (same 
   outcome_follows false found = same
 
 pub records_follow : RecordsHoldTheData
-records_follow z m k xs same = outcome_follows z m k xs same (is_all_served m) (fault z m)
+records_follow z m k xs same = outcome_follows z m k xs same (is_all_supported m) (fault z m)

@@ -83,7 +83,7 @@ ruleset zones = (get-empty, get-insert, entries-empty, entries-insert, insert_ag
 --- ---- the rows
 
 pub zone_section_rows : ZoneSectionRows
-zone_section_rows = record { none = refl; two = refl; no_start = refl; other_zone = refl; part_of_zone = refl; other_class = refl; type_first = refl; own_zone = refl }
+zone_section_rows = record { none = refl; two = refl; no_soa = refl; other_zone = refl; part_of_zone = refl; other_class = refl; type_first = refl; own_zone = refl }
 
 pub prerequisite_rows : PrerequisiteRows
 prerequisite_rows = record {
@@ -140,10 +140,10 @@ add_rows = record {
   equal_data = simp zones;
   equal_names = simp zones;
   same_owner = simp zones;
-  other_server = simp zones;
-  beside_alias = simp zones;
-  alias_beside = simp zones;
-  other_alias = simp zones;
+  other_ns = simp zones;
+  beside_cname = simp zones;
+  cname_beside = simp zones;
+  other_cname = simp zones;
 }
 
 pub delete_set_rows : DeleteSetRows
@@ -151,8 +151,8 @@ delete_set_rows = record {
   one_type = simp zones;
   not_there = simp zones;
   all_types = simp zones;
-  start_stays = ap (λ w. (NoError, w)) (deleted_is (zone_with origin_sets) (empty_record example types.SOA classes.ANY));
-  servers_stay = ap (λ w. (NoError, w)) (deleted_is (zone_with origin_sets) (empty_record example types.NS classes.ANY));
+  soa_stays = ap (λ w. (NoError, w)) (deleted_is (zone_with origin_sets) (empty_record example types.SOA classes.ANY));
+  ns_stays = ap (λ w. (NoError, w)) (deleted_is (zone_with origin_sets) (empty_record example types.NS classes.ANY));
   both_stay = simp zones;
   below = simp zones;
 }
@@ -162,11 +162,11 @@ delete_record_rows = record {
   one = simp zones;
   last = simp zones;
   not_there = simp zones;
-  start_stays = refl;
-  last_server_stays = simp zones;
-  one_server = simp zones;
-  start_below_stays = refl;
-  server_below = simp zones;
+  soa_stays = refl;
+  last_ns_stays = simp zones;
+  one_ns = simp zones;
+  soa_below_stays = refl;
+  ns_below = simp zones;
   in_turn = simp zones;
 }
 

@@ -9,7 +9,7 @@ use Rattle.op.specs.declared.response_code.ResponseCode.{ResponseCode}
 use Rattle.op_use.proofs.AppliedData.{any_data}
 use Rattle.op_use.proofs.MapZones.{data_at}
 use Rattle.op_use.specs.AppliedRecords.{records_after, records_answered}
-use Rattle.op_use.specs.Applying.{entry_of, IsApplied, IsZoneMap, applied, is_all_served, records_applied, records_at, records_in, zone_of_map}
+use Rattle.op_use.specs.Applying.{entry_of, IsApplied, IsZoneMap, applied, is_all_supported, records_applied, records_at, records_in, zone_of_map}
 use Rattle.op_use.specs.MapFaults.{is_by_value, listed_under, there_under}
 use Rattle.op_use.specs.MapUpdates.{IsAfter}
 use Rattle.op_use.specs.NamedChanges.{datum_of, is_data_of}
@@ -67,8 +67,8 @@ module _ (origin : NameValue) (class : DNSClass) (m : BTreeMap RrKey SetValue) (
   all_met_same = sym (ap (λ (f : Record RData → Bool). list_all f (collected (zone_of_map origin class m) rs)) (λ i r. met_same r i)
       ∙ all_filter (λ r. there_under m r (record_key r) && listed_under m class rs r (record_key r)) (λ r. is_of_zone (use_of class r.dns_class)) rs)
 
--- what an update that is served leaves under a key
-spelled_as : (origin : NameValue) (class : DNSClass) (m : BTreeMap RrKey SetValue) (s : Sections) (q : RrKey) (found : Fault) → is_all_served s ≡ true
+-- what an update that is supported leaves under a key
+spelled_as : (origin : NameValue) (class : DNSClass) (m : BTreeMap RrKey SetValue) (s : Sections) (q : RrKey) (found : Fault) → is_all_supported s ≡ true
     → fault (zone_of_map origin class m) s ≡ found
     → records_applied (zone_of_map origin class m) s q (records_at m q) ≡ records_answered (zone_of_map origin class m) s.updates found q (records_at m q)
 spelled_as origin class m s q found h f =
@@ -96,10 +96,10 @@ module _ (origin : NameValue) (class : DNSClass) (m n : BTreeMap RrKey SetValue)
     exact = λ q. ap records_in (get_copy q) ∙ sym (spelled q);
   }
 
-  pub applied_not : (s : Sections) → IsZoneMap class m → is_all_served s ≡ false → IsApplied origin class s m NotImp n
+  pub applied_not : (s : Sections) → IsZoneMap class m → is_all_supported s ≡ false → IsApplied origin class s m NotImp n
   applied_not s old h = refused s NotImp old (sym (cond-false _ _ _ h)) (λ q. cond-false _ _ _ h)
 
-  pub applied_fault : (s : Sections) (code : ResponseCode) → IsZoneMap class m → is_all_served s ≡ true → fault (zone_of_map origin class m) s ≡ Some code → IsApplied origin class s m code n
+  pub applied_fault : (s : Sections) (code : ResponseCode) → IsZoneMap class m → is_all_supported s ≡ true → fault (zone_of_map origin class m) s ≡ Some code → IsApplied origin class s m code n
   applied_fault s code old h f = refused s code old (sym (cond-true _ _ _ h ∙ ap (answer (zone_of_map origin class m) s.updates) f))
       (λ q. spelled_as origin class m s q (Some code) h f)
 
@@ -114,7 +114,7 @@ module _ (origin : NameValue) (class : DNSClass) (m n : BTreeMap RrKey SetValue)
     exact = λ q. after.exact q ∙ (λ i. records_after (zone_copy i) rs q (records_in (get_copy q i)));
   }
 
-pub applied_all : (origin : NameValue) (class : DNSClass) (m p : BTreeMap RrKey SetValue) (s : Sections) → is_all_served s ≡ true → fault (zone_of_map origin class m) s ≡ None
+pub applied_all : (origin : NameValue) (class : DNSClass) (m p : BTreeMap RrKey SetValue) (s : Sections) → is_all_supported s ≡ true → fault (zone_of_map origin class m) s ≡ None
     → IsAfter origin class s.updates m p → IsApplied origin class s m NoError p
 applied_all origin class m p s h f after = record {
   served = ap (λ z. (NoError, z)) after.zone

@@ -12,7 +12,7 @@ use Rattle.std.specs.Prelude.{List, None, Some, [], if◌then◌else◌, not, �
 abbrev pub with_record : Record RData → List (Record RData) → List (Record RData)
 with_record r xs = alone_or r r (joined r xs)
 
--- the records without those of equal data
+-- the records without those whose data is equal to that of r
 abbrev pub parted : Record RData → List (Record RData) → List (Record RData)
 parted r xs = filter (λ x. not (has_data_of r x)) xs
 
@@ -27,13 +27,13 @@ after_by OfNothing z r k xs = xs
 abbrev pub after_update : Zone → Record RData → RrKey → List (Record RData) → List (Record RData)
 after_update z r k xs = after_by (use_of z.class r.dns_class) z r k xs
 
--- those after updates one after the other
+-- the records under a key after these updates, one after the other
 abbrev pub records_after : Zone → List (Record RData) → RrKey → List (Record RData)
     → List (Record RData)
 records_after z [] k xs = xs
 records_after z (r ∷ rs) k xs = records_after (update z r) rs k (after_update z r k xs)
 
--- those after updates, or as they were where there is a fault
+-- the records under a key after these updates, or as they were where the update has a fault
 abbrev pub records_answered : Zone → List (Record RData) → Fault → RrKey → List (Record RData)
     → List (Record RData)
 records_answered z rs (Some code) k xs = xs

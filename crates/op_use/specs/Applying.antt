@@ -1,4 +1,4 @@
--- What it is to apply an update to a map of record sets (RFC 2136, 3).
+-- What `apply_update` makes of a map of record sets (RFC 2136, 3).
 use Rattle.base.specs.Labels.{NameValue}
 use Rattle.base.specs.RrKey.{key_cmp}
 use Rattle.base.specs.declared.dns_class.DNSClass.TheVariants as classes
@@ -40,20 +40,20 @@ zone_of_sets origin class sets =
 abbrev pub zone_of_map : NameValue → DNSClass → BTreeMap RrKey SetValue → Zone
 zone_of_map origin class m = zone_of_sets origin class m.entries
 
--- A set that a zone of a class may have under a key: its own key, not empty, of that class, no two records of equal
--- data.
+-- A set that a zone of a class may have under a key: the set has that key and class, and records, no two of them of
+-- equal data.
 pub record IsZoneSet (of_class : DNSClass) (k : RrKey) (s : SetValue) : Type 0 where
   pub own_key : set_key s ≡ k
   pub own_class : s.dns_class ≡ of_class
   pub filled : s.records ≢ []
   pub distinct : IsDistinct (on (λ (r : Record RData). r.rdata) same_data) s.records
 
--- each set of a map is such
+-- each set of a map is one that a zone of this class may have under its key
 abbrev pub IsZoneMap : DNSClass → BTreeMap RrKey SetValue → Type 0
 IsZoneMap class sets = (k : RrKey) (s : SetValue) → tree.get key_cmp sets k ≡ Some s
     → IsZoneSet class k s
 
--- the classes that updates give a meaning of their own (RFC 2136, 2.4 and 2.5)
+-- the class ANY, which updates give a meaning of its own, as they do NONE (RFC 2136, 2.4 and 2.5)
 abbrev pub is_class_any : DNSClass → Bool
 is_class_any classes.ANY = true
 is_class_any _ = false
@@ -63,29 +63,29 @@ abbrev pub is_class_none : DNSClass → Bool
 is_class_none classes.NONE = true
 is_class_none _ = false
 
--- whether a record is of a type that is served: an ordinary one, NS or CNAME, or ANY where it names all types of an
--- owner
-abbrev pub is_served : Record RData → Bool
-is_served r = is_ordinary (type_of_record r) || is_ns (type_of_record r)
+-- whether a record of an update is of a type that is supported: an ordinary one, NS or CNAME, or ANY where it names all
+-- types of an owner
+abbrev pub is_supported : Record RData → Bool
+is_supported r = is_ordinary (type_of_record r) || is_ns (type_of_record r)
     || is_cname (type_of_record r) || (is_any (type_of_record r) && is_class_any r.dns_class)
 
--- the same of a prerequisite, which may say that an owner has no set (RFC 2136, 2.4.5)
-abbrev pub is_served_prerequisite : Record RData → Bool
-is_served_prerequisite r = is_served r || (is_any (type_of_record r) && is_class_none r.dns_class)
+-- the same of a prerequisite, which in the class NONE may be of type ANY: the owner has no set (RFC 2136, 2.4.5)
+abbrev pub is_supported_prerequisite : Record RData → Bool
+is_supported_prerequisite r = is_supported r || (is_any (type_of_record r) && is_class_none r.dns_class)
 
--- whether all of an update is served
-abbrev pub is_all_served : Sections → Bool
-is_all_served m = list_all is_served_prerequisite m.prerequisites && list_all is_served m.updates
+-- whether all of an update is supported
+abbrev pub is_all_supported : Sections → Bool
+is_all_supported m = list_all is_supported_prerequisite m.prerequisites && list_all is_supported m.updates
 
--- The code and the zone after an update is applied: what a server makes of it; NotImp where it isn't served, which is
--- tested first.
+-- The code and the zone after an update is applied: what a server makes of it; NotImp where it isn't supported, which
+-- is tested first.
 abbrev pub applied : Zone → Sections → ResponseCode × Zone
-applied z m = if is_all_served m then serve z m else (NotImp, z)
+applied z m = if is_all_supported m then serve z m else (NotImp, z)
 
--- The records xs under a key after an update is applied, each as it is spelled: as they were where it isn't served or
--- is refused.
+-- The records xs under a key after an update is applied, each as it is spelled: as they were where it isn't supported
+-- or is refused.
 abbrev pub records_applied : Zone → Sections → RrKey → List (Record RData) → List (Record RData)
-records_applied z m k xs = if is_all_served m then records_answered z m.updates (fault z m) k xs
+records_applied z m k xs = if is_all_supported m then records_answered z m.updates (fault z m) k xs
     else xs
 
 -- whether an update names the owner of a key
@@ -108,7 +108,7 @@ records_in None = []
 abbrev pub records_at : BTreeMap RrKey SetValue → RrKey → List (Record RData)
 records_at m k = records_in (tree.get key_cmp m k)
 
--- each record of a set of the new map is one of the old map's set under that key, or one of rs
+-- each record of the new map is one of the old map's set under the same key, or one of rs
 abbrev pub TakesFrom : List (Record RData) → BTreeMap RrKey SetValue → BTreeMap RrKey SetValue
     → Type 0
 TakesFrom rs old new = (k : RrKey) (x : Record RData) → IsAmong (records_at new k) x

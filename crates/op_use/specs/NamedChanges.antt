@@ -11,7 +11,7 @@ use Rattle.rr.specs.RecordSet.{SetValue}
 use Rattle.rr.specs.declared.record.Record.{Record}
 use Rattle.op_use.specs.Zone.{Datum, Zone, at, is_guarded, is_owned, put}
 
--- a record's data and time to live
+-- a record's data and TTL
 abbrev pub datum_of : Record RData → Datum
 datum_of r = record { rdata = r.rdata; ttl = r.ttl }
 
@@ -57,7 +57,7 @@ is_left z owner k = not (is_owned owner k) || is_guarded z owner k.record_type
 abbrev pub less_name : Zone → NameValue → Zone
 less_name z owner = record z { sets = fin.retain_keys z.sets (is_left z owner) }
 
--- the same data as the set's, in any order, times to live aside
+-- the same data as the set's, in any order, TTLs aside
 abbrev pub has_data_of_set : Zone → SetValue → Bool
 has_data_of_set z s =
     list_all (λ r. list_any (λ d. is_data_of d r) (at z (set_key s))) s.records

@@ -15,7 +15,7 @@ use Rattle.op.specs.Message.{MessageValue}
 use Rattle.op.specs.declared.query.Query.{Query}
 use Rattle.op.specs.Parts.{all_records}
 
--- the first of the records that is the start of a zone
+-- the first of the records that is an SOA
 abbrev pub first_soa : List (Record RData) → Option (Record SOA)
 first_soa [] = None
 first_soa (r ∷ rs) =
@@ -24,7 +24,7 @@ first_soa (r ∷ rs) =
       or_found (Some x) next = Some x
       or_found None next = next
 
--- the first authority that is the start of a zone
+-- the first authority that is an SOA
 abbrev pub soa : MessageValue → Option (Record SOA)
 soa m = first_soa m.authorities
 

@@ -49,21 +49,21 @@ elsewhere = named (codes "www" ∷ codes "elsewhere" ∷ [])
 abbrev pub address : ℕ → RData
 address n = kinds.A (record { octets = 192 ∷ 0 ∷ 2 ∷ n ∷ [] })
 
--- a mail exchanger
-abbrev pub mail : NameValue → RData
-mail exchange = kinds.MX (record { preference = 10; exchange = exchange })
+-- an MX of preference 10
+abbrev pub mx_of : NameValue → RData
+mx_of exchange = kinds.MX (record { preference = 10; exchange = exchange })
 
--- an alias
-abbrev pub alias_of : NameValue → RData
-alias_of name = kinds.CNAME (record { name = name })
+-- a CNAME
+abbrev pub cname_of : NameValue → RData
+cname_of name = kinds.CNAME (record { name = name })
 
--- a name server
-abbrev pub server : NameValue → RData
-server name = kinds.NS (record { name = name })
+-- an NS
+abbrev pub ns_of : NameValue → RData
+ns_of name = kinds.NS (record { name = name })
 
 -- an SOA
-abbrev pub start : RData
-start = kinds.SOA
+abbrev pub soa : RData
+soa = kinds.SOA
     (record {
       mname = www;
       rname = www;
@@ -76,11 +76,11 @@ start = kinds.SOA
 
 --- ---- zones
 
--- data with its time to live
+-- data with its TTL
 abbrev pub lasting : ℕ → RData → Datum
 lasting ttl rdata = record { rdata = rdata; ttl = ttl }
 
--- the address 192.0.2.n with its time to live
+-- the address 192.0.2.n with its TTL
 abbrev pub host : ℕ → ℕ → Datum
 host ttl n = lasting ttl (address n)
 
@@ -100,10 +100,10 @@ zone_with entries = record { origin = example; class = classes.IN; sets = fin.fr
 abbrev pub two_addresses : List Entry
 two_addresses = entry www types.A (host 300 1 ∷ host 300 2 ∷ []) ∷ []
 
--- the start and the server of the zone
+-- the SOA and the NS of the zone
 abbrev pub origin_sets : List Entry
-origin_sets = entry example types.SOA (lasting 300 start ∷ [])
-    ∷ entry example types.NS (lasting 300 (server www) ∷ []) ∷ []
+origin_sets = entry example types.SOA (lasting 300 soa ∷ [])
+    ∷ entry example types.NS (lasting 300 (ns_of www) ∷ []) ∷ []
 
 --- ---- updates
 
@@ -141,7 +141,7 @@ Answers m code = Refuses two_addresses m code
 abbrev pub Makes : List Entry → Sections → List Entry → Type 0
 Makes old m new = serve (zone_with old) m ≡ (NoError, zone_with new)
 
--- a set of addresses of `www.example.` with time to live 60
+-- a set of addresses of `www.example.` with TTL 60
 abbrev pub addresses : List ℕ → SetValue
 addresses ns = record {
   name = www;
@@ -160,7 +160,7 @@ pub record ZoneSectionRows : Type 0 where
   pub two : Answers
       (questions
       (question example types.SOA classes.IN ∷ question example types.SOA classes.IN ∷ [])) FormErr
-  pub no_start : Answers (questions (question example types.A classes.IN ∷ [])) FormErr
+  pub no_soa : Answers (questions (question example types.A classes.IN ∷ [])) FormErr
   pub other_zone : Answers (questions (question elsewhere types.SOA classes.IN ∷ [])) NotAuth
   pub part_of_zone : Answers (questions (question www types.SOA classes.IN ∷ [])) NotAuth
   pub other_class : Answers (questions (question example types.SOA classes.CH ∷ [])) NotAuth
@@ -249,54 +249,54 @@ pub record AddRows : Type 0 where
   pub new_data : Makes (entry www types.A (host 300 1 ∷ []) ∷ [])
       (asks (holding classes.IN www 60 (address 2) ∷ []))
       (entry www types.A (host 300 1 ∷ host 60 2 ∷ []) ∷ [])
-  -- equal data is replaced at its place: its time to live, and the spelling of its names
+  -- equal data is replaced at its place: its TTL, and the spelling of its names
   pub equal_data : Makes two_addresses (asks (holding classes.IN www 60 (address 1) ∷ []))
       (entry www types.A (host 60 1 ∷ host 300 2 ∷ []) ∷ [])
-  pub equal_names : Makes (entry www types.MX (lasting 300 (mail www) ∷ []) ∷ [])
-      (asks (holding classes.IN www 300 (mail raised_www) ∷ []))
-      (entry www types.MX (lasting 300 (mail raised_www) ∷ []) ∷ [])
+  pub equal_names : Makes (entry www types.MX (lasting 300 (mx_of www) ∷ []) ∷ [])
+      (asks (holding classes.IN www 300 (mx_of raised_www) ∷ []))
+      (entry www types.MX (lasting 300 (mx_of raised_www) ∷ []) ∷ [])
   -- an owner is the same in whatever case
   pub same_owner : Makes two_addresses (asks (holding classes.IN raised_www 300 (address 3) ∷ []))
       (entry www types.A (host 300 1 ∷ host 300 2 ∷ host 300 3 ∷ []) ∷ [])
   -- a name server of the zone comes beside the first
-  pub other_server : Makes
-      (entry example types.NS (lasting 300 (server www) ∷ []) ∷ entry www types.A (host 300 1 ∷ [])
+  pub other_ns : Makes
+      (entry example types.NS (lasting 300 (ns_of www) ∷ []) ∷ entry www types.A (host 300 1 ∷ [])
       ∷ [])
-      (asks (holding classes.IN example 60 (server example) ∷ []))
-      (entry example types.NS (lasting 300 (server www) ∷ lasting 60 (server example) ∷ [])
+      (asks (holding classes.IN example 60 (ns_of example) ∷ []))
+      (entry example types.NS (lasting 300 (ns_of www) ∷ lasting 60 (ns_of example) ∷ [])
       ∷ entry www types.A (host 300 1 ∷ []) ∷ [])
   -- nothing stands beside a CNAME, and there is one
-  pub beside_alias : Makes (entry www types.CNAME (lasting 300 (alias_of example) ∷ []) ∷ [])
+  pub beside_cname : Makes (entry www types.CNAME (lasting 300 (cname_of example) ∷ []) ∷ [])
       (asks (holding classes.IN www 60 (address 1) ∷ []))
-      (entry www types.CNAME (lasting 300 (alias_of example) ∷ []) ∷ [])
-  pub alias_beside : Makes two_addresses (asks (holding classes.IN www 60 (alias_of example) ∷ []))
+      (entry www types.CNAME (lasting 300 (cname_of example) ∷ []) ∷ [])
+  pub cname_beside : Makes two_addresses (asks (holding classes.IN www 60 (cname_of example) ∷ []))
       two_addresses
-  pub other_alias : Makes (entry www types.CNAME (lasting 300 (alias_of example) ∷ []) ∷ [])
-      (asks (holding classes.IN www 60 (alias_of unused) ∷ []))
-      (entry www types.CNAME (lasting 60 (alias_of unused) ∷ []) ∷ [])
+  pub other_cname : Makes (entry www types.CNAME (lasting 300 (cname_of example) ∷ []) ∷ [])
+      (asks (holding classes.IN www 60 (cname_of unused) ∷ []))
+      (entry www types.CNAME (lasting 60 (cname_of unused) ∷ []) ∷ [])
 
 -- sets that go, of one type or of all (3.4.2.3)
 pub record DeleteSetRows : Type 0 where
   pub one_type : Makes
       (entry www types.A (host 300 1 ∷ host 300 2 ∷ [])
-      ∷ entry www types.MX (lasting 300 (mail www) ∷ []) ∷ [])
+      ∷ entry www types.MX (lasting 300 (mx_of www) ∷ []) ∷ [])
       (asks (empty_record www types.A classes.ANY ∷ []))
-      (entry www types.MX (lasting 300 (mail www) ∷ []) ∷ [])
+      (entry www types.MX (lasting 300 (mx_of www) ∷ []) ∷ [])
   pub not_there : Makes two_addresses (asks (empty_record www types.MX classes.ANY ∷ []))
       two_addresses
   pub all_types : Makes
-      (entry www types.A (host 300 1 ∷ []) ∷ entry www types.MX (lasting 300 (mail www) ∷ [])
+      (entry www types.A (host 300 1 ∷ []) ∷ entry www types.MX (lasting 300 (mx_of www) ∷ [])
       ∷ entry example types.A (host 300 7 ∷ []) ∷ [])
       (asks (empty_record www types.ANY classes.ANY ∷ []))
       (entry example types.A (host 300 7 ∷ []) ∷ [])
   -- SOA and NS stay at the origin, and an NS below it goes
-  pub start_stays : Makes origin_sets (asks (empty_record example types.SOA classes.ANY ∷ []))
+  pub soa_stays : Makes origin_sets (asks (empty_record example types.SOA classes.ANY ∷ []))
       origin_sets
-  pub servers_stay : Makes origin_sets (asks (empty_record example types.NS classes.ANY ∷ []))
+  pub ns_stays : Makes origin_sets (asks (empty_record example types.NS classes.ANY ∷ []))
       origin_sets
   pub both_stay : Makes (entry example types.A (host 300 7 ∷ []) ∷ origin_sets)
       (asks (empty_record example types.ANY classes.ANY ∷ [])) origin_sets
-  pub below : Makes (entry www types.NS (lasting 300 (server www) ∷ []) ∷ origin_sets)
+  pub below : Makes (entry www types.NS (lasting 300 (ns_of www) ∷ []) ∷ origin_sets)
       (asks (empty_record www types.NS classes.ANY ∷ [])) origin_sets
 
 -- records that go (3.4.2.4)
@@ -308,28 +308,28 @@ pub record DeleteRecordRows : Type 0 where
   pub not_there : Makes two_addresses (asks (holding classes.NONE www 0 (address 3) ∷ []))
       two_addresses
   -- an SOA stays, and so does the last NS of the origin
-  pub start_stays : Makes origin_sets (asks (holding classes.NONE example 0 start ∷ [])) origin_sets
-  pub last_server_stays : Makes origin_sets
-      (asks (holding classes.NONE example 0 (server www) ∷ [])) origin_sets
-  pub one_server : Makes
-      (entry example types.NS (lasting 300 (server www) ∷ lasting 300 (server example) ∷ []) ∷ [])
-      (asks (holding classes.NONE example 0 (server www) ∷ []))
-      (entry example types.NS (lasting 300 (server example) ∷ []) ∷ [])
+  pub soa_stays : Makes origin_sets (asks (holding classes.NONE example 0 soa ∷ [])) origin_sets
+  pub last_ns_stays : Makes origin_sets
+      (asks (holding classes.NONE example 0 (ns_of www) ∷ [])) origin_sets
+  pub one_ns : Makes
+      (entry example types.NS (lasting 300 (ns_of www) ∷ lasting 300 (ns_of example) ∷ []) ∷ [])
+      (asks (holding classes.NONE example 0 (ns_of www) ∷ []))
+      (entry example types.NS (lasting 300 (ns_of example) ∷ []) ∷ [])
   -- below the origin an SOA stays too, and the last NS goes
-  pub start_below_stays : Makes (entry www types.SOA (lasting 300 start ∷ []) ∷ [])
-      (asks (holding classes.NONE www 0 start ∷ []))
-      (entry www types.SOA (lasting 300 start ∷ []) ∷ [])
-  pub server_below : Makes (entry www types.NS (lasting 300 (server www) ∷ []) ∷ origin_sets)
-      (asks (holding classes.NONE www 0 (server www) ∷ [])) origin_sets
+  pub soa_below_stays : Makes (entry www types.SOA (lasting 300 soa ∷ []) ∷ [])
+      (asks (holding classes.NONE www 0 soa ∷ []))
+      (entry www types.SOA (lasting 300 soa ∷ []) ∷ [])
+  pub ns_below : Makes (entry www types.NS (lasting 300 (ns_of www) ∷ []) ∷ origin_sets)
+      (asks (holding classes.NONE www 0 (ns_of www) ∷ [])) origin_sets
   -- updates are done in turn
-  pub in_turn : Makes (entry example types.NS (lasting 300 (server www) ∷ []) ∷ [])
-      (asks (holding classes.IN example 300 (server example)
-      ∷ holding classes.NONE example 0 (server www) ∷ []))
-      (entry example types.NS (lasting 300 (server example) ∷ []) ∷ [])
+  pub in_turn : Makes (entry example types.NS (lasting 300 (ns_of www) ∷ []) ∷ [])
+      (asks (holding classes.IN example 300 (ns_of example)
+      ∷ holding classes.NONE example 0 (ns_of www) ∷ []))
+      (entry example types.NS (lasting 300 (ns_of example) ∷ []) ∷ [])
 
 -- what builders send
 pub record BuilderRows : Type 0 where
-  -- a set is swapped where it is there, whatever its time to live, and else isn't
+  -- a set is swapped where it is there, whatever its TTL, and else isn't
   pub swapped : Makes (entry www types.A (host 300 1 ∷ []) ∷ [])
       (compare_and_swap (addresses (1 ∷ [])) (addresses (1 ∷ 2 ∷ [])) example)
       (entry www types.A (host 60 1 ∷ host 60 2 ∷ []) ∷ [])

@@ -36,7 +36,7 @@ AppendsToSet s origin must_exist m =
     MeansUncut m (λ z. IsGiven z origin s × NoCname z s.name)
     (λ z. if must_exist && not (has_set z (set_key s)) then (NXRRSet, z) else (NoError, merged z s))
 
--- Where the zone has exactly the data of the current set, in any order and whatever the times to live, that set goes
+-- Where the zone has exactly the data of the current set, in any order and whatever the TTLs, that set goes
 -- and the new one is merged into the zone; else NXRRSet.
 abbrev pub SwapsSets : SetValue → SetValue → NameValue → MessageValue → Type 0
 SwapsSets current new origin m =

@@ -32,7 +32,7 @@ empty_record owner type class =
       mdns_cache_flush = false;
     }
 
--- a record in another class, with time to live 0
+-- a record in another class, with TTL 0
 abbrev pub in_class : DNSClass → Record RData → Record RData
 in_class class r = record r { dns_class = class; ttl = 0 }
 
@@ -41,7 +41,7 @@ abbrev pub emptied : Record RData → Record RData
 emptied r =
     record r { dns_class = classes.ANY; ttl = 0; rdata = rdata.Update0 (type_of_data r.rdata) }
 
--- a record with time to live 0
+-- a record with TTL 0
 abbrev pub without_ttl : Record RData → Record RData
 without_ttl r = record r { ttl = 0 }
 
@@ -109,9 +109,9 @@ abbrev pub transfer_type : Option SOA → RecordType
 transfer_type None = types.AXFR
 transfer_type (Some soa) = types.IXFR
 
--- the record of an SOA of this owner, with time to live 0
-abbrev pub start_of : NameValue → SOA → Record RData
-start_of origin soa =
+-- the SOA record of this owner, with TTL 0
+abbrev pub soa_record : NameValue → SOA → Record RData
+soa_record origin soa =
     record {
       name = origin;
       dns_class = classes.IN;
@@ -132,7 +132,7 @@ transfer_message id origin last_soa = record {
         mdns_unicast_response = false;
       } ∷ [];
   answers = [];
-  authorities = listed (option_map (start_of origin) last_soa);
+  authorities = listed (option_map (soa_record origin) last_soa);
   additionals = [];
   edns = update_edns true;
   signature = None;

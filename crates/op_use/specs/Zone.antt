@@ -14,7 +14,7 @@ use Rattle.base_data.specs.SameData.{same_data}
 use Rattle.base_data.specs.declared.rdata.RData.{RData}
 use Rattle.rr.specs.RecordSet.{is_ns, is_soa}
 
--- data with its time to live
+-- data with its TTL
 pub record Datum : Type 0 where
   pub rdata : RData
   pub ttl : ℕ

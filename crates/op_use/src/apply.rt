@@ -26,10 +26,10 @@ use zone::Zone;
 /// Applies an update to the sets of a zone of this origin and class: answers the server's code (RFC 2136, 2.2), and the
 /// sets then.
 ///
-/// A message with a record of a type that isn't served is answered NotImp, before anything else is looked at: served
-/// are the ordinary types, NS, CNAME, and ANY where it stands for all types of an owner. With any code but NoError the
-/// sets are the same. A record that is added is the message's, also where it replaces one of equal data. A set that
-/// changes has the TTL of the last of its records. Opcode and message type aren't looked at.
+/// A message with a record of a type that isn't supported is answered NotImp, before anything else is looked at:
+/// supported are the ordinary types, NS, CNAME, and ANY where it stands for all types of an owner. With any code but
+/// NoError the sets are the same. A record that is added is the message's, also where it replaces one of equal data. A
+/// set that changes has the TTL of the last of its records. Opcode and message type aren't looked at.
 ///
 /// Each set that is handed in has records, no two of them of equal data, has this class, and stands under its own key;
 /// this holds of the answered sets too. Those that are handed in stay as they are.

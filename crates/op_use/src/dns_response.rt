@@ -140,7 +140,7 @@ impl DnsResponse {
         &mut self.message
     }
 
-    /// The first authority that is the start of a zone (RFC 1035, 3.3.13).
+    /// The first authority that is an SOA (RFC 1035, 3.3.13).
     pub fn soa(&self) -> Option<RecordRef<'_, SOA>>
         ensures { option_map seen result ≡ soa self.now.message }
     {
@@ -251,7 +251,7 @@ fn write(alloc: Global, message: &Message) -> Result<Vec<u8>, ProtoError>
     Ok(buffer)
 }
 
-/// The first of the records that is the start of a zone.
+/// The first of the records that is an SOA.
 fn first_soa<'a>(records: &'a [Record]) -> Option<RecordRef<'a, SOA>>
     ensures { option_map seen result ≡ first_soa records.now }
 {
@@ -289,7 +289,7 @@ fn has_name(message: &Message, name: &Name) -> bool
     false
 }
 
-/// Whether any record is the start of a zone in which the name lies.
+/// Whether any record is the SOA of a zone in which the name lies.
 fn has_soa_above(message: &Message, name: &Name) -> bool
     ensures { result ≡ list_any (λ r. is_of types.SOA r
         && is_zone_of r.name name.now) (all_records (message_value message.now)) }

@@ -127,7 +127,7 @@ with_data seen r =
 abbrev pub holding : {R N : Type 0} → N → Record R → Record N
 holding rdata r = with_data (λ _. rdata) r
 
--- the record with offset seconds off its TTL, down to 0
+-- the record with `offset` seconds off its TTL, down to 0
 abbrev pub decremented : {R : Type 0} → ℕ → Record R → Record R
 decremented offset r = record r { ttl = r.ttl - offset }
 

@@ -35,6 +35,7 @@ impl<'a> Zone<'a> {
         Ok(unless(are_met, ResponseCode::NXRRSet))
     }
 
+    /// The first that is wrong with a prerequisite by itself.
     fn first_fault(&self, entries: &[Record]) -> Result<Option<ResponseCode>, AllocError>
         ensures { IfOk result (λ f. f
             ≡ first_fault (prerequisite_fault (zone_of self.now)) entries.now) }
@@ -47,6 +48,7 @@ impl<'a> Zone<'a> {
         Ok(None)
     }
 
+    /// What is wrong with a prerequisite by itself. Of one of the zone's class the data is tested later, with its set.
     fn prerequisite_fault(&self, entry: &Record) -> Result<Option<ResponseCode>, AllocError>
         ensures { IfOk result (λ f. f ≡ prerequisite_fault (zone_of self.now) entry.now) }
     {
@@ -156,6 +158,7 @@ impl<'a> Zone<'a> {
     }
 }
 
+/// Whether a prerequisite is of the zone's class, and so says what data a set has.
 fn is_by_value(class: DNSClass, entry: &Record) -> bool
     ensures { result ≡ is_by_value class entry.now }
 {
@@ -182,6 +185,7 @@ fn are_listed(
     Ok(true)
 }
 
+/// Whether a record is among those that the prerequisites list for the set of this entry.
 fn is_listed(
     known: &Record,
     asked: Option<&Places>,
@@ -226,6 +230,7 @@ fn has_data(records: &[Record], held: Option<&Places>, entry: &Record) -> Result
     Ok(false)
 }
 
+/// Where the data of each of these records stands among them.
 fn places_of(records: &[Record], alloc: Global) -> Result<Places, AllocError> {
     let mut places = BTreeMap::new(alloc);
     for place in 0..records.len() {
@@ -260,6 +265,7 @@ fn look_up<'r>(
     Ok(None)
 }
 
+/// The canonical form of a record's data.
 fn canonical(entry: &Record) -> Result<Vec<u8>, AllocError> {
     entry
         .rdata

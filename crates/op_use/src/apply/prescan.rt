@@ -22,6 +22,7 @@ impl<'a> Zone<'a> {
         None
     }
 
+    /// What is wrong with an update.
     fn update_fault(&self, entry: &Record) -> Option<ResponseCode>
         ensures { result ≡ prescan_fault (zone_of self.now) entry.now }
     {

@@ -39,18 +39,21 @@ pub(crate) fn use_of(zone_class: DNSClass, class: DNSClass) -> Use
     }
 }
 
+/// Whether this is the type SOA.
 pub(crate) fn is_soa(record_type: RecordType) -> bool
     ensures { result ≡ is_soa_type record_type }
 {
     matches!(record_type, RecordType::SOA)
 }
 
+/// Whether this is the type CNAME.
 pub(crate) fn is_cname(record_type: RecordType) -> bool
     ensures { result ≡ is_cname_type record_type }
 {
     matches!(record_type, RecordType::CNAME)
 }
 
+/// Whether this is the type ANY.
 pub(crate) fn is_any(record_type: RecordType) -> bool
     ensures { result ≡ is_any_type record_type }
 {

@@ -1,7 +1,7 @@
 //! The first step: whether an update is of types that are supported.
 
 ghost use Rattle.op.specs.Message.{message_value};
-ghost use Rattle.op_use.specs.Applying.{is_all_served as is_all_served_in, is_served as is_served_record, is_served_prerequisite};
+ghost use Rattle.op_use.specs.Applying.{is_all_supported, is_supported as is_supported_record, is_supported_prerequisite};
 ghost use Rattle.op_use.specs.Server.{sections_of};
 ghost use Rattle.std.specs.List.{list_all};
 ghost use Rattle.std.specs.Prelude.{◌≡◌};
@@ -13,13 +13,14 @@ use rr::Record;
 
 /// Whether all records of an update are of types that are supported.
 pub(crate) fn is_supported(message: &Message) -> bool
-    ensures { result ≡ is_all_served_in (sections_of (message_value message.now)) }
+    ensures { result ≡ is_all_supported (sections_of (message_value message.now)) }
 {
     are_prerequisites_supported(&message.answers) && are_updates_supported(&message.authorities)
 }
 
+/// Whether all prerequisites are of types that are supported.
 fn are_prerequisites_supported(entries: &[Record]) -> bool
-    ensures { result ≡ list_all is_served_prerequisite entries.now }
+    ensures { result ≡ list_all is_supported_prerequisite entries.now }
 {
     for entry in entries {
         if !is_supported_prerequisite(entry) {
@@ -29,8 +30,9 @@ fn are_prerequisites_supported(entries: &[Record]) -> bool
     true
 }
 
+/// Whether all updates are of types that are supported.
 fn are_updates_supported(entries: &[Record]) -> bool
-    ensures { result ≡ list_all is_served_record entries.now }
+    ensures { result ≡ list_all is_supported_record entries.now }
 {
     for entry in entries {
         if !is_supported_update(entry) {
@@ -40,15 +42,17 @@ fn are_updates_supported(entries: &[Record]) -> bool
     true
 }
 
+/// Whether a prerequisite is of a type that is supported: as an update, or ANY in the class NONE (RFC 2136, 2.4.5).
 fn is_supported_prerequisite(entry: &Record) -> bool
-    ensures { result ≡ is_served_prerequisite entry.now }
+    ensures { result ≡ is_supported_prerequisite entry.now }
 {
     is_supported_update(entry)
         || (is_any(entry.record_type()) && matches!(entry.dns_class, DNSClass::NONE))
 }
 
+/// Whether an update is of a type that is supported: an ordinary one, NS, CNAME, or ANY in the class ANY.
 fn is_supported_update(entry: &Record) -> bool
-    ensures { result ≡ is_served_record entry.now }
+    ensures { result ≡ is_supported_record entry.now }
 {
     is_ordinary(entry.record_type())
         || matches!(entry.record_type(), RecordType::NS)

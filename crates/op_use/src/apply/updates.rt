@@ -14,6 +14,7 @@ use rr::Record;
 use std::alloc::AllocError;
 
 impl<'a> Zone<'a> {
+    /// Carries out the updates in their order. Those that delete data of one set, one after another, are done at once.
     pub(crate) fn update(&mut self, entries: &[Record]) -> Result<(), AllocError>
         ensures { OnOk result (IsUpdated entries.now self.old self.new) }
     {
@@ -59,6 +60,7 @@ impl<'a> Zone<'a> {
             && !is_guarded(self.origin, &update.name, update.record_type())
     }
 
+    /// Carries out an update, as its class asks.
     fn update_by(&mut self, entry: &Record) -> Result<(), AllocError>
         ensures { OnOk result (IsUpdated (entry.now ∷ []) self.old self.new) }
     {

@@ -46,6 +46,7 @@ impl<'a> Model for Zone<'a> {
 }
 
 impl<'a> Zone<'a> {
+    /// The zone of this origin and class that has these sets.
     pub(crate) fn new(
         alloc: Global,
         origin: &'a Name,
@@ -63,6 +64,7 @@ impl<'a> Zone<'a> {
         }
     }
 
+    /// The sets of the zone.
     pub(crate) fn into_sets(self) -> BTreeMap<RrKey, RecordSet>
         ensures { result ≡ self.entry.sets }
     {

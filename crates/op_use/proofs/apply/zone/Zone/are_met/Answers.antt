@@ -64,8 +64,8 @@ loop-entry-preserved c =
           let found = sym w.if-not-branch.false ∙ w.in_ok-are_listed.ensures
           ∙ ap (λ (y : HeldZone). list_all (λ x. list_any (asks_for y.class c.entry-item.result x) c.args.entries.now) w.as_slice.result.now) c.self.view_is in
           let good = complete_is c.args.self.now.sets c.args.self.now.class c.args.entries.now
-              c.entry-item.result c.in_ok-key.key c.in-Some.set.now w.as_slice.result.now _ same
-              there w.as_slice.ensures found in
+          c.entry-item.result c.in_ok-key.key c.in-Some.set.now w.as_slice.result.now _ same
+          there w.as_slice.ensures found in
           let copy : w.in_ok-clone.field-0 ≡ c.in_ok-key.key = search rules in (
             good,
             subst (λ held. AreComplete c.args.self.now.sets c.args.self.now.class c.args.entries.now held) (sym w.held-is)
@@ -76,8 +76,8 @@ loop-entry-preserved c =
           let found = sym w.if-not-branch.false ∙ w.in_ok-are_listed.ensures
           ∙ ap (λ (y : HeldZone). list_all (λ x. list_any (asks_for y.class c.entry-item.result x) c.args.entries.now) w.as_slice.result.now) c.self.view_is in
           let good = complete_is c.args.self.now.sets c.args.self.now.class c.args.entries.now
-              c.entry-item.result c.in_ok-key.key c.in-Some.set.now w.as_slice.result.now _ same
-              there w.as_slice.ensures found in
+          c.entry-item.result c.in_ok-key.key c.in-Some.set.now w.as_slice.result.now _ same
+          there w.as_slice.ensures found in
           let copy : w.in_ok-clone.field-0 ≡ c.in_ok-key.key = search rules in (
             good,
             subst (λ held. AreComplete c.args.self.now.sets c.args.self.now.class c.args.entries.now held) (sym w.held-is)

@@ -18,7 +18,7 @@ returns c =
     let same_key : c.in_ok-key.key ≡ record_key c.args.entry.now = c.in_ok-key.ensures ∙ ap (key_of c.args.entry.now.name) c.record_type.ensures in
     let one : without (c.in_ok-clone.field-0 ∷ []) (records_at c.args.self.now.sets c.in_ok-key.key) ≡ without (c.args.entry.now ∷ []) (records_at c.args.self.now.sets (record_key c.args.entry.now)) =
     ap (λ r. without (r ∷ []) (records_at c.args.self.now.sets c.in_ok-key.key)) (same_clone _ _
-        c.in_ok-clone.ensures.cases) ∙ ap (λ q. without (c.args.entry.now ∷ []) (records_at
-        c.args.self.now.sets q)) same_key in
+    c.in_ok-clone.ensures.cases) ∙ ap (λ q. without (c.args.entry.now ∷ []) (records_at
+    c.args.self.now.sets q)) same_key in
     set_updated (c.args.entry.now ∷ []) _ _ c.args.self.now _ (moved_held _ _ _ _ _ _ same_key one c.in_ok-take_data.ensures) (λ n put h.
     after_part c.args.self.now.origin c.args.self.now.class c.args.self.now.sets n c.args.entry.now h c.requires (sym c.in_ok-is_needed.ensures ∙ c.if-branch.false) put)

@@ -16,8 +16,11 @@ invariant_of-self c = removed_map c.self.inside.class c.args.key c.self.inside.s
 pub returns-in_default : goal.returns-in_default
 returns-in_default c =
     subst (λ (z : HeldZone). Holds c.args.key (without c.args.entries.now (records_at z.sets
-        c.args.key)) z (record { origin = c.self.inside.origin.now; class = c.self.inside.class;
-        sets = c.remove.new.self })) c.self.view_is (
+    c.args.key)) z (record {
+      origin = c.self.inside.origin.now;
+      class = c.self.inside.class;
+      sets = c.remove.new.self;
+    })) c.self.view_is (
       c.remove.new.self,
       refl,
       none_there c.self.inside.class c.args.key c.args.entries.now c.self.inside.sets c.remove.new.self (sym c.in_default.ensures.value) c.remove.ensures.updates,
@@ -37,8 +40,11 @@ invariant_of-self-then-is_empty c = removed_map c.self.inside.class c.args.key c
 pub returns-then-is_empty : goal.returns-then-is_empty
 returns-then-is_empty c =
     subst (λ (z : HeldZone). Holds c.args.key (without c.args.entries.now (records_at z.sets
-        c.args.key)) z (record { origin = c.self.inside.origin.now; class = c.self.inside.class;
-        sets = c.remove.new.self })) c.self.view_is (
+    c.args.key)) z (record {
+      origin = c.self.inside.origin.now;
+      class = c.self.inside.class;
+      sets = c.remove.new.self;
+    })) c.self.view_is (
       c.remove.new.self,
       refl,
       none_left c.self.inside.class c.args.key c.args.entries.now c.in-Some.set c.take_data.new.self c.self.inside.sets c.remove.new.self (sym c.in-Some.ensures.value)
@@ -55,8 +61,11 @@ invariant_of-self-2 c =
 pub returns : goal.returns
 returns c =
     subst (λ (z : HeldZone). Holds c.args.key (without c.args.entries.now (records_at z.sets
-        c.args.key)) z (record { origin = c.self.inside.origin.now; class = c.self.inside.class;
-        sets = c.insert.new.self })) c.self.view_is (
+    c.args.key)) z (record {
+      origin = c.self.inside.origin.now;
+      class = c.self.inside.class;
+      sets = c.insert.new.self;
+    })) c.self.view_is (
       c.insert.new.self,
       refl,
       set_left c.self.inside.class c.args.key c.args.entries.now c.in-Some.set c.take_data.new.self c.self.inside.sets c.remove.new.self c.insert.new.self c.self.invariant
