@@ -62,7 +62,7 @@ absolute name = record name { absolute = true }
 
 -- ---- a record
 
--- the type that a text names, its letters raised
+-- the type that a text names in upper case
 abbrev pub type_named : List ℕ → Result RecordType Fault
 type_named word =
     ok_or (type_from_text (str_to_ascii_uppercase word))
@@ -184,7 +184,7 @@ opened within s name None = Err (not_found name)
 opened within s name (Some text) = fold within s (entries_of (whole_text text))
     >>= λ t. Ok (restored s.origin t)
 
--- what an included text does, where so many more texts may be open; the depth is tested before the text is looked up
+-- what an included text does, where `room` more texts may be open; the depth is tested before the text is looked up
 unfoldable pub included : Texts → ℕ → State → List ℕ → Result State Fault
 included texts zero s name = Err (says (codes "Max depth level for nested $INCLUDE is reached"))
 included texts (suc room) s name = opened (included texts room) s name (texts name)

@@ -81,7 +81,7 @@ impl Context {
     {
         Context {
             alloc,
-            origin: origin.map(absolute),
+            origin: origin.map(make_absolute),
             owner: None,
             dns_class: DNSClass::IN,
             pending: None,
@@ -226,7 +226,7 @@ impl Context {
         }
     }
 
-    /// After the type's text, its ASCII letters raised: the items of the data, and then the record.
+    /// After the type's text, in upper case: the items of the data, and then the record.
     fn take_record(&mut self, raised: String, lexer: &mut Lexer<'_>) -> Result<(), ParseError>
         ensures { (word : List ℕ) → string_bytes raised ≡ str_to_ascii_uppercase word
             → Goes result self.new (symbols lexer.new)
@@ -279,7 +279,7 @@ impl Context {
         let Some(owner) = &self.owner else {
             return Err(ParseError::Message("record name not specified"));
         };
-        let name = absolute(owner.clone()?);
+        let name = make_absolute(owner.clone()?);
         let Some(ttl) = self.pending.or(self.default_ttl.or(self.last_ttl)) else {
             return Err(ParseError::Message("record ttl not specified"));
         };
@@ -344,8 +344,8 @@ impl Context {
     }
 }
 
-/// The name, absolute.
-fn absolute(mut name: Name) -> Name
+/// Makes a name absolute.
+fn make_absolute(mut name: Name) -> Name
     ensures { result ≡ absolute name }
 {
     name.set_fqdn(true);
@@ -384,8 +384,8 @@ fn end_include(name: String, lexer: &mut Lexer<'_>) -> Result<Step, ParseError>
     }
 }
 
-/// What an item states before the type: a TTL, else a class, its ASCII letters raised. Where it is neither, the item
-/// comes back with its letters raised.
+/// What an item states before the type: a TTL, else a class, in upper or lower case. Where it is neither, the item
+/// comes back in upper case.
 #[tactic(auto, unfolding(crate::specs::Entries::setting_of))]
 fn setting_of(word: String) -> Result<Setting, String>
     ensures setting { IfOk result (λ setting. setting_of (string_bytes word)
@@ -405,7 +405,7 @@ fn setting_of(word: String) -> Result<Setting, String>
     }
 }
 
-/// The type that a text names whose ASCII letters are raised.
+/// The type that a text in upper case names.
 fn type_of_text(raised: String) -> Result<RecordType, ParseError>
     ensures { (word : List ℕ) → string_bytes raised ≡ str_to_ascii_uppercase word
         → Gives (λ t. t) result (type_named word) }

@@ -39,8 +39,8 @@ returns-in_err-add_record c = λ word raised.
     rw (p.1, p.2) (Fails-through c.in_err-add_record.field-0.0 (λ fault is. typed_said c.args.self.now word (symbols c.args.lexer.now)
     c.in_ok-record_type.record_type (texts c.deref.result.now) (symbols c.read_items.new.lexer) c.in_ok-rdata.rdata (c.in_ok-record_type.ensures word raised)
     read (under ∙ c.in_ok-rdata.ensures) ∙ ap (λ (made : Result State Fault). went_on made (symbols
-        c.read_items.new.lexer)) (ap (λ (s : State). recorded s c.in_ok-rdata.rdata) (sym
-        c.self.view_is) ∙ is)) c.in_err-add_record.ensures)
+    c.read_items.new.lexer)) (ap (λ (s : State). recorded s c.in_ok-rdata.rdata) (sym
+    c.self.view_is) ∙ is)) c.in_err-add_record.ensures)
 
 pub returns : goal.returns
 returns c = λ word raised.
