@@ -3,7 +3,7 @@ use Rattle.std.proofs.Common.{◌≡◌, ℕ, ◌+◌, ◌<◌, ◌≤◌, List,
 use Rattle.std.specs.List.{slice_range}
 use Rattle.std.proofs.lemmas.List.{drop-append-le, drop_all}
 use Rattle.base.specs.declared.name.trail.Passed.{Passed}
-use Rattle.base.specs.Kept.{IsKept}
+use Rattle.base.specs.Pointers.{IsKept}
 use Rattle.base.specs.Names.{zero_byte, label_of, pointer_to, part_at}
 use Rattle.base.proofs.GatherLemmas.{Gathers, gathers_none, gathers_label, gathers_pointer, at_root, at_kept, spelled_is, IsWire-append}
 

@@ -7,7 +7,6 @@ pub mod Faults
 pub mod Held
 pub mod Items
 pub mod Keys
-pub mod Kept
 pub mod Labels
 pub mod Laws
 pub mod Many
@@ -22,6 +21,7 @@ pub mod PartOf
 pub mod Passed
 pub mod Passing
 pub mod PointerLemmas
+pub mod Pointers
 pub mod ProtoError
 pub mod Reader
 pub mod Reading
@@ -33,7 +33,6 @@ pub mod SaysParts
 pub mod Spelling
 pub mod State
 pub mod Suffixes
-pub mod Targets
 pub mod TextChar
 pub mod TextFaults
 pub mod TokenList

@@ -185,6 +185,9 @@ fn keep_all<'a>(
     requires last { IfSome last (λ lent. IsLast lent.now labels.now passed.now) }
     // From each target only kept offsets are passed, and those that were followed after it.
     requires later { PassLater decoder.old.bytes decoder.old.kept passed.now }
+    // The targets are distinct, and none is kept yet.
+    requires new { set.len (inserted (targets passed.now) decoder.old.kept)
+        ≡ set.len decoder.old.kept + length (targets passed.now) }
     ensures ok { OnOk result (decoder.new
         ≡ record decoder.old { kept = inserted (targets passed.now) decoder.old.kept }) }
     // A refusal leaves the count of pointers followed as it was.
@@ -193,10 +196,8 @@ fn keep_all<'a>(
 {
     for i in (0..passed.len()).rev() {
         if let Some(pointer) = passed.at(i) {
-            match last {
-                Some(lent) if i + 1 == passed.len() => decoder.keep_lent(pointer.target, lent)?,
-                _ => decoder.keep_copy(pointer.target, &labels[pointer.from..])?,
-            }
+            let lent = if i + 1 == passed.len() { last } else { None };
+            decoder.keep(pointer.target, &labels[pointer.from..], lent)?;
         }
     }
     Ok(())

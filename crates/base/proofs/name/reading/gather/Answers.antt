@@ -6,7 +6,7 @@ use Rattle.std.proofs.lemmas.Result.{err_from_is_err_and}
 use borrow.Rule.Slice.PartMut.{put_mid}
 use Rattle.std.proofs.lemmas.Slice.{take-put_mid}
 use Rattle.base.specs.declared.name.trail.Passed.{Passed}
-use Rattle.base.specs.Kept.{IsKept}
+use Rattle.base.specs.Pointers.{IsKept}
 use Rattle.base.specs.Labels.{IsWire, labels_of}
 use Rattle.base.specs.Passed.{IsLast, targets}
 use Rattle.base.specs.Reader.{Reader}

@@ -1,5 +1,5 @@
 use Rattle.std.proofs.Common.{◌≡◌, ℕ, ◌+◌, ◌<◌, List, [], ◌++◌, take, drop, ap, sym, ◌∙◌, subst, arith}
-use Rattle.base.specs.Kept.{IsKept}
+use Rattle.base.specs.Pointers.{IsKept}
 use Rattle.base.specs.Reader.{Reader}
 use Rattle.base.proofs.PieceLemmas.{IsName, found, name_kept, name_root, part_is_there, walked_label, walked_none}
 use Rattle.base.proofs.name.reading.one_piece.Goals as goal
