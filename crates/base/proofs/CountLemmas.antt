@@ -11,11 +11,10 @@ use Rattle.std.proofs.Math.Bool.{or-false, or_comm}
 use Rattle.std.proofs.lemmas.Bool.{cases_Bool, cond-true, cond-false, eqb-true, false≢true}
 use Rattle.std.proofs.lemmas.List.Folds.{list_any-append}
 use Rattle.std.proofs.lemmas.Map.Lookups.{exact_unsigned}
-use Rattle.base.specs.Pointers.{AreKept, Cache, IsKept, targets_of}
+use Rattle.base.specs.Pointers.{AreKept, Cache, Followed, IsKept, targets_of}
 use Rattle.std.specs.declared.cmp.Ordering.{Ordering}
 use Rattle.std.specs.declared.cmp.Ordering.TheVariants.{Less, Equal, Greater}
 use Rattle.base.specs.Counts.{IsCounted, IsPassed}
-use Rattle.base.specs.Passed.{Followed}
 use Rattle.base.specs.Passing.{NamesPass, among, inserted, one_more, passed}
 use Rattle.base.specs.Spelling.{Spelled, ends, label, pointer}
 use Rattle.base.specs.Reader.{Reader}

@@ -9,10 +9,9 @@ use Rattle.std.proofs.lemmas.Bool.{cond-false, cond-true, eqb-true, false≢true
 use Rattle.std.proofs.lemmas.List.{append-nil, map_push}
 use Rattle.std.proofs.lemmas.List.Folds.{list_any-append}
 use Rattle.base.specs.declared.error.decode_error.DecodeError.{DecodeError}
-use Rattle.base.specs.declared.name.trail.Passed.{Passed}
-use Rattle.base.specs.Pointers.{AreKept, targets_of}
+use Rattle.base.specs.declared.name.followed.FollowedPointer.{FollowedPointer}
+use Rattle.base.specs.Pointers.{AreKept, PassLater, PassesThese, targets, targets_of}
 use Rattle.base.specs.Names.{NamePart, zero_byte, label_of, pointer_to, part_at}
-use Rattle.base.specs.Passed.{PassLater, PassesThese, targets}
 use Rattle.base.specs.Passing.{IsClosed, PassesKept, among, inserted, passed}
 use Rattle.base.specs.Spelling.{Spelled, ends, label, pointer, target}
 use Rattle.base.proofs.CountLemmas.{contains-inserted, contains-one_more, contains_kept, few_more, inserted-first, same_members}
@@ -160,26 +159,26 @@ module _ {bytes : List ℕ} {first : ℕ} {ts : List ℕ} {start at : ℕ} (lead
       )
 
 -- each pointer that was followed leads on by those after it
-abbrev pub Lead : List ℕ → List Passed → ℕ → ℕ → Type 0
+abbrev pub Lead : List ℕ → List FollowedPointer → ℕ → ℕ → Type 0
 Lead bytes [] start at = Unit {0}
 Lead bytes (p ∷ ps) start at = Leads bytes p.target (targets ps) start at × Lead bytes ps start at
 
 module _ (bytes : List ℕ) (start at : ℕ) where
-  pub Lead-label : (ps : List Passed) {n next : ℕ} → part_at bytes at ≡ Ok (label_of n) → next ≡ at + 1 + n → Lead bytes ps start at → Lead bytes ps start next
+  pub Lead-label : (ps : List FollowedPointer) {n next : ℕ} → part_at bytes at ≡ Ok (label_of n) → next ≡ at + 1 + n → Lead bytes ps start at → Lead bytes ps start next
   Lead-label [] is next_is lead = tt
   Lead-label (p ∷ ps) is next_is lead = (Leads-label lead.0 is next_is, Lead-label ps is next_is lead.1)
 
-  pub Lead-pointer : (ps : List Passed) (one : Passed) → part_at bytes at ≡ Ok (pointer_to one.target) → Lead bytes ps start at → Lead bytes (ps ++ one ∷ []) one.target one.target
+  pub Lead-pointer : (ps : List FollowedPointer) (one : FollowedPointer) → part_at bytes at ≡ Ok (pointer_to one.target) → Lead bytes ps start at → Lead bytes (ps ++ one ∷ []) one.target one.target
   Lead-pointer [] one is lead = (Leads-none bytes one.target, tt)
   Lead-pointer (p ∷ ps) one is lead =
-      let more : targets ps ++ one.target ∷ [] ≡ targets (ps ++ one ∷ []) = sym (map_push (λ (x : Passed). x.target) ps one) in
+      let more : targets ps ++ one.target ∷ [] ≡ targets (ps ++ one ∷ []) = sym (map_push (λ (x : FollowedPointer). x.target) ps one) in
       (subst (λ (ts : List ℕ). Leads bytes p.target ts one.target one.target) more (Leads-pointer lead.0 is), Lead-pointer ps one is lead.1)
 
-  pub Lead-root : (kept : set.FinSet nat_cmp) (ps : List Passed) → part_at bytes at ≡ Ok zero_byte → Lead bytes ps start at → PassLater bytes kept ps
+  pub Lead-root : (kept : set.FinSet nat_cmp) (ps : List FollowedPointer) → part_at bytes at ≡ Ok zero_byte → Lead bytes ps start at → PassLater bytes kept ps
   Lead-root kept [] is lead = tt
   Lead-root kept (p ∷ ps) is lead = (λ xs e h. (Leads-root lead.0 kept is xs e h).0, Lead-root kept ps is lead.1)
 
-  pub Lead-kept : (kept : set.FinSet nat_cmp) {t : ℕ} (ps : List Passed) → part_at bytes at ≡ Ok (pointer_to t) → set.contains kept t ≡ true → IsClosed bytes kept
+  pub Lead-kept : (kept : set.FinSet nat_cmp) {t : ℕ} (ps : List FollowedPointer) → part_at bytes at ≡ Ok (pointer_to t) → set.contains kept t ≡ true → IsClosed bytes kept
       → Lead bytes ps start at → PassLater bytes kept ps
   Lead-kept kept [] is has closed lead = tt
   Lead-kept kept (p ∷ ps) is has closed lead = (λ xs e h. (Leads-kept lead.0 kept is has closed xs e h).0, Lead-kept kept ps is has closed lead.1)
@@ -187,7 +186,7 @@ module _ (bytes : List ℕ) (start at : ℕ) where
 -- ---- what is kept once a name was read
 
 -- the pointer at i, and the offsets of those after it
-pub later_at : (bytes : List ℕ) (kept : set.FinSet nat_cmp) (ps : List Passed) (i : ℕ) (d : Passed) → i < length ps → PassLater bytes kept ps
+pub later_at : (bytes : List ℕ) (kept : set.FinSet nat_cmp) (ps : List FollowedPointer) (i : ℕ) (d : FollowedPointer) → i < length ps → PassLater bytes kept ps
     → PassesKept bytes (inserted (targets (drop (i + 1) ps)) kept) (get_or ps i d).target
 later_at bytes kept [] i d inside later = absurd (omega (arith, inside))
 later_at bytes kept (p ∷ ps) zero d inside later = later.0
@@ -196,7 +195,7 @@ later_at bytes kept (p ∷ ps) (suc i) d inside later =
     subst (λ (k : ℕ). PassesKept bytes (inserted (targets (drop k (p ∷ ps))) kept) (get_or ps i d).target) next (later_at bytes kept ps i d (omega (arith, inside)) later.1)
 
 -- where targets are distinct and none is kept, each is new to those after it and to what is kept
-pub new_at : (kept : set.FinSet nat_cmp) (ps : List Passed) (i : ℕ) (d : Passed) → set.len (inserted (targets ps) kept) ≡ set.len kept + length (targets ps) → i < length ps
+pub new_at : (kept : set.FinSet nat_cmp) (ps : List FollowedPointer) (i : ℕ) (d : FollowedPointer) → set.len (inserted (targets ps) kept) ≡ set.len kept + length (targets ps) → i < length ps
     → set.contains (inserted (targets (drop (i + 1) ps)) kept) (get_or ps i d).target ≡ false
 new_at kept [] i d all inside = absurd (omega (arith, inside))
 new_at kept (p ∷ ps) i d all inside = go (λ k less small. new_at kept ps k d less small) (set.contains (inserted (targets ps) kept) p.target) refl i inside where

@@ -17,8 +17,6 @@ pub mod NameText
 pub mod Names
 pub mod Octets
 pub mod ParseError
-pub mod PartOf
-pub mod Passed
 pub mod Passing
 pub mod PointerLemmas
 pub mod Pointers
@@ -38,7 +36,6 @@ pub mod TextFaults
 pub mod TokenList
 pub mod TokenText
 pub mod Tokens
-pub mod Trail
 pub mod Ttl
 pub mod TtlText
 pub mod Wire
