@@ -1,6 +1,6 @@
 use Rattle.std.specs.Prelude.{◌-◌}
 use Rattle.base.proofs.PieceLemmas.{Walked}
-use Rattle.base.proofs.name.reading.one_piece.Given as goal
+use Rattle.base.proofs.name.reading.read_in_place.Given as goal
 
 abbrev pub invariant-labels : goal.invariant-labels
 invariant-labels l = Walked l.decoder l.used

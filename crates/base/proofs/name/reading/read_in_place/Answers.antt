@@ -1,8 +1,8 @@
 use Rattle.std.proofs.Common.{◌≡◌, ℕ, ◌+◌, ◌<◌, List, [], ◌++◌, take, drop, ap, sym, ◌∙◌, subst, arith}
-use Rattle.base.specs.Kept.{IsKept}
+use Rattle.base.specs.Pointers.{IsKept}
 use Rattle.base.specs.Reader.{Reader}
 use Rattle.base.proofs.PieceLemmas.{IsName, found, name_kept, name_root, part_is_there, walked_label, walked_none}
-use Rattle.base.proofs.name.reading.one_piece.Goals as goal
+use Rattle.base.proofs.name.reading.read_in_place.Goals as goal
 
 -- the name that was found, as its parts are lent
 lent : (r : Reader) (own items : List ℕ) (first used more : ℕ) → own ≡ drop r.index r.bytes → first ≡ r.index → IsName r (take used (drop r.index r.bytes) ++ items) (r.index + used + more)

@@ -5,10 +5,9 @@ use Rattle.std.specs.List.{slice_range}
 use Rattle.std.proofs.lemmas.Result.{err_from_is_err_and}
 use borrow.Rule.Slice.PartMut.{put_mid}
 use Rattle.std.proofs.lemmas.Slice.{take-put_mid}
-use Rattle.base.specs.declared.name.trail.Passed.{Passed}
-use Rattle.base.specs.Kept.{IsKept}
+use Rattle.base.specs.declared.name.followed.FollowedPointer.{FollowedPointer}
+use Rattle.base.specs.Pointers.{IsKept, IsLast, targets}
 use Rattle.base.specs.Labels.{IsWire, labels_of}
-use Rattle.base.specs.Passed.{IsLast, targets}
 use Rattle.base.specs.Reader.{Reader}
 use Rattle.base.proofs.CountLemmas.{Follows, Follows-none, Follows-push}
 use Rattle.base.specs.Names.{label_of, part_at, pointer_to, zero_byte}
@@ -21,7 +20,7 @@ use Rattle.base.proofs.TailLemmas.{Tail, Ends, Tail-new, Tail-label, Tail-pointe
 use Rattle.base.proofs.PassLemmas.{Lead, Lead-kept, Lead-label, Lead-pointer, Lead-root, Leads, Leads-kept, Leads-label, Leads-none, Leads-pointer, Leads-root}
 use Rattle.base.proofs.GatherLemmas.{Gathers, gathers_none, at_fault, at_long, at_forward, at_root, root_inside, label_fits, gathers_label, gathers_pointer, fails_is, at_kept, at_kept_long, kept_end, IsWire-append}
 use Rattle.base.proofs.PieceLemmas.{found, last_more, last_pushed, part_is_there, range_is_there}
-use Rattle.base.proofs.name.reading.gather.Goals as goal
+use Rattle.base.proofs.name.reading.gather_labels.Goals as goal
 
 pub parts-init : goal.parts-init
 parts-init c =
@@ -33,18 +32,18 @@ parts-init c =
       piece = c.rest-piece.ensures;
       gathers = subst (λ (at : ℕ). Gathers old.bytes old.index 0 old.index at 0 [] None) (omega arith) (gathers_none old.bytes old.index 0 inside (omega arith));
       tails = All-same (Tail old.bytes old.index (old.index + 0) 0 []) _ [] c.requires.none (All-nil (Tail old.bytes old.index (old.index + 0) 0 []));
-      last = subst (λ (ps : List Passed). IsLast [] [] ps) (sym c.requires.none) tt;
-      leads = subst (λ (ps : List Passed). Leads old.bytes old.index (targets ps) old.index (old.index + 0)) (sym c.requires.none)
+      last = subst (λ (ps : List FollowedPointer). IsLast [] [] ps) (sym c.requires.none) tt;
+      leads = subst (λ (ps : List FollowedPointer). Leads old.bytes old.index (targets ps) old.index (old.index + 0)) (sym c.requires.none)
           (subst (λ (at : ℕ). Leads old.bytes old.index [] old.index at) (omega arith) (Leads-none old.bytes old.index));
-      lead = subst (λ (ps : List Passed). Lead old.bytes ps old.index (old.index + 0)) (sym c.requires.none) tt;
-      follows = subst (λ (ps : List Passed). Follows (targets ps) old.index old old) (sym c.requires.none) (Follows-none old.index old);
+      lead = subst (λ (ps : List FollowedPointer). Lead old.bytes ps old.index (old.index + 0)) (sym c.requires.none) tt;
+      follows = subst (λ (ps : List FollowedPointer). Follows (targets ps) old.index old old) (sym c.requires.none) (Follows-none old.index old);
     })
 
-pub returns-in_err-part_of-clause-read : goal.returns-in_err-part_of-clause-read
-returns-in_err-part_of-clause-read c =
+pub returns-in_err-read_part-clause-read : goal.returns-in_err-read_part-clause-read
+returns-in_err-read_part-clause-read c =
     let p = err_from_is_err_and c.from_residual.result c.from_residual.ensures.1 in
-    let fault = c.in_err-part_of.field-0.0 in
-    let is = part_is_there c.args.decoder.now.bytes c.parts.piece.now c.parts.start c.parts.at (Err fault) c.parts.invariant.piece c.in_err-part_of.ensures.value in
+    let fault = c.in_err-read_part.field-0.0 in
+    let is = part_is_there c.args.decoder.now.bytes c.parts.piece.now c.parts.start c.parts.at (Err fault) c.parts.invariant.piece c.in_err-read_part.ensures.value in
     rw (p.1, p.2) (fails_is fault _ (at_fault c.parts.invariant.gathers fault is))
 
 -- the bytes of the piece that are read
@@ -53,7 +52,7 @@ piece_len bytes piece start at same inside = omega (arith, ap length same, lengt
 
 pub returns-in-Root-clause-read : goal.returns-in-Root-clause-read
 returns-in-Root-clause-read c =
-    let is = part_is_there c.args.decoder.now.bytes c.parts.piece.now c.parts.start c.parts.at (Ok zero_byte) c.parts.invariant.piece (c.in_ok-part_of.ensures.value ∙ ap found c.in-Root.is) in
+    let is = part_is_there c.args.decoder.now.bytes c.parts.piece.now c.parts.start c.parts.at (Ok zero_byte) c.parts.invariant.piece (c.in_ok-read_part.ensures.value ∙ ap found c.in-Root.is) in
     at_root c.parts.invariant.gathers is ∙ ap (λ (e : ℕ). Ok (labels_of (take c.parts.used c.parts.room), e)) (sym c.unwrap_or.ensures)
 
 pub returns-in-Root-clause-used : goal.returns-in-Root-clause-used
@@ -61,7 +60,7 @@ returns-in-Root-clause-used c = omega (arith, c.parts.invariant.gathers.wire.sho
 
 pub returns-in-Root-clause-end : goal.returns-in-Root-clause-end
 returns-in-Root-clause-end c =
-    let is = part_is_there c.args.decoder.now.bytes c.parts.piece.now c.parts.start c.parts.at (Ok zero_byte) c.parts.invariant.piece (c.in_ok-part_of.ensures.value ∙ ap found c.in-Root.is) in
+    let is = part_is_there c.args.decoder.now.bytes c.parts.piece.now c.parts.start c.parts.at (Ok zero_byte) c.parts.invariant.piece (c.in_ok-read_part.ensures.value ∙ ap found c.in-Root.is) in
     rw c.unwrap_or.ensures (root_inside c.parts.invariant.gathers is)
 
 pub returns-in-Root-clause-last : goal.returns-in-Root-clause-last
@@ -70,31 +69,31 @@ returns-in-Root-clause-last c = c.parts.invariant.last
 pub returns-in-Root-clause-kept : goal.returns-in-Root-clause-kept
 returns-in-Root-clause-kept c =
     let bytes = c.args.decoder.now.bytes in
-    let is = part_is_there bytes c.parts.piece.now c.parts.start c.parts.at (Ok zero_byte) c.parts.invariant.piece (c.in_ok-part_of.ensures.value ∙ ap found c.in-Root.is) in
+    let is = part_is_there bytes c.parts.piece.now c.parts.start c.parts.at (Ok zero_byte) c.parts.invariant.piece (c.in_ok-read_part.ensures.value ∙ ap found c.in-Root.is) in
     All-weaker _ (Ends bytes (take c.parts.used c.parts.room)) (λ p tail. Tail-root {start = c.parts.start} {used = c.parts.used} is (omega (arith, c.parts.invariant.gathers.len)) tail)
-    c.parts.passed c.parts.invariant.tails
+    c.parts.followed c.parts.invariant.tails
 
 pub returns-in-Root-clause-these : goal.returns-in-Root-clause-these
 returns-in-Root-clause-these c =
-    let is = part_is_there c.args.decoder.now.bytes c.parts.piece.now c.parts.start c.parts.at (Ok zero_byte) c.parts.invariant.piece (c.in_ok-part_of.ensures.value ∙ ap found c.in-Root.is) in
+    let is = part_is_there c.args.decoder.now.bytes c.parts.piece.now c.parts.start c.parts.at (Ok zero_byte) c.parts.invariant.piece (c.in_ok-read_part.ensures.value ∙ ap found c.in-Root.is) in
     Leads-root c.parts.invariant.leads c.args.decoder.now.kept is
 
 pub returns-in-Root-clause-later : goal.returns-in-Root-clause-later
 returns-in-Root-clause-later c =
     let bytes = c.args.decoder.now.bytes in
-    let is = part_is_there bytes c.parts.piece.now c.parts.start c.parts.at (Ok zero_byte) c.parts.invariant.piece (c.in_ok-part_of.ensures.value ∙ ap found c.in-Root.is) in
-    Lead-root bytes c.parts.start (c.parts.start + c.parts.at) c.args.decoder.now.kept c.parts.passed is c.parts.invariant.lead
+    let is = part_is_there bytes c.parts.piece.now c.parts.start c.parts.at (Ok zero_byte) c.parts.invariant.piece (c.in_ok-read_part.ensures.value ∙ ap found c.in-Root.is) in
+    Lead-root bytes c.parts.start (c.parts.start + c.parts.at) c.args.decoder.now.kept c.parts.followed is c.parts.invariant.lead
 
 pub returns-then-used-size-gt-MAX_NAME-clause-read :
     goal.returns-then-used-size-gt-MAX_NAME-clause-read
 returns-then-used-size-gt-MAX_NAME-clause-read c =
-    let is = part_is_there c.args.decoder.now.bytes c.parts.piece.now c.parts.start c.parts.at (Ok (label_of c.in-Label.len)) c.parts.invariant.piece (c.in_ok-part_of.ensures.value ∙ ap found c.in-Label.is) in
+    let is = part_is_there c.args.decoder.now.bytes c.parts.piece.now c.parts.start c.parts.at (Ok (label_of c.in-Label.len)) c.parts.invariant.piece (c.in_ok-read_part.ensures.value ∙ ap found c.in-Label.is) in
     at_long c.parts.invariant.gathers c.in-Label.len is (omega arith)
 
 pub copy_label-requires-clause-there : goal.copy_label-requires-clause-there
 copy_label-requires-clause-there c =
     let bytes = c.args.decoder.now.bytes in
-    let is = part_is_there bytes c.parts.piece.now c.parts.start c.parts.at (Ok (label_of c.in-Label.len)) c.parts.invariant.piece (c.in_ok-part_of.ensures.value ∙ ap found c.in-Label.is) in
+    let is = part_is_there bytes c.parts.piece.now c.parts.start c.parts.at (Ok (label_of c.in-Label.len)) c.parts.invariant.piece (c.in_ok-read_part.ensures.value ∙ ap found c.in-Label.is) in
     piece_len bytes c.parts.piece.now c.parts.start (c.parts.at + (1 + c.from-size.result)) c.parts.invariant.piece (omega (arith, label_fits bytes (c.parts.start + c.parts.at) c.in-Label.len is))
 
 pub parts-preserved-in-Label : goal.parts-preserved-in-Label
@@ -105,7 +104,7 @@ parts-preserved-in-Label c =
     let at = c.parts.at in
     let used = c.parts.used in
     let size = 1 + c.from-size.result in
-    let is = part_is_there bytes piece start at (Ok (label_of c.in-Label.len)) c.parts.invariant.piece (c.in_ok-part_of.ensures.value ∙ ap found c.in-Label.is) in
+    let is = part_is_there bytes piece start at (Ok (label_of c.in-Label.len)) c.parts.invariant.piece (c.in_ok-read_part.ensures.value ∙ ap found c.in-Label.is) in
     let gathers = c.parts.invariant.gathers in
     let place : start + at + size ≡ start + (at + size) = omega arith in
     let range : slice_range piece at (at + size) ≡ slice_range bytes (start + at) (start + at + size) =
@@ -122,20 +121,20 @@ parts-preserved-in-Label c =
       tails = All-weaker _ (Tail bytes start (start + (at + size)) (used + size) next)
           (λ p tail. subst (λ (k : ℕ). Tail bytes start k (used + size) next p) place
           (Tail-label {size = size} is (omega arith) (omega arith) (omega (arith, gathers.len)) copied tail))
-          c.parts.passed c.parts.invariant.tails;
-      last = subst (λ (xs : List ℕ). IsLast xs next c.parts.passed) (sym whole)
-          (subst (λ (xs : List ℕ). IsLast (take at piece ++ slice_range piece at (at + size)) xs c.parts.passed) (sym c.copy_label.ensures)
-          (last_more c.parts.passed (take at piece) (take used c.parts.room) (slice_range piece at (at + size))
-          (All-weaker (Tail bytes start (start + at) used (take used c.parts.room)) (λ (p : Passed). p.from ≤ length (take used c.parts.room)) (λ p tail. tail.inside) c.parts.passed c.parts.invariant.tails)
+          c.parts.followed c.parts.invariant.tails;
+      last = subst (λ (xs : List ℕ). IsLast xs next c.parts.followed) (sym whole)
+          (subst (λ (xs : List ℕ). IsLast (take at piece ++ slice_range piece at (at + size)) xs c.parts.followed) (sym c.copy_label.ensures)
+          (last_more c.parts.followed (take at piece) (take used c.parts.room) (slice_range piece at (at + size))
+          (All-weaker (Tail bytes start (start + at) used (take used c.parts.room)) (λ (p : FollowedPointer). p.from ≤ length (take used c.parts.room)) (λ p tail. tail.inside) c.parts.followed c.parts.invariant.tails)
           c.parts.invariant.last));
-      leads = subst (λ (k : ℕ). Leads bytes c.args.decoder.now.index (targets c.parts.passed) start k) place (Leads-label c.parts.invariant.leads is (omega arith));
-      lead = subst (λ (k : ℕ). Lead bytes c.parts.passed start k) place (Lead-label bytes start (start + at) c.parts.passed is (omega arith) c.parts.invariant.lead);
+      leads = subst (λ (k : ℕ). Leads bytes c.args.decoder.now.index (targets c.parts.followed) start k) place (Leads-label c.parts.invariant.leads is (omega arith));
+      lead = subst (λ (k : ℕ). Lead bytes c.parts.followed start k) place (Lead-label bytes start (start + at) c.parts.followed is (omega arith) c.parts.invariant.lead);
       follows = c.parts.invariant.follows;
     }
 
 pub returns-then-from-start-clause-read : goal.returns-then-from-start-clause-read
 returns-then-from-start-clause-read c =
-    let is = part_is_there c.args.decoder.now.bytes c.parts.piece.now c.parts.start c.parts.at (Ok (pointer_to c.in-Pointer.target)) c.parts.invariant.piece (c.in_ok-part_of.ensures.value ∙ ap found c.in-Pointer.is) in
+    let is = part_is_there c.args.decoder.now.bytes c.parts.piece.now c.parts.start c.parts.at (Ok (pointer_to c.in-Pointer.target)) c.parts.invariant.piece (c.in_ok-read_part.ensures.value ∙ ap found c.in-Pointer.is) in
     at_forward c.parts.invariant.gathers c.in-Pointer.target is (omega arith)
 
 -- the reader has the same bytes and keeps the same targets
@@ -153,31 +152,31 @@ parts-preserved c =
     let start = c.parts.start in
     let at = start + c.parts.at in
     let t = c.in-Pointer.target in
-    let is : part_at bytes at ≡ Ok (pointer_to t) = part_is_there bytes c.parts.piece.now start c.parts.at (Ok (pointer_to t)) c.parts.invariant.piece (c.in_ok-part_of.ensures.value ∙ ap found c.in-Pointer.is) in
-    let small = c.part_of.ensures.near t (c.in_ok-part_of.ensures.value ∙ ap found c.in-Pointer.is) in
+    let is : part_at bytes at ≡ Ok (pointer_to t) = part_is_there bytes c.parts.piece.now start c.parts.at (Ok (pointer_to t)) c.parts.invariant.piece (c.in_ok-read_part.ensures.value ∙ ap found c.in-Pointer.is) in
+    let small = c.read_part.ensures.near t (c.in_ok-read_part.ensures.value ∙ ap found c.in-Pointer.is) in
     let below : t < start = omega (arith, c.from.ensures, c.if-from-start.false) in
     let absent : set.contains c.parts.decoder.kept t ≡ false = sym c.in_default.ensures.is in
     let used = c.parts.used in
     let labels = take used c.parts.room in
     let g = c.parts.invariant.gathers in
-    let one : Passed = record { target = t; from = used } in
-    let items : c.push.new.self ≡ c.parts.passed ++ one ∷ [] = c.in_ok-push-in-Pointer.ensures.ok in
-    let more : targets c.push.new.self ≡ targets c.parts.passed ++ t ∷ [] = ap targets items ∙ map_push (λ (p : Passed). p.target) c.parts.passed one in
+    let one : FollowedPointer = record { target = t; from = used } in
+    let items : c.push.new.self ≡ c.parts.followed ++ one ∷ [] = c.in_ok-push-in-Pointer.ensures.ok in
+    let more : targets c.push.new.self ≡ targets c.parts.followed ++ t ∷ [] = ap targets items ∙ map_push (λ (p : FollowedPointer). p.target) c.parts.followed one in
     let follows = Follows-push c.parts.invariant.follows below small absent c.labels_at.ensures.near c.follow-piece.ensures.counted in
     let here : t ≡ t + 0 = omega arith in
     let P = Tail bytes t t used labels in
-    let before = All-weaker _ P (λ p tail. Tail-pointer is below tail) c.parts.passed c.parts.invariant.tails in
+    let before = All-weaker _ P (λ p tail. Tail-pointer is below tail) c.parts.followed c.parts.invariant.tails in
     let tails : All P c.push.new.self =
-    All-same P _ _ items (All-push P c.parts.passed one before (Tail-new bytes t used labels (omega (arith, g.low)) small (omega (arith, g.len)) g.few)) in
+    All-same P _ _ items (All-push P c.parts.followed one before (Tail-new bytes t used labels (omega (arith, g.low)) small (omega (arith, g.len)) g.few)) in
     let end = Some c.unwrap_or-after.result in
     rw c.from-start.ensures (record {
       piece = c.follow-piece.ensures.lent ∙ ap (drop t) (bytes_are c.parts.invariant.follows);
       gathers = subst (λ (k : ℕ). Gathers bytes first 0 t k used labels end) here (rw c.unwrap_or-after.ensures (gathers_pointer g t is below));
       tails = subst (λ (k : ℕ). All (Tail bytes t k used labels) c.push.new.self) here tails;
-      last = subst (IsLast [] labels) (sym items) (last_pushed c.parts.passed one labels (omega (arith, g.len)));
+      last = subst (IsLast [] labels) (sym items) (last_pushed c.parts.followed one labels (omega (arith, g.len)));
       leads = subst (λ (k : ℕ). Leads bytes first (targets c.push.new.self) t k) here (subst (λ (ts : List ℕ). Leads bytes first ts t t) (sym more) (Leads-pointer c.parts.invariant.leads is));
       lead = subst (λ (k : ℕ). Lead bytes c.push.new.self t k) here
-          (subst (λ (ps : List Passed). Lead bytes ps t t) (sym items) (Lead-pointer bytes start at c.parts.passed one is c.parts.invariant.lead));
+          (subst (λ (ps : List FollowedPointer). Lead bytes ps t t) (sym items) (Lead-pointer bytes start at c.parts.followed one is c.parts.invariant.lead));
       follows = subst (λ (ts : List ℕ). Follows ts t old c.follow-piece.new.self) (sym more) follows;
     })
 
@@ -188,7 +187,7 @@ pub returns-then-used-labels-gt-MAX_NAME-clause-read :
     goal.returns-then-used-labels-gt-MAX_NAME-clause-read
 returns-then-used-labels-gt-MAX_NAME-clause-read c =
     let bytes = c.args.decoder.now.bytes in
-    let is = part_is_there bytes c.parts.piece.now c.parts.start c.parts.at (Ok (pointer_to c.in-Pointer.target)) c.parts.invariant.piece (c.in_ok-part_of.ensures.value ∙ ap found c.in-Pointer.is) in
+    let is = part_is_there bytes c.parts.piece.now c.parts.start c.parts.at (Ok (pointer_to c.in-Pointer.target)) c.parts.invariant.piece (c.in_ok-read_part.ensures.value ∙ ap found c.in-Pointer.is) in
     at_kept_long c.parts.invariant.gathers is (omega arith) (kept_is _ _ _ _ (bytes_are c.parts.invariant.follows) c.in-Some.ensures.spelled) (omega arith)
 
 -- ---- a walk that ends at a kept target
@@ -196,7 +195,7 @@ returns-then-used-labels-gt-MAX_NAME-clause-read c =
 -- what stands at the pointer
 pointer_is : (c : goal.After-copy_from_slice) → part_at c.args.decoder.now.bytes (c.parts.start + c.parts.at) ≡ Ok (pointer_to c.in-Pointer.target)
 pointer_is c = part_is_there c.args.decoder.now.bytes c.parts.piece.now c.parts.start c.parts.at (Ok (pointer_to c.in-Pointer.target)) c.parts.invariant.piece
-    (c.in_ok-part_of.ensures.value ∙ ap found c.in-Pointer.is)
+    (c.in_ok-read_part.ensures.value ∙ ap found c.in-Pointer.is)
 
 below : (c : goal.After-copy_from_slice) → c.in-Pointer.target < c.parts.start
 below c = omega (arith, c.from.ensures, c.if-from-start.false)
@@ -245,11 +244,11 @@ pub returns-in-Some-clause-kept : goal.returns-in-Some-clause-kept
 returns-in-Some-clause-kept c =
     All-weaker _ (Ends c.args.decoder.now.bytes _)
     (λ p tail. Tail-kept {start = c.parts.start} {used = c.parts.used} (pointer_is c) (below c) (kept c) (short c) (whole c) (omega (arith, c.parts.invariant.gathers.len)) tail)
-    c.parts.passed c.parts.invariant.tails
+    c.parts.followed c.parts.invariant.tails
 
 pub returns-in-Some-clause-these : goal.returns-in-Some-clause-these
 returns-in-Some-clause-these c = Leads-kept c.parts.invariant.leads c.args.decoder.now.kept (pointer_is c) (known c).0 (known c).1
 
 pub returns-in-Some-clause-later : goal.returns-in-Some-clause-later
 returns-in-Some-clause-later c =
-    Lead-kept c.args.decoder.now.bytes c.parts.start (c.parts.start + c.parts.at) c.args.decoder.now.kept c.parts.passed (pointer_is c) (known c).0 (known c).1 c.parts.invariant.lead
+    Lead-kept c.args.decoder.now.bytes c.parts.start (c.parts.start + c.parts.at) c.args.decoder.now.kept c.parts.followed (pointer_is c) (known c).0 (known c).1 c.parts.invariant.lead

@@ -1,7 +1,7 @@
 use Rattle.std.proofs.Common.{ℕ, List, ◌∙◌, ap, arith}
 use Rattle.std.specs.Prelude.{get_or}
-use Rattle.base.proofs.TargetLemmas.{zeros_after}
-use Rattle.base.proofs.wire.target_table.reach.Goals as goal
+use Rattle.base.proofs.CacheLemmas.{zeros_after}
+use Rattle.base.proofs.wire.pointer_cache.reach.Goals as goal
 
 pub loop-none-preserved : goal.loop-none-preserved
 loop-none-preserved c = record {

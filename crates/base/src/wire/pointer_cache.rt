@@ -1,0 +1,209 @@
+//! The labels at the offsets that compression pointers led to (RFC 1035, 4.1.4).
+
+ghost use Rattle.base.specs.declared.limits.TheConstants.{MAX_LABELS};
+ghost use Rattle.std.specs.Prelude.{◌≡◌, ◌≢◌, ℕ, ◌+◌, ◌++◌, ◌∷◌, ◌<◌, ◌≤◌, None, All, length, get_or, IfOk, IfSome, OnErr, OnOk};
+ghost use Rattle.std.specs.FinMap as map;
+ghost use Rattle.std.specs.Ordering.{nat_cmp};
+ghost use Rattle.base.specs.Pointers.{IsInside, IsThere, entries_of, labels_from, labels_in, labels_now};
+
+use crate::limits::MAX_LABELS;
+use std::alloc::{AllocError, Global};
+use std::marker::Model;
+
+/// How many targets have room inside the cache.
+const ROOM: usize = 12;
+
+/// How many places the table of the other targets grows by.
+const STEP: usize = 256;
+
+/// The bytes that the labels of the longest name take when they are copied: their number stands before them.
+const ENTRY: usize = 1 + MAX_LABELS;
+
+/// Where the labels at a target are, each with its length before it.
+#[derive(Clone, Copy)]
+enum Labels<'a> {
+    /// In the message, as they are.
+    Lent(&'a [u8]),
+    /// Among the copied labels, from this place on.
+    Copied(usize),
+}
+
+/// An offset that a pointer led to, and the labels there.
+#[derive(Clone, Copy)]
+struct Target<'a> {
+    offset: u16,
+    labels: Labels<'a>,
+}
+
+/// The labels at each offset that a pointer led to. The first targets take no memory, unless their labels are copied. A
+/// further one is found by its offset, without a search, since there are few that a pointer can name.
+#[derive(Drop)]
+pub(crate) struct PointerCache<'a> {
+    count: usize,
+    /// The first targets. What stands after them in the array has no meaning.
+    first: [Target<'a>; ROOM],
+    /// By offset, the place of the labels at each further target, and 0 where there are none.
+    others: Vec<usize>,
+    /// Copied labels one after another, before each the number of bytes that they are. A place is that of their first byte.
+    copied: Vec<u8>,
+}
+
+impl<'a> Model for PointerCache<'a> {
+    ghost use Rattle.std.specs.Prelude.{◌≡◌, ◌≤◌, ℕ, List, All, length, take};
+    ghost use Rattle.std.specs.Coded.{coded_ℕ, coded_list};
+    ghost use Rattle.std.specs.FinMap as map;
+    ghost use Rattle.std.specs.Ordering.{nat_cmp};
+    ghost use Rattle.base.specs.Pointers.{IsInside, IsThere, cache_of};
+
+    ghost Value = { map.FinMap nat_cmp (List ℕ) };
+
+    ghost coded = { map.code coded_ℕ (coded_list coded_ℕ) };
+
+    ghost view = { λ c. cache_of c.copied.items c.others.items (take c.count c.first) };
+
+    ghost invariant = { λ c. ((c.count ≤ 12) × (length c.first ≡ 12))
+        × (All (IsInside c.copied.items) c.others.items
+        × All (IsThere c.copied.items) (take c.count c.first)) };
+}
+
+/// The labels at a place among copied ones.
+fn labels_at(copied: &[u8], place: usize) -> &[u8]
+    requires some { place ≢ 0 }
+    requires there { IsInside copied.now place }
+    ensures { result.now ≡ labels_from copied.now place }
+{
+    let len = usize::from(copied[place - 1]);
+    &copied[place..place + len]
+}
+
+/// The labels at an offset, if it is one of these targets.
+fn find_among<'d>(targets: &'d [Target<'d>], copied: &'d [u8], offset: u16) -> Option<&'d [u8]>
+    requires { All (IsThere copied.now) targets.now }
+    ensures { labels_now result ≡ map.find nat_cmp offset (entries_of copied.now targets.now) }
+{
+    for target in targets {
+        if target.offset == offset {
+            return Some(match target.labels {
+                Labels::Lent(labels) => labels,
+                Labels::Copied(place) => labels_at(copied, place),
+            });
+        }
+    }
+    None
+}
+
+/// The labels at an offset, if it has a place.
+fn find_by_offset<'d>(places: &[usize], copied: &'d [u8], offset: u16) -> Option<&'d [u8]>
+    requires { All (IsInside copied.now) places.now }
+    ensures { labels_now result ≡ labels_in copied.now (get_or places.now offset 0) }
+{
+    let place = *places.get(usize::from(offset))?;
+    if place == 0 {
+        return None;
+    }
+    Some(labels_at(copied, place))
+}
+
+/// Makes places up to an offset, the new ones without labels, with room for as many offsets as there may be. They are
+/// copied many at once, since that is faster than one by one.
+fn reach(places: &mut Vec<usize>, offset: usize, most: usize) -> Result<(), AllocError>
+    requires below { offset < 65536 }
+    requires few { most < 65536 }
+    // The offset has a place.
+    ensures there { OnOk result (offset < length places.new.items) }
+    // Each offset has the place that it had, and a new one has 0, for none.
+    ensures same { (q : ℕ) → get_or places.new.items q 0 ≡ get_or places.old.items q 0 }
+    ensures err { OnErr result (places.new.items ≡ places.old.items) }
+{
+    if offset >= places.len() {
+        places.reserve(offset.max(most) + STEP - places.len())?;
+    }
+    while places.len() <= offset {
+        let none = [0; STEP];
+        places.extend_from_slice(&none)?;
+    }
+    Ok(())
+}
+
+/// Copies labels after those that were copied before, and answers their place.
+fn copy(copied: &mut Vec<u8>, labels: &[u8]) -> Result<usize, AllocError>
+    requires { length labels.now ≤ MAX_LABELS }
+    ensures place { IfOk result (λ place. place ≡ length copied.old.items + 1) }
+    ensures ok { OnOk result
+        (copied.new.items ≡ copied.old.items ++ length labels.now ∷ labels.now) }
+    ensures err { OnErr result (copied.new.items ≡ copied.old.items) }
+{
+    let room = if copied.is_empty() {
+        ENTRY
+    } else {
+        1 + labels.len()
+    };
+    copied.reserve(room)?;
+    copied.push(labels.len() as u8)?;
+    let place = copied.len();
+    copied.extend_from_slice(labels)?;
+    Ok(place)
+}
+
+impl<'a> PointerCache<'a> {
+    /// No labels. Takes no memory.
+    pub(crate) fn new(alloc: Global) -> PointerCache<'a>
+        ensures { result ≡ map.empty }
+    {
+        let unused = Target {
+            offset: 0,
+            labels: Labels::Copied(0),
+        };
+        PointerCache {
+            count: 0,
+            first: [unused; ROOM],
+            others: Vec::new(alloc),
+            copied: Vec::new(alloc),
+        }
+    }
+
+    /// The labels at an offset, if they are kept.
+    pub(crate) fn find(&self, offset: u16) -> Option<&[u8]>
+        ensures { labels_now result ≡ map.get self.now offset }
+    {
+        match find_by_offset(&self.others, &self.copied, offset) {
+            Some(labels) => Some(labels),
+            None => find_among(&self.first[..self.count], &self.copied, offset),
+        }
+    }
+
+    /// Keeps the labels at an offset. Where the message lends them, they aren't copied as long as there is room for their
+    /// target among the first. Room for offsets up to `most` is made at once.
+    ///
+    /// # Errors
+    ///
+    /// If memory runs out, with the cache as it was.
+    pub(crate) fn insert(
+        &mut self,
+        offset: u16,
+        labels: &[u8],
+        lent: Option<&'a [u8]>,
+        most: u16,
+    ) -> Result<(), AllocError>
+        // No labels are kept for the offset yet.
+        requires new { map.get self.old offset ≡ None }
+        requires short { length labels.now ≤ MAX_LABELS }
+        requires lent { IfSome lent (λ same. same.now ≡ labels.now) }
+        ensures ok { OnOk result (self.new ≡ map.insert self.old offset labels.now) }
+        ensures err { OnErr result (self.new ≡ self.old) }
+    {
+        if self.count < ROOM {
+            let labels = match lent {
+                Some(lent) => Labels::Lent(lent),
+                None => Labels::Copied(copy(&mut self.copied, labels)?),
+            };
+            self.first[self.count] = Target { offset, labels };
+            self.count += 1;
+            return Ok(());
+        }
+        reach(&mut self.others, usize::from(offset), usize::from(most))?;
+        let place = copy(&mut self.copied, labels)?;
+        self.others[usize::from(offset)] = place;
+        Ok(())
+    }
+}
