@@ -169,9 +169,11 @@ impl<'a> BinDecoder<'a> {
         Ok(())
     }
 
-    /// Goes to a place inside the buffer or at its end.
+    /// Goes on to a place inside the buffer or at its end, and never back: what a pointer leads to is lent by `follow`
+    /// alone.
     pub(crate) fn move_to(&mut self, index: usize)
-        requires { index ≤ length self.old.bytes }
+        requires on { self.old.index ≤ index }
+        requires inside { index ≤ length self.old.bytes }
         ensures { self.new ≡ record self.old { index = index } }
     {
         self.index = index;

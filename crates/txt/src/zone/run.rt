@@ -1,6 +1,6 @@
 //! Sets in the order of their keys, as they come and until they go into a map.
 
-ghost use Rattle.std.specs.Prelude.{◌≡◌, ◌++◌, ◌∷◌, ◌-◌, [], OnErr, OnOk, length, slice_get};
+ghost use Rattle.std.specs.Prelude.{◌≡◌, ◌++◌, ◌∷◌, ◌-◌, [], IfNone, OnErr, OnOk, length, slice_get};
 ghost use Rattle.std.specs.Option.{option_copied, option_to_list};
 
 use base::RrKey;
@@ -85,6 +85,8 @@ impl Run {
     /// Takes the last set out, if there is one. Takes no memory.
     pub(super) fn pop(&mut self) -> Option<(RrKey, RecordSet)>
         ensures items { self.old ≡ self.new ++ option_to_list result }
+        // None is answered only where there is no set.
+        ensures none { IfNone result (self.old ≡ []) }
     {
         let entry = self.last.pop()?;
         if !self.last.is_empty() {

@@ -7,10 +7,23 @@ use Rattle.base.specs.Passing.{inserted, passed}
 use Rattle.base.specs.Reader.{Reader}
 use Rattle.base.specs.Spelling.{Spelled}
 use Rattle.base.proofs.AddsLemmas.{adds_name}
-use Rattle.base.proofs.CountLemmas.{Follows-none, IsAfterName, counted_after, inserted-none, passed_after}
+use Rattle.base.proofs.CountLemmas.{Follows-none, IsAfterName, counted_after, ends_after, inserted-none, passed_after}
 use Rattle.base.proofs.GatherLemmas.{spelled_is}
 use Rattle.base.proofs.PassLemmas.{passes_are_kept}
 use Rattle.base.proofs.name.reading.NameBinDecodable.read.Goals as goal
+
+pub move_to-requires-clause-on : goal.move_to-requires-clause-on
+move_to-requires-clause-on c =
+    let old = c.args.decoder.now in
+    let wire = take c.in-Some.field-0.used c.in-Some.field-0.own.now ++ c.in-Some.field-0.kept.now in
+    omega (arith, ends_after (spelled_is old.bytes old.index 0 c.in-Some.field-0.end wire (omega arith) c.in-Some.ensures.read))
+
+pub move_to-requires-2-clause-on : goal.move_to-requires-2-clause-on
+move_to-requires-2-clause-on c =
+    let old = c.args.decoder.now in
+    let wire = take c.in_ok-used.field-0.used c.gather_labels.new.room in
+    let here = ap (λ (r : Reader). r.index) (c.in_ok-keep_targets.ensures.ok) ∙ ap (λ (r : Reader). r.index) c.in_ok-used.ensures.followed.now in
+    omega (arith, here, ends_after (spelled_is old.bytes old.index 0 c.in_ok-used.field-0.end wire (omega arith) c.in_ok-used.ensures.read))
 
 -- what is kept afterwards
 kept_now : (c : goal.After-drop-followed-inside-2) → c.move_to-2.new.self.kept ≡ inserted (targets c.gather_labels.new.followed) c.args.decoder.now.kept
