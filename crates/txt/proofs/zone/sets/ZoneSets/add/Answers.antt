@@ -49,6 +49,14 @@ invariant_of-self-in-Equal c =
           (last_in_order c.self.inside.sets.entries c.pop.new.self c.in_ok-key.key c.in-Some.set order)),
     )
 
+pub invariant_of-self-in_err-push-in-Equal : goal.invariant_of-self-in_err-push-in-Equal
+invariant_of-self-in_err-push-in-Equal c =
+    let whole = ap (λ (zs : ZoneSets). c.self.inside.sets.entries ++ zs) c.in-Some.ensures.items in
+    subst (λ (zs : ZoneSets). AreKept (c.self.inside.sets.entries ++ zs) × AreInOrder (c.self.inside.sets.entries ++ zs)) (sym c.in_err-push-in-Equal.ensures.err) (
+      kept_before c.self.inside.sets.entries c.pop.new.self (c.in-Some.field-0-0, c.in-Some.set) (subst AreKept whole c.self.invariant.0),
+      order_before c.self.inside.sets.entries c.pop.new.self (c.in-Some.field-0-0, c.in-Some.set) (subst AreInOrder whole c.self.invariant.1),
+    )
+
 pub invariant_of-self-in-Greater : goal.invariant_of-self-in-Greater
 invariant_of-self-in-Greater c =
     let above = subst (λ (zs : ZoneSets). IsAbove c.in_ok-key.key (c.self.inside.sets.entries ++ zs)) refl (c.in-Greater.ensures.above refl) in
