@@ -8,12 +8,13 @@ use Rattle.std.specs.List.{slice_range}
 use Rattle.std.specs.Option.{option_or}
 use Rattle.std.specs.Ordering.{eq_by_cmp, nat_cmp}
 use Rattle.std.proofs.lemmas.Bool.{cases_Bool, cond-true, cond-false, eqb-true, eqb-false, eq-eqb, ne_eqb, false≢true, ltb-true, ltb-false}
-use Rattle.std.proofs.lemmas.List.{drop-append-le, take-append-le, take_all, drop_all, drop-drop, get_or_append_left, get_or-append_right, get_or_past, get_or_default, get_or-set_same, get_or-set_other, map_push, take_more_set}
+use Rattle.std.proofs.lemmas.List.{append-nil, drop-append-le, take-append-le, take_all, drop_all, drop-drop, get_or_append_left, get_or-append_right, get_or_past, get_or_default, get_or-set_same, get_or-set_other, map_push, take_more_set}
 use Rattle.std.proofs.lemmas.List.Elements.{All-push, All-same, All-weaker}
 use Rattle.base.specs.declared.wire.pointer_cache.Labels.{Labels}
 use Rattle.base.specs.declared.wire.pointer_cache.Labels.TheVariants.{Lent, Copied}
 use Rattle.base.specs.declared.wire.pointer_cache.Target.{Target}
-use Rattle.base.specs.Pointers.{AreThere, IsInside, IsThere, cache_of, entries_from, entries_of, labels_at, labels_from, labels_in, len_at}
+use Rattle.base.specs.declared.wire.pointer_cache.TheConstants.{ROOM}
+use Rattle.base.specs.Pointers.{AreThere, IsInside, IsLonger, IsThere, cache_of, entries_from, entries_of, labels_at, labels_from, labels_in, len_at, placed}
 
 -- ---- a place whose labels are there keeps them, where more is copied after
 
@@ -51,18 +52,18 @@ module _ (copied more : List ℕ) where
   pub inside_stay : (places : List ℕ) → All (IsInside copied) places → All (IsInside (copied ++ more)) places
   inside_stay places = All-weaker (IsInside copied) (IsInside (copied ++ more)) (λ place inside. inside_stays copied more place inside) places
 
-  are_there_stay : (labels : Labels) → AreThere copied labels → AreThere (copied ++ more) labels
-  are_there_stay (Lent labels) there = tt
+  pub are_there_stay : (labels : Labels) → AreThere copied labels → AreThere (copied ++ more) labels
+  are_there_stay (Lent labels) there = there
   are_there_stay (Copied place) there = (there.0, inside_stays copied more place there.1)
 
   pub there_stay : (targets : List Target) → All (IsThere copied) targets → All (IsThere (copied ++ more)) targets
   there_stay targets = All-weaker (IsThere copied) (IsThere (copied ++ more)) (λ target there. are_there_stay target.labels there) targets
 
-  at_stay : (labels : Labels) → AreThere copied labels → labels_at (copied ++ more) labels ≡ labels_at copied labels
+  pub at_stay : (labels : Labels) → AreThere copied labels → labels_at (copied ++ more) labels ≡ labels_at copied labels
   at_stay (Lent labels) there = refl
   at_stay (Copied place) there = from_stays copied more place there.0 there.1
 
-  entries_of_stay : (targets : List Target) → All (IsThere copied) targets → entries_of (copied ++ more) targets ≡ entries_of copied targets
+  pub entries_of_stay : (targets : List Target) → All (IsThere copied) targets → entries_of (copied ++ more) targets ≡ entries_of copied targets
   entries_of_stay [] there = refl
   entries_of_stay (t ∷ ts) there =
       ap (λ (labels : List ℕ). (t.offset, labels) ∷ entries_of (copied ++ more) ts) (at_stay t.labels (there 0 t (omega arith)))
@@ -77,8 +78,8 @@ module _ (copied more : List ℕ) where
 
   pub cache_stays : (others : List ℕ) (first : List Target) → All (IsInside copied) others → All (IsThere copied) first → cache_of (copied ++ more) others first ≡ cache_of copied others first
   cache_stays others first inside there =
-      ap (λ (es : List (ℕ × List ℕ)). map.from_entries (es ++ entries_of (copied ++ more) first)) (entries_from_stay 0 others inside)
-      ∙ ap (λ (es : List (ℕ × List ℕ)). map.from_entries (entries_from 0 copied others ++ es)) (entries_of_stay first there)
+      ap (λ (es : List (ℕ × List ℕ)). map.from_entries (es ++ entries_from 0 (copied ++ more) others)) (entries_of_stay first there)
+      ∙ ap (λ (es : List (ℕ × List ℕ)). map.from_entries (entries_of copied first ++ es)) (entries_from_stay 0 others inside)
 
 -- ---- what is copied after the others
 
@@ -148,10 +149,10 @@ module _ (copied labels old new : List ℕ) (t : ℕ) (put : IsPut copied old ne
   abbrev now : List ℕ
   now = copied ++ (length labels ∷ labels)
 
-  put_here : labels_in now (get_or new t 0) ≡ Some labels
+  pub put_here : labels_in now (get_or new t 0) ≡ Some labels
   put_here = ap (labels_in now) put.here ∙ new_labels copied labels
 
-  put_others : (q : ℕ) → q ≢ t → labels_in now (get_or new q 0) ≡ labels_in copied (get_or old q 0)
+  pub put_others : (q : ℕ) → q ≢ t → labels_in now (get_or new q 0) ≡ labels_in copied (get_or old q 0)
   put_others q other = ap (labels_in now) (put.others q other) ∙ labels_stay copied (length labels ∷ labels) (get_or old q 0) (inside_or copied old all q)
 
   pub put_inside : All (IsInside now) new
@@ -198,66 +199,113 @@ found_from t copied (suc n ∷ places) (suc k) =
     cond-false (eq_by_cmp nat_cmp (t + suc k) t) _ _ (not_tied (t + suc k) t (λ same. omega (arith, same)))
     ∙ ap (λ (q : ℕ). map.find nat_cmp q (entries_from (suc t) copied places)) next ∙ found_from (suc t) copied places k
 
--- by its place, and else among the first targets
+-- among the first targets, and else by its place
 pub get_cache : (copied others : List ℕ) (first : List Target) (q : ℕ)
-    → map.get (cache_of copied others first) q ≡ option_or (labels_in copied (get_or others q 0)) (map.find nat_cmp q (entries_of copied first))
+    → map.get (cache_of copied others first) q ≡ option_or (map.find nat_cmp q (entries_of copied first)) (labels_in copied (get_or others q 0))
 get_cache copied others first q =
     let at : q ≡ 0 + q = omega arith in
-    map.get-from_entries nat_cmp_total (entries_from 0 copied others ++ entries_of copied first) q
-    ∙ find_both (entries_from 0 copied others) (entries_of copied first) q
-    ∙ ap (λ (o : Option (List ℕ)). option_or o (map.find nat_cmp q (entries_of copied first)))
-    (ap (λ (k : ℕ). map.find nat_cmp k (entries_from 0 copied others)) at ∙ found_from 0 copied others q)
+    map.get-from_entries nat_cmp_total (entries_of copied first ++ entries_from 0 copied others) q
+    ∙ find_both (entries_of copied first) (entries_from 0 copied others) q
+    ∙ ap (λ (o : Option (List ℕ)). option_or (map.find nat_cmp q (entries_of copied first)) o)
+        (ap (λ (k : ℕ). map.find nat_cmp k (entries_from 0 copied others)) at ∙ found_from 0 copied others q)
 
 -- ---- one target more
 
 same_cache : (a b : map.FinMap nat_cmp (List ℕ)) → ((q : ℕ) → map.get a q ≡ map.get b q) → a ≡ b
 same_cache = map.same_map nat_cmp_total map.nat_cmp-IsAntisymmetric
 
+-- caches where the same is found
+pub same_found : (copied now others others' : List ℕ) (first first' : List Target)
+    → ((q : ℕ) → option_or (map.find nat_cmp q (entries_of now first')) (labels_in now (get_or others' q 0)) ≡ option_or (map.find nat_cmp q (entries_of copied first)) (labels_in copied (get_or others q 0)))
+    → cache_of now others' first' ≡ cache_of copied others first
+same_found copied now others others' first first' same = same_cache _ _ (λ q. get_cache now others' first' q ∙ same q ∙ sym (get_cache copied others first q))
+
 -- offsets that have the places that they had
 pub same_places : (copied old new : List ℕ) (first : List Target) → ((q : ℕ) → get_or new q 0 ≡ get_or old q 0) → cache_of copied new first ≡ cache_of copied old first
-same_places copied old new first same = same_cache _ _ (λ q.
-    get_cache copied new first q
-    ∙ ap (λ (place : ℕ). option_or (labels_in copied place) (map.find nat_cmp q (entries_of copied first))) (same q)
-    ∙ sym (get_cache copied old first q))
+same_places copied old new first same = same_found copied copied old new first first (λ q.
+    ap (λ (place : ℕ). option_or (map.find nat_cmp q (entries_of copied first)) (labels_in copied place)) (same q))
 
 pub same_inside : (copied old new : List ℕ) → ((q : ℕ) → get_or new q 0 ≡ get_or old q 0) → All (IsInside copied) old → All (IsInside copied) new
 same_inside copied old new same all k d inside = subst (IsInside copied) (sym (same k) ∙ get_or_default new k 0 d inside) (inside_or copied old all k)
 
--- one more among the first
-pub first_more : (copied others : List ℕ) (first : List Target) (one : Target) → map.get (cache_of copied others first) one.offset ≡ None
-    → cache_of copied others (first ++ one ∷ []) ≡ map.insert (cache_of copied others first) one.offset (labels_at copied one.labels)
-first_more copied others first one none =
-    let entry : Target → ℕ × List ℕ = λ t. (t.offset, labels_at copied t.labels) in
-    let es = entries_from 0 copied others in
-    ap (λ (xs : List (ℕ × List ℕ)). map.from_entries {R = nat_cmp} (es ++ xs)) (map_push entry first one)
-    ∙ ap (λ (xs : List (ℕ × List ℕ)). map.from_entries {R = nat_cmp} xs) (sym (append_assoc es (entries_of copied first) ((one.offset, labels_at copied one.labels) ∷ [])))
-    ∙ map.from_entries_push nat_cmp_total map.nat_cmp-IsAntisymmetric (es ++ entries_of copied first) one.offset (labels_at copied one.labels)
-    (sym (map.get-from_entries nat_cmp_total (es ++ entries_of copied first) one.offset) ∙ none)
+none_of : {X : Type 0} (o p : Option X) → option_or o p ≡ None → o ≡ None
+none_of None p none = refl
+none_of (Some x) p none = none
 
--- one more that has a place
-pub others_more : (copied labels old new : List ℕ) (first : List Target) (t : ℕ) → IsPut copied old new t → All (IsInside copied) old → All (IsThere copied) first
-    → cache_of (copied ++ (length labels ∷ labels)) new first ≡ map.insert (cache_of copied old first) t labels
-others_more copied labels old new first t put inside there = same_cache _ _ (λ q.
-    get_cache (copied ++ (length labels ∷ labels)) new first q
-    ∙ ap (λ (es : List (ℕ × List ℕ)). option_or (labels_in (copied ++ (length labels ∷ labels)) (get_or new q 0)) (map.find nat_cmp q es)) (entries_of_stay copied (length labels ∷ labels) first there)
-    ∙ at q (cases_Bool (nat_eq q t))
-    ∙ sym (map.get-insert nat_cmp_total (cache_of copied old first) t labels q)) where
-      at : (q : ℕ) → (nat_eq q t ≡ true) ⊎ (nat_eq q t ≡ false)
-          → option_or (labels_in (copied ++ (length labels ∷ labels)) (get_or new q 0)) (map.find nat_cmp q (entries_of copied first)) ≡ cond (eq_by_cmp nat_cmp q t) (Some labels) (map.get (cache_of copied old first) q)
-      at q (inl same) =
-          let equal : q ≡ t = eqb-true q t same in
-          ap (λ (k : ℕ). option_or (labels_in (copied ++ (length labels ∷ labels)) (get_or new k 0)) (map.find nat_cmp q (entries_of copied first))) equal
-          ∙ ap (λ (o : Option (List ℕ)). option_or o (map.find nat_cmp q (entries_of copied first))) (put_here copied labels old new t put inside)
-          ∙ sym (cond-true (eq_by_cmp nat_cmp q t) (Some labels) _ (tied q t equal))
-      at q (inr differ) =
-          let other : q ≢ t = eqb-false q t differ in
-          ap (λ (o : Option (List ℕ)). option_or o (map.find nat_cmp q (entries_of copied first))) (put_others copied labels old new t put inside q other)
-          ∙ sym (get_cache copied old first q)
-          ∙ sym (cond-false (eq_by_cmp nat_cmp q t) _ _ (not_tied q t other))
+or_none : {X : Type 0} (o : Option X) → option_or o None ≡ o
+or_none None = refl
+or_none (Some x) = refl
+
+module _ (copied others : List ℕ) (first : List Target) (t : ℕ) (none : map.get (cache_of copied others first) t ≡ None) where
+  not_first : map.find nat_cmp t (entries_of copied first) ≡ None
+  not_first = none_of _ (labels_in copied (get_or others t 0)) (sym (get_cache copied others first t) ∙ none)
+
+  -- what is found with one more, which is new
+  one_found : (labels : List ℕ) (o : ℕ → Option (List ℕ)) (q : ℕ)
+      → (q ≡ t → o q ≡ Some labels) → (q ≢ t → o q ≡ map.get (cache_of copied others first) q)
+      → o q ≡ map.get (map.insert (cache_of copied others first) t labels) q
+  one_found labels o q here other = elim (cases_Bool (nat_eq q t)) [
+    | inl same ↦
+        let equal : q ≡ t = eqb-true q t same in
+        here equal ∙ sym (cond-true (eq_by_cmp nat_cmp q t) (Some labels) _ (tied q t equal)) ∙ sym (map.get-insert nat_cmp_total (cache_of copied others first) t labels q)
+    | inr differ ↦
+        let apart : q ≢ t = eqb-false q t differ in
+        other apart ∙ sym (cond-false (eq_by_cmp nat_cmp q t) (Some labels) _ (not_tied q t apart)) ∙ sym (map.get-insert nat_cmp_total (cache_of copied others first) t labels q)
+  ]
+
+  -- one more among the first
+  pub first_more : (labels : Labels) → cache_of copied others (first ++ record { offset = t; labels = labels } ∷ []) ≡ map.insert (cache_of copied others first) t (labels_at copied labels)
+  first_more labels = same_cache _ _ (λ q. one_found (labels_at copied labels) (λ k. map.get (cache_of copied others (first ++ record { offset = t; labels = labels } ∷ [])) k) q (here q) (other q)) where
+    pushed : (q : ℕ) → map.get (cache_of copied others (first ++ record { offset = t; labels = labels } ∷ [])) q
+        ≡ option_or (option_or (map.find nat_cmp q (entries_of copied first)) (cond (eq_by_cmp nat_cmp q t) (Some (labels_at copied labels)) None)) (labels_in copied (get_or others q 0))
+    pushed q =
+        let entry : Target → ℕ × List ℕ = λ x. (x.offset, labels_at copied x.labels) in
+        get_cache copied others (first ++ record { offset = t; labels = labels } ∷ []) q
+        ∙ ap (λ (es : List (ℕ × List ℕ)). option_or (map.find nat_cmp q es) (labels_in copied (get_or others q 0))) (map_push entry first (record { offset = t; labels = labels }))
+        ∙ ap (λ (o : Option (List ℕ)). option_or o (labels_in copied (get_or others q 0))) (find_both (entries_of copied first) ((t, labels_at copied labels) ∷ []) q)
+
+    here : (q : ℕ) → q ≡ t → map.get (cache_of copied others (first ++ record { offset = t; labels = labels } ∷ [])) q ≡ Some (labels_at copied labels)
+    here q same =
+        pushed q
+        ∙ ap (λ (o : Option (List ℕ)). option_or (option_or o (cond (eq_by_cmp nat_cmp q t) (Some (labels_at copied labels)) None)) (labels_in copied (get_or others q 0)))
+            (ap (λ (k : ℕ). map.find nat_cmp k (entries_of copied first)) same ∙ not_first)
+        ∙ ap (λ (b : Bool). option_or (cond b (Some (labels_at copied labels)) None) (labels_in copied (get_or others q 0))) (tied q t same)
+
+    other : (q : ℕ) → q ≢ t → map.get (cache_of copied others (first ++ record { offset = t; labels = labels } ∷ [])) q ≡ map.get (cache_of copied others first) q
+    other q apart =
+        pushed q
+        ∙ ap (λ (b : Bool). option_or (option_or (map.find nat_cmp q (entries_of copied first)) (cond b (Some (labels_at copied labels)) None)) (labels_in copied (get_or others q 0))) (not_tied q t apart)
+        ∙ ap (λ (o : Option (List ℕ)). option_or o (labels_in copied (get_or others q 0))) (or_none (map.find nat_cmp q (entries_of copied first)))
+        ∙ sym (get_cache copied others first q)
+
+  -- one more that has a place
+  pub others_more : (now new : List ℕ) (labels : List ℕ) → entries_of now first ≡ entries_of copied first → labels_in now (get_or new t 0) ≡ Some labels
+      → ((q : ℕ) → q ≢ t → labels_in now (get_or new q 0) ≡ labels_in copied (get_or others q 0))
+      → cache_of now new first ≡ map.insert (cache_of copied others first) t labels
+  others_more now new labels stay put rest = same_cache _ _ (λ q. one_found labels (λ k. map.get (cache_of now new first) k) q (here q) (other q)) where
+    at : (q : ℕ) → map.get (cache_of now new first) q ≡ option_or (map.find nat_cmp q (entries_of copied first)) (labels_in now (get_or new q 0))
+    at q = get_cache now new first q ∙ ap (λ (es : List (ℕ × List ℕ)). option_or (map.find nat_cmp q es) (labels_in now (get_or new q 0))) stay
+
+    here : (q : ℕ) → q ≡ t → map.get (cache_of now new first) q ≡ Some labels
+    here q same =
+        at q
+        ∙ ap (λ (o : Option (List ℕ)). option_or o (labels_in now (get_or new q 0))) (ap (λ (k : ℕ). map.find nat_cmp k (entries_of copied first)) same ∙ not_first)
+        ∙ ap (λ (k : ℕ). labels_in now (get_or new k 0)) same ∙ put
+
+    other : (q : ℕ) → q ≢ t → map.get (cache_of now new first) q ≡ map.get (cache_of copied others first) q
+    other q apart =
+        at q ∙ ap (λ (o : Option (List ℕ)). option_or (map.find nat_cmp q (entries_of copied first)) o) (rest q apart)
+        ∙ sym (get_cache copied others first q)
 
 -- ---- one more among the first, in an array that has room
 
-module _ (copied others : List ℕ) (first : List Target) (count offset : ℕ) (less : count < 12) (room : length first ≡ 12)
+pub there_set : (copied : List ℕ) (first : List Target) (count offset : ℕ) (labels : Labels) → count < ROOM → length first ≡ ROOM → All (IsThere copied) (take count first) → AreThere copied labels
+    → All (IsThere copied) (take (count + 1) (slice_set first count (record { offset = offset; labels = labels })))
+there_set copied first count offset labels less room all there =
+    let one : Target = record { offset = offset; labels = labels } in
+    All-same (IsThere copied) _ _ (take_more_set first count one (omega (arith, less, room))) (All-push (IsThere copied) (take count first) one all there)
+
+module _ (copied others : List ℕ) (first : List Target) (count offset : ℕ) (less : count < ROOM) (room : length first ≡ ROOM)
     (none : map.get (cache_of copied others (take count first)) offset ≡ None) where
   set_more : (one : Target) → take (count + 1) (slice_set first count one) ≡ take count first ++ one ∷ []
   set_more one = take_more_set first count one (omega (arith, less, room))
@@ -267,16 +315,10 @@ module _ (copied others : List ℕ) (first : List Target) (count offset : ℕ) (
       ≡ map.insert (cache_of copied others (take count first)) offset (labels_at copied labels)
   first_set labels =
       let one : Target = record { offset = offset; labels = labels } in
-      ap (cache_of copied others) (set_more one) ∙ first_more copied others (take count first) one none
-
-  pub there_set : (labels : Labels) → All (IsThere copied) (take count first) → AreThere copied labels
-      → All (IsThere copied) (take (count + 1) (slice_set first count (record { offset = offset; labels = labels })))
-  there_set labels all there =
-      let one : Target = record { offset = offset; labels = labels } in
-      All-same (IsThere copied) _ _ (set_more one) (All-push (IsThere copied) (take count first) one all there)
+      ap (cache_of copied others) (set_more one) ∙ first_more copied others (take count first) offset none labels
 
 -- its labels are copied after the others
-pub copied_set : (copied labels others : List ℕ) (first : List Target) (count offset : ℕ) → count < 12 → length first ≡ 12 → map.get (cache_of copied others (take count first)) offset ≡ None
+pub copied_set : (copied labels others : List ℕ) (first : List Target) (count offset : ℕ) → count < ROOM → length first ≡ ROOM → map.get (cache_of copied others (take count first)) offset ≡ None
     → All (IsInside copied) others → All (IsThere copied) (take count first)
     → cache_of (copied ++ (length labels ∷ labels)) others (take (count + 1) (slice_set first count (record { offset = offset; labels = Copied (length copied + 1) })))
     ≡ map.insert (cache_of copied others (take count first)) offset labels
@@ -286,3 +328,75 @@ copied_set copied labels others first count offset less room none inside there =
     first_set whole others first count offset less room (ap (λ (m : map.FinMap nat_cmp (List ℕ)). map.get m offset) stays ∙ none) (Copied (length copied + 1))
     ∙ ap (λ (xs : List ℕ). map.insert (cache_of whole others (take count first)) offset xs) (new_from copied labels)
     ∙ ap (λ (m : map.FinMap nat_cmp (List ℕ)). map.insert m offset labels) stays
+
+-- ---- more labels that are copied
+
+pub longer_itself : (copied : List ℕ) → IsLonger copied copied
+longer_itself copied = record { more = []; is = sym (append-nil copied) }
+
+pub longer_both : {a b c : List ℕ} → IsLonger a b → IsLonger b c → IsLonger a c
+longer_both {a} {b} {c} first second = record {
+  more = first.more ++ second.more;
+  is = second.is ∙ ap (λ (xs : List ℕ). xs ++ second.more) first.is ∙ append_assoc a first.more second.more;
+}
+
+module _ {copied now : List ℕ} (longer : IsLonger copied now) where
+  pub longer_at : (labels : Labels) → AreThere copied labels → labels_at now labels ≡ labels_at copied labels
+  longer_at labels there = ap (λ (xs : List ℕ). labels_at xs labels) longer.is ∙ at_stay copied longer.more labels there
+
+  pub longer_one : (labels : Labels) → AreThere copied labels → AreThere now labels
+  longer_one labels there = subst (λ (xs : List ℕ). AreThere xs labels) (sym longer.is) (are_there_stay copied longer.more labels there)
+
+  pub longer_there : (targets : List Target) → All (IsThere copied) targets → All (IsThere now) targets
+  longer_there targets there = subst (λ (xs : List ℕ). All (IsThere xs) targets) (sym longer.is) (there_stay copied longer.more targets there)
+
+  pub longer_entries : (targets : List Target) → All (IsThere copied) targets → entries_of now targets ≡ entries_of copied targets
+  longer_entries targets there = ap (λ (xs : List ℕ). entries_of xs targets) longer.is ∙ entries_of_stay copied longer.more targets there
+
+-- ---- targets that get places
+
+-- labels that were copied before get a place
+module _ (copied old reached : List ℕ) (t place : ℕ) (same : (q : ℕ) → get_or reached q 0 ≡ get_or old q 0) (there : t < length reached)
+    (some : place ≢ 0) (inside : IsInside copied place) (all : All (IsInside copied) old) where
+  pub set_here : placed copied (slice_set reached t place) t ≡ Some (labels_from copied place)
+  set_here = ap (labels_in copied) (get_or-set_same reached t place 0 there) ∙ some_labels copied place some
+
+  pub set_others : (q : ℕ) → q ≢ t → placed copied (slice_set reached t place) q ≡ placed copied old q
+  set_others q other = ap (labels_in copied) (get_or-set_other reached t q place 0 other ∙ same q)
+
+  pub set_inside : All (IsInside copied) (slice_set reached t place)
+  set_inside k d less = subst (IsInside copied) (get_or_default (slice_set reached t place) k 0 d less) (elim (cases_Bool (nat_eq k t)) [
+    | inl equal ↦ subst (IsInside copied) (sym (ap (λ (i : ℕ). get_or (slice_set reached t place) i 0) (eqb-true k t equal) ∙ get_or-set_same reached t place 0 there)) inside
+    | inr differ ↦ subst (IsInside copied) (sym (get_or-set_other reached t k place 0 (eqb-false k t differ) ∙ same k)) (inside_or copied old all k)
+  ])
+
+-- one target more has its place
+pub one_placed : (copied : List ℕ) (target : Target) (rest : List Target) (old now before : ℕ → Option (List ℕ))
+    → ((q : ℕ) → old q ≡ option_or (map.find nat_cmp q (entries_of copied rest)) (before q))
+    → now target.offset ≡ Some (labels_at copied target.labels) → ((q : ℕ) → q ≢ target.offset → now q ≡ old q)
+    → (q : ℕ) → now q ≡ option_or (map.find nat_cmp q (entries_of copied (target ∷ rest))) (before q)
+one_placed copied target rest old now before was here others q = elim (cases_Bool (nat_eq q target.offset)) [
+  | inl same ↦
+      let equal : q ≡ target.offset = eqb-true q target.offset same in
+      ap now equal ∙ here ∙ sym (ap (λ (o : Option (List ℕ)). option_or o (before q)) (cond-true (eq_by_cmp nat_cmp q target.offset) (Some (labels_at copied target.labels)) _ (tied q target.offset equal)))
+  | inr differ ↦
+      let apart : q ≢ target.offset = eqb-false q target.offset differ in
+      others q apart ∙ was q
+      ∙ sym (ap (λ (o : Option (List ℕ)). option_or o (before q)) (cond-false (eq_by_cmp nat_cmp q target.offset) (Some (labels_at copied target.labels)) _ (not_tied q target.offset apart)))
+]
+
+or_again : {X : Type 0} (o p : Option X) → option_or o (option_or o p) ≡ option_or o p
+or_again None p = refl
+or_again (Some x) p = refl
+
+tied_or : {X : Type 0} (b : Bool) (x : X) (o p r : Option X) → option_or o (option_or p r) ≡ option_or o r → option_or (cond b (Some x) o) (option_or p r) ≡ option_or (cond b (Some x) o) r
+tied_or true x o p r same = refl
+tied_or false x o p r same = same
+
+-- among targets nothing else is found where some of them have places too
+pub found_again : (copied : List ℕ) (targets : List Target) (i q : ℕ) (r : Option (List ℕ))
+    → option_or (map.find nat_cmp q (entries_of copied targets)) (option_or (map.find nat_cmp q (entries_of copied (drop i targets))) r) ≡ option_or (map.find nat_cmp q (entries_of copied targets)) r
+found_again copied targets zero q r = or_again (map.find nat_cmp q (entries_of copied targets)) r
+found_again copied [] (suc i) q r = refl
+found_again copied (t ∷ ts) (suc i) q r =
+    tied_or (eq_by_cmp nat_cmp q t.offset) (labels_at copied t.labels) (map.find nat_cmp q (entries_of copied ts)) (map.find nat_cmp q (entries_of copied (drop i ts))) r (found_again copied ts i q r)

@@ -1,5 +1,5 @@
 -- The labels that are kept at the offsets that compression pointers led to.
-use Rattle.base.specs.declared.limits.TheConstants.{POINTER_LIMIT}
+use Rattle.base.specs.declared.limits.TheConstants.{MAX_LABELS, POINTER_LIMIT}
 use Rattle.std.specs.Prelude.{◌≡◌, ◌≢◌, ℕ, zero, suc, true, ◌+◌, ◌-◌, ◌^◌, ◌<◌, ◌≤◌, ◌==◌, List, [], ◌∷◌, ◌++◌, All, Option, Some, None, if◌then◌else◌, drop, get_or, length, map, option_map}
 use Rattle.std.specs.Borrow.{Bor}
 use Rattle.std.specs.FinMap as labels_by
@@ -56,6 +56,10 @@ labels_from copied place = slice_range copied place (place + len_at copied place
 abbrev pub labels_in : List ℕ → ℕ → Option (List ℕ)
 labels_in copied place = if place == 0 then None else Some (labels_from copied place)
 
+-- the labels at an offset, which has one of these places
+abbrev pub placed : List ℕ → List ℕ → ℕ → Option (List ℕ)
+placed copied places q = labels_in copied (get_or places q 0)
+
 -- the labels at a place are there
 abbrev pub IsInside : List ℕ → ℕ → Type 0
 IsInside copied place = place ≢ 0 → place + len_at copied place ≤ length copied
@@ -65,13 +69,18 @@ abbrev pub labels_at : List ℕ → Labels → List ℕ
 labels_at copied (Lent labels) = labels.now
 labels_at copied (Copied place) = labels_from copied place
 
--- those that are copied have a place, and are there
+-- those that are lent are a name's, and those that are copied have a place, and are there
 abbrev pub AreThere : List ℕ → Labels → Type 0
-AreThere copied (Lent labels) = Unit {0}
+AreThere copied (Lent labels) = length labels.now ≤ MAX_LABELS
 AreThere copied (Copied place) = (place ≢ 0) × IsInside copied place
 
 abbrev pub IsThere : List ℕ → Target → Type 0
 IsThere copied target = AreThere copied target.labels
+
+-- more labels are copied, after those from before
+pub record IsLonger (old new : List ℕ) : Type 0 where
+  pub more : List ℕ
+  pub is : new ≡ old ++ more
 
 -- targets with their labels
 abbrev pub entries_of : List ℕ → List Target → List (ℕ × List ℕ)
@@ -84,10 +93,10 @@ entries_from t copied (zero ∷ places) = entries_from (suc t) copied places
 entries_from t copied (suc n ∷ places) =
     (t, labels_from copied (suc n)) ∷ entries_from (suc t) copied places
 
--- the targets that have a place by their offset, and the first ones
+-- the first targets, and those that have a place by their offset
 abbrev pub cache_of : List ℕ → List ℕ → List Target → Cache
 cache_of copied others first =
-    labels_by.from_entries (entries_from 0 copied others ++ entries_of copied first)
+    labels_by.from_entries (entries_of copied first ++ entries_from 0 copied others)
 
 -- ---- the pointers of a name that is read
 

@@ -1,17 +1,18 @@
 //! The labels at the offsets that compression pointers led to (RFC 1035, 4.1.4).
 
 ghost use Rattle.base.specs.declared.limits.TheConstants.{MAX_LABELS};
-ghost use Rattle.std.specs.Prelude.{◌≡◌, ◌≢◌, ℕ, ◌+◌, ◌++◌, ◌∷◌, ◌<◌, ◌≤◌, None, All, length, get_or, IfOk, IfSome, OnErr, OnOk};
+ghost use Rattle.std.specs.Prelude.{◌≡◌, ◌≢◌, ℕ, ◌+◌, ◌++◌, ◌∷◌, ◌<◌, ◌≤◌, None, Some, All, length, get_or, IfOk, IfSome, OnErr, OnOk};
 ghost use Rattle.std.specs.FinMap as map;
+ghost use Rattle.std.specs.Option.{option_or};
 ghost use Rattle.std.specs.Ordering.{nat_cmp};
-ghost use Rattle.base.specs.Pointers.{IsInside, IsThere, entries_of, labels_from, labels_in, labels_now};
+ghost use Rattle.base.specs.Pointers.{IsInside, IsLonger, IsThere, entries_of, labels_at, labels_from, labels_now, placed};
 
 use crate::limits::MAX_LABELS;
 use std::alloc::{AllocError, Global};
 use std::marker::Model;
 
 /// How many targets have room inside the cache.
-const ROOM: usize = 12;
+const ROOM: usize = 8;
 
 /// How many places the table of the other targets grows by.
 const STEP: usize = 256;
@@ -35,17 +36,25 @@ struct Target<'a> {
     labels: Labels<'a>,
 }
 
-/// The labels at each offset that a pointer led to. The first targets take no memory, unless their labels are copied. A
-/// further one is found by its offset, without a search, since there are few that a pointer can name.
+/// Labels that were copied.
+#[derive(Drop)]
+struct Copies {
+    /// The labels one after another, before each the number of bytes that they are. A place is that of their first byte.
+    bytes: Vec<u8>,
+    /// By offset, the place of the labels there, and 0 where there is none.
+    places: Vec<usize>,
+}
+
+/// The labels at each offset that a pointer led to. The first targets take no memory, unless their labels are copied. Where
+/// there are more of them, each is found by its offset, without a search, since there are few that a pointer can name.
 #[derive(Drop)]
 pub(crate) struct PointerCache<'a> {
     count: usize,
-    /// The first targets. What stands after them in the array has no meaning.
+    /// The targets, as long as there is room. What stands after them in the array has no meaning.
     first: [Target<'a>; ROOM],
-    /// By offset, the place of the labels at each further target, and 0 where there are none.
-    others: Vec<usize>,
-    /// Copied labels one after another, before each the number of bytes that they are. A place is that of their first byte.
-    copied: Vec<u8>,
+    /// Whether there were more, and each has its place instead.
+    moved: bool,
+    copies: Copies,
 }
 
 impl<'a> Model for PointerCache<'a> {
@@ -54,20 +63,22 @@ impl<'a> Model for PointerCache<'a> {
     ghost use Rattle.std.specs.FinMap as map;
     ghost use Rattle.std.specs.Ordering.{nat_cmp};
     ghost use Rattle.base.specs.Pointers.{IsInside, IsThere, cache_of};
+    ghost use Rattle.base.specs.declared.wire.pointer_cache.TheConstants.{ROOM};
 
     ghost Value = { map.FinMap nat_cmp (List ℕ) };
 
     ghost coded = { map.code coded_ℕ (coded_list coded_ℕ) };
 
-    ghost view = { λ c. cache_of c.copied.items c.others.items (take c.count c.first) };
+    ghost view = { λ c.
+        cache_of c.copies.bytes.items c.copies.places.items (take c.count c.first) };
 
-    ghost invariant = { λ c. ((c.count ≤ 12) × (length c.first ≡ 12))
-        × (All (IsInside c.copied.items) c.others.items
-        × All (IsThere c.copied.items) (take c.count c.first)) };
+    ghost invariant = { λ c. ((c.count ≤ ROOM) × (length c.first ≡ ROOM))
+        × (All (IsInside c.copies.bytes.items) c.copies.places.items
+        × All (IsThere c.copies.bytes.items) (take c.count c.first)) };
 }
 
 /// The labels at a place among copied ones.
-fn labels_at(copied: &[u8], place: usize) -> &[u8]
+fn copied_at(copied: &[u8], place: usize) -> &[u8]
     requires some { place ≢ 0 }
     requires there { IsInside copied.now place }
     ensures { result.now ≡ labels_from copied.now place }
@@ -85,7 +96,7 @@ fn find_among<'d>(targets: &'d [Target<'d>], copied: &'d [u8], offset: u16) -> O
         if target.offset == offset {
             return Some(match target.labels {
                 Labels::Lent(labels) => labels,
-                Labels::Copied(place) => labels_at(copied, place),
+                Labels::Copied(place) => copied_at(copied, place),
             });
         }
     }
@@ -95,13 +106,13 @@ fn find_among<'d>(targets: &'d [Target<'d>], copied: &'d [u8], offset: u16) -> O
 /// The labels at an offset, if it has a place.
 fn find_by_offset<'d>(places: &[usize], copied: &'d [u8], offset: u16) -> Option<&'d [u8]>
     requires { All (IsInside copied.now) places.now }
-    ensures { labels_now result ≡ labels_in copied.now (get_or places.now offset 0) }
+    ensures { labels_now result ≡ placed copied.now places.now offset }
 {
     let place = *places.get(usize::from(offset))?;
     if place == 0 {
         return None;
     }
-    Some(labels_at(copied, place))
+    Some(copied_at(copied, place))
 }
 
 /// Makes places up to an offset, the new ones without labels, with room for as many offsets as there may be. They are
@@ -145,6 +156,57 @@ fn copy(copied: &mut Vec<u8>, labels: &[u8]) -> Result<usize, AllocError>
     Ok(place)
 }
 
+/// Gives a target a place, and copies its labels if they are lent.
+fn place_one(target: &Target<'_>, copies: &mut Copies, most: u16) -> Result<(), AllocError>
+    requires there { IsThere copies.old.bytes.items target.now }
+    requires inside { All (IsInside copies.old.bytes.items) copies.old.places.items }
+    // Its labels are found by its offset.
+    ensures here { OnOk result
+        (placed copies.new.bytes.items copies.new.places.items target.now.offset
+        ≡ Some (labels_at copies.old.bytes.items target.now.labels)) }
+    // Those of other offsets are found as before.
+    ensures others { (q : ℕ) → q ≢ target.now.offset
+        → placed copies.new.bytes.items copies.new.places.items q
+        ≡ placed copies.old.bytes.items copies.old.places.items q }
+    ensures inside { All (IsInside copies.new.bytes.items) copies.new.places.items }
+    ensures longer { IsLonger copies.old.bytes.items copies.new.bytes.items }
+    ensures err { (q : ℕ) → OnErr result
+        (placed copies.new.bytes.items copies.new.places.items q
+        ≡ placed copies.old.bytes.items copies.old.places.items q) }
+{
+    let offset = usize::from(target.offset);
+    reach(&mut copies.places, offset, usize::from(most))?;
+    let place = match target.labels {
+        Labels::Lent(labels) => copy(&mut copies.bytes, labels)?,
+        Labels::Copied(place) => place,
+    };
+    copies.places[offset] = place;
+    Ok(())
+}
+
+/// Gives each of these targets a place.
+fn place_all(targets: &[Target<'_>], copies: &mut Copies, most: u16) -> Result<(), AllocError>
+    requires there { All (IsThere copies.old.bytes.items) targets.now }
+    requires inside { All (IsInside copies.old.bytes.items) copies.old.places.items }
+    // By the places alone the same is found as among the targets and then by the places before.
+    ensures ok { (q : ℕ) → OnOk result (placed copies.new.bytes.items copies.new.places.items q
+        ≡ option_or (map.find nat_cmp q (entries_of copies.old.bytes.items targets.now))
+        (placed copies.old.bytes.items copies.old.places.items q)) }
+    // Among the targets and then by the places nothing else is found than before.
+    ensures kept { (q : ℕ)
+        → option_or (map.find nat_cmp q (entries_of copies.old.bytes.items targets.now))
+        (placed copies.new.bytes.items copies.new.places.items q)
+        ≡ option_or (map.find nat_cmp q (entries_of copies.old.bytes.items targets.now))
+        (placed copies.old.bytes.items copies.old.places.items q) }
+    ensures inside { All (IsInside copies.new.bytes.items) copies.new.places.items }
+    ensures longer { IsLonger copies.old.bytes.items copies.new.bytes.items }
+{
+    for i in (0..targets.len()).rev() {
+        place_one(&targets[i], copies, most)?;
+    }
+    Ok(())
+}
+
 impl<'a> PointerCache<'a> {
     /// No labels. Takes no memory.
     pub(crate) fn new(alloc: Global) -> PointerCache<'a>
@@ -157,8 +219,11 @@ impl<'a> PointerCache<'a> {
         PointerCache {
             count: 0,
             first: [unused; ROOM],
-            others: Vec::new(alloc),
-            copied: Vec::new(alloc),
+            moved: false,
+            copies: Copies {
+                bytes: Vec::new(alloc),
+                places: Vec::new(alloc),
+            },
         }
     }
 
@@ -166,9 +231,9 @@ impl<'a> PointerCache<'a> {
     pub(crate) fn find(&self, offset: u16) -> Option<&[u8]>
         ensures { labels_now result ≡ map.get self.now offset }
     {
-        match find_by_offset(&self.others, &self.copied, offset) {
+        match find_among(&self.first[..self.count], &self.copies.bytes, offset) {
             Some(labels) => Some(labels),
-            None => find_among(&self.first[..self.count], &self.copied, offset),
+            None => find_by_offset(&self.copies.places, &self.copies.bytes, offset),
         }
     }
 
@@ -192,18 +257,34 @@ impl<'a> PointerCache<'a> {
         ensures ok { OnOk result (self.new ≡ map.insert self.old offset labels.now) }
         ensures err { OnErr result (self.new ≡ self.old) }
     {
-        if self.count < ROOM {
+        if !self.moved && self.count < ROOM {
             let labels = match lent {
                 Some(lent) => Labels::Lent(lent),
-                None => Labels::Copied(copy(&mut self.copied, labels)?),
+                None => Labels::Copied(copy(&mut self.copies.bytes, labels)?),
             };
             self.first[self.count] = Target { offset, labels };
             self.count += 1;
             return Ok(());
         }
-        reach(&mut self.others, usize::from(offset), usize::from(most))?;
-        let place = copy(&mut self.copied, labels)?;
-        self.others[usize::from(offset)] = place;
+        self.move_first(most)?;
+        let target = Target {
+            offset,
+            labels: Labels::Lent(labels),
+        };
+        place_one(&target, &mut self.copies, most)
+    }
+
+    /// Gives each target a place, unless they have them.
+    fn move_first(&mut self, most: u16) -> Result<(), AllocError>
+        ensures { self.new ≡ self.old }
+    {
+        if self.moved {
+            return Ok(());
+        }
+        let first = self.first;
+        place_all(&first[..self.count], &mut self.copies, most)?;
+        self.count = 0;
+        self.moved = true;
         Ok(())
     }
 }

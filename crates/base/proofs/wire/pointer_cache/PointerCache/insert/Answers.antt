@@ -1,9 +1,12 @@
-use Rattle.std.proofs.Common.{◌≡◌, ◌∙◌, ℕ, ◌∷◌, List, None, Ok, Err, Result, arith, length, ap, sym, subst, take}
-use Rattle.std.specs.Prelude.{All, OnErr, slice_set}
+use Rattle.std.proofs.Common.{◌≡◌, ◌∙◌, ℕ, ◌++◌, ◌∷◌, ◌+◌, List, None, Ok, Err, Result, arith, length, ap, sym, take}
+use Rattle.std.specs.Prelude.{OnErr, OnOk, Option}
 use Rattle.std.specs.FinMap as map
-use Rattle.base.specs.declared.wire.pointer_cache.Labels.TheVariants.{Lent}
-use Rattle.base.specs.Pointers.{Cache, IsInside, IsThere, cache_of}
-use Rattle.base.proofs.CacheLemmas.{copied_set, first_set, is_put, others_more, put_inside, same_inside, same_places, there_stay}
+use Rattle.std.specs.Option.{option_or}
+use Rattle.std.specs.Ordering.{nat_cmp}
+use Rattle.std.proofs.lemmas.List.{length-set}
+use Rattle.base.specs.declared.wire.pointer_cache.Labels.TheVariants.{Lent, Copied}
+use Rattle.base.specs.Pointers.{Cache, cache_of, entries_of, placed}
+use Rattle.base.proofs.CacheLemmas.{copied_set, first_set, inside_stay, longer_entries, longer_there, new_inside, others_more, same_found, there_set, there_stay}
 use Rattle.base.proofs.wire.pointer_cache.PointerCache.insert.Goals as goal
 use Rattle.base.proofs.wire.pointer_cache.PointerCache.insert.Goals.{in-Some, in-None+in_ok-copy-in-None}
 
@@ -13,71 +16,87 @@ returns-then-self-lt-ROOM-clause-ok c =
     let t = c.args.offset in
     let labels = c.args.labels.now in
     let first = take old.count old.first in
-    let none : map.get (cache_of old.copied.items old.others.items first) t ≡ None = ap (λ (m : Cache). map.get m t) c.self.view_is ∙ c.requires.new in
+    let none : map.get (cache_of old.copies.bytes.items old.copies.places.items first) t ≡ None = ap (λ (m : Cache). map.get m t) c.self.view_is ∙ c.requires.new in
     elim c.match-lent.branch [
       | in-Some w ↦
           let same : w.in-Some.lent.now ≡ labels = rw w.in-Some.is at c.requires.lent in
           rw (w.self-inside-is, w.labels-is)
-          (first_set old.copied.items old.others.items old.first old.count t c.if-self-lt-ROOM.true c.self.invariant.0.1 none (Lent w.in-Some.lent)
-          ∙ ap (λ (xs : List ℕ). map.insert (cache_of old.copied.items old.others.items first) t xs) same
+          (first_set old.copies.bytes.items old.copies.places.items old.first old.count t c.if-self-lt-ROOM.true c.self.invariant.0.1 none (Lent w.in-Some.lent)
+          ∙ ap (λ (xs : List ℕ). map.insert (cache_of old.copies.bytes.items old.copies.places.items first) t xs) same
           ∙ ap (λ (m : Cache). map.insert m t labels) c.self.view_is)
       | in-None+in_ok-copy-in-None w ↦
           rw (w.self-inside-is, w.labels-is, w.in_ok-copy-in-None.ensures.place, w.in_ok-copy-in-None.ensures.ok)
-          (copied_set old.copied.items labels old.others.items old.first old.count t c.if-self-lt-ROOM.true c.self.invariant.0.1 none c.self.invariant.1.0 c.self.invariant.1.1
+          (copied_set old.copies.bytes.items labels old.copies.places.items old.first old.count t c.if-self-lt-ROOM.true c.self.invariant.0.1 none c.self.invariant.1.0 c.self.invariant.1.1
           ∙ ap (λ (m : Cache). map.insert m t labels) c.self.view_is)
     ]
 
--- ---- where memory runs out
-
-pub invariant_of-self-in_err-place : goal.invariant_of-self-in_err-place
-invariant_of-self-in_err-place c =
-    let old = c.self.inside in (
-      c.self.invariant.0,
-      subst (λ (copied : List ℕ). All (IsInside copied) c.reach.new.places.items × All (IsThere copied) (take old.count old.first)) (sym c.in_err-place.ensures.err)
-          (same_inside old.copied.items old.others.items c.reach.new.places.items c.in_ok-reach.ensures.same c.self.invariant.1.0, c.self.invariant.1.1),
-    )
-
-on_err : {X E : Type 0} {P : Type 0} (r : Result X E) → P → OnErr r P
-on_err (Ok x) p = tt
-on_err (Err e) p = p
-
-pub returns-in_err-place-clause-err : goal.returns-in_err-place-clause-err
-returns-in_err-place-clause-err c =
+pub invariant_of-self-then-self-lt-ROOM : goal.invariant_of-self-then-self-lt-ROOM
+invariant_of-self-then-self-lt-ROOM c =
     let old = c.self.inside in
-    let first = take old.count old.first in
-    on_err c.from_residual-in_err-place.result
-    (ap (λ (copied : List ℕ). cache_of copied c.reach.new.places.items first) c.in_err-place.ensures.err
-    ∙ same_places old.copied.items old.others.items c.reach.new.places.items first c.in_ok-reach.ensures.same
-    ∙ c.self.view_is)
+    let copied = old.copies.bytes.items in
+    let t = c.args.offset in
+    let labels = c.args.labels.now in
+    let less = c.if-self-lt-ROOM.true in
+    let room = c.self.invariant.0.1 in
+    elim c.match-lent.branch [
+      | in-Some w ↦
+          let same : w.in-Some.lent.now ≡ labels = rw w.in-Some.is at c.requires.lent in
+          rw (w.self-inside-is, w.labels-is)
+          (
+            (omega (arith, less), length-set old.first old.count _ ∙ room),
+            (c.self.invariant.1.0, there_set copied old.first old.count t (Lent w.in-Some.lent) less room c.self.invariant.1.1 (omega (arith, ap length same, c.requires.short))),
+          )
+      | in-None+in_ok-copy-in-None w ↦
+          rw (w.self-inside-is, w.labels-is, w.in_ok-copy-in-None.ensures.place, w.in_ok-copy-in-None.ensures.ok)
+          (
+            (omega (arith, less), length-set old.first old.count _ ∙ room),
+            (
+              inside_stay copied (length labels ∷ labels) old.copies.places.items c.self.invariant.1.0,
+              there_set (copied ++ (length labels ∷ labels)) old.first old.count t (Copied (length copied + 1)) less room (there_stay copied (length labels ∷ labels) (take old.count old.first) c.self.invariant.1.1)
+              ((λ none. omega (arith, none)), new_inside copied labels),
+            ),
+          )
+    ]
 
 -- ---- one that gets a place
 
 pub invariant_of-self-2 : goal.invariant_of-self-2
 invariant_of-self-2 c =
-    let old = c.self.inside in
-    let copied = old.copied.items in
-    let t = c.from-3.result in
-    let labels = c.args.labels.now in
-    let put = is_put copied old.others.items c.reach.new.places.items t c.in_ok-place.place c.in_ok-reach.ensures.same
-    (omega (arith, c.in_ok-reach.ensures.there, c.from.ensures, c.from-3.ensures)) c.in_ok-place.ensures.place in (
-      c.self.invariant.0,
-      subst (λ (xs : List ℕ). All (IsInside xs) (slice_set c.reach.new.places.items t c.in_ok-place.place) × All (IsThere xs) (take old.count old.first)) (sym c.in_ok-place.ensures.ok) (
-        put_inside copied labels old.others.items (slice_set c.reach.new.places.items t c.in_ok-place.place) t put c.self.invariant.1.0,
-        there_stay copied (length labels ∷ labels) (take old.count old.first) c.self.invariant.1.1,
-      ),
-    )
+    let old = c.self-2.inside in
+    (c.self-2.invariant.0, (c.place_one.ensures.inside, longer_there c.place_one.ensures.longer (take old.count old.first) c.self-2.invariant.1.1))
+
+on_ok : {X E : Type 0} {P Q : Type 0} (r : Result X E) → OnOk r P → (P → Q) → OnOk r Q
+on_ok (Ok x) p f = f p
+on_ok (Err e) p f = tt
+
+on_err : {X E : Type 0} {Q : Type 0} (P : ℕ → Type 0) (r : Result X E) → ((q : ℕ) → OnErr r (P q)) → (((q : ℕ) → P q) → Q) → OnErr r Q
+on_err P (Ok x) p f = tt
+on_err P (Err e) p f = f p
 
 pub returns-clause-ok : goal.returns-clause-ok
 returns-clause-ok c =
-    let old = c.self.inside in
-    let copied = old.copied.items in
-    let t = c.from-3.result in
+    let old = c.self-2.inside in
+    let copied = old.copies.bytes.items in
+    let places = old.copies.places.items in
+    let now = c.place_one.new.copies in
+    let t = c.args.offset in
     let labels = c.args.labels.now in
     let first = take old.count old.first in
-    let places = slice_set c.reach.new.places.items t c.in_ok-place.place in
-    let put = is_put copied old.others.items c.reach.new.places.items t c.in_ok-place.place c.in_ok-reach.ensures.same
-    (omega (arith, c.in_ok-reach.ensures.there, c.from.ensures, c.from-3.ensures)) c.in_ok-place.ensures.place in
-    ap (λ (xs : List ℕ). cache_of xs places first) c.in_ok-place.ensures.ok
-    ∙ others_more copied labels old.others.items places first t put c.self.invariant.1.0 c.self.invariant.1.1
-    ∙ ap (λ (m : Cache). map.insert m t labels) c.self.view_is
-    ∙ ap (λ (q : ℕ). map.insert c.args.self.now q labels) c.from-3.ensures
+    let value : cache_of copied places first ≡ c.args.self.now = c.self-2.view_is ∙ c.move_first.ensures in
+    let none : map.get (cache_of copied places first) t ≡ None = ap (λ (m : Cache). map.get m t) value ∙ c.requires.new in
+    on_ok c.place_one.result c.place_one.ensures.here (λ here.
+    others_more copied places first t none now.bytes.items now.places.items labels (longer_entries c.place_one.ensures.longer first c.self-2.invariant.1.1) here c.place_one.ensures.others
+    ∙ ap (λ (m : Cache). map.insert m t labels) value)
+
+pub returns-clause-err : goal.returns-clause-err
+returns-clause-err c =
+    let old = c.self-2.inside in
+    let copied = old.copies.bytes.items in
+    let places = old.copies.places.items in
+    let now = c.place_one.new.copies in
+    let first = take old.count old.first in
+    on_err (λ q. placed now.bytes.items now.places.items q ≡ placed copied places q) c.place_one.result c.place_one.ensures.err (λ same.
+    same_found copied now.bytes.items places now.places.items first first (λ q.
+    ap (λ (es : List (ℕ × List ℕ)). option_or (map.find nat_cmp q es) (placed now.bytes.items now.places.items q)) (longer_entries c.place_one.ensures.longer first c.self-2.invariant.1.1)
+    ∙ ap (λ (o : Option (List ℕ)). option_or (map.find nat_cmp q (entries_of copied first)) o) (same q))
+    ∙ c.self-2.view_is ∙ c.move_first.ensures)
