@@ -8,7 +8,7 @@ pub record Answer : Type 0 where
   pub text : List ℕ
   pub status : ℕ
 
--- a command did what it is for
+-- a command's output, with status 0
 abbrev pub done : List ℕ → Answer
 done text = record { text = text; status = 0 }
 

@@ -30,6 +30,7 @@ pub fn update(alloc: Global, words: &[String]) -> Result<Message, Refusal>
     Ok(Message::from_vec(alloc, &bytes)?)
 }
 
+/// The first of the words, or the empty one.
 fn first_word(words: &[String]) -> &str
     ensures { result.now ≡ first_word (texts words.now) }
 {

@@ -136,6 +136,7 @@ fn are_texts(words: &[String]) -> bool
     true
 }
 
+/// Whether a word has the character `=`.
 fn has_equals(word: &str) -> bool
     ensures { result ≡ list_any is_equals word.now }
 {

@@ -53,6 +53,7 @@ fn bytes_within(alloc: Global, message: &Message, limit: u16) -> Result<Vec<u8>,
     Ok(bytes)
 }
 
+/// The line of bytes in hexadecimal.
 fn hex_line(alloc: Global, bytes: &[u8]) -> Result<String, AllocError>
     ensures { IfOk result (λ line. string_bytes line ≡ hex_line bytes.now) }
 {

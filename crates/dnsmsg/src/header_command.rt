@@ -40,6 +40,7 @@ fn lines(alloc: Global, header: &Header) -> Result<String, ProtoError>
     Ok(three_lines(alloc, &metadata, &counts, &hexadecimal)?)
 }
 
+/// The line of the four counts, without its end.
 fn counts_text(alloc: Global, counts: &HeaderCounts) -> Result<String, AllocError>
     ensures { IfOk result (λ text. string_bytes text ≡ counts_text counts.now) }
 {
@@ -52,6 +53,7 @@ fn counts_text(alloc: Global, counts: &HeaderCounts) -> Result<String, AllocErro
     format!(in alloc; "counts {queries} {answers} {authorities} {additionals}")
 }
 
+/// Three texts, each with the end of its line.
 fn three_lines(alloc: Global, first: &str, second: &str, third: &str) -> Result<String, AllocError>
     ensures { IfOk result (λ text. string_bytes text ≡ three_lines first.now second.now third.now) }
 {

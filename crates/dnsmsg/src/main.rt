@@ -19,6 +19,7 @@ use run::run;
 use std::io;
 use std::process::ExitCode;
 
+/// Runs the command that the arguments name, on standard input and output.
 fn main(rt: HostRuntime) -> io::Result<ExitCode> {
     let mut words = Vec::new(rt.alloc());
     for word in std::env::args(&rt)?.skip(1) {

@@ -1,4 +1,4 @@
-//! Why a command prints no answer.
+//! Why a command has no output: a refusal, whose number is printed, or an input that can't be read.
 
 ghost use Rattle.std.specs.Prelude.{◌≡◌};
 ghost use Rattle.base.specs.declared.error.proto_error.ProtoError.TheVariants as protos;
@@ -10,7 +10,7 @@ use base::{DecodeError, ProtoError};
 use parsed_zone::ZoneRefusal;
 use std::alloc::AllocError;
 
-/// Why a command printed nothing of its own.
+/// Why a command prints `refused` and a number.
 #[derive(Debug, Drop)]
 pub enum Refusal {
     /// The input isn't what the command takes.
@@ -19,7 +19,7 @@ pub enum Refusal {
     Decode(DecodeError),
     /// A call of the library was refused.
     Proto(ProtoError),
-    /// The zone isn't read, or isn't updated.
+    /// The zone is refused: its text, or a class other than IN.
     Zone(ZoneRefusal),
 }
 

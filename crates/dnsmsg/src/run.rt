@@ -18,6 +18,7 @@ use crate::zone_command::zone;
 use std::alloc::Global;
 use std::io::{Read, Write};
 
+/// The exit status where a read or a write failed.
 const BROKEN: u8 = 3;
 
 /// Does what the words ask for: reads the input to its end, and writes to the output and nowhere else.
@@ -103,6 +104,7 @@ fn after_origin(words: &[String]) -> &[String]
     }
 }
 
+/// Prints the output of a command, and answers the exit status.
 fn print_lines<W: Write>(lines: &str, output: &mut W) -> u8
     ensures { (result ≡ 3)
         ⊎ IsPrinted (done lines.now) result (W.contents output.old) (W.contents output.new) }
@@ -113,6 +115,7 @@ fn print_lines<W: Write>(lines: &str, output: &mut W) -> u8
     }
 }
 
+/// Prints the line of a refusal, and answers the exit status.
 fn print_refusal<W: Write>(number: u8, output: &mut W) -> u8
     ensures { (result ≡ 3)
         ⊎ IsPrinted (refused number) result (W.contents output.old) (W.contents output.new) }
@@ -123,6 +126,7 @@ fn print_refusal<W: Write>(number: u8, output: &mut W) -> u8
     }
 }
 
+/// Prints the usage line, and answers the exit status.
 fn print_usage<W: Write>(output: &mut W) -> u8
     ensures { (result ≡ 3)
         ⊎ IsPrinted usage result (W.contents output.old) (W.contents output.new) }

@@ -4,7 +4,7 @@ use base::ProtoError;
 use std::alloc::Global;
 
 /// The bytes that the text spells in hexadecimal, with blanks dropped.
-pub fn decoded(alloc: Global, text: &str) -> Result<Vec<u8>, ProtoError> {
+pub fn decode(alloc: Global, text: &str) -> Result<Vec<u8>, ProtoError> {
     let mut digits = Vec::with_capacity(alloc, text.len())?;
     digits.extend(text.bytes().filter(|byte| *byte != b' '))?;
     match hex::decode(alloc, digits) {

@@ -29,7 +29,7 @@ enum Datum {
 }
 
 /// The data of a row.
-fn made(alloc: Global, datum: Datum) -> Result<RData, Fail> {
+fn make(alloc: Global, datum: Datum) -> Result<RData, Fail> {
     match datum {
         Datum::Wire(record_type, bytes) => {
             let len = bytes.len().min(65_535) as u16;

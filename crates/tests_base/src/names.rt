@@ -6,7 +6,7 @@ use base::{BinDecodable, BinDecoder, DecodeError, Name};
 use std::alloc::{AllocError, Global};
 use test_tools::forms::has_text;
 
-/// Reads a name after as many bytes, and the place after it.
+/// Reads the name at `at`, and answers the place after it too.
 fn read_at(alloc: Global, bytes: &[u8], at: usize) -> Result<(Name, usize), DecodeError> {
     let mut decoder = BinDecoder::new(alloc, bytes);
     for _ in 0..at {
@@ -103,7 +103,7 @@ fn names_on_the_wire(rt: HostRuntime) {
     }
 }
 
-/// Twelve zero bytes, after them labels of as many bytes `a`, and then these bytes.
+/// Twelve zero bytes, after them labels of these lengths, of bytes `a`, and then these bytes.
 fn message_of(alloc: Global, lens: &[u8], end: &[u8]) -> Result<Vec<u8>, AllocError> {
     let mut message = Vec::new(alloc);
     message.resize(12, 0)?;
@@ -115,7 +115,7 @@ fn message_of(alloc: Global, lens: &[u8], end: &[u8]) -> Result<Vec<u8>, AllocEr
     Ok(message)
 }
 
-/// What a name at this place is, where as many bytes are left of such a message.
+/// What the name at `at` is in the first `left` bytes of such a message.
 fn extent_of(
     alloc: Global,
     (lens, end): (&[u8], &[u8]),
@@ -128,6 +128,7 @@ fn extent_of(
     Ok(found)
 }
 
+/// A limit that cuts nothing off.
 const WHOLE: usize = usize::MAX;
 
 /// The lengths of the labels and what stands after them, how many bytes are left, a place, and the name there: the

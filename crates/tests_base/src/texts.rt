@@ -10,7 +10,7 @@ use base::{Name, ParseError, RecordType};
 use base_data::RData;
 use fields::{
     MAIL, MAIL_UNDER, NAMES, NAMES_UNDER_A_RELATIVE_ORIGIN, NAMES_UNDER_AN_ORIGIN, SERVICES,
-    SERVICES_UNDER, STARTS, STARTS_UNDER,
+    SERVICES_UNDER, SOAS, SOAS_UNDER,
 };
 use std::alloc::{AllocError, Global};
 use std::process::Abort;
@@ -22,7 +22,7 @@ use test_tools::forms::has_text;
 type Row = (&'static [&'static str], &'static str);
 
 /// What was read, in its text, or the number of the refusal.
-fn shown(alloc: Global, found: Result<RData, ParseError>) -> Result<String, AllocError> {
+fn show(alloc: Global, found: Result<RData, ParseError>) -> Result<String, AllocError> {
     let shown = match &found {
         Ok(data) => format!(in alloc; "{data}"),
         Err(e) => format!(in alloc; "refused {}", e.number()),
@@ -51,7 +51,7 @@ fn give(
     let words = words_of(alloc, items)?;
     let found = RData::from_tokens(alloc, record_type, words.iter(), origin);
     drop(words);
-    let shown = shown(alloc, found)?;
+    let shown = show(alloc, found)?;
     let same = shown.as_str() == expected;
     drop(shown);
     Ok(same)
@@ -125,8 +125,8 @@ fn items_of_names_and_numbers(rt: HostRuntime) -> Result<(), Fail> {
     all_give(&rt, RecordType::MX, "example.", MAIL_UNDER)?;
     all_give(&rt, RecordType::SRV, "", SERVICES)?;
     all_give(&rt, RecordType::SRV, "example.", SERVICES_UNDER)?;
-    all_give(&rt, RecordType::SOA, "", STARTS)?;
-    all_give(&rt, RecordType::SOA, "example.", STARTS_UNDER)
+    all_give(&rt, RecordType::SOA, "", SOAS)?;
+    all_give(&rt, RecordType::SOA, "example.", SOAS_UNDER)
 }
 
 #[test]
@@ -208,8 +208,8 @@ const LONG: &[(&'static str, usize, &'static str)] = &[
     (r"\097", 256, "refused 23"),
 ];
 
-/// As many copies of a text.
-fn repeated(alloc: Global, text: &str, count: usize) -> Result<String, AllocError> {
+/// `count` copies of a text.
+fn repeat(alloc: Global, text: &str, count: usize) -> Result<String, AllocError> {
     let mut repeated = String::new(alloc);
     for _ in 0..count {
         repeated.push_str(text)?;
@@ -217,9 +217,9 @@ fn repeated(alloc: Global, text: &str, count: usize) -> Result<String, AllocErro
     Ok(repeated)
 }
 
-/// Whether a string of as many copies of a letter, and another, are read so.
+/// Whether a string of `count` copies of a letter, and another, are read so.
 fn is_long(alloc: Global, letter: &str, count: usize, expected: &str) -> Result<bool, AllocError> {
-    let string = repeated(alloc, letter, count)?;
+    let string = repeat(alloc, letter, count)?;
     let items = [string.as_str(), "b"];
     let is_long = give(alloc, RecordType::TXT, &items, None, expected);
     drop(string);

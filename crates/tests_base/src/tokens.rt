@@ -16,6 +16,7 @@ fn show_item(shown: &mut String, item: &str) -> Result<(), AllocError> {
     shown.push_str("]")
 }
 
+/// Shows a list, its items in parentheses.
 fn show_list(shown: &mut String, items: &[String]) -> Result<(), AllocError> {
     shown.push_str("(")?;
     for item in items {
@@ -40,7 +41,7 @@ fn show(shown: &mut String, token: &Token) -> Result<(), AllocError> {
 }
 
 /// How a lexer ends: at the text's end, or by its fault.
-fn shown_end(read: &Result<Option<Token>, ParseError>) -> &'static str {
+fn end_of(read: &Result<Option<Token>, ParseError>) -> &'static str {
     match read {
         Ok(None) => "end",
         Err(ParseError::Lexer) => "fault",
@@ -58,9 +59,9 @@ fn tokens_of(alloc: Global, text: &str) -> Result<String, AllocError> {
             show(&mut shown, token)?;
             shown.push_str(" ")?;
         } else {
-            let ended = shown_end(&read);
+            let ended = end_of(&read);
             let again = lexer.next_token();
-            if shown_end(&again) == ended {
+            if end_of(&again) == ended {
                 shown.push_str(ended)?;
             }
             return Ok(shown);
@@ -198,7 +199,7 @@ fn rows_of_tokens(rt: HostRuntime) -> Result<(), AllocError> {
     Ok(())
 }
 
-/// Whether a text says so many seconds, or none.
+/// Whether a text says this number of seconds, or no TTL.
 fn says(text: &str, seconds: Option<u32>) -> bool {
     match parse_ttl(text) {
         Ok(read) => Some(read) == seconds,

@@ -19,13 +19,13 @@ fn name_of(alloc: Global, bytes: &[u8]) -> Result<Name, DecodeError> {
 /// What an encoder is asked for.
 #[derive(Clone, Copy)]
 enum Step {
-    /// Takes as many bytes from here on.
+    /// Sets the limit to this number of bytes, from here on.
     Limit(u16),
     Byte(u8),
     U16(u16),
     U32(u32),
     Bytes(&'static [u8]),
-    /// As many zeros.
+    /// This number of zeros.
     Zeros(usize),
     /// The name that these bytes spell, and the same with no pointer.
     Name(&'static [u8]),
@@ -37,7 +37,7 @@ enum Step {
     SizedValue(u16),
     Type(RecordType),
     Class(DNSClass),
-    /// As many names of two letters, each another.
+    /// This number of names of two letters, no two the same.
     Letters(u8),
 }
 
@@ -58,7 +58,7 @@ fn emit_name(
     emitted
 }
 
-/// Writes as many zeros.
+/// Writes `count` zeros.
 fn emit_zeros(count: usize, encoder: &mut BinEncoder<'_>) -> Result<(), ProtoError> {
     for _ in 0..count {
         encoder.emit(0)?;
@@ -66,7 +66,7 @@ fn emit_zeros(count: usize, encoder: &mut BinEncoder<'_>) -> Result<(), ProtoErr
     Ok(())
 }
 
-/// Writes names of one label, whose two letters tell a number, for as many numbers, from 0 on.
+/// Writes `count` names of one label, whose two letters tell its number, from 0 on.
 fn emit_letters(alloc: Global, count: u8, encoder: &mut BinEncoder<'_>) -> Result<(), ProtoError> {
     for number in 0..count {
         let name = [2, b'a' + number / 26, b'a' + number % 26, 0];

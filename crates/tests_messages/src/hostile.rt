@@ -12,7 +12,7 @@ use messages::MESSAGES;
 use op::Message;
 use std::alloc::Global;
 use std::test::Fail;
-use test_tools::bytes::decoded;
+use test_tools::bytes::decode;
 
 /// The number of the refusal of a buffer, 0 where it is read, and what it names: how many bytes are left and the length
 /// of the data, or the type of the data.
@@ -30,7 +30,7 @@ pub(crate) fn fault(alloc: Global, wire: &[u8]) -> (u8, usize, usize) {
 
 /// The same of the bytes that a text spells.
 pub(crate) fn fault_of_text(alloc: Global, text: &str) -> Result<(u8, usize, usize), ProtoError> {
-    let wire = decoded(alloc, text)?;
+    let wire = decode(alloc, text)?;
     Ok(fault(alloc, &wire))
 }
 

@@ -212,6 +212,7 @@ fn responses(rt: HostRuntime) {
     assert!(rt; !response.flags().authoritative);
 }
 
+/// The header of a response with this id and number of questions.
 fn header_of(id: u16, queries: u16) -> Header {
     Header {
         metadata: Metadata::new(id, MessageType::Response, OpCode::Query),

@@ -1,10 +1,10 @@
-use crate::messages::message::parts::{signed, truncated};
+use crate::messages::message::parts::{signed_message, truncate};
 use base::{BinEncodable, BinEncoder, Name, RecordType};
 use base_data::{EdnsOption, OPT};
 use op::{LowerQuery, Message, Query};
 use std::alloc::{AllocError, Global};
 use std::test::Fail;
-use test_tools::bytes::decoded;
+use test_tools::bytes::decode;
 
 /// The parts of the signed message, in hexadecimal, as they stand at its front.
 const QUESTION: &str = "01610000010001";
@@ -27,7 +27,7 @@ const ADDRESS_AFTER: &str = "c00e000100010000003c0004c0000201";
 /// Whether the bytes are these, in hexadecimal.
 fn are_bytes(alloc: Global, bytes: &[u8], parts: &[&str]) -> Result<bool, Fail> {
     let text = parts.concat(alloc)?;
-    let wanted = decoded(alloc, &text);
+    let wanted = decode(alloc, &text);
     drop(text);
     let wanted = wanted?;
     let same = *bytes == *wanted.as_slice();
@@ -51,7 +51,7 @@ fn leaves_what_stood(message: &Message, bytes: &mut Vec<u8>, limit: u16) -> Resu
 
 /// Whether that is so of the signed message under a limit, and it is written as these parts.
 fn is_written_after(alloc: Global, limit: u16, parts: &[&str]) -> Result<bool, Fail> {
-    let message = signed(alloc)?;
+    let message = signed_message(alloc)?;
     let mut bytes = Vec::new(alloc);
     let stood = leaves_what_stood(&message, &mut bytes, limit);
     drop(message);
@@ -119,13 +119,13 @@ fn is_written(alloc: Global, message: Message, parts: &[&str]) -> Result<bool, F
 fn a_message_is_written_whole(rt: HostRuntime) -> Result<(), Fail> {
     let header = "000780000001000100000003";
     let parts = [header, QUESTION, TEXT, ADDRESS, EDNS, SIGNATURE];
-    assert!(rt; is_written(rt.alloc(), signed(rt.alloc())?, &parts)?);
+    assert!(rt; is_written(rt.alloc(), signed_message(rt.alloc())?, &parts)?);
     Ok(())
 }
 
 /// Whether the truncated message is written as these parts.
 fn is_truncated_to(alloc: Global, parts: &[&str]) -> Result<bool, Fail> {
-    let bytes = truncated(alloc)?;
+    let bytes = truncate(alloc)?;
     let same = are_bytes(alloc, &bytes, parts);
     drop(bytes);
     same

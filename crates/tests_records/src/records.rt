@@ -12,6 +12,7 @@ use std::net::Ipv4Addr;
 use std::test::Fail;
 use test_tools::forms::{is_read_with_text, is_written_as, read};
 
+/// The bytes of an address record of `www.example.com.`.
 const WWW: [u8; 31] = [
     0x03, 0x77, 0x77, 0x77, 0x07, 0x65, 0x78, 0x61, 0x6D, 0x70, 0x6C, 0x65, 0x03, 0x63, 0x6F, 0x6D,
     0x00, 0x00, 0x01, 0x00, 0x01, 0x00, 0x00, 0x00, 0x05, 0x00, 0x04, 0xC0, 0xA8, 0x00, 0x01,
@@ -22,6 +23,7 @@ const OWNER: &str = "www.example.com.";
 
 const ROW: Row = (Text(RecordType::A, &["192.168.0.1"]), DNSClass::IN, 5);
 
+/// Writes a record under a limit.
 fn emit_under(bytes: &mut Vec<u8>, entry: &Record<A>, limit: u16) -> Result<(), ProtoError> {
     let mut encoder = BinEncoder::new(bytes);
     encoder.set_max_size(limit);
@@ -189,6 +191,7 @@ fn fault(alloc: Global, bytes: &[u8]) -> (u8, usize, usize) {
     fault
 }
 
+/// Bytes that are no record, and how reading them ends.
 const FAULTS: &[(&'static [u8], (u8, usize, usize))] = &[
     // faults come in order
     (&[1, 0x61, 0, 0, 0x29], (6, 0, 0)),

@@ -1,4 +1,4 @@
-use crate::rows::Datum::{self, Address, Start, Text};
+use crate::rows::Datum::{self, Address, Soa, Text};
 use crate::rows::Row;
 use crate::sets::{Call, Step, is_right, leaves, records, set_of};
 use base::DNSClass::IN;
@@ -52,19 +52,20 @@ fn goes_each_way(
     Ok(right)
 }
 
+/// Data of each type: addresses, SOAs, CNAMEs and name servers.
 const FIRST: Datum = Address(24);
 
 const SECOND: Datum = Address(25);
 
-const START_A: Datum = Start(2015082403, "a.");
+const SOA_A: Datum = Soa(2015082403, "a.");
 
-const START_B: Datum = Start(2015082403, "b.");
+const SOA_B: Datum = Soa(2015082403, "b.");
 
-const LATER: Datum = Start(2015082404, "c.");
+const SOA_LATER: Datum = Soa(2015082404, "c.");
 
-const ALIAS_A: Datum = Text(CNAME, &["a."]);
+const CNAME_A: Datum = Text(CNAME, &["a."]);
 
-const ALIAS_B: Datum = Text(CNAME, &["b."]);
+const CNAME_B: Datum = Text(CNAME, &["b."]);
 
 const NS_1: Datum = Text(NS, &["ns1.example."]);
 
@@ -84,22 +85,22 @@ const SETS: &[(RecordType, &'static [Change], &'static [Row])] = &[
     (
         SOA,
         &[
-            Change::Put(START_A, true, true),
-            Change::Put(START_B, false, false),
-            Change::Put(LATER, true, true),
-            Change::Put(START_B, false, false),
-            Change::Put(START_A, false, false),
+            Change::Put(SOA_A, true, true),
+            Change::Put(SOA_B, false, false),
+            Change::Put(SOA_LATER, true, true),
+            Change::Put(SOA_B, false, false),
+            Change::Put(SOA_A, false, false),
         ],
-        &[(LATER, IN, 5)],
+        &[(SOA_LATER, IN, 5)],
     ),
     (
         CNAME,
         &[
-            Change::Put(ALIAS_A, true, true),
-            Change::Put(ALIAS_B, true, true),
-            Change::Put(ALIAS_B, true, true),
+            Change::Put(CNAME_A, true, true),
+            Change::Put(CNAME_B, true, true),
+            Change::Put(CNAME_B, true, true),
         ],
-        &[(ALIAS_B, IN, 5)],
+        &[(CNAME_B, IN, 5)],
     ),
     (
         NS,
@@ -127,7 +128,7 @@ fn data_is_put_in_and_removed(rt: HostRuntime) -> Result<(), Fail> {
     Ok(())
 }
 
-/// Whether as many addresses as an index is made for go in, in this way: 25 of them, 24 times the first again, and
+/// Whether enough addresses for an index to be made go in, in this way: 25 of them, 24 times the first again, and
 /// three more, of which the first makes the index.
 fn fills(alloc: Global, set: &mut RecordSet, way: Call) -> Result<bool, Fail> {
     let mut right = true;

@@ -13,8 +13,8 @@ pub(crate) enum Datum {
     Address(u16),
     /// What these items spell.
     Text(RecordType, &'static [&'static str]),
-    /// The start of a zone, of this serial and first name.
-    Start(u32, &'static str),
+    /// An SOA of this serial and first name.
+    Soa(u32, &'static str),
     /// Empty, as in updates.
     Empty(RecordType),
 }
@@ -28,8 +28,8 @@ fn address(number: u16) -> RData {
     A::new(Ipv4Addr::new(93, 184, high, low)).into_rdata()
 }
 
-/// The start of a zone, of this serial and first name.
-fn start(first: Name, serial: u32) -> RData {
+/// An SOA of this serial and first name.
+fn soa(first: Name, serial: u32) -> RData {
     let second = Name::root(first.allocator());
     RData::SOA(SOA::new(first, second, serial, 1, 1, 1, 1))
 }
@@ -39,7 +39,7 @@ pub(crate) fn data(alloc: Global, datum: Datum) -> Result<RData, ParseError> {
     match datum {
         Datum::Address(number) => Ok(address(number)),
         Datum::Text(record_type, items) => RData::from_items(alloc, record_type, items, None),
-        Datum::Start(serial, name) => Ok(start(Name::parse(alloc, name, None)?, serial)),
+        Datum::Soa(serial, name) => Ok(soa(Name::parse(alloc, name, None)?, serial)),
         Datum::Empty(record_type) => Ok(RData::Update0(record_type)),
     }
 }

@@ -129,7 +129,12 @@ fn removes(set: &mut RecordSet, entry: &Record, serial: u32) -> Result<bool, Pro
 }
 
 /// What the call answers; true where it has no answer.
-fn lent(set: &mut RecordSet, call: Call, entry: &Record, serial: u32) -> Result<bool, ProtoError> {
+fn call_on(
+    set: &mut RecordSet,
+    call: Call,
+    entry: &Record,
+    serial: u32,
+) -> Result<bool, ProtoError> {
     match call {
         Call::Insert => inserts(set, entry.clone()?, serial),
         Call::Add => adds(set, entry.rdata.clone()?),
@@ -152,7 +157,7 @@ fn is_answered(
     wanted: bool,
 ) -> Result<bool, ProtoError> {
     let before: RecordSet = set.clone()?;
-    let answered = lent(set, call, entry, serial);
+    let answered = call_on(set, call, entry, serial);
     let same = *set == before;
     drop(before);
     match answered {

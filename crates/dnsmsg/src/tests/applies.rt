@@ -7,12 +7,12 @@ use std::process::Abort;
 /// The parts of an update of `example.`, of the zone's text, and of what is printed.
 type Applied = (Parts, Parts, Parts);
 
-/// The start of `example.` and its name server.
-const START: &str = "@ 3600 SOA ns hostmaster 1 2 3 4 5\n@ NS ns\n";
+/// The SOA of `example.` and its name server, and an address or a CNAME of `www`.
+const SOA_AND_NS: &str = "@ 3600 SOA ns hostmaster 1 2 3 4 5\n@ NS ns\n";
 
 const WWW: &str = "www 300 A 192.0.2.1\n";
 
-const ALIAS: &str = "www 300 CNAME ns\n";
+const CNAME: &str = "www 300 CNAME ns\n";
 
 /// How these are printed.
 const SHOWN: &str =
@@ -20,14 +20,15 @@ const SHOWN: &str =
 
 const SHOWN_WWW: &str = "www.example. 300 IN A 192.0.2.1\n";
 
-const SHOWN_ALIAS: &str = "www.example. 300 IN CNAME ns.example.\n";
+const SHOWN_CNAME: &str = "www.example. 300 IN CNAME ns.example.\n";
 
-/// An update of `example.` up to its one prerequisite, and up to its one change.
+/// The header and the zone section of an update of `example.` with one prerequisite, and of one with one change; a
+/// change; and whole updates.
 const ASK: &str = "0007 2800 0001 0001 0000 0000 076578616D706C65 00 0006 0001";
 
 const CHANGE: &str = "0007 2800 0001 0000 0001 0000 076578616D706C65 00 0006 0001";
 
-const ADD_ALIAS: &str = "03777777 C00C 0005 0001 0000003C 0004 0178 C00C";
+const ADD_CNAME: &str = "03777777 C00C 0005 0001 0000003C 0004 0178 C00C";
 
 const DELETE_SERVER: &str = "C00C 0002 00FE 00000000 0005 026E73 C00C";
 
@@ -69,7 +70,7 @@ const TEN_SHOWN_MORE: &str =
 const TEN_START: &str = "1F2E 2800 0001 000A 000A 0000 076578616D706C65 00 0006 0001";
 
 /// Ten prerequisites (RFC 2136, 2.4): www has the addresses 192.0.2.4 and 192.0.2.5 and no other; the zone has mail
-/// exchanges, and ns an address; old is in use, and new isn't; www has no address of IPv6; ftp is an alias; old has the
+/// exchanges, and ns an address; old is in use, and new isn't; www has no address of IPv6; ftp has a CNAME; old has the
 /// one text gone; mail is in use.
 const TEN_ASKED: &str =
     "03777777 C00C 0001 0001 00000000 0004 C0000204 C019 0001 0001 00000000 0004 C0000205 C00C 000F 00FF 00000000 0000 026E73 C00C 0001 00FF 00000000 0000 036F6C64 C00C 00FF 00FF 00000000 0000";
@@ -78,7 +79,7 @@ const TEN_ASKED_MORE: &str =
     "036E6577 C00C 00FF 00FE 00000000 0000 C019 001C 00FE 00000000 0000 03667470 C00C 0005 00FF 00000000 0000 036F6C64 C00C 0010 0001 00000000 0005 04676F6E65 046D61696C C00C 00FF 00FF 00000000 0000";
 
 /// Ten changes (RFC 2136, 2.5): www is given 2001:db8::4, the address that it has with 60 seconds, loses 192.0.2.5 and
-/// is given 192.0.2.7; all of old goes; new becomes an alias of www; the alias of ftp goes, and ftp is given an
+/// is given 192.0.2.7; all of old goes; new is given a CNAME for www; the CNAME of ftp goes, and ftp is given an
 /// address; ns2 is no server any more; the mail exchanges go.
 const TEN_CHANGES: &str =
     "C019 001C 0001 0000003C 0010 20010DB8000000000000000000000004 C019 0001 0001 0000003C 0004 C0000204 C019 0001 \
@@ -99,7 +100,7 @@ const APPLIED: &[Applied] = &[
     // a set is swapped once
     (
         &[SWAP],
-        &[START, WWW],
+        &[SOA_AND_NS, WWW],
         &[
             "NoError\n",
             SHOWN,
@@ -108,7 +109,7 @@ const APPLIED: &[Applied] = &[
     ),
     (
         &[SWAP],
-        &[START, "www 60 A 192.0.2.1\nwww 60 A 192.0.2.2\n"],
+        &[SOA_AND_NS, "www 60 A 192.0.2.1\nwww 60 A 192.0.2.2\n"],
         &[
             "NXRRSet\n",
             SHOWN,
@@ -117,60 +118,64 @@ const APPLIED: &[Applied] = &[
     ),
     (
         &[SWAP],
-        &[START, "www 300 A 192.0.2.9\n"],
+        &[SOA_AND_NS, "www 300 A 192.0.2.9\n"],
         &["NXRRSet\n", SHOWN, "www.example. 300 IN A 192.0.2.9\n"],
     ),
     // a set is created where there is none
-    (&[CREATE], &[START, WWW], &["YXRRSet\n", SHOWN, SHOWN_WWW]),
     (
         &[CREATE],
-        &[START],
+        &[SOA_AND_NS, WWW],
+        &["YXRRSet\n", SHOWN, SHOWN_WWW],
+    ),
+    (
+        &[CREATE],
+        &[SOA_AND_NS],
         &["NoError\n", SHOWN, "www.example. 60 IN A 192.0.2.1\n"],
     ),
     // the SOA stays where all is deleted
     (
         &[DELETE_ALL],
-        &[START, "@ 60 TXT x\nwww 300 A 192.0.2.1\n"],
+        &[SOA_AND_NS, "@ 60 TXT x\nwww 300 A 192.0.2.1\n"],
         &["NoError\n", SHOWN, SHOWN_WWW],
     ),
-    // nothing stands beside an alias
+    // nothing stands beside a CNAME
     (
         &[CHANGE, "03777777 C00C 0001 0001 0000003C 0004 C0000201"],
-        &[START, ALIAS],
-        &["NoError\n", SHOWN, SHOWN_ALIAS],
+        &[SOA_AND_NS, CNAME],
+        &["NoError\n", SHOWN, SHOWN_CNAME],
     ),
     (
         &[APPEND],
-        &[START, ALIAS],
-        &["NXRRSet\n", SHOWN, SHOWN_ALIAS],
+        &[SOA_AND_NS, CNAME],
+        &["NXRRSet\n", SHOWN, SHOWN_CNAME],
     ),
     (
-        &[CHANGE, ADD_ALIAS],
-        &[START, WWW],
+        &[CHANGE, ADD_CNAME],
+        &[SOA_AND_NS, WWW],
         &["NoError\n", SHOWN, SHOWN_WWW],
     ),
     (
-        &[CHANGE, ADD_ALIAS],
-        &[START, ALIAS],
+        &[CHANGE, ADD_CNAME],
+        &[SOA_AND_NS, CNAME],
         &["NoError\n", SHOWN, "www.example. 60 IN CNAME x.example.\n"],
     ),
     // data and sets are deleted
-    (&[DELETE_DATA], &[START, WWW], &["NoError\n", SHOWN]),
-    (&[DELETE_SET], &[START, WWW], &["NoError\n", SHOWN]),
+    (&[DELETE_DATA], &[SOA_AND_NS, WWW], &["NoError\n", SHOWN]),
+    (&[DELETE_SET], &[SOA_AND_NS, WWW], &["NoError\n", SHOWN]),
     // the last name server stays
     (
         &[CHANGE, DELETE_SERVER],
-        &[START, WWW],
+        &[SOA_AND_NS, WWW],
         &["NoError\n", SHOWN, SHOWN_WWW],
     ),
     (
         &[CHANGE, "C00C 0002 00FF 00000000 0000"],
-        &[START, WWW],
+        &[SOA_AND_NS, WWW],
         &["NoError\n", SHOWN, SHOWN_WWW],
     ),
     (
         &[CHANGE, DELETE_SERVER],
-        &[START, "@ NS ns2\n"],
+        &[SOA_AND_NS, "@ NS ns2\n"],
         &[
             "NoError\n$ORIGIN example.\nexample. 3600 IN NS ns2.example.\n",
             "example. 3600 IN SOA ns.example. hostmaster.example. 1 2 3 4 5\n",
@@ -178,7 +183,7 @@ const APPLIED: &[Applied] = &[
     ),
     (
         &[CHANGE, DELETE_SERVER],
-        &[START, "@ NS ns2\n", WWW],
+        &[SOA_AND_NS, "@ NS ns2\n", WWW],
         &[
             "NoError\n$ORIGIN example.\nexample. 3600 IN NS ns2.example.\n",
             "example. 3600 IN SOA ns.example. hostmaster.example. 1 2 3 4 5\n",
@@ -219,14 +224,14 @@ const APPLIED: &[Applied] = &[
         &[
             "0004 2800 0001 0000 0001 0000 076578616D706C65 00 0006 0003 03777777 C00C 0001 00FE 00000000 0004 C0000201",
         ],
-        &[START, WWW],
+        &[SOA_AND_NS, WWW],
         &["NotAuth\n", SHOWN, SHOWN_WWW],
     ),
     (
         &[
             "1000 8180 0001 0001 0000 0000 03777777 076578616D706C65 03636F6D 00 0001 0001 C00C 0001 0001 00000002 0004 5DB8D70E",
         ],
-        &[START, WWW],
+        &[SOA_AND_NS, WWW],
         &["FormErr\n", SHOWN, SHOWN_WWW],
     ),
     (
@@ -234,63 +239,63 @@ const APPLIED: &[Applied] = &[
             "0006 0000 0001 0000 0001 0001 076578616D706C65 00 00FB 0001 C00C 0006 0001 00000000 0026 026E73 C00C \
              0A686F73746D6173746572 C00C 00000001 00001C20 00000E10 00127500 0000012C 00 0029 04D0 00000000 0000",
         ],
-        &[START, WWW],
+        &[SOA_AND_NS, WWW],
         &["NotImp\n", SHOWN, SHOWN_WWW],
     ),
     (
         &["0006 0000 0001 0000 0000 0001 076578616D706C65 00 00FC 0001 00 0029 04D0 00000000 0000"],
-        &[START, WWW],
+        &[SOA_AND_NS, WWW],
         &["FormErr\n", SHOWN, SHOWN_WWW],
     ),
     // a prerequisite or a change that stands alone
     (
         &[ASK, "0178 C00C 00FF 00FF 00000000 0000"],
-        &[START, WWW],
+        &[SOA_AND_NS, WWW],
         &["NXDomain\n", SHOWN, SHOWN_WWW],
     ),
     (
         &[ASK, "03777777 C00C 00FF 00FE 00000000 0000"],
-        &[START, WWW],
+        &[SOA_AND_NS, WWW],
         &["YXDomain\n", SHOWN, SHOWN_WWW],
     ),
     (
         &[ASK, "03777777 C00C 0010 00FF 00000000 0000"],
-        &[START, WWW],
+        &[SOA_AND_NS, WWW],
         &["NXRRSet\n", SHOWN, SHOWN_WWW],
     ),
     (
         &[ASK, "03777777 C00C 0001 0001 00000000 0004 C0000209"],
-        &[START, WWW],
+        &[SOA_AND_NS, WWW],
         &["NXRRSet\n", SHOWN, SHOWN_WWW],
     ),
     (
         &[ASK, "03777777 C00C 0001 00FE 00000000 0000"],
-        &[START, WWW],
+        &[SOA_AND_NS, WWW],
         &["YXRRSet\n", SHOWN, SHOWN_WWW],
     ),
     (
         &[ASK, "03777777 C00C 0001 00FF 00000001 0000"],
-        &[START, WWW],
+        &[SOA_AND_NS, WWW],
         &["FormErr\n", SHOWN, SHOWN_WWW],
     ),
     (
         &[ASK, "0178 00 0001 00FF 00000000 0000"],
-        &[START, WWW],
+        &[SOA_AND_NS, WWW],
         &["NotZone\n", SHOWN, SHOWN_WWW],
     ),
     (
         &[CHANGE, "0178 00 0001 0001 0000003C 0004 C0000201"],
-        &[START, WWW],
+        &[SOA_AND_NS, WWW],
         &["NotZone\n", SHOWN, SHOWN_WWW],
     ),
     (
         &[CHANGE, "03777777 C00C 0001 00FE 0000003C 0004 C0000201"],
-        &[START, WWW],
+        &[SOA_AND_NS, WWW],
         &["FormErr\n", SHOWN, SHOWN_WWW],
     ),
     (
         &[CHANGE, "C00C 0006 00FF 00000000 0000"],
-        &[START, WWW],
+        &[SOA_AND_NS, WWW],
         &["NotImp\n", SHOWN, SHOWN_WWW],
     ),
 ];
@@ -314,6 +319,7 @@ fn rows_of_updates(rt: HostRuntime) -> Result<(), AllocError> {
     Ok(())
 }
 
+/// Words and texts that are refused.
 const REFUSED: &[Row] = &[
     (
         &["apply", "example.", "0g"],

@@ -3,9 +3,10 @@ use crate::run::run;
 use std::alloc::{AllocError, Global};
 use std::io::{self, ErrorKind, Read, Write};
 
+/// The input of a header.
 const HEADER: &[u8] = b"0110AA83 88776655 44332211\n";
 
-/// Gives as many bytes of a header as it has left, and then fails with an error of this kind.
+/// Gives `left` bytes, then fails with an error of this kind.
 #[derive(Drop)]
 struct BrokenReader {
     left: usize,
@@ -37,8 +38,8 @@ impl Write for BrokenWriter {
     }
 }
 
-/// The status, and how many bytes are printed, where the reader fails after so many bytes.
-fn cut_off(
+/// The status, and how many bytes are printed, where the reader fails after `left` bytes.
+fn run_cut_off(
     alloc: Global,
     words: &[&str],
     left: usize,
@@ -57,7 +58,7 @@ fn a_reader_that_fails_is_status_three(rt: HostRuntime) -> Result<(), AllocError
         (5, ErrorKind::OutOfMemory),
     ] {
         assert!(rt;
-            cut_off(rt.alloc(), &["header"], left, kind)? == (3, 0),
+            run_cut_off(rt.alloc(), &["header"], left, kind)? == (3, 0),
             "after {left} bytes"
         );
     }
@@ -71,7 +72,7 @@ fn an_update_is_judged_before_the_input_is_read(rt: HostRuntime) -> Result<(), A
         let words = ["apply", "example.", update];
         let kind = ErrorKind::ConnectionReset;
         assert!(rt;
-            cut_off(rt.alloc(), &words, 0, kind)? == (1, printed),
+            run_cut_off(rt.alloc(), &words, 0, kind)? == (1, printed),
             "{update}"
         );
     }
@@ -79,20 +80,20 @@ fn an_update_is_judged_before_the_input_is_read(rt: HostRuntime) -> Result<(), A
 }
 
 /// The status where the output takes nothing.
-fn unwritten(alloc: Global, words: &[&str], mut input: &[u8]) -> Result<u8, AllocError> {
+fn status_unwritten(alloc: Global, words: &[&str], mut input: &[u8]) -> Result<u8, AllocError> {
     let texts = words_of(alloc, words)?;
     Ok(run(alloc, &texts, &mut input, &mut BrokenWriter))
 }
 
 #[test]
 fn a_writer_that_fails_is_status_three(rt: HostRuntime) -> Result<(), AllocError> {
-    assert!(rt; unwritten(rt.alloc(), &["header"], HEADER)? == 3);
-    assert!(rt; unwritten(rt.alloc(), &["header"], b"0g")? == 3);
-    assert!(rt; unwritten(rt.alloc(), &["header", "x"], HEADER)? == 3);
+    assert!(rt; status_unwritten(rt.alloc(), &["header"], HEADER)? == 3);
+    assert!(rt; status_unwritten(rt.alloc(), &["header"], b"0g")? == 3);
+    assert!(rt; status_unwritten(rt.alloc(), &["header", "x"], HEADER)? == 3);
     Ok(())
 }
 
-/// Counts how often it is read, and has nothing to give.
+/// Counts how many times it is read, and has nothing to give.
 #[derive(Drop)]
 struct CountingReader {
     calls: u32,
@@ -105,8 +106,8 @@ impl Read for CountingReader {
     }
 }
 
-/// The status, and how often the input was read.
-fn read_so_often(alloc: Global, words: &[&str]) -> Result<(u8, u32), AllocError> {
+/// The status, and how many times the input was read.
+fn count_reads(alloc: Global, words: &[&str]) -> Result<(u8, u32), AllocError> {
     let mut input = CountingReader { calls: 0 };
     let (status, _output) = run_on(alloc, words, &mut input)?;
     Ok((status, input.calls))
@@ -121,13 +122,13 @@ fn wrong_words_are_judged_before_the_input_is_read(rt: HostRuntime) -> Result<()
         &["cut", "65536"],
         &["zones"],
     ] {
-        assert!(rt; read_so_often(rt.alloc(), words)? == (2, 0), "{words:?}");
+        assert!(rt; count_reads(rt.alloc(), words)? == (2, 0), "{words:?}");
     }
-    assert!(rt; read_so_often(rt.alloc(), &["header"])?.1 > 0);
+    assert!(rt; count_reads(rt.alloc(), &["header"])?.1 > 0);
     Ok(())
 }
 
-/// Takes as many bytes as it has room for, one at a time, and then fails.
+/// Takes `room` bytes, one at a time, then fails.
 #[derive(Drop)]
 struct NarrowWriter {
     room: usize,
@@ -151,8 +152,8 @@ impl Write for NarrowWriter {
     }
 }
 
-/// The status where the output takes so many bytes, and whether those begin the line that is wanted.
-fn written_before_it_fails(
+/// The status where the output takes `room` bytes, and whether those begin the line that is wanted.
+fn run_until_full(
     alloc: Global,
     words: &[&str],
     mut input: &[u8],
@@ -174,7 +175,7 @@ fn a_write_that_fails_later_leaves_a_front_of_the_answer(
     let usage = "usage: dnsmsg COMMAND [WORDS]\n";
     for room in 0..11 {
         assert!(rt;
-            written_before_it_fails(
+            run_until_full(
                 rt.alloc(),
                 &["header"],
                 HEADER,
@@ -184,13 +185,11 @@ fn a_write_that_fails_later_leaves_a_front_of_the_answer(
             "{room}"
         );
         assert!(rt;
-            written_before_it_fails(rt.alloc(), &["header"], b"0g", room, "refused 24\n")?
-                == (3, true),
+            run_until_full(rt.alloc(), &["header"], b"0g", room, "refused 24\n")? == (3, true),
             "{room}"
         );
         assert!(rt;
-            written_before_it_fails(rt.alloc(), &["header", "x"], HEADER, room, usage)?
-                == (3, true),
+            run_until_full(rt.alloc(), &["header", "x"], HEADER, room, usage)? == (3, true),
             "{room}"
         );
     }

@@ -3,8 +3,10 @@
 use super::{Row, USAGE, all_give, run_on};
 use std::alloc::{AllocError, Global};
 
+/// The words of a cut with the largest limit.
 const CUT: &[&str] = &["cut", "65535"];
 
+/// A response with a question and an answer, and its cut without the answer.
 const WWW: &str = "100081800001000100000000037777770765\
     78616d706c6503636f6d0000010001c00c0001000100000002\
     00045db8d70e";
@@ -28,6 +30,7 @@ const SAME_OWNER: &str = "000880000001000100000001\
     2878787878787878787878787878787878787878787878787878787878787878787878787878787878\
     c013000100010000003c0004c0000201";
 
+/// Messages, limits, and what is printed.
 const ROWS: &[Row] = &[
     // a message under limits
     (&["cut", "65535"], &[WWW], 0, &[WWW, "\n"]),
@@ -37,7 +40,7 @@ const ROWS: &[Row] = &[
     (&["cut", "33"], &[WWW], 0, &[WWW_CUT, "\n"]),
     (&["cut", "32"], &[WWW], 1, &["refused 2\n"]),
     (&["cut", "11"], &[WWW], 1, &["refused 1\n"]),
-    // the reserved bit and what stands after are not written
+    // the reserved bit and bytes after the message are not written
     (
         CUT,
         &[

@@ -3,12 +3,14 @@
 use super::{Row, USAGE, all_give};
 use std::alloc::AllocError;
 
+/// The words of the command, the bytes of a header, and the refusal of bytes that are none.
 const HEADER: &[&str] = &["header"];
 
 const BYTES: &[&str] = &["0110AA83 88776655 44332211\n"];
 
 const NO_HEADER: &[&str] = &["refused 24\n"];
 
+/// Inputs, and what is printed of them.
 const ROWS: &[Row] = &[
     (
         HEADER,

@@ -5,6 +5,7 @@ use crate::run::run;
 use std::alloc::{AllocError, Global};
 use std::process::Abort;
 
+/// Texts with their included texts, and what is printed.
 const INCLUDED: &[Row] = &[
     // included texts
     (
@@ -125,7 +126,7 @@ fn end_of_chain(alloc: Global, place: usize, last: &str) -> Result<String, Alloc
     format!(in alloc; "{place}={last}")
 }
 
-/// The words of a zone under `a.` with so many texts, each including the next, and with the last of them.
+/// The words of a zone under `a.` with `length` texts, each including the next, and with the last of them.
 fn chain(alloc: Global, length: usize, last: &str) -> Result<Vec<String>, AllocError> {
     let mut words = Vec::new(alloc);
     words.push(String::from_str(alloc, "zone")?)?;
@@ -137,7 +138,7 @@ fn chain(alloc: Global, length: usize, last: &str) -> Result<Vec<String>, AllocE
     Ok(words)
 }
 
-/// A chain of so many included texts, and one that includes the first, ends with this status and prints this.
+/// A chain of `length` included texts, and a text that includes the first, end with this status and print this.
 fn chain_gives(
     rt: &(impl Abort + AllocGlobal),
     length: usize,

@@ -3,8 +3,10 @@
 use super::{Row, all_give};
 use std::alloc::AllocError;
 
+/// The words of the command.
 const READ: &[&str] = &["read"];
 
+/// What is printed of empty sections, and of a response with an answer.
 const NO_SECTIONS: &str = "; answers 0\n; authorities 0\n; additionals 0\n";
 
 const WWW: &[&str] = &[
@@ -19,6 +21,7 @@ www.example.com. 2 IN A 93.184.215.14
 ",
 ];
 
+/// Messages, and what is printed of them.
 const MESSAGES: &[Row] = &[
     (
         READ,
@@ -135,7 +138,7 @@ example. 300 IN MX 10 mail.example.
     ),
 ];
 
-/// Records, and the headers of messages with so many of them.
+/// Records, and the headers of messages that have them.
 const A: &str = "00 00 01 00 01 00 00 00 00 00 04 7F 00 00 01";
 
 const OPT: &str = "00 00 29 02 00 00 00 00 00 00 00";
@@ -172,6 +175,7 @@ const EXCHANGE: &str =
 
 const MAIL: &str = "00 0A 04 6D 61 69 6C C0 0C";
 
+/// Inputs that are refused.
 const REFUSED: &[Row] = &[
     // other text
     (READ, &["0g"], 1, &["refused 24\n"]),

@@ -6,6 +6,7 @@ use std::alloc::AllocError;
 /// The words of a text under the origin `a.`.
 const A: &[&str] = &["zone", "a."];
 
+/// Texts of zones, and what is printed.
 const ZONES: &[Row] = &[
     // a zone with its SOA
     (
@@ -59,6 +60,7 @@ const ZONES: &[Row] = &[
     (&["zone", "a"], &[""], 0, &["$ORIGIN a.\n"]),
 ];
 
+/// Texts that are refused.
 const REFUSED: &[Row] = &[
     (A, &["www 60 CNAME @\n"], 1, &["refused 17\n"]),
     (A, &["$X y\n"], 1, &["refused 18\n"]),

@@ -83,12 +83,14 @@ pub(super) fn signature(alloc: Global, byte: u8) -> Result<TSIG, AllocError> {
     Ok(TSIG::new(vec![in alloc; byte]?))
 }
 
+/// EDNS options: one, of code 3, with the byte 4.
 fn one_option(alloc: Global) -> Result<OPT, AllocError> {
     let option = EdnsOption::new(3, vec![in alloc; 4]?);
     Ok(OPT::new(vec![in alloc; option]?))
 }
 
-fn carried(alloc: Global, code: RecordType) -> Result<RData, AllocError> {
+/// The byte 1, as data of a type that has no kind of its own.
+fn unknown_data(alloc: Global, code: RecordType) -> Result<RData, AllocError> {
     let rdata = null(alloc, &[1])?;
     Ok(RData::Unknown { code, rdata })
 }
@@ -126,7 +128,7 @@ fn bytes_alone(rt: HostRuntime) {
     assert!(rt;
         is_data(
             alloc,
-            carried(alloc, RecordType::NSEC),
+            unknown_data(alloc, RecordType::NSEC),
             RecordType::NSEC,
             &[1],
             "\\# 1 01"
@@ -146,6 +148,7 @@ fn bytes_alone(rt: HostRuntime) {
     );
 }
 
+/// Strings, their bytes, and strings with marks that have a meaning in zone text.
 const STRINGS: [&[u8]; 3] = [b"say \"a\\b\"", &[], &[0x1F, 0x7E, 0x7F, 0xFF]];
 
 const STRINGS_ON_THE_WIRE: &[u8] = b"\x09say \"a\\b\"\0\x04\x1F\x7E\x7F\xFF";
@@ -203,15 +206,18 @@ fn strings_are_read(rt: HostRuntime) {
     assert!(rt; are_strings_read(rt.alloc()));
 }
 
+/// An MX.
 fn mail_host(alloc: Global, preference: u16, text: &str) -> Result<MX, ParseError> {
     Ok(MX::new(preference, name(alloc, text)?))
 }
 
+/// An SRV.
 fn service(alloc: Global) -> Result<SRV, ParseError> {
     Ok(SRV::new(1, 2, 443, name(alloc, "w.a.")?))
 }
 
-fn start(alloc: Global) -> Result<SOA, ParseError> {
+/// An SOA, with names under `example.`.
+fn soa(alloc: Global) -> Result<SOA, ParseError> {
     let server = name(alloc, "ns.example.")?;
     match name(alloc, "hostmaster.example.") {
         Ok(mailbox) => Ok(SOA::new(server, mailbox, 1, 7200, 3600, 1_209_600, 300)),
@@ -222,7 +228,8 @@ fn start(alloc: Global) -> Result<SOA, ParseError> {
     }
 }
 
-const START: &[u8] = b"\x02ns\x07example\0\x0Ahostmaster\xC0\x03\
+/// The bytes of that SOA.
+const SOA_ON_THE_WIRE: &[u8] = b"\x02ns\x07example\0\x0Ahostmaster\xC0\x03\
     \0\0\0\x01\0\0\x1C\x20\0\0\x0E\x10\0\x12\x75\0\0\0\x01\x2C";
 
 #[test]
@@ -271,7 +278,7 @@ fn names(rt: HostRuntime) {
     let wire = b"\0\x01\0\x02\x01\xBB\x01w\x01a\0";
     assert!(rt; is_data(alloc, service(alloc), RecordType::SRV, wire, "1 2 443 w.a."));
     let text = "ns.example. hostmaster.example. 1 7200 3600 1209600 300";
-    assert!(rt; is_data(alloc, start(alloc), RecordType::SOA, START, text));
+    assert!(rt; is_data(alloc, soa(alloc), RecordType::SOA, SOA_ON_THE_WIRE, text));
 }
 
 /// Writes values, one after another.
@@ -357,7 +364,7 @@ fn two_in_a_row(rt: HostRuntime) {
     let twice = b"\x02ns\x07example\0\x0Ahostmaster\xC0\x03\
         \0\0\0\x01\0\0\x1C\x20\0\0\x0E\x10\0\x12\x75\0\0\0\x01\x2C\
         \xC0\x00\xC0\x0C\0\0\0\x01\0\0\x1C\x20\0\0\x0E\x10\0\x12\x75\0\0\0\x01\x2C";
-    assert!(rt; have_wire(alloc, start(alloc), start(alloc), twice));
+    assert!(rt; have_wire(alloc, soa(alloc), soa(alloc), twice));
     let twice = b"\0\x01\0\x02\x01\xBB\x01w\x01a\0\0\x01\0\x02\x01\xBB\x01w\x01a\0";
     assert!(rt; have_wire(alloc, service(alloc), service(alloc), twice));
     let (pointed, plain) = (b"\x01a\0\xC0\x00", b"\x01a\0\x01a\0");

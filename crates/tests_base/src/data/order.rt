@@ -1,7 +1,7 @@
 //! The order of data (RFC 4034, 6.2 and 6.3): by its bytes, names in lower case; then by what tells it apart otherwise.
 
 use super::Datum::{self, Carried, Empty, Text, Wire};
-use super::made;
+use super::make;
 use base::RecordType::{A, CNAME, MX, NS, NULL, OPT, TSIG, TXT, Unknown};
 use std::alloc::Global;
 use std::cmp::Ordering::{self, Equal, Greater, Less};
@@ -54,9 +54,9 @@ const ROWS: &[(Datum, Datum, Ordering)] = &[
 ];
 
 /// The order of the data of two rows, and whether they are equal.
-fn compared(alloc: Global, first: Datum, second: Datum) -> Result<(Ordering, bool), Fail> {
-    let first = made(alloc, first)?;
-    match made(alloc, second) {
+fn compare(alloc: Global, first: Datum, second: Datum) -> Result<(Ordering, bool), Fail> {
+    let first = make(alloc, first)?;
+    match make(alloc, second) {
         Ok(second) => {
             let said = (first.canonical_cmp(&second), first == second);
             drop(first);
@@ -74,7 +74,7 @@ fn compared(alloc: Global, first: Datum, second: Datum) -> Result<(Ordering, boo
 fn rows_of_orders(rt: HostRuntime) -> Result<(), Fail> {
     for (i, &(first, second, order)) in ROWS.iter().enumerate() {
         assert!(rt;
-            compared(rt.alloc(), first, second)? == (order, order == Equal),
+            compare(rt.alloc(), first, second)? == (order, order == Equal),
             "row {i}"
         );
     }

@@ -1,8 +1,8 @@
-//! Data that is read, of so many bytes.
+//! Data that is read by its length.
 
 use super::Datum::{self, Carried, Empty, Text, Wire};
 use super::kinds::{holds, null, signature};
-use super::made;
+use super::make;
 use base::{BinDecodable, BinDecoder, DecodeError, RecordType};
 use base_data::{A, MX, RData, RecordData, SOA, SRV};
 use std::alloc::{AllocError, Global};
@@ -43,7 +43,7 @@ const PRINTED: &[(RecordType, &'static [u8], &'static str)] = &[
 
 /// Whether data is made that has this text.
 fn is_shown_as(alloc: Global, datum: Datum, text: &str) -> Result<bool, Fail> {
-    let data = made(alloc, datum)?;
+    let data = make(alloc, datum)?;
     let is_shown = has_text(alloc, &data, text);
     drop(data);
     Ok(is_shown)
@@ -89,7 +89,7 @@ fn is_read(
     len: u16,
     wanted: Datum,
 ) -> Result<bool, Fail> {
-    let wanted = made(alloc, wanted)?;
+    let wanted = make(alloc, wanted)?;
     let found = read_at(alloc, bytes, record_type, len);
     let same = match &found {
         Ok(found) => *found == wanted,
@@ -169,7 +169,7 @@ fn data_fills_its_length(rt: HostRuntime) -> Result<(), Fail> {
     Ok(())
 }
 
-/// Whether this data is read next, of as many bytes.
+/// Whether this data is read next, from `len` bytes.
 fn is_next<R: RecordData>(
     decoder: &mut BinDecoder<'_>,
     len: u16,
@@ -249,7 +249,7 @@ fn is_exchange(alloc: Global, wire: &[u8], preference: u16, exchange: &str) -> b
     is_exchange
 }
 
-/// Whether the start of a zone has these names and numbers.
+/// Whether an SOA has these names and numbers.
 fn is_soa(alloc: Global, wire: &[u8], names: (&str, &str), numbers: [u32; 5]) -> bool {
     let found: Result<SOA, DecodeError> = read(alloc, wire);
     let is_soa = match &found {

@@ -7,6 +7,7 @@ use std::cmp::Ordering;
 use test_tools::forms::{has_text, is_copied};
 use test_tools::hashes::hash_alike;
 
+/// The name that a text spells.
 fn name(alloc: Global, text: &str) -> Result<Name, ParseError> {
     Name::parse(alloc, text, None)
 }
@@ -116,7 +117,7 @@ fn labels_of_texts(rt: HostRuntime) {
     assert!(rt; reads_as(rt.alloc(), ".", true, &[]));
 }
 
-/// Appends labels of as many letters, with a dot after each.
+/// Appends labels with these numbers of letters, with a dot after each.
 fn push_labels(text: &mut String, lens: &[usize]) -> Result<(), AllocError> {
     for len in lens {
         for _ in 0..*len {
@@ -127,7 +128,7 @@ fn push_labels(text: &mut String, lens: &[usize]) -> Result<(), AllocError> {
     Ok(())
 }
 
-/// The number of the refusal of labels of as many letters; 0 where they are read.
+/// The number of the refusal of labels with these numbers of letters; 0 where they are read.
 fn refusal_of_long(alloc: Global, lens: &[usize]) -> Result<u8, AllocError> {
     let mut text = String::new(alloc);
     push_labels(&mut text, lens)?;
@@ -176,7 +177,7 @@ fn lengths_of_names(rt: HostRuntime) -> Result<(), ParseError> {
 
 /// How the names of two texts stand to each other, if they are names: their order, whether they are equal, whether they
 /// hash alike, and whether the first is a zone of the second.
-fn compared(alloc: Global, one: &str, other: &str) -> Option<(Ordering, bool, bool, bool)> {
+fn compare(alloc: Global, one: &str, other: &str) -> Option<(Ordering, bool, bool, bool)> {
     let names = (name(alloc, one), name(alloc, other));
     let compared = match &names {
         (Ok(first), Ok(second)) => {
@@ -192,7 +193,7 @@ fn compared(alloc: Global, one: &str, other: &str) -> Option<(Ordering, bool, bo
 
 /// Whether the names of two texts have this order.
 fn have_order(alloc: Global, one: &str, other: &str, order: Ordering) -> bool {
-    match compared(alloc, one, other) {
+    match compare(alloc, one, other) {
         Some((found, _, _, _)) => found == order,
         None => false,
     }
@@ -200,7 +201,7 @@ fn have_order(alloc: Global, one: &str, other: &str, order: Ordering) -> bool {
 
 /// Whether the names of two texts are equal and hash alike, or are not equal.
 fn are_equal(alloc: Global, one: &str, other: &str, equal: bool) -> bool {
-    match compared(alloc, one, other) {
+    match compare(alloc, one, other) {
         Some((_, found, alike, _)) => found == equal && (alike || !equal),
         None => false,
     }
@@ -208,7 +209,7 @@ fn are_equal(alloc: Global, one: &str, other: &str, equal: bool) -> bool {
 
 /// Whether the name of a text lies in the zone of another, or doesn't.
 fn lies_in(alloc: Global, zone: &str, inner: &str, holds: bool) -> bool {
-    match compared(alloc, zone, inner) {
+    match compare(alloc, zone, inner) {
         Some((_, _, _, found)) => found == holds,
         None => false,
     }
@@ -296,7 +297,7 @@ fn lower(alloc: Global, text: &str) -> Result<LowerName, ParseError> {
 }
 
 /// The order of the keys of two texts and types, and whether they are equal.
-fn keys_compared(
+fn compare_keys(
     alloc: Global,
     one: (&str, RecordType),
     other: (&str, RecordType),
@@ -331,7 +332,7 @@ fn keys(rt: HostRuntime) -> Result<(), ParseError> {
     for (i, &one) in ASCENDING_KEYS.iter().enumerate() {
         for (j, &other) in ASCENDING_KEYS.iter().enumerate() {
             assert!(rt;
-                keys_compared(rt.alloc(), one, other)?.0 == i.cmp(&j),
+                compare_keys(rt.alloc(), one, other)?.0 == i.cmp(&j),
                 "{} {}",
                 one.0,
                 other.0
@@ -339,7 +340,7 @@ fn keys(rt: HostRuntime) -> Result<(), ParseError> {
         }
     }
     let (one, other) = (("A.b.", RecordType::MX), ("a.B.", RecordType::MX));
-    assert!(rt; keys_compared(rt.alloc(), one, other)?.1);
+    assert!(rt; compare_keys(rt.alloc(), one, other)?.1);
     Ok(())
 }
 

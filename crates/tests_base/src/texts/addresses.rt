@@ -2,6 +2,7 @@
 
 use super::Row;
 
+/// Addresses of type A; of type AAAA with all eight groups; and with `::`.
 pub(super) const DOTTED: &[Row] = &[
     (&["192.0.2.1"], "192.0.2.1"),
     (&["0.0.0.0"], "0.0.0.0"),

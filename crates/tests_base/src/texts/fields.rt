@@ -47,6 +47,7 @@ pub(super) const NAMES_UNDER_A_RELATIVE_ORIGIN: &[Row] = &[
     (&["ns."], "ns."),
 ];
 
+/// MX, and MX under the origin `example.`.
 pub(super) const MAIL: &[Row] = &[
     (&["10", "mail.example."], "10 mail.example."),
     (&["0", "."], "0 ."),
@@ -76,6 +77,7 @@ pub(super) const MAIL_UNDER: &[Row] = &[
     (&["10", "mail."], "10 mail."),
 ];
 
+/// SRV, and SRV under the origin `example.`.
 pub(super) const SERVICES: &[Row] = &[
     (&["1", "2", "5060", "sip.example."], "1 2 5060 sip.example."),
     (&["0", "0", "0", "."], "0 0 0 ."),
@@ -99,7 +101,8 @@ pub(super) const SERVICES_UNDER: &[Row] = &[
     (&["1", "2", "3", "."], "1 2 3 ."),
 ];
 
-pub(super) const STARTS: &[Row] = &[
+/// SOA, and SOA under the origin `example.`.
+pub(super) const SOAS: &[Row] = &[
     (&["m.", "r.", "1", "2", "3", "4", "5"], "m. r. 1 2 3 4 5"),
     (&["m", "r.s", "0", "0", "0", "0", "0"], "m r.s 0 0 0 0 0"),
     (
@@ -133,7 +136,7 @@ pub(super) const STARTS: &[Row] = &[
     (&["m.", "r.", "1", "2", "3", "4", "5", "6"], "refused 23"),
 ];
 
-pub(super) const STARTS_UNDER: &[Row] = &[
+pub(super) const SOAS_UNDER: &[Row] = &[
     (
         &["ns", "admin", "1", "2", "3", "4", "5"],
         "ns.example. admin.example. 1 2 3 4 5",

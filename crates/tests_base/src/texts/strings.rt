@@ -2,6 +2,7 @@
 
 use super::Row;
 
+/// TXT.
 pub(super) const STRINGS: &[Row] = &[
     (&["a"], r#""a""#),
     (&["", "b c"], r#""" "b c""#),

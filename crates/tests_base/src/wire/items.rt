@@ -37,7 +37,7 @@ fn count_of(answer: Result<usize, ProtoError>) -> (usize, bool) {
 }
 
 /// What a part answers.
-fn counted<P: EmitAndCount>(part: &mut P, encoder: &mut BinEncoder<'_>) -> (usize, bool)
+fn emit_and_count<P: EmitAndCount>(part: &mut P, encoder: &mut BinEncoder<'_>) -> (usize, bool)
     requires { P.can_emit part.old }
 {
     count_of(part.emit(encoder))
@@ -45,9 +45,9 @@ fn counted<P: EmitAndCount>(part: &mut P, encoder: &mut BinEncoder<'_>) -> (usiz
 
 /// Writes parts that fit, and answers whether they count right.
 fn whole_parts_count(encoder: &mut BinEncoder<'_>) -> bool {
-    let careless = counted(&mut Careless { number: 7 }, encoder);
+    let careless = emit_and_count(&mut Careless { number: 7 }, encoder);
     let before = encoder.len();
-    let whole = counted(&mut [1u16, 2, 3].iter(), encoder);
+    let whole = emit_and_count(&mut [1u16, 2, 3].iter(), encoder);
     careless == (7, true) && before == 0 && whole == (3, true)
 }
 
@@ -55,7 +55,7 @@ fn whole_parts_count(encoder: &mut BinEncoder<'_>) -> bool {
 fn parts_are_counted(encoder: &mut BinEncoder<'_>) -> bool {
     let whole = whole_parts_count(encoder);
     encoder.set_max_size(9);
-    let cut = counted(&mut [4u16, 5, 6].iter(), encoder);
+    let cut = emit_and_count(&mut [4u16, 5, 6].iter(), encoder);
     whole && cut == (1, false)
 }
 
@@ -130,7 +130,7 @@ const AGAIN: &[(Step, u8)] = &[
     (Named(b"\x01e\0"), 0),
 ];
 
-/// Whether the first two of the names fit after as many others, and the bytes of the third are taken back: the suffixes
+/// Whether the first two of the names fit after `count` others, and the bytes of the third are taken back: the suffixes
 /// that were stored with them are not pointed at when names are written again.
 fn write_again(alloc: Global, count: u8, names: &[Name], encoder: &mut BinEncoder<'_>) -> bool {
     let start = usize::from(count) * 4;
@@ -141,7 +141,7 @@ fn write_again(alloc: Global, count: u8, names: &[Name], encoder: &mut BinEncode
     filled && two == (2, false) && is_taken_back && are_taken(alloc, AGAIN, encoder)
 }
 
-/// Whether that is so, and what is written after as many others ends so.
+/// Whether that is so, and what is written after the `count` others is what is wanted.
 fn ends_with(alloc: Global, count: u8, names: &[Name], wanted: &[u8]) -> bool {
     let mut bytes = Vec::new(alloc);
     let mut encoder = BinEncoder::new(&mut bytes);

@@ -5,8 +5,10 @@ use super::{Row, are_taken, leave};
 use base::BinEncoder;
 use std::alloc::Global;
 
+/// The name `a.b.`.
 const AB: &[u8] = b"\x01a\x01b\0";
 
+/// Names that are written, and their bytes.
 const ROWS: &[Row] = &[
     // stored suffixes
     (

@@ -5,6 +5,7 @@ use super::{Row, are_taken, leave, refusal};
 use base::{BinEncoder, DNSClass, ProtoError, RecordType};
 use std::alloc::{AllocError, Global};
 
+/// Numbers, types and classes that are written, and their bytes.
 const ROWS: &[Row] = &[
     // types and classes
     (

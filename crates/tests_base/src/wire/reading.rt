@@ -44,7 +44,7 @@ fn numbers_are_read_high_byte_first(rt: HostRuntime) {
     assert!(rt; is_cut(decoder.pop()));
 }
 
-/// Whether each number is cut by the end of bytes that are one too few.
+/// Whether numbers of one, two and four bytes are refused where one byte is missing.
 fn each_is_cut(alloc: Global) -> bool {
     let one = is_cut(BinDecoder::new(alloc, &[]).pop());
     let two = is_cut(BinDecoder::new(alloc, &[1]).read_u16());
@@ -69,7 +69,7 @@ fn types_and_classes_of_numbers(rt: HostRuntime) {
     assert!(rt; is_cut(DNSClass::read(&mut decoder)));
 }
 
-/// Whether as many numbers as these are read, and are these.
+/// Whether the numbers that are read next are these.
 fn are_next(decoder: &mut BinDecoder<'_>, wanted: &[u16]) -> bool {
     let found = read_many::<u16>(decoder, wanted.len());
     let are_next = match &found {
@@ -108,7 +108,7 @@ fn emit_two(
     emitted
 }
 
-/// Whether the name that is read next is complete, of these two labels.
+/// Whether the name that is read next is absolute and has these two labels.
 fn is_next(decoder: &mut BinDecoder<'_>, first: &[u8], second: &[u8]) -> bool {
     let found = Name::read(decoder);
     let is_next = match &found {

@@ -6,7 +6,7 @@ use base::{BinEncoder, ProtoError};
 use op::Message;
 use std::alloc::Global;
 use std::test::Fail;
-use test_tools::bytes::decoded;
+use test_tools::bytes::decode;
 
 /// What each byte becomes in turn: the shortest and the longest label, the reserved bits, a pointer, and all bits.
 const BYTES: &[u8] = &[0x00, 0x3F, 0x40, 0xC0, 0xFF];
@@ -67,7 +67,7 @@ fn changes_are_answered(alloc: Global, wire: &mut Vec<u8>) -> Result<bool, Proto
 
 /// Whether the bytes that a text spells are answered, however they are cut or changed.
 fn all_are_answered(alloc: Global, text: &str) -> Result<bool, Fail> {
-    let mut wire = decoded(alloc, text)?;
+    let mut wire = decode(alloc, text)?;
     let fronts = fronts_are_answered(alloc, &wire)?;
     let changes = changes_are_answered(alloc, &mut wire)?;
     drop(wire);

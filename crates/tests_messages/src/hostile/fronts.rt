@@ -4,7 +4,7 @@ use super::fault;
 use base::ProtoError;
 use std::alloc::Global;
 use std::test::Fail;
-use test_tools::bytes::decoded;
+use test_tools::bytes::decode;
 
 /// A response with a question and an address, of 49 bytes, whose data begins at 45.
 const WHOLE: &str =
@@ -12,7 +12,7 @@ const WHOLE: &str =
 
 /// Whether each front is refused as it must be: within a field, within the four bytes of data, not at all.
 fn fronts_are_judged(alloc: Global) -> Result<bool, ProtoError> {
-    let wire = decoded(alloc, WHOLE)?;
+    let wire = decode(alloc, WHOLE)?;
     let mut right = wire.len() == 49 && fault(alloc, &wire) == (0, 0, 0);
     for end in 0..wire.len() {
         let wanted = if end < 45 {

@@ -4,8 +4,9 @@ use base::{BinDecoder, ProtoError};
 use op::Message;
 use std::alloc::{AllocError, Global};
 use std::test::Fail;
-use test_tools::bytes::decoded;
+use test_tools::bytes::decode;
 
+/// Stands for a message that is refused.
 const REFUSED: usize = 100_000;
 
 /// Messages in hexadecimal, with how many pointers are followed in reading them.
@@ -47,7 +48,7 @@ fn jumps_of(alloc: Global, bytes: &[u8], roots: bool) -> usize {
 
 /// The same of the bytes that a text spells.
 fn jumps_of_text(alloc: Global, text: &str) -> Result<usize, ProtoError> {
-    let bytes = decoded(alloc, text)?;
+    let bytes = decode(alloc, text)?;
     Ok(jumps_of(alloc, &bytes, false))
 }
 

@@ -166,7 +166,7 @@ pub(super) const MESSAGES: &[(&'static str, u8, &'static str)] = &[
         "0001 0000 0000 0001 0000 0000 00 000F 0001 00000000 0002 000A",
     ),
     (
-        "a start of authority without its numbers",
+        "an SOA without its numbers",
         8,
         "0001 0000 0000 0001 0000 0000 00 0006 0001 00000000 0002 00 00",
     ),

@@ -5,14 +5,14 @@ use op::Message;
 use std::alloc::{AllocError, Global};
 use std::test::Fail;
 
-/// A header with so many questions and answers.
+/// A header with these numbers of questions and answers.
 fn header(alloc: Global, questions: u8, answers: u8) -> Result<Vec<u8>, AllocError> {
     let mut wire = Vec::new(alloc);
     wire.extend_from_slice(&[0, 1, 0, 0, 0, questions, 0, answers, 0, 0, 0, 0])?;
     Ok(wire)
 }
 
-/// A label of so many bytes.
+/// A label of `len` bytes.
 fn push_label(wire: &mut Vec<u8>, len: u8) -> Result<(), AllocError> {
     wire.push(len)?;
     for _ in 0..len {
@@ -74,7 +74,7 @@ fn push_pointer(wire: &mut Vec<u8>, place: usize) -> Result<(), AllocError> {
     wire.extend_from_slice(&target.to_be_bytes())
 }
 
-/// An answer whose data is the root and so many pointers, each to what stands before it, and an address under a pointer
+/// An answer whose data is the root and `hops` pointers, each to what stands before it, and an address under a pointer
 /// to the last of them.
 fn chain(alloc: Global, hops: u16) -> Result<Vec<u8>, AllocError> {
     let mut wire = header(alloc, 0, 2)?;

@@ -32,7 +32,7 @@ pub(crate) enum Part {
     /// Records of `a.` whose data, one zero byte, is only carried.
     CarriedAnswer(RecordType),
     CarriedAdditional(RecordType),
-    /// `a.` 0 NULL of as many zero bytes.
+    /// `a.` 0 NULL of this number of zero bytes.
     Zeros(usize),
     Edns,
     /// EDNS whose own high code is 9, and EDNS with an option.
@@ -50,7 +50,8 @@ pub(crate) enum Part {
     AllAdditionals(&'static [&'static str]),
 }
 
-fn begun(alloc: Global, kind: Kind) -> Message {
+/// A message of this kind, without parts.
+fn begin(alloc: Global, kind: Kind) -> Message {
     match kind {
         Kind::Query(id) => Message::query(alloc, id),
         Kind::Response(id) => Message::response(alloc, id, OpCode::Query),
@@ -59,6 +60,7 @@ fn begun(alloc: Global, kind: Kind) -> Message {
     }
 }
 
+/// The question for a type of a name.
 fn question(alloc: Global, name: &str, asked: RecordType) -> Result<Query, ParseError> {
     Ok(Query::query(Name::parse(alloc, name, None)?, asked))
 }
@@ -99,7 +101,8 @@ fn record(alloc: Global, ttl: u32, rdata: RData) -> Result<Record, ParseError> {
     }
 }
 
-fn carried(alloc: Global, code: RecordType) -> Result<Record, ParseError> {
+/// A record of `a.` of a type that has no kind of its own, whose data is one zero byte.
+fn unknown_record(alloc: Global, code: RecordType) -> Result<Record, ParseError> {
     let rdata = zeros(alloc, 1)?;
     record(alloc, 60, RData::Unknown { code, rdata })
 }
@@ -136,8 +139,8 @@ fn put_record(alloc: Global, message: &mut Message, part: Part) -> Result<(), Fa
         Part::Answer(owner, ttl) => message.add_answer(address(alloc, owner, ttl)?)?,
         Part::Authority(owner) => message.add_authority(address(alloc, owner, 60)?)?,
         Part::Additional(owner) => message.add_additional(address(alloc, owner, 60)?)?,
-        Part::CarriedAnswer(code) => message.add_answer(carried(alloc, code)?)?,
-        Part::CarriedAdditional(code) => message.add_additional(carried(alloc, code)?)?,
+        Part::CarriedAnswer(code) => message.add_answer(unknown_record(alloc, code)?)?,
+        Part::CarriedAdditional(code) => message.add_additional(unknown_record(alloc, code)?)?,
         Part::Zeros(len) => {
             message.add_answer(record(alloc, 0, RData::NULL(zeros(alloc, len)?))?)?
         }
@@ -170,6 +173,7 @@ fn put(alloc: Global, message: &mut Message, part: Part) -> Result<(), Fail> {
     Ok(())
 }
 
+/// Puts the parts into a message, in their order.
 fn fill(alloc: Global, message: &mut Message, parts: &[Part]) -> Result<(), Fail> {
     for &part in parts {
         put(alloc, message, part)?;
@@ -178,8 +182,8 @@ fn fill(alloc: Global, message: &mut Message, parts: &[Part]) -> Result<(), Fail
 }
 
 /// A message of these parts.
-pub(crate) fn built(alloc: Global, kind: Kind, parts: &[Part]) -> Result<Message, Fail> {
-    let mut message = begun(alloc, kind);
+pub(crate) fn build(alloc: Global, kind: Kind, parts: &[Part]) -> Result<Message, Fail> {
+    let mut message = begin(alloc, kind);
     let filled = fill(alloc, &mut message, parts);
     if_filled(message, filled)
 }
@@ -263,7 +267,7 @@ fn is_shown(
     text: &str,
     is_signed: bool,
 ) -> Result<bool, Fail> {
-    let message = built(alloc, kind, parts)?;
+    let message = build(alloc, kind, parts)?;
     let is_shown = has_text(alloc, &message, text) && message.signature.is_some() == is_signed;
     let is_filled = is_filled(alloc, &message);
     drop(message);
@@ -283,7 +287,7 @@ fn messages_are_put_together(rt: HostRuntime) -> Result<(), Fail> {
 
 /// The bytes of the message of these parts.
 fn bytes_of(alloc: Global, kind: Kind, parts: &[Part]) -> Result<Vec<u8>, Fail> {
-    let message = built(alloc, kind, parts)?;
+    let message = build(alloc, kind, parts)?;
     let bytes = message.to_vec();
     drop(message);
     Ok(bytes?)
@@ -343,7 +347,7 @@ const WRITTEN: &[(Kind, &'static [Part], usize, &'static [u8])] = &[
     ),
 ];
 
-/// Whether the message of these parts has as many bytes, and these at the end.
+/// Whether the message of these parts has this number of bytes, and these at the end.
 fn is_written(
     alloc: Global,
     kind: Kind,

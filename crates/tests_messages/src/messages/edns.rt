@@ -30,6 +30,7 @@ fn flags_are_read_and_written(rt: HostRuntime) {
     assert!(rt; u16::from(wide) == 1);
 }
 
+/// EDNS in which each field is set.
 fn edns(alloc: Global) -> Edns {
     let mut edns = Edns::new(alloc);
     edns.set_rcode_high(1).set_version(0x40).set_dnssec_ok(true);

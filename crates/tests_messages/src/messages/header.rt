@@ -5,10 +5,12 @@ use op::{Header, HeaderCounts, MessageType, Metadata, OpCode, ResponseCode};
 use std::alloc::Global;
 use test_tools::forms::{has_text, is_cut, is_read_as, is_read_to, is_written_back, read};
 
+/// The bytes of a header, and the header.
 const BYTES: [u8; 12] = [
     0x01, 0x10, 0xAA, 0x83, 0x88, 0x77, 0x66, 0x55, 0x44, 0x33, 0x22, 0x11,
 ];
 
+/// The header that these bytes are.
 fn header() -> Header {
     let mut metadata = Metadata::new(272, MessageType::Response, OpCode::Update);
     metadata.truncation = true;

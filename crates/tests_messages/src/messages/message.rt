@@ -38,7 +38,7 @@ impl EmitAndCount for Careless {
 }
 
 /// Writes a message of these parts, with this EDNS and this signature.
-fn emitted(
+fn emit_parts(
     bytes: &mut Vec<u8>,
     parts: [Careless; 4],
     edns: Option<&Edns>,
@@ -68,7 +68,7 @@ fn outcome(
     signature: Option<&Record<TSIG>>,
 ) -> (u8, usize, u16) {
     let mut bytes = Vec::new(alloc);
-    let answer = emitted(&mut bytes, parts, edns, signature);
+    let answer = emit_parts(&mut bytes, parts, edns, signature);
     drop(bytes);
     let outcome = match &answer {
         Ok(header) => {
@@ -100,7 +100,7 @@ fn outcome_with(
 }
 
 /// A part that answers a count, as one that is cut if `is_cut` says so.
-fn told(count: usize, is_cut: bool) -> Careless {
+fn part_of(count: usize, is_cut: bool) -> Careless {
     let is_cut = is_cut && count > 0;
     Careless { count, is_cut }
 }
@@ -111,10 +111,10 @@ fn parts_of(
     is_cut: bool,
 ) -> [Careless; 4] {
     [
-        told(queries, is_cut),
-        told(answers, is_cut),
-        told(authorities, is_cut),
-        told(additionals, is_cut),
+        part_of(queries, is_cut),
+        part_of(answers, is_cut),
+        part_of(authorities, is_cut),
+        part_of(additionals, is_cut),
     ]
 }
 
@@ -150,7 +150,7 @@ fn what_parts_count_stands_in_the_header(rt: HostRuntime) -> Result<(), Fail> {
 /// The number of the refusal of what was written of a message of these parts; 0 where it is read.
 fn refusal_of_its_bytes(alloc: Global, parts: [Careless; 4]) -> u8 {
     let mut bytes = Vec::new(alloc);
-    let answer = emitted(&mut bytes, parts, None, None);
+    let answer = emit_parts(&mut bytes, parts, None, None);
     drop(answer);
     let (number, _, _) = fault(alloc, &bytes);
     drop(bytes);

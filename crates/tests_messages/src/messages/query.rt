@@ -9,6 +9,7 @@ use test_tools::forms::{
     is_written_back, read,
 };
 
+/// A question in upper and lower case.
 const WWW: &[u8] = b"\x03WWW\x07example\x03com\x00\x00\x1C\x00\x01";
 
 /// Whether a question is written as these bytes, and read from them, and has this text.
@@ -48,7 +49,7 @@ fn keeps(
 }
 
 /// What is made of that question.
-pub(crate) fn lowered(alloc: Global) -> Result<LowerQuery, Fail> {
+pub(crate) fn lower(alloc: Global) -> Result<LowerQuery, Fail> {
     let question: Query = read(alloc, WWW)?;
     Ok(LowerQuery::try_from(question)?)
 }
@@ -58,12 +59,13 @@ fn a_lower_question_keeps_the_one_that_was_asked(rt: HostRuntime) -> Result<(), 
     let names = ("www.example.com.", "WWW.example.com.");
     let read: LowerQuery = read(rt.alloc(), WWW)?;
     assert!(rt; keeps(rt.alloc(), read, names, RecordType::AAAA, DNSClass::IN));
-    let made = lowered(rt.alloc())?;
+    let made = lower(rt.alloc())?;
     assert!(rt; is_read_as(rt.alloc(), WWW, &made));
     assert!(rt; is_copied(made));
     Ok(())
 }
 
+/// A question of the root with the unicast bit.
 const UNICAST: &[u8] = &[0x00, 0x00, 0x01, 0x80, 0x01];
 
 /// Whether a question for the root asks for unicast, in this class.
@@ -109,7 +111,7 @@ fn questions_that_are_read_as_others_or_refused(rt: HostRuntime) -> Result<(), D
 }
 
 /// The question that the setters make, in this class.
-fn set(alloc: Global, class: DNSClass) -> Result<Query, ParseError> {
+fn set_fields(alloc: Global, class: DNSClass) -> Result<Query, ParseError> {
     let name = Name::parse(alloc, "a.", None)?;
     let mut query = Query::new(alloc);
     query
@@ -122,7 +124,7 @@ fn set(alloc: Global, class: DNSClass) -> Result<Query, ParseError> {
 
 /// Whether the question that the setters make in this class is the question for `A.` in IN, and is its copy.
 fn is_other(alloc: Global, class: DNSClass) -> Result<(bool, bool), ParseError> {
-    let query = set(alloc, class)?;
+    let query = set_fields(alloc, class)?;
     match Name::parse(alloc, "A.", None) {
         Ok(name) => {
             let other = Query::query(name, RecordType::MX);
@@ -139,7 +141,7 @@ fn is_other(alloc: Global, class: DNSClass) -> Result<(bool, bool), ParseError> 
 
 #[test]
 fn setters_change_their_field(rt: HostRuntime) -> Result<(), ParseError> {
-    let query = set(rt.alloc(), DNSClass::CH)?;
+    let query = set_fields(rt.alloc(), DNSClass::CH)?;
     assert!(rt; has_text(rt.alloc(), &query, "a. CH MX; mdns_unicast_response: false"));
     drop(query);
     assert!(rt; is_other(rt.alloc(), DNSClass::CH)? == (false, true));

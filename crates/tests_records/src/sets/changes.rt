@@ -2,7 +2,7 @@
 
 use super::Call::{Insert, Make, Remove};
 use super::{Shape, Step, leaves};
-use crate::rows::Datum::{Address, Empty, Start, Text};
+use crate::rows::Datum::{Address, Empty, Soa, Text};
 use crate::rows::Row;
 use base::DNSClass::{CH, HS, IN};
 use base::RecordType::{self, A, ANY, CNAME, NS, SOA};
@@ -25,39 +25,39 @@ const NEW: Row = (Address(24), IN, 9);
 
 const OTHER: Row = (Address(25), IN, 1);
 
-/// Starts of `example.` of serial 5, the first of which is for no second.
-const A_OF_5_NOW: Row = (Start(5, "a."), IN, 0);
+/// SOAs of serial 5, the first with TTL 0.
+const A_OF_5_NOW: Row = (Soa(5, "a."), IN, 0);
 
-const A_OF_5: Row = (Start(5, "a."), IN, 5);
+const A_OF_5: Row = (Soa(5, "a."), IN, 5);
 
-const B_OF_5: Row = (Start(5, "b."), IN, 5);
+const B_OF_5: Row = (Soa(5, "b."), IN, 5);
 
-/// Starts by the last digit of a serial.
-const A_OF_3: Row = (Start(2015082403, "a."), IN, 5);
+/// SOAs by the last digit of a serial.
+const A_OF_3: Row = (Soa(2015082403, "a."), IN, 5);
 
-const B_OF_3: Row = (Start(2015082403, "b."), IN, 5);
+const B_OF_3: Row = (Soa(2015082403, "b."), IN, 5);
 
-const C_OF_4: Row = (Start(2015082404, "c."), IN, 5);
+const C_OF_4: Row = (Soa(2015082404, "c."), IN, 5);
 
-/// Starts whose serials are around the ends of their numbers.
-const A_OF_0: Row = (Start(0, "a."), IN, 5);
+/// SOAs with serials around 0, 2^31 and 2^32.
+const A_OF_0: Row = (Soa(0, "a."), IN, 5);
 
-const A_OF_1: Row = (Start(1, "a."), IN, 5);
+const A_OF_1: Row = (Soa(1, "a."), IN, 5);
 
-const B_OF_1: Row = (Start(1, "b."), IN, 5);
+const B_OF_1: Row = (Soa(1, "b."), IN, 5);
 
-const A_OF_HALF: Row = (Start(2147483648, "a."), IN, 5);
+const A_OF_HALF: Row = (Soa(2147483648, "a."), IN, 5);
 
-const A_PAST_HALF: Row = (Start(2147483649, "a."), IN, 5);
+const A_PAST_HALF: Row = (Soa(2147483649, "a."), IN, 5);
 
-const B_PAST_HALF: Row = (Start(2147483649, "b."), IN, 5);
+const B_PAST_HALF: Row = (Soa(2147483649, "b."), IN, 5);
 
-const A_OF_MOST: Row = (Start(4294967295, "a."), IN, 5);
+const A_OF_MOST: Row = (Soa(4294967295, "a."), IN, 5);
 
-/// Aliases, servers, and all data of a name.
-const ALIAS_A: Row = (Text(CNAME, &["a."]), IN, 5);
+/// CNAMEs, name servers, and all data of a name.
+const CNAME_A: Row = (Text(CNAME, &["a."]), IN, 5);
 
-const ALIAS_B: Row = (Text(CNAME, &["b."]), IN, 5);
+const CNAME_B: Row = (Text(CNAME, &["b."]), IN, 5);
 
 const NS_1: Row = (Text(NS, &["ns1.example."]), IN, 5);
 
@@ -70,6 +70,7 @@ const EMPTY: Shape = (0, 0, &[]);
 /// What a row shows, the type of the set, the set, the steps, and the set then.
 type Case = (&'static str, RecordType, Shape, &'static [Step], Shape);
 
+/// Changes of sets of addresses.
 const ADDRESSES: &[Case] = &[
     (
         "equal data does not come in",
@@ -136,7 +137,7 @@ const ADDRESSES: &[Case] = &[
         &[(Insert, NEW, 5, true)],
         (9, 5, &[OTHER, NEW]),
     ),
-    // an equal record of the same time stays
+    // an equal record of the same TTL stays
     (
         "after another class",
         A,
@@ -171,9 +172,10 @@ fn equal_data_is_replaced_unless_it_is_the_same(rt: HostRuntime) -> Result<(), F
     Ok(())
 }
 
-const STARTS: &[Case] = &[
+/// Changes of sets of SOAs.
+const SOAS: &[Case] = &[
     (
-        "a start gives way to a later one",
+        "an SOA gives way to a later one",
         SOA,
         EMPTY,
         &[
@@ -240,7 +242,7 @@ const STARTS: &[Case] = &[
 
 #[test]
 fn a_start_gives_way_to_a_later_one(rt: HostRuntime) -> Result<(), Fail> {
-    for &(what, record_type, before, steps, after) in STARTS {
+    for &(what, record_type, before, steps, after) in SOAS {
         assert!(rt;
             leaves(rt.alloc(), record_type, before, steps, after)?,
             "{what}"
@@ -249,20 +251,21 @@ fn a_start_gives_way_to_a_later_one(rt: HostRuntime) -> Result<(), Fail> {
     Ok(())
 }
 
+/// Changes of sets of other types.
 const OTHERS: &[Case] = &[
     (
-        "an alias stands alone",
+        "a CNAME stands alone",
         CNAME,
         EMPTY,
         &[
-            (Insert, ALIAS_A, 0, true),
-            (Insert, ALIAS_B, 0, true),
-            (Insert, ALIAS_B, 0, true),
+            (Insert, CNAME_A, 0, true),
+            (Insert, CNAME_B, 0, true),
+            (Insert, CNAME_B, 0, true),
         ],
-        (5, 0, &[ALIAS_B]),
+        (5, 0, &[CNAME_B]),
     ),
     (
-        "the last server stays",
+        "the last name server stays",
         NS,
         EMPTY,
         &[
@@ -284,7 +287,7 @@ const OTHERS: &[Case] = &[
         (0, 7, &[]),
     ),
     (
-        "neither a start nor all data of its name is removed",
+        "neither an SOA nor all data of its name is removed",
         SOA,
         EMPTY,
         &[

@@ -8,12 +8,13 @@ use std::alloc::Global;
 use std::test::Fail;
 use test_tools::forms::is_copied;
 
-/// Whether exactly as many records are left.
+/// Whether the hint says that exactly `left` records are left.
 fn has_left(entries: &RrsetRecords<'_>, left: usize) -> bool {
     entries.size_hint() == (left, Some(left))
 }
 
-/// Whether hints are exact at every moment of two records, and the end isn't taken for that of an empty set.
+/// Whether the hint of a set of two records is exact before each of them and at the end, which isn't taken for an empty
+/// set.
 fn hints_are_exact(set: &RecordSet) -> bool {
     let mut entries = set.records_without_rrsigs();
     let all = has_left(&entries, 2) && entries.next().is_some();
@@ -28,7 +29,7 @@ const ADDED: [Row; 2] = [
     (Address(25), DNSClass::IN, 3600),
 ];
 
-/// Whether an empty set with that TTL gives as many records as are added, each with that TTL.
+/// Whether an empty set with that TTL gives the records that are added, each with that TTL.
 fn gives_what_is_added(alloc: Global, set: &mut RecordSet) -> Result<bool, Fail> {
     let before = set.records_without_rrsigs();
     let empty = has_left(&before, 0) && before.is_empty();
@@ -56,7 +57,7 @@ const FOREIGN: [Row; 2] = [
     (Address(25), DNSClass::IN, 2),
 ];
 
-/// Whether a set lends both records, and the first.
+/// Whether a set lends both records, and as `record` the first.
 fn foreign_records_are_lent(alloc: Global, set: &RecordSet) -> Result<bool, Fail> {
     let first = match set.record() {
         Some(entry) => is_row(alloc, entry, FOREIGN[0])?,
@@ -89,7 +90,7 @@ fn records_are_given_as_handed_in(rt: HostRuntime) -> Result<(), Fail> {
     Ok(())
 }
 
-/// The set of one record, its class and TTL set anew.
+/// The set of one record, whose class and TTL were then set to others.
 fn set_anew(alloc: Global) -> Result<RecordSet, Fail> {
     let mut set = RecordSet::try_from(record(alloc, OWNER, (Address(24), DNSClass::CH, 60))?)?;
     set.set_dns_class(DNSClass::HS);

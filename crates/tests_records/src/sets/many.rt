@@ -1,6 +1,6 @@
 //! Sets of many records, beside a plain list.
 
-use super::{Call, OWNER, lent, records, set_of, shows};
+use super::{Call, OWNER, call_on, records, set_of, shows};
 use crate::rows::{Datum, Row, is_row, record};
 use base::{DNSClass, ParseError, RecordType};
 use rr::RecordSet;
@@ -59,7 +59,7 @@ fn set_answer(
     ttl: u32,
 ) -> Result<bool, Fail> {
     let entry = record(alloc, OWNER, (Datum::Address(number), DNSClass::IN, ttl))?;
-    let answered = lent(set, call, &entry, 1);
+    let answered = call_on(set, call, &entry, 1);
     drop(entry);
     Ok(answered?)
 }

@@ -1,13 +1,13 @@
 //! Calls on the parts of a message: truncating, stripping, iterating, the signature, and what EDNS says of payloads.
 
-use crate::messages::built::{Kind, Part, built};
+use crate::messages::built::{Kind, Part, build};
 use crate::messages::values::address;
 use base::{DNSClass, Name, RecordType};
 use op::{Edns, Message, OpCode};
 use rr::Record;
 use std::alloc::Global;
 use std::test::Fail;
-use test_tools::bytes::decoded;
+use test_tools::bytes::decode;
 use test_tools::forms::are_bytes;
 
 /// A response with a question, an answer, an additional record, EDNS with an option, and a signature.
@@ -19,16 +19,17 @@ const SIGNED: &str = "000780000001000100000003\
     00002904d0000000000018fde900140000000000000000000000000000000000000000\
     0000fa00ff000000000001aa";
 
-pub(crate) fn signed(alloc: Global) -> Result<Message, Fail> {
-    let bytes = decoded(alloc, SIGNED)?;
+/// The message of those bytes.
+pub(crate) fn signed_message(alloc: Global) -> Result<Message, Fail> {
+    let bytes = decode(alloc, SIGNED)?;
     let message = Message::from_vec(alloc, &bytes);
     drop(bytes);
     Ok(message?)
 }
 
 /// The bytes of the message without its records and its signature.
-pub(crate) fn truncated(alloc: Global) -> Result<Vec<u8>, Fail> {
-    let message = signed(alloc)?;
+pub(crate) fn truncate(alloc: Global) -> Result<Vec<u8>, Fail> {
+    let message = signed_message(alloc)?;
     let cut = message.truncate();
     drop(message);
     let cut = cut?;
@@ -39,7 +40,7 @@ pub(crate) fn truncated(alloc: Global) -> Result<Vec<u8>, Fail> {
 
 #[test]
 fn a_truncated_message_keeps_its_question_and_edns(rt: HostRuntime) -> Result<(), Fail> {
-    let bytes = truncated(rt.alloc())?;
+    let bytes = truncate(rt.alloc())?;
     assert!(rt; bytes.len() == 54);
     assert!(rt;
         bytes.starts_with(
@@ -50,14 +51,14 @@ fn a_truncated_message_keeps_its_question_and_edns(rt: HostRuntime) -> Result<()
 }
 
 /// How many answers and additional records are left of A and RRSIG, and of NSEC, that answer a question for a type.
-fn left(alloc: Global, asked: RecordType, flag: bool) -> Result<(usize, usize), Fail> {
+fn count_left(alloc: Global, asked: RecordType, flag: bool) -> Result<(usize, usize), Fail> {
     let parts = [
         Part::Ask("a.", asked),
         Part::Answer("a.", 60),
         Part::CarriedAnswer(RecordType::RRSIG),
         Part::CarriedAdditional(RecordType::NSEC),
     ];
-    let message = built(alloc, Kind::Response(1), &parts)?.maybe_strip_dnssec_records(flag);
+    let message = build(alloc, Kind::Response(1), &parts)?.maybe_strip_dnssec_records(flag);
     let counts = (message.answers.len(), message.additionals.len());
     drop(message);
     Ok(counts)
@@ -65,15 +66,15 @@ fn left(alloc: Global, asked: RecordType, flag: bool) -> Result<(usize, usize), 
 
 #[test]
 fn records_of_dnssec_are_stripped_unless_asked_for(rt: HostRuntime) -> Result<(), Fail> {
-    assert!(rt; left(rt.alloc(), RecordType::A, false)? == (1, 0));
-    assert!(rt; left(rt.alloc(), RecordType::A, true)? == (2, 1));
-    assert!(rt; left(rt.alloc(), RecordType::RRSIG, false)? == (2, 0));
+    assert!(rt; count_left(rt.alloc(), RecordType::A, false)? == (1, 0));
+    assert!(rt; count_left(rt.alloc(), RecordType::A, true)? == (2, 1));
+    assert!(rt; count_left(rt.alloc(), RecordType::RRSIG, false)? == (2, 0));
     Ok(())
 }
 
 /// How many records the iterator over all sections gives, and how many are left when they are taken.
-fn counted(alloc: Global) -> Result<(usize, usize, usize), Fail> {
-    let mut message = signed(alloc)?;
+fn count_all(alloc: Global) -> Result<(usize, usize, usize), Fail> {
+    let mut message = signed_message(alloc)?;
     let all = message.all_sections().count();
     let taken = message.take_all_sections().count();
     let rest = message.all_sections().count();
@@ -83,7 +84,7 @@ fn counted(alloc: Global) -> Result<(usize, usize, usize), Fail> {
 
 #[test]
 fn each_record_of_a_section_is_given_once(rt: HostRuntime) -> Result<(), Fail> {
-    assert!(rt; counted(rt.alloc())? == (2, 2, 0));
+    assert!(rt; count_all(rt.alloc())? == (2, 2, 0));
     Ok(())
 }
 
@@ -126,9 +127,9 @@ fn a_record_of_an_address_is_no_edns(rt: HostRuntime) -> Result<(), Fail> {
     Ok(())
 }
 
-/// A message without EDNS says these of its payload and version, and is a response where it is made one.
-fn plain(alloc: Global) -> Result<(u16, u8, bool), Fail> {
-    let message = built(alloc, Kind::Query(1), &[Part::Ask("a.", RecordType::A)])?;
+/// The payload size and the version of a message without EDNS, and whether `into_response` makes it a response.
+fn payload_without_edns(alloc: Global) -> Result<(u16, u8, bool), Fail> {
+    let message = build(alloc, Kind::Query(1), &[Part::Ask("a.", RecordType::A)])?;
     let said = (message.max_payload(), message.version());
     let response = message.into_response();
     let is_response = response.metadata.message_type == op::MessageType::Response;
@@ -138,7 +139,7 @@ fn plain(alloc: Global) -> Result<(u16, u8, bool), Fail> {
 
 #[test]
 fn a_message_without_edns_takes_512_bytes(rt: HostRuntime) -> Result<(), Fail> {
-    assert!(rt; plain(rt.alloc())? == (512, 0, true));
+    assert!(rt; payload_without_edns(rt.alloc())? == (512, 0, true));
     Ok(())
 }
 
@@ -164,7 +165,7 @@ fn is_taken(message: &mut Message) -> bool {
 
 /// Whether a message is signed, its signature can be taken, the message is signed then, and it can be taken once more.
 fn signatures(alloc: Global) -> Result<[bool; 4], Fail> {
-    let mut message = built(alloc, Kind::Response(7), &[Part::Signature])?;
+    let mut message = build(alloc, Kind::Response(7), &[Part::Signature])?;
     let before = (is_signed(&message), is_taken(&mut message));
     let after = (is_signed(&message), is_taken(&mut message));
     drop(message);

@@ -2,6 +2,7 @@ use base::{BinDecodable, BinDecoder, DecodeError, RecordType};
 use op::{Edns, Message, OpCode, Query};
 use std::alloc::{AllocError, Global};
 
+/// A response to a question for an address; an OPT record and an address; and a signature.
 const WWW: [u8; 49] = [
     0x10, 0x00, 0x81, 0x80, 0x00, 0x01, 0x00, 0x01, 0x00, 0x00, 0x00, 0x00, 0x03, 0x77, 0x77, 0x77,
     0x07, 0x65, 0x78, 0x61, 0x6D, 0x70, 0x6C, 0x65, 0x03, 0x63, 0x6F, 0x6D, 0x00, 0x00, 0x01, 0x00,
@@ -61,7 +62,7 @@ fn a_message_is_read_at_its_place(rt: HostRuntime) {
     assert!(rt; is_whole(rt.alloc(), &WWW, &WWW[12..]));
 }
 
-/// Whether so many records are refused before the additionals, since one of this type is among them.
+/// Whether `count` records outside the additional section are refused, since one of this type is among them.
 fn is_misplaced(alloc: Global, bytes: &[u8], count: usize, record_type: RecordType) -> bool {
     let mut decoder = BinDecoder::new(alloc, bytes);
     let refused = Message::read_records(&mut decoder, count, false, OpCode::Query);
@@ -87,7 +88,7 @@ fn is_new(alloc: Global, edns: &Option<Edns>) -> bool {
     is_new
 }
 
-/// What is read of so many additional records: the other records, whether there is EDNS, and that nobody has set it,
+/// What is read of `count` additional records: the other records, whether there is EDNS, and that nobody has set it,
 /// and whether there is a signature.
 fn additionals(alloc: Global, bytes: &[u8], count: usize) -> Option<(usize, bool, bool, bool)> {
     let mut decoder = BinDecoder::new(alloc, bytes);

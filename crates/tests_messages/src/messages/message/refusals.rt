@@ -5,7 +5,7 @@ use base::{BinDecodable, BinDecoder, BinEncoder, ProtoError};
 use op::{Header, Message};
 use std::alloc::Global;
 use std::test::Fail;
-use test_tools::bytes::decoded;
+use test_tools::bytes::decode;
 
 /// Messages in hexadecimal that are refused for their data, with the number and what it names: the type of the data, or
 /// how many bytes are left and the length of the data.
@@ -49,7 +49,7 @@ const QUESTIONS: &str = "0007 0100 0002 0000 0000 0000 0161 0162 00 0001 0001 01
 const WITHOUT_ROOM: &[(u16, usize)] = &[(28, 1), (21, 1), (20, 0), (12, 0)];
 
 /// How many questions of the message are written under a limit, where one has no room.
-fn written_under(alloc: Global, message: &Message, limit: u16) -> Option<usize> {
+fn count_written(alloc: Global, message: &Message, limit: u16) -> Option<usize> {
     let mut bytes = Vec::new(alloc);
     let mut encoder = BinEncoder::new(&mut bytes);
     encoder.set_max_size(limit);
@@ -66,11 +66,11 @@ fn written_under(alloc: Global, message: &Message, limit: u16) -> Option<usize> 
 
 #[test]
 fn questions_without_room_are_counted(rt: HostRuntime) -> Result<(), Fail> {
-    let bytes = decoded(rt.alloc(), QUESTIONS)?;
+    let bytes = decode(rt.alloc(), QUESTIONS)?;
     let message = Message::from_vec(rt.alloc(), &bytes)?;
     for &(limit, questions) in WITHOUT_ROOM {
         assert!(rt;
-            written_under(rt.alloc(), &message, limit) == Some(questions),
+            count_written(rt.alloc(), &message, limit) == Some(questions),
             "{limit}"
         );
     }
@@ -91,7 +91,7 @@ fn next_question(decoder: &mut BinDecoder<'_>) -> u8 {
 
 /// The numbers of the first question of a message and of the second.
 fn in_turn(alloc: Global, text: &str) -> Result<(u8, u8), Fail> {
-    let bytes = decoded(alloc, text)?;
+    let bytes = decode(alloc, text)?;
     let mut decoder = BinDecoder::new(alloc, &bytes);
     Header::read(&mut decoder)?;
     Ok((next_question(&mut decoder), next_question(&mut decoder)))
