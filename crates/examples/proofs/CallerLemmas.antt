@@ -20,7 +20,7 @@ use Rattle.op.specs.Edns.{new_edns}
 use Rattle.op.specs.Cut.{IsCut, IsTooSmall, IsUncut, IsWritten, any_lost}
 use Rattle.op.specs.Fits.{Fits, FitsEdns, FitsPlain, listed}
 use Rattle.op.specs.Message.{IsMessageAt, MessageValue}
-use Rattle.op.specs.MessageWritten.{message_bytes}
+use Rattle.op.specs.MessageWritten.{message_answer, message_bytes}
 use Rattle.op.specs.Parts.{payload_taken}
 use Rattle.op.specs.declared.edns.Edns.{Edns}
 use Rattle.op.specs.declared.response_code.ResponseCode.{ResponseCode}
@@ -59,12 +59,12 @@ module _ (received : List ℕ) (answers : List (Record RData)) (q : MessageValue
     (is : m ≡ response_to q answers) (taken : limit ≡ payload_taken q.edns) where
   -- what is sent answers the query
   pub answered : (result : Result (Vec ℕ Global) ProtoError) → Fits q → (Fits m → IfOk result (λ bytes. IsWritten m limit bytes.items))
-      → IfOk result (λ bytes. bytes.items ≡ message_bytes limit m) → IfOk result (λ sent. IsAnswered received answers sent.items)
+      → IfOk result (λ bytes. message_answer limit m ≡ Ok bytes.items) → IfOk result (λ sent. IsAnswered received answers sent.items)
   answered (Ok sent) fits written exact = record {
     query = q;
     end = e;
     stands = stands;
-    exact = exact ∙ ap (λ n. message_bytes n m) taken ∙ ap (message_bytes (payload_taken q.edns)) is;
+    exact = ap (message_answer (payload_taken q.edns)) (sym is) ∙ ap (λ n. message_answer n m) (sym taken) ∙ exact;
     cut = λ all. subst (λ x. IsWritten x (payload_taken q.edns) sent.items) is (subst (λ n. IsWritten m n sent.items) taken (written (subst Fits (sym is) (response_fits q answers fits all))));
   }
   answered (Err refusal) fits written exact = tt

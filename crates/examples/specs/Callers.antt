@@ -15,7 +15,7 @@ use Rattle.op.specs.Cut.{IsTooSmall, IsWritten}
 use Rattle.op.specs.Edns.{new_edns}
 use Rattle.op.specs.Fits.{FitsPlain}
 use Rattle.op.specs.Message.{IsMessageAt, MessageValue, empty_message, message_at}
-use Rattle.op.specs.MessageWritten.{message_bytes}
+use Rattle.op.specs.MessageWritten.{message_answer, message_bytes}
 use Rattle.op.specs.Metadata.{response_metadata}
 use Rattle.op.specs.Parts.{payload_taken}
 use Rattle.op.specs.declared.edns.Edns.{Edns}
@@ -55,14 +55,14 @@ response_to query answers =
       edns = response_edns query.edns;
     }
 
--- A query begins the bytes that were received. What was sent are the bytes of the response under what the client
--- takes; if each answer fits the wire, they are a cut of it, and are read as that cut.
+-- A query begins the bytes that were received. What was sent is what writing the response under what the client takes
+-- gives; if each answer fits the wire, it is a cut of the response, and is read as that cut.
 pub record IsAnswered (received : List ℕ) (answers : List (Record RData))
     (sent : List ℕ) : Type 0 where
   pub query : MessageValue
   pub end : ℕ
   pub stands : IsMessageAt received 0 query end
-  pub exact : sent ≡ message_bytes (payload_taken query.edns) (response_to query answers)
+  pub exact : message_answer (payload_taken query.edns) (response_to query answers) ≡ Ok sent
   pub cut : All (FitsPlain query.metadata.op_code) answers
       → IsWritten (response_to query answers) (payload_taken query.edns) sent
 

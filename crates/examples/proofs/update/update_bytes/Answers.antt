@@ -3,6 +3,7 @@ use Rattle.std.specs.Prelude.{IfOk}
 use Rattle.base.specs.Labels.{NameValue}
 use Rattle.op.specs.Cut.{IsWritten}
 use Rattle.op.specs.Message.{MessageValue}
+use Rattle.op.specs.MessageWritten.{message_bytes}
 use Rattle.op_use.specs.SoundSet.{IsSendable}
 use Rattle.examples.specs.Callers.{creating}
 use Rattle.examples.proofs.update.update_bytes.Goals as goal
@@ -19,3 +20,9 @@ returns-clause-written c =
     under (IsSendable c.args.origin.now c.args.set) (λ bytes. IsWritten (creating c.args.origin.now c.args.set) 65535 bytes.items) c.to_vec.result (λ sendable.
     subst (λ (m : MessageValue). IfOk c.to_vec.result (λ bytes. IsWritten m 65535 bytes.items)) built
     (c.to_vec.ensures.written (c.in_ok-update.ensures.fits (subst (λ (origin : NameValue). IsSendable origin c.args.set) (sym same) sendable))))
+
+pub returns-clause-exact : goal.returns-clause-exact
+returns-clause-exact c =
+    let same : c.in_ok-clone.field-0 ≡ c.args.origin.now = c.in_ok-clone.ensures.cases in
+    let built = c.in_ok-update.ensures.built ∙ ap (λ (origin : NameValue). creating origin c.args.set) same in
+    subst (λ (m : MessageValue). IfOk c.to_vec.result (λ bytes. bytes.items ≡ message_bytes 65535 m)) built c.to_vec.ensures.exact
