@@ -1,76 +1,33 @@
 -- The offsets that are kept, as a set, and how many pointers are followed.
-use Rattle.std.proofs.Common.{◌≡◌, ◌≢◌, ◌⊎◌, ℕ, zero, suc, ◌+◌, ◌-◌, ◌^◌, ◌<◌, ◌≤◌, inl, inr, Bool}
+use Rattle.std.proofs.Common.{◌≡◌, ℕ, zero, suc, ◌+◌, ◌-◌, ◌^◌, ◌<◌, ◌≤◌, inl, inr, Bool}
 use Rattle.std.proofs.Common.{true, false, cond, List, [], ◌∷◌, ◌++◌, length, refl, ap, sym, ◌∙◌, subst, arith, length-append}
-use Rattle.std.specs.Prelude.{Option, Some, None, get_or, is_some, min, map, nat_eq, All, ◌==◌, ◌||◌, ◌&&◌, not}
-use Rattle.std.specs.Cmp.{nat_cmp_total, eq_by_cmp_equiv, unsigned_ties}
+use Rattle.std.specs.Prelude.{Option, Some, None, is_some, min, nat_eq, All, ◌||◌, ◌&&◌, not}
+use Rattle.std.specs.Cmp.{nat_cmp_total, eq_by_cmp_equiv, unsigned_tied, unsigned_ties}
+use Rattle.std.specs.FinMap as map
 use Rattle.std.specs.FinSet as set
 use Rattle.std.specs.FinSet.{nat_cmp-IsAntisymmetric}
-use Rattle.std.specs.List.{list_any}
 use Rattle.std.specs.Ordering.{nat_cmp, is_eq, eq_by_cmp}
 use Rattle.std.proofs.Math.Bool.{or-false, or_comm}
-use Rattle.std.proofs.lemmas.Bool.{cases_Bool, cond-true, cond-false, eq-eqb, eqb-true, eqb-false, false≢true, ne_eqb}
+use Rattle.std.proofs.lemmas.Bool.{cases_Bool, cond-true, cond-false, eqb-true, false≢true}
 use Rattle.std.proofs.lemmas.List.Folds.{list_any-append}
 use Rattle.std.proofs.lemmas.Map.Lookups.{exact_unsigned}
-use Rattle.base.specs.declared.wire.plain.Plain.{Plain}
-use Rattle.base.specs.Kept.{AreKept, ArePlain, IsKept, is_target, offsets, targets_of}
+use Rattle.base.specs.Pointers.{AreKept, Cache, Followed, IsKept, targets_of}
 use Rattle.std.specs.declared.cmp.Ordering.{Ordering}
 use Rattle.std.specs.declared.cmp.Ordering.TheVariants.{Less, Equal, Greater}
 use Rattle.base.specs.Counts.{IsCounted, IsPassed}
-use Rattle.base.specs.Passed.{Followed}
 use Rattle.base.specs.Passing.{NamesPass, among, inserted, one_more, passed}
 use Rattle.base.specs.Spelling.{Spelled, ends, label, pointer}
 use Rattle.base.specs.Reader.{Reader}
 
 -- ---- the offsets that are kept as a set
 
-any_target : (ps : List Plain) (q : ℕ) → list_any (λ y. nat_eq y q) (map (λ p. p.target) ps) ≡ is_target ps q
-any_target [] q = refl
-any_target (p ∷ ps) q = ap (λ (b : Bool). nat_eq p.target q || b) (any_target ps q)
-
 some_or : {X : Type 0} (b : Bool) (v : X) (o : Option X) → is_some (cond b (Some v) o) ≡ (b || is_some o)
 some_or true v o = refl
 some_or false v o = refl
 
--- the labels at an offset, of those from t on
-abbrev kept_from : ℕ → List (Option (List ℕ)) → ℕ → Option (List ℕ)
-kept_from t [] q = None
-kept_from t (x ∷ kept) q = cond (nat_eq t q) x (kept_from (suc t) kept q)
-
-none_before : (t : ℕ) (kept : List (Option (List ℕ))) (q : ℕ) → q < t → kept_from t kept q ≡ None
-none_before t [] q before = refl
-none_before t (x ∷ kept) q before = cond-false (nat_eq t q) _ _ (ne_eqb t q (λ same. omega (arith, same, before))) ∙ none_before (suc t) kept q (omega (arith, before))
-
-found_from : (t : ℕ) (kept : List (Option (List ℕ))) (k : ℕ) → kept_from t kept (t + k) ≡ get_or kept k None
-found_from t [] k = refl
-found_from t (x ∷ kept) zero = cond-true (nat_eq t (t + zero)) _ _ (eq-eqb t (t + zero) (omega arith))
-found_from t (x ∷ kept) (suc k) =
-    let next : t + suc k ≡ suc t + k = omega arith in
-    cond-false (nat_eq t (t + suc k)) _ _ (ne_eqb t (t + suc k) (λ same. omega (arith, same))) ∙ ap (kept_from (suc t) kept) next ∙ found_from (suc t) kept k
-
-found_first : (kept : List (Option (List ℕ))) (q : ℕ) → kept_from 0 kept q ≡ get_or kept q None
-found_first kept q =
-    let at : q ≡ 0 + q = omega arith in
-    ap (kept_from 0 kept) at ∙ found_from 0 kept q
-
--- where nothing is kept at t, only those after it count
-passed_over : (t : ℕ) (kept : List (Option (List ℕ))) (q : ℕ) → is_some (kept_from (suc t) kept q) ≡ is_some (cond (nat_eq t q) None (kept_from (suc t) kept q))
-passed_over t kept q = elim (cases_Bool (nat_eq t q)) [
-  | inl same ↦ ap is_some (none_before (suc t) kept q (omega (arith, eqb-true t q same)) ∙ sym (cond-true (nat_eq t q) _ _ same))
-  | inr other ↦ ap is_some (sym (cond-false (nat_eq t q) _ _ other))
-]
-
-any_offset : (t : ℕ) (kept : List (Option (List ℕ))) (q : ℕ) → list_any (λ y. nat_eq y q) (offsets t kept) ≡ is_some (kept_from t kept q)
-any_offset t [] q = refl
-any_offset t (None ∷ kept) q = any_offset (suc t) kept q ∙ passed_over t kept q
-any_offset t (Some items ∷ kept) q = ap (λ (b : Bool). nat_eq t q || b) (any_offset (suc t) kept q) ∙ sym (some_or (nat_eq t q) items (kept_from (suc t) kept q))
-
-abbrev pub kept_at : List (Option (List ℕ)) → ℕ → Bool
-kept_at kept q = is_some (get_or kept q None)
-
-pub contains_all : (ps : List Plain) (kept : List (Option (List ℕ))) (q : ℕ) → set.contains (targets_of ps kept) q ≡ (is_target ps q || kept_at kept q)
-contains_all ps kept q = set.contains-from_list_nat (map (λ (p : Plain). p.target) ps ++ offsets 0 kept) q ∙ list_any-append (λ (y : ℕ). nat_eq y q) (map (λ (p : Plain). p.target) ps) (offsets 0 kept)
-    ∙ ap (λ (b : Bool). b || list_any (λ y. nat_eq y q) (offsets 0 kept)) (any_target ps q)
-    ∙ ap (λ (b : Bool). is_target ps q || b) (any_offset 0 kept q ∙ ap is_some (found_first kept q))
+-- labels are found exactly for the offsets that are kept
+pub contains_kept : (cache : Cache) (q : ℕ) → set.contains (targets_of cache) q ≡ is_some (map.get cache q)
+contains_kept cache q = set.contains-from_list nat_cmp_total (map.keys cache) q ∙ sym (map.contains_key-keys cache q)
 
 -- of three tests, one in front
 in_front : (a b c : Bool) → (a || (b || c)) ≡ (b || (a || c))
@@ -79,62 +36,41 @@ in_front true false c = refl
 in_front false true c = refl
 in_front false false c = refl
 
-moved : (a b c : Bool) → ((a || (b || false)) || c) ≡ (b || (a || c))
-moved true true c = refl
-moved true false c = refl
-moved false true c = refl
-moved false false c = refl
+pub targets_none : targets_of map.empty ≡ set.empty
+targets_none = set.same_set nat_cmp_total nat_cmp-IsAntisymmetric _ _ (λ q.
+    contains_kept map.empty q ∙ ap is_some (map.get-empty nat_cmp q) ∙ sym (set.contains-empty nat_cmp q))
 
-pub plain_inserted : (ps : List Plain) (kept : List (Option (List ℕ))) (p : Plain) → targets_of (ps ++ p ∷ []) kept ≡ set.insert (targets_of ps kept) p.target
-plain_inserted ps kept p = set.same_set nat_cmp_total nat_cmp-IsAntisymmetric _ _ (λ q.
-    contains_all (ps ++ p ∷ []) kept q
-    ∙ ap (λ (b : Bool). b || kept_at kept q) (list_any-append (λ (x : Plain). x.target == q) ps (p ∷ []))
-    ∙ moved (is_target ps q) (p.target == q) (kept_at kept q)
-    ∙ ap (λ (b : Bool). b || (is_target ps q || kept_at kept q)) (unsigned_ties p.target q ∙ (eq_by_cmp_equiv nat_cmp_total).symm p.target q)
-    ∙ ap (λ (b : Bool). eq_by_cmp nat_cmp q p.target || b) (sym (contains_all ps kept q))
-    ∙ sym (set.contains-insert nat_cmp_total (targets_of ps kept) p.target q))
+-- where an offset isn't kept, no labels are found
+pub not_kept : (cache : Cache) (q : ℕ) → set.contains (targets_of cache) q ≡ false → map.get cache q ≡ None
+not_kept cache q hasnt = go (map.get cache q) (sym (contains_kept cache q) ∙ hasnt) where
+  go : (o : Option (List ℕ)) → is_some o ≡ false → o ≡ None
+  go None none = refl
+  go (Some items) never = absurd (false≢true (sym never))
 
-pub kept_inserted : (ps : List Plain) (old new : List (Option (List ℕ))) (t : ℕ) (items : List ℕ) → get_or new t None ≡ Some items → ((q : ℕ) → q ≢ t → get_or new q None ≡ get_or old q None)
-    → targets_of ps new ≡ set.insert (targets_of ps old) t
-kept_inserted ps old new t items there others = set.same_set nat_cmp_total nat_cmp-IsAntisymmetric _ _ (λ q.
-    contains_all ps new q ∙ ap (λ (b : Bool). is_target ps q || b) (at q (cases_Bool (nat_eq t q)))
-    ∙ in_front (is_target ps q) (nat_eq t q) (kept_at old q)
-    ∙ ap (λ (b : Bool). b || (is_target ps q || kept_at old q)) (unsigned_ties t q ∙ (eq_by_cmp_equiv nat_cmp_total).symm t q)
-    ∙ ap (λ (b : Bool). eq_by_cmp nat_cmp q t || b) (sym (contains_all ps old q))
-    ∙ sym (set.contains-insert nat_cmp_total (targets_of ps old) t q)) where
-      at : (q : ℕ) → (nat_eq t q ≡ true) ⊎ (nat_eq t q ≡ false) → kept_at new q ≡ (nat_eq t q || kept_at old q)
-      at q (inl same) = ap (kept_at new) (sym (eqb-true t q same)) ∙ ap is_some there ∙ ap (λ (b : Bool). b || kept_at old q) (sym same)
-      at q (inr differ) = ap is_some (others q (λ equal. false≢true (sym differ ∙ eq-eqb t q (sym equal)))) ∙ ap (λ (b : Bool). b || kept_at old q) (sym differ)
+pub targets_inserted : (cache : Cache) (t : ℕ) (items : List ℕ) → targets_of (map.insert cache t items) ≡ set.insert (targets_of cache) t
+targets_inserted cache t items = set.same_set nat_cmp_total nat_cmp-IsAntisymmetric _ _ (λ q.
+    contains_kept (map.insert cache t items) q
+    ∙ ap is_some (map.get-insert nat_cmp_total cache t items q)
+    ∙ some_or (eq_by_cmp nat_cmp q t) items (map.get cache q)
+    ∙ ap (λ (b : Bool). eq_by_cmp nat_cmp q t || b) (sym (contains_kept cache q))
+    ∙ sym (set.contains-insert nat_cmp_total (targets_of cache) t q))
 
 some_is : {A : Type 0} (x y : A) → ◌≡◌ {A = Option A} (Some x) (Some y) → x ≡ y
 some_is x y same = cc
 
-pub kept_are : (bytes : List ℕ) (old new : List (Option (List ℕ))) (t : ℕ) (items : List ℕ) → AreKept bytes old → IsKept bytes t items → get_or new t None ≡ Some items
-    → ((q : ℕ) → q ≢ t → get_or new q None ≡ get_or old q None) → AreKept bytes new
-kept_are bytes old new t items are one there others u xs is = elim (cases_Bool (nat_eq u t)) [
-  | inl same ↦
-      let equal : u ≡ t = eqb-true u t same in
-      let all : items ≡ xs = some_is items xs (sym there ∙ ap (λ (k : ℕ). get_or new k None) (sym equal) ∙ is) in
-      subst (λ (k : ℕ). IsKept bytes k xs) (sym equal) (subst (IsKept bytes t) all one)
-  | inr differ ↦ are u xs (sym (others u (eqb-false u t differ)) ∙ is)
-]
+pub kept_are : (bytes : List ℕ) (cache : Cache) (t : ℕ) (items : List ℕ) → AreKept bytes cache → IsKept bytes t items → AreKept bytes (map.insert cache t items)
+kept_are bytes cache t items are one u xs is = go (eq_by_cmp nat_cmp u t) refl (sym (map.get-insert nat_cmp_total cache t items u) ∙ is) where
+  go : (b : Bool) → eq_by_cmp nat_cmp u t ≡ b → cond b (Some items) (map.get cache u) ≡ Some xs → IsKept bytes u xs
+  go true tied at =
+      let same : u ≡ t = eqb-true u t (sym (unsigned_tied u t) ∙ tied) in
+      subst (λ (k : ℕ). IsKept bytes k xs) (sym same) (subst (IsKept bytes t) (some_is items xs at) one)
+  go false differ at = are u xs at
 
-plain_near : (bytes : List ℕ) (ps : List Plain) → ArePlain bytes ps → (q : ℕ) → is_target ps q ≡ true → q < 16384
-plain_near bytes [] are q is = absurd (false≢true is)
-plain_near bytes (p ∷ ps) are q is = go (plain_near bytes ps (λ k d inside. are (suc k) d (omega arith)) q) (p.target == q) refl is where
-  go : (is_target ps q ≡ true → q < 16384) → (b : Bool) → (p.target == q) ≡ b → (b || is_target ps q) ≡ true → q < 16384
-  go rest true same all = omega (arith, eqb-true p.target q same, (are 0 p (omega arith)).near)
-  go rest false differ all = rest all
-
-pub kept_near : (bytes : List ℕ) (ps : List Plain) (kept : List (Option (List ℕ))) → ArePlain bytes ps → AreKept bytes kept → (q : ℕ) → set.contains (targets_of ps kept) q ≡ true → q < 16384
-kept_near bytes ps kept plain are q is = either (is_target ps q) refl (sym (contains_all ps kept q) ∙ is) where
-  by_value : (o : Option (List ℕ)) → get_or kept q None ≡ o → is_some o ≡ true → q < 16384
-  by_value None at some = absurd (false≢true some)
-  by_value (Some items) at some = (are q items at).near
-
-  either : (b : Bool) → is_target ps q ≡ b → (b || kept_at kept q) ≡ true → q < 16384
-  either true at has = plain_near bytes ps plain q at
-  either false at has = by_value (get_or kept q None) refl has
+pub kept_near : (bytes : List ℕ) (cache : Cache) → AreKept bytes cache → (q : ℕ) → set.contains (targets_of cache) q ≡ true → q < 16384
+kept_near bytes cache are q is = go (map.get cache q) refl (sym (contains_kept cache q) ∙ is) where
+  go : (o : Option (List ℕ)) → map.get cache q ≡ o → is_some o ≡ true → q < 16384
+  go None at some = absurd (false≢true some)
+  go (Some items) at some = (are q items at).near
 
 -- ---- how many there are
 
@@ -162,8 +98,8 @@ few_below (suc n) s below =
     ]
 
 -- no more are kept than a pointer can name offsets
-pub few_kept : (bytes : List ℕ) (ps : List Plain) (kept : List (Option (List ℕ))) → ArePlain bytes ps → AreKept bytes kept → set.len (targets_of ps kept) ≤ 16384
-few_kept bytes ps kept plain are = few_below 16384 (targets_of ps kept) (kept_near bytes ps kept plain are)
+pub few_kept : (bytes : List ℕ) (cache : Cache) → AreKept bytes cache → set.len (targets_of cache) ≤ 16384
+few_kept bytes cache are = few_below 16384 (targets_of cache) (kept_near bytes cache are)
 
 equal_is : (o : Ordering) → is_eq o ≡ true → o ≡ Equal
 equal_is Less is = absurd (false≢true is)
@@ -206,6 +142,17 @@ inserted-first t ts s = same_members _ _ (λ q.
     ∙ in_front (set.contains s q) (nat_eq t q) (among ts q)
     ∙ ap (λ (b : Bool). nat_eq t q || b) (sym (contains-inserted ts s q))
     ∙ sym (contains-one_more (inserted ts s) t q))
+
+-- a list adds at most its length
+pub few_more : (ts : List ℕ) (s : set.FinSet nat_cmp) → set.len (inserted ts s) ≤ set.len s + length ts
+few_more [] s = omega (arith, ap set.len (inserted-none s))
+few_more (t ∷ ts) s =
+    let rest = inserted ts s in
+    let len = ap set.len (inserted-first t ts s) ∙ set.len-insert nat_cmp_total rest t in
+    elim (cases_Bool (set.contains rest t)) [
+      | inl has ↦ omega (arith, few_more ts s, len ∙ cond-true (set.contains rest t) _ _ has)
+      | inr hasnt ↦ omega (arith, few_more ts s, len ∙ cond-false (set.contains rest t) _ _ hasnt)
+    ]
 
 -- Pointers to these offsets were followed, each to below the one before it, down to start.
 pub record Follows (ts : List ℕ) (start : ℕ) (old new : Reader) : Type 0 where

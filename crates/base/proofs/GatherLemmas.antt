@@ -7,7 +7,7 @@ use Rattle.std.proofs.lemmas.Bool.{cond-true, cond-false, le-leb, lt-leb, lt-ltb
 use Rattle.std.proofs.lemmas.List.{append-nil, drop_more}
 use Rattle.base.specs.declared.error.decode_error.DecodeError.{DecodeError}
 use Rattle.base.specs.declared.error.decode_error.DecodeError.TheVariants as faults
-use Rattle.base.specs.Kept.{IsKept}
+use Rattle.base.specs.Pointers.{IsKept}
 use Rattle.base.specs.Labels.{IsWire, AreLabels, labels_of, wire_of}
 use Rattle.base.specs.Names.{NamePart, zero_byte, label_of, pointer_to, Labels, part_at, with_label, ending, labels_at}
 use Rattle.base.specs.Reading.{◌>>=◌, Fails}

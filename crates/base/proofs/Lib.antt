@@ -1,4 +1,5 @@
 pub mod AddsLemmas
+pub mod CacheLemmas
 pub mod CharLemmas
 pub mod ClassTexts
 pub mod CompareLemmas
@@ -39,7 +40,6 @@ pub mod SpellingLemmas
 pub mod SuffixLemmas
 pub mod TailLemmas
 pub mod TakingLemmas
-pub mod TargetLemmas
 pub mod TextLawLemmas
 pub mod TextLemmas
 pub mod TokenLemmas

@@ -1,19 +1,20 @@
 -- What the names that are spelled at offsets pass.
-use Rattle.std.proofs.Common.{◌≡◌, ℕ, zero, suc, ◌+◌, ◌<◌, List, [], ◌∷◌, ◌++◌, length, drop, Bool, true, false, Ok, Result, refl, ap, sym, ◌∙◌, subst, arith, append_assoc}
-use Rattle.std.specs.Prelude.{get_or, nat_eq, ◌||◌}
+use Rattle.std.proofs.Common.{◌≡◌, ℕ, zero, suc, ◌+◌, ◌<◌, ◌≤◌, List, [], ◌∷◌, ◌++◌, length, drop, Bool, true, false, cond, Ok, Result, refl, ap, sym, ◌∙◌, subst, arith, append_assoc}
+use Rattle.std.specs.Prelude.{get_or, is_some, nat_eq, ◌||◌}
+use Rattle.std.specs.FinMap as map
 use Rattle.std.specs.FinSet as set
 use Rattle.std.specs.Ordering.{nat_cmp}
-use Rattle.std.proofs.lemmas.Bool.{eqb-true, false≢true}
+use Rattle.std.specs.Cmp.{nat_cmp_total}
+use Rattle.std.proofs.lemmas.Bool.{cond-false, cond-true, eqb-true, false≢true}
 use Rattle.std.proofs.lemmas.List.{append-nil, map_push}
 use Rattle.std.proofs.lemmas.List.Folds.{list_any-append}
 use Rattle.base.specs.declared.error.decode_error.DecodeError.{DecodeError}
-use Rattle.base.specs.declared.name.trail.Passed.{Passed}
-use Rattle.base.specs.Kept.{AreKept, ArePlain, targets_of}
+use Rattle.base.specs.declared.name.followed.FollowedPointer.{FollowedPointer}
+use Rattle.base.specs.Pointers.{AreKept, PassLater, PassesThese, targets, targets_of}
 use Rattle.base.specs.Names.{NamePart, zero_byte, label_of, pointer_to, part_at}
-use Rattle.base.specs.Passed.{PassLater, PassesThese, targets}
 use Rattle.base.specs.Passing.{IsClosed, PassesKept, among, inserted, passed}
 use Rattle.base.specs.Spelling.{Spelled, ends, label, pointer, target}
-use Rattle.base.proofs.CountLemmas.{contains-inserted, contains-one_more, same_members}
+use Rattle.base.proofs.CountLemmas.{contains-inserted, contains-one_more, contains_kept, few_more, inserted-first, same_members}
 use Rattle.base.proofs.LawLemmas.{none_is_not}
 use Rattle.base.proofs.WalkLemmas.{part_at-label, part_at-pointer, part_at-root}
 
@@ -43,13 +44,10 @@ module _ (bytes : List ℕ) (kept : set.FinSet nat_cmp) (t : ℕ) (closed : IsCl
       (sym (contains-one_more kept t u) ∙ is)
 
 -- before anything is kept
-pub nothing_kept : (bytes : List ℕ) → ArePlain bytes [] × (AreKept bytes [] × IsClosed bytes (targets_of [] []))
+pub nothing_kept : (bytes : List ℕ) → AreKept bytes map.empty × IsClosed bytes (targets_of map.empty)
 nothing_kept bytes = (
-  λ k d inside. absurd (omega (arith, inside)),
-  (
-    λ t items is. absurd (none_is_not items is),
-    λ t has. absurd (false≢true (sym (set.contains-empty nat_cmp t) ∙ has)),
-  ),
+  λ t items is. absurd (none_is_not items (sym (map.get-empty nat_cmp t) ∙ is)),
+  λ t has. absurd (false≢true (sym (contains_kept map.empty t ∙ ap is_some (map.get-empty nat_cmp t)) ∙ has)),
 )
 
 -- ---- the rest of a spelling
@@ -161,26 +159,26 @@ module _ {bytes : List ℕ} {first : ℕ} {ts : List ℕ} {start at : ℕ} (lead
       )
 
 -- each pointer that was followed leads on by those after it
-abbrev pub Lead : List ℕ → List Passed → ℕ → ℕ → Type 0
+abbrev pub Lead : List ℕ → List FollowedPointer → ℕ → ℕ → Type 0
 Lead bytes [] start at = Unit {0}
 Lead bytes (p ∷ ps) start at = Leads bytes p.target (targets ps) start at × Lead bytes ps start at
 
 module _ (bytes : List ℕ) (start at : ℕ) where
-  pub Lead-label : (ps : List Passed) {n next : ℕ} → part_at bytes at ≡ Ok (label_of n) → next ≡ at + 1 + n → Lead bytes ps start at → Lead bytes ps start next
+  pub Lead-label : (ps : List FollowedPointer) {n next : ℕ} → part_at bytes at ≡ Ok (label_of n) → next ≡ at + 1 + n → Lead bytes ps start at → Lead bytes ps start next
   Lead-label [] is next_is lead = tt
   Lead-label (p ∷ ps) is next_is lead = (Leads-label lead.0 is next_is, Lead-label ps is next_is lead.1)
 
-  pub Lead-pointer : (ps : List Passed) (one : Passed) → part_at bytes at ≡ Ok (pointer_to one.target) → Lead bytes ps start at → Lead bytes (ps ++ one ∷ []) one.target one.target
+  pub Lead-pointer : (ps : List FollowedPointer) (one : FollowedPointer) → part_at bytes at ≡ Ok (pointer_to one.target) → Lead bytes ps start at → Lead bytes (ps ++ one ∷ []) one.target one.target
   Lead-pointer [] one is lead = (Leads-none bytes one.target, tt)
   Lead-pointer (p ∷ ps) one is lead =
-      let more : targets ps ++ one.target ∷ [] ≡ targets (ps ++ one ∷ []) = sym (map_push (λ (x : Passed). x.target) ps one) in
+      let more : targets ps ++ one.target ∷ [] ≡ targets (ps ++ one ∷ []) = sym (map_push (λ (x : FollowedPointer). x.target) ps one) in
       (subst (λ (ts : List ℕ). Leads bytes p.target ts one.target one.target) more (Leads-pointer lead.0 is), Lead-pointer ps one is lead.1)
 
-  pub Lead-root : (kept : set.FinSet nat_cmp) (ps : List Passed) → part_at bytes at ≡ Ok zero_byte → Lead bytes ps start at → PassLater bytes kept ps
+  pub Lead-root : (kept : set.FinSet nat_cmp) (ps : List FollowedPointer) → part_at bytes at ≡ Ok zero_byte → Lead bytes ps start at → PassLater bytes kept ps
   Lead-root kept [] is lead = tt
   Lead-root kept (p ∷ ps) is lead = (λ xs e h. (Leads-root lead.0 kept is xs e h).0, Lead-root kept ps is lead.1)
 
-  pub Lead-kept : (kept : set.FinSet nat_cmp) {t : ℕ} (ps : List Passed) → part_at bytes at ≡ Ok (pointer_to t) → set.contains kept t ≡ true → IsClosed bytes kept
+  pub Lead-kept : (kept : set.FinSet nat_cmp) {t : ℕ} (ps : List FollowedPointer) → part_at bytes at ≡ Ok (pointer_to t) → set.contains kept t ≡ true → IsClosed bytes kept
       → Lead bytes ps start at → PassLater bytes kept ps
   Lead-kept kept [] is has closed lead = tt
   Lead-kept kept (p ∷ ps) is has closed lead = (λ xs e h. (Leads-kept lead.0 kept is has closed xs e h).0, Lead-kept kept ps is has closed lead.1)
@@ -188,13 +186,35 @@ module _ (bytes : List ℕ) (start at : ℕ) where
 -- ---- what is kept once a name was read
 
 -- the pointer at i, and the offsets of those after it
-pub later_at : (bytes : List ℕ) (kept : set.FinSet nat_cmp) (ps : List Passed) (i : ℕ) (d : Passed) → i < length ps → PassLater bytes kept ps
+pub later_at : (bytes : List ℕ) (kept : set.FinSet nat_cmp) (ps : List FollowedPointer) (i : ℕ) (d : FollowedPointer) → i < length ps → PassLater bytes kept ps
     → PassesKept bytes (inserted (targets (drop (i + 1) ps)) kept) (get_or ps i d).target
 later_at bytes kept [] i d inside later = absurd (omega (arith, inside))
 later_at bytes kept (p ∷ ps) zero d inside later = later.0
 later_at bytes kept (p ∷ ps) (suc i) d inside later =
     let next : suc (i + 1) ≡ suc i + 1 = omega arith in
     subst (λ (k : ℕ). PassesKept bytes (inserted (targets (drop k (p ∷ ps))) kept) (get_or ps i d).target) next (later_at bytes kept ps i d (omega (arith, inside)) later.1)
+
+-- where targets are distinct and none is kept, each is new to those after it and to what is kept
+pub new_at : (kept : set.FinSet nat_cmp) (ps : List FollowedPointer) (i : ℕ) (d : FollowedPointer) → set.len (inserted (targets ps) kept) ≡ set.len kept + length (targets ps) → i < length ps
+    → set.contains (inserted (targets (drop (i + 1) ps)) kept) (get_or ps i d).target ≡ false
+new_at kept [] i d all inside = absurd (omega (arith, inside))
+new_at kept (p ∷ ps) i d all inside = go (λ k less small. new_at kept ps k d less small) (set.contains (inserted (targets ps) kept) p.target) refl i inside where
+  few : set.len (inserted (targets ps) kept) ≤ set.len kept + length (targets ps)
+  few = few_more (targets ps) kept
+
+  len : set.len (inserted (targets (p ∷ ps)) kept) ≡ cond (set.contains (inserted (targets ps) kept) p.target) (set.len (inserted (targets ps) kept)) (set.len (inserted (targets ps) kept) + 1)
+  len = ap set.len (inserted-first p.target (targets ps) kept) ∙ set.len-insert nat_cmp_total (inserted (targets ps) kept) p.target
+
+  go : ((k : ℕ) → set.len (inserted (targets ps) kept) ≡ set.len kept + length (targets ps) → k < length ps
+      → set.contains (inserted (targets (drop (k + 1) ps)) kept) (get_or ps k d).target ≡ false)
+      → (b : Bool) → set.contains (inserted (targets ps) kept) p.target ≡ b → (k : ℕ) → k < length (p ∷ ps)
+      → set.contains (inserted (targets (drop (k + 1) (p ∷ ps))) kept) (get_or (p ∷ ps) k d).target ≡ false
+  go later true has k small = absurd (omega (arith, all, few, len ∙ cond-true (set.contains (inserted (targets ps) kept) p.target) _ _ has))
+  go later false new zero small = new
+  go later false new (suc k) small =
+      let next : suc (k + 1) ≡ suc k + 1 = omega arith in
+      subst (λ (n : ℕ). set.contains (inserted (targets (drop n (p ∷ ps))) kept) (get_or ps k d).target ≡ false) next
+      (later k (omega (arith, all, len ∙ cond-false (set.contains (inserted (targets ps) kept) p.target) _ _ new)) (omega (arith, small)))
 
 pub passes_are_kept : (bytes : List ℕ) (kept : set.FinSet nat_cmp) (t : ℕ) (ts : List ℕ) → PassesThese bytes kept t ts → (xs : List (List ℕ)) (e : ℕ) (h : Spelled bytes xs t t e)
     → inserted ts kept ≡ inserted (passed h) kept

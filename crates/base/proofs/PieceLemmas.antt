@@ -5,12 +5,10 @@ use Rattle.std.specs.Prelude.{All}
 use Rattle.std.proofs.lemmas.List.{append-nil, drop-append-le, drop-drop, drop_all, get_or-drop}
 use Rattle.std.specs.FinSet as set
 use Rattle.std.specs.List.{slice_range}
-use Rattle.base.specs.Kept.{IsKept}
+use Rattle.base.specs.Pointers.{IsKept, IsLast, PassesThese, part}
 use Rattle.base.specs.Labels.{IsWire, labels_of}
 use Rattle.base.specs.Names.{NamePart, label_of, labels_at, part_at, pointer_to, zero_byte}
-use Rattle.base.specs.PartOf.{part}
-use Rattle.base.specs.declared.name.trail.Passed.{Passed}
-use Rattle.base.specs.Passed.{IsLast, PassesThese}
+use Rattle.base.specs.declared.name.followed.FollowedPointer.{FollowedPointer}
 use Rattle.base.specs.Spelling.{ByteAt, anywhere}
 use Rattle.base.specs.Passing.{IsClosed}
 use Rattle.base.specs.Reader.{Reader}
@@ -119,17 +117,17 @@ range_is_there bytes piece s i j same =
 
 -- ---- the labels that the last pointer led to
 
-pub last_more : (ps : List Passed) (lent labels more : List ℕ) → All (λ p. p.from ≤ length labels) ps → IsLast lent labels ps → IsLast (lent ++ more) (labels ++ more) ps
+pub last_more : (ps : List FollowedPointer) (lent labels more : List ℕ) → All (λ p. p.from ≤ length labels) ps → IsLast lent labels ps → IsLast (lent ++ more) (labels ++ more) ps
 last_more [] lent labels more inside is = tt
 last_more (p ∷ []) lent labels more inside is = ap (λ (xs : List ℕ). xs ++ more) is ∙ sym (drop-append-le p.from labels more (inside 0 p (omega arith)))
 last_more (p ∷ q ∷ ps) lent labels more inside is = last_more (q ∷ ps) lent labels more (λ k d small. inside (suc k) d (omega (arith, small))) is
 
-pub last_pushed : (ps : List Passed) (p : Passed) (labels : List ℕ) → p.from ≡ length labels → IsLast [] labels (ps ++ p ∷ [])
+pub last_pushed : (ps : List FollowedPointer) (p : FollowedPointer) (labels : List ℕ) → p.from ≡ length labels → IsLast [] labels (ps ++ p ∷ [])
 last_pushed [] p labels from = sym (drop_all p.from labels (omega (arith, from)))
 last_pushed (q ∷ []) p labels from = last_pushed [] p labels from
 last_pushed (q ∷ r ∷ ps) p labels from = last_pushed (r ∷ ps) p labels from
 
-pub last_at : (ps : List Passed) (lent labels : List ℕ) (i : ℕ) (d : Passed) → i + 1 ≡ length ps → IsLast lent labels ps → lent ≡ drop (get_or ps i d).from labels
+pub last_at : (ps : List FollowedPointer) (lent labels : List ℕ) (i : ℕ) (d : FollowedPointer) → i + 1 ≡ length ps → IsLast lent labels ps → lent ≡ drop (get_or ps i d).from labels
 last_at [] lent labels i d len is = absurd (omega (arith, len))
 last_at (p ∷ []) lent labels zero d len is = is
 last_at (p ∷ []) lent labels (suc i) d len is = absurd (omega (arith, len))

@@ -2,19 +2,19 @@
 use Rattle.std.proofs.Common.{◌≡◌, ℕ, ◌+◌, ◌<◌, ◌≤◌, List, ◌++◌, length, drop, Option, None, Ok, ap, sym, ◌∙◌, subst, arith, length-append}
 use Rattle.std.specs.List.{slice_range}
 use Rattle.std.proofs.lemmas.List.{drop-append-le, drop_all}
-use Rattle.base.specs.declared.name.trail.Passed.{Passed}
-use Rattle.base.specs.Kept.{IsKept}
+use Rattle.base.specs.declared.name.followed.FollowedPointer.{FollowedPointer}
+use Rattle.base.specs.Pointers.{IsKept}
 use Rattle.base.specs.Names.{zero_byte, label_of, pointer_to, part_at}
 use Rattle.base.proofs.GatherLemmas.{Gathers, gathers_none, gathers_label, gathers_pointer, at_root, at_kept, spelled_is, IsWire-append}
 
 -- what was gathered since a pointer, before what is read from at on, are the labels after it
-pub record Tail (buffer : List ℕ) (start at used : ℕ) (bytes : List ℕ) (p : Passed) : Type 0 where
+pub record Tail (buffer : List ℕ) (start at used : ℕ) (bytes : List ℕ) (p : FollowedPointer) : Type 0 where
   pub end : Option ℕ
   pub inside : p.from ≤ length bytes
   pub near : p.target < 16384
   pub gathers : Gathers buffer p.target p.from start at used (drop p.from bytes) end
 
-abbrev pub Ends : List ℕ → List ℕ → Passed → Type 0
+abbrev pub Ends : List ℕ → List ℕ → FollowedPointer → Type 0
 Ends buffer labels p = (p.from ≤ length labels) × IsKept buffer p.target (drop p.from labels)
 
 pub Tail-new : (buffer : List ℕ) (t used : ℕ) (bytes : List ℕ) → t ≤ length buffer → t < 16384 → length bytes ≡ used → used ≤ 254 → Tail buffer t t used bytes (record { target = t; from = used })
@@ -25,7 +25,7 @@ Tail-new buffer t used bytes inside near len few = record {
   gathers = subst (λ (xs : List ℕ). Gathers buffer t used t t used xs None) (sym (drop_all used bytes (omega arith))) (gathers_none buffer t used inside few);
 }
 
-module _ {buffer : List ℕ} {start at used : ℕ} {bytes : List ℕ} {p : Passed} where
+module _ {buffer : List ℕ} {start at used : ℕ} {bytes : List ℕ} {p : FollowedPointer} where
   pub Tail-pointer : {t : ℕ} → part_at buffer at ≡ Ok (pointer_to t) → t < start → Tail buffer start at used bytes p → Tail buffer t t used bytes p
   Tail-pointer {t} is below tail = record {
     end = _;

@@ -7,7 +7,6 @@ pub mod Faults
 pub mod Held
 pub mod Items
 pub mod Keys
-pub mod Kept
 pub mod Labels
 pub mod Laws
 pub mod Many
@@ -18,10 +17,9 @@ pub mod NameText
 pub mod Names
 pub mod Octets
 pub mod ParseError
-pub mod PartOf
-pub mod Passed
 pub mod Passing
 pub mod PointerLemmas
+pub mod Pointers
 pub mod ProtoError
 pub mod Reader
 pub mod Reading
@@ -33,13 +31,11 @@ pub mod SaysParts
 pub mod Spelling
 pub mod State
 pub mod Suffixes
-pub mod Targets
 pub mod TextChar
 pub mod TextFaults
 pub mod TokenList
 pub mod TokenText
 pub mod Tokens
-pub mod Trail
 pub mod Ttl
 pub mod TtlText
 pub mod Wire

@@ -7,12 +7,12 @@ ghost use Rattle.base.specs.Labels.{AreLabels, IsLabelRun, plain_len, wire_of, l
 
 pub mod compare;
 pub mod display;
+mod followed;
 pub mod laws;
 pub mod name_of;
 pub mod parse;
 mod reading;
 pub mod round_trip;
-mod trail;
 mod writing;
 
 use crate::octets::Octets;

@@ -9,11 +9,10 @@ pub mod laws;
 pub mod many;
 mod numbers;
 pub mod place;
-pub(crate) mod plain;
+pub(crate) mod pointer_cache;
 pub mod sized;
 pub mod suffix;
 pub mod suffix_table;
-pub(crate) mod target_table;
 
 pub use decodable::BinDecodable;
 pub use decoder::BinDecoder;

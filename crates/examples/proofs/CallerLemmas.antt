@@ -20,6 +20,7 @@ use Rattle.op.specs.Edns.{new_edns}
 use Rattle.op.specs.Cut.{IsCut, IsTooSmall, IsUncut, IsWritten, any_lost}
 use Rattle.op.specs.Fits.{Fits, FitsEdns, FitsPlain, listed}
 use Rattle.op.specs.Message.{IsMessageAt, MessageValue}
+use Rattle.op.specs.MessageWritten.{message_bytes}
 use Rattle.op.specs.Parts.{payload_taken}
 use Rattle.op.specs.declared.edns.Edns.{Edns}
 use Rattle.op.specs.declared.response_code.ResponseCode.{ResponseCode}
@@ -57,14 +58,16 @@ response_fits q answers fits all = record {
 module _ (received : List ℕ) (answers : List (Record RData)) (q : MessageValue) (e : ℕ) (stands : IsMessageAt received 0 q e) (m : MessageValue) (limit : ℕ)
     (is : m ≡ response_to q answers) (taken : limit ≡ payload_taken q.edns) where
   -- what is sent answers the query
-  pub answered : (result : Result (Vec ℕ Global) ProtoError) → Fits q → (Fits m → IfOk result (λ bytes. IsWritten m limit bytes.items)) → IfOk result (λ sent. IsAnswered received answers sent.items)
-  answered (Ok sent) fits written = record {
+  pub answered : (result : Result (Vec ℕ Global) ProtoError) → Fits q → (Fits m → IfOk result (λ bytes. IsWritten m limit bytes.items))
+      → IfOk result (λ bytes. bytes.items ≡ message_bytes limit m) → IfOk result (λ sent. IsAnswered received answers sent.items)
+  answered (Ok sent) fits written exact = record {
     query = q;
     end = e;
     stands = stands;
+    exact = exact ∙ ap (λ n. message_bytes n m) taken ∙ ap (message_bytes (payload_taken q.edns)) is;
     cut = λ all. subst (λ x. IsWritten x (payload_taken q.edns) sent.items) is (subst (λ n. IsWritten m n sent.items) taken (written (subst Fits (sym is) (response_fits q answers fits all))));
   }
-  answered (Err refusal) fits written = tt
+  answered (Err refusal) fits written exact = tt
 
   no_room : (refusal : ProtoError) → IsTooSmall m limit refusal → HasNoRoom received answers refusal
   no_room refusal small = record {
@@ -118,12 +121,15 @@ read_alone origin under text includes p same empty is =
     ∙ ap (λ (q : ParserValue). zone_of (text_among q.includes) q.origin q.text) (sym is)
 
 -- what was not received whole was not sent
-pub unsent : (origin : NameValue) (s : SetValue) (B : List ℕ) → (IsSendable origin s → IsWritten (creating origin s) 65535 B) → (e : Refusal) → IsNotReceived B e → IsUnsent origin s e
-unsent origin s B written (refused.Decode fault) why = (B, written, why)
-unsent origin s B written refused.Input why = (B, written, why)
-unsent origin s B written refused.Class why = absurd why
-unsent origin s B written (refused.Parse e) why = absurd why
-unsent origin s B written (refused.Proto e) why = absurd why
+pub unsent : (origin : NameValue) (s : SetValue) (B : List ℕ) → B ≡ message_bytes 65535 (creating origin s)
+    → (IsSendable origin s → IsWritten (creating origin s) 65535 B) → (e : Refusal) → IsNotReceived B e → IsUnsent origin s e
+unsent origin s B exact written (refused.Decode fault) why =
+    subst (λ (C : List ℕ). (IsSendable origin s → IsWritten (creating origin s) 65535 C) × IsNotReceived C (refused.Decode fault)) exact (written, why)
+unsent origin s B exact written refused.Input why =
+    subst (λ (C : List ℕ). (IsSendable origin s → IsWritten (creating origin s) 65535 C) × IsNotReceived C refused.Input) exact (written, why)
+unsent origin s B exact written refused.Class why = absurd why
+unsent origin s B exact written (refused.Parse e) why = absurd why
+unsent origin s B exact written (refused.Proto e) why = absurd why
 
 module _ (maps : MapsAreZones) (creates : CreateApplies) (origin : NameValue) (text : List ℕ) (s : SetValue) (bytes : List ℕ) (update : MessageValue)
     (old new : BTreeMap RrKey SetValue) (code : ResponseCode) where

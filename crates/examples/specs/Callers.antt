@@ -15,6 +15,7 @@ use Rattle.op.specs.Cut.{IsTooSmall, IsWritten}
 use Rattle.op.specs.Edns.{new_edns}
 use Rattle.op.specs.Fits.{FitsPlain}
 use Rattle.op.specs.Message.{IsMessageAt, MessageValue, empty_message, message_at}
+use Rattle.op.specs.MessageWritten.{message_bytes}
 use Rattle.op.specs.Metadata.{response_metadata}
 use Rattle.op.specs.Parts.{payload_taken}
 use Rattle.op.specs.declared.edns.Edns.{Edns}
@@ -54,13 +55,14 @@ response_to query answers =
       edns = response_edns query.edns;
     }
 
--- A query begins the bytes that were received; what was sent is, if each answer fits the wire, a cut of the response
--- under what the client takes, and is read as that cut.
+-- A query begins the bytes that were received. What was sent are the bytes of the response under what the client
+-- takes; if each answer fits the wire, they are a cut of it, and are read as that cut.
 pub record IsAnswered (received : List ℕ) (answers : List (Record RData))
     (sent : List ℕ) : Type 0 where
   pub query : MessageValue
   pub end : ℕ
   pub stands : IsMessageAt received 0 query end
+  pub exact : sent ≡ message_bytes (payload_taken query.edns) (response_to query answers)
   pub cut : All (FitsPlain query.metadata.op_code) answers
       → IsWritten (response_to query answers) (payload_taken query.edns) sent
 
@@ -154,12 +156,13 @@ IsNotReceived bytes (refused.Decode fault) = FailsToRead fault (message_at bytes
 IsNotReceived bytes refused.Input = IsCutShort bytes
 IsNotReceived bytes e = ⊥
 
--- uncompressed questions without room; or bytes, such as a message is written as, that are not received whole
+-- uncompressed questions without room; or the bytes of the message, where they are not received whole
 abbrev pub IsUnsent : NameValue → SetValue → Refusal → Type 0
 IsUnsent origin s (refused.Proto e) =
     (e ≡ refusals.Memory) ⊎ IsTooSmall (creating origin s) MAX_MESSAGE e
-IsUnsent origin s e = (B : List ℕ)
-    × (IsSendable origin s → IsWritten (creating origin s) MAX_MESSAGE B) × IsNotReceived B e
+IsUnsent origin s e =
+    let bytes = message_bytes MAX_MESSAGE (creating origin s) in
+    (IsSendable origin s → IsWritten (creating origin s) MAX_MESSAGE bytes) × IsNotReceived bytes e
 
 -- ---- zone text that is checked
 

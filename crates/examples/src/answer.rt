@@ -5,6 +5,7 @@ ghost use Rattle.base.specs.declared.error.proto_error.ProtoError.TheVariants as
 ghost use Rattle.op.specs.Cut.{IsTooSmall, IsWritten};
 ghost use Rattle.op.specs.Fits.{Fits};
 ghost use Rattle.op.specs.Message.{message_value};
+ghost use Rattle.op.specs.MessageWritten.{message_bytes};
 ghost use Rattle.examples.specs.Callers.{IsAnswered, IsUnanswered, response_to};
 
 use base::{BinEncoder, ProtoError};
@@ -49,6 +50,9 @@ fn bytes_within(alloc: Global, message: &Message, limit: u16) -> Result<Vec<u8>,
     // Of a message that fits, the bytes are a cut under the limit, and are read as that cut.
     ensures written { Fits (message_value message.now)
         → IfOk result (λ bytes. IsWritten (message_value message.now) limit bytes.items) }
+    // The bytes are exactly those of the definition `message_bytes`.
+    ensures exact { IfOk result
+        (λ bytes. bytes.items ≡ message_bytes limit (message_value message.now)) }
     ensures refused { IfErr result
         (λ e. (e ≡ refusals.Memory) ⊎ IsTooSmall (message_value message.now) limit e) }
 {

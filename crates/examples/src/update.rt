@@ -6,6 +6,7 @@ ghost use Rattle.base.specs.NameOrder.{is_zone_of};
 ghost use Rattle.base.specs.declared.error.proto_error.ProtoError.TheVariants as refusals;
 ghost use Rattle.op.specs.Cut.{IsTooSmall, IsWritten};
 ghost use Rattle.op.specs.Message.{message_value};
+ghost use Rattle.op.specs.MessageWritten.{message_bytes};
 ghost use Rattle.op_use.specs.SoundSet.{IsSendable};
 ghost use Rattle.examples.specs.Callers.{IsCreated, IsNoZone, IsNotReceived, IsReceived, IsUnsent, IsZoneOfText, creating};
 
@@ -57,6 +58,9 @@ fn update_bytes(alloc: Global, origin: &Name, set: RecordSet) -> Result<Vec<u8>,
     ensures written { IfOk result
         (λ bytes. IsSendable origin.now set
         → IsWritten (creating origin.now set) MAX_MESSAGE bytes.items) }
+    // The bytes are exactly those of the definition `message_bytes`.
+    ensures exact { IfOk result
+        (λ bytes. bytes.items ≡ message_bytes MAX_MESSAGE (creating origin.now set)) }
     ensures refused { IfErr result
         (λ e. (e ≡ refusals.Memory) ⊎ IsTooSmall (creating origin.now set) MAX_MESSAGE e) }
 {

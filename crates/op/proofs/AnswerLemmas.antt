@@ -1,5 +1,5 @@
 -- What an encoder answers to a message is decided by the message, the limit, the place and the suffixes stored.
-use Rattle.std.proofs.Common.{◌≡◌, ◌⊎◌, ℕ, ◌+◌, ◌≤◌, Bool, true, false, List, [], ◌++◌, length, refl, ap, sym, ◌∙◌, inl, inr, subst, arith, length-append, Result, Ok, Err}
+use Rattle.std.proofs.Common.{◌≡◌, ◌⊎◌, ℕ, ◌+◌, ◌-◌, ◌≤◌, Bool, true, false, List, [], ◌++◌, length, refl, ap, sym, ◌∙◌, inl, inr, subst, arith, length-append, Result, Ok, Err}
 use Rattle.std.specs.Prelude.{drop, if◌then◌else◌, nat_lt, replicate}
 use Rattle.std.proofs.lemmas.Bool.{le-ltb, lt-ltb}
 use Rattle.std.proofs.Math.Seq.{drop-append_seam}
@@ -15,7 +15,7 @@ use Rattle.op.specs.MessageWritten.{Part, message_answer, message_answer_at, mes
 use Rattle.op.specs.Query.{QueryWord, plain_query, query_written}
 use Rattle.op.specs.declared.header.Header.{Header}
 use Rattle.op.specs.declared.query.Query.{Query}
-use Rattle.op.proofs.SucceedsLemmas.{no_room}
+use Rattle.op.proofs.SucceedsLemmas.{has_no_room, no_room}
 use Rattle.op.proofs.MessageWrittenLemmas.{all_asked, emitted_exact, front_count, front_told}
 
 -- the answer by the two tests
@@ -84,21 +84,12 @@ module _ (m : MessageValue) (old : State) where
 
 -- ---- of an encoder that is new
 
-lacks_room : (m : MessageValue) (limit : ℕ) (f : ProtoError) → IsTooSmall m limit f → HasRoom m limit → ⊥
-lacks_room m limit refusals.MaxBufferSizeExceeded small room = omega (arith, small, room)
-lacks_room m limit (refusals.NotAllRecordsWritten count) small room = omega (arith, small.1, room)
-lacks_room m limit refusals.Memory small room = small
-lacks_room m limit refusals.NotOpt small room = small
-lacks_room m limit (refusals.Message text) small room = small
-lacks_room m limit refusals.NotAResponse small room = small
-lacks_room m limit (refusals.Decode d) small room = small
-
 -- with room for header and questions uncompressed only memory is lacking
-pub only_memory : (m : MessageValue) (old new : State) (f : ProtoError) → old.bytes ≡ [] → HasRoom m old.limit
+pub only_memory : (m : MessageValue) (old new : State) (f : ProtoError) → HasRoom m (old.limit - length old.bytes)
     → (f ≡ refusals.Memory) ⊎ (Leaves m old f new × (message_answer_at old.limit m (length old.bytes) old.suffixes ≡ Err f))
     → f ≡ refusals.Memory
-only_memory m old new f empty room (inl memory) = memory
-only_memory m old new f empty room (inr is) = absurd (lacks_room m old.limit f (no_room m old new f empty is.0) room)
+only_memory m old new f room (inl memory) = memory
+only_memory m old new f room (inr is) = absurd (has_no_room m old new f room is.0)
 
 pub new_of : {limit buffer : ℕ} {s : State} → s ≡ record { buffer = buffer; bytes = []; limit = limit; suffixes = [] } → IsNew limit s
 new_of is = record {

@@ -37,3 +37,4 @@ mod StripLemmas
 mod UncutLemmas
 mod VariantLemmas
 mod WordsBack
+mod WrittenCuts

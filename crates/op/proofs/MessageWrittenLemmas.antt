@@ -122,7 +122,7 @@ module _ (limit : ℕ) (m : MessageValue) (old kept first second third fourth fi
 
 -- ---- a message that was emitted
 
-lost_told : {E : Type 0} (kept lost : List E) → nat_lt (length kept) (length (kept ++ lost)) ≡ any_lost lost
+pub lost_told : {E : Type 0} (kept lost : List E) → nat_lt (length kept) (length (kept ++ lost)) ≡ any_lost lost
 lost_told kept [] = le-ltb (length kept) (length (kept ++ [])) (omega (arith, ap length (append-nil kept)))
 lost_told kept (x ∷ lost) = lt-ltb (length kept) (length (kept ++ x ∷ lost)) (omega (arith, length-append kept (x ∷ lost)))
 

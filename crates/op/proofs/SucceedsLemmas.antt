@@ -1,5 +1,5 @@
 -- A message of slices is refused for memory, or where header or questions have no room, whatever the encoder holds.
-use Rattle.std.proofs.Common.{◌≡◌, ◌⊎◌, ℕ, true, ◌+◌, ◌<◌, ◌≤◌, ◌^◌, List, [], ◌∷◌, length, inl, inr, ap, sym, ◌∙◌, subst, arith, length-append, Result, Ok, Err, Iter}
+use Rattle.std.proofs.Common.{◌≡◌, ◌⊎◌, ℕ, true, ◌+◌, ◌-◌, ◌<◌, ◌≤◌, ◌^◌, List, [], ◌∷◌, length, inl, inr, ap, sym, ◌∙◌, subst, arith, length-append, Result, Ok, Err, Iter}
 use Rattle.std.specs.Prelude.{replicate}
 use Rattle.base.specs.Items.{EachWritten}
 use Rattle.base.specs.State.{State, appended}
@@ -12,7 +12,7 @@ use Rattle.rr.specs.declared.record.Record.{Record}
 use Rattle.op.specs.Cut.{IsTooSmall, NoRoom, any_lost}
 use Rattle.op.specs.Composition.{Counts, KeepsRoom}
 use Rattle.op.specs.Emitted.{Leaves, WritesFront, WritesRecords, query_owner, record_owner}
-use Rattle.op.specs.Fits.{plain_queries}
+use Rattle.op.specs.Fits.{HasRoom, plain_queries}
 use Rattle.op.specs.Message.{MessageValue}
 use Rattle.op.specs.Query.{QueryWord, plain_query, query_written}
 use Rattle.op.specs.declared.message.writing.Written.{Written}
@@ -142,6 +142,19 @@ front_full qs a b count front =
     let lost = lost_some a.limit (length b.bytes) front.lost front.tells front.full in
     let sum : plain_queries qs ≡ plain_queries front.kept + plain_queries front.lost = ap plain_queries front.whole ∙ plain-append front.kept front.lost in
     omega (arith, lost, queries_within front.kept a b front.written, sum)
+
+-- with room for header and questions uncompressed after what stood before, nothing is left so
+pub has_no_room : (m : MessageValue) (old new : State) (e : ProtoError) → HasRoom m (old.limit - length old.bytes) → Leaves m old e new → ⊥
+has_no_room m old new refusals.MaxBufferSizeExceeded room left = omega (arith, left.0, room)
+has_no_room m old new (refusals.NotAllRecordsWritten count) room left =
+    let blank = length-append old.bytes (replicate 12 0) in
+    let full = front_full m.queries (appended (replicate 12 0) old) new count left.1 in
+    omega (arith, left.0, full, blank, room)
+has_no_room m old new refusals.Memory room left = left
+has_no_room m old new refusals.NotOpt room left = left
+has_no_room m old new (refusals.Message text) room left = left
+has_no_room m old new refusals.NotAResponse room left = left
+has_no_room m old new (refusals.Decode d) room left = left
 
 pub no_room : (m : MessageValue) (old new : State) (e : ProtoError) → old.bytes ≡ [] → Leaves m old e new → IsTooSmall m old.limit e
 no_room m old new refusals.MaxBufferSizeExceeded empty left = omega (arith, left.0, ap length empty)

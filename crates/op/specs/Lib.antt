@@ -14,6 +14,7 @@ pub mod HeaderSays
 pub mod LowerQuery
 pub mod Message
 pub mod MessageWritten
+pub mod MessageKept
 pub mod MessageText
 pub mod MessageType
 pub mod Metadata

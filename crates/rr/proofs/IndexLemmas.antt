@@ -27,9 +27,11 @@ use Rattle.base_data.proofs.MXLemmas.{mx_same}
 use Rattle.base_data.proofs.NameWords.{name_same}
 use Rattle.base_data.proofs.SOALemmas.{soa_same}
 use Rattle.base_data.proofs.SRVLemmas.{srv_same}
-use Rattle.rr.specs.DataIndex.{IsFirstAt, IsIndexOf, IsOnlyAt, place_at}
+use Rattle.rr.specs.DataIndex.{IsCurrent, IsFirstAt, IsIndexOf, IsOnlyAt, place_at}
 use Rattle.rr.specs.SetChanges.{entered, first_of, has_data_of, has_entry, joined, replaced}
 use Rattle.rr.specs.declared.record.Record.{Record}
+use Rattle.rr.specs.declared.rr_set.indexed_records.Index.{Index}
+use Rattle.rr.specs.declared.rr_set.indexed_records.Index.TheVariants.{Missing, Made}
 use Rattle.rr.specs.RecordSet.{same_entry}
 use Rattle.rr.proofs.SetSteps.{other_data, replaced_none}
 
@@ -322,10 +324,12 @@ pub none_of : (o : Option ℕ) → is_some o ≡ false → o ≡ None
 none_of None h = refl
 none_of (Some x) h = cc
 
--- what holds of an index, if there is one
-pub if_some : {T : Type 0} (o : Option T) (P Q : T → Type 0) → ((t : T) → P t → Q t) → IfSome o P → IfSome o Q
-if_some None P Q more h = tt
-if_some (Some t) P Q more h = more t h
+-- what is true of the index of some records is true of others, if each index of the ones is one of the others
+pub if_current : (index : Index) (rs ss : List (Record RData))
+    → ((find : List ℕ → Option ℕ) → IsIndexOf find rs → IsIndexOf find ss)
+    → IsCurrent index rs → IsCurrent index ss
+if_current (Missing scans) rs ss more h = tt
+if_current (Made places) rs ss more h = more (place_at places.value) h
 
 -- other fields change, and the data stays
 same_mapped : (f : Record RData → Record RData) → ((x : Record RData) → (f x).rdata ≡ x.rdata) → (rs : List (Record RData)) (i : ℕ) (d : Record RData) → i < length rs

@@ -10,6 +10,8 @@ use Rattle.base_data.specs.SameData.{same_data}
 use Rattle.base_data.specs.declared.rdata.RData.{RData}
 use Rattle.rr.specs.SetChanges.{first_of}
 use Rattle.rr.specs.declared.record.Record.{Record}
+use Rattle.rr.specs.declared.rr_set.indexed_records.Index.{Index}
+use Rattle.rr.specs.declared.rr_set.indexed_records.Index.TheVariants.{Missing, Made}
 
 -- the place that the index has at a key
 abbrev pub place_at : BTreeMap (Vec ℕ Global) ℕ → List ℕ → Option ℕ
@@ -20,6 +22,11 @@ place_at index key = get_by (λ k. slice_cmp nat_cmp key k.items) index
 pub record IsIndexOf (find : List ℕ → Option ℕ) (rs : List (Record RData)) : Type 0 where
   pub at : (i : ℕ) (d : Record RData) → i < length rs
       → find (canonical_data (get_or rs i d).rdata) ≡ Some i
+
+-- An index that there is, is that of these records.
+abbrev pub IsCurrent : Index → List (Record RData) → Type 0
+IsCurrent (Missing scans) rs = Unit {0}
+IsCurrent (Made places) rs = IsIndexOf (place_at places.value) rs
 
 -- At this place, and at no other, there is a record of this data.
 pub record IsOnlyAt (rdata : RData) (rs : List (Record RData)) (p : ℕ) : Type 0 where

@@ -36,8 +36,8 @@ pub struct RecordSet {
     record_type: RecordType,
     dns_class: DNSClass,
     ttl: u32,
-    records: IndexedRecords,
     serial: u32,
+    records: IndexedRecords,
 }
 
 impl Model for RecordSet {

@@ -1,3 +1,4 @@
+pub mod BlockLemmas
 pub mod Joined
 pub mod KeptSets
 pub mod SetsInOrder

@@ -1,5 +1,6 @@
 pub mod Entries
 pub mod Parser
+pub mod Run
 pub mod Steps
 pub mod Zone
 pub mod ZoneLaws

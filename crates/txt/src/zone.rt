@@ -8,6 +8,7 @@ ghost use Rattle.txt.specs.ZoneSets.{AreKept};
 
 mod context;
 pub mod laws;
+mod run;
 mod sets;
 mod texts;
 

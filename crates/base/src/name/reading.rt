@@ -6,8 +6,7 @@ ghost use Rattle.std.specs.FinSet as set;
 ghost use Rattle.base.specs.Counts.{Counts, Passes};
 ghost use Rattle.base.specs.Labels.{IsWire, labels_of};
 ghost use Rattle.base.specs.Names.{part_at, pointer_to, labels_at, name_at};
-ghost use Rattle.base.specs.PartOf.{part};
-ghost use Rattle.base.specs.Passed.{AreSpelled, Followed, IsLast, PassLater, PassesThese, targets};
+ghost use Rattle.base.specs.Pointers.{AreSpelled, Followed, IsLast, PassLater, PassesThese, part, targets};
 ghost use Rattle.base.specs.Passing.{AddsPassed, inserted, passed};
 ghost use Rattle.base.specs.Reading.{Fails, Reads};
 ghost use Rattle.base.specs.Spelling.{Spelled};
@@ -15,7 +14,7 @@ ghost use Rattle.base.specs.Spelling.{Spelled};
 use crate::error::DecodeError;
 use crate::limits::{MAX_LABELS, MAX_NAME};
 use crate::name::Name;
-use crate::name::trail::{Passed, Trail};
+use crate::name::followed::{FollowedPointer, FollowedPointers};
 use crate::octets::Octets;
 use crate::wire::{BinDecodable, BinDecoder};
 
@@ -33,9 +32,9 @@ enum Part {
     Pointer(u16),
 }
 
-/// What stands at a place of a name, or why nothing can.
+/// Reads what stands at a place of a name, or why nothing can.
 #[tactic(auto, unfolding(crate::specs::Names::part_at))]
-fn part_of(buffer: &[u8], at: usize) -> Result<Part, DecodeError>
+fn read_part(buffer: &[u8], at: usize) -> Result<Part, DecodeError>
     ensures value { MatchResult result (λ p. part_at buffer.now at ≡ Ok (part p))
         (λ e. part_at buffer.now at ≡ Err e) }
     // A pointer has 14 bits for its offset, which is therefore below 16,384.
@@ -92,12 +91,12 @@ struct Gathered<'a> {
 }
 
 /// Gathers the labels of the name at the decoder's place in `room`, and the pointers that were followed.
-fn gather<'a>(
+fn gather_labels<'a>(
     decoder: &mut BinDecoder<'a>,
     room: &mut [u8; MAX_LABELS],
-    passed: &mut Trail,
+    followed: &mut FollowedPointers,
 ) -> Result<Gathered<'a>, DecodeError>
-    requires none { passed.old ≡ [] }
+    requires none { followed.old ≡ [] }
     ensures read { MatchResult result
         (λ r. labels_at decoder.old.bytes decoder.old.index decoder.old.index 0
         ≡ Ok (labels_of (take r.used room.new), r.end))
@@ -108,18 +107,18 @@ fn gather<'a>(
     ensures wire { IfOk result (λ r. IsWire (take r.used room.new)) }
     // From where a pointer was followed, the labels gathered are those that its target spells.
     ensures kept { IfOk result
-        (λ r. AreSpelled decoder.old.bytes (take r.used room.new) passed.new) }
+        (λ r. AreSpelled decoder.old.bytes (take r.used room.new) followed.new) }
     // The labels lent are those that the last pointer led to.
     ensures last { IfOk result
-        (λ r. IfSome r.last (λ labels. IsLast labels.now (take r.used room.new) passed.new)) }
+        (λ r. IfSome r.last (λ labels. IsLast labels.now (take r.used room.new) followed.new)) }
     // The targets are distinct, and none was kept before; but for the count of pointers followed,
     // which grows by their number, the decoder stays as it was.
-    ensures followed { Followed (targets passed.new) decoder.old decoder.new }
+    ensures followed { Followed (targets followed.new) decoder.old decoder.new }
     // The name passes these targets and, beside them, only offsets that were kept before.
     ensures these { IfOk result (λ r.
-        PassesThese decoder.old.bytes decoder.old.kept decoder.old.index (targets passed.new)) }
+        PassesThese decoder.old.bytes decoder.old.kept decoder.old.index (targets followed.new)) }
     // From each target only kept offsets are passed, and those that were followed after it.
-    ensures later { IfOk result (λ r. PassLater decoder.old.bytes decoder.old.kept passed.new) }
+    ensures later { IfOk result (λ r. PassLater decoder.old.bytes decoder.old.kept followed.new) }
 {
     let first = decoder.index();
     let mut piece = decoder.rest();
@@ -128,7 +127,7 @@ fn gather<'a>(
     let mut used = 0;
     let mut end = None;
     'parts: loop {
-        match part_of(piece, at)? {
+        match read_part(piece, at)? {
             Part::Root => {
                 return Ok(Gathered {
                     used,
@@ -161,7 +160,7 @@ fn gather<'a>(
                         last: None,
                     });
                 }
-                passed.push(Passed { target, from: used })?;
+                followed.push(FollowedPointer { target, from: used })?;
                 piece = decoder.follow(target);
                 end = Some(after);
                 start = usize::from(target);
@@ -173,39 +172,40 @@ fn gather<'a>(
 
 /// Keeps the labels after the pointers that were followed, the last of them first, so that those after a kept one are
 /// kept at any time.
-fn keep_all<'a>(
+fn keep_targets<'a>(
     decoder: &mut BinDecoder<'a>,
     labels: &[u8],
-    passed: &Trail,
+    followed: &FollowedPointers,
     last: Option<&'a [u8]>,
 ) -> Result<(), DecodeError>
     // From where a pointer was followed, the labels are those that its target spells.
-    requires spelled { AreSpelled decoder.old.bytes labels.now passed.now }
+    requires spelled { AreSpelled decoder.old.bytes labels.now followed.now }
     // The labels lent are those that the last pointer led to.
-    requires last { IfSome last (λ lent. IsLast lent.now labels.now passed.now) }
+    requires last { IfSome last (λ lent. IsLast lent.now labels.now followed.now) }
     // From each target only kept offsets are passed, and those that were followed after it.
-    requires later { PassLater decoder.old.bytes decoder.old.kept passed.now }
+    requires later { PassLater decoder.old.bytes decoder.old.kept followed.now }
+    // The targets are distinct, and none is kept yet.
+    requires new { set.len (inserted (targets followed.now) decoder.old.kept)
+        ≡ set.len decoder.old.kept + length (targets followed.now) }
     ensures ok { OnOk result (decoder.new
-        ≡ record decoder.old { kept = inserted (targets passed.now) decoder.old.kept }) }
+        ≡ record decoder.old { kept = inserted (targets followed.now) decoder.old.kept }) }
     // A refusal leaves the count of pointers followed as it was.
     ensures err { OnErr result (decoder.new.jumps ≡ decoder.old.jumps) }
     ensures only { IsOkUnless result DecodeError.Memory }
 {
-    for i in (0..passed.len()).rev() {
-        if let Some(pointer) = passed.at(i) {
-            match last {
-                Some(lent) if i + 1 == passed.len() => decoder.keep_lent(pointer.target, lent)?,
-                _ => decoder.keep_copy(pointer.target, &labels[pointer.from..])?,
-            }
+    for i in (0..followed.len()).rev() {
+        if let Some(pointer) = followed.at(i) {
+            let lent = if i + 1 == followed.len() { last } else { None };
+            decoder.keep(pointer.target, &labels[pointer.from..], lent)?;
         }
     }
     Ok(())
 }
 
-/// The labels of a name that stands in one piece: its own, and after them those that its pointer leads to, where it has
-/// one and they are kept.
+/// The labels of a name for which no pointer is followed: its own, and after them those that its pointer leads to, where
+/// it has one and they are kept.
 #[derive(Drop)]
-struct Piece<'d> {
+struct InPlace<'d> {
     /// Bytes that begin with its own labels, each with its length before it.
     own: &'d [u8],
     /// How many bytes its own labels are.
@@ -216,9 +216,8 @@ struct Piece<'d> {
     end: usize,
 }
 
-/// The name at the decoder's place, if it stands in one piece and is a name: most names do, and are read without a walk
-/// along pointers.
-fn one_piece<'d>(decoder: &'d BinDecoder<'_>) -> Option<Piece<'d>>
+/// The name at the decoder's place, if no pointer need be followed for it: most names have none, or one to a kept target.
+fn read_in_place<'d>(decoder: &'d BinDecoder<'_>) -> Option<InPlace<'d>>
     ensures own { IfSome result (λ p. p.used ≤ length p.own.now) }
     ensures read { IfSome result
         (λ p. labels_at decoder.now.bytes decoder.now.index decoder.now.index 0
@@ -233,10 +232,10 @@ fn one_piece<'d>(decoder: &'d BinDecoder<'_>) -> Option<Piece<'d>>
     let own = decoder.rest();
     let mut used = 0;
     'labels: loop {
-        match part_of(own, used) {
+        match read_part(own, used) {
             Err(_) => return None,
             Ok(Part::Root) => {
-                return Some(Piece {
+                return Some(InPlace {
                     own,
                     used,
                     kept: &own[..0],
@@ -258,7 +257,7 @@ fn one_piece<'d>(decoder: &'d BinDecoder<'_>) -> Option<Piece<'d>>
                 if used + kept.len() + 1 > MAX_NAME {
                     return None;
                 }
-                return Some(Piece {
+                return Some(InPlace {
                     own,
                     used,
                     kept,
@@ -303,23 +302,23 @@ impl BinDecodable for Name {
             (λ _. AddsPassed (decoder.old.index ∷ []) decoder.old decoder.new) }
     {
         if let Some(
-            Piece {
+            InPlace {
                 own,
                 used,
                 kept,
                 end,
             },
-        ) = one_piece(decoder)
+        ) = read_in_place(decoder)
         {
             let octets = Octets::from_front_and(decoder.allocator(), own, used, kept, true)?;
             decoder.move_to(end);
             return Ok(Name { octets });
         }
         let mut room = [0; MAX_LABELS];
-        let mut passed = Trail::new(decoder.allocator());
-        let Gathered { used, end, last } = gather(decoder, &mut room, &mut passed)?;
+        let mut followed = FollowedPointers::new(decoder.allocator());
+        let Gathered { used, end, last } = gather_labels(decoder, &mut room, &mut followed)?;
         let octets = Octets::from_front(decoder.allocator(), &room, used, true)?;
-        keep_all(decoder, &room[..used], &passed, last)?;
+        keep_targets(decoder, &room[..used], &followed, last)?;
         decoder.move_to(end);
         Ok(Name { octets })
     }

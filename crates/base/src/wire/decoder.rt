@@ -1,19 +1,18 @@
 //! Reads a message's bytes.
 
 ghost use Rattle.base.specs.declared.limits.TheConstants.{POINTER_LIMIT};
-ghost use Rattle.std.specs.Prelude.{◌≡◌, ℕ, true, ◌+◌, ◌-◌, ◌^◌, ◌<◌, ◌≤◌, length, min, drop, nat_le, is_some, IfSome, OnOk, OnErr, IsOkUnless};
+ghost use Rattle.std.specs.Prelude.{◌≡◌, ℕ, true, false, ◌+◌, ◌-◌, ◌^◌, ◌<◌, ◌≤◌, length, min, drop, nat_le, is_some, IfSome, OnOk, OnErr, IsOkUnless};
 ghost use Rattle.std.specs.FinSet as set;
 ghost use Rattle.std.specs.Int.{w16, w32};
 ghost use Rattle.base.specs.Counts.{Counts, Passes};
-ghost use Rattle.base.specs.Kept.{IsKept};
 ghost use Rattle.base.specs.Passing.{IsClosed, PassesKept};
+ghost use Rattle.base.specs.Pointers.{IsKept};
 ghost use Rattle.base.specs.Reader.{begun};
 ghost use Rattle.base.specs.Reading.{Reads, byte_at, bytes_at, number_at};
 
 use crate::error::DecodeError;
 use crate::limits::POINTER_LIMIT;
-use crate::wire::plain::PlainTargets;
-use crate::wire::target_table::TargetTable;
+use crate::wire::pointer_cache::PointerCache;
 use std::alloc::Global;
 use std::marker::Model;
 
@@ -23,18 +22,16 @@ pub struct BinDecoder<'a> {
     alloc: Global,
     buffer: &'a [u8],
     index: usize,
-    /// The first offsets that pointers led to where the labels stand in the buffer as they are.
-    plain: PlainTargets<'a>,
-    /// The labels at each other offset that a pointer led to.
-    others: TargetTable,
+    /// The labels at each offset that a pointer led to.
+    cache: PointerCache<'a>,
     jumps: usize,
 }
 
 impl<'a> Model for BinDecoder<'a> {
     ghost use Rattle.std.specs.Prelude.{◌≤◌, length};
     ghost use Rattle.base.specs.Reader.{Reader, reader_code};
-    ghost use Rattle.base.specs.Kept.{AreKept, ArePlain, targets_of};
     ghost use Rattle.base.specs.Passing.{IsClosed};
+    ghost use Rattle.base.specs.Pointers.{AreKept, targets_of};
 
     ghost Value = { Reader };
 
@@ -44,13 +41,12 @@ impl<'a> Model for BinDecoder<'a> {
         record {
           bytes = d.buffer.now;
           index = d.index;
-          kept = targets_of d.plain d.others;
+          kept = targets_of d.cache;
           jumps = d.jumps;
         } };
 
     ghost invariant = { λ d. (d.index ≤ length d.buffer.now)
-        × (ArePlain d.buffer.now d.plain
-        × (AreKept d.buffer.now d.others × IsClosed d.buffer.now (targets_of d.plain d.others))) };
+        × (AreKept d.buffer.now d.cache × IsClosed d.buffer.now (targets_of d.cache)) };
 }
 
 impl<'a> BinDecoder<'a> {
@@ -62,8 +58,7 @@ impl<'a> BinDecoder<'a> {
             alloc,
             buffer,
             index: 0,
-            plain: PlainTargets::none(buffer),
-            others: TargetTable::new(alloc),
+            cache: PointerCache::new(alloc),
             jumps: 0,
         }
     }
@@ -147,49 +142,38 @@ impl<'a> BinDecoder<'a> {
         // What is spelled at a kept offset passes kept offsets alone.
         ensures closed { IsClosed self.now.bytes self.now.kept }
     {
-        match self.others.find(target) {
-            Some(labels) => Some(labels),
-            None => self.plain.find(target),
-        }
+        self.cache.find(target)
     }
 
-    /// Keeps the labels at an offset that a pointer led to, which stand in the buffer as they are: they are lent, as long
-    /// as there is room, and else copied.
-    pub(crate) fn keep_lent(&mut self, target: u16, labels: &'a [u8]) -> Result<(), DecodeError>
+    /// Keeps the labels at an offset that a pointer led to. Where the buffer has them as they are, it may lend them.
+    pub(crate) fn keep(
+        &mut self,
+        target: u16,
+        labels: &[u8],
+        lent: Option<&'a [u8]>,
+    ) -> Result<(), DecodeError>
         // These are the labels that are spelled at the offset.
         requires kept { IsKept self.old.bytes target labels.now }
+        // They aren't kept yet.
+        requires new { set.contains self.old.kept target ≡ false }
         // What is spelled there passes kept offsets alone.
         requires after { PassesKept self.old.bytes self.old.kept target }
-        ensures ok { OnOk result (self.new
-            ≡ record self.old { kept = set.insert self.old.kept target }) }
-        ensures err { OnErr result (self.new ≡ self.old) }
-        ensures only { IsOkUnless result DecodeError.Memory }
-    {
-        if self.plain.keep(target, labels) {
-            return Ok(());
-        }
-        self.keep_copy(target, labels)
-    }
-
-    /// Keeps a copy of the labels at an offset that a pointer led to.
-    pub(crate) fn keep_copy(&mut self, target: u16, labels: &[u8]) -> Result<(), DecodeError>
-        // These are the labels that are spelled at the offset.
-        requires kept { IsKept self.old.bytes target labels.now }
-        // What is spelled there passes kept offsets alone.
-        requires after { PassesKept self.old.bytes self.old.kept target }
+        requires lent { IfSome lent (λ same. same.now ≡ labels.now) }
         ensures ok { OnOk result (self.new
             ≡ record self.old { kept = set.insert self.old.kept target }) }
         ensures err { OnErr result (self.new ≡ self.old) }
         ensures only { IsOkUnless result DecodeError.Memory }
     {
         let most = self.buffer.len().min(POINTER_LIMIT) as u16;
-        self.others.keep(target, labels, most)?;
+        self.cache.insert(target, labels, lent, most)?;
         Ok(())
     }
 
-    /// Goes to a place inside the buffer or at its end.
+    /// Goes on to a place inside the buffer or at its end, and never back: what a pointer leads to is lent by `follow`
+    /// alone.
     pub(crate) fn move_to(&mut self, index: usize)
-        requires { index ≤ length self.old.bytes }
+        requires on { self.old.index ≤ index }
+        requires inside { index ≤ length self.old.bytes }
         ensures { self.new ≡ record self.old { index = index } }
     {
         self.index = index;

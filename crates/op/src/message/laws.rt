@@ -4,7 +4,7 @@
 ghost use Rattle.std.specs.Cmp.{IsEquivalence};
 ghost use Rattle.std.specs.Cmp.Lexicographic.{pointwise};
 ghost use Rattle.std.specs.Option.{option_eq, option_map};
-ghost use Rattle.std.specs.Prelude.{◌≡◌, ◌<◌, ◌↔◌, ◌≤◌, ◌++◌, [], All, Bool, Err, false, IsTrue, length, List, Ok, true, ℕ};
+ghost use Rattle.std.specs.Prelude.{◌≡◌, ◌<◌, ◌↔◌, ◌≤◌, ◌^◌, ◌++◌, [], All, Bool, Err, false, IsTrue, length, List, Ok, true, ℕ};
 ghost use Rattle.base.specs.Many.{many_at};
 ghost use Rattle.base.specs.Spelling.{NamesStand};
 ghost use Rattle.base.specs.State.{State, Stored};
@@ -14,13 +14,14 @@ ghost use Rattle.base.specs.declared.error.proto_error.ProtoError.{ProtoError};
 ghost use Rattle.base_data.specs.declared.rdata.RData.{RData};
 ghost use Rattle.rr.specs.Record.{record_written};
 ghost use Rattle.rr.specs.declared.record.Record.{Record};
-ghost use Rattle.op.specs.Cut.{as_written, IsCut, IsTooSmall, IsUncut, raised};
+ghost use Rattle.op.specs.Cut.{as_written, IsCut, IsTooSmall, IsUncut, IsWritten, raised};
 ghost use Rattle.op.specs.EdnsRecord.{edns_record};
 ghost use Rattle.op.specs.Emitted.{Leaves};
 ghost use Rattle.op.specs.Fault.{IsMessageFault, IsQueriesFault, IsSectionFault};
 ghost use Rattle.op.specs.Fits.{Fits, listed, signature_record};
 ghost use Rattle.op.specs.Message.{IsMessageAt, message_at, MessageValue};
-ghost use Rattle.op.specs.MessageWritten.{AreWhole, LostForRoom, parts_of};
+ghost use Rattle.op.specs.MessageKept.{MessageKept};
+ghost use Rattle.op.specs.MessageWritten.{AreWhole, LostForRoom, message_answer, parts_of};
 ghost use Rattle.op.specs.Parts.{stripped, truncated};
 ghost use Rattle.op.specs.Places.{message_names, message_places};
 ghost use Rattle.op.specs.Query.{IsQueryAt, query_at, query_written};
@@ -109,6 +110,14 @@ pub fn equal_messages()
         (option_map (λ s. s.value) b.signature))
         × IsTrue (option_eq ⟦<Edns as PartialEq>⟧.eq a.edns b.edns)) }
     ensures equivalence { IsEquivalence ⟦<Message as PartialEq>⟧.eq }
+{}
+
+/// What the definition `message_answer` gives of a message that fits the wire is a cut of it under the limit, and is read
+/// as that cut (RFC 1035, 4.1.1; RFC 2181, 9; RFC 6891, 6.1.3).
+pub fn what_is_written_is_a_cut()
+    // `MessageKept` is what its types keep of every message.
+    ensures { (m : MessageValue) (limit : ℕ) (B : List ℕ) → Fits m → MessageKept m
+        → limit < 2 ^ 16 → message_answer limit m ≡ Ok B → IsWritten m limit B }
 {}
 
 /// Of records that are written in turn under a limit those that fit are a front, and the first of the others would have

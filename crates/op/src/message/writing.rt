@@ -2,7 +2,7 @@
 
 ghost use Rattle.base.specs.declared.limits.TheConstants.{MAX_MESSAGE};
 ghost use Rattle.std.specs.Option.{option_copied};
-ghost use Rattle.std.specs.Prelude.{◌≡◌, ◌⊎◌, [], ◌<◌, ◌^◌, drop, Err, IfErr, IfOk, IsOkUnless, length, Ok};
+ghost use Rattle.std.specs.Prelude.{◌≡◌, ◌⊎◌, [], ◌-◌, ◌<◌, ◌^◌, drop, Err, IfErr, IfOk, IsOkUnless, length, Ok};
 ghost use Rattle.base.specs.Laws.{Keeps};
 ghost use Rattle.base.specs.Wire.{state_of};
 ghost use Rattle.base.specs.Written.{after};
@@ -38,7 +38,7 @@ impl Message {
     ///
     /// `MaxBufferSizeExceeded` where the header doesn't fit, and then nothing is written; `NotAllRecordsWritten` where
     /// the questions don't, with the number of those that are written, all before the first that doesn't fit; `Memory`
-    /// if memory runs out. A new encoder with room for header and questions uncompressed refuses for memory alone.
+    /// if memory runs out. With room for header and questions uncompressed it is refused for memory alone.
     #[tactic(auto, using(crate::proofs::AnswerLemmas::only_memory))]
     pub fn emit(&self, encoder: &mut BinEncoder<'_>) -> Result<(), ProtoError>
         // Whatever the answer, what stood before stays, and no byte is written past the limit.
@@ -58,9 +58,10 @@ impl Message {
             → IfOk result
             (λ _. IsWritten (message_value self.now) (state_of encoder.old).limit
             (state_of encoder.new).bytes) }
-        // With room for header and uncompressed questions, a new encoder refuses for memory alone.
-        ensures succeeds { (state_of encoder.old).bytes ≡ [] → (state_of encoder.old).suffixes ≡ []
-            → HasRoom (message_value self.now) (state_of encoder.old).limit
+        // With room for header and uncompressed questions, after what stood before, it is refused
+        // for memory alone.
+        ensures succeeds { HasRoom (message_value self.now)
+            ((state_of encoder.old).limit - length (state_of encoder.old).bytes)
             → IsOkUnless result ProtoError.Memory }
         // The bytes that are added are what the definition `message_answer_at` gives.
         ensures answer { IfOk result

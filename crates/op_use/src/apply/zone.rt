@@ -91,7 +91,7 @@ impl<'a> Zone<'a> {
         let key = key_of(&entry.name, entry.record_type())?;
         let copy = entry.clone()?;
         let mut set = self.take_or_new(&key, entry)?;
-        set.renew(copy)?;
+        set.renew(copy).map_err(|_| AllocError)?;
         self.put_set(key, set)?;
         Ok(())
     }
@@ -103,7 +103,7 @@ impl<'a> Zone<'a> {
         let key = key_of(&entry.name, entry.record_type())?;
         let copy = entry.clone()?;
         let mut alone = self.empty_set(entry)?;
-        alone.renew(copy)?;
+        alone.renew(copy).map_err(|_| AllocError)?;
         self.put_set(key, alone)?;
         Ok(())
     }
@@ -116,7 +116,7 @@ impl<'a> Zone<'a> {
         let Some(mut set) = self.sets.remove(&key) else {
             return Ok(());
         };
-        set.take_data(entries)?;
+        set.take_data(entries).map_err(|_| AllocError)?;
         if set.is_empty() {
             return Ok(());
         }

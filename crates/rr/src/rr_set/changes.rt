@@ -223,11 +223,13 @@ impl RecordSet {
     ///
     /// # Errors
     ///
-    /// If memory runs out; the set is then as it was.
-    pub fn renew(&mut self, entry: Record) -> Result<(), AllocError>
+    /// `Memory` if memory runs out; the set is then as it was.
+    pub fn renew(&mut self, entry: Record) -> Result<(), ProtoError>
         ensures ok { OnOk result (self.new
             ≡ with_records self.old (joined entry self.old.records)) }
         ensures err { OnErr result (self.new ≡ self.old) }
+        // A refusal is `Memory`.
+        ensures memory { IsMemory result }
     {
         self.records.join(entry)?;
         self.take_last_ttl();
@@ -239,18 +241,21 @@ impl RecordSet {
     ///
     /// # Errors
     ///
-    /// If memory runs out; the set is then as it was. It takes none for one record.
-    pub fn take_data(&mut self, entries: &[Record]) -> Result<bool, AllocError>
+    /// `Memory` if memory runs out; the set is then as it was. It takes none for one record.
+    pub fn take_data(&mut self, entries: &[Record]) -> Result<bool, ProtoError>
         ensures went { IfOk result (λ went. went
             ≡ list_any (has_data_of_one entries.now) self.old.records) }
         ensures ok { OnOk result (self.new ≡ without_data entries.now self.old) }
         ensures err { OnErr result (self.new ≡ self.old) }
+        // A refusal is `Memory`.
+        ensures memory { IsMemory result }
     {
         let went = self.records.take_all(entries)?;
-        if went {
-            self.take_last_ttl();
+        if !went {
+            return Ok(false);
         }
-        Ok(went)
+        self.take_last_ttl();
+        Ok(true)
     }
 
     /// Takes over the TTL of the last record, 0 without records.

@@ -2,12 +2,12 @@
 
 ghost use Rattle.base_data.specs.Kinds.{canonical_data};
 ghost use Rattle.base_data.specs.declared.rdata.RData.{RData};
-ghost use Rattle.rr.specs.DataIndex.{IsFirstAt, IsIndexOf, IsOnlyAt, place_at};
+ghost use Rattle.rr.specs.DataIndex.{IsCurrent, IsFirstAt, IsIndexOf, IsOnlyAt, place_at};
 ghost use Rattle.rr.specs.SetChanges.{entered, has_data_of, joined};
 ghost use Rattle.rr.specs.SetUpdates.{has_data_of_one, without};
 ghost use Rattle.rr.specs.declared.record.Record.{Record as Entry};
 ghost use Rattle.std.specs.List.{list_any};
-ghost use Rattle.std.specs.Prelude.{IfOk, IfSome, MatchOption, None, OnErr, OnOk, [], false, filter, length, map, not, ◌∷◌, ◌≡◌, ◌≤◌};
+ghost use Rattle.std.specs.Prelude.{IfOk, IfSome, List, MatchOption, None, OnErr, OnOk, [], false, filter, length, map, not, ◌∷◌, ◌≡◌, ◌≤◌};
 
 use crate::record::Record;
 use crate::rr_set::scanning::{
@@ -19,6 +19,7 @@ use std::alloc::{AllocError, Global};
 use std::collections::BTreeMap;
 use std::fmt;
 use std::marker::Model;
+use std::mem::replace;
 
 /// Among so many records equal data is looked for one by one.
 const FEW: usize = 24;
@@ -30,23 +31,32 @@ const SCANS: u8 = 24;
 #[derive(Drop)]
 pub(super) struct IndexedRecords {
     records: Vec<Record>,
-    index: Option<Box<DataIndex>>,
-    /// How often equal data was looked for one by one since there is no index.
-    scans: u8,
+    index: Index,
 }
 
+/// What is known of the places of data among the records.
+#[derive(Drop)]
+enum Index {
+    /// Nothing; so often equal data was looked for one by one among many.
+    Missing { scans: u8 },
+    /// The place of each record.
+    Made(Box<DataIndex>),
+}
+
+/// The place of each record, at the canonical form of its data.
+type DataIndex = BTreeMap<Vec<u8>, usize>;
+
 impl Model for IndexedRecords {
-    ghost use Rattle.std.specs.Prelude.{List, IfSome};
+    ghost use Rattle.std.specs.Prelude.{List};
     ghost use Rattle.base_data.specs.declared.rdata.RData.{RData};
     ghost use Rattle.rr.specs.declared.record.Record.{Record as Entry};
-    ghost use Rattle.rr.specs.DataIndex.{IsIndexOf, place_at};
+    ghost use Rattle.rr.specs.DataIndex.{IsCurrent};
 
     ghost Value = { List (Entry RData) };
 
     ghost view = { λ r. r.records.items };
 
-    ghost invariant = { λ r. IfSome r.index
-        (λ places. IsIndexOf (place_at places.value) r.records.items) };
+    ghost invariant = { λ r. IsCurrent r.index r.records.items };
 }
 
 impl IndexedRecords {
@@ -63,8 +73,7 @@ impl IndexedRecords {
     {
         IndexedRecords {
             records,
-            index: None,
-            scans: 0,
+            index: Index::Missing { scans: 0 },
         }
     }
 
@@ -88,7 +97,7 @@ impl IndexedRecords {
         ensures ok { OnOk result (self.new ≡ entry ∷ []) }
         ensures err { OnErr result (self.new ≡ self.old) }
     {
-        drop(self.index.take());
+        self.index = Index::Missing { scans: 0 };
         put_alone(&mut self.records, entry)
     }
 
@@ -100,8 +109,7 @@ impl IndexedRecords {
         ensures place { IfOk result (λ done. IfSome done.1 (IsFirstAt entry.rdata self.new)) }
         ensures err { OnErr result (self.new ≡ self.old) }
     {
-        let known = self.index.take();
-        let Some(places) = index_for(&self.records, known, &mut self.scans)? else {
+        let Some(places) = self.index.take(&self.records)? else {
             return Ok((enter(&mut self.records, entry)?, None));
         };
         let done = enter_by_index(&mut self.records, places, entry)?;
@@ -114,8 +122,7 @@ impl IndexedRecords {
         ensures ok { OnOk result (self.new ≡ joined entry self.old) }
         ensures err { OnErr result (self.new ≡ self.old) }
     {
-        let known = self.index.take();
-        let Some(places) = index_for(&self.records, known, &mut self.scans)? else {
+        let Some(places) = self.index.take(&self.records)? else {
             return join(&mut self.records, entry);
         };
         let done = join_by_index(&mut self.records, places, entry)?;
@@ -127,8 +134,7 @@ impl IndexedRecords {
     pub(super) fn take_data(&mut self, entry: &Record)
         ensures { self.new ≡ filter (λ x. not (has_data_of entry.now x)) self.old }
     {
-        self.index = None;
-        self.scans = 0;
+        self.index = Index::Missing { scans: 0 }; // Places move.
         take_data(&mut self.records, entry);
     }
 
@@ -144,8 +150,7 @@ impl IndexedRecords {
         if self.records.len() == count {
             return Ok(false);
         }
-        drop(self.index.take());
-        self.scans = 0;
+        self.index = Index::Missing { scans: 0 };
         Ok(true)
     }
 
@@ -165,27 +170,30 @@ impl IndexedRecords {
     }
 }
 
-/// The index by which a record is to be found among others: the one that is known, or a new one of many records that
-/// were gone through often.
-fn index_for(
-    records: &Vec<Record>,
-    known: Option<Box<DataIndex>>,
-    scans: &mut u8,
-) -> Result<Option<Box<DataIndex>>, AllocError>
-    requires { IfSome known (λ places. IsIndexOf (place_at places.value) records.now.items) }
-    // An index that is answered has the place of each of these records.
-    ensures index { IfOk result
-        (λ index. IfSome index (λ places. IsIndexOf (place_at places.value) records.now.items)) }
-{
-    if known.is_some() || records.len() <= FEW {
-        return Ok(known);
+impl Index {
+    /// Takes out the index by which a record is to be found among these: the one that there is, or a new one of many
+    /// records that were gone through often.
+    fn take(&mut self, records: &Vec<Record>) -> Result<Option<Box<DataIndex>>, AllocError>
+        requires { IsCurrent self.old records.now.items }
+        // An index that is answered has the place of each of these records.
+        ensures index { IfOk result
+            (λ index. IfSome index (λ places. IsIndexOf (place_at places.value) records.now.items)) }
+        // None is left, so that the records may change.
+        ensures missing { (rs : List (Entry RData)) → IsCurrent self.new rs }
+    {
+        let scans = match replace(self, Index::Missing { scans: 0 }) {
+            Index::Made(places) => return Ok(Some(places)),
+            Index::Missing { scans } => scans,
+        };
+        if records.len() <= FEW {
+            return Ok(None);
+        }
+        if scans < SCANS {
+            *self = Index::Missing { scans: scans + 1 };
+            return Ok(None);
+        }
+        index_of(records)
     }
-    if *scans < SCANS {
-        *scans += 1;
-        return Ok(None);
-    }
-    *scans = 0;
-    index_of(records)
 }
 
 impl Clone for IndexedRecords {
@@ -203,9 +211,6 @@ impl fmt::Debug for IndexedRecords {
     }
 }
 
-/// The place of each record, at the canonical form of its data.
-type DataIndex = BTreeMap<Vec<u8>, usize>;
-
 /// What putting a record in by an index answers.
 #[derive(Drop)]
 struct Entered {
@@ -213,8 +218,8 @@ struct Entered {
     is_new: bool,
     /// Where the record of its data stands then.
     place: usize,
-    /// The index then, or none where records of other data have one canonical form.
-    index: Option<Box<DataIndex>>,
+    /// The index then: none where records of other data have one canonical form.
+    index: Index,
 }
 
 /// The key of data.
@@ -273,8 +278,7 @@ fn enter_by_index(
     // The place is that of the first record of equal data.
     ensures place { IfOk result (λ done. IsFirstAt entry.rdata records.new.items done.place) }
     // An index that is answered has the place of each record then.
-    ensures index { IfOk result
-        (λ done. IfSome done.index (λ after. IsIndexOf (place_at after.value) records.new.items)) }
+    ensures index { IfOk result (λ done. IsCurrent done.index records.new.items) }
     ensures err { OnErr result (records.new.items ≡ records.old.items) }
 {
     let key = key_of(&entry.rdata, *records.allocator())?;
@@ -283,14 +287,14 @@ fn enter_by_index(
             return Ok(Entered {
                 is_new: false,
                 place,
-                index: Some(places),
+                index: Index::Made(places),
             });
         }
         set_at(records, place, entry);
         return Ok(Entered {
             is_new: true,
             place,
-            index: Some(places),
+            index: Index::Made(places),
         });
     }
     push_by_index(records, places, key, entry)
@@ -306,8 +310,7 @@ fn join_by_index(
     requires { IsIndexOf (place_at places.value) records.old.items }
     ensures ok { OnOk result (records.new.items ≡ joined entry records.old.items) }
     // An index that is answered has the place of each record then.
-    ensures index { IfOk result
-        (λ done. IfSome done.index (λ after. IsIndexOf (place_at after.value) records.new.items)) }
+    ensures index { IfOk result (λ done. IsCurrent done.index records.new.items) }
     ensures err { OnErr result (records.new.items ≡ records.old.items) }
 {
     let key = key_of(&entry.rdata, *records.allocator())?;
@@ -316,7 +319,7 @@ fn join_by_index(
         return Ok(Entered {
             is_new: true,
             place: known,
-            index: Some(places),
+            index: Index::Made(places),
         });
     }
     push_by_index(records, places, key, entry)
@@ -339,8 +342,7 @@ fn push_by_index(
     // The place is that of the first record of equal data.
     ensures place { IfOk result (λ done. IsFirstAt entry.rdata records.new.items done.place) }
     // An index that is answered has the place of each record then.
-    ensures index { IfOk result
-        (λ done. IfSome done.index (λ after. IsIndexOf (place_at after.value) records.new.items)) }
+    ensures index { IfOk result (λ done. IsCurrent done.index records.new.items) }
     ensures err { OnErr result (records.new.items ≡ records.old.items) }
 {
     let place = records.len();
@@ -351,12 +353,12 @@ fn push_by_index(
         return Ok(Entered {
             is_new: true,
             place,
-            index: None,
+            index: Index::Missing { scans: 0 },
         });
     }
     Ok(Entered {
         is_new: true,
         place,
-        index: Some(places),
+        index: Index::Made(places),
     })
 }

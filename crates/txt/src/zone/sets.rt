@@ -12,6 +12,7 @@ ghost use Rattle.rr.specs.RecordSet.{SetValue, set_of};
 ghost use Rattle.txt.specs.Steps.{Adds};
 ghost use Rattle.txt.specs.ZoneSets.{AreKept, IsKept, ZoneSets as Sets, added, added_to, record_key};
 
+use crate::zone::run::Run;
 use base::{LowerName, ParseError, RecordType, RrKey};
 use base_data::RecordData;
 use rr::{Record, RecordSet};
@@ -28,7 +29,7 @@ pub(super) struct ZoneSets {
     sets: BTreeMap<RrKey, RecordSet>,
     /// Further sets, in the order of their keys, which are above all of the map: the sets of a zone in order come in
     /// turn, and go into the map together.
-    run: Vec<(RrKey, RecordSet)>,
+    run: Run,
 }
 
 impl Model for ZoneSets {
@@ -40,10 +41,10 @@ impl Model for ZoneSets {
 
     ghost Value = { Sets };
 
-    ghost view = { λ z. z.sets.entries ++ z.run.items };
+    ghost view = { λ z. z.sets.entries ++ z.run };
 
-    ghost invariant = { λ z. AreKept (z.sets.entries ++ z.run.items)
-        × IsStrictlySortedBy key_cmp (keys_of (z.sets.entries ++ z.run.items)) };
+    ghost invariant = { λ z. AreKept (z.sets.entries ++ z.run)
+        × IsStrictlySortedBy key_cmp (keys_of (z.sets.entries ++ z.run)) };
 }
 
 impl ZoneSets {
@@ -53,7 +54,7 @@ impl ZoneSets {
     {
         ZoneSets {
             sets: BTreeMap::new(alloc),
-            run: Vec::new(alloc),
+            run: Run::new(alloc),
         }
     }
 
@@ -65,7 +66,7 @@ impl ZoneSets {
     pub(super) fn add(&mut self, entry: Record) -> Result<(), ParseError>
         ensures { Adds result self.new (added self.old entry) }
     {
-        let key = key_for(*self.run.allocator(), &entry)?;
+        let key = key_for(self.run.allocator(), &entry)?;
         match order_to_last(&self.sets, &self.run, &key) {
             Ordering::Less => self.add_within(key, entry),
             Ordering::Equal => {
@@ -88,9 +89,9 @@ impl ZoneSets {
         requires { key ≡ record_key entry }
         ensures { Adds result self.new (added self.old entry) }
     {
-        let alloc = *self.run.allocator();
+        let alloc = self.run.allocator();
         let sets = replace(&mut self.sets, BTreeMap::new(alloc));
-        let run = replace(&mut self.run, Vec::new(alloc));
+        let run = replace(&mut self.run, Run::new(alloc));
         let mut whole = append_run(sets, run)?;
         put(&mut whole, key, entry)?;
         self.sets = whole;
@@ -122,11 +123,7 @@ fn key_for(alloc: Global, entry: &Record) -> Result<RrKey, ParseError>
 }
 
 /// The order of a key to the last one; less as well where it is the last one of the map.
-fn order_to_last(
-    sets: &BTreeMap<RrKey, RecordSet>,
-    run: &[(RrKey, RecordSet)],
-    key: &RrKey,
-) -> Ordering
+fn order_to_last(sets: &BTreeMap<RrKey, RecordSet>, run: &Run, key: &RrKey) -> Ordering
     requires { IsStrictlySortedBy key_cmp (keys_of (sets.now.entries ++ run.now)) }
     // Equal only where the run's last set has this key.
     ensures last { result ≡ Equal
@@ -153,10 +150,10 @@ fn order_to_last(
 /// If memory runs out.
 fn append_run(
     sets: BTreeMap<RrKey, RecordSet>,
-    run: Vec<(RrKey, RecordSet)>,
+    run: Run,
 ) -> Result<BTreeMap<RrKey, RecordSet>, AllocError>
-    requires { IsStrictlySortedBy key_cmp (keys_of (sets.entries ++ run.items)) }
-    ensures { IfOk result (λ whole. whole.entries ≡ sets.entries ++ run.items) }
+    requires { IsStrictlySortedBy key_cmp (keys_of (sets.entries ++ run)) }
+    ensures { IfOk result (λ whole. whole.entries ≡ sets.entries ++ run) }
 {
     let mut whole = sets;
     let mut left = run;

@@ -16,7 +16,7 @@ returns-in_err-bytes-clause-refused c =
 pub returns-in_err-update-clause-refused : goal.returns-in_err-update-clause-refused
 returns-in_err-update-clause-refused c =
     let p = err_from_is_err_and c.from_residual-in_err-update.result c.from_residual-in_err-update.ensures.1 in
-    rw (p.1, p.2) (inl (unsent c.args.origin.now c.args.set c.in_ok-bytes.bytes.items c.in_ok-bytes.ensures.written c.in_err-update.field-0.0
+    rw (p.1, p.2) (inl (unsent c.args.origin.now c.args.set c.in_ok-bytes.bytes.items c.in_ok-bytes.ensures.exact c.in_ok-bytes.ensures.written c.in_err-update.field-0.0
     (subst (λ bytes. IsNotReceived bytes c.in_err-update.field-0.0) c.deref.ensures.value c.in_err-update.ensures.refused)))
 
 pub returns-in_err-sets-clause-refused : goal.returns-in_err-sets-clause-refused

@@ -68,6 +68,6 @@ returns-in_err-emit_message_parts-clause-refused c =
     search rules
 
 pub returns-in_err-emit_message_parts-clause-succeeds : goal.returns-in_err-emit_message_parts-clause-succeeds
-returns-in_err-emit_message_parts-clause-succeeds c empty untold room =
-    let memory = only_memory (message_value c.args.self.now) (state_of c.args.encoder.now) (state_of c.emit_message_parts.new.encoder) c.in_err-emit_message_parts.field-0.0 empty room (refused c) in
+returns-in_err-emit_message_parts-clause-succeeds c room =
+    let memory = only_memory (message_value c.args.self.now) (state_of c.args.encoder.now) (state_of c.emit_message_parts.new.encoder) c.in_err-emit_message_parts.field-0.0 room (refused c) in
     search rules

@@ -6,8 +6,8 @@ use Rattle.rr.specs.SetUpdates.{without_data}
 use Rattle.rr.specs.declared.record.Record.{Record}
 use Rattle.std.proofs.Common.{List, ap, sym, ◌∙◌}
 
-pub returns-else-went-clause-ok : goal.returns-else-went-clause-ok
-returns-else-went-clause-ok c =
+pub returns-then-not-went-clause-ok : goal.returns-then-not-went-clause-ok
+returns-then-not-went-clause-ok c =
     let of : List (Record RData) → SetValue = λ rs. record {
       name = c.self.inside.name;
       record_type = c.self.inside.record_type;
@@ -16,6 +16,6 @@ returns-else-went-clause-ok c =
       records = rs;
       serial = c.self.inside.serial;
     } in
-    let none = sym c.in_ok-went.ensures.went ∙ c.if-went.false in
+    let none = sym c.in_ok-went.ensures.went ∙ c.if-not-went.true in
     ap of (c.in_ok-went.ensures.ok ∙ without_none c.args.entries.now c.self.inside.records none)
     ∙ sym (set_stays c.args.entries.now (of c.self.inside.records) none) ∙ ap (without_data c.args.entries.now) c.self.view_is

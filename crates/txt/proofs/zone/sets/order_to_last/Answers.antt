@@ -11,13 +11,13 @@ use Rattle.txt.proofs.zone.sets.order_to_last.Goals as goal
 pub returns-in-Some-clause-last : goal.returns-in-Some-clause-last
 returns-in-Some-clause-last c = λ is. (
   c.in-Some.last.now.1,
-  sym c.in-Some.ensures.value
+  sym c.in-Some.ensures
       ∙ ap (λ (k : RrKey). Some (k, c.in-Some.last.now.1)) (sym (key_cmp-exact c.args.key.now c.in-Some.last.now.0 (sym c.cmp.ensures ∙ is))),
 )
 
 pub returns-in-Some-clause-above : goal.returns-in-Some-clause-above
 returns-in-Some-clause-above c = λ is.
-    above_by_last c.args.key.now c.args.sets.now.entries c.args.run.now c.in-Some.last.now c.requires (sym c.in-Some.ensures.value) (sym c.cmp.ensures ∙ is)
+    above_by_last c.args.key.now c.args.sets.now.entries c.args.run.now c.in-Some.last.now c.requires (sym c.in-Some.ensures) (sym c.cmp.ensures ∙ is)
 
 greater_of : (o : Ordering) → ordering_then o Less ≡ Greater → o ≡ Greater
 greater_of Greater is = refl

@@ -7,4 +7,4 @@ use Rattle.base.proofs.wire.decoder.BinDecoder.allocator.Goals as goal
 pub returns : goal.returns
 returns c =
     let invariant = c.self.invariant.1 in
-    record { few = subst (λ (r : Reader). set.len r.kept ≤ 16384) c.self.view_is (few_kept _ _ _ invariant.0 invariant.1.0) }
+    record { few = subst (λ (r : Reader). set.len r.kept ≤ 16384) c.self.view_is (few_kept _ _ invariant.0) }

@@ -7,4 +7,4 @@ use Rattle.base.proofs.wire.decoder.BinDecoder.jumps.Goals as goal
 pub returns-clause-few : goal.returns-clause-few
 returns-clause-few c =
     let invariant = c.self.invariant.1 in
-    subst (λ (r : Reader). set.len r.kept ≤ 16384) c.self.view_is (few_kept _ _ _ invariant.0 invariant.1.0)
+    subst (λ (r : Reader). set.len r.kept ≤ 16384) c.self.view_is (few_kept _ _ invariant.0)

@@ -1,43 +1,25 @@
-use Rattle.std.proofs.Common.{◌≡◌, ◌∙◌, ℕ, ◌<◌, Bool, true, false, ap, sym, subst}
-use Rattle.std.proofs.Math.Bool.{or-true}
+use Rattle.std.proofs.Common.{◌≡◌, ◌∙◌, ℕ, ◌<◌, List, None, Some, refl, true, ap, sym, subst}
 use Rattle.std.specs.FinSet as set
-use Rattle.std.specs.Prelude.{is_some, ◌||◌}
-use Rattle.std.proofs.Math.Bool.{or-false}
-use Rattle.base.specs.Kept.{is_target}
+use Rattle.std.specs.Borrow.{Bor}
+use Rattle.std.specs.Prelude.{Option, is_some}
 use Rattle.base.specs.Passing.{IsClosed}
+use Rattle.base.specs.Pointers.{labels_now}
 use Rattle.base.specs.Reader.{Reader}
-use Rattle.base.proofs.CountLemmas.{contains_all, kept_at, kept_near}
+use Rattle.base.proofs.CountLemmas.{contains_kept, kept_near}
 use Rattle.base.proofs.wire.decoder.BinDecoder.labels_at.Goals as goal
 
-pub returns-in-Some-clause-near : goal.returns-in-Some-clause-near
-returns-in-Some-clause-near c =
-    subst (λ (r : Reader). (q : ℕ) → set.contains r.kept q ≡ true → q < 16384) c.self.view_is
-    (kept_near _ c.self.inside.plain c.self.inside.others c.self.invariant.1.0 c.self.invariant.1.1.0)
+is_found : (found : Option (Bor (List ℕ))) → is_some (labels_now found) ≡ is_some found
+is_found None = refl
+is_found (Some labels) = refl
 
-pub returns-in-None-clause-near : goal.returns-in-None-clause-near
-returns-in-None-clause-near c =
-    subst (λ (r : Reader). (q : ℕ) → set.contains r.kept q ≡ true → q < 16384) c.self.view_is
-    (kept_near _ c.self.inside.plain c.self.inside.others c.self.invariant.1.0 c.self.invariant.1.1.0)
-
-pub returns-in-Some-clause-is : goal.returns-in-Some-clause-is
-returns-in-Some-clause-is c =
-    let plain = c.self.inside.plain in
-    let others = c.self.inside.others in
+pub returns-clause-is : goal.returns-clause-is
+returns-clause-is c =
     let t = c.args.target in
-    let kept : kept_at others t ≡ true = ap is_some (sym c.in-Some.ensures) in
-    sym (sym (ap (λ (r : Reader). set.contains r.kept t) c.self.view_is) ∙ contains_all plain others t ∙ ap (λ (b : Bool). is_target plain t || b) kept ∙ or-true (is_target plain t))
+    sym (is_found c.find.result) ∙ ap is_some c.find.ensures ∙ sym (contains_kept c.self.inside.cache t) ∙ ap (λ (r : Reader). set.contains r.kept t) c.self.view_is
 
-pub returns-in-None-clause-is : goal.returns-in-None-clause-is
-returns-in-None-clause-is c =
-    let plain = c.self.inside.plain in
-    let others = c.self.inside.others in
-    let t = c.args.target in
-    let none : kept_at others t ≡ false = ap is_some (sym c.in-None.ensures) in
-    c.find-in-None.ensures.is ∙ sym (sym (ap (λ (r : Reader). set.contains r.kept t) c.self.view_is) ∙ contains_all plain others t
-    ∙ ap (λ (b : Bool). is_target plain t || b) none ∙ or-false (is_target plain t))
+pub returns-clause-near : goal.returns-clause-near
+returns-clause-near c =
+    subst (λ (r : Reader). (q : ℕ) → set.contains r.kept q ≡ true → q < 16384) c.self.view_is (kept_near _ c.self.inside.cache c.self.invariant.1.0)
 
-pub returns-in-Some-clause-closed : goal.returns-in-Some-clause-closed
-returns-in-Some-clause-closed c = subst (λ (r : Reader). IsClosed r.bytes r.kept) c.self.view_is c.self.invariant.1.1.1
-
-pub returns-in-None-clause-closed : goal.returns-in-None-clause-closed
-returns-in-None-clause-closed c = subst (λ (r : Reader). IsClosed r.bytes r.kept) c.self.view_is c.self.invariant.1.1.1
+pub returns-clause-closed : goal.returns-clause-closed
+returns-clause-closed c = subst (λ (r : Reader). IsClosed r.bytes r.kept) c.self.view_is c.self.invariant.1.1

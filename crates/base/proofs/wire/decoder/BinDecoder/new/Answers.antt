@@ -1,12 +1,19 @@
-use Rattle.std.proofs.Common.{ℕ, List, [], Option, sym, subst, arith}
-use Rattle.base.specs.declared.wire.plain.Plain.{Plain}
-use Rattle.base.specs.Kept.{AreKept, ArePlain, targets_of}
+use Rattle.std.proofs.Common.{◌∙◌, ap, sym, subst, arith}
+use Rattle.std.specs.FinSet as set
+use Rattle.std.specs.Ordering.{nat_cmp}
 use Rattle.base.specs.Passing.{IsClosed}
+use Rattle.base.specs.Pointers.{AreKept, Cache, targets_of}
+use Rattle.base.specs.Reader.{begun}
+use Rattle.base.proofs.CountLemmas.{targets_none}
 use Rattle.base.proofs.PassLemmas.{nothing_kept}
 use Rattle.base.proofs.wire.decoder.BinDecoder.new.Goals as goal
 
 pub invariant_of-result : goal.invariant_of-result
 invariant_of-result c =
     let bytes = c.args.buffer.now in
-    let one = λ (ps : List Plain) (kept : List (Option (List ℕ))). ArePlain bytes ps × (AreKept bytes kept × IsClosed bytes (targets_of ps kept)) in
-    (omega arith, subst (λ (ps : List Plain). one ps c.new.result) (sym c.none.ensures) (subst (one []) (sym c.new.ensures) (nothing_kept bytes)))
+    (omega arith, subst (λ (cache : Cache). AreKept bytes cache × IsClosed bytes (targets_of cache)) (sym c.new.ensures) (nothing_kept bytes))
+
+pub returns : goal.returns
+returns c =
+    let bytes = c.args.buffer.now in
+    ap (λ (kept : set.FinSet nat_cmp). record (begun bytes) { kept = kept }) (ap targets_of c.new.ensures ∙ targets_none)

@@ -1,11 +1,12 @@
-use Rattle.std.proofs.Common.{refl, subst, sym, List}
+use Rattle.std.proofs.Common.{refl, subst, sym}
 use Rattle.base_data.specs.declared.rdata.RData.{RData}
-use Rattle.rr.specs.DataIndex.{IsIndexOf, place_at}
+use Rattle.rr.specs.DataIndex.{IsIndexOf}
 use Rattle.rr.specs.declared.record.Record.{Record}
-use Rattle.rr.proofs.IndexLemmas.{if_some, index_mapped}
+use Rattle.rr.proofs.IndexLemmas.{if_current, index_mapped}
 use Rattle.rr.proofs.rr_set.indexed_records.IndexedRecords.set_ttl.Goals as goal
 
 pub invariant_of-self : goal.invariant_of-self
-invariant_of-self c = if_some c.self.inside.index _ _
-    (λ places h. subst (λ (ys : List (Record RData)). IsIndexOf (place_at places.value) ys) (sym c.set_ttls.ensures)
-    (index_mapped (place_at places.value) (λ (r : Record RData). record r { ttl = c.args.ttl }) (λ x. refl) c.self.inside.records.items h)) c.self.invariant
+invariant_of-self c = if_current c.self.inside.index _ _
+    (λ find h. subst (IsIndexOf find) (sym c.set_ttls.ensures)
+    (index_mapped find (λ (r : Record RData). record r { ttl = c.args.ttl }) (λ x. refl)
+    c.self.inside.records.items h)) c.self.invariant

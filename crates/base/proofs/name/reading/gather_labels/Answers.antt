@@ -1,0 +1,254 @@
+use Rattle.std.proofs.Common.{◌≡◌, ℕ, ◌+◌, ◌-◌, ◌<◌, ◌≤◌, true, false, Some, None, List, [], ◌∷◌, ◌++◌, length, take, drop, Ok, Err, ap, sym, subst, ◌∙◌, arith, length-drop, length-take}
+use Rattle.std.proofs.Math.Seq.{take-add}
+use Rattle.std.specs.Prelude.{All}
+use Rattle.std.specs.List.{slice_range}
+use Rattle.std.proofs.lemmas.Result.{err_from_is_err_and}
+use borrow.Rule.Slice.PartMut.{put_mid}
+use Rattle.std.proofs.lemmas.Slice.{take-put_mid}
+use Rattle.base.specs.declared.name.followed.FollowedPointer.{FollowedPointer}
+use Rattle.base.specs.Pointers.{IsKept, IsLast, targets}
+use Rattle.base.specs.Labels.{IsWire, labels_of}
+use Rattle.base.specs.Reader.{Reader}
+use Rattle.base.proofs.CountLemmas.{Follows, Follows-none, Follows-push}
+use Rattle.base.specs.Names.{label_of, part_at, pointer_to, zero_byte}
+use Rattle.std.specs.FinSet as set
+use Rattle.std.specs.Ordering.{nat_cmp}
+use Rattle.base.specs.Passing.{IsClosed}
+use Rattle.std.proofs.lemmas.List.{map_push}
+use Rattle.std.proofs.lemmas.List.Elements.{All-nil, All-same, All-weaker, All-push}
+use Rattle.base.proofs.TailLemmas.{Tail, Ends, Tail-new, Tail-label, Tail-pointer, Tail-root, Tail-kept}
+use Rattle.base.proofs.PassLemmas.{Lead, Lead-kept, Lead-label, Lead-pointer, Lead-root, Leads, Leads-kept, Leads-label, Leads-none, Leads-pointer, Leads-root}
+use Rattle.base.proofs.GatherLemmas.{Gathers, gathers_none, at_fault, at_long, at_forward, at_root, root_inside, label_fits, gathers_label, gathers_pointer, fails_is, at_kept, at_kept_long, kept_end, IsWire-append}
+use Rattle.base.proofs.PieceLemmas.{found, last_more, last_pushed, part_is_there, range_is_there}
+use Rattle.base.proofs.name.reading.gather_labels.Goals as goal
+
+pub parts-init : goal.parts-init
+parts-init c =
+    let old = c.args.decoder.now in
+    let first : c.index-first.result ≡ old.index = c.index-first.ensures.value in
+    let inside : old.index ≤ length old.bytes = omega (arith, c.index-first.ensures.inside, first) in
+    let place : old.index ≡ c.index-first.result + 0 = omega (arith, first) in
+    rw first (record {
+      piece = c.rest-piece.ensures;
+      gathers = subst (λ (at : ℕ). Gathers old.bytes old.index 0 old.index at 0 [] None) (omega arith) (gathers_none old.bytes old.index 0 inside (omega arith));
+      tails = All-same (Tail old.bytes old.index (old.index + 0) 0 []) _ [] c.requires.none (All-nil (Tail old.bytes old.index (old.index + 0) 0 []));
+      last = subst (λ (ps : List FollowedPointer). IsLast [] [] ps) (sym c.requires.none) tt;
+      leads = subst (λ (ps : List FollowedPointer). Leads old.bytes old.index (targets ps) old.index (old.index + 0)) (sym c.requires.none)
+          (subst (λ (at : ℕ). Leads old.bytes old.index [] old.index at) (omega arith) (Leads-none old.bytes old.index));
+      lead = subst (λ (ps : List FollowedPointer). Lead old.bytes ps old.index (old.index + 0)) (sym c.requires.none) tt;
+      follows = subst (λ (ps : List FollowedPointer). Follows (targets ps) old.index old old) (sym c.requires.none) (Follows-none old.index old);
+    })
+
+pub returns-in_err-read_part-clause-read : goal.returns-in_err-read_part-clause-read
+returns-in_err-read_part-clause-read c =
+    let p = err_from_is_err_and c.from_residual.result c.from_residual.ensures.1 in
+    let fault = c.in_err-read_part.field-0.0 in
+    let is = part_is_there c.args.decoder.now.bytes c.parts.piece.now c.parts.start c.parts.at (Err fault) c.parts.invariant.piece c.in_err-read_part.ensures.value in
+    rw (p.1, p.2) (fails_is fault _ (at_fault c.parts.invariant.gathers fault is))
+
+-- the bytes of the piece that are read
+piece_len : (bytes piece : List ℕ) (start at : ℕ) → piece ≡ drop start bytes → start + at ≤ length bytes → at ≤ length piece
+piece_len bytes piece start at same inside = omega (arith, ap length same, length-drop start bytes, inside)
+
+pub returns-in-Root-clause-read : goal.returns-in-Root-clause-read
+returns-in-Root-clause-read c =
+    let is = part_is_there c.args.decoder.now.bytes c.parts.piece.now c.parts.start c.parts.at (Ok zero_byte) c.parts.invariant.piece (c.in_ok-read_part.ensures.value ∙ ap found c.in-Root.is) in
+    at_root c.parts.invariant.gathers is ∙ ap (λ (e : ℕ). Ok (labels_of (take c.parts.used c.parts.room), e)) (sym c.unwrap_or.ensures)
+
+pub returns-in-Root-clause-used : goal.returns-in-Root-clause-used
+returns-in-Root-clause-used c = omega (arith, c.parts.invariant.gathers.wire.short, c.parts.invariant.gathers.len)
+
+pub returns-in-Root-clause-end : goal.returns-in-Root-clause-end
+returns-in-Root-clause-end c =
+    let is = part_is_there c.args.decoder.now.bytes c.parts.piece.now c.parts.start c.parts.at (Ok zero_byte) c.parts.invariant.piece (c.in_ok-read_part.ensures.value ∙ ap found c.in-Root.is) in
+    rw c.unwrap_or.ensures (root_inside c.parts.invariant.gathers is)
+
+pub returns-in-Root-clause-last : goal.returns-in-Root-clause-last
+returns-in-Root-clause-last c = c.parts.invariant.last
+
+pub returns-in-Root-clause-kept : goal.returns-in-Root-clause-kept
+returns-in-Root-clause-kept c =
+    let bytes = c.args.decoder.now.bytes in
+    let is = part_is_there bytes c.parts.piece.now c.parts.start c.parts.at (Ok zero_byte) c.parts.invariant.piece (c.in_ok-read_part.ensures.value ∙ ap found c.in-Root.is) in
+    All-weaker _ (Ends bytes (take c.parts.used c.parts.room)) (λ p tail. Tail-root {start = c.parts.start} {used = c.parts.used} is (omega (arith, c.parts.invariant.gathers.len)) tail)
+    c.parts.followed c.parts.invariant.tails
+
+pub returns-in-Root-clause-these : goal.returns-in-Root-clause-these
+returns-in-Root-clause-these c =
+    let is = part_is_there c.args.decoder.now.bytes c.parts.piece.now c.parts.start c.parts.at (Ok zero_byte) c.parts.invariant.piece (c.in_ok-read_part.ensures.value ∙ ap found c.in-Root.is) in
+    Leads-root c.parts.invariant.leads c.args.decoder.now.kept is
+
+pub returns-in-Root-clause-later : goal.returns-in-Root-clause-later
+returns-in-Root-clause-later c =
+    let bytes = c.args.decoder.now.bytes in
+    let is = part_is_there bytes c.parts.piece.now c.parts.start c.parts.at (Ok zero_byte) c.parts.invariant.piece (c.in_ok-read_part.ensures.value ∙ ap found c.in-Root.is) in
+    Lead-root bytes c.parts.start (c.parts.start + c.parts.at) c.args.decoder.now.kept c.parts.followed is c.parts.invariant.lead
+
+pub returns-then-used-size-gt-MAX_NAME-clause-read :
+    goal.returns-then-used-size-gt-MAX_NAME-clause-read
+returns-then-used-size-gt-MAX_NAME-clause-read c =
+    let is = part_is_there c.args.decoder.now.bytes c.parts.piece.now c.parts.start c.parts.at (Ok (label_of c.in-Label.len)) c.parts.invariant.piece (c.in_ok-read_part.ensures.value ∙ ap found c.in-Label.is) in
+    at_long c.parts.invariant.gathers c.in-Label.len is (omega arith)
+
+pub copy_label-requires-clause-there : goal.copy_label-requires-clause-there
+copy_label-requires-clause-there c =
+    let bytes = c.args.decoder.now.bytes in
+    let is = part_is_there bytes c.parts.piece.now c.parts.start c.parts.at (Ok (label_of c.in-Label.len)) c.parts.invariant.piece (c.in_ok-read_part.ensures.value ∙ ap found c.in-Label.is) in
+    piece_len bytes c.parts.piece.now c.parts.start (c.parts.at + (1 + c.from-size.result)) c.parts.invariant.piece (omega (arith, label_fits bytes (c.parts.start + c.parts.at) c.in-Label.len is))
+
+pub parts-preserved-in-Label : goal.parts-preserved-in-Label
+parts-preserved-in-Label c =
+    let bytes = c.args.decoder.now.bytes in
+    let piece = c.parts.piece.now in
+    let start = c.parts.start in
+    let at = c.parts.at in
+    let used = c.parts.used in
+    let size = 1 + c.from-size.result in
+    let is = part_is_there bytes piece start at (Ok (label_of c.in-Label.len)) c.parts.invariant.piece (c.in_ok-read_part.ensures.value ∙ ap found c.in-Label.is) in
+    let gathers = c.parts.invariant.gathers in
+    let place : start + at + size ≡ start + (at + size) = omega arith in
+    let range : slice_range piece at (at + size) ≡ slice_range bytes (start + at) (start + at + size) =
+    range_is_there bytes piece start at (at + size) c.parts.invariant.piece ∙ ap (slice_range bytes (start + at)) (sym place) in
+    let copied = c.copy_label.ensures ∙ ap (λ (xs : List ℕ). take used c.parts.room ++ xs) range in
+    let next = take (used + size) c.copy_label.new.room in
+    let many : at + size - at ≡ size = omega arith in
+    let whole : take (at + size) piece ≡ take at piece ++ slice_range piece at (at + size) =
+    take-add at size piece ∙ ap (λ (k : ℕ). take at piece ++ take k (drop at piece)) (sym many) in
+    record {
+      piece = c.parts.invariant.piece;
+      gathers = subst (λ (k : ℕ). Gathers bytes c.args.decoder.now.index 0 start k (used + size) next c.parts.end) place
+          (gathers_label gathers c.in-Label.len size next is (omega arith) (omega arith) copied);
+      tails = All-weaker _ (Tail bytes start (start + (at + size)) (used + size) next)
+          (λ p tail. subst (λ (k : ℕ). Tail bytes start k (used + size) next p) place
+          (Tail-label {size = size} is (omega arith) (omega arith) (omega (arith, gathers.len)) copied tail))
+          c.parts.followed c.parts.invariant.tails;
+      last = subst (λ (xs : List ℕ). IsLast xs next c.parts.followed) (sym whole)
+          (subst (λ (xs : List ℕ). IsLast (take at piece ++ slice_range piece at (at + size)) xs c.parts.followed) (sym c.copy_label.ensures)
+          (last_more c.parts.followed (take at piece) (take used c.parts.room) (slice_range piece at (at + size))
+          (All-weaker (Tail bytes start (start + at) used (take used c.parts.room)) (λ (p : FollowedPointer). p.from ≤ length (take used c.parts.room)) (λ p tail. tail.inside) c.parts.followed c.parts.invariant.tails)
+          c.parts.invariant.last));
+      leads = subst (λ (k : ℕ). Leads bytes c.args.decoder.now.index (targets c.parts.followed) start k) place (Leads-label c.parts.invariant.leads is (omega arith));
+      lead = subst (λ (k : ℕ). Lead bytes c.parts.followed start k) place (Lead-label bytes start (start + at) c.parts.followed is (omega arith) c.parts.invariant.lead);
+      follows = c.parts.invariant.follows;
+    }
+
+pub returns-then-from-start-clause-read : goal.returns-then-from-start-clause-read
+returns-then-from-start-clause-read c =
+    let is = part_is_there c.args.decoder.now.bytes c.parts.piece.now c.parts.start c.parts.at (Ok (pointer_to c.in-Pointer.target)) c.parts.invariant.piece (c.in_ok-read_part.ensures.value ∙ ap found c.in-Pointer.is) in
+    at_forward c.parts.invariant.gathers c.in-Pointer.target is (omega arith)
+
+-- the reader has the same bytes and keeps the same targets
+bytes_are : {ts : List ℕ} {start : ℕ} {old new : Reader} → Follows ts start old new → new.bytes ≡ old.bytes
+bytes_are f = ap (λ (r : Reader). r.bytes) f.now
+
+pub follow-piece-requires : goal.follow-piece-requires
+follow-piece-requires c = omega (arith, ap length (bytes_are c.parts.invariant.follows), c.parts.invariant.gathers.low, c.from.ensures, c.if-from-start.false)
+
+pub parts-preserved : goal.parts-preserved
+parts-preserved c =
+    let old = c.args.decoder.now in
+    let bytes = old.bytes in
+    let first = old.index in
+    let start = c.parts.start in
+    let at = start + c.parts.at in
+    let t = c.in-Pointer.target in
+    let is : part_at bytes at ≡ Ok (pointer_to t) = part_is_there bytes c.parts.piece.now start c.parts.at (Ok (pointer_to t)) c.parts.invariant.piece (c.in_ok-read_part.ensures.value ∙ ap found c.in-Pointer.is) in
+    let small = c.read_part.ensures.near t (c.in_ok-read_part.ensures.value ∙ ap found c.in-Pointer.is) in
+    let below : t < start = omega (arith, c.from.ensures, c.if-from-start.false) in
+    let absent : set.contains c.parts.decoder.kept t ≡ false = sym c.in_default.ensures.is in
+    let used = c.parts.used in
+    let labels = take used c.parts.room in
+    let g = c.parts.invariant.gathers in
+    let one : FollowedPointer = record { target = t; from = used } in
+    let items : c.push.new.self ≡ c.parts.followed ++ one ∷ [] = c.in_ok-push-in-Pointer.ensures.ok in
+    let more : targets c.push.new.self ≡ targets c.parts.followed ++ t ∷ [] = ap targets items ∙ map_push (λ (p : FollowedPointer). p.target) c.parts.followed one in
+    let follows = Follows-push c.parts.invariant.follows below small absent c.labels_at.ensures.near c.follow-piece.ensures.counted in
+    let here : t ≡ t + 0 = omega arith in
+    let P = Tail bytes t t used labels in
+    let before = All-weaker _ P (λ p tail. Tail-pointer is below tail) c.parts.followed c.parts.invariant.tails in
+    let tails : All P c.push.new.self =
+    All-same P _ _ items (All-push P c.parts.followed one before (Tail-new bytes t used labels (omega (arith, g.low)) small (omega (arith, g.len)) g.few)) in
+    let end = Some c.unwrap_or-after.result in
+    rw c.from-start.ensures (record {
+      piece = c.follow-piece.ensures.lent ∙ ap (drop t) (bytes_are c.parts.invariant.follows);
+      gathers = subst (λ (k : ℕ). Gathers bytes first 0 t k used labels end) here (rw c.unwrap_or-after.ensures (gathers_pointer g t is below));
+      tails = subst (λ (k : ℕ). All (Tail bytes t k used labels) c.push.new.self) here tails;
+      last = subst (IsLast [] labels) (sym items) (last_pushed c.parts.followed one labels (omega (arith, g.len)));
+      leads = subst (λ (k : ℕ). Leads bytes first (targets c.push.new.self) t k) here (subst (λ (ts : List ℕ). Leads bytes first ts t t) (sym more) (Leads-pointer c.parts.invariant.leads is));
+      lead = subst (λ (k : ℕ). Lead bytes c.push.new.self t k) here
+          (subst (λ (ps : List FollowedPointer). Lead bytes ps t t) (sym items) (Lead-pointer bytes start at c.parts.followed one is c.parts.invariant.lead));
+      follows = subst (λ (ts : List ℕ). Follows ts t old c.follow-piece.new.self) (sym more) follows;
+    })
+
+kept_is : (B C : List ℕ) (t : ℕ) (xs : List ℕ) → C ≡ B → IsKept C t xs → IsKept B t xs
+kept_is B C t xs same kept = subst (λ (bytes : List ℕ). IsKept bytes t xs) same kept
+
+pub returns-then-used-labels-gt-MAX_NAME-clause-read :
+    goal.returns-then-used-labels-gt-MAX_NAME-clause-read
+returns-then-used-labels-gt-MAX_NAME-clause-read c =
+    let bytes = c.args.decoder.now.bytes in
+    let is = part_is_there bytes c.parts.piece.now c.parts.start c.parts.at (Ok (pointer_to c.in-Pointer.target)) c.parts.invariant.piece (c.in_ok-read_part.ensures.value ∙ ap found c.in-Pointer.is) in
+    at_kept_long c.parts.invariant.gathers is (omega arith) (kept_is _ _ _ _ (bytes_are c.parts.invariant.follows) c.in-Some.ensures.spelled) (omega arith)
+
+-- ---- a walk that ends at a kept target
+
+-- what stands at the pointer
+pointer_is : (c : goal.After-copy_from_slice) → part_at c.args.decoder.now.bytes (c.parts.start + c.parts.at) ≡ Ok (pointer_to c.in-Pointer.target)
+pointer_is c = part_is_there c.args.decoder.now.bytes c.parts.piece.now c.parts.start c.parts.at (Ok (pointer_to c.in-Pointer.target)) c.parts.invariant.piece
+    (c.in_ok-read_part.ensures.value ∙ ap found c.in-Pointer.is)
+
+below : (c : goal.After-copy_from_slice) → c.in-Pointer.target < c.parts.start
+below c = omega (arith, c.from.ensures, c.if-from-start.false)
+
+-- the labels there are kept
+kept : (c : goal.After-copy_from_slice) → IsKept c.args.decoder.now.bytes c.in-Pointer.target c.in-Some.labels.now
+kept c = kept_is _ _ _ _ (bytes_are c.parts.invariant.follows) c.in-Some.ensures.spelled
+
+short : (c : goal.After-copy_from_slice) → c.parts.used + length c.in-Some.labels.now + 1 ≤ 255
+short c = omega (arith, c.if-used-labels-gt-MAX_NAME.false)
+
+-- the labels in the room after it was copied
+whole : (c : goal.After-copy_from_slice) → take (c.parts.used + length c.in-Some.labels.now) (put_mid c.parts.used (c.parts.used + length c.in-Some.labels.now - c.parts.used) c.parts.room c.copy_from_slice.new.self) ≡ take c.parts.used c.parts.room ++ c.in-Some.labels.now
+whole c =
+    let used = c.parts.used in
+    let room = c.parts.room in
+    let items = c.in-Some.labels.now in
+    let copied = c.copy_from_slice.ensures.after in
+    take-put_mid used (used + length items - used) room c.copy_from_slice.new.self (used + length items) (omega (arith, ap length copied))
+    (omega (arith, ap length copied, c.parts.invariant.gathers.len, length-take used room)) ∙ ap (λ (xs : List ℕ). take used room ++ xs) copied
+
+-- the pointer leads to a kept offset, and with one all that is passed from there is kept
+known : (c : goal.After-copy_from_slice) → (set.contains c.args.decoder.now.kept c.in-Pointer.target ≡ true) × IsClosed c.args.decoder.now.bytes c.args.decoder.now.kept
+known c =
+    let same = ap (λ (r : Reader). r.kept) c.parts.invariant.follows.now in (
+      ap (λ (k : set.FinSet nat_cmp). set.contains k c.in-Pointer.target) (sym same) ∙ sym c.in-Some.ensures.is,
+      subst (λ (k : set.FinSet nat_cmp). IsClosed c.args.decoder.now.bytes k) same
+          (subst (λ (bs : List ℕ). IsClosed bs c.parts.decoder.kept) (bytes_are c.parts.invariant.follows) c.labels_at.ensures.closed),
+    )
+
+pub returns-in-Some-clause-read : goal.returns-in-Some-clause-read
+returns-in-Some-clause-read c =
+    at_kept c.parts.invariant.gathers (pointer_is c) (below c) (kept c) (short c)
+    ∙ ap (λ (e : ℕ). Ok (labels_of (take c.parts.used c.parts.room ++ c.in-Some.labels.now), e)) (sym c.unwrap_or-after.ensures)
+    ∙ ap (λ (xs : List ℕ). Ok (labels_of xs, c.unwrap_or-after.result)) (sym (whole c))
+
+pub returns-in-Some-clause-end : goal.returns-in-Some-clause-end
+returns-in-Some-clause-end c = rw c.unwrap_or-after.ensures (kept_end c.parts.invariant.gathers (pointer_is c) (below c) (kept c))
+
+pub returns-in-Some-clause-wire : goal.returns-in-Some-clause-wire
+returns-in-Some-clause-wire c =
+    subst IsWire (sym (whole c))
+    (IsWire-append (take c.parts.used c.parts.room) c.in-Some.labels.now c.parts.invariant.gathers.wire (kept c).wire (omega (arith, c.parts.invariant.gathers.len, short c)))
+
+pub returns-in-Some-clause-kept : goal.returns-in-Some-clause-kept
+returns-in-Some-clause-kept c =
+    All-weaker _ (Ends c.args.decoder.now.bytes _)
+    (λ p tail. Tail-kept {start = c.parts.start} {used = c.parts.used} (pointer_is c) (below c) (kept c) (short c) (whole c) (omega (arith, c.parts.invariant.gathers.len)) tail)
+    c.parts.followed c.parts.invariant.tails
+
+pub returns-in-Some-clause-these : goal.returns-in-Some-clause-these
+returns-in-Some-clause-these c = Leads-kept c.parts.invariant.leads c.args.decoder.now.kept (pointer_is c) (known c).0 (known c).1
+
+pub returns-in-Some-clause-later : goal.returns-in-Some-clause-later
+returns-in-Some-clause-later c =
+    Lead-kept c.args.decoder.now.bytes c.parts.start (c.parts.start + c.parts.at) c.args.decoder.now.kept c.parts.followed (pointer_is c) (known c).0 (known c).1 c.parts.invariant.lead

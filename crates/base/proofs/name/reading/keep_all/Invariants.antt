@@ -1,7 +1,0 @@
-use Rattle.std.proofs.Common.{◌≡◌, drop}
-use Rattle.base.specs.Passed.{targets}
-use Rattle.base.specs.Passing.{inserted}
-use Rattle.base.proofs.name.reading.keep_all.Given as goal
-
-abbrev pub invariant-loop-i : goal.invariant-loop-i
-invariant-loop-i l = l.decoder ≡ record l.fn.decoder { kept = inserted (targets (drop l.i l.passed)) l.fn.decoder.kept }

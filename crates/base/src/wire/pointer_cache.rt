@@ -1,0 +1,290 @@
+//! The labels at the offsets that compression pointers led to (RFC 1035, 4.1.4).
+
+ghost use Rattle.base.specs.declared.limits.TheConstants.{MAX_LABELS};
+ghost use Rattle.std.specs.Prelude.{◌≡◌, ◌≢◌, ℕ, ◌+◌, ◌++◌, ◌∷◌, ◌<◌, ◌≤◌, None, Some, All, length, get_or, IfOk, IfSome, OnErr, OnOk};
+ghost use Rattle.std.specs.FinMap as map;
+ghost use Rattle.std.specs.Option.{option_or};
+ghost use Rattle.std.specs.Ordering.{nat_cmp};
+ghost use Rattle.base.specs.Pointers.{IsInside, IsLonger, IsThere, entries_of, labels_at, labels_from, labels_now, placed};
+
+use crate::limits::MAX_LABELS;
+use std::alloc::{AllocError, Global};
+use std::marker::Model;
+
+/// How many targets have room inside the cache.
+const ROOM: usize = 8;
+
+/// How many places the table of the other targets grows by.
+const STEP: usize = 256;
+
+/// The bytes that the labels of the longest name take when they are copied: their number stands before them.
+const ENTRY: usize = 1 + MAX_LABELS;
+
+/// Where the labels at a target are, each with its length before it.
+#[derive(Clone, Copy)]
+enum Labels<'a> {
+    /// In the message, as they are.
+    Lent(&'a [u8]),
+    /// Among the copied labels, from this place on.
+    Copied(usize),
+}
+
+/// An offset that a pointer led to, and the labels there.
+#[derive(Clone, Copy)]
+struct Target<'a> {
+    offset: u16,
+    labels: Labels<'a>,
+}
+
+/// Labels that were copied.
+#[derive(Drop)]
+struct Copies {
+    /// The labels one after another, before each the number of bytes that they are. A place is that of their first byte.
+    bytes: Vec<u8>,
+    /// By offset, the place of the labels there, and 0 where there is none.
+    places: Vec<usize>,
+}
+
+/// The labels at each offset that a pointer led to. The first targets take no memory, unless their labels are copied. Where
+/// there are more of them, each is found by its offset, without a search, since there are few that a pointer can name.
+#[derive(Drop)]
+pub(crate) struct PointerCache<'a> {
+    count: usize,
+    /// The targets, as long as there is room. What stands after them in the array has no meaning.
+    first: [Target<'a>; ROOM],
+    /// Whether there were more, and each has its place instead.
+    moved: bool,
+    copies: Copies,
+}
+
+impl<'a> Model for PointerCache<'a> {
+    ghost use Rattle.std.specs.Prelude.{◌≡◌, ◌≤◌, ℕ, List, All, length, take};
+    ghost use Rattle.std.specs.Coded.{coded_ℕ, coded_list};
+    ghost use Rattle.std.specs.FinMap as map;
+    ghost use Rattle.std.specs.Ordering.{nat_cmp};
+    ghost use Rattle.base.specs.Pointers.{IsInside, IsThere, cache_of};
+    ghost use Rattle.base.specs.declared.wire.pointer_cache.TheConstants.{ROOM};
+
+    ghost Value = { map.FinMap nat_cmp (List ℕ) };
+
+    ghost coded = { map.code coded_ℕ (coded_list coded_ℕ) };
+
+    ghost view = { λ c.
+        cache_of c.copies.bytes.items c.copies.places.items (take c.count c.first) };
+
+    ghost invariant = { λ c. ((c.count ≤ ROOM) × (length c.first ≡ ROOM))
+        × (All (IsInside c.copies.bytes.items) c.copies.places.items
+        × All (IsThere c.copies.bytes.items) (take c.count c.first)) };
+}
+
+/// The labels at a place among copied ones.
+fn copied_at(copied: &[u8], place: usize) -> &[u8]
+    requires some { place ≢ 0 }
+    requires there { IsInside copied.now place }
+    ensures { result.now ≡ labels_from copied.now place }
+{
+    let len = usize::from(copied[place - 1]);
+    &copied[place..place + len]
+}
+
+/// The labels at an offset, if it is one of these targets.
+fn find_among<'d>(targets: &'d [Target<'d>], copied: &'d [u8], offset: u16) -> Option<&'d [u8]>
+    requires { All (IsThere copied.now) targets.now }
+    ensures { labels_now result ≡ map.find nat_cmp offset (entries_of copied.now targets.now) }
+{
+    for target in targets {
+        if target.offset == offset {
+            return Some(match target.labels {
+                Labels::Lent(labels) => labels,
+                Labels::Copied(place) => copied_at(copied, place),
+            });
+        }
+    }
+    None
+}
+
+/// The labels at an offset, if it has a place.
+fn find_by_offset<'d>(places: &[usize], copied: &'d [u8], offset: u16) -> Option<&'d [u8]>
+    requires { All (IsInside copied.now) places.now }
+    ensures { labels_now result ≡ placed copied.now places.now offset }
+{
+    let place = *places.get(usize::from(offset))?;
+    if place == 0 {
+        return None;
+    }
+    Some(copied_at(copied, place))
+}
+
+/// Makes places up to an offset, the new ones without labels, with room for as many offsets as there may be. They are
+/// copied many at once, since that is faster than one by one.
+fn reach(places: &mut Vec<usize>, offset: usize, most: usize) -> Result<(), AllocError>
+    requires below { offset < 65536 }
+    requires few { most < 65536 }
+    // The offset has a place.
+    ensures there { OnOk result (offset < length places.new.items) }
+    // Each offset has the place that it had, and a new one has 0, for none.
+    ensures same { (q : ℕ) → get_or places.new.items q 0 ≡ get_or places.old.items q 0 }
+    ensures err { OnErr result (places.new.items ≡ places.old.items) }
+{
+    if offset >= places.len() {
+        places.reserve(offset.max(most) + STEP - places.len())?;
+    }
+    while places.len() <= offset {
+        let none = [0; STEP];
+        places.extend_from_slice(&none)?;
+    }
+    Ok(())
+}
+
+/// Copies labels after those that were copied before, and answers their place.
+fn copy(copied: &mut Vec<u8>, labels: &[u8]) -> Result<usize, AllocError>
+    requires { length labels.now ≤ MAX_LABELS }
+    ensures place { IfOk result (λ place. place ≡ length copied.old.items + 1) }
+    ensures ok { OnOk result
+        (copied.new.items ≡ copied.old.items ++ length labels.now ∷ labels.now) }
+    ensures err { OnErr result (copied.new.items ≡ copied.old.items) }
+{
+    let room = if copied.is_empty() {
+        ENTRY
+    } else {
+        1 + labels.len()
+    };
+    copied.reserve(room)?;
+    copied.push(labels.len() as u8)?;
+    let place = copied.len();
+    copied.extend_from_slice(labels)?;
+    Ok(place)
+}
+
+/// Gives a target a place, and copies its labels if they are lent.
+fn place_one(target: &Target<'_>, copies: &mut Copies, most: u16) -> Result<(), AllocError>
+    requires there { IsThere copies.old.bytes.items target.now }
+    requires inside { All (IsInside copies.old.bytes.items) copies.old.places.items }
+    // Its labels are found by its offset.
+    ensures here { OnOk result
+        (placed copies.new.bytes.items copies.new.places.items target.now.offset
+        ≡ Some (labels_at copies.old.bytes.items target.now.labels)) }
+    // Those of other offsets are found as before.
+    ensures others { (q : ℕ) → q ≢ target.now.offset
+        → placed copies.new.bytes.items copies.new.places.items q
+        ≡ placed copies.old.bytes.items copies.old.places.items q }
+    ensures inside { All (IsInside copies.new.bytes.items) copies.new.places.items }
+    ensures longer { IsLonger copies.old.bytes.items copies.new.bytes.items }
+    ensures err { (q : ℕ) → OnErr result
+        (placed copies.new.bytes.items copies.new.places.items q
+        ≡ placed copies.old.bytes.items copies.old.places.items q) }
+{
+    let offset = usize::from(target.offset);
+    reach(&mut copies.places, offset, usize::from(most))?;
+    let place = match target.labels {
+        Labels::Lent(labels) => copy(&mut copies.bytes, labels)?,
+        Labels::Copied(place) => place,
+    };
+    copies.places[offset] = place;
+    Ok(())
+}
+
+/// Gives each of these targets a place.
+fn place_all(targets: &[Target<'_>], copies: &mut Copies, most: u16) -> Result<(), AllocError>
+    requires there { All (IsThere copies.old.bytes.items) targets.now }
+    requires inside { All (IsInside copies.old.bytes.items) copies.old.places.items }
+    // By the places alone the same is found as among the targets and then by the places before.
+    ensures ok { (q : ℕ) → OnOk result (placed copies.new.bytes.items copies.new.places.items q
+        ≡ option_or (map.find nat_cmp q (entries_of copies.old.bytes.items targets.now))
+        (placed copies.old.bytes.items copies.old.places.items q)) }
+    // Among the targets and then by the places nothing else is found than before.
+    ensures kept { (q : ℕ)
+        → option_or (map.find nat_cmp q (entries_of copies.old.bytes.items targets.now))
+        (placed copies.new.bytes.items copies.new.places.items q)
+        ≡ option_or (map.find nat_cmp q (entries_of copies.old.bytes.items targets.now))
+        (placed copies.old.bytes.items copies.old.places.items q) }
+    ensures inside { All (IsInside copies.new.bytes.items) copies.new.places.items }
+    ensures longer { IsLonger copies.old.bytes.items copies.new.bytes.items }
+{
+    for i in (0..targets.len()).rev() {
+        place_one(&targets[i], copies, most)?;
+    }
+    Ok(())
+}
+
+impl<'a> PointerCache<'a> {
+    /// No labels. Takes no memory.
+    pub(crate) fn new(alloc: Global) -> PointerCache<'a>
+        ensures { result ≡ map.empty }
+    {
+        let unused = Target {
+            offset: 0,
+            labels: Labels::Copied(0),
+        };
+        PointerCache {
+            count: 0,
+            first: [unused; ROOM],
+            moved: false,
+            copies: Copies {
+                bytes: Vec::new(alloc),
+                places: Vec::new(alloc),
+            },
+        }
+    }
+
+    /// The labels at an offset, if they are kept.
+    pub(crate) fn find(&self, offset: u16) -> Option<&[u8]>
+        ensures { labels_now result ≡ map.get self.now offset }
+    {
+        match find_among(&self.first[..self.count], &self.copies.bytes, offset) {
+            Some(labels) => Some(labels),
+            None => find_by_offset(&self.copies.places, &self.copies.bytes, offset),
+        }
+    }
+
+    /// Keeps the labels at an offset. Where the message lends them, they aren't copied as long as there is room for their
+    /// target among the first. Room for offsets up to `most` is made at once.
+    ///
+    /// # Errors
+    ///
+    /// If memory runs out, with the cache as it was.
+    pub(crate) fn insert(
+        &mut self,
+        offset: u16,
+        labels: &[u8],
+        lent: Option<&'a [u8]>,
+        most: u16,
+    ) -> Result<(), AllocError>
+        // No labels are kept for the offset yet.
+        requires new { map.get self.old offset ≡ None }
+        requires short { length labels.now ≤ MAX_LABELS }
+        requires lent { IfSome lent (λ same. same.now ≡ labels.now) }
+        ensures ok { OnOk result (self.new ≡ map.insert self.old offset labels.now) }
+        ensures err { OnErr result (self.new ≡ self.old) }
+    {
+        if !self.moved && self.count < ROOM {
+            let labels = match lent {
+                Some(lent) => Labels::Lent(lent),
+                None => Labels::Copied(copy(&mut self.copies.bytes, labels)?),
+            };
+            self.first[self.count] = Target { offset, labels };
+            self.count += 1;
+            return Ok(());
+        }
+        self.move_first(most)?;
+        let target = Target {
+            offset,
+            labels: Labels::Lent(labels),
+        };
+        place_one(&target, &mut self.copies, most)
+    }
+
+    /// Gives each target a place, unless they have them.
+    fn move_first(&mut self, most: u16) -> Result<(), AllocError>
+        ensures { self.new ≡ self.old }
+    {
+        if self.moved {
+            return Ok(());
+        }
+        let first = self.first;
+        place_all(&first[..self.count], &mut self.copies, most)?;
+        self.count = 0;
+        self.moved = true;
+        Ok(())
+    }
+}

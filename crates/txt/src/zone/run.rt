@@ -1,0 +1,101 @@
+//! Sets in the order of their keys, as they come and until they go into a map.
+
+ghost use Rattle.std.specs.Prelude.{◌≡◌, ◌++◌, ◌∷◌, ◌-◌, [], IfNone, OnErr, OnOk, length, slice_get};
+ghost use Rattle.std.specs.Option.{option_copied, option_to_list};
+
+use base::RrKey;
+use rr::RecordSet;
+use std::alloc::{AllocError, Global};
+use std::marker::Model;
+use std::mem::replace;
+
+/// How many sets a block has at most.
+const BLOCK: usize = 64;
+
+/// Sets with their keys, of which the last one leaves first.
+///
+/// They stand in blocks: the memory of a block is free as soon as its sets have left, and so serves the map that they go
+/// into.
+#[derive(Drop)]
+pub(super) struct Run {
+    alloc: Global,
+    /// The blocks before the last one. None is empty.
+    blocks: Vec<Vec<(RrKey, RecordSet)>>,
+    /// The last block, which is empty only where no other is there.
+    last: Vec<(RrKey, RecordSet)>,
+}
+
+impl Model for Run {
+    ghost use Rattle.std.specs.Prelude.{◌≡◌, []};
+    ghost use Rattle.txt.specs.Run.{AreFilled, sets_of};
+    ghost use Rattle.txt.specs.ZoneSets.{ZoneSets as Sets};
+
+    ghost Value = { Sets };
+
+    ghost view = { λ r. sets_of r.blocks.items r.last.items };
+
+    ghost invariant = { λ r. AreFilled r.blocks.items
+        × (r.last.items ≡ [] → r.blocks.items ≡ []) };
+}
+
+impl Run {
+    /// No sets. Takes no memory.
+    pub(super) fn new(alloc: Global) -> Run
+        ensures { result ≡ [] }
+    {
+        Run {
+            alloc,
+            blocks: Vec::new(alloc),
+            last: Vec::new(alloc),
+        }
+    }
+
+    /// The allocator.
+    pub(super) fn allocator(&self) -> Global {
+        self.alloc
+    }
+
+    /// The last set, if there is one.
+    pub(super) fn last(&self) -> Option<&(RrKey, RecordSet)>
+        ensures { option_copied result ≡ slice_get self.now (length self.now - 1) }
+    {
+        self.last.last()
+    }
+
+    /// Puts a set after the others.
+    ///
+    /// # Errors
+    ///
+    /// If memory runs out, with the sets as they were.
+    pub(super) fn push(&mut self, entry: (RrKey, RecordSet)) -> Result<(), AllocError>
+        ensures items { OnOk result (self.new ≡ self.old ++ entry ∷ []) }
+        ensures err { OnErr result (self.new ≡ self.old) }
+    {
+        if self.last.len() < BLOCK {
+            self.last.push(entry)?;
+            return Ok(());
+        }
+        self.blocks.reserve(1)?;
+        let mut fresh = Vec::with_capacity(self.alloc, BLOCK)?;
+        fresh.push(entry)?;
+        self.blocks.push(replace(&mut self.last, fresh))?;
+        Ok(())
+    }
+
+    /// Takes the last set out, if there is one. Takes no memory.
+    pub(super) fn pop(&mut self) -> Option<(RrKey, RecordSet)>
+        ensures items { self.old ≡ self.new ++ option_to_list result }
+        // None is answered only where there is no set.
+        ensures none { IfNone result (self.old ≡ []) }
+    {
+        let entry = self.last.pop()?;
+        if !self.last.is_empty() {
+            return Some(entry);
+        }
+        let Some(block) = self.blocks.pop() else {
+            return Some(entry);
+        };
+        self.last = block;
+        Some(entry)
+    }
+}
