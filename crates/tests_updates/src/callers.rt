@@ -11,7 +11,7 @@ use rr::{Record, RecordSet};
 use std::alloc::Global;
 use std::net::Ipv4Addr;
 use std::test::Fail;
-use test_tools::bytes::decoded;
+use test_tools::bytes::decode;
 use test_tools::forms::are_bytes;
 
 /// The question `www.example.com A`.
@@ -20,7 +20,8 @@ const QUESTION: &str = "03777777 076578616D706C65 03636F6D 00 0001 0001";
 /// The answer to it, its owner a pointer to the question.
 const ANSWER: &str = "C00C 0001 0001 00000002 0004 5DB8D70E";
 
-fn address(alloc: Global, owner: &str, ttl: u32, address: Ipv4Addr) -> Result<Record, Fail> {
+/// The record of an owner and an address.
+fn address_record(alloc: Global, owner: &str, ttl: u32, address: Ipv4Addr) -> Result<Record, Fail> {
     let name = Name::parse(alloc, owner, None)?;
     Ok(Record::from_rdata(name, ttl, RData::A(A::new(address))))
 }
@@ -29,9 +30,9 @@ fn address(alloc: Global, owner: &str, ttl: u32, address: Ipv4Addr) -> Result<Re
 fn responds(alloc: Global, query: (&str, &str), response: (&str, &str)) -> Result<bool, Fail> {
     let query = [query.0, QUESTION, query.1].concat(alloc)?;
     let response = [response.0, QUESTION, ANSWER, response.1].concat(alloc)?;
-    let wanted = decoded(alloc, &response)?;
-    let received = decoded(alloc, &query)?;
-    let answer = address(
+    let wanted = decode(alloc, &response)?;
+    let received = decode(alloc, &query)?;
+    let answer = address_record(
         alloc,
         "www.example.com.",
         2,
@@ -69,9 +70,13 @@ const FOUND: &str =
 const ABSENT: &str =
     "2000 8183 0001 0000 0001 0000 03777777 076578616D706C65 00 0001 0001 C010 0006 0001 00000E10 0026 026E73 C010 0A686F73746D6173746572 C010 00000001 00001C20 00000E10 00127500 0000012C";
 
-/// The TTL of the first answer, and the negative TTL, so many seconds after the response.
-fn kept(alloc: Global, response: &str, seconds: u32) -> Result<(Option<u32>, Option<u32>), Fail> {
-    let entry = cache_entry(alloc, decoded(alloc, response)?, seconds)?;
+/// The TTL of the first answer, and the negative TTL, `seconds` seconds after the response.
+fn ttls_after(
+    alloc: Global,
+    response: &str,
+    seconds: u32,
+) -> Result<(Option<u32>, Option<u32>), Fail> {
+    let entry = cache_entry(alloc, decode(alloc, response)?, seconds)?;
     let said = (
         entry.answers.first().map(|answer| answer.ttl),
         entry.negative_ttl,
@@ -82,19 +87,20 @@ fn kept(alloc: Global, response: &str, seconds: u32) -> Result<(Option<u32>, Opt
 
 #[test]
 fn ttls_run_down(rt: HostRuntime) -> Result<(), Fail> {
-    assert!(rt; kept(rt.alloc(), FOUND, 1)? == (Some(1), None));
-    assert!(rt; kept(rt.alloc(), FOUND, 3)? == (Some(0), None));
-    assert!(rt; kept(rt.alloc(), ABSENT, 60)? == (None, Some(240)));
-    assert!(rt; kept(rt.alloc(), ABSENT, 400)? == (None, Some(0)));
+    assert!(rt; ttls_after(rt.alloc(), FOUND, 1)? == (Some(1), None));
+    assert!(rt; ttls_after(rt.alloc(), FOUND, 3)? == (Some(0), None));
+    assert!(rt; ttls_after(rt.alloc(), ABSENT, 60)? == (None, Some(240)));
+    assert!(rt; ttls_after(rt.alloc(), ABSENT, 400)? == (None, Some(0)));
     Ok(())
 }
 
-const START: &str = "@ 3600 SOA ns hostmaster 1 2 3 4 5\n@ NS ns\n";
+/// The SOA of a zone and its name server.
+const SOA_AND_NS: &str = "@ 3600 SOA ns hostmaster 1 2 3 4 5\n@ NS ns\n";
 
 /// The code and the number of sets where an address of `www` is created in the zone of the text.
 fn creates(alloc: Global, text: &str) -> Result<(ResponseCode, usize), Fail> {
     let origin = Name::parse(alloc, "example.", None)?;
-    let set = RecordSet::try_from(address(
+    let set = RecordSet::try_from(address_record(
         alloc,
         "www.example.",
         60,
@@ -109,13 +115,13 @@ fn creates(alloc: Global, text: &str) -> Result<(ResponseCode, usize), Fail> {
 
 #[test]
 fn a_set_is_created_once(rt: HostRuntime) -> Result<(), Fail> {
-    let text = [START, "www 300 A 192.0.2.2\n"].concat(rt.alloc())?;
-    assert!(rt; creates(rt.alloc(), START)? == (ResponseCode::NoError, 3));
+    let text = [SOA_AND_NS, "www 300 A 192.0.2.2\n"].concat(rt.alloc())?;
+    assert!(rt; creates(rt.alloc(), SOA_AND_NS)? == (ResponseCode::NoError, 3));
     assert!(rt; creates(rt.alloc(), &text)? == (ResponseCode::YXRRSet, 3));
     Ok(())
 }
 
-/// Whether the text has so many sets, or is refused with this number.
+/// Whether the text has this number of sets, or is refused with this number.
 fn is_checked(alloc: Global, text: &str, wanted: Result<usize, u8>) -> Result<bool, Fail> {
     let origin = Name::parse(alloc, "example.", None)?;
     Ok(check(alloc, Some(origin), text) == wanted)
@@ -123,7 +129,7 @@ fn is_checked(alloc: Global, text: &str, wanted: Result<usize, u8>) -> Result<bo
 
 #[test]
 fn sets_are_counted(rt: HostRuntime) -> Result<(), Fail> {
-    assert!(rt; is_checked(rt.alloc(), START, Ok(2))?);
+    assert!(rt; is_checked(rt.alloc(), SOA_AND_NS, Ok(2))?);
     assert!(rt; is_checked(rt.alloc(), "www 300 A 192.0.2\n", Err(23))?);
     assert!(rt; is_checked(rt.alloc(), "$X\n", Err(18))?);
     assert!(rt; is_checked(rt.alloc(), "$INCLUDE f\n", Err(20))?);

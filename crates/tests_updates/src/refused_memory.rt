@@ -1,10 +1,10 @@
-use crate::updates::builders::{SENT, Sent, built};
+use crate::updates::builders::{SENT, Sent, build};
 use std::alloc::Global;
 use std::test::Fail;
 
 /// Whether what is sent is written as these bytes.
 fn is_built_as(alloc: Global, sent: Sent, wire: &[u8]) -> Result<bool, Fail> {
-    let message = built(alloc, sent)?;
+    let message = build(alloc, sent)?;
     let bytes = message.to_vec();
     drop(message);
     Ok(bytes?.as_slice() == wire)

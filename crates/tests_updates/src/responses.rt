@@ -10,6 +10,7 @@ use std::net::{Ipv4Addr, SocketAddr, SocketAddrV4};
 use std::test::Fail;
 use test_tools::forms::are_bytes;
 
+/// The name that a text spells.
 fn name(alloc: Global, text: &str) -> Result<Name, ParseError> {
     Name::parse(alloc, text, None)
 }
@@ -17,15 +18,16 @@ fn name(alloc: Global, text: &str) -> Result<Name, ParseError> {
 /// A record that is put into a response.
 #[derive(Clone, Copy)]
 enum Entry {
-    /// The start of a zone, with a TTL and a minimum.
-    Start(&'static str, u32, u32),
+    /// An SOA, with a TTL and a minimum.
+    Soa(&'static str, u32, u32),
     Address(&'static str),
     Mail(&'static str),
 }
 
+/// The data of an entry.
 fn data(alloc: Global, entry: Entry) -> RData {
     match entry {
-        Entry::Start(_, _, minimum) => {
+        Entry::Soa(_, _, minimum) => {
             RData::SOA(SOA::new(Name::root(alloc), Name::root(alloc), 1, 2, 3, 4, minimum))
         }
         Entry::Address(_) => RData::A(A::new(Ipv4Addr::new(192, 0, 2, 1))),
@@ -33,9 +35,10 @@ fn data(alloc: Global, entry: Entry) -> RData {
     }
 }
 
+/// The record of an entry.
 fn record(alloc: Global, entry: Entry) -> Result<Record, ParseError> {
     let (owner, ttl) = match entry {
-        Entry::Start(owner, ttl, _) => (owner, ttl),
+        Entry::Soa(owner, ttl, _) => (owner, ttl),
         Entry::Address(owner) | Entry::Mail(owner) => (owner, 60),
     };
     let owner = name(alloc, owner)?;
@@ -97,11 +100,11 @@ const SAID: &[(
     &'static [Entry],
     (bool, Option<u32>),
 )] = &[
-    // a start of zone answers for names within
+    // an SOA answers for names within its zone
     (
         ("AN.EXAMPLE.", RecordType::SOA),
         &[],
-        &[Entry::Start("EXAMPLE.", 88640, 5)],
+        &[Entry::Soa("EXAMPLE.", 88640, 5)],
         (true, Some(5)),
     ),
     // names of answers are compared in any case
@@ -117,11 +120,11 @@ const SAID: &[(
         &[Entry::Address("c.")],
         (false, None),
     ),
-    // the first start of zone says how long
+    // the first SOA says how long
     (
         ("b.", RecordType::A),
         &[],
-        &[Entry::Start("a.", 10, 20), Entry::Start("a.", 1, 1)],
+        &[Entry::Soa("a.", 10, 20), Entry::Soa("a.", 1, 1)],
         (false, Some(10)),
     ),
     // any answer answers a question of a type
@@ -170,6 +173,7 @@ fn a_query_is_no_response(rt: HostRuntime) -> Result<(), Fail> {
     Ok(())
 }
 
+/// The bytes of a response with a question.
 const RESPONSE: &[u8] =
     b"\x00\x01\x80\x00\x00\x01\x00\x00\x00\x00\x00\x00\x01b\x00\x00\x01\x00\x01";
 

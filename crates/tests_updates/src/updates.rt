@@ -31,7 +31,7 @@ fn host(alloc: Global, ttl: u32, last: u8) -> Result<Record, ParseError> {
     Ok(Record::from_rdata(name(alloc, "www.example.")?, ttl, address(last)))
 }
 
-/// The addresses 192.0.2.1, and so on up to as many, with a TTL.
+/// The addresses 192.0.2.1 to 192.0.2.`count`, with a TTL.
 fn hosts(alloc: Global, ttl: u32, count: u8) -> Result<Vec<Record>, Fail> {
     let mut records = Vec::new(alloc);
     for last in 0..count {
@@ -40,7 +40,7 @@ fn hosts(alloc: Global, ttl: u32, count: u8) -> Result<Vec<Record>, Fail> {
     Ok(records)
 }
 
-/// The set of as many addresses of `www.example.`, with a TTL.
+/// The set of these addresses of `www.example.`, with a TTL.
 fn addresses(alloc: Global, ttl: u32, count: u8) -> Result<RecordSet, Fail> {
     let owner = name(alloc, "www.example.")?;
     let records = hosts(alloc, ttl, count)?;
@@ -61,7 +61,7 @@ fn in_zone(origin: Name, set: RecordSet) -> Result<(Name, RecordSet), Fail>
     Err(ProtoError::Message("a set outside the zone").into())
 }
 
-/// `example.`, and as many addresses of `www.example.` with a TTL.
+/// `example.`, and the set of these addresses of `www.example.`, with a TTL.
 fn zone_and_addresses(alloc: Global, ttl: u32, count: u8) -> Result<(Name, RecordSet), Fail>
     ensures { IfOk result (λ p. is_zone_of p.0 p.1.name ≡ true) }
 {
@@ -83,6 +83,7 @@ fn is_sent_as(alloc: Global, message: Message, wire: &[u8]) -> bool {
     is_written && is_read
 }
 
+/// Whether the bytes are read as this message.
 fn is_read_as(alloc: Global, wire: &[u8], message: &Message) -> bool {
     let read = Message::from_vec(alloc, wire);
     let same = match &read {

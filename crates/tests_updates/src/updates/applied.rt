@@ -10,17 +10,17 @@ use rr::RecordSet;
 use std::alloc::Global;
 use std::collections::BTreeMap;
 use std::test::Fail;
-use test_tools::bytes::decoded;
+use test_tools::bytes::decode;
 use txt::Parser;
 
 /// The answer to an update in parts, and the sets of the text's zone after it.
-fn applied(
+fn apply(
     alloc: Global,
     text: &str,
     update: &[&str],
 ) -> Result<(ResponseCode, BTreeMap<RrKey, RecordSet>), Refusal> {
     let update = update.concat(alloc)?;
-    let bytes = decoded(alloc, &update)?;
+    let bytes = decode(alloc, &update)?;
     let message = Message::from_vec(alloc, &bytes)?;
     let origin = Name::parse(alloc, "example.", None)?;
     let includes = BTreeMap::new(alloc);
@@ -31,7 +31,7 @@ fn applied(
     Ok(apply_update(alloc, &sets, &name, DNSClass::IN, &message)?)
 }
 
-/// The start of `example.`, and two addresses of `www.example.`.
+/// The SOA of `example.`, and two addresses of `www.example.`.
 const TWO: &str =
     "@ 3600 SOA ns hostmaster 1 2 3 4 5\n@ NS ns\nwww 300 A 192.0.2.1\nwww 600 A 192.0.2.2\n";
 
@@ -43,7 +43,7 @@ const UPDATE: &str =
 fn addresses_after(alloc: Global, update: &[&str]) -> Result<Option<(u32, usize)>, Fail> {
     let owner = Name::parse(alloc, "www.example.", None)?;
     let key = RrKey::new(LowerName::new(alloc, &owner)?, RecordType::A);
-    let (_, sets) = applied(alloc, TWO, update)?;
+    let (_, sets) = apply(alloc, TWO, update)?;
     Ok(sets.get(&key).map(|set| (set.ttl(), set.records_count())))
 }
 
@@ -64,7 +64,7 @@ fn a_set_has_the_ttl_of_its_last_record(rt: HostRuntime) -> Result<(), Fail> {
     Ok(())
 }
 
-/// The same start, two addresses of `www.example.`, and the first of them at `ftp.example.` too.
+/// The same SOA, two addresses of `www.example.`, and the first of them at `ftp.example.` too.
 const THREE: &str =
     "@ 3600 SOA ns hostmaster 1 2 3 4 5\n@ NS ns\nwww 300 A 192.0.2.1\nwww 300 A 192.0.2.2\nftp 300 A 192.0.2.1\n";
 
@@ -84,7 +84,7 @@ const FTP_1: &str = " 03667470 C00C 0001 0001 00000000 0004 C0000201";
 
 /// What an update without changes is answered.
 fn answer(alloc: Global, update: &[&str]) -> Result<ResponseCode, Refusal> {
-    let (code, sets) = applied(alloc, THREE, update)?;
+    let (code, sets) = apply(alloc, THREE, update)?;
     drop(sets);
     Ok(code)
 }
@@ -117,7 +117,7 @@ fn sets_are_asked_for_by_value(rt: HostRuntime) -> Result<(), Fail> {
     Ok(())
 }
 
-/// The start of `example.` with two name servers, two addresses of `www.example.` and one of `ftp.example.`.
+/// The SOA of `example.` with two name servers, two addresses of `www.example.` and one of `ftp.example.`.
 const SERVERS: &str =
     "@ 3600 SOA ns hostmaster 1 2 3 4 5\n@ NS ns\n@ NS ns2\nwww 300 A 192.0.2.1\nwww 300 A 192.0.2.2\nftp 300 A 192.0.2.1\n";
 
@@ -179,7 +179,7 @@ fn count(
 
 /// How many records each set has after an update.
 fn counts_after(alloc: Global, update: &[&str]) -> Result<[usize; 3], Fail> {
-    let (_, sets) = applied(alloc, SERVERS, update)?;
+    let (_, sets) = apply(alloc, SERVERS, update)?;
     Ok([
         count(alloc, &sets, "www.example.", RecordType::A)?,
         count(alloc, &sets, "ftp.example.", RecordType::A)?,

@@ -9,18 +9,20 @@ use rr::RecordSet;
 use std::alloc::Global;
 use std::test::Fail;
 
-fn created(alloc: Global) -> Result<Message, Fail> {
+/// Creates the set of 192.0.2.1, with EDNS.
+fn create_set(alloc: Global) -> Result<Message, Fail> {
     let (origin, set) = zone_and_addresses(alloc, 60, 1)?;
     Ok(create(alloc, 1, set, origin, true)?)
 }
 
-fn appended(alloc: Global) -> Result<Message, Fail> {
+/// Appends 192.0.2.1 to a set that must exist.
+fn append_set(alloc: Global) -> Result<Message, Fail> {
     let (origin, set) = zone_and_addresses(alloc, 60, 1)?;
     Ok(append(alloc, 3, set, origin, true, false)?)
 }
 
-/// From the address 192.0.2.1 to that and 192.0.2.2.
-fn swapped(alloc: Global) -> Result<Message, Fail> {
+/// Swaps the set of 192.0.2.1 for that of 192.0.2.1 and 192.0.2.2.
+fn swap_sets(alloc: Global) -> Result<Message, Fail> {
     let current = addresses(alloc, 300, 1)?;
     match zone_and_addresses(alloc, 60, 2) {
         Ok((origin, new)) if origin.zone_of(current.name()) => {
@@ -34,12 +36,14 @@ fn swapped(alloc: Global) -> Result<Message, Fail> {
     }
 }
 
-fn without_data(alloc: Global) -> Result<Message, Fail> {
+/// Deletes the address 192.0.2.1.
+fn delete_data(alloc: Global) -> Result<Message, Fail> {
     let (origin, set) = zone_and_addresses(alloc, 60, 1)?;
     Ok(delete_by_rdata(alloc, 4, set, origin, false)?)
 }
 
-fn without_set(alloc: Global, flush: bool) -> Result<Message, Fail> {
+/// Deletes the set of a record, with the cache-flush bit or without.
+fn delete_set(alloc: Global, flush: bool) -> Result<Message, Fail> {
     let mut gone = host(alloc, 60, 1)?;
     gone.mdns_cache_flush = flush;
     let origin = name(alloc, "example.")?;
@@ -49,8 +53,8 @@ fn without_set(alloc: Global, flush: bool) -> Result<Message, Fail> {
     Err(base::ProtoError::Message("a record outside the zone").into())
 }
 
-/// All sets of `owner`, at most, in `example.`.
-fn without_name(alloc: Global, owner: &str) -> Result<Message, Fail> {
+/// Deletes all sets of `owner` in `example.`.
+fn delete_name(alloc: Global, owner: &str) -> Result<Message, Fail> {
     let gone = name(alloc, owner)?;
     let origin = name(alloc, "example.")?;
     if origin.zone_of(&gone) {
@@ -60,11 +64,12 @@ fn without_name(alloc: Global, owner: &str) -> Result<Message, Fail> {
 }
 
 /// The question for all of `example.`.
-fn whole(alloc: Global) -> Result<Message, Fail> {
+fn transfer_all(alloc: Global) -> Result<Message, Fail> {
     Ok(zone_transfer(alloc, 6, name(alloc, "example.")?, None)?)
 }
 
-fn start(alloc: Global) -> Result<SOA, Fail> {
+/// The SOA that a client last had.
+fn soa(alloc: Global) -> Result<SOA, Fail> {
     let server = name(alloc, "ns.example.")?;
     match name(alloc, "hostmaster.example.") {
         Ok(mailbox) => Ok(SOA::new(server, mailbox, 1, 7200, 3600, 1209600, 300)),
@@ -76,9 +81,9 @@ fn start(alloc: Global) -> Result<SOA, Fail> {
 }
 
 /// The question for what changed in `example.`.
-fn changes(alloc: Global) -> Result<Message, Fail> {
+fn transfer_changes(alloc: Global) -> Result<Message, Fail> {
     let origin = name(alloc, "example.")?;
-    match start(alloc) {
+    match soa(alloc) {
         Ok(soa) => Ok(zone_transfer(alloc, 6, origin, Some(soa))?),
         Err(e) => {
             drop(origin);
@@ -102,16 +107,16 @@ pub(crate) enum Sent {
 }
 
 /// The message that is sent.
-pub(crate) fn built(alloc: Global, sent: Sent) -> Result<Message, Fail> {
+pub(crate) fn build(alloc: Global, sent: Sent) -> Result<Message, Fail> {
     match sent {
-        Sent::Created => created(alloc),
-        Sent::Appended => appended(alloc),
-        Sent::Swapped => swapped(alloc),
-        Sent::WithoutData => without_data(alloc),
-        Sent::WithoutSet(flush) => without_set(alloc, flush),
-        Sent::WithoutName => without_name(alloc, "example."),
-        Sent::Whole => whole(alloc),
-        Sent::Changes => changes(alloc),
+        Sent::Created => create_set(alloc),
+        Sent::Appended => append_set(alloc),
+        Sent::Swapped => swap_sets(alloc),
+        Sent::WithoutData => delete_data(alloc),
+        Sent::WithoutSet(flush) => delete_set(alloc, flush),
+        Sent::WithoutName => delete_name(alloc, "example."),
+        Sent::Whole => transfer_all(alloc),
+        Sent::Changes => transfer_changes(alloc),
     }
 }
 
@@ -174,7 +179,7 @@ pub(crate) const SENT: &[(Sent, usize, &'static [u8])] = &[
 #[test]
 fn updates_and_questions_for_transfers_as_they_are_sent(rt: HostRuntime) -> Result<(), Fail> {
     for &(sent, len, wire) in SENT {
-        let message = built(rt.alloc(), sent)?;
+        let message = build(rt.alloc(), sent)?;
         assert!(rt;
             is_sent_as(rt.alloc(), message, wire) && wire.len() == len,
             "{len}"

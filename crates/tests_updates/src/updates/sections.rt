@@ -41,7 +41,7 @@ fn is_filled<M: UpdateMessage>(message: &M, id: u16) -> bool {
 }
 
 /// An update that was filled.
-fn filled(alloc: Global) -> Result<Message, Fail> {
+fn filled_update(alloc: Global) -> Result<Message, Fail> {
     let mut message = Message::query(alloc, 9);
     message.metadata.op_code = OpCode::Update;
     match fill(alloc, &mut message) {
@@ -55,7 +55,7 @@ fn filled(alloc: Global) -> Result<Message, Fail> {
 
 #[test]
 fn sections_have_what_was_added(rt: HostRuntime) -> Result<(), Fail> {
-    let message = filled(rt.alloc())?;
+    let message = filled_update(rt.alloc())?;
     assert!(rt; is_filled(&message, 9));
     assert!(rt; have_ttls(&message.answers, &[0, 1, 1]));
     assert!(rt; have_ttls(&message.authorities, &[3, 4, 4]));

@@ -1,5 +1,5 @@
 use Rattle.parsed_zone.proofs.ZoneMaps.{parsed_map}
-use Rattle.tests_updates.proofs.updates.applied.applied.Goals as goal
+use Rattle.tests_updates.proofs.updates.applied.apply.Goals as goal
 use Rattle.std.proofs.Common.{sym, ◌∙◌}
 
 pub apply_update-requires : goal.apply_update-requires
