@@ -5,7 +5,7 @@
  * FUZSBANEL_NO_ROOM where the caller's buffer is too small. A call with a buffer `out` of `cap` bytes sets `*needed`: to
  * how many bytes the answer takes, also where there is no room, and to 0 where it refuses. It writes the answer at the
  * front of `out` and nothing after it; of FUZSBANEL_NO_ROOM and of a refusal it writes nothing. So a caller may ask with
- * a `cap` of 0 first. No text ends in a zero byte.
+ * a `cap` of 0 first. No text ends in a zero byte. Beside the refusals that it names, any call may refuse with 3.
  *
  * Who owns what. The caller owns every buffer, and no call keeps one or hands one out: what a call allocates, it frees
  * before it returns. The caller owes this, which nothing checks:
@@ -135,7 +135,8 @@ int64_t fuzsbanel_name(const uint8_t *message, size_t len, size_t place, uint8_t
 
 /* ---- zone text (RFC 1035, 5.1), UTF-8
  *
- * `origin` is the text of a name, as `example.`; of no bytes, there is none. */
+ * `origin` is the text of a name, as `example.`; of no bytes, there is none, and the text has to have an `$ORIGIN`. A
+ * record has to have a TTL, on its line or any before it, or by `$TTL`. What lacks these is refused with 19. */
 
 /* Writes the zone of a text as zone text: `$ORIGIN`, and each record on a line of its own, in the order of owners and
  * types. No text is there to be included. Refuses with 17 to 24. */

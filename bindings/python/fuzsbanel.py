@@ -13,6 +13,11 @@ bindings/c/build, or the one that FUZSBANEL_LIB names.
     Traceback (most recent call last):
     ...
     fuzsbanel.Refusal: 4: the bytes end inside a field, or before the place
+    >>> fuzsbanel.cut(query, 512) == query
+    True
+    >>> print(fuzsbanel.zone("example.", "www 300 A 192.0.2.1"), end="")
+    $ORIGIN example.
+    www.example. 300 IN A 192.0.2.1
 
 As a program it reads messages in hexadecimal, one a line, and prints what each call makes of them.
 """
@@ -146,12 +151,32 @@ class EdnsOption(NamedTuple):
     data: bytes
 
 
+
+class Number:
+    """A number as it crosses. One that its type doesn't hold ends the call, where ctypes would drop its upper bits.
+
+    >>> cut(bytes(12), -1)  # doctest: +IGNORE_EXCEPTION_DETAIL
+    Traceback (most recent call last):
+    ...
+    ctypes.ArgumentError: argument 3: OverflowError: -1 is no number of 16 bits
+    """
+
+    def __init__(self, type_: type) -> None:
+        self.type = type_
+
+    def from_param(self, number: int):
+        crossing = self.type(number)
+        if crossing.value != number:
+            raise OverflowError(f"{number} is no number of {8 * ctypes.sizeof(self.type)} bits")
+        return crossing
+
+
 BYTES = [ctypes.c_char_p, ctypes.c_size_t]
 OUT = [ctypes.c_char_p, ctypes.c_size_t, ctypes.POINTER(ctypes.c_size_t)]
-ID, EDNS, PLACE = [ctypes.c_uint16], [ctypes.c_bool], [ctypes.c_size_t]
+U16, EDNS, PLACE = [Number(ctypes.c_uint16)], [ctypes.c_bool], [Number(ctypes.c_size_t)]
 CALLS = {
     "check": BYTES,
-    "cut": BYTES + [ctypes.c_uint16] + OUT,
+    "cut": BYTES + U16 + OUT,
     "text": BYTES + OUT,
     "header": BYTES + [ctypes.POINTER(HeaderFields)],
     "query": BYTES + PLACE + [ctypes.POINTER(QueryFields)],
@@ -160,13 +185,13 @@ CALLS = {
     "name": BYTES + PLACE + OUT,
     "zone": BYTES + BYTES + OUT,
     "apply": BYTES + BYTES + BYTES + OUT,
-    "create": ID + BYTES + BYTES + EDNS + OUT,
-    "append": ID + BYTES + BYTES + [ctypes.c_bool] + EDNS + OUT,
-    "compare_and_swap": ID + BYTES + BYTES + BYTES + EDNS + OUT,
-    "delete_by_rdata": ID + BYTES + BYTES + EDNS + OUT,
-    "delete_rrset": ID + BYTES + BYTES + [ctypes.c_uint16] + EDNS + OUT,
-    "delete_all": ID + BYTES + BYTES + EDNS + OUT,
-    "zone_transfer": ID + BYTES + BYTES + OUT,
+    "create": U16 + BYTES + BYTES + EDNS + OUT,
+    "append": U16 + BYTES + BYTES + [ctypes.c_bool] + EDNS + OUT,
+    "compare_and_swap": U16 + BYTES + BYTES + BYTES + EDNS + OUT,
+    "delete_by_rdata": U16 + BYTES + BYTES + EDNS + OUT,
+    "delete_rrset": U16 + BYTES + BYTES + U16 + EDNS + OUT,
+    "delete_all": U16 + BYTES + BYTES + EDNS + OUT,
+    "zone_transfer": U16 + BYTES + BYTES + OUT,
 }
 for word, types in CALLS.items():
     call = getattr(LIBRARY, "fuzsbanel_" + word)

@@ -7,6 +7,10 @@
 //! let query = [0, 1, 1, 0, 0, 1, 0, 0, 0, 0, 0, 0, 1, b'a', 0, 0, 1, 0, 1];
 //! assert_eq!(fuzsbanel::check(&query), Ok(19));
 //! assert_eq!(fuzsbanel::check(&query[..18]), Err(fuzsbanel::Error::Short));
+//! assert_eq!(fuzsbanel::cut(&query, 512)?, query);
+//! let zone = fuzsbanel::zone("example.", "www 300 A 192.0.2.1")?;
+//! assert_eq!(zone, "$ORIGIN example.\nwww.example. 300 IN A 192.0.2.1\n");
+//! # Ok::<(), fuzsbanel::Error>(())
 //! ```
 
 mod calls;
