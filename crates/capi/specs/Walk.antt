@@ -90,7 +90,8 @@ found_option bytes place = told (option_found bytes place)
 abbrev pub name_text_at : List ℕ → ℕ → Asked (List ℕ)
 name_text_at bytes place = told (name_found bytes place >>= λ name. Ok (name_text name))
 
--- What was found is filled in, and the place after it answered; or it stays, and minus the number of a refusal is answered.
+-- What was found is filled in, and the place after it answered; or it stays, and minus the number of a refusal is
+-- answered.
 abbrev pub IsFilled : {P : Type 0} → Asked (P × ℕ) → P → P → ℤ → Type 0
 IsFilled (Ok found) old new result = (new ≡ found.0) × (result ≡ pos found.1)
 IsFilled (Err number) old new result = (new ≡ old) × (result ≡ neg_ℤ (pos number))

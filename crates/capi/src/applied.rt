@@ -15,8 +15,8 @@ use std::alloc::Global;
 ///
 /// # Errors
 ///
-/// The number of the update's first fault; then those of `fuzsbanel_zone`; and 25 for a set or a record of another class
-/// than IN.
+/// The number of the update's first fault; then those of `fuzsbanel_zone`; and 25 for a set or a record of another
+/// class than IN.
 #[unsafe(no_mangle)]
 pub extern "C" fn fuzsbanel_apply(
     alloc: Global,

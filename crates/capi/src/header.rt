@@ -45,8 +45,8 @@ pub struct HeaderNumbers {
     pub checking_disabled: bool,
 }
 
-/// Fills in the fields of the header that the bytes begin with, and answers its length, 12 (RFC 1035, 4.1.1). What comes
-/// after it isn't looked at.
+/// Fills in the fields of the header that the bytes begin with, and answers its length, 12 (RFC 1035, 4.1.1). What
+/// comes after it isn't looked at.
 ///
 /// # Errors
 ///

@@ -36,8 +36,8 @@ pub extern "C" fn fuzsbanel_create(
     give(update(alloc, id, origin, change, use_edns), out, needed)
 }
 
-/// Writes the update that adds the records of a set into the caller's buffer; with `must_exist` its prerequisite is that
-/// the zone has a set of that owner and type (RFC 2136, 2.4.1 and 2.5.1).
+/// Writes the update that adds the records of a set into the caller's buffer; with `must_exist` its prerequisite is
+/// that the zone has a set of that owner and type (RFC 2136, 2.4.1 and 2.5.1).
 ///
 /// # Errors
 ///

@@ -71,8 +71,8 @@ pub extern "C" fn fuzsbanel_query(
     fill(query_at(alloc, message, place), found)
 }
 
-/// Finds the record at a place, and answers the place after it (RFC 1035, 4.1.3). Its data is read, as far as its type is
-/// known, and not copied.
+/// Finds the record at a place, and answers the place after it (RFC 1035, 4.1.3). Its data is read, as far as its type
+/// is known, and not copied.
 ///
 /// # Errors
 ///

@@ -14,9 +14,9 @@ use std::alloc::Global;
 use std::collections::BTreeMap;
 use std::str;
 
-/// Writes the zone of a text into the caller's buffer, as zone text: the origin, and each record on a line of its own, in
-/// the order of owners and types (RFC 1035, 5.1). The origin is the text of a name, or empty for none. No text is there to
-/// be included.
+/// Writes the zone of a text into the caller's buffer, as zone text: the origin, and each record on a line of its own,
+/// in the order of owners and types (RFC 1035, 5.1). The origin is the text of a name, or empty for none. No text is
+/// there to be included.
 ///
 /// # Errors
 ///
