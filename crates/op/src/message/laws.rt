@@ -112,8 +112,8 @@ pub fn equal_messages()
     ensures equivalence { IsEquivalence ⟦<Message as PartialEq>⟧.eq }
 {}
 
-/// What the definition `message_answer` gives of a message that fits the wire is a cut of it under the limit, and is read
-/// as that cut (RFC 1035, 4.1.1; RFC 2181, 9; RFC 6891, 6.1.3).
+/// What the definition `message_answer` gives of a message that fits the wire is a cut of it under the limit, and is
+/// read as that cut (RFC 1035, 4.1.1; RFC 2181, 9; RFC 6891, 6.1.3).
 pub fn what_is_written_is_a_cut()
     // `MessageKept` is what its types keep of every message.
     ensures { (m : MessageValue) (limit : ℕ) (B : List ℕ) → Fits m → MessageKept m

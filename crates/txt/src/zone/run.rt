@@ -14,8 +14,8 @@ const BLOCK: usize = 64;
 
 /// Sets with their keys, of which the last one leaves first.
 ///
-/// They stand in blocks: the memory of a block is free as soon as its sets have left, and so serves the map that they go
-/// into.
+/// They stand in blocks: the memory of a block is free as soon as its sets have left, and so serves the map that they
+/// go into.
 #[derive(Drop)]
 pub(super) struct Run {
     alloc: Global,
