@@ -10,8 +10,8 @@ use Rattle.std.specs.Ordering.{eq_by_cmp, nat_cmp}
 use Rattle.std.proofs.lemmas.Bool.{cases_Bool, cond-true, cond-false, eqb-true, eqb-false, eq-eqb, ne_eqb, false≢true, ltb-true, ltb-false}
 use Rattle.std.proofs.lemmas.List.{append-nil, drop-append-le, take-append-le, take_all, drop_all, drop-drop, get_or_append_left, get_or-append_right, get_or_past, get_or_default, get_or-set_same, get_or-set_other, map_push, take_more_set}
 use Rattle.std.proofs.lemmas.List.Elements.{All-push, All-same, All-weaker}
-use Rattle.base.specs.declared.wire.pointer_cache.Labels.{Labels}
-use Rattle.base.specs.declared.wire.pointer_cache.Labels.TheVariants.{Lent, Copied}
+use Rattle.base.specs.declared.wire.pointer_cache.TargetLabels.{TargetLabels}
+use Rattle.base.specs.declared.wire.pointer_cache.TargetLabels.TheVariants.{Lent, Copied}
 use Rattle.base.specs.declared.wire.pointer_cache.Target.{Target}
 use Rattle.base.specs.declared.wire.pointer_cache.TheConstants.{ROOM}
 use Rattle.base.specs.Pointers.{AreThere, IsInside, IsLonger, IsThere, cache_of, entries_from, entries_of, labels_at, labels_from, labels_in, len_at, placed}
@@ -52,14 +52,14 @@ module _ (copied more : List ℕ) where
   pub inside_stay : (places : List ℕ) → All (IsInside copied) places → All (IsInside (copied ++ more)) places
   inside_stay places = All-weaker (IsInside copied) (IsInside (copied ++ more)) (λ place inside. inside_stays copied more place inside) places
 
-  pub are_there_stay : (labels : Labels) → AreThere copied labels → AreThere (copied ++ more) labels
+  pub are_there_stay : (labels : TargetLabels) → AreThere copied labels → AreThere (copied ++ more) labels
   are_there_stay (Lent labels) there = there
   are_there_stay (Copied place) there = (there.0, inside_stays copied more place there.1)
 
   pub there_stay : (targets : List Target) → All (IsThere copied) targets → All (IsThere (copied ++ more)) targets
   there_stay targets = All-weaker (IsThere copied) (IsThere (copied ++ more)) (λ target there. are_there_stay target.labels there) targets
 
-  pub at_stay : (labels : Labels) → AreThere copied labels → labels_at (copied ++ more) labels ≡ labels_at copied labels
+  pub at_stay : (labels : TargetLabels) → AreThere copied labels → labels_at (copied ++ more) labels ≡ labels_at copied labels
   at_stay (Lent labels) there = refl
   at_stay (Copied place) there = from_stays copied more place there.0 there.1
 
@@ -207,7 +207,7 @@ get_cache copied others first q =
     map.get-from_entries nat_cmp_total (entries_of copied first ++ entries_from 0 copied others) q
     ∙ find_both (entries_of copied first) (entries_from 0 copied others) q
     ∙ ap (λ (o : Option (List ℕ)). option_or (map.find nat_cmp q (entries_of copied first)) o)
-        (ap (λ (k : ℕ). map.find nat_cmp k (entries_from 0 copied others)) at ∙ found_from 0 copied others q)
+    (ap (λ (k : ℕ). map.find nat_cmp k (entries_from 0 copied others)) at ∙ found_from 0 copied others q)
 
 -- ---- one target more
 
@@ -254,7 +254,7 @@ module _ (copied others : List ℕ) (first : List Target) (t : ℕ) (none : map.
   ]
 
   -- one more among the first
-  pub first_more : (labels : Labels) → cache_of copied others (first ++ record { offset = t; labels = labels } ∷ []) ≡ map.insert (cache_of copied others first) t (labels_at copied labels)
+  pub first_more : (labels : TargetLabels) → cache_of copied others (first ++ record { offset = t; labels = labels } ∷ []) ≡ map.insert (cache_of copied others first) t (labels_at copied labels)
   first_more labels = same_cache _ _ (λ q. one_found (labels_at copied labels) (λ k. map.get (cache_of copied others (first ++ record { offset = t; labels = labels } ∷ [])) k) q (here q) (other q)) where
     pushed : (q : ℕ) → map.get (cache_of copied others (first ++ record { offset = t; labels = labels } ∷ [])) q
         ≡ option_or (option_or (map.find nat_cmp q (entries_of copied first)) (cond (eq_by_cmp nat_cmp q t) (Some (labels_at copied labels)) None)) (labels_in copied (get_or others q 0))
@@ -268,7 +268,7 @@ module _ (copied others : List ℕ) (first : List Target) (t : ℕ) (none : map.
     here q same =
         pushed q
         ∙ ap (λ (o : Option (List ℕ)). option_or (option_or o (cond (eq_by_cmp nat_cmp q t) (Some (labels_at copied labels)) None)) (labels_in copied (get_or others q 0)))
-            (ap (λ (k : ℕ). map.find nat_cmp k (entries_of copied first)) same ∙ not_first)
+        (ap (λ (k : ℕ). map.find nat_cmp k (entries_of copied first)) same ∙ not_first)
         ∙ ap (λ (b : Bool). option_or (cond b (Some (labels_at copied labels)) None) (labels_in copied (get_or others q 0))) (tied q t same)
 
     other : (q : ℕ) → q ≢ t → map.get (cache_of copied others (first ++ record { offset = t; labels = labels } ∷ [])) q ≡ map.get (cache_of copied others first) q
@@ -299,7 +299,7 @@ module _ (copied others : List ℕ) (first : List Target) (t : ℕ) (none : map.
 
 -- ---- one more among the first, in an array that has room
 
-pub there_set : (copied : List ℕ) (first : List Target) (count offset : ℕ) (labels : Labels) → count < ROOM → length first ≡ ROOM → All (IsThere copied) (take count first) → AreThere copied labels
+pub there_set : (copied : List ℕ) (first : List Target) (count offset : ℕ) (labels : TargetLabels) → count < ROOM → length first ≡ ROOM → All (IsThere copied) (take count first) → AreThere copied labels
     → All (IsThere copied) (take (count + 1) (slice_set first count (record { offset = offset; labels = labels })))
 there_set copied first count offset labels less room all there =
     let one : Target = record { offset = offset; labels = labels } in
@@ -311,7 +311,7 @@ module _ (copied others : List ℕ) (first : List Target) (count offset : ℕ) (
   set_more one = take_more_set first count one (omega (arith, less, room))
 
   -- its labels are lent or copied already
-  pub first_set : (labels : Labels) → cache_of copied others (take (count + 1) (slice_set first count (record { offset = offset; labels = labels })))
+  pub first_set : (labels : TargetLabels) → cache_of copied others (take (count + 1) (slice_set first count (record { offset = offset; labels = labels })))
       ≡ map.insert (cache_of copied others (take count first)) offset (labels_at copied labels)
   first_set labels =
       let one : Target = record { offset = offset; labels = labels } in
@@ -341,10 +341,10 @@ longer_both {a} {b} {c} first second = record {
 }
 
 module _ {copied now : List ℕ} (longer : IsLonger copied now) where
-  pub longer_at : (labels : Labels) → AreThere copied labels → labels_at now labels ≡ labels_at copied labels
+  pub longer_at : (labels : TargetLabels) → AreThere copied labels → labels_at now labels ≡ labels_at copied labels
   longer_at labels there = ap (λ (xs : List ℕ). labels_at xs labels) longer.is ∙ at_stay copied longer.more labels there
 
-  pub longer_one : (labels : Labels) → AreThere copied labels → AreThere now labels
+  pub longer_one : (labels : TargetLabels) → AreThere copied labels → AreThere now labels
   longer_one labels there = subst (λ (xs : List ℕ). AreThere xs labels) (sym longer.is) (are_there_stay copied longer.more labels there)
 
   pub longer_there : (targets : List Target) → All (IsThere copied) targets → All (IsThere now) targets

@@ -4,7 +4,7 @@ pub mod Cuts
 pub mod DNSClass
 pub mod DecodeError
 pub mod Faults
-pub mod Held
+pub mod Storage
 pub mod Items
 pub mod Keys
 pub mod Labels
@@ -15,7 +15,7 @@ pub mod NameOrder
 pub mod NameOrderLaws
 pub mod NameText
 pub mod Names
-pub mod Octets
+pub mod StoredLabels
 pub mod ParseError
 pub mod Passing
 pub mod PointerLemmas

@@ -9,8 +9,8 @@ use Rattle.std.specs.Ordering.{nat_cmp}
 use Rattle.base.specs.declared.name.followed.FollowedPointer.{FollowedPointer}
 use Rattle.base.specs.declared.name.reading.Part.{Part}
 use Rattle.base.specs.declared.name.reading.Part.TheVariants.{Root, Label, Pointer}
-use Rattle.base.specs.declared.wire.pointer_cache.Labels.{Labels}
-use Rattle.base.specs.declared.wire.pointer_cache.Labels.TheVariants.{Lent, Copied}
+use Rattle.base.specs.declared.wire.pointer_cache.TargetLabels.{TargetLabels}
+use Rattle.base.specs.declared.wire.pointer_cache.TargetLabels.TheVariants.{Lent, Copied}
 use Rattle.base.specs.declared.wire.pointer_cache.Target.{Target}
 use Rattle.base.specs.Labels.{IsWire, labels_of}
 use Rattle.base.specs.Names.{NamePart, zero_byte, label_of, pointer_to}
@@ -65,12 +65,12 @@ abbrev pub IsInside : List ℕ → ℕ → Type 0
 IsInside copied place = place ≢ 0 → place + len_at copied place ≤ length copied
 
 -- the labels at a target
-abbrev pub labels_at : List ℕ → Labels → List ℕ
+abbrev pub labels_at : List ℕ → TargetLabels → List ℕ
 labels_at copied (Lent labels) = labels.now
 labels_at copied (Copied place) = labels_from copied place
 
 -- those that are lent are a name's, and those that are copied have a place, and are there
-abbrev pub AreThere : List ℕ → Labels → Type 0
+abbrev pub AreThere : List ℕ → TargetLabels → Type 0
 AreThere copied (Lent labels) = length labels.now ≤ MAX_LABELS
 AreThere copied (Copied place) = (place ≢ 0) × IsInside copied place
 

@@ -3,10 +3,10 @@
 
 pub mod dns_class;
 pub mod error;
+mod labels;
 pub mod limits;
 pub mod lower_name;
 pub mod name;
-mod octets;
 pub mod record_type;
 pub mod rr_key;
 pub mod text;

@@ -9,6 +9,9 @@ pub const MAX_LABELS: usize = 254;
 /// The bytes of the longest label (RFC 1035, 2.3.4).
 pub const MAX_LABEL: usize = 63;
 
+/// The bytes of labels, each with its length before it, up to which a name takes no memory of its own.
+pub const INLINE_LABELS: usize = 29;
+
 /// The bytes of the longest character string (RFC 1035, 3.3).
 pub const MAX_STRING: usize = 255;
 

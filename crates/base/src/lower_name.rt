@@ -1,9 +1,10 @@
 //! Names in lower case, by which records are looked up (RFC 4343, 3).
 
-ghost use Rattle.std.specs.Prelude.{◌≡◌, IfOk, IsOkUnless, IsTrue, Some, refl};
+ghost use Rattle.base.specs.declared.limits.TheConstants.{INLINE_LABELS};
+ghost use Rattle.std.specs.Prelude.{◌≡◌, ◌≤◌, IfOk, IsOkUnless, IsTrue, Some, is_ok, length, refl};
 ghost use Rattle.std.specs.Cmp.{partial_equiv_from_equiv};
 ghost use Rattle.std.specs.Ordering.{as_partial_cmp};
-ghost use Rattle.base.specs.Labels.{NameValue};
+ghost use Rattle.base.specs.Labels.{NameValue, wire_of};
 ghost use Rattle.base.specs.NameText.{name_text};
 ghost use Rattle.base.specs.NameOrder.{exact, folded, lowered, same_lower, lower_cmp, lower_fed};
 ghost use Rattle.base.specs.NameOrderLaws.{same_by-equiv, same_by-tie, cmp_by-total, cmp_by-partial, fed_by-same};
@@ -46,6 +47,8 @@ impl LowerName {
     pub fn new(alloc: Global, name: &Name) -> Result<LowerName, ProtoError>
         ensures value { IfOk result (λ lower. lower ≡ lowered name.now) }
         ensures only { IsOkUnless result ProtoError.Memory }
+        // A name whose labels take up to 29 bytes takes no memory, and so is never refused.
+        ensures inline { length (wire_of name.now.labels) ≤ INLINE_LABELS → IsTrue (is_ok result) }
     {
         Ok(LowerName {
             name: name.to_lowercase(alloc)?,

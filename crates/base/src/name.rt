@@ -15,7 +15,7 @@ mod reading;
 pub mod round_trip;
 mod writing;
 
-use crate::octets::Octets;
+use crate::labels::Labels;
 use std::alloc::{AllocError, Global};
 use std::marker::Model;
 
@@ -25,9 +25,9 @@ use std::marker::Model;
 /// The case of letters is kept. Contracts see the labels from the left, and the flag.
 #[derive(Debug, Drop)]
 pub struct Name {
-    /// The labels from the left, each with its length before it, without a final zero byte; marked where the name is
+    /// The labels from the left, each with its length before it, without a final zero byte, and whether the name is
     /// absolute.
-    octets: Octets,
+    labels: Labels,
 }
 
 impl Model for Name {
@@ -35,9 +35,9 @@ impl Model for Name {
 
     ghost Value = { NameValue };
 
-    ghost view = { λ n. record { labels = labels_of n.octets.items; absolute = n.octets.mark } };
+    ghost view = { λ n. record { labels = labels_of n.labels.items; absolute = n.labels.is_fqdn } };
 
-    ghost invariant = { λ n. IsWire n.octets.items };
+    ghost invariant = { λ n. IsWire n.labels.items };
 }
 
 impl Name {
@@ -46,34 +46,34 @@ impl Name {
         ensures { result ≡ record { labels = []; absolute = true } }
     {
         Name {
-            octets: Octets::none(alloc, true),
+            labels: Labels::none(alloc, true),
         }
     }
 
     /// The allocator that the name's labels are in.
     pub fn allocator(&self) -> Global {
-        self.octets.allocator()
+        self.labels.allocator()
     }
 
     /// Whether this is the root, the absolute name without labels.
     pub fn is_root(&self) -> bool
         ensures { IsTrue result ↔ (self.now ≡ record { labels = []; absolute = true }) }
     {
-        self.octets.mark() && self.octets.as_slice().is_empty()
+        self.labels.is_fqdn() && self.labels.as_slice().is_empty()
     }
 
     /// Makes the name absolute, or relative. Its labels stay.
     pub fn set_fqdn(&mut self, is_fqdn: bool)
         ensures { self.new ≡ record self.old { absolute = is_fqdn } }
     {
-        self.octets.set_mark(is_fqdn);
+        self.labels.set_fqdn(is_fqdn);
     }
 
     /// Whether the name is absolute.
     pub fn is_fqdn(&self) -> bool
         ensures { result ≡ self.now.absolute }
     {
-        self.octets.mark()
+        self.labels.is_fqdn()
     }
 
     /// How many labels the name has, a label `*` counted too. The root has none.
@@ -123,7 +123,7 @@ impl Name {
         // The name has at most 255 bytes without compression, the final zero byte counted.
         ensures plain { plain_len self.now.labels ≤ MAX_NAME }
     {
-        self.octets.as_slice()
+        self.labels.as_slice()
     }
 }
 
@@ -132,7 +132,7 @@ impl Clone for Name {
 
     fn clone(&self) -> Result<Name, AllocError> {
         Ok(Name {
-            octets: self.octets.clone()?,
+            labels: self.labels.clone()?,
         })
     }
 }

@@ -1,18 +1,18 @@
 //! Comparing names: ASCII letters are the same in either case (RFC 4343, 3; RFC 4034, 6.1).
 
-ghost use Rattle.base.specs.declared.limits.TheConstants.{MAX_LABELS};
-ghost use Rattle.std.specs.Prelude.{◌≡◌, ◌≢◌, ◌≤◌, ◌↔◌, ◌++◌, ℕ, List, IfNone, IfOk, IfSome, IsTrue, true, false, take, drop, length, map, refl};
+ghost use Rattle.base.specs.declared.limits.TheConstants.{INLINE_LABELS, MAX_LABELS};
+ghost use Rattle.std.specs.Prelude.{◌≡◌, ◌≢◌, ◌≤◌, ◌↔◌, ◌++◌, ℕ, List, IfNone, IfOk, IfSome, is_ok, IsTrue, true, false, take, drop, length, map, refl};
 ghost use Rattle.std.specs.Char.{to_ascii_lowercase};
 ghost use Rattle.std.specs.Cmp.{partial_equiv_from_equiv};
 ghost use Rattle.std.specs.Cmp.Lexicographic.{slice_cmp};
 ghost use Rattle.std.specs.Ordering.{as_partial_cmp, nat_cmp};
-ghost use Rattle.base.specs.Labels.{NameValue, AreLabels, IsLabelRun, labels_of};
+ghost use Rattle.base.specs.Labels.{NameValue, AreLabels, IsLabelRun, labels_of, wire_of};
 ghost use Rattle.base.specs.NameOrder.{canonical_cmp, is_zone_of, folded, folded_labels, lowered, labels_cmp, same_labels, same_name, name_cmp, name_fed};
 ghost use Rattle.base.specs.NameOrderLaws.{same_by-equiv, same_by-tie, cmp_by-total, cmp_by-partial, fed_by-same};
 
+use crate::labels::Labels;
 use crate::limits::MAX_LABELS;
 use crate::name::{Name, first_label};
-use crate::octets::Octets;
 use std::alloc::{AllocError, Global};
 use std::cmp::Ordering;
 use std::hash::{Hash, Hasher};
@@ -43,11 +43,14 @@ impl Name {
     /// The name with its ASCII letters in lower case. Grows memory once, and not at all for a name whose labels take
     /// up to 29 bytes; refused if memory runs out.
     pub(crate) fn to_lowercase(&self, alloc: Global) -> Result<Name, AllocError>
-        ensures { IfOk result (λ n. n ≡ lowered self.now) }
+        ensures value { IfOk result (λ n. n ≡ lowered self.now) }
+        // A name whose labels take up to 29 bytes takes no memory, and so is never refused.
+        ensures inline { length (wire_of self.now.labels) ≤ INLINE_LABELS
+            → IsTrue (is_ok result) }
     {
-        let mut octets = Octets::from_slice(alloc, self.octets.as_slice(), self.octets.mark())?;
-        octets.make_ascii_lowercase();
-        Ok(Name { octets })
+        let mut labels = Labels::from_slice(alloc, self.labels.as_slice(), self.labels.is_fqdn())?;
+        labels.make_ascii_lowercase();
+        Ok(Name { labels })
     }
 }
 

@@ -11,9 +11,9 @@ ghost use Rattle.base.specs.TextChar.{character_of};
 ghost use Rattle.base.specs.TextFaults.{Gives};
 
 use crate::error::ParseError;
+use crate::labels::Labels;
 use crate::limits::{MAX_LABEL, MAX_LABELS};
 use crate::name::Name;
-use crate::octets::Octets;
 use std::alloc::Global;
 
 /// A character of the text of a name.
@@ -71,7 +71,7 @@ impl Name {
             return Err(ParseError::BadName);
         };
         Ok(Name {
-            octets: Octets::from_front(alloc, &room, used, is_fqdn)?,
+            labels: Labels::from_front(alloc, &room, used, is_fqdn)?,
         })
     }
 }

@@ -12,10 +12,10 @@ ghost use Rattle.base.specs.Reading.{Fails, Reads};
 ghost use Rattle.base.specs.Spelling.{Spelled};
 
 use crate::error::DecodeError;
+use crate::labels::Labels;
 use crate::limits::{MAX_LABELS, MAX_NAME};
 use crate::name::Name;
 use crate::name::followed::{FollowedPointer, FollowedPointers};
-use crate::octets::Octets;
 use crate::wire::{BinDecodable, BinDecoder};
 
 /// How many bytes are copied at once for a short label.
@@ -310,16 +310,16 @@ impl BinDecodable for Name {
             },
         ) = read_in_place(decoder)
         {
-            let octets = Octets::from_front_and(decoder.allocator(), own, used, kept, true)?;
+            let labels = Labels::from_front_and(decoder.allocator(), own, used, kept, true)?;
             decoder.move_to(end);
-            return Ok(Name { octets });
+            return Ok(Name { labels });
         }
         let mut room = [0; MAX_LABELS];
         let mut followed = FollowedPointers::new(decoder.allocator());
         let Gathered { used, end, last } = gather_labels(decoder, &mut room, &mut followed)?;
-        let octets = Octets::from_front(decoder.allocator(), &room, used, true)?;
+        let labels = Labels::from_front(decoder.allocator(), &room, used, true)?;
         keep_targets(decoder, &room[..used], &followed, last)?;
         decoder.move_to(end);
-        Ok(Name { octets })
+        Ok(Name { labels })
     }
 }

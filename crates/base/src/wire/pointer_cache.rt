@@ -22,7 +22,7 @@ const ENTRY: usize = 1 + MAX_LABELS;
 
 /// Where the labels at a target are, each with its length before it.
 #[derive(Clone, Copy)]
-enum Labels<'a> {
+enum TargetLabels<'a> {
     /// In the message, as they are.
     Lent(&'a [u8]),
     /// Among the copied labels, from this place on.
@@ -33,7 +33,7 @@ enum Labels<'a> {
 #[derive(Clone, Copy)]
 struct Target<'a> {
     offset: u16,
-    labels: Labels<'a>,
+    labels: TargetLabels<'a>,
 }
 
 /// Labels that were copied.
@@ -95,8 +95,8 @@ fn find_among<'d>(targets: &'d [Target<'d>], copied: &'d [u8], offset: u16) -> O
     for target in targets {
         if target.offset == offset {
             return Some(match target.labels {
-                Labels::Lent(labels) => labels,
-                Labels::Copied(place) => copied_at(copied, place),
+                TargetLabels::Lent(labels) => labels,
+                TargetLabels::Copied(place) => copied_at(copied, place),
             });
         }
     }
@@ -177,8 +177,8 @@ fn place_one(target: &Target<'_>, copies: &mut Copies, most: u16) -> Result<(), 
     let offset = usize::from(target.offset);
     reach(&mut copies.places, offset, usize::from(most))?;
     let place = match target.labels {
-        Labels::Lent(labels) => copy(&mut copies.bytes, labels)?,
-        Labels::Copied(place) => place,
+        TargetLabels::Lent(labels) => copy(&mut copies.bytes, labels)?,
+        TargetLabels::Copied(place) => place,
     };
     copies.places[offset] = place;
     Ok(())
@@ -214,7 +214,7 @@ impl<'a> PointerCache<'a> {
     {
         let unused = Target {
             offset: 0,
-            labels: Labels::Copied(0),
+            labels: TargetLabels::Copied(0),
         };
         PointerCache {
             count: 0,
@@ -259,8 +259,8 @@ impl<'a> PointerCache<'a> {
     {
         if !self.moved && self.count < ROOM {
             let labels = match lent {
-                Some(lent) => Labels::Lent(lent),
-                None => Labels::Copied(copy(&mut self.copies.bytes, labels)?),
+                Some(lent) => TargetLabels::Lent(lent),
+                None => TargetLabels::Copied(copy(&mut self.copies.bytes, labels)?),
             };
             self.first[self.count] = Target { offset, labels };
             self.count += 1;
@@ -269,7 +269,7 @@ impl<'a> PointerCache<'a> {
         self.move_first(most)?;
         let target = Target {
             offset,
-            labels: Labels::Lent(labels),
+            labels: TargetLabels::Lent(labels),
         };
         place_one(&target, &mut self.copies, most)
     }

@@ -5,7 +5,7 @@ ghost use Rattle.std.specs.Prelude.{◌≡◌, ◌<◌, ◌↔◌, IfOk, IsTrue}
 ghost use Rattle.base.specs.Labels.{IsLabelRun, wire_of, labels_of, IsWire};
 ghost use Rattle.base.specs.State.{front_number};
 
-use crate::octets::Octets;
+use crate::labels::Labels;
 use std::alloc::{AllocError, Global};
 use std::marker::Model;
 
@@ -13,7 +13,7 @@ use std::marker::Model;
 #[derive(Drop)]
 pub struct Suffix {
     /// The labels, each with its length before it.
-    labels: Octets,
+    labels: Labels,
     offset: u16,
     /// A number of the first bytes of the labels.
     front: u32,
@@ -58,7 +58,7 @@ impl Suffix {
             ≡ record { labels = labels_of wire.now; offset = offset }) }
     {
         Ok(Suffix {
-            labels: Octets::from_slice(alloc, wire, false)?,
+            labels: Labels::from_slice(alloc, wire, false)?,
             offset,
             front: front_number(wire),
         })

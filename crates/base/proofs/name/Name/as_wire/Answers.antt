@@ -7,4 +7,4 @@ pub returns-clause-plain : goal.returns-clause-plain
 returns-clause-plain c =
     let wire = c.self.invariant in
     let is = ap (λ (n : NameValue). plain_len n.labels) c.self.view_is in
-    omega (arith, is, size_of-labels_of c.self.inside.octets.items wire, wire.short)
+    omega (arith, is, size_of-labels_of c.self.inside.labels.items wire, wire.short)

@@ -4,7 +4,7 @@ use Rattle.std.specs.FinMap as map
 use Rattle.std.specs.Option.{option_or}
 use Rattle.std.specs.Ordering.{nat_cmp}
 use Rattle.std.proofs.lemmas.List.{drop_more}
-use Rattle.base.specs.declared.wire.pointer_cache.Labels.TheVariants.{Lent}
+use Rattle.base.specs.declared.wire.pointer_cache.TargetLabels.TheVariants.{Lent}
 use Rattle.base.specs.declared.wire.pointer_cache.Target.{Target}
 use Rattle.base.specs.Pointers.{IsInside, IsThere, entries_of, labels_at, placed}
 use Rattle.base.proofs.CacheLemmas.{found_again, longer_at, longer_both, one_placed}
@@ -29,7 +29,7 @@ loop-i-preserved c =
     record {
       found = λ q.
           one_placed old.bytes.items target (drop c.loop-i.i ts) (placed mid.bytes.items mid.places.items) (placed now.bytes.items now.places.items) (placed old.bytes.items old.places.items)
-              c.loop-i.invariant.found here c.place_one.ensures.others q
+          c.loop-i.invariant.found here c.place_one.ensures.others q
           ∙ ap (λ (rest : List Target). option_or (map.find nat_cmp q (entries_of old.bytes.items rest)) (placed old.bytes.items old.places.items q)) (sym split);
       inside = c.place_one.ensures.inside;
       longer = longer_both c.loop-i.invariant.longer c.place_one.ensures.longer;

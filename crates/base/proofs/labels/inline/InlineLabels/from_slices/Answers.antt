@@ -1,7 +1,7 @@
 use Rattle.std.proofs.Common.{ℕ, ◌+◌, ◌-◌, ◌++◌, List, length, drop, ap, ◌∙◌, arith, length-append, length-drop, ◌∷◌, []}
 use Rattle.std.proofs.lemmas.List.{take_at}
 use Rattle.std.proofs.lemmas.Slice.{take-put_mid}
-use Rattle.base.proofs.octets.room.Room.from_slices.Goals as goal
+use Rattle.base.proofs.labels.inline.InlineLabels.from_slices.Goals as goal
 
 pub returns : goal.returns
 returns c =
@@ -16,4 +16,4 @@ returns c =
     (omega (arith, ap length first, c.requires, length-append c.copy_from_slice.new.self (drop used zeros), length-drop used zeros))
     ∙ ap (λ (xs : List ℕ). xs ++ c.copy_from_slice-2.new.self) (take_at c.copy_from_slice.new.self (drop used zeros) used (ap length first) ∙ first)
     ∙ ap (λ (xs : List ℕ). slice ++ xs) second in
-    ap (λ (items : List ℕ). record { items = items; mark = c.args.mark }) copied
+    ap (λ (items : List ℕ). record { items = items; is_fqdn = c.args.is_fqdn }) copied

@@ -1,7 +1,7 @@
 use Rattle.std.proofs.Common.{◌-◌, ◌∙◌, length}
 use Rattle.std.proofs.lemmas.List.{take_rest}
 use Rattle.base.proofs.CopyLemmas.{copied_ends}
-use Rattle.base.proofs.octets.room.copy_ends.Goals as goal
+use Rattle.base.proofs.labels.inline.copy_ends.Goals as goal
 
 pub returns : goal.returns
 returns c =

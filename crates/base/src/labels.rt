@@ -1,0 +1,213 @@
+//! The labels of a name, inside its value or on the heap.
+
+ghost use Rattle.base.specs.declared.limits.TheConstants.{INLINE_LABELS};
+ghost use Rattle.std.specs.Prelude.{◌≡◌, ◌≤◌, ◌++◌, [], length, map, take, is_ok, IfOk, IsTrue};
+ghost use Rattle.std.specs.Char.{to_ascii_lowercase};
+ghost use Rattle.base.specs.StoredLabels.{lower_labels};
+
+mod inline;
+
+use crate::labels::inline::InlineLabels;
+use crate::limits::INLINE_LABELS;
+use std::alloc::{AllocError, Global};
+use std::marker::Model;
+
+/// Where labels are.
+#[derive(Debug, Drop)]
+enum Storage {
+    /// Inside the value.
+    Inline(InlineLabels),
+    /// In memory of their own.
+    Heap { is_fqdn: bool, bytes: Vec<u8> },
+}
+
+/// The labels of a name or of a suffix, each with its length before it, and whether the name is absolute.
+///
+/// Up to 29 bytes stand inside the value and take no memory. The flag stands beside them, so that the value has 32
+/// bytes.
+#[derive(Debug)]
+pub(crate) struct Labels {
+    storage: Storage,
+}
+
+impl Model for Labels {
+    ghost use Rattle.base.specs.Storage.{stored_in};
+    ghost use Rattle.base.specs.StoredLabels.{StoredLabels};
+
+    ghost Value = { StoredLabels };
+
+    ghost view = { λ o. stored_in o.storage };
+}
+
+impl Labels {
+    /// No bytes. Takes no memory.
+    pub(crate) fn none(alloc: Global, is_fqdn: bool) -> Labels
+        ensures { result ≡ record { items = []; is_fqdn = is_fqdn } }
+    {
+        Labels {
+            storage: Storage::Inline(InlineLabels::none(alloc, is_fqdn)),
+        }
+    }
+
+    /// These bytes.
+    ///
+    /// # Errors
+    ///
+    /// If memory runs out; up to 29 bytes take none.
+    pub(crate) fn from_slice(
+        alloc: Global,
+        bytes: &[u8],
+        is_fqdn: bool,
+    ) -> Result<Labels, AllocError>
+        ensures value { IfOk result
+            (λ o. o ≡ record { items = bytes.now; is_fqdn = is_fqdn }) }
+        // Up to 29 bytes take no memory, and so are never refused.
+        ensures inline { length bytes.now ≤ INLINE_LABELS → IsTrue (is_ok result) }
+    {
+        if bytes.len() <= INLINE_LABELS {
+            return Ok(Labels {
+                storage: Storage::Inline(InlineLabels::from_slice(alloc, bytes, is_fqdn)),
+            });
+        }
+        let bytes = Vec::from_slice(alloc, bytes)?;
+        Ok(Labels {
+            storage: Storage::Heap { is_fqdn, bytes },
+        })
+    }
+
+    /// The first `used` of these bytes.
+    ///
+    /// # Errors
+    ///
+    /// If memory runs out; up to 29 bytes take none.
+    pub(crate) fn from_front(
+        alloc: Global,
+        bytes: &[u8],
+        used: usize,
+        is_fqdn: bool,
+    ) -> Result<Labels, AllocError>
+        requires { used ≤ length bytes.now }
+        ensures { IfOk result (λ o. o ≡ record { items = take used bytes.now; is_fqdn = is_fqdn }) }
+    {
+        if used <= INLINE_LABELS && bytes.len() >= INLINE_LABELS {
+            return Ok(Labels {
+                storage: Storage::Inline(InlineLabels::from_front(alloc, bytes, used, is_fqdn)),
+            });
+        }
+        Labels::from_slice(alloc, &bytes[..used], is_fqdn)
+    }
+
+    /// The first `used` bytes of `bytes`, then `others`.
+    ///
+    /// # Errors
+    ///
+    /// If memory runs out; up to 29 bytes take none.
+    pub(crate) fn from_front_and(
+        alloc: Global,
+        bytes: &[u8],
+        used: usize,
+        others: &[u8],
+        is_fqdn: bool,
+    ) -> Result<Labels, AllocError>
+        requires { used ≤ length bytes.now }
+        ensures { IfOk result (λ o. o
+            ≡ record { items = take used bytes.now ++ others.now; is_fqdn = is_fqdn }) }
+    {
+        if others.is_empty() {
+            return Labels::from_front(alloc, bytes, used, is_fqdn);
+        }
+        if used == 0 {
+            return Labels::from_slice(alloc, others, is_fqdn);
+        }
+        let len = used + others.len();
+        if len <= INLINE_LABELS {
+            return Ok(Labels {
+                storage: Storage::Inline(InlineLabels::from_slices(
+                    alloc,
+                    &bytes[..used],
+                    others,
+                    is_fqdn,
+                )),
+            });
+        }
+        let mut both = Vec::with_capacity(alloc, len)?;
+        both.extend_from_slice(&bytes[..used])?;
+        both.extend_from_slice(others)?;
+        Ok(Labels {
+            storage: Storage::Heap {
+                is_fqdn,
+                bytes: both,
+            },
+        })
+    }
+
+    /// The allocator.
+    pub(crate) fn allocator(&self) -> Global {
+        match &self.storage {
+            Storage::Inline(inline) => inline.allocator(),
+            Storage::Heap { bytes, .. } => *bytes.allocator(),
+        }
+    }
+
+    /// The bytes.
+    pub(crate) fn as_slice(&self) -> &[u8]
+        ensures { result.now ≡ self.now.items }
+    {
+        match &self.storage {
+            Storage::Inline(inline) => inline.as_slice(),
+            Storage::Heap { bytes, .. } => bytes.as_slice(),
+        }
+    }
+
+    /// Puts the ASCII letters in lower case.
+    pub(crate) fn make_ascii_lowercase(&mut self)
+        ensures { self.new ≡ lower_labels self.old }
+    {
+        match &mut self.storage {
+            Storage::Inline(inline) => inline.make_ascii_lowercase(),
+            Storage::Heap { bytes, .. } => bytes.make_ascii_lowercase(),
+        }
+    }
+
+    /// Whether the name is absolute.
+    pub(crate) fn is_fqdn(&self) -> bool
+        ensures { result ≡ self.now.is_fqdn }
+    {
+        match &self.storage {
+            Storage::Inline(inline) => inline.is_fqdn(),
+            Storage::Heap { is_fqdn, .. } => *is_fqdn,
+        }
+    }
+
+    /// Makes the name absolute, or relative.
+    pub(crate) fn set_fqdn(&mut self, is_fqdn: bool)
+        ensures { self.new ≡ record self.old { is_fqdn = is_fqdn } }
+    {
+        match &mut self.storage {
+            Storage::Inline(inline) => inline.set_fqdn(is_fqdn),
+            Storage::Heap { is_fqdn: old, .. } => *old = is_fqdn,
+        }
+    }
+}
+
+// By hand, so that a place that lets go of a name has one way on, wherever the bytes are.
+impl Drop for Labels {
+    fn drop(self) {
+        let Labels { storage: _ } = self;
+    }
+}
+
+impl Clone for Labels {
+    ghost is_clone = { λ a b. b ≡ a };
+
+    fn clone(&self) -> Result<Labels, AllocError> {
+        let storage = match &self.storage {
+            Storage::Inline(inline) => Storage::Inline(inline.copy()),
+            Storage::Heap { is_fqdn, bytes } => Storage::Heap {
+                is_fqdn: *is_fqdn,
+                bytes: bytes.clone()?,
+            },
+        };
+        Ok(Labels { storage })
+    }
+}

@@ -1,0 +1,177 @@
+//! Labels inside the value of a name.
+
+ghost use Rattle.base.specs.declared.limits.TheConstants.{INLINE_LABELS};
+ghost use Rattle.std.specs.Prelude.{◌≡◌, ◌≤◌, ◌+◌, ◌++◌, [], length, take};
+ghost use Rattle.base.specs.StoredLabels.{lower_labels};
+
+use crate::limits::INLINE_LABELS;
+use std::alloc::Global;
+use std::marker::Model;
+
+/// How many bytes are copied at once.
+const PIECE: usize = 16;
+
+/// How many of a shorter list are.
+const SHORT_PIECE: usize = 8;
+
+/// Up to 29 bytes of labels, and whether the name is absolute. With the number of bytes and a tag before them they are 32
+/// bytes. What stands after the labels has no meaning.
+#[derive(Debug, Drop)]
+pub(crate) struct InlineLabels {
+    alloc: Global,
+    is_fqdn: bool,
+    len: u8,
+    bytes: [u8; INLINE_LABELS],
+}
+
+impl Model for InlineLabels {
+    ghost use Rattle.base.specs.declared.limits.TheConstants.{INLINE_LABELS};
+    ghost use Rattle.std.specs.Prelude.{◌≤◌, take};
+    ghost use Rattle.base.specs.StoredLabels.{StoredLabels};
+
+    ghost Value = { StoredLabels };
+
+    ghost view = { λ r. record { items = take r.len r.bytes; is_fqdn = r.is_fqdn } };
+
+    ghost invariant = { λ r. r.len ≤ INLINE_LABELS };
+}
+
+impl InlineLabels {
+    /// No bytes.
+    pub(crate) fn none(alloc: Global, is_fqdn: bool) -> InlineLabels
+        ensures { result ≡ record { items = []; is_fqdn = is_fqdn } }
+    {
+        InlineLabels {
+            alloc,
+            is_fqdn,
+            len: 0,
+            bytes: [0; INLINE_LABELS],
+        }
+    }
+
+    /// These bytes.
+    pub(crate) fn from_slice(alloc: Global, slice: &[u8], is_fqdn: bool) -> InlineLabels
+        requires { length slice.now ≤ INLINE_LABELS }
+        ensures { result ≡ record { items = slice.now; is_fqdn = is_fqdn } }
+    {
+        let mut bytes = [0; INLINE_LABELS];
+        if slice.len() >= PIECE {
+            copy_ends(&mut bytes, slice, PIECE);
+        } else if slice.len() >= SHORT_PIECE {
+            copy_ends(&mut bytes, slice, SHORT_PIECE);
+        } else {
+            bytes[..slice.len()].copy_from_slice(slice);
+        }
+        InlineLabels {
+            alloc,
+            is_fqdn,
+            len: slice.len() as u8,
+            bytes,
+        }
+    }
+
+    /// The first `used` of these bytes. All that have inline are copied, since a fixed number is copied faster.
+    pub(crate) fn from_front(
+        alloc: Global,
+        slice: &[u8],
+        used: usize,
+        is_fqdn: bool,
+    ) -> InlineLabels
+        requires few { used ≤ INLINE_LABELS }
+        // There are at least the 29 bytes that are copied.
+        requires enough { INLINE_LABELS ≤ length slice.now }
+        ensures { result ≡ record { items = take used slice.now; is_fqdn = is_fqdn } }
+    {
+        let mut bytes = [0; INLINE_LABELS];
+        bytes.copy_from_slice(&slice[..INLINE_LABELS]);
+        InlineLabels {
+            alloc,
+            is_fqdn,
+            len: used as u8,
+            bytes,
+        }
+    }
+
+    /// These bytes, and others after them.
+    pub(crate) fn from_slices(
+        alloc: Global,
+        slice: &[u8],
+        others: &[u8],
+        is_fqdn: bool,
+    ) -> InlineLabels
+        requires { length slice.now + length others.now ≤ INLINE_LABELS }
+        ensures { result ≡ record { items = slice.now ++ others.now; is_fqdn = is_fqdn } }
+    {
+        let len = slice.len() + others.len();
+        let mut bytes = [0; INLINE_LABELS];
+        bytes[..slice.len()].copy_from_slice(slice);
+        bytes[slice.len()..len].copy_from_slice(others);
+        InlineLabels {
+            alloc,
+            is_fqdn,
+            len: len as u8,
+            bytes,
+        }
+    }
+
+    /// The same again.
+    pub(crate) fn copy(&self) -> InlineLabels
+        ensures { result ≡ self.now }
+    {
+        InlineLabels {
+            alloc: self.alloc,
+            is_fqdn: self.is_fqdn,
+            len: self.len,
+            bytes: self.bytes,
+        }
+    }
+
+    /// The allocator that names of more bytes take their memory from.
+    pub(crate) fn allocator(&self) -> Global {
+        self.alloc
+    }
+
+    /// The bytes.
+    pub(crate) fn as_slice(&self) -> &[u8]
+        ensures { result.now ≡ self.now.items }
+    {
+        &self.bytes[..usize::from(self.len)]
+    }
+
+    /// Puts the ASCII letters in lower case.
+    pub(crate) fn make_ascii_lowercase(&mut self)
+        ensures { self.new ≡ lower_labels self.old }
+    {
+        self.bytes[..usize::from(self.len)].make_ascii_lowercase();
+    }
+
+    /// Whether the name is absolute.
+    pub(crate) fn is_fqdn(&self) -> bool
+        ensures { result ≡ self.now.is_fqdn }
+    {
+        self.is_fqdn
+    }
+
+    /// Makes the name absolute, or relative.
+    pub(crate) fn set_fqdn(&mut self, is_fqdn: bool)
+        ensures { self.new ≡ record self.old { is_fqdn = is_fqdn } }
+    {
+        self.is_fqdn = is_fqdn;
+    }
+}
+
+/// Copies a slice to the front: its first piece and its last one, which may overlap. A fixed number of bytes is copied
+/// faster than any other.
+#[inline(always)]
+fn copy_ends(bytes: &mut [u8; INLINE_LABELS], slice: &[u8], piece: usize)
+    requires few { length slice.now ≤ INLINE_LABELS }
+    // The slice is no shorter than a piece.
+    requires long { piece ≤ length slice.now }
+    // Two pieces cover it.
+    requires short { length slice.now ≤ piece + piece }
+    ensures { take (length slice.now) bytes.new ≡ slice.now }
+{
+    let last = slice.len() - piece;
+    bytes[..piece].copy_from_slice(&slice[..piece]);
+    bytes[last..slice.len()].copy_from_slice(&slice[last..]);
+}
