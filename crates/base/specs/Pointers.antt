@@ -74,6 +74,7 @@ abbrev pub AreThere : List ℕ → TargetLabels → Type 0
 AreThere copied (Lent labels) = length labels.now ≤ MAX_LABELS
 AreThere copied (Copied place) = (place ≢ 0) × IsInside copied place
 
+-- the same of the labels at a target
 abbrev pub IsThere : List ℕ → Target → Type 0
 IsThere copied target = AreThere copied target.labels
 

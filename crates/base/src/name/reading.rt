@@ -202,8 +202,8 @@ fn keep_targets<'a>(
     Ok(())
 }
 
-/// The labels of a name for which no pointer is followed: its own, and after them those that its pointer leads to, where
-/// it has one and they are kept.
+/// The labels of a name for which no pointer is followed: its own, and after them those that its pointer leads to,
+/// where it has one and they are kept.
 #[derive(Drop)]
 struct InPlace<'d> {
     /// Bytes that begin with its own labels, each with its length before it.
@@ -216,7 +216,8 @@ struct InPlace<'d> {
     end: usize,
 }
 
-/// The name at the decoder's place, if no pointer need be followed for it: most names have none, or one to a kept target.
+/// The name at the decoder's place, if no pointer need be followed for it: most names have none, or one to a kept
+/// target.
 fn read_in_place<'d>(decoder: &'d BinDecoder<'_>) -> Option<InPlace<'d>>
     ensures own { IfSome result (λ p. p.used ≤ length p.own.now) }
     ensures read { IfSome result

@@ -39,14 +39,16 @@ struct Target<'a> {
 /// Labels that were copied.
 #[derive(Drop)]
 struct Copies {
-    /// The labels one after another, before each the number of bytes that they are. A place is that of their first byte.
+    /// The labels one after another, before each the number of bytes that they are. A place is that of their first
+    /// byte.
     bytes: Vec<u8>,
     /// By offset, the place of the labels there, and 0 where there is none.
     places: Vec<usize>,
 }
 
-/// The labels at each offset that a pointer led to. The first targets take no memory, unless their labels are copied. Where
-/// there are more of them, each is found by its offset, without a search, since there are few that a pointer can name.
+/// The labels at each offset that a pointer led to. The first targets take no memory, unless their labels are copied.
+/// Where there are more of them, each is found by its offset, without a search, since there are few that a pointer can
+/// name.
 #[derive(Drop)]
 pub(crate) struct PointerCache<'a> {
     count: usize,
@@ -237,8 +239,8 @@ impl<'a> PointerCache<'a> {
         }
     }
 
-    /// Keeps the labels at an offset. Where the message lends them, they aren't copied as long as there is room for their
-    /// target among the first. Room for offsets up to `most` is made at once.
+    /// Keeps the labels at an offset. Where the message lends them, they aren't copied as long as there is room for
+    /// their target among the first. Room for offsets up to `most` is made at once.
     ///
     /// # Errors
     ///
