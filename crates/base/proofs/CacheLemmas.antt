@@ -207,7 +207,7 @@ get_cache copied others first q =
     map.get-from_entries nat_cmp_total (entries_of copied first ++ entries_from 0 copied others) q
     ∙ find_both (entries_of copied first) (entries_from 0 copied others) q
     ∙ ap (λ (o : Option (List ℕ)). option_or (map.find nat_cmp q (entries_of copied first)) o)
-        (ap (λ (k : ℕ). map.find nat_cmp k (entries_from 0 copied others)) at ∙ found_from 0 copied others q)
+    (ap (λ (k : ℕ). map.find nat_cmp k (entries_from 0 copied others)) at ∙ found_from 0 copied others q)
 
 -- ---- one target more
 
@@ -268,7 +268,7 @@ module _ (copied others : List ℕ) (first : List Target) (t : ℕ) (none : map.
     here q same =
         pushed q
         ∙ ap (λ (o : Option (List ℕ)). option_or (option_or o (cond (eq_by_cmp nat_cmp q t) (Some (labels_at copied labels)) None)) (labels_in copied (get_or others q 0)))
-            (ap (λ (k : ℕ). map.find nat_cmp k (entries_of copied first)) same ∙ not_first)
+        (ap (λ (k : ℕ). map.find nat_cmp k (entries_of copied first)) same ∙ not_first)
         ∙ ap (λ (b : Bool). option_or (cond b (Some (labels_at copied labels)) None) (labels_in copied (get_or others q 0))) (tied q t same)
 
     other : (q : ℕ) → q ≢ t → map.get (cache_of copied others (first ++ record { offset = t; labels = labels } ∷ [])) q ≡ map.get (cache_of copied others first) q

@@ -12,13 +12,16 @@ use std::alloc::{AllocError, Global};
 use std::marker::Model;
 
 /// How many targets have room inside the cache.
-const ROOM: usize = 8;
+const ROOM: usize = 6;
 
 /// How many places the table of the other targets grows by.
 const STEP: usize = 256;
 
 /// The bytes that the labels of the longest name take when they are copied: their number stands before them.
 const ENTRY: usize = 1 + MAX_LABELS;
+
+/// How many bytes there is room for with the first labels that are copied.
+const FRONT: usize = 2 * ENTRY;
 
 /// Where the labels at a target are, each with its length before it.
 #[derive(Clone, Copy)]
@@ -137,6 +140,7 @@ fn reach(places: &mut Vec<usize>, offset: usize, most: usize) -> Result<(), Allo
 }
 
 /// Copies labels after those that were copied before, and answers their place.
+#[inline(always)]
 fn copy(copied: &mut Vec<u8>, labels: &[u8]) -> Result<usize, AllocError>
     requires { length labels.now ≤ MAX_LABELS }
     ensures place { IfOk result (λ place. place ≡ length copied.old.items + 1) }
@@ -145,7 +149,7 @@ fn copy(copied: &mut Vec<u8>, labels: &[u8]) -> Result<usize, AllocError>
     ensures err { OnErr result (copied.new.items ≡ copied.old.items) }
 {
     let room = if copied.is_empty() {
-        ENTRY
+        FRONT
     } else {
         1 + labels.len()
     };
@@ -157,6 +161,7 @@ fn copy(copied: &mut Vec<u8>, labels: &[u8]) -> Result<usize, AllocError>
 }
 
 /// Gives a target a place, and copies its labels if they are lent.
+#[inline(always)]
 fn place_one(target: &Target<'_>, copies: &mut Copies, most: u16) -> Result<(), AllocError>
     requires there { IsThere copies.old.bytes.items target.now }
     requires inside { All (IsInside copies.old.bytes.items) copies.old.places.items }
@@ -243,6 +248,7 @@ impl<'a> PointerCache<'a> {
     /// # Errors
     ///
     /// If memory runs out, with the cache as it was.
+    #[inline(never)]
     pub(crate) fn insert(
         &mut self,
         offset: u16,
@@ -275,6 +281,7 @@ impl<'a> PointerCache<'a> {
     }
 
     /// Gives each target a place, unless they have them.
+    #[inline(never)]
     fn move_first(&mut self, most: u16) -> Result<(), AllocError>
         ensures { self.new ≡ self.old }
     {

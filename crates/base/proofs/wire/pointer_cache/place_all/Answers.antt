@@ -29,7 +29,7 @@ loop-i-preserved c =
     record {
       found = λ q.
           one_placed old.bytes.items target (drop c.loop-i.i ts) (placed mid.bytes.items mid.places.items) (placed now.bytes.items now.places.items) (placed old.bytes.items old.places.items)
-              c.loop-i.invariant.found here c.place_one.ensures.others q
+          c.loop-i.invariant.found here c.place_one.ensures.others q
           ∙ ap (λ (rest : List Target). option_or (map.find nat_cmp q (entries_of old.bytes.items rest)) (placed old.bytes.items old.places.items q)) (sym split);
       inside = c.place_one.ensures.inside;
       longer = longer_both c.loop-i.invariant.longer c.place_one.ensures.longer;

@@ -41,19 +41,17 @@ invariant_of-self-then-self-lt-ROOM c =
     elim c.match-lent.branch [
       | in-Some w ↦
           let same : w.in-Some.lent.now ≡ labels = rw w.in-Some.is at c.requires.lent in
-          rw (w.self-inside-is, w.labels-is)
-          (
+          rw (w.self-inside-is, w.labels-is) (
             (omega (arith, less), length-set old.first old.count _ ∙ room),
             (c.self.invariant.1.0, there_set copied old.first old.count t (Lent w.in-Some.lent) less room c.self.invariant.1.1 (omega (arith, ap length same, c.requires.short))),
           )
       | in-None+in_ok-copy-in-None w ↦
-          rw (w.self-inside-is, w.labels-is, w.in_ok-copy-in-None.ensures.place, w.in_ok-copy-in-None.ensures.ok)
-          (
+          rw (w.self-inside-is, w.labels-is, w.in_ok-copy-in-None.ensures.place, w.in_ok-copy-in-None.ensures.ok) (
             (omega (arith, less), length-set old.first old.count _ ∙ room),
             (
               inside_stay copied (length labels ∷ labels) old.copies.places.items c.self.invariant.1.0,
               there_set (copied ++ (length labels ∷ labels)) old.first old.count t (Copied (length copied + 1)) less room (there_stay copied (length labels ∷ labels) (take old.count old.first) c.self.invariant.1.1)
-              ((λ none. omega (arith, none)), new_inside copied labels),
+                  ((λ none. omega (arith, none)), new_inside copied labels),
             ),
           )
     ]
