@@ -61,7 +61,7 @@ pub(crate) struct PointerCache<'a> {
 }
 
 impl<'a> Model for PointerCache<'a> {
-    ghost use Rattle.std.specs.Prelude.{◌≡◌, ◌≤◌, ℕ, List, All, length, take};
+    ghost use Rattle.std.specs.Prelude.{◌≡◌, ◌≤◌, ℕ, true, List, All, length, take};
     ghost use Rattle.std.specs.Coded.{coded_ℕ, coded_list};
     ghost use Rattle.std.specs.FinMap as map;
     ghost use Rattle.std.specs.Ordering.{nat_cmp};
@@ -75,7 +75,8 @@ impl<'a> Model for PointerCache<'a> {
     ghost view = { λ c.
         cache_of c.copies.bytes.items c.copies.places.items (take c.count c.first) };
 
-    ghost invariant = { λ c. ((c.count ≤ ROOM) × (length c.first ≡ ROOM))
+    ghost invariant = { λ c. ((c.count ≤ ROOM)
+        × ((length c.first ≡ ROOM) × (c.moved ≡ true → c.count ≡ 0)))
         × (All (IsInside c.copies.bytes.items) c.copies.places.items
         × All (IsThere c.copies.bytes.items) (take c.count c.first)) };
 }
@@ -236,6 +237,9 @@ impl<'a> PointerCache<'a> {
     pub(crate) fn find(&self, offset: u16) -> Option<&[u8]>
         ensures { labels_now result ≡ map.get self.now offset }
     {
+        if self.moved {
+            return find_by_offset(&self.copies.places, &self.copies.bytes, offset);
+        }
         match find_among(&self.first[..self.count], &self.copies.bytes, offset) {
             Some(labels) => Some(labels),
             None => find_by_offset(&self.copies.places, &self.copies.bytes, offset),
@@ -272,7 +276,9 @@ impl<'a> PointerCache<'a> {
             self.count += 1;
             return Ok(());
         }
-        self.move_first(most)?;
+        if !self.moved {
+            self.move_first(most)?;
+        }
         let target = Target {
             offset,
             labels: Labels::Lent(labels),
@@ -280,14 +286,11 @@ impl<'a> PointerCache<'a> {
         place_one(&target, &mut self.copies, most)
     }
 
-    /// Gives each target a place, unless they have them.
+    /// Gives each of the first targets a place.
     #[inline(never)]
     fn move_first(&mut self, most: u16) -> Result<(), AllocError>
         ensures { self.new ≡ self.old }
     {
-        if self.moved {
-            return Ok(());
-        }
         let first = self.first;
         place_all(&first[..self.count], &mut self.copies, most)?;
         self.count = 0;

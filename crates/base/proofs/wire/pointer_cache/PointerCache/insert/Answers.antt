@@ -3,12 +3,13 @@ use Rattle.std.specs.Prelude.{OnErr, OnOk, Option}
 use Rattle.std.specs.FinMap as map
 use Rattle.std.specs.Option.{option_or}
 use Rattle.std.specs.Ordering.{nat_cmp}
+use Rattle.std.proofs.lemmas.Bool.{false≢true}
 use Rattle.std.proofs.lemmas.List.{length-set}
 use Rattle.base.specs.declared.wire.pointer_cache.Labels.TheVariants.{Lent, Copied}
 use Rattle.base.specs.Pointers.{Cache, cache_of, entries_of, placed}
 use Rattle.base.proofs.CacheLemmas.{copied_set, first_set, inside_stay, longer_entries, longer_there, new_inside, others_more, same_found, there_set, there_stay}
 use Rattle.base.proofs.wire.pointer_cache.PointerCache.insert.Goals as goal
-use Rattle.base.proofs.wire.pointer_cache.PointerCache.insert.Goals.{in-Some, in-None+in_ok-copy-in-None}
+use Rattle.base.proofs.wire.pointer_cache.PointerCache.insert.Goals.{in-Some, in-None+in_ok-copy-in-None, then-not-self-2+in_ok-move_first, else-not-self-2}
 
 pub returns-then-self-lt-ROOM-clause-ok : goal.returns-then-self-lt-ROOM-clause-ok
 returns-then-self-lt-ROOM-clause-ok c =
@@ -21,12 +22,12 @@ returns-then-self-lt-ROOM-clause-ok c =
       | in-Some w ↦
           let same : w.in-Some.lent.now ≡ labels = rw w.in-Some.is at c.requires.lent in
           rw (w.self-inside-is, w.labels-is)
-          (first_set old.copies.bytes.items old.copies.places.items old.first old.count t c.if-self-lt-ROOM.true c.self.invariant.0.1 none (Lent w.in-Some.lent)
+          (first_set old.copies.bytes.items old.copies.places.items old.first old.count t c.if-self-lt-ROOM.true c.self.invariant.0.1.0 none (Lent w.in-Some.lent)
           ∙ ap (λ (xs : List ℕ). map.insert (cache_of old.copies.bytes.items old.copies.places.items first) t xs) same
           ∙ ap (λ (m : Cache). map.insert m t labels) c.self.view_is)
       | in-None+in_ok-copy-in-None w ↦
           rw (w.self-inside-is, w.labels-is, w.in_ok-copy-in-None.ensures.place, w.in_ok-copy-in-None.ensures.ok)
-          (copied_set old.copies.bytes.items labels old.copies.places.items old.first old.count t c.if-self-lt-ROOM.true c.self.invariant.0.1 none c.self.invariant.1.0 c.self.invariant.1.1
+          (copied_set old.copies.bytes.items labels old.copies.places.items old.first old.count t c.if-self-lt-ROOM.true c.self.invariant.0.1.0 none c.self.invariant.1.0 c.self.invariant.1.1
           ∙ ap (λ (m : Cache). map.insert m t labels) c.self.view_is)
     ]
 
@@ -37,17 +38,17 @@ invariant_of-self-then-self-lt-ROOM c =
     let t = c.args.offset in
     let labels = c.args.labels.now in
     let less = c.if-self-lt-ROOM.true in
-    let room = c.self.invariant.0.1 in
+    let room = c.self.invariant.0.1.0 in
     elim c.match-lent.branch [
       | in-Some w ↦
           let same : w.in-Some.lent.now ≡ labels = rw w.in-Some.is at c.requires.lent in
           rw (w.self-inside-is, w.labels-is) (
-            (omega (arith, less), length-set old.first old.count _ ∙ room),
+            (omega (arith, less), (length-set old.first old.count _ ∙ room, λ moved. absurd (false≢true (sym c.if-not-self.true ∙ moved)))),
             (c.self.invariant.1.0, there_set copied old.first old.count t (Lent w.in-Some.lent) less room c.self.invariant.1.1 (omega (arith, ap length same, c.requires.short))),
           )
       | in-None+in_ok-copy-in-None w ↦
           rw (w.self-inside-is, w.labels-is, w.in_ok-copy-in-None.ensures.place, w.in_ok-copy-in-None.ensures.ok) (
-            (omega (arith, less), length-set old.first old.count _ ∙ room),
+            (omega (arith, less), (length-set old.first old.count _ ∙ room, λ moved. absurd (false≢true (sym c.if-not-self.true ∙ moved)))),
             (
               inside_stay copied (length labels ∷ labels) old.copies.places.items c.self.invariant.1.0,
               there_set (copied ++ (length labels ∷ labels)) old.first old.count t (Copied (length copied + 1)) less room (there_stay copied (length labels ∷ labels) (take old.count old.first) c.self.invariant.1.1)
@@ -80,7 +81,8 @@ returns-clause-ok c =
     let t = c.args.offset in
     let labels = c.args.labels.now in
     let first = take old.count old.first in
-    let value : cache_of copied places first ≡ c.args.self.now = c.self-2.view_is ∙ c.move_first.ensures in
+    let same : c.if-not-self-2.self ≡ c.args.self.now = elim c.if-not-self-2.branch [ then-not-self-2+in_ok-move_first w ↦ w.self-is ∙ w.move_first.ensures | else-not-self-2 w ↦ w.self-is ] in
+    let value : cache_of copied places first ≡ c.args.self.now = c.self-2.view_is ∙ same in
     let none : map.get (cache_of copied places first) t ≡ None = ap (λ (m : Cache). map.get m t) value ∙ c.requires.new in
     on_ok c.place_one.result c.place_one.ensures.here (λ here.
     others_more copied places first t none now.bytes.items now.places.items labels (longer_entries c.place_one.ensures.longer first c.self-2.invariant.1.1) here c.place_one.ensures.others
@@ -93,8 +95,9 @@ returns-clause-err c =
     let places = old.copies.places.items in
     let now = c.place_one.new.copies in
     let first = take old.count old.first in
+    let now_is : c.if-not-self-2.self ≡ c.args.self.now = elim c.if-not-self-2.branch [ then-not-self-2+in_ok-move_first w ↦ w.self-is ∙ w.move_first.ensures | else-not-self-2 w ↦ w.self-is ] in
     on_err (λ q. placed now.bytes.items now.places.items q ≡ placed copied places q) c.place_one.result c.place_one.ensures.err (λ same.
     same_found copied now.bytes.items places now.places.items first first (λ q.
     ap (λ (es : List (ℕ × List ℕ)). option_or (map.find nat_cmp q es) (placed now.bytes.items now.places.items q)) (longer_entries c.place_one.ensures.longer first c.self-2.invariant.1.1)
     ∙ ap (λ (o : Option (List ℕ)). option_or (map.find nat_cmp q (entries_of copied first)) o) (same q))
-    ∙ c.self-2.view_is ∙ c.move_first.ensures)
+    ∙ c.self-2.view_is ∙ now_is)
