@@ -14,13 +14,13 @@ use std::marker::Model;
 /// How many targets have room inside the cache.
 const ROOM: usize = 6;
 
-/// How many places the table of the other targets grows by.
+/// How many places are made at once.
 const STEP: usize = 256;
 
-/// The bytes that the labels of the longest name take when they are copied: their number stands before them.
+/// The bytes that the labels of the longest name take when they are copied, their number before them.
 const ENTRY: usize = 1 + MAX_LABELS;
 
-/// How many bytes there is room for with the first labels that are copied.
+/// How many bytes the first labels that are copied make room for, so that seldom more are needed.
 const FRONT: usize = 2 * ENTRY;
 
 /// Where the labels at a target are, each with its length before it.
@@ -140,7 +140,8 @@ fn reach(places: &mut Vec<usize>, offset: usize, most: usize) -> Result<(), Allo
     Ok(())
 }
 
-/// Copies labels after those that were copied before, and answers their place.
+/// Copies labels after those that were copied before, and answers their place. Each caller has its own copy of this
+/// function, which is faster.
 #[inline(always)]
 fn copy(copied: &mut Vec<u8>, labels: &[u8]) -> Result<usize, AllocError>
     requires { length labels.now ≤ MAX_LABELS }
@@ -161,7 +162,7 @@ fn copy(copied: &mut Vec<u8>, labels: &[u8]) -> Result<usize, AllocError>
     Ok(place)
 }
 
-/// Gives a target a place, and copies its labels if they are lent.
+/// Gives a target a place, and copies its labels if they are lent. Each caller has its own copy of this function too.
 #[inline(always)]
 fn place_one(target: &Target<'_>, copies: &mut Copies, most: u16) -> Result<(), AllocError>
     requires there { IsThere copies.old.bytes.items target.now }
@@ -247,7 +248,8 @@ impl<'a> PointerCache<'a> {
     }
 
     /// Keeps the labels at an offset. Where the message lends them, they aren't copied as long as there is room for their
-    /// target among the first. Room for offsets up to `most` is made at once.
+    /// target among the first. Room for offsets up to `most` is made at once. That stands apart from the reading of a
+    /// name, which is faster so: most names keep nothing.
     ///
     /// # Errors
     ///
@@ -286,7 +288,7 @@ impl<'a> PointerCache<'a> {
         place_one(&target, &mut self.copies, most)
     }
 
-    /// Gives each of the first targets a place.
+    /// Gives each of the first targets a place, which most messages never need.
     #[inline(never)]
     fn move_first(&mut self, most: u16) -> Result<(), AllocError>
         ensures { self.new ≡ self.old }
