@@ -248,13 +248,11 @@ impl<'a> PointerCache<'a> {
     }
 
     /// Keeps the labels at an offset. Where the message lends them, they aren't copied as long as there is room for their
-    /// target among the first. Room for offsets up to `most` is made at once. That stands apart from the reading of a
-    /// name, which is faster so: most names keep nothing.
+    /// target among the first. Room for offsets up to `most` is made at once.
     ///
     /// # Errors
     ///
     /// If memory runs out, with the cache as it was.
-    #[inline(never)]
     pub(crate) fn insert(
         &mut self,
         offset: u16,
@@ -269,11 +267,28 @@ impl<'a> PointerCache<'a> {
         ensures ok { OnOk result (self.new ≡ map.insert self.old offset labels.now) }
         ensures err { OnErr result (self.new ≡ self.old) }
     {
+        if let Some(lent) = lent {
+            if !self.moved && self.count < ROOM {
+                let labels = Labels::Lent(lent);
+                self.first[self.count] = Target { offset, labels };
+                self.count += 1;
+                return Ok(());
+            }
+        }
+        self.insert_copy(offset, labels, most)
+    }
+
+    /// Keeps a copy of the labels at an offset. It stands apart from the reading of a name, which is faster so: most names
+    /// keep nothing.
+    #[inline(never)]
+    fn insert_copy(&mut self, offset: u16, labels: &[u8], most: u16) -> Result<(), AllocError>
+        requires new { map.get self.old offset ≡ None }
+        requires short { length labels.now ≤ MAX_LABELS }
+        ensures ok { OnOk result (self.new ≡ map.insert self.old offset labels.now) }
+        ensures err { OnErr result (self.new ≡ self.old) }
+    {
         if !self.moved && self.count < ROOM {
-            let labels = match lent {
-                Some(lent) => Labels::Lent(lent),
-                None => Labels::Copied(copy(&mut self.copies.bytes, labels)?),
-            };
+            let labels = Labels::Copied(copy(&mut self.copies.bytes, labels)?);
             self.first[self.count] = Target { offset, labels };
             self.count += 1;
             return Ok(());
