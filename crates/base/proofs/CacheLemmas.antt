@@ -1,6 +1,6 @@
 -- The labels that a cache keeps by offset, where more are kept.
 use Rattle.std.proofs.Common.{◌≡◌, ◌≢◌, ℕ, zero, suc, ◌+◌, ◌-◌, ◌<◌, ◌≤◌, Bool, true, false, cond, List, [], ◌∷◌, ◌++◌, length, take, drop, append_assoc}
-use Rattle.std.proofs.Common.{◌⊎◌, Some, None, refl, ap, sym, ◌∙◌, subst, arith, length-append, length-drop, inl, inr}
+use Rattle.std.proofs.Common.{Some, None, refl, ap, sym, ◌∙◌, subst, arith, length-append, length-drop, inl, inr}
 use Rattle.std.specs.Prelude.{All, Option, get_or, nat_eq, nat_lt, replicate, slice_set, ◌==◌}
 use Rattle.std.specs.Cmp.{nat_cmp_total, unsigned_tied}
 use Rattle.std.specs.FinMap as map

@@ -12,13 +12,16 @@ use std::alloc::{AllocError, Global};
 use std::marker::Model;
 
 /// How many targets have room inside the cache.
-const ROOM: usize = 8;
+const ROOM: usize = 6;
 
-/// How many places the table of the other targets grows by.
+/// How many places are made at once.
 const STEP: usize = 256;
 
-/// The bytes that the labels of the longest name take when they are copied: their number stands before them.
+/// The bytes that the labels of the longest name take when they are copied, their number before them.
 const ENTRY: usize = 1 + MAX_LABELS;
+
+/// How many bytes the first labels that are copied make room for, so that seldom more are needed.
+const FRONT: usize = 2 * ENTRY;
 
 /// Where the labels at a target are, each with its length before it.
 #[derive(Clone, Copy)]
@@ -39,16 +42,14 @@ struct Target<'a> {
 /// Labels that were copied.
 #[derive(Drop)]
 struct Copies {
-    /// The labels one after another, before each the number of bytes that they are. A place is that of their first
-    /// byte.
+    /// The labels one after another, before each the number of bytes that they are. A place is that of their first byte.
     bytes: Vec<u8>,
     /// By offset, the place of the labels there, and 0 where there is none.
     places: Vec<usize>,
 }
 
-/// The labels at each offset that a pointer led to. The first targets take no memory, unless their labels are copied.
-/// Where there are more of them, each is found by its offset, without a search, since there are few that a pointer can
-/// name.
+/// The labels at each offset that a pointer led to. The first targets take no memory, unless their labels are copied. Where
+/// there are more of them, each is found by its offset, without a search, since there are few that a pointer can name.
 #[derive(Drop)]
 pub(crate) struct PointerCache<'a> {
     count: usize,
@@ -60,7 +61,7 @@ pub(crate) struct PointerCache<'a> {
 }
 
 impl<'a> Model for PointerCache<'a> {
-    ghost use Rattle.std.specs.Prelude.{◌≡◌, ◌≤◌, ℕ, List, All, length, take};
+    ghost use Rattle.std.specs.Prelude.{◌≡◌, ◌≤◌, ℕ, true, List, All, length, take};
     ghost use Rattle.std.specs.Coded.{coded_ℕ, coded_list};
     ghost use Rattle.std.specs.FinMap as map;
     ghost use Rattle.std.specs.Ordering.{nat_cmp};
@@ -74,7 +75,8 @@ impl<'a> Model for PointerCache<'a> {
     ghost view = { λ c.
         cache_of c.copies.bytes.items c.copies.places.items (take c.count c.first) };
 
-    ghost invariant = { λ c. ((c.count ≤ ROOM) × (length c.first ≡ ROOM))
+    ghost invariant = { λ c. ((c.count ≤ ROOM)
+        × ((length c.first ≡ ROOM) × (c.moved ≡ true → c.count ≡ 0)))
         × (All (IsInside c.copies.bytes.items) c.copies.places.items
         × All (IsThere c.copies.bytes.items) (take c.count c.first)) };
 }
@@ -138,7 +140,9 @@ fn reach(places: &mut Vec<usize>, offset: usize, most: usize) -> Result<(), Allo
     Ok(())
 }
 
-/// Copies labels after those that were copied before, and answers their place.
+/// Copies labels after those that were copied before, and answers their place. Each caller has its own copy of this
+/// function, which is faster.
+#[inline(always)]
 fn copy(copied: &mut Vec<u8>, labels: &[u8]) -> Result<usize, AllocError>
     requires { length labels.now ≤ MAX_LABELS }
     ensures place { IfOk result (λ place. place ≡ length copied.old.items + 1) }
@@ -147,7 +151,7 @@ fn copy(copied: &mut Vec<u8>, labels: &[u8]) -> Result<usize, AllocError>
     ensures err { OnErr result (copied.new.items ≡ copied.old.items) }
 {
     let room = if copied.is_empty() {
-        ENTRY
+        FRONT
     } else {
         1 + labels.len()
     };
@@ -158,7 +162,8 @@ fn copy(copied: &mut Vec<u8>, labels: &[u8]) -> Result<usize, AllocError>
     Ok(place)
 }
 
-/// Gives a target a place, and copies its labels if they are lent.
+/// Gives a target a place, and copies its labels if they are lent. Each caller has its own copy of this function too.
+#[inline(always)]
 fn place_one(target: &Target<'_>, copies: &mut Copies, most: u16) -> Result<(), AllocError>
     requires there { IsThere copies.old.bytes.items target.now }
     requires inside { All (IsInside copies.old.bytes.items) copies.old.places.items }
@@ -233,14 +238,17 @@ impl<'a> PointerCache<'a> {
     pub(crate) fn find(&self, offset: u16) -> Option<&[u8]>
         ensures { labels_now result ≡ map.get self.now offset }
     {
+        if self.moved {
+            return find_by_offset(&self.copies.places, &self.copies.bytes, offset);
+        }
         match find_among(&self.first[..self.count], &self.copies.bytes, offset) {
             Some(labels) => Some(labels),
             None => find_by_offset(&self.copies.places, &self.copies.bytes, offset),
         }
     }
 
-    /// Keeps the labels at an offset. Where the message lends them, they aren't copied as long as there is room for
-    /// their target among the first. Room for offsets up to `most` is made at once.
+    /// Keeps the labels at an offset. Where the message lends them, they aren't copied as long as there is room for their
+    /// target among the first. Room for offsets up to `most` is made at once.
     ///
     /// # Errors
     ///
@@ -259,16 +267,35 @@ impl<'a> PointerCache<'a> {
         ensures ok { OnOk result (self.new ≡ map.insert self.old offset labels.now) }
         ensures err { OnErr result (self.new ≡ self.old) }
     {
+        if let Some(lent) = lent {
+            if !self.moved && self.count < ROOM {
+                let labels = TargetLabels::Lent(lent);
+                self.first[self.count] = Target { offset, labels };
+                self.count += 1;
+                return Ok(());
+            }
+        }
+        self.insert_copy(offset, labels, most)
+    }
+
+    /// Keeps a copy of the labels at an offset. It stands apart from the reading of a name, which is faster so: most names
+    /// keep nothing.
+    #[inline(never)]
+    fn insert_copy(&mut self, offset: u16, labels: &[u8], most: u16) -> Result<(), AllocError>
+        requires new { map.get self.old offset ≡ None }
+        requires short { length labels.now ≤ MAX_LABELS }
+        ensures ok { OnOk result (self.new ≡ map.insert self.old offset labels.now) }
+        ensures err { OnErr result (self.new ≡ self.old) }
+    {
         if !self.moved && self.count < ROOM {
-            let labels = match lent {
-                Some(lent) => TargetLabels::Lent(lent),
-                None => TargetLabels::Copied(copy(&mut self.copies.bytes, labels)?),
-            };
+            let labels = TargetLabels::Copied(copy(&mut self.copies.bytes, labels)?);
             self.first[self.count] = Target { offset, labels };
             self.count += 1;
             return Ok(());
         }
-        self.move_first(most)?;
+        if !self.moved {
+            self.move_first(most)?;
+        }
         let target = Target {
             offset,
             labels: TargetLabels::Lent(labels),
@@ -276,13 +303,11 @@ impl<'a> PointerCache<'a> {
         place_one(&target, &mut self.copies, most)
     }
 
-    /// Gives each target a place, unless they have them.
+    /// Gives each of the first targets a place, which most messages never need.
+    #[inline(never)]
     fn move_first(&mut self, most: u16) -> Result<(), AllocError>
         ensures { self.new ≡ self.old }
     {
-        if self.moved {
-            return Ok(());
-        }
         let first = self.first;
         place_all(&first[..self.count], &mut self.copies, most)?;
         self.count = 0;

@@ -1,12 +1,12 @@
-use Rattle.std.proofs.Common.{◌≡◌, ◌∙◌, ℕ, ◌+◌, ◌-◌, ◌<◌, List, [], ◌∷◌, Some, length, drop, ap, sym, subst, arith}
-use Rattle.std.specs.Prelude.{All, Option, get_or}
+use Rattle.std.proofs.Common.{◌≡◌, ◌∙◌, ℕ, ◌+◌, ◌-◌, ◌<◌, List, [], ◌∷◌, Some, length, drop, ap, sym, arith}
+use Rattle.std.specs.Prelude.{Option, get_or}
 use Rattle.std.specs.FinMap as map
 use Rattle.std.specs.Option.{option_or}
 use Rattle.std.specs.Ordering.{nat_cmp}
 use Rattle.std.proofs.lemmas.List.{drop_more}
 use Rattle.base.specs.declared.wire.pointer_cache.TargetLabels.TheVariants.{Lent}
 use Rattle.base.specs.declared.wire.pointer_cache.Target.{Target}
-use Rattle.base.specs.Pointers.{IsInside, IsThere, entries_of, labels_at, placed}
+use Rattle.base.specs.Pointers.{entries_of, labels_at, placed}
 use Rattle.base.proofs.CacheLemmas.{found_again, longer_at, longer_both, one_placed}
 use Rattle.base.proofs.wire.pointer_cache.place_all.Goals as goal
 

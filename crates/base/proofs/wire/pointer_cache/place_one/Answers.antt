@@ -1,4 +1,4 @@
-use Rattle.std.proofs.Common.{◌≡◌, ◌∙◌, ℕ, ◌++◌, ◌∷◌, List, length, ap, sym, subst}
+use Rattle.std.proofs.Common.{◌≡◌, ◌∙◌, ℕ, List, sym, subst}
 use Rattle.std.specs.Prelude.{All, slice_set}
 use Rattle.base.specs.Pointers.{IsInside}
 use Rattle.base.proofs.CacheLemmas.{is_put, put_inside, put_others, same_inside, set_inside, set_others}
