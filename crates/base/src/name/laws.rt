@@ -54,7 +54,8 @@ pub fn text_is_name()
 
 /// A name is compressed as far as it can be: it ends in a pointer to the longest of its suffixes that was stored before
 /// it, where one was, and is else written with all its labels (RFC 1035, 4.1.4). So are the names of questions, of
-/// owners, and in data of the kinds of RFC 1035; those in data of later kinds stand with all their labels (RFC 3597, 4).
+/// owners, and in data of the kinds of RFC 1035; those in data of later kinds stand with all their labels (RFC 3597,
+/// 4).
 pub fn names_are_compressed()
     ensures { (labels : List (List ℕ)) (at : ℕ) (stored : List Stored)
         → IsCompressed labels at stored }

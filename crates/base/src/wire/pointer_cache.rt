@@ -42,14 +42,16 @@ struct Target<'a> {
 /// Labels that were copied.
 #[derive(Drop)]
 struct Copies {
-    /// The labels one after another, before each the number of bytes that they are. A place is that of their first byte.
+    /// The labels one after another, before each the number of bytes that they are. A place is that of their first
+    /// byte.
     bytes: Vec<u8>,
     /// By offset, the place of the labels there, and 0 where there is none.
     places: Vec<usize>,
 }
 
-/// The labels at each offset that a pointer led to. The first targets take no memory, unless their labels are copied. Where
-/// there are more of them, each is found by its offset, without a search, since there are few that a pointer can name.
+/// The labels at each offset that a pointer led to. The first targets take no memory, unless their labels are copied.
+/// Where there are more of them, each is found by its offset, without a search, since there are few that a pointer can
+/// name.
 #[derive(Drop)]
 pub(crate) struct PointerCache<'a> {
     count: usize,
@@ -247,8 +249,8 @@ impl<'a> PointerCache<'a> {
         }
     }
 
-    /// Keeps the labels at an offset. Where the message lends them, they aren't copied as long as there is room for their
-    /// target among the first. Room for offsets up to `most` is made at once.
+    /// Keeps the labels at an offset. Where the message lends them, they aren't copied as long as there is room for
+    /// their target among the first. Room for offsets up to `most` is made at once.
     ///
     /// # Errors
     ///
@@ -278,8 +280,8 @@ impl<'a> PointerCache<'a> {
         self.insert_copy(offset, labels, most)
     }
 
-    /// Keeps a copy of the labels at an offset. It stands apart from the reading of a name, which is faster so: most names
-    /// keep nothing.
+    /// Keeps a copy of the labels at an offset. It stands apart from the reading of a name, which is faster so: most
+    /// names keep nothing.
     #[inline(never)]
     fn insert_copy(&mut self, offset: u16, labels: &[u8], most: u16) -> Result<(), AllocError>
         requires new { map.get self.old offset ≡ None }
