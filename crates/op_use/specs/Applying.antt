@@ -71,11 +71,13 @@ is_supported r = is_ordinary (type_of_record r) || is_ns (type_of_record r)
 
 -- the same of a prerequisite, which in the class NONE may be of type ANY: the owner has no set (RFC 2136, 2.4.5)
 abbrev pub is_supported_prerequisite : Record RData → Bool
-is_supported_prerequisite r = is_supported r || (is_any (type_of_record r) && is_class_none r.dns_class)
+is_supported_prerequisite r = is_supported r
+    || (is_any (type_of_record r) && is_class_none r.dns_class)
 
 -- whether all of an update is supported
 abbrev pub is_all_supported : Sections → Bool
-is_all_supported m = list_all is_supported_prerequisite m.prerequisites && list_all is_supported m.updates
+is_all_supported m = list_all is_supported_prerequisite m.prerequisites
+    && list_all is_supported m.updates
 
 -- The code and the zone after an update is applied: what a server makes of it; NotImp where it isn't supported, which
 -- is tested first.

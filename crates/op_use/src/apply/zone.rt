@@ -91,7 +91,9 @@ impl<'a> Zone<'a> {
         let key = key_of(&entry.name, entry.record_type())?;
         let copy = entry.clone()?;
         let mut set = self.take_or_new(&key, entry)?;
-        set.renew(copy).map_err(|_| AllocError)?;
+        let Ok(()) = set.renew(copy) else {
+            return Err(AllocError);
+        };
         self.put_set(key, set)?;
         Ok(())
     }
@@ -103,7 +105,9 @@ impl<'a> Zone<'a> {
         let key = key_of(&entry.name, entry.record_type())?;
         let copy = entry.clone()?;
         let mut alone = self.empty_set(entry)?;
-        alone.renew(copy).map_err(|_| AllocError)?;
+        let Ok(()) = alone.renew(copy) else {
+            return Err(AllocError);
+        };
         self.put_set(key, alone)?;
         Ok(())
     }
@@ -116,7 +120,9 @@ impl<'a> Zone<'a> {
         let Some(mut set) = self.sets.remove(&key) else {
             return Ok(());
         };
-        set.take_data(entries).map_err(|_| AllocError)?;
+        let Ok(_) = set.take_data(entries) else {
+            return Err(AllocError);
+        };
         if set.is_empty() {
             return Ok(());
         }

@@ -26,8 +26,8 @@ returns-in_default c =
       none_there c.self.inside.class c.args.key c.args.entries.now c.self.inside.sets c.remove.new.self (sym c.in_default.ensures.value) c.remove.ensures.updates,
     )
 
-pub invariant_of-self-in_err-take_data : goal.invariant_of-self-in_err-take_data
-invariant_of-self-in_err-take_data c = removed_map c.self.inside.class c.args.key c.self.inside.sets c.remove.new.self c.self.invariant c.remove.ensures.updates
+pub invariant_of-self-in_default-take_data : goal.invariant_of-self-in_default-take_data
+invariant_of-self-in_default-take_data c = removed_map c.self.inside.class c.args.key c.self.inside.sets c.remove.new.self c.self.invariant c.remove.ensures.updates
 
 pub invariant_of-self-in_err-insert : goal.invariant_of-self-in_err-insert
 invariant_of-self-in_err-insert c =
@@ -48,14 +48,14 @@ returns-then-is_empty c =
       c.remove.new.self,
       refl,
       none_left c.self.inside.class c.args.key c.args.entries.now c.in-Some.set c.take_data.new.self c.self.inside.sets c.remove.new.self (sym c.in-Some.ensures.value)
-          c.in_ok-take_data.ensures.ok (c.is_empty.ensures.0 c.if-is_empty.true) c.remove.ensures.updates,
+          c.in-Ok.ensures.ok (c.is_empty.ensures.0 c.if-is_empty.true) c.remove.ensures.updates,
     )
 
 pub invariant_of-self-2 : goal.invariant_of-self-2
 invariant_of-self-2 c =
     kept_after c.self.inside.origin.now c.self.inside.class c.args.key (without c.args.entries.now (records_at c.self.inside.sets c.args.key)) c.self.inside.sets c.insert.new.self
     (set_left c.self.inside.class c.args.key c.args.entries.now c.in-Some.set c.take_data.new.self c.self.inside.sets c.remove.new.self c.insert.new.self c.self.invariant
-    (sym c.in-Some.ensures.value) c.in_ok-take_data.ensures.ok (λ e. true≢false (sym (c.is_empty.ensures.1 e) ∙ c.if-is_empty.false)) c.remove.ensures.updates c.in_ok-insert.ensures.updates)
+    (sym c.in-Some.ensures.value) c.in-Ok.ensures.ok (λ e. true≢false (sym (c.is_empty.ensures.1 e) ∙ c.if-is_empty.false)) c.remove.ensures.updates c.in_ok-insert.ensures.updates)
     c.self.invariant
 
 pub returns : goal.returns
@@ -69,5 +69,5 @@ returns c =
       c.insert.new.self,
       refl,
       set_left c.self.inside.class c.args.key c.args.entries.now c.in-Some.set c.take_data.new.self c.self.inside.sets c.remove.new.self c.insert.new.self c.self.invariant
-          (sym c.in-Some.ensures.value) c.in_ok-take_data.ensures.ok (λ e. true≢false (sym (c.is_empty.ensures.1 e) ∙ c.if-is_empty.false)) c.remove.ensures.updates c.in_ok-insert.ensures.updates,
+          (sym c.in-Some.ensures.value) c.in-Ok.ensures.ok (λ e. true≢false (sym (c.is_empty.ensures.1 e) ∙ c.if-is_empty.false)) c.remove.ensures.updates c.in_ok-insert.ensures.updates,
     )
