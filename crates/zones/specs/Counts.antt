@@ -1,0 +1,15 @@
+-- How many record sets the zone of a text has.
+use Rattle.std.specs.Prelude.{Err, None, Ok, Result, length, ℕ, ◌≡◌}
+use Rattle.base.specs.Labels.{NameValue}
+use Rattle.base.specs.TextFaults.{Fault}
+use Rattle.txt.specs.Zone.{Texts}
+use Rattle.txt.specs.ZoneSets.{ZoneSets}
+
+-- no text may be included
+abbrev pub no_texts : Texts
+no_texts name = None
+
+-- the text is that of a zone, and this is how many sets it has
+abbrev pub HasSets : Result (NameValue × ZoneSets) Fault → ℕ → Type 0
+HasSets (Ok zone) count = count ≡ length zone.1
+HasSets (Err fault) count = ⊥
