@@ -40,11 +40,6 @@ Keeps-appended xs a b is within = record {
   within = omega arith;
 }
 
--- bytes were appended, or nothing was written
-pub Keeps-either : {X : Type 0} (r : Result X ProtoError) (xs : List ℕ) (a b : State) → OnOk r (b ≡ appended xs a) → OnErr r (b ≡ a) → OnOk r (length b.bytes ≤ a.limit) → Keeps a b
-Keeps-either (Ok x) xs a b ok err within = Keeps-appended xs a b ok within
-Keeps-either (Err e) xs a b ok err within = Keeps-same a b err
-
 -- Bytes that are a word wherever they stand were written.
 pub Writes-appended : (word : List ℕ → ℕ → ℕ → Type 0) (plain : ℕ) (xs : List ℕ) (a : State) → length xs ≤ plain
     → ((B : List ℕ) → Stands xs B (length a.bytes) → word B (length a.bytes) (length a.bytes + length xs)) → Writes word plain [] a (appended xs a)

@@ -50,27 +50,17 @@ Exactly-from (Err (refusals.Decode e)) f g a s z same is = is
 pub Exactly-then : {X : Type 0} (r : Result X ProtoError) (f g : Writing) (a s z : State) → s ≡ after f a → Exactly g s z r → Exactly (both f g) a z r
 Exactly-then r f g a s z first second = Exactly-from r (both f g) g a s z (after-both f g a ∙ ap (after g) (sym first)) second
 
--- bytes were appended as they are
-pub Exactly-just : {X : Type 0} (r : Result X ProtoError) (xs : List ℕ) (a b : State) → OnOk r (b ≡ appended xs a) → Refuses (length xs) a r → Exactly (just xs) a b r
-Exactly-just (Ok x) xs a b is refuses = is
-Exactly-just (Err refusals.MaxBufferSizeExceeded) xs a b is refuses = refuses
-Exactly-just (Err refusals.Memory) xs a b is refuses = tt
-Exactly-just (Err (refusals.NotAllRecordsWritten count)) xs a b is refuses = refuses
-Exactly-just (Err refusals.NotOpt) xs a b is refuses = refuses
-Exactly-just (Err (refusals.Message text)) xs a b is refuses = refuses
-Exactly-just (Err refusals.NotAResponse) xs a b is refuses = refuses
-Exactly-just (Err (refusals.Decode e)) xs a b is refuses = refuses
-
--- a part of as many bytes was refused
-pub Exactly-refused : (X Y : Type 0) (e : ProtoError) (n : ℕ) (f : Writing) (a s z : State) → s.limit ≡ a.limit → length s.bytes + n ≤ length a.bytes + length (piece_at f a).bytes
-    → Refuses {X = X} n s (Err e) → Exactly {X = Y} f a z (Err e)
-Exactly-refused X Y refusals.MaxBufferSizeExceeded n f a s z same fits is = omega (arith, is)
-Exactly-refused X Y refusals.Memory n f a s z same fits is = tt
-Exactly-refused X Y (refusals.NotAllRecordsWritten count) n f a s z same fits is = is
-Exactly-refused X Y refusals.NotOpt n f a s z same fits is = is
-Exactly-refused X Y (refusals.Message text) n f a s z same fits is = is
-Exactly-refused X Y refusals.NotAResponse n f a s z same fits is = is
-Exactly-refused X Y (refusals.Decode e) n f a s z same fits is = is
+-- a part that has no more bytes was refused
+pub Exactly-refused : (X Y : Type 0) (e : ProtoError) (f g : Writing) (a s z : State) → s.limit ≡ a.limit
+    → length s.bytes + length (piece_at g s).bytes ≤ length a.bytes + length (piece_at f a).bytes
+    → Exactly {X = X} g s z (Err e) → Exactly {X = Y} f a z (Err e)
+Exactly-refused X Y refusals.MaxBufferSizeExceeded f g a s z same fits is = omega (arith, is)
+Exactly-refused X Y refusals.Memory f g a s z same fits is = tt
+Exactly-refused X Y (refusals.NotAllRecordsWritten count) f g a s z same fits is = is
+Exactly-refused X Y refusals.NotOpt f g a s z same fits is = is
+Exactly-refused X Y (refusals.Message text) f g a s z same fits is = is
+Exactly-refused X Y refusals.NotAResponse f g a s z same fits is = is
+Exactly-refused X Y (refusals.Decode e) f g a s z same fits is = is
 
 -- the first part was refused
 pub Exactly-first : (X Y : Type 0) (e : ProtoError) (f g : Writing) (a s z : State) → Exactly {X = X} f a s (Err e) → Exactly {X = Y} (both f g) a z (Err e)

@@ -287,6 +287,7 @@ impl PartialEq for RecordType {
 
     ghost laws = { Prim.search (comparing, rules) };
 
+    #[inline(always)]
     fn eq(&self, other: &RecordType) -> bool {
         u16::from(*self) == u16::from(*other) && self.rank() == other.rank()
     }

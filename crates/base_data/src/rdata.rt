@@ -15,7 +15,6 @@ pub mod aaaa;
 pub mod aname;
 mod canonical;
 pub mod cname;
-mod emit;
 mod fields;
 mod fits;
 mod hex_text;

@@ -1,10 +1,9 @@
 -- What is written of EDNS is its OPT record.
-use Rattle.std.proofs.Common.{◌≡◌, ℕ, ◌+◌, ◌^◌, ◌<◌, List, [], ◌∷◌, ◌++◌, length, refl, ap, ◌∙◌, append_assoc, subst, sym, arith, Result}
-use Rattle.std.specs.Prelude.{All, OnOk}
+use Rattle.std.proofs.Common.{◌≡◌, ℕ, ◌+◌, ◌^◌, ◌<◌, List, [], ◌∷◌, ◌++◌, length, refl, ap, ◌∙◌, append_assoc, subst, sym, arith}
+use Rattle.std.specs.Prelude.{All}
 use Rattle.std.specs.Int.{w16, w32, to_be_bytes}
-use Rattle.base.specs.declared.error.proto_error.ProtoError.{ProtoError}
-use Rattle.base.specs.State.{State, appended}
-use Rattle.rr.proofs.WriteSteps.{field_bytes, listed}
+use Rattle.base.specs.State.{State}
+use Rattle.rr.proofs.WriteSteps.{field_bytes, fields_listed, listed}
 use Rattle.base.specs.DNSClass.{class_number, opt_class}
 use Rattle.base.specs.RecordType.{type_number}
 use Rattle.base.specs.declared.record_type.RecordType.TheVariants as types
@@ -27,12 +26,10 @@ abbrev pub front_bytes : ℕ → ℕ → List ℕ
 front_bytes payload ttl = 0 ∷ field_bytes (type_number types.OPT) payload ttl
 
 -- their bytes one by one
-pub front_listed : {X : Type 0} (payload ttl : ℕ) (types payloads ttls : List ℕ) (r : Result X ProtoError) (a b : State) → types ≡ to_be_bytes w16 41
-    → payloads ≡ to_be_bytes w16 payload → ttls ≡ to_be_bytes w32 ttl → OnOk r (b ≡ appended (0 ∷ listed types payloads ttls) a) → OnOk r (b ≡ appended (front_bytes payload ttl) a)
-front_listed payload ttl types payloads ttls r a b type_is payload_is ttl_is ok =
-    subst (λ (xs : List ℕ). OnOk r (b ≡ appended (0 ∷ listed (to_be_bytes w16 41) (to_be_bytes w16 payload) xs) a)) ttl_is
-    (subst (λ (xs : List ℕ). OnOk r (b ≡ appended (0 ∷ listed (to_be_bytes w16 41) xs ttls) a)) payload_is
-    (subst (λ (xs : List ℕ). OnOk r (b ≡ appended (0 ∷ listed xs payloads ttls) a)) type_is ok))
+pub front_listed : (payload ttl : ℕ) (types payloads ttls : List ℕ) → types ≡ to_be_bytes w16 41 → payloads ≡ to_be_bytes w16 payload
+    → ttls ≡ to_be_bytes w32 ttl → 0 ∷ listed types payloads ttls ≡ front_bytes payload ttl
+front_listed payload ttl types payloads ttls type_is payload_is ttl_is =
+    ap (λ (xs : List ℕ). 0 ∷ xs) (fields_listed 41 payload ttl types payloads ttls type_is payload_is ttl_is)
 
 -- ---- what is written of EDNS
 

@@ -1,14 +1,12 @@
 -- Questions that stand are questions that are read.
 use Rattle.std.proofs.Common.{◌≡◌, ℕ, ◌+◌, ◌%◌, ◌^◌, ◌<◌, Bool, true, false, List, [], ◌∷◌, ◌++◌, get_or, length, refl, ap, sym, ◌∙◌, subst, arith, inl, inr, Result, Ok, Err}
 use Rattle.std.proofs.lemmas.List.{append-nil}
-use Rattle.std.specs.Prelude.{◌↔◌, OnOk}
+use Rattle.std.specs.Prelude.{◌↔◌}
 use Rattle.std.specs.Int.{w16, to_be_bytes}
 use Rattle.std.proofs.lemmas.Bool.{le-leb, lt-leb}
 use Rattle.base.specs.DNSClass.{class_field, class_number, class_of, field_class, field_top}
 use Rattle.base.specs.Labels.{NameValue}
 use Rattle.base.specs.Names.{name_at}
-use Rattle.base.specs.State.{State, appended}
-use Rattle.base.specs.declared.error.proto_error.ProtoError.{ProtoError}
 use Rattle.base.specs.Reading.{Read, number_at}
 use Rattle.base.specs.WordLemmas.{first_stands, number16_stands, stands_part}
 use Rattle.base.specs.RecordType.{type_number, type_of}
@@ -30,11 +28,9 @@ field_bytes type class = to_be_bytes w16 type ++ to_be_bytes w16 class
 abbrev listed : List ℕ → List ℕ → List ℕ
 listed type class = get_or type 0 0 ∷ get_or type 1 0 ∷ get_or class 0 0 ∷ get_or class 1 0 ∷ []
 
-pub fields_listed : {X : Type 0} (type class : ℕ) (types classes : List ℕ) (r : Result X ProtoError) (a b : State) → types ≡ to_be_bytes w16 type → classes ≡ to_be_bytes w16 class
-    → OnOk r (b ≡ appended (listed types classes) a) → OnOk r (b ≡ appended (field_bytes type class) a)
-fields_listed type class types classes r a b type_is class_is ok =
-    subst (λ (xs : List ℕ). OnOk r (b ≡ appended (listed (to_be_bytes w16 type) xs) a)) class_is
-    (subst (λ (xs : List ℕ). OnOk r (b ≡ appended (listed xs classes) a)) type_is ok)
+pub fields_listed : (type class : ℕ) (types classes : List ℕ) → types ≡ to_be_bytes w16 type → classes ≡ to_be_bytes w16 class
+    → listed types classes ≡ field_bytes type class
+fields_listed type class types classes type_is class_is = rw (type_is, class_is) refl
 
 -- the same question, field by field
 pub same_query : {a b : RecordType} {c d : DNSClass} {e f : Bool} (name : NameValue) → a ≡ b → c ≡ d → e ≡ f

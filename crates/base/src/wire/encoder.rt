@@ -45,6 +45,8 @@ impl<'a, T: HasSuffixes + Drop> Drop for BinEncoder<'a, T> {
 
 impl<'a> BinEncoder<'a> {
     ghost use Rattle.base.specs.Wire.{state_of, Refuses};
+    ghost use Rattle.base.specs.Laws.{Keeps};
+    ghost use Rattle.base.specs.Written.{Exactly, just};
 
     /// An encoder over the emptied vector, with the limit of 65,535 bytes. Takes no memory.
     pub fn new(buffer: &'a mut Vec<u8>) -> BinEncoder<'a>
@@ -79,13 +81,11 @@ impl<'a> BinEncoder<'a> {
     /// `MaxBufferSizeExceeded` where the byte would pass the limit; `Memory` if memory runs out. Nothing is written
     /// then.
     pub fn emit(&mut self, byte: u8) -> Result<(), ProtoError>
-        ensures ok { OnOk result (state_of self.new ≡ appended (byte ∷ []) (state_of self.old)) }
+        // Whatever the answer, what stood before stays, and no byte is written past the limit.
+        ensures keeps { Keeps (state_of self.old) (state_of self.new) }
+        // After `Ok` exactly the byte was written; refused for the limit only where it would pass it.
+        ensures exact { Exactly (just (byte ∷ [])) (state_of self.old) (state_of self.new) result }
         ensures err { OnErr result (state_of self.new ≡ state_of self.old) }
-        // After `Ok` no byte stands past the limit.
-        ensures within { OnOk result (length (state_of self.new).bytes
-            ≤ (state_of self.old).limit) }
-        // Refused for the limit only where the byte would pass it, and else for memory alone.
-        ensures refuses { Refuses 1 (state_of self.old) result }
         // Where the byte would pass the limit, the answer is `MaxBufferSizeExceeded`.
         ensures full { (state_of self.old).limit < length (state_of self.old).bytes + 1
             → IsErrOf result ProtoError.MaxBufferSizeExceeded }
@@ -99,14 +99,11 @@ impl<'a> BinEncoder<'a> {
     ///
     /// `MaxBufferSizeExceeded` where a byte would pass the limit; `Memory` if memory runs out. Nothing is written then.
     pub fn emit_u16(&mut self, number: u16) -> Result<(), ProtoError>
-        ensures ok { OnOk result (state_of self.new
-            ≡ appended (to_be_bytes w16 number) (state_of self.old)) }
+        // Whatever the answer, what stood before stays, and no byte is written past the limit.
+        ensures keeps { Keeps (state_of self.old) (state_of self.new) }
+        // After `Ok` exactly the number was written; refused for the limit only where it would pass it.
+        ensures exact { Exactly (just (to_be_bytes w16 number)) (state_of self.old) (state_of self.new) result }
         ensures err { OnErr result (state_of self.new ≡ state_of self.old) }
-        // After `Ok` no byte stands past the limit.
-        ensures within { OnOk result (length (state_of self.new).bytes
-            ≤ (state_of self.old).limit) }
-        // Refused for the limit only where two bytes would pass it, and else for memory alone.
-        ensures refuses { Refuses 2 (state_of self.old) result }
         // Where two bytes would pass the limit, the answer is `MaxBufferSizeExceeded`.
         ensures full { (state_of self.old).limit < length (state_of self.old).bytes + 2
             → IsErrOf result ProtoError.MaxBufferSizeExceeded }
@@ -120,14 +117,11 @@ impl<'a> BinEncoder<'a> {
     ///
     /// `MaxBufferSizeExceeded` where a byte would pass the limit; `Memory` if memory runs out. Nothing is written then.
     pub fn emit_u32(&mut self, number: u32) -> Result<(), ProtoError>
-        ensures ok { OnOk result (state_of self.new
-            ≡ appended (to_be_bytes w32 number) (state_of self.old)) }
+        // Whatever the answer, what stood before stays, and no byte is written past the limit.
+        ensures keeps { Keeps (state_of self.old) (state_of self.new) }
+        // After `Ok` exactly the number was written; refused for the limit only where it would pass it.
+        ensures exact { Exactly (just (to_be_bytes w32 number)) (state_of self.old) (state_of self.new) result }
         ensures err { OnErr result (state_of self.new ≡ state_of self.old) }
-        // After `Ok` no byte stands past the limit.
-        ensures within { OnOk result (length (state_of self.new).bytes
-            ≤ (state_of self.old).limit) }
-        // Refused for the limit only where four bytes would pass it, and else for memory alone.
-        ensures refuses { Refuses 4 (state_of self.old) result }
         // Where four bytes would pass the limit, the answer is `MaxBufferSizeExceeded`.
         ensures full { (state_of self.old).limit < length (state_of self.old).bytes + 4
             → IsErrOf result ProtoError.MaxBufferSizeExceeded }
@@ -141,13 +135,12 @@ impl<'a> BinEncoder<'a> {
     ///
     /// `MaxBufferSizeExceeded` where a byte would pass the limit; `Memory` if memory runs out. Nothing is written then.
     pub fn emit_slice(&mut self, bytes: &[u8]) -> Result<(), ProtoError>
-        ensures ok { OnOk result (state_of self.new ≡ appended bytes.now (state_of self.old)) }
+        // Whatever the answer, what stood before stays, and no byte is written past the limit.
+        ensures keeps { Keeps (state_of self.old) (state_of self.new) }
+        // After `Ok` exactly the bytes were written; refused for the limit only where they would
+        // pass it.
+        ensures exact { Exactly (just bytes.now) (state_of self.old) (state_of self.new) result }
         ensures err { OnErr result (state_of self.new ≡ state_of self.old) }
-        // After `Ok` no byte stands past the limit.
-        ensures within { OnOk result (length (state_of self.new).bytes
-            ≤ (state_of self.old).limit) }
-        // Refused for the limit only where the bytes would pass it, and else for memory alone.
-        ensures refuses { Refuses (length bytes.now) (state_of self.old) result }
         // Where the bytes would pass the limit, the answer is `MaxBufferSizeExceeded`.
         ensures full { (state_of self.old).limit
             < length (state_of self.old).bytes + length bytes.now
@@ -218,6 +211,7 @@ impl<'a> BinEncoder<'a> {
 
     /// Writes the value into the room that was kept for it, whose bytes have to stand still. No suffix is stored there:
     /// see the law `filled_room_is_free`.
+    #[inline(always)]
     pub fn replace<T: EncodedSize>(&mut self, place: Place<T>, value: &T)
         requires { place + T.LEN ≤ length (state_of self.old).bytes }
         ensures state { state_of self.new
@@ -229,6 +223,7 @@ impl<'a> BinEncoder<'a> {
 }
 
 /// Writes the value over the bytes from a place on.
+#[inline(always)]
 fn fill_at<T: EncodedSize>(bytes: &mut Vec<u8>, start: usize, value: &T)
     requires { start + T.LEN ≤ length bytes.old.items }
     ensures items { bytes.new.items

@@ -11,7 +11,6 @@ ghost use Rattle.base_data.specs.Kinds.{a_in};
 ghost use Rattle.base_data.specs.declared.rdata.RData.TheVariants as kinds;
 
 use crate::rdata::RData;
-use crate::rdata::emit::emit_bytes;
 use crate::rdata::fields::ipv4_item;
 use crate::rdata::items::TextData;
 use crate::record_data::RecordData;
@@ -73,7 +72,7 @@ impl BinEncodable for A {
     ///
     /// `MaxBufferSizeExceeded` where a byte would pass the limit; `Memory` if memory runs out.
     fn emit(&self, encoder: &mut BinEncoder<'_>) -> Result<(), ProtoError> {
-        emit_bytes(&self.octets, encoder)
+        encoder.emit_slice(&self.octets)
     }
 }
 

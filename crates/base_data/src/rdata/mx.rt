@@ -6,7 +6,6 @@ ghost use Rattle.base_data.specs.Kinds.{mx_in};
 ghost use Rattle.base_data.specs.declared.rdata.RData.TheVariants as kinds;
 
 use crate::rdata::RData;
-use crate::rdata::emit::emit_u16;
 use crate::rdata::fields::{name_item, u16_item};
 use crate::rdata::items::TextData;
 use crate::record_data::RecordData;
@@ -105,7 +104,7 @@ impl BinEncodable for MX {
     ///
     /// `MaxBufferSizeExceeded` where a byte would pass the limit; `Memory` if memory runs out.
     fn emit(&self, encoder: &mut BinEncoder<'_>) -> Result<(), ProtoError> {
-        emit_u16(self.preference, encoder)?;
+        encoder.emit_u16(self.preference)?;
         self.exchange.emit(encoder)
     }
 }

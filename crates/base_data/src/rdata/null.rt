@@ -12,7 +12,6 @@ ghost use Rattle.base_data.specs.Equality.{same_bytes-equiv};
 ghost use Rattle.base_data.specs.declared.rdata.RData.TheVariants as kinds;
 
 use crate::rdata::RData;
-use crate::rdata::emit::emit_bytes;
 use crate::rdata::hex_text::OpaqueText;
 use crate::rdata::reading::SizedData;
 use crate::record_data::RecordData;
@@ -117,7 +116,7 @@ impl BinEncodable for NULL {
     ///
     /// `MaxBufferSizeExceeded` where a byte would pass the limit; `Memory` if memory runs out.
     fn emit(&self, encoder: &mut BinEncoder<'_>) -> Result<(), ProtoError> {
-        emit_bytes(self.bytes(), encoder)
+        encoder.emit_slice(self.bytes())
     }
 }
 

@@ -6,7 +6,6 @@ ghost use Rattle.base_data.specs.Kinds.{soa_in};
 ghost use Rattle.base_data.specs.declared.rdata.RData.TheVariants as kinds;
 
 use crate::rdata::RData;
-use crate::rdata::emit::emit_bytes;
 use crate::rdata::fields::{name_item, ttl_item, u32_item};
 use crate::rdata::items::TextData;
 use crate::record_data::RecordData;
@@ -177,7 +176,7 @@ impl BinEncodable for SOA {
     fn emit(&self, encoder: &mut BinEncoder<'_>) -> Result<(), ProtoError> {
         self.mname.emit(encoder)?;
         self.rname.emit(encoder)?;
-        emit_bytes(&self.number_octets(), encoder)
+        encoder.emit_slice(&self.number_octets())
     }
 }
 

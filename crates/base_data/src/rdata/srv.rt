@@ -6,7 +6,6 @@ ghost use Rattle.base_data.specs.Kinds.{srv_in};
 ghost use Rattle.base_data.specs.declared.rdata.RData.TheVariants as kinds;
 
 use crate::rdata::RData;
-use crate::rdata::emit::emit_bytes;
 use crate::rdata::fields::{name_item, u16_item};
 use crate::rdata::items::TextData;
 use crate::record_data::RecordData;
@@ -123,7 +122,7 @@ impl BinEncodable for SRV {
     ///
     /// `MaxBufferSizeExceeded` where a byte would pass the limit; `Memory` if memory runs out.
     fn emit(&self, encoder: &mut BinEncoder<'_>) -> Result<(), ProtoError> {
-        emit_bytes(&self.number_octets(), encoder)?;
+        encoder.emit_slice(&self.number_octets())?;
         self.target.emit_plain(encoder)
     }
 }

@@ -18,7 +18,6 @@ mod strings;
 mod unescape;
 
 use crate::rdata::RData;
-use crate::rdata::emit::emit_bytes;
 use crate::rdata::items::TextData;
 use crate::rdata::reading::SizedData;
 use crate::record_data::RecordData;
@@ -176,7 +175,7 @@ impl BinEncodable for TXT {
     ///
     /// `MaxBufferSizeExceeded` where a byte would pass the limit; `Memory` if memory runs out.
     fn emit(&self, encoder: &mut BinEncoder<'_>) -> Result<(), ProtoError> {
-        emit_bytes(self.as_wire(), encoder)
+        encoder.emit_slice(self.as_wire())
     }
 }
 

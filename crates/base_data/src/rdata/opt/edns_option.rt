@@ -6,7 +6,6 @@ ghost use Rattle.std.specs.Cmp.{partial_equiv_from_equiv};
 ghost use Rattle.base_data.specs.Equality.{same_option-equiv};
 ghost use Rattle.base_data.specs.OPT.{FitsOption, option_at, option_len, option_says, option_word, option_written, same_option};
 
-use crate::rdata::emit::emit_bytes;
 use base::{BinDecodable, BinDecoder, BinEncodable, BinEncoder, DecodeError, ProtoError};
 use std::alloc::AllocError;
 use std::marker::Model;
@@ -100,7 +99,7 @@ impl BinEncodable for EdnsOption {
         let bytes = self.bytes();
         self.code().emit(encoder)?;
         (bytes.len() as u16).emit(encoder)?;
-        emit_bytes(bytes, encoder)
+        encoder.emit_slice(bytes)
     }
 }
 

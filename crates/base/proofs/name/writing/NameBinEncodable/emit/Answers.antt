@@ -3,13 +3,14 @@ use Rattle.std.specs.Int.{w16, to_be_bytes}
 use Rattle.std.proofs.lemmas.List.{take_at}
 use Rattle.std.proofs.lemmas.Result.{err_from_is_err_and}
 use Rattle.base.specs.Labels.{AreLabels, IsWire, labels_of}
+use Rattle.base.specs.Laws.{Keeps}
 use Rattle.base.specs.State.{State, appended, stored}
 use Rattle.base.specs.Wire.{state_of}
 use Rattle.base.specs.Written.{after, just, label_of, name, pointer}
 use Rattle.base.proofs.LabelLemmas.{IsWire-wire_of}
-use Rattle.base.proofs.LawLemmas.{Keeps-same, Keeps-then, Keeps-either}
+use Rattle.base.proofs.LawLemmas.{Keeps-same, Keeps-then}
 use Rattle.base.proofs.SaysLemmas.{Keeps-label}
-use Rattle.base.proofs.WrittenLemmas.{Exactly-from, Exactly-just, Exactly-refused, name-pointer, name-label, name-root, label-after, label-fits}
+use Rattle.base.proofs.WrittenLemmas.{Exactly-from, Exactly-refused, name-pointer, name-label, name-root, label-after, label-fits}
 use Rattle.base.proofs.name.writing.NameBinEncodable.emit.Goals as goal
 
 pub loop-label-init : goal.loop-label-init
@@ -34,11 +35,11 @@ loop-label-preserved c =
     let z = state_of c.store.new.self in
     let is = c.in-Some.ensures.labels in
     let slice = label_bytes _ _ _ c.in-Some.ensures.bytes in
-    let wrote = c.in_ok-emit_slice.ensures.ok ∙ ap (λ bytes. appended bytes s) slice in
+    let wrote = c.in_ok-emit_slice.ensures.exact ∙ ap (λ bytes. appended bytes s) slice in
     let st : z ≡ after (label_of x xs) s = c.in_ok-store.ensures.ok ∙ ap (λ labels. stored labels c.len-at.result (state_of c.emit_slice.new.self)) is
     ∙ ap (λ at. stored (x ∷ xs) at (state_of c.emit_slice.new.self)) c.len-at.ensures
     ∙ ap (λ m. stored (x ∷ xs) (length s.bytes) m) wrote ∙ label-after x xs s in
-    let within : length s.bytes + (1 + length x) ≤ s.limit = omega (arith, c.in_ok-emit_slice.ensures.within, ap (λ (m : State). length m.bytes) wrote, length-append s.bytes (length x ∷ x)) in
+    let within : length s.bytes + (1 + length x) ≤ s.limit = omega (arith, c.in_ok-emit_slice.ensures.keeps.within, ap (λ (m : State). length m.bytes) wrote, length-append s.bytes (length x ∷ x)) in
     record {
       wire = record {
         whole = c.in-Some.ensures.others;
@@ -62,7 +63,7 @@ returns-in-Some-find-clause-exact c =
     let s = state_of c.loop-label.encoder in
     Exactly-from c.emit_u16.result (name c.args.self.now.labels) (pointer o) (state_of c.args.encoder.now) s (state_of c.emit_u16.new.self)
     (c.loop-label.invariant.exact ∙ name-pointer _ _ _ o s c.in-Some.ensures.labels c.in-Some-find.ensures.value)
-    (Exactly-just c.emit_u16.result (to_be_bytes w16 (49152 + o)) s (state_of c.emit_u16.new.self) c.emit_u16.ensures.ok c.emit_u16.ensures.refuses)
+    c.emit_u16.ensures.exact
 
 pub returns-in_err-emit_slice-clause-exact : goal.returns-in_err-emit_slice-clause-exact
 returns-in_err-emit_slice-clause-exact c =
@@ -70,22 +71,25 @@ returns-in_err-emit_slice-clause-exact c =
     let s = state_of c.loop-label.encoder in
     let len = ap length (label_bytes _ _ _ c.in-Some.ensures.bytes) in
     let is = err_from_is_err_and c.from_residual.result c.from_residual.ensures.1 in
-    rw (is.1, is.2) (Exactly-refused (Unit {0}) (Unit {0}) c.in_err-emit_slice.field-0.0 _ (name c.args.self.now.labels) a s (state_of c.emit_slice.new.self) c.loop-label.invariant.keeps.limit
-    (omega (arith, len, label-fits a s _ _ _ _ c.loop-label.invariant.exact c.in-Some.ensures.labels c.in_default-find.ensures.value)) c.in_err-emit_slice.ensures.refuses)
+    rw (is.1, is.2) (Exactly-refused (Unit {0}) (Unit {0}) c.in_err-emit_slice.field-0.0 (name c.args.self.now.labels) (just (take (1 + length c.in-Some.label.now) c.loop-label.rest.now)) a s (state_of c.emit_slice.new.self) c.loop-label.invariant.keeps.limit
+    (omega (arith, len, label-fits a s _ _ _ _ c.loop-label.invariant.exact c.in-Some.ensures.labels c.in_default-find.ensures.value)) c.in_err-emit_slice.ensures.exact)
 
 pub returns-clause-exact : goal.returns-clause-exact
 returns-clause-exact c =
     let s = state_of c.loop-label.encoder in
     Exactly-from c.emit.result (name c.args.self.now.labels) (just (0 ∷ [])) (state_of c.args.encoder.now) s (state_of c.emit.new.self)
     (c.loop-label.invariant.exact ∙ name-root _ s c.in_default.ensures.labels)
-    (Exactly-just c.emit.result (0 ∷ []) s (state_of c.emit.new.self) c.emit.ensures.ok c.emit.ensures.refuses)
+    c.emit.ensures.exact
 
 pub returns-clause-keeps : goal.returns-clause-keeps
 returns-clause-keeps c =
-    Keeps-then c.loop-label.invariant.keeps (Keeps-either c.emit.result (0 ∷ []) _ _ c.emit.ensures.ok c.emit.ensures.err c.emit.ensures.within)
+    Keeps-then c.loop-label.invariant.keeps c.emit.ensures.keeps
 
 pub returns-in-Some-find-clause-keeps : goal.returns-in-Some-find-clause-keeps
 returns-in-Some-find-clause-keeps c =
-    Keeps-then c.loop-label.invariant.keeps (Keeps-either c.emit_u16.result (to_be_bytes w16 (49152
-    + c.in-Some-find.offset)) _ _ c.emit_u16.ensures.ok c.emit_u16.ensures.err
-    c.emit_u16.ensures.within)
+    Keeps-then c.loop-label.invariant.keeps c.emit_u16.ensures.keeps
+
+pub returns-in_err-store-clause-keeps : goal.returns-in_err-store-clause-keeps
+returns-in_err-store-clause-keeps c =
+    let both = Keeps-then c.loop-label.invariant.keeps c.emit_slice.ensures.keeps in
+    subst (λ (s : State). Keeps (state_of c.args.encoder.now) s) (sym c.in_err-store.ensures.err) both

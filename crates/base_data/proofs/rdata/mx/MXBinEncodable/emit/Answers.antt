@@ -16,11 +16,11 @@ returns-in_err-emit_u16-clause-exact c =
     let is = err_from_is_err_and c.from_residual.result c.from_residual.ensures.1 in
     rw (is.1, is.2) (Exactly-first (Unit {0}) (Unit {0}) c.in_err-emit_u16.field-0.0 (just
     (to_be_bytes w16 x.preference)) (name x.exchange.labels) (state_of c.args.encoder.now)
-    (state_of c.emit_u16.new.encoder) (state_of c.emit_u16.new.encoder)
+    (state_of c.emit_u16.new.self) (state_of c.emit_u16.new.self)
     c.in_err-emit_u16.ensures.exact)
 
 pub returns-clause-exact : goal.returns-clause-exact
 returns-clause-exact c =
     let x = c.args.self.now in
-    Exactly-then c.emit.result (just (to_be_bytes w16 x.preference)) (name x.exchange.labels) (state_of c.args.encoder.now) (state_of c.emit_u16.new.encoder) (state_of c.emit.new.encoder)
+    Exactly-then c.emit.result (just (to_be_bytes w16 x.preference)) (name x.exchange.labels) (state_of c.args.encoder.now) (state_of c.emit_u16.new.self) (state_of c.emit.new.encoder)
     c.in_ok-emit_u16.ensures.exact c.emit.ensures.exact

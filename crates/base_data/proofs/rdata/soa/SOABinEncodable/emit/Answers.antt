@@ -11,7 +11,7 @@ pub returns-in_err-emit-2-clause-keeps : goal.returns-in_err-emit-2-clause-keeps
 returns-in_err-emit-2-clause-keeps c = Keeps-then c.emit.ensures.keeps c.emit-2.ensures.keeps
 
 pub returns-clause-keeps : goal.returns-clause-keeps
-returns-clause-keeps c = Keeps-then c.emit.ensures.keeps (Keeps-then c.emit-2.ensures.keeps c.emit_bytes.ensures.keeps)
+returns-clause-keeps c = Keeps-then c.emit.ensures.keeps (Keeps-then c.emit-2.ensures.keeps c.emit_slice.ensures.keeps)
 
 pub returns-in_err-emit-clause-exact : goal.returns-in_err-emit-clause-exact
 returns-in_err-emit-clause-exact c =
@@ -29,7 +29,7 @@ returns-in_err-emit-2-clause-exact c =
 pub returns-clause-exact : goal.returns-clause-exact
 returns-clause-exact c =
     let x = c.args.self.now in
-    Exactly-then c.emit_bytes.result (name x.mname.labels) (both (name x.rname.labels) (just (soa_numbers x))) (state_of c.args.encoder.now) (state_of c.emit.new.encoder) (state_of c.emit_bytes.new.encoder)
+    Exactly-then c.emit_slice.result (name x.mname.labels) (both (name x.rname.labels) (just (soa_numbers x))) (state_of c.args.encoder.now) (state_of c.emit.new.encoder) (state_of c.emit_slice.new.self)
     c.in_ok-emit.ensures.exact
-    (Exactly-then c.emit_bytes.result (name x.rname.labels) (just (soa_numbers x)) (state_of c.emit.new.encoder) (state_of c.emit-2.new.encoder) (state_of c.emit_bytes.new.encoder)
-    c.in_ok-emit-2.ensures.exact (Exactly-same c.emit_bytes.result _ _ _ _ (ap just c.number_octets.ensures.bytes) c.emit_bytes.ensures.exact))
+    (Exactly-then c.emit_slice.result (name x.rname.labels) (just (soa_numbers x)) (state_of c.emit.new.encoder) (state_of c.emit-2.new.encoder) (state_of c.emit_slice.new.self)
+    c.in_ok-emit-2.ensures.exact (Exactly-same c.emit_slice.result _ _ _ _ (ap just c.number_octets.ensures.bytes) c.emit_slice.ensures.exact))

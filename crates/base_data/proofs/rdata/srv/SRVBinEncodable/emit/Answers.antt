@@ -8,21 +8,21 @@ use Rattle.base_data.specs.SRV.{srv_numbers}
 use Rattle.base_data.proofs.rdata.srv.SRVBinEncodable.emit.Goals as goal
 
 pub returns-clause-keeps : goal.returns-clause-keeps
-returns-clause-keeps c = Keeps-then c.emit_bytes.ensures.keeps c.emit_plain.ensures.keeps
+returns-clause-keeps c = Keeps-then c.emit_slice.ensures.keeps c.emit_plain.ensures.keeps
 
-pub returns-in_err-emit_bytes-clause-exact : goal.returns-in_err-emit_bytes-clause-exact
-returns-in_err-emit_bytes-clause-exact c =
+pub returns-in_err-emit_slice-clause-exact : goal.returns-in_err-emit_slice-clause-exact
+returns-in_err-emit_slice-clause-exact c =
     let x = c.args.self.now in
     let is = err_from_is_err_and c.from_residual.result c.from_residual.ensures.1 in
-    rw (is.1, is.2) (Exactly-first (Unit {0}) (Unit {0}) c.in_err-emit_bytes.field-0.0 (just
+    rw (is.1, is.2) (Exactly-first (Unit {0}) (Unit {0}) c.in_err-emit_slice.field-0.0 (just
     (srv_numbers x)) (plain_name x.target.labels) (state_of c.args.encoder.now) (state_of
-    c.emit_bytes.new.encoder) (state_of c.emit_bytes.new.encoder)
-    (Exactly-same {X = Unit {0}} (Err c.in_err-emit_bytes.field-0.0) _ _ (state_of
-    c.args.encoder.now) (state_of c.emit_bytes.new.encoder) (ap just
-    c.number_octets.ensures.bytes) c.in_err-emit_bytes.ensures.exact))
+    c.emit_slice.new.self) (state_of c.emit_slice.new.self)
+    (Exactly-same {X = Unit {0}} (Err c.in_err-emit_slice.field-0.0) _ _ (state_of
+    c.args.encoder.now) (state_of c.emit_slice.new.self) (ap just
+    c.number_octets.ensures.bytes) c.in_err-emit_slice.ensures.exact))
 
 pub returns-clause-exact : goal.returns-clause-exact
 returns-clause-exact c =
     let x = c.args.self.now in
-    Exactly-then c.emit_plain.result (just (srv_numbers x)) (plain_name x.target.labels) (state_of c.args.encoder.now) (state_of c.emit_bytes.new.encoder) (state_of c.emit_plain.new.encoder)
-    (c.in_ok-emit_bytes.ensures.exact ∙ ap (λ f. after f (state_of c.args.encoder.now)) (ap just c.number_octets.ensures.bytes)) c.emit_plain.ensures.exact
+    Exactly-then c.emit_plain.result (just (srv_numbers x)) (plain_name x.target.labels) (state_of c.args.encoder.now) (state_of c.emit_slice.new.self) (state_of c.emit_plain.new.encoder)
+    (c.in_ok-emit_slice.ensures.exact ∙ ap (λ f. after f (state_of c.args.encoder.now)) (ap just c.number_octets.ensures.bytes)) c.emit_plain.ensures.exact

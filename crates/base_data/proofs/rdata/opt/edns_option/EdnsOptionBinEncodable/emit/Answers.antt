@@ -11,7 +11,7 @@ pub returns-in_err-emit-2-clause-keeps : goal.returns-in_err-emit-2-clause-keeps
 returns-in_err-emit-2-clause-keeps c = Keeps-then c.emit.ensures.keeps c.emit-2.ensures.keeps
 
 pub returns-clause-keeps : goal.returns-clause-keeps
-returns-clause-keeps c = Keeps-then c.emit.ensures.keeps (Keeps-then c.emit-2.ensures.keeps c.emit_bytes.ensures.keeps)
+returns-clause-keeps c = Keeps-then c.emit.ensures.keeps (Keeps-then c.emit-2.ensures.keeps c.emit_slice.ensures.keeps)
 
 pub returns-in_err-emit-clause-exact : goal.returns-in_err-emit-clause-exact
 returns-in_err-emit-clause-exact c =
@@ -45,8 +45,8 @@ returns-clause-exact c =
     let o = c.args.self.now in
     let a = state_of c.args.encoder.now in
     let m = state_of c.emit.new.encoder in
-    Exactly-then c.emit_bytes.result (just (to_be_bytes w16 o.code)) (both (just (to_be_bytes w16 (length o.bytes))) (just o.bytes)) a m (state_of c.emit_bytes.new.encoder)
+    Exactly-then c.emit_slice.result (just (to_be_bytes w16 o.code)) (both (just (to_be_bytes w16 (length o.bytes))) (just o.bytes)) a m (state_of c.emit_slice.new.self)
     (c.in_ok-emit.ensures.exact ∙ ap (λ (n : ℕ). after (just (to_be_bytes w16 n)) a) c.code.ensures)
-    (Exactly-then c.emit_bytes.result (just (to_be_bytes w16 (length o.bytes))) (just o.bytes) m (state_of c.emit-2.new.encoder) (state_of c.emit_bytes.new.encoder)
+    (Exactly-then c.emit_slice.result (just (to_be_bytes w16 (length o.bytes))) (just o.bytes) m (state_of c.emit-2.new.encoder) (state_of c.emit_slice.new.self)
     (c.in_ok-emit-2.ensures.exact ∙ ap (λ (xs : List ℕ). after (just (to_be_bytes w16 (length xs))) m) c.bytes-bytes.ensures.value)
-    (Exactly-same c.emit_bytes.result _ _ _ _ (ap just c.bytes-bytes.ensures.value) c.emit_bytes.ensures.exact))
+    (Exactly-same c.emit_slice.result _ _ _ _ (ap just c.bytes-bytes.ensures.value) c.emit_slice.ensures.exact))
