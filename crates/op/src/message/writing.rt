@@ -219,6 +219,7 @@ fn emit_part<P: EmitAndCount>(
 }
 
 /// Writes an item if there is one, and counts it if it has room.
+#[inline(always)]
 fn emit_item<E: BinEncodable>(
     item: Option<&E>,
     encoder: &mut BinEncoder<'_>,
@@ -270,6 +271,7 @@ fn narrow(count: usize, is_cut: bool) -> Result<Written, ProtoError>
 
 /// The header of a message of which so much was written: its own codes and flags, but that TC is set too where a part
 /// is cut.
+#[inline(always)]
 fn header_of(
     metadata: Metadata,
     query_count: usize,

@@ -177,7 +177,8 @@ impl Index {
         requires { IsCurrent self.old records.now.items }
         // An index that is answered has the place of each of these records.
         ensures index { IfOk result
-            (λ index. IfSome index (λ places. IsIndexOf (place_at places.value) records.now.items)) }
+            (λ index. IfSome index
+            (λ places. IsIndexOf (place_at places.value) records.now.items)) }
         // None is left, so that the records may change.
         ensures missing { (rs : List (Entry RData)) → IsCurrent self.new rs }
     {
