@@ -1,17 +1,12 @@
 //! Messages (RFC 1035, 4.1).
 
 ghost use Rattle.std.specs.Prelude.{◌≡◌, ◌⊎◌, ◌<◌, ◌≤◌, ◌^◌, Err, IfErr, IfOk, Ok, length, take};
-ghost use Rattle.base.specs.declared.error.proto_error.ProtoError.TheVariants as refusals;
-ghost use Rattle.op.specs.Cut.{IsTooSmall, IsWritten};
-ghost use Rattle.op.specs.Fits.{Fits};
-ghost use Rattle.op.specs.Message.{message_value};
-ghost use Rattle.op.specs.MessageWritten.{message_answer};
 ghost use Rattle.capi.specs.Answer.{IsAnswered, IsNumbered, Makes};
 ghost use Rattle.capi.specs.Message.{IsCutOf, cut_of, end_of, text_of};
 
 use crate::answer::{give, number};
 use crate::refusal::Refusal;
-use base::{BinDecoder, BinEncoder, ProtoError};
+use base::BinDecoder;
 use op::Message;
 use std::alloc::Global;
 
@@ -85,27 +80,7 @@ fn cut(alloc: Global, bytes: &[u8], limit: u16) -> Result<Vec<u8>, Refusal>
     ensures cut { IfOk result (λ sent. IsCutOf bytes.now limit sent.items) }
 {
     let message = Message::from_vec(alloc, bytes)?;
-    Ok(bytes_within(alloc, &message, limit)?)
-}
-
-/// The bytes of the message under a limit.
-fn bytes_within(alloc: Global, message: &Message, limit: u16) -> Result<Vec<u8>, ProtoError>
-    requires { Fits (message_value message.now) }
-    ensures ok { IfOk result (λ bytes. IsWritten (message_value message.now) limit bytes.items) }
-    // The bytes are what the definition `message_answer` gives.
-    ensures answer { IfOk result (λ bytes. message_answer limit (message_value message.now)
-        ≡ Ok bytes.items) }
-    // Refused with what it gives, unless memory runs out.
-    ensures refusal { IfErr result (λ e. (e ≡ refusals.Memory)
-        ⊎ (message_answer limit (message_value message.now) ≡ Err e)) }
-{
-    let mut bytes = Vec::new(alloc);
-    {
-        let mut encoder = BinEncoder::new(&mut bytes);
-        encoder.set_max_size(limit);
-        message.emit(&mut encoder)?;
-    }
-    Ok(bytes)
+    Ok(message.to_vec_within(limit)?)
 }
 
 /// The text of the message that the bytes begin with.

@@ -1,14 +1,10 @@
 //! Answers a query, as a server does for each that it receives.
 
-ghost use Rattle.std.specs.Prelude.{◌≡◌, ◌⊎◌, IfErr, IfOk};
-ghost use Rattle.base.specs.declared.error.proto_error.ProtoError.TheVariants as refusals;
-ghost use Rattle.op.specs.Cut.{IsTooSmall, IsWritten};
-ghost use Rattle.op.specs.Fits.{Fits};
+ghost use Rattle.std.specs.Prelude.{◌≡◌, IfErr, IfOk};
 ghost use Rattle.op.specs.Message.{message_value};
-ghost use Rattle.op.specs.MessageWritten.{message_answer};
 ghost use Rattle.examples.specs.Callers.{IsAnswered, IsUnanswered, response_to};
 
-use base::{BinEncoder, ProtoError};
+use base::ProtoError;
 use op::{Edns, Message, Metadata};
 use rr::Record;
 use std::alloc::Global;
@@ -27,7 +23,7 @@ pub fn respond(alloc: Global, received: &[u8], answers: Vec<Record>) -> Result<V
     let query = Message::from_vec(alloc, received)?;
     let limit = query.max_payload();
     let response = response_to(alloc, query, answers);
-    bytes_within(alloc, &response, limit)
+    response.to_vec_within(limit)
 }
 
 /// The response to a query that has these answers.
@@ -43,24 +39,4 @@ fn response_to(alloc: Global, query: Message, answers: Vec<Record>) -> Message
         response.set_edns(Edns::new(alloc));
     }
     response
-}
-
-/// The bytes of a message, as much of it as the limit has room for.
-fn bytes_within(alloc: Global, message: &Message, limit: u16) -> Result<Vec<u8>, ProtoError>
-    // Of a message that fits, the bytes are a cut under the limit, and are read as that cut.
-    ensures written { Fits (message_value message.now)
-        → IfOk result (λ bytes. IsWritten (message_value message.now) limit bytes.items) }
-    // The bytes are what the definition `message_answer` gives.
-    ensures answer { IfOk result
-        (λ bytes. message_answer limit (message_value message.now) ≡ Ok bytes.items) }
-    ensures refused { IfErr result
-        (λ e. (e ≡ refusals.Memory) ⊎ IsTooSmall (message_value message.now) limit e) }
-{
-    let mut bytes = Vec::new(alloc);
-    {
-        let mut encoder = BinEncoder::new(&mut bytes);
-        encoder.set_max_size(limit);
-        message.emit(&mut encoder)?;
-    }
-    Ok(bytes)
 }

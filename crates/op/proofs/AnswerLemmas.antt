@@ -6,12 +6,13 @@ use Rattle.std.proofs.Math.Seq.{drop-append_seam}
 use Rattle.base.specs.State.{State, Stored, appended}
 use Rattle.base.specs.declared.error.proto_error.ProtoError.{ProtoError}
 use Rattle.base.specs.declared.error.proto_error.ProtoError.TheVariants as refusals
+use Rattle.base.specs.Written.{after}
 use Rattle.base.proofs.ItemLemmas.{Each-keeps}
 use Rattle.op.specs.Cut.{IsTooSmall}
 use Rattle.op.specs.Emitted.{Emitted, IsNew, Leaves, LeavesNew, WritesFront, query_owner}
 use Rattle.op.specs.Fits.{HasRoom}
 use Rattle.op.specs.Message.{MessageValue}
-use Rattle.op.specs.MessageWritten.{Part, message_answer, message_answer_at, message_written, part}
+use Rattle.op.specs.MessageWritten.{Part, message_answer, message_answer_at, message_bytes, message_written, part}
 use Rattle.op.specs.Query.{QueryWord, plain_query, query_written}
 use Rattle.op.specs.declared.header.Header.{Header}
 use Rattle.op.specs.declared.query.Query.{Query}
@@ -109,6 +110,14 @@ module _ (m : MessageValue) (limit : ℕ) (old : State) (begun : IsNew limit old
   pub new_answer : (written : List ℕ) → message_answer_at old.limit m (length old.bytes) old.suffixes ≡ Ok (drop (length old.bytes) written)
       → message_answer limit m ≡ Ok written
   new_answer written is = same_answer ∙ is ∙ ap (λ (bytes : List ℕ). Ok (drop (length bytes) written)) begun.bytes
+
+  -- what was written are the bytes of the message
+  pub new_written : (new : State) → new ≡ after (message_written old.limit m) old → new.bytes ≡ message_bytes limit m
+  new_written new is =
+      ap (λ (t : State). t.bytes) is
+      ∙ ap (λ (bytes : List ℕ). bytes ++ (message_written old.limit m (length bytes) old.suffixes).bytes) begun.bytes
+      ∙ ap (λ (n : ℕ). (message_written n m 0 old.suffixes).bytes) begun.within
+      ∙ ap (λ (ts : List Stored). (message_written limit m 0 ts).bytes) begun.suffixes
 
   -- a refusal: memory ran out, or the encoder was left so, and this is its answer
   abbrev Refused : State → ProtoError → Type 0

@@ -102,7 +102,8 @@ impl<'a> BinEncoder<'a> {
         // Whatever the answer, what stood before stays, and no byte is written past the limit.
         ensures keeps { Keeps (state_of self.old) (state_of self.new) }
         // After `Ok` exactly the number was written; refused for the limit only where it would pass it.
-        ensures exact { Exactly (just (to_be_bytes w16 number)) (state_of self.old) (state_of self.new) result }
+        ensures exact { Exactly (just (to_be_bytes w16 number))
+            (state_of self.old) (state_of self.new) result }
         ensures err { OnErr result (state_of self.new ≡ state_of self.old) }
         // Where two bytes would pass the limit, the answer is `MaxBufferSizeExceeded`.
         ensures full { (state_of self.old).limit < length (state_of self.old).bytes + 2
@@ -120,7 +121,8 @@ impl<'a> BinEncoder<'a> {
         // Whatever the answer, what stood before stays, and no byte is written past the limit.
         ensures keeps { Keeps (state_of self.old) (state_of self.new) }
         // After `Ok` exactly the number was written; refused for the limit only where it would pass it.
-        ensures exact { Exactly (just (to_be_bytes w32 number)) (state_of self.old) (state_of self.new) result }
+        ensures exact { Exactly (just (to_be_bytes w32 number))
+            (state_of self.old) (state_of self.new) result }
         ensures err { OnErr result (state_of self.new ≡ state_of self.old) }
         // Where four bytes would pass the limit, the answer is `MaxBufferSizeExceeded`.
         ensures full { (state_of self.old).limit < length (state_of self.old).bytes + 4

@@ -17,7 +17,7 @@ ghost use Rattle.op.specs.declared.header.Header.{Header as WrittenHeader};
 use crate::edns::{Edns, RaisedEdns};
 use crate::header::{Header, HeaderCounts, Metadata};
 use crate::message::Message;
-use base::limits::MIN_PAYLOAD;
+use base::limits::{MAX_MESSAGE, MIN_PAYLOAD};
 use base::{BinEncodable, BinEncoder, EmitAndCount, ProtoError};
 use base_data::TSIG;
 use rr::Record;
@@ -120,9 +120,46 @@ impl Message {
         ensures refusal { IfErr result (λ e. (e ≡ ProtoError.Memory)
             ⊎ (message_answer MAX_MESSAGE (message_value self.now) ≡ Err e)) }
     {
+        self.to_vec_within(MAX_MESSAGE)
+    }
+
+    /// The bytes of the message, cut at this many bytes, as a server sends it in a datagram (RFC 1035, 4.2.1; RFC 6891,
+    /// 6.2.5): what `emit` leaves in a new encoder of this limit.
+    ///
+    /// # Errors
+    ///
+    /// `MaxBufferSizeExceeded` where the header doesn't fit; `NotAllRecordsWritten` where the questions don't, with the
+    /// number of those before the first that doesn't; `Memory` if memory runs out.
+    pub fn to_vec_within(&self, limit: u16) -> Result<Vec<u8>, ProtoError>
+        // A message whose header and uncompressed questions have room is refused for memory alone.
+        ensures succeeds { HasRoom (message_value self.now) limit
+            → IsOkUnless result ProtoError.Memory }
+        // The bytes are exactly those of the definition `message_bytes`.
+        ensures exact { IfOk result (λ bytes. bytes.items
+            ≡ message_bytes limit (message_value self.now)) }
+        // Of a message that fits, the bytes are a cut under the limit, and are read as that cut.
+        ensures written { Fits (message_value self.now)
+            → IfOk result (λ bytes. IsWritten (message_value self.now) limit bytes.items) }
+        // Refused only for memory, or where the header or the uncompressed questions have no room.
+        ensures refused { IfErr result (λ e. (e ≡ ProtoError.Memory)
+            ⊎ IsTooSmall (message_value self.now) limit e) }
+        // Of any message, all questions and a front of each other part were written.
+        ensures emitted { IfOk result
+            (λ bytes. EmittedNew (message_value self.now) limit bytes.items) }
+        // The number of a refusal for the questions is that of those before the first without room.
+        ensures left { IfErr result (λ e. (e ≡ ProtoError.Memory)
+            ⊎ LeavesNew (message_value self.now) limit e) }
+        // The bytes are what the definition `message_answer` gives.
+        ensures answer { IfOk result (λ bytes. message_answer limit (message_value self.now)
+            ≡ Ok bytes.items) }
+        // Refused with what `message_answer` gives, unless memory runs out.
+        ensures refusal { IfErr result (λ e. (e ≡ ProtoError.Memory)
+            ⊎ (message_answer limit (message_value self.now) ≡ Err e)) }
+    {
         let mut buffer = Vec::with_capacity(*self.queries.allocator(), ROOM)?;
         {
             let mut encoder = BinEncoder::new(&mut buffer);
+            encoder.set_max_size(limit);
             self.emit(&mut encoder)?;
         }
         Ok(buffer)

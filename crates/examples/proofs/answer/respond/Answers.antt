@@ -6,10 +6,10 @@ pub returns-clause-sent : goal.returns-clause-sent
 returns-clause-sent c =
     let found = c.in_ok-query.ensures.found in
     answered c.args.received.now c.args.answers.items (message_value c.in_ok-query.query) found.0 found.1 (message_value c.response_to-response.result) c.max_payload-limit.result
-    c.response_to-response.ensures c.max_payload-limit.ensures c.bytes_within.result c.in_ok-query.ensures.fits c.bytes_within.ensures.written c.bytes_within.ensures.answer
+    c.response_to-response.ensures c.max_payload-limit.ensures c.to_vec_within.result c.in_ok-query.ensures.fits c.to_vec_within.ensures.written c.to_vec_within.ensures.answer
 
 pub returns-clause-refused : goal.returns-clause-refused
 returns-clause-refused c =
     let found = c.in_ok-query.ensures.found in
     none_answered c.args.received.now c.args.answers.items (message_value c.in_ok-query.query) found.0 found.1 (message_value c.response_to-response.result) c.max_payload-limit.result
-    c.response_to-response.ensures c.max_payload-limit.ensures c.bytes_within.result c.bytes_within.ensures.refused
+    c.response_to-response.ensures c.max_payload-limit.ensures c.to_vec_within.result c.to_vec_within.ensures.refused
