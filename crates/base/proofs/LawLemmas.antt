@@ -1,6 +1,6 @@
 -- The laws of writing, for what appends bytes and for what is written in parts.
 use Rattle.std.proofs.Common.{rules, ◌≡◌, ℕ, ◌+◌, ◌≤◌, List, [], ◌++◌, length, drop, refl, ap, sym, ◌∙◌, subst, append_assoc, arith, Result, Ok, Err, length-append}
-use Rattle.std.specs.Prelude.{OnOk, OnErr, All, Option, Some, None}
+use Rattle.std.specs.Prelude.{OnOk, All, Option, Some, None}
 use Rattle.std.proofs.lemmas.List.{append-nil}
 use Rattle.std.proofs.lemmas.List.Elements.{All-nil, All-append, All-weaker}
 use Rattle.std.proofs.Math.Seq.{drop-append_seam, take-length}

@@ -7,9 +7,8 @@ ghost use Rattle.base.specs.State.{front_number};
 ghost use Rattle.base.specs.Suffixes.{index_key};
 ghost use Rattle.base.specs.Written.{found_in};
 
-use crate::error::ProtoError;
 use crate::wire::suffix::{Suffix, front_number};
-use std::alloc::Global;
+use std::alloc::{AllocError, Global};
 use std::collections::BTreeMap;
 use std::marker::Model;
 
@@ -69,8 +68,6 @@ impl HasSuffixes for SuffixTable {
 }
 
 impl SuffixTable {
-    ghost use Rattle.base.specs.Wire.{IsMemory};
-
     /// No suffix. Takes no memory.
     pub(crate) fn new(alloc: Global) -> SuffixTable
         ensures { result ≡ [] }
@@ -118,7 +115,7 @@ impl SuffixTable {
     /// # Errors
     ///
     /// If memory runs out, with nothing stored.
-    pub(crate) fn store(&mut self, wire: &[u8], at: u16) -> Result<(), ProtoError>
+    pub(crate) fn store(&mut self, wire: &[u8], at: u16) -> Result<(), AllocError>
         requires wire { IsWire wire.now }
         // A pointer can name the offset.
         requires near { at < POINTER_LIMIT }
@@ -128,8 +125,6 @@ impl SuffixTable {
         ensures ok { OnOk result (self.new
             ≡ self.old ++ record { labels = labels_of wire.now; offset = at } ∷ []) }
         ensures err { OnErr result (self.new ≡ self.old) }
-        // A refusal is `Memory`.
-        ensures memory { IsMemory result }
     {
         let alloc = *self.first.allocator();
         let suffix = Suffix::new(alloc, wire, at)?;
@@ -166,11 +161,9 @@ impl SuffixTable {
     /// # Errors
     ///
     /// If memory runs out, with nothing stored.
-    fn push_first(first: &mut Vec<Suffix>, suffix: Suffix) -> Result<(), ProtoError>
+    fn push_first(first: &mut Vec<Suffix>, suffix: Suffix) -> Result<(), AllocError>
         ensures ok { OnOk result (first.new.items ≡ first.old.items ++ suffix ∷ []) }
         ensures err { OnErr result (first.new.items ≡ first.old.items) }
-        // A refusal is `Memory`.
-        ensures memory { IsMemory result }
     {
         if first.is_empty() {
             first.reserve(FIRST)?;

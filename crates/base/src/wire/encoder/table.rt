@@ -4,12 +4,12 @@ ghost use Rattle.base.specs.declared.limits.TheConstants.{POINTER_LIMIT};
 ghost use Rattle.std.specs.Prelude.{◌≡◌, ◌<◌, ◌≢◌, length, All, Any, MatchOption, OnOk, OnErr, IfSome};
 ghost use Rattle.base.specs.Labels.{labels_of, IsWire};
 ghost use Rattle.base.specs.State.{stored};
-ghost use Rattle.base.specs.Wire.{state_of, IsMemory};
+ghost use Rattle.base.specs.Wire.{state_of};
 ghost use Rattle.base.specs.Written.{found_in};
 
-use crate::error::ProtoError;
 use crate::limits::POINTER_LIMIT;
 use crate::wire::encoder::BinEncoder;
+use std::alloc::AllocError;
 
 impl<'a> BinEncoder<'a> {
     /// Where a stored suffix of these labels, each with its length before it, is spelled. Letters are compared as they
@@ -34,7 +34,7 @@ impl<'a> BinEncoder<'a> {
     /// # Errors
     ///
     /// If memory runs out, with nothing stored.
-    pub(crate) fn store(&mut self, wire: &[u8], at: usize) -> Result<(), ProtoError>
+    pub(crate) fn store(&mut self, wire: &[u8], at: usize) -> Result<(), AllocError>
         requires wire { IsWire wire.now }
         // The suffix begins within the bytes that were written.
         requires stands { at < length (state_of self.old).bytes }
@@ -44,8 +44,6 @@ impl<'a> BinEncoder<'a> {
         ensures ok { OnOk result (state_of self.new
             ≡ stored (labels_of wire.now) at (state_of self.old)) }
         ensures err { OnErr result (state_of self.new ≡ state_of self.old) }
-        // A refusal is `Memory`.
-        ensures memory { IsMemory result }
     {
         if at >= POINTER_LIMIT {
             return Ok(());
