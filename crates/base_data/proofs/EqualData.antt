@@ -1,5 +1,5 @@
 -- Equal data has one type and one kind.
-use Rattle.std.proofs.Common.{◌≡◌, ℕ, Bool, List, ap, true, refl, rules, subst}
+use Rattle.std.proofs.Common.{◌≡◌, ℕ, Bool, List, ap, true, refl, rules}
 use Rattle.std.specs.Prelude.{IsTrue, ◌&&◌, ◌↔◌}
 use Rattle.std.specs.Bool.{Decides}
 use Rattle.std.specs.Cmp.{first_so, second_so}

@@ -4,7 +4,6 @@ use Rattle.std.specs.Cmp.{first_so, second_so}
 use Rattle.std.specs.Int.{to_be_bytes, w16}
 use Rattle.std.specs.Prelude.{◌==◌, ◌↔◌}
 use Rattle.base.specs.NameOrder.{same_name}
-use Rattle.base.specs.State.{State, appended}
 use Rattle.base_data.proofs.FieldLemmas.{both, is_number, number_is, word_same}
 use Rattle.base_data.proofs.NameWords.{here_name, name_here, name_inside, name_longer, name_same, octets_same, same_name-from}
 use Rattle.base_data.proofs.SameData.{IsSame, flag_of}

@@ -1,16 +1,12 @@
 -- Names in data: what stands, and what is equal.
-use Rattle.std.proofs.Common.{Err, IsTrue, List, Ok, Result, [], ap, arith, length, true, ℕ, ◌++◌, ◌<◌, ◌∷◌, ◌≡◌, ◌≤◌}
+use Rattle.std.proofs.Common.{IsTrue, List, [], ap, arith, length, true, ℕ, ◌++◌, ◌<◌, ◌∷◌, ◌≡◌, ◌≤◌}
 use Rattle.std.proofs.lemmas.List.{append_cancel_right}
-use Rattle.std.specs.Prelude.{OnOk}
 use Rattle.base.specs.Labels.{NameValue, wire_of}
-use Rattle.base.specs.Laws.{StoresSuffixes, Writes}
 use Rattle.base.specs.NameOrder.{canonical_name, folded, same_name}
 use Rattle.base.specs.NameOrderLaws.{same_by-is}
 use Rattle.base.specs.Spelling.SpelledIn.{ends, label, pointer}
 use Rattle.base.specs.Spelling.{IsNameAt, Spelled, SpelledIn, anywhere}
-use Rattle.base.specs.State.{State}
 use Rattle.base.specs.Words.{NameAt}
-use Rattle.base.specs.declared.error.proto_error.ProtoError.{ProtoError}
 use Rattle.base_data.proofs.StringLemmas.{wire_of-exact}
 use Rattle.base_data.specs.NameData.{name_octets}
 

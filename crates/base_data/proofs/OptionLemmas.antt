@@ -1,14 +1,14 @@
 -- Options, read one after another.
-use Rattle.std.proofs.Common.{◌≡◌, ℕ, ◌+◌, ◌<◌, ◌≤◌, List, [], ◌∷◌, ◌++◌, zero, suc, length, take, get_or, refl, ap, sym, ◌∙◌, subst, arith, append_assoc, Result, Ok, Err}
+use Rattle.std.proofs.Common.{◌≡◌, ℕ, ◌+◌, ◌<◌, ◌≤◌, List, [], ◌∷◌, ◌++◌, zero, suc, refl, ap, sym, ◌∙◌, arith, append_assoc, Result, Ok, Err}
 use Rattle.std.proofs.lemmas.Bool.{le-leb, lt-leb}
 use Rattle.std.specs.Int.{w16}
-use Rattle.std.proofs.lemmas.List.{take_more, append-nil}
+use Rattle.std.proofs.lemmas.List.{append-nil}
 use Rattle.base.proofs.ManyLemmas.{with_front, front_none}
 use Rattle.base.proofs.ReadLemmas.{Fails-through, bind_ok, number_is}
 use Rattle.base.specs.Reading.{Read, Fails, ◌>>=◌, bytes_at, number_at}
 use Rattle.base.specs.declared.error.decode_error.DecodeError.{DecodeError}
 use Rattle.base_data.proofs.BytesRead.{bytes_is}
-use Rattle.base_data.specs.OPT.{OptionValue, opt_at, option_at, option_len, option_word, options_len, options_to, options_word}
+use Rattle.base_data.specs.OPT.{OptionValue, opt_at, option_at, options_to}
 
 -- an option takes a byte at least
 pub option_moves : (B : List ℕ) (i : ℕ) (r : OptionValue × ℕ) → option_at B i ≡ Ok r → i < r.1

@@ -3,21 +3,17 @@ use Rattle.std.proofs.Common.{Bool, Err, List, Ok, Result, [], ap, arith, cond, 
 use Rattle.std.proofs.lemmas.Bool.{le-leb, lt-leb}
 use Rattle.std.proofs.lemmas.List.Elements.{All-head, All-tail}
 use Rattle.std.specs.Int.{w16}
-use Rattle.std.specs.Prelude.{All, OnOk, nat_le, ◌⊎◌}
-use Rattle.base.proofs.LawLemmas.{Keeps-then, Writes-then}
+use Rattle.std.specs.Prelude.{All, nat_le, ◌⊎◌}
 use Rattle.base.proofs.ReadLemmas.{bind_err, bind_ok}
-use Rattle.base.specs.Laws.{Keeps, Writes}
-use Rattle.base.specs.State.{State}
 use Rattle.base.specs.Words.BackToBack.{more, none}
-use Rattle.base.specs.Words.{Bytes, Number, Stands}
+use Rattle.base.specs.Words.{Number, Stands}
 use Rattle.base.specs.declared.error.decode_error.DecodeError.TheVariants as faults
 use Rattle.base.specs.declared.error.decode_error.DecodeError.{DecodeError}
-use Rattle.base.specs.declared.error.proto_error.ProtoError.{ProtoError}
 use Rattle.base_data.proofs.ByteWords.{bytes_inside}
-use Rattle.base_data.proofs.FieldLemmas.{on_ok, split, word_same}
+use Rattle.base_data.proofs.FieldLemmas.{split, word_same}
 use Rattle.base_data.proofs.OptionLemmas.{option_moves}
 use Rattle.base_data.proofs.Tells.{AreBytesAt, Fills, Tells, fills_same, room_after, same_ok, tells_bytes, tells_number, tells_ok, tells_same, tells_then}
-use Rattle.base_data.specs.OPT.{FitsOption, OptionValue, opt_at, option_at, option_len, option_word, options_to, options_wire, options_word}
+use Rattle.base_data.specs.OPT.{FitsOption, OptionValue, opt_at, option_at, option_word, options_to, options_wire, options_word}
 
 pub tells_option : (B : List ℕ) (i : ℕ) → Tells (option_at B i) (λ r. option_word r.0 B i r.1)
 tells_option B i = tells_same

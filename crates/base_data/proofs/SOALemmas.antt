@@ -1,25 +1,19 @@
 -- The start of a zone of authority: read where their word stands, written, equal and tied.
-use Rattle.std.proofs.Common.{IsTrue, List, Result, [], ap, arith, drop, get_or, length, refl, subst, sym, take, true, ℕ, ◌++◌, ◌+◌, ◌<◌, ◌∙◌, ◌∷◌, ◌≡◌, ◌≤◌}
+use Rattle.std.proofs.Common.{IsTrue, List, [], ap, arith, drop, get_or, length, refl, subst, sym, take, true, ℕ, ◌++◌, ◌<◌, ◌∙◌, ◌∷◌, ◌≡◌, ◌≤◌}
 use Rattle.std.proofs.lemmas.List.{append_assoc, length-map}
 use Rattle.std.specs.Char.{to_ascii_lowercase}
 use Rattle.std.specs.Cmp.{first_so, second_so}
 use Rattle.std.specs.Int.{to_be_bytes, w32}
-use Rattle.std.specs.Prelude.{OnOk, ◌==◌, ◌↔◌}
-use Rattle.base.proofs.LawLemmas.{Writes-either}
-use Rattle.base.specs.WordLemmas.{first_stands, number32_stands}
+use Rattle.std.specs.Prelude.{◌==◌, ◌↔◌}
 use Rattle.base.specs.Labels.{AreLabels, NameValue, wire_of}
-use Rattle.base.specs.Laws.{Keeps, StoresSuffixes, Writes}
 use Rattle.base.specs.NameOrder.{canonical_name, folded, folded_labels, same_name}
-use Rattle.base.specs.State.{State, appended}
-use Rattle.base.specs.Words.{Stands}
-use Rattle.base.specs.declared.error.proto_error.ProtoError.{ProtoError}
-use Rattle.base_data.proofs.FieldLemmas.{both, is_number, long_same, number_is, split, stands_last}
+use Rattle.base_data.proofs.FieldLemmas.{both, is_number, long_same, number_is, split}
 use Rattle.base_data.proofs.NameWords.{here_name, name_here, name_longer, name_same, same_name-from}
 use Rattle.base_data.proofs.SameData.{IsSame, flag_of}
 use Rattle.base_data.proofs.Tells.{Tells, tells_name, tells_number, tells_ok, tells_same, tells_then}
 use Rattle.base_data.specs.Kinds.{FitsTypes}
 use Rattle.base_data.specs.NameData.{name_octets}
-use Rattle.base_data.specs.SOA.{SOAFits, SOAWord, soa_at, soa_numbers}
+use Rattle.base_data.specs.SOA.{SOAWord, soa_at}
 use Rattle.base_data.specs.contracts.rdata.RDataPartialEq.TheImpl.{ghosts as equality}
 use Rattle.base_data.specs.contracts.rdata.soa.SOAPartialEq.TheImpl.{ghosts as soa_equality}
 use Rattle.base_data.specs.declared.rdata.RData.TheVariants as kinds

@@ -1,21 +1,15 @@
 -- Hosts that have a service: read where their word stands, written, equal and tied.
-use Rattle.std.proofs.Common.{IsTrue, List, [], ap, arith, drop, length, refl, subst, take, true, ℕ, ◌++◌, ◌+◌, ◌<◌, ◌∙◌, ◌∷◌, ◌≡◌, ◌≤◌}
+use Rattle.std.proofs.Common.{IsTrue, List, [], ap, arith, drop, length, refl, subst, take, true, ℕ, ◌++◌, ◌<◌, ◌∷◌, ◌≡◌, ◌≤◌}
 use Rattle.std.specs.Cmp.{first_so, second_so}
 use Rattle.std.specs.Int.{to_be_bytes, w16}
 use Rattle.std.specs.Prelude.{◌==◌, ◌↔◌}
-use Rattle.base.proofs.LawLemmas.{Writes-bytes, Writes-then, Writes-weaker}
-use Rattle.base.specs.WordLemmas.{first_stands, number16_stands}
-use Rattle.base.specs.Labels.{plain_len, wire_of}
-use Rattle.base.specs.Laws.{Keeps, Writes}
 use Rattle.base.specs.NameOrder.{same_name}
-use Rattle.base.specs.State.{State, appended}
-use Rattle.base.specs.Words.{NameAt, Number, Stands, Then}
-use Rattle.base_data.proofs.FieldLemmas.{appended_both, both, is_number, number_is, stands_last, word_same}
+use Rattle.base_data.proofs.FieldLemmas.{both, is_number, number_is, word_same}
 use Rattle.base_data.proofs.NameWords.{here_name, name_here, name_inside, name_longer, name_same, octets_same, same_name-from}
 use Rattle.base_data.proofs.SameData.{IsSame, flag_of}
 use Rattle.base_data.proofs.Tells.{Tells, tells_name, tells_number, tells_ok, tells_same, tells_then}
 use Rattle.base_data.specs.Kinds.{FitsTypes}
-use Rattle.base_data.specs.SRV.{SRVFits, SRVWord, plain_srv, srv_at, srv_numbers, srv_wire}
+use Rattle.base_data.specs.SRV.{SRVWord, srv_at}
 use Rattle.base_data.specs.contracts.rdata.RDataPartialEq.TheImpl.{ghosts as equality}
 use Rattle.base_data.specs.contracts.rdata.srv.SRVPartialEq.TheImpl.{ghosts as srv_equality}
 use Rattle.base_data.specs.declared.rdata.RData.TheVariants as kinds

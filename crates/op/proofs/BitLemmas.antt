@@ -3,7 +3,7 @@ use Rattle.std.proofs.Common.{◌≡◌, ℕ, ◌+◌, ◌*◌, ◌/◌, ◌%◌
 use Rattle.std.specs.Prelude.{◌||◌}
 use Rattle.std.specs.Int.{from_bool}
 use Rattle.std.proofs.lemmas.Nat.{or_block, or_shifted}
-use Rattle.op.specs.Header.{bit_of, weighed, high_byte, low_byte}
+use Rattle.op.specs.Header.{bit_of, high_byte, low_byte}
 use Rattle.op.specs.HeaderSays.{weighed_is, from_bool_small}
 
 -- a number below the lowest bit of another

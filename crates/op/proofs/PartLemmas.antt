@@ -1,12 +1,12 @@
 -- What is kept of each part of a message under a limit.
-use Rattle.std.proofs.Common.{◌≡◌, ℕ, ◌+◌, ◌<◌, ◌≤◌, inl, inr, List, [], ◌∷◌, ◌++◌, length, refl, ap, sym, ◌∙◌, subst, arith, length-append, Bool, true, false, cond}
+use Rattle.std.proofs.Common.{◌≡◌, ℕ, ◌+◌, ◌<◌, ◌≤◌, inl, inr, List, [], ◌∷◌, ◌++◌, length, refl, ap, sym, ◌∙◌, subst, arith, length-append, Bool, false, cond}
 use Rattle.std.specs.Prelude.{nat_lt}
 use Rattle.std.specs.Option.{option_map}
 use Rattle.std.proofs.lemmas.Bool.{cases_lt, le-leb, lt-leb}
 use Rattle.std.proofs.lemmas.Bool.Decides.{nat_tests}
 use Rattle.std.proofs.lemmas.List.{append-nil, nil_from_length}
 use Rattle.base.specs.State.{Stored}
-use Rattle.base.specs.Written.{Piece, Writing, in_turn, that_fit}
+use Rattle.base.specs.Written.{Writing, in_turn, that_fit}
 use Rattle.base.proofs.FittingLemmas.{all_fit, no_fewer_fit}
 use Rattle.base_data.specs.declared.rdata.RData.{RData}
 use Rattle.rr.specs.Record.{record_written}
@@ -15,7 +15,7 @@ use Rattle.op.specs.Cut.{raised}
 use Rattle.op.specs.EdnsRecord.{edns_record}
 use Rattle.op.specs.Fits.{listed, signature_record}
 use Rattle.op.specs.Message.{MessageValue}
-use Rattle.op.specs.MessageWritten.{AreWhole, FirstPasses, LostForRoom, Part, Parts, part, part_after, parts_of}
+use Rattle.op.specs.MessageWritten.{AreWhole, FirstPasses, LostForRoom, Part, part, part_after, parts_of}
 use Rattle.op.specs.Query.{query_written}
 use Rattle.op.specs.declared.query.Query.{Query}
 use Rattle.op.proofs.LimitLemmas.{fits_more}

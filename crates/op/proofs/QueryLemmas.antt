@@ -1,6 +1,5 @@
 -- Questions that stand are questions that are read.
-use Rattle.std.proofs.Common.{◌≡◌, ℕ, ◌+◌, ◌%◌, ◌^◌, ◌<◌, Bool, true, false, List, [], ◌∷◌, ◌++◌, get_or, length, refl, ap, sym, ◌∙◌, subst, arith, inl, inr, Result, Ok, Err}
-use Rattle.std.proofs.lemmas.List.{append-nil}
+use Rattle.std.proofs.Common.{◌≡◌, ℕ, ◌+◌, ◌%◌, ◌<◌, Bool, true, false, List, [], ◌∷◌, ◌++◌, get_or, refl, ap, sym, ◌∙◌, subst, arith, inl, inr, Result, Ok, Err}
 use Rattle.std.specs.Prelude.{◌↔◌}
 use Rattle.std.specs.Int.{w16, to_be_bytes}
 use Rattle.std.proofs.lemmas.Bool.{le-leb, lt-leb}
@@ -8,16 +7,15 @@ use Rattle.base.specs.DNSClass.{class_field, class_number, class_of, field_class
 use Rattle.base.specs.Labels.{NameValue}
 use Rattle.base.specs.Names.{name_at}
 use Rattle.base.specs.Reading.{Read, number_at}
-use Rattle.base.specs.WordLemmas.{first_stands, number16_stands, stands_part}
-use Rattle.base.specs.RecordType.{type_number, type_of}
+use Rattle.base.specs.RecordType.{type_of}
 use Rattle.base.specs.Spelling.{IsNameAt}
-use Rattle.base.specs.Words.{IsNumberAt, NameAt, Number, Stands, Then}
+use Rattle.base.specs.Words.{IsNumberAt}
 use Rattle.base.specs.declared.dns_class.DNSClass.{DNSClass}
 use Rattle.base.specs.declared.error.decode_error.DecodeError.{DecodeError}
 use Rattle.base.specs.declared.record_type.RecordType.{RecordType}
 use Rattle.base.proofs.ReadLemmas.{bind_ok, bind_err, number_is, number_again, number_short}
 use Rattle.base.proofs.ReadingLemmas.{name_is, name_fault, name_again, fault_again}
-use Rattle.op.specs.Query.{FitsQuery, IsQueryAt, IsQueryFault, IsRawQueryAt, QueryWord, RawQuery, query_at, query_value, raw_query}
+use Rattle.op.specs.Query.{FitsQuery, IsQueryAt, IsQueryFault, IsRawQueryAt, RawQuery, query_at, query_value, raw_query}
 use Rattle.op.specs.declared.query.Query.{Query}
 
 -- the bytes of type and class

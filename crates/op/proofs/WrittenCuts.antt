@@ -19,7 +19,7 @@ use Rattle.base_data.specs.declared.rdata.RData.{RData}
 use Rattle.rr.specs.Record.{RecordWord, plain_record, record_written}
 use Rattle.rr.specs.RecordSays.{record_says}
 use Rattle.rr.specs.declared.record.Record.{Record}
-use Rattle.op.specs.Cut.{IsWritten, NoRoom, any_lost, raised}
+use Rattle.op.specs.Cut.{IsWritten, NoRoom, raised}
 use Rattle.op.specs.EdnsRecord.{edns_record}
 use Rattle.op.specs.Emitted.{Emitted, WritesFront, WritesRecords, query_owner, record_owner}
 use Rattle.op.specs.Fits.{Fits, listed, signature_record}
@@ -35,7 +35,7 @@ use Rattle.op.proofs.AnswerLemmas.{emitted_answers}
 use Rattle.op.proofs.CutOf.{written_of}
 use Rattle.op.proofs.CutWords.{all_front}
 use Rattle.op.proofs.MessageWrittenLemmas.{lost_told}
-use Rattle.op.proofs.RoomLemmas.{IsLimited, Took, took_few, took_front, took_queries, queries_few}
+use Rattle.op.proofs.RoomLemmas.{IsLimited, took_few, took_front, took_queries, queries_few}
 
 -- those that fit end within the limit
 fit_end : {E : Type 0} (f : E → Writing) (limit : ℕ) (xs : List E) (at : ℕ) (stored : List Stored) → at ≤ limit

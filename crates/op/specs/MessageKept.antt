@@ -1,5 +1,5 @@
 -- What the types keep of a message, whatever it holds: numbers have their widths, and labels are those of names.
-use Rattle.std.specs.Prelude.{ℕ, ◌<◌, ◌^◌, All}
+use Rattle.std.specs.Prelude.{◌<◌, ◌^◌, All}
 use Rattle.std.specs.Option.{option_map}
 use Rattle.base_data.specs.Kinds.{KeptData}
 use Rattle.base_data.specs.declared.rdata.RData.{RData}

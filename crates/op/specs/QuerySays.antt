@@ -1,6 +1,5 @@
 -- What is known of what is written of a question.
-use Rattle.std.proofs.Common.{◌≡◌, ℕ, ◌+◌, ◌^◌, ◌<◌, List, [], ◌++◌, length, refl, sym, subst, arith}
-use Rattle.std.proofs.lemmas.List.{append-nil}
+use Rattle.std.proofs.Common.{◌≡◌, ℕ, ◌+◌, ◌^◌, ◌<◌, List, ◌++◌, refl, subst, arith}
 use Rattle.std.specs.Int.{w16, to_be_bytes}
 use Rattle.base.specs.DNSClass.{class_field, class_number}
 use Rattle.base.specs.Labels.{AreNameLabels}

@@ -1,18 +1,10 @@
 -- Records that stand are records that are read.
-use Rattle.std.proofs.Common.{◌≡◌, ℕ, ◌+◌, ◌==◌, Bool, true, false, List, [], ◌∷◌, length, ap, subst, arith, Ok}
+use Rattle.std.proofs.Common.{◌≡◌, ℕ, ◌==◌, Bool, true, false, List, [], ◌∷◌, length, ap, arith, Ok}
 use Rattle.std.specs.Prelude.{◌↔◌, IsTrue}
 use Rattle.std.proofs.lemmas.Bool.{ne_eqb}
-use Rattle.std.specs.Int.{w16, w32}
-use Rattle.base.specs.DNSClass.{class_field, class_number}
 use Rattle.base.specs.Labels.{NameValue}
 use Rattle.base.specs.Names.{name_at}
-use Rattle.base.specs.RecordType.{type_number}
-use Rattle.base.specs.Words.{IsNumberAt, NameAt, Number, Sized, Then}
 use Rattle.base.proofs.ReadingLemmas.{name_is}
-use Rattle.base_data.specs.Kinds.{DataWord, type_of_data}
-use Rattle.base_data.specs.declared.rdata.RData.{RData}
-use Rattle.rr.specs.Record.{RecordWord}
-use Rattle.rr.specs.declared.record.Record.{Record}
 
 -- a name that was read, and isn't the root, has a label
 pub not_root : (B : List ℕ) (i : ℕ) (name : NameValue) (e : ℕ) (is_root : Bool) → name_at B i ≡ Ok (name, e)

@@ -3,7 +3,6 @@ use Rattle.base.specs.Many.{many_at}
 use Rattle.op.specs.Fault.{IsQueriesFault}
 use Rattle.op.specs.Query.{query_at}
 use Rattle.op.specs.ReadsOrDecodes.{ReadsOrDecodes}
-use Rattle.op.specs.declared.query.Query.{Query}
 use Rattle.op.proofs.BufferLemmas.{decode_fault}
 use Rattle.op.proofs.MessageFaults.{refuses_questions}
 use Rattle.op.proofs.message.Message.read_queries.Goals as goal

@@ -1,4 +1,4 @@
-use Rattle.std.proofs.Common.{◌≡◌, ◌∙◌, true, List, sym, ap, subst}
+use Rattle.std.proofs.Common.{◌∙◌, true, List, sym, ap, subst}
 use Rattle.rr.specs.DataIndex.{IsFirstAt, IsIndexOf, place_at}
 use Rattle.rr.specs.declared.record.Record.{Record}
 use Rattle.base_data.specs.declared.rdata.RData.{RData}

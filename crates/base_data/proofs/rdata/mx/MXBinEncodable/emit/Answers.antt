@@ -1,4 +1,3 @@
-use Rattle.std.proofs.Common.{Err}
 use Rattle.std.specs.Int.{w16, to_be_bytes}
 use Rattle.std.proofs.lemmas.Result.{err_from_is_err_and}
 use Rattle.base.proofs.LawLemmas.{Keeps-then}

@@ -1,10 +1,10 @@
-use Rattle.std.proofs.Common.{◌<◌, ◌≡◌, Err, ap, refl, subst, sym, get_or, length, take, ◌∙◌, arith}
+use Rattle.std.proofs.Common.{◌<◌, ◌≡◌, ap, refl, subst, sym, get_or, length, ◌∙◌, arith}
 use Rattle.std.proofs.lemmas.List.Elements.{All-nil, All-more}
 use Rattle.std.proofs.lemmas.Result.{err_from_is_err_and}
 use Rattle.base.proofs.LawLemmas.{Keeps-same, Keeps-then}
 use Rattle.base.proofs.WrittenLemmas.{Exactly-in_turn, after-more, after-none}
 use Rattle.base.specs.Wire.{state_of}
-use Rattle.base.specs.Written.{after, in_turn}
+use Rattle.base.specs.Written.{after}
 use Rattle.base_data.specs.OPT.{FitsOption, option_written}
 use Rattle.base_data.proofs.rdata.opt.OPTBinEncodable.emit.Goals as goal
 
