@@ -91,7 +91,11 @@ impl Run {
     pub(super) fn into_blocks(self) -> Result<Vec<Vec<(RrKey, RecordSet)>>, AllocError>
         ensures { IfOk result (λ blocks. sets_in blocks.items ≡ self) }
     {
-        let Run { mut blocks, last, .. } = self;
+        let Run {
+            mut blocks,
+            last,
+            ..
+        } = self;
         blocks.push(last)?;
         Ok(blocks)
     }

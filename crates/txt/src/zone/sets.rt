@@ -107,7 +107,9 @@ impl ZoneSets {
     /// # Errors
     ///
     /// If memory runs out.
-    pub fn into_blocks(self) -> Result<(BTreeMap<RrKey, RecordSet>, Vec<Vec<(RrKey, RecordSet)>>), AllocError>
+    pub fn into_blocks(
+        self,
+    ) -> Result<(BTreeMap<RrKey, RecordSet>, Vec<Vec<(RrKey, RecordSet)>>), AllocError>
         ensures { IfOk result (λ r. r.0.entries ++ sets_in r.1.items ≡ self) }
     {
         let ZoneSets { sets, run } = self;
