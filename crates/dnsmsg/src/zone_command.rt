@@ -10,7 +10,7 @@ ghost use Rattle.dnsmsg.specs.ZoneCommand.{is_equals, text_named, zone_answer};
 
 use crate::refusal::Refusal;
 use base::Name;
-use parsed_zone::{zone_lines, zone_with_texts};
+use parsed_zone::{sets_lines, zone_sets};
 use std::alloc::{AllocError, Global};
 use std::collections::BTreeMap;
 
@@ -29,8 +29,8 @@ pub fn zone(
     ensures { Answers string_bytes (zone_answer origin (texts words.now) text.now) result }
 {
     let includes = included_texts(alloc, words)?;
-    let (name, sets) = zone_with_texts(alloc, origin, &includes, text)?;
-    Ok(zone_lines(alloc, &name, sets)?)
+    let (name, sets) = zone_sets(alloc, origin, &includes, text)?;
+    Ok(sets_lines(alloc, &name, sets)?)
 }
 
 /// The texts that words hand in, by their names. The last word of a name stands.

@@ -10,4 +10,4 @@ pub mod zone_text;
 pub use applying::lines_after;
 pub use classes::are_sets_in;
 pub use refusal::ZoneRefusal;
-pub use zone_text::{zone_lines, zone_of_bytes, zone_with_texts};
+pub use zone_text::{sets_lines, zone_lines, zone_of_bytes, zone_sets, zone_with_texts};

@@ -17,7 +17,7 @@ use rr::{Record, RecordSet};
 use std::alloc::{AllocError, Global};
 use std::collections::BTreeMap;
 use std::str;
-use txt::Parser;
+use txt::{Parser, ZoneSets};
 
 /// The zone of the text that bytes are, under an origin, if there is one. No text is there to be included.
 ///
@@ -54,10 +54,27 @@ pub fn zone_with_texts(
     // Each set stands under the key of its owner and type, has a record and is tidy.
     ensures kept { IfOk result (λ r. AreKept r.1.entries) }
 {
+    let (name, sets) = zone_sets(alloc, origin, includes, bytes)?;
+    Ok((name, sets.into_map()?))
+}
+
+/// The same with the sets as the parser has them, which spares their map.
+///
+/// # Errors
+///
+/// Those of `zone_of_bytes`.
+pub fn zone_sets(
+    alloc: Global,
+    origin: Option<Name>,
+    includes: &BTreeMap<String, String>,
+    bytes: &[u8],
+) -> Result<(Name, ZoneSets), ZoneRefusal>
+    ensures { Makes (λ r. r) (zone_of_bytes (texts_in includes.now) origin bytes.now) result }
+{
     let Ok(text) = str::from_utf8(bytes) else {
         return Err(ZoneRefusal::NotUtf8);
     };
-    Ok(Parser::new(alloc, text, includes, origin).parse()?)
+    Ok(Parser::new(alloc, text, includes, origin).parse_sets()?)
 }
 
 /// The origin and the records of a zone, a line each, in the order of owners and types.
@@ -80,6 +97,33 @@ pub fn zone_lines(
         add_records(set.into_parts().records, &mut lines)?;
     }
     Ok(lines)
+}
+
+/// The same of sets as the parser has them.
+///
+/// # Errors
+///
+/// If memory runs out.
+pub fn sets_lines(alloc: Global, name: &Name, sets: ZoneSets) -> Result<String, AllocError>
+    ensures { IfOk result (λ lines. string_bytes lines ≡ zone_lines (name.now, sets)) }
+{
+    let (first, blocks) = sets.into_blocks()?;
+    let mut lines = zone_lines(alloc, name, first)?;
+    for block in blocks {
+        add_sets(block, &mut lines)?;
+    }
+    Ok(lines)
+}
+
+/// Adds the records of sets, a line each.
+fn add_sets(sets: Vec<(RrKey, RecordSet)>, lines: &mut String) -> Result<(), AllocError>
+    ensures { OnOk result (string_bytes lines.new
+        ≡ string_bytes lines.old ++ set_lines sets.items) }
+{
+    for (_key, set) in sets {
+        add_records(set.into_parts().records, lines)?;
+    }
+    Ok(())
 }
 
 /// Adds the records, a line each.

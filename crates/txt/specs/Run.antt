@@ -10,6 +10,10 @@ use Rattle.txt.specs.ZoneSets.{ZoneSets}
 abbrev pub AreFilled : List (Vec (RrKey × SetValue) Global) → Type 0
 AreFilled blocks = All (λ b. b.items ≢ []) blocks
 
--- the sets of these blocks, one after another, and then those of the last one
+-- the sets of these blocks, one after another
+abbrev pub sets_in : List (Vec (RrKey × SetValue) Global) → ZoneSets
+sets_in = flat_map (λ b. b.items)
+
+-- the same, and then those of the last one
 abbrev pub sets_of : List (Vec (RrKey × SetValue) Global) → ZoneSets → ZoneSets
-sets_of blocks last = flat_map (λ b. b.items) blocks ++ last
+sets_of blocks last = sets_in blocks ++ last

@@ -4,3 +4,4 @@
 pub mod zone;
 
 pub use zone::Parser;
+pub use zone::sets::ZoneSets;

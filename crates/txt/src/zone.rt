@@ -9,10 +9,11 @@ ghost use Rattle.txt.specs.ZoneSets.{AreKept};
 mod context;
 pub mod laws;
 mod run;
-mod sets;
+pub mod sets;
 mod texts;
 
 use crate::zone::context::Context;
+use crate::zone::sets::ZoneSets;
 use crate::zone::texts::read_texts;
 use base::{Name, ParseError, RrKey};
 use rr::RecordSet;
@@ -84,6 +85,19 @@ impl<'a> Parser<'a> {
             (zone_of (text_among self.entry.includes) self.entry.origin self.entry.text) }
         // Each set stands under the key of its owner and type, has a record and is tidy.
         ensures kept { IfOk result (λ r. AreKept r.1.entries) }
+    {
+        let (origin, sets) = self.parse_sets()?;
+        Ok((origin, sets.into_map()?))
+    }
+
+    /// The same with the sets as the parser has them, which spares their map.
+    ///
+    /// # Errors
+    ///
+    /// Those of `parse`.
+    pub fn parse_sets(self) -> Result<(Name, ZoneSets), ParseError>
+        ensures { Gives (λ r. r) result
+            (zone_of (text_among self.entry.includes) self.entry.origin self.entry.text) }
     {
         let Parser {
             alloc,

@@ -11,14 +11,12 @@ ghost use Rattle.std.specs.String.{string_bytes};
 ghost use Rattle.txt.specs.Entries.{setting_of};
 ghost use Rattle.txt.specs.Steps.{AnswersStep, Goes, Makes, Reads, ReadsToken, Takes, setting_value, took_at, took_default, took_include, took_include_end, took_items, took_named, took_origin, took_typed, took_words};
 ghost use Rattle.txt.specs.Zone.{State, absolute, answered, beginning, record_of, recorded, set_by, spent, type_named, with_record};
-ghost use Rattle.txt.specs.ZoneSets.{AreKept};
 
 use crate::zone::sets::ZoneSets;
-use base::{DNSClass, Lexer, Name, ParseError, RecordType, RrKey, Token, parse_ttl};
+use base::{DNSClass, Lexer, Name, ParseError, RecordType, Token, parse_ttl};
 use base_data::RData;
-use rr::{Record, RecordSet};
+use rr::Record;
 use std::alloc::{AllocError, Global};
-use std::collections::BTreeMap;
 use std::marker::Model;
 use std::mem::replace;
 
@@ -314,16 +312,14 @@ impl Context {
     /// # Errors
     ///
     /// `Message` where there is no origin.
-    pub(super) fn answer(self) -> Result<(Name, BTreeMap<RrKey, RecordSet>), ParseError>
-        ensures zone { Gives (λ r. (r.0, r.1.entries)) result (answered self) }
-        // Each set stands under the key of its owner and type, has a record and is tidy.
-        ensures kept { IfOk result (λ r. AreKept r.1.entries) }
+    pub(super) fn answer(self) -> Result<(Name, ZoneSets), ParseError>
+        ensures { Gives (λ r. r) result (answered self) }
     {
         let Context { origin, sets, .. } = self;
         let Some(origin) = origin else {
             return Err(ParseError::Message("$ORIGIN was not specified"));
         };
-        Ok((origin, sets.into_map()?))
+        Ok((origin, sets))
     }
 
     /// The origin, copied.

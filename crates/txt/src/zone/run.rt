@@ -1,7 +1,8 @@
 //! Sets in the order of their keys, as they come and until they go into a map.
 
-ghost use Rattle.std.specs.Prelude.{◌≡◌, ◌++◌, ◌∷◌, ◌-◌, [], IfNone, OnErr, OnOk, length, slice_get};
+ghost use Rattle.std.specs.Prelude.{◌≡◌, ◌++◌, ◌∷◌, ◌-◌, [], IfNone, IfOk, OnErr, OnOk, length, slice_get};
 ghost use Rattle.std.specs.Option.{option_copied, option_to_list};
+ghost use Rattle.txt.specs.Run.{sets_in};
 
 use base::RrKey;
 use rr::RecordSet;
@@ -80,6 +81,23 @@ impl Run {
         fresh.push(entry)?;
         self.blocks.push(replace(&mut self.last, fresh))?;
         Ok(())
+    }
+
+    /// The blocks, in order.
+    ///
+    /// # Errors
+    ///
+    /// If memory runs out.
+    pub(super) fn into_blocks(self) -> Result<Vec<Vec<(RrKey, RecordSet)>>, AllocError>
+        ensures { IfOk result (λ blocks. sets_in blocks.items ≡ self) }
+    {
+        let Run {
+            mut blocks,
+            last,
+            ..
+        } = self;
+        blocks.push(last)?;
+        Ok(blocks)
     }
 
     /// Takes the last set out, if there is one. Takes no memory.

@@ -9,6 +9,7 @@ ghost use Rattle.std.specs.declared.cmp.Ordering.TheVariants.{Equal, Greater};
 ghost use Rattle.base.specs.RrKey.{key_cmp};
 ghost use Rattle.base.specs.TextFaults.{Gives};
 ghost use Rattle.rr.specs.RecordSet.{SetValue, set_of};
+ghost use Rattle.txt.specs.Run.{sets_in};
 ghost use Rattle.txt.specs.Steps.{Adds};
 ghost use Rattle.txt.specs.ZoneSets.{AreKept, IsKept, ZoneSets as Sets, added, added_to, record_key};
 
@@ -24,8 +25,10 @@ use std::marker::Model;
 use std::mem::replace;
 
 /// The record sets of a zone, each under its owner in lower case and its type.
+///
+/// Contracts see the sets with their keys, in the order of these.
 #[derive(Drop)]
-pub(super) struct ZoneSets {
+pub struct ZoneSets {
     sets: BTreeMap<RrKey, RecordSet>,
     /// Further sets, in the order of their keys, which are above all of the map: the sets of a zone in order come in
     /// turn, and go into the map together.
@@ -98,12 +101,27 @@ impl ZoneSets {
         Ok(())
     }
 
+    /// A map of the first sets, and the others in blocks, all in the order of their keys. Cheaper than the map of all
+    /// sets.
+    ///
+    /// # Errors
+    ///
+    /// If memory runs out.
+    pub fn into_blocks(
+        self,
+    ) -> Result<(BTreeMap<RrKey, RecordSet>, Vec<Vec<(RrKey, RecordSet)>>), AllocError>
+        ensures { IfOk result (λ r. r.0.entries ++ sets_in r.1.items ≡ self) }
+    {
+        let ZoneSets { sets, run } = self;
+        Ok((sets, run.into_blocks()?))
+    }
+
     /// The map of the sets.
     ///
     /// # Errors
     ///
     /// If memory runs out.
-    pub(super) fn into_map(self) -> Result<BTreeMap<RrKey, RecordSet>, AllocError>
+    pub fn into_map(self) -> Result<BTreeMap<RrKey, RecordSet>, AllocError>
         ensures entries { IfOk result (λ sets. sets.entries ≡ self) }
         // Each set stands under the key of its owner and type, has a record and is tidy.
         ensures kept { IfOk result (λ sets. AreKept sets.entries) }

@@ -10,9 +10,9 @@ pub returns-in_err-name : goal.returns-in_err-name
 returns-in_err-name c =
     let p = err_from_is_err_and c.from_residual-in_err-name.result c.from_residual-in_err-name.ensures.1 in
     rw (p.1, p.2) (zone_refused c.args.origin (texts c.args.words.now) c.args.text.now c.in_ok-includes.includes c.in_ok-includes.ensures
-    (zone_number c.in_err-name.field-0.0) c.in_err-name.ensures.zone)
+    (zone_number c.in_err-name.field-0.0) c.in_err-name.ensures)
 
 pub returns : goal.returns
 returns c =
     zone_answers c.args.origin (texts c.args.words.now) c.args.text.now c.in_ok-includes.includes c.in_ok-includes.ensures
-    (Ok (c.in_ok-name.name, c.in_ok-name.sets.entries)) c.in_ok-name.ensures.zone ∙ ap done (sym c.in_ok-zone_lines.ensures.lines)
+    (Ok (c.in_ok-name.name, c.in_ok-name.sets)) c.in_ok-name.ensures ∙ ap done (sym c.in_ok-sets_lines.ensures)

@@ -2,18 +2,18 @@ use Rattle.std.proofs.Common.{Ok, inr}
 use Rattle.std.proofs.lemmas.Result.{err_from_is_err_and}
 use Rattle.txt.specs.Steps.{texts_in}
 use Rattle.parsed_zone.proofs.TextLemmas.{not_text, zone_read, zone_refused}
-use Rattle.parsed_zone.proofs.zone_text.zone_with_texts.Goals as goal
+use Rattle.parsed_zone.proofs.zone_text.zone_sets.Goals as goal
 
-pub returns-in_default-clause-zone : goal.returns-in_default-clause-zone
-returns-in_default-clause-zone c = inr (not_text (texts_in c.args.includes.now) c.args.origin c.args.bytes.now c.in_default.ensures.cases.0)
+pub returns-in_default : goal.returns-in_default
+returns-in_default c = inr (not_text (texts_in c.args.includes.now) c.args.origin c.args.bytes.now c.in_default.ensures.cases.0)
 
-pub returns-in_err-parse-clause-zone : goal.returns-in_err-parse-clause-zone
-returns-in_err-parse-clause-zone c =
+pub returns-in_err-parse_sets : goal.returns-in_err-parse_sets
+returns-in_err-parse_sets c =
     let p = err_from_is_err_and c.from_residual.result c.from_residual.ensures.1 in
     rw (p.1, p.2) (zone_refused c.args.origin c.args.bytes.now c.in-Ok.text.now c.args.includes.now c.new.result c.in-Ok.ensures.cases.1 c.in-Ok.ensures.cases.0 c.new.ensures
-    c.in_err-parse.field-0.0 c.in_err-parse.ensures.zone)
+    c.in_err-parse_sets.field-0.0 c.in_err-parse_sets.ensures)
 
-pub returns-clause-zone : goal.returns-clause-zone
-returns-clause-zone c =
+pub returns : goal.returns
+returns c =
     zone_read c.args.origin c.args.bytes.now c.in-Ok.text.now c.args.includes.now c.new.result c.in-Ok.ensures.cases.1 c.in-Ok.ensures.cases.0 c.new.ensures
-    (Ok (c.in_ok-parse.field-0.0, c.in_ok-parse.field-0.1.entries)) c.in_ok-parse.ensures.zone
+    (Ok (c.in_ok-parse_sets.field-0.0, c.in_ok-parse_sets.field-0.1)) c.in_ok-parse_sets.ensures

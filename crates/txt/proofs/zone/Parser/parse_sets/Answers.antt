@@ -1,15 +1,15 @@
 use Rattle.std.proofs.Common.{sym}
 use Rattle.std.proofs.lemmas.Result.{err_from_is_err_and}
 use Rattle.txt.proofs.TextsLemmas.{not_parsed, parsed}
-use Rattle.txt.proofs.zone.Parser.parse.Goals as goal
+use Rattle.txt.proofs.zone.Parser.parse_sets.Goals as goal
 
-pub returns-in_err-context-clause-zone : goal.returns-in_err-context-clause-zone
-returns-in_err-context-clause-zone c =
+pub returns-in_err-context : goal.returns-in_err-context
+returns-in_err-context c =
     let p = err_from_is_err_and c.from_residual.result c.from_residual.ensures.1 in
     rw (p.1, p.2) (not_parsed c.self.inside.includes.now c.in_err-context.field-0.0
     (sym c.self.view_is) c.new.ensures c.in_err-context.ensures)
 
-pub returns-clause-zone : goal.returns-clause-zone
-returns-clause-zone c =
+pub returns : goal.returns
+returns c =
     parsed _ c.answer.result c.self.inside.includes.now
-    (sym c.self.view_is) c.new.ensures c.in_ok-context.ensures c.answer.ensures.zone
+    (sym c.self.view_is) c.new.ensures c.in_ok-context.ensures c.answer.ensures
