@@ -97,6 +97,15 @@ def shape(is_asked, of_class, ttl, is_one_set, is_deep, is_there):
     return made
 
 
+def in_turn(count):
+    """The lines of one set of so many addresses, and as many updates of it, which delete one and add another in turn."""
+    owner = owner_bytes("h00000", False, True)
+    def change(n):
+        return of_owner(owner, A, IN, 60, address(count + n)) if n % 2 else of_owner(owner, A, NONE, 0, address(n))
+    lines = "".join(f"h00000 300 A {dotted(n)}\n" for n in range(count))
+    return lines, update(0, count, "".join(change(n) for n in range(count)))
+
+
 # each shape: a function from the number of records
 SHAPES = {
     "asks for one set by value": shape(True, IN, 0, True, False, True),
@@ -107,4 +116,5 @@ SHAPES = {
     "adds to many sets": shape(False, IN, 60, False, False, False),
     "deletes the data of one set": shape(False, NONE, 0, True, False, True),
     "renews the data of one set": shape(False, IN, 60, True, False, True),
+    "deletes and adds in turn in one set": in_turn,
 }

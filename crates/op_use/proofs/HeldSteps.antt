@@ -8,7 +8,7 @@ use Rattle.op_use.proofs.MapSteps.{chained, more_after, none_after}
 use Rattle.op_use.proofs.UpdateSteps.{after_deletions}
 use Rattle.op_use.specs.Applying.{IsZoneMap, IsZoneSet, records_at}
 use Rattle.op_use.specs.HeldZone.{HeldZone, zone_of}
-use Rattle.op_use.specs.MapUpdates.{Holds, IsAfter, IsSetTo, IsUpdated, Lacks, LacksOwner, Leaves, is_deletion}
+use Rattle.op_use.specs.MapUpdates.{Holds, IsAfter, IsSetTo, IsUpdated, Lacks, Leaves, is_deletion}
 use Rattle.op_use.specs.Server.{record_key}
 use Rattle.op_use.specs.Zone.{Zone}
 use Rattle.rr.specs.RecordSet.{SetValue}
@@ -79,6 +79,10 @@ left_set class m false q s old e = absurd cc
 
 pub left_map : (z : Zone) (owner : NameValue) (class : DNSClass) (m n : BTreeMap RrKey SetValue) → IsZoneMap class m → Leaves z owner m n → IsZoneMap class n
 left_map z owner class m n old h = λ q s e. left_set class m _ q s old (sym (h q) ∙ e)
+
+-- the new zone is the old one without the sets of an owner
+abbrev pub LacksOwner : NameValue → HeldZone → HeldZone → Type 0
+LacksOwner owner old new = (sets : BTreeMap RrKey SetValue) × (new ≡ record old { sets = sets }) × Leaves (zone_of old) owner old.sets sets
 
 pub owner_updated : (rs : List (Record RData)) (owner : NameValue) (old new : HeldZone) → LacksOwner owner old new
     → ((n : BTreeMap RrKey SetValue) → Leaves (zone_of old) owner old.sets n → IsZoneMap old.class old.sets → IsAfter old.origin old.class rs old.sets n) → IsUpdated rs old new

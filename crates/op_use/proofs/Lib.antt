@@ -7,6 +7,7 @@ mod Deletions
 mod FollowSteps
 mod Given
 mod HeldSteps
+mod KeptSets
 mod KeySteps
 mod ListedSteps
 mod MapIsZone
@@ -16,6 +17,7 @@ mod Meaning
 mod MergeSteps
 mod Origins
 mod OwnerKeys
+mod SameRecords
 mod ServerRowsLemmas
 mod SpelledSteps
 mod TakenSets

@@ -13,9 +13,9 @@ use Rattle.op_use.proofs.Origins.{back_among, front_among}
 use Rattle.op_use.proofs.ZoneSteps.{same_key, tied}
 use Rattle.op_use.specs.AppliedRecords.{after_update, records_after}
 use Rattle.op_use.specs.Applying.{IsZoneMap, IsZoneSet, TakesFrom, TakesTtls, names_owner, records_at, records_in, zone_of_map}
-use Rattle.op_use.specs.MapUpdates.{IsAfter, IsSetTo}
+use Rattle.op_use.specs.MapUpdates.{IsAfter, IsSetTo, names_set}
 use Rattle.op_use.specs.NamedChanges.{datum_of}
-use Rattle.op_use.specs.Server.{record_key, update}
+use Rattle.op_use.specs.Server.{is_under, record_key, update}
 use Rattle.op_use.specs.Zone.{Zone, is_owned, put}
 use Rattle.rr.specs.RecordSet.{SetValue}
 use Rattle.rr.specs.SetChanges.{joined}
@@ -32,6 +32,10 @@ use Rattle.std.specs.Ordering.{eq_by_cmp}
 use Rattle.std.specs.Prelude.{Bool, List, None, Option, Some, [], cond, false, length, map, slice_index_or, suc, take, true, unwrap_or, zero, ℕ, ◌++◌, ◌+◌, ◌-◌, ◌<◌}
 use Rattle.std.specs.Prelude.{◌∷◌, ◌≡◌, ◌≢◌}
 
+-- the key of a record is of its owner
+own_key : (r : Record RData) → is_owned r.name (record_key r) ≡ true
+own_key r = (same_by-equiv exact).refl (lowered r.name)
+
 -- one set of a map is changed
 module _ (origin : NameValue) (class : DNSClass) (k : RrKey) (xs : List (Record RData)) (m n : BTreeMap RrKey SetValue) (h : IsSetTo class k xs m n) where
   set_kept : (b : Bool) (q : RrKey) → eq_by_cmp key_cmp k q ≡ b → IsZoneMap class m → (s : SetValue) → cond b h.set (tree.get key_cmp m q) ≡ Some s → IsZoneSet class q s
@@ -41,10 +45,13 @@ module _ (origin : NameValue) (class : DNSClass) (k : RrKey) (xs : List (Record 
   pub kept_after : IsZoneMap class m → IsZoneMap class n
   kept_after old = λ q s e. set_kept (eq_by_cmp key_cmp k q) q refl old s (sym (h.puts q) ∙ e)
 
-  other_after : (r : Record RData) → is_owned r.name k ≡ true → (b : Bool) (q : RrKey) → eq_by_cmp key_cmp k q ≡ b → is_owned r.name q ≡ false
+  other_after : (r : Record RData) → record_key r ≡ k → (b : Bool) (q : RrKey) → eq_by_cmp key_cmp k q ≡ b → is_owned r.name q ≡ false
       → cond b h.set (tree.get key_cmp m q) ≡ tree.get key_cmp m q
-  other_after r owned true q t free = absurd (true≢false (sym owned ∙ ap (is_owned r.name) (same_key k q t) ∙ free))
-  other_after r owned false q t free = refl
+  other_after r own true q t free = absurd (true≢false (sym (own_key r) ∙ ap (is_owned r.name) (own ∙ same_key k q t) ∙ free))
+  other_after r own false q t free = refl
+
+  unnamed_after : (r : Record RData) → record_key r ≡ k → (q : RrKey) → is_under r q ≡ false → cond (eq_by_cmp key_cmp k q) h.set (tree.get key_cmp m q) ≡ tree.get key_cmp m q
+  unnamed_after r own q free = ap (λ b. cond b h.set (tree.get key_cmp m q)) (ap (λ p. eq_by_cmp key_cmp p q) (sym own) ∙ free)
 
   taken_at : (rs : List (Record RData)) → ((v : Record RData) → IsAmong xs v → IsAmong (records_at m k) v ⊎ IsAmong rs v)
       → (b : Bool) (q : RrKey) → eq_by_cmp key_cmp k q ≡ b → (v : Record RData)
@@ -61,18 +68,19 @@ module _ (origin : NameValue) (class : DNSClass) (k : RrKey) (xs : List (Record 
   ttl_at false q s t e = inl e
 
   -- updates of this set, of which r is the first
-  pub set_after : (r : Record RData) (rs : List (Record RData)) → IsZoneMap class m → is_owned r.name k ≡ true
+  pub set_after : (r : Record RData) (rs : List (Record RData)) → IsZoneMap class m → record_key r ≡ k
       → ((v : Record RData) → IsAmong xs v → IsAmong (records_at m k) v ⊎ IsAmong (r ∷ rs) v)
       → fold update (zone_of_map origin class m) (r ∷ rs) ≡ put (zone_of_map origin class m) k (map datum_of xs)
       → ((q : RrKey) → records_after (zone_of_map origin class m) (r ∷ rs) q (records_at m q) ≡ cond (eq_by_cmp key_cmp k q) xs (records_at m q))
       → IsAfter origin class (r ∷ rs) m n
-  set_after r rs old owned from step spelled = record {
+  set_after r rs old own from step spelled = record {
     zone = zone_puts origin class m n k h.set (λ s e. (h.fits s e).filled) h.puts ∙ ap (λ ys. put (zone_of_map origin class m) k (map datum_of ys)) h.records ∙ sym step;
     is_map = kept_after old;
-    others = λ q no. h.puts q ∙ other_after r owned (eq_by_cmp key_cmp k q) q refl ((or_parts (is_owned r.name q) (names_owner rs q) no).0);
+    others = λ q no. h.puts q ∙ other_after r own (eq_by_cmp key_cmp k q) q refl ((or_parts (is_owned r.name q) (names_owner rs q) no).0);
     taken = λ q v a. taken_at (r ∷ rs) from (eq_by_cmp key_cmp k q) q refl v (subst (λ o. IsAmong (records_in o) v) (h.puts q) a);
     ttls = λ q s e. ttl_at (eq_by_cmp key_cmp k q) q s refl (sym (h.puts q) ∙ e);
     exact = λ q. ap records_in (h.puts q) ∙ records_put (eq_by_cmp key_cmp k q) (tree.get key_cmp m q) ∙ sym (spelled q);
+    unnamed = λ q no. inl (h.puts q ∙ unnamed_after r own q ((or_parts (is_under r q) (names_set rs q) no).0));
   }
 
 -- an update that changes nothing
@@ -80,11 +88,11 @@ pub same_after : (origin : NameValue) (class : DNSClass) (m : BTreeMap RrKey Set
     → update (zone_of_map origin class m) r ≡ zone_of_map origin class m
     → ((q : RrKey) → after_update (zone_of_map origin class m) r q (records_at m q) ≡ records_at m q) → IsAfter origin class (r ∷ []) m m
 same_after origin class m r old step spelled =
-    record { zone = sym step; is_map = old; others = λ q no. refl; taken = λ q v a. inl a; ttls = λ q s e. inl e; exact = λ q. sym (spelled q) }
+    record { zone = sym step; is_map = old; others = λ q no. refl; taken = λ q v a. inl a; ttls = λ q s e. inl e; exact = λ q. sym (spelled q); unnamed = λ q no. inl refl }
 
 -- no update
 pub none_after : (origin : NameValue) (class : DNSClass) (m : BTreeMap RrKey SetValue) → IsZoneMap class m → IsAfter origin class [] m m
-none_after origin class m old = record { zone = refl; is_map = old; others = λ q no. refl; taken = λ q v a. inl a; ttls = λ q s e. inl e; exact = λ q. refl }
+none_after origin class m old = record { zone = refl; is_map = old; others = λ q no. refl; taken = λ q v a. inl a; ttls = λ q s e. inl e; exact = λ q. refl; unnamed = λ q no. inl refl }
 
 taken_chain : (rs ss : List (Record RData)) (m n : BTreeMap RrKey SetValue) (q : RrKey) (v : Record RData) → TakesFrom rs m n
     → IsAmong (records_at n q) v ⊎ IsAmong ss v → IsAmong (records_at m q) v ⊎ IsAmong (rs ++ ss) v
@@ -98,6 +106,12 @@ ttls_chain : (m n : BTreeMap RrKey SetValue) (q : RrKey) (s : SetValue) → Take
     → (tree.get key_cmp m q ≡ Some s) ⊎ (s.ttl ≡ last_ttl s.records)
 ttls_chain m n q s old (inl e) = old q s e
 ttls_chain m n q s old (inr t) = inr t
+
+unnamed_chain : (m n p : BTreeMap RrKey SetValue) (q : RrKey) → (tree.get key_cmp n q ≡ tree.get key_cmp m q) ⊎ (tree.get key_cmp n q ≡ None)
+    → (tree.get key_cmp p q ≡ tree.get key_cmp n q) ⊎ (tree.get key_cmp p q ≡ None) → (tree.get key_cmp p q ≡ tree.get key_cmp m q) ⊎ (tree.get key_cmp p q ≡ None)
+unnamed_chain m n p q (inl e) (inl f) = inl (f ∙ e)
+unnamed_chain m n p q (inr e) (inl f) = inr (f ∙ e)
+unnamed_chain m n p q first (inr f) = inr f
 
 more_records : (z : Zone) (rs ss : List (Record RData)) (q : RrKey) (xs : List (Record RData))
     → records_after z (rs ++ ss) q xs ≡ records_after (fold update z rs) ss q (records_after z rs q xs)
@@ -116,6 +130,9 @@ more_after origin class rs ss m n p first next = record {
   taken = λ q v a. taken_chain rs ss m n q v first.taken (next.taken q v a);
   ttls = λ q s e. ttls_chain m n q s first.ttls (next.ttls q s e);
   exact = λ q. next.exact q ∙ (λ i. records_after (first.zone i) ss q (first.exact q i)) ∙ sym (more_records (zone_of_map origin class m) rs ss q (records_at m q));
+  unnamed = λ q no.
+      let parts = or_parts (names_set rs q) (names_set ss q) (sym (list_any-append (λ (x : Record RData). is_under x q) rs ss) ∙ no) in
+      unnamed_chain m n p q (first.unnamed q parts.0) (next.unnamed q parts.1);
 }
 
 -- the steps of a change of one set
@@ -187,10 +204,6 @@ join_distinct r xs ys zs apart e f = subst (λ ws. Distinct ws) (sym (f ∙ ap (
 
 pub one_distinct : (r : Record RData) (ys : List (Record RData)) → ys ≡ r ∷ [] → Distinct ys
 one_distinct r ys e = subst (λ zs. Distinct zs) (sym e) (distinct_one r)
-
--- the key of a record is of its owner
-pub own_key : (r : Record RData) → is_owned r.name (record_key r) ≡ true
-own_key r = (same_by-equiv exact).refl (lowered r.name)
 
 -- the updates so far and one more
 taken_next : (xs : List (Record RData)) (i : ℕ) (d : Record RData) → i < length xs → take i xs ++ slice_index_or xs i d ∷ [] ≡ take (suc i) xs

@@ -9,7 +9,7 @@ use Rattle.base_data.specs.declared.rdata.RData.{RData}
 use Rattle.op_use.proofs.AppliedData.{joined_data, parted_data}
 use Rattle.op_use.proofs.Deletions.{from_without, own, records_left, removed_data, without_one, zone_left}
 use Rattle.op_use.proofs.Deleted.{deleted_is}
-use Rattle.op_use.proofs.MapSteps.{moved, own_key, same_after, set_after}
+use Rattle.op_use.proofs.MapSteps.{moved, same_after, set_after}
 use Rattle.op_use.proofs.MapZones.{data_at, get_zone}
 use Rattle.op_use.proofs.Origins.{from_joined, from_none, from_one, from_parted, none_among}
 use Rattle.op_use.proofs.SpelledSteps.{alias_comes, alias_kept_out, beside_kept_out, guarded_stays, name_goes}
@@ -25,7 +25,7 @@ use Rattle.rr.specs.RecordSet.{SetValue, is_soa}
 use Rattle.rr.specs.SetChanges.{joined}
 use Rattle.rr.specs.SetUpdates.{without}
 use Rattle.rr.specs.declared.record.Record.{Record}
-use Rattle.std.proofs.Common.{ap, inl, refl, subst, sym, ◌∙◌, ◌⊎◌}
+use Rattle.std.proofs.Common.{ap, inl, inr, refl, subst, sym, ◌∙◌, ◌⊎◌}
 use Rattle.std.proofs.lemmas.Bool.{cond-false, cond-true, or_parts}
 use Rattle.std.proofs.lemmas.List.{length-map}
 use Rattle.std.specs.BTreeMap as tree
@@ -49,7 +49,7 @@ module _ (origin : NameValue) (class : DNSClass) (m n : BTreeMap RrKey SetValue)
 
   pub after_cname : use_of class r.dns_class ≡ OfZone → is_cname (type_of_record r) ≡ true → has_type_at (zone_of_map origin class m) r.name (λ t. not (is_cname t)) ≡ false
       → IsSetTo class (record_key r) (r ∷ []) m n → IsAfter origin class (r ∷ []) m n
-  after_cname u c h s = set_after origin class (record_key r) (r ∷ []) m n s r [] old (own_key r) (from_one r (records_at m (record_key r)))
+  after_cname u c h s = set_after origin class (record_key r) (r ∷ []) m n s r [] old refl (from_one r (records_at m (record_key r)))
       (ap (λ how. update_by how (zone_of_map origin class m) r) u ∙ cond-false _ _ _ (cond-true _ _ _ c ∙ h)
       ∙ ap (put (zone_of_map origin class m) (record_key r)) (cond-true _ _ _ c))
       (λ q. alias_comes (zone_of_map origin class m) r (records_at m) q u c h)
@@ -61,7 +61,7 @@ module _ (origin : NameValue) (class : DNSClass) (m n : BTreeMap RrKey SetValue)
 
   pub after_join : use_of class r.dns_class ≡ OfZone → is_cname (type_of_record r) ≡ false → has_set (zone_of_map origin class m) (key_of r.name types.CNAME) ≡ false
       → IsSetTo class (record_key r) (joined r (records_at m (record_key r))) m n → IsAfter origin class (r ∷ []) m n
-  after_join u c h s = set_after origin class (record_key r) (joined r (records_at m (record_key r))) m n s r [] old (own_key r) (from_joined r (records_at m (record_key r)))
+  after_join u c h s = set_after origin class (record_key r) (joined r (records_at m (record_key r))) m n s r [] old refl (from_joined r (records_at m (record_key r)))
       (ap (λ how. update_by how (zone_of_map origin class m) r) u ∙ cond-false _ _ _ (cond-false _ _ _ c ∙ h)
       ∙ ap (put (zone_of_map origin class m) (record_key r)) (cond-false _ _ _ c ∙ ap (λ xs. added xs r) (data_at origin class m (record_key r)) ∙ sym (joined_data r (records_at m (record_key r)))))
       (λ q. other_comes (zone_of_map origin class m) r (records_at m) q u c h)
@@ -74,7 +74,7 @@ module _ (origin : NameValue) (class : DNSClass) (m n : BTreeMap RrKey SetValue)
       → IsSetTo class (record_key r) (without (r ∷ []) (records_at m (record_key r))) m n → IsAfter origin class (r ∷ []) m n
   after_part u h s =
       let one = without_one r (records_at m (record_key r)) in
-      set_after origin class (record_key r) (parted r (records_at m (record_key r))) m n (moved class _ _ _ _ m n refl one s) r [] old (own_key r) (from_parted r (records_at m (record_key r)))
+      set_after origin class (record_key r) (parted r (records_at m (record_key r))) m n (moved class _ _ _ _ m n refl one s) r [] old refl (from_parted r (records_at m (record_key r)))
       (ap (λ how. update_by how (zone_of_map origin class m) r) u ∙ cond-false _ _ _ h
       ∙ ap (put (zone_of_map origin class m) (record_key r)) (ap (λ xs. removed xs r) (data_at origin class m (record_key r))
       ∙ sym (parted_data r (records_at m (record_key r)))))
@@ -84,7 +84,7 @@ module _ (origin : NameValue) (class : DNSClass) (m n : BTreeMap RrKey SetValue)
       → IsSetTo class (record_key k) (without (r ∷ rs) (records_at m (record_key k))) m n → IsAfter origin class (r ∷ rs) m n
   after_deletions k rs h s =
       set_after origin class (record_key k) (without (r ∷ rs) (records_at m (record_key k))) m n s r rs old
-      (subst (λ q. is_owned r.name q ≡ true) (own (zone_of_map origin class m) k r h.0) (own_key r)) (from_without (r ∷ rs) (records_at m (record_key k)))
+      (own (zone_of_map origin class m) k r h.0) (from_without (r ∷ rs) (records_at m (record_key k)))
       (zone_left (zone_of_map origin class m) k r rs h
       ∙ ap (put (zone_of_map origin class m) (record_key k)) (ap (λ ds. fold removed ds (r ∷ rs)) (data_at origin class m (record_key k))
       ∙ removed_data (r ∷ rs) (records_at m (record_key k))))
@@ -100,7 +100,7 @@ module _ (origin : NameValue) (class : DNSClass) (m n : BTreeMap RrKey SetValue)
 
   pub after_set : use_of class r.dns_class ≡ OfAny → is_any (type_of_record r) ≡ false → is_guarded (zone_of_map origin class m) r.name (type_of_record r) ≡ false
       → IsSetTo class (record_key r) [] m n → IsAfter origin class (r ∷ []) m n
-  after_set u c h s = set_after origin class (record_key r) [] m n s r [] old (own_key r) (from_none r (records_at m (record_key r)))
+  after_set u c h s = set_after origin class (record_key r) [] m n s r [] old refl (from_none r (records_at m (record_key r)))
       (ap (λ how. update_by how (zone_of_map origin class m) r) u ∙ deleted_is (zone_of_map origin class m) r ∙ cond-false _ _ _ c ∙ cond-false _ _ _ h)
       (λ q. set_goes (zone_of_map origin class m) r (records_at m) q u c h)
 
@@ -124,6 +124,10 @@ module _ (origin : NameValue) (class : DNSClass) (m n : BTreeMap RrKey SetValue)
   left_taken true q v a = inl a
   left_taken false q v a = none_among v a
 
+  left_or_gone : (b : Bool) (o : Option SetValue) → (cond b o None ≡ o) ⊎ (cond b o None ≡ None)
+  left_or_gone true o = inl refl
+  left_or_gone false o = inr refl
+
   left_records : (b : Bool) (o : Option SetValue) → records_in (cond b o None) ≡ cond b (records_in o) []
   left_records true o = refl
   left_records false o = refl
@@ -142,4 +146,5 @@ module _ (origin : NameValue) (class : DNSClass) (m n : BTreeMap RrKey SetValue)
     ttls = λ q s e. inl (left_there (is_left (zone_of_map origin class m) r.name q) q s (sym (h q) ∙ e));
     exact = λ q. ap records_in (h q) ∙ left_records (is_left (zone_of_map origin class m) r.name q) (tree.get key_cmp m q)
         ∙ sym (name_goes (zone_of_map origin class m) r (records_at m) q u c);
+    unnamed = λ q no. subst (λ o. (o ≡ tree.get key_cmp m q) ⊎ (o ≡ None)) (sym (h q)) (left_or_gone (is_left (zone_of_map origin class m) r.name q) (tree.get key_cmp m q));
   }

@@ -9,7 +9,7 @@ use Rattle.op.specs.declared.response_code.ResponseCode.{ResponseCode}
 use Rattle.op_use.proofs.AppliedData.{any_data}
 use Rattle.op_use.proofs.MapZones.{data_at}
 use Rattle.op_use.specs.AppliedRecords.{records_after, records_answered}
-use Rattle.op_use.specs.Applying.{entry_of, IsApplied, IsZoneMap, applied, is_all_supported, records_applied, records_at, records_in, zone_of_map}
+use Rattle.op_use.specs.Applying.{entry_of, IsApplied, IsZoneMap, KeepsSame, applied, is_all_supported, records_applied, records_at, records_in, zone_of_map}
 use Rattle.op_use.specs.MapFaults.{is_by_value, listed_under, there_under}
 use Rattle.op_use.specs.MapUpdates.{IsAfter}
 use Rattle.op_use.specs.NamedChanges.{datum_of, is_data_of}
@@ -94,6 +94,7 @@ module _ (origin : NameValue) (class : DNSClass) (m n : BTreeMap RrKey SetValue)
     taken = λ q v a. inl (subst (λ o. IsAmong (records_in o) v) (get_copy q) a);
     ttls = λ q s e. inl (sym (get_copy q) ∙ e);
     exact = λ q. ap records_in (get_copy q) ∙ sym (spelled q);
+    kept = λ q same_records. get_copy q;
   }
 
   pub applied_not : (s : Sections) → IsZoneMap class m → is_all_supported s ≡ false → IsApplied origin class s m NotImp n
@@ -112,11 +113,12 @@ module _ (origin : NameValue) (class : DNSClass) (m n : BTreeMap RrKey SetValue)
     taken = λ q v a. subst (λ o. IsAmong (records_in o) v ⊎ IsAmong rs v) (get_copy q) (after.taken q v a);
     ttls = λ q s e. subst (λ o. (o ≡ Some s) ⊎ (s.ttl ≡ last_ttl s.records)) (get_copy q) (after.ttls q s e);
     exact = λ q. after.exact q ∙ (λ i. records_after (zone_copy i) rs q (records_in (get_copy q i)));
+    unnamed = λ q no. subst (λ o. (tree.get key_cmp p q ≡ o) ⊎ (tree.get key_cmp p q ≡ None)) (get_copy q) (after.unnamed q no);
   }
 
 pub applied_all : (origin : NameValue) (class : DNSClass) (m p : BTreeMap RrKey SetValue) (s : Sections) → is_all_supported s ≡ true → fault (zone_of_map origin class m) s ≡ None
-    → IsAfter origin class s.updates m p → IsApplied origin class s m NoError p
-applied_all origin class m p s h f after = record {
+    → IsAfter origin class s.updates m p → KeepsSame m p → IsApplied origin class s m NoError p
+applied_all origin class m p s h f after same = record {
   served = ap (λ z. (NoError, z)) after.zone
       ∙ sym (cond-true _ _ _ h ∙ ap (answer (zone_of_map origin class m) s.updates) f);
   is_map = after.is_map;
@@ -124,4 +126,5 @@ applied_all origin class m p s h f after = record {
   taken = after.taken;
   ttls = after.ttls;
   exact = λ q. after.exact q ∙ sym (spelled_as origin class m s q None h f);
+  kept = same;
 }

@@ -121,9 +121,14 @@ abbrev pub TakesTtls : BTreeMap RrKey SetValue → BTreeMap RrKey SetValue → T
 TakesTtls old new = (k : RrKey) (s : SetValue) → tree.get key_cmp new k ≡ Some s
     → (tree.get key_cmp old k ≡ Some s) ⊎ (s.ttl ≡ last_ttl s.records)
 
+-- a set whose records are the same stays as it is, in every field
+abbrev pub KeepsSame : BTreeMap RrKey SetValue → BTreeMap RrKey SetValue → Type 0
+KeepsSame old new = (k : RrKey) → records_at new k ≡ records_at old k
+    → tree.get key_cmp new k ≡ tree.get key_cmp old k
+
 -- The code and the new map are those that a server makes of the zone; the new map may be updated again; what no update
 -- names stays; each record was there or came with the updates; each set was there or has the TTL of the last of its
--- records; and which records, how spelled and in which order is told too.
+-- records; which records, how spelled and in which order is told too; and a set whose records are the same stays.
 pub record IsApplied (origin : NameValue) (class : DNSClass) (s : Sections)
     (old : BTreeMap RrKey SetValue) (code : ResponseCode) (new : BTreeMap RrKey SetValue)
     : Type 0 where
@@ -134,3 +139,4 @@ pub record IsApplied (origin : NameValue) (class : DNSClass) (s : Sections)
   pub ttls : TakesTtls old new
   pub exact : (k : RrKey)
       → records_at new k ≡ records_applied (zone_of_map origin class old) s k (records_at old k)
+  pub kept : KeepsSame old new

@@ -3,6 +3,7 @@ pub mod AppliedRecords
 pub mod Applying
 pub mod DnsResponse
 pub mod HeldZone
+pub mod Kept
 pub mod Lending
 pub mod MapFaults
 pub mod MapUpdates

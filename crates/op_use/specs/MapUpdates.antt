@@ -7,9 +7,9 @@ use Rattle.base_data.specs.SameData.{same_data}
 use Rattle.base_data.specs.declared.rdata.RData.{RData}
 use Rattle.op_use.specs.AppliedRecords.{records_after}
 use Rattle.op_use.specs.Applying.{records_at, IsZoneMap, IsZoneSet, TakesFrom, TakesTtls, names_owner, records_in, zone_of_map}
-use Rattle.op_use.specs.HeldZone.{HeldZone, zone_of}
+use Rattle.op_use.specs.HeldZone.{HeldZone}
 use Rattle.op_use.specs.NamedChanges.{is_left, set_key}
-use Rattle.op_use.specs.Server.{OfAny, OfNone, OfNothing, OfZone, Use as UseValue, is_same_key, type_of_record, update, use_of}
+use Rattle.op_use.specs.Server.{OfAny, OfNone, OfNothing, OfZone, Use as UseValue, is_same_key, is_under, type_of_record, update, use_of}
 use Rattle.op_use.specs.Zone.{Zone, is_guarded}
 use Rattle.op_use.specs.declared.apply.rules.Use.TheVariants as uses
 use Rattle.op_use.specs.declared.apply.rules.Use.{Use}
@@ -18,9 +18,13 @@ use Rattle.rr.specs.SetUpdates.{last_ttl}
 use Rattle.rr.specs.declared.record.Record.{Record}
 use Rattle.std.specs.BTreeMap as tree
 use Rattle.std.specs.BTreeMap.{BTreeMap}
-use Rattle.std.specs.List.{IsDistinct, fold}
+use Rattle.std.specs.List.{IsDistinct, fold, list_any}
 use Rattle.std.specs.Ordering.{eq_by_cmp, on}
 use Rattle.std.specs.Prelude.{Bool, List, None, Option, Some, cond, false, not, true, ◌&&◌, ◌≡◌, ◌⊎◌}
+
+-- whether an update names the set under a key
+abbrev pub names_set : List (Record RData) → RrKey → Bool
+names_set rs k = list_any (λ r. is_under r k) rs
 
 -- the new map is the old one after the updates rs
 pub record IsAfter (origin : NameValue) (class : DNSClass) (rs : List (Record RData))
@@ -33,6 +37,9 @@ pub record IsAfter (origin : NameValue) (class : DNSClass) (rs : List (Record RD
   pub ttls : TakesTtls old new
   pub exact : (k : RrKey)
       → records_at new k ≡ records_after (zone_of_map origin class old) rs k (records_at old k)
+  -- a set that no update names may only go, with its owner
+  pub unnamed : (k : RrKey) → names_set rs k ≡ false
+      → (tree.get key_cmp new k ≡ tree.get key_cmp old k) ⊎ (tree.get key_cmp new k ≡ None)
 
 -- the new map has o under a key, and else what the old one has
 abbrev pub Puts : RrKey → Option SetValue → BTreeMap RrKey SetValue → BTreeMap RrKey SetValue
@@ -95,8 +102,3 @@ use_value uses.OfNothing = OfNothing
 abbrev pub Leaves : Zone → NameValue → BTreeMap RrKey SetValue → BTreeMap RrKey SetValue → Type 0
 Leaves z owner old new = (q : RrKey)
     → tree.get key_cmp new q ≡ cond (is_left z owner q) (tree.get key_cmp old q) None
-
--- the new zone is the old one without the sets of an owner
-abbrev pub LacksOwner : NameValue → HeldZone → HeldZone → Type 0
-LacksOwner owner old new = (sets : BTreeMap RrKey SetValue) × (new ≡ record old { sets = sets })
-    × Leaves (zone_of old) owner old.sets sets

@@ -6,6 +6,7 @@ ghost use Rattle.op_use.specs.Applying.{IsApplied, IsZoneMap};
 ghost use Rattle.op_use.specs.HeldZone.{HeldZone, zone_of};
 ghost use Rattle.op_use.specs.Server.{fault as fault_of, sections_of};
 
+mod kept;
 pub mod laws;
 mod prerequisites;
 mod prescan;
@@ -29,7 +30,8 @@ use zone::Zone;
 /// A message with a record of a type that isn't supported is answered NotImp, before anything else is looked at:
 /// supported are the ordinary types, NS, CNAME, and ANY where it stands for all types of an owner. With any code but
 /// NoError the sets are the same. A record that is added is the message's, also where it replaces one of equal data. A
-/// set that changes has the TTL of the last of its records. Opcode and message type aren't looked at.
+/// set that changes has the TTL of the last of its records; one whose records are the same in the end stays as it was,
+/// in every field. Opcode and message type aren't looked at.
 ///
 /// Each set that is handed in has records, no two of them of equal data, has this class, and stands under its own key;
 /// this holds of the answered sets too. Those that are handed in stay as they are.
@@ -60,6 +62,7 @@ pub fn apply_update(
         return Ok((code, zone.into_sets()));
     }
     zone.update(&message.authorities)?;
+    zone.keep_same(sets, &message.authorities)?;
     Ok((ResponseCode::NoError, zone.into_sets()))
 }
 

@@ -4,7 +4,7 @@ ghost use Rattle.base_data.specs.SameData.{same_data};
 ghost use Rattle.base_data.specs.declared.rdata.RData.{RData};
 ghost use Rattle.op_use.specs.HeldZone.{HeldZone, zone_of};
 ghost use Rattle.op_use.specs.MapFaults.{asks_for, is_by_value};
-ghost use Rattle.op_use.specs.Server.{collected, first_fault, is_found as is_found_in, is_met, is_same_key, prerequisite_fault, prerequisites_fault};
+ghost use Rattle.op_use.specs.Server.{collected, is_found as is_found_in, is_met, is_same_key, prerequisite_fault, prerequisites_fault};
 ghost use Rattle.rr.specs.SetChanges.{has_data_of};
 ghost use Rattle.rr.specs.declared.record.Record.{Record as Entry};
 ghost use Rattle.std.specs.List.{IsAmong, list_all, list_any};
@@ -28,24 +28,13 @@ impl<'a> Zone<'a> {
     ) -> Result<Option<ResponseCode>, AllocError>
         ensures { IfOk result (λ f. f ≡ prerequisites_fault (zone_of self.now) entries.now) }
     {
-        if let Some(code) = self.first_fault(entries)? {
-            return Ok(Some(code));
-        }
-        let are_met = self.are_met(entries)?;
-        Ok(unless(are_met, ResponseCode::NXRRSet))
-    }
-
-    /// The first that is wrong with a prerequisite by itself.
-    fn first_fault(&self, entries: &[Record]) -> Result<Option<ResponseCode>, AllocError>
-        ensures { IfOk result (λ f. f
-            ≡ first_fault (prerequisite_fault (zone_of self.now)) entries.now) }
-    {
         for entry in entries {
             if let Some(code) = self.prerequisite_fault(entry)? {
                 return Ok(Some(code));
             }
         }
-        Ok(None)
+        let are_met = self.are_met(entries)?;
+        Ok(unless(are_met, ResponseCode::NXRRSet))
     }
 
     /// What is wrong with a prerequisite by itself. Of one of the zone's class the data is tested later, with its set.

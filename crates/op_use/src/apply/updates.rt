@@ -1,7 +1,7 @@
 //! The last step: the updates of a message, one after the other (RFC 2136, 3.4.2).
 
 ghost use Rattle.op_use.specs.HeldZone.{HeldZone, zone_of};
-ghost use Rattle.op_use.specs.MapUpdates.{IsUpdated, LacksOwner, is_deletion};
+ghost use Rattle.op_use.specs.MapUpdates.{IsUpdated, is_deletion};
 ghost use Rattle.op_use.specs.Server.{OfAny, OfNone, OfZone, is_needed as is_needed_in, use_of as the_use};
 ghost use Rattle.std.specs.List.{AllByRecursion};
 ghost use Rattle.std.specs.Prelude.{IfOk, OnOk, [], length, take, true, ◌∷◌, ◌≡◌, ◌≤◌};
@@ -9,7 +9,7 @@ ghost use Rattle.std.specs.Prelude.{IfOk, OnOk, [], length, take, true, ◌∷�
 use crate::apply::prerequisites::is_same_set;
 use crate::apply::rules::{Use, is_any, is_cname, is_guarded, is_soa, use_of};
 use crate::apply::zone::{Zone, has_type, key_of, take_keys, unguarded_keys};
-use base::{Name, RecordType};
+use base::RecordType;
 use rr::Record;
 use std::alloc::AllocError;
 
@@ -114,29 +114,21 @@ impl<'a> Zone<'a> {
         Ok(())
     }
 
-    /// Takes a set out, or all of an owner (RFC 2136, 3.4.2.3).
+    /// Takes a set out, or all of an owner; at the origin SOA and NS stay (RFC 2136, 3.4.2.3).
     fn delete(&mut self, entry: &Record) -> Result<(), AllocError>
         requires { the_use self.old.class entry.now.dns_class ≡ OfAny }
         ensures { OnOk result (IsUpdated (entry.now ∷ []) self.old self.new) }
     {
         if is_any(entry.record_type()) {
-            self.delete_owner(&entry.name)?;
+            let taken = unguarded_keys(&self.sets, self.origin, &entry.name)?;
+            take_keys(&mut self.sets, &taken);
             return Ok(());
         }
         if is_guarded(self.origin, &entry.name, entry.record_type()) {
             return Ok(());
         }
         let key = key_of(&entry.name, entry.record_type())?;
-        self.take_set(&key);
-        Ok(())
-    }
-
-    /// Takes all sets of an owner out; at the origin SOA and NS stay.
-    fn delete_owner(&mut self, owner: &Name) -> Result<(), AllocError>
-        ensures { OnOk result (LacksOwner owner.now self.old self.new) }
-    {
-        let taken = unguarded_keys(&self.sets, self.origin, owner)?;
-        take_keys(&mut self.sets, &taken);
+        self.sets.remove(&key);
         Ok(())
     }
 

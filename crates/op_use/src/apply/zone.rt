@@ -130,13 +130,6 @@ impl<'a> Zone<'a> {
         Ok(())
     }
 
-    /// Takes a set out.
-    pub(crate) fn take_set(&mut self, key: &RrKey)
-        ensures { Holds key.now [] self.old self.new }
-    {
-        self.sets.remove(key);
-    }
-
     /// Takes a set out to be changed; the answer is one without records where there is none.
     fn take_or_new(&mut self, key: &RrKey, entry: &Record) -> Result<RecordSet, AllocError>
         requires { key.now ≡ record_key entry.now }

@@ -40,10 +40,14 @@ const UPDATE: &str =
     "0007 2800 0001 0000 0001 0000 076578616D706C65 00 0006 0001 03777777 C00C 0001";
 
 /// The TTL that the set of the addresses has after an update, and how many records.
-fn addresses_after(alloc: Global, update: &[&str]) -> Result<Option<(u32, usize)>, Fail> {
+fn addresses_after(
+    alloc: Global,
+    text: &str,
+    update: &[&str],
+) -> Result<Option<(u32, usize)>, Fail> {
     let owner = Name::parse(alloc, "www.example.", None)?;
     let key = RrKey::new(LowerName::new(alloc, &owner)?, RecordType::A);
-    let (_, sets) = apply(alloc, TWO, update)?;
+    let (_, sets) = apply(alloc, text, update)?;
     Ok(sets.get(&key).map(|set| (set.ttl(), set.records_count())))
 }
 
@@ -57,9 +61,41 @@ fn a_set_has_the_ttl_of_its_last_record(rt: HostRuntime) -> Result<(), Fail> {
         (" 0001 0000003C 0004 C0000201", (600, 2)),
     ] {
         assert!(rt;
-            addresses_after(rt.alloc(), &[UPDATE, change])? == Some(wanted),
+            addresses_after(rt.alloc(), TWO, &[UPDATE, change])? == Some(wanted),
             "{change}"
         );
+    }
+    Ok(())
+}
+
+/// The same SOA, and two addresses of `www.example.`, the first of which came last, so that the set has its TTL.
+const RENEWED: &str =
+    "@ 3600 SOA ns hostmaster 1 2 3 4 5\n@ NS ns\nwww 300 A 192.0.2.1\nwww 600 A 192.0.2.2\nwww 60 A 192.0.2.1\n";
+
+/// Additions of these addresses with the TTL that each has, and of the first with its owner in capital letters.
+const AND_WWW_1: &str = " 03777777 C00C 0001 0001 0000003C 0004 C0000201";
+
+const AND_WWW_2: &str = " 03777777 C00C 0001 0001 00000258 0004 C0000202";
+
+const AND_CAPITALS: &str = " 03575757 C00C 0001 0001 0000003C 0004 C0000201";
+
+/// The deletion of their set.
+const NO_WWW: &str = " 03777777 C00C 0001 00FF 00000000 0000";
+
+/// Updates of the two addresses, and the TTL that their set has then: its own where the records are the same in the
+/// end, however that came, and else that of its last record.
+const KEPT: &[(&'static [&'static str], u32)] = &[
+    (&[DELETES, "0001", OF_ZONE, AND_WWW_1], 60),
+    (&[DELETES, "0001", OF_ZONE, NOT_WWW_3], 60),
+    (&[DELETES, "0002", OF_ZONE, NOT_WWW_2, AND_WWW_2], 60),
+    (&[DELETES, "0003", OF_ZONE, NO_WWW, AND_WWW_1, AND_WWW_2], 60),
+    (&[DELETES, "0001", OF_ZONE, AND_CAPITALS], 600),
+];
+
+#[test]
+fn a_set_of_the_same_records_stays(rt: HostRuntime) -> Result<(), Fail> {
+    for (i, &(update, ttl)) in KEPT.iter().enumerate() {
+        assert!(rt; addresses_after(rt.alloc(), RENEWED, update)? == Some((ttl, 2)), "row {i}");
     }
     Ok(())
 }

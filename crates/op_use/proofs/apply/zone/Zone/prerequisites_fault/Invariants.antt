@@ -1,4 +1,4 @@
-use Rattle.op_use.proofs.apply.zone.Zone.first_fault.Given as goal
+use Rattle.op_use.proofs.apply.zone.Zone.prerequisites_fault.Given as goal
 use Rattle.op_use.specs.HeldZone.{zone_of}
 use Rattle.op_use.specs.Server.{first_fault, prerequisite_fault}
 use Rattle.std.proofs.Common.{drop, ◌≡◌}
