@@ -152,6 +152,7 @@ impl EncodedSize for Header {
 
     const LEN: usize = 12;
 
+    #[inline(always)]
     fn fill(&self, room: &mut [u8]) {
         room.copy_from_slice(&self.to_bytes());
     }
