@@ -88,14 +88,20 @@ const KEPT: &[(&'static [&'static str], u32)] = &[
     (&[DELETES, "0001", OF_ZONE, AND_WWW_1], 60),
     (&[DELETES, "0001", OF_ZONE, NOT_WWW_3], 60),
     (&[DELETES, "0002", OF_ZONE, NOT_WWW_2, AND_WWW_2], 60),
-    (&[DELETES, "0003", OF_ZONE, NO_WWW, AND_WWW_1, AND_WWW_2], 60),
+    (
+        &[DELETES, "0003", OF_ZONE, NO_WWW, AND_WWW_1, AND_WWW_2],
+        60,
+    ),
     (&[DELETES, "0001", OF_ZONE, AND_CAPITALS], 600),
 ];
 
 #[test]
 fn a_set_of_the_same_records_stays(rt: HostRuntime) -> Result<(), Fail> {
     for (i, &(update, ttl)) in KEPT.iter().enumerate() {
-        assert!(rt; addresses_after(rt.alloc(), RENEWED, update)? == Some((ttl, 2)), "row {i}");
+        assert!(rt;
+            addresses_after(rt.alloc(), RENEWED, update)? == Some((ttl, 2)),
+            "row {i}"
+        );
     }
     Ok(())
 }
