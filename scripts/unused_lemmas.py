@@ -10,7 +10,7 @@ from common import ROOT
 
 WORD = re.compile(r"[^\s(){}\[\],;.|:]+")
 COMMENT = re.compile(r"(^|[ \t])--([ \t].*)?$", re.M)
-IMPORT = re.compile(r"^\s*(?:ghost )?use (Rattle[\w.]*)\.\{(.*)\};?$", re.M)
+IMPORT = re.compile(r"^\s*(?:ghost )?use (Rattle[\w.]*)\.\{([^}]*)\};?$", re.M)
 MODULE = re.compile(r"^\s*(?:ghost )?use (Rattle[\w.]*) as (\S+?);?$", re.M)
 ATTRIBUTE = re.compile(r"(\w+)::(specs|proofs)::([\w:]+)::([\w-]+)")
 HEAD = re.compile(r"^\s*(?:(?:pub|abbrev|unfoldable)\s+)*(?:(?:record|data|ruleset)\s+)?([^\s:(){}\[\],.]+)\s*(.*)$")
