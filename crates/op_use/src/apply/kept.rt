@@ -18,7 +18,7 @@ use std::collections::{BTreeMap, BTreeSet};
 
 impl<'a> Zone<'a> {
     /// Puts each set that the updates name back as it was where its records are the same: its TTL, its serial and the
-    /// spelling of its owner may have changed on the way. Each set is looked at once.
+    /// spelling of its owner may have changed on the way. The records of each set are compared once.
     pub(crate) fn keep_same(
         &mut self,
         was: &BTreeMap<RrKey, RecordSet>,
@@ -33,27 +33,35 @@ impl<'a> Zone<'a> {
             if seen.contains(&key) {
                 continue;
             }
-            self.keep_set(was, &key)?;
+            let is_compared = self.keep_set(was, &key)?;
+            if !is_compared {
+                continue;
+            }
             seen.insert(key)?;
         }
         Ok(())
     }
 
-    /// Puts the set under a key back as it was where its records are the same.
-    fn keep_set(&mut self, was: &BTreeMap<RrKey, RecordSet>, key: &RrKey) -> Result<(), AllocError>
+    /// Puts the set under a key back as it was where its records are the same. Answers whether they had to be compared,
+    /// since there are as many of both.
+    fn keep_set(
+        &mut self,
+        was: &BTreeMap<RrKey, RecordSet>,
+        key: &RrKey,
+    ) -> Result<bool, AllocError>
         requires { IsZoneMap self.old.class was.now }
         ensures { OnOk result
             (Returns (λ (q : Key). eq_by_cmp key_cmp key.now q) was.now self.old self.new) }
     {
         let (Some(set), Some(now)) = (was.get(key), self.sets.get(key)) else {
-            return Ok(());
+            return Ok(false);
         };
         if !are_same(set.as_slice(), now.as_slice()) {
-            return Ok(());
+            return Ok(set.records_count() == now.records_count());
         }
         let copy = set.clone()?;
         self.sets.insert(key.clone()?, copy)?;
-        Ok(())
+        Ok(true)
     }
 }
 
