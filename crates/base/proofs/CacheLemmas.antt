@@ -108,9 +108,6 @@ module _ (copied labels : List ℕ) where
       ∙ ap (λ (xs : List ℕ). take (place + length labels - place) xs) (after copied)
       ∙ all
 
-  new_labels : labels_in whole (length copied + 1) ≡ Some labels
-  new_labels = some_labels whole (length copied + 1) (λ same. omega (arith, same)) ∙ ap (λ (xs : List ℕ). Some xs) new_from
-
   pub new_inside : IsInside whole (length copied + 1)
   new_inside some = omega (arith, new_len, length-append copied (length labels ∷ labels))
 
@@ -148,9 +145,6 @@ is_put copied old reached t place same there place_is = record {
 module _ (copied labels old new : List ℕ) (t : ℕ) (put : IsPut copied old new t) (all : All (IsInside copied) old) where
   abbrev now : List ℕ
   now = copied ++ (length labels ∷ labels)
-
-  pub put_here : labels_in now (get_or new t 0) ≡ Some labels
-  put_here = ap (labels_in now) put.here ∙ new_labels copied labels
 
   pub put_others : (q : ℕ) → q ≢ t → labels_in now (get_or new q 0) ≡ labels_in copied (get_or old q 0)
   put_others q other = ap (labels_in now) (put.others q other) ∙ labels_stay copied (length labels ∷ labels) (get_or old q 0) (inside_or copied old all q)
@@ -219,11 +213,6 @@ pub same_found : (copied now others others' : List ℕ) (first first' : List Tar
     → ((q : ℕ) → option_or (map.find nat_cmp q (entries_of now first')) (labels_in now (get_or others' q 0)) ≡ option_or (map.find nat_cmp q (entries_of copied first)) (labels_in copied (get_or others q 0)))
     → cache_of now others' first' ≡ cache_of copied others first
 same_found copied now others others' first first' same = same_cache _ _ (λ q. get_cache now others' first' q ∙ same q ∙ sym (get_cache copied others first q))
-
--- offsets that have the places that they had
-pub same_places : (copied old new : List ℕ) (first : List Target) → ((q : ℕ) → get_or new q 0 ≡ get_or old q 0) → cache_of copied new first ≡ cache_of copied old first
-same_places copied old new first same = same_found copied copied old new first first (λ q.
-    ap (λ (place : ℕ). option_or (map.find nat_cmp q (entries_of copied first)) (labels_in copied place)) (same q))
 
 pub same_inside : (copied old new : List ℕ) → ((q : ℕ) → get_or new q 0 ≡ get_or old q 0) → All (IsInside copied) old → All (IsInside copied) new
 same_inside copied old new same all k d inside = subst (IsInside copied) (sym (same k) ∙ get_or_default new k 0 d inside) (inside_or copied old all k)
@@ -331,9 +320,6 @@ copied_set copied labels others first count offset less room none inside there =
 
 -- ---- more labels that are copied
 
-pub longer_itself : (copied : List ℕ) → IsLonger copied copied
-longer_itself copied = record { more = []; is = sym (append-nil copied) }
-
 pub longer_both : {a b c : List ℕ} → IsLonger a b → IsLonger b c → IsLonger a c
 longer_both {a} {b} {c} first second = record {
   more = first.more ++ second.more;
@@ -343,9 +329,6 @@ longer_both {a} {b} {c} first second = record {
 module _ {copied now : List ℕ} (longer : IsLonger copied now) where
   pub longer_at : (labels : TargetLabels) → AreThere copied labels → labels_at now labels ≡ labels_at copied labels
   longer_at labels there = ap (λ (xs : List ℕ). labels_at xs labels) longer.is ∙ at_stay copied longer.more labels there
-
-  pub longer_one : (labels : TargetLabels) → AreThere copied labels → AreThere now labels
-  longer_one labels there = subst (λ (xs : List ℕ). AreThere xs labels) (sym longer.is) (are_there_stay copied longer.more labels there)
 
   pub longer_there : (targets : List Target) → All (IsThere copied) targets → All (IsThere now) targets
   longer_there targets there = subst (λ (xs : List ℕ). All (IsThere xs) targets) (sym longer.is) (there_stay copied longer.more targets there)
@@ -358,8 +341,6 @@ module _ {copied now : List ℕ} (longer : IsLonger copied now) where
 -- labels that were copied before get a place
 module _ (copied old reached : List ℕ) (t place : ℕ) (same : (q : ℕ) → get_or reached q 0 ≡ get_or old q 0) (there : t < length reached)
     (some : place ≢ 0) (inside : IsInside copied place) (all : All (IsInside copied) old) where
-  pub set_here : placed copied (slice_set reached t place) t ≡ Some (labels_from copied place)
-  set_here = ap (labels_in copied) (get_or-set_same reached t place 0 there) ∙ some_labels copied place some
 
   pub set_others : (q : ℕ) → q ≢ t → placed copied (slice_set reached t place) q ≡ placed copied old q
   set_others q other = ap (labels_in copied) (get_or-set_other reached t q place 0 other ∙ same q)

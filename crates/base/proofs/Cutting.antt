@@ -9,10 +9,6 @@ before-before : (a b : List ℕ) (c : Option (List ℕ × List ℕ)) → before 
 before-before a b None = refl
 before-before a b (Some cut) = ap (λ (front : List ℕ). Some (front, cut.1)) (sym (append_assoc a b cut.0))
 
-pub before-nil : (c : Option (List ℕ × List ℕ)) → before [] c ≡ c
-before-nil None = refl
-before-nil (Some cut) = refl
-
 -- one byte more is cut off
 cut_more : (cut cut' : List ℕ → Option (List ℕ × List ℕ)) (text : List ℕ) (i : ℕ) → i < length text → ((rest : List ℕ) → cut (get_or text i 0 ∷ rest) ≡ before (get_or text i 0 ∷ []) (cut' rest))
     → before (take (i + 1) text) (cut' (drop (i + 1) text)) ≡ before (take i text) (cut (drop i text))
@@ -29,18 +25,6 @@ pub item_more : (text : List ℕ) (i : ℕ) (kept : Bool) → i < length text �
     → before (take i text) (item kept (drop i text)) ≡ item false text → before (take (i + 1) text) (item (not kept && get_or text i 0 == 92) (drop (i + 1) text)) ≡ item false text
 item_more text i kept inside goes whole = cut_more (item kept) (item (not kept && get_or text i 0 == 92)) text i inside (λ rest. item_step kept (get_or text i 0) rest goes) ∙ whole
 
-item_stop : (c : ℕ) (rest : List ℕ) → ends_item c ≡ true → item false (c ∷ rest) ≡ Some ([], c ∷ rest)
-unfolding item
-item_stop c rest ends = rw ends refl
-
-pub item_ends : (text : List ℕ) (i : ℕ) (kept : Bool) → kept ≡ false → i < length text → ends_item (get_or text i 0) ≡ true
-    → before (take i text) (item kept (drop i text)) ≡ item false text → ◌≡◌ {A = Option (List ℕ × List ℕ)} (Some (take i text, drop i text)) (item false text)
-item_ends text i kept free inside ends whole =
-    let here : item kept (drop i text) ≡ Some ([], drop i text) =
-    ap (λ (k : Bool). item k (drop i text)) free ∙ ap (item false) (drop_more text i 0 inside)
-    ∙ item_stop (get_or text i 0) (drop (i + 1) text) ends ∙ ap (λ (rest : List ℕ). Some ([], rest)) (sym (drop_more text i 0 inside)) in
-    ap (λ (front : List ℕ). Some (front, drop i text)) (sym (append-nil (take i text))) ∙ ap (before (take i text)) (sym here) ∙ whole
-
 quoted_step : (kept : Bool) (c : ℕ) (rest : List ℕ) → not kept && c == 34 ≡ false → quoted kept (c ∷ rest) ≡ before (c ∷ []) (quoted (not kept && c == 92) rest)
 unfolding quoted
 quoted_step kept c rest goes = rw goes refl
@@ -48,17 +32,6 @@ quoted_step kept c rest goes = rw goes refl
 pub quoted_more : (text : List ℕ) (i : ℕ) (kept : Bool) → i < length text → not kept && get_or text i 0 == 34 ≡ false
     → before (take i text) (quoted kept (drop i text)) ≡ quoted false text → before (take (i + 1) text) (quoted (not kept && get_or text i 0 == 92) (drop (i + 1) text)) ≡ quoted false text
 quoted_more text i kept inside goes whole = cut_more (quoted kept) (quoted (not kept && get_or text i 0 == 92)) text i inside (λ rest. quoted_step kept (get_or text i 0) rest goes) ∙ whole
-
-quoted_stop : (c : ℕ) (rest : List ℕ) → c == 34 ≡ true → quoted false (c ∷ rest) ≡ Some ([], rest)
-unfolding quoted
-quoted_stop c rest ends = rw ends refl
-
-pub quoted_ends : (text : List ℕ) (i : ℕ) (kept : Bool) → kept ≡ false → i < length text → get_or text i 0 == 34 ≡ true
-    → before (take i text) (quoted kept (drop i text)) ≡ quoted false text → ◌≡◌ {A = Option (List ℕ × List ℕ)} (Some (take i text, drop (i + 1) text)) (quoted false text)
-quoted_ends text i kept free inside ends whole =
-    let here : quoted kept (drop i text) ≡ Some ([], drop (i + 1) text) =
-    ap (λ (k : Bool). quoted k (drop i text)) free ∙ ap (quoted false) (drop_more text i 0 inside) ∙ quoted_stop (get_or text i 0) (drop (i + 1) text) ends in
-    ap (λ (front : List ℕ). Some (front, drop (i + 1) text)) (sym (append-nil (take i text))) ∙ ap (before (take i text)) (sym here) ∙ whole
 
 past_at_line_end : (c : ℕ) (text : List ℕ) → is_line_end c ≡ true → past_separators false (c ∷ text) ≡ past_separators false text
 past_at_line_end c text is =

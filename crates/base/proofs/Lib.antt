@@ -31,7 +31,6 @@ pub mod PieceLemmas
 pub mod ReadLemmas
 pub mod ReadTexts
 pub mod ReadingLemmas
-pub mod RefusalLemmas
 pub mod Refusing
 pub mod SaysLemmas
 pub mod ShapeLemmas

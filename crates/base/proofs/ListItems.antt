@@ -107,18 +107,11 @@ puts-put : (front : List (List ℕ)) (word : List ℕ) (cut : Option (List (List
 puts-put front word None = refl
 puts-put front word (Some cut) = ap (λ (words : List (List ℕ)). Some (words, cut.1)) (sym (append_assoc front (word ∷ []) cut.0))
 
-puts-nil : (cut : Option (List (List ℕ) × List ℕ)) → puts [] cut ≡ cut
-puts-nil None = refl
-puts-nil (Some cut) = refl
-
 -- These items are read already; before the rest, they are all.
 pub record Listing (text rest : List ℕ) (items : List (List ℕ)) : Type 0 where
   pub steps : ℕ
   pub enough : length rest ≤ steps
   pub whole : puts items (list_items steps rest) ≡ list_items (length text) text
-
-pub listing_begins : (text : List ℕ) → Listing text text []
-listing_begins text = record { steps = length text; enough = omega arith; whole = puts-nil (list_items (length text) text) }
 
 pub listed_is : (steps : ℕ) (text : List ℕ) (found : Element) → element (past_separators false text) ≡ found → list_items (suc steps) text ≡ listed (list_items steps) found
 unfolding list_items

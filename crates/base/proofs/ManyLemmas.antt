@@ -18,10 +18,6 @@ pub record Gathers {A : Type 0} (read : List ℕ → ℕ → Read A) (count coun
   pub same : bytes ≡ first
   pub below : counter ≤ count
 
-pub front_none : {A : Type 0} (r : Read (List A)) → with_front [] r ≡ r
-front_none (Ok x) = refl
-front_none (Err e) = refl
-
 one_more : {A : Type 0} (items : List A) (x : A) (r : Read (List A)) → with_front items (r >>= λ others. Ok (x ∷ others.0, others.1)) ≡ with_front (items ++ x ∷ []) r
 one_more items x (Ok r) = ap (λ ys. Ok (ys, r.1)) (sym (append_assoc items (x ∷ []) r.0))
 one_more items x (Err e) = refl
@@ -46,11 +42,6 @@ many-fault read n c bytes i items f below is =
 pub many-end : {A : Type 0} (read : List ℕ → ℕ → Read A) (bytes : List ℕ) (i : ℕ) (items : List A) → with_front items (many_at read 0 bytes i) ≡ Ok (items, i)
 unfolding many_at
 many-end read bytes i items = ap (λ ys. Ok (ys, i)) (append-nil items)
-
-pub gathers_none : {A : Type 0} (read : List ℕ → ℕ → Read A) (count : ℕ) (bytes : List ℕ) (i : ℕ) → Gathers read count 0 bytes bytes i i []
-gathers_none read count bytes i =
-    let all : count - 0 ≡ count = omega arith in
-    record { whole = rw all (front_none (many_at read count bytes i)); same = refl; below = omega arith }
 
 pub gathers_more : {A : Type 0} {read : List ℕ → ℕ → Read A} {n c : ℕ} {first bytes : List ℕ} {start i : ℕ} {items : List A} {x : A} {e : ℕ} → c < n
     → read bytes i ≡ Ok (x, e) → Gathers read n c first bytes start i items → Gathers read n (c + 1) first bytes start e (items ++ x ∷ [])

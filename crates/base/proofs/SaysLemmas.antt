@@ -101,10 +101,6 @@ pub Says-refuses : {X F : Type 0} {word : List ℕ → ℕ → ℕ → Type 0} {
     → Refuses plain a r
 Says-refuses {plain = plain} r f a b says is = Exactly-refuses r plain f a b (says.at_most (length a.bytes) a.suffixes) is
 
-pub Exactly-stores : {X : Type 0} (r : Result X ProtoError) (labels : List (List ℕ)) (a b : State) → Exactly (name labels) a b r → OnOk r (StoresSuffixes labels a b)
-Exactly-stores (Ok x) labels a b is = name-stores labels a b is
-Exactly-stores (Err e) labels a b is = tt
-
 -- a label that fits keeps what stood before
 pub Keeps-label : (x : List ℕ) (xs : List (List ℕ)) (s z : State) → z ≡ after (label_of x xs) s → length s.bytes + (1 + length x) ≤ s.limit → Keeps s z
 Keeps-label x xs s z is within =

@@ -48,29 +48,3 @@ module _ {E : Type 0} (word : E → List ℕ → ℕ → ℕ → Type 0) (plain 
     exact ∙ ap (λ f. after f a) (in_turn-map (λ x. x.now) written xs),
     passes,
   )
-
--- What was written of a slice is a function of its elements, the place and the suffixes stored: as many of them as fit.
-module _ {E : Type 0} (word : E → List ℕ → ℕ → ℕ → Type 0) (plain : E → ℕ) (owner : E → List (List
-    ℕ)) (written : E → Writing) (s t : Iter E) (a b : State) (n : ℕ) (begun : length a.bytes ≤
-    a.limit) where
-  abbrev pub Fitting : Type 0
-  Fitting = (b ≡ after (fitting written a.limit s.rest.now) a) × (n ≡ length (that_fit written a.limit s.rest.now (length a.bytes) a.suffixes))
-
-  are_fitting : (kept lost : List E) → s.rest.now ≡ kept ++ lost → EachWritten word plain owner kept
-      a b → b ≡ after (in_turn written kept) a → n ≡ length kept → FirstPasses written a.limit b lost →
-      Fitting
-  are_fitting kept lost whole each exact counted full =
-      let within : length b.bytes ≤ a.limit = omega (arith, begun, (Each-keeps word plain owner kept a b each).within) in
-      let same : that_fit written a.limit s.rest.now (length a.bytes) a.suffixes ≡ kept =
-      ap (λ xs. that_fit written a.limit xs (length a.bytes) a.suffixes) whole ∙ Fits-front written a.limit kept lost a b exact within full in
-      (exact ∙ ap (λ xs. after (in_turn written xs) a) (sym same), counted ∙ ap length (sym same))
-
-  pub Emits-all-fitting : EmitsAll (λ (x : Bor E). word x.now) (λ x. plain x.now) (λ x. owner x.now) (λ x. written x.now) fronts s t a b (Ok n) → Fitting
-  Emits-all-fitting emits =
-      let all = Emits-slice word plain owner written s t a b n emits in
-      are_fitting s.rest.now [] (sym (append-nil s.rest.now)) all.0 all.2 all.1 tt
-
-  pub Emits-front-fitting : EmitsAll (λ (x : Bor E). word x.now) (λ x. plain x.now) (λ x. owner x.now) (λ x. written x.now) fronts s t a b (Err (refusals.NotAllRecordsWritten n)) → Fitting
-  Emits-front-fitting emits =
-      let front = Emits-front word plain owner written s t a b n emits in
-      are_fitting front.0 (front.1 ∷ front.2) front.3 front.4 front.7 front.5 front.8

@@ -51,15 +51,6 @@ one_key xs ys same = ap (drop 4) same
 key_labels : (t : Stored) (bytes : List ℕ) → wire_of t.labels ≡ bytes → t.labels ≡ labels_of bytes
 key_labels t bytes is = sym (labels_of-wire_of t.labels) ∙ ap labels_of is
 
--- no suffix is stored
-pub IsIndexed-none : (find : List ℕ → Option ℕ) → ((bytes : List ℕ) → find bytes ≡ None) → IsIndexed find []
-IsIndexed-none find none = record {
-  rises = λ i j d less inside. absurd (omega arith);
-  once = λ i j d less inside. absurd (omega arith);
-  kept = All-nil (λ (t : Stored). find (wire_of t.labels) ≡ Some t.offset);
-  found = λ bytes o is. absurd (none_is_not o (sym (none bytes) ∙ is));
-}
-
 -- what a look-up answers
 pub IsIndexed-finds : (find : List ℕ → Option ℕ) (list : List Stored) (bytes : List ℕ) (r : Option ℕ) → IsIndexed find list → wire_of (labels_of bytes) ≡ bytes → r ≡ find bytes
     → MatchOption r (All (λ t. t.labels ≢ labels_of bytes) list) (λ offset. Any (λ t. (t.labels ≡ labels_of bytes) × (t.offset ≡ offset)) list)

@@ -36,21 +36,3 @@ word_same m n p q e = sym (from_be_bytes-to_be_bytes_2 m p) ∙ ap (from_be_byte
 
 pub long_same : (m n : ℕ) → m < 2 ^ 32 → n < 2 ^ 32 → to_be_bytes w32 m ≡ to_be_bytes w32 n → m ≡ n
 long_same m n p q e = sym (from_be_bytes-to_be_bytes_4 m p) ∙ ap (from_be_bytes w32) e ∙ from_be_bytes-to_be_bytes_4 n q
-
--- what stands last
-pub stands_last : (xs ys B : List ℕ) (i : ℕ) → Stands (xs ++ ys) B i → Stands ys B (i + length xs)
-stands_last xs ys B i s = stands_part xs ys [] B i (subst (λ (end : List ℕ). Stands (xs ++ end) B i) (sym (append-nil ys)) s)
-
--- bytes that are others were written
-pub written_as : {X : Type 0} (r : Result X ProtoError) (xs ys : List ℕ) (a b : State) → xs ≡ ys → OnOk r (b ≡ appended xs a) → OnOk r (b ≡ appended ys a)
-written_as r xs ys a b same = subst (λ (bytes : List ℕ). OnOk r (b ≡ appended bytes a)) same
-
--- what follows, where the call succeeded
-pub on_ok : {X : Type 0} {P Q : Type 0} (r : Result X ProtoError) → (P → Q) → OnOk r P → OnOk r Q
-on_ok (Ok x) follows p = follows p
-on_ok (Err e) follows p = p
-
--- bytes after bytes
-pub appended_both : (a b c : State) (xs ys : List ℕ) → b ≡ appended xs a → c ≡ appended ys b → c ≡ appended (xs ++ ys) a
-appended_both a b c xs ys first second =
-    second ∙ ap (appended ys) first ∙ ap (λ (bytes : List ℕ). record a { bytes = bytes }) (append_assoc a.bytes xs ys)

@@ -34,9 +34,6 @@ pub record AreGathered (count end : ℕ) (first bytes : List ℕ) (start i : ℕ
   pub whole : with_front items (options_to fuel end bytes i) ≡ options_to count end first start
   pub same : bytes ≡ first
 
-pub gathered_none : (count end : ℕ) (bytes : List ℕ) (i : ℕ) → end ≡ i + count → AreGathered count end bytes bytes i i []
-gathered_none count end bytes i is = record { fuel = count; room = omega arith; whole = front_none (options_to count end bytes i); same = refl }
-
 one_more : (items : List OptionValue) (x : OptionValue) (r : Read (List OptionValue)) → with_front items (r >>= λ others. Ok (x ∷ others.0, others.1)) ≡ with_front (items ++ x ∷ []) r
 one_more items x (Ok r) = ap (λ ys. Ok (ys, r.1)) (sym (append_assoc items (x ∷ []) r.0))
 one_more items x (Err e) = refl

@@ -16,10 +16,6 @@ aname_at = one_name_at (λ name. record { name = name })
 unfoldable pub aname_of : List (List ℕ) → Option NameValue → Option ANAME
 aname_of = one_name_of (λ name. record { name = name })
 
--- the bytes of the name, without compression
-abbrev pub aname_wire : ANAME → List ℕ
-aname_wire x = wire_of x.name.labels ++ 0 ∷ []
-
 -- the kind ANAME
 abbrev pub aname_kind : ANAME → Kind
 aname_kind x = name_kind 5 x.name (plain_name x.name.labels) (Says-plain_name x.name.labels)

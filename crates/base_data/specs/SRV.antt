@@ -75,11 +75,6 @@ srv_numbers_stand x B i fits s =
       ),
     )
 
--- the bytes of the fields, the name without compression
-abbrev pub srv_wire : SRV → List ℕ
-srv_wire x = to_be_bytes w16 x.priority
-    ++ (to_be_bytes w16 x.weight ++ (to_be_bytes w16 x.port ++ (wire_of x.target.labels ++ 0 ∷ [])))
-
 -- how many bytes the fields are, names without compression
 abbrev pub plain_srv : SRV → ℕ
 plain_srv x = 2 + (2 + (2 + (plain_len x.target.labels)))

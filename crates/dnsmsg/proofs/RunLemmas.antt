@@ -19,9 +19,6 @@ use Rattle.dnsmsg.specs.declared.refusal.Failure.{Failure}
 use Rattle.dnsmsg.specs.declared.refusal.Failure.TheVariants as failures
 use Rattle.dnsmsg.specs.declared.refusal.Refusal.{Refusal}
 
-pub some_and_none : {Y : Type 0} (command : Command) (words : Option Command) → Some command ≡ words → words ≡ None → Y
-some_and_none command words named is = absurd (let both : Some command ≡ None = named ∙ is in cc)
-
 pub same_command : (a b : Command) (words : Option Command) → Some a ≡ words → words ≡ Some b → a ≡ b
 same_command a b words named is = some_once (named ∙ is) where
   some_once : Some a ≡ Some b → a ≡ b
@@ -41,42 +38,10 @@ module _ (status : ℕ) (old new : Option (List ℕ)) where
   given answer (inl broke) whole = absurd (whole broke)
   given answer (inr shown) whole = shown
 
-  status_within : (answer : Answer) → answer.status ≤ 3 → (status ≡ 3) ⊎ IsPrinted answer status old new → status ≤ 3
-  status_within answer small (inl broke) = omega arith
-  status_within answer small (inr shown) = omega (arith, shown.is_status)
-
-  pub usage_within : (status ≡ 3) ⊎ IsPrinted usage status old new → status ≤ 3
-  usage_within = status_within usage (omega arith)
-
-  pub done_within : (text : List ℕ) → (status ≡ 3) ⊎ IsPrinted (done text) status old new → status ≤ 3
-  done_within text = status_within (done text) (omega arith)
-
-  pub refused_within : (number : ℕ) → (status ≡ 3) ⊎ IsPrinted (refused number) status old new → status ≤ 3
-  refused_within number = status_within (refused number) (omega arith)
-
-pub broken_within : broken ≤ 3
-broken_within = omega arith
-
 -- what is printed for a command, of a text
 module _ (status : ℕ) (old new : Option (List ℕ)) (words : List (List ℕ)) (text : List ℕ) where
   answered : (answer_of : List ℕ → Answer) (answer : Answer) → answer_of text ≡ answer → IsPrinted answer status old new → IsAnswered (answer_of text) status old new
   answered answer_of answer is shown = inl (subst (λ a. IsPrinted a status old new) (sym is) shown)
-
-  -- the refusal where memory ran out answers any text
-  pub memory_answers : (command : Command) → IsPrinted (refused 3) status old new → IsGiven command words text status old new
-  memory_answers (commands.OnMessage messages.Header) shown = inr shown
-  memory_answers (commands.OnMessage messages.Read) shown = inr shown
-  memory_answers (commands.OnMessage (messages.Cut limit)) shown = inr shown
-  memory_answers (commands.Zone origin) shown = inr shown
-  memory_answers (commands.Apply origin) shown = inr shown
-
-  pub lines_answer : (command : Command) (lines : String Global) → CommandAnswers command words text (Ok lines)
-      → IsPrinted (done (string_bytes lines)) status old new → IsGiven command words text status old new
-  lines_answer (commands.OnMessage messages.Header) lines says shown = answered header_answer (done (string_bytes lines)) says shown
-  lines_answer (commands.OnMessage messages.Read) lines says shown = answered read_answer (done (string_bytes lines)) says shown
-  lines_answer (commands.OnMessage (messages.Cut limit)) lines says shown = inl (done (string_bytes lines), says, shown)
-  lines_answer (commands.Zone origin) lines says shown = answered (zone_answer origin (words_after_origin words)) (done (string_bytes lines)) says shown
-  lines_answer (commands.Apply origin) lines says shown = answered (apply_answer origin (words_after_origin words)) (done (string_bytes lines)) says shown
 
   refused_with : (answer_of : List ℕ → Answer) (number : ℕ) → (number ≡ 3) ⊎ (answer_of text ≡ refused number) → IsPrinted (refused number) status old new → IsAnswered (answer_of text) status old new
   refused_with answer_of number (inl memory) shown = inr (subst (λ n. IsPrinted (refused n) status old new) memory shown)
@@ -98,14 +63,6 @@ module _ (status : ℕ) (old new : Option (List ℕ)) (words : List (List ℕ)) 
 
 -- what was printed answers what remained of the input
 module _ (status : ℕ) (old new remaining : Option (List ℕ)) (words : List (List ℕ)) (command : Command) where
-  pub memory_given : (status ≡ 3) ⊎ IsPrinted (refused 3) status old new → status ≢ broken → IfSome remaining (λ input. IsGiven command words input status old new)
-  memory_given printed whole = every remaining (λ input. memory_answers status old new words input command (given status old new (refused 3) printed whole))
-
-  pub lines_given : (lines : String Global) (shown : List ℕ) → Gives command words remaining (Ok lines) → shown ≡ string_bytes lines
-      → (status ≡ 3) ⊎ IsPrinted (done shown) status old new → status ≢ broken → IfSome remaining (λ input. IsGiven command words input status old new)
-  lines_given lines shown says same printed whole =
-      each remaining (λ input here. lines_answer status old new words input command lines here
-      (subst (λ line. IsPrinted (done line) status old new) same (given status old new (done shown) printed whole))) says
 
   pub refusal_given : (e : Failure) (refusal : Refusal) (number : ℕ) → Gives command words remaining (Err e) → e ≡ failures.Refused refusal → number ≡ refusal_number refusal
       → (status ≡ 3) ⊎ IsPrinted (refused number) status old new → status ≢ broken → IfSome remaining (λ input. IsGiven command words input status old new)

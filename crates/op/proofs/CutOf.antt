@@ -148,9 +148,6 @@ module _ (m : MessageValue) (old new : State) (h : Header) (e : Emitted m old ne
 
   -- ---- what was kept
 
-  op : OpCode
-  op = m.metadata.op_code
-
   fits_answers : All (FitsPlain m.metadata.op_code) e.answers.kept
   fits_answers = all_front (FitsPlain m.metadata.op_code) m.answers e.answers.kept e.answers.lost e.answers.whole fits.answers
 

@@ -76,9 +76,6 @@ query_is B i r is =
     let value : q ≡ query_value raw = ap (λ (absolute : Bool). record q { name = record name { absolute = absolute } }) name_stands.absolute in
     subst (λ x. IsReadQuery B i x) same (record { word = record { raw = raw; word = word; value = value } })
 
-number_next : (B : List ℕ) (i j n : ℕ) → i ≡ j → IsNumberAt w16 B i n → number_at w16 B j ≡ Ok (n, j + 2)
-number_next B i j n same s = number_again w16 B j n (subst (λ k. IsNumberAt w16 B k n) same s)
-
 query_again : (B : List ℕ) (i : ℕ) (q : Query) (e : ℕ) → IsQueryAt B i q e → query_at B i ≡ Ok (q, e)
 unfolding query_at
 query_again B i q e s =

@@ -37,9 +37,6 @@ joined_when r xs false none = ap (λ ys. ys ++ r ∷ []) (replaced_none r xs non
 pub joined_is : (r : Record RData) (xs : List (Record RData)) → joined r xs ≡ (if list_any (has_data_of r) xs then replaced r xs else xs ++ r ∷ [])
 joined_is r xs = joined_when r xs (list_any (has_data_of r) xs) refl
 
-pub joined_last : (r : Record RData) (xs : List (Record RData)) → list_any (has_data_of r) xs ≡ false → joined r xs ≡ xs ++ r ∷ []
-joined_last r xs none = joined_is r xs ∙ ap (λ b. if b then replaced r xs else xs ++ r ∷ []) none
-
 joined_at : (r : Record RData) (xs : List (Record RData)) (b : Bool)
     → map datum_of (if b then replaced r xs else xs ++ r ∷ [])
     ≡ (if b then map (λ d. if is_data_of d r then datum_of r else d) (map datum_of xs) else map datum_of xs ++ datum_of r ∷ [])
@@ -59,13 +56,6 @@ pub parted_data : (r : Record RData) (xs : List (Record RData)) → map datum_of
 parted_data r [] = refl
 parted_data r (x ∷ xs) = parted_at r x (parted r xs) (not (same_data x.rdata r.rdata)) refl
     ∙ ap (λ ds. cond (not (same_data x.rdata r.rdata)) (datum_of x ∷ ds) ds) (parted_data r xs)
-
--- a record of whose data there is none takes nothing out
-pub parted_none : (r : Record RData) (xs : List (Record RData)) → list_any (has_data_of r) xs ≡ false → parted r xs ≡ xs
-parted_none r [] none = refl
-parted_none r (x ∷ xs) none =
-    let parts : (has_data_of r x ≡ false) × (list_any (has_data_of r) xs ≡ false) = or_parts (has_data_of r x) (list_any (has_data_of r) xs) none in
-    cond-true (not (has_data_of r x)) _ _ (ap not parts.0) ∙ ap (λ ys. x ∷ ys) (parted_none r xs parts.1)
 
 -- no two of equal data
 abbrev Far : Record RData → List (Record RData) → Type 0
@@ -133,7 +123,3 @@ distinct_parted r (x ∷ xs) h = distinct_cond x (parted r xs) (not (same_data x
 pub distinct_one : (r : Record RData) → Distinct (r ∷ [])
 unfolding IsDistinct
 distinct_one r = (tt, tt)
-
-pub distinct_none : Distinct []
-unfolding IsDistinct
-distinct_none = tt

@@ -67,9 +67,6 @@ not_opt : (t : RecordType) → is_ordinary t ≡ true → is_opt_type t ≡ fals
 not_opt types.OPT h = cc
 not_opt _ h = refl
 
-not_root : (t : RecordType) → is_ordinary t ≡ true → t ≢ types.OPT
-not_root t h e = true≢false (sym h ∙ ap is_ordinary e)
-
 -- types of which a record without data can stand among answers and authorities
 record IsSentType (t : RecordType) : Type 0 where
   reads : type_of (type_number t) ≡ t

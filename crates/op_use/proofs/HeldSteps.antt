@@ -50,17 +50,6 @@ updated_more rs ss old mid new first next = chain (subst (λ (z : HeldZone). IsU
 pub moved_held : (k q : RrKey) (xs ys : List (Record RData)) (old new : HeldZone) → k ≡ q → xs ≡ ys → Holds k xs old new → Holds q ys old new
 moved_held k q xs ys old new e f h = subst (λ (j : RrKey). Holds j ys old new) e (subst (λ (zs : List (Record RData)). Holds k zs old new) f h)
 
--- records of which none is last are none
-some_last : (x : Record RData) (xs : List (Record RData)) → slice_get (x ∷ xs) (length xs) ≡ None → ⊥
-some_last x [] e = absurd cc
-some_last x (y ∷ ys) e = some_last y ys e
-
-pub none_last : (xs : List (Record RData)) → slice_get xs (length xs - 1) ≡ None → xs ≡ []
-none_last [] e = refl
-none_last (x ∷ xs) e =
-    let same : length (x ∷ xs) - 1 ≡ length xs = omega arith in
-    absurd (some_last x xs (subst (λ n. slice_get (x ∷ xs) n ≡ None) same e))
-
 -- a set that is taken out
 gone_set : (class : DNSClass) (m : BTreeMap RrKey SetValue) (b : Bool) (q : RrKey) (s : SetValue) → IsZoneMap class m → cond b None (tree.get key_cmp m q) ≡ Some s → IsZoneSet class q s
 gone_set class m true q s old e = absurd cc

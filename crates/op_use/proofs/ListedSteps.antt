@@ -89,9 +89,6 @@ module _ (m : BTreeMap RrKey SetValue) (class : DNSClass) (all : List (Record RD
   abbrev pub AreComplete : {V : Type 0} → BTreeMap RrKey V → Type 0
   AreComplete {V} held = (q : RrKey) → is_some (tree.get key_cmp held q) ≡ true → complete_at q ≡ true
 
-  pub passed_other : (r : Record RData) → is_by_value class r ≡ false → passes r ≡ true
-  passed_other r other = ap (λ b. not b || (there_under m r (record_key r) && listed_under m class all r (record_key r))) other
-
   by_parts : (r : Record RData) (k : RrKey) (there listed : Bool) → is_by_value class r ≡ true → k ≡ record_key r → list_any (has_data_of r) (records_at m k) ≡ there → complete_at k ≡ listed
       → passes r ≡ (there && listed)
   by_parts r k there listed own same e f = ap (λ b. not b || (there_under m r (record_key r) && listed_under m class all r (record_key r))) own

@@ -139,34 +139,6 @@ more_after origin class rs ss m n p first next = record {
 pub injected : (s p : SetValue) → Some s ≡ Some p → s ≡ p
 injected s p e = ap (λ o. unwrap_or o s) e
 
-last_filled : (xs : List (Record RData)) (r : Record RData) → slice_get xs (length xs - 1) ≡ Some r → xs ≢ []
-last_filled [] r e = absurd cc
-last_filled (x ∷ xs) r e = λ f. cc
-
--- the TTL of the record that stands last
-ttl_after : (ttl : ℕ) (x : Record RData) (xs : List (Record RData)) (r : Record RData) → slice_get (x ∷ xs) (length xs) ≡ Some r
-    → fold (λ (t : ℕ) (y : Record RData). y.ttl) ttl (x ∷ xs) ≡ r.ttl
-ttl_after ttl x [] r e = ap (λ (o : Option (Record RData)). (unwrap_or o x).ttl) e
-ttl_after ttl x (y ∷ ys) r e = ttl_after x.ttl y ys r e
-
-ttl_of_last : (xs : List (Record RData)) (r : Record RData) → slice_get xs (length xs - 1) ≡ Some r → last_ttl xs ≡ r.ttl
-ttl_of_last [] r e = absurd cc
-ttl_of_last (x ∷ xs) r e =
-    let same : length (x ∷ xs) - 1 ≡ length xs = omega arith in
-    ttl_after 0 x xs r (subst (λ n. slice_get (x ∷ xs) n ≡ Some r) same e)
-
--- a set that was made of records, with the TTL of the last, is the set at its key
-pub made_set : {class : DNSClass} {k : RrKey} {owner : NameValue} {t : RecordType} {last : Record RData} {xs : List (Record RData)} {s : SetValue} {m n : BTreeMap RrKey SetValue}
-    → k ≡ key_of owner t → Distinct xs → slice_get xs (length xs - 1) ≡ Some last
-    → s ≡ record { name = owner; record_type = t; dns_class = class; ttl = last.ttl; records = xs; serial = 0 } → tree.Updates key_cmp m n k (Some s) → IsSetTo class k xs m n
-made_set {class} {k} {last = last} {xs = xs} {s = s} own apart there is h = record {
-  set = Some s;
-  records = ap (λ (p : SetValue). p.records) is;
-  fits = λ p e. subst (λ q. IsZoneSet class k q) (sym is ∙ injected s p e) (record { own_key = sym own; own_class = refl; filled = last_filled xs last there; distinct = apart });
-  ttl = λ p e. inr (subst (λ (q : SetValue). q.ttl ≡ last_ttl q.records) (sym is ∙ injected s p e) (sym (ttl_of_last xs last there)));
-  puts = h.0;
-}
-
 pub moved : (class : DNSClass) (k q : RrKey) (xs ys : List (Record RData)) (m n : BTreeMap RrKey SetValue) → k ≡ q → xs ≡ ys → IsSetTo class k xs m n → IsSetTo class q ys m n
 moved class k q xs ys m n e f h = subst (λ j. IsSetTo class j ys m n) e (subst (λ zs. IsSetTo class k zs m n) f h)
 
@@ -190,20 +162,6 @@ chained class k xs m n p first h = record {
   ttl = λ s e. new_ttl k m n s first (h.ttl s e);
   puts = λ q. h.puts q ∙ ap (cond (eq_by_cmp key_cmp k q) h.set) (first.0 q) ∙ again (eq_by_cmp key_cmp k q) None h.set (tree.get key_cmp m q);
 }
-
-distinct_in : (class : DNSClass) (k : RrKey) (o : Option SetValue) → ((s : SetValue) → o ≡ Some s → IsZoneSet class k s) → Distinct (records_in o)
-unfolding IsDistinct
-distinct_in class k None h = tt
-distinct_in class k (Some s) h = (h s refl).distinct
-
-pub distinct_at : (class : DNSClass) (m : BTreeMap RrKey SetValue) (k : RrKey) → IsZoneMap class m → Distinct (records_at m k)
-distinct_at class m k old = distinct_in class k (tree.get key_cmp m k) (old k)
-
-pub join_distinct : (r : Record RData) (xs ys zs : List (Record RData)) → Distinct zs → xs ≡ zs → ys ≡ joined r xs → Distinct ys
-join_distinct r xs ys zs apart e f = subst (λ ws. Distinct ws) (sym (f ∙ ap (joined r) e)) (distinct_joined r zs apart)
-
-pub one_distinct : (r : Record RData) (ys : List (Record RData)) → ys ≡ r ∷ [] → Distinct ys
-one_distinct r ys e = subst (λ zs. Distinct zs) (sym e) (distinct_one r)
 
 -- the updates so far and one more
 taken_next : (xs : List (Record RData)) (i : ℕ) (d : Record RData) → i < length xs → take i xs ++ slice_index_or xs i d ∷ [] ≡ take (suc i) xs

@@ -9,10 +9,6 @@ use Rattle.std.proofs.Common.{arith, inl, inr, refl, subst, sym, ◌⊎◌}
 use Rattle.std.specs.List.{IsAmong, list_any}
 use Rattle.std.specs.Prelude.{Bool, List, [], cond, false, if◌then◌else◌, length, not, slice_index_or, suc, true, zero, ℕ, ◌++◌, ◌<◌, ◌∷◌, ◌≡◌}
 
--- what is among records
-pub first_among : {X : Type 0} (x : X) (xs : List X) → IsAmong (x ∷ xs) x
-first_among x xs = (zero, (omega arith, refl))
-
 pub later_among : {X : Type 0} (x y : X) (xs : List X) → IsAmong xs y → IsAmong (x ∷ xs) y
 later_among x y xs h = (suc h.0, (omega arith, h.1.1))
 

@@ -114,9 +114,6 @@ module _ (owner : NameValue) {X : Type 0} where
   pub next_owned : (e : RrKey × X) (es : List (RrKey × X)) → is_owned owner e.0 ≡ true → take_while owned_entry (e ∷ es) ≡ e ∷ take_while owned_entry es
   next_owned e es h = take_while-cons owned_entry e es ∙ cond-true _ _ _ h
 
-  pub next_other : (e : RrKey × X) (es : List (RrKey × X)) → is_owned owner e.0 ≡ false → take_while owned_entry (e ∷ es) ≡ []
-  next_other e es h = take_while-cons owned_entry e es ∙ cond-false _ _ _ h
-
   module _ (p : RrKey → Bool) where
     any_step : (e : RrKey × X) (fs : List (RrKey × X)) (c b : Bool) → is_owned owner e.0 ≡ b → list_any (passes owner p) (keys_of fs) ≡ c
         → list_any (passes owner p) (keys_of (cond b (e ∷ fs) fs)) ≡ (passes owner p e.0 || c)
@@ -166,10 +163,6 @@ module _ (owner : NameValue) (p : RrKey → Bool) {X : Type 0} where
       ∙ ap (λ b. (b && p e.0) || rest) own ∙ ap (λ b. b || rest) bad) ∙ more where
         rest : Bool
         rest = list_any (passes owner p) (keys_of (take_while (owned_entry owner) es))
-
-  pub any_other : (s es : List (RrKey × X)) (e : RrKey × X) (c : Bool) → s ≡ e ∷ es → is_owned owner e.0 ≡ false
-      → list_any (passes owner p) (keys_of (take_while (owned_entry owner) s)) ≡ c → false ≡ c
-  any_other s es e c h other more = sym (ap (λ xs. list_any (passes owner p) (keys_of xs)) (ap (take_while (owned_entry owner)) h ∙ next_other owner e es other)) ∙ more
 
   pub kept_here : {s es : List (RrKey × X)} {e : RrKey × X} {more ks : List RrKey} (found : List RrKey) → more ≡ found ++ e.0 ∷ [] → s ≡ e ∷ es → is_owned owner e.0 ≡ true → p e.0 ≡ true
       → found ++ filter (passes owner p) (keys_of (take_while (owned_entry owner) s)) ≡ ks

@@ -219,10 +219,6 @@ module _ (bs : List ℕ) (m n : BTreeMap (Vec ℕ Global) ℕ) (w : Option ℕ)
   pub place_here : place_at n bs ≡ w
   place_here = h.1
 
--- an index that stays
-pub index_kept : (m n : BTreeMap (Vec ℕ Global) ℕ) (xs ys : List (Record RData)) → IsIndexOf (place_at m) xs → IsUnchanged m n → ys ≡ xs → IsIndexOf (place_at n) ys
-index_kept m n xs ys h same is = subst (λ (zs : List (Record RData)). IsIndexOf (place_at n) zs) (sym is) (record {
-  at = λ i d inside. ap (λ es. lookup (is_at (λ (k : Vec ℕ Global). slice_cmp nat_cmp (canonical_data (get_or xs i d).rdata) k.items)) es) same ∙ h.at i d inside;
 })
 
 -- a record more, after the others

@@ -47,12 +47,6 @@ module _ (owner : NameValue) (type : RecordType) (B : List ℕ) (i : ℕ) {class
   at_data : i + 6 + 2 ≡ i + 8
   at_data = omega arith
 
-  pub data_cut : {left asked : ℕ} → left ≡ length B - (i + 8) → asked ≡ len → left < asked → body_at owner type B i ≡ Err (faults.IncorrectRDataLengthRead left asked)
-  unfolding body_at
-  data_cut left_is asked_is short =
-      let test : nat_lt (length B) (i + 8 + len) ≡ true = lt-ltb (length B) (i + 8 + len) (omega (arith, short, left_is, asked_is)) in
-      rw (class_is, ttl_is, at_len, len_is, at_data, test, left_is, asked_is) refl
-
   -- the data has room where as many bytes are left
   pub room : {left asked : ℕ} → left ≡ length B - (i + 8) → asked ≡ len → asked ≤ left → nat_lt (length B) (i + 8 + len) ≡ false
   room left_is asked_is fits = le-ltb (length B) (i + 8 + len) (omega (arith, fits, left_is, asked_is, len_stands.inside))

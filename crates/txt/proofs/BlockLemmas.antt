@@ -29,18 +29,6 @@ filled_front blocks before b is h = front (λ v. v.items ≢ []) before (b ∷ [
 pub filled_last : (blocks before : List Block) (b : Block) → blocks ≡ before ++ b ∷ [] → AreFilled blocks → b.items ≢ []
 filled_last blocks before b is h = back (λ v. v.items ≢ []) before b (subst AreFilled is h)
 
--- the last block takes the place of an empty one
-pub next_block : (blocks before : List Block) (b : Block) → blocks ≡ before ++ b ∷ [] → sets_of blocks [] ≡ sets_of before b.items
-next_block blocks before b is =
-    append-nil (flat_map (λ (v : Block). v.items) blocks)
-    ∙ ap (flat_map (λ (v : Block). v.items)) is
-    ∙ flat_map-append (λ (v : Block). v.items) before (b ∷ [])
-    ∙ ap (λ (sets : ZoneSets). flat_map (λ (v : Block). v.items) before ++ sets) (append-nil b.items)
-
--- the last set of the last block leaves
-pub last_left : (blocks : List Block) (left : ZoneSets) (e : RrKey × SetValue) → sets_of blocks (left ++ e ∷ []) ≡ sets_of blocks left ++ e ∷ []
-last_left blocks left e = sym (append_assoc (flat_map (λ (v : Block). v.items) blocks) left (e ∷ []))
-
 last_after : (es : ZoneSets) (f : RrKey × SetValue) (fs : ZoneSets) (n : ℕ) → n ≡ length es + length fs → slice_get (es ++ f ∷ fs) n ≡ slice_get (f ∷ fs) (length fs)
 last_after [] f fs n is = ap (slice_get (f ∷ fs)) (omega (arith, is))
 last_after (e ∷ es) f fs zero is = absurd (omega (arith, is))

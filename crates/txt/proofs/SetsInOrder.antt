@@ -237,9 +237,6 @@ one_more_put {sets} {run} {whole} {left} e rest more order is last put =
       have = put ∙ ap (λ (zs : ZoneSets). insert_entry key_cmp zs e.0 e.1) is.have ∙ put_between sets is.put e.0 e.1 above;
     }
 
-pub all_put : {sets run whole left : ZoneSets} → left ≡ [] → AreBetween sets run whole left → whole ≡ sets ++ run
-all_put {sets} none is = is.have ∙ ap (λ (zs : ZoneSets). sets ++ zs) (ap (λ (zs : ZoneSets). zs ++ is.put) (sym none) ∙ is.all)
-
 -- a set under a key that is there takes the place of the one there
 pub put_there : (es : ZoneSets) (key : RrKey) (old new : SetValue) → AreInOrder es → set_at es key ≡ Some old → insert_entry key_cmp es key new ≡ set_value (is_at (key_cmp key)) es new
 put_there [] key old new order there = absurd cc

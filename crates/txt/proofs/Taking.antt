@@ -331,13 +331,6 @@ pub after_fails : (from : List Symbol) {all : Result (List (List ℕ) × List Sy
     → ItemsLeft front from all → took_items from ≡ Err fault → all ≡ Err fault
 after_fails from front fault left is = sym left ∙ ap (after front) is
 
-after-nil : (made : Result (List (List ℕ) × List Symbol) Fault) → after [] made ≡ made
-after-nil (Ok found) = refl
-after-nil (Err fault) = refl
-
-pub items_begin : (items : List (List ℕ)) (from : List Symbol) → items ≡ [] → ItemsLeft items from (took_items from)
-items_begin items from none = rw none (after-nil (took_items from))
-
 typed-is : (s : State) (word : List ℕ) (from : List Symbol)
     → took_typed s word from ≡ (type_named word >>= λ type. took_items from >>= λ read. data_of type read.0 s.origin >>= λ said. recorded s said >>= λ t. Ok (went t read.1))
 unfolding took_typed took_items
@@ -353,12 +346,6 @@ typed-is s word from = go (type_named word) (stop_of (items_of from).1).0 where
   go (Err fault) stop = refl
   go (Ok type) (refused fault) = refl
   go (Ok type) whole = made (data_of type (items_of from).0 s.origin) (stop_of (items_of from).1).1
-
-after-type : State → List Symbol → RecordType → Result Taken Fault
-after-type s from type = took_items from >>= λ read. data_of type read.0 s.origin >>= λ said. recorded s said >>= λ t. Ok (went t read.1)
-
-after-items : State → RecordType → List (List ℕ) × List Symbol → Result Taken Fault
-after-items s type read = data_of type read.0 s.origin >>= λ said. recorded s said >>= λ t. Ok (went t read.1)
 
 pub typed_unnamed : (s : State) (word : List ℕ) (from : List Symbol) (fault : Fault) → type_named word ≡ Err fault → took_typed s word from ≡ Err fault
 typed_unnamed s word from fault is =
