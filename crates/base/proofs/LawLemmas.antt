@@ -1,14 +1,12 @@
 -- The laws of writing, for what appends bytes and for what is written in parts.
-use Rattle.std.proofs.Common.{rules, ◌≡◌, ℕ, ◌+◌, ◌≤◌, List, [], ◌++◌, length, drop, refl, ap, sym, ◌∙◌, subst, append_assoc, arith, Result, Ok, Err, length-append}
-use Rattle.std.specs.Prelude.{OnOk, All, Option, Some, None}
+use Rattle.std.proofs.Common.{rules, ◌≡◌, ℕ, ◌+◌, ◌≤◌, List, [], ◌++◌, length, drop, ap, sym, ◌∙◌, subst, append_assoc, arith, length-append}
+use Rattle.std.specs.Prelude.{Option, Some, None}
 use Rattle.std.proofs.lemmas.List.{append-nil}
 use Rattle.std.proofs.lemmas.List.Elements.{All-nil, All-append, All-weaker}
 use Rattle.std.proofs.Math.Seq.{drop-append_seam, take-length}
-use Rattle.base.specs.declared.error.proto_error.ProtoError.{ProtoError}
 use Rattle.base.specs.State.{State, Stored, appended}
-use Rattle.base.specs.Words.{Stands, Then}
-use Rattle.base.specs.Laws.{IsSpelled, IsValid, Holds, Keeps, Writes}
-use Rattle.base.specs.SaysParts.{spelled_later, any_append}
+use Rattle.base.specs.Words.{Stands}
+use Rattle.base.specs.Laws.{IsValid, Holds, Keeps}
 use Rattle.base.specs.WordLemmas.{first_stands, stands_part}
 
 pub none_is_not : {A : Type 0} (x : A) → ◌≡◌ {A = Option A} None (Some x) → ⊥

@@ -1,15 +1,12 @@
 -- Writing after room that was kept, which is filled at the end.
-use Rattle.std.proofs.Common.{◌≡◌, ℕ, ◌+◌, ◌-◌, ◌<◌, ◌≤◌, ◌^◌, List, [], ◌++◌, length, take, drop, refl, ap, sym, ◌∙◌, subst, append_assoc, arith, length-append}
+use Rattle.std.proofs.Common.{◌≡◌, ℕ, ◌+◌, ◌≤◌, List, ◌++◌, length, take, drop, ap, sym, ◌∙◌, subst, append_assoc, arith, length-append}
 use Rattle.std.specs.Prelude.{All, Any}
-use Rattle.std.specs.Int.{w16, to_be_bytes}
 use Rattle.std.proofs.lemmas.List.Elements.{All-weaker}
 use Rattle.std.proofs.Math.Seq.{drop-append_seam, take-append_seam}
 use Rattle.base.specs.Spelling.{Spelled}
 use Rattle.base.specs.State.{State, Stored, appended, overwritten}
-use Rattle.base.specs.Words.{Stands, Number, Sized, Then}
+use Rattle.base.specs.Words.{Stands}
 use Rattle.base.specs.Laws.{IsSpelled, Holds, Keeps, Writes}
-use Rattle.base.proofs.LawLemmas.{Keeps-appended, Keeps-then, Writes-appended, Writes-then, Writes-unowned}
-use Rattle.base.specs.WordLemmas.{number16_stands}
 
 -- Room of as many bytes was kept after a, something was written after it, and the room was filled.
 module _ (room xs : List ℕ) (a b c d : State) (size : length xs ≡ length room) (kept : b ≡ appended room a) (k : Keeps b c) (filled : d ≡ overwritten (length a.bytes) xs c) where

@@ -1,14 +1,13 @@
 -- The elements of a slice that were written one after another.
-use Rattle.std.proofs.Common.{◌≡◌, ℕ, ◌+◌, ◌<◌, ◌≤◌, List, [], ◌∷◌, ◌++◌, length, map, refl, ap, sym, ◌∙◌, subst, arith, Ok, Err, Bor, Iter}
+use Rattle.std.proofs.Common.{◌≡◌, ℕ, ◌+◌, ◌<◌, List, [], ◌∷◌, ◌++◌, length, map, refl, ap, sym, ◌∙◌, subst, arith, Ok, Err, Bor, Iter}
 use Rattle.std.proofs.lemmas.List.{append-nil, length-map}
 use Rattle.std.proofs.iter.Yields.{fronts}
 use Rattle.std.specs.Iterator.{Yields}
 use Rattle.base.specs.declared.error.proto_error.ProtoError.TheVariants as refusals
 use Rattle.base.specs.State.{State}
 use Rattle.base.specs.Items.{EachWritten, EmitsAll}
-use Rattle.base.specs.Written.{Writing, piece_at, after, in_turn, that_fit, fitting, FirstPasses}
-use Rattle.base.proofs.ItemLemmas.{Each-keeps, Each-map}
-use Rattle.base.proofs.FittingLemmas.{Fits-front}
+use Rattle.base.specs.Written.{Writing, piece_at, after, in_turn}
+use Rattle.base.proofs.ItemLemmas.{Each-map}
 use Rattle.base.proofs.WrittenLemmas.{in_turn-map}
 
 -- the items that the iterator gave are the first elements of its slice

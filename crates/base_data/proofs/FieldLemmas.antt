@@ -1,15 +1,11 @@
 -- Data of several fields: equal where each of them is, and written one after another.
-use Rattle.std.proofs.Common.{Bool, Err, IsTrue, List, Ok, Result, [], ap, append_assoc, false, length, subst, sym, take, true, ℕ, ◌++◌, ◌+◌, ◌<◌, ◌^◌, ◌∙◌, ◌≡◌}
+use Rattle.std.proofs.Common.{Bool, IsTrue, List, ap, false, length, sym, take, true, ℕ, ◌++◌, ◌+◌, ◌<◌, ◌^◌, ◌∙◌, ◌≡◌}
 use Rattle.std.proofs.Math.Seq.{take-append_seam}
-use Rattle.std.proofs.lemmas.List.{append-nil, append_cancel_left}
+use Rattle.std.proofs.lemmas.List.{append_cancel_left}
 use Rattle.std.proofs.lemmas.Nat.{from_be_bytes-to_be_bytes_2, from_be_bytes-to_be_bytes_4}
 use Rattle.std.specs.Cmp.{unsigned_Decides}
 use Rattle.std.specs.Int.{from_be_bytes, to_be_bytes, w16, w32}
-use Rattle.std.specs.Prelude.{OnOk, ◌&&◌, ◌==◌}
-use Rattle.base.specs.WordLemmas.{stands_part}
-use Rattle.base.specs.State.{State, appended}
-use Rattle.base.specs.Words.{Stands}
-use Rattle.base.specs.declared.error.proto_error.ProtoError.{ProtoError}
+use Rattle.std.specs.Prelude.{◌&&◌, ◌==◌}
 
 -- both, where each
 pub both : (p q : Bool) → p ≡ true → q ≡ true → (p && q) ≡ true

@@ -3,7 +3,7 @@ use Rattle.std.proofs.Common.{◌≡◌, ℕ, ◌+◌, ◌<◌, ◌≤◌, List,
 use Rattle.std.proofs.lemmas.Bool.{le-leb, lt-leb}
 use Rattle.std.specs.Int.{w16}
 use Rattle.std.proofs.lemmas.List.{append-nil}
-use Rattle.base.proofs.ManyLemmas.{with_front, front_none}
+use Rattle.base.proofs.ManyLemmas.{with_front}
 use Rattle.base.proofs.ReadLemmas.{Fails-through, bind_ok, number_is}
 use Rattle.base.specs.Reading.{Read, Fails, ◌>>=◌, bytes_at, number_at}
 use Rattle.base.specs.declared.error.decode_error.DecodeError.{DecodeError}

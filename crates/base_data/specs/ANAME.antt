@@ -1,6 +1,6 @@
 -- ANAME data: a name whose addresses the owner has too.
-use Rattle.std.specs.Prelude.{ℕ, List, [], ◌∷◌, ◌++◌, Option}
-use Rattle.base.specs.Labels.{NameValue, wire_of}
+use Rattle.std.specs.Prelude.{ℕ, List, ◌∷◌, ◌++◌, Option}
+use Rattle.base.specs.Labels.{NameValue}
 use Rattle.base.specs.Reading.{Read}
 use Rattle.base_data.specs.Kind.{Kind}
 use Rattle.base_data.specs.OneName.{name_kind, one_name_at, one_name_of}

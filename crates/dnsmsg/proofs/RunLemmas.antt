@@ -1,9 +1,7 @@
 -- What a run of the program gives.
-use Rattle.std.proofs.Common.{◌≡◌, ◌⊎◌, ℕ, ◌≤◌, List, sym, ◌∙◌, subst, inl, inr, arith, Option, Some, None, Ok, Err}
-use Rattle.std.specs.Prelude.{IfSome, String, ◌≢◌}
-use Rattle.std.specs.String.{string_bytes}
-use Rattle.std.specs.declared.alloc.Global.{Global}
-use Rattle.dnsmsg.specs.Answer.{Answer, IsAnswered, IsGivenBy, IsPrinted, broken, done, refused, usage}
+use Rattle.std.proofs.Common.{◌≡◌, ◌⊎◌, ℕ, ◌≤◌, List, sym, ◌∙◌, subst, inl, inr, Option, Some, None, Err}
+use Rattle.std.specs.Prelude.{IfSome, ◌≢◌}
+use Rattle.dnsmsg.specs.Answer.{Answer, IsAnswered, IsGivenBy, IsPrinted, broken, refused}
 use Rattle.dnsmsg.specs.ApplyCommand.{apply_answer}
 use Rattle.dnsmsg.specs.Command.{CommandAnswers, Gives, IsGiven, IsRefused, refused_word}
 use Rattle.dnsmsg.specs.CutCommand.{IsCutAnswer}

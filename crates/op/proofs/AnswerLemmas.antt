@@ -1,5 +1,5 @@
 -- What an encoder answers to a message is decided by the message, the limit, the place and the suffixes stored.
-use Rattle.std.proofs.Common.{◌≡◌, ◌⊎◌, ℕ, ◌+◌, ◌-◌, ◌≤◌, Bool, true, false, List, [], ◌++◌, length, refl, ap, sym, ◌∙◌, inl, inr, subst, arith, length-append, Result, Ok, Err}
+use Rattle.std.proofs.Common.{◌≡◌, ◌⊎◌, ℕ, ◌+◌, ◌-◌, ◌≤◌, Bool, true, false, List, [], ◌++◌, length, refl, ap, sym, ◌∙◌, inl, inr, arith, length-append, Result, Ok, Err}
 use Rattle.std.specs.Prelude.{drop, if◌then◌else◌, nat_lt, replicate}
 use Rattle.std.proofs.lemmas.Bool.{le-ltb, lt-ltb}
 use Rattle.std.proofs.Math.Seq.{drop-append_seam}
@@ -8,8 +8,7 @@ use Rattle.base.specs.declared.error.proto_error.ProtoError.{ProtoError}
 use Rattle.base.specs.declared.error.proto_error.ProtoError.TheVariants as refusals
 use Rattle.base.specs.Written.{after}
 use Rattle.base.proofs.ItemLemmas.{Each-keeps}
-use Rattle.op.specs.Cut.{IsTooSmall}
-use Rattle.op.specs.Emitted.{Emitted, IsNew, Leaves, LeavesNew, WritesFront, query_owner}
+use Rattle.op.specs.Emitted.{Emitted, IsNew, Leaves, WritesFront, query_owner}
 use Rattle.op.specs.Fits.{HasRoom}
 use Rattle.op.specs.Message.{MessageValue}
 use Rattle.op.specs.MessageWritten.{Part, message_answer, message_answer_at, message_bytes, message_written, part}

@@ -2,12 +2,10 @@
 use Rattle.base.specs.Labels.{NameValue}
 use Rattle.base.specs.NameOrder.{exact, lowered}
 use Rattle.base.specs.NameOrderLaws.{same_by-equiv}
-use Rattle.base.specs.RrKey.{key_cmp, key_of}
+use Rattle.base.specs.RrKey.{key_cmp}
 use Rattle.base.specs.declared.dns_class.DNSClass.{DNSClass}
-use Rattle.base.specs.declared.record_type.RecordType.{RecordType}
 use Rattle.base.specs.declared.rr_key.RrKey.{RrKey}
 use Rattle.base_data.specs.declared.rdata.RData.{RData}
-use Rattle.op_use.proofs.AppliedData.{Distinct, distinct_joined, distinct_one}
 use Rattle.op_use.proofs.MapZones.{zone_puts}
 use Rattle.op_use.proofs.Origins.{back_among, front_among}
 use Rattle.op_use.proofs.ZoneSteps.{same_key, tied}
@@ -18,7 +16,6 @@ use Rattle.op_use.specs.NamedChanges.{datum_of}
 use Rattle.op_use.specs.Server.{is_under, record_key, update}
 use Rattle.op_use.specs.Zone.{Zone, is_owned, put}
 use Rattle.rr.specs.RecordSet.{SetValue}
-use Rattle.rr.specs.SetChanges.{joined}
 use Rattle.rr.specs.SetUpdates.{last_ttl}
 use Rattle.rr.specs.declared.record.Record.{Record}
 use Rattle.std.proofs.Common.{ap, arith, inl, inr, refl, subst, sym, ◌∙◌, ◌⊎◌}
@@ -27,7 +24,7 @@ use Rattle.std.proofs.lemmas.List.Folds.{list_any-append}
 use Rattle.std.proofs.lemmas.List.Sums.{fold-append}
 use Rattle.std.specs.BTreeMap as tree
 use Rattle.std.specs.BTreeMap.{BTreeMap}
-use Rattle.std.specs.List.{IsAmong, IsDistinct, fold, slice_get}
+use Rattle.std.specs.List.{IsAmong, fold}
 use Rattle.std.specs.Ordering.{eq_by_cmp}
 use Rattle.std.specs.Prelude.{Bool, List, None, Option, Some, [], cond, false, length, map, slice_index_or, suc, take, true, unwrap_or, zero, ℕ, ◌++◌, ◌+◌, ◌-◌, ◌<◌}
 use Rattle.std.specs.Prelude.{◌∷◌, ◌≡◌, ◌≢◌}

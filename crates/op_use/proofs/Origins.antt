@@ -5,7 +5,7 @@ use Rattle.op_use.proofs.AppliedData.{joined_is}
 use Rattle.op_use.specs.AppliedRecords.{parted}
 use Rattle.rr.specs.SetChanges.{has_data_of, joined, replaced}
 use Rattle.rr.specs.declared.record.Record.{Record}
-use Rattle.std.proofs.Common.{arith, inl, inr, refl, subst, sym, ◌⊎◌}
+use Rattle.std.proofs.Common.{arith, inl, inr, subst, sym, ◌⊎◌}
 use Rattle.std.specs.List.{IsAmong, list_any}
 use Rattle.std.specs.Prelude.{Bool, List, [], cond, false, if◌then◌else◌, length, not, slice_index_or, suc, true, zero, ℕ, ◌++◌, ◌<◌, ◌∷◌, ◌≡◌}
 

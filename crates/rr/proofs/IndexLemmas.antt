@@ -1,8 +1,7 @@
 -- What an index of data says of the records, and what putting one in does to it.
 use Rattle.std.proofs.Common.{ℕ, zero, suc, Bool, true, false, List, [], ◌∷◌, ◌++◌, ◌≡◌, ◌≢◌, ◌<◌, ◌≤◌, ◌-◌, ◌&&◌, nat_eq, map, ◌||◌, ◌⊎◌, inl, inr, refl, sym, ap, subst, ◌∙◌, length, get_or, set, arith, if◌then◌else◌, length-append}
 use Rattle.std.specs.Prelude.{Option, Some, None, Vec, is_some}
-use Rattle.std.specs.BTreeMap.{BTreeMap, UpdatesBy, IsUnchanged, is_at}
-use Rattle.std.specs.Map.{lookup}
+use Rattle.std.specs.BTreeMap.{BTreeMap, UpdatesBy}
 use Rattle.std.specs.Cmp.{eq_by_cmp_equiv, second_so}
 use Rattle.std.specs.Cmp.Lexicographic.{slice_cmp, nat_list_cmp_total, bytes_decides}
 use Rattle.std.specs.Int.{to_be_bytes, w16, w32}

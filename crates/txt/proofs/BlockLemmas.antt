@@ -1,7 +1,5 @@
 -- Sets that stand in blocks: the last one, and what is left when it goes.
-use Rattle.std.proofs.Common.{◌≡◌, ◌≢◌, ◌∙◌, ◌-◌, ◌++◌, ◌∷◌, ◌+◌, ℕ, zero, suc, List, [], Vec, length, refl, ap, sym, subst, append_assoc, length-append, arith}
-use Rattle.std.proofs.lemmas.Grind.{flat_map-append}
-use Rattle.std.proofs.lemmas.List.{append-nil}
+use Rattle.std.proofs.Common.{◌≡◌, ◌≢◌, ◌∙◌, ◌-◌, ◌++◌, ◌∷◌, ◌+◌, ℕ, zero, suc, List, [], Vec, length, refl, ap, sym, subst, length-append, arith}
 use Rattle.std.proofs.lemmas.List.Elements.{All-cons, All-nil}
 use Rattle.std.specs.List.{flat_map, slice_get}
 use Rattle.std.specs.Prelude.{All}

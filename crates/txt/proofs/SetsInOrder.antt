@@ -1,18 +1,18 @@
 -- Sets in the order of their keys: what stands after them, the last one, and a run that goes into a map.
-use Rattle.std.proofs.Common.{◌≡◌, ◌-◌, [], ◌∷◌, ◌++◌, length, refl, ap, sym, ◌∙◌, subst, arith, append_assoc, length-append, Bool, true, false, suc, Option, Some, None, Ok}
+use Rattle.std.proofs.Common.{◌≡◌, ◌-◌, [], ◌∷◌, ◌++◌, length, refl, ap, sym, ◌∙◌, subst, arith, append_assoc, length-append, suc, Some, None, Ok}
 use Rattle.std.proofs.lemmas.List.{append-nil}
 use Rattle.std.proofs.lemmas.Map.{lookup-none}
-use Rattle.std.proofs.lemmas.Map.Entries.{lookup_tail, none_below_head, none_past_head}
-use Rattle.std.proofs.lemmas.Map.Keys.{IsDistinct-from_sorted, sorted_tail}
+use Rattle.std.proofs.lemmas.Map.Entries.{lookup_tail, none_below_head}
+use Rattle.std.proofs.lemmas.Map.Keys.{sorted_tail}
 use Rattle.std.specs.BTreeMap.{insert_entry, is_at}
-use Rattle.std.specs.Cmp.{IsEquivalence, eq_by_cmp_equiv, tied_itself}
+use Rattle.std.specs.Cmp.{tied_itself}
 use Rattle.std.specs.List.{AllByRecursion, slice_get}
 use Rattle.std.specs.List.Sorted.{IsStrictlySortedBy}
-use Rattle.std.specs.Map.{keys_of, set_value, update, update_all}
-use Rattle.std.specs.Ordering.{eq_by_cmp, is_eq, ordering_reverse}
+use Rattle.std.specs.Map.{keys_of, set_value}
+use Rattle.std.specs.Ordering.{is_eq, ordering_reverse}
 use Rattle.std.specs.declared.cmp.Ordering.{Ordering}
 use Rattle.std.specs.declared.cmp.Ordering.TheVariants.{Less, Equal, Greater}
-use Rattle.base.proofs.KeyLemmas.{key_cmp-exact, key_cmp-total}
+use Rattle.base.proofs.KeyLemmas.{key_cmp-total}
 use Rattle.base.specs.RrKey.{key_cmp}
 use Rattle.base.specs.declared.rr_key.RrKey.{RrKey}
 use Rattle.base_data.specs.declared.rdata.RData.{RData}

@@ -18,7 +18,7 @@ use Rattle.base.specs.TokenList.{Symbol, broken, followed, listing, symbol, symb
 use Rattle.base.specs.Tokens.{Next, Unread, at, blank, char_data, eol, include, list, next, origin_sign, ttl_sign, value_of}
 use Rattle.base.specs.Ttl.{ttl_of}
 use Rattle.txt.specs.Entries.{Setting, Stop, first_entry, items_of, line_of, refused, setting_of, stop_of, whole}
-use Rattle.txt.specs.Steps.{ReadsToken, Taken, ended, opens, taken, took_default, took_include, took_include_end, took_items, took_line, took_named, took_origin, took_typed, took_words, went, went_on}
+use Rattle.txt.specs.Steps.{ReadsToken, ended, opens, taken, took_default, took_include, took_include_end, took_items, took_line, took_named, took_origin, took_typed, took_words, went, went_on}
 use Rattle.txt.specs.Zone.{State, apply, carried, recorded, set_by, settled, stopped, type_named, ◌>>=◌}
 use Rattle.base.specs.declared.record_type.RecordType.{RecordType}
 use Rattle.base.specs.declared.text.token.Token.{Token}
