@@ -341,7 +341,6 @@ module _ {copied now : List ℕ} (longer : IsLonger copied now) where
 -- labels that were copied before get a place
 module _ (copied old reached : List ℕ) (t place : ℕ) (same : (q : ℕ) → get_or reached q 0 ≡ get_or old q 0) (there : t < length reached)
     (some : place ≢ 0) (inside : IsInside copied place) (all : All (IsInside copied) old) where
-
   pub set_others : (q : ℕ) → q ≢ t → placed copied (slice_set reached t place) q ≡ placed copied old q
   set_others q other = ap (labels_in copied) (get_or-set_other reached t q place 0 other ∙ same q)
 

@@ -1,5 +1,5 @@
 -- ANAME data: a name whose addresses the owner has too.
-use Rattle.std.specs.Prelude.{ℕ, List, ◌∷◌, ◌++◌, Option}
+use Rattle.std.specs.Prelude.{ℕ, List, Option}
 use Rattle.base.specs.Labels.{NameValue}
 use Rattle.base.specs.Reading.{Read}
 use Rattle.base_data.specs.Kind.{Kind}

@@ -61,7 +61,6 @@ module _ (status : ℕ) (old new : Option (List ℕ)) (words : List (List ℕ)) 
 
 -- what was printed answers what remained of the input
 module _ (status : ℕ) (old new remaining : Option (List ℕ)) (words : List (List ℕ)) (command : Command) where
-
   pub refusal_given : (e : Failure) (refusal : Refusal) (number : ℕ) → Gives command words remaining (Err e) → e ≡ failures.Refused refusal → number ≡ refusal_number refusal
       → (status ≡ 3) ⊎ IsPrinted (refused number) status old new → status ≢ broken → IfSome remaining (λ input. IsGiven command words input status old new)
   refusal_given e refusal number says is same printed whole =

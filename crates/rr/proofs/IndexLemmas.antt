@@ -218,8 +218,6 @@ module _ (bs : List ℕ) (m n : BTreeMap (Vec ℕ Global) ℕ) (w : Option ℕ)
   pub place_here : place_at n bs ≡ w
   place_here = h.1
 
-})
-
 -- a record more, after the others
 pub pushed : (m n : BTreeMap (Vec ℕ Global) ℕ) (xs zs : List (Record RData)) (r : Record RData) (ks : List ℕ) (p : ℕ) → IsIndexOf (place_at m) xs → ks ≡ canonical_data r.rdata
     → place_at m ks ≡ None → place_at n ks ≡ Some p → ((cs : List ℕ) → cs ≢ ks → place_at n cs ≡ place_at m cs) → p ≡ length xs → zs ≡ xs ++ r ∷ [] → IsIndexOf (place_at n) zs
