@@ -1,6 +1,6 @@
 -- Fields that std reads are the fields of the definitions.
 use Rattle.std.proofs.Common.{◌≡◌, ◌≢◌, ℕ, ◌^◌, ◌<◌, List, [], ◌∷◌, ◌++◌, length, get_or, refl, ap, sym, ◌∙◌, subst, arith, Bool, true, false, Some, None, Result, Ok, Err, rules, append-nil, lit≤}
-use Rattle.std.specs.Prelude.{◌&&◌, nat_lt, OkIff, ◌==◌, option_map}
+use Rattle.std.specs.Prelude.{◌&&◌, nat_lt, OkIff, ◌==◌, ok_or, option_map}
 use Rattle.std.specs.Cmp.{first_so, second_so}
 use Rattle.std.specs.Result.{result_ok}
 use Rattle.std.specs.Char.{is_ascii_digit}
@@ -17,6 +17,9 @@ use Rattle.std.specs.Net.Reader.{Read, read_ipv4, read_ipv6, whole_value}
 use Rattle.std.proofs.NetLemmas.Ipv4.{read_ipv4_complete, read_ipv4_sound}
 use Rattle.std.proofs.NetLemmas.Ipv6.{read_ipv6_complete, read_ipv6_sound, EndsGroups-nil}
 use Rattle.base_data.specs.Fields.{number_item, ipv4_item, ipv6_item}
+use Rattle.base_data.specs.ItemFault.{GivesItems}
+use Rattle.base_data.specs.declared.rdata.fields.ItemFault.{ItemFault}
+use Rattle.base_data.specs.declared.rdata.fields.ItemFault.TheVariants as faults
 
 pub own : IsNumeralModel (λ ds. all_ascii_digits ds ≡ true) (digits_value 10)
 own = numerals_by_value _ (search rules)
@@ -39,16 +42,20 @@ number_not bits text never = go (all_ascii_digits text && nat_lt 0 (length text)
       absurd (never (first_so (all_ascii_digits text) (nat_lt 0 (length text)) front, grind (arith, nat_tests), grind (arith, nat_tests)))
   go false is = rw is refl
 
-pub number_parsed : {E : Type 0} (bits : ℕ) (text : List ℕ) (r : Result ℕ E) → ParsesUnsigned bits 10 text r → get_or text 0 0 ≢ 43 → result_ok r ≡ number_item bits text
-number_parsed bits text r parses plain = go r (parse_plain own bits text r parses plain) where
-  go : {E : Type 0} (r : Result ℕ E) → OkIff r ((all_ascii_digits text ≡ true) × (0 < length text) × (digits_value 10 text < 2 ^ bits)) (digits_value 10 text) → result_ok r ≡ number_item bits text
-  go (Ok n) is = ap Some is.1 ∙ sym (number_fits bits text is.0.0 is.0.1 is.0.2)
-  go (Err e) is = sym (number_not bits text is)
+-- what is answered where std has read an item
+abbrev answer : {X E : Type 0} → Result X E → Result X ItemFault
+answer r = ok_or (result_ok r) faults.Bad
 
-pub number_signed : (bits : ℕ) (text : List ℕ) → get_or text 0 0 ≡ 43 → None ≡ number_item bits text
+pub number_parsed : {E : Type 0} (bits : ℕ) (text : List ℕ) (r : Result ℕ E) → ParsesUnsigned bits 10 text r → get_or text 0 0 ≢ 43 → GivesItems (λ n. n) (answer r) (number_item bits text)
+number_parsed bits text r parses plain = go r (parse_plain own bits text r parses plain) where
+  go : {E : Type 0} (r : Result ℕ E) → OkIff r ((all_ascii_digits text ≡ true) × (0 < length text) × (digits_value 10 text < 2 ^ bits)) (digits_value 10 text) → GivesItems (λ n. n) (answer r) (number_item bits text)
+  go (Ok n) is = number_fits bits text is.0.0 is.0.1 is.0.2 ∙ ap Some (sym is.1)
+  go (Err e) is = number_not bits text is
+
+pub number_signed : (bits : ℕ) (text : List ℕ) → get_or text 0 0 ≡ 43 → number_item bits text ≡ None
 number_signed bits [] plus = absurd (omega arith)
-number_signed bits (c ∷ text) plus = sym (number_not bits (c ∷ text) λ (h : (all_ascii_digits (c ∷ text) ≡ true) × (0 < length (c ∷ text)) × (digits_value 10 (c ∷ text) < 2 ^ bits)).
-    let digit = first_so (is_ascii_digit c) (all_ascii_digits text) h.0 in grind (arith, nat_tests))
+number_signed bits (c ∷ text) plus = number_not bits (c ∷ text) λ (h : (all_ascii_digits (c ∷ text) ≡ true) × (0 < length (c ∷ text)) × (digits_value 10 (c ∷ text) < 2 ^ bits)).
+    let digit = first_so (is_ascii_digit c) (all_ascii_digits text) h.0 in grind (arith, nat_tests)
 
 -- the whole of a text by a reader of its front
 module _ {A : Type 0} (Spells : List ℕ → A → Type 0) (text : List ℕ) (read : Read A)
@@ -66,14 +73,14 @@ module _ {A : Type 0} (Spells : List ℕ → A → Type 0) (text : List ℕ) (re
     go None is = ap whole_value is
     go (Some (a, rest)) is = ended a rest is (length rest == 0) refl
 
-pub ipv4_parsed : {E : Type 0} (text : List ℕ) (r : Result Ipv4Addr E) → Parses IsIpv4Text text r → option_map ipv4_octets (result_ok r) ≡ ipv4_item text
+pub ipv4_parsed : {E : Type 0} (text : List ℕ) (r : Result Ipv4Addr E) → Parses IsIpv4Text text r → GivesItems ipv4_octets (answer r) (ipv4_item text)
 unfolding ipv4_item
-ipv4_parsed text (Ok a) spells = sym (ap whole_value (rw append-nil at (read_ipv4_complete text _ [] spells (lit≤ tt))))
-ipv4_parsed text (Err e) never = sym (whole_not IsDotted text (read_ipv4 text) (λ octets rest is. read_ipv4_sound text octets rest is) (λ octets spells. never (record { octets = octets }) spells))
+ipv4_parsed text (Ok a) spells = ap whole_value (rw append-nil at (read_ipv4_complete text _ [] spells (lit≤ tt)))
+ipv4_parsed text (Err e) never = whole_not IsDotted text (read_ipv4 text) (λ octets rest is. read_ipv4_sound text octets rest is) (λ octets spells. never (record { octets = octets }) spells)
 
-pub ipv6_parsed : {E : Type 0} (text : List ℕ) (r : Result Ipv6Addr E) → Parses IsIpv6Text text r → option_map ipv6_octets (result_ok r) ≡ ipv6_item text
+pub ipv6_parsed : {E : Type 0} (text : List ℕ) (r : Result Ipv6Addr E) → Parses IsIpv6Text text r → GivesItems ipv6_octets (answer r) (ipv6_item text)
 unfolding ipv6_item
-ipv6_parsed text (Ok a) spells = sym (ap (λ (x : Read (List ℕ)). option_map octets_of (whole_value x)) (rw append-nil at (read_ipv6_complete text _ [] spells EndsGroups-nil)))
+ipv6_parsed text (Ok a) spells = ap (λ (x : Read (List ℕ)). option_map octets_of (whole_value x)) (rw append-nil at (read_ipv6_complete text _ [] spells EndsGroups-nil))
 ipv6_parsed text (Err e) never =
     let sound = λ (segments : List ℕ) (rest : List ℕ) (is : read_ipv6 text ≡ Some (segments, rest)). read_ipv6_sound text segments rest is in
-    sym (ap (option_map octets_of) (whole_not IsColonHex text (read_ipv6 text) sound (λ segments spells. never (record { segments = segments }) spells)))
+    ap (option_map octets_of) (whole_not IsColonHex text (read_ipv6 text) sound (λ segments spells. never (record { segments = segments }) spells))

@@ -11,13 +11,13 @@ ghost use Rattle.base_data.specs.Kinds.{a_in};
 ghost use Rattle.base_data.specs.declared.rdata.RData.TheVariants as kinds;
 
 use crate::rdata::RData;
-use crate::rdata::fields::ipv4_item;
+use crate::rdata::fields::{ItemFault, ipv4_item};
 use crate::rdata::items::TextData;
 use crate::record_data::RecordData;
 use base::{
     BinDecodable, BinDecoder, BinEncodable, BinEncoder, DecodeError, Name, ProtoError, RecordType,
 };
-use std::alloc::{AllocError, Global};
+use std::alloc::Global;
 use std::fmt;
 use std::net::Ipv4Addr;
 
@@ -100,18 +100,11 @@ impl TextData for A {
 
     /// One item, the address in dotted decimal (RFC 1035, 3.4.1).
     #[tactic(auto, unfolding(crate::specs::A::a_of))]
-    fn from_items(
-        _alloc: Global,
-        items: &[&str],
-        _origin: Option<&Name>,
-    ) -> Result<Option<A>, AllocError> {
+    fn from_items(_alloc: Global, items: &[&str], _origin: Option<&Name>) -> Result<A, ItemFault> {
         let [address] = items else {
-            return Ok(None);
+            return Err(ItemFault::Bad);
         };
-        let Some(address) = ipv4_item(address) else {
-            return Ok(None);
-        };
-        Ok(Some(A::new(address)))
+        Ok(A::new(ipv4_item(address)?))
     }
 }
 

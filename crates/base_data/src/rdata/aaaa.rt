@@ -11,13 +11,13 @@ ghost use Rattle.base_data.specs.Kinds.{aaaa_in};
 ghost use Rattle.base_data.specs.declared.rdata.RData.TheVariants as kinds;
 
 use crate::rdata::RData;
-use crate::rdata::fields::ipv6_item;
+use crate::rdata::fields::{ItemFault, ipv6_item};
 use crate::rdata::items::TextData;
 use crate::record_data::RecordData;
 use base::{
     BinDecodable, BinDecoder, BinEncodable, BinEncoder, DecodeError, Name, ProtoError, RecordType,
 };
-use std::alloc::{AllocError, Global};
+use std::alloc::Global;
 use std::fmt;
 use std::net::Ipv6Addr;
 
@@ -114,14 +114,11 @@ impl TextData for AAAA {
         _alloc: Global,
         items: &[&str],
         _origin: Option<&Name>,
-    ) -> Result<Option<AAAA>, AllocError> {
+    ) -> Result<AAAA, ItemFault> {
         let [address] = items else {
-            return Ok(None);
+            return Err(ItemFault::Bad);
         };
-        let Some(address) = ipv6_item(address) else {
-            return Ok(None);
-        };
-        Ok(Some(AAAA::new(address)))
+        Ok(AAAA::new(ipv6_item(address)?))
     }
 }
 

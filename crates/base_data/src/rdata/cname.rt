@@ -7,7 +7,7 @@ ghost use Rattle.base_data.specs.OneName.{own_place};
 ghost use Rattle.base_data.specs.declared.rdata.RData.TheVariants as kinds;
 
 use crate::rdata::RData;
-use crate::rdata::fields::one_name;
+use crate::rdata::fields::{ItemFault, one_name};
 use crate::rdata::items::TextData;
 use crate::record_data::RecordData;
 use base::{
@@ -106,8 +106,8 @@ impl TextData for CNAME {
         alloc: Global,
         items: &[&str],
         origin: Option<&Name>,
-    ) -> Result<Option<CNAME>, AllocError> {
-        Ok(one_name(alloc, items, origin)?.map(CNAME::new))
+    ) -> Result<CNAME, ItemFault> {
+        Ok(CNAME::new(one_name(alloc, items, origin)?))
     }
 }
 

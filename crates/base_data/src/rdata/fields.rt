@@ -1,16 +1,44 @@
-//! Reads the fields of data from the items of a text (RFC 1035, 5.1). A field that an item isn't is none: which data is
-//! refused for it is told where the data is put together.
+//! Reads the fields of data from the items of a text (RFC 1035, 5.1).
 
-ghost use Rattle.std.specs.Prelude.{◌≡◌, IfOk, get_or, map, option_map};
+ghost use Rattle.std.specs.Prelude.{◌≡◌, get_or, map};
 ghost use Rattle.std.specs.Net.Addr.{ipv4_octets, ipv6_octets};
 ghost use Rattle.std.specs.Option.{option_copied};
 ghost use Rattle.base.specs.Ttl.{ttl_of};
 ghost use Rattle.base_data.specs.Fields.{ipv4_item, ipv6_item, name_item, number_item};
+ghost use Rattle.base_data.specs.ItemFault.{GivesItems};
+ghost use Rattle.base_data.specs.declared.rdata.fields.ItemFault.TheVariants as faults;
 ghost use Rattle.base_data.specs.OneName.{one_name_of};
 
 use base::{Name, ParseError, parse_ttl};
-use std::alloc::{AllocError, Global};
+use std::alloc::{AllocError, AllocFailed, Global};
 use std::net::{Ipv4Addr, Ipv6Addr};
+
+/// Why items are refused. Of which type the data is, the caller knows.
+#[derive(Drop)]
+pub(crate) enum ItemFault {
+    /// An item is missing, is one too many or is no such field.
+    Bad,
+    /// Memory ran out.
+    Memory,
+}
+
+impl From<AllocError> for ItemFault {
+    ghost from_gives = { λ _ e. e ≡ faults.Memory };
+
+    /// Running out of memory is `Memory`.
+    fn from(_e: AllocError) -> ItemFault {
+        ItemFault::Memory
+    }
+}
+
+impl<T: Drop> From<AllocFailed<T>> for ItemFault {
+    ghost from_gives = { λ _ e. e ≡ faults.Memory };
+
+    /// Running out of memory is `Memory`. The value that it was for is dropped.
+    fn from(_e: AllocFailed<T>) -> ItemFault {
+        ItemFault::Memory
+    }
+}
 
 /// The first byte of an item; 0 of the empty one.
 fn first_byte(item: &str) -> u8
@@ -23,66 +51,62 @@ fn first_byte(item: &str) -> u8
 }
 
 /// The number that decimal digits alone say, below 2 to the 16th. Leading zeros are allowed, a sign isn't.
-pub(crate) fn u16_item(item: &str) -> Option<u16>
-    ensures { result ≡ number_item 16 item.now }
+pub(crate) fn u16_item(item: &str) -> Result<u16, ItemFault>
+    ensures { GivesItems (λ n. n) result (number_item 16 item.now) }
 {
     // `parse` would take a plus.
     if first_byte(item) == b'+' {
-        return None;
+        return Err(ItemFault::Bad);
     }
-    item.parse::<u16>().ok()
+    item.parse::<u16>().ok().ok_or(ItemFault::Bad)
 }
 
 /// The number that decimal digits alone say, below 2 to the 32nd. Leading zeros are allowed, a sign isn't.
-pub(crate) fn u32_item(item: &str) -> Option<u32>
-    ensures { result ≡ number_item 32 item.now }
+pub(crate) fn u32_item(item: &str) -> Result<u32, ItemFault>
+    ensures { GivesItems (λ n. n) result (number_item 32 item.now) }
 {
     // `parse` would take a plus.
     if first_byte(item) == b'+' {
-        return None;
+        return Err(ItemFault::Bad);
     }
-    item.parse::<u32>().ok()
+    item.parse::<u32>().ok().ok_or(ItemFault::Bad)
 }
 
 /// The seconds that a text says, as a number or with units (base's `parse_ttl`).
-pub(crate) fn ttl_item(item: &str) -> Option<u32>
-    ensures { result ≡ ttl_of item.now }
+pub(crate) fn ttl_item(item: &str) -> Result<u32, ItemFault>
+    ensures { GivesItems (λ n. n) result (ttl_of item.now) }
 {
-    parse_ttl(item).ok()
+    parse_ttl(item).ok().ok_or(ItemFault::Bad)
 }
 
 /// The address that four decimal numbers up to 255 say, with dots between them and without leading zeros.
-pub(crate) fn ipv4_item(item: &str) -> Option<Ipv4Addr>
-    ensures { option_map ipv4_octets result ≡ ipv4_item item.now }
+pub(crate) fn ipv4_item(item: &str) -> Result<Ipv4Addr, ItemFault>
+    ensures { GivesItems ipv4_octets result (ipv4_item item.now) }
 {
-    item.parse::<Ipv4Addr>().ok()
+    item.parse::<Ipv4Addr>().ok().ok_or(ItemFault::Bad)
 }
 
 /// The address that eight groups of one to four hexadecimal digits say, with colons between them (RFC 4291, 2.2): one
 /// `::` stands for one or more groups of zeros, and the last two groups may be dotted decimal.
-pub(crate) fn ipv6_item(item: &str) -> Option<Ipv6Addr>
-    ensures { option_map ipv6_octets result ≡ ipv6_item item.now }
+pub(crate) fn ipv6_item(item: &str) -> Result<Ipv6Addr, ItemFault>
+    ensures { GivesItems ipv6_octets result (ipv6_item item.now) }
 {
-    item.parse::<Ipv6Addr>().ok()
+    item.parse::<Ipv6Addr>().ok().ok_or(ItemFault::Bad)
 }
 
 /// The name that an item names under an origin.
 ///
 /// # Errors
 ///
-/// If memory runs out.
-pub(crate) fn name_item(
-    alloc: Global,
-    item: &str,
-    origin: Option<&Name>,
-) -> Result<Option<Name>, AllocError>
-    ensures { IfOk result (λ name. name ≡ name_item item.now (option_copied origin.entry)) }
+/// `Bad` where the item is no name; `Memory` if memory runs out.
+pub(crate) fn name_item(alloc: Global, item: &str, origin: Option<&Name>) -> Result<Name, ItemFault>
+    ensures { GivesItems (λ n. n) result (name_item item.now (option_copied origin.entry)) }
 {
     match Name::parse(alloc, item, origin) {
-        Ok(name) => Ok(Some(name)),
-        Err(ParseError::BadName) => Ok(None),
+        Ok(name) => Ok(name),
+        Err(ParseError::BadName) => Err(ItemFault::Bad),
         // `parse` has no refusal but for memory.
-        Err(_) => Err(AllocError),
+        Err(_) => Err(ItemFault::Memory),
     }
 }
 
@@ -90,17 +114,17 @@ pub(crate) fn name_item(
 ///
 /// # Errors
 ///
-/// If memory runs out.
+/// `Bad` where there isn't one item, or it is no name; `Memory` if memory runs out.
 pub(crate) fn one_name(
     alloc: Global,
     items: &[&str],
     origin: Option<&Name>,
-) -> Result<Option<Name>, AllocError>
-    ensures { IfOk result (λ name. name
-        ≡ one_name_of (λ n. n) (map (λ item. item.now) items.now) (option_copied origin.entry)) }
+) -> Result<Name, ItemFault>
+    ensures { GivesItems (λ n. n) result
+        (one_name_of (λ n. n) (map (λ item. item.now) items.now) (option_copied origin.entry)) }
 {
     let [name] = items else {
-        return Ok(None);
+        return Err(ItemFault::Bad);
     };
     name_item(alloc, name, origin)
 }

@@ -6,6 +6,7 @@ ghost use Rattle.std.specs.Option.{option_copied};
 ghost use Rattle.base.specs.TextFaults.{Gives};
 ghost use Rattle.base_data.specs.Kinds.{any_of, data_of};
 
+use crate::rdata::fields::ItemFault;
 use crate::rdata::{A, AAAA, ANAME, CNAME, MX, NS, PTR, RData, SOA, SRV, TXT};
 use crate::record_data::RecordData;
 use base::{Name, ParseError, RecordType};
@@ -14,25 +15,21 @@ use std::convert::AsStr;
 
 /// Data of a kind with a text form.
 pub(crate) trait TextData: RecordData {
-    ghost use Rattle.std.specs.Prelude.{◌≡◌, ℕ, List, Option, IfOk, map};
+    ghost use Rattle.std.specs.Prelude.{ℕ, List, Option, map};
     ghost use Rattle.std.specs.Option.{option_copied};
     ghost use Rattle.base.specs.Labels.{NameValue};
+    ghost use Rattle.base_data.specs.ItemFault.{GivesItems};
 
     ghost of_items: { List (List ℕ) → Option NameValue → Option Self };
 
-    /// The data that the items of a text name under an origin; none where an item is missing, is one too many or is no
-    /// such field.
+    /// The data that the items of a text name under an origin.
     ///
     /// # Errors
     ///
-    /// If memory runs out.
-    fn from_items(
-        alloc: Global,
-        items: &[&str],
-        origin: Option<&Name>,
-    ) -> Result<Option<Self>, AllocError>
-        ensures { IfOk result (λ made. made
-            ≡ of_items (map (λ item. item.now) items.now) (option_copied origin.entry)) };
+    /// `Bad` where an item is missing, is one too many or is no such field; `Memory` if memory runs out.
+    fn from_items(alloc: Global, items: &[&str], origin: Option<&Name>) -> Result<Self, ItemFault>
+        ensures { GivesItems (λ d. d) result
+            (of_items (map (λ item. item.now) items.now) (option_copied origin.entry)) };
 }
 
 /// The data of a kind that the items name, as that of any record.
@@ -46,9 +43,10 @@ fn any_from_items<R: TextData>(
         (any_of R.as_rdata record_type
         (R.of_items (map (λ item. item.now) items.now) (option_copied origin.entry))) }
 {
-    match R::from_items(alloc, items, origin)? {
-        Some(rdata) => Ok(rdata.into_rdata()),
-        None => Err(ParseError::BadData(record_type)),
+    match R::from_items(alloc, items, origin) {
+        Ok(rdata) => Ok(rdata.into_rdata()),
+        Err(ItemFault::Bad) => Err(ParseError::BadData(record_type)),
+        Err(ItemFault::Memory) => Err(ParseError::Memory),
     }
 }
 

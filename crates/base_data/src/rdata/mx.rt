@@ -6,7 +6,7 @@ ghost use Rattle.base_data.specs.Kinds.{mx_in};
 ghost use Rattle.base_data.specs.declared.rdata.RData.TheVariants as kinds;
 
 use crate::rdata::RData;
-use crate::rdata::fields::{name_item, u16_item};
+use crate::rdata::fields::{ItemFault, name_item, u16_item};
 use crate::rdata::items::TextData;
 use crate::record_data::RecordData;
 use base::{
@@ -123,21 +123,14 @@ impl TextData for MX {
 
     /// Two items, the preference and the name of the host (RFC 1035, 3.3.9 and 5.1).
     #[tactic(auto, unfolding(crate::specs::MX::mx_of))]
-    fn from_items(
-        alloc: Global,
-        items: &[&str],
-        origin: Option<&Name>,
-    ) -> Result<Option<MX>, AllocError> {
+    fn from_items(alloc: Global, items: &[&str], origin: Option<&Name>) -> Result<MX, ItemFault> {
         let [preference, exchange] = items else {
-            return Ok(None);
+            return Err(ItemFault::Bad);
         };
-        let Some(preference) = u16_item(preference) else {
-            return Ok(None);
-        };
-        let Some(exchange) = name_item(alloc, exchange, origin)? else {
-            return Ok(None);
-        };
-        Ok(Some(MX::new(preference, exchange)))
+        Ok(MX {
+            preference: u16_item(preference)?,
+            exchange: name_item(alloc, exchange, origin)?,
+        })
     }
 }
 

@@ -7,7 +7,7 @@ ghost use Rattle.base_data.specs.OneName.{own_place};
 ghost use Rattle.base_data.specs.declared.rdata.RData.TheVariants as kinds;
 
 use crate::rdata::RData;
-use crate::rdata::fields::one_name;
+use crate::rdata::fields::{ItemFault, one_name};
 use crate::rdata::items::TextData;
 use crate::record_data::RecordData;
 use base::{
@@ -102,12 +102,8 @@ impl TextData for NS {
 
     /// One item, the name (RFC 1035, 5.1).
     #[tactic(auto, unfolding(crate::specs::NS::ns_of))]
-    fn from_items(
-        alloc: Global,
-        items: &[&str],
-        origin: Option<&Name>,
-    ) -> Result<Option<NS>, AllocError> {
-        Ok(one_name(alloc, items, origin)?.map(NS::new))
+    fn from_items(alloc: Global, items: &[&str], origin: Option<&Name>) -> Result<NS, ItemFault> {
+        Ok(NS::new(one_name(alloc, items, origin)?))
     }
 }
 

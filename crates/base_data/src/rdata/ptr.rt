@@ -7,7 +7,7 @@ ghost use Rattle.base_data.specs.OneName.{own_place};
 ghost use Rattle.base_data.specs.declared.rdata.RData.TheVariants as kinds;
 
 use crate::rdata::RData;
-use crate::rdata::fields::one_name;
+use crate::rdata::fields::{ItemFault, one_name};
 use crate::rdata::items::TextData;
 use crate::record_data::RecordData;
 use base::{
@@ -102,12 +102,8 @@ impl TextData for PTR {
 
     /// One item, the name (RFC 1035, 5.1).
     #[tactic(auto, unfolding(crate::specs::PTR::ptr_of))]
-    fn from_items(
-        alloc: Global,
-        items: &[&str],
-        origin: Option<&Name>,
-    ) -> Result<Option<PTR>, AllocError> {
-        Ok(one_name(alloc, items, origin)?.map(PTR::new))
+    fn from_items(alloc: Global, items: &[&str], origin: Option<&Name>) -> Result<PTR, ItemFault> {
+        Ok(PTR::new(one_name(alloc, items, origin)?))
     }
 }
 

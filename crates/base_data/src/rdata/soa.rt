@@ -6,7 +6,7 @@ ghost use Rattle.base_data.specs.Kinds.{soa_in};
 ghost use Rattle.base_data.specs.declared.rdata.RData.TheVariants as kinds;
 
 use crate::rdata::RData;
-use crate::rdata::fields::{name_item, ttl_item, u32_item};
+use crate::rdata::fields::{ItemFault, name_item, ttl_item, u32_item};
 use crate::rdata::items::TextData;
 use crate::record_data::RecordData;
 use base::{
@@ -223,36 +223,19 @@ impl TextData for SOA {
     /// Seven items: the two names, the serial in decimal, and four times, in seconds or with units (RFC 1035, 3.3.13
     /// and 5.1).
     #[tactic(auto, unfolding(crate::specs::SOA::soa_of))]
-    fn from_items(
-        alloc: Global,
-        items: &[&str],
-        origin: Option<&Name>,
-    ) -> Result<Option<SOA>, AllocError> {
+    fn from_items(alloc: Global, items: &[&str], origin: Option<&Name>) -> Result<SOA, ItemFault> {
         let [mname, rname, serial, refresh, retry, expire, minimum] = items else {
-            return Ok(None);
+            return Err(ItemFault::Bad);
         };
-        let Some(mname) = name_item(alloc, mname, origin)? else {
-            return Ok(None);
-        };
-        let Some(rname) = name_item(alloc, rname, origin)? else {
-            return Ok(None);
-        };
-        let Some(serial) = u32_item(serial) else {
-            return Ok(None);
-        };
-        let Some(refresh) = ttl_item(refresh) else {
-            return Ok(None);
-        };
-        let Some(retry) = ttl_item(retry) else {
-            return Ok(None);
-        };
-        let Some(expire) = ttl_item(expire) else {
-            return Ok(None);
-        };
-        let Some(minimum) = ttl_item(minimum) else {
-            return Ok(None);
-        };
-        Ok(Some(SOA::new(mname, rname, serial, refresh, retry, expire, minimum)))
+        Ok(SOA {
+            mname: name_item(alloc, mname, origin)?,
+            rname: name_item(alloc, rname, origin)?,
+            serial: u32_item(serial)?,
+            refresh: ttl_item(refresh)?,
+            retry: ttl_item(retry)?,
+            expire: ttl_item(expire)?,
+            minimum: ttl_item(minimum)?,
+        })
     }
 }
 

@@ -6,7 +6,7 @@ ghost use Rattle.base_data.specs.Kinds.{srv_in};
 ghost use Rattle.base_data.specs.declared.rdata.RData.TheVariants as kinds;
 
 use crate::rdata::RData;
-use crate::rdata::fields::{name_item, u16_item};
+use crate::rdata::fields::{ItemFault, name_item, u16_item};
 use crate::rdata::items::TextData;
 use crate::record_data::RecordData;
 use base::{
@@ -165,22 +165,16 @@ impl TextData for SRV {
 
     /// Four items: priority, weight, port and target (RFC 2782).
     #[tactic(auto, unfolding(crate::specs::SRV::srv_of))]
-    fn from_items(
-        alloc: Global,
-        items: &[&str],
-        origin: Option<&Name>,
-    ) -> Result<Option<SRV>, AllocError> {
+    fn from_items(alloc: Global, items: &[&str], origin: Option<&Name>) -> Result<SRV, ItemFault> {
         let [priority, weight, port, target] = items else {
-            return Ok(None);
+            return Err(ItemFault::Bad);
         };
-        let numbers = (u16_item(priority), u16_item(weight), u16_item(port));
-        let (Some(priority), Some(weight), Some(port)) = numbers else {
-            return Ok(None);
-        };
-        let Some(target) = name_item(alloc, target, origin)? else {
-            return Ok(None);
-        };
-        Ok(Some(SRV::new(priority, weight, port, target)))
+        Ok(SRV {
+            priority: u16_item(priority)?,
+            weight: u16_item(weight)?,
+            port: u16_item(port)?,
+            target: name_item(alloc, target, origin)?,
+        })
     }
 }
 

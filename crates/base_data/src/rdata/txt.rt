@@ -18,6 +18,7 @@ mod strings;
 mod unescape;
 
 use crate::rdata::RData;
+use crate::rdata::fields::ItemFault;
 use crate::rdata::items::TextData;
 use crate::rdata::reading::SizedData;
 use crate::record_data::RecordData;
@@ -189,22 +190,16 @@ impl TextData for TXT {
 
     /// An item for each string, one at least, without quotes (RFC 1035, 3.3.14 and 5.1).
     #[tactic(auto, unfolding(crate::specs::TXT::txt_of))]
-    fn from_items(
-        alloc: Global,
-        items: &[&str],
-        _origin: Option<&Name>,
-    ) -> Result<Option<TXT>, AllocError> {
+    fn from_items(alloc: Global, items: &[&str], _origin: Option<&Name>) -> Result<TXT, ItemFault> {
         if items.is_empty() {
-            return Ok(None);
+            return Err(ItemFault::Bad);
         }
         let mut bytes = Vec::new(alloc);
         for item in items {
-            let Some(string) = string_item(alloc, item)? else {
-                return Ok(None);
-            };
+            let string = string_item(alloc, item)?;
             push_string(&mut bytes, &string)?;
         }
-        Ok(Some(TXT { bytes }))
+        Ok(TXT { bytes })
     }
 }
 

@@ -1,12 +1,14 @@
 //! Reads character strings from the items of a text (RFC 1035, 5.1).
 
 ghost use Rattle.base.specs.declared.limits.TheConstants.{MAX_STRING};
-ghost use Rattle.std.specs.Prelude.{◌≡◌, ◌≤◌, IfOk, IfSome, length, option_map};
+ghost use Rattle.std.specs.Prelude.{◌≡◌, ◌≤◌, IfOk, length, option_map};
 ghost use Rattle.base_data.specs.Escape.{escape_of};
+ghost use Rattle.base_data.specs.ItemFault.{GivesItems};
 ghost use Rattle.base_data.specs.StringItems.{escape_step, no_escape, string_item, unescaped};
 
+use crate::rdata::fields::ItemFault;
 use base::limits::MAX_STRING;
-use std::alloc::{AllocError, Global};
+use std::alloc::Global;
 
 /// How much of an escape was read.
 #[derive(Clone, Copy)]
@@ -61,19 +63,19 @@ fn escape_step(state: Escape, byte: u8) -> Option<(Option<u8>, Escape)>
     }
 }
 
-/// The bytes of a text; none where an escape is written wrongly.
+/// The bytes of a text.
 ///
 /// # Errors
 ///
-/// If memory runs out.
-fn unescape(alloc: Global, text: &[u8]) -> Result<Option<Vec<u8>>, AllocError>
-    ensures { IfOk result (λ r. option_map (λ v. v.items) r ≡ unescaped no_escape text.now) }
+/// `Bad` where an escape is written wrongly; `Memory` if memory runs out.
+fn unescape(alloc: Global, text: &[u8]) -> Result<Vec<u8>, ItemFault>
+    ensures { GivesItems (λ v. v.items) result (unescaped no_escape text.now) }
 {
     let mut bytes = Vec::new(alloc);
     let mut state = Escape::Outside;
     for c in text {
         let Some((byte, next)) = escape_step(state, *c) else {
-            return Ok(None);
+            return Err(ItemFault::Bad);
         };
         if let Some(b) = byte {
             bytes.push(b)?;
@@ -81,8 +83,8 @@ fn unescape(alloc: Global, text: &[u8]) -> Result<Option<Vec<u8>>, AllocError>
         state = next;
     }
     match state {
-        Escape::Outside => Ok(Some(bytes)),
-        _ => Ok(None),
+        Escape::Outside => Ok(bytes),
+        _ => Err(ItemFault::Bad),
     }
 }
 
@@ -90,17 +92,15 @@ fn unescape(alloc: Global, text: &[u8]) -> Result<Option<Vec<u8>>, AllocError>
 ///
 /// # Errors
 ///
-/// If memory runs out.
+/// `Bad` where the item is no such string; `Memory` if memory runs out.
 #[tactic(auto, unfolding(crate::specs::StringItems::string_item))]
-pub(crate) fn string_item(alloc: Global, item: &str) -> Result<Option<Vec<u8>>, AllocError>
-    ensures string { IfOk result (λ r. option_map (λ v. v.items) r ≡ string_item item.now) }
-    ensures short { IfOk result (λ r. IfSome r (λ v. length v.items ≤ MAX_STRING)) }
+pub(crate) fn string_item(alloc: Global, item: &str) -> Result<Vec<u8>, ItemFault>
+    ensures string { GivesItems (λ v. v.items) result (string_item item.now) }
+    ensures short { IfOk result (λ v. length v.items ≤ MAX_STRING) }
 {
-    let Some(bytes) = unescape(alloc, item.as_bytes())? else {
-        return Ok(None);
-    };
+    let bytes = unescape(alloc, item.as_bytes())?;
     if bytes.len() > MAX_STRING {
-        return Ok(None);
+        return Err(ItemFault::Bad);
     }
-    Ok(Some(bytes))
+    Ok(bytes)
 }

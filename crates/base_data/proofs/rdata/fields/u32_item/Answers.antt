@@ -1,4 +1,4 @@
-use Rattle.std.proofs.Common.{◌≡◌, ◌≢◌, ◌∙◌, get_or, arith}
+use Rattle.std.proofs.Common.{◌≡◌, ◌≢◌, get_or, arith}
 use Rattle.base_data.proofs.FieldTexts.{number_parsed, number_signed}
 use Rattle.base_data.proofs.rdata.fields.u32_item.Goals as goal
 
@@ -8,4 +8,4 @@ returns-then-first_byte-eq43 c = number_signed 32 c.args.item.now (omega (arith,
 pub returns : goal.returns
 returns c =
     let plain : get_or c.args.item.now 0 0 ≢ 43 = λ (e : get_or c.args.item.now 0 0 ≡ 43). omega (arith, c.first_byte.ensures) in
-    c.ok.ensures.value ∙ number_parsed 32 c.args.item.now c.parse.result c.parse.ensures.value.0 plain
+    rw (c.ok_or.ensures.value, c.ok.ensures.value) (number_parsed 32 c.args.item.now c.parse.result c.parse.ensures.value.0 plain)

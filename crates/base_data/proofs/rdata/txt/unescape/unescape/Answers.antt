@@ -13,7 +13,8 @@ stepped = option_map (λ (r : Option ℕ × Escape). (r.0, escape_of r.1))
 
 pub returns-in_default : goal.returns-in_default
 returns-in_default c =
-    unescaped_stops c.args.text.now c.loop-c.bytes.items c.loop-c.c-index (escape_of c.loop-c.state) _ c.loop-c-test.true (ap stepped (sym c.in_default.is) ∙ c.escape_step.ensures) c.loop-c.invariant
+    let stops = unescaped_stops c.args.text.now c.loop-c.bytes.items c.loop-c.c-index (escape_of c.loop-c.state) _ c.loop-c-test.true (ap stepped (sym c.in_default.is) ∙ c.escape_step.ensures) c.loop-c.invariant in
+    sym stops
 
 pub loop-c-preserved : goal.loop-c-preserved
 loop-c-preserved c =
@@ -36,9 +37,9 @@ loop-c-preserved c =
 pub returns-in-Outside : goal.returns-in-Outside
 returns-in-Outside c =
     let ends = unescaped_ends c.args.text.now c.loop-c.bytes.items c.loop-c.c-index (escape_of c.loop-c.state) _ c.loop-c-test.false c.loop-c.invariant in
-    ap Some (sym (append-nil c.loop-c.bytes.items)) ∙ ap (λ (s : Escape). before c.loop-c.bytes.items (ends_outside (escape_of s))) (sym c.in-Outside.is) ∙ ends
+    sym (ap Some (sym (append-nil c.loop-c.bytes.items)) ∙ ap (λ (s : Escape). before c.loop-c.bytes.items (ends_outside (escape_of s))) (sym c.in-Outside.is) ∙ ends)
 
 pub returns-in_default-state : goal.returns-in_default-state
 returns-in_default-state c =
     let ends = unescaped_ends c.args.text.now c.loop-c.bytes.items c.loop-c.c-index (escape_of c.loop-c.state) _ c.loop-c-test.false c.loop-c.invariant in
-    ap (before c.loop-c.bytes.items) (sym (ends_not c.loop-c.state c.in_default-state.not-Outside)) ∙ ends
+    sym (ap (before c.loop-c.bytes.items) (sym (ends_not c.loop-c.state c.in_default-state.not-Outside)) ∙ ends)
