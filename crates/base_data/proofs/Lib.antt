@@ -12,6 +12,7 @@ pub mod FieldLemmas
 pub mod FieldTexts
 pub mod FieldsRead
 pub mod FillLemmas
+pub mod FlagLemmas
 pub mod HexTexts
 pub mod ItemsRead
 pub mod MXLemmas

@@ -21,7 +21,6 @@ a_of _ = None
 -- the kind A
 abbrev pub a_kind : A → Kind
 a_kind x = record {
-  rank = 0;
   word = Bytes x.octets;
   plain = length x.octets;
   written = just x.octets;
@@ -32,7 +31,6 @@ a_kind x = record {
   canonical = x.octets;
   held = [];
   places = no_places;
-  flags = [];
   fits = Unit {0};
   items = Some (ipv4_text x.octets ∷ []);
   shown = bare;

@@ -37,7 +37,6 @@ pub record IsFirstLongest (groups : List ℕ) (start len : ℕ) : Type 0 where
 -- the kind AAAA
 abbrev pub aaaa_kind : AAAA → Kind
 aaaa_kind x = record {
-  rank = 1;
   word = Bytes x.octets;
   plain = length x.octets;
   written = just x.octets;
@@ -48,7 +47,6 @@ aaaa_kind x = record {
   canonical = x.octets;
   held = [];
   places = no_places;
-  flags = [];
   fits = Unit {0};
   items = Some (aaaa_text x.octets ∷ []);
   shown = bare;

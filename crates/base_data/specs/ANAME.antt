@@ -18,4 +18,4 @@ aname_of = one_name_of (λ name. record { name = name })
 
 -- the kind ANAME
 abbrev pub aname_kind : ANAME → Kind
-aname_kind x = name_kind 5 x.name (plain_name x.name.labels) (Says-plain_name x.name.labels)
+aname_kind x = name_kind x.name (plain_name x.name.labels) (Says-plain_name x.name.labels)

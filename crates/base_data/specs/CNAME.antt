@@ -20,5 +20,5 @@ cname_of = one_name_of (λ name. record { name = name })
 -- the kind CNAME
 abbrev pub cname_kind : CNAME → Kind
 cname_kind x =
-    name_kind 3 x.name (name x.name.labels)
+    name_kind x.name (name x.name.labels)
     (Says-unowned (name x.name.labels) (Says-name x.name.labels))

@@ -1,14 +1,12 @@
 -- What is known of data of one kind: one value for each kind, in the kind's own file.
 use Rattle.base.specs.declared.limits.TheConstants.{MAX_NAME}
-use Rattle.std.specs.Prelude.{◌≡◌, ◌≢◌, ℕ, ◌<◌, ◌≤◌, Bool, false, All, List, [], length, Option}
+use Rattle.std.specs.Prelude.{◌≡◌, ◌≢◌, ℕ, ◌<◌, ◌≤◌, false, All, List, [], length, Option}
 use Rattle.base.specs.Labels.{AreLabels, NameValue, plain_len}
 use Rattle.base.specs.Says.{Says}
 use Rattle.base.specs.Written.{Writing}
 
 -- What is known of data, as a value of its kind.
 pub record Kind : Type 1 where
-  -- the place of its kind in the order of kinds
-  pub rank : ℕ
   -- the word that it is written as (RFC 1035, 3.3)
   pub word : List ℕ → ℕ → ℕ → Type 0
   -- how many bytes it is with its names uncompressed
@@ -29,8 +27,6 @@ pub record Kind : Type 1 where
   pub held : List NameValue
   -- the places of these, where it begins at a place of a buffer
   pub places : List ℕ → ℕ → List ℕ
-  -- whether each of its names is absolute, from the left
-  pub flags : List Bool
   -- whether its fields are such as the program's types hold
   pub fits : Type 0
   -- the items of its text, a string without its quotes (RFC 1035, 5.1); none of a kind without a text form

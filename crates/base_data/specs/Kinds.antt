@@ -1,5 +1,5 @@
 -- The kinds of record data, and what is known of each: every table of kinds is a part of this one.
-use Rattle.std.specs.Prelude.{◌≢◌, ℕ, Bool, true, false, List, [], IsTrue, Option, Some, None, Result, Ok, Err, option_map}
+use Rattle.std.specs.Prelude.{◌≢◌, ℕ, Bool, true, false, List, [], IsTrue, Option, Some, None, Result, Ok, Err, map, option_map}
 use Rattle.std.specs.Option.{ok_or}
 use Rattle.base.specs.Labels.{NameValue}
 use Rattle.base.specs.Reading.{Read, bytes_at, ◌>>=◌}
@@ -68,11 +68,11 @@ kind_of (kinds.MX x) = mx_kind x
 kind_of (kinds.SOA x) = soa_kind x
 kind_of (kinds.SRV x) = srv_kind x
 kind_of (kinds.TXT x) = txt_kind x
-kind_of (kinds.NULL x) = bytes_kind 10 (x ≢ []) x
+kind_of (kinds.NULL x) = bytes_kind (x ≢ []) x
 kind_of (kinds.OPT x) = opt_kind x
-kind_of (kinds.TSIG x) = bytes_kind 12 (x ≢ []) x
-kind_of (kinds.Update0 type) = bytes_kind 13 (Unit {0}) []
-kind_of (kinds.Unknown code x) = bytes_kind 14 (IsTrue (is_carried code) × (x ≢ [])) x
+kind_of (kinds.TSIG x) = bytes_kind (x ≢ []) x
+kind_of (kinds.Update0 type) = bytes_kind (Unit {0}) []
+kind_of (kinds.Unknown code x) = bytes_kind (IsTrue (is_carried code) × (x ≢ [])) x
 
 -- the type of data
 abbrev pub type_of_data : RData → RecordType
@@ -91,6 +91,24 @@ type_of_data (kinds.OPT x) = types.OPT
 type_of_data (kinds.TSIG x) = types.TSIG
 type_of_data (kinds.Update0 type) = type
 type_of_data (kinds.Unknown code x) = code
+
+-- the place of its kind in the order of kinds, that of the variants
+abbrev pub kind_rank : RData → ℕ
+kind_rank (kinds.A x) = 0
+kind_rank (kinds.AAAA x) = 1
+kind_rank (kinds.NS x) = 2
+kind_rank (kinds.CNAME x) = 3
+kind_rank (kinds.PTR x) = 4
+kind_rank (kinds.ANAME x) = 5
+kind_rank (kinds.MX x) = 6
+kind_rank (kinds.SOA x) = 7
+kind_rank (kinds.SRV x) = 8
+kind_rank (kinds.TXT x) = 9
+kind_rank (kinds.NULL x) = 10
+kind_rank (kinds.OPT x) = 11
+kind_rank (kinds.TSIG x) = 12
+kind_rank (kinds.Update0 type) = 13
+kind_rank (kinds.Unknown code x) = 14
 
 -- ---- reading, by type
 
@@ -172,10 +190,6 @@ IsReadable d = (kind_of d).readable
 abbrev pub canonical_data : RData → List ℕ
 canonical_data d = (kind_of d).canonical
 
--- the place of a kind in the order
-abbrev pub kind_rank : RData → ℕ
-kind_rank d = (kind_of d).rank
-
 -- the names of data, from the left
 abbrev pub data_names : RData → List NameValue
 data_names d = (kind_of d).held
@@ -186,7 +200,7 @@ data_places d = (kind_of d).places
 
 -- whether each name is absolute, from the left
 abbrev pub name_flags : RData → List Bool
-name_flags d = (kind_of d).flags
+name_flags d = map (λ name. name.absolute) (data_names d)
 
 -- data as the program's types hold it: numbers have their widths, labels 1 to 63 bytes, options up to 65,535
 abbrev pub FitsTypes : RData → Type 0

@@ -48,7 +48,6 @@ mx_places bytes i = (i + 2) ∷ []
 -- the kind MX
 abbrev pub mx_kind : MX → Kind
 mx_kind x = record {
-  rank = 6;
   word = MXWord x;
   plain = plain_mx x;
   written = both (just (to_be_bytes w16 x.preference)) (name x.exchange.labels);
@@ -61,7 +60,6 @@ mx_kind x = record {
   canonical = to_be_bytes w16 x.preference ++ name_octets x.exchange;
   held = x.exchange ∷ [];
   places = mx_places;
-  flags = x.exchange.absolute ∷ [];
   fits = (x.preference < 2 ^ 16) × AreLabels x.exchange.labels;
   items = Some (decimal x.preference ∷ name_text x.exchange ∷ []);
   shown = bare;

@@ -20,5 +20,5 @@ ns_of = one_name_of (λ name. record { name = name })
 -- the kind NS
 abbrev pub ns_kind : NS → Kind
 ns_kind x =
-    name_kind 2 x.name (name x.name.labels)
+    name_kind x.name (name x.name.labels)
     (Says-unowned (name x.name.labels) (Says-name x.name.labels))

@@ -132,7 +132,6 @@ options_say (option ∷ options) =
 -- the kind OPT
 abbrev pub opt_kind : List OptionValue → Kind
 opt_kind x = record {
-  rank = 11;
   word = options_word x;
   plain = options_len x;
   written = in_turn option_written x;
@@ -143,7 +142,6 @@ opt_kind x = record {
   canonical = options_wire x;
   held = [];
   places = no_places;
-  flags = [];
   fits = All FitsOption x;
   items = None;
   shown = bare;

@@ -26,11 +26,10 @@ abbrev pub own_place : List ℕ → ℕ → List ℕ
 own_place bytes i = i ∷ []
 
 -- what is known of data that is a name; how the name is written is its kind's
-abbrev pub name_kind : ℕ → (name : NameValue) (written : Writing)
+abbrev pub name_kind : (name : NameValue) (written : Writing)
     → Says written (AreNameLabels name.labels) (NameAt name.labels) (plain_len name.labels) []
     → Kind
-name_kind rank name written says = record {
-  rank = rank;
+name_kind name written says = record {
   word = NameAt name.labels;
   plain = plain_len name.labels;
   written = written;
@@ -41,7 +40,6 @@ name_kind rank name written says = record {
   canonical = name_octets name;
   held = name ∷ [];
   places = own_place;
-  flags = name.absolute ∷ [];
   fits = AreLabels name.labels;
   items = Some (name_text name ∷ []);
   shown = bare;

@@ -33,9 +33,8 @@ abbrev pub bytes_cmp : List ℕ → List ℕ → Ordering
 bytes_cmp = slice_cmp nat_cmp
 
 -- what is known of bytes that are only carried
-abbrev pub bytes_kind : ℕ → Type 0 → List ℕ → Kind
-bytes_kind rank readable x = record {
-  rank = rank;
+abbrev pub bytes_kind : Type 0 → List ℕ → Kind
+bytes_kind readable x = record {
   word = Bytes x;
   plain = length x;
   written = just x;
@@ -46,7 +45,6 @@ bytes_kind rank readable x = record {
   canonical = x;
   held = [];
   places = no_places;
-  flags = [];
   fits = Unit {0};
   items = None;
   shown = bare;

@@ -20,5 +20,5 @@ ptr_of = one_name_of (λ name. record { name = name })
 -- the kind PTR
 abbrev pub ptr_kind : PTR → Kind
 ptr_kind x =
-    name_kind 4 x.name (name x.name.labels)
+    name_kind x.name (name x.name.labels)
     (Says-unowned (name x.name.labels) (Says-name x.name.labels))

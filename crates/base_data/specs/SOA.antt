@@ -151,7 +151,6 @@ soa_places bytes i = i ∷ place_after (name_at bytes i) ∷ []
 -- the kind SOA
 abbrev pub soa_kind : SOA → Kind
 soa_kind x = record {
-  rank = 7;
   word = SOAWord x;
   plain = plain_soa x;
   written = both (name x.mname.labels) (both (name x.rname.labels) (just (soa_numbers x)));
@@ -169,7 +168,6 @@ soa_kind x = record {
       ++ to_be_bytes w32 x.expire ++ to_be_bytes w32 x.minimum;
   held = x.mname ∷ x.rname ∷ [];
   places = soa_places;
-  flags = x.mname.absolute ∷ x.rname.absolute ∷ [];
   fits = AreLabels x.mname.labels × AreLabels x.rname.labels × SOAFits x;
   items = Some
       (name_text x.mname ∷ name_text x.rname ∷ decimal x.serial ∷ decimal x.refresh

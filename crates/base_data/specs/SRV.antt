@@ -92,7 +92,6 @@ srv_places bytes i = (i + 6) ∷ []
 -- the kind SRV
 abbrev pub srv_kind : SRV → Kind
 srv_kind x = record {
-  rank = 8;
   word = SRVWord x;
   plain = plain_srv x;
   written = both (just (srv_numbers x)) (plain_name x.target.labels);
@@ -110,7 +109,6 @@ srv_kind x = record {
       ++ name_octets x.target;
   held = x.target ∷ [];
   places = srv_places;
-  flags = x.target.absolute ∷ [];
   fits = SRVFits x × AreLabels x.target.labels;
   items = Some (decimal x.priority ∷ decimal x.weight ∷ decimal x.port ∷ name_text x.target ∷ []);
   shown = bare;

@@ -69,7 +69,6 @@ pub record AreStrings (strings : List (List ℕ)) : Type 0 where
 -- the kind TXT
 abbrev pub txt_kind : List (List ℕ) → Kind
 txt_kind x = record {
-  rank = 9;
   word = Bytes (wire_of x);
   plain = length (wire_of x);
   written = just (wire_of x);
@@ -80,7 +79,6 @@ txt_kind x = record {
   canonical = wire_of x;
   held = [];
   places = no_places;
-  flags = [];
   fits = Unit {0};
   items = Some (map (flat_map string_byte) x);
   shown = quoted;

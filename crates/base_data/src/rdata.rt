@@ -2,12 +2,12 @@
 //! stands here.
 
 ghost use Rattle.base.specs.declared.limits.TheConstants.{POINTER_LIMIT};
-ghost use Rattle.std.specs.Prelude.{◌≡◌, ◌<◌, ◌≤◌, [], IfOk, Some, take};
+ghost use Rattle.std.specs.Prelude.{◌≡◌, ◌<◌, ◌≤◌, [], IfOk, Some, length, option_copied, slice_get};
 ghost use Rattle.std.specs.FinSet as set;
 ghost use Rattle.base.specs.Counts.{Counts, Passes};
 ghost use Rattle.base.specs.Passing.{AddsPassed};
 ghost use Rattle.base.specs.Reading.{Reads};
-ghost use Rattle.base_data.specs.Kinds.{DataWord, KeptData, canonical_data, data_places, data_says, data_text, data_written, kind_at, kind_rank, name_flags, plain_data, type_of_data};
+ghost use Rattle.base_data.specs.Kinds.{DataWord, KeptData, canonical_data, data_names, data_places, data_says, data_text, data_written, kind_at, kind_rank, plain_data, type_of_data};
 ghost use Rattle.base_data.specs.RData.{is_empty_data};
 
 pub mod a;
@@ -36,7 +36,7 @@ pub mod words;
 pub use a::A;
 pub use aaaa::AAAA;
 pub use aname::ANAME;
-use base::{BinDecoder, BinEncodable, BinEncoder, DecodeError, ProtoError, RecordType};
+use base::{BinDecoder, BinEncodable, BinEncoder, DecodeError, Name, ProtoError, RecordType};
 use canonical::CanonicalOctets;
 pub use cname::CNAME;
 pub use mx::MX;
@@ -190,19 +190,20 @@ impl RData {
         }
     }
 
-    /// Whether each name is absolute, from the left, and how many there are.
-    fn name_flags(&self) -> ([bool; 2], usize)
-        ensures count { result.1 ≤ 2 }
-        ensures flags { take result.1 result.0 ≡ name_flags self.now }
+    /// The names in the data, from the left: two at most.
+    fn names(&self) -> (Option<&Name>, Option<&Name>)
+        ensures count { length (data_names self.now) ≤ 2 }
+        ensures first { option_copied result.0 ≡ slice_get (data_names self.now) 0 }
+        ensures second { option_copied result.1 ≡ slice_get (data_names self.now) 1 }
     {
         match self {
-            RData::NS(rdata) => ([rdata.name.is_fqdn(), false], 1),
-            RData::CNAME(rdata) => ([rdata.name.is_fqdn(), false], 1),
-            RData::PTR(rdata) => ([rdata.name.is_fqdn(), false], 1),
-            RData::ANAME(rdata) => ([rdata.name.is_fqdn(), false], 1),
-            RData::MX(rdata) => ([rdata.exchange.is_fqdn(), false], 1),
-            RData::SOA(rdata) => ([rdata.mname.is_fqdn(), rdata.rname.is_fqdn()], 2),
-            RData::SRV(rdata) => ([rdata.target.is_fqdn(), false], 1),
+            RData::NS(rdata) => (Some(&rdata.name), None),
+            RData::CNAME(rdata) => (Some(&rdata.name), None),
+            RData::PTR(rdata) => (Some(&rdata.name), None),
+            RData::ANAME(rdata) => (Some(&rdata.name), None),
+            RData::MX(rdata) => (Some(&rdata.exchange), None),
+            RData::SOA(rdata) => (Some(&rdata.mname), Some(&rdata.rname)),
+            RData::SRV(rdata) => (Some(&rdata.target), None),
             RData::A(_)
             | RData::AAAA(_)
             | RData::TXT(_)
@@ -210,7 +211,7 @@ impl RData {
             | RData::OPT(_)
             | RData::TSIG(_)
             | RData::Update0(_)
-            | RData::Unknown { .. } => ([false; 2], 0),
+            | RData::Unknown { .. } => (None, None),
         }
     }
 

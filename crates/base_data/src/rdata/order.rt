@@ -1,10 +1,12 @@
 //! The order of the data of any record (RFC 4034, 6.2 and 6.3).
 
-ghost use Rattle.std.specs.Prelude.{◌≡◌};
-ghost use Rattle.base_data.specs.DataOrder.{data_cmp, flags_cmp};
+ghost use Rattle.std.specs.Prelude.{◌≡◌, option_copied};
+ghost use Rattle.std.specs.Option.{option_cmp};
+ghost use Rattle.base_data.specs.DataOrder.{data_cmp, flag_cmp, flags_cmp};
 ghost use Rattle.base_data.specs.Kinds.{name_flags};
 
 use crate::rdata::RData;
+use base::Name;
 use std::cmp::Ordering;
 
 impl RData {
@@ -23,8 +25,15 @@ impl RData {
     fn cmp_flags(&self, other: &RData) -> Ordering
         ensures { result ≡ flags_cmp (name_flags self.now) (name_flags other.now) }
     {
-        let (flags, count) = self.name_flags();
-        let (other_flags, other_count) = other.name_flags();
-        flags[..count].cmp(&other_flags[..other_count])
+        let (first, second) = self.names();
+        let (other_first, other_second) = other.names();
+        cmp_flag(first, other_first).then(cmp_flag(second, other_second))
     }
+}
+
+/// The order of the flags of two names, relative first; no name is before each.
+fn cmp_flag(a: Option<&Name>, b: Option<&Name>) -> Ordering
+    ensures { result ≡ option_cmp flag_cmp (option_copied a.entry) (option_copied b.entry) }
+{
+    a.map(Name::is_fqdn).cmp(&b.map(Name::is_fqdn))
 }
