@@ -25,6 +25,7 @@ pub mod ReadRows
 pub mod SOALemmas
 pub mod SRVLemmas
 pub mod SameData
+pub mod SameNames
 pub mod StringGrammar
 pub mod StringItemLemmas
 pub mod StringLemmas

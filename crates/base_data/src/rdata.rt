@@ -20,6 +20,7 @@ mod fits;
 mod hex_text;
 mod items;
 pub mod laws;
+mod letter_case;
 pub mod mx;
 pub mod ns;
 pub mod null;

@@ -40,6 +40,13 @@ impl Name {
         cmp_label(self.as_wire(), other.as_wire())
     }
 
+    /// Whether the names are the same in the letter case of their labels too.
+    pub fn eq_case(&self, other: &Name) -> bool
+        ensures { IsTrue result ↔ (self.now ≡ other.now) }
+    {
+        self.is_fqdn() == other.is_fqdn() && self.as_wire() == other.as_wire()
+    }
+
     /// The name with its ASCII letters in lower case. Grows memory once, and not at all for a name whose labels take
     /// up to 29 bytes; refused if memory runs out.
     pub(crate) fn to_lowercase(&self, alloc: Global) -> Result<Name, AllocError>
