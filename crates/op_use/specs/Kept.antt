@@ -1,15 +1,12 @@
 -- Sets that an update leaves as they were, since their records are the same.
-use Rattle.base.specs.Labels.{NameValue}
 use Rattle.base.specs.RrKey.{key_cmp}
 use Rattle.base.specs.declared.rr_key.RrKey.{RrKey}
-use Rattle.base_data.specs.declared.rdata.RData.TheVariants as kinds
-use Rattle.base_data.specs.declared.rdata.RData.{RData}
 use Rattle.op_use.specs.Applying.{records_at}
 use Rattle.op_use.specs.HeldZone.{HeldZone}
 use Rattle.rr.specs.RecordSet.{SetValue}
 use Rattle.std.specs.BTreeMap as tree
 use Rattle.std.specs.BTreeMap.{BTreeMap}
-use Rattle.std.specs.Prelude.{Bool, None, Option, Some, true, ◌≡◌, ◌⊎◌}
+use Rattle.std.specs.Prelude.{Bool, true, ◌≡◌, ◌⊎◌}
 
 -- Each set of the map now is left as it is or, where its records are those of old, put back as old has it: the latter
 -- for certain under a key that passes the test.
@@ -23,14 +20,3 @@ pub record IsReturned (test : RrKey → Bool) (old now new : BTreeMap RrKey SetV
 abbrev pub Returns : (RrKey → Bool) → BTreeMap RrKey SetValue → HeldZone → HeldZone → Type 0
 Returns test old now new = (sets : BTreeMap RrKey SetValue) × (new ≡ record now { sets = sets })
     × IsReturned test old now.sets sets
-
--- the names in data, which are two at most
-abbrev pub first_names : RData → Option NameValue × Option NameValue
-first_names (kinds.NS x) = (Some x.name, None)
-first_names (kinds.CNAME x) = (Some x.name, None)
-first_names (kinds.PTR x) = (Some x.name, None)
-first_names (kinds.ANAME x) = (Some x.name, None)
-first_names (kinds.MX x) = (Some x.exchange, None)
-first_names (kinds.SOA x) = (Some x.mname, Some x.rname)
-first_names (kinds.SRV x) = (Some x.target, None)
-first_names _ = (None, None)

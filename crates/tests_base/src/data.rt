@@ -1,6 +1,7 @@
 //! Data of every kind: how it is written, read, shown, ordered, and taken out of the data of any record.
 
 mod kinds;
+mod letter_case;
 mod options;
 mod order;
 mod reading;

@@ -4,14 +4,13 @@ ghost use Rattle.base.specs.RrKey.{key_cmp};
 ghost use Rattle.base.specs.declared.rr_key.RrKey.{RrKey as Key};
 ghost use Rattle.op_use.specs.Applying.{IsZoneMap};
 ghost use Rattle.op_use.specs.HeldZone.{HeldZone};
-ghost use Rattle.op_use.specs.Kept.{Returns, first_names};
+ghost use Rattle.op_use.specs.Kept.{Returns};
 ghost use Rattle.op_use.specs.MapUpdates.{names_set};
 ghost use Rattle.std.specs.Ordering.{eq_by_cmp};
-ghost use Rattle.std.specs.Prelude.{IsTrue, OnOk, option_copied, ◌↔◌, ◌≡◌};
+ghost use Rattle.std.specs.Prelude.{IsTrue, OnOk, ◌↔◌, ◌≡◌};
 
 use crate::apply::zone::{Zone, key_of};
-use base::{Name, RrKey};
-use base_data::RData;
+use base::RrKey;
 use rr::{Record, RecordSet};
 use std::alloc::AllocError;
 use std::collections::{BTreeMap, BTreeSet};
@@ -84,47 +83,9 @@ fn are_same(a: &[Record], b: &[Record]) -> bool
 fn is_same(a: &Record, b: &Record) -> bool
     ensures { IsTrue result ↔ (a.now ≡ b.now) }
 {
-    let (first, second) = names_of(&a.rdata);
-    let (other_first, other_second) = names_of(&b.rdata);
     a.ttl == b.ttl
         && a.dns_class == b.dns_class
         && a.mdns_cache_flush == b.mdns_cache_flush
-        && a.rdata == b.rdata
-        && is_spelled_alike(Some(&a.name), Some(&b.name))
-        && is_spelled_alike(first, other_first)
-        && is_spelled_alike(second, other_second)
-}
-
-/// Whether both are names and the same, letter case and all, or neither is one.
-fn is_spelled_alike(a: Option<&Name>, b: Option<&Name>) -> bool
-    ensures { IsTrue result ↔ (option_copied a.entry ≡ option_copied b.entry) }
-{
-    match (a, b) {
-        (Some(a), Some(b)) => a.is_fqdn() == b.is_fqdn() && *a.as_wire() == *b.as_wire(),
-        (None, None) => true,
-        _ => false,
-    }
-}
-
-/// The names in data, which are two at most.
-fn names_of(rdata: &RData) -> (Option<&Name>, Option<&Name>)
-    ensures { (option_copied result.0, option_copied result.1) ≡ first_names rdata.now }
-{
-    match rdata {
-        RData::NS(rdata) => (Some(&rdata.name), None),
-        RData::CNAME(rdata) => (Some(&rdata.name), None),
-        RData::PTR(rdata) => (Some(&rdata.name), None),
-        RData::ANAME(rdata) => (Some(&rdata.name), None),
-        RData::MX(rdata) => (Some(&rdata.exchange), None),
-        RData::SOA(rdata) => (Some(&rdata.mname), Some(&rdata.rname)),
-        RData::SRV(rdata) => (Some(&rdata.target), None),
-        RData::A(_)
-        | RData::AAAA(_)
-        | RData::TXT(_)
-        | RData::NULL(_)
-        | RData::OPT(_)
-        | RData::TSIG(_)
-        | RData::Update0(_)
-        | RData::Unknown { .. } => (None, None),
-    }
+        && a.name.eq_case(&b.name)
+        && a.rdata.eq_case(&b.rdata)
 }
