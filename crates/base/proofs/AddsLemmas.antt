@@ -6,7 +6,7 @@ use Rattle.std.specs.Ordering.{nat_cmp}
 use Rattle.std.proofs.lemmas.List.{append-nil}
 use Rattle.std.proofs.lemmas.List.Folds.{list_any-append}
 use Rattle.base.specs.Many.{many_names}
-use Rattle.base.specs.Passing.{AddsPassed, NamesPass, among, inserted, no_names, one_more, passed}
+use Rattle.base.specs.Passing.{AddsPassed, NamesPass, is_among, inserted, no_names, one_more, passed}
 use Rattle.base.specs.Reader.{Reader}
 use Rattle.base.specs.Reading.{Read}
 use Rattle.base.specs.Spelling.{Spelled}
@@ -21,15 +21,15 @@ inserted-both : (ts us : List ℕ) (s : set.FinSet nat_cmp) → inserted (ts ++ 
 inserted-both ts us s = same_members _ _ (λ q.
     contains-inserted (ts ++ us) s q
     ∙ ap (λ (b : Bool). set.contains s q || b) (list_any-append (λ (y : ℕ). nat_eq y q) ts us)
-    ∙ or_of_three (set.contains s q) (among ts q) (among us q)
-    ∙ ap (λ (b : Bool). b || among us q) (sym (contains-inserted ts s q))
+    ∙ or_of_three (set.contains s q) (is_among ts q) (is_among us q)
+    ∙ ap (λ (b : Bool). b || is_among us q) (sym (contains-inserted ts s q))
     ∙ sym (contains-inserted us (inserted ts s) q))
 
 -- and where there are none before
 pub inserted-all : (ts : List ℕ) → inserted ts set.empty ≡ set.from_list ts
 inserted-all ts = same_members _ _ (λ q.
     contains-inserted ts set.empty q
-    ∙ ap (λ (b : Bool). b || among ts q) (set.contains-empty nat_cmp q)
+    ∙ ap (λ (b : Bool). b || is_among ts q) (set.contains-empty nat_cmp q)
     ∙ sym (set.contains-from_list_nat ts q))
 
 pass-both : {bytes places ts more us : List ℕ} → NamesPass bytes places ts → NamesPass bytes more us → NamesPass bytes (places ++ more) (ts ++ us)

@@ -14,7 +14,7 @@ use Rattle.base.specs.declared.wire.pointer_cache.TargetLabels.{TargetLabels}
 use Rattle.base.specs.declared.wire.pointer_cache.TargetLabels.TheVariants.{Lent, Copied}
 use Rattle.base.specs.declared.wire.pointer_cache.Target.{Target}
 use Rattle.base.specs.declared.wire.pointer_cache.TheConstants.{ROOM}
-use Rattle.base.specs.Pointers.{AreThere, IsInside, IsLonger, IsThere, cache_of, entries_from, entries_of, labels_at, labels_from, labels_in, len_at, placed}
+use Rattle.base.specs.Pointers.{AreThere, IsInside, IsLonger, IsTargetThere, cache_of, entries_from, target_entries, target_labels, labels_from, labels_in, len_at, placed}
 
 -- ---- a place whose labels are there keeps them, where more is copied after
 
@@ -56,18 +56,18 @@ module _ (copied more : List ℕ) where
   are_there_stay (Lent labels) there = there
   are_there_stay (Copied place) there = (there.0, inside_stays copied more place there.1)
 
-  pub there_stay : (targets : List Target) → All (IsThere copied) targets → All (IsThere (copied ++ more)) targets
-  there_stay targets = All-weaker (IsThere copied) (IsThere (copied ++ more)) (λ target there. are_there_stay target.labels there) targets
+  pub there_stay : (targets : List Target) → All (IsTargetThere copied) targets → All (IsTargetThere (copied ++ more)) targets
+  there_stay targets = All-weaker (IsTargetThere copied) (IsTargetThere (copied ++ more)) (λ target there. are_there_stay target.labels there) targets
 
-  pub at_stay : (labels : TargetLabels) → AreThere copied labels → labels_at (copied ++ more) labels ≡ labels_at copied labels
+  pub at_stay : (labels : TargetLabels) → AreThere copied labels → target_labels (copied ++ more) labels ≡ target_labels copied labels
   at_stay (Lent labels) there = refl
   at_stay (Copied place) there = from_stays copied more place there.0 there.1
 
-  pub entries_of_stay : (targets : List Target) → All (IsThere copied) targets → entries_of (copied ++ more) targets ≡ entries_of copied targets
+  pub entries_of_stay : (targets : List Target) → All (IsTargetThere copied) targets → target_entries (copied ++ more) targets ≡ target_entries copied targets
   entries_of_stay [] there = refl
   entries_of_stay (t ∷ ts) there =
-      ap (λ (labels : List ℕ). (t.offset, labels) ∷ entries_of (copied ++ more) ts) (at_stay t.labels (there 0 t (omega arith)))
-      ∙ ap (λ (es : List (ℕ × List ℕ)). (t.offset, labels_at copied t.labels) ∷ es) (entries_of_stay ts (λ k d inside. there (suc k) d (omega (arith, inside))))
+      ap (λ (labels : List ℕ). (t.offset, labels) ∷ target_entries (copied ++ more) ts) (at_stay t.labels (there 0 t (omega arith)))
+      ∙ ap (λ (es : List (ℕ × List ℕ)). (t.offset, target_labels copied t.labels) ∷ es) (entries_of_stay ts (λ k d inside. there (suc k) d (omega (arith, inside))))
 
   entries_from_stay : (t : ℕ) (places : List ℕ) → All (IsInside copied) places → entries_from t (copied ++ more) places ≡ entries_from t copied places
   entries_from_stay t [] inside = refl
@@ -76,10 +76,10 @@ module _ (copied more : List ℕ) where
       ap (λ (labels : List ℕ). (t, labels) ∷ entries_from (suc t) (copied ++ more) places) (from_stays copied more (suc n) (λ none. omega (arith, none)) (inside 0 n (omega arith)))
       ∙ ap (λ (es : List (ℕ × List ℕ)). (t, labels_from copied (suc n)) ∷ es) (entries_from_stay (suc t) places (λ k d small. inside (suc k) d (omega (arith, small))))
 
-  pub cache_stays : (others : List ℕ) (first : List Target) → All (IsInside copied) others → All (IsThere copied) first → cache_of (copied ++ more) others first ≡ cache_of copied others first
+  pub cache_stays : (others : List ℕ) (first : List Target) → All (IsInside copied) others → All (IsTargetThere copied) first → cache_of (copied ++ more) others first ≡ cache_of copied others first
   cache_stays others first inside there =
       ap (λ (es : List (ℕ × List ℕ)). map.from_entries (es ++ entries_from 0 (copied ++ more) others)) (entries_of_stay first there)
-      ∙ ap (λ (es : List (ℕ × List ℕ)). map.from_entries (entries_of copied first ++ es)) (entries_from_stay 0 others inside)
+      ∙ ap (λ (es : List (ℕ × List ℕ)). map.from_entries (target_entries copied first ++ es)) (entries_from_stay 0 others inside)
 
 -- ---- what is copied after the others
 
@@ -195,12 +195,12 @@ found_from t copied (suc n ∷ places) (suc k) =
 
 -- among the first targets, and else by its place
 pub get_cache : (copied others : List ℕ) (first : List Target) (q : ℕ)
-    → map.get (cache_of copied others first) q ≡ option_or (map.find nat_cmp q (entries_of copied first)) (labels_in copied (get_or others q 0))
+    → map.get (cache_of copied others first) q ≡ option_or (map.find nat_cmp q (target_entries copied first)) (labels_in copied (get_or others q 0))
 get_cache copied others first q =
     let at : q ≡ 0 + q = omega arith in
-    map.get-from_entries nat_cmp_total (entries_of copied first ++ entries_from 0 copied others) q
-    ∙ find_both (entries_of copied first) (entries_from 0 copied others) q
-    ∙ ap (λ (o : Option (List ℕ)). option_or (map.find nat_cmp q (entries_of copied first)) o)
+    map.get-from_entries nat_cmp_total (target_entries copied first ++ entries_from 0 copied others) q
+    ∙ find_both (target_entries copied first) (entries_from 0 copied others) q
+    ∙ ap (λ (o : Option (List ℕ)). option_or (map.find nat_cmp q (target_entries copied first)) o)
     (ap (λ (k : ℕ). map.find nat_cmp k (entries_from 0 copied others)) at ∙ found_from 0 copied others q)
 
 -- ---- one target more
@@ -210,7 +210,7 @@ same_cache = map.same_map nat_cmp_total map.nat_cmp-IsAntisymmetric
 
 -- caches where the same is found
 pub same_found : (copied now others others' : List ℕ) (first first' : List Target)
-    → ((q : ℕ) → option_or (map.find nat_cmp q (entries_of now first')) (labels_in now (get_or others' q 0)) ≡ option_or (map.find nat_cmp q (entries_of copied first)) (labels_in copied (get_or others q 0)))
+    → ((q : ℕ) → option_or (map.find nat_cmp q (target_entries now first')) (labels_in now (get_or others' q 0)) ≡ option_or (map.find nat_cmp q (target_entries copied first)) (labels_in copied (get_or others q 0)))
     → cache_of now others' first' ≡ cache_of copied others first
 same_found copied now others others' first first' same = same_cache _ _ (λ q. get_cache now others' first' q ∙ same q ∙ sym (get_cache copied others first q))
 
@@ -226,7 +226,7 @@ or_none None = refl
 or_none (Some x) = refl
 
 module _ (copied others : List ℕ) (first : List Target) (t : ℕ) (none : map.get (cache_of copied others first) t ≡ None) where
-  not_first : map.find nat_cmp t (entries_of copied first) ≡ None
+  not_first : map.find nat_cmp t (target_entries copied first) ≡ None
   not_first = none_of _ (labels_in copied (get_or others t 0)) (sym (get_cache copied others first t) ∙ none)
 
   -- what is found with one more, which is new
@@ -243,56 +243,56 @@ module _ (copied others : List ℕ) (first : List Target) (t : ℕ) (none : map.
   ]
 
   -- one more among the first
-  pub first_more : (labels : TargetLabels) → cache_of copied others (first ++ record { offset = t; labels = labels } ∷ []) ≡ map.insert (cache_of copied others first) t (labels_at copied labels)
-  first_more labels = same_cache _ _ (λ q. one_found (labels_at copied labels) (λ k. map.get (cache_of copied others (first ++ record { offset = t; labels = labels } ∷ [])) k) q (here q) (other q)) where
+  pub first_more : (labels : TargetLabels) → cache_of copied others (first ++ record { offset = t; labels = labels } ∷ []) ≡ map.insert (cache_of copied others first) t (target_labels copied labels)
+  first_more labels = same_cache _ _ (λ q. one_found (target_labels copied labels) (λ k. map.get (cache_of copied others (first ++ record { offset = t; labels = labels } ∷ [])) k) q (here q) (other q)) where
     pushed : (q : ℕ) → map.get (cache_of copied others (first ++ record { offset = t; labels = labels } ∷ [])) q
-        ≡ option_or (option_or (map.find nat_cmp q (entries_of copied first)) (cond (eq_by_cmp nat_cmp q t) (Some (labels_at copied labels)) None)) (labels_in copied (get_or others q 0))
+        ≡ option_or (option_or (map.find nat_cmp q (target_entries copied first)) (cond (eq_by_cmp nat_cmp q t) (Some (target_labels copied labels)) None)) (labels_in copied (get_or others q 0))
     pushed q =
-        let entry : Target → ℕ × List ℕ = λ x. (x.offset, labels_at copied x.labels) in
+        let entry : Target → ℕ × List ℕ = λ x. (x.offset, target_labels copied x.labels) in
         get_cache copied others (first ++ record { offset = t; labels = labels } ∷ []) q
         ∙ ap (λ (es : List (ℕ × List ℕ)). option_or (map.find nat_cmp q es) (labels_in copied (get_or others q 0))) (map_push entry first (record { offset = t; labels = labels }))
-        ∙ ap (λ (o : Option (List ℕ)). option_or o (labels_in copied (get_or others q 0))) (find_both (entries_of copied first) ((t, labels_at copied labels) ∷ []) q)
+        ∙ ap (λ (o : Option (List ℕ)). option_or o (labels_in copied (get_or others q 0))) (find_both (target_entries copied first) ((t, target_labels copied labels) ∷ []) q)
 
-    here : (q : ℕ) → q ≡ t → map.get (cache_of copied others (first ++ record { offset = t; labels = labels } ∷ [])) q ≡ Some (labels_at copied labels)
+    here : (q : ℕ) → q ≡ t → map.get (cache_of copied others (first ++ record { offset = t; labels = labels } ∷ [])) q ≡ Some (target_labels copied labels)
     here q same =
         pushed q
-        ∙ ap (λ (o : Option (List ℕ)). option_or (option_or o (cond (eq_by_cmp nat_cmp q t) (Some (labels_at copied labels)) None)) (labels_in copied (get_or others q 0)))
-        (ap (λ (k : ℕ). map.find nat_cmp k (entries_of copied first)) same ∙ not_first)
-        ∙ ap (λ (b : Bool). option_or (cond b (Some (labels_at copied labels)) None) (labels_in copied (get_or others q 0))) (tied q t same)
+        ∙ ap (λ (o : Option (List ℕ)). option_or (option_or o (cond (eq_by_cmp nat_cmp q t) (Some (target_labels copied labels)) None)) (labels_in copied (get_or others q 0)))
+        (ap (λ (k : ℕ). map.find nat_cmp k (target_entries copied first)) same ∙ not_first)
+        ∙ ap (λ (b : Bool). option_or (cond b (Some (target_labels copied labels)) None) (labels_in copied (get_or others q 0))) (tied q t same)
 
     other : (q : ℕ) → q ≢ t → map.get (cache_of copied others (first ++ record { offset = t; labels = labels } ∷ [])) q ≡ map.get (cache_of copied others first) q
     other q apart =
         pushed q
-        ∙ ap (λ (b : Bool). option_or (option_or (map.find nat_cmp q (entries_of copied first)) (cond b (Some (labels_at copied labels)) None)) (labels_in copied (get_or others q 0))) (not_tied q t apart)
-        ∙ ap (λ (o : Option (List ℕ)). option_or o (labels_in copied (get_or others q 0))) (or_none (map.find nat_cmp q (entries_of copied first)))
+        ∙ ap (λ (b : Bool). option_or (option_or (map.find nat_cmp q (target_entries copied first)) (cond b (Some (target_labels copied labels)) None)) (labels_in copied (get_or others q 0))) (not_tied q t apart)
+        ∙ ap (λ (o : Option (List ℕ)). option_or o (labels_in copied (get_or others q 0))) (or_none (map.find nat_cmp q (target_entries copied first)))
         ∙ sym (get_cache copied others first q)
 
   -- one more that has a place
-  pub others_more : (now new : List ℕ) (labels : List ℕ) → entries_of now first ≡ entries_of copied first → labels_in now (get_or new t 0) ≡ Some labels
+  pub others_more : (now new : List ℕ) (labels : List ℕ) → target_entries now first ≡ target_entries copied first → labels_in now (get_or new t 0) ≡ Some labels
       → ((q : ℕ) → q ≢ t → labels_in now (get_or new q 0) ≡ labels_in copied (get_or others q 0))
       → cache_of now new first ≡ map.insert (cache_of copied others first) t labels
   others_more now new labels stay put rest = same_cache _ _ (λ q. one_found labels (λ k. map.get (cache_of now new first) k) q (here q) (other q)) where
-    at : (q : ℕ) → map.get (cache_of now new first) q ≡ option_or (map.find nat_cmp q (entries_of copied first)) (labels_in now (get_or new q 0))
+    at : (q : ℕ) → map.get (cache_of now new first) q ≡ option_or (map.find nat_cmp q (target_entries copied first)) (labels_in now (get_or new q 0))
     at q = get_cache now new first q ∙ ap (λ (es : List (ℕ × List ℕ)). option_or (map.find nat_cmp q es) (labels_in now (get_or new q 0))) stay
 
     here : (q : ℕ) → q ≡ t → map.get (cache_of now new first) q ≡ Some labels
     here q same =
         at q
-        ∙ ap (λ (o : Option (List ℕ)). option_or o (labels_in now (get_or new q 0))) (ap (λ (k : ℕ). map.find nat_cmp k (entries_of copied first)) same ∙ not_first)
+        ∙ ap (λ (o : Option (List ℕ)). option_or o (labels_in now (get_or new q 0))) (ap (λ (k : ℕ). map.find nat_cmp k (target_entries copied first)) same ∙ not_first)
         ∙ ap (λ (k : ℕ). labels_in now (get_or new k 0)) same ∙ put
 
     other : (q : ℕ) → q ≢ t → map.get (cache_of now new first) q ≡ map.get (cache_of copied others first) q
     other q apart =
-        at q ∙ ap (λ (o : Option (List ℕ)). option_or (map.find nat_cmp q (entries_of copied first)) o) (rest q apart)
+        at q ∙ ap (λ (o : Option (List ℕ)). option_or (map.find nat_cmp q (target_entries copied first)) o) (rest q apart)
         ∙ sym (get_cache copied others first q)
 
 -- ---- one more among the first, in an array that has room
 
-pub there_set : (copied : List ℕ) (first : List Target) (count offset : ℕ) (labels : TargetLabels) → count < ROOM → length first ≡ ROOM → All (IsThere copied) (take count first) → AreThere copied labels
-    → All (IsThere copied) (take (count + 1) (slice_set first count (record { offset = offset; labels = labels })))
+pub there_set : (copied : List ℕ) (first : List Target) (count offset : ℕ) (labels : TargetLabels) → count < ROOM → length first ≡ ROOM → All (IsTargetThere copied) (take count first) → AreThere copied labels
+    → All (IsTargetThere copied) (take (count + 1) (slice_set first count (record { offset = offset; labels = labels })))
 there_set copied first count offset labels less room all there =
     let one : Target = record { offset = offset; labels = labels } in
-    All-same (IsThere copied) _ _ (take_more_set first count one (omega (arith, less, room))) (All-push (IsThere copied) (take count first) one all there)
+    All-same (IsTargetThere copied) _ _ (take_more_set first count one (omega (arith, less, room))) (All-push (IsTargetThere copied) (take count first) one all there)
 
 module _ (copied others : List ℕ) (first : List Target) (count offset : ℕ) (less : count < ROOM) (room : length first ≡ ROOM)
     (none : map.get (cache_of copied others (take count first)) offset ≡ None) where
@@ -301,14 +301,14 @@ module _ (copied others : List ℕ) (first : List Target) (count offset : ℕ) (
 
   -- its labels are lent or copied already
   pub first_set : (labels : TargetLabels) → cache_of copied others (take (count + 1) (slice_set first count (record { offset = offset; labels = labels })))
-      ≡ map.insert (cache_of copied others (take count first)) offset (labels_at copied labels)
+      ≡ map.insert (cache_of copied others (take count first)) offset (target_labels copied labels)
   first_set labels =
       let one : Target = record { offset = offset; labels = labels } in
       ap (cache_of copied others) (set_more one) ∙ first_more copied others (take count first) offset none labels
 
 -- its labels are copied after the others
 pub copied_set : (copied labels others : List ℕ) (first : List Target) (count offset : ℕ) → count < ROOM → length first ≡ ROOM → map.get (cache_of copied others (take count first)) offset ≡ None
-    → All (IsInside copied) others → All (IsThere copied) (take count first)
+    → All (IsInside copied) others → All (IsTargetThere copied) (take count first)
     → cache_of (copied ++ (length labels ∷ labels)) others (take (count + 1) (slice_set first count (record { offset = offset; labels = Copied (length copied + 1) })))
     ≡ map.insert (cache_of copied others (take count first)) offset labels
 copied_set copied labels others first count offset less room none inside there =
@@ -327,14 +327,14 @@ longer_both {a} {b} {c} first second = record {
 }
 
 module _ {copied now : List ℕ} (longer : IsLonger copied now) where
-  pub longer_at : (labels : TargetLabels) → AreThere copied labels → labels_at now labels ≡ labels_at copied labels
-  longer_at labels there = ap (λ (xs : List ℕ). labels_at xs labels) longer.is ∙ at_stay copied longer.more labels there
+  pub longer_at : (labels : TargetLabels) → AreThere copied labels → target_labels now labels ≡ target_labels copied labels
+  longer_at labels there = ap (λ (xs : List ℕ). target_labels xs labels) longer.is ∙ at_stay copied longer.more labels there
 
-  pub longer_there : (targets : List Target) → All (IsThere copied) targets → All (IsThere now) targets
-  longer_there targets there = subst (λ (xs : List ℕ). All (IsThere xs) targets) (sym longer.is) (there_stay copied longer.more targets there)
+  pub longer_there : (targets : List Target) → All (IsTargetThere copied) targets → All (IsTargetThere now) targets
+  longer_there targets there = subst (λ (xs : List ℕ). All (IsTargetThere xs) targets) (sym longer.is) (there_stay copied longer.more targets there)
 
-  pub longer_entries : (targets : List Target) → All (IsThere copied) targets → entries_of now targets ≡ entries_of copied targets
-  longer_entries targets there = ap (λ (xs : List ℕ). entries_of xs targets) longer.is ∙ entries_of_stay copied longer.more targets there
+  pub longer_entries : (targets : List Target) → All (IsTargetThere copied) targets → target_entries now targets ≡ target_entries copied targets
+  longer_entries targets there = ap (λ (xs : List ℕ). target_entries xs targets) longer.is ∙ entries_of_stay copied longer.more targets there
 
 -- ---- targets that get places
 
@@ -352,17 +352,17 @@ module _ (copied old reached : List ℕ) (t place : ℕ) (same : (q : ℕ) → g
 
 -- one target more has its place
 pub one_placed : (copied : List ℕ) (target : Target) (rest : List Target) (old now before : ℕ → Option (List ℕ))
-    → ((q : ℕ) → old q ≡ option_or (map.find nat_cmp q (entries_of copied rest)) (before q))
-    → now target.offset ≡ Some (labels_at copied target.labels) → ((q : ℕ) → q ≢ target.offset → now q ≡ old q)
-    → (q : ℕ) → now q ≡ option_or (map.find nat_cmp q (entries_of copied (target ∷ rest))) (before q)
+    → ((q : ℕ) → old q ≡ option_or (map.find nat_cmp q (target_entries copied rest)) (before q))
+    → now target.offset ≡ Some (target_labels copied target.labels) → ((q : ℕ) → q ≢ target.offset → now q ≡ old q)
+    → (q : ℕ) → now q ≡ option_or (map.find nat_cmp q (target_entries copied (target ∷ rest))) (before q)
 one_placed copied target rest old now before was here others q = elim (cases_Bool (nat_eq q target.offset)) [
   | inl same ↦
       let equal : q ≡ target.offset = eqb-true q target.offset same in
-      ap now equal ∙ here ∙ sym (ap (λ (o : Option (List ℕ)). option_or o (before q)) (cond-true (eq_by_cmp nat_cmp q target.offset) (Some (labels_at copied target.labels)) _ (tied q target.offset equal)))
+      ap now equal ∙ here ∙ sym (ap (λ (o : Option (List ℕ)). option_or o (before q)) (cond-true (eq_by_cmp nat_cmp q target.offset) (Some (target_labels copied target.labels)) _ (tied q target.offset equal)))
   | inr differ ↦
       let apart : q ≢ target.offset = eqb-false q target.offset differ in
       others q apart ∙ was q
-      ∙ sym (ap (λ (o : Option (List ℕ)). option_or o (before q)) (cond-false (eq_by_cmp nat_cmp q target.offset) (Some (labels_at copied target.labels)) _ (not_tied q target.offset apart)))
+      ∙ sym (ap (λ (o : Option (List ℕ)). option_or o (before q)) (cond-false (eq_by_cmp nat_cmp q target.offset) (Some (target_labels copied target.labels)) _ (not_tied q target.offset apart)))
 ]
 
 or_again : {X : Type 0} (o p : Option X) → option_or o (option_or o p) ≡ option_or o p
@@ -375,8 +375,8 @@ tied_or false x o p r same = same
 
 -- among targets nothing else is found where some of them have places too
 pub found_again : (copied : List ℕ) (targets : List Target) (i q : ℕ) (r : Option (List ℕ))
-    → option_or (map.find nat_cmp q (entries_of copied targets)) (option_or (map.find nat_cmp q (entries_of copied (drop i targets))) r) ≡ option_or (map.find nat_cmp q (entries_of copied targets)) r
-found_again copied targets zero q r = or_again (map.find nat_cmp q (entries_of copied targets)) r
+    → option_or (map.find nat_cmp q (target_entries copied targets)) (option_or (map.find nat_cmp q (target_entries copied (drop i targets))) r) ≡ option_or (map.find nat_cmp q (target_entries copied targets)) r
+found_again copied targets zero q r = or_again (map.find nat_cmp q (target_entries copied targets)) r
 found_again copied [] (suc i) q r = refl
 found_again copied (t ∷ ts) (suc i) q r =
-    tied_or (eq_by_cmp nat_cmp q t.offset) (labels_at copied t.labels) (map.find nat_cmp q (entries_of copied ts)) (map.find nat_cmp q (entries_of copied (drop i ts))) r (found_again copied ts i q r)
+    tied_or (eq_by_cmp nat_cmp q t.offset) (target_labels copied t.labels) (map.find nat_cmp q (target_entries copied ts)) (map.find nat_cmp q (target_entries copied (drop i ts))) r (found_again copied ts i q r)

@@ -15,7 +15,7 @@ use Rattle.base.specs.Pointers.{AreKept, Cache, Followed, IsKept, targets_of}
 use Rattle.std.specs.declared.cmp.Ordering.{Ordering}
 use Rattle.std.specs.declared.cmp.Ordering.TheVariants.{Less, Equal, Greater}
 use Rattle.base.specs.Counts.{IsCounted, IsPassed}
-use Rattle.base.specs.Passing.{NamesPass, among, inserted, one_more, passed}
+use Rattle.base.specs.Passing.{NamesPass, is_among, inserted, one_more, passed}
 use Rattle.base.specs.Spelling.{Spelled, ends, label, pointer}
 use Rattle.base.specs.Reader.{Reader}
 
@@ -109,7 +109,7 @@ equal_is Greater is = absurd (false≢true is)
 pub same_members : (a b : set.FinSet nat_cmp) → ((q : ℕ) → set.contains a q ≡ set.contains b q) → a ≡ b
 same_members = set.same_set nat_cmp_total nat_cmp-IsAntisymmetric
 
-pub contains-inserted : (ts : List ℕ) (s : set.FinSet nat_cmp) (q : ℕ) → set.contains (inserted ts s) q ≡ (set.contains s q || among ts q)
+pub contains-inserted : (ts : List ℕ) (s : set.FinSet nat_cmp) (q : ℕ) → set.contains (inserted ts s) q ≡ (set.contains s q || is_among ts q)
 contains-inserted ts s q = set.contains-union nat_cmp_total s (set.from_list ts) q ∙ ap (λ (b : Bool). set.contains s q || b) (set.contains-from_list_nat ts q)
 
 pub contains-one_more : (s : set.FinSet nat_cmp) (t q : ℕ) → set.contains (set.insert s t) q ≡ (nat_eq t q || set.contains s q)
@@ -132,14 +132,14 @@ pub inserted-push : (ts : List ℕ) (t : ℕ) (s : set.FinSet nat_cmp) → inser
 inserted-push ts t s = same_members _ _ (λ q.
     contains-inserted (ts ++ t ∷ []) s q
     ∙ ap (λ (b : Bool). set.contains s q || b) (list_any-append (λ (y : ℕ). nat_eq y q) ts (t ∷ []))
-    ∙ after_all (set.contains s q) (among ts q) (nat_eq t q)
+    ∙ after_all (set.contains s q) (is_among ts q) (nat_eq t q)
     ∙ ap (λ (b : Bool). nat_eq t q || b) (sym (contains-inserted ts s q))
     ∙ sym (contains-one_more (inserted ts s) t q))
 
 pub inserted-first : (t : ℕ) (ts : List ℕ) (s : set.FinSet nat_cmp) → inserted (t ∷ ts) s ≡ set.insert (inserted ts s) t
 inserted-first t ts s = same_members _ _ (λ q.
     contains-inserted (t ∷ ts) s q
-    ∙ in_front (set.contains s q) (nat_eq t q) (among ts q)
+    ∙ in_front (set.contains s q) (nat_eq t q) (is_among ts q)
     ∙ ap (λ (b : Bool). nat_eq t q || b) (sym (contains-inserted ts s q))
     ∙ sym (contains-one_more (inserted ts s) t q))
 
@@ -222,8 +222,8 @@ ends_after (pointer h next high below rest) = omega arith
 pub both_lists : (ts us : List ℕ) → inserted ts (set.from_list us) ≡ set.from_list (ts ++ us)
 both_lists ts us = same_members _ _ (λ q.
     contains-inserted ts (set.from_list us) q
-    ∙ ap (λ (b : Bool). b || among ts q) (set.contains-from_list_nat us q)
-    ∙ or_comm (among us q) (among ts q)
+    ∙ ap (λ (b : Bool). b || is_among ts q) (set.contains-from_list_nat us q)
+    ∙ or_comm (is_among us q) (is_among ts q)
     ∙ sym (list_any-append (λ (y : ℕ). nat_eq y q) ts us)
     ∙ sym (set.contains-from_list_nat (ts ++ us) q))
 

@@ -7,16 +7,16 @@ use Rattle.base.specs.declared.error.parse_error.ParseError.TheVariants as refus
 use Rattle.base.specs.Labels.{NameValue}
 use Rattle.base.specs.NameText.{IsNameText}
 use Rattle.base.specs.NameOf.{name_of}
-use Rattle.base.specs.TextFaults.{Fails, Gives}
+use Rattle.base.specs.TextFaults.{FailsWith, Gives}
 use Rattle.base.proofs.NameOfLaws.{named_by, refuses}
 
 pub gives_name : {text : List ℕ} {origin : Option NameValue} {r : Result NameValue ParseError} → IfOk r (IsNameText text origin)
     → ((r ≡ Err refusals.BadName) ↔ ((n : NameValue) → IsNameText text origin n → ⊥)) → IfErr r (λ e. (e ≡ refusals.Memory) ⊎ (e ≡ refusals.BadName)) → Gives (λ n. n) r (name_of text origin)
 gives_name {text} {origin} {r = Ok n} named refused err = named_by named
 gives_name {text} {origin} {r = Err e} named refused err = go err where
-  go : (e ≡ refusals.Memory) ⊎ (e ≡ refusals.BadName) → Fails e (name_of text origin)
-  go (inl memory) = subst (λ (f : ParseError). Fails f (name_of text origin)) (sym memory) tt
-  go (inr bad) = subst (λ (f : ParseError). Fails f (name_of text origin)) (sym bad) (refuses text origin (refused.0 (ap Err bad)))
+  go : (e ≡ refusals.Memory) ⊎ (e ≡ refusals.BadName) → FailsWith e (name_of text origin)
+  go (inl memory) = subst (λ (f : ParseError). FailsWith f (name_of text origin)) (sym memory) tt
+  go (inr bad) = subst (λ (f : ParseError). FailsWith f (name_of text origin)) (sym bad) (refuses text origin (refused.0 (ap Err bad)))
 
 pub ok_name : (text : List ℕ) (origin : Option NameValue) (n : NameValue) → IsNameText text origin n → Some n ≡ result_ok (name_of text origin)
 ok_name text origin n named = ap result_ok (sym (named_by named))

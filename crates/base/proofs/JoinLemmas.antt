@@ -20,7 +20,7 @@ use Rattle.base.specs.Tokens.{
   past_blanks,
   past_comment,
   past_separators,
-  put,
+  with_item,
   quoted,
   separates,
 }
@@ -188,10 +188,10 @@ unfolding list_items
 list_more zero n text cut le is = absurd cc
 list_more (suc m) zero text cut le is = absurd (omega arith)
 list_more (suc m) (suc n) text cut le is = go (element (past_separators false text)) is (λ rest c h. list_more m n rest c (omega arith) h) where
-  found : (word : List ℕ) (rest : List ℕ) (some : Option (List (List ℕ) × List ℕ)) → list_items m rest ≡ some → put word some ≡ Some cut
-      → ((rest : List ℕ) (c : List (List ℕ) × List ℕ) → list_items m rest ≡ Some c → list_items n rest ≡ Some c) → put word (list_items n rest) ≡ Some cut
+  found : (word : List ℕ) (rest : List ℕ) (some : Option (List (List ℕ) × List ℕ)) → list_items m rest ≡ some → with_item word some ≡ Some cut
+      → ((rest : List ℕ) (c : List (List ℕ) × List ℕ) → list_items m rest ≡ Some c → list_items n rest ≡ Some c) → with_item word (list_items n rest) ≡ Some cut
   found word rest None here whole again = absurd cc
-  found word rest (Some c) here whole again = ap (put word) (again rest c here) ∙ whole
+  found word rest (Some c) here whole again = ap (with_item word) (again rest c here) ∙ whole
 
   go : (e : Element) → listed (list_items m) e ≡ Some cut → ((rest : List ℕ) (c : List (List ℕ) × List ℕ) → list_items m rest ≡ Some c → list_items n rest ≡ Some c)
       → listed (list_items n) e ≡ Some cut
@@ -200,10 +200,10 @@ list_more (suc m) (suc n) text cut le is = go (element (past_separators false te
   go (one word rest) whole again = found word rest (list_items m rest) refl whole again
 
 list-one : (b text rest word : List ℕ) (more : List ℕ → Option (List (List ℕ) × List ℕ)) (found : Element) (cut : Option (List (List ℕ) × List ℕ)) → ComesAfter text rest
-    → (0 < length rest → found ≡ one word (rest ++ b)) → IsListCarried b rest cut (more (rest ++ b)) → IsListCarried b text (put word cut) (listed more found)
+    → (0 < length rest → found ≡ one word (rest ++ b)) → IsListCarried b rest cut (more (rest ++ b)) → IsListCarried b text (with_item word cut) (listed more found)
 list-one b text rest word more found None after here is = tt
 list-one b text rest word more found (Some cut) after here is =
-    (after_both text rest cut.1 after is.0, λ some. ap (listed more) (here (after_some rest cut.1 is.0 some)) ∙ ap (put word) (is.1 some))
+    (after_both text rest cut.1 after is.0, λ some. ap (listed more) (here (after_some rest cut.1 is.0 some)) ∙ ap (with_item word) (is.1 some))
 
 list-next : (b text : List ℕ) (more : List ℕ → Option (List (List ℕ) × List ℕ)) (e found : Element) → IsElementCarried b text e found
     → ((rest : List ℕ) → IsListCarried b rest (more rest) (more (rest ++ b))) → IsListCarried b text (listed more e) (listed more found)

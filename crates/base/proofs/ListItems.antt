@@ -3,7 +3,7 @@ use Rattle.std.proofs.Common.{◌≡◌, ◌≢◌, ℕ, zero, suc, ◌<◌, ◌
 use Rattle.std.specs.Prelude.{not, ◌&&◌, ◌||◌, ◌==◌}
 use Rattle.std.proofs.lemmas.Bool.Decides.{nat_tests}
 use Rattle.std.proofs.lemmas.List.{append-nil, nil_from_length}
-use Rattle.base.specs.Tokens.{Element, closes, misplaced, one, before, element, element_of, ends_item, is_line_end, item, list_items, listed, past_separators, put, quoted, separates}
+use Rattle.base.specs.Tokens.{Element, closes, misplaced, one, before, element, element_of, ends_item, is_line_end, item, list_items, listed, past_separators, with_item, quoted, separates}
 
 -- what is after a cut is no longer than this
 abbrev pub IsWithin : ℕ → Option (List ℕ × List ℕ) → Type 0
@@ -103,7 +103,7 @@ abbrev puts : List (List ℕ) → Option (List (List ℕ) × List ℕ) → Optio
 puts front None = None
 puts front (Some cut) = Some (front ++ cut.0, cut.1)
 
-puts-put : (front : List (List ℕ)) (word : List ℕ) (cut : Option (List (List ℕ) × List ℕ)) → puts front (put word cut) ≡ puts (front ++ word ∷ []) cut
+puts-put : (front : List (List ℕ)) (word : List ℕ) (cut : Option (List (List ℕ) × List ℕ)) → puts front (with_item word cut) ≡ puts (front ++ word ∷ []) cut
 puts-put front word None = refl
 puts-put front word (Some cut) = ap (λ (words : List (List ℕ)). Some (words, cut.1)) (sym (append_assoc front (word ∷ []) cut.0))
 
@@ -153,7 +153,7 @@ abbrev pub IsListWithin : ℕ → Option (List (List ℕ) × List ℕ) → Type 
 IsListWithin n None = Unit {0}
 IsListWithin n (Some cut) = length cut.1 ≤ n
 
-put-within : (m n : ℕ) (word : List ℕ) (cut : Option (List (List ℕ) × List ℕ)) → m ≤ n → IsListWithin m cut → IsListWithin n (put word cut)
+put-within : (m n : ℕ) (word : List ℕ) (cut : Option (List (List ℕ) × List ℕ)) → m ≤ n → IsListWithin m cut → IsListWithin n (with_item word cut)
 put-within m n word None le is = tt
 put-within m n word (Some cut) le is = omega arith
 

@@ -12,7 +12,7 @@ use Rattle.base.specs.declared.error.decode_error.DecodeError.{DecodeError}
 use Rattle.base.specs.declared.name.followed.FollowedPointer.{FollowedPointer}
 use Rattle.base.specs.Pointers.{AreKept, PassLater, PassesThese, targets, targets_of}
 use Rattle.base.specs.Names.{NamePart, zero_byte, label_of, pointer_to, part_at}
-use Rattle.base.specs.Passing.{IsClosed, PassesKept, among, inserted, passed}
+use Rattle.base.specs.Passing.{IsClosed, PassesKept, is_among, inserted, passed}
 use Rattle.base.specs.Spelling.{Spelled, ends, label, pointer, target}
 use Rattle.base.proofs.CountLemmas.{contains-inserted, contains-one_more, contains_kept, few_more, inserted-first, same_members}
 use Rattle.base.proofs.LawLemmas.{none_is_not}
@@ -106,7 +106,7 @@ pub record Leads (bytes : List ℕ) (first : ℕ) (ts : List ℕ) (start at : �
 pub Leads-none : (bytes : List ℕ) (first : ℕ) → Leads bytes first [] first first
 Leads-none bytes first = record { rest = λ xs e h. record { labels = xs; end = e; spelled = h; passes = refl } }
 
-among_more : (ts qs : List ℕ) (q : ℕ) → among (ts ++ qs) q ≡ (among ts q || among qs q)
+among_more : (ts qs : List ℕ) (q : ℕ) → is_among (ts ++ qs) q ≡ (is_among ts q || is_among qs q)
 among_more ts qs q = list_any-append (λ (y : ℕ). nat_eq y q) ts qs
 
 module _ {bytes : List ℕ} {first : ℕ} {ts : List ℕ} {start at : ℕ} (leads : Leads bytes first ts start at) where
@@ -136,8 +136,8 @@ module _ {bytes : List ℕ} {first : ℕ} {ts : List ℕ} {start at : ℕ} (lead
   Leads-root kept is xs e h =
       let r = leads.rest xs e h in
       let all : passed h ≡ ts = r.passes ∙ ap (λ (qs : List ℕ). ts ++ qs) (after_root is r.spelled) ∙ append-nil ts in (
-        λ q in_it. contains-inserted ts kept q ∙ right_of (set.contains kept q) (among ts q) (ap (λ (qs : List ℕ). among qs q) (sym all) ∙ in_it),
-        λ q one. ap (λ (qs : List ℕ). among qs q) all ∙ one,
+        λ q in_it. contains-inserted ts kept q ∙ right_of (set.contains kept q) (is_among ts q) (ap (λ (qs : List ℕ). is_among qs q) (sym all) ∙ in_it),
+        λ q one. ap (λ (qs : List ℕ). is_among qs q) all ∙ one,
       )
 
   -- after a kept offset only kept ones are passed
@@ -147,15 +147,15 @@ module _ {bytes : List ℕ} {first : ℕ} {ts : List ℕ} {start at : ℕ} (lead
       let s = after_pointer t is r.spelled in
       let all : passed h ≡ ts ++ t ∷ passed s.spelled = r.passes ∙ ap (λ (qs : List ℕ). ts ++ qs) s.passes in
       let rest = passed s.spelled in
-      let split : (q : ℕ) → among (passed h) q ≡ (among ts q || (nat_eq t q || among rest q)) = λ q. ap (λ (qs : List ℕ). among qs q) all ∙ among_more ts (t ∷ rest) q in (
-        λ q in_it. contains-inserted ts kept q ∙ either (among ts q) (nat_eq t q || among rest q) ((set.contains kept q || among ts q) ≡ true)
-            (λ one. right_of (set.contains kept q) (among ts q) one)
-            (λ after. left_of (set.contains kept q) (among ts q) (either (nat_eq t q) (among rest q) (set.contains kept q ≡ true)
+      let split : (q : ℕ) → is_among (passed h) q ≡ (is_among ts q || (nat_eq t q || is_among rest q)) = λ q. ap (λ (qs : List ℕ). is_among qs q) all ∙ among_more ts (t ∷ rest) q in (
+        λ q in_it. contains-inserted ts kept q ∙ either (is_among ts q) (nat_eq t q || is_among rest q) ((set.contains kept q || is_among ts q) ≡ true)
+            (λ one. right_of (set.contains kept q) (is_among ts q) one)
+            (λ after. left_of (set.contains kept q) (is_among ts q) (either (nat_eq t q) (is_among rest q) (set.contains kept q ≡ true)
             (λ same. subst (λ (u : ℕ). set.contains kept u ≡ true) (eqb-true t q same) has)
             (λ one. closed t has s.labels s.end s.spelled q one)
             after))
             (sym (split q) ∙ in_it),
-        λ q one. split q ∙ left_of (among ts q) (nat_eq t q || among rest q) one,
+        λ q one. split q ∙ left_of (is_among ts q) (nat_eq t q || is_among rest q) one,
       )
 
 -- each pointer that was followed leads on by those after it
@@ -225,13 +225,13 @@ passes_are_kept bytes kept t ts these xs e h = same_members _ _ (λ q. same (set
   same false false to from = refl
 
   to : (q : ℕ) → set.contains (inserted ts kept) q ≡ true → set.contains (inserted (passed h) kept) q ≡ true
-  to q is = contains-inserted (passed h) kept q ∙ either (set.contains kept q) (among ts q) ((set.contains kept q || among (passed h) q) ≡ true)
-      (λ old. left_of (set.contains kept q) (among (passed h) q) old)
-      (λ one. right_of (set.contains kept q) (among (passed h) q) ((these xs e h).1 q one))
+  to q is = contains-inserted (passed h) kept q ∙ either (set.contains kept q) (is_among ts q) ((set.contains kept q || is_among (passed h) q) ≡ true)
+      (λ old. left_of (set.contains kept q) (is_among (passed h) q) old)
+      (λ one. right_of (set.contains kept q) (is_among (passed h) q) ((these xs e h).1 q one))
       (sym (contains-inserted ts kept q) ∙ is)
 
   from : (q : ℕ) → set.contains (inserted (passed h) kept) q ≡ true → set.contains (inserted ts kept) q ≡ true
-  from q is = either (set.contains kept q) (among (passed h) q) (set.contains (inserted ts kept) q ≡ true)
-      (λ old. contains-inserted ts kept q ∙ left_of (set.contains kept q) (among ts q) old)
+  from q is = either (set.contains kept q) (is_among (passed h) q) (set.contains (inserted ts kept) q ≡ true)
+      (λ old. contains-inserted ts kept q ∙ left_of (set.contains kept q) (is_among ts q) old)
       (λ one. (these xs e h).0 q one)
       (sym (contains-inserted (passed h) kept q) ∙ is)

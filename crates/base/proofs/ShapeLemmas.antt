@@ -3,7 +3,7 @@ use Rattle.std.proofs.Common.{◌≡◌, ◌≢◌, ◌⊎◌, inl, inr, ℕ, ze
 use Rattle.std.specs.Prelude.{◌||◌, ◌==◌, ◌↔◌}
 use Rattle.std.proofs.lemmas.Bool.{eqb-true, false≢true}
 use Rattle.std.proofs.lemmas.Bool.Decides.{nat_tests}
-use Rattle.base.specs.Tokens.{Element, closes, misplaced, one, before, begins_with, element, element_of, ends_item, is_line_end, item, list_items, listed, past_separators, put, quoted, separates}
+use Rattle.base.specs.Tokens.{Element, closes, misplaced, one, before, begins_with, element, element_of, ends_item, is_line_end, item, list_items, listed, past_separators, with_item, quoted, separates}
 use Rattle.base.specs.TokenText.{CommentRest, EndsItem, Gap, IsItem, IsList, IsQuoted, closed, comment, escaped, goes_on, item_first, line_ends, no_gap, no_more, plain, quoted_first, separator}
 use Rattle.base.proofs.ListItems.{IsVisible, listed_is, listed_zero, separated_is_visible}
 
@@ -225,7 +225,7 @@ ListOf text words rest = (inner : List ℕ) × (text ≡ inner ++ rest) × IsLis
 listed_same : (xs ys : List (List ℕ)) (a b : List ℕ) → ◌≡◌ {A = Listed} (Some (xs, a)) (Some (ys, b)) → (xs ≡ ys) × (a ≡ b)
 listed_same xs ys a b is = (ap (λ (cut : List (List ℕ) × List ℕ). cut.0) (same_of is), ap (λ (cut : List (List ℕ) × List ℕ). cut.1) (same_of is))
 
-put_some : (word : List ℕ) (cut : Listed) (words : List (List ℕ)) (rest : List ℕ) → put word cut ≡ Some (words, rest) → (others : List (List ℕ)) × (words ≡ word ∷ others) × (cut ≡ Some (others, rest))
+put_some : (word : List ℕ) (cut : Listed) (words : List (List ℕ)) (rest : List ℕ) → with_item word cut ≡ Some (words, rest) → (others : List (List ℕ)) × (words ≡ word ∷ others) × (cut ≡ Some (others, rest))
 put_some word None words rest is = absurd (cc is)
 put_some word (Some cut) words rest is =
     let same = listed_same (word ∷ cut.0) words cut.1 rest is in
@@ -385,14 +385,14 @@ list_back (suc steps) rest enough (item_first gap word inner words apart shape s
     let tail = inner ++ rest in
     let at = first_item tail shape some dollar (ends_also inner rest (omega (arith, list_some others)) ends) in
     listed_after steps gap (word ++ tail) (gap ++ word ++ inner ++ rest) (one word tail) apart (append_assoc (gap ++ word) inner rest ∙ append_assoc gap word tail) at
-    ∙ ap (put word) (list_back steps rest (omega (arith, enough)) others)
+    ∙ ap (with_item word) (list_back steps rest (omega (arith, enough)) others)
 list_back (suc steps) rest enough (quoted_first gap word inner words apart shape others) =
     let tail = inner ++ rest in
     let at : element (past_separators false (34 ∷ word ++ 34 ∷ tail)) ≡ one word tail = element_quoted (word ++ 34 ∷ tail) ∙ ap element_of (quoted_back tail shape) in
     listed_after steps gap (34 ∷ word ++ 34 ∷ tail) (gap ++ 34 ∷ word ++ 34 ∷ inner ++ rest) (one
     word tail) apart (append_assoc (gap ++ 34 ∷ word) (34 ∷ inner) rest ∙ append_assoc gap (34 ∷
     word) (34 ∷ tail)) at
-    ∙ ap (put word) (list_back steps rest (omega (arith, enough)) others)
+    ∙ ap (with_item word) (list_back steps rest (omega (arith, enough)) others)
 
 pub list_shape : (text rest : List ℕ) (words : List (List ℕ)) → (list_items (length text) text ≡ Some (words, rest)) ↔ ((inner : List ℕ) × (text ≡ inner ++ rest) × IsList words inner)
 list_shape text rest words = (list_there (length text) text words rest, back) where

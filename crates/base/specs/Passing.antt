@@ -14,8 +14,8 @@ passed (label h some small at rest) = passed rest
 passed (pointer {b = b} {c = c} h next high below rest) = target b c ∷ passed rest
 
 -- whether an offset is among these
-abbrev pub among : List ℕ → ℕ → Bool
-among ts q = list_any (λ t. nat_eq t q) ts
+abbrev pub is_among : List ℕ → ℕ → Bool
+is_among ts q = list_any (λ t. nat_eq t q) ts
 
 -- with these offsets too
 abbrev pub inserted : List ℕ → set.FinSet nat_cmp → set.FinSet nat_cmp
@@ -23,7 +23,7 @@ inserted ts kept = set.union kept (set.from_list ts)
 
 -- all of these offsets are kept
 abbrev pub AreIn : set.FinSet nat_cmp → List ℕ → Type 0
-AreIn kept ts = (q : ℕ) → among ts q ≡ true → set.contains kept q ≡ true
+AreIn kept ts = (q : ℕ) → is_among ts q ≡ true → set.contains kept q ≡ true
 
 -- what is spelled at t passes kept offsets alone
 abbrev pub PassesKept : List ℕ → set.FinSet nat_cmp → ℕ → Type 0

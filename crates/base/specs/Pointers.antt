@@ -14,7 +14,7 @@ use Rattle.base.specs.declared.wire.pointer_cache.TargetLabels.TheVariants.{Lent
 use Rattle.base.specs.declared.wire.pointer_cache.Target.{Target}
 use Rattle.base.specs.Labels.{IsWire, labels_of}
 use Rattle.base.specs.Names.{NamePart, zero_byte, label_of, pointer_to}
-use Rattle.base.specs.Passing.{AreIn, PassesKept, among, inserted, passed}
+use Rattle.base.specs.Passing.{AreIn, PassesKept, is_among, inserted, passed}
 use Rattle.base.specs.Reader.{Reader}
 use Rattle.base.specs.Spelling.{Spelled}
 
@@ -65,9 +65,9 @@ abbrev pub IsInside : List ℕ → ℕ → Type 0
 IsInside copied place = place ≢ 0 → place + len_at copied place ≤ length copied
 
 -- the labels at a target
-abbrev pub labels_at : List ℕ → TargetLabels → List ℕ
-labels_at copied (Lent labels) = labels.now
-labels_at copied (Copied place) = labels_from copied place
+abbrev pub target_labels : List ℕ → TargetLabels → List ℕ
+target_labels copied (Lent labels) = labels.now
+target_labels copied (Copied place) = labels_from copied place
 
 -- those that are lent are a name's, and those that are copied have a place, and are there
 abbrev pub AreThere : List ℕ → TargetLabels → Type 0
@@ -75,8 +75,8 @@ AreThere copied (Lent labels) = length labels.now ≤ MAX_LABELS
 AreThere copied (Copied place) = (place ≢ 0) × IsInside copied place
 
 -- the same of the labels at a target
-abbrev pub IsThere : List ℕ → Target → Type 0
-IsThere copied target = AreThere copied target.labels
+abbrev pub IsTargetThere : List ℕ → Target → Type 0
+IsTargetThere copied target = AreThere copied target.labels
 
 -- more labels are copied, after those from before
 pub record IsLonger (old new : List ℕ) : Type 0 where
@@ -84,8 +84,8 @@ pub record IsLonger (old new : List ℕ) : Type 0 where
   pub is : new ≡ old ++ more
 
 -- targets with their labels
-abbrev pub entries_of : List ℕ → List Target → List (ℕ × List ℕ)
-entries_of copied targets = map (λ t. (t.offset, labels_at copied t.labels)) targets
+abbrev pub target_entries : List ℕ → List Target → List (ℕ × List ℕ)
+target_entries copied targets = map (λ t. (t.offset, target_labels copied t.labels)) targets
 
 -- the targets that have a place, counted from offset t on
 abbrev pub entries_from : ℕ → List ℕ → List ℕ → List (ℕ × List ℕ)
@@ -97,7 +97,7 @@ entries_from t copied (suc n ∷ places) =
 -- the first targets, and those that have a place by their offset
 abbrev pub cache_of : List ℕ → List ℕ → List Target → Cache
 cache_of copied others first =
-    labels_by.from_entries (entries_of copied first ++ entries_from 0 copied others)
+    labels_by.from_entries (target_entries copied first ++ entries_from 0 copied others)
 
 -- ---- the pointers of a name that is read
 
@@ -126,7 +126,7 @@ PassLater bytes kept (p ∷ ps) = PassesKept bytes (inserted (targets ps) kept) 
 abbrev pub PassesThese : List ℕ → set.FinSet nat_cmp → ℕ → List ℕ → Type 0
 PassesThese bytes kept t ts = (xs : List (List ℕ)) (e : ℕ) (h : Spelled bytes xs t t e)
     → AreIn (inserted ts kept) (passed h)
-    × ((q : ℕ) → among ts q ≡ true → among (passed h) q ≡ true)
+    × ((q : ℕ) → is_among ts q ≡ true → is_among (passed h) q ≡ true)
 
 -- Pointers to these offsets were followed, none of them twice and none that was kept, and nothing is kept yet.
 pub record Followed (ts : List ℕ) (old new : Reader) : Type 0 where

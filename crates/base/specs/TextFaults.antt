@@ -37,10 +37,10 @@ FailsBy None made = Unit {0}
 FailsBy (Some fault) made = made ≡ Err fault
 
 -- A refusal is what the definition makes: its fault. Memory may run out at any time.
-abbrev pub Fails : {A : Type 0} → ParseError → Result A Fault → Type 0
-Fails e made = FailsBy (fault_of e) made
+abbrev pub FailsWith : {A : Type 0} → ParseError → Result A Fault → Type 0
+FailsWith e made = FailsBy (fault_of e) made
 
 -- What was answered is what the definition makes, or its fault. Memory may run out at any time.
 abbrev pub Gives : {X A : Type 0} → (X → A) → Result X ParseError → Result A Fault → Type 0
 Gives view (Ok x) made = made ≡ Ok (view x)
-Gives view (Err e) made = Fails e made
+Gives view (Err e) made = FailsWith e made

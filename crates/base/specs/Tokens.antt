@@ -125,16 +125,16 @@ element (c ∷ text) =
     else element_of (item false (c ∷ text))))
 
 -- an item before those after it
-abbrev pub put : List ℕ → Option (List (List ℕ) × List ℕ) → Option (List (List ℕ) × List ℕ)
-put word None = None
-put word (Some cut) = Some (word ∷ cut.0, cut.1)
+abbrev pub with_item : List ℕ → Option (List (List ℕ) × List ℕ) → Option (List (List ℕ) × List ℕ)
+with_item word None = None
+with_item word (Some cut) = Some (word ∷ cut.0, cut.1)
 
 -- the items from what stands next on, and what is after the closing parenthesis
 abbrev pub listed : (List ℕ → Option (List (List ℕ) × List ℕ)) → Element
     → Option (List (List ℕ) × List ℕ)
 listed more (closes rest) = Some ([], rest)
 listed more misplaced = None
-listed more (one word rest) = put word (more rest)
+listed more (one word rest) = with_item word (more rest)
 
 -- the items up to the closing parenthesis, and what is after it; none where that is missing, or something is
 -- misplaced. As many steps as there are bytes suffice.

@@ -15,14 +15,14 @@ use Rattle.base_data.specs.AAAA.{aaaa_of, aaaa_text}
 use Rattle.base_data.specs.ANAME.{aname_of}
 use Rattle.base_data.specs.CNAME.{cname_of}
 use Rattle.base_data.specs.Kind.{AreOctets, HasText}
-use Rattle.base_data.specs.Kinds.{IsSpelled, any_of, data_of, data_text, items_of, shown_item, type_of_data}
+use Rattle.base_data.specs.Kinds.{HasTextForm, any_of, data_of, data_text, items_of, shown_item, type_of_data}
 use Rattle.base_data.specs.MX.{mx_of}
 use Rattle.base_data.specs.NS.{ns_of}
 use Rattle.base_data.specs.OneName.{one_name_of}
 use Rattle.base_data.specs.PTR.{ptr_of}
 use Rattle.base_data.specs.SOA.{SOAFits, soa_of}
 use Rattle.base_data.specs.SRV.{SRVFits, srv_of}
-use Rattle.base_data.specs.TXT.{AreStrings, quoted, string_byte, string_text, txt_of}
+use Rattle.base_data.specs.TXT.{AreStrings, in_quotes, string_byte, string_text, txt_of}
 use Rattle.base_data.specs.declared.rdata.RData.{RData}
 use Rattle.base_data.specs.declared.rdata.RData.TheVariants as kinds
 use Rattle.base_data.specs.declared.rdata.a.A.{A}
@@ -110,7 +110,7 @@ any_read : {X : Type 0} (kind : X → RData) (type : RecordType) (of : List (Lis
 any_read kind type of own items x read is =
     these (λ (these_items : List (List ℕ)). any_of kind type (of these_items) ≡ Ok (kind x)) own items is (ap (any_of kind type) read)
 
-pub data_read : (d : RData) (items : List (List ℕ)) → items_of d ≡ Some items → IsSpelled d → data_of (type_of_data d) items None ≡ Ok d
+pub data_read : (d : RData) (items : List (List ℕ)) → items_of d ≡ Some items → HasTextForm d → data_of (type_of_data d) items None ≡ Ok d
 unfolding data_of
 data_read (kinds.A x) items is so = any_read (λ y. kinds.A y) types.A a_of _ items x (a_read x so) is
 data_read (kinds.AAAA x) items is so = any_read (λ y. kinds.AAAA y) types.AAAA aaaa_of _ items x (aaaa_read x so) is
@@ -130,7 +130,7 @@ data_read (kinds.Unknown code x) items is so = absurd so
 
 -- ---- the text of data is its items
 
-strings_shown : (xs : List (List ℕ)) → map string_text xs ≡ map quoted (map (flat_map string_byte) xs)
+strings_shown : (xs : List (List ℕ)) → map string_text xs ≡ map in_quotes (map (flat_map string_byte) xs)
 strings_shown [] = refl
 strings_shown (x ∷ xs) = ap (λ (rest : List (List ℕ)). string_text x ∷ rest) (strings_shown xs)
 

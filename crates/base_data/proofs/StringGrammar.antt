@@ -4,7 +4,7 @@ use Rattle.std.specs.Prelude.{◌↔◌, ◌==◌, nat_le, nat_lt, if◌then◌e
 use Rattle.std.specs.Char.{is_ascii_digit}
 use Rattle.std.proofs.lemmas.Bool.Decides.{nat_tests}
 use Rattle.base_data.proofs.StringItemLemmas.{before-nil}
-use Rattle.base_data.specs.StringItems.{no_escape, IsStringText, is_end, is_plain, is_escaped, is_number, before, if_short, string_item, unescaped}
+use Rattle.base_data.specs.StringItems.{no_escape, IsStringText, is_end, is_plain, is_escaped, is_number, put_before_all, if_short, string_item, unescaped}
 
 -- the number of three digits, as it is read
 abbrev number_said : ℕ → ℕ → ℕ → ℕ
@@ -13,16 +13,16 @@ number_said a b c = ((a - 48) * 10 + (b - 48)) * 10 + (c - 48)
 -- what the digits of a number read as
 digits_read : (a b c : ℕ) (rest : List ℕ) → is_ascii_digit a ≡ true → is_ascii_digit b ≡ true → is_ascii_digit c ≡ true
     → (fits : Bool) → nat_lt (number_said a b c) 256 ≡ fits
-    → unescaped no_escape (92 ∷ a ∷ b ∷ c ∷ rest) ≡ (if fits then before (number_said a b c ∷ []) (unescaped no_escape rest) else None)
+    → unescaped no_escape (92 ∷ a ∷ b ∷ c ∷ rest) ≡ (if fits then put_before_all (number_said a b c ∷ []) (unescaped no_escape rest) else None)
 unfolding unescaped
 digits_read a b c rest first second third true fits = rw (first, second, third, fits) (before-nil _ ∙ before-nil _ ∙ before-nil _)
 digits_read a b c rest first second third false fits = rw (first, second, third, fits) refl
 
-escaped_read : (c : ℕ) (rest : List ℕ) → is_ascii_digit c ≡ false → unescaped no_escape (92 ∷ c ∷ rest) ≡ before (c ∷ []) (unescaped no_escape rest)
+escaped_read : (c : ℕ) (rest : List ℕ) → is_ascii_digit c ≡ false → unescaped no_escape (92 ∷ c ∷ rest) ≡ put_before_all (c ∷ []) (unescaped no_escape rest)
 unfolding unescaped
 escaped_read c rest digit = rw digit (before-nil _)
 
-plain_read : (c : ℕ) (rest : List ℕ) → (c == 92) ≡ false → unescaped no_escape (c ∷ rest) ≡ before (c ∷ []) (unescaped no_escape rest)
+plain_read : (c : ℕ) (rest : List ℕ) → (c == 92) ≡ false → unescaped no_escape (c ∷ rest) ≡ put_before_all (c ∷ []) (unescaped no_escape rest)
 unfolding unescaped
 plain_read c rest plain = rw plain refl
 
@@ -32,12 +32,12 @@ end_read = refl
 
 said_is_read : {text bytes : List ℕ} → IsStringText text bytes → unescaped no_escape text ≡ Some bytes
 said_is_read is_end = end_read
-said_is_read (is_plain {c} {text} {bytes} other says) = plain_read c text (grind (arith, nat_tests)) ∙ ap (before (c ∷ [])) (said_is_read says)
-said_is_read (is_escaped {c} {text} {bytes} digit says) = escaped_read c text digit ∙ ap (before (c ∷ [])) (said_is_read says)
+said_is_read (is_plain {c} {text} {bytes} other says) = plain_read c text (grind (arith, nat_tests)) ∙ ap (put_before_all (c ∷ [])) (said_is_read says)
+said_is_read (is_escaped {c} {text} {bytes} digit says) = escaped_read c text digit ∙ ap (put_before_all (c ∷ [])) (said_is_read says)
 said_is_read (is_number {a} {b} {c} {n} {text} {bytes} first second third is small says) =
     let value : number_said a b c ≡ n = omega arith in
     let fits : nat_lt (number_said a b c) 256 ≡ true = grind (arith, nat_tests) in
-    digits_read a b c text first second third true fits ∙ rw value (ap (before (n ∷ [])) (said_is_read says))
+    digits_read a b c text first second third true fits ∙ rw value (ap (put_before_all (n ∷ [])) (said_is_read says))
 
 -- a byte in front of what is read
 record IsAfter (b : ℕ) (read : Option (List ℕ)) (bytes : List ℕ) : Type 0 where
@@ -45,7 +45,7 @@ record IsAfter (b : ℕ) (read : Option (List ℕ)) (bytes : List ℕ) : Type 0 
   is : read ≡ Some rest
   all : b ∷ rest ≡ bytes
 
-after : (b : ℕ) (read : Option (List ℕ)) (bytes : List ℕ) → before (b ∷ []) read ≡ Some bytes → IsAfter b read bytes
+after : (b : ℕ) (read : Option (List ℕ)) (bytes : List ℕ) → put_before_all (b ∷ []) read ≡ Some bytes → IsAfter b read bytes
 after b None bytes e = absurd cc
 after b (Some rest) bytes e = record { rest = rest; is = refl; all = cc }
 

@@ -6,7 +6,7 @@ use Rattle.base.proofs.LabelLemmas.{labels_of_is, wire_of-nil}
 use Rattle.base_data.proofs.StringItemLemmas.{before-nil, strings_end, strings_step, strings_stop}
 use Rattle.base_data.proofs.StringLemmas.{IsText-wire_of, wire_of-push}
 use Rattle.base_data.specs.ItemFault.{GivesItems}
-use Rattle.base_data.specs.StringItems.{before, string_item, string_items}
+use Rattle.base_data.specs.StringItems.{put_before_all, string_item, string_items}
 use Rattle.base_data.specs.TXT.{AreShort, IsText, txt_of}
 use Rattle.base_data.specs.declared.rdata.fields.ItemFault.{ItemFault}
 use Rattle.base_data.specs.declared.rdata.fields.ItemFault.TheVariants as faults
@@ -22,7 +22,7 @@ pub record IsRead (bytes : List ℕ) (items : List (Bor (List ℕ))) (i : ℕ) :
   pub wire : bytes ≡ wire_of strings
   pub short : AreShort strings
   pub count : length strings ≡ i
-  pub all : before strings (string_items (texts (drop i items))) ≡ string_items (texts items)
+  pub all : put_before_all strings (string_items (texts (drop i items))) ≡ string_items (texts items)
 
 pub read_none : (bytes : List ℕ) (items : List (Bor (List ℕ))) → bytes ≡ [] → IsRead bytes items 0
 read_none bytes items is = record {

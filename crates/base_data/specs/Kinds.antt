@@ -215,8 +215,8 @@ abbrev pub shown_item : RData → List ℕ → List ℕ
 shown_item d = (kind_of d).shown
 
 -- data of a kind with a text form, as the program's types hold it, its names with texts
-abbrev pub IsSpelled : RData → Type 0
-IsSpelled d = (kind_of d).spelled
+abbrev pub HasTextForm : RData → Type 0
+HasTextForm d = (kind_of d).spelled
 
 -- ---- the data of one kind, if data is of that kind
 

@@ -23,9 +23,9 @@ escape_step (two_digits n) c = if is_ascii_digit c && nat_lt (n * 10 + (c - 48))
     then Some (Some (n * 10 + (c - 48)), no_escape) else None
 
 -- these before those of the rest
-abbrev pub before : {A : Type 0} → List A → Option (List A) → Option (List A)
-before front None = None
-before front (Some rest) = Some (front ++ rest)
+abbrev pub put_before_all : {A : Type 0} → List A → Option (List A) → Option (List A)
+put_before_all front None = None
+put_before_all front (Some rest) = Some (front ++ rest)
 
 -- the byte, if there is one
 abbrev pub byte_list : Option ℕ → List ℕ
@@ -36,7 +36,7 @@ byte_list (Some b) = b ∷ []
 abbrev pub step_on : (EscapePart → Option (List ℕ)) → Option (Option ℕ × EscapePart)
     → Option (List ℕ)
 step_on more None = None
-step_on more (Some step) = before (byte_list step.0) (more step.1)
+step_on more (Some step) = put_before_all (byte_list step.0) (more step.1)
 
 -- a text ends outside of escapes
 abbrev pub ends_outside : EscapePart → Option (List ℕ)
@@ -60,7 +60,7 @@ string_item text = if_short (unescaped no_escape text)
 -- one before the others, where there are both
 abbrev pub put_before : {A : Type 0} → Option A → Option (List A) → Option (List A)
 put_before None rest = None
-put_before (Some x) rest = before (x ∷ []) rest
+put_before (Some x) rest = put_before_all (x ∷ []) rest
 
 -- the character string of each item
 unfoldable pub string_items : List (List ℕ) → Option (List (List ℕ))

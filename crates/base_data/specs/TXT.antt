@@ -45,12 +45,12 @@ string_byte b = if nat_lt b 32 || nat_lt 126 b then decimal_text b
     else (if b == 34 || b == 92 then 92 ∷ b ∷ [] else b ∷ [])
 
 -- an item in quotes
-abbrev pub quoted : List ℕ → List ℕ
-quoted item = 34 ∷ item ++ 34 ∷ []
+abbrev pub in_quotes : List ℕ → List ℕ
+in_quotes item = 34 ∷ item ++ 34 ∷ []
 
 -- a string in quotes
 abbrev pub string_text : List ℕ → List ℕ
-string_text string = quoted (flat_map string_byte string)
+string_text string = in_quotes (flat_map string_byte string)
 
 -- the strings with a space between them
 abbrev pub txt_text : List (List ℕ) → List ℕ
@@ -81,6 +81,6 @@ txt_kind x = record {
   places = no_places;
   fits = Unit {0};
   items = Some (map (flat_map string_byte) x);
-  shown = quoted;
+  shown = in_quotes;
   spelled = AreStrings x;
 }

@@ -25,9 +25,9 @@ read (Ok (x, end)) = Ok x
 read (Err fault) = Err (decode_number fault)
 
 -- the place after what was read
-abbrev pub place_after : {A : Type 0} → Read A → Asked ℕ
-place_after (Ok (x, end)) = Ok end
-place_after (Err fault) = Err (decode_number fault)
+abbrev pub place_found : {A : Type 0} → Read A → Asked ℕ
+place_found (Ok (x, end)) = Ok end
+place_found (Err fault) = Err (decode_number fault)
 
 -- what is written of a message
 abbrev pub written : {A : Type 0} → Result A ProtoError → Asked A

@@ -9,8 +9,8 @@ use Rattle.capi.specs.Answer.{Asked, read}
 use Rattle.capi.specs.declared.header.HeaderNumbers.{HeaderNumbers}
 
 -- the header that the bytes begin with
-abbrev pub header_of : List ℕ → Asked Header
-header_of bytes = read (header_at bytes 0)
+abbrev pub first_header : List ℕ → Asked Header
+first_header bytes = read (header_at bytes 0)
 
 -- the fields of a header as numbers
 abbrev pub numbers_of : Header → HeaderNumbers
@@ -32,11 +32,11 @@ numbers_of h = record {
 }
 
 -- The fields are those of the header, and 12 is answered; or they stay, and minus the number of a refusal is answered.
-abbrev pub IsFilled : Asked Header → HeaderNumbers → HeaderNumbers → ℤ → Type 0
-IsFilled (Ok header) old new result = (new ≡ numbers_of header) × (result ≡ pos 12)
-IsFilled (Err number) old new result = (new ≡ old) × (result ≡ neg_ℤ (pos number))
+abbrev pub IsHeaderFilled : Asked Header → HeaderNumbers → HeaderNumbers → ℤ → Type 0
+IsHeaderFilled (Ok header) old new result = (new ≡ numbers_of header) × (result ≡ pos 12)
+IsHeaderFilled (Err number) old new result = (new ≡ old) × (result ≡ neg_ℤ (pos number))
 
 -- So it is, or memory ran out.
 abbrev pub IsFilledIn : Asked Header → HeaderNumbers → HeaderNumbers → ℤ → Type 0
-IsFilledIn asked old new result = IsFilled asked old new result
+IsFilledIn asked old new result = IsHeaderFilled asked old new result
     ⊎ ((new ≡ old) × (result ≡ neg_ℤ (pos 3)))

@@ -4,11 +4,11 @@ use Rattle.op.specs.Cut.{IsWritten}
 use Rattle.op.specs.Message.{IsMessageAt, MessageValue, message_at}
 use Rattle.op.specs.MessageText.{message_text}
 use Rattle.op.specs.MessageWritten.{message_answer}
-use Rattle.capi.specs.Answer.{Asked, ◌>>=◌, place_after, read, written}
+use Rattle.capi.specs.Answer.{Asked, ◌>>=◌, place_found, read, written}
 
 -- the place after the message that the bytes begin with
 abbrev pub end_of : List ℕ → Asked ℕ
-end_of bytes = place_after (message_at bytes 0)
+end_of bytes = place_found (message_at bytes 0)
 
 -- what a new encoder writes of that message under a limit
 abbrev pub cut_of : List ℕ → ℕ → Asked (List ℕ)

@@ -17,7 +17,8 @@ use Rattle.rr.specs.RecordSet.{SetValue}
 use Rattle.rr.specs.declared.record.Record.{Record}
 use Rattle.txt.specs.ZoneSets.{ZoneSets}
 use Rattle.parsed_zone.specs.Faults.{numbered}
-use Rattle.parsed_zone.specs.ZoneText.{no_texts, zone_of_bytes}
+use Rattle.parsed_zone.specs.ZoneText.{zone_of_bytes}
+use Rattle.txt.specs.Zone.{no_texts}
 use Rattle.capi.specs.Answer.{Asked, ◌>>=◌, written}
 use Rattle.capi.specs.ZoneText.{characters, name_of_text}
 use Rattle.capi.specs.declared.update.built.Change.{Change}
@@ -52,13 +53,13 @@ owner_of_text origin text =
     if is_zone_of origin owner then Ok owner else Err 24
 
 -- the SOA that data is; else 24
-abbrev pub soa_of : RData → Asked (Option SOA)
-soa_of (kinds.SOA soa) = Ok (Some soa)
-soa_of _ = Err 24
+abbrev pub soa_in_data : RData → Asked (Option SOA)
+soa_in_data (kinds.SOA soa) = Ok (Some soa)
+soa_in_data _ = Err 24
 
 -- the SOA of a record that may be there; else 24
 abbrev pub soa_of_record : Option (Record RData) → Asked (Option SOA)
-soa_of_record (Some r) = soa_of r.rdata
+soa_of_record (Some r) = soa_in_data r.rdata
 soa_of_record None = Err 24
 
 -- the SOA of a zone that zone text has as its one record; none of an empty text

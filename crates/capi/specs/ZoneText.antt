@@ -5,7 +5,8 @@ use Rattle.base.specs.Labels.{NameValue}
 use Rattle.base.specs.NameOf.{name_of}
 use Rattle.txt.specs.ZoneSets.{ZoneSets}
 use Rattle.parsed_zone.specs.Faults.{numbered}
-use Rattle.parsed_zone.specs.ZoneText.{no_texts, zone_lines, zone_of_bytes}
+use Rattle.parsed_zone.specs.ZoneText.{zone_lines, zone_of_bytes}
+use Rattle.txt.specs.Zone.{no_texts}
 use Rattle.capi.specs.Answer.{Asked, ◌>>=◌}
 
 -- a text of characters; 24 for any other

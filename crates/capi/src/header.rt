@@ -3,7 +3,7 @@
 ghost use Rattle.std.specs.Prelude.{◌≡◌};
 ghost use Rattle.op.specs.MessageType.{is_response};
 ghost use Rattle.capi.specs.Answer.{Makes};
-ghost use Rattle.capi.specs.Header.{IsFilledIn, header_of, numbers_of};
+ghost use Rattle.capi.specs.Header.{IsFilledIn, first_header, numbers_of};
 
 use crate::answer::number;
 use crate::refusal::Refusal;
@@ -53,7 +53,7 @@ pub struct HeaderNumbers {
 /// 4 for fewer than twelve bytes; the fields stay.
 #[unsafe(no_mangle)]
 pub extern "C" fn fuzsbanel_header(alloc: Global, message: &[u8], header: &mut HeaderNumbers) -> i64
-    ensures { IsFilledIn (header_of message.now) header.old header.new result }
+    ensures { IsFilledIn (first_header message.now) header.old header.new result }
 {
     match read(alloc, message) {
         Ok(found) => {
@@ -66,7 +66,7 @@ pub extern "C" fn fuzsbanel_header(alloc: Global, message: &[u8], header: &mut H
 
 /// The header that the bytes begin with.
 fn read(alloc: Global, bytes: &[u8]) -> Result<Header, Refusal>
-    ensures { Makes (λ header. header) (header_of bytes.now) result }
+    ensures { Makes (λ header. header) (first_header bytes.now) result }
 {
     Ok(Header::read(&mut BinDecoder::new(alloc, bytes))?)
 }

@@ -1,7 +1,7 @@
 //! Zone text (RFC 1035, 5.1).
 
 ghost use Rattle.std.specs.Prelude.{◌≡◌, IfOk};
-ghost use Rattle.txt.specs.ZoneSets.{AreKept};
+ghost use Rattle.txt.specs.ZoneSets.{AreKeyed};
 ghost use Rattle.capi.specs.Answer.{IsAnswered, Makes};
 ghost use Rattle.capi.specs.ZoneText.{canonical_text, characters, name_of_text, origin_of_text, zone_of_text};
 
@@ -54,7 +54,7 @@ pub fn zone_of(
 ) -> Result<(Name, BTreeMap<RrKey, RecordSet>), Refusal>
     ensures zone { Makes (λ r. (r.0, r.1.entries)) (zone_of_text origin.now text.now) result }
     // Each set stands under the key of its owner and type, has a record and is tidy.
-    ensures kept { IfOk result (λ r. AreKept r.1.entries) }
+    ensures kept { IfOk result (λ r. AreKeyed r.1.entries) }
 {
     let origin = origin_of(alloc, origin)?;
     Ok(zone_of_bytes(alloc, origin, text)?)

@@ -6,7 +6,8 @@ use Rattle.op.specs.Message.{IsMessageAt, MessageValue}
 use Rattle.op_use.specs.Server.{sections_of}
 use Rattle.txt.specs.ZoneSets.{ZoneSets}
 use Rattle.parsed_zone.specs.Applied.{lines_after}
-use Rattle.parsed_zone.specs.ZoneText.{no_texts, zone_of_bytes}
+use Rattle.parsed_zone.specs.ZoneText.{zone_of_bytes}
+use Rattle.txt.specs.Zone.{no_texts}
 use Rattle.dnsmsg.specs.Answer.{answer_of, refused}
 use Rattle.dnsmsg.specs.ApplyCommand.{answer_to_parsed, answer_to_text, first_word, message_read, message_spelled, update_of}
 use Rattle.dnsmsg.specs.HexInput.{bytes_of}

@@ -1,9 +1,9 @@
 -- What a run of the program gives.
 use Rattle.std.proofs.Common.{◌≡◌, ◌⊎◌, ℕ, ◌≤◌, List, sym, ◌∙◌, subst, inl, inr, Option, Some, None, Err}
 use Rattle.std.specs.Prelude.{IfSome, ◌≢◌}
-use Rattle.dnsmsg.specs.Answer.{Answer, IsAnswered, IsGivenBy, IsPrinted, broken, refused}
+use Rattle.dnsmsg.specs.Answer.{Answer, IsShown, IsGivenBy, IsPrinted, broken, refused}
 use Rattle.dnsmsg.specs.ApplyCommand.{apply_answer}
-use Rattle.dnsmsg.specs.Command.{CommandAnswers, Gives, IsGiven, IsRefused, refused_word}
+use Rattle.dnsmsg.specs.Command.{CommandAnswers, GivesAnswer, IsGiven, IsRefused, refused_word}
 use Rattle.dnsmsg.specs.CutCommand.{IsCutAnswer}
 use Rattle.dnsmsg.specs.HeaderCommand.{header_answer}
 use Rattle.dnsmsg.specs.ReadCommand.{read_answer}
@@ -38,10 +38,10 @@ module _ (status : ℕ) (old new : Option (List ℕ)) where
 
 -- what is printed for a command, of a text
 module _ (status : ℕ) (old new : Option (List ℕ)) (words : List (List ℕ)) (text : List ℕ) where
-  answered : (answer_of : List ℕ → Answer) (answer : Answer) → answer_of text ≡ answer → IsPrinted answer status old new → IsAnswered (answer_of text) status old new
+  answered : (answer_of : List ℕ → Answer) (answer : Answer) → answer_of text ≡ answer → IsPrinted answer status old new → IsShown (answer_of text) status old new
   answered answer_of answer is shown = inl (subst (λ a. IsPrinted a status old new) (sym is) shown)
 
-  refused_with : (answer_of : List ℕ → Answer) (number : ℕ) → (number ≡ 3) ⊎ (answer_of text ≡ refused number) → IsPrinted (refused number) status old new → IsAnswered (answer_of text) status old new
+  refused_with : (answer_of : List ℕ → Answer) (number : ℕ) → (number ≡ 3) ⊎ (answer_of text ≡ refused number) → IsPrinted (refused number) status old new → IsShown (answer_of text) status old new
   refused_with answer_of number (inl memory) shown = inr (subst (λ n. IsPrinted (refused n) status old new) memory shown)
   refused_with answer_of number (inr is) shown = answered answer_of (refused number) is shown
 
@@ -61,23 +61,23 @@ module _ (status : ℕ) (old new : Option (List ℕ)) (words : List (List ℕ)) 
 
 -- what was printed answers what remained of the input
 module _ (status : ℕ) (old new remaining : Option (List ℕ)) (words : List (List ℕ)) (command : Command) where
-  pub refusal_given : (e : Failure) (refusal : Refusal) (number : ℕ) → Gives command words remaining (Err e) → e ≡ failures.Refused refusal → number ≡ refusal_number refusal
+  pub refusal_given : (e : Failure) (refusal : Refusal) (number : ℕ) → GivesAnswer command words remaining (Err e) → e ≡ failures.Refused refusal → number ≡ refusal_number refusal
       → (status ≡ 3) ⊎ IsPrinted (refused number) status old new → status ≢ broken → IfSome remaining (λ input. IsGiven command words input status old new)
   refusal_given e refusal number says is same printed whole =
       each remaining (λ input here. refusal_answers status old new words input command refusal here
       (subst (λ n. IsPrinted (refused n) status old new) same (given status old new (refused number) printed whole)))
-      (subst (λ f. Gives command words remaining (Err f)) is says)
+      (subst (λ f. GivesAnswer command words remaining (Err f)) is says)
 
 -- what was printed answers words that are refused before the input is read
 module _ (S : Type 0) (status : ℕ) (old new : Option (List ℕ)) (words : List (List ℕ)) (command : Command) where
   told : (n number : ℕ) (refusal : Refusal) → number ≡ refusal_number refusal → IsRefused n (Err (failures.Refused refusal)) → IsPrinted (refused number) status old new
-      → IsAnswered (refused n) status old new
+      → IsShown (refused n) status old new
   told n number refusal same (inl memory) shown = inr (subst (λ m. IsPrinted (refused m) status old new) (same ∙ memory) shown)
   told n number refusal same (inr is) shown = inl (subst (λ m. IsPrinted (refused m) status old new) (same ∙ is) shown)
 
   pub refusal_judged : (e : Failure) (refusal : Refusal) (number : ℕ) → IfSome (refused_word command words) (λ n. S × IsRefused n (Err e))
       → e ≡ failures.Refused refusal → number ≡ refusal_number refusal → (status ≡ 3) ⊎ IsPrinted (refused number) status old new
-      → IfSome (refused_word command words) (λ n. S × (status ≢ broken → IsAnswered (refused n) status old new))
+      → IfSome (refused_word command words) (λ n. S × (status ≢ broken → IsShown (refused n) status old new))
   refusal_judged e refusal number says is same printed =
       each (refused_word command words) (λ n here. (here.0, λ whole. told n number refusal same here.1 (given status old new (refused number) printed whole)))
       (subst (λ f. IfSome (refused_word command words) (λ n. S × IsRefused n (Err f))) is says)

@@ -7,7 +7,7 @@ use Rattle.std.specs.String.{string_bytes}
 use Rattle.std.specs.declared.alloc.Global.{Global}
 use Rattle.dnsmsg.specs.Command.{message_command}
 use Rattle.dnsmsg.specs.Limit.{limit_of}
-use Rattle.dnsmsg.specs.Words.{texts}
+use Rattle.dnsmsg.specs.Words.{as_bytes}
 use Rattle.dnsmsg.specs.declared.command.MessageCommand.{MessageCommand}
 use Rattle.dnsmsg.specs.declared.command.MessageCommand.TheVariants as commands
 
@@ -33,14 +33,14 @@ compared {word = word} {name = name} first is_text is_test is = record {
 told : (first : String Global) (others : List (String Global)) (name : List ℕ) (same : Bool) → IsFirst (first ∷ others) name same → same ≡ bytes_eq (string_bytes first) name
 told first others name same is = is.tells ∙ ap (λ (w : String Global). bytes_eq (string_bytes w) name) is.first
 
-pub header_word : (words : List (String Global)) → 1 ≤ length words → length words < 2 → IsFirst words (codes "header") true → Some commands.Header ≡ message_command (texts words)
+pub header_word : (words : List (String Global)) → 1 ≤ length words → length words < 2 → IsFirst words (codes "header") true → Some commands.Header ≡ message_command (as_bytes words)
 header_word [] some few is = absurd (omega arith)
 header_word (first ∷ []) some few is = ap (λ header. one_named header (bytes_eq (string_bytes first) (codes "read"))) (told first [] (codes "header") true is)
 header_word (first ∷ (next ∷ others)) some few is = absurd (omega arith)
 
 -- a word that isn't `header`, compared with `read`
 pub one_word : (words : List (String Global)) {read : Bool} → 1 ≤ length words → length words < 2 → IsFirst words (codes "header") false → IsFirst words (codes "read") read
-    → one_named false read ≡ message_command (texts words)
+    → one_named false read ≡ message_command (as_bytes words)
 one_word [] some few other is = absurd (omega arith)
 one_word (first ∷ []) {read} some few other is =
     ap (λ header. one_named header read) (told first [] (codes "header") false other)
@@ -49,7 +49,7 @@ one_word (first ∷ (second ∷ others)) some few other is = absurd (omega arith
 
 -- two words, the first compared with `cut`
 pub two_words : (words : List (String Global)) {number : String Global} {cut : Bool} → 2 ≤ length words → length words < 3 → IsFirst words (codes "cut") cut
-    → number ≡ get_or words 1 number → (if cut then option_map commands.Cut (limit_of (string_bytes number)) else None) ≡ message_command (texts words)
+    → number ≡ get_or words 1 number → (if cut then option_map commands.Cut (limit_of (string_bytes number)) else None) ≡ message_command (as_bytes words)
 two_words [] some few is is_second = absurd (omega arith)
 two_words (first ∷ []) some few is is_second = absurd (omega arith)
 two_words (first ∷ (second ∷ [])) {number} {cut} some few is is_second =
@@ -63,11 +63,11 @@ limit_named None named cases = cases
 limit_named (Some x) None cases = absurd cases
 limit_named (Some x) (Some command) cases = ap Some cases
 
-pub no_word : (words : List (String Global)) → length words < 1 → None ≡ message_command (texts words)
+pub no_word : (words : List (String Global)) → length words < 1 → None ≡ message_command (as_bytes words)
 no_word [] few = refl
 no_word (first ∷ others) few = absurd (omega arith)
 
-pub many_words : (words : List (String Global)) → 3 ≤ length words → None ≡ message_command (texts words)
+pub many_words : (words : List (String Global)) → 3 ≤ length words → None ≡ message_command (as_bytes words)
 many_words [] many = absurd (omega arith)
 many_words (first ∷ []) many = absurd (omega arith)
 many_words (first ∷ (second ∷ [])) many = absurd (omega arith)

@@ -35,8 +35,8 @@ pub record IsPrinted (answer : Answer) (status : ℕ) (old new : Option (List �
   pub printed : Appends old new answer.text
 
 -- The answer was given, or, where memory ran out, the refusal for that.
-abbrev pub IsAnswered : Answer → ℕ → Option (List ℕ) → Option (List ℕ) → Type 0
-IsAnswered answer status old new = IsPrinted answer status old new
+abbrev pub IsShown : Answer → ℕ → Option (List ℕ) → Option (List ℕ) → Type 0
+IsShown answer status old new = IsPrinted answer status old new
     ⊎ IsPrinted (refused 3) status old new
 
 -- An answer was given that this relation allows, or, where memory ran out, the refusal for that.

@@ -4,7 +4,7 @@ use Rattle.std.specs.Option.{option_map}
 use Rattle.std.specs.declared.alloc.Global.{Global}
 use Rattle.std.specs.String.{string_bytes}
 use Rattle.std.specs.Str.{bytes_eq}
-use Rattle.dnsmsg.specs.Answer.{IsAnswered, IsPrinted, refused, usage}
+use Rattle.dnsmsg.specs.Answer.{IsShown, IsPrinted, refused, usage}
 use Rattle.dnsmsg.specs.Answering.{Answers}
 use Rattle.dnsmsg.specs.ApplyCommand.{apply_answer, update_of}
 use Rattle.dnsmsg.specs.CutCommand.{CutAnswers, IsCutGiven}
@@ -58,15 +58,15 @@ CommandAnswers (command.Apply origin) words text result =
 abbrev pub IsGiven : Command → List (List ℕ) → List ℕ → ℕ → Option (List ℕ) → Option (List ℕ)
     → Type 0
 IsGiven (command.OnMessage on_message.Header) words text status old new =
-    IsAnswered (header_answer text) status old new
+    IsShown (header_answer text) status old new
 IsGiven (command.OnMessage on_message.Read) words text status old new =
-    IsAnswered (read_answer text) status old new
+    IsShown (read_answer text) status old new
 IsGiven (command.OnMessage (on_message.Cut limit)) words text status old new =
     IsCutGiven limit text status old new
 IsGiven (command.Zone origin) words text status old new =
-    IsAnswered (zone_answer origin (words_after_origin words) text) status old new
+    IsShown (zone_answer origin (words_after_origin words) text) status old new
 IsGiven (command.Apply origin) words text status old new =
-    IsAnswered (apply_answer origin (words_after_origin words) text) status old new
+    IsShown (apply_answer origin (words_after_origin words) text) status old new
 
 -- the number of a refusal, where there is one
 abbrev pub number_refused : {X : Type 0} → Result X ℕ → Option ℕ
@@ -81,13 +81,13 @@ refused_word (command.Zone origin) words = None
 refused_word (command.OnMessage message) words = None
 
 -- What a command answers, over the input as far as it is known; nothing is said where the input failed.
-abbrev pub Gives : Command → List (List ℕ) → Option (List ℕ) → Result (String Global) Failure
+abbrev pub GivesAnswer : Command → List (List ℕ) → Option (List ℕ) → Result (String Global) Failure
     → Type 0
-Gives command words input (Ok lines) =
+GivesAnswer command words input (Ok lines) =
     IfSome input (λ text. CommandAnswers command words text (Ok lines))
-Gives command words input (Err (failures.Refused refusal)) =
+GivesAnswer command words input (Err (failures.Refused refusal)) =
     IfSome input (λ text. CommandAnswers command words text (Err refusal))
-Gives command words input (Err failures.Broken) = ⊤
+GivesAnswer command words input (Err failures.Broken) = ⊤
 
 -- It is refused with this number, or with 3 because memory ran out.
 abbrev pub IsRefused : ℕ → Result (String Global) Failure → Type 0
@@ -98,6 +98,6 @@ IsRefused number (Err failures.Broken) = ⊥
 
 -- What a run of words that name no command gives: the usage line, or, where they have an origin that has to be parsed,
 -- the refusal because memory ran out.
-abbrev pub IsTurnedAway : List (List ℕ) → ℕ → Option (List ℕ) → Option (List ℕ) → Type 0
-IsTurnedAway words status old new = IsPrinted usage status old new
+abbrev pub IsUsageShown : List (List ℕ) → ℕ → Option (List ℕ) → Option (List ℕ) → Type 0
+IsUsageShown words status old new = IsPrinted usage status old new
     ⊎ ((parses_origin words ≡ true) × IsPrinted (refused 3) status old new)

@@ -4,5 +4,5 @@ use Rattle.std.specs.String.{string_bytes}
 use Rattle.std.specs.declared.alloc.Global.{Global}
 
 -- the words as their bytes
-abbrev pub texts : List (String Global) → List (List ℕ)
-texts words = map string_bytes words
+abbrev pub as_bytes : List (String Global) → List (List ℕ)
+as_bytes words = map string_bytes words

@@ -5,7 +5,7 @@ ghost use Rattle.std.specs.String.{string_bytes};
 ghost use Rattle.dnsmsg.specs.Answering.{Answers};
 ghost use Rattle.dnsmsg.specs.ApplyCommand.{answer_to_text, first_word, update_of};
 ghost use Rattle.dnsmsg.specs.Refusal.{refusal_number};
-ghost use Rattle.dnsmsg.specs.Words.{texts};
+ghost use Rattle.dnsmsg.specs.Words.{as_bytes};
 ghost use Rattle.op.specs.Message.{message_value};
 
 use crate::hex_input::decode;
@@ -22,9 +22,9 @@ use std::alloc::Global;
 /// 24 for a word that isn't hexadecimal, the number of the first fault of bytes that begin with no message, and 3 if
 /// memory runs out.
 pub fn update(alloc: Global, words: &[String]) -> Result<Message, Refusal>
-    ensures read { IfOk result (λ m. update_of (texts words.now) ≡ Ok (message_value m)) }
+    ensures read { IfOk result (λ m. update_of (as_bytes words.now) ≡ Ok (message_value m)) }
     ensures refused { IfErr result (λ e. (refusal_number e ≡ 3)
-        ⊎ (update_of (texts words.now) ≡ Err (refusal_number e))) }
+        ⊎ (update_of (as_bytes words.now) ≡ Err (refusal_number e))) }
 {
     let bytes = decode(alloc, first_word(words).as_bytes())?;
     Ok(Message::from_vec(alloc, &bytes)?)
@@ -32,7 +32,7 @@ pub fn update(alloc: Global, words: &[String]) -> Result<Message, Refusal>
 
 /// The first of the words, or the empty one.
 fn first_word(words: &[String]) -> &str
-    ensures { result.now ≡ first_word (texts words.now) }
+    ensures { result.now ≡ first_word (as_bytes words.now) }
 {
     match words {
         [word, ..] => word.as_str(),

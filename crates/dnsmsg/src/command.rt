@@ -4,7 +4,7 @@ ghost use Rattle.std.specs.Prelude.{◌≡◌, IfErr, IfOk, codes, false, true};
 ghost use Rattle.std.specs.List.{list_any};
 ghost use Rattle.std.specs.Str.{bytes_eq};
 ghost use Rattle.dnsmsg.specs.Command.{command_of, message_command};
-ghost use Rattle.dnsmsg.specs.Words.{texts};
+ghost use Rattle.dnsmsg.specs.Words.{as_bytes};
 ghost use Rattle.dnsmsg.specs.ZoneCommand.{are_texts, is_equals};
 ghost use Rattle.dnsmsg.specs.ZoneWords.{apply_named, is_one, origin_named, parses_origin, zone_named};
 
@@ -37,7 +37,7 @@ pub enum MessageCommand {
 impl MessageCommand {
     /// The command that one or two words name, if they name one.
     pub fn from_words(words: &[String]) -> Option<MessageCommand>
-        ensures { result ≡ message_command (texts words.now) }
+        ensures { result ≡ message_command (as_bytes words.now) }
     {
         match words {
             [word] if word.as_str() == "header" => Some(MessageCommand::Header),
@@ -57,9 +57,9 @@ impl Command {
     ///
     /// If memory runs out while an origin is parsed.
     pub fn from_words(alloc: Global, words: &[String]) -> Result<Option<Command>, AllocError>
-        ensures value { IfOk result (λ command. command ≡ command_of (texts words.now)) }
+        ensures value { IfOk result (λ command. command ≡ command_of (as_bytes words.now)) }
         // Memory runs out only where the words have an origin that is parsed.
-        ensures memory { IfErr result (λ _. parses_origin (texts words.now) ≡ true) }
+        ensures memory { IfErr result (λ _. parses_origin (as_bytes words.now) ≡ true) }
     {
         if let [word, origin, others @ ..] = words {
             if word.as_str() == "zone" {
@@ -76,9 +76,10 @@ impl Command {
 /// The command of an origin and of included texts, NAME=TEXT each.
 #[tactic(auto, unfolding(crate::specs::ZoneWords::zone_named))]
 fn zone(alloc: Global, origin: &str, included: &[String]) -> Result<Option<Command>, AllocError>
-    ensures value { IfOk result (λ command. command ≡ zone_named origin.now (texts included.now)) }
+    ensures value { IfOk result
+        (λ command. command ≡ zone_named origin.now (as_bytes included.now)) }
     // Memory runs out only where each of the words after the origin is NAME=TEXT.
-    ensures memory { IfErr result (λ _. are_texts (texts included.now) ≡ true) }
+    ensures memory { IfErr result (λ _. are_texts (as_bytes included.now) ≡ true) }
     // It runs out only where the origin isn't `-`.
     ensures parsed { IfErr result (λ _. bytes_eq origin.now (codes "-") ≡ false) }
 {
@@ -93,9 +94,10 @@ fn zone(alloc: Global, origin: &str, included: &[String]) -> Result<Option<Comma
 
 /// The command of an origin and of an update, one word.
 fn apply(alloc: Global, origin: &str, others: &[String]) -> Result<Option<Command>, AllocError>
-    ensures value { IfOk result (λ command. command ≡ apply_named origin.now (texts others.now)) }
+    ensures value { IfOk result
+        (λ command. command ≡ apply_named origin.now (as_bytes others.now)) }
     // Memory runs out only where one word is after the origin.
-    ensures memory { IfErr result (λ _. is_one (texts others.now) ≡ true) }
+    ensures memory { IfErr result (λ _. is_one (as_bytes others.now) ≡ true) }
     // It runs out only where the origin isn't `-`.
     ensures parsed { IfErr result (λ _. bytes_eq origin.now (codes "-") ≡ false) }
 {
@@ -126,7 +128,7 @@ fn named_origin(alloc: Global, word: &str) -> Result<Option<Option<Name>>, Alloc
 
 /// Whether each word has a name before an equals sign.
 fn are_texts(words: &[String]) -> bool
-    ensures { result ≡ are_texts (texts words.now) }
+    ensures { result ≡ are_texts (as_bytes words.now) }
 {
     for word in words {
         if !has_equals(word.as_str()) {

@@ -2,7 +2,7 @@
 
 ghost use Rattle.std.specs.Prelude.{◌≡◌, IfOk, not, filter};
 ghost use Rattle.dnsmsg.specs.Answering.{Decodes};
-ghost use Rattle.dnsmsg.specs.HexInput.{is_blank, bytes_of};
+ghost use Rattle.dnsmsg.specs.HexInput.{is_hex_blank, bytes_of};
 
 use crate::refusal::Refusal;
 use base::ProtoError;
@@ -11,14 +11,14 @@ use std::alloc::{AllocError, Global};
 
 /// Whether the byte only sets others apart.
 fn is_blank(byte: u8) -> bool
-    ensures { result ≡ is_blank byte }
+    ensures { result ≡ is_hex_blank byte }
 {
     matches!(byte, b' ' | b'\t' | b'\n' | b'\r')
 }
 
 /// The bytes of a text that aren't blanks.
 fn without_blanks(alloc: Global, text: &[u8]) -> Result<Vec<u8>, AllocError>
-    ensures { IfOk result (λ v. v.items ≡ filter (λ c. not (is_blank c)) text.now) }
+    ensures { IfOk result (λ v. v.items ≡ filter (λ c. not (is_hex_blank c)) text.now) }
 {
     let mut digits = Vec::with_capacity(alloc, text.len())?;
     digits.extend(text.iter().copied().filter(|byte| !is_blank(*byte)))?;

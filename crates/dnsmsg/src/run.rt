@@ -1,9 +1,9 @@
 //! A run of the program over any reader and writer.
 
 ghost use Rattle.std.specs.Prelude.{◌≡◌, ◌≢◌, ◌⊎◌, ◌≤◌, IfSome, None, Some};
-ghost use Rattle.dnsmsg.specs.Answer.{IsAnswered, IsPrinted, usage, refused, done, broken};
-ghost use Rattle.dnsmsg.specs.Command.{Gives, IsGiven, IsRefused, IsTurnedAway, command_of, refused_word};
-ghost use Rattle.dnsmsg.specs.Words.{texts};
+ghost use Rattle.dnsmsg.specs.Answer.{IsShown, IsPrinted, usage, refused, done, broken};
+ghost use Rattle.dnsmsg.specs.Command.{GivesAnswer, IsGiven, IsRefused, IsUsageShown, command_of, refused_word};
+ghost use Rattle.dnsmsg.specs.Words.{as_bytes};
 ghost use Rattle.dnsmsg.specs.ZoneWords.{words_after_origin};
 ghost use Rattle.dnsmsg.specs.declared.command.Command.{Command as Asked};
 
@@ -29,22 +29,22 @@ const BROKEN: u8 = 3;
 pub fn run<R: Read, W: Write>(alloc: Global, words: &[String], input: &mut R, output: &mut W) -> u8
     ensures statuses { result ≤ 3 }
     // Where the words name no command, the input isn't read.
-    ensures unread { command_of (texts words.now) ≡ None → input.new ≡ input.old }
+    ensures unread { command_of (as_bytes words.now) ≡ None → input.new ≡ input.old }
     // Unless writing fails, the usage line is printed then, or refusal 3 where an origin was
     // parsed and memory ran out.
-    ensures wrong_words { command_of (texts words.now) ≡ None → result ≢ broken
-        → IsTurnedAway (texts words.now) result (W.contents output.old) (W.contents output.new) }
+    ensures wrong_words { command_of (as_bytes words.now) ≡ None → result ≢ broken
+        → IsUsageShown (as_bytes words.now) result (W.contents output.old) (W.contents output.new) }
     // Words that hold a faulty update are refused with its number, and the input isn't read.
-    ensures judged { (command : Asked) → command_of (texts words.now) ≡ Some command
-        → IfSome (refused_word command (texts words.now))
+    ensures judged { (command : Asked) → command_of (as_bytes words.now) ≡ Some command
+        → IfSome (refused_word command (as_bytes words.now))
         (λ n. (input.new ≡ input.old)
         × (result ≢ broken
-        → IsAnswered (refused n) result (W.contents output.old) (W.contents output.new))) }
+        → IsShown (refused n) result (W.contents output.old) (W.contents output.new))) }
     // Unless a read or a write fails, the command's answer to the input is printed, or refusal 3
     // where memory ran out.
-    ensures answered { (command : Asked) → command_of (texts words.now) ≡ Some command
+    ensures answered { (command : Asked) → command_of (as_bytes words.now) ≡ Some command
         → result ≢ broken → IfSome (R.remaining input.old)
-        (λ text. IsGiven command (texts words.now) text result (W.contents output.old)
+        (λ text. IsGiven command (as_bytes words.now) text result (W.contents output.old)
         (W.contents output.new)) }
 {
     match Command::from_words(alloc, words) {
@@ -67,9 +67,9 @@ impl Command {
         input: &mut R,
     ) -> Result<String, Failure>
         // The answer is that of the command to the input, unless a read fails.
-        ensures gives { Gives self (texts words.now) (R.remaining input.old) result }
+        ensures gives { GivesAnswer self (as_bytes words.now) (R.remaining input.old) result }
         // Words that hold a faulty update are refused with its number, and the input isn't read.
-        ensures judged { IfSome (refused_word self (texts words.now))
+        ensures judged { IfSome (refused_word self (as_bytes words.now))
             (λ n. (input.new ≡ input.old) × IsRefused n result) }
     {
         match self {
@@ -96,7 +96,7 @@ impl Command {
 
 /// The words after the command and the origin.
 fn after_origin(words: &[String]) -> &[String]
-    ensures { texts result.now ≡ words_after_origin (texts words.now) }
+    ensures { as_bytes result.now ≡ words_after_origin (as_bytes words.now) }
 {
     match words {
         [_, _, others @ ..] => others,

@@ -5,7 +5,7 @@ ghost use Rattle.std.specs.List.{after_first, before_first};
 ghost use Rattle.std.specs.String.{string_bytes};
 ghost use Rattle.txt.specs.Steps.{texts_in};
 ghost use Rattle.dnsmsg.specs.Answering.{Answers};
-ghost use Rattle.dnsmsg.specs.Words.{texts};
+ghost use Rattle.dnsmsg.specs.Words.{as_bytes};
 ghost use Rattle.dnsmsg.specs.ZoneCommand.{is_equals, text_named, zone_answer};
 
 use crate::refusal::Refusal;
@@ -26,7 +26,7 @@ pub fn zone(
     words: &[String],
     text: &[u8],
 ) -> Result<String, Refusal>
-    ensures { Answers string_bytes (zone_answer origin (texts words.now) text.now) result }
+    ensures { Answers string_bytes (zone_answer origin (as_bytes words.now) text.now) result }
 {
     let includes = included_texts(alloc, words)?;
     let (name, sets) = zone_sets(alloc, origin, &includes, text)?;
@@ -36,7 +36,7 @@ pub fn zone(
 /// The texts that words hand in, by their names. The last word of a name stands.
 fn included_texts(alloc: Global, words: &[String]) -> Result<BTreeMap<String, String>, AllocError>
     ensures { IfOk result (λ includes. (name : List ℕ)
-        → texts_in includes name ≡ text_named (texts words.now) name) }
+        → texts_in includes name ≡ text_named (as_bytes words.now) name) }
 {
     let mut includes = BTreeMap::new(alloc);
     for word in words {

@@ -18,7 +18,7 @@ use Rattle.base_data.specs.declared.rdata.RData.{RData}
 use Rattle.op.proofs.MessageStands.{one_message}
 use Rattle.op.specs.Edns.{new_edns}
 use Rattle.op.specs.Cut.{IsCut, IsTooSmall, IsUncut, IsWritten, any_lost}
-use Rattle.op.specs.Fits.{Fits, FitsEdns, FitsPlain, listed}
+use Rattle.op.specs.Fits.{Fits, FitsEdns, FitsPlain, as_list}
 use Rattle.op.specs.Message.{IsMessageAt, MessageValue}
 use Rattle.op.specs.MessageWritten.{message_answer, message_bytes}
 use Rattle.op.specs.Parts.{payload_taken}
@@ -31,14 +31,14 @@ use Rattle.op_use.specs.SoundSet.{IsSendable}
 use Rattle.rr.specs.RecordSet.{SetValue}
 use Rattle.rr.specs.declared.record.Record.{Record}
 use Rattle.txt.specs.Parser.{ParserValue, named_texts, text_among}
-use Rattle.txt.specs.Zone.{Texts, zone_of}
-use Rattle.examples.specs.Callers.{HasNoRoom, IsAnswered, IsCreated, IsNotReceived, IsReceived, IsUnanswered, IsUnsent, IsZoneOfText, no_texts, creating, response_edns, response_to}
+use Rattle.txt.specs.Zone.{Texts, no_texts, zone_of}
+use Rattle.examples.specs.Callers.{QuestionsHaveNoRoom, IsQueryAnswered, IsCreated, IsNotReceived, IsReceived, IsUnanswered, IsUnsent, IsZoneOfText, creating, response_edns, response_to}
 use Rattle.examples.specs.declared.refusal.Refusal.{Refusal}
 use Rattle.examples.specs.declared.refusal.Refusal.TheVariants as refused
 
 -- ---- an answer
 
-edns_fits : (edns : Option Edns) → All FitsEdns (listed (response_edns edns))
+edns_fits : (edns : Option Edns) → All FitsEdns (as_list (response_edns edns))
 edns_fits None = All-nil FitsEdns
 edns_fits (Some e) = All-cons FitsEdns new_edns [] (record { payload = lit≤ tt; version = lit< tt; z = lit< tt }) (All-nil FitsEdns)
 
@@ -59,7 +59,7 @@ module _ (received : List ℕ) (answers : List (Record RData)) (q : MessageValue
     (is : m ≡ response_to q answers) (taken : limit ≡ payload_taken q.edns) where
   -- what is sent answers the query
   pub answered : (result : Result (Vec ℕ Global) ProtoError) → Fits q → (Fits m → IfOk result (λ bytes. IsWritten m limit bytes.items))
-      → IfOk result (λ bytes. message_answer limit m ≡ Ok bytes.items) → IfOk result (λ sent. IsAnswered received answers sent.items)
+      → IfOk result (λ bytes. message_answer limit m ≡ Ok bytes.items) → IfOk result (λ sent. IsQueryAnswered received answers sent.items)
   answered (Ok sent) fits written exact = record {
     query = q;
     end = e;
@@ -69,7 +69,7 @@ module _ (received : List ℕ) (answers : List (Record RData)) (q : MessageValue
   }
   answered (Err refusal) fits written exact = tt
 
-  no_room : (refusal : ProtoError) → IsTooSmall m limit refusal → HasNoRoom received answers refusal
+  no_room : (refusal : ProtoError) → IsTooSmall m limit refusal → QuestionsHaveNoRoom received answers refusal
   no_room refusal small = record {
     query = q;
     end = e;

@@ -5,7 +5,7 @@ use Rattle.std.specs.Option.{option_map}
 use Rattle.std.specs.Prelude.{All, Err, List, None, Ok, Option, Result, Some, false, if◌then◌else◌, length, map, true, ℕ, ◌-◌, ◌≡◌, ◌⊎◌}
 use Rattle.base.specs.Labels.{NameValue}
 use Rattle.base.specs.Reading.{Fails as FailsToRead}
-use Rattle.base.specs.TextFaults.{Fails, Fault}
+use Rattle.base.specs.TextFaults.{FailsWith, Fault}
 use Rattle.base.specs.declared.dns_class.DNSClass.TheVariants as classes
 use Rattle.base.specs.declared.error.proto_error.ProtoError.{ProtoError}
 use Rattle.base.specs.declared.error.proto_error.ProtoError.TheVariants as refusals
@@ -31,7 +31,7 @@ use Rattle.op_use.specs.Zone.{Zone, has_set}
 use Rattle.rr.specs.Record.{decremented}
 use Rattle.rr.specs.RecordSet.{SetValue}
 use Rattle.rr.specs.declared.record.Record.{Record}
-use Rattle.txt.specs.Zone.{Texts, zone_of}
+use Rattle.txt.specs.Zone.{no_texts, zone_of}
 use Rattle.txt.specs.ZoneSets.{ZoneSets}
 use Rattle.parsed_zone.specs.Classes.{are_sets_in}
 use Rattle.parsed_zone.specs.Faults.{fault_number}
@@ -57,7 +57,7 @@ response_to query answers =
 
 -- A query begins the bytes that were received. What was sent is what writing the response under what the client takes
 -- gives; if each answer fits the wire, it is a cut of the response, and is read as that cut.
-pub record IsAnswered (received : List ℕ) (answers : List (Record RData))
+pub record IsQueryAnswered (received : List ℕ) (answers : List (Record RData))
     (sent : List ℕ) : Type 0 where
   pub query : MessageValue
   pub end : ℕ
@@ -67,7 +67,7 @@ pub record IsAnswered (received : List ℕ) (answers : List (Record RData))
       → IsWritten (response_to query answers) (payload_taken query.edns) sent
 
 -- The questions have no room under what the client takes.
-pub record HasNoRoom (received : List ℕ) (answers : List (Record RData))
+pub record QuestionsHaveNoRoom (received : List ℕ) (answers : List (Record RData))
     (e : ProtoError) : Type 0 where
   pub query : MessageValue
   pub end : ℕ
@@ -78,7 +78,7 @@ pub record HasNoRoom (received : List ℕ) (answers : List (Record RData))
 abbrev pub IsUnanswered : List ℕ → List (Record RData) → ProtoError → Type 0
 IsUnanswered received answers (refusals.Decode fault) = FailsToRead fault (message_at received 0)
 IsUnanswered received answers refusals.Memory = Unit {0}
-IsUnanswered received answers e = HasNoRoom received answers e
+IsUnanswered received answers e = QuestionsHaveNoRoom received answers e
 
 -- ---- a cache entry
 
@@ -93,10 +93,6 @@ pub record IsCached (received : List ℕ) (seconds : ℕ) (entry : CacheEntry) :
   pub negative : entry.negative_ttl ≡ option_map (λ ttl. ttl - seconds) (negative_ttl response)
 
 -- ---- an update of a zone
-
--- no text may be included
-abbrev pub no_texts : Texts
-no_texts name = None
 
 -- these sets are the zone of the text under the origin, and updates of the class IN may be applied to them
 pub record IsZoneOfText (origin : NameValue) (text : List ℕ) (sets : BTreeMap RrKey SetValue) : Type
@@ -138,7 +134,7 @@ pub record IsOtherZone (origin : NameValue) (text : List ℕ) : Type 0 where
 
 -- why a text is no zone of the class IN: the parser's fault, or another class; or that memory ran out
 abbrev pub IsNoZone : NameValue → List ℕ → Refusal → Type 0
-IsNoZone origin text (refused.Parse e) = Fails e (zone_of no_texts (Some origin) text)
+IsNoZone origin text (refused.Parse e) = FailsWith e (zone_of no_texts (Some origin) text)
 IsNoZone origin text refused.Class = IsOtherZone origin text
 IsNoZone origin text (refused.Proto e) = e ≡ refusals.Memory
 IsNoZone origin text e = ⊥
@@ -167,8 +163,8 @@ IsUnsent origin s e =
 -- ---- zone text that is checked
 
 -- how many sets the zone of a text has, or the number of its fault; 3 if memory runs out
-abbrev pub Counts : Result (NameValue × ZoneSets) Fault → Result ℕ ℕ → Type 0
-Counts (Ok zone) (Ok count) = count ≡ length zone.1
-Counts (Ok zone) (Err number) = number ≡ 3
-Counts (Err fault) (Ok count) = ⊥
-Counts (Err fault) (Err number) = (number ≡ 3) ⊎ (number ≡ fault_number fault)
+abbrev pub CountsSets : Result (NameValue × ZoneSets) Fault → Result ℕ ℕ → Type 0
+CountsSets (Ok zone) (Ok count) = count ≡ length zone.1
+CountsSets (Ok zone) (Err number) = number ≡ 3
+CountsSets (Err fault) (Ok count) = ⊥
+CountsSets (Err fault) (Err number) = (number ≡ 3) ⊎ (number ≡ fault_number fault)

@@ -2,7 +2,7 @@
 
 ghost use Rattle.std.specs.Prelude.{◌≡◌, IfErr, IfOk};
 ghost use Rattle.op.specs.Message.{message_value};
-ghost use Rattle.examples.specs.Callers.{IsAnswered, IsUnanswered, response_to};
+ghost use Rattle.examples.specs.Callers.{IsQueryAnswered, IsUnanswered, response_to};
 
 use base::ProtoError;
 use op::{Edns, Message, Metadata};
@@ -17,7 +17,7 @@ use std::alloc::Global;
 /// `Decode` where no message begins what was received; `NotAllRecordsWritten` where its questions have no room;
 /// `Memory` if memory runs out.
 pub fn respond(alloc: Global, received: &[u8], answers: Vec<Record>) -> Result<Vec<u8>, ProtoError>
-    ensures sent { IfOk result (λ sent. IsAnswered received.now answers.items sent.items) }
+    ensures sent { IfOk result (λ sent. IsQueryAnswered received.now answers.items sent.items) }
     ensures refused { IfErr result (λ e. IsUnanswered received.now answers.items e) }
 {
     let query = Message::from_vec(alloc, received)?;

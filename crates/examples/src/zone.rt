@@ -1,8 +1,8 @@
 //! Checks zone text.
 
 ghost use Rattle.std.specs.Prelude.{Some};
-ghost use Rattle.txt.specs.Zone.{zone_of};
-ghost use Rattle.examples.specs.Callers.{Counts, no_texts};
+ghost use Rattle.txt.specs.Zone.{no_texts, zone_of};
+ghost use Rattle.examples.specs.Callers.{CountsSets};
 
 use base::Name;
 use std::alloc::Global;
@@ -15,7 +15,7 @@ use txt::Parser;
 ///
 /// The number of what the parser refuses.
 pub fn check(alloc: Global, origin: Option<Name>, text: &str) -> Result<usize, u8>
-    ensures { Counts (zone_of no_texts origin text.now) result }
+    ensures { CountsSets (zone_of no_texts origin text.now) result }
 {
     let includes = BTreeMap::new(alloc);
     match Parser::new(alloc, text, &includes, origin).parse() {

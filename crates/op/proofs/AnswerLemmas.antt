@@ -11,7 +11,7 @@ use Rattle.base.proofs.ItemLemmas.{Each-keeps}
 use Rattle.op.specs.Emitted.{Emitted, IsNew, Leaves, WritesFront, query_owner}
 use Rattle.op.specs.Fits.{HasRoom}
 use Rattle.op.specs.Message.{MessageValue}
-use Rattle.op.specs.MessageWritten.{Part, message_answer, message_answer_at, message_bytes, message_written, part}
+use Rattle.op.specs.MessageWritten.{Part, message_answer, message_answer_at, message_bytes, message_written, part_within}
 use Rattle.op.specs.Query.{QueryWord, plain_query, query_written}
 use Rattle.op.specs.declared.header.Header.{Header}
 use Rattle.op.specs.declared.query.Query.{Query}
@@ -32,23 +32,23 @@ module _ (m : MessageValue) (old : State) where
   written = (message_written old.limit m (length old.bytes) old.suffixes).bytes
 
   abbrev asked : Part Query
-  asked = part query_written old.limit m.queries (length old.bytes + 12) old.suffixes
+  asked = part_within query_written old.limit m.queries (length old.bytes + 12) old.suffixes
 
   -- where the questions begin
   begins : length (old.bytes ++ replicate 12 0) ≡ length old.bytes + 12
   begins = omega (arith, length-append old.bytes (replicate 12 0))
 
-  from_kept : (kept : State) → kept ≡ appended (replicate 12 0) old → asked ≡ part query_written old.limit m.queries (length kept.bytes) kept.suffixes
+  from_kept : (kept : State) → kept ≡ appended (replicate 12 0) old → asked ≡ part_within query_written old.limit m.queries (length kept.bytes) kept.suffixes
   from_kept kept place =
-      ap (λ (k : ℕ). part query_written old.limit m.queries k old.suffixes) (sym begins)
-      ∙ ap (λ (s : State). part query_written old.limit m.queries (length s.bytes) s.suffixes) (sym place)
+      ap (λ (k : ℕ). part_within query_written old.limit m.queries k old.suffixes) (sym begins)
+      ∙ ap (λ (s : State). part_within query_written old.limit m.queries (length s.bytes) s.suffixes) (sym place)
 
   -- a message that was written is the answer
   pub emitted_answers : (new : State) (h : Header) → Emitted m old new h → answer ≡ Ok (drop (length old.bytes) new.bytes)
   emitted_answers new h e =
       let room : length old.bytes + 12 ≤ old.limit = omega (arith, e.room, ap (λ (s : State). length s.bytes) e.place, begins) in
       let whole : asked.is_cut ≡ false =
-      ap (λ (q : Part Query). q.is_cut) (from_kept e.kept e.place)
+      ap (λ (q : Part Query). q.is_cut) (from_kept e.after_header e.place)
       ∙ ap (λ (qs : List Query). nat_lt (length qs) (length m.queries)) (all_asked m old new h e)
       ∙ le-ltb (length m.queries) (length m.queries) (omega arith) in
       let bytes : drop (length old.bytes) new.bytes ≡ written =

@@ -16,7 +16,7 @@ use Rattle.rr.specs.declared.record.Record.{Record}
 use Rattle.op.specs.Cut.{IsCut, IsWritten, NoRoom, any_lost, code_range, raised}
 use Rattle.op.specs.EdnsRecord.{edns_record}
 use Rattle.op.specs.Emitted.{Emitted, WritesRecords, query_owner}
-use Rattle.op.specs.Fits.{Fits, FitsAdditional, FitsEdns, FitsPlain, listed, signature_record}
+use Rattle.op.specs.Fits.{Fits, FitsAdditional, FitsEdns, FitsPlain, as_list, signature_record}
 use Rattle.op.specs.Header.{IsHeaderAt, header_bytes, header_value, metadata_value, raw_header}
 use Rattle.op.specs.Message.{IsMessageAt, MessageValue, high_code, message_of}
 use Rattle.op.specs.OpCode.{op_number, op_value}
@@ -40,13 +40,13 @@ use Rattle.op.proofs.WordsBack.{edns_fits}
 abbrev raise : ℕ → Edns → Edns
 raise high e = record e { rcode_high = high }
 
-raise_fits : (high : ℕ) (o : Option Edns) → All FitsEdns (listed o) → All FitsEdns (listed (option_map (raise high) o))
+raise_fits : (high : ℕ) (o : Option Edns) → All FitsEdns (as_list o) → All FitsEdns (as_list (option_map (raise high) o))
 raise_fits high None fits = All-nil FitsEdns
 raise_fits high (Some e) fits =
     let f = fits 0 e (omega arith) in
     All-cons FitsEdns (raise high e) [] (record { payload = f.payload; version = f.version; z = f.z }) (All-nil FitsEdns)
 
-raised_high : (high : ℕ) (o some : Option Edns) (rest : List Edns) → listed (option_map (raise high) o) ≡ listed some ++ rest → (e : Edns) → some ≡ Some e → e.rcode_high ≡ high
+raised_high : (high : ℕ) (o some : Option Edns) (rest : List Edns) → as_list (option_map (raise high) o) ≡ as_list some ++ rest → (e : Edns) → some ≡ Some e → e.rcode_high ≡ high
 raised_high high None (Some x) rest whole e is = cc
 raised_high high (Some y) (Some x) rest whole e is =
     let first : raise high y ≡ x = head (raise high y) x [] rest whole in
@@ -60,11 +60,11 @@ raised_high high (Some y) (Some x) rest whole e is =
     some_same a b w = cc
 raised_high high o None rest whole e is = cc
 
-edns_fit : (o : Option Edns) → All FitsEdns (listed o) → All FitsRecord (listed (option_map edns_record o))
+edns_fit : (o : Option Edns) → All FitsEdns (as_list o) → All FitsRecord (as_list (option_map edns_record o))
 edns_fit None fits = All-nil FitsRecord
 edns_fit (Some e) fits = All-cons FitsRecord (edns_record e) [] (edns_fits e (fits 0 e (omega arith))) (All-nil FitsRecord)
 
-signature_fit : (o : Option (Record (List ℕ))) → All (λ r. FitsRecord (signature_record r)) (listed o) → All FitsRecord (listed (option_map signature_record o))
+signature_fit : (o : Option (Record (List ℕ))) → All (λ r. FitsRecord (signature_record r)) (as_list o) → All FitsRecord (as_list (option_map signature_record o))
 signature_fit None fits = All-nil FitsRecord
 signature_fit (Some r) fits = All-cons FitsRecord (signature_record r) [] (fits 0 r (omega arith)) (All-nil FitsRecord)
 
@@ -89,59 +89,59 @@ same_bits t p q r s u = rw (p, q, r, s, u) refl
 module _ (m : MessageValue) (old new : State) (h : Header) (e : Emitted m old new h) (fits : Fits m) (empty : old.bytes ≡ []) (untold : old.suffixes ≡ []) where
   -- ---- the bytes
 
-  bytes_are : new.bytes ≡ header_bytes (raw_header h) ++ drop 12 e.sixth.bytes
+  bytes_are : new.bytes ≡ header_bytes (raw_header h) ++ drop 12 e.after_signature.bytes
   bytes_are =
       ap (λ (s : State). s.bytes) e.header
-      ∙ ap (λ (n : ℕ). take n e.sixth.bytes ++ (header_bytes (raw_header h) ++ drop (n + 12) e.sixth.bytes)) (ap length empty)
+      ∙ ap (λ (n : ℕ). take n e.after_signature.bytes ++ (header_bytes (raw_header h) ++ drop (n + 12) e.after_signature.bytes)) (ap length empty)
 
-  kept_len : length e.kept.bytes ≡ 12
+  kept_len : length e.after_header.bytes ≡ 12
   kept_len = ap (λ (s : State). length s.bytes) e.place ∙ length-append old.bytes (replicate 12 0) ∙ ap (λ (xs : List ℕ). length xs + 12) empty
 
-  kept_suffixes : e.kept.suffixes ≡ []
+  kept_suffixes : e.after_header.suffixes ≡ []
   kept_suffixes = ap (λ (s : State). s.suffixes) e.place ∙ untold
 
-  holds : Holds e.kept e.sixth new.bytes
+  holds : Holds e.after_header e.after_signature new.bytes
   holds = record {
-    table = record { each = subst (λ (ts : List Stored). All (IsSpelled new.bytes (length e.kept.bytes)) ts) (sym kept_suffixes) (All-nil (IsSpelled new.bytes (length e.kept.bytes))) };
+    table = record { each = subst (λ (ts : List Stored). All (IsSpelled new.bytes (length e.after_header.bytes)) ts) (sym kept_suffixes) (All-nil (IsSpelled new.bytes (length e.after_header.bytes))) };
     bytes =
-        let at12 : Stands (drop 12 e.sixth.bytes) (header_bytes (raw_header h) ++ drop 12 e.sixth.bytes) 12 = stands_after (header_bytes (raw_header h)) (drop 12 e.sixth.bytes) refl in
-        let there : Stands (drop 12 e.sixth.bytes) new.bytes 12 = subst (λ xs. Stands (drop 12 e.sixth.bytes) xs 12) (sym bytes_are) at12 in
-        subst (λ (n : ℕ). Stands (drop n e.sixth.bytes) new.bytes n) (sym kept_len) there;
+        let at12 : Stands (drop 12 e.after_signature.bytes) (header_bytes (raw_header h) ++ drop 12 e.after_signature.bytes) 12 = stands_after (header_bytes (raw_header h)) (drop 12 e.after_signature.bytes) refl in
+        let there : Stands (drop 12 e.after_signature.bytes) new.bytes 12 = subst (λ xs. Stands (drop 12 e.after_signature.bytes) xs 12) (sym bytes_are) at12 in
+        subst (λ (n : ℕ). Stands (drop n e.after_signature.bytes) new.bytes n) (sym kept_len) there;
   }
 
   header_there : Stands (header_bytes (raw_header h)) new.bytes 0
   header_there =
-      let whole : Stands (header_bytes (raw_header h) ++ drop 12 e.sixth.bytes) new.bytes 0 = subst (λ xs. Stands xs new.bytes 0) bytes_are (record { is = take-length new.bytes }) in
-      first_stands (header_bytes (raw_header h)) (drop 12 e.sixth.bytes) new.bytes 0 whole
+      let whole : Stands (header_bytes (raw_header h) ++ drop 12 e.after_signature.bytes) new.bytes 0 = subst (λ xs. Stands xs new.bytes 0) bytes_are (record { is = take-length new.bytes }) in
+      first_stands (header_bytes (raw_header h)) (drop 12 e.after_signature.bytes) new.bytes 0 whole
 
   -- ---- what keeps the limit
 
-  kq : Keeps e.kept e.first
-  kq = Each-keeps QueryWord plain_query query_owner m.queries e.kept e.first e.queries
+  kq : Keeps e.after_header e.after_questions
+  kq = Each-keeps QueryWord plain_query query_owner m.queries e.after_header e.after_questions e.queries
 
-  k1 : Keeps e.kept e.second
+  k1 : Keeps e.after_header e.after_answers
   k1 = Keeps-then kq (records_keep e.answers)
 
-  k2 : Keeps e.kept e.third
+  k2 : Keeps e.after_header e.after_authorities
   k2 = Keeps-then k1 (records_keep e.authorities)
 
-  k3 : Keeps e.kept e.fourth
+  k3 : Keeps e.after_header e.after_additionals
   k3 = Keeps-then k2 (records_keep e.additionals)
 
-  k4 : Keeps e.kept e.fifth
+  k4 : Keeps e.after_header e.after_edns
   k4 = Keeps-then k3 (records_keep e.edns)
 
-  k5 : Keeps e.kept e.sixth
+  k5 : Keeps e.after_header e.after_signature
   k5 = Keeps-then k4 (records_keep e.signature)
 
-  limit_kept : e.kept.limit ≡ old.limit
+  limit_kept : e.after_header.limit ≡ old.limit
   limit_kept = ap (λ (s : State). s.limit) e.place
 
-  grown : length e.kept.bytes ≤ length e.sixth.bytes
-  grown = omega (arith, ap length k5.bytes, length-append e.kept.bytes k5.appended)
+  grown : length e.after_header.bytes ≤ length e.after_signature.bytes
+  grown = omega (arith, ap length k5.bytes, length-append e.after_header.bytes k5.appended)
 
-  new_len : length new.bytes ≡ length e.sixth.bytes
-  new_len = omega (arith, ap length bytes_are, length-append (header_bytes (raw_header h)) (drop 12 e.sixth.bytes), length-drop 12 e.sixth.bytes, header_len (raw_header h), grown, kept_len)
+  new_len : length new.bytes ≡ length e.after_signature.bytes
+  new_len = omega (arith, ap length bytes_are, length-append (header_bytes (raw_header h)) (drop 12 e.after_signature.bytes), length-drop 12 e.after_signature.bytes, header_len (raw_header h), grown, kept_len)
 
   small : length new.bytes ≤ old.limit
   small = omega (arith, new_len, k5.within, limit_kept, e.room)
@@ -163,11 +163,11 @@ module _ (m : MessageValue) (old new : State) (h : Header) (e : Emitted m old ne
   one_signature : OneFront signature_record m.signature e.signature.kept e.signature.lost
   one_signature = one_front signature_record m.signature e.signature.kept e.signature.lost e.signature.whole
 
-  fits_edns : All FitsEdns (listed one_edns.some)
-  fits_edns = all_front FitsEdns (listed (raised m)) (listed one_edns.some) one_edns.rest one_edns.front (raise_fits (code_number m.metadata.response_code / 16 % 256) m.edns fits.edns)
+  fits_edns : All FitsEdns (as_list one_edns.some)
+  fits_edns = all_front FitsEdns (as_list (raised m)) (as_list one_edns.some) one_edns.rest one_edns.front (raise_fits (code_number m.metadata.response_code / 16 % 256) m.edns fits.edns)
 
-  fits_signature : All (λ r. FitsRecord (signature_record r)) (listed one_signature.some)
-  fits_signature = all_front (λ r. FitsRecord (signature_record r)) (listed m.signature) (listed one_signature.some) one_signature.rest one_signature.front fits.signature
+  fits_signature : All (λ r. FitsRecord (signature_record r)) (as_list one_signature.some)
+  fits_signature = all_front (λ r. FitsRecord (signature_record r)) (as_list m.signature) (as_list one_signature.some) one_signature.rest one_signature.front fits.signature
 
   opts_fit : All FitsRecord e.edns.kept
   opts_fit = subst (All FitsRecord) (sym one_edns.kept_is) (edns_fit one_edns.some fits_edns)
@@ -190,29 +190,29 @@ module _ (m : MessageValue) (old new : State) (h : Header) (e : Emitted m old ne
   all : List (Record RData)
   all = e.additionals.kept ++ tail one_edns.some one_signature.some
 
-  words : Composed new.bytes m.queries e.answers.kept e.authorities.kept (e.additionals.kept ++ tail one_edns.some one_signature.some) 12 (length e.first.bytes) (length e.second.bytes)
-      (length e.third.bytes) (length new.bytes)
+  words : Composed new.bytes m.queries e.answers.kept e.authorities.kept (e.additionals.kept ++ tail one_edns.some one_signature.some) 12 (length e.after_questions.bytes) (length e.after_answers.bytes)
+      (length e.after_authorities.bytes) (length new.bytes)
   words =
       let c = composed new.bytes m old new h e are_fit holds in
       let listed_edns = subst (λ es. Composed new.bytes m.queries e.answers.kept e.authorities.kept (e.additionals.kept ++ (es ++ e.signature.kept))
-      (length e.kept.bytes) (length e.first.bytes) (length e.second.bytes) (length e.third.bytes) (length e.sixth.bytes)) one_edns.kept_is c in
-      let listed_signature = subst (λ ss. Composed new.bytes m.queries e.answers.kept e.authorities.kept (e.additionals.kept ++ (listed (option_map edns_record one_edns.some) ++ ss))
-      (length e.kept.bytes) (length e.first.bytes) (length e.second.bytes) (length e.third.bytes) (length e.sixth.bytes)) one_signature.kept_is listed_edns in
+      (length e.after_header.bytes) (length e.after_questions.bytes) (length e.after_answers.bytes) (length e.after_authorities.bytes) (length e.after_signature.bytes)) one_edns.kept_is c in
+      let listed_signature = subst (λ ss. Composed new.bytes m.queries e.answers.kept e.authorities.kept (e.additionals.kept ++ (as_list (option_map edns_record one_edns.some) ++ ss))
+      (length e.after_header.bytes) (length e.after_questions.bytes) (length e.after_answers.bytes) (length e.after_authorities.bytes) (length e.after_signature.bytes)) one_signature.kept_is listed_edns in
       let from12 = subst (λ n. Composed new.bytes m.queries e.answers.kept e.authorities.kept (e.additionals.kept ++ tail one_edns.some one_signature.some)
-      n (length e.first.bytes) (length e.second.bytes) (length e.third.bytes) (length e.sixth.bytes)) kept_len listed_signature in
+      n (length e.after_questions.bytes) (length e.after_answers.bytes) (length e.after_authorities.bytes) (length e.after_signature.bytes)) kept_len listed_signature in
       subst (λ n. Composed new.bytes m.queries e.answers.kept e.authorities.kept (e.additionals.kept ++ tail one_edns.some one_signature.some)
-      12 (length e.first.bytes) (length e.second.bytes) (length e.third.bytes) n) (sym new_len) from12
+      12 (length e.after_questions.bytes) (length e.after_answers.bytes) (length e.after_authorities.bytes) n) (sym new_len) from12
 
-  last : Ends new.bytes e.additionals.kept (listed (option_map edns_record one_edns.some)) (listed (option_map signature_record one_signature.some)) (length e.third.bytes)
-      (length e.fourth.bytes) (length e.fifth.bytes) (length new.bytes)
+  last : Ends new.bytes e.additionals.kept (as_list (option_map edns_record one_edns.some)) (as_list (option_map signature_record one_signature.some)) (length e.after_authorities.bytes)
+      (length e.after_additionals.bytes) (length e.after_edns.bytes) (length new.bytes)
   last =
       let c = ends new.bytes m old new h e are_fit holds in
-      let listed_edns = subst (λ es. Ends new.bytes e.additionals.kept es e.signature.kept (length e.third.bytes) (length e.fourth.bytes) (length e.fifth.bytes) (length e.sixth.bytes))
+      let listed_edns = subst (λ es. Ends new.bytes e.additionals.kept es e.signature.kept (length e.after_authorities.bytes) (length e.after_additionals.bytes) (length e.after_edns.bytes) (length e.after_signature.bytes))
       one_edns.kept_is c in
-      let listed_signature = subst (λ ss. Ends new.bytes e.additionals.kept (listed (option_map edns_record one_edns.some)) ss
-      (length e.third.bytes) (length e.fourth.bytes) (length e.fifth.bytes) (length e.sixth.bytes)) one_signature.kept_is listed_edns in
-      subst (λ n. Ends new.bytes e.additionals.kept (listed (option_map edns_record one_edns.some)) (listed (option_map signature_record one_signature.some))
-      (length e.third.bytes) (length e.fourth.bytes) (length e.fifth.bytes) n) (sym new_len) listed_signature
+      let listed_signature = subst (λ ss. Ends new.bytes e.additionals.kept (as_list (option_map edns_record one_edns.some)) ss
+      (length e.after_authorities.bytes) (length e.after_additionals.bytes) (length e.after_edns.bytes) (length e.after_signature.bytes)) one_signature.kept_is listed_edns in
+      subst (λ n. Ends new.bytes e.additionals.kept (as_list (option_map edns_record one_edns.some)) (as_list (option_map signature_record one_signature.some))
+      (length e.after_authorities.bytes) (length e.after_additionals.bytes) (length e.after_edns.bytes) n) (sym new_len) listed_signature
 
   -- ---- the header
 
@@ -271,7 +271,7 @@ module _ (m : MessageValue) (old new : State) (h : Header) (e : Emitted m old ne
         edns,
         signature,
         length-append e.additionals.kept (tail one_edns.some one_signature.some),
-        length-append (listed (option_map edns_record one_edns.some)) (listed (option_map signature_record one_signature.some)),
+        length-append (as_list (option_map edns_record one_edns.some)) (as_list (option_map signature_record one_signature.some)),
       )
 
   counted : h.counts ≡ record {
@@ -287,9 +287,9 @@ module _ (m : MessageValue) (old new : State) (h : Header) (e : Emitted m old ne
   abbrev message_word : IsMessageAt new.bytes 0 message (length new.bytes)
   message_word = record {
     header = header_value (raw_header h);
-    queries_end = length e.first.bytes;
-    answers_end = length e.second.bytes;
-    authorities_end = length e.third.bytes;
+    queries_end = length e.after_questions.bytes;
+    answers_end = length e.after_answers.bytes;
+    authorities_end = length e.after_authorities.bytes;
     answers = e.answers.kept;
     authorities = e.authorities.kept;
     additionals = e.additionals.kept ++ tail one_edns.some one_signature.some;
@@ -329,15 +329,15 @@ module _ (m : MessageValue) (old new : State) (h : Header) (e : Emitted m old ne
 
   -- ---- the cut
 
-  no_room : {rs : List (Record RData)} {a b : State} {n : ℕ} {is_cut : Bool} (w : WritesRecords rs a b n is_cut) → Keeps e.kept a → NoRoom plain_record old.limit (length b.bytes) w.lost
+  no_room : {rs : List (Record RData)} {a b : State} {n : ℕ} {is_cut : Bool} (w : WritesRecords rs a b n is_cut) → Keeps e.after_header a → NoRoom plain_record old.limit (length b.bytes) w.lost
   no_room {a = a} {b = b} w keeps = subst (λ l. NoRoom plain_record l (length b.bytes) w.lost) (keeps.limit ∙ limit_kept) w.full
 
   cut_of : IsCut m old.limit new.bytes message
   cut_of = record {
     small = small;
     word = message_word;
-    additionals_end = length e.fourth.bytes;
-    edns_end = length e.fifth.bytes;
+    additionals_end = length e.after_additionals.bytes;
+    edns_end = length e.after_edns.bytes;
     additionals_stand = last.additionals;
     edns_stands = last.edns;
     signature_stands = last.signature;
@@ -349,15 +349,15 @@ module _ (m : MessageValue) (old new : State) (h : Header) (e : Emitted m old ne
         record {
           lost = one_edns.rest;
           front = one_edns.front;
-          full = no_room_of edns_record old.limit (length e.fifth.bytes) one_edns.rest (subst (NoRoom plain_record old.limit (length e.fifth.bytes)) one_edns.lost_is (no_room e.edns k3));
+          full = no_room_of edns_record old.limit (length e.after_edns.bytes) one_edns.rest (subst (NoRoom plain_record old.limit (length e.after_edns.bytes)) one_edns.lost_is (no_room e.edns k3));
         };
     signature = record {
       lost = one_signature.rest;
       front = one_signature.front;
       full =
           subst (λ n. NoRoom (λ r. plain_record (signature_record r)) old.limit n one_signature.rest) (sym new_len)
-          (no_room_of signature_record old.limit (length e.sixth.bytes) one_signature.rest
-          (subst (NoRoom plain_record old.limit (length e.sixth.bytes)) one_signature.lost_is (no_room e.signature k4)));
+          (no_room_of signature_record old.limit (length e.after_signature.bytes) one_signature.rest
+          (subst (NoRoom plain_record old.limit (length e.after_signature.bytes)) one_signature.lost_is (no_room e.signature k4)));
     };
     metadata = metadata_is;
     short = words.short;

@@ -12,7 +12,7 @@ use Rattle.base.proofs.LawLemmas.{Holds-first, Holds-second, Keeps-then}
 use Rattle.base_data.specs.declared.rdata.RData.{RData}
 use Rattle.rr.specs.Record.{FitsRecord, IsRecordAt, RecordWord, plain_record}
 use Rattle.rr.specs.declared.record.Record.{Record}
-use Rattle.op.specs.Cut.{AreCompressed, Owner, query_owners, record_owners}
+use Rattle.op.specs.Cut.{AreCompressed, OwnerAt, query_owners, record_owners}
 use Rattle.op.specs.Emitted.{Emitted, WritesRecords, query_owner, record_owner}
 use Rattle.op.specs.Message.{MessageValue}
 use Rattle.op.specs.declared.header.Header.{Header}
@@ -78,7 +78,7 @@ module _ (B : List ℕ) where
   records_valid : {xs : List (Record RData)} {a b : State} {n : ℕ} {is_cut : Bool} → WritesRecords xs a b n is_cut → Holds a b B → IsValid b B
   records_valid {a = a} {b = b} w holds = Each-valid RecordWord plain_record record_owner w.kept a b w.written B holds
 
-  section_of_records : (rs : List (Record RData)) (a b : State) (known : List Owner) → All FitsRecord rs → EachWritten RecordWord plain_record record_owner rs a b → Holds a b B
+  section_of_records : (rs : List (Record RData)) (a b : State) (known : List OwnerAt) → All FitsRecord rs → EachWritten RecordWord plain_record record_owner rs a b → Holds a b B
       → Known known a → AreCompressed known → Section RecordWord plain_record record_owner B (IsRecordAt B) (λ i r e w. w.word.owner_end) known rs a b
   section_of_records rs a b known fits written holds stored short =
       section RecordWord plain_record record_owner B (IsRecordAt B) (λ i r e w. w.word.owner_end) FitsRecord (record_back B) (record_ends B) rs a b known fits written holds stored short
@@ -87,60 +87,60 @@ module _ (B : List ℕ) where
       → BackToBack (IsRecordAt B) (length a.bytes) w.kept (length b.bytes)
   words_of {a = a} {b = b} w fits holds = (section_of_records w.kept a b [] fits w.written holds (none_known a) tt).words
 
-module _ (B : List ℕ) (m : MessageValue) (old new : State) (h : Header) (e : Emitted m old new h) (fits : AreFit e) (holds : Holds e.kept e.sixth B) where
-  last_written : EachWritten RecordWord plain_record record_owner (e.additionals.kept ++ (e.edns.kept ++ e.signature.kept)) e.third e.sixth
-  last_written = each_append RecordWord plain_record record_owner e.additionals.kept (e.edns.kept ++ e.signature.kept) e.third e.fourth e.sixth e.additionals.written
-      (each_append RecordWord plain_record record_owner e.edns.kept e.signature.kept e.fourth e.fifth e.sixth e.edns.written e.signature.written)
+module _ (B : List ℕ) (m : MessageValue) (old new : State) (h : Header) (e : Emitted m old new h) (fits : AreFit e) (holds : Holds e.after_header e.after_signature B) where
+  last_written : EachWritten RecordWord plain_record record_owner (e.additionals.kept ++ (e.edns.kept ++ e.signature.kept)) e.after_authorities e.after_signature
+  last_written = each_append RecordWord plain_record record_owner e.additionals.kept (e.edns.kept ++ e.signature.kept) e.after_authorities e.after_additionals e.after_signature e.additionals.written
+      (each_append RecordWord plain_record record_owner e.edns.kept e.signature.kept e.after_additionals e.after_edns e.after_signature e.edns.written e.signature.written)
 
-  kq : Keeps e.kept e.first
-  kq = Each-keeps QueryWord plain_query query_owner m.queries e.kept e.first e.queries
+  kq : Keeps e.after_header e.after_questions
+  kq = Each-keeps QueryWord plain_query query_owner m.queries e.after_header e.after_questions e.queries
 
-  k5 : Keeps e.fifth e.sixth
+  k5 : Keeps e.after_edns e.after_signature
   k5 = records_keep e.signature
 
-  k4 : Keeps e.fourth e.sixth
+  k4 : Keeps e.after_additionals e.after_signature
   k4 = Keeps-then (records_keep e.edns) k5
 
-  k3 : Keeps e.third e.sixth
+  k3 : Keeps e.after_authorities e.after_signature
   k3 = Keeps-then (records_keep e.additionals) k4
 
-  k2 : Keeps e.second e.sixth
+  k2 : Keeps e.after_answers e.after_signature
   k2 = Keeps-then (records_keep e.authorities) k3
 
-  k1 : Keeps e.first e.sixth
+  k1 : Keeps e.after_questions e.after_signature
   k1 = Keeps-then (records_keep e.answers) k2
 
-  hq : Holds e.kept e.first B
-  hq = Holds-first e.kept e.first e.sixth kq k1 B holds
+  hq : Holds e.after_header e.after_questions B
+  hq = Holds-first e.after_header e.after_questions e.after_signature kq k1 B holds
 
-  h1 : Holds e.first e.sixth B
-  h1 = Holds-second e.kept e.first e.sixth kq k1 B (Each-valid QueryWord plain_query query_owner m.queries e.kept e.first e.queries B hq) holds
+  h1 : Holds e.after_questions e.after_signature B
+  h1 = Holds-second e.after_header e.after_questions e.after_signature kq k1 B (Each-valid QueryWord plain_query query_owner m.queries e.after_header e.after_questions e.queries B hq) holds
 
-  ha : Holds e.first e.second B
-  ha = Holds-first e.first e.second e.sixth (records_keep e.answers) k2 B h1
+  ha : Holds e.after_questions e.after_answers B
+  ha = Holds-first e.after_questions e.after_answers e.after_signature (records_keep e.answers) k2 B h1
 
-  h2 : Holds e.second e.sixth B
-  h2 = Holds-second e.first e.second e.sixth (records_keep e.answers) k2 B (records_valid B e.answers ha) h1
+  h2 : Holds e.after_answers e.after_signature B
+  h2 = Holds-second e.after_questions e.after_answers e.after_signature (records_keep e.answers) k2 B (records_valid B e.answers ha) h1
 
-  hn : Holds e.second e.third B
-  hn = Holds-first e.second e.third e.sixth (records_keep e.authorities) k3 B h2
+  hn : Holds e.after_answers e.after_authorities B
+  hn = Holds-first e.after_answers e.after_authorities e.after_signature (records_keep e.authorities) k3 B h2
 
-  h3 : Holds e.third e.sixth B
-  h3 = Holds-second e.second e.third e.sixth (records_keep e.authorities) k3 B (records_valid B e.authorities hn) h2
+  h3 : Holds e.after_authorities e.after_signature B
+  h3 = Holds-second e.after_answers e.after_authorities e.after_signature (records_keep e.authorities) k3 B (records_valid B e.authorities hn) h2
 
-  hd : Holds e.third e.fourth B
-  hd = Holds-first e.third e.fourth e.sixth (records_keep e.additionals) k4 B h3
+  hd : Holds e.after_authorities e.after_additionals B
+  hd = Holds-first e.after_authorities e.after_additionals e.after_signature (records_keep e.additionals) k4 B h3
 
-  h4 : Holds e.fourth e.sixth B
-  h4 = Holds-second e.third e.fourth e.sixth (records_keep e.additionals) k4 B (records_valid B e.additionals hd) h3
+  h4 : Holds e.after_additionals e.after_signature B
+  h4 = Holds-second e.after_authorities e.after_additionals e.after_signature (records_keep e.additionals) k4 B (records_valid B e.additionals hd) h3
 
-  he : Holds e.fourth e.fifth B
-  he = Holds-first e.fourth e.fifth e.sixth (records_keep e.edns) k5 B h4
+  he : Holds e.after_additionals e.after_edns B
+  he = Holds-first e.after_additionals e.after_edns e.after_signature (records_keep e.edns) k5 B h4
 
-  h5 : Holds e.fifth e.sixth B
-  h5 = Holds-second e.fourth e.fifth e.sixth (records_keep e.edns) k5 B (records_valid B e.edns he) h4
+  h5 : Holds e.after_edns e.after_signature B
+  h5 = Holds-second e.after_additionals e.after_edns e.after_signature (records_keep e.edns) k5 B (records_valid B e.edns he) h4
 
-  pub ends : Ends B e.additionals.kept e.edns.kept e.signature.kept (length e.third.bytes) (length e.fourth.bytes) (length e.fifth.bytes) (length e.sixth.bytes)
+  pub ends : Ends B e.additionals.kept e.edns.kept e.signature.kept (length e.after_authorities.bytes) (length e.after_additionals.bytes) (length e.after_edns.bytes) (length e.after_signature.bytes)
   ends = record {
     additionals = words_of B e.additionals fits.additionals hd;
     edns = words_of B e.edns fits.edns he;
@@ -152,14 +152,14 @@ module _ (B : List ℕ) (m : MessageValue) (old new : State) (h : Header) (e : E
       (All-append FitsRecord e.edns.kept e.signature.kept fits.edns fits.signature)
 
   pub composed : Composed B m.queries e.answers.kept e.authorities.kept (e.additionals.kept ++ (e.edns.kept ++ e.signature.kept))
-      (length e.kept.bytes) (length e.first.bytes) (length e.second.bytes) (length e.third.bytes) (length e.sixth.bytes)
+      (length e.after_header.bytes) (length e.after_questions.bytes) (length e.after_answers.bytes) (length e.after_authorities.bytes) (length e.after_signature.bytes)
   composed =
       let sq = section QueryWord plain_query query_owner B (IsQueryAt B) (λ i q j w. w.word.owner_end) FitsQuery (query_back B) (query_ends B)
-      m.queries e.kept e.first [] fits.queries e.queries hq (none_known e.kept) tt in
-      let sa = section_of_records B e.answers.kept e.first e.second (query_owners sq.words) fits.answers e.answers.written ha sq.stored sq.short in
-      let sn = section_of_records B e.authorities.kept e.second e.third (query_owners sq.words ++ record_owners sa.words)
+      m.queries e.after_header e.after_questions [] fits.queries e.queries hq (none_known e.after_header) tt in
+      let sa = section_of_records B e.answers.kept e.after_questions e.after_answers (query_owners sq.words) fits.answers e.answers.written ha sq.stored sq.short in
+      let sn = section_of_records B e.authorities.kept e.after_answers e.after_authorities (query_owners sq.words ++ record_owners sa.words)
       fits.authorities e.authorities.written hn sa.stored sa.short in
-      let sd = section_of_records B (e.additionals.kept ++ (e.edns.kept ++ e.signature.kept)) e.third e.sixth ((query_owners sq.words ++ record_owners sa.words) ++ record_owners sn.words)
+      let sd = section_of_records B (e.additionals.kept ++ (e.edns.kept ++ e.signature.kept)) e.after_authorities e.after_signature ((query_owners sq.words ++ record_owners sa.words) ++ record_owners sn.words)
       last_fit last_written h3 sn.stored sn.short in
       record {
         queries = sq.words;

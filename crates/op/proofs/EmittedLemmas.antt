@@ -12,11 +12,11 @@ use Rattle.base.proofs.SliceLemmas.{Emits-front, Emits-slice}
 use Rattle.base_data.specs.declared.rdata.RData.{RData}
 use Rattle.rr.specs.Record.{RecordWord, plain_record, record_written}
 use Rattle.rr.specs.declared.record.Record.{Record}
-use Rattle.op.specs.Composition.{Adds, AndThen, Composition, Counts, EmitsPart, FillsIn, HasHeader, KeepsRoom, Tests, WritesRecordItems}
+use Rattle.op.specs.Composition.{AddsCounts, AndThen, Composition, CountsItems, EmitsPart, FillsIn, HasHeader, KeepsRoom, Tests, WritesRecordItems}
 use Rattle.op.specs.Cut.{raised}
 use Rattle.op.specs.EdnsRecord.{edns_record}
 use Rattle.op.specs.Emitted.{Emitted, WritesFront, WritesRecords, query_owner, record_owner}
-use Rattle.op.specs.Fits.{listed, opt_records, signature_record, with_high_bits}
+use Rattle.op.specs.Fits.{as_list, opt_records, signature_record, with_high_bits}
 use Rattle.op.specs.Header.{header_bytes, raw_header}
 use Rattle.op.specs.Message.{MessageValue}
 use Rattle.op.specs.declared.edns.Edns.{Edns}
@@ -35,7 +35,7 @@ module _ {E : Type 0} (word : E → List ℕ → ℕ → ℕ → Type 0) (plain 
   slice_emits s a answer t b = EmitsAll (λ (x : Bor E). word x.now) (λ x. plain x.now) (λ x. owner x.now) (λ x. f x.now) fronts s t a b answer
 
   module _ (s t : Iter E) (a b : State) where
-    front_counted : (answer : Result ℕ ProtoError) (w : Written) → slice_emits s a answer t b → Counts answer (Ok w) → WritesFront word plain owner f s.rest.now a b w.count w.is_cut
+    front_counted : (answer : Result ℕ ProtoError) (w : Written) → slice_emits s a answer t b → CountsItems answer (Ok w) → WritesFront word plain owner f s.rest.now a b w.count w.is_cut
     front_counted (Ok n) w emits counts =
         let all = Emits-slice word plain owner f s t a b n emits in
         record {
@@ -76,14 +76,14 @@ module _ {E : Type 0} (word : E → List ℕ → ℕ → ℕ → Type 0) (plain 
 -- ---- the whole
 
 -- the sum of three counts
-three_counted : (one two sum other total : Written) → Adds one two (Ok sum) → Adds sum other (Ok total) → total.count ≡ one.count + (two.count + other.count)
+three_counted : (one two sum other total : Written) → AddsCounts one two (Ok sum) → AddsCounts sum other (Ok total) → total.count ≡ one.count + (two.count + other.count)
 three_counted one two sum other total first second = omega (arith, ap (λ w. w.count) first.1, ap (λ w. w.count) second.1)
 
 assoc : (p q r : Bool) → ((p || q) || r) ≡ (p || (q || r))
 assoc true q r = refl
 assoc false q r = refl
 
-any_three : (one two sum other total : Written) → Adds one two (Ok sum) → Adds sum other (Ok total) → total.is_cut ≡ (one.is_cut || (two.is_cut || other.is_cut))
+any_three : (one two sum other total : Written) → AddsCounts one two (Ok sum) → AddsCounts sum other (Ok total) → total.is_cut ≡ (one.is_cut || (two.is_cut || other.is_cut))
 any_three one two sum other total first second =
     ap (λ w. w.is_cut) second.1 ∙ ap (λ w. w.is_cut || other.is_cut) first.1 ∙ assoc one.is_cut two.is_cut other.is_cut
 
@@ -112,11 +112,11 @@ pub record Slices : Type 0 where
 
 -- fronts of three lists of records were written
 record ThreeFronts (xs ys zs : List (Record RData)) (a d : State) (answers authorities additionals : Written) : Type 0 where
-  second : State
-  third : State
-  answers_front : WritesRecords xs a second answers.count answers.is_cut
-  authorities_front : WritesRecords ys second third authorities.count authorities.is_cut
-  additionals_front : WritesRecords zs third d additionals.count additionals.is_cut
+  after_answers : State
+  after_authorities : State
+  answers_front : WritesRecords xs a after_answers answers.count answers.is_cut
+  authorities_front : WritesRecords ys after_answers after_authorities authorities.count authorities.is_cut
+  additionals_front : WritesRecords zs after_authorities d additionals.count additionals.is_cut
 
 -- a section that is a slice is written and counted
 abbrev pub EmitsSlice : Slice (Record RData) → State → Result Written ProtoError → State → Type 0
@@ -128,40 +128,40 @@ records_front x a b w part = slice_front RecordWord plain_record record_owner re
 
 -- OPT and the signature were written, and counted with the additionals before them
 record TwoFronts (edns signature : List (Record RData)) (additionals : Written) (a c : State) (total : Written) : Type 0 where
-  fifth : State
+  after_edns : State
   opt : Written
   sum : Written
   signed : Written
-  opt_front : WritesRecords edns a fifth opt.count opt.is_cut
-  added : Adds additionals opt (Ok sum)
-  signature_front : WritesRecords signature fifth c signed.count signed.is_cut
-  added_too : Adds sum signed (Ok total)
+  opt_front : WritesRecords edns a after_edns opt.count opt.is_cut
+  added : AddsCounts additionals opt (Ok sum)
+  signature_front : WritesRecords signature after_edns c signed.count signed.is_cut
+  added_too : AddsCounts sum signed (Ok total)
 
 -- room was kept for the header, and the questions were written after it
-record Begun (queries : List Query) (old : State) (place count : ℕ) (first : State) : Type 0 where
+record Begun (queries : List Query) (old : State) (place count : ℕ) (after_questions : State) : Type 0 where
   kept : State
   room : KeepsRoom old (Ok place) kept
-  asked : EachWritten QueryWord plain_query query_owner queries kept first
-  exact : first ≡ after (in_turn query_written queries) kept
+  asked : EachWritten QueryWord plain_query query_owner queries kept after_questions
+  exact : after_questions ≡ after (in_turn query_written queries) kept
   counted : count ≡ length queries
 
 -- the pieces of a message that was written
-assemble : {m : MessageValue} {old first fourth sixth new : State} {h : Header} {place queries : ℕ} {answers authorities additionals total : Written} → Begun m.queries old place queries first
-    → ThreeFronts m.answers m.authorities m.additionals first fourth answers authorities additionals
-    → TwoFronts (listed (option_map edns_record (raised m))) (listed (option_map signature_record m.signature)) additionals fourth sixth total
+assemble : {m : MessageValue} {old after_questions after_additionals after_signature new : State} {h : Header} {place queries : ℕ} {answers authorities additionals total : Written} → Begun m.queries old place queries after_questions
+    → ThreeFronts m.answers m.authorities m.additionals after_questions after_additionals answers authorities additionals
+    → TwoFronts (as_list (option_map edns_record (raised m))) (as_list (option_map signature_record m.signature)) additionals after_additionals after_signature total
     → HasHeader m.metadata queries answers authorities total (Ok h)
-    → new ≡ overwritten place (header_bytes (raw_header h)) sixth
+    → new ≡ overwritten place (header_bytes (raw_header h)) after_signature
     → Emitted m old new h
-assemble {m = m} {first = first} {fourth = fourth} {sixth = sixth} {h = h} {answers = answers} {authorities = authorities} {additionals = additionals} {total = total} begun three two header filled =
+assemble {m = m} {after_questions = after_questions} {after_additionals = after_additionals} {after_signature = after_signature} {h = h} {answers = answers} {authorities = authorities} {additionals = additionals} {total = total} begun three two header filled =
     let fields = header.1 in
     record {
-      kept = begun.kept;
-      first = first;
-      second = three.second;
-      third = three.third;
-      fourth = fourth;
-      fifth = two.fifth;
-      sixth = sixth;
+      after_header = begun.kept;
+      after_questions = after_questions;
+      after_answers = three.after_answers;
+      after_authorities = three.after_authorities;
+      after_additionals = after_additionals;
+      after_edns = two.after_edns;
+      after_signature = after_signature;
       answers_cut = answers.is_cut;
       authorities_cut = authorities.is_cut;
       additionals_cut = additionals.is_cut;
@@ -175,8 +175,8 @@ assemble {m = m} {first = first} {fourth = fourth} {sixth = sixth} {h = h} {answ
       room = begun.room.2;
       queries = begun.asked;
       asked = begun.exact;
-      answers = subst (λ n. WritesRecords m.answers first three.second n answers.is_cut) (sym (ap (λ k. k.counts.answers) fields)) three.answers_front;
-      authorities = subst (λ n. WritesRecords m.authorities three.second three.third n authorities.is_cut) (sym (ap (λ k. k.counts.authorities) fields)) three.authorities_front;
+      answers = subst (λ n. WritesRecords m.answers after_questions three.after_answers n answers.is_cut) (sym (ap (λ k. k.counts.answers) fields)) three.answers_front;
+      authorities = subst (λ n. WritesRecords m.authorities three.after_answers three.after_authorities n authorities.is_cut) (sym (ap (λ k. k.counts.authorities) fields)) three.authorities_front;
       additionals = three.additionals_front;
       edns = two.opt_front;
       signature = two.signature_front;
@@ -186,7 +186,7 @@ assemble {m = m} {first = first} {fourth = fourth} {sixth = sixth} {h = h} {answ
           ap (λ k. k.metadata) fields
           ∙ ap (λ p. record m.metadata { truncation = m.metadata.truncation || (answers.is_cut || (authorities.is_cut || p)) })
           (any_three additionals two.opt two.sum two.signed total two.added two.added_too);
-      header = filled ∙ ap (λ n. overwritten n (header_bytes (raw_header h)) sixth) begun.room.0;
+      header = filled ∙ ap (λ n. overwritten n (header_bytes (raw_header h)) after_signature) begun.room.0;
     }
 
 -- the composition of slices
@@ -201,8 +201,8 @@ pub record AreOf (m : MessageValue) (s : Slices) : Type 0 where
   pub answers : s.answers.before.rest.now ≡ m.answers
   pub authorities : s.authorities.before.rest.now ≡ m.authorities
   pub additionals : s.additionals.before.rest.now ≡ m.additionals
-  pub edns_is : s.edns ≡ listed (option_map edns_record (raised m))
-  pub signature_is : s.signature ≡ listed (option_map signature_record m.signature)
+  pub edns_is : s.edns ≡ as_list (option_map edns_record (raised m))
+  pub signature_is : s.signature ≡ as_list (option_map signature_record m.signature)
 
 -- what is left of no section changes
 abbrev pub Idle : Slices → Type 0
@@ -216,9 +216,9 @@ module _ (m : MessageValue) (s : Slices) where
   abbrev pub Extended : ℕ → ℕ → Written → Written → Written → State → Result Header ProtoError → State → Type 0
   Extended place queries answers authorities additionals =
       AndThen (WritesRecordItems s.edns) ⊤ (λ opt.
-      AndThen (Tests (Adds additionals opt)) ⊤ (λ sum.
+      AndThen (Tests (AddsCounts additionals opt)) ⊤ (λ sum.
       AndThen (WritesRecordItems s.signature) ⊤ (λ signed.
-      AndThen (Tests (Adds sum signed)) ⊤ (Headed place queries answers authorities))))
+      AndThen (Tests (AddsCounts sum signed)) ⊤ (Headed place queries answers authorities))))
 
   abbrev pub Sectioned : ℕ → ℕ → State → Result Header ProtoError → State → Type 0
   Sectioned place queries =
@@ -230,33 +230,33 @@ module _ (m : MessageValue) (s : Slices) where
   Asked place = AndThen (λ a answer b. emits_queries s.queries.before a answer s.queries.rest b) (Idle s) (Sectioned place)
 
 module _ (m : MessageValue) (s : Slices) (are : AreOf m s) (old new : State) (h : Header) where
-  header_done : {place queries : ℕ} {first fourth sixth : State} {answers authorities additionals total : Written} → Begun s.queries.before.rest.now old place queries first
-      → ThreeFronts s.answers.before.rest.now s.authorities.before.rest.now s.additionals.before.rest.now first fourth answers authorities additionals
-      → TwoFronts s.edns s.signature additionals fourth sixth total
-      → Headed m s place queries answers authorities total sixth (Ok h) new → Emitted m old new h
-  header_done {place} {queries} {first} {fourth} {sixth} {answers} {authorities} {additionals} {total} begun three two run =
+  header_done : {place queries : ℕ} {after_questions after_additionals after_signature : State} {answers authorities additionals total : Written} → Begun s.queries.before.rest.now old place queries after_questions
+      → ThreeFronts s.answers.before.rest.now s.authorities.before.rest.now s.additionals.before.rest.now after_questions after_additionals answers authorities additionals
+      → TwoFronts s.edns s.signature additionals after_additionals after_signature total
+      → Headed m s place queries answers authorities total after_signature (Ok h) new → Emitted m old new h
+  header_done {place} {queries} {after_questions} {after_additionals} {after_signature} {answers} {authorities} {additionals} {total} begun three two run =
       let b = went h run in
       let same : b.value ≡ h = sym (same_value h b.value b.rest.0) in
       assemble
-      (subst (λ xs. Begun xs old place queries first) are.queries begun)
-      (subst (λ xs. ThreeFronts xs m.authorities m.additionals first fourth answers authorities additionals) are.answers
-      (subst (λ xs. ThreeFronts s.answers.before.rest.now xs m.additionals first fourth answers authorities additionals) are.authorities
-      (subst (λ xs. ThreeFronts s.answers.before.rest.now s.authorities.before.rest.now xs first fourth answers authorities additionals) are.additionals three)))
-      (subst (λ xs. TwoFronts xs (listed (option_map signature_record m.signature)) additionals fourth sixth total) are.edns_is
-      (subst (λ xs. TwoFronts s.edns xs additionals fourth sixth total) are.signature_is two))
+      (subst (λ xs. Begun xs old place queries after_questions) are.queries begun)
+      (subst (λ xs. ThreeFronts xs m.authorities m.additionals after_questions after_additionals answers authorities additionals) are.answers
+      (subst (λ xs. ThreeFronts s.answers.before.rest.now xs m.additionals after_questions after_additionals answers authorities additionals) are.authorities
+      (subst (λ xs. ThreeFronts s.answers.before.rest.now s.authorities.before.rest.now xs after_questions after_additionals answers authorities additionals) are.additionals three)))
+      (subst (λ xs. TwoFronts xs (as_list (option_map signature_record m.signature)) additionals after_additionals after_signature total) are.edns_is
+      (subst (λ xs. TwoFronts s.edns xs additionals after_additionals after_signature total) are.signature_is two))
       (subst (λ k. HasHeader m.metadata queries answers authorities total (Ok k)) same b.ran.0)
-      (b.rest.1 ∙ ap (λ a. overwritten place (header_bytes (raw_header b.value)) a) b.ran.1 ∙ ap (λ k. overwritten place (header_bytes (raw_header k)) sixth) same)
+      (b.rest.1 ∙ ap (λ a. overwritten place (header_bytes (raw_header b.value)) a) b.ran.1 ∙ ap (λ k. overwritten place (header_bytes (raw_header k)) after_signature) same)
 
-  extras_next : {place queries : ℕ} {first fourth : State} {answers authorities additionals : Written} → Begun s.queries.before.rest.now old place queries first
-      → ThreeFronts s.answers.before.rest.now s.authorities.before.rest.now s.additionals.before.rest.now first fourth answers authorities additionals
-      → Extended m s place queries answers authorities additionals fourth (Ok h) new → Emitted m old new h
+  extras_next : {place queries : ℕ} {after_questions after_additionals : State} {answers authorities additionals : Written} → Begun s.queries.before.rest.now old place queries after_questions
+      → ThreeFronts s.answers.before.rest.now s.authorities.before.rest.now s.additionals.before.rest.now after_questions after_additionals answers authorities additionals
+      → Extended m s place queries answers authorities additionals after_additionals (Ok h) new → Emitted m old new h
   extras_next begun three run =
       let opt = went h run in
       let sum = went h opt.rest in
       let signed = went h sum.rest in
       let total = went h signed.rest in
-      header_done {sixth = total.between} {total = total.value} begun three (record {
-        fifth = opt.between;
+      header_done {after_signature = total.between} {total = total.value} begun three (record {
+        after_edns = opt.between;
         opt = opt.value;
         sum = sum.value;
         signed = signed.value;
@@ -268,15 +268,15 @@ module _ (m : MessageValue) (s : Slices) (are : AreOf m s) (old new : State) (h 
         added_too = total.ran.0;
       }) total.rest
 
-  sections_next : {place queries : ℕ} {first : State} → Begun s.queries.before.rest.now old place queries first → Sectioned m s place queries first (Ok h) new → Emitted m old new h
-  sections_next {first = first} begun run =
+  sections_next : {place queries : ℕ} {after_questions : State} → Begun s.queries.before.rest.now old place queries after_questions → Sectioned m s place queries after_questions (Ok h) new → Emitted m old new h
+  sections_next {after_questions = after_questions} begun run =
       let answers = went h run in
       let authorities = went h answers.rest in
       let additionals = went h authorities.rest in
       extras_next begun (record {
-        second = answers.between;
-        third = authorities.between;
-        answers_front = records_front s.answers first answers.between answers.value answers.ran;
+        after_answers = answers.between;
+        after_authorities = authorities.between;
+        answers_front = records_front s.answers after_questions answers.between answers.value answers.ran;
         authorities_front = records_front s.authorities answers.between authorities.between authorities.value authorities.ran;
         additionals_front = records_front s.additionals authorities.between additionals.between additionals.value additionals.ran;
       }) additionals.rest
@@ -289,11 +289,11 @@ module _ (m : MessageValue) (s : Slices) (are : AreOf m s) (old new : State) (h 
       sections_next (record { kept = room.between; room = room.ran; asked = all.0; exact = all.2; counted = all.1 }) asked.rest
 
 -- the OPT record of EDNS with another high code
-raised_list : (f : Edns → Edns) (o : Option Edns) → listed (option_map (λ e. edns_record (f e)) o) ≡ listed (option_map edns_record (option_map f o))
+raised_list : (f : Edns → Edns) (o : Option Edns) → as_list (option_map (λ e. edns_record (f e)) o) ≡ as_list (option_map edns_record (option_map f o))
 raised_list f None = refl
 raised_list f (Some e) = refl
 
-pub raised_edns : (m : MessageValue) (seen : Option Edns) → seen ≡ m.edns → opt_records m.metadata.response_code seen ≡ listed (option_map edns_record (raised m))
+pub raised_edns : (m : MessageValue) (seen : Option Edns) → seen ≡ m.edns → opt_records m.metadata.response_code seen ≡ as_list (option_map edns_record (raised m))
 raised_edns m seen same = ap (opt_records m.metadata.response_code) same ∙ raised_list (with_high_bits m.metadata.response_code) m.edns
 
 -- what a box holds, borrowed

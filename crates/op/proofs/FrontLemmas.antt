@@ -14,11 +14,11 @@ use Rattle.base.proofs.ItemLemmas.{Each-map}
 use Rattle.base_data.specs.declared.rdata.RData.{RData}
 use Rattle.rr.specs.Record.{RecordWord, plain_record, record_written}
 use Rattle.rr.specs.declared.record.Record.{Record}
-use Rattle.op.specs.Composition.{Counts, Narrows, WritesItems, WritesRecordItems}
+use Rattle.op.specs.Composition.{CountsItems, Narrows, WritesItems, WritesRecordItems}
 use Rattle.op.specs.Cut.{NoRoom, any_lost}
 use Rattle.op.specs.EdnsRecord.{edns_record}
 use Rattle.op.specs.Emitted.{WritesFront, record_owner}
-use Rattle.op.specs.Fits.{listed, opt_records, signature_record, signature_records}
+use Rattle.op.specs.Fits.{as_list, opt_records, signature_record, signature_records}
 use Rattle.op.specs.ResponseCode.{code_high}
 use Rattle.op.specs.declared.edns.Edns.{Edns}
 use Rattle.op.specs.declared.edns.writing.RaisedEdns.{RaisedEdns}
@@ -95,7 +95,7 @@ module _ {E : Type 0} (word : E → List ℕ → ℕ → ℕ → Type 0) (plain 
   module _ (item : Bor E) (s t : Once (Bor E)) (a b : State) where
     pub one_item : (answer : Result ℕ ProtoError) (result : Result Written ProtoError) → once_item s ≡ Some item
         → EmitsAll (λ (x : Bor E). word x.now) (λ x. plain x.now) (λ x. owner x.now) (λ x. f x.now)
-        once_steps s t a b answer → Counts answer result → WritesItems word plain owner f
+        once_steps s t a b answer → CountsItems answer result → WritesItems word plain owner f
         (item.now ∷ []) a result b
     one_item (Ok n) result first (xs, (u, yields, stop), each, count, exact) counts =
         elim (once_yields s u item xs first yields) [
@@ -153,17 +153,17 @@ module _ {A E : Type 0} (view : A → E) (word : E → List ℕ → ℕ → ℕ 
 
 -- ---- an item that there may be, as a record
 
-map_listed : {A E : Type 0} (view : A → E) (o : Option A) → map view (listed o) ≡ listed (option_map view o)
+map_listed : {A E : Type 0} (view : A → E) (o : Option A) → map view (as_list o) ≡ as_list (option_map view o)
 map_listed view None = refl
 map_listed view (Some x) = refl
 
 -- the record that stands for a value, if there is one
 module _ {A : Type 0} (view : A → Record RData) (o : Option A) (a b : State) (result : Result Written ProtoError) where
   abbrev pub WritesViewed : Type 0
-  WritesViewed = WritesItems (λ x. RecordWord (view x)) (λ x. plain_record (view x)) (λ x. record_owner (view x)) (λ x. record_written (view x)) (listed o) a result b
+  WritesViewed = WritesItems (λ x. RecordWord (view x)) (λ x. plain_record (view x)) (λ x. record_owner (view x)) (λ x. record_written (view x)) (as_list o) a result b
 
-  viewed_items : WritesViewed → WritesRecordItems (listed (option_map view o)) a result b
-  viewed_items run = subst (λ rs. WritesRecordItems rs a result b) (map_listed view o) (items_map view RecordWord plain_record record_owner record_written (listed o) a b result run)
+  viewed_items : WritesViewed → WritesRecordItems (as_list (option_map view o)) a result b
+  viewed_items run = subst (λ rs. WritesRecordItems rs a result b) (map_listed view o) (items_map view RecordWord plain_record record_owner record_written (as_list o) a b result run)
 
 pub signature_items : (o : Option (Record (List ℕ))) (a b : State) (result : Result Written ProtoError) → WritesViewed signature_record o a b result
     → WritesRecordItems (signature_records o) a result b
@@ -176,8 +176,8 @@ raised_record r = edns_record (record r.edns.now { rcode_high = r.rcode_high })
 module _ (code : ResponseCode) (high : ℕ) (is : high ≡ code_high code) where
   raised_is : (P : Bor Edns → RaisedEdns → Type 0) → ((e : Bor Edns) (x : RaisedEdns) → P e x → x ≡ record { edns = e; rcode_high = high })
       → (o : Option (Bor Edns)) (r : Option RaisedEdns) → MatchOption o (r ≡ None) (λ e. IsSomeAnd r (P e))
-      → listed (option_map raised_record r) ≡ opt_records code (option_copied o)
-  raised_is P made None r none = ap (λ x. listed (option_map raised_record x)) none
+      → as_list (option_map raised_record r) ≡ opt_records code (option_copied o)
+  raised_is P made None r none = ap (λ x. as_list (option_map raised_record x)) none
   raised_is P made (Some e) (Some x) holds = ap (λ y. raised_record y ∷ []) (made e x holds) ∙ ap (λ h. edns_record (record e.now { rcode_high = h }) ∷ []) is
   raised_is P made (Some e) None holds = absurd holds
 
@@ -185,4 +185,4 @@ module _ (code : ResponseCode) (high : ℕ) (is : high ≡ code_high code) where
       → MatchOption o (r ≡ None) (λ e. IsSomeAnd r (P e)) → seen ≡ r → (a b : State) (result : Result Written ProtoError) → WritesViewed raised_record seen a b result
       → WritesRecordItems (opt_records code (option_copied o)) a result b
   opt_items o r seen P made cases same a b result run =
-      subst (λ rs. WritesRecordItems rs a result b) (ap (λ x. listed (option_map raised_record x)) same ∙ raised_is P made o r cases) (viewed_items raised_record seen a b result run)
+      subst (λ rs. WritesRecordItems rs a result b) (ap (λ x. as_list (option_map raised_record x)) same ∙ raised_is P made o r cases) (viewed_items raised_record seen a b result run)

@@ -17,7 +17,7 @@ use Rattle.rr.proofs.ReadRecords.{opt_is, reads_record}
 use Rattle.op.specs.Header.{header_at}
 use Rattle.op.specs.Message.{IsMessageAt, MessageValue, message_at, message_of}
 use Rattle.op.specs.Query.{IsQueryAt, query_at}
-use Rattle.op.specs.Section.{EndsWithSignature, IsPlain, IsSectionAt, SectionValue, is_additional, is_additional_type, is_opt, is_ordinary, is_signature, section_at}
+use Rattle.op.specs.Section.{EndsWithSignature, IsPlain, IsSectionAt, SectionValue, is_additional, is_additional_type, is_opt, is_plain_record, is_signature, section_at}
 use Rattle.op.specs.Section.{sections_at, section_of, SectionsValue}
 use Rattle.op.specs.declared.op_code.OpCode.{OpCode}
 use Rattle.op.specs.declared.query.Query.{Query}
@@ -43,15 +43,15 @@ not_signature r elsewhere = elim (cases_Bool (is_signature r)) [
 ordinary_of : (o g : Bool) → o ≡ false → g ≡ false → not (o || g) ≡ true
 ordinary_of o g no_edns unsigned = rw (no_edns, unsigned) refl
 
-kept : (rs : List (Record RData)) → All (λ r. is_additional r ≡ false) rs → filter is_ordinary rs ≡ rs
+kept : (rs : List (Record RData)) → All (λ r. is_additional r ≡ false) rs → filter is_plain_record rs ≡ rs
 kept [] plain = refl
 kept (r ∷ rs) plain =
     let elsewhere : is_additional r ≡ false = plain 0 r (omega arith) in
-    let ordinary : is_ordinary r ≡ true = ordinary_of (is_opt r) (is_signature r) (not_opt (type_of_data r.rdata) elsewhere) (not_signature r elsewhere) in
+    let ordinary : is_plain_record r ≡ true = ordinary_of (is_opt r) (is_signature r) (not_opt (type_of_data r.rdata) elsewhere) (not_signature r elsewhere) in
     let others = kept rs (All-tail (λ x. is_additional x ≡ false) r rs plain) in
-    first (is_ordinary r) ordinary others
+    first (is_plain_record r) ordinary others
   where
-    first : (b : Bool) → b ≡ true → filter is_ordinary rs ≡ rs → cond b (r ∷ filter is_ordinary rs) (filter is_ordinary rs) ≡ r ∷ rs
+    first : (b : Bool) → b ≡ true → filter is_plain_record rs ≡ rs → cond b (r ∷ filter is_plain_record rs) (filter is_plain_record rs) ≡ r ∷ rs
     first b is others = rw (is, others) refl
 
 -- ---- the words of questions and records

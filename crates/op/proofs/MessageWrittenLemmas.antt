@@ -15,10 +15,10 @@ use Rattle.rr.specs.Record.{record_written}
 use Rattle.op.specs.Cut.{any_lost, raised}
 use Rattle.op.specs.EdnsRecord.{edns_record}
 use Rattle.op.specs.Emitted.{Emitted, WritesFront, query_owner}
-use Rattle.op.specs.Fits.{listed, signature_record}
+use Rattle.op.specs.Fits.{as_list, signature_record}
 use Rattle.op.specs.Header.{header_bytes, raw_header}
 use Rattle.op.specs.Message.{MessageValue}
-use Rattle.op.specs.MessageWritten.{Part, Parts, body, header_of, message_written, part, parts_of}
+use Rattle.op.specs.MessageWritten.{Part, Parts, body, header_of, message_written, part_within, parts_of}
 use Rattle.op.specs.Query.{QueryWord, plain_query, query_written}
 use Rattle.op.specs.declared.header.Header.{Header}
 use Rattle.op.specs.declared.header.metadata.Metadata.{Metadata}
@@ -46,16 +46,16 @@ filled room xs f a b c d size kept wrote put =
 
 -- a part was written between two states
 record IsPart {E : Type 0} (f : E → Writing) (limit : ℕ) (xs : List E) (p : Part E) (s t : State) : Type 0 where
-  same : p ≡ part f limit xs (length s.bytes) s.suffixes
+  same : p ≡ part_within f limit xs (length s.bytes) s.suffixes
   exact : t ≡ after (in_turn f p.kept) s
   end : p.end ≡ length t.bytes
   suffixes : p.piece.suffixes ≡ t.suffixes
 
 part_stands : {E : Type 0} (f : E → Writing) (limit : ℕ) (xs : List E) (s t : State) (at : ℕ) (stored : List Stored) → at ≡ length s.bytes → stored ≡ s.suffixes → t ≡ after (fitting f limit xs) s
-    → IsPart f limit xs (part f limit xs at stored) s t
+    → IsPart f limit xs (part_within f limit xs at stored) s t
 part_stands f limit xs s t at stored at_is stored_is is =
-    subst (λ (n : ℕ). IsPart f limit xs (part f limit xs n stored) s t) (sym at_is)
-    (subst (λ (ts : List Stored). IsPart f limit xs (part f limit xs (length s.bytes) ts) s t) (sym stored_is) (record {
+    subst (λ (n : ℕ). IsPart f limit xs (part_within f limit xs n stored) s t) (sym at_is)
+    (subst (λ (ts : List Stored). IsPart f limit xs (part_within f limit xs (length s.bytes) ts) s t) (sym stored_is) (record {
       same = refl;
       exact = is;
       end = sym (ap (λ (u : State). length u.bytes) is ∙ length-append s.bytes (piece_at (fitting f limit xs) s).bytes);
@@ -63,41 +63,41 @@ part_stands f limit xs s t at stored at_is stored_is is =
     }))
 
 -- each part is as many of its values as fit
-pub record AreParts (limit : ℕ) (m : MessageValue) (kept first second third fourth fifth sixth : State) : Type 0 where
-  pub queries : first ≡ after (fitting query_written limit m.queries) kept
-  pub answers : second ≡ after (fitting record_written limit m.answers) first
-  pub authorities : third ≡ after (fitting record_written limit m.authorities) second
-  pub additionals : fourth ≡ after (fitting record_written limit m.additionals) third
-  pub edns : fifth ≡ after (fitting record_written limit (listed (option_map edns_record (raised m)))) fourth
-  pub signature : sixth ≡ after (fitting record_written limit (listed (option_map signature_record m.signature))) fifth
+pub record AreParts (limit : ℕ) (m : MessageValue) (after_header after_questions after_answers after_authorities after_additionals after_edns after_signature : State) : Type 0 where
+  pub queries : after_questions ≡ after (fitting query_written limit m.queries) after_header
+  pub answers : after_answers ≡ after (fitting record_written limit m.answers) after_questions
+  pub authorities : after_authorities ≡ after (fitting record_written limit m.authorities) after_answers
+  pub additionals : after_additionals ≡ after (fitting record_written limit m.additionals) after_authorities
+  pub edns : after_edns ≡ after (fitting record_written limit (as_list (option_map edns_record (raised m)))) after_additionals
+  pub signature : after_signature ≡ after (fitting record_written limit (as_list (option_map signature_record m.signature))) after_edns
 
-module _ (limit : ℕ) (m : MessageValue) (old kept first second third fourth fifth sixth : State)
-    (room : kept ≡ appended (replicate 12 0) old) (are : AreParts limit m kept first second third
-    fourth fifth sixth) where
+module _ (limit : ℕ) (m : MessageValue) (old after_header after_questions after_answers after_authorities after_additionals after_edns after_signature : State)
+    (room : after_header ≡ appended (replicate 12 0) old) (are : AreParts limit m after_header after_questions after_answers after_authorities
+    after_additionals after_edns after_signature) where
   abbrev pub parts : Parts
   parts = parts_of limit m (length old.bytes + 12) old.suffixes
 
-  one : IsPart query_written limit m.queries parts.queries kept first
-  one = part_stands query_written limit m.queries kept first (length old.bytes + 12) old.suffixes
+  one : IsPart query_written limit m.queries parts.queries after_header after_questions
+  one = part_stands query_written limit m.queries after_header after_questions (length old.bytes + 12) old.suffixes
       (sym (ap (λ (u : State). length u.bytes) room ∙ length-append old.bytes (replicate 12 0))) (sym (ap (λ (u : State). u.suffixes) room)) are.queries
 
-  two : IsPart record_written limit m.answers parts.answers first second
-  two = part_stands record_written limit m.answers first second parts.queries.end parts.queries.piece.suffixes one.end one.suffixes are.answers
+  two : IsPart record_written limit m.answers parts.answers after_questions after_answers
+  two = part_stands record_written limit m.answers after_questions after_answers parts.queries.end parts.queries.piece.suffixes one.end one.suffixes are.answers
 
-  three : IsPart record_written limit m.authorities parts.authorities second third
-  three = part_stands record_written limit m.authorities second third parts.answers.end parts.answers.piece.suffixes two.end two.suffixes are.authorities
+  three : IsPart record_written limit m.authorities parts.authorities after_answers after_authorities
+  three = part_stands record_written limit m.authorities after_answers after_authorities parts.answers.end parts.answers.piece.suffixes two.end two.suffixes are.authorities
 
-  four : IsPart record_written limit m.additionals parts.additionals third fourth
-  four = part_stands record_written limit m.additionals third fourth parts.authorities.end parts.authorities.piece.suffixes three.end three.suffixes are.additionals
+  four : IsPart record_written limit m.additionals parts.additionals after_authorities after_additionals
+  four = part_stands record_written limit m.additionals after_authorities after_additionals parts.authorities.end parts.authorities.piece.suffixes three.end three.suffixes are.additionals
 
-  five : IsPart record_written limit (listed (option_map edns_record (raised m))) parts.edns fourth fifth
-  five = part_stands record_written limit (listed (option_map edns_record (raised m))) fourth fifth parts.additionals.end parts.additionals.piece.suffixes four.end four.suffixes are.edns
+  five : IsPart record_written limit (as_list (option_map edns_record (raised m))) parts.edns after_additionals after_edns
+  five = part_stands record_written limit (as_list (option_map edns_record (raised m))) after_additionals after_edns parts.additionals.end parts.additionals.piece.suffixes four.end four.suffixes are.edns
 
-  six : IsPart record_written limit (listed (option_map signature_record m.signature)) parts.signature fifth sixth
-  six = part_stands record_written limit (listed (option_map signature_record m.signature)) fifth sixth parts.edns.end parts.edns.piece.suffixes five.end five.suffixes are.signature
+  six : IsPart record_written limit (as_list (option_map signature_record m.signature)) parts.signature after_edns after_signature
+  six = part_stands record_written limit (as_list (option_map signature_record m.signature)) after_edns after_signature parts.edns.end parts.edns.piece.suffixes five.end five.suffixes are.signature
 
   -- all of them in turn
-  body_written : sixth ≡ after (body parts) kept
+  body_written : after_signature ≡ after (body parts) after_header
   body_written =
       let p = parts in
       let w = in_turn query_written p.queries.kept in
@@ -106,18 +106,18 @@ module _ (limit : ℕ) (m : MessageValue) (old kept first second third fourth fi
       let wd = in_turn record_written p.additionals.kept in
       let we = in_turn record_written p.edns.kept in
       let ws = in_turn record_written p.signature.kept in
-      let last : sixth ≡ after (both we ws) fourth = six.exact ∙ ap (after ws) five.exact ∙ sym (after-both we ws fourth) in
-      let from_third : sixth ≡ after (both wd (both we ws)) third = last ∙ ap (after (both we ws)) four.exact ∙ sym (after-both wd (both we ws) third) in
-      let from_second : sixth ≡ after (both wn (both wd (both we ws))) second = from_third ∙ ap (after (both wd (both we ws))) three.exact ∙ sym (after-both wn (both wd (both we ws)) second) in
-      let from_first : sixth ≡ after (both wa (both wn (both wd (both we ws)))) first =
-      from_second ∙ ap (after (both wn (both wd (both we ws)))) two.exact ∙ sym (after-both wa (both wn (both wd (both we ws))) first) in
-      from_first ∙ ap (after (both wa (both wn (both wd (both we ws))))) one.exact ∙ sym (after-both w (both wa (both wn (both wd (both we ws)))) kept)
+      let last : after_signature ≡ after (both we ws) after_additionals = six.exact ∙ ap (after ws) five.exact ∙ sym (after-both we ws after_additionals) in
+      let from_third : after_signature ≡ after (both wd (both we ws)) after_authorities = last ∙ ap (after (both we ws)) four.exact ∙ sym (after-both wd (both we ws) after_authorities) in
+      let from_second : after_signature ≡ after (both wn (both wd (both we ws))) after_answers = from_third ∙ ap (after (both wd (both we ws))) three.exact ∙ sym (after-both wn (both wd (both we ws)) after_answers) in
+      let from_first : after_signature ≡ after (both wa (both wn (both wd (both we ws)))) after_questions =
+      from_second ∙ ap (after (both wn (both wd (both we ws)))) two.exact ∙ sym (after-both wa (both wn (both wd (both we ws))) after_questions) in
+      from_first ∙ ap (after (both wa (both wn (both wd (both we ws))))) one.exact ∙ sym (after-both w (both wa (both wn (both wd (both we ws)))) after_header)
 
   -- and with the header of these parts, exactly the message was written
-  pub message_exact : (new : State) (h : Header) → h ≡ header_of m parts → length (header_bytes (raw_header h)) ≡ 12 → new ≡ overwritten (length old.bytes) (header_bytes (raw_header h)) sixth
+  pub message_exact : (new : State) (h : Header) → h ≡ header_of m parts → length (header_bytes (raw_header h)) ≡ 12 → new ≡ overwritten (length old.bytes) (header_bytes (raw_header h)) after_signature
       → new ≡ after (message_written limit m) old
   message_exact new h header twelve fill =
-      filled (replicate 12 0) (header_bytes (raw_header h)) (body parts) old kept sixth new twelve room body_written fill
+      filled (replicate 12 0) (header_bytes (raw_header h)) (body parts) old after_header after_signature new twelve room body_written fill
       ∙ ap (λ (g : Header). after (both (just (header_bytes (raw_header g))) (body parts)) old) header
 
 -- ---- a message that was emitted
@@ -135,10 +135,10 @@ module _ {E : Type 0} {word : E → List ℕ → ℕ → ℕ → Type 0} {plain 
   front_exact : b ≡ after (fitting f limit xs) a
   front_exact = w.exact ∙ ap (λ (ys : List E). after (in_turn f ys) a) (sym front_fits)
 
-  pub front_count : (p : Part E) → p ≡ part f limit xs (length a.bytes) a.suffixes → n ≡ length p.kept
+  pub front_count : (p : Part E) → p ≡ part_within f limit xs (length a.bytes) a.suffixes → n ≡ length p.kept
   front_count p is = w.counted ∙ ap length (sym front_fits) ∙ ap (λ (q : Part E). length q.kept) (sym is)
 
-  pub front_told : (p : Part E) → p ≡ part f limit xs (length a.bytes) a.suffixes → is_cut ≡ p.is_cut
+  pub front_told : (p : Part E) → p ≡ part_within f limit xs (length a.bytes) a.suffixes → is_cut ≡ p.is_cut
   front_told p is =
       let told : p.is_cut ≡ any_lost w.lost =
       ap (λ (q : Part E). q.is_cut) is
@@ -152,52 +152,52 @@ made metadata queries answers authorities additionals =
     record { metadata = metadata; counts = record { queries = queries; answers = answers; authorities = authorities; additionals = additionals } }
 
 module _ (m : MessageValue) (old new : State) (h : Header) (e : Emitted m old new h) where
-  k_first : Keeps e.kept e.first
-  k_first = Each-keeps QueryWord plain_query query_owner m.queries e.kept e.first e.queries
+  k_first : Keeps e.after_header e.after_questions
+  k_first = Each-keeps QueryWord plain_query query_owner m.queries e.after_header e.after_questions e.queries
 
-  l_kept : e.kept.limit ≡ old.limit
+  l_kept : e.after_header.limit ≡ old.limit
   l_kept = ap (λ (u : State). u.limit) e.place
 
-  l_first : e.first.limit ≡ old.limit
+  l_first : e.after_questions.limit ≡ old.limit
   l_first = k_first.limit ∙ l_kept
 
-  l_second : e.second.limit ≡ old.limit
+  l_second : e.after_answers.limit ≡ old.limit
   l_second = (records_keep e.answers).limit ∙ l_first
 
-  l_third : e.third.limit ≡ old.limit
+  l_third : e.after_authorities.limit ≡ old.limit
   l_third = (records_keep e.authorities).limit ∙ l_second
 
-  l_fourth : e.fourth.limit ≡ old.limit
+  l_fourth : e.after_additionals.limit ≡ old.limit
   l_fourth = (records_keep e.additionals).limit ∙ l_third
 
-  l_fifth : e.fifth.limit ≡ old.limit
+  l_fifth : e.after_edns.limit ≡ old.limit
   l_fifth = (records_keep e.edns).limit ∙ l_fourth
 
-  w_first : length e.first.bytes ≤ old.limit
+  w_first : length e.after_questions.bytes ≤ old.limit
   w_first = omega (arith, k_first.within, e.room, l_kept)
 
-  w_second : length e.second.bytes ≤ old.limit
+  w_second : length e.after_answers.bytes ≤ old.limit
   w_second = omega (arith, (records_keep e.answers).within, w_first, l_first)
 
-  w_third : length e.third.bytes ≤ old.limit
+  w_third : length e.after_authorities.bytes ≤ old.limit
   w_third = omega (arith, (records_keep e.authorities).within, w_second, l_second)
 
-  w_fourth : length e.fourth.bytes ≤ old.limit
+  w_fourth : length e.after_additionals.bytes ≤ old.limit
   w_fourth = omega (arith, (records_keep e.additionals).within, w_third, l_third)
 
-  w_fifth : length e.fifth.bytes ≤ old.limit
+  w_fifth : length e.after_edns.bytes ≤ old.limit
   w_fifth = omega (arith, (records_keep e.edns).within, w_fourth, l_fourth)
 
-  w_sixth : length e.sixth.bytes ≤ old.limit
+  w_sixth : length e.after_signature.bytes ≤ old.limit
   w_sixth = omega (arith, (records_keep e.signature).within, w_fifth, l_fifth)
 
-  pub all_asked : that_fit query_written old.limit m.queries (length e.kept.bytes) e.kept.suffixes ≡ m.queries
-  all_asked = ap (λ (ys : List Query). that_fit query_written old.limit ys (length e.kept.bytes) e.kept.suffixes) (sym (append-nil m.queries))
-      ∙ Fits-front query_written old.limit m.queries [] e.kept e.first e.asked w_first tt
+  pub all_asked : that_fit query_written old.limit m.queries (length e.after_header.bytes) e.after_header.suffixes ≡ m.queries
+  all_asked = ap (λ (ys : List Query). that_fit query_written old.limit ys (length e.after_header.bytes) e.after_header.suffixes) (sym (append-nil m.queries))
+      ∙ Fits-front query_written old.limit m.queries [] e.after_header e.after_questions e.asked w_first tt
 
-  are_parts : AreParts old.limit m e.kept e.first e.second e.third e.fourth e.fifth e.sixth
+  are_parts : AreParts old.limit m e.after_header e.after_questions e.after_answers e.after_authorities e.after_additionals e.after_edns e.after_signature
   are_parts = record {
-    queries = e.asked ∙ ap (λ (ys : List Query). after (in_turn query_written ys) e.kept) (sym all_asked);
+    queries = e.asked ∙ ap (λ (ys : List Query). after (in_turn query_written ys) e.after_header) (sym all_asked);
     answers = front_exact e.answers old.limit l_first w_second;
     authorities = front_exact e.authorities old.limit l_second w_third;
     additionals = front_exact e.additionals old.limit l_third w_fourth;
@@ -208,12 +208,12 @@ module _ (m : MessageValue) (old new : State) (h : Header) (e : Emitted m old ne
   header_is : h ≡ header_of m (parts_of old.limit m (length old.bytes + 12) old.suffixes)
   header_is =
       let p = parts_of old.limit m (length old.bytes + 12) old.suffixes in
-      let s_1 = (one old.limit m old e.kept e.first e.second e.third e.fourth e.fifth e.sixth e.place are_parts).same in
-      let s_2 = (two old.limit m old e.kept e.first e.second e.third e.fourth e.fifth e.sixth e.place are_parts).same in
-      let s_3 = (three old.limit m old e.kept e.first e.second e.third e.fourth e.fifth e.sixth e.place are_parts).same in
-      let s_4 = (four old.limit m old e.kept e.first e.second e.third e.fourth e.fifth e.sixth e.place are_parts).same in
-      let s_5 = (five old.limit m old e.kept e.first e.second e.third e.fourth e.fifth e.sixth e.place are_parts).same in
-      let s_6 = (six old.limit m old e.kept e.first e.second e.third e.fourth e.fifth e.sixth e.place are_parts).same in
+      let s_1 = (one old.limit m old e.after_header e.after_questions e.after_answers e.after_authorities e.after_additionals e.after_edns e.after_signature e.place are_parts).same in
+      let s_2 = (two old.limit m old e.after_header e.after_questions e.after_answers e.after_authorities e.after_additionals e.after_edns e.after_signature e.place are_parts).same in
+      let s_3 = (three old.limit m old e.after_header e.after_questions e.after_answers e.after_authorities e.after_additionals e.after_edns e.after_signature e.place are_parts).same in
+      let s_4 = (four old.limit m old e.after_header e.after_questions e.after_answers e.after_authorities e.after_additionals e.after_edns e.after_signature e.place are_parts).same in
+      let s_5 = (five old.limit m old e.after_header e.after_questions e.after_answers e.after_authorities e.after_additionals e.after_edns e.after_signature e.place are_parts).same in
+      let s_6 = (six old.limit m old e.after_header e.after_questions e.after_answers e.after_authorities e.after_additionals e.after_edns e.after_signature e.place are_parts).same in
       let tc : Bool → Bool → Bool → Bool → Bool → Metadata = λ a n d o s. record m.metadata { truncation = m.metadata.truncation || (a || (n || (d || (o || s)))) } in
       let flags : h.metadata ≡ tc p.answers.is_cut p.authorities.is_cut p.additionals.is_cut p.edns.is_cut p.signature.is_cut =
       e.metadata
@@ -237,4 +237,4 @@ module _ (m : MessageValue) (old new : State) (h : Header) (e : Emitted m old ne
 
   -- The bytes of a message that was emitted are a function of the message and the limit.
   pub emitted_exact : length (header_bytes (raw_header h)) ≡ 12 → new ≡ after (message_written old.limit m) old
-  emitted_exact twelve = message_exact old.limit m old e.kept e.first e.second e.third e.fourth e.fifth e.sixth e.place are_parts new h header_is twelve e.header
+  emitted_exact twelve = message_exact old.limit m old e.after_header e.after_questions e.after_answers e.after_authorities e.after_additionals e.after_edns e.after_signature e.place are_parts new h header_is twelve e.header

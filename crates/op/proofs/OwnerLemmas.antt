@@ -13,21 +13,21 @@ use Rattle.base.proofs.ItemLemmas.{Each-keeps}
 use Rattle.base.specs.SaysParts.{any_append}
 use Rattle.base.proofs.LawLemmas.{Holds-first, Holds-second}
 use Rattle.base.proofs.SpellingLemmas.{spelled_once}
-use Rattle.op.specs.Cut.{AreCompressed, IsCompressed, Owner, owners_by}
+use Rattle.op.specs.Cut.{AreCompressed, PointsToEarlier, OwnerAt, owners_by}
 
 -- every owner that a pointer can point to is stored
-abbrev pub Known : List Owner → State → Type 0
+abbrev pub Known : List OwnerAt → State → Type 0
 Known os s = All (λ o. o.labels ≢ [] → o.start < 16384 → Any (λ t. t.labels ≡ o.labels) s.suffixes) os
 
 pub none_known : (s : State) → Known [] s
 none_known s = All-nil (λ o. o.labels ≢ [] → o.start < 16384 → Any (λ t. t.labels ≡ o.labels) s.suffixes)
 
 -- a last owner that is short after each before it
-pub short_last : (os : List Owner) (o : Owner) → AreCompressed os → All (λ earlier. IsCompressed earlier o) os → AreCompressed (os ++ o ∷ [])
-short_last [] o short all = (All-nil (IsCompressed o), tt)
+pub short_last : (os : List OwnerAt) (o : OwnerAt) → AreCompressed os → All (λ earlier. PointsToEarlier earlier o) os → AreCompressed (os ++ o ∷ [])
+short_last [] o short all = (All-nil (PointsToEarlier o), tt)
 short_last (p ∷ os) o short all = (
-  All-append (IsCompressed p) os (o ∷ []) short.0 (All-cons (IsCompressed p) o [] (all 0 p (omega arith)) (All-nil (IsCompressed p))),
-  short_last os o short.1 (All-tail (λ earlier. IsCompressed earlier o) p os all),
+  All-append (PointsToEarlier p) os (o ∷ []) short.0 (All-cons (PointsToEarlier p) o [] (all 0 p (omega arith)) (All-nil (PointsToEarlier p))),
+  short_last os o short.1 (All-tail (λ earlier. PointsToEarlier earlier o) p os all),
 )
 
 any_weaker : (P Q : Stored → Type 0) (ts : List Stored) → ((t : Stored) → P t → Q t) → Any P ts → Any Q ts
@@ -40,12 +40,12 @@ no_front (x ∷ front) ls is = cc
 module _ {E : Type 0} (word : E → List ℕ → ℕ → ℕ → Type 0) (plain : E → ℕ) (owner : E → List (List ℕ)) (B : List ℕ)
     (Word : ℕ → E → ℕ → Type 0) (end : (i : ℕ) (x : E) (e : ℕ) → Word i x e → ℕ) where
   -- Items that were written, as they are read in B; with the owners before them theirs are short, and stored.
-  pub record Section (known : List Owner) (xs : List E) (a b : State) : Type 0 where
+  pub record Section (known : List OwnerAt) (xs : List E) (a b : State) : Type 0 where
     pub words : BackToBack Word (length a.bytes) xs (length b.bytes)
     pub short : AreCompressed (known ++ owners_by owner end words)
     pub stored : Known (known ++ owners_by owner end words) b
 
-  section_none : (known : List Owner) (a : State) → Known known a → AreCompressed known → Section known [] a a
+  section_none : (known : List OwnerAt) (a : State) → Known known a → AreCompressed known → Section known [] a a
   unfolding owners_by
   section_none known a stored short = record {
     words = none;
@@ -62,11 +62,11 @@ module _ {E : Type 0} (word : E → List ℕ → ℕ → ℕ → Type 0) (plain 
     spelled : Spelled B (owner x) (length a.bytes) (length a.bytes) (end (length a.bytes) x (length b.bytes) word_there)
 
   module _ (x : E) (a b : State) (item : Item x a b) where
-    written : Owner
+    written : OwnerAt
     written = record { start = length a.bytes; labels = owner x; end = end (length a.bytes) x (length b.bytes) item.word_there }
 
     -- the owner is short after one that is stored
-    one_short : (earlier : Owner) → (earlier.labels ≢ [] → earlier.start < 16384 → Any (λ t. t.labels ≡ earlier.labels) a.suffixes) → IsCompressed earlier written
+    one_short : (earlier : OwnerAt) → (earlier.labels ≢ [] → earlier.start < 16384 → Any (λ t. t.labels ≡ earlier.labels) a.suffixes) → PointsToEarlier earlier written
     unfolding written
     one_short earlier known some early front same =
         let owned : owner x ≢ [] = λ empty. some (no_front front earlier.labels (sym same ∙ empty)) in
@@ -75,7 +75,7 @@ module _ {E : Type 0} (word : E → List ℕ → ℕ → ℕ → Type 0) (plain 
         let ends = (spelled_once (item.writes.compresses.spelled owned B item.holds) item.spelled).1 in
         omega (arith, bound, ends)
 
-    known_after : (known : List Owner) → Known known a → Known (known ++ written ∷ []) b
+    known_after : (known : List OwnerAt) → Known known a → Known (known ++ written ∷ []) b
     unfolding written
     known_after known stored =
         All-append (λ o. o.labels ≢ [] → o.start < 16384 → Any (λ t. t.labels ≡ o.labels) b.suffixes) known (written ∷ [])
@@ -84,7 +84,7 @@ module _ {E : Type 0} (word : E → List ℕ → ℕ → ℕ → Type 0) (plain 
         (All-cons (λ o. o.labels ≢ [] → o.start < 16384 → Any (λ t. t.labels ≡ o.labels) b.suffixes) written []
         (λ some early. item.writes.compresses.stored some early) (All-nil (λ o. o.labels ≢ [] → o.start < 16384 → Any (λ t. t.labels ≡ o.labels) b.suffixes)))
 
-    section_more : (known : List Owner) (xs : List E) (c : State) → Section (known ++ written ∷ []) xs b c → Section known (x ∷ xs) a c
+    section_more : (known : List OwnerAt) (xs : List E) (c : State) → Section (known ++ written ∷ []) xs b c → Section known (x ∷ xs) a c
     unfolding owners_by written
     section_more known xs c rest = record {
       words = more item.word_there rest.words;
@@ -93,7 +93,7 @@ module _ {E : Type 0} (word : E → List ℕ → ℕ → ℕ → Type 0) (plain 
     }
 
   module _ (P : E → Type 0) (read : (x : E) → P x → (i e : ℕ) → word x B i e → Word i x e) (ends : (i : ℕ) (x : E) (e : ℕ) (w : Word i x e) → Spelled B (owner x) i i (end i x e w)) where
-    pub section : (xs : List E) (a b : State) (known : List Owner) → All P xs → EachWritten word plain owner xs a b → Holds a b B → Known known a → AreCompressed known → Section known xs a b
+    pub section : (xs : List E) (a b : State) (known : List OwnerAt) → All P xs → EachWritten word plain owner xs a b → Holds a b B → Known known a → AreCompressed known → Section known xs a b
     section [] a b known fits same h stored short = subst (λ s. Section known [] a s) (sym same) (section_none known a stored short)
     section (x ∷ xs) a c known fits (b, keeps, writes, others) h stored short =
         let later = Each-keeps word plain owner xs b c others in
@@ -102,7 +102,7 @@ module _ {E : Type 0} (word : E → List ℕ → ℕ → ℕ → Type 0) (plain 
         let w = read x (fits 0 x (omega arith)) (length a.bytes) (length b.bytes) (writes.word_stands B first) in
         let item : Item x a b = record { keeps = keeps; writes = writes; holds = first; word_there = w; spelled = ends (length a.bytes) x (length b.bytes) w } in
         let o = written x a b item in
-        let shorts = All-weaker (λ (earlier : Owner). earlier.labels ≢ [] → earlier.start < 16384
-        → Any (λ t. t.labels ≡ earlier.labels) a.suffixes) (λ earlier. IsCompressed earlier o) (one_short x a b item) known stored in
+        let shorts = All-weaker (λ (earlier : OwnerAt). earlier.labels ≢ [] → earlier.start < 16384
+        → Any (λ t. t.labels ≡ earlier.labels) a.suffixes) (λ earlier. PointsToEarlier earlier o) (one_short x a b item) known stored in
         section_more x a b item known xs c
         (section xs b c (known ++ o ∷ []) (All-tail P x xs fits) others second (known_after x a b item known stored) (short_last known o short shorts))

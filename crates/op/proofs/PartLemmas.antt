@@ -13,9 +13,9 @@ use Rattle.rr.specs.Record.{record_written}
 use Rattle.rr.specs.declared.record.Record.{Record}
 use Rattle.op.specs.Cut.{raised}
 use Rattle.op.specs.EdnsRecord.{edns_record}
-use Rattle.op.specs.Fits.{listed, signature_record}
+use Rattle.op.specs.Fits.{as_list, signature_record}
 use Rattle.op.specs.Message.{MessageValue}
-use Rattle.op.specs.MessageWritten.{AreWhole, FirstPasses, LostForRoom, Part, part, part_after, parts_of}
+use Rattle.op.specs.MessageWritten.{AreWhole, FirstPassesAt, LostForRoom, Part, part_within, part_after, parts_of}
 use Rattle.op.specs.Query.{query_written}
 use Rattle.op.specs.declared.query.Query.{Query}
 use Rattle.op.proofs.LimitLemmas.{fits_more}
@@ -34,7 +34,7 @@ module _ {E : Type 0} (f : E → Writing) where
   record Cut (limit : ℕ) (xs : List E) (at : ℕ) (stored : List Stored) (kept : List E) : Type 0 where
     lost : List E
     whole : xs ≡ kept ++ lost
-    passes : let piece = in_turn f kept at stored in FirstPasses f limit (at + length piece.bytes) piece.suffixes lost
+    passes : let piece = in_turn f kept at stored in FirstPassesAt f limit (at + length piece.bytes) piece.suffixes lost
 
   cut_at : (limit : ℕ) (xs : List E) (at : ℕ) (stored : List Stored) → Cut limit xs at stored (that_fit f limit xs at stored)
   cut_at limit [] at stored = record { lost = []; whole = refl; passes = tt }
@@ -54,11 +54,11 @@ module _ {E : Type 0} (f : E → Writing) where
         (record {
           lost = rest.lost;
           whole = ap (λ (ys : List E). x ∷ ys) rest.whole;
-          passes = subst (λ (k : ℕ). FirstPasses f limit k piece.suffixes rest.lost) end rest.passes;
+          passes = subst (λ (k : ℕ). FirstPassesAt f limit k piece.suffixes rest.lost) end rest.passes;
         })
   ]
 
-  pub part_lost : (limit : ℕ) (xs : List E) (at : ℕ) (stored : List Stored) → LostForRoom f limit xs (part f limit xs at stored)
+  pub part_lost : (limit : ℕ) (xs : List E) (at : ℕ) (stored : List Stored) → LostForRoom f limit xs (part_within f limit xs at stored)
   part_lost limit xs at stored =
       let cut = cut_at limit xs at stored in
       record { lost = cut.lost; whole = cut.whole; passes = cut.passes }
@@ -70,7 +70,7 @@ module _ {E : Type 0} (f : E → Writing) where
       record { kept = kept; is_cut = nat_lt (length kept) (length xs); end = at + length piece.bytes; piece = piece }
 
   -- all are kept where the part isn't cut
-  kept_all : (limit : ℕ) (xs : List E) (at : ℕ) (stored : List Stored) → (part f limit xs at stored).is_cut ≡ false → that_fit f limit xs at stored ≡ xs
+  kept_all : (limit : ℕ) (xs : List E) (at : ℕ) (stored : List Stored) → (part_within f limit xs at stored).is_cut ≡ false → that_fit f limit xs at stored ≡ xs
   kept_all limit xs at stored uncut =
       let cut = cut_at limit xs at stored in
       let kept = that_fit f limit xs at stored in
@@ -78,15 +78,15 @@ module _ {E : Type 0} (f : E → Writing) where
       let none : length cut.lost ≡ 0 = grind (arith, nat_tests, uncut, sum) in
       sym (append-nil kept) ∙ ap (λ (ys : List E). kept ++ ys) (sym (nil_from_length cut.lost none)) ∙ sym cut.whole
 
-  pub part_whole : (larger limit : ℕ) (xs : List E) (at : ℕ) (stored : List Stored) → (part f larger xs at stored).is_cut ≡ false → (part f larger xs at stored).end ≤ limit
-      → part f limit xs at stored ≡ part f larger xs at stored
+  pub part_whole : (larger limit : ℕ) (xs : List E) (at : ℕ) (stored : List Stored) → (part_within f larger xs at stored).is_cut ≡ false → (part_within f larger xs at stored).end ≤ limit
+      → part_within f limit xs at stored ≡ part_within f larger xs at stored
   part_whole larger limit xs at stored uncut room =
       let all = kept_all larger xs at stored uncut in
       let fits = subst (λ (ys : List E). at + length (in_turn f ys at stored).bytes ≤ limit) all room in
       ap (λ (ys : List E). part_of xs ys at stored) (all_fit f limit xs at stored fits ∙ sym all)
 
   pub part_grows : (small large : ℕ) → small ≤ large → (xs : List E) (at : ℕ) (stored : List Stored)
-      → (part f small xs at stored).is_cut ≡ false → part f large xs at stored ≡ part f small xs at
+      → (part_within f small xs at stored).is_cut ≡ false → part_within f large xs at stored ≡ part_within f small xs at
       stored
   part_grows small large more xs at stored uncut =
       let all = kept_all small xs at stored uncut in
@@ -108,10 +108,10 @@ module _ {E : Type 0} (f : E → Writing) where
 -- ---- the whole message
 
 abbrev opt_of : MessageValue → List (Record RData)
-opt_of m = listed (option_map edns_record (raised m))
+opt_of m = as_list (option_map edns_record (raised m))
 
 abbrev signed_of : MessageValue → List (Record RData)
-signed_of m = listed (option_map signature_record m.signature)
+signed_of m = as_list (option_map signature_record m.signature)
 
 -- the next part is the same where the one before it is
 next_whole : {D E : Type 0} (f : E → Writing) (larger limit : ℕ) (xs : List E) (mine its : Part D) → mine ≡ its → (part_after f larger xs its).is_cut ≡ false → (part_after f larger xs its).end ≤ limit

@@ -14,12 +14,12 @@ use Rattle.base_data.specs.Kinds.{type_of_data}
 use Rattle.base_data.specs.declared.rdata.RData.{RData}
 use Rattle.rr.specs.Record.{FitsRecord, IsRecordAt, is_opt_type}
 use Rattle.rr.specs.declared.record.Record.{Record}
-use Rattle.op.specs.Fits.{Fits, FitsAdditional, FitsEdns, FitsPlain, listed, signature_record}
+use Rattle.op.specs.Fits.{Fits, FitsAdditional, FitsEdns, FitsPlain, as_list, signature_record}
 use Rattle.op.specs.Message.{IsMessageAt, MessageValue, high_code, message_of}
 use Rattle.op.specs.OpCode.{op_number, op_value}
 use Rattle.op.specs.Query.{FitsQuery, IsQueryAt}
 use Rattle.base_data.specs.RData.{is_signature_data}
-use Rattle.op.specs.Section.{HasNeededData, IsPlain, edns_of, is_opt, is_ordinary, is_signature, section_of, signature_of}
+use Rattle.op.specs.Section.{HasNeededData, IsPlain, edns_of, is_opt, is_plain_record, is_signature, section_of, signature_of}
 use Rattle.op.specs.declared.edns.Edns.{Edns}
 use Rattle.op.specs.declared.header.Header.{Header}
 use Rattle.op.specs.declared.header.metadata.Metadata.{Metadata}
@@ -114,14 +114,14 @@ filtered P p (x ∷ xs) all = elim (cases_Bool (p x)) [
   | inr isnt ↦ rw isnt (filtered P p xs (All-tail P x xs all))
 ]
 
-pub found : {X : Type 0} (P : X → Type 0) (p : X → Bool) (xs : List X) → All P xs → All (Found P p) (listed (find p xs))
+pub found : {X : Type 0} (P : X → Type 0) (p : X → Bool) (xs : List X) → All P xs → All (Found P p) (as_list (find p xs))
 found P p [] all = All-nil (Found P p)
 found P p (x ∷ xs) all = elim (cases_Bool (p x)) [
   | inl is ↦ rw is (All-cons (Found P p) x [] (record { has = all 0 x (omega arith); passes = is }) (All-nil (Found P p)))
   | inr isnt ↦ rw isnt (found P p xs (All-tail P x xs all))
 ]
 
-pub listed_map : {X Y : Type 0} (P : X → Type 0) (Q : Y → Type 0) (f : X → Y) → ((x : X) → P x → Q (f x)) → (o : Option X) → All P (listed o) → All Q (listed (option_map f o))
+pub listed_map : {X Y : Type 0} (P : X → Type 0) (Q : Y → Type 0) (f : X → Y) → ((x : X) → P x → Q (f x)) → (o : Option X) → All P (as_list o) → All Q (as_list (option_map f o))
 listed_map P Q f follows None all = All-nil Q
 listed_map P Q f follows (Some x) all = All-cons Q (f x) [] (follows x (all 0 x (omega arith))) (All-nil Q)
 
@@ -173,20 +173,20 @@ module _ (B : List ℕ) (i : ℕ) (m : MessageValue) (e : ℕ) (w : IsMessageAt 
       let edns = back_all (λ r. is_opt r ≡ true → FitsEdns (edns_of r)) (λ i r e word. edns_fits_read B i r e word) w.additionals_stand in
       λ n d below. record { fits = fit n d below; given = w.additionals_given n d below; edns = edns n d below }
 
-  additionals_fit : All (FitsAdditional w.header.metadata.op_code) (filter is_ordinary w.additionals)
+  additionals_fit : All (FitsAdditional w.header.metadata.op_code) (filter is_plain_record w.additionals)
   additionals_fit =
-      let all = filtered (IsRead w.header.metadata.op_code) is_ordinary w.additionals additionals_read in
+      let all = filtered (IsRead w.header.metadata.op_code) is_plain_record w.additionals additionals_read in
       λ n d below.
       let f = all n d below in
       let kinds_of = neither _ _ f.passes in
       record { fits = f.has.fits; given = f.has.given; not_opt = kinds_of.0; not_signature = kinds_of.1 }
 
-  edns_fit : All FitsEdns (listed (option_map edns_of (find is_opt w.additionals)))
+  edns_fit : All FitsEdns (as_list (option_map edns_of (find is_opt w.additionals)))
   edns_fit =
       listed_map (Found (IsRead w.header.metadata.op_code) is_opt) FitsEdns edns_of (λ r f. f.has.edns f.passes)
       (find is_opt w.additionals) (found (IsRead w.header.metadata.op_code) is_opt w.additionals additionals_read)
 
-  signature_fit : All (λ r. FitsRecord (signature_record r)) (listed (option_map signature_of (find is_signature w.additionals)))
+  signature_fit : All (λ r. FitsRecord (signature_record r)) (as_list (option_map signature_of (find is_signature w.additionals)))
   signature_fit =
       listed_map (Found (IsRead w.header.metadata.op_code) is_signature) (λ r. FitsRecord (signature_record r)) signature_of
       (λ r f. subst FitsRecord (sym (signed r f.passes)) f.has.fits) (find is_signature w.additionals) (found (IsRead w.header.metadata.op_code) is_signature w.additionals additionals_read)
@@ -200,7 +200,7 @@ module _ (B : List ℕ) (i : ℕ) (m : MessageValue) (e : ℕ) (w : IsMessageAt 
         queries = back_all FitsQuery (λ i q e word. query_fits B i q e word) w.queries_stand;
         answers = subst (λ o. All (FitsPlain o) w.answers) (sym same) (plain_fits w.answers w.queries_end w.answers_end w.answers_stand w.answers_plain);
         authorities = subst (λ o. All (FitsPlain o) w.authorities) (sym same) (plain_fits w.authorities w.answers_end w.authorities_end w.authorities_stand w.authorities_plain);
-        additionals = subst (λ o. All (FitsAdditional o) (filter is_ordinary w.additionals)) (sym same) additionals_fit;
+        additionals = subst (λ o. All (FitsAdditional o) (filter is_plain_record w.additionals)) (sym same) additionals_fit;
         edns = edns_fit;
         signature = signature_fit;
       }

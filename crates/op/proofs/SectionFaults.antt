@@ -14,7 +14,7 @@ use Rattle.rr.proofs.ReadRecords.{reads_record}
 use Rattle.rr.proofs.RecordFaults.{refuses_record}
 use Rattle.op.specs.Fault.{IsMisplaced, IsSectionFault}
 use Rattle.op.specs.Fault.IsMisplaced.{after_signature, elsewhere, empty, second_edns}
-use Rattle.op.specs.Section.{HasNeededData, SectionValue, empty_section, fault_of, is_additional, is_opt, is_update, section_at, section_from, section_of, tested, unless_fault, with_record}
+use Rattle.op.specs.Section.{HasNeededData, SectionValue, empty_section, fault_in_section, is_additional, is_opt, is_update, section_at, section_from, section_of, tested, unless_fault, section_with}
 use Rattle.op.specs.declared.op_code.OpCode.{OpCode}
 use Rattle.op.proofs.SectionStands.{unless_ok}
 use Rattle.op.proofs.SectionWords.{Follow, Stand, folded, folded_section, follow_stand, from_given, from_placed, given_from, placed_from, stand_follow}
@@ -78,7 +78,7 @@ is_absent None is = refl
 is_absent (Some x) is = cc
 
 module _ (inside : Bool) (op : OpCode) (s : SectionValue) (r : Record RData) where
-  misplaced : (f : DecodeError) → fault_of inside op s r ≡ Some f → IsMisplaced inside op s r f
+  misplaced : (f : DecodeError) → fault_in_section inside op s r ≡ Some f → IsMisplaced inside op s r f
   misplaced f is =
       pick (is_empty_data r.rdata && not (is_update op || is_opt r)) _ f _ (IsMisplaced inside op s r f) is
       (λ test same. let b = bare (is_empty_data r.rdata) (is_update op) (is_opt r) test in subst (IsMisplaced inside op s r) (sym same) (empty b.empty b.update b.opt))
@@ -99,7 +99,7 @@ module _ (inside : Bool) (op : OpCode) (s : SectionValue) (r : Record RData) whe
   not_bare : HasNeededData op r → (is_empty_data r.rdata && not (is_update op || is_opt r)) ≡ false
   not_bare given = from_given (is_empty_data r.rdata) (is_update op || is_opt r) given
 
-  refused : (f : DecodeError) → IsMisplaced inside op s r f → fault_of inside op s r ≡ Some f
+  refused : (f : DecodeError) → IsMisplaced inside op s r f → fault_in_section inside op s r ≡ Some f
   refused f (empty is update opt) = fails_here _ _ _ (from_bare (is_empty_data r.rdata) (is_update op) (is_opt r) is update opt)
   refused f (after_signature given signed) = passes_on _ _ _ (not_bare given) ∙ fails_here _ _ _ (is_there s.signature signed)
   refused f (elsewhere given unsigned outside additional) =
@@ -112,7 +112,7 @@ module _ (inside : Bool) (op : OpCode) (s : SectionValue) (r : Record RData) whe
 
 -- what stands after a section is no record, or one that may not stand there
 abbrev Stops : Bool → OpCode → SectionValue → List ℕ → ℕ → DecodeError → Type 0
-Stops inside op s B place f = IsRecordFault B place f ⊎ ((r : Record RData) × (e : ℕ) × IsRecordAt B place r e × (fault_of inside op s r ≡ Some f))
+Stops inside op s B place f = IsRecordFault B place f ⊎ ((r : Record RData) × (e : ℕ) × IsRecordAt B place r e × (fault_in_section inside op s r ≡ Some f))
 
 -- the records that stand after a section, and what stops them
 record Before (inside : Bool) (op : OpCode) (s : SectionValue) (B : List ℕ) (n i : ℕ) (f : DecodeError) : Type 0 where
@@ -137,11 +137,11 @@ module _ (inside : Bool) (op : OpCode) (B : List ℕ) where
       (λ next next_read is1.
       let word = (reads_record B i next.0 next.1).0 next_read in
       bind_err (tested inside op s next.0) _ f (Before inside op s B (suc n) i f) is1
-      (λ e. record { records = []; place = i; words = none; fewer = omega arith; follow = tt; fault = inr (next.0, next.1, word, unless_err (fault_of inside op s next.0) (with_record s next.0) f e) })
+      (λ e. record { records = []; place = i; words = none; fewer = omega arith; follow = tt; fault = inr (next.0, next.1, word, unless_err (fault_in_section inside op s next.0) (section_with s next.0) f e) })
       (λ taken taken_is is2.
-      let passes = unless_ok (fault_of inside op s next.0) (with_record s next.0) taken taken_is in
+      let passes = unless_ok (fault_in_section inside op s next.0) (section_with s next.0) taken taken_is in
       let rest = stopped n next.1 taken f is2 in
-      let after : Before inside op (with_record s next.0) B n next.1 f = subst (λ t. Before inside op t B n next.1 f) (sym passes.same) rest in
+      let after : Before inside op (section_with s next.0) B n next.1 f = subst (λ t. Before inside op t B n next.1 f) (sym passes.same) rest in
       record { records = next.0 ∷ after.records; place = after.place; words = more word after.words; fewer = omega (arith, after.fewer); follow = (passes.passes, after.follow); fault = after.fault }))
 
   stops : (rs : List (Record RData)) (n i place : ℕ) (s : SectionValue) (f : DecodeError) → BackToBack (IsRecordAt B) i rs place → length rs < n → Follow inside op s rs
@@ -154,7 +154,7 @@ module _ (inside : Bool) (op : OpCode) (B : List ℕ) where
   stops [] (suc n) i place s f none fewer follow (inr (r, e, word, fails)) = rw ((reads_record B i r e).1 word, fails) refl
   stops (r ∷ rs) (suc n) i place s f (more {j = j} word rest) fewer follow fault =
       let next = (reads_record B i r j).1 word in
-      let others = stops rs n j place (with_record s r) f rest (omega (arith, fewer)) follow.1 fault in
+      let others = stops rs n j place (section_with s r) f rest (omega (arith, fewer)) follow.1 fault in
       rw (next, follow.0, others) refl
 
   -- ---- the section

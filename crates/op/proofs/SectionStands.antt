@@ -7,7 +7,7 @@ use Rattle.base.proofs.ReadLemmas.{bind_ok}
 use Rattle.base_data.specs.declared.rdata.RData.{RData}
 use Rattle.rr.specs.Record.{IsRecordAt, record_at}
 use Rattle.rr.specs.declared.record.Record.{Record}
-use Rattle.op.specs.Section.{SectionValue, empty_section, fault_of, section_at, section_from, section_of, tested, unless_fault, with_record}
+use Rattle.op.specs.Section.{SectionValue, empty_section, fault_in_section, section_at, section_from, section_of, tested, unless_fault, section_with}
 use Rattle.op.specs.declared.op_code.OpCode.{OpCode}
 use Rattle.op.proofs.SectionWords.{Follow, Stand, folded, folded_section, follow_stand, stand_follow}
 
@@ -39,9 +39,9 @@ section_stands inside op B stands zero i s r is =
 section_stands inside op B stands (suc n) i s r is =
     let next = bind_ok (record_at B i) _ r is in
     let taken = bind_ok (tested inside op s next.value.0) _ r next.second in
-    let passes = unless_ok (fault_of inside op s next.value.0) (with_record s next.value.0) taken.value taken.first in
+    let passes = unless_ok (fault_in_section inside op s next.value.0) (section_with s next.value.0) taken.value taken.first in
     let rest = section_stands inside op B stands n next.value.1 taken.value r taken.second in
-    let after : Section inside op (with_record s next.value.0) B n next.value.1 r = subst (λ t. Section inside op t B n next.value.1 r) (sym passes.same) rest in
+    let after : Section inside op (section_with s next.value.0) B n next.value.1 r = subst (λ t. Section inside op t B n next.value.1 r) (sym passes.same) rest in
     record {
       records = next.value.0 ∷ after.records;
       words = more (stands i next.value.0 next.value.1 next.first) after.words;
@@ -56,7 +56,7 @@ unfolding section_from
 section_again inside op B again [] i e s none follow = refl
 section_again inside op B again (r ∷ rs) i e s (more {j = j} word rest) follow =
     let next = again i r j word in
-    let others = section_again inside op B again rs j e (with_record s r) rest follow.1 in
+    let others = section_again inside op B again rs j e (section_with s r) rest follow.1 in
     rw (next, follow.0, others) refl
 
 -- A section of as many records that was read: they stand back to back, pass the tests, and are the section of all.

@@ -13,18 +13,18 @@ use Rattle.base_data.specs.RData.{is_empty_data, is_signature_data}
 use Rattle.base_data.specs.declared.rdata.RData.{RData}
 use Rattle.rr.specs.Record.{is_opt_type}
 use Rattle.rr.specs.declared.record.Record.{Record}
-use Rattle.op.specs.Section.{EndsWithSignature, HasNeededData, SectionValue, edns_of, empty_section, fault_of, is_additional, is_opt, is_ordinary, is_signature}
-use Rattle.op.specs.Section.{is_update, section_of, signature_of, with_record}
+use Rattle.op.specs.Section.{EndsWithSignature, HasNeededData, SectionValue, edns_of, empty_section, fault_in_section, is_additional, is_opt, is_plain_record, is_signature}
+use Rattle.op.specs.Section.{is_update, section_of, signature_of, section_with}
 use Rattle.op.specs.declared.op_code.OpCode.{OpCode}
 
 -- each record passes the tests after those before it
 abbrev pub Follow : Bool → OpCode → SectionValue → List (Record RData) → Type 0
 Follow inside op s [] = Unit {0}
-Follow inside op s (r ∷ rs) = (fault_of inside op s r ≡ None) × Follow inside op (with_record s r) rs
+Follow inside op s (r ∷ rs) = (fault_in_section inside op s r ≡ None) × Follow inside op (section_with s r) rs
 
 abbrev pub folded : SectionValue → List (Record RData) → SectionValue
 folded s [] = s
-folded s (r ∷ rs) = folded (with_record s r) rs
+folded s (r ∷ rs) = folded (section_with s r) rs
 
 -- What the tests say of records after others, of which one was EDNS or not, and one a signature or not.
 pub record Stand (inside : Bool) (op : OpCode) (edns signature : Bool) (rs : List (Record RData)) : Type 0 where
@@ -122,12 +122,12 @@ follow_stand inside op [] s follow = record { given = All-nil (HasNeededData op)
 follow_stand inside op (r ∷ rs) s follow =
     let t = no_fault (is_empty_data r.rdata && not (is_update op || is_opt r)) (is_some s.signature) (not inside && is_additional r) (is_some s.edns && is_opt r)
     faults.InvalidEmptyRecord faults.RecordAfterSig (faults.RecordNotInAdditionalSection (type_of_data r.rdata)) faults.DuplicateEdns follow.0 in
-    let before = follow_stand inside op rs (with_record s r) follow.1 in
+    let before = follow_stand inside op rs (section_with s r) follow.1 in
     let apart : is_signature r ≡ true → is_opt r ≡ false = exclusive r.rdata in
     let edns = edns_after (is_opt r) (is_signature r) s r in
     let signature = signature_after (is_opt r) (is_signature r) s r apart in
     let rest : Stand inside op (is_opt r || is_some s.edns) (is_signature r || is_some s.signature) rs =
-    subst (λ e. Stand inside op e (is_signature r || is_some s.signature) rs) edns (subst (λ g. Stand inside op (is_some (with_record s r).edns) g rs) signature before) in
+    subst (λ e. Stand inside op e (is_signature r || is_some s.signature) rs) edns (subst (λ g. Stand inside op (is_some (section_with s r).edns) g rs) signature before) in
     record {
       given = All-cons (HasNeededData op) r rs (given_from (is_empty_data r.rdata) (is_update op || is_opt r) t.first) rest.given;
       placed = λ outside. All-cons (λ x. is_additional x ≡ false) r rs (placed_from inside (is_additional r) t.third outside) (rest.placed outside);
@@ -151,7 +151,7 @@ stand_follow inside op (r ∷ rs) s w =
       third = from_placed inside (is_additional r) (λ outside. w.placed outside 0 r (omega arith));
       fourth = apart_of (is_opt r) (is_some s.edns) r (filter is_opt rs) w.one;
     } in
-    let head : fault_of inside op s r ≡ None = passes (is_empty_data r.rdata && not (is_update op || is_opt r)) (is_some s.signature) (not inside && is_additional r)
+    let head : fault_in_section inside op s r ≡ None = passes (is_empty_data r.rdata && not (is_update op || is_opt r)) (is_some s.signature) (not inside && is_additional r)
     (is_some s.edns && is_opt r) faults.InvalidEmptyRecord faults.RecordAfterSig (faults.RecordNotInAdditionalSection (type_of_data r.rdata)) faults.DuplicateEdns t in
     let edns = edns_after (is_opt r) (is_signature r) s r in
     let signature = signature_after (is_opt r) (is_signature r) s r apart in
@@ -162,9 +162,9 @@ stand_follow inside op (r ∷ rs) s w =
       ends = w.ends.1;
       one = one_less (is_opt r) (is_some s.edns) r (filter is_opt rs) w.one;
     } in
-    let after : Stand inside op (is_some (with_record s r).edns) (is_some (with_record s r).signature) rs =
-    subst (λ e. Stand inside op e (is_some (with_record s r).signature) rs) (sym edns) (subst (λ g. Stand inside op (is_opt r || is_some s.edns) g rs) (sym signature) rest) in
-    (head, stand_follow inside op rs (with_record s r) after)
+    let after : Stand inside op (is_some (section_with s r).edns) (is_some (section_with s r).signature) rs =
+    subst (λ e. Stand inside op e (is_some (section_with s r).signature) rs) (sym edns) (subst (λ g. Stand inside op (is_opt r || is_some s.edns) g rs) (sym signature) rest) in
+    (head, stand_follow inside op rs (section_with s r) after)
   where
     no_cons : r ∷ rs ≡ [] → ⊥
     no_cons is = cc
@@ -204,8 +204,8 @@ folded_joined inside op (r ∷ rs) s follow =
     let apart : is_signature r ≡ true → is_opt r ≡ false = exclusive r.rdata in
     let no_edns : is_opt r ≡ true → s.edns ≡ None = λ is. none_of s.edns (left_none (is_some s.edns) (is_opt r) (apart_of (is_opt r) (is_some s.edns) r (filter is_opt rs) w.one) is) in
     let unsigned : is_some s.signature ≡ false = elim (cases_Bool (is_some s.signature)) [ inl has ↦ absurd (no_cons (w.alone has)) | inr none ↦ none ] in
-    folded_joined inside op rs (with_record s r) follow.1
-    ∙ put_joined (is_opt r) (is_signature r) s r (filter is_ordinary rs) (find is_opt rs) (find is_signature rs) no_edns apart (λ _. none_of s.signature unsigned)
+    folded_joined inside op rs (section_with s r) follow.1
+    ∙ put_joined (is_opt r) (is_signature r) s r (filter is_plain_record rs) (find is_opt rs) (find is_signature rs) no_edns apart (λ _. none_of s.signature unsigned)
   where
     no_cons : r ∷ rs ≡ [] → ⊥
     no_cons is = cc

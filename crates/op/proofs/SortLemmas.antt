@@ -10,9 +10,9 @@ use Rattle.base_data.specs.OPT.{OptionValue}
 use Rattle.base_data.specs.declared.rdata.RData.{RData}
 use Rattle.rr.specs.declared.record.Record.{Record}
 use Rattle.op.specs.EdnsRecord.{edns_record, opt_data}
-use Rattle.op.specs.Fits.{FitsAdditional, FitsEdns, listed, signature_record}
+use Rattle.op.specs.Fits.{FitsAdditional, FitsEdns, as_list, signature_record}
 use Rattle.base_data.specs.RData.{is_signature_data}
-use Rattle.op.specs.Section.{AtMostOneOpt, EndsWithSignature, HasNeededData, edns_of, is_opt, is_ordinary, is_signature, is_update, section_of, signature_of}
+use Rattle.op.specs.Section.{AtMostOneOpt, EndsWithSignature, HasNeededData, edns_of, is_opt, is_plain_record, is_signature, is_update, section_of, signature_of}
 use Rattle.op.specs.declared.edns.Edns.{Edns}
 use Rattle.op.specs.declared.op_code.OpCode.{OpCode}
 use Rattle.op.proofs.WordsBack.{edns_back, opt_typed}
@@ -23,8 +23,8 @@ use Rattle.op.proofs.WordsBack.{edns_back, opt_typed}
 pub record OneFront {X Y : Type 0} (f : X → Y) (o : Option X) (kept lost : List Y) : Type 0 where
   pub some : Option X
   pub rest : List X
-  pub kept_is : kept ≡ listed (option_map f some)
-  pub front : listed o ≡ listed some ++ rest
+  pub kept_is : kept ≡ as_list (option_map f some)
+  pub front : as_list o ≡ as_list some ++ rest
   pub lost_is : lost ≡ map f rest
 
 alone : {Y : Type 0} (x y : Y) (kept lost : List Y) → x ∷ [] ≡ y ∷ (kept ++ lost) → y ∷ kept ≡ x ∷ []
@@ -36,7 +36,7 @@ none_lost x y [] [] whole = refl
 none_lost x y [] (z ∷ lost) whole = cc
 none_lost x y (z ∷ kept) lost whole = cc
 
-pub one_front : {X Y : Type 0} (f : X → Y) (o : Option X) (kept lost : List Y) → listed (option_map f o) ≡ kept ++ lost → OneFront f o kept lost
+pub one_front : {X Y : Type 0} (f : X → Y) (o : Option X) (kept lost : List Y) → as_list (option_map f o) ≡ kept ++ lost → OneFront f o kept lost
 one_front f None [] lost whole = record { some = None; rest = []; kept_is = refl; front = refl; lost_is = sym whole }
 one_front f None (y ∷ kept) lost whole = cc
 one_front f (Some x) [] lost whole = record { some = None; rest = x ∷ []; kept_is = refl; front = refl; lost_is = sym whole }
@@ -67,7 +67,7 @@ opt_is_opt : (e : Edns) → is_opt (edns_record e) ≡ true
 opt_is_opt e = opt_typed e.options
 
 abbrev pub tail : Option Edns → Option (Record (List ℕ)) → List (Record RData)
-tail edns signature = listed (option_map edns_record edns) ++ listed (option_map signature_record signature)
+tail edns signature = as_list (option_map edns_record edns) ++ as_list (option_map signature_record signature)
 
 module _ (ds : List (Record RData)) (op : OpCode) (fits : All (FitsAdditional op) ds) where
   no_opts : All (λ r. is_opt r ≡ false) ds
@@ -79,10 +79,10 @@ module _ (ds : List (Record RData)) (op : OpCode) (fits : All (FitsAdditional op
   ordinary : (o g : Bool) → o ≡ false → g ≡ false → not (o || g) ≡ true
   ordinary o g is isnt = rw (is, isnt) refl
 
-  ordinaries : All (λ r. is_ordinary r ≡ true) ds
+  ordinaries : All (λ r. is_plain_record r ≡ true) ds
   ordinaries = λ k d below. ordinary _ _ (fits k d below).not_opt (fits k d below).not_signature
 
-  rest_ordinary : (edns : Option Edns) (signature : Option (Record (List ℕ))) → filter is_ordinary (tail edns signature) ≡ []
+  rest_ordinary : (edns : Option Edns) (signature : Option (Record (List ℕ))) → filter is_plain_record (tail edns signature) ≡ []
   rest_ordinary None None = refl
   rest_ordinary None (Some s) = refl
   rest_ordinary (Some e) None = rw (opt_is_opt e) refl
@@ -100,7 +100,7 @@ module _ (ds : List (Record RData)) (op : OpCode) (fits : All (FitsAdditional op
   rest_signature (Some e) None = rw (opt_unsigned e) refl
   rest_signature (Some e) (Some s) = rw (opt_unsigned e) refl
 
-  edns_kept : (edns : Option Edns) → All FitsEdns (listed edns) → option_map edns_of (option_map edns_record edns) ≡ edns
+  edns_kept : (edns : Option Edns) → All FitsEdns (as_list edns) → option_map edns_of (option_map edns_record edns) ≡ edns
   edns_kept None fits_edns = refl
   edns_kept (Some e) fits_edns = ap Some (edns_back e (fits_edns 0 e (omega arith)))
 
@@ -110,13 +110,13 @@ module _ (ds : List (Record RData)) (op : OpCode) (fits : All (FitsAdditional op
 
   pub sorted_records : (edns : Option Edns) (signature : Option (Record (List ℕ))) → (section_of (ds ++ tail edns signature)).records ≡ ds
   sorted_records edns signature =
-      filter-append is_ordinary ds (tail edns signature) ∙ ap (λ xs. filter is_ordinary ds ++ xs) (rest_ordinary edns signature) ∙ append-nil (filter is_ordinary ds)
-      ∙ filter_all is_ordinary ds ordinaries
+      filter-append is_plain_record ds (tail edns signature) ∙ ap (λ xs. filter is_plain_record ds ++ xs) (rest_ordinary edns signature) ∙ append-nil (filter is_plain_record ds)
+      ∙ filter_all is_plain_record ds ordinaries
 
   found : (p : Record RData → Bool) (t : List (Record RData)) → All (λ r. p r ≡ false) ds → find p (ds ++ t) ≡ find p t
   found p t none = find-append p ds t ∙ ap (λ o. option_or o (find p t)) (find_none p ds none)
 
-  pub sorted_edns : (edns : Option Edns) (signature : Option (Record (List ℕ))) → All FitsEdns (listed edns) → (section_of (ds ++ tail edns signature)).edns ≡ edns
+  pub sorted_edns : (edns : Option Edns) (signature : Option (Record (List ℕ))) → All FitsEdns (as_list edns) → (section_of (ds ++ tail edns signature)).edns ≡ edns
   sorted_edns edns signature fits_edns = ap (option_map edns_of) (found is_opt (tail edns signature) no_opts ∙ rest_opt edns signature) ∙ edns_kept edns fits_edns
 
   pub sorted_signature : (edns : Option Edns) (signature : Option (Record (List ℕ))) → (section_of (ds ++ tail edns signature)).signature ≡ signature

@@ -10,7 +10,7 @@ use Rattle.base_data.specs.declared.rdata.RData.{RData}
 use Rattle.rr.specs.Record.{RecordWord, plain_record, record_written}
 use Rattle.rr.specs.declared.record.Record.{Record}
 use Rattle.op.specs.Cut.{IsTooSmall, NoRoom, any_lost}
-use Rattle.op.specs.Composition.{Counts, KeepsRoom}
+use Rattle.op.specs.Composition.{CountsItems, KeepsRoom}
 use Rattle.op.specs.Emitted.{Leaves, WritesFront, WritesRecords, query_owner, record_owner}
 use Rattle.op.specs.Fits.{HasRoom, plain_queries}
 use Rattle.op.specs.Message.{MessageValue}
@@ -31,7 +31,7 @@ record Many (a b : State) : Type 0 where
   many : 2 ^ 16 ≤ length kept
 
 -- why a part that is a slice of records is refused
-part_failed : (s t : Iter (Record RData)) (a b : State) (answer : Result ℕ ProtoError) (e : ProtoError) → emits_records s a answer t b → Counts answer (Err e) → (e ≡ refusals.Memory) ⊎ Many a b
+part_failed : (s t : Iter (Record RData)) (a b : State) (answer : Result ℕ ProtoError) (e : ProtoError) → emits_records s a answer t b → CountsItems answer (Err e) → (e ≡ refusals.Memory) ⊎ Many a b
 part_failed s t a b (Ok n) e emits counts =
     let all = Emits-slice RecordWord plain_record record_owner record_written s t a b n emits in
     inr (record { kept = s.rest.now; written = all.0; exact = all.2; many = omega (arith, counts.0, all.1) })

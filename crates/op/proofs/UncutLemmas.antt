@@ -9,7 +9,7 @@ use Rattle.base.specs.Words.{IsNumberAt}
 use Rattle.base_data.specs.declared.rdata.RData.{RData}
 use Rattle.rr.specs.declared.record.Record.{Record}
 use Rattle.op.specs.Cut.{IsCut, IsUncut, any_lost, as_written, code_range, raised}
-use Rattle.op.specs.Fits.{listed, with_high_bits}
+use Rattle.op.specs.Fits.{as_list, with_high_bits}
 use Rattle.op.specs.Message.{IsMessageAt, MessageValue, high_code}
 use Rattle.op.specs.ResponseCode.{code_number, code_value}
 use Rattle.op.specs.Section.{edns_of, is_opt, section_of}
@@ -43,7 +43,7 @@ ttl_small B i n small w =
 whole_of : {X : Type 0} (xs kept lost : List X) → xs ≡ kept ++ lost → lost ≡ [] → kept ≡ xs
 whole_of xs kept lost front none = sym (front ∙ ap (λ ys. kept ++ ys) none ∙ append-nil kept)
 
-listed_same : {X : Type 0} (o p : Option X) → listed o ≡ listed p → o ≡ p
+listed_same : {X : Type 0} (o p : Option X) → as_list o ≡ as_list p → o ≡ p
 listed_same None None is = refl
 listed_same None (Some y) is = cc
 listed_same (Some x) None is = cc
@@ -80,7 +80,7 @@ record IsMerged (edns : Option Edns) (code : ResponseCode) : Type 0 where
 abbrev high_code_of : ℕ → ℕ → ResponseCode
 high_code_of h n = code_value (h * 16 + n % 16 % 16)
 
-merged : (edns : Option Edns) (m : Metadata) (low : ℕ) → low < 16 → m.response_code ≡ code_value low → All (λ e. e.rcode_high < 256) (listed edns) → IsMerged edns (high_code edns m).response_code
+merged : (edns : Option Edns) (m : Metadata) (low : ℕ) → low < 16 → m.response_code ≡ code_value low → All (λ e. e.rcode_high < 256) (as_list edns) → IsMerged edns (high_code edns m).response_code
 merged None m low small is high = subst (IsMerged None) (sym is) (record { raised = refl; kept = code_four low small })
 merged (Some e) m low small is high =
     let narrow : e.rcode_high < 256 = high 0 e (omega arith) in
@@ -113,8 +113,8 @@ uncut_written m limit C c k (no_answers, no_authorities, no_additionals, no_edns
     let answers : c.answers ≡ m.answers = whole_of m.answers c.answers k.answers.lost k.answers.front no_answers in
     let authorities : c.authorities ≡ m.authorities = whole_of m.authorities c.authorities k.authorities.lost k.authorities.front no_authorities in
     let additionals : c.additionals ≡ m.additionals = whole_of m.additionals c.additionals k.additionals.lost k.additionals.front no_additionals in
-    let edns : c.edns ≡ raised m = listed_same c.edns (raised m) (whole_of (listed (raised m)) (listed c.edns) k.edns.lost k.edns.front no_edns) in
-    let signature : c.signature ≡ m.signature = listed_same c.signature m.signature (whole_of (listed m.signature) (listed c.signature) k.signature.lost k.signature.front no_signature) in
+    let edns : c.edns ≡ raised m = listed_same c.edns (raised m) (whole_of (as_list (raised m)) (as_list c.edns) k.edns.lost k.edns.front no_edns) in
+    let signature : c.signature ≡ m.signature = listed_same c.signature m.signature (whole_of (as_list m.signature) (as_list c.signature) k.signature.lost k.signature.front no_signature) in
     let truncation = same_truncation m.metadata.truncation
     (none_lost k.answers.lost no_answers) (none_lost k.authorities.lost no_authorities) (none_lost k.additionals.lost no_additionals)
     (none_lost k.edns.lost no_edns) (none_lost k.signature.lost no_signature) in
@@ -126,7 +126,7 @@ uncut_written m limit C c k (no_answers, no_authorities, no_additionals, no_edns
 -- ---- a message that was read
 
 module _ (B : List ℕ) (i : ℕ) (m : MessageValue) (e : ℕ) (w : IsMessageAt B i m e) (bytes : All (λ b. b < 256) B) where
-  high_small : All (λ x. x.rcode_high < 256) (listed (option_map edns_of (find is_opt w.additionals)))
+  high_small : All (λ x. x.rcode_high < 256) (as_list (option_map edns_of (find is_opt w.additionals)))
   high_small =
       let all = back_all (λ r. r.ttl / 16777216 < 256)
       (λ j r k word. subst (λ (n : ℕ). n / 16777216 < 256) (sym word.value.ttl) (ttl_small B (word.word.owner_end + 4) word.raw.ttl bytes word.word.ttl_stands)) w.additionals_stand in

@@ -22,7 +22,7 @@ use Rattle.rr.specs.declared.record.Record.{Record}
 use Rattle.op.specs.Cut.{IsWritten, NoRoom, raised}
 use Rattle.op.specs.EdnsRecord.{edns_record}
 use Rattle.op.specs.Emitted.{Emitted, WritesFront, WritesRecords, query_owner, record_owner}
-use Rattle.op.specs.Fits.{Fits, listed, signature_record}
+use Rattle.op.specs.Fits.{Fits, as_list, signature_record}
 use Rattle.op.specs.Header.{header_bytes, raw_header}
 use Rattle.op.specs.Message.{MessageValue}
 use Rattle.op.specs.MessageKept.{KeptRecord, MessageKept}
@@ -137,13 +137,13 @@ module _ (m : MessageValue) (limit : ℕ) (fits : Fits m) (kept : MessageKept m)
   fourth = after (fitting record_written limit m.additionals) third
 
   abbrev opt : List (Record RData)
-  opt = listed (option_map edns_record (raised m))
+  opt = as_list (option_map edns_record (raised m))
 
   abbrev fifth : State
   fifth = after (fitting record_written limit opt) fourth
 
   abbrev signature : List (Record RData)
-  signature = listed (option_map signature_record m.signature)
+  signature = as_list (option_map signature_record m.signature)
 
   abbrev sixth : State
   sixth = after (fitting record_written limit signature) fifth

@@ -41,24 +41,25 @@ Tests holds a result b = holds result × (b ≡ a)
 -- ---- counts
 
 -- a refusal with this text
-abbrev pub Says : List ℕ → ProtoError → Type 0
-Says text (refusals.Message said) = said.now ≡ text
-Says text _ = ⊥
+abbrev pub SaysText : List ℕ → ProtoError → Type 0
+SaysText text (refusals.Message said) = said.now ≡ text
+SaysText text _ = ⊥
 
 -- a count as a header holds it, in two bytes
 abbrev pub Narrows : ℕ → Bool → Result Written ProtoError → Type 0
 Narrows n is_cut (Ok written) = (n < 2 ^ 16) × (written ≡ record { count = n; is_cut = is_cut })
-Narrows n is_cut (Err e) = (2 ^ 16 ≤ n) × Says (codes "too many records to fit in header count") e
+Narrows n is_cut (Err e) =
+    (2 ^ 16 ≤ n) × SaysText (codes "too many records to fit in header count") e
 
 -- what a part's answer counts: all its items, or those before one that had no room
-abbrev pub Counts : Result ℕ ProtoError → Result Written ProtoError → Type 0
-Counts (Ok n) result = Narrows n false result
-Counts (Err (refusals.NotAllRecordsWritten n)) result = Narrows n true result
-Counts (Err e) result = result ≡ Err e
+abbrev pub CountsItems : Result ℕ ProtoError → Result Written ProtoError → Type 0
+CountsItems (Ok n) result = Narrows n false result
+CountsItems (Err (refusals.NotAllRecordsWritten n)) result = Narrows n true result
+CountsItems (Err e) result = result ≡ Err e
 
 -- both counts together, cut where either is
-abbrev pub Adds : Written → Written → Result Written ProtoError → Type 0
-Adds one other result = Narrows (one.count + other.count) (one.is_cut || other.is_cut) result
+abbrev pub AddsCounts : Written → Written → Result Written ProtoError → Type 0
+AddsCounts one other result = Narrows (one.count + other.count) (one.is_cut || other.is_cut) result
 
 -- ---- the parts
 
@@ -72,7 +73,7 @@ KeepsRoom a (Err e) b = (b ≡ a) × Refuses {X = Header} 12 a (Err e)
 abbrev pub EmitsPart : {P : Type 0} → (P → State → Result ℕ ProtoError → P → State → Type 0) → P → P
     → State → Result Written ProtoError → State → Type 0
 EmitsPart emits part end a result b = (answer : Result ℕ ProtoError) × emits part a answer end b
-    × Counts answer result
+    × CountsItems answer result
 
 -- of items a front is written, or memory was refused
 abbrev pub WritesItems : {E : Type 0} → (E → List ℕ → ℕ → ℕ → Type 0) → (E → ℕ)
@@ -106,7 +107,7 @@ HasHeader metadata queries answers authorities additionals (Ok h) =
       };
     })
 HasHeader metadata queries answers authorities additionals (Err e) = (2 ^ 16 ≤ queries)
-    × Says (codes "too many queries to fit in header count") e
+    × SaysText (codes "too many queries to fit in header count") e
 
 -- the header is written into the room that was kept for it
 abbrev pub FillsIn : ℕ → Header → State → Result Header ProtoError → State → Type 0
@@ -131,8 +132,8 @@ module _ {A N D : Type 0} (emits_a : A → State → Result ℕ ProtoError → A
       AndThen (EmitsPart emits_n n n') (d' ≡ d) (λ authorities.
       AndThen (EmitsPart emits_d d d') ⊤ (λ additionals.
       AndThen (WritesRecordItems edns) ⊤ (λ opt.
-      AndThen (Tests (Adds additionals opt)) ⊤ (λ sum.
+      AndThen (Tests (AddsCounts additionals opt)) ⊤ (λ sum.
       AndThen (WritesRecordItems signature) ⊤ (λ signed.
-      AndThen (Tests (Adds sum signed)) ⊤ (λ total.
+      AndThen (Tests (AddsCounts sum signed)) ⊤ (λ total.
       AndThen (Tests (HasHeader metadata queries answers authorities total)) ⊤ (λ header.
       FillsIn place header))))))))))

@@ -11,7 +11,7 @@ use Rattle.base_data.specs.declared.rdata.RData.{RData}
 use Rattle.rr.specs.Record.{IsRecordAt, plain_record}
 use Rattle.rr.specs.declared.record.Record.{Record}
 use Rattle.op.specs.EdnsRecord.{edns_record, plain_edns}
-use Rattle.op.specs.Fits.{listed, plain_queries, signature_record, with_high_bits}
+use Rattle.op.specs.Fits.{as_list, plain_queries, signature_record, with_high_bits}
 use Rattle.op.specs.Message.{IsMessageAt, MessageValue, message_at}
 use Rattle.op.specs.Query.{IsQueryAt}
 use Rattle.op.specs.ResponseCode.{code_number, code_value}
@@ -40,26 +40,26 @@ any_lost (x ∷ xs) = true
 -- ---- owners
 
 -- where the name of a question or record begins, its labels, and where its first piece ends
-pub record Owner : Type 0 where
+pub record OwnerAt : Type 0 where
   pub start : ℕ
   pub labels : List (List ℕ)
   pub end : ℕ
 
 -- A later owner that ends in all labels of an earlier one, to which a pointer can point, has a pointer there.
-abbrev pub IsCompressed : Owner → Owner → Type 0
-IsCompressed earlier later = earlier.labels ≢ [] → earlier.start < POINTER_LIMIT
+abbrev pub PointsToEarlier : OwnerAt → OwnerAt → Type 0
+PointsToEarlier earlier later = earlier.labels ≢ [] → earlier.start < POINTER_LIMIT
     → (front : List (List ℕ))
     → later.labels ≡ front ++ earlier.labels → later.end ≤ later.start + (size_of front + 2)
 
 -- so has each owner for each before it
-abbrev pub AreCompressed : List Owner → Type 0
+abbrev pub AreCompressed : List OwnerAt → Type 0
 AreCompressed [] = Unit {0}
-AreCompressed (o ∷ os) = All (IsCompressed o) os × AreCompressed os
+AreCompressed (o ∷ os) = All (PointsToEarlier o) os × AreCompressed os
 
 -- the owners of words that stand back to back
 unfoldable pub owners_by : {A : Type 0} {Word : ℕ → A → ℕ → Type 0} (labels : A → List (List ℕ))
     (end : (i : ℕ) (x : A) (e : ℕ) → Word i x e → ℕ) {i e : ℕ} {xs : List A}
-    → BackToBack Word i xs e → List Owner
+    → BackToBack Word i xs e → List OwnerAt
 owners_by labels end none = []
 owners_by labels end (more {i = i} {j = j} {x = x} word rest) = record {
   start = i;
@@ -69,16 +69,16 @@ owners_by labels end (more {i = i} {j = j} {x = x} word rest) = record {
 
 -- the owners of questions that stand back to back
 abbrev pub query_owners : {B : List ℕ} {i e : ℕ} {qs : List Query} → BackToBack (IsQueryAt B) i qs e
-    → List Owner
+    → List OwnerAt
 query_owners d = owners_by (λ q. q.name.labels) (λ i q e word. word.word.owner_end) d
 
 -- the owners of records that stand back to back
 abbrev pub record_owners : {B : List ℕ} {i e : ℕ} {rs : List (Record RData)}
-    → BackToBack (IsRecordAt B) i rs e → List Owner
+    → BackToBack (IsRecordAt B) i rs e → List OwnerAt
 record_owners d = owners_by (λ r. r.name.labels) (λ i r e word. word.word.owner_end) d
 
 -- the owners of a message, in order
-abbrev pub owners : {B : List ℕ} {i e : ℕ} {m : MessageValue} → IsMessageAt B i m e → List Owner
+abbrev pub owners : {B : List ℕ} {i e : ℕ} {m : MessageValue} → IsMessageAt B i m e → List OwnerAt
 owners w = query_owners w.queries_stand
     ++ (record_owners w.answers_stand
     ++ (record_owners w.authorities_stand ++ record_owners w.additionals_stand))
@@ -115,17 +115,17 @@ pub record IsCut (m : MessageValue) (limit : ℕ) (B : List ℕ) (c : MessageVal
   pub additionals_stand : BackToBack (IsRecordAt B) word.authorities_end c.additionals
       additionals_end
   pub edns_stands : BackToBack (IsRecordAt B) additionals_end
-      (listed (option_map edns_record c.edns)) edns_end
+      (as_list (option_map edns_record c.edns)) edns_end
   pub signature_stands : BackToBack (IsRecordAt B) edns_end
-      (listed (option_map signature_record c.signature)) (length B)
+      (as_list (option_map signature_record c.signature)) (length B)
   -- all questions, and fronts of all else
   pub queries : c.queries ≡ m.queries
   pub answers : IsFront plain_record limit word.answers_end m.answers c.answers
   pub authorities : IsFront plain_record limit word.authorities_end m.authorities c.authorities
   pub additionals : IsFront plain_record limit additionals_end m.additionals c.additionals
-  pub edns : IsFront plain_edns limit edns_end (listed (raised m)) (listed c.edns)
+  pub edns : IsFront plain_edns limit edns_end (as_list (raised m)) (as_list c.edns)
   pub signature : IsFront (λ r. plain_record (signature_record r)) limit (length B)
-      (listed m.signature) (listed c.signature)
+      (as_list m.signature) (as_list c.signature)
   -- the code as far as it is written, TC, and every other field
   pub metadata : c.metadata ≡ record m.metadata {
     truncation = m.metadata.truncation

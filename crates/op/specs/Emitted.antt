@@ -10,7 +10,7 @@ use Rattle.rr.specs.Record.{RecordWord, plain_record, record_written}
 use Rattle.rr.specs.declared.record.Record.{Record}
 use Rattle.op.specs.Cut.{NoRoom, any_lost, raised}
 use Rattle.op.specs.EdnsRecord.{edns_record}
-use Rattle.op.specs.Fits.{listed, signature_record}
+use Rattle.op.specs.Fits.{as_list, signature_record}
 use Rattle.op.specs.Header.{IsNarrow, header_bytes, raw_header}
 use Rattle.op.specs.Message.{MessageValue}
 use Rattle.op.specs.Query.{QueryWord, plain_query, query_written}
@@ -47,13 +47,13 @@ WritesRecords = WritesFront RecordWord plain_record record_owner record_written
 -- Room for the header was kept, the questions were all written and of each other part a front, and then the header was
 -- filled in.
 pub record Emitted (m : MessageValue) (old new : State) (h : Header) : Type 0 where
-  pub kept : State
-  pub first : State
-  pub second : State
-  pub third : State
-  pub fourth : State
-  pub fifth : State
-  pub sixth : State
+  pub after_header : State
+  pub after_questions : State
+  pub after_answers : State
+  pub after_authorities : State
+  pub after_additionals : State
+  pub after_edns : State
+  pub after_signature : State
   pub answers_cut : Bool
   pub authorities_cut : Bool
   pub additionals_cut : Bool
@@ -63,17 +63,19 @@ pub record Emitted (m : MessageValue) (old new : State) (h : Header) : Type 0 wh
   pub edns_count : ℕ
   pub signature_count : ℕ
   pub narrow : IsNarrow h.metadata.id h.counts
-  pub place : kept ≡ appended (replicate 12 0) old
-  pub room : length kept.bytes ≤ old.limit
-  pub queries : EachWritten QueryWord plain_query query_owner m.queries kept first
-  pub asked : first ≡ after (in_turn query_written m.queries) kept
-  pub answers : WritesRecords m.answers first second h.counts.answers answers_cut
-  pub authorities : WritesRecords m.authorities second third h.counts.authorities authorities_cut
-  pub additionals : WritesRecords m.additionals third fourth additional_count additionals_cut
-  pub edns : WritesRecords (listed (option_map edns_record (raised m))) fourth fifth edns_count
-      edns_cut
-  pub signature : WritesRecords (listed (option_map signature_record m.signature)) fifth sixth
-      signature_count signature_cut
+  pub place : after_header ≡ appended (replicate 12 0) old
+  pub room : length after_header.bytes ≤ old.limit
+  pub queries : EachWritten QueryWord plain_query query_owner m.queries after_header after_questions
+  pub asked : after_questions ≡ after (in_turn query_written m.queries) after_header
+  pub answers : WritesRecords m.answers after_questions after_answers h.counts.answers answers_cut
+  pub authorities : WritesRecords m.authorities after_answers after_authorities
+      h.counts.authorities authorities_cut
+  pub additionals : WritesRecords m.additionals after_authorities after_additionals
+      additional_count additionals_cut
+  pub edns : WritesRecords (as_list (option_map edns_record (raised m))) after_additionals
+      after_edns edns_count edns_cut
+  pub signature : WritesRecords (as_list (option_map signature_record m.signature)) after_edns
+      after_signature signature_count signature_cut
   pub query_count : h.counts.queries ≡ length m.queries
   pub sum : h.counts.additionals ≡ additional_count + (edns_count + signature_count)
   pub metadata : h.metadata
@@ -82,7 +84,7 @@ pub record Emitted (m : MessageValue) (old new : State) (h : Header) : Type 0 wh
             || (answers_cut
             || (authorities_cut || (additionals_cut || (edns_cut || signature_cut))));
       }
-  pub header : new ≡ overwritten (length old.bytes) (header_bytes (raw_header h)) sixth
+  pub header : new ≡ overwritten (length old.bytes) (header_bytes (raw_header h)) after_signature
 
 -- What a refusal but for memory leaves: nothing was written where the header had no room; else room for the header, and
 -- the first `count` questions, up to one that had no room.

@@ -18,9 +18,9 @@ use Rattle.op.specs.declared.query.Query.{Query}
 use Rattle.op.specs.declared.response_code.ResponseCode.{ResponseCode}
 
 -- a list of one or none
-abbrev pub listed : {X : Type 0} → Option X → List X
-listed None = []
-listed (Some x) = x ∷ []
+abbrev pub as_list : {X : Type 0} → Option X → List X
+as_list None = []
+as_list (Some x) = x ∷ []
 
 -- a signature's record as any record
 abbrev pub signature_record : Record (List ℕ) → Record RData
@@ -28,7 +28,7 @@ signature_record r = with_data kinds.TSIG r
 
 -- the record of a signature, if there is one
 abbrev pub signature_records : Option (Record (List ℕ)) → List (Record RData)
-signature_records signature = listed (option_map signature_record signature)
+signature_records signature = as_list (option_map signature_record signature)
 
 -- EDNS with the high bits of a code in place of its own (RFC 6891, 6.1.3)
 abbrev pub with_high_bits : ResponseCode → Edns → Edns
@@ -36,7 +36,7 @@ with_high_bits code e = record e { rcode_high = code_number code / 16 % 256 }
 
 -- the OPT record that is written of EDNS, if there is EDNS: it has the high bits of the message's code
 abbrev pub opt_records : ResponseCode → Option Edns → List (Record RData)
-opt_records code edns = listed (option_map (λ e. edns_record (with_high_bits code e)) edns)
+opt_records code edns = as_list (option_map (λ e. edns_record (with_high_bits code e)) edns)
 
 -- A record of answers or authorities that fits. If its data is empty, the message is an Update; it is no OPT, SIG or
 -- TSIG, which stand among additionals alone.
@@ -66,8 +66,8 @@ pub record Fits (m : MessageValue) : Type 0 where
   pub answers : All (FitsPlain m.metadata.op_code) m.answers
   pub authorities : All (FitsPlain m.metadata.op_code) m.authorities
   pub additionals : All (FitsAdditional m.metadata.op_code) m.additionals
-  pub edns : All FitsEdns (listed m.edns)
-  pub signature : All (λ r. FitsRecord (signature_record r)) (listed m.signature)
+  pub edns : All FitsEdns (as_list m.edns)
+  pub signature : All (λ r. FitsRecord (signature_record r)) (as_list m.signature)
 
 -- the bytes of questions without compression
 abbrev pub plain_queries : List Query → ℕ

@@ -7,7 +7,7 @@ use Rattle.rr.specs.RecordSays.{RecordKept}
 use Rattle.rr.specs.declared.record.Record.{Record}
 use Rattle.op.specs.Cut.{raised}
 use Rattle.op.specs.EdnsRecord.{edns_record}
-use Rattle.op.specs.Fits.{listed, signature_record}
+use Rattle.op.specs.Fits.{as_list, signature_record}
 use Rattle.op.specs.Message.{MessageValue}
 use Rattle.op.specs.QuerySays.{QueryKept}
 
@@ -22,5 +22,5 @@ pub record MessageKept (m : MessageValue) : Type 0 where
   pub answers : All KeptRecord m.answers
   pub authorities : All KeptRecord m.authorities
   pub additionals : All KeptRecord m.additionals
-  pub edns : All KeptRecord (listed (option_map edns_record (raised m)))
-  pub signature : All KeptRecord (listed (option_map signature_record m.signature))
+  pub edns : All KeptRecord (as_list (option_map edns_record (raised m)))
+  pub signature : All KeptRecord (as_list (option_map signature_record m.signature))

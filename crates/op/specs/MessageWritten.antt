@@ -10,7 +10,7 @@ use Rattle.rr.specs.Record.{record_written}
 use Rattle.rr.specs.declared.record.Record.{Record}
 use Rattle.op.specs.Cut.{raised}
 use Rattle.op.specs.EdnsRecord.{edns_record}
-use Rattle.op.specs.Fits.{listed, signature_record}
+use Rattle.op.specs.Fits.{as_list, signature_record}
 use Rattle.op.specs.Header.{header_bytes, raw_header}
 use Rattle.op.specs.Message.{MessageValue}
 use Rattle.op.specs.Query.{query_written}
@@ -25,8 +25,8 @@ pub record Part (E : Type 0) : Type 0 where
   pub piece : Piece
 
 -- those of xs that fit under a limit, from a place on
-abbrev pub part : {E : Type 0} → (E → Writing) → ℕ → List E → ℕ → List Stored → Part E
-part f limit xs at stored =
+abbrev pub part_within : {E : Type 0} → (E → Writing) → ℕ → List E → ℕ → List Stored → Part E
+part_within f limit xs at stored =
     let kept = that_fit f limit xs at stored in
     let piece = in_turn f kept at stored in
     record {
@@ -37,13 +37,13 @@ part f limit xs at stored =
     }
 
 -- the own bytes of the first of these, if there is one, would pass the limit at this place
-abbrev pub FirstPasses : {E : Type 0} → (E → Writing) → ℕ → ℕ → List Stored → List E → Type 0
-FirstPasses f limit at stored [] = Unit {0}
-FirstPasses f limit at stored (x ∷ xs) = limit < at + length (f x at stored).bytes
+abbrev pub FirstPassesAt : {E : Type 0} → (E → Writing) → ℕ → ℕ → List Stored → List E → Type 0
+FirstPassesAt f limit at stored [] = Unit {0}
+FirstPassesAt f limit at stored (x ∷ xs) = limit < at + length (f x at stored).bytes
 
 -- the part that follows one, whatever became of it
 abbrev pub part_after : {D E : Type 0} → (E → Writing) → ℕ → List E → Part D → Part E
-part_after f limit xs before = part f limit xs before.end before.piece.suffixes
+part_after f limit xs before = part_within f limit xs before.end before.piece.suffixes
 
 -- the parts of a message after its header (RFC 1035, 4.1)
 pub record Parts : Type 0 where
@@ -57,14 +57,14 @@ pub record Parts : Type 0 where
 -- the parts of a message under a limit, from a place on
 abbrev pub parts_of : ℕ → MessageValue → ℕ → List Stored → Parts
 parts_of limit m at stored =
-    let queries = part query_written limit m.queries at stored in
+    let queries = part_within query_written limit m.queries at stored in
     let answers = part_after record_written limit m.answers queries in
     let authorities = part_after record_written limit m.authorities answers in
     let additionals = part_after record_written limit m.additionals authorities in
     let edns =
-    part_after record_written limit (listed (option_map edns_record (raised m))) additionals in
+    part_after record_written limit (as_list (option_map edns_record (raised m))) additionals in
     let signature =
-    part_after record_written limit (listed (option_map signature_record m.signature)) edns in
+    part_after record_written limit (as_list (option_map signature_record m.signature)) edns in
     record {
       queries = queries;
       answers = answers;
@@ -88,7 +88,7 @@ pub record LostForRoom {E : Type 0} (f : E → Writing) (limit : ℕ) (xs : List
     (p : Part E) : Type 0 where
   pub lost : List E
   pub whole : xs ≡ p.kept ++ lost
-  pub passes : FirstPasses f limit p.end p.piece.suffixes lost
+  pub passes : FirstPassesAt f limit p.end p.piece.suffixes lost
 
 -- the header of these parts: it counts what is kept, and TC is set where a record is lost
 abbrev pub header_of : MessageValue → Parts → Header
@@ -127,7 +127,7 @@ message_bytes limit m = (message_written limit m 0 []).bytes
 -- out: what is written; or that the header has no room; or that not all questions have, and how many of them do.
 abbrev pub message_answer_at : ℕ → MessageValue → ℕ → List Stored → Result (List ℕ) ProtoError
 message_answer_at limit m at stored =
-    let asked = part query_written limit m.queries (at + 12) stored in
+    let asked = part_within query_written limit m.queries (at + 12) stored in
     if nat_lt limit (at + 12) then Err refusals.MaxBufferSizeExceeded
     else (if asked.is_cut then Err (refusals.NotAllRecordsWritten (length asked.kept))
     else Ok (message_written limit m at stored).bytes)

@@ -51,8 +51,8 @@ abbrev pub is_additional : Record RData → Bool
 is_additional r = is_additional_type (type_of_data r.rdata)
 
 -- a record that is neither EDNS nor a signature
-abbrev pub is_ordinary : Record RData → Bool
-is_ordinary r = not (is_opt r || is_signature r)
+abbrev pub is_plain_record : Record RData → Bool
+is_plain_record r = not (is_opt r || is_signature r)
 
 -- data that an OPT record has: options, or none (RFC 6891, 6.1.2)
 abbrev pub IsOptData : RData → Type 0
@@ -107,9 +107,9 @@ section_value s =
     }
 
 -- what reading a section answers, as contracts see it
-abbrev pub parts_value : Vec (Record RData) × Option Edns × Option (Box (Record (List ℕ)))
+abbrev pub read_section_value : Vec (Record RData) × Option Edns × Option (Box (Record (List ℕ)))
     → SectionValue
-parts_value parts =
+read_section_value parts =
     record {
       records = parts.0.items;
       edns = parts.1;
@@ -119,7 +119,7 @@ parts_value parts =
 -- what records become: EDNS and a signature by themselves, and the other records in their order
 abbrev pub section_of : List (Record RData) → SectionValue
 section_of rs = record {
-  records = filter is_ordinary rs;
+  records = filter is_plain_record rs;
   edns = option_map edns_of (find is_opt rs);
   signature = option_map signature_of (find is_signature rs);
 }
@@ -129,16 +129,16 @@ abbrev pub empty_section : SectionValue
 empty_section = record { records = []; edns = None; signature = None }
 
 -- a section with one more record after its records
-abbrev pub with_record : SectionValue → Record RData → SectionValue
-with_record s r =
+abbrev pub section_with : SectionValue → Record RData → SectionValue
+section_with s r =
     if is_opt r then record s { edns = Some (edns_of r) }
     else (if is_signature r then record s { signature = Some (signature_of r) }
     else record s { records = s.records ++ r ∷ [] })
 
 -- The first test that a record fails after the records of a section: empty data, a place after a signature, a place
 -- outside additionals, a second EDNS record.
-abbrev pub fault_of : Bool → OpCode → SectionValue → Record RData → Option DecodeError
-fault_of is_additional_section op s r =
+abbrev pub fault_in_section : Bool → OpCode → SectionValue → Record RData → Option DecodeError
+fault_in_section is_additional_section op s r =
     if is_empty_data r.rdata && not (is_update op || is_opt r) then Some faults.InvalidEmptyRecord
     else (if is_some s.signature then Some faults.RecordAfterSig
     else (if not is_additional_section && is_additional r
@@ -154,7 +154,7 @@ unless_fault (Some fault) s = Err fault
 -- a section with a record that was read after its records, if the record may stand there
 abbrev pub tested : Bool → OpCode → SectionValue → Record RData → Result SectionValue DecodeError
 tested is_additional_section op s r =
-    unless_fault (fault_of is_additional_section op s r) (with_record s r)
+    unless_fault (fault_in_section is_additional_section op s r) (section_with s r)
 
 -- The section s with n more records, each tested before the next is read, or the first fault.
 unfoldable pub section_from : Bool → OpCode → SectionValue → ℕ → List ℕ → ℕ → Read SectionValue

@@ -16,9 +16,10 @@ use Rattle.op_use.proofs.MapIsZone.{zone_is}
 use Rattle.op_use.proofs.Meaning.{append_changes, compare_and_swap_changes, create_changes, delete_all_changes, delete_by_rdata_changes, delete_rrset_changes}
 use Rattle.op_use.specs.Applying.{applied, is_all_supported, is_class_any, is_class_none, is_supported, is_supported_prerequisite, zone_of_map}
 use Rattle.op_use.specs.AppliedMeaning.{AppendApplies, AppliesUncut, CreateApplies, DeleteDataApplies, DeleteNameApplies, DeleteSetApplies, MapsAreZones, SwapApplies}
-use Rattle.op_use.specs.Server.{is_any, is_cname, sections_of, serve, type_of_record}
-use Rattle.op_use.specs.SoundSet.{IsFor, IsGiven, IsSound, NoCname, is_ordinary, is_plain_class}
-use Rattle.op_use.specs.UpdateMessage.{append, emptied, empty_record, in_class, without_ttl}
+use Rattle.op_use.specs.Server.{is_any, is_cname, sections_of, serve}
+use Rattle.rr.specs.Record.{type_of_record}
+use Rattle.op_use.specs.SoundSet.{IsFor, IsSoundIn, IsSound, NoCname, is_ordinary, is_plain_class}
+use Rattle.op_use.specs.UpdateMessage.{append, emptied, empty_record, untimed_in, without_ttl}
 use Rattle.op_use.specs.Zone.{IsZone, Zone}
 use Rattle.rr.specs.RecordSet.{SetValue, is_ns}
 use Rattle.rr.specs.declared.record.Record.{Record}
@@ -72,22 +73,22 @@ maps_are_zones = zone_is
 pub create_applies : CreateApplies
 create_applies id s origin use_edns =
     applies _ _ _
-    (λ (z : Zone) (p : IsGiven z origin s × NoCname z s.name) i. asked_empty s.name s.record_type classes.NONE p.0.ordinary i && supported_set s p.0.sound p.0.ordinary i)
-    (λ (z : Zone) (p : IsGiven z origin s × NoCname z s.name). create_changes z s origin p.0 p.1)
+    (λ (z : Zone) (p : IsSoundIn z origin s × NoCname z s.name) i. asked_empty s.name s.record_type classes.NONE p.0.ordinary i && supported_set s p.0.sound p.0.ordinary i)
+    (λ (z : Zone) (p : IsSoundIn z origin s × NoCname z s.name). create_changes z s origin p.0 p.1)
 
 pub append_applies : AppendApplies
 append_applies id s origin must_exist use_edns =
-    applies _ _ _ (λ (z : Zone) (p : IsGiven z origin s × NoCname z s.name). supported_append s origin must_exist p.0.sound p.0.ordinary)
-    (λ (z : Zone) (p : IsGiven z origin s × NoCname z s.name). append_changes z s origin must_exist p.0 p.1)
+    applies _ _ _ (λ (z : Zone) (p : IsSoundIn z origin s × NoCname z s.name). supported_append s origin must_exist p.0.sound p.0.ordinary)
+    (λ (z : Zone) (p : IsSoundIn z origin s × NoCname z s.name). append_changes z s origin must_exist p.0 p.1)
 
 -- what a swap needs
 abbrev Swaps : SetValue → SetValue → NameValue → Zone → Type 0
-Swaps current new origin z = (current.records ≢ []) × IsGiven z origin current × IsGiven z origin new × NoCname z new.name
+Swaps current new origin z = (current.records ≢ []) × IsSoundIn z origin current × IsSoundIn z origin new × NoCname z new.name
 
-supported_swap : (current new : SetValue) (origin : NameValue) (z : Zone) → Swaps current new origin z → list_all is_supported (map (in_class classes.NONE) current.records ++ new.records) ≡ true
+supported_swap : (current new : SetValue) (origin : NameValue) (z : Zone) → Swaps current new origin z → list_all is_supported (map (untimed_in classes.NONE) current.records ++ new.records) ≡ true
 supported_swap current new origin z p =
-    list_all-append is_supported (map (in_class classes.NONE) current.records) new.records
-    ∙ (λ i. served_as (in_class classes.NONE) (λ r. refl) current.record_type p.1.ordinary current.records p.1.sound.own_type i && supported_set new p.2.sound p.2.ordinary i)
+    list_all-append is_supported (map (untimed_in classes.NONE) current.records) new.records
+    ∙ (λ i. served_as (untimed_in classes.NONE) (λ r. refl) current.record_type p.1.ordinary current.records p.1.sound.own_type i && supported_set new p.2.sound p.2.ordinary i)
 
 pub swap_applies : SwapApplies
 swap_applies id current new origin use_edns =
@@ -97,8 +98,8 @@ swap_applies id current new origin use_edns =
 
 pub delete_data_applies : DeleteDataApplies
 delete_data_applies id s origin use_edns =
-    applies _ _ _ (λ (z : Zone) (p : IsGiven z origin s). served_as (in_class classes.NONE) (λ r. refl) s.record_type p.ordinary s.records p.sound.own_type)
-    (λ (z : Zone) (p : IsGiven z origin s). delete_by_rdata_changes z s origin p)
+    applies _ _ _ (λ (z : Zone) (p : IsSoundIn z origin s). served_as (untimed_in classes.NONE) (λ r. refl) s.record_type p.ordinary s.records p.sound.own_type)
+    (λ (z : Zone) (p : IsSoundIn z origin s). delete_by_rdata_changes z s origin p)
 
 -- what the deletion of a set needs, and of a name
 abbrev DeletesOf : Record RData → NameValue → Zone → Type 0

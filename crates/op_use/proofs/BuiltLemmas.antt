@@ -17,7 +17,7 @@ use Rattle.rr.specs.Record.{FitsRecord, is_opt_type}
 use Rattle.rr.specs.RecordSet.{SetValue}
 use Rattle.rr.specs.declared.record.Record.{Record}
 use Rattle.op.specs.Cut.{IsCut, IsUncut}
-use Rattle.op.specs.Fits.{Fits, FitsEdns, FitsPlain, listed}
+use Rattle.op.specs.Fits.{Fits, FitsEdns, FitsPlain, as_list}
 use Rattle.op.specs.Message.{IsMessageAt, MessageValue}
 use Rattle.op.specs.Query.{FitsQuery}
 use Rattle.op.specs.Section.{is_additional_type}
@@ -26,7 +26,7 @@ use Rattle.op.specs.declared.response_code.ResponseCode.{ResponseCode}
 use Rattle.op.proofs.MessageStands.{one_message}
 use Rattle.op_use.specs.SoundSet.{IsSendable, IsSendableKey, IsSendableOwner, IsSent, IsSentClass, IsSound, is_ordinary}
 use Rattle.op_use.specs.UpdateMeaning.{AppendsToSet, CreatesSet, DeletesData, DeletesName, DeletesSet, MeansUncut, SwapsSets}
-use Rattle.op_use.specs.UpdateMessage.{append, compare_and_swap, create, delete_all, delete_by_rdata, delete_rrset, empty_record, in_class, sections, update_edns, update_message, without_ttl}
+use Rattle.op_use.specs.UpdateMessage.{append, compare_and_swap, create, delete_all, delete_by_rdata, delete_rrset, empty_record, untimed_in, sections, update_edns, update_message, without_ttl}
 use Rattle.base.specs.declared.error.proto_error.ProtoError.{ProtoError}
 use Rattle.op.specs.Message.{message_value}
 use Rattle.op.specs.declared.message.Message.{Message}
@@ -119,7 +119,7 @@ records_fit s sound plain sent =
 zone_fits : (origin : NameValue) (c : DNSClass) (m : Sections) → origin.absolute ≡ true → IsSentClass c → All FitsQuery (sections origin c m.prerequisites m.updates).zones
 zone_fits origin c m absolute class = All-cons FitsQuery _ [] (record { absolute = absolute; type_reads = refl; class_reads = class.reads; narrow = class.narrow }) (All-nil FitsQuery)
 
-edns_fits : (use_edns : Bool) → All FitsEdns (listed (update_edns use_edns))
+edns_fits : (use_edns : Bool) → All FitsEdns (as_list (update_edns use_edns))
 edns_fits true = All-cons FitsEdns _ [] (record { payload = omega arith; version = omega arith; z = omega arith }) (All-nil FitsEdns)
 edns_fits false = All-nil FitsEdns
 
@@ -152,7 +152,7 @@ create_fits id s origin use_edns g =
     (one_fits _ (empty_fits s.name s.record_type classes.NONE g.sent.absolute (sent_type s g.sent g.ordinary) none_class)) (records_fit s g.sound g.ordinary g.sent)
 
 -- records in the class NONE, and without a TTL
-in_none : (r : Record RData) → is_opt_type (type_of_data r.rdata) ≡ false → FitsRecord r → FitsRecord (in_class classes.NONE r)
+in_none : (r : Record RData) → is_opt_type (type_of_data r.rdata) ≡ false → FitsRecord r → FitsRecord (untimed_in classes.NONE r)
 in_none r plain fits = record {
   reads = record { type_reads = fits.reads.type_reads; root = fits.reads.root; readable = fits.reads.readable };
   absolute = fits.absolute;
@@ -163,7 +163,7 @@ in_none r plain fits = record {
 }
 
 each_none : (t : RecordType) → is_ordinary t ≡ true → (rs : List (Record RData)) → AllByRecursion (λ (r : Record RData). type_of_data r.rdata ≡ t) rs
-    → AllByRecursion FitsRecord rs → AllByRecursion (FitsPlain op_codes.Update) (map (in_class classes.NONE) rs)
+    → AllByRecursion FitsRecord rs → AllByRecursion (FitsPlain op_codes.Update) (map (untimed_in classes.NONE) rs)
 each_none t plain [] own fits = tt
 each_none t plain (r ∷ rs) own fits =
     (record { fits = in_none r (ap is_opt_type own.0 ∙ not_opt t plain) fits.0; given = λ _. refl; placed = ap is_additional_type own.0 ∙ not_additional t plain }, each_none t plain rs own.1 fits.1)

@@ -11,23 +11,23 @@ use Rattle.rr.specs.RecordSet.{SetValue}
 use Rattle.op_use.specs.Zone.{IsZone, Zone, has_set}
 use Rattle.op_use.specs.NamedChanges.{has_data_of_set, less_data, less_key, less_name, merged, set_key}
 use Rattle.op_use.specs.Server.{serve}
-use Rattle.op_use.specs.SoundSet.{IsFor, IsGiven, NoCname, is_ordinary, is_plain_class}
+use Rattle.op_use.specs.SoundSet.{IsFor, IsSoundIn, NoCname, is_ordinary, is_plain_class}
 use Rattle.op_use.specs.UpdateMessage.{append, compare_and_swap, create, delete_all, delete_by_rdata, delete_rrset}
 
 abbrev pub CreateChanges : Type 0
-CreateChanges = (z : Zone) (s : SetValue) (origin : NameValue) → IsGiven z origin s → NoCname z s.name →
+CreateChanges = (z : Zone) (s : SetValue) (origin : NameValue) → IsSoundIn z origin s → NoCname z s.name →
     serve z (create s origin) ≡ (if has_set z (set_key s) then (YXRRSet, z) else (NoError, merged z s))
 
 abbrev pub AppendChanges : Type 0
-AppendChanges = (z : Zone) (s : SetValue) (origin : NameValue) (must_exist : Bool) → IsGiven z origin s → NoCname z s.name →
+AppendChanges = (z : Zone) (s : SetValue) (origin : NameValue) (must_exist : Bool) → IsSoundIn z origin s → NoCname z s.name →
     serve z (append s origin must_exist) ≡ (if must_exist && not (has_set z (set_key s)) then (NXRRSet, z) else (NoError, merged z s))
 
 abbrev pub CompareAndSwapChanges : Type 0
-CompareAndSwapChanges = (z : Zone) (current new : SetValue) (origin : NameValue) → IsGiven z origin current → IsGiven z origin new → NoCname z new.name → current.records ≢ [] →
+CompareAndSwapChanges = (z : Zone) (current new : SetValue) (origin : NameValue) → IsSoundIn z origin current → IsSoundIn z origin new → NoCname z new.name → current.records ≢ [] →
     serve z (compare_and_swap current new origin) ≡ (if has_data_of_set z current then (NoError, merged (less_key z (set_key current)) new) else (NXRRSet, z))
 
 abbrev pub DeleteByRdataChanges : Type 0
-DeleteByRdataChanges = (z : Zone) (s : SetValue) (origin : NameValue) → IsGiven z origin s →
+DeleteByRdataChanges = (z : Zone) (s : SetValue) (origin : NameValue) → IsSoundIn z origin s →
     serve z (delete_by_rdata s origin) ≡ (NoError, less_data z s)
 
 abbrev pub DeleteRrsetChanges : Type 0

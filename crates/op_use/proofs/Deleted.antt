@@ -5,7 +5,8 @@ use Rattle.base.specs.declared.rr_key.RrKey.{RrKey}
 use Rattle.base_data.specs.declared.rdata.RData.{RData}
 use Rattle.op_use.proofs.ZoneSteps.{get_with_set, same_sets}
 use Rattle.op_use.specs.NamedChanges.{less_key, less_name}
-use Rattle.op_use.specs.Server.{goes_with, is_any, is_under, record_key, type_of_record}
+use Rattle.op_use.specs.Server.{goes_with, is_any, is_under}
+use Rattle.rr.specs.Record.{record_key, type_of_record}
 use Rattle.op_use.specs.Zone.{Datum, Zone, is_guarded, is_owned}
 use Rattle.rr.specs.declared.record.Record.{Record}
 use Rattle.std.proofs.Common.{ap, refl, sym, ◌∙◌}

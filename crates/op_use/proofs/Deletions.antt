@@ -9,7 +9,8 @@ use Rattle.op_use.proofs.ZoneSteps.{at_put, put_put, same_key}
 use Rattle.op_use.specs.AppliedRecords.{after_by, after_update, parted, records_after}
 use Rattle.op_use.specs.MapUpdates.{is_deletion, is_of_none}
 use Rattle.op_use.specs.NamedChanges.{datum_of}
-use Rattle.op_use.specs.Server.{OfAny, OfNone, OfNothing, OfZone, Use, is_needed, is_same_key, is_under, record_key, removed, type_of_record, update, update_by, use_of}
+use Rattle.op_use.specs.Server.{OfAny, OfNone, OfNothing, OfZone, Use, is_needed, is_same_key, is_under, removed, update, update_by, use_of}
+use Rattle.rr.specs.Record.{record_key, type_of_record}
 use Rattle.op_use.specs.Zone.{Zone, at, is_guarded, put}
 use Rattle.rr.proofs.WithoutSteps.{without_none}
 use Rattle.rr.specs.RecordSet.{SetValue, is_soa}

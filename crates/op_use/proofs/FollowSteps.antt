@@ -10,8 +10,9 @@ use Rattle.op_use.specs.AppliedMeaning.{RecordsHoldTheData}
 use Rattle.op_use.specs.AppliedRecords.{after_by, after_update, parted, records_after, records_answered}
 use Rattle.op_use.specs.Applying.{is_all_supported}
 use Rattle.op_use.specs.NamedChanges.{datum_of}
-use Rattle.op_use.specs.Server.{Fault, OfAny, OfNone, OfNothing, OfZone, Sections, Use as UseValue, added, answer, fault, goes_with, is_cname, is_needed, record_key, removed, is_under}
-use Rattle.op_use.specs.Server.{type_of_record, update, update_by, use_of}
+use Rattle.op_use.specs.Server.{StepCode, OfAny, OfNone, OfNothing, OfZone, Sections, Use as UseValue, added, answer, fault, goes_with, is_cname, is_needed, removed, is_under}
+use Rattle.rr.specs.Record.{record_key, type_of_record}
+use Rattle.op_use.specs.Server.{update, update_by, use_of}
 use Rattle.op_use.specs.Zone.{Datum, Zone, at, put}
 use Rattle.rr.specs.SetChanges.{joined}
 use Rattle.rr.specs.declared.record.Record.{Record}
@@ -73,7 +74,7 @@ all_follow [] z k xs same = same
 all_follow (r ∷ rs) z k xs same = all_follow rs (update z r) k (after_update z r k xs) (follows_by z r k xs same (use_of z.class r.dns_class))
 
 module _ (z : Zone) (m : Sections) (k : RrKey) (xs : List (Record RData)) (same : at z k ≡ map datum_of xs) where
-  outcome_follows : (served : Bool) (found : Fault)
+  outcome_follows : (served : Bool) (found : StepCode)
       → at (cond served (answer z m.updates found) (NotImp, z)).1 k ≡ map datum_of (cond served (records_answered z m.updates found k xs) xs)
   outcome_follows true (Some code) = same
   outcome_follows true None = all_follow m.updates z k xs same

@@ -26,8 +26,9 @@ use Rattle.rr.specs.RecordSet.{SetValue, is_ns, is_soa}
 use Rattle.rr.specs.RecordOrder.{same_class}
 use Rattle.op_use.specs.Zone.{Datum, Zone, at, has_set, put}
 use Rattle.op_use.specs.NamedChanges.{set_key}
-use Rattle.op_use.specs.Server.{is_any, is_cname, is_kept_out, is_meta, type_of_record, record_key, use_of, OfZone, first_fault, prescan_fault, update, added, and_then, unless, zone_fault, prescan_by, update_by}
-use Rattle.op_use.specs.SoundSet.{IsFor, IsGiven, is_ordinary, is_plain_class}
+use Rattle.op_use.specs.Server.{is_any, is_cname, is_kept_out, is_meta, use_of, OfZone, first_fault, prescan_fault, update, added, and_then, unless, zone_fault, prescan_by, update_by}
+use Rattle.rr.specs.Record.{record_key, type_of_record}
+use Rattle.op_use.specs.SoundSet.{IsFor, IsSoundIn, is_ordinary, is_plain_class}
 use Rattle.op_use.proofs.ZoneSteps.{at_put, put_put, at_put_other, same_key}
 
 pub same_folded : (a b : NameValue) → same_name a b ≡ true → folded a ≡ folded b
@@ -107,7 +108,7 @@ each_at z named s f p (r ∷ rs) a b c =
       each_at z named s f p rs a.1 b.1 c.1,
     )
 
-pub given_at : (z : Zone) (named : NameValue) (s : SetValue) → IsGiven z named s → AllByRecursion (IsAt z (set_key s) s.record_type) s.records
+pub given_at : (z : Zone) (named : NameValue) (s : SetValue) → IsSoundIn z named s → AllByRecursion (IsAt z (set_key s) s.record_type) s.records
 given_at z named s g = each_at z named s g.place g.sound.class s.records g.sound.own_owner g.sound.own_type g.sound.own_class
 
 -- the zone section passes

@@ -7,9 +7,9 @@ use Rattle.base_data.specs.declared.rdata.RData.{RData}
 use Rattle.op_use.proofs.MapSteps.{chained, more_after, none_after}
 use Rattle.op_use.proofs.UpdateSteps.{after_deletions}
 use Rattle.op_use.specs.Applying.{IsZoneMap, IsZoneSet, records_at}
-use Rattle.op_use.specs.HeldZone.{HeldZone, zone_of}
-use Rattle.op_use.specs.MapUpdates.{Holds, IsAfter, IsSetTo, IsUpdated, Lacks, Leaves, is_deletion}
-use Rattle.op_use.specs.Server.{record_key}
+use Rattle.op_use.specs.HeldZone.{HeldZone, zone_held}
+use Rattle.op_use.specs.MapUpdates.{HoldsAt, IsAfter, IsSetTo, IsUpdated, Lacks, LeavesOwner, is_deletion}
+use Rattle.rr.specs.Record.{record_key}
 use Rattle.op_use.specs.Zone.{Zone}
 use Rattle.rr.specs.RecordSet.{SetValue}
 use Rattle.rr.specs.SetUpdates.{without}
@@ -31,7 +31,7 @@ pub same_updated : (rs : List (Record RData)) (z : HeldZone) → (IsZoneMap z.cl
 same_updated rs z step = (z.sets, refl, step)
 
 -- an update that puts a set
-pub set_updated : (rs xs : List (Record RData)) (k : RrKey) (old new : HeldZone) → Holds k xs old new
+pub set_updated : (rs xs : List (Record RData)) (k : RrKey) (old new : HeldZone) → HoldsAt k xs old new
     → ((n : BTreeMap RrKey SetValue) → IsSetTo old.class k xs old.sets n → IsZoneMap old.class old.sets → IsAfter old.origin old.class rs old.sets n) → IsUpdated rs old new
 set_updated rs xs k old new h step = (h.0, h.1, step h.0 h.2)
 
@@ -47,8 +47,8 @@ updated_more rs ss old mid new first next = chain (subst (λ (z : HeldZone). IsU
         more_after old.origin old.class rs ss old.sets first.0 h.0 before (h.2 before.is_map),
   )
 
-pub moved_held : (k q : RrKey) (xs ys : List (Record RData)) (old new : HeldZone) → k ≡ q → xs ≡ ys → Holds k xs old new → Holds q ys old new
-moved_held k q xs ys old new e f h = subst (λ (j : RrKey). Holds j ys old new) e (subst (λ (zs : List (Record RData)). Holds k zs old new) f h)
+pub moved_held : (k q : RrKey) (xs ys : List (Record RData)) (old new : HeldZone) → k ≡ q → xs ≡ ys → HoldsAt k xs old new → HoldsAt q ys old new
+moved_held k q xs ys old new e f h = subst (λ (j : RrKey). HoldsAt j ys old new) e (subst (λ (zs : List (Record RData)). HoldsAt k zs old new) f h)
 
 -- a set that is taken out
 gone_set : (class : DNSClass) (m : BTreeMap RrKey SetValue) (b : Bool) (q : RrKey) (s : SetValue) → IsZoneMap class m → cond b None (tree.get key_cmp m q) ≡ Some s → IsZoneSet class q s
@@ -66,21 +66,21 @@ left_set : (class : DNSClass) (m : BTreeMap RrKey SetValue) (b : Bool) (q : RrKe
 left_set class m true q s old e = old q s e
 left_set class m false q s old e = absurd cc
 
-pub left_map : (z : Zone) (owner : NameValue) (class : DNSClass) (m n : BTreeMap RrKey SetValue) → IsZoneMap class m → Leaves z owner m n → IsZoneMap class n
+pub left_map : (z : Zone) (owner : NameValue) (class : DNSClass) (m n : BTreeMap RrKey SetValue) → IsZoneMap class m → LeavesOwner z owner m n → IsZoneMap class n
 left_map z owner class m n old h = λ q s e. left_set class m _ q s old (sym (h q) ∙ e)
 
 -- the new zone is the old one without the sets of an owner
 abbrev pub LacksOwner : NameValue → HeldZone → HeldZone → Type 0
-LacksOwner owner old new = (sets : BTreeMap RrKey SetValue) × (new ≡ record old { sets = sets }) × Leaves (zone_of old) owner old.sets sets
+LacksOwner owner old new = (sets : BTreeMap RrKey SetValue) × (new ≡ record old { sets = sets }) × LeavesOwner (zone_held old) owner old.sets sets
 
 pub owner_updated : (rs : List (Record RData)) (owner : NameValue) (old new : HeldZone) → LacksOwner owner old new
-    → ((n : BTreeMap RrKey SetValue) → Leaves (zone_of old) owner old.sets n → IsZoneMap old.class old.sets → IsAfter old.origin old.class rs old.sets n) → IsUpdated rs old new
+    → ((n : BTreeMap RrKey SetValue) → LeavesOwner (zone_held old) owner old.sets n → IsZoneMap old.class old.sets → IsAfter old.origin old.class rs old.sets n) → IsUpdated rs old new
 owner_updated rs owner old new h step = (h.0, h.1, step h.0 h.2)
 
 -- records put where a set was taken out
-pub put_back : (k : RrKey) (xs : List (Record RData)) (old mid new : HeldZone) → Lacks k old mid → Holds k xs mid new → Holds k xs old new
-put_back k xs old mid new first next = chain (subst (λ (z : HeldZone). Holds k xs z new) first.1 next) where
-  chain : Holds k xs (record old { sets = first.0 }) new → Holds k xs old new
+pub put_back : (k : RrKey) (xs : List (Record RData)) (old mid new : HeldZone) → Lacks k old mid → HoldsAt k xs mid new → HoldsAt k xs old new
+put_back k xs old mid new first next = chain (subst (λ (z : HeldZone). HoldsAt k xs z new) first.1 next) where
+  chain : HoldsAt k xs (record old { sets = first.0 }) new → HoldsAt k xs old new
   chain h = (h.0, h.1, chained old.class k xs old.sets first.0 h.0 first.2 h.2)
 
 -- the map of a zone that was made of one
@@ -91,8 +91,8 @@ all_updated z new origin class m rs e h old = step (subst (λ (y : HeldZone). Is
   step u = subst (λ n. IsAfter origin class rs m n) (sym (ap (λ (y : HeldZone). y.sets) u.1)) (u.2 old)
 
 -- deletions of data of one set
-pub deletions_updated : (k : Record RData) (ds : List (Record RData)) (old new : HeldZone) → 0 < length ds → AllByRecursion (λ u. is_deletion (zone_of old) k u ≡ true) ds
-    → Holds (record_key k) (without ds (records_at old.sets (record_key k))) old new → IsUpdated ds old new
+pub deletions_updated : (k : Record RData) (ds : List (Record RData)) (old new : HeldZone) → 0 < length ds → AllByRecursion (λ u. is_deletion (zone_held old) k u ≡ true) ds
+    → HoldsAt (record_key k) (without ds (records_at old.sets (record_key k))) old new → IsUpdated ds old new
 deletions_updated k [] old new some all h = absurd (omega (arith, some))
 deletions_updated k (r ∷ rs) old new some all h = set_updated (r ∷ rs) _ _ old new h (λ n put is_map. after_deletions old.origin old.class old.sets n r is_map k rs all put)
 
@@ -113,12 +113,12 @@ module _ (es : List (Record RData)) (i n : ℕ) (below : i < length es) (some : 
     not_none (suc k) h = omega arith
 
   pub run_updated : (k : Record RData) (key : RrKey) (old mid new : HeldZone) → key ≡ record_key k
-      → AllByRecursion (λ u. is_deletion (zone_of mid) k u ≡ true) (take n (take (length es - i) (drop i es)))
-      → Holds key (without (take ((i + n) - i) (drop i es)) (records_at mid.sets key)) mid new → IsUpdated (take i es) old mid → IsUpdated (take (i + n) es) old new
+      → AllByRecursion (λ u. is_deletion (zone_held mid) k u ≡ true) (take n (take (length es - i) (drop i es)))
+      → HoldsAt key (without (take ((i + n) - i) (drop i es)) (records_at mid.sets key)) mid new → IsUpdated (take i es) old mid → IsUpdated (take (i + n) es) old new
   run_updated k key old mid new is all h before =
       let count : (i + n) - i ≡ n = omega arith in
       let ds = take n (drop i es) in
       let held = moved_held key (record_key k) _ (without ds (records_at mid.sets (record_key k))) mid new is
       (λ j. without (take (count j) (drop i es)) (records_at mid.sets (is j))) h in
-      let step = deletions_updated k ds mid new run_some (subst (λ rs. AllByRecursion (λ u. is_deletion (zone_of mid) k u ≡ true) (take n rs)) rest_is all) held in
+      let step = deletions_updated k ds mid new run_some (subst (λ rs. AllByRecursion (λ u. is_deletion (zone_held mid) k u ≡ true) (take n rs)) rest_is all) held in
       subst (λ rs. IsUpdated rs old new) (sym (take-add i n es)) (updated_more (take i es) ds old mid new before step)

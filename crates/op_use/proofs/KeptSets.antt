@@ -7,12 +7,13 @@ use Rattle.base_data.specs.declared.rdata.RData.{RData}
 use Rattle.op_use.proofs.MapSteps.{injected, taken_more}
 use Rattle.op_use.proofs.MapZones.{get_zone}
 use Rattle.op_use.proofs.ZoneSteps.{same_key, same_sets}
-use Rattle.op_use.specs.Applying.{IsZoneMap, IsZoneSet, KeepsSame, data_of, records_at, records_in, zone_of_map}
+use Rattle.op_use.specs.Applying.{IsZoneMap, IsZoneSet, KeepsSame, data_in_set, records_at, records_in, zone_of_map}
 use Rattle.op_use.specs.HeldZone.{HeldZone}
 use Rattle.op_use.specs.Kept.{IsReturned, Returns}
 use Rattle.op_use.specs.MapUpdates.{IsAfter, names_set}
 use Rattle.op_use.specs.NamedChanges.{datum_of}
-use Rattle.op_use.specs.Server.{is_under, record_key}
+use Rattle.op_use.specs.Server.{is_under}
+use Rattle.rr.specs.Record.{record_key}
 use Rattle.op_use.specs.Zone.{Datum}
 use Rattle.rr.specs.RecordSet.{SetValue}
 use Rattle.rr.specs.SetUpdates.{last_ttl}
@@ -113,7 +114,7 @@ module _ (origin : NameValue) (class : DNSClass) (rs : List (Record RData)) (old
   pub returned_map : IsZoneMap class new
   returned_map = λ q s e. map_of q s e (h.each q)
 
-  one_data : (q : RrKey) (o p : Option SetValue) → tree.get key_cmp new q ≡ o → tree.get key_cmp now q ≡ p → records_in o ≡ records_in p → option_map data_of o ≡ option_map data_of p
+  one_data : (q : RrKey) (o p : Option SetValue) → tree.get key_cmp new q ≡ o → tree.get key_cmp now q ≡ p → records_in o ≡ records_in p → option_map data_in_set o ≡ option_map data_in_set p
   one_data q None None e f same = refl
   one_data q (Some s) (Some t) e f same = ap (λ xs. Some (map datum_of xs)) same
   one_data q None (Some t) e f same = absurd ((after.is_map q t f).filled (sym same))

@@ -8,7 +8,8 @@ use Rattle.op_use.proofs.MergeSteps.{laws}
 use Rattle.op_use.proofs.ZoneSteps.{same_key}
 use Rattle.op_use.specs.Applying.{records_at, records_in}
 use Rattle.op_use.specs.MapFaults.{asks_for, is_by_value, listed_under, there_under}
-use Rattle.op_use.specs.Server.{is_same_key, record_key}
+use Rattle.op_use.specs.Server.{is_same_key}
+use Rattle.rr.specs.Record.{record_key}
 use Rattle.rr.specs.RecordSet.{SetValue}
 use Rattle.rr.specs.SetChanges.{has_data_of}
 use Rattle.rr.specs.declared.record.Record.{Record}

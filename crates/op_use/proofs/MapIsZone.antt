@@ -6,7 +6,7 @@ use Rattle.base.specs.declared.rr_key.RrKey.{RrKey}
 use Rattle.base_data.specs.SameData.{same_data}
 use Rattle.base_data.specs.declared.rdata.RData.{RData}
 use Rattle.op_use.proofs.MapZones.{data_at, get_zone}
-use Rattle.op_use.specs.Applying.{IsZoneMap, IsZoneSet, data_of, records_in, zone_of_map}
+use Rattle.op_use.specs.Applying.{IsZoneMap, IsZoneSet, data_in_set, records_in, zone_of_map}
 use Rattle.op_use.specs.NamedChanges.{datum_of}
 use Rattle.op_use.specs.Zone.{Datum, IsZone}
 use Rattle.rr.specs.RecordSet.{SetValue}
@@ -22,7 +22,7 @@ not_empty : (rs : List (Record RData)) → rs ≢ [] → Some (map datum_of rs) 
 not_empty [] n = absurd (n refl)
 not_empty (r ∷ rs) n = λ f. cc
 
-filled_in : (o : Option SetValue) → ((s : SetValue) → o ≡ Some s → s.records ≢ []) → option_map data_of o ≢ Some []
+filled_in : (o : Option SetValue) → ((s : SetValue) → o ≡ Some s → s.records ≢ []) → option_map data_in_set o ≢ Some []
 filled_in None h = λ f. cc
 filled_in (Some s) h = not_empty s.records (h s refl)
 

@@ -13,7 +13,8 @@ use Rattle.op_use.specs.AppliedRecords.{after_update, records_after}
 use Rattle.op_use.specs.Applying.{IsZoneMap, IsZoneSet, TakesFrom, TakesTtls, names_owner, records_at, records_in, zone_of_map}
 use Rattle.op_use.specs.MapUpdates.{IsAfter, IsSetTo, names_set}
 use Rattle.op_use.specs.NamedChanges.{datum_of}
-use Rattle.op_use.specs.Server.{is_under, record_key, update}
+use Rattle.op_use.specs.Server.{is_under, update}
+use Rattle.rr.specs.Record.{record_key}
 use Rattle.op_use.specs.Zone.{Zone, is_owned, put}
 use Rattle.rr.specs.RecordSet.{SetValue}
 use Rattle.rr.specs.SetUpdates.{last_ttl}

@@ -24,21 +24,22 @@ use Rattle.rr.specs.RecordSet.{SetValue, is_ns, is_soa}
 use Rattle.base_data.specs.SameData.{same_data}
 use Rattle.op_use.specs.Zone.{Datum, IsZone, Zone, at, has_set, has_type_at, is_guarded, put}
 use Rattle.op_use.specs.NamedChanges.{has_data_of_set, is_data_of, less_data, less_key, merged, set_key}
-use Rattle.op_use.specs.Server.{Sections, Fault, and_then, unless, first_fault, prescan_fault, prescan_by, prerequisite_fault, prerequisite_by, prerequisites_fault}
-use Rattle.op_use.specs.Server.{collected, is_found, is_met, is_same_key, is_of_zone, use_of, is_any, is_meta, type_of_record, record_key, update, removed, answer, serve}
+use Rattle.op_use.specs.Server.{Sections, StepCode, and_then, unless, first_fault, prescan_fault, prescan_by, prerequisite_fault, prerequisite_by, prerequisites_fault}
+use Rattle.op_use.specs.Server.{collected, is_found, is_met, is_same_key, is_of_zone, use_of, is_any, is_meta, update, removed, answer, serve}
+use Rattle.rr.specs.Record.{record_key, type_of_record}
 use Rattle.op_use.specs.Server.{zone_fault}
-use Rattle.op_use.specs.SoundSet.{IsFor, IsGiven, NoCname, is_ordinary}
-use Rattle.op_use.specs.UpdateMessage.{append, compare_and_swap, create, delete_all, delete_by_rdata, delete_rrset, emptied, empty_record, in_class, without_ttl}
+use Rattle.op_use.specs.SoundSet.{IsFor, IsSoundIn, NoCname, is_ordinary}
+use Rattle.op_use.specs.UpdateMessage.{append, compare_and_swap, create, delete_all, delete_by_rdata, delete_rrset, emptied, empty_record, untimed_in, without_ttl}
 use Rattle.op_use.proofs.Changes.{AppendChanges, CompareAndSwapChanges, CreateChanges, DeleteAllChanges, DeleteByRdataChanges, DeleteRrsetChanges}
 use Rattle.op_use.proofs.ZoneSteps.{at_put, put_put, put_same, tied, get_with_set}
 use Rattle.op_use.proofs.MergeSteps.{all_added, all_removed, none_left}
 use Rattle.op_use.proofs.Given.{IsAt, given_at, at_after, zone_passes, scan_passes, updates_put, zone_spelled, no_soa, no_ns, no_cname, no_any, no_meta}
 
-and_then_none : (p : Fault) → and_then p None ≡ p
+and_then_none : (p : StepCode) → and_then p None ≡ p
 and_then_none (Some code) = refl
 and_then_none None = refl
 
-served : (z : Zone) (m : Sections) (p : Fault) → zone_fault z m.zones ≡ None → prerequisites_fault z m.prerequisites ≡ p
+served : (z : Zone) (m : Sections) (p : StepCode) → zone_fault z m.zones ≡ None → prerequisites_fault z m.prerequisites ≡ p
     → first_fault (prescan_fault z) m.updates ≡ None → serve z m ≡ answer z m.updates p
 served z m p a b c = ap (answer z m.updates) ((λ i. and_then (a i) (and_then (b i) (c i))) ∙ and_then_none p)
 
@@ -62,7 +63,7 @@ owner_inside : (z : Zone) (named owner : NameValue) (class : DNSClass) → IsFor
 owner_inside z named owner class f = zone_spelled named z.origin owner owner f.same_origin (same_itself owner) f.within
 
 -- the records of a set, put one after another
-adds : (z : Zone) (named : NameValue) (s : SetValue) → IsGiven z named s → NoCname z s.name → fold update z s.records ≡ merged z s
+adds : (z : Zone) (named : NameValue) (s : SetValue) → IsSoundIn z named s → NoCname z s.name → fold update z s.records ≡ merged z s
 adds z named s g none =
     let t = s.record_type in
     ap (λ w. fold update w s.records) (sym (put_same z (set_key s) g.zone))
@@ -109,7 +110,7 @@ append_changes z s origin false g none =
     ∙ ap (λ w. (NoError, w)) (adds z origin s g none)
 
 -- a record whose data goes
-taken_one : (z : Zone) (k : RrKey) (t : RecordType) (r : Record RData) → is_soa t ≡ false → is_ns t ≡ false → IsAt z k t r → update z (in_class classes.NONE r) ≡ put z k (removed (at z k) r)
+taken_one : (z : Zone) (k : RrKey) (t : RecordType) (r : Record RData) → is_soa t ≡ false → is_ns t ≡ false → IsAt z k t r → update z (untimed_in classes.NONE r) ≡ put z k (removed (at z k) r)
 taken_one z k t r soa ns h =
     let no_start : is_soa (type_of_record r) ≡ false = ap is_soa h.type ∙ soa in
     let no_server : is_ns (type_of_record r) ≡ false = ap is_ns h.type ∙ ns in
@@ -118,28 +119,28 @@ taken_one z k t r soa ns h =
     ∙ ap (λ q. put z q (removed (at z q) r)) h.key
 
 takes : (z : Zone) (k : RrKey) (t : RecordType) → is_soa t ≡ false → is_ns t ≡ false → (rs : List (Record RData)) (xs : List Datum) → AllByRecursion (IsAt z k t) rs
-    → fold update (put z k xs) (map (in_class classes.NONE) rs) ≡ put z k (fold removed xs rs)
+    → fold update (put z k xs) (map (untimed_in classes.NONE) rs) ≡ put z k (fold removed xs rs)
 takes z k t soa ns [] xs h = refl
 takes z k t soa ns (r ∷ rs) xs h =
-    ap (λ w. fold update w (map (in_class classes.NONE) rs)) (
+    ap (λ w. fold update w (map (untimed_in classes.NONE) rs)) (
     taken_one (put z k xs) k t r soa ns (at_after z k t xs r h.0)
     ∙ put_put z k xs (removed (at (put z k xs) k) r) ∙ ap (λ ys. put z k (removed ys r)) (at_put z k xs)
     ) ∙ takes z k t soa ns rs (removed xs r) h.1
 
 -- the data of a set, taken out one after another
-pub takes_out : (z : Zone) (named : NameValue) (s : SetValue) → IsGiven z named s → fold update z (map (in_class classes.NONE) s.records) ≡ less_data z s
+pub takes_out : (z : Zone) (named : NameValue) (s : SetValue) → IsSoundIn z named s → fold update z (map (untimed_in classes.NONE) s.records) ≡ less_data z s
 takes_out z named s g =
     let t = s.record_type in
-    ap (λ w. fold update w (map (in_class classes.NONE) s.records)) (sym (put_same z (set_key s) g.zone))
+    ap (λ w. fold update w (map (untimed_in classes.NONE) s.records)) (sym (put_same z (set_key s) g.zone))
     ∙ takes z (set_key s) t (no_soa t g.ordinary) (no_ns t g.ordinary) s.records (at z (set_key s)) (given_at z named s g)
     ∙ ap (put z (set_key s)) (all_removed s.records (at z (set_key s)))
 
 -- the prescan passes them
 takes_pass : (z : Zone) (k : RrKey) (t : RecordType) → is_meta t ≡ false → (rs : List (Record RData))
-    → AllByRecursion (IsAt z k t) rs → first_fault (prescan_fault z) (map (in_class classes.NONE) rs) ≡ None
+    → AllByRecursion (IsAt z k t) rs → first_fault (prescan_fault z) (map (untimed_in classes.NONE) rs) ≡ None
 takes_pass z k t m [] h = refl
 takes_pass z k t m (r ∷ rs) h =
-    ap (λ f. and_then f (first_fault (prescan_fault z) (map (in_class classes.NONE) rs))) (
+    ap (λ f. and_then f (first_fault (prescan_fault z) (map (untimed_in classes.NONE) rs))) (
     ap (λ b. and_then (unless b NotZone) (unless (not (is_meta (type_of_record r))) FormErr)) h.0.inside ∙ ap (λ b. unless (not b) FormErr) (ap is_meta h.0.type ∙ m)
     ) ∙ takes_pass z k t m rs h.1
 
@@ -254,7 +255,7 @@ met_once z k t (r ∷ rs) full h =
     ∙ beside (λ q. list_any (λ d. is_data_of d q) (at z k)) (list_all (λ d. list_any (is_data_of d) qs) (at z k)) (without_ttl r) (map without_ttl rs)
     ∙ (λ i. all_without_ttl (at z k) (r ∷ rs) i && data_without_ttl (r ∷ rs) (at z k) i)
 
-values_met : (z : Zone) (named : NameValue) (s : SetValue) → IsGiven z named s → s.records ≢ [] → prerequisites_fault z (map without_ttl s.records) ≡ unless (has_data_of_set z s) NXRRSet
+values_met : (z : Zone) (named : NameValue) (s : SetValue) → IsSoundIn z named s → s.records ≢ [] → prerequisites_fault z (map without_ttl s.records) ≡ unless (has_data_of_set z s) NXRRSet
 values_met z named s g full =
     let t = s.record_type in
     let k = set_key s in
@@ -263,12 +264,12 @@ values_met z named s g full =
     ∙ ap (λ b. unless b NXRRSet) (met_once z k t s.records full each)
 
 -- then the updates
-passed_after : (f : Record RData → Fault) (p : Fault) (xs ys : List (Record RData)) → and_then p (first_fault f xs) ≡ None → (first_fault f xs ≡ None → first_fault f (xs ++ ys) ≡ first_fault f ys)
+passed_after : (f : Record RData → StepCode) (p : StepCode) (xs ys : List (Record RData)) → and_then p (first_fault f xs) ≡ None → (first_fault f xs ≡ None → first_fault f (xs ++ ys) ≡ first_fault f ys)
     → and_then p (first_fault f (xs ++ ys)) ≡ first_fault f ys
 passed_after f (Some code) xs ys h go = cc
 passed_after f None xs ys h go = go h
 
-fault_after : (f : Record RData → Fault) (xs ys : List (Record RData)) → first_fault f xs ≡ None → first_fault f (xs ++ ys) ≡ first_fault f ys
+fault_after : (f : Record RData → StepCode) (xs ys : List (Record RData)) → first_fault f xs ≡ None → first_fault f (xs ++ ys) ≡ first_fault f ys
 fault_after f [] ys h = refl
 fault_after f (x ∷ xs) ys h = passed_after f (f x) xs ys h (fault_after f xs ys)
 
@@ -307,7 +308,7 @@ zone_less z k h = record {
 no_cname_less : (z : Zone) (k : RrKey) (owner : NameValue) → NoCname z owner → NoCname (less_key z k) owner
 no_cname_less z k owner h = still_none _ _ (found_less z k (key_of owner types.CNAME)) h
 
-given_less : (z : Zone) (named : NameValue) (s : SetValue) (k : RrKey) → IsGiven z named s → IsGiven (less_key z k) named s
+given_less : (z : Zone) (named : NameValue) (s : SetValue) (k : RrKey) → IsSoundIn z named s → IsSoundIn (less_key z k) named s
 given_less z named s k g = record {
   zone = zone_less z k g.zone;
   sound = g.sound;
@@ -319,11 +320,11 @@ given_less z named s k g = record {
 all_gone : (z : Zone) (s : SetValue) → has_data_of_set z s ≡ true → less_data z s ≡ less_key z (set_key s)
 all_gone z s h = ap (put z (set_key s)) (none_left s.records (at z (set_key s)) (and_parts (list_all (λ r. list_any (λ d. is_data_of d r) (at z (set_key s))) s.records) _ h).1)
 
-swapped : (z : Zone) (named : NameValue) (current new : SetValue) → IsGiven z named current → IsGiven z named new → NoCname z new.name → has_data_of_set z current ≡ true
-    → fold update z (map (in_class classes.NONE) current.records ++ new.records) ≡ merged (less_key z (set_key current)) new
+swapped : (z : Zone) (named : NameValue) (current new : SetValue) → IsSoundIn z named current → IsSoundIn z named new → NoCname z new.name → has_data_of_set z current ≡ true
+    → fold update z (map (untimed_in classes.NONE) current.records ++ new.records) ≡ merged (less_key z (set_key current)) new
 swapped z named current new g h none met =
     let k = set_key current in
-    folded_after z (map (in_class classes.NONE) current.records) new.records
+    folded_after z (map (untimed_in classes.NONE) current.records) new.records
     ∙ ap (λ w. fold update w new.records) (takes_out z named current g ∙ all_gone z current met)
     ∙ adds (less_key z k) named new (given_less z named new k h) (no_cname_less z k new.name none)
 
@@ -337,6 +338,6 @@ compare_and_swap_changes z current new origin g h none full =
     let u = new.record_type in
     served z (compare_and_swap current new origin) (unless (has_data_of_set z current) NXRRSet) (zone_passes z origin new.name new.dns_class h.place)
     (values_met z origin current g full)
-    (fault_after (prescan_fault z) (map (in_class classes.NONE) current.records) new.records (takes_pass z (set_key current) t (no_meta t g.ordinary) current.records (given_at z origin current g))
+    (fault_after (prescan_fault z) (map (untimed_in classes.NONE) current.records) new.records (takes_pass z (set_key current) t (no_meta t g.ordinary) current.records (given_at z origin current g))
     ∙ scan_passes z (set_key new) u (no_meta u h.ordinary) new.records (given_at z origin new h))
-    ∙ decided z (merged (less_key z (set_key current)) new) (map (in_class classes.NONE) current.records ++ new.records) NXRRSet (has_data_of_set z current) (swapped z origin current new g h none)
+    ∙ decided z (merged (less_key z (set_key current)) new) (map (untimed_in classes.NONE) current.records ++ new.records) NXRRSet (has_data_of_set z current) (swapped z origin current new g h none)

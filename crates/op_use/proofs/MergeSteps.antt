@@ -11,7 +11,7 @@ use Rattle.base_data.specs.contracts.rdata.RDataEq.TheImpl.Laws.{laws-law as dat
 use Rattle.rr.specs.declared.record.Record.{Record}
 use Rattle.base_data.specs.SameData.{same_data}
 use Rattle.op_use.specs.Zone.{Datum}
-use Rattle.op_use.specs.NamedChanges.{datum_of, is_data_of, others, renewed}
+use Rattle.op_use.specs.NamedChanges.{datum_of, is_data_of, others, renewed_datum}
 use Rattle.op_use.specs.Server.{added, removed}
 
 pub laws : IsEquivalence same_data
@@ -32,15 +32,15 @@ distinct_head r rs h = h
 abbrev pub rep : Record RData → Datum → Datum
 rep r d = if is_data_of d r then datum_of r else d
 
-renewed_far : (rs : List (Record RData)) (d : Datum) (r : Record RData) → is_data_of d r ≡ true → Far rs r → renewed rs d ≡ d
+renewed_far : (rs : List (Record RData)) (d : Datum) (r : Record RData) → is_data_of d r ≡ true → Far rs r → renewed_datum rs d ≡ d
 renewed_far [] d r e h = refl
 renewed_far (q ∷ rs) d r e h = cond-false (is_data_of d q) _ _ (laws.congr d.rdata r.rdata q.rdata e ∙ h.0) ∙ renewed_far rs d r e h.1
 
-renewed_rep : (rs : List (Record RData)) (d : Datum) (r : Record RData) (b : Bool) → is_data_of d r ≡ b → Far rs r → renewed rs (rep r d) ≡ renewed (r ∷ rs) d
-renewed_rep rs d r true e h = ap (renewed rs) (cond-true (is_data_of d r) _ _ e) ∙ renewed_far rs (datum_of r) r (laws.refl r.rdata) h ∙ sym (cond-true (is_data_of d r) _ _ e)
-renewed_rep rs d r false e h = ap (renewed rs) (cond-false (is_data_of d r) _ _ e) ∙ sym (cond-false (is_data_of d r) _ _ e)
+renewed_rep : (rs : List (Record RData)) (d : Datum) (r : Record RData) (b : Bool) → is_data_of d r ≡ b → Far rs r → renewed_datum rs (rep r d) ≡ renewed_datum (r ∷ rs) d
+renewed_rep rs d r true e h = ap (renewed_datum rs) (cond-true (is_data_of d r) _ _ e) ∙ renewed_far rs (datum_of r) r (laws.refl r.rdata) h ∙ sym (cond-true (is_data_of d r) _ _ e)
+renewed_rep rs d r false e h = ap (renewed_datum rs) (cond-false (is_data_of d r) _ _ e) ∙ sym (cond-false (is_data_of d r) _ _ e)
 
-map_renewed_rep : (rs : List (Record RData)) (r : Record RData) (xs : List Datum) → Far rs r → map (renewed rs) (map (rep r) xs) ≡ map (renewed (r ∷ rs)) xs
+map_renewed_rep : (rs : List (Record RData)) (r : Record RData) (xs : List Datum) → Far rs r → map (renewed_datum rs) (map (rep r) xs) ≡ map (renewed_datum (r ∷ rs)) xs
 map_renewed_rep rs r [] h = refl
 map_renewed_rep rs r (d ∷ xs) h = λ i. renewed_rep rs d r _ refl h i ∷ map_renewed_rep rs r xs h i
 
@@ -56,11 +56,11 @@ others_rep : (rs : List (Record RData)) (r : Record RData) (xs : List Datum) →
 others_rep [] r xs = refl
 others_rep (q ∷ rs) r xs = λ i. cond (any_rep r q xs i) (others_rep rs r xs i) (datum_of q ∷ others_rep rs r xs i)
 
-none_renewed : (rs : List (Record RData)) (r : Record RData) (xs : List Datum) → list_any (λ d. is_data_of d r) xs ≡ false → map (renewed rs) xs ≡ map (renewed (r ∷ rs)) xs
+none_renewed : (rs : List (Record RData)) (r : Record RData) (xs : List Datum) → list_any (λ d. is_data_of d r) xs ≡ false → map (renewed_datum rs) xs ≡ map (renewed_datum (r ∷ rs)) xs
 none_renewed rs r [] h = refl
 none_renewed rs r (d ∷ xs) h =
     let parts : (is_data_of d r ≡ false) × (list_any (λ d. is_data_of d r) xs ≡ false) = or_parts (is_data_of d r) _ h in
-    let first : renewed rs d ≡ renewed (r ∷ rs) d = sym (cond-false (is_data_of d r) (datum_of r) (renewed rs d) parts.0) in
+    let first : renewed_datum rs d ≡ renewed_datum (r ∷ rs) d = sym (cond-false (is_data_of d r) (datum_of r) (renewed_datum rs d) parts.0) in
     λ i. first i ∷ none_renewed rs r xs parts.1 i
 
 any_push : (q r : Record RData) (xs : List Datum) → same_data r.rdata q.rdata ≡ false → list_any (λ d. is_data_of d q) (xs ++ datum_of r ∷ []) ≡ list_any (λ d. is_data_of d q) xs
@@ -72,26 +72,26 @@ others_push [] r xs h = refl
 others_push (q ∷ rs) r xs h = λ i. cond (any_push q r xs h.0 i) (others_push rs r xs h.1 i) (datum_of q ∷ others_push rs r xs h.1 i)
 
 added_one : (rs : List (Record RData)) (r : Record RData) (xs : List Datum) (b : Bool) → list_any (λ d. is_data_of d r) xs ≡ b → Far rs r →
-    map (renewed rs) (added xs r) ++ others (added xs r) rs ≡ map (renewed (r ∷ rs)) xs ++ others xs (r ∷ rs)
+    map (renewed_datum rs) (added xs r) ++ others (added xs r) rs ≡ map (renewed_datum (r ∷ rs)) xs ++ others xs (r ∷ rs)
 added_one rs r xs true e h =
-    ap (λ ys. map (renewed rs) ys ++ others ys rs) (cond-true (list_any (λ d. is_data_of d r) xs) (map (rep r) xs) (xs ++ datum_of r ∷ []) e)
+    ap (λ ys. map (renewed_datum rs) ys ++ others ys rs) (cond-true (list_any (λ d. is_data_of d r) xs) (map (rep r) xs) (xs ++ datum_of r ∷ []) e)
     ∙ ap (λ ys. ys ++ others (map (rep r) xs) rs) (map_renewed_rep rs r xs h)
-    ∙ ap (λ ys. map (renewed (r ∷ rs)) xs ++ ys) (others_rep rs r xs ∙ sym (cond-true (list_any (λ d. is_data_of d r) xs) (others xs rs) (datum_of r ∷ others xs rs) e))
+    ∙ ap (λ ys. map (renewed_datum (r ∷ rs)) xs ++ ys) (others_rep rs r xs ∙ sym (cond-true (list_any (λ d. is_data_of d r) xs) (others xs rs) (datum_of r ∷ others xs rs) e))
 added_one rs r xs false e h =
-    ap (λ ys. map (renewed rs) ys ++ others ys rs) (cond-false (list_any (λ d. is_data_of d r) xs) (map (rep r) xs) (xs ++ datum_of r ∷ []) e)
-    ∙ ap (λ ys. ys ++ others (xs ++ datum_of r ∷ []) rs) (map-append (renewed rs) xs (datum_of r ∷ []))
-    ∙ append_assoc (map (renewed rs) xs) (renewed rs (datum_of r) ∷ []) (others (xs ++ datum_of r ∷ []) rs)
-    ∙ ap (λ d. map (renewed rs) xs ++ d ∷ others (xs ++ datum_of r ∷ []) rs) (renewed_far rs (datum_of r) r (laws.refl r.rdata) h)
-    ∙ ap (λ ys. map (renewed rs) xs ++ datum_of r ∷ ys) (others_push rs r xs h)
+    ap (λ ys. map (renewed_datum rs) ys ++ others ys rs) (cond-false (list_any (λ d. is_data_of d r) xs) (map (rep r) xs) (xs ++ datum_of r ∷ []) e)
+    ∙ ap (λ ys. ys ++ others (xs ++ datum_of r ∷ []) rs) (map-append (renewed_datum rs) xs (datum_of r ∷ []))
+    ∙ append_assoc (map (renewed_datum rs) xs) (renewed_datum rs (datum_of r) ∷ []) (others (xs ++ datum_of r ∷ []) rs)
+    ∙ ap (λ d. map (renewed_datum rs) xs ++ d ∷ others (xs ++ datum_of r ∷ []) rs) (renewed_far rs (datum_of r) r (laws.refl r.rdata) h)
+    ∙ ap (λ ys. map (renewed_datum rs) xs ++ datum_of r ∷ ys) (others_push rs r xs h)
     ∙ ap (λ ys. ys ++ datum_of r ∷ others xs rs) (none_renewed rs r xs e)
-    ∙ ap (λ ys. map (renewed (r ∷ rs)) xs ++ ys) (sym (cond-false (list_any (λ d. is_data_of d r) xs) (others xs rs) (datum_of r ∷ others xs rs) e))
+    ∙ ap (λ ys. map (renewed_datum (r ∷ rs)) xs ++ ys) (sym (cond-false (list_any (λ d. is_data_of d r) xs) (others xs rs) (datum_of r ∷ others xs rs) e))
 
-nothing : (xs : List Datum) → map (renewed []) xs ++ others xs [] ≡ xs
+nothing : (xs : List Datum) → map (renewed_datum []) xs ++ others xs [] ≡ xs
 nothing [] = refl
 nothing (d ∷ xs) = ap (λ ys. d ∷ ys) (nothing xs)
 
 -- records of distinct data, added one after another
-pub all_added : (rs : List (Record RData)) (xs : List Datum) → Distinct rs → fold added xs rs ≡ map (renewed rs) xs ++ others xs rs
+pub all_added : (rs : List (Record RData)) (xs : List Datum) → Distinct rs → fold added xs rs ≡ map (renewed_datum rs) xs ++ others xs rs
 all_added [] xs h = sym (nothing xs)
 all_added (r ∷ rs) xs h =
     let parts : Far rs r × Distinct rs = distinct_head r rs h in

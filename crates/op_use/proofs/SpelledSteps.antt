@@ -5,8 +5,9 @@ use Rattle.base.specs.declared.rr_key.RrKey.{RrKey}
 use Rattle.base_data.specs.declared.rdata.RData.{RData}
 use Rattle.op_use.proofs.ZoneSteps.{same_key}
 use Rattle.op_use.specs.AppliedRecords.{after_by, after_update, parted, with_record}
-use Rattle.op_use.specs.NamedChanges.{is_left}
-use Rattle.op_use.specs.Server.{OfAny, OfNone, OfNothing, OfZone, is_any, is_cname, is_kept_out, is_needed, record_key, type_of_record, use_of, is_under, goes_with}
+use Rattle.op_use.specs.NamedChanges.{is_key_left}
+use Rattle.op_use.specs.Server.{OfAny, OfNone, OfNothing, OfZone, is_any, is_cname, is_kept_out, is_needed, use_of, is_under, goes_with}
+use Rattle.rr.specs.Record.{record_key, type_of_record}
 use Rattle.op_use.specs.Zone.{Zone, has_set, has_type_at, is_guarded, is_owned}
 use Rattle.rr.specs.SetChanges.{joined}
 use Rattle.rr.specs.declared.record.Record.{Record}
@@ -77,7 +78,7 @@ module _ (z : Zone) (r : Record RData) (at : RrKey → List (Record RData)) (q :
       → after_update z r q (at q) ≡ cond (eq_by_cmp key_cmp (record_key r) q) [] (at q)
   set_goes u c h = goes u ∙ ap (λ b. cond b [] (at q)) (cond-false _ _ _ c ∙ ap (λ g. not g && is_under r q) h)
 
-  pub name_goes : use_of z.class r.dns_class ≡ OfAny → is_any (type_of_record r) ≡ true → after_update z r q (at q) ≡ cond (is_left z r.name q) (at q) []
+  pub name_goes : use_of z.class r.dns_class ≡ OfAny → is_any (type_of_record r) ≡ true → after_update z r q (at q) ≡ cond (is_key_left z r.name q) (at q) []
   name_goes u c = goes u ∙ ap (λ b. cond b [] (at q)) (cond-true _ _ _ c) ∙ turned (is_owned r.name q) (is_guarded z r.name q.record_type) [] (at q)
 
   pub nothing_changes : use_of z.class r.dns_class ≡ OfNothing → after_update z r q (at q) ≡ at q

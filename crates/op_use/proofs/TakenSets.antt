@@ -8,7 +8,7 @@ use Rattle.op_use.proofs.Deletions.{distinct_without, left_records}
 use Rattle.op_use.proofs.MapSteps.{injected}
 use Rattle.op_use.specs.Applying.{IsZoneMap, IsZoneSet, records_at, records_in}
 use Rattle.op_use.specs.MapUpdates.{IsSetTo, IsTakenSet}
-use Rattle.op_use.specs.Server.{record_key, type_of_record}
+use Rattle.rr.specs.Record.{record_key, type_of_record}
 use Rattle.rr.specs.RecordSet.{SetValue}
 use Rattle.rr.specs.SetUpdates.{has_data_of_one, last_ttl, with_records, without, without_data}
 use Rattle.rr.specs.declared.record.Record.{Record}

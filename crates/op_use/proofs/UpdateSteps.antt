@@ -15,11 +15,12 @@ use Rattle.op_use.proofs.Origins.{from_joined, from_none, from_one, from_parted,
 use Rattle.op_use.proofs.SpelledSteps.{alias_comes, alias_kept_out, beside_kept_out, guarded_stays, name_goes}
 use Rattle.op_use.proofs.SpelledSteps.{needed_stays, own_at, nothing_changes, other_comes, other_parts, set_goes}
 use Rattle.op_use.proofs.ZoneSteps.{same_sets}
-use Rattle.op_use.specs.Applying.{IsZoneMap, data_of, records_at, records_in, zone_of_map}
+use Rattle.op_use.specs.Applying.{IsZoneMap, data_in_set, records_at, records_in, zone_of_map}
 use Rattle.op_use.specs.AppliedRecords.{parted}
-use Rattle.op_use.specs.MapUpdates.{IsAfter, IsSetTo, Leaves, is_deletion}
-use Rattle.op_use.specs.NamedChanges.{datum_of, is_left}
-use Rattle.op_use.specs.Server.{OfAny, OfNone, OfNothing, OfZone, added, is_any, is_cname, is_needed, record_key, removed, type_of_record, update_by, use_of}
+use Rattle.op_use.specs.MapUpdates.{IsAfter, IsSetTo, LeavesOwner, is_deletion}
+use Rattle.op_use.specs.NamedChanges.{datum_of, is_key_left}
+use Rattle.op_use.specs.Server.{OfAny, OfNone, OfNothing, OfZone, added, is_any, is_cname, is_needed, removed, update_by, use_of}
+use Rattle.rr.specs.Record.{record_key, type_of_record}
 use Rattle.op_use.specs.Zone.{Datum, has_set, has_type_at, is_guarded, is_owned, put}
 use Rattle.rr.specs.RecordSet.{SetValue, is_soa}
 use Rattle.rr.specs.SetChanges.{joined}
@@ -109,7 +110,7 @@ module _ (origin : NameValue) (class : DNSClass) (m n : BTreeMap RrKey SetValue)
       (λ q. nothing_changes (zone_of_map origin class m) r (records_at m) q u)
 
   -- all sets of a name
-  mapped_cond : (b : Bool) (o : Option SetValue) → option_map data_of (cond b o None) ≡ cond b (option_map data_of o) None
+  mapped_cond : (b : Bool) (o : Option SetValue) → option_map data_in_set (cond b o None) ≡ cond b (option_map data_in_set o) None
   mapped_cond true o = refl
   mapped_cond false o = refl
 
@@ -132,19 +133,19 @@ module _ (origin : NameValue) (class : DNSClass) (m n : BTreeMap RrKey SetValue)
   left_records true o = refl
   left_records false o = refl
 
-  pub after_name : use_of class r.dns_class ≡ OfAny → is_any (type_of_record r) ≡ true → Leaves (zone_of_map origin class m) r.name m n → IsAfter origin class (r ∷ []) m n
+  pub after_name : use_of class r.dns_class ≡ OfAny → is_any (type_of_record r) ≡ true → LeavesOwner (zone_of_map origin class m) r.name m n → IsAfter origin class (r ∷ []) m n
   after_name u c h = record {
     zone = ap (λ (sets : FinMap key_cmp (List Datum)). record { origin = origin; class = class; sets = sets }) (same_sets _ _ (λ q.
-        get_zone origin class n q ∙ ap (option_map data_of) (h q) ∙ mapped_cond (is_left (zone_of_map origin class m) r.name q) (tree.get key_cmp m q)
-        ∙ ap (λ o. cond (is_left (zone_of_map origin class m) r.name q) o None) (sym (get_zone origin class m q))
-        ∙ sym (fin.get-retain_keys (zone_of_map origin class m).sets (is_left (zone_of_map origin class m) r.name) q
-        (λ x e. ap (is_left (zone_of_map origin class m) r.name) (sym (key_cmp-exact q x e))))))
+        get_zone origin class n q ∙ ap (option_map data_in_set) (h q) ∙ mapped_cond (is_key_left (zone_of_map origin class m) r.name q) (tree.get key_cmp m q)
+        ∙ ap (λ o. cond (is_key_left (zone_of_map origin class m) r.name q) o None) (sym (get_zone origin class m q))
+        ∙ sym (fin.get-retain_keys (zone_of_map origin class m).sets (is_key_left (zone_of_map origin class m) r.name) q
+        (λ x e. ap (is_key_left (zone_of_map origin class m) r.name) (sym (key_cmp-exact q x e))))))
         ∙ sym (ap (λ how. update_by how (zone_of_map origin class m) r) u ∙ deleted_is (zone_of_map origin class m) r ∙ cond-true _ _ _ c);
-    is_map = λ q s e. old q s (left_there (is_left (zone_of_map origin class m) r.name q) q s (sym (h q) ∙ e));
+    is_map = λ q s e. old q s (left_there (is_key_left (zone_of_map origin class m) r.name q) q s (sym (h q) ∙ e));
     others = λ q free. h q ∙ left_same (is_owned r.name q) _ (tree.get key_cmp m q) ((or_parts (is_owned r.name q) false free).0);
-    taken = λ q v a. left_taken (is_left (zone_of_map origin class m) r.name q) q v (subst (λ o. IsAmong (records_in o) v) (h q) a);
-    ttls = λ q s e. inl (left_there (is_left (zone_of_map origin class m) r.name q) q s (sym (h q) ∙ e));
-    exact = λ q. ap records_in (h q) ∙ left_records (is_left (zone_of_map origin class m) r.name q) (tree.get key_cmp m q)
+    taken = λ q v a. left_taken (is_key_left (zone_of_map origin class m) r.name q) q v (subst (λ o. IsAmong (records_in o) v) (h q) a);
+    ttls = λ q s e. inl (left_there (is_key_left (zone_of_map origin class m) r.name q) q s (sym (h q) ∙ e));
+    exact = λ q. ap records_in (h q) ∙ left_records (is_key_left (zone_of_map origin class m) r.name q) (tree.get key_cmp m q)
         ∙ sym (name_goes (zone_of_map origin class m) r (records_at m) q u c);
-    unnamed = λ q no. subst (λ o. (o ≡ tree.get key_cmp m q) ⊎ (o ≡ None)) (sym (h q)) (left_or_gone (is_left (zone_of_map origin class m) r.name q) (tree.get key_cmp m q));
+    unnamed = λ q no. subst (λ o. (o ≡ tree.get key_cmp m q) ⊎ (o ≡ None)) (sym (h q)) (left_or_gone (is_key_left (zone_of_map origin class m) r.name q) (tree.get key_cmp m q));
   }

@@ -13,8 +13,9 @@ use Rattle.op_use.specs.Applying.{entry_of, IsApplied, IsZoneMap, KeepsSame, app
 use Rattle.op_use.specs.MapFaults.{is_by_value, listed_under, there_under}
 use Rattle.op_use.specs.MapUpdates.{IsAfter}
 use Rattle.op_use.specs.NamedChanges.{datum_of, is_data_of}
-use Rattle.op_use.specs.Server.{Fault, Sections, answer, collected, fault, is_met}
-use Rattle.op_use.specs.Server.{is_of_zone, is_same_key, record_key}
+use Rattle.op_use.specs.Server.{StepCode, Sections, answer, collected, fault, is_met}
+use Rattle.op_use.specs.Server.{is_of_zone, is_same_key}
+use Rattle.rr.specs.Record.{record_key}
 use Rattle.op_use.specs.Server.{update, use_of}
 use Rattle.op_use.specs.Zone.{Datum}
 use Rattle.rr.specs.RecordSet.{SetValue}
@@ -68,7 +69,7 @@ module _ (origin : NameValue) (class : DNSClass) (m : BTreeMap RrKey SetValue) (
       ∙ all_filter (λ r. there_under m r (record_key r) && listed_under m class rs r (record_key r)) (λ r. is_of_zone (use_of class r.dns_class)) rs)
 
 -- what an update that is supported leaves under a key
-spelled_as : (origin : NameValue) (class : DNSClass) (m : BTreeMap RrKey SetValue) (s : Sections) (q : RrKey) (found : Fault) → is_all_supported s ≡ true
+spelled_as : (origin : NameValue) (class : DNSClass) (m : BTreeMap RrKey SetValue) (s : Sections) (q : RrKey) (found : StepCode) → is_all_supported s ≡ true
     → fault (zone_of_map origin class m) s ≡ found
     → records_applied (zone_of_map origin class m) s q (records_at m q) ≡ records_answered (zone_of_map origin class m) s.updates found q (records_at m q)
 spelled_as origin class m s q found h f =

@@ -14,7 +14,7 @@ use Rattle.op.specs.declared.response_code.ResponseCode.{ResponseCode}
 use Rattle.op_use.specs.Applying.{IsApplied, IsZoneMap, applied, records_applied, zone_of_map}
 use Rattle.op_use.specs.NamedChanges.{datum_of, has_data_of_set, less_data, less_key, less_name, merged, set_key}
 use Rattle.op_use.specs.Server.{Sections, sections_of}
-use Rattle.op_use.specs.SoundSet.{IsFor, IsGiven, NoCname, is_ordinary, is_plain_class}
+use Rattle.op_use.specs.SoundSet.{IsFor, IsSoundIn, NoCname, is_ordinary, is_plain_class}
 use Rattle.op_use.specs.UpdateMessage.{append, compare_and_swap, create, delete_all, delete_by_rdata, delete_rrset, update_message}
 use Rattle.op_use.specs.Zone.{IsZone, Zone, at, has_set}
 use Rattle.rr.specs.RecordSet.{SetValue}
@@ -47,21 +47,21 @@ RecordsHoldTheData = (z : Zone) (m : Sections) (k : RrKey) (xs : List (Record RD
 abbrev pub CreateApplies : Type 0
 CreateApplies = (id : ℕ) (s : SetValue) (origin : NameValue) (use_edns : Bool)
     → AppliesUncut (update_message id use_edns (create s origin))
-    (λ z. IsGiven z origin s × NoCname z s.name)
+    (λ z. IsSoundIn z origin s × NoCname z s.name)
     (λ z. if has_set z (set_key s) then (YXRRSet, z) else (NoError, merged z s))
 
 -- what comes of a map by what `append` builds
 abbrev pub AppendApplies : Type 0
 AppendApplies = (id : ℕ) (s : SetValue) (origin : NameValue) (must_exist use_edns : Bool)
     → AppliesUncut (update_message id use_edns (append s origin must_exist))
-    (λ z. IsGiven z origin s × NoCname z s.name)
+    (λ z. IsSoundIn z origin s × NoCname z s.name)
     (λ z. if must_exist && not (has_set z (set_key s)) then (NXRRSet, z) else (NoError, merged z s))
 
 -- what comes of a map by what `compare_and_swap` builds
 abbrev pub SwapApplies : Type 0
 SwapApplies = (id : ℕ) (current new : SetValue) (origin : NameValue) (use_edns : Bool)
     → AppliesUncut (update_message id use_edns (compare_and_swap current new origin))
-    (λ z. (current.records ≢ []) × IsGiven z origin current × IsGiven z origin new
+    (λ z. (current.records ≢ []) × IsSoundIn z origin current × IsSoundIn z origin new
     × NoCname z new.name)
     (λ z. if has_data_of_set z current then (NoError, merged (less_key z (set_key current)) new)
     else (NXRRSet, z))
@@ -69,7 +69,8 @@ SwapApplies = (id : ℕ) (current new : SetValue) (origin : NameValue) (use_edns
 -- what comes of a map by what `delete_by_rdata` builds
 abbrev pub DeleteDataApplies : Type 0
 DeleteDataApplies = (id : ℕ) (s : SetValue) (origin : NameValue) (use_edns : Bool)
-    → AppliesUncut (update_message id use_edns (delete_by_rdata s origin)) (λ z. IsGiven z origin s)
+    → AppliesUncut (update_message id use_edns (delete_by_rdata s origin))
+    (λ z. IsSoundIn z origin s)
     (λ z. (NoError, less_data z s))
 
 -- what comes of a map by what `delete_rrset` builds

@@ -1,7 +1,7 @@
 -- What updates make of the records under a key, each as it is spelled (RFC 2136, 3.4.2).
 use Rattle.base.specs.declared.rr_key.RrKey.{RrKey}
 use Rattle.base_data.specs.declared.rdata.RData.{RData}
-use Rattle.op_use.specs.Server.{Fault, OfAny, OfNone, OfNothing, OfZone, Use, alone_or, is_kept_out, is_needed, update, use_of, goes_with, is_under}
+use Rattle.op_use.specs.Server.{StepCode, OfAny, OfNone, OfNothing, OfZone, Use, alone_or, is_kept_out, is_needed, update, use_of, goes_with, is_under}
 use Rattle.op_use.specs.Zone.{Zone}
 use Rattle.rr.specs.SetChanges.{has_data_of, joined}
 use Rattle.rr.specs.declared.record.Record.{Record}
@@ -34,7 +34,7 @@ records_after z [] k xs = xs
 records_after z (r ∷ rs) k xs = records_after (update z r) rs k (after_update z r k xs)
 
 -- the records under a key after these updates, or as they were where the update has a fault
-abbrev pub records_answered : Zone → List (Record RData) → Fault → RrKey → List (Record RData)
+abbrev pub records_answered : Zone → List (Record RData) → StepCode → RrKey → List (Record RData)
     → List (Record RData)
 records_answered z rs (Some code) k xs = xs
 records_answered z rs None k xs = records_after z rs k xs

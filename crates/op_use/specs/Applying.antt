@@ -10,7 +10,8 @@ use Rattle.op.specs.declared.response_code.ResponseCode.TheVariants.{NoError, No
 use Rattle.op.specs.declared.response_code.ResponseCode.{ResponseCode}
 use Rattle.op_use.specs.AppliedRecords.{records_answered}
 use Rattle.op_use.specs.NamedChanges.{datum_of, set_key}
-use Rattle.op_use.specs.Server.{Sections, fault, is_any, is_cname, serve, type_of_record}
+use Rattle.op_use.specs.Server.{Sections, fault, is_any, is_cname, serve}
+use Rattle.rr.specs.Record.{type_of_record}
 use Rattle.op_use.specs.SoundSet.{is_ordinary}
 use Rattle.op_use.specs.Zone.{Datum, Zone, is_owned}
 use Rattle.rr.specs.RecordSet.{SetValue, is_ns}
@@ -24,12 +25,12 @@ use Rattle.std.specs.Ordering.{on}
 use Rattle.std.specs.Prelude.{Bool, List, None, Option, Some, [], false, if◌then◌else◌, map, true, ◌&&◌, ◌||◌, ◌≡◌, ◌≢◌, ◌⊎◌}
 
 -- the data of a set
-abbrev pub data_of : SetValue → List Datum
-data_of s = map datum_of s.records
+abbrev pub data_in_set : SetValue → List Datum
+data_in_set s = map datum_of s.records
 
 -- a key and the data of its set
 abbrev pub entry_of : RrKey × SetValue → RrKey × List Datum
-entry_of e = (e.0, data_of e.1)
+entry_of e = (e.0, data_in_set e.1)
 
 -- the zone whose sets stand under their keys
 abbrev pub zone_of_sets : NameValue → DNSClass → List (RrKey × SetValue) → Zone

@@ -26,8 +26,8 @@ pub record HeldZone : Type 0 where
   pub sets : BTreeMap RrKey SetValue
 
 -- the zone that is held
-abbrev pub zone_of : HeldZone → Zone
-zone_of z = zone_of_map z.origin z.class z.sets
+abbrev pub zone_held : HeldZone → Zone
+zone_held z = zone_of_map z.origin z.class z.sets
 
 -- it is stored as its fields
 abbrev pub held_code : Coded HeldZone

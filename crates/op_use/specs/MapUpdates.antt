@@ -8,8 +8,9 @@ use Rattle.base_data.specs.declared.rdata.RData.{RData}
 use Rattle.op_use.specs.AppliedRecords.{records_after}
 use Rattle.op_use.specs.Applying.{records_at, IsZoneMap, IsZoneSet, TakesFrom, TakesTtls, names_owner, records_in, zone_of_map}
 use Rattle.op_use.specs.HeldZone.{HeldZone}
-use Rattle.op_use.specs.NamedChanges.{is_left, set_key}
-use Rattle.op_use.specs.Server.{OfAny, OfNone, OfNothing, OfZone, Use as UseValue, is_same_key, is_under, type_of_record, update, use_of}
+use Rattle.op_use.specs.NamedChanges.{is_key_left, set_key}
+use Rattle.op_use.specs.Server.{OfAny, OfNone, OfNothing, OfZone, Use as UseValue, is_same_key, is_under, update, use_of}
+use Rattle.rr.specs.Record.{type_of_record}
 use Rattle.op_use.specs.Zone.{Zone, is_guarded}
 use Rattle.op_use.specs.declared.apply.rules.Use.TheVariants as uses
 use Rattle.op_use.specs.declared.apply.rules.Use.{Use}
@@ -82,8 +83,8 @@ IsUpdated rs old new = (sets : BTreeMap RrKey SetValue) × (new ≡ record old {
     × (IsZoneMap old.class old.sets → IsAfter old.origin old.class rs old.sets sets)
 
 -- the new zone has these records under a key, and else what the old one has
-abbrev pub Holds : RrKey → List (Record RData) → HeldZone → HeldZone → Type 0
-Holds k xs old new = (sets : BTreeMap RrKey SetValue) × (new ≡ record old { sets = sets })
+abbrev pub HoldsAt : RrKey → List (Record RData) → HeldZone → HeldZone → Type 0
+HoldsAt k xs old new = (sets : BTreeMap RrKey SetValue) × (new ≡ record old { sets = sets })
     × IsSetTo old.class k xs old.sets sets
 
 -- the new zone is the old one without the set under a key
@@ -99,6 +100,7 @@ use_value uses.OfZone = OfZone
 use_value uses.OfNothing = OfNothing
 
 -- the new map is the old one of a zone without the sets of an owner, but for those that stay
-abbrev pub Leaves : Zone → NameValue → BTreeMap RrKey SetValue → BTreeMap RrKey SetValue → Type 0
-Leaves z owner old new = (q : RrKey)
-    → tree.get key_cmp new q ≡ cond (is_left z owner q) (tree.get key_cmp old q) None
+abbrev pub LeavesOwner : Zone → NameValue → BTreeMap RrKey SetValue → BTreeMap RrKey SetValue
+    → Type 0
+LeavesOwner z owner old new = (q : RrKey)
+    → tree.get key_cmp new q ≡ cond (is_key_left z owner q) (tree.get key_cmp old q) None

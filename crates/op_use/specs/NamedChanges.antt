@@ -24,9 +24,9 @@ abbrev pub set_key : SetValue → RrKey
 set_key s = key_of s.name s.record_type
 
 -- the record of equal data in the place of a datum
-abbrev pub renewed : List (Record RData) → Datum → Datum
-renewed [] d = d
-renewed (r ∷ rs) d = if is_data_of d r then datum_of r else renewed rs d
+abbrev pub renewed_datum : List (Record RData) → Datum → Datum
+renewed_datum [] d = d
+renewed_datum (r ∷ rs) d = if is_data_of d r then datum_of r else renewed_datum rs d
 
 -- the records whose data is not among xs
 abbrev pub others : List Datum → List (Record RData) → List Datum
@@ -38,7 +38,7 @@ others xs (r ∷ rs) = if list_any (λ d. is_data_of d r) xs then others xs rs e
 abbrev pub merged : Zone → SetValue → Zone
 merged z s =
     put z (set_key s)
-    (map (renewed s.records) (at z (set_key s)) ++ others (at z (set_key s)) s.records)
+    (map (renewed_datum s.records) (at z (set_key s)) ++ others (at z (set_key s)) s.records)
 
 -- data equal to one of the set is gone
 abbrev pub less_data : Zone → SetValue → Zone
@@ -50,12 +50,12 @@ abbrev pub less_key : Zone → RrKey → Zone
 less_key z k = put z k []
 
 -- all keys of the owner are gone; at the origin SOA and NS stay
-abbrev pub is_left : Zone → NameValue → RrKey → Bool
-is_left z owner k = not (is_owned owner k) || is_guarded z owner k.record_type
+abbrev pub is_key_left : Zone → NameValue → RrKey → Bool
+is_key_left z owner k = not (is_owned owner k) || is_guarded z owner k.record_type
 
 -- the zone without the sets of an owner, but for those that stay
 abbrev pub less_name : Zone → NameValue → Zone
-less_name z owner = record z { sets = fin.retain_keys z.sets (is_left z owner) }
+less_name z owner = record z { sets = fin.retain_keys z.sets (is_key_left z owner) }
 
 -- the same data as the set's, in any order, TTLs aside
 abbrev pub has_data_of_set : Zone → SetValue → Bool

@@ -25,12 +25,12 @@ first_soa (r ∷ rs) =
       or_found None next = next
 
 -- the first authority that is an SOA
-abbrev pub soa : MessageValue → Option (Record SOA)
-soa m = first_soa m.authorities
+abbrev pub soa_authority : MessageValue → Option (Record SOA)
+soa_authority m = first_soa m.authorities
 
 -- for how long the absence of an answer may be kept (RFC 2308, 5)
 abbrev pub negative_ttl : MessageValue → Option ℕ
-negative_ttl m = option_map (λ (r : Record SOA). min r.ttl r.rdata.minimum) (soa m)
+negative_ttl m = option_map (λ (r : Record SOA). min r.ttl r.rdata.minimum) (soa_authority m)
 
 -- whether a list is empty
 abbrev pub is_empty_list : {X : Type 0} → List X → Bool

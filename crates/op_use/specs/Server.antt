@@ -23,6 +23,7 @@ use Rattle.op.specs.Message.{MessageValue}
 use Rattle.op.specs.declared.query.Query.{Query}
 use Rattle.op_use.specs.Zone.{Datum, Zone, at, has_set, has_type_at, is_guarded, is_owned, put}
 use Rattle.op_use.specs.NamedChanges.{datum_of, is_data_of}
+use Rattle.rr.specs.Record.{record_key, type_of_record}
 
 -- the sections of an update
 pub record Sections : Type 0 where
@@ -48,14 +49,6 @@ is_cname _ = false
 abbrev pub is_meta : RecordType → Bool
 is_meta type = nat_le 128 (type_number type) && nat_le (type_number type) 255
 
--- the type of a record, which is that of its data
-abbrev pub type_of_record : Record RData → RecordType
-type_of_record r = type_of_data r.rdata
-
--- the owner in lower case and the type of a record
-abbrev pub record_key : Record RData → RrKey
-record_key r = key_of r.name (type_of_record r)
-
 -- what a record's class asks for: ANY and NONE are looked at before the zone's class
 pub data Use : Type 0 where
   OfAny : Use
@@ -70,26 +63,26 @@ use_of zone_class classes.NONE = OfNone
 use_of zone_class class = if same_class class zone_class then OfZone else OfNothing
 
 -- the first code of a step, if it fails
-abbrev pub Fault : Type 0
-Fault = Option ResponseCode
+abbrev pub StepCode : Type 0
+StepCode = Option ResponseCode
 
 -- the first code of two steps
-abbrev pub and_then : Fault → Fault → Fault
+abbrev pub and_then : StepCode → StepCode → StepCode
 and_then (Some code) next = Some code
 and_then None next = next
 
 -- the first code of a step over records
-abbrev pub first_fault : (Record RData → Fault) → List (Record RData) → Fault
+abbrev pub first_fault : (Record RData → StepCode) → List (Record RData) → StepCode
 first_fault step [] = None
 first_fault step (r ∷ rs) = and_then (step r) (first_fault step rs)
 
 -- a code where a test fails
-abbrev pub unless : Bool → ResponseCode → Fault
+abbrev pub unless : Bool → ResponseCode → StepCode
 unless true code = None
 unless false code = Some code
 
 -- 1. the zone section
-abbrev pub zone_fault : Zone → List Query → Fault
+abbrev pub zone_fault : Zone → List Query → StepCode
 zone_fault z (q ∷ []) =
     and_then (unless (is_soa q.query_type) FormErr)
     (unless (same_name q.name z.origin && same_class q.query_class z.class) NotAuth)
@@ -101,7 +94,7 @@ is_found z r = if is_any (type_of_record r) then has_type_at z r.name (λ _. tru
     else has_set z (record_key r)
 
 -- what is wrong with it, where it is known whether what it names is there
-abbrev pub prerequisite_by : Use → Bool → Record RData → Fault
+abbrev pub prerequisite_by : Use → Bool → Record RData → StepCode
 prerequisite_by OfAny found r =
     and_then (unless (is_empty_data r.rdata) FormErr)
     (unless found (if is_any (type_of_record r) then NXDomain else NXRRSet))
@@ -112,7 +105,7 @@ prerequisite_by OfZone found r = None
 prerequisite_by OfNothing found r = Some FormErr
 
 -- what is wrong with one prerequisite (RFC 2136, 3.2.5)
-abbrev pub prerequisite_fault : Zone → Record RData → Fault
+abbrev pub prerequisite_fault : Zone → Record RData → StepCode
 prerequisite_fault z r =
     and_then (unless (r.ttl == 0) FormErr)
     (and_then (unless (is_zone_of z.origin r.name) NotZone)
@@ -138,13 +131,13 @@ is_met z rs r =
     && list_all (λ d. list_any (λ q. is_same_key r q && is_data_of d q) rs) (at z (record_key r))
 
 -- what is wrong with the prerequisites, first each by itself (RFC 2136, 3.2)
-abbrev pub prerequisites_fault : Zone → List (Record RData) → Fault
+abbrev pub prerequisites_fault : Zone → List (Record RData) → StepCode
 prerequisites_fault z rs =
     and_then (first_fault (prerequisite_fault z) rs)
     (unless (list_all (is_met z (collected z rs)) (collected z rs)) NXRRSet)
 
 -- 3. the prescan of an update
-abbrev pub prescan_by : Use → Record RData → Fault
+abbrev pub prescan_by : Use → Record RData → StepCode
 prescan_by OfZone r = unless (not (is_meta (type_of_record r))) FormErr
 prescan_by OfAny r =
     unless (r.ttl == 0 && is_empty_data r.rdata
@@ -153,7 +146,7 @@ prescan_by OfNone r = unless (r.ttl == 0 && not (is_meta (type_of_record r))) Fo
 prescan_by OfNothing r = Some FormErr
 
 -- what is wrong with one update (RFC 2136, 3.4.1.3)
-abbrev pub prescan_fault : Zone → Record RData → Fault
+abbrev pub prescan_fault : Zone → Record RData → StepCode
 prescan_fault z r =
     and_then (unless (is_zone_of z.origin r.name) NotZone)
     (prescan_by (use_of z.class r.dns_class) r)
@@ -209,13 +202,13 @@ abbrev pub update : Zone → Record RData → Zone
 update z r = update_by (use_of z.class r.dns_class) z r
 
 -- the code of the first test that fails, if one does
-abbrev pub fault : Zone → Sections → Fault
+abbrev pub fault : Zone → Sections → StepCode
 fault z m =
     and_then (zone_fault z m.zones)
     (and_then (prerequisites_fault z m.prerequisites) (first_fault (prescan_fault z) m.updates))
 
 -- the code of a fault and the zone as it was, or NoError and the zone after all updates
-abbrev pub answer : Zone → List (Record RData) → Fault → ResponseCode × Zone
+abbrev pub answer : Zone → List (Record RData) → StepCode → ResponseCode × Zone
 answer z updates (Some code) = (code, z)
 answer z updates None = (NoError, fold update z updates)
 

@@ -52,7 +52,7 @@ pub record IsFor (z : Zone) (named owner : NameValue) (of_class : DNSClass) : Ty
   pub within : is_zone_of named owner ≡ true
 
 -- what an update with a set needs: a zone of its origin and class, and a sound set of an ordinary type within it
-pub record IsGiven (z : Zone) (named : NameValue) (s : SetValue) : Type 0 where
+pub record IsSoundIn (z : Zone) (named : NameValue) (s : SetValue) : Type 0 where
   pub zone : IsZone z
   pub sound : IsSound s
   pub ordinary : is_ordinary s.record_type ≡ true

@@ -13,7 +13,7 @@ use Rattle.op.specs.declared.response_code.ResponseCode.{ResponseCode}
 use Rattle.op.specs.declared.response_code.ResponseCode.TheVariants.{NoError, YXRRSet, NXRRSet}
 use Rattle.op_use.specs.NamedChanges.{has_data_of_set, less_data, less_key, less_name, merged, set_key}
 use Rattle.op_use.specs.Server.{sections_of, serve}
-use Rattle.op_use.specs.SoundSet.{IsFor, IsGiven, NoCname, is_ordinary, is_plain_class}
+use Rattle.op_use.specs.SoundSet.{IsFor, IsSoundIn, NoCname, is_ordinary, is_plain_class}
 use Rattle.op_use.specs.Zone.{IsZone, Zone, has_set}
 
 -- Of all uncut bytes of a message, under any limit, whatever message is read from them: of each zone that meets the
@@ -27,27 +27,27 @@ MeansUncut m Premise outcome =
 -- Where the zone has no set of that owner and type, the set is merged into it; else YXRRSet.
 abbrev pub CreatesSet : SetValue → NameValue → MessageValue → Type 0
 CreatesSet s origin m =
-    MeansUncut m (λ z. IsGiven z origin s × NoCname z s.name)
+    MeansUncut m (λ z. IsSoundIn z origin s × NoCname z s.name)
     (λ z. if has_set z (set_key s) then (YXRRSet, z) else (NoError, merged z s))
 
 -- The set is merged into the zone; where it is asked for and the zone has none of that owner and type, NXRRSet.
 abbrev pub AppendsToSet : SetValue → NameValue → Bool → MessageValue → Type 0
 AppendsToSet s origin must_exist m =
-    MeansUncut m (λ z. IsGiven z origin s × NoCname z s.name)
+    MeansUncut m (λ z. IsSoundIn z origin s × NoCname z s.name)
     (λ z. if must_exist && not (has_set z (set_key s)) then (NXRRSet, z) else (NoError, merged z s))
 
 -- Where the zone has exactly the data of the current set, in any order and whatever the TTLs, that set goes
 -- and the new one is merged into the zone; else NXRRSet.
 abbrev pub SwapsSets : SetValue → SetValue → NameValue → MessageValue → Type 0
 SwapsSets current new origin m =
-    MeansUncut m (λ z. (current.records ≢ []) × IsGiven z origin current × IsGiven z origin new
+    MeansUncut m (λ z. (current.records ≢ []) × IsSoundIn z origin current × IsSoundIn z origin new
     × NoCname z new.name)
     (λ z. if has_data_of_set z current then (NoError, merged (less_key z (set_key current)) new)
     else (NXRRSet, z))
 
 -- Data equal to one of the set's goes.
 abbrev pub DeletesData : SetValue → NameValue → MessageValue → Type 0
-DeletesData s origin m = MeansUncut m (λ z. IsGiven z origin s) (λ z. (NoError, less_data z s))
+DeletesData s origin m = MeansUncut m (λ z. IsSoundIn z origin s) (λ z. (NoError, less_data z s))
 
 -- The set of the record's owner and type goes.
 abbrev pub DeletesSet : Record RData → NameValue → MessageValue → Type 0

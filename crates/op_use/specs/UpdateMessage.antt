@@ -14,7 +14,7 @@ use Rattle.op_use.specs.Server.{Sections}
 use Rattle.std.specs.Option.{option_map}
 use Rattle.base_data.specs.declared.rdata.soa.SOA.{SOA}
 use Rattle.op.specs.Edns.{new_edns}
-use Rattle.op.specs.Fits.{listed}
+use Rattle.op.specs.Fits.{as_list}
 use Rattle.op.specs.Message.{MessageValue}
 use Rattle.op.specs.Metadata.{plain_metadata}
 use Rattle.op.specs.declared.edns.Edns.{Edns}
@@ -33,8 +33,8 @@ empty_record owner type class =
     }
 
 -- a record in another class, with TTL 0
-abbrev pub in_class : DNSClass → Record RData → Record RData
-in_class class r = record r { dns_class = class; ttl = 0 }
+abbrev pub untimed_in : DNSClass → Record RData → Record RData
+untimed_in class r = record r { dns_class = class; ttl = 0 }
 
 -- the record without its data, in class ANY, with TTL 0 (RFC 2136, 2.5.2)
 abbrev pub emptied : Record RData → Record RData
@@ -73,11 +73,11 @@ append s origin must_exist =
 abbrev pub compare_and_swap : SetValue → SetValue → NameValue → Sections
 compare_and_swap current new origin =
     sections origin new.dns_class (map without_ttl current.records)
-    (map (in_class classes.NONE) current.records ++ new.records)
+    (map (untimed_in classes.NONE) current.records ++ new.records)
 
 -- the data goes (RFC 2136, 2.5.4)
 abbrev pub delete_by_rdata : SetValue → NameValue → Sections
-delete_by_rdata s origin = sections origin s.dns_class [] (map (in_class classes.NONE) s.records)
+delete_by_rdata s origin = sections origin s.dns_class [] (map (untimed_in classes.NONE) s.records)
 
 -- the set of the record goes (RFC 2136, 2.5.2)
 abbrev pub delete_rrset : Record RData → NameValue → Sections
@@ -132,7 +132,7 @@ transfer_message id origin last_soa = record {
         mdns_unicast_response = false;
       } ∷ [];
   answers = [];
-  authorities = listed (option_map (soa_record origin) last_soa);
+  authorities = as_list (option_map (soa_record origin) last_soa);
   additionals = [];
   edns = update_edns true;
   signature = None;

@@ -3,7 +3,7 @@
 ghost use Rattle.std.specs.Prelude.{◌≡◌, IfOk, IsOkUnless};
 ghost use Rattle.op.specs.Message.{message_value};
 ghost use Rattle.op_use.specs.Applying.{IsApplied, IsZoneMap};
-ghost use Rattle.op_use.specs.HeldZone.{HeldZone, zone_of};
+ghost use Rattle.op_use.specs.HeldZone.{HeldZone, zone_held};
 ghost use Rattle.op_use.specs.Server.{fault as fault_of, sections_of};
 
 mod kept;
@@ -70,7 +70,7 @@ pub fn apply_update(
 /// order. The first test that fails is answered at once.
 fn fault(zone: &Zone, message: &Message) -> Result<Option<ResponseCode>, AllocError>
     ensures { IfOk result (λ f. f
-        ≡ fault_of (zone_of zone.now) (sections_of (message_value message.now))) }
+        ≡ fault_of (zone_held zone.now) (sections_of (message_value message.now))) }
 {
     if let Some(code) = zone.zone_fault(&message.queries) {
         return Ok(Some(code));

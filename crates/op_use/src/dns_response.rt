@@ -16,7 +16,7 @@ ghost use Rattle.op.specs.MessageWritten.{message_answer, message_bytes};
 ghost use Rattle.op.specs.Parts.{all_records};
 ghost use Rattle.op_use.specs.DnsResponse.{IsQuery, IsRefusedResponse, IsResponse};
 ghost use Rattle.op_use.specs.Lending.{LendsMessage};
-ghost use Rattle.op_use.specs.Responses.{answers_by, contains_answer, first_soa, is_of, negative_ttl, soa};
+ghost use Rattle.op_use.specs.Responses.{answers_by, contains_answer, first_soa, is_of, negative_ttl, soa_authority};
 ghost use Rattle.rr.specs.RecordRef.{seen};
 
 use base::{BinEncoder, DecodeError, Name, ProtoError, RecordType};
@@ -142,7 +142,7 @@ impl DnsResponse {
 
     /// The first authority that is an SOA (RFC 1035, 3.3.13).
     pub fn soa(&self) -> Option<RecordRef<'_, SOA>>
-        ensures { option_map seen result ≡ soa self.now.message }
+        ensures { option_map seen result ≡ soa_authority self.now.message }
     {
         first_soa(&self.message.authorities)
     }

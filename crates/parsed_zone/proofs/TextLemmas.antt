@@ -9,16 +9,16 @@ use Rattle.std.specs.String.{string_bytes}
 use Rattle.std.specs.declared.alloc.Global.{Global}
 use Rattle.base.specs.Labels.{NameValue}
 use Rattle.base.specs.ParseError.{parse_number}
-use Rattle.base.specs.TextFaults.{Fails, Fault}
+use Rattle.base.specs.TextFaults.{FailsWith, Fault}
 use Rattle.base.specs.declared.error.parse_error.ParseError.{ParseError}
 use Rattle.base.specs.declared.error.parse_error.ParseError.TheVariants as refusals
 use Rattle.txt.proofs.TextsLemmas.{texts_are}
 use Rattle.txt.specs.Parser.{ParserValue, named_texts, text_among}
 use Rattle.txt.specs.Steps.{texts_in}
-use Rattle.txt.specs.Zone.{Texts, zone_of}
+use Rattle.txt.specs.Zone.{Texts, no_texts, zone_of}
 use Rattle.txt.specs.ZoneSets.{ZoneSets}
 use Rattle.parsed_zone.specs.Faults.{numbered}
-use Rattle.parsed_zone.specs.ZoneText.{no_texts, zone_of_bytes}
+use Rattle.parsed_zone.specs.ZoneText.{zone_of_bytes}
 
 -- bytes that aren't UTF-8 are refused
 pub not_text : (texts : Texts) (origin : Option NameValue) (bytes : List ℕ) → ¬ (IsUtf8 bytes) → zone_of_bytes texts origin bytes ≡ Err 24
@@ -28,7 +28,7 @@ not_text texts origin bytes never = go (is_utf8 bytes) refl where
   go false is = cond-false _ _ _ is
 
 -- a refusal of the parser has the number of the fault
-pub fault_told : {A : Type 0} (e : ParseError) (made : Result A Fault) → Fails e made → (parse_number e ≡ 3) ⊎ (numbered made ≡ Err (parse_number e))
+pub fault_told : {A : Type 0} (e : ParseError) (made : Result A Fault) → FailsWith e made → (parse_number e ≡ 3) ⊎ (numbered made ≡ Err (parse_number e))
 fault_told refusals.Memory made is = inl refl
 fault_told (refusals.UnexpectedToken t) made is = inr (ap numbered is)
 fault_told refusals.Lexer made is = inr (ap numbered is)
@@ -57,7 +57,7 @@ module _ (origin : Option NameValue) (bytes text : List ℕ) (includes : BTreeMa
       ∙ ap (λ (q : ParserValue). zone_of (text_among q.includes) q.origin q.text) (sym is) ∙ read))
 
   -- and a refusal has the number of its fault
-  pub zone_refused : (e : ParseError) → Fails e (zone_of (text_among p.includes) p.origin p.text)
+  pub zone_refused : (e : ParseError) → FailsWith e (zone_of (text_among p.includes) p.origin p.text)
       → (parse_number e ≡ 3) ⊎ (zone_of_bytes (texts_in includes) origin bytes ≡ Err (parse_number e))
   zone_refused e fails = told (fault_told e (zone_of (text_among p.includes) p.origin p.text) fails) where
     told : (parse_number e ≡ 3) ⊎ (numbered (zone_of (text_among p.includes) p.origin p.text) ≡ Err (parse_number e))

@@ -15,7 +15,7 @@ use Rattle.base.specs.declared.dns_class.DNSClass.{DNSClass}
 use Rattle.base.specs.declared.rr_key.RrKey.{RrKey}
 use Rattle.op_use.specs.Applying.{IsZoneMap}
 use Rattle.rr.specs.RecordSet.{SetValue}
-use Rattle.txt.specs.ZoneSets.{AreKept, IsKept, ZoneSets}
+use Rattle.txt.specs.ZoneSets.{AreKeyed, IsKeyed, ZoneSets}
 use Rattle.parsed_zone.specs.Classes.{are_sets_in, is_in, is_set_in}
 use Rattle.parsed_zone.specs.ParsedZone.{AreOfClass}
 
@@ -45,9 +45,9 @@ found P k [] all s h = absurd cc
 found P k (e ∷ es) all s h = found_at P k e (eq_by_cmp key_cmp k e.0) (lookup (is_at (key_cmp k)) es) s refl all.0 (found P k es all.1 s) h
 
 -- updates may be applied to the sets of a parsed zone that are of one class
-pub zone_map : (class : DNSClass) (m : BTreeMap RrKey SetValue) → AreKept m.entries → AreOfClass class m → IsZoneMap class m
+pub zone_map : (class : DNSClass) (m : BTreeMap RrKey SetValue) → AreKeyed m.entries → AreOfClass class m → IsZoneMap class m
 zone_map class m kept of_class = λ k s h.
-    let set_kept = found IsKept k m.entries kept s h in
+    let set_kept = found IsKeyed k m.entries kept s h in
     record { own_key = sym set_kept.key_is; own_class = of_class k s h; filled = set_kept.some; distinct = set_kept.tidy.distinct }
 
 sets_in : (es : ZoneSets) → are_sets_in es ≡ true → AllByRecursion (λ (e : RrKey × SetValue). e.1.dns_class ≡ classes.IN) es
@@ -56,5 +56,5 @@ sets_in (e ∷ es) h =
     let parts = and_parts (is_set_in e.1) (are_sets_in es) h in
     (in_only e.1.dns_class ((and_parts (is_in e.1.dns_class) _ parts.0).0), sets_in es parts.1)
 
-pub parsed_map : (m : BTreeMap RrKey SetValue) → AreKept m.entries → are_sets_in m.entries ≡ true → IsZoneMap classes.IN m
+pub parsed_map : (m : BTreeMap RrKey SetValue) → AreKeyed m.entries → are_sets_in m.entries ≡ true → IsZoneMap classes.IN m
 parsed_map m kept all = zone_map classes.IN m kept (λ k s h. found (λ q v. v.dns_class ≡ classes.IN) k m.entries (sets_in m.entries all) s h)

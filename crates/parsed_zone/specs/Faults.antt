@@ -30,6 +30,7 @@ zone_number refusals.Class = 25
 zone_number refusals.Memory = 3
 
 -- What was made, seen by view, is what was asked for, or its refusal has that number; or memory ran out.
-abbrev pub Makes : {X A : Type 0} → (X → A) → Result A ℕ → Result X ZoneRefusal → Type 0
-Makes view asked (Ok x) = asked ≡ Ok (view x)
-Makes view asked (Err refusal) = (zone_number refusal ≡ 3) ⊎ (asked ≡ Err (zone_number refusal))
+abbrev pub MakesOrRefuses : {X A : Type 0} → (X → A) → Result A ℕ → Result X ZoneRefusal → Type 0
+MakesOrRefuses view asked (Ok x) = asked ≡ Ok (view x)
+MakesOrRefuses view asked (Err refusal) =
+    (zone_number refusal ≡ 3) ⊎ (asked ≡ Err (zone_number refusal))

@@ -7,7 +7,7 @@ use Rattle.base.specs.declared.dns_class.DNSClass.{DNSClass}
 use Rattle.base.specs.declared.rr_key.RrKey.{RrKey}
 use Rattle.op_use.specs.Applying.{IsZoneMap}
 use Rattle.rr.specs.RecordSet.{SetValue}
-use Rattle.txt.specs.ZoneSets.{AreKept}
+use Rattle.txt.specs.ZoneSets.{AreKeyed}
 
 -- each set of a map is of a class
 abbrev pub AreOfClass : DNSClass → BTreeMap RrKey SetValue → Type 0
@@ -16,5 +16,5 @@ AreOfClass class m = (k : RrKey) (s : SetValue) → tree.get key_cmp m k ≡ Som
 
 -- what the parser says of its sets, and one class of them all, is what applying an update asks
 abbrev pub ParsedZonesMayBeUpdated : Type 0
-ParsedZonesMayBeUpdated = (class : DNSClass) (m : BTreeMap RrKey SetValue) → AreKept m.entries
+ParsedZonesMayBeUpdated = (class : DNSClass) (m : BTreeMap RrKey SetValue) → AreKeyed m.entries
     → AreOfClass class m → IsZoneMap class m

@@ -1,6 +1,6 @@
 -- A zone as it is read of bytes, and the lines that it is written as.
 use Rattle.std.specs.List.{flat_map}
-use Rattle.std.specs.Prelude.{ℕ, List, ◌++◌, codes, if◌then◌else◌, Option, None, Result, Err}
+use Rattle.std.specs.Prelude.{ℕ, List, ◌++◌, codes, if◌then◌else◌, Option, Result, Err}
 use Rattle.std.specs.Str.{is_utf8}
 use Rattle.base.specs.Labels.{NameValue}
 use Rattle.base.specs.NameText.{name_text}
@@ -10,10 +10,6 @@ use Rattle.rr.specs.RecordSet.{SetValue}
 use Rattle.txt.specs.Zone.{Texts, zone_of}
 use Rattle.txt.specs.ZoneSets.{ZoneSets}
 use Rattle.parsed_zone.specs.Faults.{numbered}
-
--- no text may be included
-abbrev pub no_texts : Texts
-no_texts name = None
 
 -- the zone of the text that bytes are, under an origin, if there is one, or the number of its fault; 24 where they
 -- aren't UTF-8

@@ -6,9 +6,9 @@ ghost use Rattle.std.specs.String.{string_bytes};
 ghost use Rattle.base.specs.RrKey.{key_cmp};
 ghost use Rattle.op.specs.Message.{message_value};
 ghost use Rattle.op_use.specs.Server.{sections_of};
-ghost use Rattle.txt.specs.ZoneSets.{AreKept};
+ghost use Rattle.txt.specs.ZoneSets.{AreKeyed};
 ghost use Rattle.parsed_zone.specs.Applied.{lines_after, update_lines};
-ghost use Rattle.parsed_zone.specs.Faults.{Makes};
+ghost use Rattle.parsed_zone.specs.Faults.{MakesOrRefuses};
 
 use crate::classes::are_sets_in;
 use crate::refusal::ZoneRefusal;
@@ -34,8 +34,8 @@ pub fn lines_after(
     name: &Name,
     sets: &BTreeMap<RrKey, RecordSet>,
 ) -> Result<String, ZoneRefusal>
-    requires { AreKept sets.now.entries }
-    ensures { Makes string_bytes
+    requires { AreKeyed sets.now.entries }
+    ensures { MakesOrRefuses string_bytes
         (lines_after (sections_of (message_value message.now)) (name.now, sets.now.entries))
         result }
 {

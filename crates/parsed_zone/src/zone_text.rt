@@ -7,9 +7,10 @@ ghost use Rattle.base.specs.RrKey.{key_cmp};
 ghost use Rattle.op.specs.MessageText.{line, record_lines};
 ghost use Rattle.rr.specs.Record.{record_text};
 ghost use Rattle.txt.specs.Steps.{texts_in};
-ghost use Rattle.txt.specs.ZoneSets.{AreKept};
-ghost use Rattle.parsed_zone.specs.Faults.{Makes};
-ghost use Rattle.parsed_zone.specs.ZoneText.{no_texts, origin_line, set_lines, zone_lines, zone_of_bytes};
+ghost use Rattle.txt.specs.ZoneSets.{AreKeyed};
+ghost use Rattle.parsed_zone.specs.Faults.{MakesOrRefuses};
+ghost use Rattle.parsed_zone.specs.ZoneText.{origin_line, set_lines, zone_lines, zone_of_bytes};
+ghost use Rattle.txt.specs.Zone.{no_texts};
 
 use crate::refusal::ZoneRefusal;
 use base::{Name, RrKey};
@@ -29,10 +30,10 @@ pub fn zone_of_bytes(
     origin: Option<Name>,
     bytes: &[u8],
 ) -> Result<(Name, BTreeMap<RrKey, RecordSet>), ZoneRefusal>
-    ensures zone { Makes (λ r. (r.0, r.1.entries))
+    ensures zone { MakesOrRefuses (λ r. (r.0, r.1.entries))
         (zone_of_bytes no_texts origin bytes.now) result }
     // Each set stands under the key of its owner and type, has a record and is tidy.
-    ensures kept { IfOk result (λ r. AreKept r.1.entries) }
+    ensures kept { IfOk result (λ r. AreKeyed r.1.entries) }
 {
     let none = BTreeMap::new(alloc);
     zone_with_texts(alloc, origin, &none, bytes)
@@ -49,10 +50,10 @@ pub fn zone_with_texts(
     includes: &BTreeMap<String, String>,
     bytes: &[u8],
 ) -> Result<(Name, BTreeMap<RrKey, RecordSet>), ZoneRefusal>
-    ensures zone { Makes (λ r. (r.0, r.1.entries))
+    ensures zone { MakesOrRefuses (λ r. (r.0, r.1.entries))
         (zone_of_bytes (texts_in includes.now) origin bytes.now) result }
     // Each set stands under the key of its owner and type, has a record and is tidy.
-    ensures kept { IfOk result (λ r. AreKept r.1.entries) }
+    ensures kept { IfOk result (λ r. AreKeyed r.1.entries) }
 {
     let (name, sets) = zone_sets(alloc, origin, includes, bytes)?;
     Ok((name, sets.into_map()?))
@@ -69,7 +70,8 @@ pub fn zone_sets(
     includes: &BTreeMap<String, String>,
     bytes: &[u8],
 ) -> Result<(Name, ZoneSets), ZoneRefusal>
-    ensures { Makes (λ r. r) (zone_of_bytes (texts_in includes.now) origin bytes.now) result }
+    ensures { MakesOrRefuses (λ r. r)
+        (zone_of_bytes (texts_in includes.now) origin bytes.now) result }
 {
     let Ok(text) = str::from_utf8(bytes) else {
         return Err(ZoneRefusal::NotUtf8);

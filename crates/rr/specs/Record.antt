@@ -17,11 +17,13 @@ use Rattle.base.specs.declared.error.decode_error.DecodeError.{DecodeError}
 use Rattle.base.specs.declared.error.decode_error.DecodeError.TheVariants as faults
 use Rattle.base.specs.declared.record_type.RecordType.{RecordType}
 use Rattle.base.specs.declared.record_type.RecordType.TheVariants as types
-use Rattle.base_data.specs.Kinds.{IsReadable, DataWord, data_names, data_places, data_text, data_written, plain_data, type_of_data}
+use Rattle.base_data.specs.Kinds.{DataWord, IsReadable, data_names, data_places, data_text, data_written, plain_data, type_of_data}
 use Rattle.base_data.specs.DataAt.{IsDataAt}
 use Rattle.base_data.specs.RData.{rdata_at}
 use Rattle.base_data.specs.declared.rdata.RData.{RData}
 use Rattle.rr.specs.declared.record.Record.{Record}
+use Rattle.base.specs.RrKey.{key_of}
+use Rattle.base.specs.declared.rr_key.RrKey.{RrKey}
 
 -- the fields of a record on the wire, its data as what it stands for
 pub record RawRecord : Type 0 where
@@ -229,3 +231,11 @@ record_text r =
     ++ (codes " "
     ++ (class_text r.dns_class
     ++ (codes " " ++ (type_text (type_of_data r.rdata) ++ (codes " " ++ data_text r.rdata)))))))
+
+-- the type of a record, that of its data (RFC 1035, 3.2.1)
+abbrev pub type_of_record : Record RData → RecordType
+type_of_record r = type_of_data r.rdata
+
+-- the key that a record stands under: its owner in lower case and its type (RFC 2181, 5)
+abbrev pub record_key : Record RData → RrKey
+record_key r = key_of r.name (type_of_record r)

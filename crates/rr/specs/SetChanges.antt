@@ -90,8 +90,8 @@ insert set r serial =
     )
 
 -- whether r goes into the records of a set of a type, and the records then
-abbrev pub put : RecordType → Record RData → List (Record RData) → Bool × List (Record RData)
-put type r xs = if is_left type xs r then (false, xs) else (true, joined r (beside type xs))
+abbrev pub put_in_set : RecordType → Record RData → List (Record RData) → Bool × List (Record RData)
+put_in_set type r xs = if is_left type xs r then (false, xs) else (true, joined r (beside type xs))
 
 -- the record that a set makes of data: its name and its TTL, in the class IN
 abbrev pub own_record : SetValue → RData → Record RData

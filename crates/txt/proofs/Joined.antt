@@ -19,7 +19,7 @@ use Rattle.txt.specs.Entries.{
   first_entry,
   include_end,
   include_of,
-  items_of,
+  first_items,
   line_entry,
   line_of,
   named,
@@ -32,7 +32,7 @@ use Rattle.txt.specs.Entries.{
   typed_at,
   word_of,
 }
-use Rattle.txt.specs.Zone.{State, Texts, apply, entered, fold, folded_text, included, max_depth, ◌>>=◌}
+use Rattle.txt.specs.Zone.{ZoneState, Texts, apply, after_entry, fold, folded_text, included, max_depth, ◌>>=◌}
 use Rattle.base.proofs.JoinedLaw.{texts_joined}
 use Rattle.base.proofs.TokenLemmas.{symbols_are}
 use Rattle.txt.proofs.Stack.{Within, bind_bind, entries_are, entries_shrink}
@@ -58,7 +58,7 @@ ends-after x (y ∷ rest) other is = is
 abbrev IsTakenOff : {A : Type 0} → List Symbol → A × List Symbol → A × List Symbol → Type 0
 IsTakenOff {A} more found found' = (found' ≡ (found.0, found.1 ++ more)) × IsClosed found.1
 
-closed-items : (more from : List Symbol) → Ends from → (items_of (from ++ more) ≡ ((items_of from).0, (items_of from).1 ++ more)) × Ends (items_of from).1
+closed-items : (more from : List Symbol) → Ends from → (first_items (from ++ more) ≡ ((first_items from).0, (first_items from).1 ++ more)) × Ends (first_items from).1
 closed-items more [] is = absurd cc
 closed-items more (symbol (char_data word) ∷ rest) is =
     let again = closed-items more rest (ends-after (symbol (char_data word)) rest (λ alike. cc) is) in
@@ -89,9 +89,9 @@ closed-stop more (broken ∷ rest) is = (refl, closed-after _ rest is)
 closed-typed : (more : List Symbol) (word : List ℕ) (from : List Symbol) → Ends from → IsTakenOff more (typed_at word from) (typed_at word (from ++ more))
 closed-typed more word from is =
     let items = closed-items more from is in
-    let stop = closed-stop more (items_of from).1 items.1 in (
+    let stop = closed-stop more (first_items from).1 items.1 in (
       ap (λ (found : List (List ℕ) × List Symbol). (([], typed word found.0 (stop_of found.1).0), (stop_of found.1).1)) items.0
-          ∙ ap (λ (found : Stop × List Symbol). (([], typed word (items_of from).0 found.0), found.1)) stop.0,
+          ∙ ap (λ (found : Stop × List Symbol). (([], typed word (first_items from).0 found.0), found.1)) stop.0,
       stop.1,
     )
 
@@ -210,12 +210,12 @@ bind-same : {A B : Type 0} (made : Result A Fault) (f g : A → Result B Fault) 
 bind-same (Ok a) f g each = each a
 bind-same (Err fault) f g each = refl
 
-fold-joined : (within : Within) (s : State) (first after : List Entry) → fold within s (first ++ after) ≡ (fold within s first >>= λ t. fold within t after)
+fold-joined : (within : Within) (s : ZoneState) (first after : List Entry) → fold within s (first ++ after) ≡ (fold within s first >>= λ t. fold within t after)
 unfolding fold
 fold-joined within s [] after = refl
 fold-joined within s (entry ∷ first) after =
-    bind-same (entered within s entry) (λ t. fold within t (first ++ after)) (λ t. fold within t first >>= λ u. fold within u after) (λ t. fold-joined within t first after)
-    ∙ sym (bind_bind (entered within s entry) (λ t. fold within t first) (λ u. fold within u after))
+    bind-same (after_entry within s entry) (λ t. fold within t (first ++ after)) (λ t. fold within t first >>= λ u. fold within u after) (λ t. fold-joined within t first after)
+    ∙ sym (bind_bind (after_entry within s entry) (λ t. fold within t first) (λ u. fold within u after))
 
 -- a line feed at the beginning of a text changes nothing, so it may belong to the line before
 line-feed-next : (b : List ℕ) → next (whole_text (10 ∷ b)) ≡ token eol (whole_text b)
@@ -227,18 +227,18 @@ line-feed-entry : (rest : List Symbol) → entries (symbol eol ∷ rest) ≡ not
 unfolding first_entry
 line-feed-entry rest = entries_are (symbol eol ∷ rest)
 
-nothing-folded : (within : Within) (s : State) (after : List Entry) → fold within s (nothing ∷ after) ≡ fold within s after
+nothing-folded : (within : Within) (s : ZoneState) (after : List Entry) → fold within s (nothing ∷ after) ≡ fold within s after
 unfolding fold apply
 nothing-folded within s after = refl
 
-line-feed : (within : Within) (s : State) (b : List ℕ) → fold within s (entries_of (whole_text (10 ∷ b))) ≡ fold within s (entries_of (whole_text b))
+line-feed : (within : Within) (s : ZoneState) (b : List ℕ) → fold within s (entries_of (whole_text (10 ∷ b))) ≡ fold within s (entries_of (whole_text b))
 line-feed within s b =
     ap (λ (from : List Symbol). fold within s (entries from)) (symbols_are (whole_text (10 ∷ b)) ∙ ap (λ (found : Next). followed symbols (symbol_of found)) (line-feed-next b))
     ∙ ap (fold within s) (line-feed-entry (symbols (whole_text b)))
     ∙ nothing-folded within s (entries_of (whole_text b))
 
 -- so may the line feed of a text after one that ends with this
-line-end : (within : Within) (s : State) (c : ℕ) (b : List ℕ) → fold within s (entries_of (whole_text (past_line_end c b))) ≡ fold within s (entries_of (whole_text b))
+line-end : (within : Within) (s : ZoneState) (c : ℕ) (b : List ℕ) → fold within s (entries_of (whole_text (past_line_end c b))) ≡ fold within s (entries_of (whole_text b))
 line-end within s c [] = refl
 line-end within s c (d ∷ b) = go (c == 13 && d == 10) refl where
   go : (t : Bool) → (c == 13 && d == 10) ≡ t → fold within s (entries_of (whole_text (past_line_end c (d ∷ b)))) ≡ fold within s (entries_of (whole_text (d ∷ b)))
@@ -250,7 +250,7 @@ closed-text [] is = tt
 closed-text (x ∷ rest) is = is
 
 -- texts one after another are the fold of the second from where the first left off
-pub texts_folded : (texts : Texts) (s : State) (a b : List ℕ) → EndsWithALine a → folded_text texts s (a ++ b) ≡ (folded_text texts s a >>= λ t. folded_text texts t b)
+pub texts_folded : (texts : Texts) (s : ZoneState) (a b : List ℕ) → EndsWithALine a → folded_text texts s (a ++ b) ≡ (folded_text texts s a >>= λ t. folded_text texts t b)
 unfolding folded_text
 texts_folded texts s a b e =
     let within : Within = included texts max_depth in

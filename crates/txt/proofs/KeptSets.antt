@@ -20,8 +20,9 @@ use Rattle.rr.proofs.SetTidy.{insert_keeps_tidy, one_is_tidy}
 use Rattle.rr.specs.RecordSet.{SetValue, set_of}
 use Rattle.rr.specs.SetChanges.{MayEnter, beside, holds_one, insert, is_left, joined}
 use Rattle.rr.specs.declared.record.Record.{Record}
-use Rattle.txt.specs.Steps.{Adds}
-use Rattle.txt.specs.ZoneSets.{AreKept, IsKept, ZoneSets, added, added_to, record_key, set_at}
+use Rattle.txt.specs.Steps.{MakesSets}
+use Rattle.txt.specs.ZoneSets.{AreKeyed, IsKeyed, ZoneSets, sets_with, added_to, set_at}
+use Rattle.rr.specs.Record.{record_key}
 
 -- what ties is the same key
 same_key : (a b : RrKey) → is_at (key_cmp a) b ≡ true → a ≡ b
@@ -32,22 +33,22 @@ same_key a b is = key_cmp-exact a b (equal (key_cmp a b) is) where
   equal Greater is = absurd cc
 
 -- the set that is found under a key is kept under it
-pub found_kept : (sets : ZoneSets) (key : RrKey) (set : SetValue) → AreKept sets → set_at sets key ≡ Some set → IsKept key set
+pub found_kept : (sets : ZoneSets) (key : RrKey) (set : SetValue) → AreKeyed sets → set_at sets key ≡ Some set → IsKeyed key set
 found_kept [] key set kept found = absurd cc
 found_kept (e ∷ es) key set kept found = go (is_at (key_cmp key) e.0) refl (λ later. found_kept es key set kept.1 later) where
-  go : (b : Bool) → is_at (key_cmp key) e.0 ≡ b → (set_at es key ≡ Some set → IsKept key set) → IsKept key set
+  go : (b : Bool) → is_at (key_cmp key) e.0 ≡ b → (set_at es key ≡ Some set → IsKeyed key set) → IsKeyed key set
   go true is later =
       let here : e.1 ≡ set = cc (is, found) in
-      subst (λ (k : RrKey). IsKept k set) (sym (same_key key e.0 is)) (subst (IsKept e.0) here kept.0)
+      subst (λ (k : RrKey). IsKeyed k set) (sym (same_key key e.0 is)) (subst (IsKeyed e.0) here kept.0)
   go false is later = later (let same : set_at (e ∷ es) key ≡ set_at es key = rw is refl in sym same ∙ found)
 
 -- a set under a new key, or under one that is there
-pub put_kept : (sets : ZoneSets) (key : RrKey) (set : SetValue) → AreKept sets → IsKept key set → AreKept (insert_entry key_cmp sets key set)
+pub put_kept : (sets : ZoneSets) (key : RrKey) (set : SetValue) → AreKeyed sets → IsKeyed key set → AreKeyed (insert_entry key_cmp sets key set)
 put_kept [] key set kept is = (is, tt)
 put_kept (e ∷ es) key set kept is = go (key_cmp key e.0) refl (put_kept es key set kept.1 is) where
-  go : (o : Ordering) → key_cmp key e.0 ≡ o → AreKept (insert_entry key_cmp es key set) → AreKept (insert_entry key_cmp (e ∷ es) key set)
+  go : (o : Ordering) → key_cmp key e.0 ≡ o → AreKeyed (insert_entry key_cmp es key set) → AreKeyed (insert_entry key_cmp (e ∷ es) key set)
   go Less here again = rw here (is, (kept.0, kept.1))
-  go Equal here again = rw here (subst (λ (k : RrKey). IsKept k set) (key_cmp-exact key e.0 here) is, kept.1)
+  go Equal here again = rw here (subst (λ (k : RrKey). IsKeyed k set) (key_cmp-exact key e.0 here) is, kept.1)
   go Greater here again = rw here (kept.0, again)
 
 -- names of one lower case are the same
@@ -56,7 +57,7 @@ same_of_lower a b is =
     subst (λ (n : NameValue). (beq n.absolute b.absolute && same_labels n.labels (folded b)) ≡ true) (sym is) ((same_by-equiv folded).refl b)
 
 -- a record may enter the set that is kept under its key
-pub enters : (set : SetValue) (r : Record RData) → IsKept (record_key r) set → MayEnter set r
+pub enters : (set : SetValue) (r : Record RData) → IsKeyed (record_key r) set → MayEnter set r
 enters set r kept = record {
   owner = same_of_lower set.name r.name (ap (λ (k : RrKey). k.name) (sym kept.key_is));
   own_type = ap (λ (k : RrKey). k.record_type) kept.key_is;
@@ -80,7 +81,7 @@ one_of r xs true is = omega arith
 one_of r xs false is = absurd cc
 
 -- the set is kept with one record more
-pub insert_kept : (set : SetValue) (r : Record RData) → IsKept (record_key r) set → IsKept (record_key r) (insert set r 0).1
+pub insert_kept : (set : SetValue) (r : Record RData) → IsKeyed (record_key r) set → IsKeyed (record_key r) (insert set r 0).1
 insert_kept set r kept = record {
   key_is = insert_cases (λ s. record_key r ≡ key_of s.name s.record_type) set r kept.key_is kept.key_is;
   some = insert_cases (λ s. s.records ≢ []) set r kept.some (some_joined r (beside set.record_type set.records));
@@ -89,7 +90,7 @@ insert_kept set r kept = record {
 }
 
 -- the set of a record is kept under its key
-pub new_kept : (r : Record RData) → IsKept (record_key r) (set_of r)
+pub new_kept : (r : Record RData) → IsKeyed (record_key r) (set_of r)
 new_kept r = record {
   key_is = refl;
   some = λ none. let e : ⊥ = cc in e;
@@ -98,21 +99,21 @@ new_kept r = record {
 }
 
 -- the set that is found for a record is kept under its key
-pub found_for : (sets : ZoneSets) (key : RrKey) (set : SetValue) (r : Record RData) → key ≡ record_key r → AreKept sets → set_at sets key ≡ Some set → IsKept (record_key r) set
-found_for sets key set r is kept found = subst (λ (k : RrKey). IsKept k set) is (found_kept sets key set kept found)
+pub found_for : (sets : ZoneSets) (key : RrKey) (set : SetValue) (r : Record RData) → key ≡ record_key r → AreKeyed sets → set_at sets key ≡ Some set → IsKeyed (record_key r) set
+found_for sets key set r is kept found = subst (λ (k : RrKey). IsKeyed k set) is (found_kept sets key set kept found)
 
 -- an answer about sets is one about the same sets
-pub adds_same : {X : Type 0} (result : Result X ParseError) (a b : ZoneSets) (p q : Result ZoneSets Fault) → a ≡ b → p ≡ q → Adds result a p → Adds result b q
-adds_same result a b p q sets made h = subst (λ (zs : ZoneSets). Adds result zs q) sets (subst (Adds result a) made h)
+pub adds_same : {X : Type 0} (result : Result X ParseError) (a b : ZoneSets) (p q : Result ZoneSets Fault) → a ≡ b → p ≡ q → MakesSets result a p → MakesSets result b q
+adds_same result a b p q sets made h = subst (λ (zs : ZoneSets). MakesSets result zs q) sets (subst (MakesSets result a) made h)
 
 -- what a record makes of the set that is found is what it makes of the sets
 pub added_found : (sets : ZoneSets) (key : RrKey) (set : SetValue) (r : Record RData) → key ≡ record_key r → set_at sets key ≡ Some set
-    → added_to sets r (Some set) ≡ added sets r
+    → added_to sets r (Some set) ≡ sets_with sets r
 added_found sets key set r is there = ap (added_to sets r) (sym there ∙ ap (set_at sets) is)
 
 -- the sets are kept with one that was put under its key
-pub placed_kept : {X : Type 0} (result : Result X ParseError) (sets after : ZoneSets) (key : RrKey) (set : SetValue) (r : Record RData) → key ≡ record_key r → AreKept sets
-    → IsKept (record_key r) set → after ≡ insert_entry key_cmp sets key set → OnOk result (AreKept after)
+pub placed_kept : {X : Type 0} (result : Result X ParseError) (sets after : ZoneSets) (key : RrKey) (set : SetValue) (r : Record RData) → key ≡ record_key r → AreKeyed sets
+    → IsKeyed (record_key r) set → after ≡ insert_entry key_cmp sets key set → OnOk result (AreKeyed after)
 placed_kept (Ok x) sets after key set r is kept one made =
-    subst AreKept (sym made) (put_kept sets key set kept (subst (λ (k : RrKey). IsKept k set) (sym is) one))
+    subst AreKeyed (sym made) (put_kept sets key set kept (subst (λ (k : RrKey). IsKeyed k set) (sym is) one))
 placed_kept (Err e) sets after key set r is kept one made = tt

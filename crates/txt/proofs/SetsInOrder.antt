@@ -18,7 +18,8 @@ use Rattle.base.specs.declared.rr_key.RrKey.{RrKey}
 use Rattle.base_data.specs.declared.rdata.RData.{RData}
 use Rattle.rr.specs.RecordSet.{SetValue, set_of}
 use Rattle.rr.specs.declared.record.Record.{Record}
-use Rattle.txt.specs.ZoneSets.{AreKept, IsKept, ZoneSets, added, added_to, record_key, set_at}
+use Rattle.txt.specs.ZoneSets.{AreKeyed, IsKeyed, ZoneSets, sets_with, added_to, set_at}
+use Rattle.rr.specs.Record.{record_key}
 
 abbrev pub AreInOrder : ZoneSets → Type 0
 AreInOrder sets = IsStrictlySortedBy key_cmp (keys_of sets)
@@ -45,15 +46,15 @@ push_key : (P : RrKey → Type 0) (es : ZoneSets) (key : RrKey) (set : SetValue)
 push_key P [] key set h k = (k, tt)
 push_key P (e ∷ es) key set h k = (h.0, push_key P es key set h.1 k)
 
-pub kept_front : (es fs : ZoneSets) → AreKept (es ++ fs) → AreKept es
+pub kept_front : (es fs : ZoneSets) → AreKeyed (es ++ fs) → AreKeyed es
 kept_front [] fs h = tt
 kept_front (e ∷ es) fs h = (h.0, kept_front es fs h.1)
 
-pub kept_back : (es fs : ZoneSets) → AreKept (es ++ fs) → AreKept fs
+pub kept_back : (es fs : ZoneSets) → AreKeyed (es ++ fs) → AreKeyed fs
 kept_back [] fs h = h
 kept_back (e ∷ es) fs h = kept_back es fs h.1
 
-pub kept_push : (es : ZoneSets) (key : RrKey) (set : SetValue) → AreKept es → IsKept key set → AreKept (es ++ (key, set) ∷ [])
+pub kept_push : (es : ZoneSets) (key : RrKey) (set : SetValue) → AreKeyed es → IsKeyed key set → AreKeyed (es ++ (key, set) ∷ [])
 kept_push [] key set h k = (k, tt)
 kept_push (e ∷ es) key set h k = (h.0, kept_push es key set h.1 k)
 
@@ -148,7 +149,7 @@ inserted_after (e ∷ es) key set h = rw h.0 (ap (λ (zs : ZoneSets). e ∷ zs) 
 
 -- the set of a record above all stands after them
 pub added_after : (es fs : ZoneSets) (key : RrKey) (set : SetValue) (r : Record RData) → key ≡ record_key r → set_of r ≡ set → IsAbove key (es ++ fs)
-    → added (es ++ fs) r ≡ Ok (es ++ (fs ++ (key, set) ∷ []))
+    → sets_with (es ++ fs) r ≡ Ok (es ++ (fs ++ (key, set) ∷ []))
 added_after es fs key set r is one above =
     ap (added_to (es ++ fs) r) (ap (set_at (es ++ fs)) (sym is) ∙ none_there (es ++ fs) key above)
     ∙ ap Ok (ap (λ (k : RrKey). insert_entry key_cmp (es ++ fs) k (set_of r)) (sym is) ∙ ap (insert_entry key_cmp (es ++ fs) key) one
@@ -171,7 +172,7 @@ last_in_order es fs key set order = last_above (es ++ fs) key set (subst AreInOr
 
 -- a record of the last key goes into the last set
 pub added_last : (es fs : ZoneSets) (key : RrKey) (set : SetValue) (r : Record RData) → key ≡ record_key r → AreInOrder (es ++ (fs ++ (key, set) ∷ []))
-    → added_to (es ++ (fs ++ (key, set) ∷ [])) r (Some set) ≡ added (es ++ (fs ++ (key, set) ∷ [])) r
+    → added_to (es ++ (fs ++ (key, set) ∷ [])) r (Some set) ≡ sets_with (es ++ (fs ++ (key, set) ∷ [])) r
 added_last es fs key set r is order =
     let sets : ZoneSets = es ++ (fs ++ (key, set) ∷ []) in
     let there : set_at sets key ≡ Some set = ap (λ (zs : ZoneSets). set_at zs key) (whole_of es fs (key, set)) ∙ found_last (es ++ fs) key set (last_in_order es fs key set order) in
@@ -188,17 +189,17 @@ changed_last es fs key set new r is order =
 pub order_after : (es fs : ZoneSets) (key : RrKey) (set : SetValue) → AreInOrder (es ++ fs) → IsAbove key (es ++ fs) → AreInOrder (es ++ (fs ++ (key, set) ∷ []))
 order_after es fs key set order above = subst AreInOrder (sym (whole_of es fs (key, set))) (order_push (es ++ fs) key set order above)
 
-pub kept_after : (es fs : ZoneSets) (key : RrKey) (set : SetValue) → AreKept (es ++ fs) → IsKept key set → AreKept (es ++ (fs ++ (key, set) ∷ []))
-kept_after es fs key set kept one = subst AreKept (sym (whole_of es fs (key, set))) (kept_push (es ++ fs) key set kept one)
+pub kept_after : (es fs : ZoneSets) (key : RrKey) (set : SetValue) → AreKeyed (es ++ fs) → IsKeyed key set → AreKeyed (es ++ (fs ++ (key, set) ∷ []))
+kept_after es fs key set kept one = subst AreKeyed (sym (whole_of es fs (key, set))) (kept_push (es ++ fs) key set kept one)
 
 pub order_before : (es fs : ZoneSets) (e : RrKey × SetValue) → AreInOrder (es ++ (fs ++ e ∷ [])) → AreInOrder (es ++ fs)
 order_before es fs e order = order_front (es ++ fs) (e ∷ []) (subst AreInOrder (whole_of es fs e) order)
 
-pub kept_before : (es fs : ZoneSets) (e : RrKey × SetValue) → AreKept (es ++ (fs ++ e ∷ [])) → AreKept (es ++ fs)
-kept_before es fs e kept = kept_front (es ++ fs) (e ∷ []) (subst AreKept (whole_of es fs e) kept)
+pub kept_before : (es fs : ZoneSets) (e : RrKey × SetValue) → AreKeyed (es ++ (fs ++ e ∷ [])) → AreKeyed (es ++ fs)
+kept_before es fs e kept = kept_front (es ++ fs) (e ∷ []) (subst AreKeyed (whole_of es fs e) kept)
 
-pub kept_last : (es fs : ZoneSets) (e : RrKey × SetValue) → AreKept (es ++ (fs ++ e ∷ [])) → IsKept e.0 e.1
-kept_last es fs e kept = (kept_back (es ++ fs) (e ∷ []) (subst AreKept (whole_of es fs e) kept)).0
+pub kept_last : (es fs : ZoneSets) (e : RrKey × SetValue) → AreKeyed (es ++ (fs ++ e ∷ [])) → IsKeyed e.0 e.1
+kept_last es fs e kept = (kept_back (es ++ fs) (e ∷ []) (subst AreKeyed (whole_of es fs e) kept)).0
 
 -- ---- a run that goes into a map
 -- a set goes between those below it and those above it

@@ -9,11 +9,11 @@ use Rattle.std.specs.String.{string_bytes}
 use Rattle.std.specs.declared.alloc.Global.{Global}
 use Rattle.base.proofs.Refusing.{Fails-through}
 use Rattle.base.specs.Labels.{NameValue}
-use Rattle.base.specs.TextFaults.{Fails, Gives}
+use Rattle.base.specs.TextFaults.{FailsWith, Gives}
 use Rattle.base.specs.declared.error.parse_error.ParseError.{ParseError}
 use Rattle.txt.specs.Parser.{ParserValue, named_texts, text_among}
 use Rattle.txt.specs.Steps.{texts_in}
-use Rattle.txt.specs.Zone.{State, Texts, answer_of, answered, beginning, folded_text, zone_of}
+use Rattle.txt.specs.Zone.{ZoneState, Texts, parsed_of, answered, beginning, folded_text, zone_of}
 use Rattle.txt.specs.ZoneSets.{ZoneSets}
 
 found : (name : List ℕ) (es : List (String Global × String Global))
@@ -34,24 +34,24 @@ pub texts_are : (includes : BTreeMap (String Global) (String Global)) → texts_
 texts_are includes = λ i name. found name includes.entries i
 
 -- the zone of a parser, by what its fields hold
-unfolded : (p : ParserValue) (text : List ℕ) (includes : BTreeMap (String Global) (String Global)) (origin : Option NameValue) (start : State)
+unfolded : (p : ParserValue) (text : List ℕ) (includes : BTreeMap (String Global) (String Global)) (origin : Option NameValue) (start : ZoneState)
     → p ≡ record { text = text; includes = named_texts includes; origin = origin } → start ≡ beginning origin
-    → zone_of (text_among p.includes) p.origin p.text ≡ answer_of (folded_text (texts_in includes) start text)
+    → zone_of (text_among p.includes) p.origin p.text ≡ parsed_of (folded_text (texts_in includes) start text)
 unfolded p text includes origin start is begins =
     ap (λ (q : ParserValue). zone_of (text_among q.includes) q.origin q.text) is
-    ∙ ap (λ (texts : Texts). answer_of (folded_text texts (beginning origin) text)) (sym (texts_are includes))
-    ∙ ap (λ (s : State). answer_of (folded_text (texts_in includes) s text)) (sym begins)
+    ∙ ap (λ (texts : Texts). parsed_of (folded_text texts (beginning origin) text)) (sym (texts_are includes))
+    ∙ ap (λ (s : ZoneState). parsed_of (folded_text (texts_in includes) s text)) (sym begins)
 
 -- what is answered after all entries is the answer
-pub parsed : {X : Type 0} {p : ParserValue} {text : List ℕ} {origin : Option NameValue} {start t : State} (view : X → NameValue × ZoneSets) (result : Result X ParseError)
+pub parsed : {X : Type 0} {p : ParserValue} {text : List ℕ} {origin : Option NameValue} {start t : ZoneState} (view : X → NameValue × ZoneSets) (result : Result X ParseError)
     (includes : BTreeMap (String Global) (String Global)) → p ≡ record { text = text; includes = named_texts includes; origin = origin } → start ≡ beginning origin
     → folded_text (texts_in includes) start text ≡ Ok t → Gives view result (answered t) → Gives view result (zone_of (text_among p.includes) p.origin p.text)
 parsed {p = p} {text = text} {origin = origin} {start = start} view result includes is begins folded answers =
-    subst (Gives view result) (sym (unfolded p text includes origin start is begins ∙ ap answer_of folded)) answers
+    subst (Gives view result) (sym (unfolded p text includes origin start is begins ∙ ap parsed_of folded)) answers
 
 -- what the entries are refused for is what the text is refused for
-pub not_parsed : {p : ParserValue} {text : List ℕ} {origin : Option NameValue} {start : State} (includes : BTreeMap (String Global) (String Global)) (e : ParseError)
+pub not_parsed : {p : ParserValue} {text : List ℕ} {origin : Option NameValue} {start : ZoneState} (includes : BTreeMap (String Global) (String Global)) (e : ParseError)
     → p ≡ record { text = text; includes = named_texts includes; origin = origin } → start ≡ beginning origin
-    → Fails e (folded_text (texts_in includes) start text) → Fails e (zone_of (text_among p.includes) p.origin p.text)
+    → FailsWith e (folded_text (texts_in includes) start text) → FailsWith e (zone_of (text_among p.includes) p.origin p.text)
 not_parsed {p} {text} {origin} {start} includes e is begins fails =
-    Fails-through e (λ fault here. unfolded p text includes origin start is begins ∙ ap answer_of here) fails
+    Fails-through e (λ fault here. unfolded p text includes origin start is begins ∙ ap parsed_of here) fails

@@ -56,11 +56,11 @@ pub data Entry : Type 0 where
   faulty_entry : Fault → Entry
 
 -- the items that stand first, and what stands after them
-abbrev pub items_of : List Symbol → List (List ℕ) × List Symbol
-items_of [] = ([], [])
-items_of (symbol (char_data word) ∷ rest) = (word ∷ (items_of rest).0, (items_of rest).1)
-items_of (symbol (list words) ∷ rest) = (words ++ (items_of rest).0, (items_of rest).1)
-items_of (other ∷ rest) = ([], other ∷ rest)
+abbrev pub first_items : List Symbol → List (List ℕ) × List Symbol
+first_items [] = ([], [])
+first_items (symbol (char_data word) ∷ rest) = (word ∷ (first_items rest).0, (first_items rest).1)
+first_items (symbol (list words) ∷ rest) = (words ++ (first_items rest).0, (first_items rest).1)
+first_items (other ∷ rest) = ([], other ∷ rest)
 
 -- how the items end, and where the next entry begins
 abbrev pub stop_of : List Symbol → Stop × List Symbol
@@ -71,8 +71,8 @@ stop_of (other ∷ rest) = (refused (fault_at other), rest)
 -- what stands from a type on, and where the next entry begins
 abbrev pub typed_at : List ℕ → List Symbol → (List Setting × Body) × List Symbol
 typed_at word rest = (
-  ([], typed word (items_of rest).0 (stop_of (items_of rest).1).0),
-  (stop_of (items_of rest).1).1,
+  ([], typed word (first_items rest).0 (stop_of (first_items rest).1).0),
+  (stop_of (first_items rest).1).1,
 )
 
 -- an item that is a setting stands before the rest of the line; another is its type

@@ -5,7 +5,7 @@ use Rattle.std.specs.String.{string_bytes}
 use Rattle.std.specs.declared.alloc.Global.{Global}
 use Rattle.base.specs.Cuts.{Faults}
 use Rattle.base.specs.NameOf.{name_of}
-use Rattle.base.specs.TextFaults.{Fails, Fault}
+use Rattle.base.specs.TextFaults.{FailsWith, Fault}
 use Rattle.base.specs.TokenList.{Symbol, broken, symbol}
 use Rattle.base.specs.Tokens.{value_of}
 use Rattle.base.specs.declared.error.parse_error.ParseError.{ParseError}
@@ -21,7 +21,7 @@ use Rattle.txt.specs.Entries.{
   include_end,
   include_entry,
   include_of,
-  items_of,
+  first_items,
   line_of,
   nothing,
   origin_entry,
@@ -32,7 +32,7 @@ use Rattle.txt.specs.Entries.{
   ttl_is,
   typed_at,
 }
-use Rattle.txt.specs.Zone.{State, Texts, apply, carried, settled, stopped, ◌>>=◌}
+use Rattle.txt.specs.Zone.{ZoneState, Texts, apply, carried, settled, stopped, ◌>>=◌}
 use Rattle.txt.specs.ZoneSets.{ZoneSets}
 use Rattle.txt.specs.declared.zone.context.Setting.{Setting as Stated}
 use Rattle.txt.specs.declared.zone.context.Setting.TheVariants as stated
@@ -42,15 +42,15 @@ use Rattle.txt.specs.declared.zone.context.Step.TheVariants as steps
 -- what stands next: the end, an entry that is carried out, or one that opens a text
 pub data Taken : Type 0 where
   ended : Taken
-  went : State → List Symbol → Taken
+  went : ZoneState → List Symbol → Taken
   opens : List ℕ → List Symbol → Taken
 
 -- the state that was made, and what stands after the entry
-abbrev pub went_on : Result State Fault → List Symbol → Result Taken Fault
+abbrev pub went_on : Result ZoneState Fault → List Symbol → Result Taken Fault
 went_on made rest = made >>= λ t. Ok (went t rest)
 
 -- the same of the entry that stands next
-abbrev pub taken_by : State → Option (Entry × List Symbol) → Result Taken Fault
+abbrev pub taken_by : ZoneState → Option (Entry × List Symbol) → Result Taken Fault
 taken_by s None = Ok ended
 taken_by s (Some (include_entry name, rest)) = Ok (opens name rest)
 taken_by s (Some (nothing, rest)) = went_on (apply s nothing) rest
@@ -61,34 +61,37 @@ taken_by s (Some (owner_line owner settings body, rest)) =
 taken_by s (Some (faulty_entry fault, rest)) = went_on (apply s (faulty_entry fault)) rest
 
 -- what stands next in a list of tokens, and what it makes
-unfoldable pub taken : State → List Symbol → Result Taken Fault
+unfoldable pub taken : ZoneState → List Symbol → Result Taken Fault
 taken s from = taken_by s (first_entry from)
 
 -- what was met is this; or it was refused because memory ran out, or with the fault that is there in its place
-abbrev pub Takes : Result Step ParseError → State → State → List Symbol → Result Taken Fault
+abbrev pub Takes : Result Step ParseError → ZoneState → ZoneState → List Symbol → Result Taken Fault
     → Type 0
 Takes (Ok steps.End) s t to made = (made ≡ Ok ended) × (t ≡ s)
 Takes (Ok steps.Applied) s t to made = made ≡ Ok (went t to)
 Takes (Ok (steps.Include name)) s t to made = (made ≡ Ok (opens (string_bytes name) to)) × (t ≡ s)
-Takes (Err e) s t to made = Fails e made
+Takes (Err e) s t to made = FailsWith e made
 
 -- What was met is what stands next.
-abbrev pub AnswersStep : Result Step ParseError → State → State → List Symbol → List Symbol → Type 0
+abbrev pub AnswersStep : Result Step ParseError → ZoneState → ZoneState → List Symbol
+    → List Symbol → Type 0
 AnswersStep result s t from to = Takes result s t to (taken s from)
 
 -- what a line makes of it after its owner
-abbrev pub took_line : State → (List Setting × Body) × List Symbol → Result Taken Fault
+abbrev pub took_line : ZoneState → (List Setting × Body) × List Symbol → Result Taken Fault
 took_line s found = went_on (carried (settled s found.0.0) found.0.1) found.1
 
 -- What the call made of the state is this, or it was refused.
-abbrev pub Makes : {X : Type 0} → Result X ParseError → State → Result State Fault → Type 0
-Makes (Ok x) t made = made ≡ Ok t
-Makes (Err e) t made = Fails e made
+abbrev pub MakesState : {X : Type 0} → Result X ParseError → ZoneState → Result ZoneState Fault
+    → Type 0
+MakesState (Ok x) t made = made ≡ Ok t
+MakesState (Err e) t made = FailsWith e made
 
 -- What the call made of the sets is this, or it was refused.
-abbrev pub Adds : {X : Type 0} → Result X ParseError → ZoneSets → Result ZoneSets Fault → Type 0
-Adds (Ok x) sets made = made ≡ Ok sets
-Adds (Err e) sets made = Fails e made
+abbrev pub MakesSets : {X : Type 0} → Result X ParseError → ZoneSets → Result ZoneSets Fault
+    → Type 0
+MakesSets (Ok x) sets made = made ≡ Ok sets
+MakesSets (Err e) sets made = FailsWith e made
 
 -- what an item states, as a value
 abbrev pub setting_value : Stated → Setting
@@ -96,53 +99,54 @@ setting_value (stated.Ttl ttl) = ttl_is ttl
 setting_value (stated.Class class) = class_is class
 
 -- What the call made of the state and the tokens is this, or it was refused.
-abbrev pub Goes : {X : Type 0} → Result X ParseError → State → List Symbol → Result Taken Fault
+abbrev pub Goes : {X : Type 0} → Result X ParseError → ZoneState → List Symbol → Result Taken Fault
     → Type 0
 Goes (Ok x) t to made = made ≡ Ok (went t to)
-Goes (Err e) t to made = Fails e made
+Goes (Err e) t to made = FailsWith e made
 
 -- What was read is this, and what stands after it; or it was refused.
-abbrev pub Reads : {X A : Type 0} → (X → A) → Result X ParseError → List Symbol
+abbrev pub ReadsSymbols : {X A : Type 0} → (X → A) → Result X ParseError → List Symbol
     → Result (A × List Symbol) Fault → Type 0
-Reads view (Ok x) to made = made ≡ Ok (view x, to)
-Reads view (Err e) to made = Fails e made
+ReadsSymbols view (Ok x) to made = made ≡ Ok (view x, to)
+ReadsSymbols view (Err e) to made = FailsWith e made
 
 -- the items of the data, and where the next entry begins
 abbrev pub items_read : List Symbol → Result (List (List ℕ) × List Symbol) Fault
 items_read from =
-    stopped (stop_of (items_of from).1).0 ((items_of from).0, (stop_of (items_of from).1).1)
+    stopped (stop_of (first_items from).1).0
+    ((first_items from).0, (stop_of (first_items from).1).1)
 
 -- what stands after $ORIGIN, and what it makes
-unfoldable pub took_origin : State → List Symbol → Result Taken Fault
+unfoldable pub took_origin : ZoneState → List Symbol → Result Taken Fault
 took_origin s rest = taken_by s (Some (origin_of rest))
 
 -- what stands after $TTL, and what it makes
-unfoldable pub took_default : State → List Symbol → Result Taken Fault
+unfoldable pub took_default : ZoneState → List Symbol → Result Taken Fault
 took_default s rest = taken_by s (Some (default_of rest))
 
 -- what stands after $INCLUDE, and what it makes
-unfoldable pub took_include : State → List Symbol → Result Taken Fault
+unfoldable pub took_include : ZoneState → List Symbol → Result Taken Fault
 took_include s rest = taken_by s (Some (include_of rest))
 
 -- what stands after the name of an included text, and what it makes
-unfoldable pub took_include_end : State → List ℕ → List Symbol → Result Taken Fault
+unfoldable pub took_include_end : ZoneState → List ℕ → List Symbol → Result Taken Fault
 took_include_end s name rest = taken_by s (Some (include_end name rest))
 
 -- what stands after an owner, settings first, and what it makes
-unfoldable pub took_words : State → List Symbol → Result Taken Fault
+unfoldable pub took_words : ZoneState → List Symbol → Result Taken Fault
 took_words s rest = took_line s (line_of rest)
 
 -- the owner is the origin
-abbrev pub took_at : State → List Symbol → Result Taken Fault
+abbrev pub took_at : ZoneState → List Symbol → Result Taken Fault
 took_at s rest = took_words (record s { owner = s.origin }) rest
 
 -- the owner is the name that the text names
-abbrev pub took_named : State → List ℕ → List Symbol → Result Taken Fault
+abbrev pub took_named : ZoneState → List ℕ → List Symbol → Result Taken Fault
 took_named s word rest = name_of word s.origin
     >>= λ name. took_words (record s { owner = Some name }) rest
 
 -- what stands after the text of a type, and what it makes
-unfoldable pub took_typed : State → List ℕ → List Symbol → Result Taken Fault
+unfoldable pub took_typed : ZoneState → List ℕ → List Symbol → Result Taken Fault
 took_typed s word rest = took_line s (typed_at word rest)
 
 -- the items of the data, as a step

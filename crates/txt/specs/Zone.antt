@@ -37,11 +37,11 @@ use Rattle.txt.specs.Entries.{
   untyped,
   whole,
 }
-use Rattle.txt.specs.ZoneSets.{ZoneSets, added}
+use Rattle.txt.specs.ZoneSets.{ZoneSets, sets_with}
 
 -- What is in force after an entry: the origin, the last stated owner, class and TTL (RFC 1035, 5.1), the default TTL
 -- (RFC 2308, 4), a TTL that was stated and no record has yet; and the sets so far.
-pub record State : Type 0 where
+pub record ZoneState : Type 0 where
   pub origin : Option NameValue
   pub owner : Option NameValue
   pub dns_class : DNSClass
@@ -69,7 +69,7 @@ type_named word =
     (unknown_type (str_to_ascii_uppercase word))
 
 -- the owner in force
-abbrev pub owner_in : State → Result NameValue Fault
+abbrev pub owner_in : ZoneState → Result NameValue Fault
 owner_in s = ok_or s.owner (says (codes "record name not specified"))
 
 -- the first of two, if there is one, else the other
@@ -78,13 +78,13 @@ else_of None other = other
 else_of (Some ttl) other = Some ttl
 
 -- the pending TTL, else the default (RFC 2308, 4), else the last stated one (RFC 1035, 5.1)
-abbrev pub ttl_in : State → Result ℕ Fault
+abbrev pub ttl_in : ZoneState → Result ℕ Fault
 ttl_in s =
     ok_or (else_of s.pending (else_of s.default_ttl s.last_ttl))
     (says (codes "record ttl not specified"))
 
 -- the record of this data, with what is in force
-abbrev pub record_of : State → RData → Result (Record RData) Fault
+abbrev pub record_of : ZoneState → RData → Result (Record RData) Fault
 record_of s rdata =
     owner_in s >>= λ owner. ttl_in s >>= λ ttl.
     Ok (record {
@@ -96,21 +96,21 @@ record_of s rdata =
     })
 
 -- the sets with one more record
-abbrev pub with_record : State → Record RData → Result State Fault
-with_record s r = added s.sets r >>= λ sets. Ok (record s { sets = sets })
+abbrev pub state_with : ZoneState → Record RData → Result ZoneState Fault
+state_with s r = sets_with s.sets r >>= λ sets. Ok (record s { sets = sets })
 
 -- the pending TTL becomes the last, and is used up
-abbrev pub spent_by : State → Option ℕ → State
+abbrev pub spent_by : ZoneState → Option ℕ → ZoneState
 spent_by s None = s
 spent_by s (Some ttl) = record s { pending = None; last_ttl = Some ttl }
 
 -- the same of the TTL that is pending, if one is
-abbrev pub spent : State → State
+abbrev pub spent : ZoneState → ZoneState
 spent s = spent_by s s.pending
 
 -- a record of this data is made, with what is in force
-abbrev pub recorded : State → RData → Result State Fault
-recorded s rdata = record_of s rdata >>= λ r. with_record s r >>= λ t. Ok (spent t)
+abbrev pub recorded : ZoneState → RData → Result ZoneState Fault
+recorded s rdata = record_of s rdata >>= λ r. state_with s r >>= λ t. Ok (spent t)
 
 -- ---- an entry
 
@@ -120,30 +120,30 @@ stopped whole a = Ok a
 stopped (refused fault) a = Err fault
 
 -- what a setting puts into force
-abbrev pub set_by : State → Setting → State
+abbrev pub set_by : ZoneState → Setting → ZoneState
 set_by s (ttl_is ttl) = record s { pending = Some ttl }
 set_by s (class_is class) = record s { dns_class = class }
 
 -- settings, one after the other
-abbrev pub settled : State → List Setting → State
+abbrev pub settled : ZoneState → List Setting → ZoneState
 settled s [] = s
 settled s (setting ∷ settings) = settled (set_by s setting) settings
 
 -- what stands after the settings: the type, the end of the line, the data, and then the record
-abbrev pub carried : State → Body → Result State Fault
+abbrev pub carried : ZoneState → Body → Result ZoneState Fault
 carried s (untyped stop) = stopped stop s
 carried s (typed word items stop) =
     type_named word >>= λ type. stopped stop items >>= λ words. data_of type words s.origin
     >>= λ rdata. recorded s rdata
 
 -- the owner of a line: a name, the origin, or the last owner
-abbrev pub owned : State → Owner → Result State Fault
+abbrev pub owned : ZoneState → Owner → Result ZoneState Fault
 owned s same = Ok s
 owned s at_origin = Ok (record s { owner = s.origin })
 owned s (named text) = name_of text s.origin >>= λ name. Ok (record s { owner = Some name })
 
 -- what an entry that opens no text makes of it
-unfoldable pub apply : State → Entry → Result State Fault
+unfoldable pub apply : ZoneState → Entry → Result ZoneState Fault
 apply s nothing = Ok s
 apply s (origin_entry text) = name_of text None >>= λ name. Ok (record s { origin = Some name })
 apply s (ttl_entry text) = ok_or (ttl_of text) bad_ttl
@@ -158,34 +158,40 @@ apply s (faulty_entry fault) = Err fault
 abbrev pub Texts : Type 0
 Texts = List ℕ → Option (List ℕ)
 
+-- no text may be included
+abbrev pub no_texts : Texts
+no_texts name = None
+
 -- what an entry makes of it, where this says what an included text does
-abbrev pub entered : (State → List ℕ → Result State Fault) → State → Entry → Result State Fault
-entered within s (include_entry name) = within s name
-entered within s nothing = apply s nothing
-entered within s (origin_entry text) = apply s (origin_entry text)
-entered within s (ttl_entry text) = apply s (ttl_entry text)
-entered within s (owner_line owner settings body) = apply s (owner_line owner settings body)
-entered within s (faulty_entry fault) = apply s (faulty_entry fault)
+abbrev pub after_entry : (ZoneState → List ℕ → Result ZoneState Fault) → ZoneState → Entry
+    → Result ZoneState Fault
+after_entry within s (include_entry name) = within s name
+after_entry within s nothing = apply s nothing
+after_entry within s (origin_entry text) = apply s (origin_entry text)
+after_entry within s (ttl_entry text) = apply s (ttl_entry text)
+after_entry within s (owner_line owner settings body) = apply s (owner_line owner settings body)
+after_entry within s (faulty_entry fault) = apply s (faulty_entry fault)
 
 -- what entries make of it, one after the other, or the first fault
-unfoldable pub fold : (State → List ℕ → Result State Fault) → State → List Entry
-    → Result State Fault
+unfoldable pub fold : (ZoneState → List ℕ → Result ZoneState Fault) → ZoneState → List Entry
+    → Result ZoneState Fault
 fold within s [] = Ok s
-fold within s (entry ∷ entries) = entered within s entry >>= λ t. fold within t entries
+fold within s (entry ∷ entries) = after_entry within s entry >>= λ t. fold within t entries
 
 -- the includer's origin comes back: $INCLUDE never changes the origin of the parent text (RFC 1035, 5.1)
-abbrev pub restored : Option NameValue → State → State
+abbrev pub restored : Option NameValue → ZoneState → ZoneState
 restored name s = record s { origin = name }
 
 -- what an included text makes of it; a fault where there is no text of the name
-abbrev pub opened : (State → List ℕ → Result State Fault) → State → List ℕ → Option (List ℕ)
-    → Result State Fault
+abbrev pub opened : (ZoneState → List ℕ → Result ZoneState Fault) → ZoneState → List ℕ
+    → Option (List ℕ)
+    → Result ZoneState Fault
 opened within s name None = Err (not_found name)
 opened within s name (Some text) = fold within s (entries_of (whole_text text))
     >>= λ t. Ok (restored s.origin t)
 
 -- what an included text does, where `room` more texts may be open; the depth is tested before the text is looked up
-unfoldable pub included : Texts → ℕ → State → List ℕ → Result State Fault
+unfoldable pub included : Texts → ℕ → ZoneState → List ℕ → Result ZoneState Fault
 included texts zero s name = Err (says (codes "Max depth level for nested $INCLUDE is reached"))
 included texts (suc room) s name = opened (included texts room) s name (texts name)
 
@@ -194,11 +200,11 @@ abbrev pub max_depth : ℕ
 max_depth = 256
 
 -- what the entries of a text make of it, with those of the texts that it includes
-unfoldable pub folded_text : Texts → State → List ℕ → Result State Fault
+unfoldable pub folded_text : Texts → ZoneState → List ℕ → Result ZoneState Fault
 folded_text texts s text = fold (included texts max_depth) s (entries_of (whole_text text))
 
 -- what is in force before the first entry; the origin is made absolute
-abbrev pub beginning : Option NameValue → State
+abbrev pub beginning : Option NameValue → ZoneState
 beginning name =
     record {
       origin = option_map absolute name;
@@ -211,13 +217,13 @@ beginning name =
     }
 
 -- the origin and the sets; that there is an origin is tested last
-abbrev pub answered : State → Result (NameValue × ZoneSets) Fault
+abbrev pub answered : ZoneState → Result (NameValue × ZoneSets) Fault
 answered s = ok_or s.origin (says (codes "$ORIGIN was not specified")) >>= λ name. Ok (name, s.sets)
 
 -- the same where no fault was met
-abbrev pub answer_of : Result State Fault → Result (NameValue × ZoneSets) Fault
-answer_of made = made >>= λ s. answered s
+abbrev pub parsed_of : Result ZoneState Fault → Result (NameValue × ZoneSets) Fault
+parsed_of made = made >>= λ s. answered s
 
 -- the zone of a text, where these texts may be included and an origin may be given
 abbrev pub zone_of : Texts → Option NameValue → List ℕ → Result (NameValue × ZoneSets) Fault
-zone_of texts origin text = answer_of (folded_text texts (beginning origin) text)
+zone_of texts origin text = parsed_of (folded_text texts (beginning origin) text)

@@ -11,14 +11,11 @@ use Rattle.base_data.specs.declared.rdata.RData.{RData}
 use Rattle.rr.specs.RecordSet.{IsTidy, SetValue, is_soa, set_of}
 use Rattle.rr.specs.SetChanges.{holds_one, insert}
 use Rattle.rr.specs.declared.record.Record.{Record}
+use Rattle.rr.specs.Record.{record_key}
 
 -- record sets under their keys, in the order of these
 abbrev pub ZoneSets : Type 0
 ZoneSets = List (RrKey × SetValue)
-
--- the key that a record stands under: owner and type (RFC 2181, 5)
-abbrev pub record_key : Record RData → RrKey
-record_key r = key_of r.name (type_of_data r.rdata)
 
 -- the set under a key, if there is one
 abbrev pub set_at : ZoneSets → RrKey → Option SetValue
@@ -33,17 +30,17 @@ added_to sets r (Some set) =
     else Ok (set_value (is_at (key_cmp (record_key r))) sets (insert set r 0).1)
 
 -- the sets with one record more
-abbrev pub added : ZoneSets → Record RData → Result ZoneSets Fault
-added sets r = added_to sets r (set_at sets (record_key r))
+abbrev pub sets_with : ZoneSets → Record RData → Result ZoneSets Fault
+sets_with sets r = added_to sets r (set_at sets (record_key r))
 
 -- A set as it stands under a key: of the key's owner and type, not empty and tidy, and with one record where only one
 -- may stand.
-pub record IsKept (key : RrKey) (set : SetValue) : Type 0 where
+pub record IsKeyed (key : RrKey) (set : SetValue) : Type 0 where
   pub key_is : key ≡ key_of set.name set.record_type
   pub some : set.records ≢ []
   pub tidy : IsTidy set
   pub single : holds_one set.record_type ≡ true → length set.records ≤ 1
 
 -- each set stands under its key
-abbrev pub AreKept : ZoneSets → Type 0
-AreKept sets = AllByRecursion (λ (e : RrKey × SetValue). IsKept e.0 e.1) sets
+abbrev pub AreKeyed : ZoneSets → Type 0
+AreKeyed sets = AllByRecursion (λ (e : RrKey × SetValue). IsKeyed e.0 e.1) sets

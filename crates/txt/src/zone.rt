@@ -2,9 +2,9 @@
 
 ghost use Rattle.std.specs.Prelude.{IfOk, ◌≡◌};
 ghost use Rattle.base.specs.TextFaults.{Gives};
-ghost use Rattle.txt.specs.Zone.{answer_of, beginning, folded_text, zone_of};
+ghost use Rattle.txt.specs.Zone.{parsed_of, beginning, folded_text, zone_of};
 ghost use Rattle.txt.specs.Parser.{named_texts, text_among};
-ghost use Rattle.txt.specs.ZoneSets.{AreKept};
+ghost use Rattle.txt.specs.ZoneSets.{AreKeyed};
 
 mod context;
 pub mod laws;
@@ -84,7 +84,7 @@ impl<'a> Parser<'a> {
         ensures zone { Gives (λ r. (r.0, r.1.entries)) result
             (zone_of (text_among self.entry.includes) self.entry.origin self.entry.text) }
         // Each set stands under the key of its owner and type, has a record and is tidy.
-        ensures kept { IfOk result (λ r. AreKept r.1.entries) }
+        ensures kept { IfOk result (λ r. AreKeyed r.1.entries) }
     {
         let (origin, sets) = self.parse_sets()?;
         Ok((origin, sets.into_map()?))

@@ -1,13 +1,8 @@
 -- How many record sets the zone of a text has.
-use Rattle.std.specs.Prelude.{Err, None, Ok, Result, length, ℕ, ◌≡◌}
+use Rattle.std.specs.Prelude.{Err, Ok, Result, length, ℕ, ◌≡◌}
 use Rattle.base.specs.Labels.{NameValue}
 use Rattle.base.specs.TextFaults.{Fault}
-use Rattle.txt.specs.Zone.{Texts}
 use Rattle.txt.specs.ZoneSets.{ZoneSets}
-
--- no text may be included
-abbrev pub no_texts : Texts
-no_texts name = None
 
 -- the text is that of a zone, and this is how many sets it has
 abbrev pub HasSets : Result (NameValue × ZoneSets) Fault → ℕ → Type 0

@@ -2,8 +2,8 @@
 #![tactic(auto)]
 
 ghost use Rattle.std.specs.Prelude.{IfOk};
-ghost use Rattle.txt.specs.Zone.{zone_of};
-ghost use Rattle.zones.specs.Counts.{HasSets, no_texts};
+ghost use Rattle.txt.specs.Zone.{no_texts, zone_of};
+ghost use Rattle.zones.specs.Counts.{HasSets};
 
 use base::{Name, ParseError};
 use std::alloc::Global;

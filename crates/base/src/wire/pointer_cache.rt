@@ -5,7 +5,7 @@ ghost use Rattle.std.specs.Prelude.{◌≡◌, ◌≢◌, ℕ, ◌+◌, ◌++◌
 ghost use Rattle.std.specs.FinMap as map;
 ghost use Rattle.std.specs.Option.{option_or};
 ghost use Rattle.std.specs.Ordering.{nat_cmp};
-ghost use Rattle.base.specs.Pointers.{IsInside, IsLonger, IsThere, entries_of, labels_at, labels_from, labels_now, placed};
+ghost use Rattle.base.specs.Pointers.{IsInside, IsLonger, IsTargetThere, target_entries, target_labels, labels_from, labels_now, placed};
 
 use crate::limits::MAX_LABELS;
 use std::alloc::{AllocError, Global};
@@ -67,7 +67,7 @@ impl<'a> Model for PointerCache<'a> {
     ghost use Rattle.std.specs.Coded.{coded_ℕ, coded_list};
     ghost use Rattle.std.specs.FinMap as map;
     ghost use Rattle.std.specs.Ordering.{nat_cmp};
-    ghost use Rattle.base.specs.Pointers.{IsInside, IsThere, cache_of};
+    ghost use Rattle.base.specs.Pointers.{IsInside, IsTargetThere, cache_of};
     ghost use Rattle.base.specs.declared.wire.pointer_cache.TheConstants.{ROOM};
 
     ghost Value = { map.FinMap nat_cmp (List ℕ) };
@@ -80,7 +80,7 @@ impl<'a> Model for PointerCache<'a> {
     ghost invariant = { λ c. ((c.count ≤ ROOM)
         × ((length c.first ≡ ROOM) × (c.moved ≡ true → c.count ≡ 0)))
         × (All (IsInside c.copies.bytes.items) c.copies.places.items
-        × All (IsThere c.copies.bytes.items) (take c.count c.first)) };
+        × All (IsTargetThere c.copies.bytes.items) (take c.count c.first)) };
 }
 
 /// The labels at a place among copied ones.
@@ -95,8 +95,8 @@ fn copied_at(copied: &[u8], place: usize) -> &[u8]
 
 /// The labels at an offset, if it is one of these targets.
 fn find_among<'d>(targets: &'d [Target<'d>], copied: &'d [u8], offset: u16) -> Option<&'d [u8]>
-    requires { All (IsThere copied.now) targets.now }
-    ensures { labels_now result ≡ map.find nat_cmp offset (entries_of copied.now targets.now) }
+    requires { All (IsTargetThere copied.now) targets.now }
+    ensures { labels_now result ≡ map.find nat_cmp offset (target_entries copied.now targets.now) }
 {
     for target in targets {
         if target.offset == offset {
@@ -167,12 +167,12 @@ fn copy(copied: &mut Vec<u8>, labels: &[u8]) -> Result<usize, AllocError>
 /// Gives a target a place, and copies its labels if they are lent. Each caller has its own copy of this function too.
 #[inline(always)]
 fn place_one(target: &Target<'_>, copies: &mut Copies, most: u16) -> Result<(), AllocError>
-    requires there { IsThere copies.old.bytes.items target.now }
+    requires there { IsTargetThere copies.old.bytes.items target.now }
     requires inside { All (IsInside copies.old.bytes.items) copies.old.places.items }
     // Its labels are found by its offset.
     ensures here { OnOk result
         (placed copies.new.bytes.items copies.new.places.items target.now.offset
-        ≡ Some (labels_at copies.old.bytes.items target.now.labels)) }
+        ≡ Some (target_labels copies.old.bytes.items target.now.labels)) }
     // Those of other offsets are found as before.
     ensures others { (q : ℕ) → q ≢ target.now.offset
         → placed copies.new.bytes.items copies.new.places.items q
@@ -195,17 +195,17 @@ fn place_one(target: &Target<'_>, copies: &mut Copies, most: u16) -> Result<(), 
 
 /// Gives each of these targets a place.
 fn place_all(targets: &[Target<'_>], copies: &mut Copies, most: u16) -> Result<(), AllocError>
-    requires there { All (IsThere copies.old.bytes.items) targets.now }
+    requires there { All (IsTargetThere copies.old.bytes.items) targets.now }
     requires inside { All (IsInside copies.old.bytes.items) copies.old.places.items }
     // By the places alone the same is found as among the targets and then by the places before.
     ensures ok { (q : ℕ) → OnOk result (placed copies.new.bytes.items copies.new.places.items q
-        ≡ option_or (map.find nat_cmp q (entries_of copies.old.bytes.items targets.now))
+        ≡ option_or (map.find nat_cmp q (target_entries copies.old.bytes.items targets.now))
         (placed copies.old.bytes.items copies.old.places.items q)) }
     // Among the targets and then by the places nothing else is found than before.
     ensures kept { (q : ℕ)
-        → option_or (map.find nat_cmp q (entries_of copies.old.bytes.items targets.now))
+        → option_or (map.find nat_cmp q (target_entries copies.old.bytes.items targets.now))
         (placed copies.new.bytes.items copies.new.places.items q)
-        ≡ option_or (map.find nat_cmp q (entries_of copies.old.bytes.items targets.now))
+        ≡ option_or (map.find nat_cmp q (target_entries copies.old.bytes.items targets.now))
         (placed copies.old.bytes.items copies.old.places.items q) }
     ensures inside { All (IsInside copies.new.bytes.items) copies.new.places.items }
     ensures longer { IsLonger copies.old.bytes.items copies.new.bytes.items }

@@ -8,7 +8,7 @@ ghost use Rattle.std.specs.Net.Addr.{octets_of};
 ghost use Rattle.std.specs.Net.Grammar.{IsColonHex, IsDotted};
 ghost use Rattle.base.specs.NameOrder.{same_name};
 ghost use Rattle.base.specs.declared.record_type.RecordType.TheVariants as types;
-ghost use Rattle.base_data.specs.Kinds.{DataWord, FitsTypes, IsSpelled, data_of, data_text, items_of, kind_rank, shown_item, type_of_data};
+ghost use Rattle.base_data.specs.Kinds.{DataWord, FitsTypes, HasTextForm, data_of, data_text, items_of, kind_rank, shown_item, type_of_data};
 ghost use Rattle.base_data.specs.DataOrder.{data_cmp};
 ghost use Rattle.base_data.specs.RData.{is_signature_data, signature_in};
 ghost use Rattle.base_data.specs.SameData.{same_data};
@@ -136,6 +136,6 @@ pub fn strings_are_their_pieces()
 pub fn texts_are_read()
     ensures shown { (d : AnyData) (items : List (List ℕ)) → items_of d ≡ Some items
         → data_text d ≡ join_with_byte 32 (map (shown_item d) items) }
-    ensures read { (d : AnyData) (items : List (List ℕ)) → items_of d ≡ Some items → IsSpelled d
+    ensures read { (d : AnyData) (items : List (List ℕ)) → items_of d ≡ Some items → HasTextForm d
         → data_of (type_of_data d) items None ≡ Ok d }
 {}

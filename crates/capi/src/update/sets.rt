@@ -3,7 +3,7 @@
 ghost use Rattle.std.specs.Prelude.{◌≡◌, IfOk, true};
 ghost use Rattle.base.specs.NameOrder.{is_zone_of};
 ghost use Rattle.capi.specs.Answer.{Makes};
-ghost use Rattle.capi.specs.Update.{only_set, owner_of_text, set_of_text, soa_of, soa_of_text, within, zone_name_of};
+ghost use Rattle.capi.specs.Update.{only_set, owner_of_text, set_of_text, soa_in_data, soa_of_text, within, zone_name_of};
 
 use crate::refusal::Refusal;
 use crate::zone::{characters_of, name_of};
@@ -67,7 +67,7 @@ pub fn soa_in(alloc: Global, origin: &Name, text: &[u8]) -> Result<Option<SOA>, 
 
 /// The SOA that data is.
 fn soa_of(rdata: &RData) -> Result<Option<SOA>, Refusal>
-    ensures { Makes (λ soa. soa) (soa_of rdata.now) result }
+    ensures { Makes (λ soa. soa) (soa_in_data rdata.now) result }
 {
     match rdata {
         RData::SOA(soa) => Ok(Some(soa.clone()?)),

@@ -18,7 +18,7 @@ ghost use Rattle.op.specs.Cut.{as_written, IsCut, IsTooSmall, IsUncut, IsWritten
 ghost use Rattle.op.specs.EdnsRecord.{edns_record};
 ghost use Rattle.op.specs.Emitted.{Leaves};
 ghost use Rattle.op.specs.Fault.{IsMessageFault, IsQueriesFault, IsSectionFault};
-ghost use Rattle.op.specs.Fits.{Fits, listed, signature_record};
+ghost use Rattle.op.specs.Fits.{Fits, as_list, signature_record};
 ghost use Rattle.op.specs.Message.{IsMessageAt, message_at, MessageValue};
 ghost use Rattle.op.specs.MessageKept.{MessageKept};
 ghost use Rattle.op.specs.MessageWritten.{AreWhole, LostForRoom, message_answer, parts_of};
@@ -176,10 +176,10 @@ pub fn what_a_message_loses_did_not_fit()
         → LostForRoom record_written limit m.additionals (parts_of limit m at stored).additionals }
     // EDNS is written as an OPT record, which has the high bits of the response code.
     ensures edns { (limit : ℕ) (m : MessageValue) (at : ℕ) (stored : List Stored)
-        → LostForRoom record_written limit (listed (option_map edns_record (raised m)))
+        → LostForRoom record_written limit (as_list (option_map edns_record (raised m)))
         (parts_of limit m at stored).edns }
     ensures signature { (limit : ℕ) (m : MessageValue) (at : ℕ) (stored : List Stored)
-        → LostForRoom record_written limit (listed (option_map signature_record m.signature))
+        → LostForRoom record_written limit (as_list (option_map signature_record m.signature))
         (parts_of limit m at stored).signature }
 {}
 

@@ -11,7 +11,7 @@ ghost use Rattle.op.specs.Message.{high_code, IsMessageAt, message_at, message_v
 ghost use Rattle.op.specs.Places.{message_places, queries_places, records_places};
 ghost use Rattle.op.specs.Query.{query_at};
 ghost use Rattle.op.specs.ReadsOrDecodes.{ReadsOrDecodes};
-ghost use Rattle.op.specs.Section.{empty_section, fault_of, is_additional_type, options_in, parts_value, section_at, section_value, sections_at, sections_value, tested, with_record};
+ghost use Rattle.op.specs.Section.{empty_section, fault_in_section, is_additional_type, options_in, read_section_value, section_at, section_value, sections_at, sections_value, tested, section_with};
 
 use crate::edns::{Edns, opt_edns};
 use crate::header::{Header, HeaderCounts, Metadata};
@@ -71,7 +71,7 @@ impl Message {
         is_additional: bool,
         op_code: OpCode,
     ) -> Result<(Vec<Record>, Option<Edns>, Option<Box<Record<TSIG>>>), DecodeError>
-        ensures read { Reads parts_value decoder.old decoder.new result
+        ensures read { Reads read_section_value decoder.old decoder.new result
             (section_at is_additional op_code count decoder.old.bytes decoder.old.index) }
         // A refusal is the first fault in the terms of the standard, unless memory ran out.
         ensures fault { IfErr result (λ f. (f ≡ DecodeError.Memory)
@@ -302,7 +302,8 @@ impl Section {
 
     /// The first test that the next record fails, given those read before.
     fn fault_of(&self, next: &Record, is_additional: bool, op_code: OpCode) -> Option<DecodeError>
-        ensures { result ≡ fault_of is_additional op_code (section_value self.now) next.now }
+        ensures { result
+            ≡ fault_in_section is_additional op_code (section_value self.now) next.now }
     {
         let record_type = next.record_type();
         if next.rdata.is_update() && op_code != OpCode::Update && record_type != RecordType::OPT {
@@ -327,7 +328,7 @@ impl Section {
     /// If memory runs out.
     fn add(&mut self, alloc: Global, next: Record) -> Result<(), DecodeError>
         ensures ok { OnOk result (section_value self.new
-            ≡ with_record (section_value self.old) next) }
+            ≡ section_with (section_value self.old) next) }
         ensures only { IsOkUnless result DecodeError.Memory }
     {
         if next.record_type() == RecordType::OPT {

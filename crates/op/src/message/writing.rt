@@ -6,10 +6,10 @@ ghost use Rattle.std.specs.Prelude.{◌≡◌, ◌⊎◌, [], ◌-◌, ◌<◌, 
 ghost use Rattle.base.specs.Laws.{Keeps};
 ghost use Rattle.base.specs.Wire.{state_of};
 ghost use Rattle.base.specs.Written.{after};
-ghost use Rattle.op.specs.Composition.{Adds, Composition, Counts, EmitsPart, HasHeader, Narrows, WritesItems};
+ghost use Rattle.op.specs.Composition.{AddsCounts, Composition, CountsItems, EmitsPart, HasHeader, Narrows, WritesItems};
 ghost use Rattle.op.specs.Cut.{IsTooSmall, IsWritten};
 ghost use Rattle.op.specs.Emitted.{Emitted, EmittedNew, Leaves, LeavesNew};
-ghost use Rattle.op.specs.Fits.{Fits, HasRoom, listed, opt_records, signature_records};
+ghost use Rattle.op.specs.Fits.{Fits, HasRoom, as_list, opt_records, signature_records};
 ghost use Rattle.op.specs.Message.{message_value};
 ghost use Rattle.op.specs.MessageWritten.{message_answer, message_answer_at, message_bytes, message_written};
 ghost use Rattle.op.specs.declared.header.Header.{Header as WrittenHeader};
@@ -265,7 +265,7 @@ fn emit_item<E: BinEncodable>(
     ensures keeps { Keeps (state_of encoder.old) (state_of encoder.new) }
     // An item was written, or is cut since it has no room; refused for memory alone.
     ensures run { WritesItems E.word E.plain_len E.owner E.written
-        (listed (option_copied item.entry))
+        (as_list (option_copied item.entry))
         (state_of encoder.old) result (state_of encoder.new) }
 {
     match item {
@@ -276,7 +276,7 @@ fn emit_item<E: BinEncodable>(
 
 /// What a part's answer counts: all its items, or those before the one that had no room.
 fn count_items(answer: Result<usize, ProtoError>) -> Result<Written, ProtoError>
-    ensures { Counts answer result }
+    ensures { CountsItems answer result }
 {
     match answer {
         Ok(count) => narrow(count, false),
@@ -289,7 +289,7 @@ fn count_items(answer: Result<usize, ProtoError>) -> Result<Written, ProtoError>
 
 /// Two counts together, cut where either is.
 fn add_counts(one: Written, other: Written) -> Result<Written, ProtoError>
-    ensures { Adds one other result }
+    ensures { AddsCounts one other result }
 {
     let count = usize::from(one.count) + usize::from(other.count);
     narrow(count, one.is_cut || other.is_cut)

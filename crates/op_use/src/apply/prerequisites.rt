@@ -2,7 +2,7 @@
 
 ghost use Rattle.base_data.specs.SameData.{same_data};
 ghost use Rattle.base_data.specs.declared.rdata.RData.{RData};
-ghost use Rattle.op_use.specs.HeldZone.{HeldZone, zone_of};
+ghost use Rattle.op_use.specs.HeldZone.{HeldZone, zone_held};
 ghost use Rattle.op_use.specs.MapFaults.{asks_for, is_by_value};
 ghost use Rattle.op_use.specs.Server.{collected, is_found as is_found_in, is_met, is_same_key, prerequisite_fault, prerequisites_fault};
 ghost use Rattle.rr.specs.SetChanges.{has_data_of};
@@ -26,7 +26,7 @@ impl<'a> Zone<'a> {
         &self,
         entries: &[Record],
     ) -> Result<Option<ResponseCode>, AllocError>
-        ensures { IfOk result (λ f. f ≡ prerequisites_fault (zone_of self.now) entries.now) }
+        ensures { IfOk result (λ f. f ≡ prerequisites_fault (zone_held self.now) entries.now) }
     {
         for entry in entries {
             if let Some(code) = self.prerequisite_fault(entry)? {
@@ -39,7 +39,7 @@ impl<'a> Zone<'a> {
 
     /// What is wrong with a prerequisite by itself. Of one of the zone's class the data is tested later, with its set.
     fn prerequisite_fault(&self, entry: &Record) -> Result<Option<ResponseCode>, AllocError>
-        ensures { IfOk result (λ f. f ≡ prerequisite_fault (zone_of self.now) entry.now) }
+        ensures { IfOk result (λ f. f ≡ prerequisite_fault (zone_held self.now) entry.now) }
     {
         if entry.ttl != 0 {
             return Ok(Some(ResponseCode::FormErr));
@@ -78,7 +78,7 @@ impl<'a> Zone<'a> {
 
     /// Whether what a prerequisite names is there.
     fn is_found(&self, entry: &Record) -> Result<bool, AllocError>
-        ensures { IfOk result (λ b. b ≡ is_found_in (zone_of self.now) entry.now) }
+        ensures { IfOk result (λ b. b ≡ is_found_in (zone_held self.now) entry.now) }
     {
         if is_any(entry.record_type()) {
             let found = has_type(&self.sets, &entry.name, false)?;
@@ -98,8 +98,8 @@ impl<'a> Zone<'a> {
     /// is looked at for the first of them that names it alone.
     pub(crate) fn are_met(&self, entries: &[Record]) -> Result<bool, AllocError>
         ensures { IfOk result (λ b. b
-            ≡ list_all (is_met (zone_of self.now) (collected (zone_of self.now) entries.now))
-            (collected (zone_of self.now) entries.now)) }
+            ≡ list_all (is_met (zone_held self.now) (collected (zone_held self.now) entries.now))
+            (collected (zone_held self.now) entries.now)) }
     {
         let asked = self.places_asked(entries)?;
         let mut held = BTreeMap::new(self.alloc);

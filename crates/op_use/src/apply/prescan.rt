@@ -1,6 +1,6 @@
 //! The fourth step: a look at the updates before the first is carried out (RFC 2136, 3.4.1).
 
-ghost use Rattle.op_use.specs.HeldZone.{HeldZone, zone_of};
+ghost use Rattle.op_use.specs.HeldZone.{HeldZone, zone_held};
 ghost use Rattle.op_use.specs.Server.{first_fault, prescan_fault, unless as unless_so};
 ghost use Rattle.std.specs.Prelude.{◌≡◌};
 
@@ -12,7 +12,7 @@ use rr::Record;
 impl<'a> Zone<'a> {
     /// The first that is wrong with the updates.
     pub(crate) fn prescan_fault(&self, entries: &[Record]) -> Option<ResponseCode>
-        ensures { result ≡ first_fault (prescan_fault (zone_of self.now)) entries.now }
+        ensures { result ≡ first_fault (prescan_fault (zone_held self.now)) entries.now }
     {
         for entry in entries {
             if let Some(code) = self.update_fault(entry) {
@@ -24,7 +24,7 @@ impl<'a> Zone<'a> {
 
     /// What is wrong with an update.
     fn update_fault(&self, entry: &Record) -> Option<ResponseCode>
-        ensures { result ≡ prescan_fault (zone_of self.now) entry.now }
+        ensures { result ≡ prescan_fault (zone_held self.now) entry.now }
     {
         if !self.origin.zone_of(&entry.name) {
             return Some(ResponseCode::NotZone);

@@ -1,6 +1,6 @@
 //! The last step: the updates of a message, one after the other (RFC 2136, 3.4.2).
 
-ghost use Rattle.op_use.specs.HeldZone.{HeldZone, zone_of};
+ghost use Rattle.op_use.specs.HeldZone.{HeldZone, zone_held};
 ghost use Rattle.op_use.specs.MapUpdates.{IsUpdated, is_deletion};
 ghost use Rattle.op_use.specs.Server.{OfAny, OfNone, OfZone, is_needed as is_needed_in, use_of as the_use};
 ghost use Rattle.std.specs.List.{AllByRecursion};
@@ -39,7 +39,7 @@ impl<'a> Zone<'a> {
         // There are no more of them than updates.
         ensures within { result ≤ length entries.now }
         // Each of these first updates deletes data of the set of the entry.
-        ensures each { AllByRecursion (λ r. is_deletion (zone_of self.now) entry.now r ≡ true)
+        ensures each { AllByRecursion (λ r. is_deletion (zone_held self.now) entry.now r ≡ true)
             (take result entries.now) }
     {
         let mut count = 0;
@@ -52,7 +52,7 @@ impl<'a> Zone<'a> {
     /// Whether an update deletes data of the set of an entry. An SOA stays, and name servers of the zone have a rule of
     /// their own.
     fn is_deletion(&self, entry: &Record, update: &Record) -> bool
-        ensures { result ≡ is_deletion (zone_of self.now) entry.now update.now }
+        ensures { result ≡ is_deletion (zone_held self.now) entry.now update.now }
     {
         matches!(use_of(self.class, update.dns_class), Use::OfNone)
             && is_same_set(entry, update)
@@ -134,7 +134,7 @@ impl<'a> Zone<'a> {
 
     /// Whether a record stays: an SOA, and the last name server of the zone.
     fn is_needed(&self, entry: &Record) -> Result<bool, AllocError>
-        ensures { IfOk result (λ b. b ≡ is_needed_in (zone_of self.now) entry.now) }
+        ensures { IfOk result (λ b. b ≡ is_needed_in (zone_held self.now) entry.now) }
     {
         let key = key_of(&entry.name, entry.record_type())?;
         Ok(

@@ -5,8 +5,9 @@ ghost use Rattle.base.specs.RrKey.{key_cmp, key_of as the_key};
 ghost use Rattle.base.specs.declared.rr_key.RrKey.{RrKey as Key};
 ghost use Rattle.op_use.specs.Applying.{IsZoneMap, records_at};
 ghost use Rattle.op_use.specs.HeldZone.{HeldZone};
-ghost use Rattle.op_use.specs.MapUpdates.{Holds, IsTakenSet, Lacks};
-ghost use Rattle.op_use.specs.Server.{is_cname as is_cname_type, record_key, type_of_record};
+ghost use Rattle.op_use.specs.MapUpdates.{HoldsAt, IsTakenSet, Lacks};
+ghost use Rattle.op_use.specs.Server.{is_cname as is_cname_type};
+ghost use Rattle.rr.specs.Record.{record_key, type_of_record};
 ghost use Rattle.op_use.specs.Zone.{is_owned};
 ghost use Rattle.rr.specs.RecordSet.{is_ns, is_soa};
 ghost use Rattle.rr.specs.SetChanges.{joined};
@@ -84,7 +85,7 @@ impl<'a> Zone<'a> {
     /// Adds a record to its set: in the place of equal data, or else last.
     pub(crate) fn add_record(&mut self, entry: &Record) -> Result<(), AllocError>
         ensures { OnOk result
-            (Holds (record_key entry.now)
+            (HoldsAt (record_key entry.now)
             (joined entry.now (records_at self.old.sets (record_key entry.now))) self.old
             self.new) }
     {
@@ -100,7 +101,7 @@ impl<'a> Zone<'a> {
 
     /// Makes a record the only one of its set.
     pub(crate) fn put_alone(&mut self, entry: &Record) -> Result<(), AllocError>
-        ensures { OnOk result (Holds (record_key entry.now) (entry.now ∷ []) self.old self.new) }
+        ensures { OnOk result (HoldsAt (record_key entry.now) (entry.now ∷ []) self.old self.new) }
     {
         let key = key_of(&entry.name, entry.record_type())?;
         let copy = entry.clone()?;
@@ -115,7 +116,7 @@ impl<'a> Zone<'a> {
     /// Takes the data of these records out of a set. Without such data the set stays as it is.
     pub(crate) fn take_data(&mut self, key: RrKey, entries: &[Record]) -> Result<(), AllocError>
         ensures { OnOk result
-            (Holds key (without entries.now (records_at self.old.sets key)) self.old self.new) }
+            (HoldsAt key (without entries.now (records_at self.old.sets key)) self.old self.new) }
     {
         let Some(mut set) = self.sets.remove(&key) else {
             return Ok(());
@@ -173,7 +174,7 @@ impl<'a> Zone<'a> {
         requires own { IsTakenSet self.old.class key set.records set }
         // The set's TTL is that of the last of its records.
         requires ttl { set.ttl ≡ last_ttl set.records }
-        ensures { OnOk result (Holds key set.records self.old self.new) }
+        ensures { OnOk result (HoldsAt key set.records self.old self.new) }
     {
         if set.is_empty() {
             self.sets.remove(&key);

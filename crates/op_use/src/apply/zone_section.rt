@@ -1,6 +1,6 @@
 //! The second step: the zone section of an update (RFC 2136, 3.1).
 
-ghost use Rattle.op_use.specs.HeldZone.{HeldZone, zone_of};
+ghost use Rattle.op_use.specs.HeldZone.{HeldZone, zone_held};
 ghost use Rattle.op_use.specs.Server.{zone_fault};
 ghost use Rattle.std.specs.Prelude.{◌≡◌};
 
@@ -11,7 +11,7 @@ use op::{Query, ResponseCode};
 impl<'a> Zone<'a> {
     /// What is wrong with the zone section.
     pub(crate) fn zone_fault(&self, queries: &[Query]) -> Option<ResponseCode>
-        ensures { result ≡ zone_fault (zone_of self.now) queries.now }
+        ensures { result ≡ zone_fault (zone_held self.now) queries.now }
     {
         let [query] = queries else {
             return Some(ResponseCode::FormErr);

@@ -11,7 +11,7 @@ ghost use Rattle.op_use.specs.SoundSet.{IsSendable, IsSendableKey, IsSendableOwn
 ghost use Rattle.op_use.specs.UpdateMeaning.{AppendsToSet, CreatesSet, DeletesData, DeletesName, DeletesSet, SwapsSets};
 ghost use Rattle.op_use.specs.UpdateMessage.{append as append_sections, compare_and_swap as swap_sections, create as create_sections};
 ghost use Rattle.op_use.specs.UpdateMessage.{delete_all as delete_all_sections, delete_by_rdata as delete_data_sections, delete_rrset as delete_set_sections, empty_record as empty_entry};
-ghost use Rattle.op_use.specs.UpdateMessage.{in_class, sections, transfer_message, update_message, without_ttl};
+ghost use Rattle.op_use.specs.UpdateMessage.{untimed_in, sections, transfer_message, update_message, without_ttl};
 
 use base::{DNSClass, Name, ProtoError, RecordType};
 use base_data::{RData, SOA};
@@ -340,7 +340,7 @@ fn empty_record(name: Name, record_type: RecordType, dns_class: DNSClass) -> Rec
 
 /// The records in the class NONE, with TTL 0: they ask that their data goes (RFC 2136, 2.5.4).
 fn with_class_none(mut records: Vec<Record>) -> Vec<Record>
-    ensures { result.items ≡ map (in_class classes.NONE) records.items }
+    ensures { result.items ≡ map (untimed_in classes.NONE) records.items }
 {
     for record in records.iter_mut() {
         record.dns_class = DNSClass::NONE;

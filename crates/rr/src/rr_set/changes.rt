@@ -3,7 +3,7 @@
 ghost use Rattle.base.specs.Wire.{IsMemory};
 ghost use Rattle.rr.specs.DataIndex.{IsFirstAt};
 ghost use Rattle.rr.specs.SerialOrder.{is_greater};
-ghost use Rattle.rr.specs.SetChanges.{MayAdd, MayEnter, MayLeave, add_data, first_of, has_data_of, holds_one, insert, is_kept, joined, put, remove, stays};
+ghost use Rattle.rr.specs.SetChanges.{MayAdd, MayEnter, MayLeave, add_data, first_of, has_data_of, holds_one, insert, is_kept, joined, put_in_set, remove, stays};
 ghost use Rattle.rr.specs.SetUpdates.{has_data_of_one, with_records, without_data};
 ghost use Rattle.rr.specs.contracts.rr_set.RecordSet.{the_row};
 ghost use Rattle.std.specs.Borrow.{follows_so, sem};
@@ -138,7 +138,8 @@ fn put(
     entry: Record,
 ) -> Result<(bool, Option<usize>), AllocError>
     requires { holds_one record_type ≡ true → length records.old ≤ 1 }
-    ensures ok { IfOk result (λ done. (done.0, records.new) ≡ put record_type entry records.old) }
+    ensures ok { IfOk result
+        (λ done. (done.0, records.new) ≡ put_in_set record_type entry records.old) }
     // A place that is told is that of the first record of equal data.
     ensures place { IfOk result (λ done. IfSome done.1 (IsFirstAt entry.rdata records.new)) }
     ensures err { OnErr result (records.new ≡ records.old) }

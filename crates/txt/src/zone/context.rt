@@ -9,8 +9,8 @@ ghost use Rattle.std.specs.Prelude.{IfErr, IfOk, List, None, Ok, OnOk, Some, map
 ghost use Rattle.std.specs.Str.{str_to_ascii_uppercase};
 ghost use Rattle.std.specs.String.{string_bytes};
 ghost use Rattle.txt.specs.Entries.{setting_of};
-ghost use Rattle.txt.specs.Steps.{AnswersStep, Goes, Makes, Reads, ReadsToken, Takes, setting_value, took_at, took_default, took_include, took_include_end, took_items, took_named, took_origin, took_typed, took_words};
-ghost use Rattle.txt.specs.Zone.{State, absolute, answered, beginning, record_of, recorded, set_by, spent, type_named, with_record};
+ghost use Rattle.txt.specs.Steps.{AnswersStep, Goes, MakesState, ReadsSymbols, ReadsToken, Takes, setting_value, took_at, took_default, took_include, took_include_end, took_items, took_named, took_origin, took_typed, took_words};
+ghost use Rattle.txt.specs.Zone.{ZoneState, absolute, answered, beginning, record_of, recorded, set_by, spent, type_named, state_with};
 
 use crate::zone::sets::ZoneSets;
 use base::{DNSClass, Lexer, Name, ParseError, RecordType, Token, parse_ttl};
@@ -36,9 +36,9 @@ pub(super) struct Context {
 }
 
 impl Model for Context {
-    ghost use Rattle.txt.specs.Zone.{State};
+    ghost use Rattle.txt.specs.Zone.{ZoneState};
 
-    ghost Value = { State };
+    ghost Value = { ZoneState };
 
     ghost view = { λ c.
         record {
@@ -261,7 +261,7 @@ impl Context {
 
     /// Makes a record of data, with what is in force.
     fn add_record(&mut self, rdata: RData) -> Result<(), ParseError>
-        ensures { Makes result self.new (recorded self.old rdata) }
+        ensures { MakesState result self.new (recorded self.old rdata) }
     {
         let entry = self.new_record(rdata)?;
         self.add(entry)?;
@@ -292,7 +292,7 @@ impl Context {
 
     /// Puts a record into the sets.
     fn add(&mut self, entry: Record) -> Result<(), ParseError>
-        ensures { Makes result self.new (with_record self.old entry) }
+        ensures { MakesState result self.new (state_with self.old entry) }
     {
         self.sets.add(entry)
     }
@@ -350,7 +350,7 @@ fn make_absolute(mut name: Name) -> Name
 
 /// After `$INCLUDE`: the name of a text, and the end of the line.
 fn take_include(lexer: &mut Lexer<'_>) -> Result<Step, ParseError>
-    ensures { (s : State)
+    ensures { (s : ZoneState)
         → Takes result s s (symbols lexer.new) (took_include s (symbols lexer.old)) }
 {
     let Some(token) = read_token(lexer)? else {
@@ -364,7 +364,7 @@ fn take_include(lexer: &mut Lexer<'_>) -> Result<Step, ParseError>
 
 /// After the name of an included text: the end of the line.
 fn end_include(name: String, lexer: &mut Lexer<'_>) -> Result<Step, ParseError>
-    ensures { (s : State)
+    ensures { (s : ZoneState)
         → Takes result s s (symbols lexer.new)
         (took_include_end s (string_bytes name) (symbols lexer.old)) }
 {
@@ -421,7 +421,7 @@ fn read_token(lexer: &mut Lexer<'_>) -> Result<Option<Token>, ParseError>
 
 /// Puts the items of the data, up to the end of the line or of the text, in the place of others.
 fn read_items(items: &mut Vec<String>, lexer: &mut Lexer<'_>) -> Result<(), ParseError>
-    ensures { Reads (λ _. texts items.new.items) result (symbols lexer.new)
+    ensures { ReadsSymbols (λ _. texts items.new.items) result (symbols lexer.new)
         (took_items (symbols lexer.old)) }
 {
     items.clear();

@@ -10,8 +10,9 @@ ghost use Rattle.base.specs.RrKey.{key_cmp};
 ghost use Rattle.base.specs.TextFaults.{Gives};
 ghost use Rattle.rr.specs.RecordSet.{SetValue, set_of};
 ghost use Rattle.txt.specs.Run.{sets_in};
-ghost use Rattle.txt.specs.Steps.{Adds};
-ghost use Rattle.txt.specs.ZoneSets.{AreKept, IsKept, ZoneSets as Sets, added, added_to, record_key};
+ghost use Rattle.txt.specs.Steps.{MakesSets};
+ghost use Rattle.txt.specs.ZoneSets.{AreKeyed, IsKeyed, ZoneSets as Sets, sets_with, added_to};
+ghost use Rattle.rr.specs.Record.{record_key};
 
 use crate::zone::run::Run;
 use base::{LowerName, ParseError, RecordType, RrKey};
@@ -40,13 +41,13 @@ impl Model for ZoneSets {
     ghost use Rattle.std.specs.Map.{keys_of};
     ghost use Rattle.std.specs.Prelude.{◌++◌};
     ghost use Rattle.base.specs.RrKey.{key_cmp};
-    ghost use Rattle.txt.specs.ZoneSets.{AreKept, ZoneSets as Sets};
+    ghost use Rattle.txt.specs.ZoneSets.{AreKeyed, ZoneSets as Sets};
 
     ghost Value = { Sets };
 
     ghost view = { λ z. z.sets.entries ++ z.run };
 
-    ghost invariant = { λ z. AreKept (z.sets.entries ++ z.run)
+    ghost invariant = { λ z. AreKeyed (z.sets.entries ++ z.run)
         × IsStrictlySortedBy key_cmp (keys_of (z.sets.entries ++ z.run)) };
 }
 
@@ -67,7 +68,7 @@ impl ZoneSets {
     ///
     /// `Message` for a second SOA of an owner; `Memory` if memory runs out.
     pub(super) fn add(&mut self, entry: Record) -> Result<(), ParseError>
-        ensures { Adds result self.new (added self.old entry) }
+        ensures { MakesSets result self.new (sets_with self.old entry) }
     {
         let key = key_for(self.run.allocator(), &entry)?;
         match order_to_last(&self.sets, &self.run, &key) {
@@ -90,7 +91,7 @@ impl ZoneSets {
     /// The same, by a look-up in the map, into which the run goes first.
     fn add_within(&mut self, key: RrKey, entry: Record) -> Result<(), ParseError>
         requires { key ≡ record_key entry }
-        ensures { Adds result self.new (added self.old entry) }
+        ensures { MakesSets result self.new (sets_with self.old entry) }
     {
         let alloc = self.run.allocator();
         let sets = replace(&mut self.sets, BTreeMap::new(alloc));
@@ -124,7 +125,7 @@ impl ZoneSets {
     pub fn into_map(self) -> Result<BTreeMap<RrKey, RecordSet>, AllocError>
         ensures entries { IfOk result (λ sets. sets.entries ≡ self) }
         // Each set stands under the key of its owner and type, has a record and is tidy.
-        ensures kept { IfOk result (λ sets. AreKept sets.entries) }
+        ensures kept { IfOk result (λ sets. AreKeyed sets.entries) }
     {
         let ZoneSets { sets, run } = self;
         append_run(sets, run)
@@ -185,10 +186,10 @@ fn append_run(
 fn put(sets: &mut BTreeMap<RrKey, RecordSet>, key: RrKey, entry: Record) -> Result<(), ParseError>
     requires key { key ≡ record_key entry }
     // Each set stands under the key of its owner and type, has a record and is tidy.
-    requires kept { AreKept sets.old.entries }
-    ensures value { Adds result sets.new.entries (added sets.old.entries entry) }
+    requires kept { AreKeyed sets.old.entries }
+    ensures value { MakesSets result sets.new.entries (sets_with sets.old.entries entry) }
     // After `Ok` the same holds again.
-    ensures kept { OnOk result (AreKept sets.new.entries) }
+    ensures kept { OnOk result (AreKeyed sets.new.entries) }
     // After `Ok` the sets stand in the order of their keys, each once.
     ensures ordered { OnOk result (IsOrdered key_cmp sets.new) }
 {
@@ -207,12 +208,12 @@ fn put(sets: &mut BTreeMap<RrKey, RecordSet>, key: RrKey, entry: Record) -> Resu
 ///
 /// `Message` for a second SOA.
 fn enter(set: &mut RecordSet, entry: Record) -> Result<(), ParseError>
-    requires { IsKept (record_key entry) set.old }
+    requires { IsKeyed (record_key entry) set.old }
     ensures value { (sets : Sets)
-        → Adds result (set_value (is_at (key_cmp (record_key entry))) sets set.new)
+        → MakesSets result (set_value (is_at (key_cmp (record_key entry))) sets set.new)
         (added_to sets entry (Some set.old)) }
     // The set still stands under its key, has a record and is tidy.
-    ensures kept { IsKept (record_key entry) set.new }
+    ensures kept { IsKeyed (record_key entry) set.new }
 {
     if entry.record_type() == RecordType::SOA {
         return Err(ParseError::Message("SOA is already specified"));

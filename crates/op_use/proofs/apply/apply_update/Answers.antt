@@ -7,7 +7,7 @@ use Rattle.op_use.proofs.KeptSets.{kept_same, returned_after}
 use Rattle.op_use.proofs.WholeSteps.{after_copy, applied_all, applied_fault, applied_not, map_copy, zone_copy}
 use Rattle.op_use.proofs.apply.apply_update.Goals as goal
 use Rattle.op_use.specs.Applying.{IsApplied, IsZoneMap}
-use Rattle.op_use.specs.HeldZone.{HeldZone, zone_of}
+use Rattle.op_use.specs.HeldZone.{HeldZone, zone_held}
 use Rattle.op_use.specs.Kept.{Returns}
 use Rattle.op_use.specs.MapUpdates.{IsUpdated, names_set}
 use Rattle.op_use.specs.Server.{fault, sections_of}
@@ -34,7 +34,7 @@ returns-then-not-is_supported-clause-applied c =
 pub returns-in-Some-clause-applied : goal.returns-in-Some-clause-applied
 returns-in-Some-clause-applied c =
     let same = copied c.args.sets.now c.in_ok-clone.field-0 c.in_ok-clone.ensures.cases in
-    let zone = ap zone_of c.new-zone.ensures ∙ zone_copy c.args.origin.now c.args.class c.args.sets.now c.in_ok-clone.field-0 same in
+    let zone = ap zone_held c.new-zone.ensures ∙ zone_copy c.args.origin.now c.args.class c.args.sets.now c.in_ok-clone.field-0 same in
     subst (λ n. IsApplied c.args.origin.now c.args.class (sections_of (message_value c.args.message.now)) c.args.sets.now c.in-Some.code n)
     (sym (c.into_sets-in-Some.ensures ∙ ap (λ (z : HeldZone). z.sets) c.new-zone.ensures))
     (applied_fault c.args.origin.now c.args.class c.args.sets.now c.in_ok-clone.field-0 same (sections_of (message_value c.args.message.now)) c.in-Some.code c.requires
@@ -49,7 +49,7 @@ keep_same-requires c =
 pub returns-clause-applied : goal.returns-clause-applied
 returns-clause-applied c =
     let same = copied c.args.sets.now c.in_ok-clone.field-0 c.in_ok-clone.ensures.cases in
-    let zone = ap zone_of c.new-zone.ensures ∙ zone_copy c.args.origin.now c.args.class c.args.sets.now c.in_ok-clone.field-0 same in
+    let zone = ap zone_held c.new-zone.ensures ∙ zone_copy c.args.origin.now c.args.class c.args.sets.now c.in_ok-clone.field-0 same in
     let after = after_copy c.args.origin.now c.args.class c.args.sets.now c.in_ok-clone.field-0 same c.args.message.now.authorities.items c.update.new.self.sets
     (all_updated c.new-zone.result c.update.new.self c.args.origin.now c.args.class c.in_ok-clone.field-0 c.args.message.now.authorities.items c.new-zone.ensures
     (subst (λ rs. IsUpdated rs c.new-zone.result c.update.new.self) c.deref.ensures.value c.in_ok-update.ensures)

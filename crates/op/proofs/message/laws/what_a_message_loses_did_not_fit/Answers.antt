@@ -1,7 +1,7 @@
 use Rattle.std.specs.Option.{option_map}
 use Rattle.op.specs.Cut.{raised}
 use Rattle.op.specs.EdnsRecord.{edns_record}
-use Rattle.op.specs.Fits.{listed, signature_record}
+use Rattle.op.specs.Fits.{as_list, signature_record}
 use Rattle.op.specs.MessageWritten.{parts_of}
 use Rattle.op.specs.Query.{query_written}
 use Rattle.rr.specs.Record.{record_written}
@@ -29,9 +29,9 @@ returns-clause-additionals c = λ limit m at stored.
 pub returns-clause-edns : goal.returns-clause-edns
 returns-clause-edns c = λ limit m at stored.
     let before = (parts_of limit m at stored).additionals in
-    part_lost record_written limit (listed (option_map edns_record (raised m))) before.end before.piece.suffixes
+    part_lost record_written limit (as_list (option_map edns_record (raised m))) before.end before.piece.suffixes
 
 pub returns-clause-signature : goal.returns-clause-signature
 returns-clause-signature c = λ limit m at stored.
     let before = (parts_of limit m at stored).edns in
-    part_lost record_written limit (listed (option_map signature_record m.signature)) before.end before.piece.suffixes
+    part_lost record_written limit (as_list (option_map signature_record m.signature)) before.end before.piece.suffixes

@@ -2,7 +2,7 @@ use Rattle.base.specs.NameOrder.{same_name}
 use Rattle.base.specs.RecordType.{same_type}
 use Rattle.op_use.proofs.KeySteps.{same_key_is}
 use Rattle.op_use.proofs.apply.prerequisites.is_same_set.Goals as goal
-use Rattle.op_use.specs.Server.{type_of_record}
+use Rattle.rr.specs.Record.{type_of_record}
 use Rattle.std.proofs.Common.{ap, sym, ◌&&◌, ◌∙◌}
 
 pub returns-then-eq : goal.returns-then-eq

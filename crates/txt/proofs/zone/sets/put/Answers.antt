@@ -4,7 +4,8 @@ use Rattle.std.specs.Map.{set_value}
 use Rattle.base.specs.RrKey.{key_cmp}
 use Rattle.base.specs.declared.rr_key.RrKey.{RrKey}
 use Rattle.rr.specs.RecordSet.{set_of}
-use Rattle.txt.specs.ZoneSets.{IsKept, record_key, set_at}
+use Rattle.txt.specs.ZoneSets.{IsKeyed, set_at}
+use Rattle.rr.specs.Record.{record_key}
 use Rattle.txt.proofs.KeptSets.{added_found, adds_same, found_for, new_kept, placed_kept}
 use Rattle.txt.proofs.SetsInOrder.{put_there}
 use Rattle.txt.proofs.zone.sets.put.Goals as goal
@@ -30,4 +31,4 @@ pub returns-in_ok-set_of-in-Vacant-clause-kept : goal.returns-in_ok-set_of-in-Va
 returns-in_ok-set_of-in-Vacant-clause-kept c =
     let one : set_of c.args.entry ≡ c.in_ok-set_of-in-Vacant.field-0 = cc (c.in_ok-set_of-in-Vacant.ensures) in
     placed_kept {X = ℕ} (Ok 0) c.args.sets.now.entries _ c.args.key c.in_ok-set_of-in-Vacant.field-0 c.args.entry c.requires.key c.requires.kept
-    (subst (IsKept (record_key c.args.entry)) one (new_kept c.args.entry)) (search rules)
+    (subst (IsKeyed (record_key c.args.entry)) one (new_kept c.args.entry)) (search rules)

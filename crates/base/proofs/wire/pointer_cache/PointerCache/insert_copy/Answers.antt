@@ -6,7 +6,7 @@ use Rattle.std.specs.Ordering.{nat_cmp}
 use Rattle.std.proofs.lemmas.Bool.{false≢true}
 use Rattle.std.proofs.lemmas.List.{length-set}
 use Rattle.base.specs.declared.wire.pointer_cache.TargetLabels.TheVariants.{Copied}
-use Rattle.base.specs.Pointers.{Cache, cache_of, entries_of, placed}
+use Rattle.base.specs.Pointers.{Cache, cache_of, target_entries, placed}
 use Rattle.base.proofs.CacheLemmas.{copied_set, inside_stay, longer_entries, longer_there, new_inside, others_more, same_found, there_set, there_stay}
 use Rattle.base.proofs.wire.pointer_cache.PointerCache.insert_copy.Goals as goal
 use Rattle.base.proofs.wire.pointer_cache.PointerCache.insert_copy.Goals.{then-not-self-2+in_ok-move_first, else-not-self-2}
@@ -80,5 +80,5 @@ returns-clause-err c =
     on_err (λ q. placed now.bytes.items now.places.items q ≡ placed copied places q) c.place_one.result c.place_one.ensures.err (λ same.
     same_found copied now.bytes.items places now.places.items first first (λ q.
     ap (λ (es : List (ℕ × List ℕ)). option_or (map.find nat_cmp q es) (placed now.bytes.items now.places.items q)) (longer_entries c.place_one.ensures.longer first c.self-2.invariant.1.1)
-    ∙ ap (λ (o : Option (List ℕ)). option_or (map.find nat_cmp q (entries_of copied first)) o) (same q))
+    ∙ ap (λ (o : Option (List ℕ)). option_or (map.find nat_cmp q (target_entries copied first)) o) (same q))
     ∙ c.self-2.view_is ∙ now_is)

@@ -2,7 +2,7 @@ use Rattle.std.proofs.Common.{◌≡◌, ◌∙◌, ap, sym, ◌++◌, Some, ℕ
 use Rattle.base_data.specs.declared.rdata.txt.unescape.Escape.{Escape}
 use Rattle.std.specs.Option.{option_map}
 use Rattle.base_data.specs.Escape.{escape_of}
-use Rattle.base_data.specs.StringItems.{EscapePart, no_escape, before, byte_list, ends_outside, unescaped}
+use Rattle.base_data.specs.StringItems.{EscapePart, no_escape, put_before_all, byte_list, ends_outside, unescaped}
 use Rattle.base_data.proofs.StringItemLemmas.{ends_not, unescaped_ends, unescaped_moved, unescaped_steps, unescaped_stops}
 use Rattle.base_data.proofs.rdata.txt.unescape.unescape.Goals as goal
 use Rattle.base_data.proofs.rdata.txt.unescape.unescape.Goals.{in-Some-byte+in_ok-push, in_default-byte}
@@ -37,9 +37,9 @@ loop-c-preserved c =
 pub returns-in-Outside : goal.returns-in-Outside
 returns-in-Outside c =
     let ends = unescaped_ends c.args.text.now c.loop-c.bytes.items c.loop-c.c-index (escape_of c.loop-c.state) _ c.loop-c-test.false c.loop-c.invariant in
-    sym (ap Some (sym (append-nil c.loop-c.bytes.items)) ∙ ap (λ (s : Escape). before c.loop-c.bytes.items (ends_outside (escape_of s))) (sym c.in-Outside.is) ∙ ends)
+    sym (ap Some (sym (append-nil c.loop-c.bytes.items)) ∙ ap (λ (s : Escape). put_before_all c.loop-c.bytes.items (ends_outside (escape_of s))) (sym c.in-Outside.is) ∙ ends)
 
 pub returns-in_default-state : goal.returns-in_default-state
 returns-in_default-state c =
     let ends = unescaped_ends c.args.text.now c.loop-c.bytes.items c.loop-c.c-index (escape_of c.loop-c.state) _ c.loop-c-test.false c.loop-c.invariant in
-    sym (ap (before c.loop-c.bytes.items) (sym (ends_not c.loop-c.state c.in_default-state.not-Outside)) ∙ ends)
+    sym (ap (put_before_all c.loop-c.bytes.items) (sym (ends_not c.loop-c.state c.in_default-state.not-Outside)) ∙ ends)

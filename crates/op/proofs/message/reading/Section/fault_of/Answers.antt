@@ -4,13 +4,13 @@ use Rattle.std.proofs.lemmas.Grind.{common_steps}
 use Rattle.base_data.specs.RData.{is_empty_data}
 use Rattle.base_data.specs.declared.rdata.RData.{RData}
 use Rattle.rr.specs.declared.record.Record.{Record}
-use Rattle.op.specs.Section.{SectionValue, fault_of, is_additional, is_opt, is_update, section_value}
+use Rattle.op.specs.Section.{SectionValue, fault_in_section, is_additional, is_opt, is_update, section_value}
 use Rattle.op.specs.declared.op_code.OpCode.{OpCode}
 use Rattle.op.proofs.message.reading.Section.fault_of.Goals as goal
 
 -- a record that passes each test
 no_fault : (additional : Bool) (op : OpCode) (s : SectionValue) (r : Record RData) → (is_empty_data r.rdata && not (is_update op || is_opt r)) ≡ false → is_some s.signature ≡ false
-    → (not additional && is_additional r) ≡ false → (is_some s.edns && is_opt r) ≡ false → None ≡ fault_of additional op s r
+    → (not additional && is_additional r) ≡ false → (is_some s.edns && is_opt r) ≡ false → None ≡ fault_in_section additional op s r
 no_fault additional op s r empty signature place edns = rw (empty, signature, place, edns) refl
 
 pub returns : goal.returns

@@ -6,7 +6,7 @@ use Rattle.op_use.proofs.apply.zone.Zone.add_record.Goals as goal
 use Rattle.op_use.specs.Applying.{records_at}
 use Rattle.op_use.specs.HeldZone.{HeldZone}
 use Rattle.op_use.specs.MapUpdates.{IsTakenSet}
-use Rattle.op_use.specs.Server.{type_of_record}
+use Rattle.rr.specs.Record.{type_of_record}
 use Rattle.rr.proofs.SetSteps.{same_clone}
 use Rattle.rr.specs.RecordSet.{SetValue}
 use Rattle.rr.specs.SetChanges.{joined}

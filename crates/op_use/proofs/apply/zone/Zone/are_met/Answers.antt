@@ -7,7 +7,7 @@ use Rattle.op_use.proofs.apply.zone.Zone.are_met.Goals.{then-not-contains_key+in
 use Rattle.op_use.specs.Applying.{records_in}
 use Rattle.op_use.specs.HeldZone.{HeldZone}
 use Rattle.op_use.specs.MapFaults.{asks_for, is_by_value}
-use Rattle.op_use.specs.Server.{record_key}
+use Rattle.rr.specs.Record.{record_key}
 use Rattle.rr.specs.SetChanges.{has_data_of}
 use Rattle.std.proofs.Common.{ap, rules, subst, sym, true, ◌≡◌, ◌∙◌}
 use Rattle.std.specs.BTreeMap.{get}

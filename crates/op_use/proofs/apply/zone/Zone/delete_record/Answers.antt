@@ -3,7 +3,7 @@ use Rattle.op_use.proofs.HeldSteps.{moved_held, same_updated, set_updated}
 use Rattle.op_use.proofs.UpdateSteps.{after_kept, after_part}
 use Rattle.op_use.proofs.apply.zone.Zone.delete_record.Goals as goal
 use Rattle.op_use.specs.Applying.{records_at}
-use Rattle.op_use.specs.Server.{record_key}
+use Rattle.rr.specs.Record.{record_key}
 use Rattle.rr.proofs.SetSteps.{same_clone}
 use Rattle.rr.specs.SetUpdates.{without}
 use Rattle.std.proofs.Common.{[], ap, sym, ◌∙◌, ◌∷◌, ◌≡◌}

@@ -3,7 +3,7 @@ use Rattle.base.specs.declared.rr_key.RrKey.{RrKey}
 use Rattle.op_use.proofs.KeptSets.{named_before, named_both, same_class, seen_more, still_named, zone_returned_more, zone_returned_of, zone_unreturned}
 use Rattle.op_use.proofs.apply.zone.Zone.keep_same.Goals as goal
 use Rattle.op_use.specs.MapUpdates.{names_set}
-use Rattle.op_use.specs.Server.{record_key}
+use Rattle.rr.specs.Record.{record_key}
 use Rattle.std.proofs.Common.{List, ap, sym, take, ◌+◌, ◌∙◌, ◌≡◌}
 use Rattle.std.specs.BTreeSet.{contains}
 use Rattle.std.specs.Ordering.{eq_by_cmp}

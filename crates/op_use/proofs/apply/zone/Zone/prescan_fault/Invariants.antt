@@ -1,8 +1,8 @@
 use Rattle.op_use.proofs.apply.zone.Zone.prescan_fault.Given as goal
-use Rattle.op_use.specs.HeldZone.{zone_of}
+use Rattle.op_use.specs.HeldZone.{zone_held}
 use Rattle.op_use.specs.Server.{first_fault, prescan_fault}
 use Rattle.std.proofs.Common.{drop, ◌≡◌}
 
 -- what is left decides
 abbrev pub invariant-loop-entry : goal.invariant-loop-entry
-invariant-loop-entry l = first_fault (prescan_fault (zone_of l.self)) (drop l.entry-index l.entries) ≡ first_fault (prescan_fault (zone_of l.self)) l.entries
+invariant-loop-entry l = first_fault (prescan_fault (zone_held l.self)) (drop l.entry-index l.entries) ≡ first_fault (prescan_fault (zone_held l.self)) l.entries

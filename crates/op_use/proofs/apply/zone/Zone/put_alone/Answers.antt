@@ -3,7 +3,7 @@ use Rattle.op_use.proofs.AppliedData.{distinct_one}
 use Rattle.op_use.proofs.HeldSteps.{moved_held}
 use Rattle.op_use.proofs.TakenSets.{begun, changed, last_of}
 use Rattle.op_use.proofs.apply.zone.Zone.put_alone.Goals as goal
-use Rattle.op_use.specs.Server.{type_of_record}
+use Rattle.rr.specs.Record.{type_of_record}
 use Rattle.rr.proofs.SetSteps.{same_clone}
 use Rattle.rr.specs.RecordSet.{SetValue}
 use Rattle.rr.specs.SetChanges.{joined}

@@ -5,7 +5,7 @@ use Rattle.op_use.proofs.WholeSteps.{map_copy}
 use Rattle.op_use.proofs.apply.zone.Zone.take_data.Goals as goal
 use Rattle.op_use.specs.Applying.{records_at}
 use Rattle.op_use.specs.HeldZone.{HeldZone}
-use Rattle.op_use.specs.MapUpdates.{Holds}
+use Rattle.op_use.specs.MapUpdates.{HoldsAt}
 use Rattle.rr.specs.SetUpdates.{without}
 use Rattle.std.proofs.Common.{refl, subst, sym, ◌∙◌}
 use Rattle.std.proofs.lemmas.Bool.{true≢false}
@@ -15,7 +15,7 @@ invariant_of-self c = removed_map c.self.inside.class c.args.key c.self.inside.s
 
 pub returns-in_default : goal.returns-in_default
 returns-in_default c =
-    subst (λ (z : HeldZone). Holds c.args.key (without c.args.entries.now (records_at z.sets
+    subst (λ (z : HeldZone). HoldsAt c.args.key (without c.args.entries.now (records_at z.sets
     c.args.key)) z (record {
       origin = c.self.inside.origin.now;
       class = c.self.inside.class;
@@ -39,7 +39,7 @@ invariant_of-self-then-is_empty c = removed_map c.self.inside.class c.args.key c
 
 pub returns-then-is_empty : goal.returns-then-is_empty
 returns-then-is_empty c =
-    subst (λ (z : HeldZone). Holds c.args.key (without c.args.entries.now (records_at z.sets
+    subst (λ (z : HeldZone). HoldsAt c.args.key (without c.args.entries.now (records_at z.sets
     c.args.key)) z (record {
       origin = c.self.inside.origin.now;
       class = c.self.inside.class;
@@ -60,7 +60,7 @@ invariant_of-self-2 c =
 
 pub returns : goal.returns
 returns c =
-    subst (λ (z : HeldZone). Holds c.args.key (without c.args.entries.now (records_at z.sets
+    subst (λ (z : HeldZone). HoldsAt c.args.key (without c.args.entries.now (records_at z.sets
     c.args.key)) z (record {
       origin = c.self.inside.origin.now;
       class = c.self.inside.class;

@@ -4,7 +4,7 @@ use Rattle.std.specs.String.{string_bytes}
 use Rattle.base.specs.TextFaults.{Fault}
 use Rattle.base.specs.TokenList.{symbols}
 use Rattle.txt.specs.Steps.{Goes, Taken, setting_value, took_words}
-use Rattle.txt.specs.Zone.{State}
+use Rattle.txt.specs.Zone.{ZoneState}
 use Rattle.txt.proofs.Taking.{words_fails, words_ends, words_eol, words_set, words_typed, words_other}
 use Rattle.txt.proofs.zone.context.Context.take_line.Goals as goal
 
@@ -29,7 +29,7 @@ returns-in-Err c =
 pub words-preserved : goal.words-preserved
 words-preserved c =
     let here = rw c.in-CharData.is at (rw c.in-Some.is at c.in_ok-token.ensures) in
-    ap (λ (s : State). took_words s (symbols c.read_token.new.lexer)) c.apply_setting.ensures
+    ap (λ (s : ZoneState). took_words s (symbols c.read_token.new.lexer)) c.apply_setting.ensures
     ∙ sym (words_set c.words.self (setting_value c.in-Ok.setting) (string_bytes c.in-CharData.word) here c.in-Ok.ensures.setting) ∙ c.words.invariant
 
 pub returns-in_default-token : goal.returns-in_default-token

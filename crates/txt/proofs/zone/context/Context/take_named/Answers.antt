@@ -6,7 +6,7 @@ use Rattle.base.specs.NameOf.{name_of}
 use Rattle.base.specs.TextFaults.{Fault}
 use Rattle.base.specs.TokenList.{symbols}
 use Rattle.txt.specs.Steps.{Goes, took_words}
-use Rattle.txt.specs.Zone.{State, ◌>>=◌}
+use Rattle.txt.specs.Zone.{ZoneState, ◌>>=◌}
 use Rattle.base.proofs.Refusing.{Fails-through}
 use Rattle.txt.proofs.zone.context.Context.take_named.Goals as goal
 
@@ -21,4 +21,4 @@ pub returns : goal.returns
 returns c =
     let named : name_of (string_bytes c.args.word) c.args.self.now.origin ≡ Ok c.in_ok-name.name =
     ap (λ (t : List ℕ). name_of t c.args.self.now.origin) (sym c.as_str.ensures.value) ∙ c.in_ok-name.ensures in
-    rw named (subst (λ (s : State). Goes c.take_line.result c.take_line.new.self (symbols c.take_line.new.lexer) (took_words s (symbols c.args.lexer.now))) c.set_owner.ensures c.take_line.ensures)
+    rw named (subst (λ (s : ZoneState). Goes c.take_line.result c.take_line.new.self (symbols c.take_line.new.lexer) (took_words s (symbols c.args.lexer.now))) c.set_owner.ensures c.take_line.ensures)
