@@ -31,7 +31,7 @@ impl RData {
     }
 }
 
-/// The order of the flags of two names, relative first; no name is before each.
+/// The order of the flags of two names, relative first; a name that is missing comes before both.
 fn cmp_flag(a: Option<&Name>, b: Option<&Name>) -> Ordering
     ensures { result ≡ option_cmp flag_cmp (option_copied a.entry) (option_copied b.entry) }
 {
