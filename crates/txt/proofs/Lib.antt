@@ -1,3 +1,4 @@
+pub mod Gathering
 pub mod BlockLemmas
 pub mod Joined
 pub mod KeptSets

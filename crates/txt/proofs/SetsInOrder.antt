@@ -1,6 +1,5 @@
 -- Sets in the order of their keys: what stands after them, the last one, and a run that goes into a map.
-use Rattle.std.proofs.Common.{◌≡◌, ◌-◌, [], ◌∷◌, ◌++◌, length, refl, ap, sym, ◌∙◌, subst, arith, append_assoc, length-append, suc, Some, None, Ok}
-use Rattle.std.proofs.lemmas.List.{append-nil}
+use Rattle.std.proofs.Common.{◌≡◌, ◌-◌, [], ◌∷◌, ◌++◌, length, refl, ap, sym, ◌∙◌, subst, arith, append_assoc, length-append, suc, Some, None}
 use Rattle.std.proofs.lemmas.Map.{lookup-none}
 use Rattle.std.proofs.lemmas.Map.Entries.{lookup_tail, none_below_head}
 use Rattle.std.proofs.lemmas.Map.Keys.{sorted_tail}
@@ -15,11 +14,8 @@ use Rattle.std.specs.declared.cmp.Ordering.TheVariants.{Less, Equal, Greater}
 use Rattle.base.proofs.KeyLemmas.{key_cmp-total}
 use Rattle.base.specs.RrKey.{key_cmp}
 use Rattle.base.specs.declared.rr_key.RrKey.{RrKey}
-use Rattle.base_data.specs.declared.rdata.RData.{RData}
-use Rattle.rr.specs.RecordSet.{SetValue, set_of}
-use Rattle.rr.specs.declared.record.Record.{Record}
-use Rattle.txt.specs.ZoneSets.{AreKeyed, IsKeyed, ZoneSets, sets_with, added_to, set_at}
-use Rattle.rr.specs.Record.{record_key}
+use Rattle.rr.specs.RecordSet.{SetValue}
+use Rattle.txt.specs.ZoneSets.{AreKeyed, IsKeyed, ZoneSets, set_at}
 
 abbrev pub AreInOrder : ZoneSets → Type 0
 AreInOrder sets = IsStrictlySortedBy key_cmp (keys_of sets)
@@ -27,10 +23,10 @@ AreInOrder sets = IsStrictlySortedBy key_cmp (keys_of sets)
 abbrev pub IsAbove : RrKey → ZoneSets → Type 0
 IsAbove key sets = AllByRecursion (λ (e : RrKey × SetValue). key_cmp key e.0 ≡ Greater) sets
 
-flipped : (a b : RrKey) → key_cmp a b ≡ Less → key_cmp b a ≡ Greater
+pub flipped : (a b : RrKey) → key_cmp a b ≡ Less → key_cmp b a ≡ Greater
 flipped a b less = key_cmp-total.antisymm b a ∙ ap ordering_reverse less
 
-flipped_back : (a b : RrKey) → key_cmp a b ≡ Greater → key_cmp b a ≡ Less
+pub flipped_back : (a b : RrKey) → key_cmp a b ≡ Greater → key_cmp b a ≡ Less
 flipped_back a b greater = key_cmp-total.antisymm b a ∙ ap ordering_reverse greater
 
 -- ---- what holds of all
@@ -117,7 +113,7 @@ pub last_run : (fs lent front : ZoneSets) (e : RrKey × SetValue) (key : RrKey) 
     → (set : SetValue) × (slice_get lent (length lent - 1) ≡ Some (key, set)) → fs ≡ front ++ (key, e.1) ∷ []
 last_run fs lent front e key same is at = one_last fs front e key at.0 is (ap (λ (zs : ZoneSets). slice_get zs (length zs - 1)) (sym same) ∙ at.1)
 
-none_last : (es : ZoneSets) → slice_get es (length es - 1) ≡ None → es ≡ []
+pub none_last : (es : ZoneSets) → slice_get es (length es - 1) ≡ None → es ≡ []
 none_last [] is = refl
 none_last (e ∷ es) is = absurd (later e es is) where
   later : (x : RrKey × SetValue) (xs : ZoneSets) → slice_get (x ∷ xs) (length (x ∷ xs) - 1) ≡ None → ⊥
@@ -131,73 +127,28 @@ above_by_last k es fs e order at g =
     let whole : es ++ fs ≡ (es ++ parts.0) ++ e ∷ [] = ap (λ (zs : ZoneSets). es ++ zs) parts.1 ∙ sym (append_assoc es parts.0 (e ∷ [])) in
     subst (IsAbove k) (sym whole) (above_all k (es ++ parts.0) e.0 e.1 (subst AreInOrder whole order) g)
 
--- the same where there is no run
-pub above_map : (k : RrKey) (es fs : ZoneSets) (e : RrKey × SetValue) → AreInOrder (es ++ fs) → slice_get fs (length fs - 1) ≡ None → slice_get es (length es - 1) ≡ Some e
-    → key_cmp k e.0 ≡ Greater → IsAbove k (es ++ fs)
-above_map k es fs e order none at g =
-    let alone : es ≡ es ++ fs = sym (append-nil es) ∙ ap (λ (zs : ZoneSets). es ++ zs) (sym (none_last fs none)) in
-    subst (IsAbove k) alone (above_by_last k [] es e (order_front es fs order) at g)
-
 -- ---- a key above all
-none_there : (es : ZoneSets) (key : RrKey) → IsAbove key es → set_at es key ≡ None
+pub none_there : (es : ZoneSets) (key : RrKey) → IsAbove key es → set_at es key ≡ None
 none_there [] key h = refl
 none_there (e ∷ es) key h = rw h.0 (none_there es key h.1)
 
-inserted_after : (es : ZoneSets) (key : RrKey) (set : SetValue) → IsAbove key es → insert_entry key_cmp es key set ≡ es ++ (key, set) ∷ []
+pub inserted_after : (es : ZoneSets) (key : RrKey) (set : SetValue) → IsAbove key es → insert_entry key_cmp es key set ≡ es ++ (key, set) ∷ []
 inserted_after [] key set h = refl
 inserted_after (e ∷ es) key set h = rw h.0 (ap (λ (zs : ZoneSets). e ∷ zs) (inserted_after es key set h.1))
 
--- the set of a record above all stands after them
-pub added_after : (es fs : ZoneSets) (key : RrKey) (set : SetValue) (r : Record RData) → key ≡ record_key r → set_of r ≡ set → IsAbove key (es ++ fs)
-    → sets_with (es ++ fs) r ≡ Ok (es ++ (fs ++ (key, set) ∷ []))
-added_after es fs key set r is one above =
-    ap (added_to (es ++ fs) r) (ap (set_at (es ++ fs)) (sym is) ∙ none_there (es ++ fs) key above)
-    ∙ ap Ok (ap (λ (k : RrKey). insert_entry key_cmp (es ++ fs) k (set_of r)) (sym is) ∙ ap (insert_entry key_cmp (es ++ fs) key) one
-    ∙ inserted_after (es ++ fs) key set above ∙ append_assoc es fs ((key, set) ∷ []))
-
 -- ---- the last key
-found_last : (es : ZoneSets) (key : RrKey) (set : SetValue) → IsAbove key es → set_at (es ++ (key, set) ∷ []) key ≡ Some set
+pub found_last : (es : ZoneSets) (key : RrKey) (set : SetValue) → IsAbove key es → set_at (es ++ (key, set) ∷ []) key ≡ Some set
 found_last [] key set h = let own : key_cmp key key ≡ Equal = tied_itself key_cmp-total key in rw own refl
 found_last (e ∷ es) key set h = rw h.0 (found_last es key set h.1)
 
-set_last : (es : ZoneSets) (key : RrKey) (set new : SetValue) → IsAbove key es → set_value (is_at (key_cmp key)) (es ++ (key, set) ∷ []) new ≡ es ++ (key, new) ∷ []
+pub set_last : (es : ZoneSets) (key : RrKey) (set new : SetValue) → IsAbove key es → set_value (is_at (key_cmp key)) (es ++ (key, set) ∷ []) new ≡ es ++ (key, new) ∷ []
 set_last [] key set new h = let own : key_cmp key key ≡ Equal = tied_itself key_cmp-total key in rw own refl
 set_last (e ∷ es) key set new h = rw h.0 (ap (λ (zs : ZoneSets). e ∷ zs) (set_last es key set new h.1))
 
 whole_of : (es fs : ZoneSets) (e : RrKey × SetValue) → es ++ (fs ++ e ∷ []) ≡ (es ++ fs) ++ e ∷ []
 whole_of es fs e = sym (append_assoc es fs (e ∷ []))
 
-pub last_in_order : (es fs : ZoneSets) (key : RrKey) (set : SetValue) → AreInOrder (es ++ (fs ++ (key, set) ∷ [])) → IsAbove key (es ++ fs)
-last_in_order es fs key set order = last_above (es ++ fs) key set (subst AreInOrder (whole_of es fs (key, set)) order)
-
--- a record of the last key goes into the last set
-pub added_last : (es fs : ZoneSets) (key : RrKey) (set : SetValue) (r : Record RData) → key ≡ record_key r → AreInOrder (es ++ (fs ++ (key, set) ∷ []))
-    → added_to (es ++ (fs ++ (key, set) ∷ [])) r (Some set) ≡ sets_with (es ++ (fs ++ (key, set) ∷ [])) r
-added_last es fs key set r is order =
-    let sets : ZoneSets = es ++ (fs ++ (key, set) ∷ []) in
-    let there : set_at sets key ≡ Some set = ap (λ (zs : ZoneSets). set_at zs key) (whole_of es fs (key, set)) ∙ found_last (es ++ fs) key set (last_in_order es fs key set order) in
-    ap (added_to sets r) (sym there ∙ ap (set_at sets) is)
-
-pub changed_last : (es fs : ZoneSets) (key : RrKey) (set new : SetValue) (r : Record RData) → key ≡ record_key r → AreInOrder (es ++ (fs ++ (key, set) ∷ []))
-    → set_value (is_at (key_cmp (record_key r))) (es ++ (fs ++ (key, set) ∷ [])) new ≡ es ++ (fs ++ (key, new) ∷ [])
-changed_last es fs key set new r is order =
-    ap (λ (k : RrKey). set_value (is_at (key_cmp k)) (es ++ (fs ++ (key, set) ∷ [])) new) (sym is)
-    ∙ ap (λ (zs : ZoneSets). set_value (is_at (key_cmp key)) zs new) (whole_of es fs (key, set))
-    ∙ set_last (es ++ fs) key set new (last_in_order es fs key set order) ∙ sym (whole_of es fs (key, new))
-
 -- ---- what the fields of the sets keep
-pub order_after : (es fs : ZoneSets) (key : RrKey) (set : SetValue) → AreInOrder (es ++ fs) → IsAbove key (es ++ fs) → AreInOrder (es ++ (fs ++ (key, set) ∷ []))
-order_after es fs key set order above = subst AreInOrder (sym (whole_of es fs (key, set))) (order_push (es ++ fs) key set order above)
-
-pub kept_after : (es fs : ZoneSets) (key : RrKey) (set : SetValue) → AreKeyed (es ++ fs) → IsKeyed key set → AreKeyed (es ++ (fs ++ (key, set) ∷ []))
-kept_after es fs key set kept one = subst AreKeyed (sym (whole_of es fs (key, set))) (kept_push (es ++ fs) key set kept one)
-
-pub order_before : (es fs : ZoneSets) (e : RrKey × SetValue) → AreInOrder (es ++ (fs ++ e ∷ [])) → AreInOrder (es ++ fs)
-order_before es fs e order = order_front (es ++ fs) (e ∷ []) (subst AreInOrder (whole_of es fs e) order)
-
-pub kept_before : (es fs : ZoneSets) (e : RrKey × SetValue) → AreKeyed (es ++ (fs ++ e ∷ [])) → AreKeyed (es ++ fs)
-kept_before es fs e kept = kept_front (es ++ fs) (e ∷ []) (subst AreKeyed (whole_of es fs e) kept)
-
 pub kept_last : (es fs : ZoneSets) (e : RrKey × SetValue) → AreKeyed (es ++ (fs ++ e ∷ [])) → IsKeyed e.0 e.1
 kept_last es fs e kept = (kept_back (es ++ fs) (e ∷ []) (subst AreKeyed (whole_of es fs e) kept)).0
 

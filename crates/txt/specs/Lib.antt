@@ -1,4 +1,5 @@
 pub mod Entries
+pub mod Gathered
 pub mod Parser
 pub mod Run
 pub mod Steps

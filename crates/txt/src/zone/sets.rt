@@ -1,17 +1,17 @@
 //! The record sets of a zone, by owner and type.
 
-ghost use Rattle.std.specs.BTreeMap.{IsOrdered, is_at};
+ghost use Rattle.std.specs.Prelude.{◌≡◌, ◌++◌, ◌-◌, [], IfOk, IsOkUnless, OnOk, Some, length, slice_get, true};
+ghost use Rattle.std.specs.declared.cmp.Ordering.TheVariants.{Equal, Greater};
 ghost use Rattle.std.specs.List.{AllByRecursion};
 ghost use Rattle.std.specs.List.Sorted.{IsStrictlySortedBy};
-ghost use Rattle.std.specs.Map.{keys_of, set_value};
-ghost use Rattle.std.specs.Prelude.{◌≡◌, ◌++◌, ◌-◌, [], IfOk, IsOkUnless, OnOk, Ok, Some, length, slice_get};
-ghost use Rattle.std.specs.declared.cmp.Ordering.TheVariants.{Equal, Greater};
+ghost use Rattle.std.specs.Map.{keys_of};
 ghost use Rattle.base.specs.RrKey.{key_cmp};
-ghost use Rattle.base.specs.TextFaults.{Gives};
-ghost use Rattle.rr.specs.RecordSet.{SetValue, set_of};
+ghost use Rattle.base_data.specs.Kinds.{type_of_data};
+ghost use Rattle.rr.specs.RecordSet.{SetValue, is_soa};
+ghost use Rattle.txt.specs.Gathered.{HaveOwnKeys, gathered, with_keyed};
 ghost use Rattle.txt.specs.Run.{sets_in};
 ghost use Rattle.txt.specs.Steps.{MakesSets};
-ghost use Rattle.txt.specs.ZoneSets.{AreKeyed, IsKeyed, ZoneSets as Sets, sets_with, added_to};
+ghost use Rattle.txt.specs.ZoneSets.{AreKeyed, sets_with};
 ghost use Rattle.rr.specs.Record.{record_key};
 
 use crate::zone::run::Run;
@@ -21,34 +21,29 @@ use rr::{Record, RecordSet};
 use std::alloc::{AllocError, Global};
 use std::cmp::Ordering;
 use std::collections::BTreeMap;
-use std::collections::btree_map::Entry;
 use std::marker::Model;
-use std::mem::replace;
 
 /// The record sets of a zone, each under its owner in lower case and its type.
 ///
 /// Contracts see the sets with their keys, in the order of these.
 #[derive(Drop)]
 pub struct ZoneSets {
-    sets: BTreeMap<RrKey, RecordSet>,
-    /// Further sets, in the order of their keys, which are above all of the map: the sets of a zone in order come in
-    /// turn, and go into the map together.
-    run: Run,
+    /// The records with their keys, as they came: to sort them at the end costs less than a look-up for each.
+    entries: Vec<(RrKey, Record)>,
+    /// The keys of the SOA records.
+    soas: BTreeMap<RrKey, ()>,
 }
 
 impl Model for ZoneSets {
-    ghost use Rattle.std.specs.List.Sorted.{IsStrictlySortedBy};
-    ghost use Rattle.std.specs.Map.{keys_of};
-    ghost use Rattle.std.specs.Prelude.{◌++◌};
-    ghost use Rattle.base.specs.RrKey.{key_cmp};
-    ghost use Rattle.txt.specs.ZoneSets.{AreKeyed, ZoneSets as Sets};
+    ghost use Rattle.txt.specs.Gathered.{HaveOwnKeys, KnowsSoas, gathered};
+    ghost use Rattle.txt.specs.ZoneSets.{ZoneSets as Sets};
 
     ghost Value = { Sets };
 
-    ghost view = { λ z. z.sets.entries ++ z.run };
+    ghost view = { λ z. gathered z.entries.items };
 
-    ghost invariant = { λ z. AreKeyed (z.sets.entries ++ z.run)
-        × IsStrictlySortedBy key_cmp (keys_of (z.sets.entries ++ z.run)) };
+    ghost invariant = { λ z. HaveOwnKeys z.entries.items
+        × KnowsSoas z.soas.entries z.entries.items };
 }
 
 impl ZoneSets {
@@ -57,8 +52,8 @@ impl ZoneSets {
         ensures { result ≡ [] }
     {
         ZoneSets {
-            sets: BTreeMap::new(alloc),
-            run: Run::new(alloc),
+            entries: Vec::new(alloc),
+            soas: BTreeMap::new(alloc),
         }
     }
 
@@ -70,40 +65,31 @@ impl ZoneSets {
     pub(super) fn add(&mut self, entry: Record) -> Result<(), ParseError>
         ensures { MakesSets result self.new (sets_with self.old entry) }
     {
-        let key = key_for(self.run.allocator(), &entry)?;
-        match order_to_last(&self.sets, &self.run, &key) {
-            Ordering::Less => self.add_within(key, entry),
-            Ordering::Equal => {
-                let Some((_, mut set)) = self.run.pop() else {
-                    return Ok(());
-                };
-                enter(&mut set, entry)?;
-                self.run.push((key, set))?;
-                Ok(())
-            }
-            Ordering::Greater => {
-                self.run.push((key, set_of(entry)?))?;
-                Ok(())
-            }
+        let key = key_for(*self.entries.allocator(), &entry)?;
+        if entry.record_type() == RecordType::SOA {
+            return self.add_soa(key, entry);
         }
-    }
-
-    /// The same, by a look-up in the map, into which the run goes first.
-    fn add_within(&mut self, key: RrKey, entry: Record) -> Result<(), ParseError>
-        requires { key ≡ record_key entry }
-        ensures { MakesSets result self.new (sets_with self.old entry) }
-    {
-        let alloc = self.run.allocator();
-        let sets = replace(&mut self.sets, BTreeMap::new(alloc));
-        let run = replace(&mut self.run, Run::new(alloc));
-        let mut whole = append_run(sets, run)?;
-        put(&mut whole, key, entry)?;
-        self.sets = whole;
+        self.entries.push((key, entry))?;
         Ok(())
     }
 
-    /// A map of the first sets, and the others in blocks, all in the order of their keys. Cheaper than the map of all
-    /// sets.
+    /// The same for an SOA record.
+    fn add_soa(&mut self, key: RrKey, entry: Record) -> Result<(), ParseError>
+        requires key { key ≡ record_key entry }
+        requires soa { is_soa (type_of_data entry.rdata) ≡ true }
+        ensures { MakesSets result self.new (sets_with self.old entry) }
+    {
+        if self.soas.contains_key(&key) {
+            return Err(ParseError::Message("SOA is already specified"));
+        }
+        self.entries.reserve(1)?;
+        self.soas.insert(key.clone()?, ())?;
+        self.entries.push((key, entry))?;
+        Ok(())
+    }
+
+    /// A map of the first sets, at present of none, and the others in blocks, all in the order of their keys. Cheaper
+    /// than the map of all sets.
     ///
     /// # Errors
     ///
@@ -113,8 +99,8 @@ impl ZoneSets {
     ) -> Result<(BTreeMap<RrKey, RecordSet>, Vec<Vec<(RrKey, RecordSet)>>), AllocError>
         ensures { IfOk result (λ r. r.0.entries ++ sets_in r.1.items ≡ self) }
     {
-        let ZoneSets { sets, run } = self;
-        Ok((sets, run.into_blocks()?))
+        let none = BTreeMap::new(*self.entries.allocator());
+        Ok((none, self.into_run()?.into_blocks()?))
     }
 
     /// The map of the sets.
@@ -127,8 +113,96 @@ impl ZoneSets {
         // Each set stands under the key of its owner and type, has a record and is tidy.
         ensures kept { IfOk result (λ sets. AreKeyed sets.entries) }
     {
-        let ZoneSets { sets, run } = self;
-        append_run(sets, run)
+        let none = BTreeMap::new(*self.entries.allocator());
+        append_run(none, self.into_run()?)
+    }
+
+    /// The sets in the order of their keys.
+    fn into_run(self) -> Result<Run, AllocError>
+        ensures sets { IfOk result (λ run. run ≡ self) }
+        // Each set stands under the key of its owner and type, has a record and is tidy.
+        ensures kept { IfOk result (λ run. AreKeyed run) }
+        // The sets stand in the order of their keys, each once.
+        ensures ordered { IfOk result (λ run. IsStrictlySortedBy key_cmp (keys_of run)) }
+    {
+        let ZoneSets { mut entries, .. } = self;
+        entries.sort_by(cmp_keys)?;
+        gather(entries)
+    }
+}
+
+/// The order of the keys of two records.
+fn cmp_keys(left: &(RrKey, Record), right: &(RrKey, Record)) -> Ordering
+    ensures { result ≡ key_cmp left.now.0 right.now.0 }
+{
+    left.0.cmp(&right.0)
+}
+
+/// The sets of records in the order of their keys.
+///
+/// # Errors
+///
+/// If memory runs out.
+fn gather(entries: Vec<(RrKey, Record)>) -> Result<Run, AllocError>
+    requires keyed { HaveOwnKeys entries.items }
+    ensures sets { IfOk result (λ run. run ≡ gathered entries.items) }
+    // Each set stands under the key of its owner and type, has a record and is tidy.
+    ensures kept { IfOk result (λ run. AreKeyed run) }
+    // The sets stand in the order of their keys, each once.
+    ensures ordered { IfOk result (λ run. IsStrictlySortedBy key_cmp (keys_of run)) }
+{
+    let mut run = Run::new(*entries.allocator());
+    for (key, entry) in entries {
+        add_last(&mut run, key, entry)?;
+    }
+    Ok(run)
+}
+
+/// Puts a record into the last set, or into a new one after it.
+///
+/// # Errors
+///
+/// If memory runs out.
+fn add_last(run: &mut Run, key: RrKey, entry: Record) -> Result<(), AllocError>
+    requires key { key ≡ record_key entry }
+    requires kept { AreKeyed run.old }
+    requires ordered { IsStrictlySortedBy key_cmp (keys_of run.old) }
+    ensures sets { OnOk result (run.new ≡ with_keyed run.old (key, entry)) }
+    // Each set stands under the key of its owner and type, has a record and is tidy.
+    ensures kept { OnOk result (AreKeyed run.new) }
+    // The sets stand in the order of their keys, each once.
+    ensures ordered { OnOk result (IsStrictlySortedBy key_cmp (keys_of run.new)) }
+{
+    match order_to_last(run, &key) {
+        // Never so: the records come in the order of their keys.
+        Ordering::Less => Err(AllocError),
+        Ordering::Equal => {
+            let Some((_, mut set)) = run.pop() else {
+                return Ok(());
+            };
+            set.insert(entry, 0).map_err(|_| AllocError)?;
+            run.push((key, set))
+        }
+        Ordering::Greater => {
+            let set = RecordSet::try_from(entry).map_err(|_| AllocError)?;
+            run.push((key, set))
+        }
+    }
+}
+
+/// The order of a key to the last one.
+fn order_to_last(run: &Run, key: &RrKey) -> Ordering
+    requires { IsStrictlySortedBy key_cmp (keys_of run.now) }
+    // Equal only where the last set has this key.
+    ensures last { result ≡ Equal
+        → (set : SetValue) × (slice_get run.now (length run.now - 1) ≡ Some (key.now, set)) }
+    // Greater only where the key comes after all that are there.
+    ensures above { result ≡ Greater
+        → AllByRecursion (λ e. key_cmp key.now e.0 ≡ Greater) run.now }
+{
+    match run.last() {
+        Some(last) => key.cmp(&last.0),
+        None => Ordering::Greater,
     }
 }
 
@@ -139,25 +213,6 @@ fn key_for(alloc: Global, entry: &Record) -> Result<RrKey, ParseError>
 {
     let owner = LowerName::new(alloc, &entry.name).map_err(|_| ParseError::Memory)?;
     Ok(RrKey::new(owner, entry.record_type()))
-}
-
-/// The order of a key to the last one; less as well where it is the last one of the map.
-fn order_to_last(sets: &BTreeMap<RrKey, RecordSet>, run: &Run, key: &RrKey) -> Ordering
-    requires { IsStrictlySortedBy key_cmp (keys_of (sets.now.entries ++ run.now)) }
-    // Equal only where the run's last set has this key.
-    ensures last { result ≡ Equal
-        → (set : SetValue) × (slice_get run.now (length run.now - 1) ≡ Some (key.now, set)) }
-    // Greater only where the key comes after all that are there.
-    ensures above { result ≡ Greater
-        → AllByRecursion (λ e. key_cmp key.now e.0 ≡ Greater) (sets.now.entries ++ run.now) }
-{
-    if let Some(last) = run.last() {
-        return key.cmp(&last.0);
-    }
-    match sets.last_key_value() {
-        Some((last, _)) => key.cmp(last).then(Ordering::Less),
-        None => Ordering::Greater,
-    }
 }
 
 /// The map with the sets of a run, whose keys are above all of the map.
@@ -180,51 +235,4 @@ fn append_run(
         whole.insert(key, set)?;
     }
     Ok(whole)
-}
-
-/// Puts a record into the set under its key, or into a new one.
-fn put(sets: &mut BTreeMap<RrKey, RecordSet>, key: RrKey, entry: Record) -> Result<(), ParseError>
-    requires key { key ≡ record_key entry }
-    // Each set stands under the key of its owner and type, has a record and is tidy.
-    requires kept { AreKeyed sets.old.entries }
-    ensures value { MakesSets result sets.new.entries (sets_with sets.old.entries entry) }
-    // After `Ok` the same holds again.
-    ensures kept { OnOk result (AreKeyed sets.new.entries) }
-    // After `Ok` the sets stand in the order of their keys, each once.
-    ensures ordered { OnOk result (IsOrdered key_cmp sets.new) }
-{
-    match sets.entry(key)? {
-        Entry::Occupied(place) => enter(place.into_mut(), entry),
-        Entry::Vacant(place) => {
-            place.insert(set_of(entry)?);
-            Ok(())
-        }
-    }
-}
-
-/// Puts a record into the set of its key.
-///
-/// # Errors
-///
-/// `Message` for a second SOA.
-fn enter(set: &mut RecordSet, entry: Record) -> Result<(), ParseError>
-    requires { IsKeyed (record_key entry) set.old }
-    ensures value { (sets : Sets)
-        → MakesSets result (set_value (is_at (key_cmp (record_key entry))) sets set.new)
-        (added_to sets entry (Some set.old)) }
-    // The set still stands under its key, has a record and is tidy.
-    ensures kept { IsKeyed (record_key entry) set.new }
-{
-    if entry.record_type() == RecordType::SOA {
-        return Err(ParseError::Message("SOA is already specified"));
-    }
-    set.insert(entry, 0).map_err(|_| ParseError::Memory)?;
-    Ok(())
-}
-
-/// The set of one record.
-fn set_of(entry: Record) -> Result<RecordSet, ParseError>
-    ensures { Gives (λ set. set) result (Ok (set_of entry)) }
-{
-    RecordSet::try_from(entry).map_err(|_| ParseError::Memory)
 }

@@ -1,4 +1,4 @@
-use Rattle.std.proofs.Common.{◌-◌, ◌∙◌, ap, length, rules}
+use Rattle.std.proofs.Common.{◌-◌, ◌∙◌, ap, length}
 use Rattle.std.specs.List.{slice_get}
 use Rattle.txt.proofs.BlockLemmas.{last_of}
 use Rattle.txt.specs.ZoneSets.{ZoneSets}
