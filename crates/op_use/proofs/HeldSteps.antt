@@ -5,23 +5,16 @@ use Rattle.base.specs.declared.dns_class.DNSClass.{DNSClass}
 use Rattle.base.specs.declared.rr_key.RrKey.{RrKey}
 use Rattle.base_data.specs.declared.rdata.RData.{RData}
 use Rattle.op_use.proofs.MapSteps.{chained, more_after, none_after}
-use Rattle.op_use.proofs.UpdateSteps.{after_deletions}
-use Rattle.op_use.specs.Applying.{IsZoneMap, IsZoneSet, records_at}
+use Rattle.op_use.specs.Applying.{IsZoneMap, IsZoneSet}
 use Rattle.op_use.specs.HeldZone.{HeldZone, zone_held}
-use Rattle.op_use.specs.MapUpdates.{HoldsAt, IsAfter, IsSetTo, IsUpdated, Lacks, LeavesOwner, is_deletion}
-use Rattle.rr.specs.Record.{record_key}
-use Rattle.op_use.specs.Zone.{Zone}
+use Rattle.op_use.specs.MapUpdates.{HoldsAt, IsAfter, IsSetTo, IsUpdated, Lacks, LeavesOwner, Puts}
 use Rattle.rr.specs.RecordSet.{SetValue}
-use Rattle.rr.specs.SetUpdates.{without}
 use Rattle.rr.specs.declared.record.Record.{Record}
-use Rattle.std.proofs.Common.{ap, arith, drop, refl, subst, suc, sym, take, zero, ◌∙◌}
-use Rattle.std.proofs.Math.Seq.{take-add}
-use Rattle.std.proofs.lemmas.List.{length-drop, length-take-le, take_all}
+use Rattle.std.proofs.Common.{ap, refl, subst, sym, ◌∙◌}
 use Rattle.std.specs.BTreeMap as tree
 use Rattle.std.specs.BTreeMap.{BTreeMap}
-use Rattle.std.specs.List.{AllByRecursion}
 use Rattle.std.specs.Ordering.{eq_by_cmp}
-use Rattle.std.specs.Prelude.{Bool, List, None, Some, [], cond, false, length, true, ℕ, ◌+◌, ◌-◌, ◌++◌, ◌<◌, ◌∷◌, ◌≡◌, ◌≤◌}
+use Rattle.std.specs.Prelude.{Bool, List, None, Some, [], cond, false, true, ◌++◌, ◌≡◌}
 
 pub none_updated : (z : HeldZone) → IsUpdated [] z z
 none_updated z = (z.sets, refl, λ h. none_after z.origin z.class z.sets h)
@@ -58,16 +51,8 @@ gone_set class m false q s old e = old q s e
 pub removed_map : (class : DNSClass) (k : RrKey) (m n : BTreeMap RrKey SetValue) → IsZoneMap class m → tree.Updates key_cmp m n k None → IsZoneMap class n
 removed_map class k m n old h = λ q s e. gone_set class m (eq_by_cmp key_cmp k q) q s old (sym (h.0 q) ∙ e)
 
-pub removed_set : (class : DNSClass) (k : RrKey) (m n : BTreeMap RrKey SetValue) → tree.Updates key_cmp m n k None → IsSetTo class k [] m n
-removed_set class k m n h = record { set = None; records = refl; fits = λ s e. absurd cc; ttl = λ s e. absurd cc; puts = h.0 }
-
--- the sets of an owner that are taken out
-left_set : (class : DNSClass) (m : BTreeMap RrKey SetValue) (b : Bool) (q : RrKey) (s : SetValue) → IsZoneMap class m → cond b (tree.get key_cmp m q) None ≡ Some s → IsZoneSet class q s
-left_set class m true q s old e = old q s e
-left_set class m false q s old e = absurd cc
-
-pub left_map : (z : Zone) (owner : NameValue) (class : DNSClass) (m n : BTreeMap RrKey SetValue) → IsZoneMap class m → LeavesOwner z owner m n → IsZoneMap class n
-left_map z owner class m n old h = λ q s e. left_set class m _ q s old (sym (h q) ∙ e)
+pub removed_set : (class : DNSClass) (k : RrKey) (m n : BTreeMap RrKey SetValue) → Puts k None m n → IsSetTo class k [] m n
+removed_set class k m n h = record { set = None; records = refl; fits = λ s e. absurd cc; ttl = λ s e. absurd cc; puts = h }
 
 -- the new zone is the old one without the sets of an owner
 abbrev pub LacksOwner : NameValue → HeldZone → HeldZone → Type 0
@@ -89,36 +74,3 @@ pub all_updated : (z new : HeldZone) (origin : NameValue) (class : DNSClass) (m 
 all_updated z new origin class m rs e h old = step (subst (λ (y : HeldZone). IsUpdated rs y new) e h) where
   step : IsUpdated rs (record { origin = origin; class = class; sets = m }) new → IsAfter origin class rs m new.sets
   step u = subst (λ n. IsAfter origin class rs m n) (sym (ap (λ (y : HeldZone). y.sets) u.1)) (u.2 old)
-
--- deletions of data of one set
-pub deletions_updated : (k : Record RData) (ds : List (Record RData)) (old new : HeldZone) → 0 < length ds → AllByRecursion (λ u. is_deletion (zone_held old) k u ≡ true) ds
-    → HoldsAt (record_key k) (without ds (records_at old.sets (record_key k))) old new → IsUpdated ds old new
-deletions_updated k [] old new some all h = absurd (omega (arith, some))
-deletions_updated k (r ∷ rs) old new some all h = set_updated (r ∷ rs) _ _ old new h (λ n put is_map. after_deletions old.origin old.class old.sets n r is_map k rs all put)
-
-module _ (es : List (Record RData)) (i n : ℕ) (below : i < length es) (some : n ≡ 0 → ⊥) (within : n ≤ length (take (length es - i) (drop i es))) where
-  rest_is : take (length es - i) (drop i es) ≡ drop i es
-  rest_is = take_all (length es - i) (drop i es) (omega (arith, length-drop i es))
-
-  fits : n ≤ length (drop i es)
-  fits = subst (λ ds. n ≤ length ds) rest_is within
-
-  pub run_within : i + n ≤ length es
-  run_within = omega (arith, fits, length-drop i es, below)
-
-  run_some : 0 < length (take n (drop i es))
-  run_some = omega (arith, length-take-le n (drop i es) fits, not_none n some) where
-    not_none : (k : ℕ) → (k ≡ 0 → ⊥) → 0 < k
-    not_none zero h = absurd (h refl)
-    not_none (suc k) h = omega arith
-
-  pub run_updated : (k : Record RData) (key : RrKey) (old mid new : HeldZone) → key ≡ record_key k
-      → AllByRecursion (λ u. is_deletion (zone_held mid) k u ≡ true) (take n (take (length es - i) (drop i es)))
-      → HoldsAt key (without (take ((i + n) - i) (drop i es)) (records_at mid.sets key)) mid new → IsUpdated (take i es) old mid → IsUpdated (take (i + n) es) old new
-  run_updated k key old mid new is all h before =
-      let count : (i + n) - i ≡ n = omega arith in
-      let ds = take n (drop i es) in
-      let held = moved_held key (record_key k) _ (without ds (records_at mid.sets (record_key k))) mid new is
-      (λ j. without (take (count j) (drop i es)) (records_at mid.sets (is j))) h in
-      let step = deletions_updated k ds mid new run_some (subst (λ rs. AllByRecursion (λ u. is_deletion (zone_held mid) k u ≡ true) (take n rs)) rest_is all) held in
-      subst (λ rs. IsUpdated rs old new) (sym (take-add i n es)) (updated_more (take i es) ds old mid new before step)

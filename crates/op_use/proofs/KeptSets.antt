@@ -61,8 +61,8 @@ module _ (s t : RrKey → Bool) (old a b c : BTreeMap RrKey SetValue) (first : I
   returned_more = record { each = λ q. each_more q (first.each q) (next.each q); tested = λ q h same. tested_more q (s q) (t q) refl refl h same }
 
 -- nothing is put back
-pub returned_none : (old now : BTreeMap RrKey SetValue) → IsReturned (λ q. false) old now now
-returned_none old now = record { each = λ q. inl refl; tested = λ q h same. absurd cc }
+pub returned_none : (old now new : BTreeMap RrKey SetValue) → ((q : RrKey) → tree.get key_cmp new q ≡ tree.get key_cmp now q) → IsReturned (λ q. false) old now new
+returned_none old now new same = record { each = λ q. inl (same q); tested = λ q h alike. absurd cc }
 
 -- the set under one key
 module _ (class : DNSClass) (k : RrKey) (old now : BTreeMap RrKey SetValue) (before : IsZoneMap class old) (after : IsZoneMap class now) where
@@ -176,7 +176,7 @@ returned_of s t old now new less h = record { each = h.each; tested = λ q e sam
 
 -- the zone that has the sets
 pub zone_unreturned : (old : BTreeMap RrKey SetValue) (z : HeldZone) → Returns (λ q. false) old z z
-zone_unreturned old z = (z.sets, refl, returned_none old z.sets)
+zone_unreturned old z = (z.sets, refl, returned_none old z.sets z.sets (λ q. refl))
 
 pub zone_returned_of : (s t : RrKey → Bool) (old : BTreeMap RrKey SetValue) (now new : HeldZone) → ((q : RrKey) → t q ≡ true → s q ≡ true) → Returns s old now new → Returns t old now new
 zone_returned_of s t old now new less h = (h.0, h.1, returned_of s t old now.sets h.0 less h.2)

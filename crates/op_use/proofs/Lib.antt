@@ -2,6 +2,7 @@ mod AppliedData
 mod AppliedLemmas
 mod BuiltLemmas
 mod Changes
+mod ChangingSteps
 mod Deleted
 mod Deletions
 mod FollowSteps

@@ -11,7 +11,7 @@ use Rattle.op_use.proofs.Origins.{back_among, front_among}
 use Rattle.op_use.proofs.ZoneSteps.{same_key, tied}
 use Rattle.op_use.specs.AppliedRecords.{after_update, records_after}
 use Rattle.op_use.specs.Applying.{IsZoneMap, IsZoneSet, TakesFrom, TakesTtls, names_owner, records_at, records_in, zone_of_map}
-use Rattle.op_use.specs.MapUpdates.{IsAfter, IsSetTo, names_set}
+use Rattle.op_use.specs.MapUpdates.{IsAfter, IsSetTo, Puts, names_set}
 use Rattle.op_use.specs.NamedChanges.{datum_of}
 use Rattle.op_use.specs.Server.{is_under, update}
 use Rattle.rr.specs.Record.{record_key}
@@ -27,8 +27,8 @@ use Rattle.std.specs.BTreeMap as tree
 use Rattle.std.specs.BTreeMap.{BTreeMap}
 use Rattle.std.specs.List.{IsAmong, fold}
 use Rattle.std.specs.Ordering.{eq_by_cmp}
-use Rattle.std.specs.Prelude.{Bool, List, None, Option, Some, [], cond, false, length, map, slice_index_or, suc, take, true, unwrap_or, zero, ℕ, ◌++◌, ◌+◌, ◌-◌, ◌<◌}
-use Rattle.std.specs.Prelude.{◌∷◌, ◌≡◌, ◌≢◌}
+use Rattle.std.specs.Prelude.{Bool, List, None, Option, Some, [], cond, false, length, map, slice_index_or, suc, take, true, unwrap_or, zero, ℕ, ◌++◌, ◌+◌, ◌<◌}
+use Rattle.std.specs.Prelude.{◌∷◌, ◌≡◌}
 
 -- the key of a record is of its owner
 own_key : (r : Record RData) → is_owned r.name (record_key r) ≡ true
@@ -144,21 +144,24 @@ again : {X : Type 0} (b : Bool) (x y : Option X) (z : Option X) → cond b y (co
 again true x y z = refl
 again false x y z = refl
 
+pub puts_again : (k : RrKey) (v w : Option SetValue) (m n p : BTreeMap RrKey SetValue) → Puts k v m n → Puts k w n p → Puts k w m p
+puts_again k v w m n p first next = λ q. next q ∙ ap (cond (eq_by_cmp key_cmp k q) w) (first q) ∙ again (eq_by_cmp key_cmp k q) v w (tree.get key_cmp m q)
+
 -- a set that was taken out isn't the one that was there
-new_ttl : (k : RrKey) (m n : BTreeMap RrKey SetValue) (s : SetValue) → tree.Updates key_cmp m n k None
+new_ttl : (k : RrKey) (m n : BTreeMap RrKey SetValue) (s : SetValue) → Puts k None m n
     → (tree.get key_cmp n k ≡ Some s) ⊎ (s.ttl ≡ last_ttl s.records) → (tree.get key_cmp m k ≡ Some s) ⊎ (s.ttl ≡ last_ttl s.records)
-new_ttl k m n s first (inl e) = absurd (no_set (ap (λ b. cond b None (tree.get key_cmp m k)) (sym (tied k)) ∙ sym (first.0 k) ∙ e)) where
+new_ttl k m n s first (inl e) = absurd (no_set (ap (λ b. cond b None (tree.get key_cmp m k)) (sym (tied k)) ∙ sym (first k) ∙ e)) where
   no_set : None ≡ Some s → ⊥
   no_set f = absurd cc
 new_ttl k m n s first (inr t) = inr t
 
-pub chained : (class : DNSClass) (k : RrKey) (xs : List (Record RData)) (m n p : BTreeMap RrKey SetValue) → tree.Updates key_cmp m n k None → IsSetTo class k xs n p → IsSetTo class k xs m p
+pub chained : (class : DNSClass) (k : RrKey) (xs : List (Record RData)) (m n p : BTreeMap RrKey SetValue) → Puts k None m n → IsSetTo class k xs n p → IsSetTo class k xs m p
 chained class k xs m n p first h = record {
   set = h.set;
   records = h.records;
   fits = h.fits;
   ttl = λ s e. new_ttl k m n s first (h.ttl s e);
-  puts = λ q. h.puts q ∙ ap (cond (eq_by_cmp key_cmp k q) h.set) (first.0 q) ∙ again (eq_by_cmp key_cmp k q) None h.set (tree.get key_cmp m q);
+  puts = puts_again k None h.set m n p first h.puts;
 }
 
 -- the updates so far and one more

@@ -6,7 +6,7 @@ use Rattle.base_data.specs.declared.rdata.RData.{RData}
 use Rattle.op_use.proofs.ZoneSteps.{same_key}
 use Rattle.op_use.specs.AppliedRecords.{after_by, after_update, parted, with_record}
 use Rattle.op_use.specs.NamedChanges.{is_key_left}
-use Rattle.op_use.specs.Server.{OfAny, OfNone, OfNothing, OfZone, is_any, is_cname, is_kept_out, is_needed, use_of, is_under, goes_with}
+use Rattle.op_use.specs.Server.{OfAny, OfNone, OfZone, is_any, is_cname, is_kept_out, is_needed, use_of, is_under, goes_with}
 use Rattle.rr.specs.Record.{record_key, type_of_record}
 use Rattle.op_use.specs.Zone.{Zone, has_set, has_type_at, is_guarded, is_owned}
 use Rattle.rr.specs.SetChanges.{joined}
@@ -80,6 +80,3 @@ module _ (z : Zone) (r : Record RData) (at : RrKey → List (Record RData)) (q :
 
   pub name_goes : use_of z.class r.dns_class ≡ OfAny → is_any (type_of_record r) ≡ true → after_update z r q (at q) ≡ cond (is_key_left z r.name q) (at q) []
   name_goes u c = goes u ∙ ap (λ b. cond b [] (at q)) (cond-true _ _ _ c) ∙ turned (is_owned r.name q) (is_guarded z r.name q.record_type) [] (at q)
-
-  pub nothing_changes : use_of z.class r.dns_class ≡ OfNothing → after_update z r q (at q) ≡ at q
-  nothing_changes u = ap (λ how. after_by how z r q (at q)) u

@@ -7,7 +7,7 @@ use Rattle.op_use.proofs.AppliedData.{Distinct}
 use Rattle.op_use.proofs.Deletions.{distinct_without, left_records}
 use Rattle.op_use.proofs.MapSteps.{injected}
 use Rattle.op_use.specs.Applying.{IsZoneMap, IsZoneSet, records_at, records_in}
-use Rattle.op_use.specs.MapUpdates.{IsSetTo, IsTakenSet}
+use Rattle.op_use.specs.MapUpdates.{IsSetTo, IsTakenSet, Puts}
 use Rattle.rr.specs.Record.{record_key, type_of_record}
 use Rattle.rr.specs.RecordSet.{SetValue}
 use Rattle.rr.specs.SetUpdates.{has_data_of_one, last_ttl, with_records, without, without_data}
@@ -16,8 +16,7 @@ use Rattle.std.proofs.Common.{ap, inl, inr, refl, subst, sym, ◌∙◌, ◌⊎�
 use Rattle.std.specs.BTreeMap as tree
 use Rattle.std.specs.BTreeMap.{BTreeMap}
 use Rattle.std.specs.List.{IsDistinct, list_any}
-use Rattle.std.specs.Ordering.{eq_by_cmp}
-use Rattle.std.specs.Prelude.{Bool, List, None, Option, Some, [], cond, false, true, ◌≡◌, ◌≢◌}
+use Rattle.std.specs.Prelude.{Bool, List, None, Some, [], cond, false, true, ◌≡◌, ◌≢◌}
 
 -- the set that is there
 pub there : (class : DNSClass) (m : BTreeMap RrKey SetValue) (k : RrKey) (s : SetValue) → IsZoneMap class m → tree.get key_cmp m k ≡ Some s → IsTakenSet class k (records_at m k) s
@@ -65,33 +64,31 @@ left_ttl : (m : BTreeMap RrKey SetValue) (k : RrKey) (es : List (Record RData)) 
 left_ttl m k es s true e = inr refl
 left_ttl m k es s false e = inl e
 
-again : {X : Type 0} (b : Bool) (x y z : Option X) → cond b y (cond b x z) ≡ cond b y z
-again true x y z = refl
-again false x y z = refl
+pub set_left_fits : (class : DNSClass) (k : RrKey) (es : List (Record RData)) (s t : SetValue) → IsZoneSet class k s → t ≡ without_data es s → t.records ≢ [] → IsZoneSet class k t
+set_left_fits class k es s t old is full =
+    subst (λ x. IsZoneSet class k x) (sym is) (left_fits class k es s (list_any (has_data_of_one es) s.records) old (subst (λ (x : SetValue). x.records ≢ []) is full))
 
-pub set_left : (class : DNSClass) (k : RrKey) (es : List (Record RData)) (s t : SetValue) (m n p : BTreeMap RrKey SetValue) → IsZoneMap class m
-    → tree.get key_cmp m k ≡ Some s → t ≡ without_data es s → t.records ≢ [] → tree.Updates key_cmp m n k None → tree.Updates key_cmp n p k (Some t)
-    → IsSetTo class k (without es (records_at m k)) m p
-set_left class k es s t m n p old e is full first next = record {
+pub set_left : (class : DNSClass) (k : RrKey) (es : List (Record RData)) (s t : SetValue) (m n : BTreeMap RrKey SetValue) → IsZoneSet class k s
+    → tree.get key_cmp m k ≡ Some s → t ≡ without_data es s → t.records ≢ [] → Puts k (Some t) m n → IsSetTo class k (without es (records_at m k)) m n
+set_left class k es s t m n old e is full puts = record {
   set = Some t;
   records = ap (λ (q : SetValue). q.records) is ∙ left_records es s ∙ ap (λ o. without es (records_in o)) (sym e);
-  fits = λ q f. subst (λ x. IsZoneSet class k x) (sym is ∙ injected t q f)
-      (left_fits class k es s (list_any (has_data_of_one es) s.records) (old k s e) (subst (λ (x : SetValue). x.records ≢ []) is full));
+  fits = λ q f. subst (λ x. IsZoneSet class k x) (injected t q f) (set_left_fits class k es s t old is full);
   ttl = λ q f. subst (λ (x : SetValue). (tree.get key_cmp m k ≡ Some x) ⊎ (x.ttl ≡ last_ttl x.records)) (sym is ∙ injected t q f)
       (left_ttl m k es s (list_any (has_data_of_one es) s.records) e);
-  puts = λ q. next.0 q ∙ ap (cond (eq_by_cmp key_cmp k q) (Some t)) (first.0 q) ∙ again (eq_by_cmp key_cmp k q) None (Some t) (tree.get key_cmp m q);
+  puts = puts;
 }
 
 -- where none are left, or were
 pub none_left : (class : DNSClass) (k : RrKey) (es : List (Record RData)) (s t : SetValue) (m n : BTreeMap RrKey SetValue)
-    → tree.get key_cmp m k ≡ Some s → t ≡ without_data es s → t.records ≡ [] → tree.Updates key_cmp m n k None
+    → tree.get key_cmp m k ≡ Some s → t ≡ without_data es s → t.records ≡ [] → Puts k None m n
     → IsSetTo class k (without es (records_at m k)) m n
 none_left class k es s t m n e is none first = record {
   set = None;
   records = sym none ∙ ap (λ (q : SetValue). q.records) is ∙ left_records es s ∙ ap (λ o. without es (records_in o)) (sym e);
   fits = λ q f. absurd cc;
   ttl = λ q f. absurd cc;
-  puts = first.0;
+  puts = first;
 }
 
 pub none_there : (class : DNSClass) (k : RrKey) (es : List (Record RData)) (m n : BTreeMap RrKey SetValue)

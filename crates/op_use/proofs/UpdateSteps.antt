@@ -7,19 +7,19 @@ use Rattle.base.specs.declared.record_type.RecordType.TheVariants as types
 use Rattle.base.specs.declared.rr_key.RrKey.{RrKey}
 use Rattle.base_data.specs.declared.rdata.RData.{RData}
 use Rattle.op_use.proofs.AppliedData.{joined_data, parted_data}
-use Rattle.op_use.proofs.Deletions.{from_without, own, records_left, removed_data, without_one, zone_left}
+use Rattle.op_use.proofs.Deletions.{without_one}
 use Rattle.op_use.proofs.Deleted.{deleted_is}
 use Rattle.op_use.proofs.MapSteps.{moved, same_after, set_after}
 use Rattle.op_use.proofs.MapZones.{data_at, get_zone}
 use Rattle.op_use.proofs.Origins.{from_joined, from_none, from_one, from_parted, none_among}
 use Rattle.op_use.proofs.SpelledSteps.{alias_comes, alias_kept_out, beside_kept_out, guarded_stays, name_goes}
-use Rattle.op_use.proofs.SpelledSteps.{needed_stays, own_at, nothing_changes, other_comes, other_parts, set_goes}
+use Rattle.op_use.proofs.SpelledSteps.{needed_stays, other_comes, other_parts, set_goes}
 use Rattle.op_use.proofs.ZoneSteps.{same_sets}
 use Rattle.op_use.specs.Applying.{IsZoneMap, data_in_set, records_at, records_in, zone_of_map}
 use Rattle.op_use.specs.AppliedRecords.{parted}
-use Rattle.op_use.specs.MapUpdates.{IsAfter, IsSetTo, LeavesOwner, is_deletion}
+use Rattle.op_use.specs.MapUpdates.{IsAfter, IsSetTo, LeavesOwner}
 use Rattle.op_use.specs.NamedChanges.{datum_of, is_key_left}
-use Rattle.op_use.specs.Server.{OfAny, OfNone, OfNothing, OfZone, added, is_any, is_cname, is_needed, removed, update_by, use_of}
+use Rattle.op_use.specs.Server.{OfAny, OfNone, OfZone, added, is_any, is_cname, is_needed, removed, update_by, use_of}
 use Rattle.rr.specs.Record.{record_key, type_of_record}
 use Rattle.op_use.specs.Zone.{Datum, has_set, has_type_at, is_guarded, is_owned, put}
 use Rattle.rr.specs.RecordSet.{SetValue, is_soa}
@@ -33,7 +33,7 @@ use Rattle.std.specs.BTreeMap as tree
 use Rattle.std.specs.BTreeMap.{BTreeMap}
 use Rattle.std.specs.FinMap as fin
 use Rattle.std.specs.FinMap.{FinMap}
-use Rattle.std.specs.List.{AllByRecursion, IsAmong, fold}
+use Rattle.std.specs.List.{IsAmong}
 use Rattle.std.specs.Prelude.{Bool, List, None, Option, Some, [], cond, false, length, nat_le, not, option_map, true, ◌&&◌, ◌||◌, ◌∷◌, ◌≡◌}
 
 -- whether a record stays, by the map's records
@@ -81,17 +81,6 @@ module _ (origin : NameValue) (class : DNSClass) (m n : BTreeMap RrKey SetValue)
       ∙ sym (parted_data r (records_at m (record_key r)))))
       (λ q. other_parts (zone_of_map origin class m) r (records_at m) q u h)
 
-  pub after_deletions : (k : Record RData) (rs : List (Record RData)) → AllByRecursion (λ u. is_deletion (zone_of_map origin class m) k u ≡ true) (r ∷ rs)
-      → IsSetTo class (record_key k) (without (r ∷ rs) (records_at m (record_key k))) m n → IsAfter origin class (r ∷ rs) m n
-  after_deletions k rs h s =
-      set_after origin class (record_key k) (without (r ∷ rs) (records_at m (record_key k))) m n s r rs old
-      (own (zone_of_map origin class m) k r h.0) (from_without (r ∷ rs) (records_at m (record_key k)))
-      (zone_left (zone_of_map origin class m) k r rs h
-      ∙ ap (put (zone_of_map origin class m) (record_key k)) (ap (λ ds. fold removed ds (r ∷ rs)) (data_at origin class m (record_key k))
-      ∙ removed_data (r ∷ rs) (records_at m (record_key k))))
-      (λ q. records_left (zone_of_map origin class m) k (r ∷ rs) q (records_at m q) h
-      ∙ own_at (records_at m) (without (r ∷ rs)) (record_key k) q _ refl)
-
   pub after_guarded : use_of class r.dns_class ≡ OfAny → is_any (type_of_record r) ≡ false → is_guarded (zone_of_map origin class m) r.name (type_of_record r) ≡ true
       → IsAfter origin class (r ∷ []) m m
   after_guarded u c h = same_after origin class m r old (ap (λ how. update_by how (zone_of_map
@@ -104,10 +93,6 @@ module _ (origin : NameValue) (class : DNSClass) (m n : BTreeMap RrKey SetValue)
   after_set u c h s = set_after origin class (record_key r) [] m n s r [] old refl (from_none r (records_at m (record_key r)))
       (ap (λ how. update_by how (zone_of_map origin class m) r) u ∙ deleted_is (zone_of_map origin class m) r ∙ cond-false _ _ _ c ∙ cond-false _ _ _ h)
       (λ q. set_goes (zone_of_map origin class m) r (records_at m) q u c h)
-
-  pub after_nothing : use_of class r.dns_class ≡ OfNothing → IsAfter origin class (r ∷ []) m m
-  after_nothing u = same_after origin class m r old (ap (λ how. update_by how (zone_of_map origin class m) r) u)
-      (λ q. nothing_changes (zone_of_map origin class m) r (records_at m) q u)
 
   -- all sets of a name
   mapped_cond : (b : Bool) (o : Option SetValue) → option_map data_in_set (cond b o None) ≡ cond b (option_map data_in_set o) None

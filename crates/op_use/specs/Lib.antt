@@ -1,6 +1,7 @@
 pub mod AppliedMeaning
 pub mod AppliedRecords
 pub mod Applying
+pub mod ChangingSets
 pub mod DnsResponse
 pub mod HeldZone
 pub mod Kept

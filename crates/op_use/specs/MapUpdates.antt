@@ -9,19 +9,18 @@ use Rattle.op_use.specs.AppliedRecords.{records_after}
 use Rattle.op_use.specs.Applying.{records_at, IsZoneMap, IsZoneSet, TakesFrom, TakesTtls, names_owner, records_in, zone_of_map}
 use Rattle.op_use.specs.HeldZone.{HeldZone}
 use Rattle.op_use.specs.NamedChanges.{is_key_left, set_key}
-use Rattle.op_use.specs.Server.{OfAny, OfNone, OfNothing, OfZone, Use as UseValue, is_same_key, is_under, update, use_of}
-use Rattle.rr.specs.Record.{type_of_record}
-use Rattle.op_use.specs.Zone.{Zone, is_guarded}
+use Rattle.op_use.specs.Server.{OfAny, OfNone, OfNothing, OfZone, Use as UseValue, is_under, update}
+use Rattle.op_use.specs.Zone.{Zone}
 use Rattle.op_use.specs.declared.apply.rules.Use.TheVariants as uses
 use Rattle.op_use.specs.declared.apply.rules.Use.{Use}
-use Rattle.rr.specs.RecordSet.{SetValue, is_soa}
+use Rattle.rr.specs.RecordSet.{SetValue}
 use Rattle.rr.specs.SetUpdates.{last_ttl}
 use Rattle.rr.specs.declared.record.Record.{Record}
 use Rattle.std.specs.BTreeMap as tree
 use Rattle.std.specs.BTreeMap.{BTreeMap}
 use Rattle.std.specs.List.{IsDistinct, fold, list_any}
 use Rattle.std.specs.Ordering.{eq_by_cmp, on}
-use Rattle.std.specs.Prelude.{Bool, List, None, Option, Some, cond, false, not, true, ◌&&◌, ◌≡◌, ◌⊎◌}
+use Rattle.std.specs.Prelude.{Bool, List, None, Option, Some, cond, false, ◌≡◌, ◌⊎◌}
 
 -- whether an update names the set under a key
 abbrev pub names_set : List (Record RData) → RrKey → Bool
@@ -67,16 +66,6 @@ pub record IsTakenSet (of_class : DNSClass) (k : RrKey) (xs : List (Record RData
   pub distinct : IsDistinct (on (λ (r : Record RData). r.rdata) same_data) s.records
   pub records : s.records ≡ xs
 
--- whether a class asks that a record goes
-abbrev pub is_of_none : UseValue → Bool
-is_of_none OfNone = true
-is_of_none _ = false
-
--- whether an update u deletes data of the set of r, which is no SOA and has no name servers of the zone
-abbrev pub is_deletion : Zone → Record RData → Record RData → Bool
-is_deletion z r u = is_of_none (use_of z.class u.dns_class) && is_same_key r u
-    && not (is_soa (type_of_record u)) && not (is_guarded z u.name (type_of_record u))
-
 -- the new zone is the old one after the updates rs
 abbrev pub IsUpdated : List (Record RData) → HeldZone → HeldZone → Type 0
 IsUpdated rs old new = (sets : BTreeMap RrKey SetValue) × (new ≡ record old { sets = sets })
@@ -90,7 +79,12 @@ HoldsAt k xs old new = (sets : BTreeMap RrKey SetValue) × (new ≡ record old {
 -- the new zone is the old one without the set under a key
 abbrev pub Lacks : RrKey → HeldZone → HeldZone → Type 0
 Lacks k old new = (sets : BTreeMap RrKey SetValue) × (new ≡ record old { sets = sets })
-    × tree.Updates key_cmp old.sets sets k None
+    × Puts k None old.sets sets
+
+-- the new zone has this set under a key, and else what the old one has
+abbrev pub Gains : RrKey → SetValue → HeldZone → HeldZone → Type 0
+Gains k s old new = (sets : BTreeMap RrKey SetValue) × (new ≡ record old { sets = sets })
+    × Puts k (Some s) old.sets sets
 
 -- how an update's class reads
 abbrev pub use_value : Use → UseValue

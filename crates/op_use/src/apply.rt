@@ -6,6 +6,7 @@ ghost use Rattle.op_use.specs.Applying.{IsApplied, IsZoneMap};
 ghost use Rattle.op_use.specs.HeldZone.{HeldZone, zone_held};
 ghost use Rattle.op_use.specs.Server.{fault as fault_of, sections_of};
 
+mod changing_zone;
 mod kept;
 pub mod laws;
 mod prerequisites;
@@ -17,6 +18,7 @@ mod zone;
 mod zone_section;
 
 use base::{DNSClass, Name, ProtoError, RrKey};
+use changing_zone::ChangingZone;
 use op::{Message, ResponseCode};
 use rr::RecordSet;
 use std::alloc::{AllocError, Global};
@@ -54,14 +56,16 @@ pub fn apply_update(
         r.1) }
     ensures only { IsOkUnless result ProtoError.Memory }
 {
-    let mut zone = Zone::new(alloc, origin, class, sets.clone()?);
+    let zone = Zone::new(alloc, origin, class, sets.clone()?);
     if !is_supported(message) {
         return Ok((ResponseCode::NotImp, zone.into_sets()));
     }
     if let Some(code) = fault(&zone, message)? {
         return Ok((code, zone.into_sets()));
     }
-    zone.update(&message.authorities)?;
+    let mut changing = ChangingZone::new(zone);
+    changing.update(&message.authorities)?;
+    let mut zone = changing.close()?;
     zone.keep_same(sets, &message.authorities)?;
     Ok((ResponseCode::NoError, zone.into_sets()))
 }

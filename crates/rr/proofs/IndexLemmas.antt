@@ -70,7 +70,7 @@ get_or_any (x ∷ xs) zero (suc p) d e same inside = absurd (omega (arith, same)
 get_or_any (x ∷ xs) (suc i) zero d e same inside = absurd (omega (arith, same))
 get_or_any (x ∷ xs) (suc i) (suc p) d e same inside = get_or_any xs i p d e (omega (arith, same)) (omega arith)
 
-cases_eq : (i p : ℕ) → (i ≡ p) ⊎ (i ≢ p)
+pub cases_eq : (i p : ℕ) → (i ≡ p) ⊎ (i ≢ p)
 cases_eq i p = elim (cases_lt i p) [
   | inl less ↦ inr (λ e. absurd (omega (arith, e, less)))
   | inr not_less ↦ elim (cases_lt p i) [

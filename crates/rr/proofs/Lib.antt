@@ -2,6 +2,7 @@ pub mod AddsRecord
 pub mod EqualRecords
 pub mod IndexLemmas
 pub mod OrderRecords
+pub mod PlacedLemmas
 pub mod ReadRecords
 pub mod ReadSteps
 pub mod RecordFaults

@@ -1,4 +1,5 @@
 pub mod DataIndex
+pub mod PlacedRecords
 pub mod Record
 pub mod RecordOrder
 pub mod RecordOrderLaws

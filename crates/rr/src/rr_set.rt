@@ -15,13 +15,17 @@ ghost use Rattle.std.specs.Vec.Iter.{into_iter_items, into_iter_len, into_iter_s
 ghost use Rattle.base.specs.declared.error.proto_error.ProtoError.TheVariants as refusals;
 
 mod changes;
+mod changing_set;
+mod data_key;
 mod indexed_records;
 pub mod laws;
+mod placed_records;
 mod scanning;
 
 use crate::record::Record;
 use crate::rr_set::indexed_records::IndexedRecords;
 use base::{DNSClass, Name, ProtoError, RecordType};
+pub use changing_set::ChangingSet;
 use std::alloc::{AllocError, Global};
 use std::marker::Model;
 use std::{slice, vec};

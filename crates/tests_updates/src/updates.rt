@@ -1,5 +1,6 @@
 //! Updates, as the builders make them, and the questions for transfers: their bytes, and that they are read again.
 
+mod alternating;
 mod applied;
 pub(super) mod builders;
 mod sections;

@@ -198,7 +198,7 @@ fn is_listed(
 }
 
 /// Whether two records are of one set: of one type, and of one owner, which takes longest to tell.
-pub(crate) fn is_same_set(a: &Record, b: &Record) -> bool
+fn is_same_set(a: &Record, b: &Record) -> bool
     ensures { result ≡ is_same_key a.now b.now }
 {
     a.record_type() == b.record_type() && a.name == b.name

@@ -1,21 +1,20 @@
 //! The record sets of a zone, each under its key.
 
 ghost use Rattle.base.specs.NameOrder.{same_name};
-ghost use Rattle.base.specs.RrKey.{key_cmp, key_of as the_key};
+ghost use Rattle.base.specs.RrKey.{key_of as the_key};
 ghost use Rattle.base.specs.declared.rr_key.RrKey.{RrKey as Key};
-ghost use Rattle.op_use.specs.Applying.{IsZoneMap, records_at};
+ghost use Rattle.op_use.specs.Applying.{IsZoneMap, IsZoneSet, records_at};
 ghost use Rattle.op_use.specs.HeldZone.{HeldZone};
-ghost use Rattle.op_use.specs.MapUpdates.{HoldsAt, IsTakenSet, Lacks};
+ghost use Rattle.op_use.specs.MapUpdates.{Gains, HoldsAt, IsTakenSet, Lacks};
 ghost use Rattle.op_use.specs.Server.{is_cname as is_cname_type};
 ghost use Rattle.rr.specs.Record.{record_key, type_of_record};
 ghost use Rattle.op_use.specs.Zone.{is_owned};
 ghost use Rattle.rr.specs.RecordSet.{is_ns, is_soa};
 ghost use Rattle.rr.specs.SetChanges.{joined};
 ghost use Rattle.rr.specs.SetUpdates.{last_ttl, without};
-ghost use Rattle.std.specs.BTreeMap.{get, keys};
+ghost use Rattle.std.specs.BTreeMap.{keys};
 ghost use Rattle.std.specs.List.{filter, list_any};
-ghost use Rattle.std.specs.Ordering.{eq_by_cmp};
-ghost use Rattle.std.specs.Prelude.{IfOk, None, OnOk, [], cond, length, not, ◌&&◌, ◌||◌, ◌∷◌, ◌≡◌};
+ghost use Rattle.std.specs.Prelude.{IfOk, OnOk, [], length, not, ◌&&◌, ◌||◌, ◌∷◌, ◌≡◌};
 
 use crate::apply::rules::{is_cname, is_guarded};
 use base::{DNSClass, LowerName, Name, RecordType, RrKey};
@@ -70,6 +69,22 @@ impl<'a> Zone<'a> {
         ensures { result ≡ self.entry.sets }
     {
         self.sets
+    }
+
+    /// Takes the set under a key out.
+    pub(crate) fn remove(&mut self, key: &RrKey)
+        ensures { Lacks key.now self.old self.new }
+    {
+        self.sets.remove(key);
+    }
+
+    /// Puts a set under its key, in the place of the one that is there.
+    pub(crate) fn replace(&mut self, key: RrKey, set: RecordSet) -> Result<(), AllocError>
+        requires { IsZoneSet self.old.class key set }
+        ensures { OnOk result (Gains key set self.old self.new) }
+    {
+        self.sets.insert(key, set)?;
+        Ok(())
     }
 
     /// How many records are under a key.
@@ -240,15 +255,4 @@ pub(crate) fn unguarded_keys(
         found.push(copy)?;
     }
     Ok(found)
-}
-
-/// Takes the sets under these keys out.
-pub(crate) fn take_keys(sets: &mut BTreeMap<RrKey, RecordSet>, taken: &[RrKey])
-    ensures { (q : Key) → get key_cmp sets.new q
-        ≡ cond (list_any (λ (k : Key). eq_by_cmp key_cmp k q) taken.now) None
-        (get key_cmp sets.old q) }
-{
-    for key in taken {
-        sets.remove(key);
-    }
 }

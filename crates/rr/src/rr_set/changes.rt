@@ -260,7 +260,7 @@ impl RecordSet {
     }
 
     /// Takes over the TTL of the last record, 0 without records.
-    fn take_last_ttl(&mut self)
+    pub(super) fn take_last_ttl(&mut self)
         ensures { self.new ≡ with_records self.old self.old.records }
     {
         self.ttl = match self.records.as_slice().last() {

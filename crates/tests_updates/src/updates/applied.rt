@@ -14,7 +14,7 @@ use test_tools::bytes::decode;
 use txt::Parser;
 
 /// The answer to an update in parts, and the sets of the text's zone after it.
-fn apply(
+pub(super) fn apply(
     alloc: Global,
     text: &str,
     update: &[&str],

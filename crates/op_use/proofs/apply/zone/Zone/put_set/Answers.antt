@@ -16,7 +16,7 @@ returns-then-is_empty c =
     let none : c.args.set.records ≡ [] = c.is_empty.ensures.0 c.if-is_empty.true in
     subst (λ (z : HeldZone). HoldsAt c.args.key c.args.set.records z (record { origin = c.self.inside.origin.now; class = c.self.inside.class; sets = c.remove.new.self })) c.self.view_is
     (moved_held c.args.key c.args.key [] c.args.set.records (record { origin = c.self.inside.origin.now; class = c.self.inside.class; sets = c.self.inside.sets }) _ refl (sym none)
-    (c.remove.new.self, refl, removed_set c.self.inside.class c.args.key c.self.inside.sets c.remove.new.self c.remove.ensures.updates))
+    (c.remove.new.self, refl, removed_set c.self.inside.class c.args.key c.self.inside.sets c.remove.new.self c.remove.ensures.updates.0))
 
 pub invariant_of-self-in_err-insert : goal.invariant_of-self-in_err-insert
 invariant_of-self-in_err-insert c =

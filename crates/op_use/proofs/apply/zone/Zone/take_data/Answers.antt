@@ -1,5 +1,5 @@
 use Rattle.op_use.proofs.HeldSteps.{removed_map}
-use Rattle.op_use.proofs.MapSteps.{kept_after}
+use Rattle.op_use.proofs.MapSteps.{kept_after, puts_again}
 use Rattle.op_use.proofs.TakenSets.{none_left, none_there, set_left}
 use Rattle.op_use.proofs.WholeSteps.{map_copy}
 use Rattle.op_use.proofs.apply.zone.Zone.take_data.Goals as goal
@@ -7,7 +7,7 @@ use Rattle.op_use.specs.Applying.{records_at}
 use Rattle.op_use.specs.HeldZone.{HeldZone}
 use Rattle.op_use.specs.MapUpdates.{HoldsAt}
 use Rattle.rr.specs.SetUpdates.{without}
-use Rattle.std.proofs.Common.{refl, subst, sym, ◌∙◌}
+use Rattle.std.proofs.Common.{None, Some, refl, subst, sym, ◌∙◌}
 use Rattle.std.proofs.lemmas.Bool.{true≢false}
 
 pub invariant_of-self : goal.invariant_of-self
@@ -48,14 +48,15 @@ returns-then-is_empty c =
       c.remove.new.self,
       refl,
       none_left c.self.inside.class c.args.key c.args.entries.now c.in-Some.set c.take_data.new.self c.self.inside.sets c.remove.new.self (sym c.in-Some.ensures.value)
-          c.in-Ok.ensures.ok (c.is_empty.ensures.0 c.if-is_empty.true) c.remove.ensures.updates,
+          c.in-Ok.ensures.ok (c.is_empty.ensures.0 c.if-is_empty.true) c.remove.ensures.updates.0,
     )
 
 pub invariant_of-self-2 : goal.invariant_of-self-2
 invariant_of-self-2 c =
     kept_after c.self.inside.origin.now c.self.inside.class c.args.key (without c.args.entries.now (records_at c.self.inside.sets c.args.key)) c.self.inside.sets c.insert.new.self
-    (set_left c.self.inside.class c.args.key c.args.entries.now c.in-Some.set c.take_data.new.self c.self.inside.sets c.remove.new.self c.insert.new.self c.self.invariant
-    (sym c.in-Some.ensures.value) c.in-Ok.ensures.ok (λ e. true≢false (sym (c.is_empty.ensures.1 e) ∙ c.if-is_empty.false)) c.remove.ensures.updates c.in_ok-insert.ensures.updates)
+    (set_left c.self.inside.class c.args.key c.args.entries.now c.in-Some.set c.take_data.new.self c.self.inside.sets c.insert.new.self (c.self.invariant c.args.key c.in-Some.set (sym c.in-Some.ensures.value))
+    (sym c.in-Some.ensures.value) c.in-Ok.ensures.ok (λ e. true≢false (sym (c.is_empty.ensures.1 e) ∙ c.if-is_empty.false))
+    (puts_again c.args.key None (Some c.take_data.new.self) c.self.inside.sets c.remove.new.self c.insert.new.self c.remove.ensures.updates.0 c.in_ok-insert.ensures.updates.0))
     c.self.invariant
 
 pub returns : goal.returns
@@ -68,6 +69,7 @@ returns c =
     })) c.self.view_is (
       c.insert.new.self,
       refl,
-      set_left c.self.inside.class c.args.key c.args.entries.now c.in-Some.set c.take_data.new.self c.self.inside.sets c.remove.new.self c.insert.new.self c.self.invariant
-          (sym c.in-Some.ensures.value) c.in-Ok.ensures.ok (λ e. true≢false (sym (c.is_empty.ensures.1 e) ∙ c.if-is_empty.false)) c.remove.ensures.updates c.in_ok-insert.ensures.updates,
+      set_left c.self.inside.class c.args.key c.args.entries.now c.in-Some.set c.take_data.new.self c.self.inside.sets c.insert.new.self (c.self.invariant c.args.key c.in-Some.set (sym c.in-Some.ensures.value))
+          (sym c.in-Some.ensures.value) c.in-Ok.ensures.ok (λ e. true≢false (sym (c.is_empty.ensures.1 e) ∙ c.if-is_empty.false))
+          (puts_again c.args.key None (Some c.take_data.new.self) c.self.inside.sets c.remove.new.self c.insert.new.self c.remove.ensures.updates.0 c.in_ok-insert.ensures.updates.0),
     )

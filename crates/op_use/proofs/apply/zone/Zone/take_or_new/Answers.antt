@@ -20,7 +20,7 @@ returns-in-Some-clause-set c =
 pub returns-in-Some-clause-left : goal.returns-in-Some-clause-left
 returns-in-Some-clause-left c =
     subst (λ (z : HeldZone). Lacks c.args.key.now z (record { origin = c.self.inside.origin.now; class = c.self.inside.class; sets = c.remove.new.self })) c.self.view_is
-    (c.remove.new.self, refl, c.remove.ensures.updates)
+    (c.remove.new.self, refl, c.remove.ensures.updates.0)
 
 pub returns-in_ok-set-in-None-clause-set : goal.returns-in_ok-set-in-None-clause-set
 returns-in_ok-set-in-None-clause-set c =
@@ -30,4 +30,4 @@ returns-in_ok-set-in-None-clause-set c =
 pub returns-in_ok-set-in-None-clause-left : goal.returns-in_ok-set-in-None-clause-left
 returns-in_ok-set-in-None-clause-left c =
     subst (λ (z : HeldZone). Lacks c.args.key.now z (record { origin = c.self.inside.origin.now; class = c.self.inside.class; sets = c.remove.new.self })) c.self.view_is
-    (c.remove.new.self, refl, c.remove.ensures.updates)
+    (c.remove.new.self, refl, c.remove.ensures.updates.0)

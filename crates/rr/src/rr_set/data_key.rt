@@ -1,0 +1,73 @@
+//! Data as the key of a map.
+
+ghost use Rattle.base_data.proofs.Comparing.{data_cmp-total};
+ghost use Rattle.base_data.specs.DataOrder.{data_cmp};
+ghost use Rattle.base_data.specs.declared.rdata.RData.{RData};
+ghost use Rattle.std.specs.Cmp.{eq_by_cmp_equiv, partial_equiv_from_equiv, partial_order_from_agreeing_total};
+ghost use Rattle.std.specs.Ordering.{as_partial_cmp, eq_by_cmp};
+ghost use Rattle.std.specs.Prelude.{refl, ◌≡◌};
+
+use base_data::RData;
+use std::cmp::Ordering;
+use std::marker::Model;
+
+/// Data in the order of data.
+#[derive(Drop)]
+pub(super) struct DataKey {
+    rdata: RData,
+}
+
+impl Model for DataKey {
+    ghost use Rattle.base_data.specs.declared.rdata.RData.{RData};
+
+    ghost Value = { RData };
+
+    ghost view = { λ k. k.rdata };
+}
+
+impl DataKey {
+    /// The key of this data.
+    pub(super) fn new(rdata: RData) -> DataKey
+        ensures { result ≡ rdata }
+    {
+        DataKey { rdata }
+    }
+}
+
+impl PartialEq for DataKey {
+    ghost eq = { eq_by_cmp data_cmp };
+
+    ghost laws = { partial_equiv_from_equiv (eq_by_cmp_equiv data_cmp-total) };
+
+    fn eq(&self, other: &DataKey) -> bool {
+        self.rdata.canonical_cmp(&other.rdata) == Ordering::Equal
+    }
+}
+
+impl Eq for DataKey {
+    ghost laws = { eq_by_cmp_equiv data_cmp-total };
+}
+
+impl Ord for DataKey {
+    ghost cmp = { data_cmp };
+
+    ghost total = { data_cmp-total };
+
+    ghost matches_partial_cmp = { λ _ _. refl };
+
+    ghost matches_eq = { λ _ _. refl };
+
+    fn cmp(&self, other: &DataKey) -> Ordering {
+        self.rdata.canonical_cmp(&other.rdata)
+    }
+}
+
+impl PartialOrd for DataKey {
+    ghost partial_cmp = { as_partial_cmp data_cmp };
+
+    ghost laws = { partial_order_from_agreeing_total data_cmp data_cmp-total (λ _ _. refl) (λ _ _. refl) };
+
+    fn partial_cmp(&self, other: &DataKey) -> Option<Ordering> {
+        Some(self.cmp(other))
+    }
+}
