@@ -5,9 +5,9 @@ use Rattle.std.specs.Prelude.{All}
 use Rattle.std.proofs.lemmas.List.{append-nil, drop-append-le, drop-drop, drop_all, get_or-drop}
 use Rattle.std.specs.FinSet as set
 use Rattle.std.specs.List.{slice_range}
-use Rattle.base.specs.Pointers.{AreWholeLabels, IsKept, IsLast, IsName, no_label, one_more, part}
+use Rattle.base.specs.Pointers.{IsKept, IsLast, PassesThese, part}
 use Rattle.base.specs.Labels.{IsWire, labels_of}
-use Rattle.base.specs.Names.{NamePart, label_of, part_at, pointer_to, zero_byte}
+use Rattle.base.specs.Names.{NamePart, label_of, labels_at, part_at, pointer_to, zero_byte}
 use Rattle.base.specs.declared.name.followed.FollowedPointer.{FollowedPointer}
 use Rattle.base.specs.Spelling.{ByteAt, anywhere}
 use Rattle.base.specs.Passing.{IsClosed}
@@ -30,6 +30,13 @@ own r used = take used (drop r.index r.bytes)
 pub record Walked (r : Reader) (used : ℕ) : Type 0 where
   pub gathers : Gathers r.bytes r.index 0 r.index (r.index + used) used (own r used) None
   pub leads : Leads r.bytes r.index [] r.index (r.index + used)
+
+-- What was found is the name at the place.
+pub record IsName (r : Reader) (labels : List ℕ) (after : ℕ) : Type 0 where
+  pub read : labels_at r.bytes r.index r.index 0 ≡ Ok (labels_of labels, after)
+  pub wire : IsWire labels
+  pub end : after ≤ length r.bytes
+  pub these : PassesThese r.bytes r.kept r.index []
 
 pub walked_none : (r : Reader) → r.index ≤ length r.bytes → Walked r 0
 walked_none r inside = record {
@@ -72,11 +79,6 @@ module _ {r : Reader} {used : ℕ} (walked : Walked r used) where
     end = kept_end walked.gathers is below kept;
     these = Leads-kept walked.leads r.kept is has closed;
   }
-
--- the same of labels that were counted one by one
-pub walked_of : {r : Reader} {used : ℕ} → r.index ≤ length r.bytes → AreWholeLabels r.bytes r.index used → Walked r used
-walked_of {r} inside no_label = walked_none r inside
-walked_of inside (one_more used n size are is size_is short) = walked_label (walked_of inside are) n size is size_is short
 
 -- ---- what stands at a place of a piece stands in the buffer
 

@@ -1,21 +1,19 @@
 -- The labels that are kept at the offsets that compression pointers led to.
 use Rattle.base.specs.declared.limits.TheConstants.{MAX_LABELS, POINTER_LIMIT}
-use Rattle.std.specs.Prelude.{◌≡◌, ◌≢◌, ℕ, zero, suc, false, true, ◌+◌, ◌-◌, ◌^◌, ◌<◌, ◌≤◌, ◌==◌, List, [], ◌∷◌, ◌++◌, All, Option, Some, None, if◌then◌else◌, drop, get_or, length, map, option_map, take, Ok}
+use Rattle.std.specs.Prelude.{◌≡◌, ◌≢◌, ℕ, zero, suc, true, ◌+◌, ◌-◌, ◌^◌, ◌<◌, ◌≤◌, ◌==◌, List, [], ◌∷◌, ◌++◌, All, Option, Some, None, if◌then◌else◌, drop, get_or, length, map, option_map}
 use Rattle.std.specs.Borrow.{Bor}
 use Rattle.std.specs.FinMap as labels_by
 use Rattle.std.specs.FinSet as set
 use Rattle.std.specs.List.{slice_range}
 use Rattle.std.specs.Ordering.{nat_cmp}
 use Rattle.base.specs.declared.name.followed.FollowedPointer.{FollowedPointer}
-use Rattle.base.specs.declared.name.reading.InPlace.{InPlace}
-use Rattle.base.specs.declared.name.reading.InPlace.TheVariants as pieces
 use Rattle.base.specs.declared.name.reading.Part.{Part}
 use Rattle.base.specs.declared.name.reading.Part.TheVariants.{Root, Label, Pointer}
 use Rattle.base.specs.declared.wire.pointer_cache.TargetLabels.{TargetLabels}
 use Rattle.base.specs.declared.wire.pointer_cache.TargetLabels.TheVariants.{Lent, Copied}
 use Rattle.base.specs.declared.wire.pointer_cache.Target.{Target}
 use Rattle.base.specs.Labels.{IsWire, labels_of}
-use Rattle.base.specs.Names.{NamePart, zero_byte, label_of, labels_at, part_at, pointer_to}
+use Rattle.base.specs.Names.{NamePart, zero_byte, label_of, pointer_to}
 use Rattle.base.specs.Passing.{AreIn, PassesKept, is_among, inserted, passed}
 use Rattle.base.specs.Reader.{Reader}
 use Rattle.base.specs.Spelling.{Spelled}
@@ -129,37 +127,6 @@ abbrev pub PassesThese : List ℕ → set.FinSet nat_cmp → ℕ → List ℕ �
 PassesThese bytes kept t ts = (xs : List (List ℕ)) (e : ℕ) (h : Spelled bytes xs t t e)
     → AreIn (inserted ts kept) (passed h)
     × ((q : ℕ) → is_among ts q ≡ true → is_among (passed h) q ≡ true)
-
--- ---- a name as far as it stands in its own piece
-
--- so many bytes from i on are whole labels of a name
-pub data AreWholeLabels (bytes : List ℕ) (i : ℕ) : ℕ → Type 0 where
-  no_label : AreWholeLabels bytes i 0
-  one_more : (used n size : ℕ) → AreWholeLabels bytes i used
-      → part_at bytes (i + used) ≡ Ok (label_of n) → size ≡ 1 + n → used + size + 1 ≤ 255
-      → AreWholeLabels bytes i (used + size)
-
--- After so many bytes of its own labels the name at the place has a pointer to t, which isn't kept.
-pub record LeavesPointer (r : Reader) (used t : ℕ) : Type 0 where
-  pub labels : AreWholeLabels r.bytes r.index used
-  pub pointer : part_at r.bytes (r.index + used) ≡ Ok (pointer_to t)
-  pub below : t < r.index
-  pub near : t < POINTER_LIMIT
-  pub absent : set.contains r.kept t ≡ false
-  pub all_near : (q : ℕ) → set.contains r.kept q ≡ true → q < POINTER_LIMIT
-
--- These are the labels of the name at the place, and it passes kept offsets alone.
-pub record IsName (r : Reader) (labels : List ℕ) (after : ℕ) : Type 0 where
-  pub read : labels_at r.bytes r.index r.index 0 ≡ Ok (labels_of labels, after)
-  pub wire : IsWire labels
-  pub end : after ≤ length r.bytes
-  pub these : PassesThese r.bytes r.kept r.index []
-
--- what was found of the name at the place: all of it, or its own labels before a pointer
-abbrev pub IsInPlace : Reader → InPlace → Type 0
-IsInPlace r (pieces.Whole own used kept end) =
-    (used ≤ length own.now) × IsName r (take used own.now ++ kept.now) end
-IsInPlace r (pieces.Pointer used t) = LeavesPointer r used t
 
 -- Pointers to these offsets were followed, none of them twice and none that was kept, and nothing is kept yet.
 pub record Followed (ts : List ℕ) (old new : Reader) : Type 0 where

@@ -6,7 +6,7 @@ ghost use Rattle.std.specs.FinSet as set;
 ghost use Rattle.base.specs.Counts.{Counts, Passes};
 ghost use Rattle.base.specs.Labels.{IsWire, labels_of};
 ghost use Rattle.base.specs.Names.{part_at, pointer_to, labels_at, name_at};
-ghost use Rattle.base.specs.Pointers.{AreSpelled, Followed, IsInPlace, IsLast, LeavesPointer, PassLater, PassesThese, part, targets};
+ghost use Rattle.base.specs.Pointers.{AreSpelled, Followed, IsLast, PassLater, PassesThese, part, targets};
 ghost use Rattle.base.specs.Passing.{AddsPassed, inserted, passed};
 ghost use Rattle.base.specs.Reading.{Fails, Reads};
 ghost use Rattle.base.specs.Spelling.{Spelled};
@@ -90,17 +90,13 @@ struct Gathered<'a> {
     last: Option<&'a [u8]>,
 }
 
-/// Gathers the labels of the name at the decoder's place in `room`, and the pointers that were followed: its own labels
-/// take `own` bytes, and after them stands a pointer to `target`, which isn't kept.
+/// Gathers the labels of the name at the decoder's place in `room`, and the pointers that were followed.
 fn gather_labels<'a>(
     decoder: &mut BinDecoder<'a>,
-    own: usize,
-    target: u16,
     room: &mut [u8; MAX_LABELS],
     followed: &mut FollowedPointers,
 ) -> Result<Gathered<'a>, DecodeError>
     requires none { followed.old ≡ [] }
-    requires pointer { LeavesPointer decoder.old own target }
     ensures read { MatchResult result
         (λ r. labels_at decoder.old.bytes decoder.old.index decoder.old.index 0
         ≡ Ok (labels_of (take r.used room.new), r.end))
@@ -124,20 +120,18 @@ fn gather_labels<'a>(
     // From each target only kept offsets are passed, and those that were followed after it.
     ensures later { IfOk result (λ r. PassLater decoder.old.bytes decoder.old.kept followed.new) }
 {
-    let end = decoder.index() + own + 2;
-    let front = decoder.rest();
-    room[..own].copy_from_slice(&front[..own]);
-    followed.push(FollowedPointer { target, from: own })?;
-    let mut piece = decoder.follow(target);
-    let mut start = usize::from(target);
+    let first = decoder.index();
+    let mut piece = decoder.rest();
+    let mut start = first;
     let mut at = 0;
-    let mut used = own;
+    let mut used = 0;
+    let mut end = None;
     'parts: loop {
         match read_part(piece, at)? {
             Part::Root => {
                 return Ok(Gathered {
                     used,
-                    end,
+                    end: end.unwrap_or(start + at + 1),
                     last: Some(&piece[..at]),
                 });
             }
@@ -154,6 +148,7 @@ fn gather_labels<'a>(
                 if usize::from(target) >= start {
                     return Err(DecodeError::BadName);
                 }
+                let after = end.unwrap_or(start + at + 2);
                 if let Some(labels) = decoder.labels_at(target) {
                     if used + labels.len() + 1 > MAX_NAME {
                         return Err(DecodeError::BadName);
@@ -161,12 +156,13 @@ fn gather_labels<'a>(
                     room[used..used + labels.len()].copy_from_slice(labels);
                     return Ok(Gathered {
                         used: used + labels.len(),
-                        end,
+                        end: after,
                         last: None,
                     });
                 }
                 followed.push(FollowedPointer { target, from: used })?;
                 piece = decoder.follow(target);
+                end = Some(after);
                 start = usize::from(target);
                 at = 0;
             }
@@ -206,66 +202,63 @@ fn keep_targets<'a>(
     Ok(())
 }
 
-/// A name as far as it stands in its own piece.
+/// The labels of a name for which no pointer is followed: its own, and after them those that its pointer leads to,
+/// where it has one and they are kept.
 #[derive(Drop)]
-enum InPlace<'d> {
-    /// All of it: its own labels, and after them those that its pointer leads to, where it has one.
-    Whole {
-        /// Bytes that begin with its own labels, each with its length before it.
-        own: &'d [u8],
-        /// How many bytes its own labels are.
-        used: usize,
-        /// The labels that are kept for its pointer, none where it has no pointer.
-        kept: &'d [u8],
-        /// The place after the name.
-        end: usize,
-    },
-    /// So many bytes of labels, and a pointer to a target that isn't kept.
-    Pointer {
-        used: usize,
-        target: u16,
-    },
+struct InPlace<'d> {
+    /// Bytes that begin with its own labels, each with its length before it.
+    own: &'d [u8],
+    /// How many bytes its own labels are.
+    used: usize,
+    /// The kept labels, none where it has no pointer.
+    kept: &'d [u8],
+    /// The place after the name.
+    end: usize,
 }
 
-/// The name at the decoder's place as far as no pointer need be followed for it: most names have none, or one to a kept
+/// The name at the decoder's place, if no pointer need be followed for it: most names have none, or one to a kept
 /// target.
-fn read_in_place<'d>(decoder: &'d BinDecoder<'_>) -> Result<InPlace<'d>, DecodeError>
-    ensures found { MatchResult result (IsInPlace decoder.now)
-        (λ e. labels_at decoder.now.bytes decoder.now.index decoder.now.index 0 ≡ Err e) }
-    // No more targets of pointers are kept than a pointer can lead to.
-    ensures few { set.len decoder.now.kept ≤ POINTER_LIMIT }
+fn read_in_place<'d>(decoder: &'d BinDecoder<'_>) -> Option<InPlace<'d>>
+    ensures own { IfSome result (λ p. p.used ≤ length p.own.now) }
+    ensures read { IfSome result
+        (λ p. labels_at decoder.now.bytes decoder.now.index decoder.now.index 0
+        ≡ Ok (labels_of (take p.used p.own.now ++ p.kept.now), p.end)) }
+    ensures wire { IfSome result (λ p. IsWire (take p.used p.own.now ++ p.kept.now)) }
+    ensures end { IfSome result (λ p. p.end ≤ length decoder.now.bytes) }
+    // The name passes kept offsets alone.
+    ensures these { IfSome result
+        (λ _. PassesThese decoder.now.bytes decoder.now.kept decoder.now.index []) }
 {
     let first = decoder.index();
     let own = decoder.rest();
     let mut used = 0;
     'labels: loop {
-        match read_part(own, used)? {
-            Part::Root => {
-                return Ok(InPlace::Whole {
+        match read_part(own, used) {
+            Err(_) => return None,
+            Ok(Part::Root) => {
+                return Some(InPlace {
                     own,
                     used,
                     kept: &own[..0],
                     end: first + used + 1,
                 });
             }
-            Part::Label(len) => {
+            Ok(Part::Label(len)) => {
                 let size = 1 + usize::from(len);
                 if used + size + 1 > MAX_NAME {
-                    return Err(DecodeError::BadName);
+                    return None;
                 }
                 used += size;
             }
-            Part::Pointer(target) => {
+            Ok(Part::Pointer(target)) => {
                 if usize::from(target) >= first {
-                    return Err(DecodeError::BadName);
+                    return None;
                 }
-                let Some(kept) = decoder.labels_at(target) else {
-                    return Ok(InPlace::Pointer { used, target });
-                };
+                let kept = decoder.labels_at(target)?;
                 if used + kept.len() + 1 > MAX_NAME {
-                    return Err(DecodeError::BadName);
+                    return None;
                 }
-                return Ok(InPlace::Whole {
+                return Some(InPlace {
                     own,
                     used,
                     kept,
@@ -309,28 +302,22 @@ impl BinDecodable for Name {
         ensures adds { IfOk result
             (λ _. AddsPassed (decoder.old.index ∷ []) decoder.old decoder.new) }
     {
-        let (own, target) = match read_in_place(decoder)? {
-            InPlace::Whole {
+        if let Some(
+            InPlace {
                 own,
                 used,
                 kept,
                 end,
-            } => {
-                let labels = Labels::from_front_and(decoder.allocator(), own, used, kept, true)?;
-                decoder.move_to(end);
-                return Ok(Name { labels });
-            }
-            InPlace::Pointer { used, target } => (used, target),
-        };
+            },
+        ) = read_in_place(decoder)
+        {
+            let labels = Labels::from_front_and(decoder.allocator(), own, used, kept, true)?;
+            decoder.move_to(end);
+            return Ok(Name { labels });
+        }
         let mut room = [0; MAX_LABELS];
         let mut followed = FollowedPointers::new(decoder.allocator());
-        let Gathered { used, end, last } = gather_labels(
-            decoder,
-            own,
-            target,
-            &mut room,
-            &mut followed,
-        )?;
+        let Gathered { used, end, last } = gather_labels(decoder, &mut room, &mut followed)?;
         let labels = Labels::from_front(decoder.allocator(), &room, used, true)?;
         keep_targets(decoder, &room[..used], &followed, last)?;
         decoder.move_to(end);

@@ -1,12 +1,12 @@
-use Rattle.std.proofs.Common.{◌≡◌, ℕ, ◌+◌, ◌-◌, ◌<◌, ◌≤◌, true, false, Some, List, [], ◌∷◌, ◌++◌, length, take, drop, Ok, Err, ap, sym, subst, ◌∙◌, arith, length-drop, length-take}
-use Rattle.std.proofs.Math.Seq.{take-add, take-append_seam}
+use Rattle.std.proofs.Common.{◌≡◌, ℕ, ◌+◌, ◌-◌, ◌<◌, ◌≤◌, true, false, Some, None, List, [], ◌∷◌, ◌++◌, length, take, drop, Ok, Err, ap, sym, subst, ◌∙◌, arith, length-drop, length-take}
+use Rattle.std.proofs.Math.Seq.{take-add}
 use Rattle.std.specs.Prelude.{All}
 use Rattle.std.specs.List.{slice_range}
 use Rattle.std.proofs.lemmas.Result.{err_from_is_err_and}
 use borrow.Rule.Slice.PartMut.{put_mid}
 use Rattle.std.proofs.lemmas.Slice.{take-put_mid}
 use Rattle.base.specs.declared.name.followed.FollowedPointer.{FollowedPointer}
-use Rattle.base.specs.Pointers.{Followed, IsKept, IsLast, LeavesPointer, targets}
+use Rattle.base.specs.Pointers.{IsKept, IsLast, targets}
 use Rattle.base.specs.Labels.{IsWire, labels_of}
 use Rattle.base.specs.Reader.{Reader}
 use Rattle.base.proofs.CountLemmas.{Follows, Follows-none, Follows-push}
@@ -17,83 +17,31 @@ use Rattle.base.specs.Passing.{IsClosed}
 use Rattle.std.proofs.lemmas.List.{map_push}
 use Rattle.std.proofs.lemmas.List.Elements.{All-nil, All-same, All-weaker, All-push}
 use Rattle.base.proofs.TailLemmas.{Tail, Ends, Tail-new, Tail-label, Tail-pointer, Tail-root, Tail-kept}
-use Rattle.base.proofs.PassLemmas.{Lead, Lead-kept, Lead-label, Lead-pointer, Lead-root, Leads, Leads-kept, Leads-label, Leads-pointer, Leads-root}
-use Rattle.base.proofs.GatherLemmas.{Gathers, at_fault, at_long, at_forward, at_root, root_inside, label_fits, gathers_label, gathers_pointer, fails_is, at_kept, at_kept_long, kept_end, IsWire-append}
-use Rattle.base.proofs.PieceLemmas.{Walked, found, last_more, last_pushed, part_is_there, range_is_there, walked_of}
+use Rattle.base.proofs.PassLemmas.{Lead, Lead-kept, Lead-label, Lead-pointer, Lead-root, Leads, Leads-kept, Leads-label, Leads-none, Leads-pointer, Leads-root}
+use Rattle.base.proofs.GatherLemmas.{Gathers, gathers_none, at_fault, at_long, at_forward, at_root, root_inside, label_fits, gathers_label, gathers_pointer, fails_is, at_kept, at_kept_long, kept_end, IsWire-append}
+use Rattle.base.proofs.PieceLemmas.{found, last_more, last_pushed, part_is_there, range_is_there}
 use Rattle.base.proofs.name.reading.gather_labels.Goals as goal
-
--- after an error no pointer was followed
-none_followed : (r : Reader) (ps : List FollowedPointer) → ps ≡ [] → Followed (targets ps) r r
-none_followed r ps none =
-    let f = Follows-none 0 r in
-    subst (λ (qs : List FollowedPointer). Followed (targets qs) r r) (sym none) (record { now = f.now; jumps = f.jumps; all = f.all; few = f.few })
-
-pub returns-in_err-push-clause-followed : goal.returns-in_err-push-clause-followed
-returns-in_err-push-clause-followed c = none_followed _ _ (c.in_err-push.ensures.err ∙ c.requires.none)
-
--- ---- the labels before the first pointer
-
-module _ (r : Reader) (count t first : ℕ) (front : List ℕ) (front_is : front ≡ drop r.index r.bytes) (here : first ≡ r.index) (low : first ≤ length r.bytes) (p : LeavesPointer r count t) where
-  walked : Walked r count
-  walked = walked_of (omega (arith, here)) p.labels
-
-  enough : count ≤ length front
-  enough = omega (arith, walked.gathers.inside, ap length front_is, length-drop r.index r.bytes)
-
-  front_len : length (take count front) ≡ count
-  front_len = omega (arith, length-take count front, enough)
-
-pub slice_bounds-copy_from_slice-end-3 : goal.slice_bounds-copy_from_slice-end-3
-slice_bounds-copy_from_slice-end-3 c =
-    sym (front_len c.args.decoder.now c.args.own c.args.target _ c.rest-front.result.now c.rest-front.ensures c.index.ensures.value c.index.ensures.inside c.requires.pointer)
-
-pub copy_from_slice-requires : goal.copy_from_slice-requires
-copy_from_slice-requires c =
-    let len = front_len c.args.decoder.now c.args.own c.args.target _ c.rest-front.result.now c.rest-front.ensures c.index.ensures.value c.index.ensures.inside c.requires.pointer in
-    let few = (walked c.args.decoder.now c.args.own c.args.target _ c.rest-front.result.now c.rest-front.ensures c.index.ensures.value c.index.ensures.inside c.requires.pointer).gathers.few in
-    omega (arith, len, few, c.told-room, length-take c.args.own c.args.room.now)
 
 pub parts-init : goal.parts-init
 parts-init c =
     let old = c.args.decoder.now in
-    let bytes = old.bytes in
-    let t = c.args.target in
-    let own = c.args.own in
-    let p = c.requires.pointer in
-    let front = c.rest-front.result.now in
-    let labels = take own (drop old.index bytes) in
-    let w = walked old own t _ front c.rest-front.ensures c.index.ensures.value c.index.ensures.inside p in
-    let len : length (take own front) ≡ own = front_len old own t _ front c.rest-front.ensures c.index.ensures.value c.index.ensures.inside p in
-    let same : take own front ≡ labels = ap (take own) c.rest-front.ensures in
-    let copied : c.copy_from_slice.new.self ≡ labels = c.copy_from_slice.ensures.after ∙ same in
-    let count : own ≡ length labels = omega (arith, len, ap length same) in
-    let whole : take own (c.copy_from_slice.new.self ++ drop own c.args.room.now) ≡ labels =
-    ap (λ (xs : List ℕ). take own (xs ++ drop own c.args.room.now)) copied
-    ∙ ap (λ (k : ℕ). take k (labels ++ drop own c.args.room.now)) count
-    ∙ take-append_seam labels (drop own c.args.room.now) in
-    let one : FollowedPointer = record { target = t; from = own } in
-    let items : c.push.new.self ≡ one ∷ [] = c.in_ok-push.ensures.ok ∙ ap (λ (ps : List FollowedPointer). ps ++ one ∷ []) c.requires.none in
-    let here : t ≡ t + 0 = omega arith in
-    let P = Tail bytes t t own labels in
-    let small : t ≤ length bytes = omega (arith, p.below, c.index.ensures.value, c.index.ensures.inside) in
-    let tails : All P c.push.new.self =
-    All-same P _ _ items (All-push P [] one (All-nil P) (Tail-new bytes t own labels small p.near (sym count) w.gathers.few)) in
-    rw (c.from-start.ensures, whole, c.index.ensures.value) (record {
-      piece = c.follow-piece.ensures.lent;
-      gathers = subst (λ (k : ℕ). Gathers bytes old.index 0 t k own labels (Some (old.index + own + 2))) here (gathers_pointer w.gathers t p.pointer p.below);
-      tails = subst (λ (k : ℕ). All (Tail bytes t k own labels) c.push.new.self) here tails;
-      last = subst (IsLast [] labels) (sym items) (last_pushed [] one labels count);
-      leads = subst (λ (k : ℕ). Leads bytes old.index (targets c.push.new.self) t k) here
-          (subst (λ (ps : List FollowedPointer). Leads bytes old.index (targets ps) t t) (sym items) (Leads-pointer w.leads p.pointer));
-      lead = subst (λ (k : ℕ). Lead bytes c.push.new.self t k) here
-          (subst (λ (ps : List FollowedPointer). Lead bytes ps t t) (sym items) (Lead-pointer bytes old.index (old.index + own) [] one p.pointer tt));
-      follows = subst (λ (ps : List FollowedPointer). Follows (targets ps) t old c.follow-piece.new.self) (sym items)
-          (Follows-push (Follows-none old.index old) p.below p.near p.absent p.all_near c.follow-piece.ensures.counted);
+    let first : c.index-first.result ≡ old.index = c.index-first.ensures.value in
+    let inside : old.index ≤ length old.bytes = omega (arith, c.index-first.ensures.inside, first) in
+    let place : old.index ≡ c.index-first.result + 0 = omega (arith, first) in
+    rw first (record {
+      piece = c.rest-piece.ensures;
+      gathers = subst (λ (at : ℕ). Gathers old.bytes old.index 0 old.index at 0 [] None) (omega arith) (gathers_none old.bytes old.index 0 inside (omega arith));
+      tails = All-same (Tail old.bytes old.index (old.index + 0) 0 []) _ [] c.requires.none (All-nil (Tail old.bytes old.index (old.index + 0) 0 []));
+      last = subst (λ (ps : List FollowedPointer). IsLast [] [] ps) (sym c.requires.none) tt;
+      leads = subst (λ (ps : List FollowedPointer). Leads old.bytes old.index (targets ps) old.index (old.index + 0)) (sym c.requires.none)
+          (subst (λ (at : ℕ). Leads old.bytes old.index [] old.index at) (omega arith) (Leads-none old.bytes old.index));
+      lead = subst (λ (ps : List FollowedPointer). Lead old.bytes ps old.index (old.index + 0)) (sym c.requires.none) tt;
+      follows = subst (λ (ps : List FollowedPointer). Follows (targets ps) old.index old old) (sym c.requires.none) (Follows-none old.index old);
     })
 
 pub returns-in_err-read_part-clause-read : goal.returns-in_err-read_part-clause-read
 returns-in_err-read_part-clause-read c =
-    let p = err_from_is_err_and c.from_residual-in_err-read_part.result c.from_residual-in_err-read_part.ensures.1 in
+    let p = err_from_is_err_and c.from_residual.result c.from_residual.ensures.1 in
     let fault = c.in_err-read_part.field-0.0 in
     let is = part_is_there c.args.decoder.now.bytes c.parts.piece.now c.parts.start c.parts.at (Err fault) c.parts.invariant.piece c.in_err-read_part.ensures.value in
     rw (p.1, p.2) (fails_is fault _ (at_fault c.parts.invariant.gathers fault is))
@@ -105,7 +53,7 @@ piece_len bytes piece start at same inside = omega (arith, ap length same, lengt
 pub returns-in-Root-clause-read : goal.returns-in-Root-clause-read
 returns-in-Root-clause-read c =
     let is = part_is_there c.args.decoder.now.bytes c.parts.piece.now c.parts.start c.parts.at (Ok zero_byte) c.parts.invariant.piece (c.in_ok-read_part.ensures.value ∙ ap found c.in-Root.is) in
-    at_root c.parts.invariant.gathers is
+    at_root c.parts.invariant.gathers is ∙ ap (λ (e : ℕ). Ok (labels_of (take c.parts.used c.parts.room), e)) (sym c.unwrap_or.ensures)
 
 pub returns-in-Root-clause-used : goal.returns-in-Root-clause-used
 returns-in-Root-clause-used c = omega (arith, c.parts.invariant.gathers.wire.short, c.parts.invariant.gathers.len)
@@ -113,7 +61,7 @@ returns-in-Root-clause-used c = omega (arith, c.parts.invariant.gathers.wire.sho
 pub returns-in-Root-clause-end : goal.returns-in-Root-clause-end
 returns-in-Root-clause-end c =
     let is = part_is_there c.args.decoder.now.bytes c.parts.piece.now c.parts.start c.parts.at (Ok zero_byte) c.parts.invariant.piece (c.in_ok-read_part.ensures.value ∙ ap found c.in-Root.is) in
-    root_inside c.parts.invariant.gathers is
+    rw c.unwrap_or.ensures (root_inside c.parts.invariant.gathers is)
 
 pub returns-in-Root-clause-last : goal.returns-in-Root-clause-last
 returns-in-Root-clause-last c = c.parts.invariant.last
@@ -168,7 +116,7 @@ parts-preserved-in-Label c =
     take-add at size piece ∙ ap (λ (k : ℕ). take at piece ++ take k (drop at piece)) (sym many) in
     record {
       piece = c.parts.invariant.piece;
-      gathers = subst (λ (k : ℕ). Gathers bytes c.args.decoder.now.index 0 start k (used + size) next (Some (c.index.result + c.args.own + 2))) place
+      gathers = subst (λ (k : ℕ). Gathers bytes c.args.decoder.now.index 0 start k (used + size) next c.parts.end) place
           (gathers_label gathers c.in-Label.len size next is (omega arith) (omega arith) copied);
       tails = All-weaker _ (Tail bytes start (start + (at + size)) (used + size) next)
           (λ p tail. subst (λ (k : ℕ). Tail bytes start k (used + size) next p) place
@@ -193,6 +141,9 @@ returns-then-from-start-clause-read c =
 bytes_are : {ts : List ℕ} {start : ℕ} {old new : Reader} → Follows ts start old new → new.bytes ≡ old.bytes
 bytes_are f = ap (λ (r : Reader). r.bytes) f.now
 
+pub follow-piece-requires : goal.follow-piece-requires
+follow-piece-requires c = omega (arith, ap length (bytes_are c.parts.invariant.follows), c.parts.invariant.gathers.low, c.from.ensures, c.if-from-start.false)
+
 pub parts-preserved : goal.parts-preserved
 parts-preserved c =
     let old = c.args.decoder.now in
@@ -201,7 +152,7 @@ parts-preserved c =
     let start = c.parts.start in
     let at = start + c.parts.at in
     let t = c.in-Pointer.target in
-    let is = part_is_there bytes c.parts.piece.now start c.parts.at (Ok (pointer_to t)) c.parts.invariant.piece (c.in_ok-read_part.ensures.value ∙ ap found c.in-Pointer.is) in
+    let is : part_at bytes at ≡ Ok (pointer_to t) = part_is_there bytes c.parts.piece.now start c.parts.at (Ok (pointer_to t)) c.parts.invariant.piece (c.in_ok-read_part.ensures.value ∙ ap found c.in-Pointer.is) in
     let small = c.read_part.ensures.near t (c.in_ok-read_part.ensures.value ∙ ap found c.in-Pointer.is) in
     let below : t < start = omega (arith, c.from.ensures, c.if-from-start.false) in
     let absent : set.contains c.parts.decoder.kept t ≡ false = sym c.in_default.ensures.is in
@@ -209,24 +160,24 @@ parts-preserved c =
     let labels = take used c.parts.room in
     let g = c.parts.invariant.gathers in
     let one : FollowedPointer = record { target = t; from = used } in
-    let items : c.push-in-Pointer.new.self ≡ c.parts.followed ++ one ∷ [] = c.in_ok-push-in-Pointer.ensures.ok in
-    let more : targets c.push-in-Pointer.new.self ≡ targets c.parts.followed ++ t ∷ [] = ap targets items ∙ map_push (λ (p : FollowedPointer). p.target) c.parts.followed one in
-    let follows = Follows-push c.parts.invariant.follows below small absent c.labels_at.ensures.near c.follow-piece-in-Pointer.ensures.counted in
+    let items : c.push.new.self ≡ c.parts.followed ++ one ∷ [] = c.in_ok-push-in-Pointer.ensures.ok in
+    let more : targets c.push.new.self ≡ targets c.parts.followed ++ t ∷ [] = ap targets items ∙ map_push (λ (p : FollowedPointer). p.target) c.parts.followed one in
+    let follows = Follows-push c.parts.invariant.follows below small absent c.labels_at.ensures.near c.follow-piece.ensures.counted in
     let here : t ≡ t + 0 = omega arith in
     let P = Tail bytes t t used labels in
     let before = All-weaker _ P (λ p tail. Tail-pointer is below tail) c.parts.followed c.parts.invariant.tails in
-    let tails : All P c.push-in-Pointer.new.self =
+    let tails : All P c.push.new.self =
     All-same P _ _ items (All-push P c.parts.followed one before (Tail-new bytes t used labels (omega (arith, g.low)) small (omega (arith, g.len)) g.few)) in
-    let end = Some (c.index.result + c.args.own + 2) in
-    rw c.from-start-in-Pointer.ensures (record {
-      piece = c.follow-piece-in-Pointer.ensures.lent ∙ ap (drop t) (bytes_are c.parts.invariant.follows);
-      gathers = subst (λ (k : ℕ). Gathers bytes first 0 t k used labels end) here (gathers_pointer g t is below);
-      tails = subst (λ (k : ℕ). All (Tail bytes t k used labels) c.push-in-Pointer.new.self) here tails;
+    let end = Some c.unwrap_or-after.result in
+    rw c.from-start.ensures (record {
+      piece = c.follow-piece.ensures.lent ∙ ap (drop t) (bytes_are c.parts.invariant.follows);
+      gathers = subst (λ (k : ℕ). Gathers bytes first 0 t k used labels end) here (rw c.unwrap_or-after.ensures (gathers_pointer g t is below));
+      tails = subst (λ (k : ℕ). All (Tail bytes t k used labels) c.push.new.self) here tails;
       last = subst (IsLast [] labels) (sym items) (last_pushed c.parts.followed one labels (omega (arith, g.len)));
-      leads = subst (λ (k : ℕ). Leads bytes first (targets c.push-in-Pointer.new.self) t k) here (subst (λ (ts : List ℕ). Leads bytes first ts t t) (sym more) (Leads-pointer c.parts.invariant.leads is));
-      lead = subst (λ (k : ℕ). Lead bytes c.push-in-Pointer.new.self t k) here
+      leads = subst (λ (k : ℕ). Leads bytes first (targets c.push.new.self) t k) here (subst (λ (ts : List ℕ). Leads bytes first ts t t) (sym more) (Leads-pointer c.parts.invariant.leads is));
+      lead = subst (λ (k : ℕ). Lead bytes c.push.new.self t k) here
           (subst (λ (ps : List FollowedPointer). Lead bytes ps t t) (sym items) (Lead-pointer bytes start at c.parts.followed one is c.parts.invariant.lead));
-      follows = subst (λ (ts : List ℕ). Follows ts t old c.follow-piece-in-Pointer.new.self) (sym more) follows;
+      follows = subst (λ (ts : List ℕ). Follows ts t old c.follow-piece.new.self) (sym more) follows;
     })
 
 kept_is : (B C : List ℕ) (t : ℕ) (xs : List ℕ) → C ≡ B → IsKept C t xs → IsKept B t xs
@@ -242,32 +193,32 @@ returns-then-used-labels-gt-MAX_NAME-clause-read c =
 -- ---- a walk that ends at a kept target
 
 -- what stands at the pointer
-pointer_is : (c : goal.After-copy_from_slice-in-Some) → part_at c.args.decoder.now.bytes (c.parts.start + c.parts.at) ≡ Ok (pointer_to c.in-Pointer.target)
+pointer_is : (c : goal.After-copy_from_slice) → part_at c.args.decoder.now.bytes (c.parts.start + c.parts.at) ≡ Ok (pointer_to c.in-Pointer.target)
 pointer_is c = part_is_there c.args.decoder.now.bytes c.parts.piece.now c.parts.start c.parts.at (Ok (pointer_to c.in-Pointer.target)) c.parts.invariant.piece
     (c.in_ok-read_part.ensures.value ∙ ap found c.in-Pointer.is)
 
-below : (c : goal.After-copy_from_slice-in-Some) → c.in-Pointer.target < c.parts.start
+below : (c : goal.After-copy_from_slice) → c.in-Pointer.target < c.parts.start
 below c = omega (arith, c.from.ensures, c.if-from-start.false)
 
 -- the labels there are kept
-kept : (c : goal.After-copy_from_slice-in-Some) → IsKept c.args.decoder.now.bytes c.in-Pointer.target c.in-Some.labels.now
+kept : (c : goal.After-copy_from_slice) → IsKept c.args.decoder.now.bytes c.in-Pointer.target c.in-Some.labels.now
 kept c = kept_is _ _ _ _ (bytes_are c.parts.invariant.follows) c.in-Some.ensures.spelled
 
-short : (c : goal.After-copy_from_slice-in-Some) → c.parts.used + length c.in-Some.labels.now + 1 ≤ 255
+short : (c : goal.After-copy_from_slice) → c.parts.used + length c.in-Some.labels.now + 1 ≤ 255
 short c = omega (arith, c.if-used-labels-gt-MAX_NAME.false)
 
 -- the labels in the room after it was copied
-whole : (c : goal.After-copy_from_slice-in-Some) → take (c.parts.used + length c.in-Some.labels.now) (put_mid c.parts.used (c.parts.used + length c.in-Some.labels.now - c.parts.used) c.parts.room c.copy_from_slice-in-Some.new.self) ≡ take c.parts.used c.parts.room ++ c.in-Some.labels.now
+whole : (c : goal.After-copy_from_slice) → take (c.parts.used + length c.in-Some.labels.now) (put_mid c.parts.used (c.parts.used + length c.in-Some.labels.now - c.parts.used) c.parts.room c.copy_from_slice.new.self) ≡ take c.parts.used c.parts.room ++ c.in-Some.labels.now
 whole c =
     let used = c.parts.used in
     let room = c.parts.room in
     let items = c.in-Some.labels.now in
-    let copied = c.copy_from_slice-in-Some.ensures.after in
-    take-put_mid used (used + length items - used) room c.copy_from_slice-in-Some.new.self (used + length items) (omega (arith, ap length copied))
+    let copied = c.copy_from_slice.ensures.after in
+    take-put_mid used (used + length items - used) room c.copy_from_slice.new.self (used + length items) (omega (arith, ap length copied))
     (omega (arith, ap length copied, c.parts.invariant.gathers.len, length-take used room)) ∙ ap (λ (xs : List ℕ). take used room ++ xs) copied
 
 -- the pointer leads to a kept offset, and with one all that is passed from there is kept
-known : (c : goal.After-copy_from_slice-in-Some) → (set.contains c.args.decoder.now.kept c.in-Pointer.target ≡ true) × IsClosed c.args.decoder.now.bytes c.args.decoder.now.kept
+known : (c : goal.After-copy_from_slice) → (set.contains c.args.decoder.now.kept c.in-Pointer.target ≡ true) × IsClosed c.args.decoder.now.bytes c.args.decoder.now.kept
 known c =
     let same = ap (λ (r : Reader). r.kept) c.parts.invariant.follows.now in (
       ap (λ (k : set.FinSet nat_cmp). set.contains k c.in-Pointer.target) (sym same) ∙ sym c.in-Some.ensures.is,
@@ -278,10 +229,11 @@ known c =
 pub returns-in-Some-clause-read : goal.returns-in-Some-clause-read
 returns-in-Some-clause-read c =
     at_kept c.parts.invariant.gathers (pointer_is c) (below c) (kept c) (short c)
-    ∙ ap (λ (xs : List ℕ). Ok (labels_of xs, (c.index.result + c.args.own + 2))) (sym (whole c))
+    ∙ ap (λ (e : ℕ). Ok (labels_of (take c.parts.used c.parts.room ++ c.in-Some.labels.now), e)) (sym c.unwrap_or-after.ensures)
+    ∙ ap (λ (xs : List ℕ). Ok (labels_of xs, c.unwrap_or-after.result)) (sym (whole c))
 
 pub returns-in-Some-clause-end : goal.returns-in-Some-clause-end
-returns-in-Some-clause-end c = kept_end c.parts.invariant.gathers (pointer_is c) (below c) (kept c)
+returns-in-Some-clause-end c = rw c.unwrap_or-after.ensures (kept_end c.parts.invariant.gathers (pointer_is c) (below c) (kept c))
 
 pub returns-in-Some-clause-wire : goal.returns-in-Some-clause-wire
 returns-in-Some-clause-wire c =

@@ -1,5 +1,5 @@
 use Rattle.std.proofs.Common.{◌≡◌, ◌+◌, ◌-◌, drop, take}
-use Rattle.std.specs.Prelude.{All, Some}
+use Rattle.std.specs.Prelude.{All}
 use Rattle.base.specs.Pointers.{IsLast, targets}
 use Rattle.base.proofs.CountLemmas.{Follows}
 use Rattle.base.proofs.GatherLemmas.{Gathers}
@@ -10,7 +10,7 @@ use Rattle.base.proofs.name.reading.gather_labels.Given as goal
 abbrev pub invariant-parts : goal.invariant-parts
 invariant-parts l = record {
   piece : l.piece ≡ drop l.start l.fn.decoder.bytes;
-  gathers : Gathers l.fn.decoder.bytes l.fn.decoder.index 0 l.start (l.start + l.at) l.used (take l.used l.room) (Some l.end);
+  gathers : Gathers l.fn.decoder.bytes l.fn.decoder.index 0 l.start (l.start + l.at) l.used (take l.used l.room) l.end;
   tails : All (Tail l.fn.decoder.bytes l.start (l.start + l.at) l.used (take l.used l.room)) l.followed;
   last : IsLast (take l.at l.piece) (take l.used l.room) l.followed;
   leads : Leads l.fn.decoder.bytes l.fn.decoder.index (targets l.followed) l.start (l.start + l.at);

@@ -1,11 +1,7 @@
-use Rattle.std.proofs.Common.{◌≡◌, ◌<◌, ◌≤◌, ◌+◌, ℕ, List, [], ◌++◌, Result, Err, length, take, drop, ap, sym, ◌∙◌, subst, arith, length-drop}
-use Rattle.std.proofs.lemmas.Result.{err_from_is_err_and}
-use Rattle.base.specs.Names.{NamePart, part_at}
-use Rattle.base.specs.Pointers.{AreWholeLabels, IsKept, IsName, no_label, one_more}
-use Rattle.base.specs.declared.error.decode_error.DecodeError.{DecodeError}
+use Rattle.std.proofs.Common.{◌≡◌, ℕ, ◌+◌, ◌<◌, List, [], ◌++◌, take, drop, ap, sym, ◌∙◌, subst, arith}
+use Rattle.base.specs.Pointers.{IsKept}
 use Rattle.base.specs.Reader.{Reader}
-use Rattle.base.proofs.GatherLemmas.{at_fault, at_forward, at_kept_long, at_long}
-use Rattle.base.proofs.PieceLemmas.{Walked, found, name_kept, name_root, part_is_there, walked_of}
+use Rattle.base.proofs.PieceLemmas.{IsName, found, name_kept, name_root, part_is_there, walked_label, walked_none}
 use Rattle.base.proofs.name.reading.read_in_place.Goals as goal
 
 -- the name that was found, as its parts are lent
@@ -16,101 +12,55 @@ lent r own items first used more own_is here is =
     (subst (λ (k : ℕ). IsName r (take used (drop r.index r.bytes) ++ items) (k + used + more)) (sym here) is)
 
 pub labels-init : goal.labels-init
-labels-init c = no_label
+labels-init c = walked_none c.args.decoder.now (omega (arith, c.index-first.ensures.inside, c.index-first.ensures.value))
 
--- ---- what was walked until a part was read
-
-module _ (r : Reader) (own : List ℕ) (used first : ℕ) (own_is : own ≡ drop r.index r.bytes) (here : first ≡ r.index) (inside : first ≤ length r.bytes) (are : AreWholeLabels r.bytes r.index used) where
-  walked : Walked r used
-  walked = walked_of (omega (arith, here)) are
-
-  there : (part : Result NamePart DecodeError) → part_at own used ≡ part → part_at r.bytes (r.index + used) ≡ part
-  there part is = part_is_there r.bytes own r.index used part own_is is
-
-  enough : used ≤ length own
-  enough = omega (arith, walked.gathers.inside, ap length own_is, length-drop r.index r.bytes)
-
-pub returns-in_err-read_part-clause-found : goal.returns-in_err-read_part-clause-found
-returns-in_err-read_part-clause-found c =
-    let r = c.args.decoder.now in
-    let p = err_from_is_err_and c.from_residual.result c.from_residual.ensures.1 in
-    let fault = c.in_err-read_part.field-0.0 in
-    let is = there r c.rest-own.result.now c.labels.used _ c.rest-own.ensures c.index-first.ensures.value c.index-first.ensures.inside c.labels.invariant (Err fault) c.in_err-read_part.ensures.value in
-    let w = walked r c.rest-own.result.now c.labels.used _ c.rest-own.ensures c.index-first.ensures.value c.index-first.ensures.inside c.labels.invariant in
-    rw (p.1, p.2) (at_fault w.gathers fault is)
-
-pub returns-in-Root-clause-found : goal.returns-in-Root-clause-found
-returns-in-Root-clause-found c =
+root : (c : goal.In-Ok-Root) → IsName c.args.decoder.now (take c.labels.used c.rest-own.result.now ++ []) (c.index-first.result + c.labels.used + 1)
+root c =
     let r = c.args.decoder.now in
     let own = c.rest-own.result.now in
-    let at = c.index-first.ensures in
-    let is = there r own c.labels.used _ c.rest-own.ensures at.value at.inside c.labels.invariant _ (c.in_ok-read_part.ensures.value ∙ ap found c.in-Root.is) in
-    let w = walked r own c.labels.used _ c.rest-own.ensures at.value at.inside c.labels.invariant in (
-      enough r own c.labels.used _ c.rest-own.ensures at.value at.inside c.labels.invariant,
-      lent r own [] c.index-first.result c.labels.used 1 c.rest-own.ensures at.value (name_root w is),
-    )
+    let is = part_is_there r.bytes own r.index c.labels.used _ c.rest-own.ensures (c.in-Ok-Root.ensures.value ∙ ap found c.in-Ok-Root.field-0-is) in
+    lent r own [] c.index-first.result c.labels.used 1 c.rest-own.ensures c.index-first.ensures.value (name_root c.labels.invariant is)
 
-pub returns-then-used-size-gt-MAX_NAME-clause-found : goal.returns-then-used-size-gt-MAX_NAME-clause-found
-returns-then-used-size-gt-MAX_NAME-clause-found c =
-    let r = c.args.decoder.now in
-    let own = c.rest-own.result.now in
-    let at = c.index-first.ensures in
-    let is = there r own c.labels.used _ c.rest-own.ensures at.value at.inside c.labels.invariant _ (c.in_ok-read_part.ensures.value ∙ ap found c.in-Label.is) in
-    let w = walked r own c.labels.used _ c.rest-own.ensures at.value at.inside c.labels.invariant in
-    at_long w.gathers c.in-Label.len is (omega (arith, c.from-size.ensures, c.if-used-size-gt-MAX_NAME.true))
+pub returns-in-Ok-Root-clause-read : goal.returns-in-Ok-Root-clause-read
+returns-in-Ok-Root-clause-read c = (root c).read
+
+pub returns-in-Ok-Root-clause-end : goal.returns-in-Ok-Root-clause-end
+returns-in-Ok-Root-clause-end c = (root c).end
+
+pub returns-in-Ok-Root-clause-these : goal.returns-in-Ok-Root-clause-these
+returns-in-Ok-Root-clause-these c = (root c).these
+
+pub returns-in-Ok-Root-clause-wire : goal.returns-in-Ok-Root-clause-wire
+returns-in-Ok-Root-clause-wire c = (root c).wire
 
 pub labels-preserved : goal.labels-preserved
 labels-preserved c =
     let r = c.args.decoder.now in
-    let own = c.rest-own.result.now in
-    let at = c.index-first.ensures in
-    let is = there r own c.labels.used _ c.rest-own.ensures at.value at.inside c.labels.invariant _ (c.in_ok-read_part.ensures.value ∙ ap found c.in-Label.is) in
-    one_more c.labels.used c.in-Label.len (1 + c.from-size.result) c.labels.invariant is (omega (arith, c.from-size.ensures)) (omega (arith, c.if-used-size-gt-MAX_NAME.false))
+    let is = part_is_there r.bytes c.rest-own.result.now r.index c.labels.used _ c.rest-own.ensures (c.in-Ok-Label.ensures.value ∙ ap found c.in-Ok-Label.field-0-is) in
+    walked_label c.labels.invariant c.in-Ok-Label.len (1 + c.from-size.result) is (omega (arith, c.from-size.ensures)) (omega (arith, c.if-used-size-gt-MAX_NAME.false))
 
-pub returns-then-from-first-clause-found : goal.returns-then-from-first-clause-found
-returns-then-from-first-clause-found c =
+kept : (c : goal.Else-used-kept-gt-MAX_NAME) → IsName c.args.decoder.now
+    (take c.labels.used c.rest-own.result.now ++ c.in_ok-kept-in-Ok-Pointer.kept.now)
+    (c.index-first.result + c.labels.used + 2)
+kept c =
     let r = c.args.decoder.now in
     let own = c.rest-own.result.now in
-    let at = c.index-first.ensures in
-    let is = there r own c.labels.used _ c.rest-own.ensures at.value at.inside c.labels.invariant _ (c.in_ok-read_part.ensures.value ∙ ap found c.in-Pointer.is) in
-    let w = walked r own c.labels.used _ c.rest-own.ensures at.value at.inside c.labels.invariant in
-    at_forward w.gathers c.in-Pointer.target is (omega (arith, c.from.ensures, c.if-from-first.true, at.value))
+    let is = part_is_there r.bytes own r.index c.labels.used _ c.rest-own.ensures (c.in-Ok-Pointer.ensures.value ∙ ap found c.in-Ok-Pointer.field-0-is) in
+    let items = c.in_ok-kept-in-Ok-Pointer.kept.now in
+    let below : c.in-Ok-Pointer.target < r.index = omega (arith, c.from.ensures, c.if-from-first.false, c.index-first.ensures.value) in
+    let there : IsKept r.bytes c.in-Ok-Pointer.target items = c.in_ok-kept-in-Ok-Pointer.ensures.spelled in
+    lent r own items c.index-first.result c.labels.used 2 c.rest-own.ensures c.index-first.ensures.value
+    (name_kept c.labels.invariant items is below there (omega (arith, c.if-used-kept-gt-MAX_NAME.false))
+    (sym c.in_ok-kept-in-Ok-Pointer.ensures.is) c.in_ok-kept-in-Ok-Pointer.ensures.closed)
 
-pub returns-in_default-clause-found : goal.returns-in_default-clause-found
-returns-in_default-clause-found c =
-    let r = c.args.decoder.now in
-    let own = c.rest-own.result.now in
-    let at = c.index-first.ensures in
-    record {
-      labels = c.labels.invariant;
-      pointer = there r own c.labels.used _ c.rest-own.ensures at.value at.inside c.labels.invariant _ (c.in_ok-read_part.ensures.value ∙ ap found c.in-Pointer.is);
-      below = omega (arith, c.from.ensures, c.if-from-first.false, at.value);
-      near = c.read_part.ensures.near c.in-Pointer.target (c.in_ok-read_part.ensures.value ∙ ap found c.in-Pointer.is);
-      absent = sym c.in_default.ensures.is;
-      all_near = c.labels_at.ensures.near;
-    }
+pub returns-in-Ok-Pointer-clause-read : goal.returns-in-Ok-Pointer-clause-read
+returns-in-Ok-Pointer-clause-read c = (kept c).read
 
-pub returns-then-used-kept-gt-MAX_NAME-clause-found : goal.returns-then-used-kept-gt-MAX_NAME-clause-found
-returns-then-used-kept-gt-MAX_NAME-clause-found c =
-    let r = c.args.decoder.now in
-    let own = c.rest-own.result.now in
-    let at = c.index-first.ensures in
-    let is = there r own c.labels.used _ c.rest-own.ensures at.value at.inside c.labels.invariant _ (c.in_ok-read_part.ensures.value ∙ ap found c.in-Pointer.is) in
-    let w = walked r own c.labels.used _ c.rest-own.ensures at.value at.inside c.labels.invariant in
-    at_kept_long w.gathers is (omega (arith, c.from.ensures, c.if-from-first.false, at.value)) c.in-Some.ensures.spelled
-    (omega (arith, c.if-used-kept-gt-MAX_NAME.true))
+pub returns-in-Ok-Pointer-clause-wire : goal.returns-in-Ok-Pointer-clause-wire
+returns-in-Ok-Pointer-clause-wire c = (kept c).wire
 
-pub returns-in-Pointer-clause-found : goal.returns-in-Pointer-clause-found
-returns-in-Pointer-clause-found c =
-    let r = c.args.decoder.now in
-    let own = c.rest-own.result.now in
-    let at = c.index-first.ensures in
-    let items = c.in-Some.kept.now in
-    let is = there r own c.labels.used _ c.rest-own.ensures at.value at.inside c.labels.invariant _ (c.in_ok-read_part.ensures.value ∙ ap found c.in-Pointer.is) in
-    let w = walked r own c.labels.used _ c.rest-own.ensures at.value at.inside c.labels.invariant in
-    let below : c.in-Pointer.target < r.index = omega (arith, c.from.ensures, c.if-from-first.false, at.value) in
-    let kept : IsKept r.bytes c.in-Pointer.target items = c.in-Some.ensures.spelled in (
-      enough r own c.labels.used _ c.rest-own.ensures at.value at.inside c.labels.invariant,
-      lent r own items c.index-first.result c.labels.used 2 c.rest-own.ensures at.value
-          (name_kept w items is below kept (omega (arith, c.if-used-kept-gt-MAX_NAME.false)) (sym c.in-Some.ensures.is) c.in-Some.ensures.closed),
-    )
+pub returns-in-Ok-Pointer-clause-end : goal.returns-in-Ok-Pointer-clause-end
+returns-in-Ok-Pointer-clause-end c = (kept c).end
+
+pub returns-in-Ok-Pointer-clause-these : goal.returns-in-Ok-Pointer-clause-these
+returns-in-Ok-Pointer-clause-these c = (kept c).these

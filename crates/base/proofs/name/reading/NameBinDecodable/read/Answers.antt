@@ -1,9 +1,8 @@
-use Rattle.std.proofs.Common.{◌≡◌, ◌∙◌, ◌++◌, ℕ, List, ap, arith, sym, subst, take, []}
-use Rattle.std.proofs.lemmas.Result.{err_from_is_err_and}
+use Rattle.std.proofs.Common.{◌≡◌, ◌∙◌, ◌++◌, ℕ, List, ap, arith, sym, take, []}
 use Rattle.std.specs.FinSet as set
 use Rattle.std.specs.Ordering.{nat_cmp}
 use Rattle.base.specs.Labels.{labels_of}
-use Rattle.base.specs.Pointers.{Followed, IsInPlace, targets}
+use Rattle.base.specs.Pointers.{Followed, targets}
 use Rattle.base.specs.Passing.{inserted, passed}
 use Rattle.base.specs.Reader.{Reader}
 use Rattle.base.specs.Spelling.{Spelled}
@@ -12,13 +11,12 @@ use Rattle.base.proofs.CountLemmas.{Follows-none, IsAfterName, counted_after, en
 use Rattle.base.proofs.GatherLemmas.{spelled_is}
 use Rattle.base.proofs.PassLemmas.{passes_are_kept}
 use Rattle.base.proofs.name.reading.NameBinDecodable.read.Goals as goal
-use Rattle.base.proofs.name.reading.NameBinDecodable.read.Goals.{After-move_to}
 
 pub move_to-requires-clause-on : goal.move_to-requires-clause-on
 move_to-requires-clause-on c =
     let old = c.args.decoder.now in
-    let wire = take c.in-Whole.used c.in-Whole.own.now ++ c.in-Whole.kept.now in
-    omega (arith, ends_after (spelled_is old.bytes old.index 0 c.in-Whole.end wire (omega arith) (subst (IsInPlace c.args.decoder.now) c.in-Whole.is c.in_ok-own.ensures.found).1.read))
+    let wire = take c.in-Some.field-0.used c.in-Some.field-0.own.now ++ c.in-Some.field-0.kept.now in
+    omega (arith, ends_after (spelled_is old.bytes old.index 0 c.in-Some.field-0.end wire (omega arith) c.in-Some.ensures.read))
 
 pub move_to-requires-2-clause-on : goal.move_to-requires-2-clause-on
 move_to-requires-2-clause-on c =
@@ -78,28 +76,28 @@ returns-clause-passed c = passed_after (spelled c) (after c)
 
 -- ---- a name of one piece
 
-passes_piece : (c : After-move_to) (xs : List (List ℕ)) (e : ℕ) (h : Spelled c.args.decoder.now.bytes xs c.args.decoder.now.index c.args.decoder.now.index e)
+passes_piece : (c : goal.After-move_to) (xs : List (List ℕ)) (e : ℕ) (h : Spelled c.args.decoder.now.bytes xs c.args.decoder.now.index c.args.decoder.now.index e)
     → c.move_to.new.self.kept ≡ inserted (passed h) c.args.decoder.now.kept
 passes_piece c xs e h =
     let old = c.args.decoder.now in
-    ap (λ (r : Reader). r.kept) c.move_to.ensures ∙ sym (inserted-none old.kept) ∙ passes_are_kept old.bytes old.kept old.index [] (subst (IsInPlace c.args.decoder.now) c.in-Whole.is c.in_ok-own.ensures.found).1.these xs e h
+    ap (λ (r : Reader). r.kept) c.move_to.ensures ∙ sym (inserted-none old.kept) ∙ passes_are_kept old.bytes old.kept old.index [] c.in-Some.ensures.these xs e h
 
-pub returns-in-Whole-clause-passes : goal.returns-in-Whole-clause-passes
-returns-in-Whole-clause-passes c = λ h. passes_piece c _ _ h
+pub returns-in-Some-clause-passes : goal.returns-in-Some-clause-passes
+returns-in-Some-clause-passes c = λ h. passes_piece c _ _ h
 
 -- the labels of the piece and those that are kept
-abbrev labels : After-move_to → List ℕ
-labels c = take c.in-Whole.used c.in-Whole.own.now ++ c.in-Whole.kept.now
+abbrev labels : goal.After-move_to → List ℕ
+labels c = take c.in-Some.field-0.used c.in-Some.field-0.own.now ++ c.in-Some.field-0.kept.now
 
-spelled_piece : (c : After-move_to) → Spelled c.args.decoder.now.bytes (labels_of (labels c)) c.args.decoder.now.index c.args.decoder.now.index c.in-Whole.end
-spelled_piece c = spelled_is c.args.decoder.now.bytes c.args.decoder.now.index 0 c.in-Whole.end (labels c) (omega arith) (subst (IsInPlace c.args.decoder.now) c.in-Whole.is c.in_ok-own.ensures.found).1.read
+spelled_piece : (c : goal.After-move_to) → Spelled c.args.decoder.now.bytes (labels_of (labels c)) c.args.decoder.now.index c.args.decoder.now.index c.in-Some.field-0.end
+spelled_piece c = spelled_is c.args.decoder.now.bytes c.args.decoder.now.index 0 c.in-Some.field-0.end (labels c) (omega arith) c.in-Some.ensures.read
 
-pub returns-in-Whole-clause-adds : goal.returns-in-Whole-clause-adds
-returns-in-Whole-clause-adds c =
+pub returns-in-Some-clause-adds : goal.returns-in-Some-clause-adds
+returns-in-Some-clause-adds c =
     let h = spelled_piece c in
     adds_name h (ap (λ (r : Reader). r.bytes) c.move_to.ensures) (passes_piece c _ _ h)
 
-after_piece : (c : After-move_to) → IsAfterName [] c.args.decoder.now c.args.decoder.now c.move_to.new.self (spelled_piece c)
+after_piece : (c : goal.After-move_to) → IsAfterName [] c.args.decoder.now c.args.decoder.now c.move_to.new.self (spelled_piece c)
 after_piece c =
     let old = c.args.decoder.now in
     let moved = c.move_to.ensures in
@@ -111,16 +109,11 @@ after_piece c =
       passes = passes_piece c _ _ (spelled_piece c);
     }
 
-pub returns-in-Whole-clause-counts : goal.returns-in-Whole-clause-counts
-returns-in-Whole-clause-counts c =
+pub returns-in-Some-clause-counts : goal.returns-in-Some-clause-counts
+returns-in-Some-clause-counts c =
     let f = Follows-none 0 c.args.decoder.now in
     let followed : Followed [] c.args.decoder.now c.args.decoder.now = record { now = f.now; jumps = f.jumps; all = f.all; few = f.few } in
     counted_after (after_piece c) followed c.allocator.ensures.few
 
-pub returns-in-Whole-clause-passed : goal.returns-in-Whole-clause-passed
-returns-in-Whole-clause-passed c = passed_after (spelled_piece c) (after_piece c)
-
-pub returns-in_err-own-clause-counts : goal.returns-in_err-own-clause-counts
-returns-in_err-own-clause-counts c =
-    let p = err_from_is_err_and c.from_residual.result c.from_residual.ensures.1 in
-    rw p.1 (λ counted. omega (arith, counted, c.read_in_place.ensures.few))
+pub returns-in-Some-clause-passed : goal.returns-in-Some-clause-passed
+returns-in-Some-clause-passed c = passed_after (spelled_piece c) (after_piece c)
