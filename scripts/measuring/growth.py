@@ -1,6 +1,8 @@
 """Whether the cost of an input grows as its size does, and what zone checkers take for the same text."""
+import os
 import shutil
 import sys
+from concurrent.futures import ThreadPoolExecutor
 
 import messages
 import updates
@@ -66,27 +68,39 @@ def of_update(program, kind, size):
     return instructions(program, ["apply", "example.", message], text)[0] - instructions(program, ["header"], b"")[0]
 
 
+def each(measured, shapes):
+    """What is measured of each shape, in their order. A count is the same beside others, so all cores count."""
+    with ThreadPoolExecutor(os.cpu_count()) as pool:
+        yield from zip(shapes, pool.map(lambda shape: measured(*shape), shapes))
+
+
 def measure_zones(program):
+    def both(_, size, make):
+        return [of_zone(program, size * twice, make) for twice in (1, 2)]
+
     right = True
-    for name, size, make in zones.SHAPES:
-        (bytes_, one, low), (_, two, high) = (of_zone(program, size * twice, make) for twice in (1, 2))
+    for (name, *_), ((bytes_, one, low), (_, two, high)) in each(both, zones.SHAPES):
         right = line(f"text: {name}", [bytes_], [one, two], [low, high]) and right
     return right
 
 
 def measure_messages(program):
+    def both(what, _, size, make):
+        return [of_one(program, what, make(twice * size * 1024 - 4), 2) for twice in (1, 2)]
+
+    shapes = [("read", *shape) for shape in READ] + [("write", *shape) for shape in WRITTEN]
     right = True
-    for what, shapes in (("read", READ), ("write", WRITTEN)):
-        for name, size, make in shapes:
-            counts = [of_one(program, what, make(twice * size * 1024 - 4), 2) for twice in (1, 2)]
-            right = line(f"{what}: {name}", [len(make(size * 1024 - 4))], counts) and right
+    for (what, name, size, make), counts in each(both, shapes):
+        right = line(f"{what}: {name}", [len(make(size * 1024 - 4))], counts) and right
     return right
 
 
 def measure_updates(program):
+    def both(kind):
+        return [of_update(program, kind, size) for size in (1_000, 2_000)]
+
     right = True
-    for kind in updates.KINDS:
-        counts = [of_update(program, kind, size) for size in (1_000, 2_000)]
+    for (kind,), counts in each(both, [(kind,) for kind in updates.KINDS]):
         right = line(f"apply: {kind}", [len(updates.of_kind(kind, 1_000)[0]) // 2], counts) and right
     return right
 
