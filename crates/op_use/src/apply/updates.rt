@@ -114,11 +114,13 @@ impl<'a> ChangingZone<'a> {
         requires { AreHeld self.now }
         ensures { IfOk result (λ b. b ≡ is_needed_in (zone_held (zone_now self.now)) entry.now) }
     {
+        if is_soa(entry.record_type()) {
+            return Ok(true);
+        }
+        if !is_guarded(self.zone.origin, &entry.name, entry.record_type()) {
+            return Ok(false);
+        }
         let key = key_of(&entry.name, entry.record_type())?;
-        Ok(
-            is_soa(entry.record_type())
-                || (is_guarded(self.zone.origin, &entry.name, entry.record_type())
-                    && self.count(&key) <= 1),
-        )
+        Ok(self.count(&key) <= 1)
     }
 }
