@@ -4,7 +4,7 @@ use Rattle.std.specs.Prelude.{◌&&◌, ◌==◌}
 use Rattle.std.specs.List.{last_or}
 use Rattle.std.proofs.lemmas.Bool.Decides.{nat_tests}
 use Rattle.base.specs.TextFaults.{Fault}
-use Rattle.base.specs.TokenList.{EndsWithALine, Symbol, broken, followed, symbol, symbol_of, symbols, whole_text}
+use Rattle.base.specs.TokenList.{EndsWithALine, Symbol, followed, symbol, symbol_of, symbols, whole_text}
 use Rattle.base.specs.Tokens.{Next, at, blank, char_data, eol, include, list, next, origin_sign, past_line_end, token, ttl_sign, visible}
 use Rattle.txt.specs.Entries.{
   Body,
@@ -61,30 +61,17 @@ IsTakenOff {A} more found found' = (found' ≡ (found.0, found.1 ++ more)) × Is
 closed-items : (more from : List Symbol) → Ends from → (first_items (from ++ more) ≡ ((first_items from).0, (first_items from).1 ++ more)) × Ends (first_items from).1
 closed-items more [] is = absurd cc
 closed-items more (symbol (char_data word) ∷ rest) is =
-    let again = closed-items more rest (ends-after (symbol (char_data word)) rest (λ alike. cc) is) in
+    let again = closed-items more rest (ends-after _ rest (λ alike. cc) is) in
     (ap (λ (found : List (List ℕ) × List Symbol). (word ∷ found.0, found.1)) again.0, again.1)
 closed-items more (symbol (list words) ∷ rest) is =
-    let again = closed-items more rest (ends-after (symbol (list words)) rest (λ alike. cc) is) in
+    let again = closed-items more rest (ends-after _ rest (λ alike. cc) is) in
     (ap (λ (found : List (List ℕ) × List Symbol). (words ++ found.0, found.1)) again.0, again.1)
-closed-items more (symbol blank ∷ rest) is = (refl, is)
-closed-items more (symbol eol ∷ rest) is = (refl, is)
-closed-items more (symbol at ∷ rest) is = (refl, is)
-closed-items more (symbol origin_sign ∷ rest) is = (refl, is)
-closed-items more (symbol include ∷ rest) is = (refl, is)
-closed-items more (symbol ttl_sign ∷ rest) is = (refl, is)
-closed-items more (broken ∷ rest) is = (refl, is)
+closed-items more (other ∷ rest) is = (refl, is)
 
 closed-stop : (more from : List Symbol) → Ends from → IsTakenOff more (stop_of from) (stop_of (from ++ more))
 closed-stop more [] is = absurd cc
-closed-stop more (symbol (char_data word) ∷ rest) is = (refl, closed-after _ rest is)
-closed-stop more (symbol (list words) ∷ rest) is = (refl, closed-after _ rest is)
-closed-stop more (symbol blank ∷ rest) is = (refl, closed-after _ rest is)
 closed-stop more (symbol eol ∷ rest) is = (refl, closed-after _ rest is)
-closed-stop more (symbol at ∷ rest) is = (refl, closed-after _ rest is)
-closed-stop more (symbol origin_sign ∷ rest) is = (refl, closed-after _ rest is)
-closed-stop more (symbol include ∷ rest) is = (refl, closed-after _ rest is)
-closed-stop more (symbol ttl_sign ∷ rest) is = (refl, closed-after _ rest is)
-closed-stop more (broken ∷ rest) is = (refl, closed-after _ rest is)
+closed-stop more (other ∷ rest) is = (refl, closed-after _ rest is)
 
 closed-typed : (more : List Symbol) (word : List ℕ) (from : List Symbol) → Ends from → IsTakenOff more (typed_at word from) (typed_at word (from ++ more))
 closed-typed more word from is =
@@ -103,64 +90,29 @@ closed-word more (Some setting) word from line line' is after = (ap (λ (found :
 closed-line : (more from : List Symbol) → Ends from → IsTakenOff more (line_of from) (line_of (from ++ more))
 closed-line more [] is = absurd cc
 closed-line more (symbol (char_data word) ∷ rest) is =
-    let ends' = ends-after (symbol (char_data word)) rest (λ alike. cc) is in
+    let ends' = ends-after _ rest (λ alike. cc) is in
     closed-word more (setting_of word) word rest (line_of rest) (line_of (rest ++ more)) ends' (closed-line more rest ends')
-closed-line more (symbol (list words) ∷ rest) is = (refl, closed-after _ rest is)
-closed-line more (symbol blank ∷ rest) is = (refl, closed-after _ rest is)
-closed-line more (symbol eol ∷ rest) is = (refl, closed-after _ rest is)
-closed-line more (symbol at ∷ rest) is = (refl, closed-after _ rest is)
-closed-line more (symbol origin_sign ∷ rest) is = (refl, closed-after _ rest is)
-closed-line more (symbol include ∷ rest) is = (refl, closed-after _ rest is)
-closed-line more (symbol ttl_sign ∷ rest) is = (refl, closed-after _ rest is)
-closed-line more (broken ∷ rest) is = (refl, closed-after _ rest is)
+closed-line more (other ∷ rest) is = (refl, closed-after _ rest is)
 
 closed-origin : (more from : List Symbol) → Ends from → IsTakenOff more (origin_of from) (origin_of (from ++ more))
 closed-origin more [] is = absurd cc
 closed-origin more (symbol (char_data word) ∷ rest) is = (refl, closed-after _ rest is)
-closed-origin more (symbol (list words) ∷ rest) is = (refl, closed-after _ rest is)
-closed-origin more (symbol blank ∷ rest) is = (refl, closed-after _ rest is)
-closed-origin more (symbol eol ∷ rest) is = (refl, closed-after _ rest is)
-closed-origin more (symbol at ∷ rest) is = (refl, closed-after _ rest is)
-closed-origin more (symbol origin_sign ∷ rest) is = (refl, closed-after _ rest is)
-closed-origin more (symbol include ∷ rest) is = (refl, closed-after _ rest is)
-closed-origin more (symbol ttl_sign ∷ rest) is = (refl, closed-after _ rest is)
-closed-origin more (broken ∷ rest) is = (refl, closed-after _ rest is)
+closed-origin more (other ∷ rest) is = (refl, closed-after _ rest is)
 
 closed-default : (more from : List Symbol) → Ends from → IsTakenOff more (default_of from) (default_of (from ++ more))
 closed-default more [] is = absurd cc
 closed-default more (symbol (char_data word) ∷ rest) is = (refl, closed-after _ rest is)
-closed-default more (symbol (list words) ∷ rest) is = (refl, closed-after _ rest is)
-closed-default more (symbol blank ∷ rest) is = (refl, closed-after _ rest is)
-closed-default more (symbol eol ∷ rest) is = (refl, closed-after _ rest is)
-closed-default more (symbol at ∷ rest) is = (refl, closed-after _ rest is)
-closed-default more (symbol origin_sign ∷ rest) is = (refl, closed-after _ rest is)
-closed-default more (symbol include ∷ rest) is = (refl, closed-after _ rest is)
-closed-default more (symbol ttl_sign ∷ rest) is = (refl, closed-after _ rest is)
-closed-default more (broken ∷ rest) is = (refl, closed-after _ rest is)
+closed-default more (other ∷ rest) is = (refl, closed-after _ rest is)
 
 closed-include-end : (more : List Symbol) (name : List ℕ) (from : List Symbol) → Ends from → IsTakenOff more (include_end name from) (include_end name (from ++ more))
 closed-include-end more name [] is = absurd cc
-closed-include-end more name (symbol (char_data word) ∷ rest) is = (refl, closed-after _ rest is)
-closed-include-end more name (symbol (list words) ∷ rest) is = (refl, closed-after _ rest is)
-closed-include-end more name (symbol blank ∷ rest) is = (refl, closed-after _ rest is)
 closed-include-end more name (symbol eol ∷ rest) is = (refl, closed-after _ rest is)
-closed-include-end more name (symbol at ∷ rest) is = (refl, closed-after _ rest is)
-closed-include-end more name (symbol origin_sign ∷ rest) is = (refl, closed-after _ rest is)
-closed-include-end more name (symbol include ∷ rest) is = (refl, closed-after _ rest is)
-closed-include-end more name (symbol ttl_sign ∷ rest) is = (refl, closed-after _ rest is)
-closed-include-end more name (broken ∷ rest) is = (refl, closed-after _ rest is)
+closed-include-end more name (other ∷ rest) is = (refl, closed-after _ rest is)
 
 closed-include : (more from : List Symbol) → Ends from → IsTakenOff more (include_of from) (include_of (from ++ more))
 closed-include more [] is = absurd cc
-closed-include more (symbol (char_data name) ∷ rest) is = closed-include-end more name rest (ends-after (symbol (char_data name)) rest (λ alike. cc) is)
-closed-include more (symbol (list words) ∷ rest) is = (refl, closed-after _ rest is)
-closed-include more (symbol blank ∷ rest) is = (refl, closed-after _ rest is)
-closed-include more (symbol eol ∷ rest) is = (refl, closed-after _ rest is)
-closed-include more (symbol at ∷ rest) is = (refl, closed-after _ rest is)
-closed-include more (symbol origin_sign ∷ rest) is = (refl, closed-after _ rest is)
-closed-include more (symbol include ∷ rest) is = (refl, closed-after _ rest is)
-closed-include more (symbol ttl_sign ∷ rest) is = (refl, closed-after _ rest is)
-closed-include more (broken ∷ rest) is = (refl, closed-after _ rest is)
+closed-include more (symbol (char_data name) ∷ rest) is = closed-include-end more name rest (ends-after _ rest (λ alike. cc) is)
+closed-include more (other ∷ rest) is = (refl, closed-after _ rest is)
 
 closed-owner : (more : List Symbol) (owner : Owner) (line line' : (List Setting × Body) × List Symbol) → IsTakenOff more line line'
     → IsTakenOff more (line_entry owner line) (line_entry owner line')
@@ -178,15 +130,13 @@ first_closed : (more from : List Symbol) → Ends from → IsFirst more (first_e
 unfolding first_entry
 first_closed more [] is = absurd cc
 first_closed more (symbol (char_data word) ∷ rest) is =
-    first-of more _ _ (closed-owner more (named word) _ _ (closed-line more rest (ends-after (symbol (char_data word)) rest (λ alike. cc) is)))
-first_closed more (symbol (list words) ∷ rest) is = (refl, closed-after _ rest is)
-first_closed more (symbol blank ∷ rest) is = first-of more _ _ (closed-owner more same _ _ (closed-line more rest (ends-after (symbol blank) rest (λ alike. cc) is)))
-first_closed more (symbol eol ∷ rest) is = (refl, closed-after _ rest is)
-first_closed more (symbol at ∷ rest) is = first-of more _ _ (closed-owner more at_origin _ _ (closed-line more rest (ends-after (symbol at) rest (λ alike. cc) is)))
-first_closed more (symbol origin_sign ∷ rest) is = first-of more _ _ (closed-origin more rest (ends-after (symbol origin_sign) rest (λ alike. cc) is))
-first_closed more (symbol include ∷ rest) is = first-of more _ _ (closed-include more rest (ends-after (symbol include) rest (λ alike. cc) is))
-first_closed more (symbol ttl_sign ∷ rest) is = first-of more _ _ (closed-default more rest (ends-after (symbol ttl_sign) rest (λ alike. cc) is))
-first_closed more (broken ∷ rest) is = (refl, closed-after _ rest is)
+    first-of more _ _ (closed-owner more (named word) _ _ (closed-line more rest (ends-after _ rest (λ alike. cc) is)))
+first_closed more (symbol blank ∷ rest) is = first-of more _ _ (closed-owner more same _ _ (closed-line more rest (ends-after _ rest (λ alike. cc) is)))
+first_closed more (symbol at ∷ rest) is = first-of more _ _ (closed-owner more at_origin _ _ (closed-line more rest (ends-after _ rest (λ alike. cc) is)))
+first_closed more (symbol origin_sign ∷ rest) is = first-of more _ _ (closed-origin more rest (ends-after _ rest (λ alike. cc) is))
+first_closed more (symbol include ∷ rest) is = first-of more _ _ (closed-include more rest (ends-after _ rest (λ alike. cc) is))
+first_closed more (symbol ttl_sign ∷ rest) is = first-of more _ _ (closed-default more rest (ends-after _ rest (λ alike. cc) is))
+first_closed more (other ∷ rest) is = (refl, closed-after _ rest is)
 
 no-entries : entries [] ≡ []
 unfolding first_entry

@@ -3,31 +3,9 @@ use Rattle.std.proofs.Common.{◌≡◌, ℕ, zero, suc, ◌+◌, ◌-◌, ◌<�
 use Rattle.std.specs.Prelude.{codes}
 use Rattle.base.specs.Labels.{NameValue}
 use Rattle.base.specs.TextFaults.{Fault, not_found, says}
-use Rattle.base.specs.TokenList.{Symbol, broken, followed, symbol, symbols, whole_text}
+use Rattle.base.specs.TokenList.{Symbol, followed, symbol, symbols, whole_text}
 use Rattle.base.specs.Tokens.{Unread, at, blank, char_data, eol, include, list, origin_sign, ttl_sign}
-use Rattle.txt.specs.Entries.{
-  Body,
-  Entry,
-  Setting,
-  default_of,
-  entries,
-  entries_of,
-  faulty_entry,
-  first_entry,
-  include_end,
-  include_entry,
-  include_of,
-  first_items,
-  line_of,
-  nothing,
-  origin_entry,
-  origin_of,
-  owner_line,
-  setting_of,
-  stop_of,
-  ttl_entry,
-  word_of,
-}
+use Rattle.txt.specs.Entries.{Body, Entry, Setting, default_of, entries, entries_of, first_entry, include_end, include_entry, include_of, first_items, line_of, origin_of, setting_of, stop_of, word_of}
 use Rattle.txt.specs.Steps.{Taken, ended, opens, taken, taken_by, went}
 use Rattle.txt.specs.Zone.{ZoneState, Texts, apply, fold, included, max_depth, opened, restored, folded_text, ◌>>=◌}
 use Rattle.txt.specs.declared.zone.texts.Frame.{Frame}
@@ -36,29 +14,17 @@ use Rattle.base.proofs.ListingLemmas.{Shrinks, listing_is}
 abbrev pub Within : Type 0
 Within = ZoneState → List ℕ → Result ZoneState Fault
 
+-- here and below the line for `other` is proved once for each symbol that no line above it names
 items_le : (from : List Symbol) → length (first_items from).1 ≤ length from
 items_le [] = omega arith
 items_le (symbol (char_data word) ∷ rest) = omega (arith, items_le rest)
 items_le (symbol (list words) ∷ rest) = omega (arith, items_le rest)
-items_le (symbol blank ∷ rest) = omega arith
-items_le (symbol eol ∷ rest) = omega arith
-items_le (symbol at ∷ rest) = omega arith
-items_le (symbol origin_sign ∷ rest) = omega arith
-items_le (symbol include ∷ rest) = omega arith
-items_le (symbol ttl_sign ∷ rest) = omega arith
-items_le (broken ∷ rest) = omega arith
+items_le (other ∷ rest) = omega arith
 
 stop_le : (from : List Symbol) → length (stop_of from).1 ≤ length from
 stop_le [] = omega arith
-stop_le (symbol (char_data word) ∷ rest) = omega arith
-stop_le (symbol (list words) ∷ rest) = omega arith
-stop_le (symbol blank ∷ rest) = omega arith
 stop_le (symbol eol ∷ rest) = omega arith
-stop_le (symbol at ∷ rest) = omega arith
-stop_le (symbol origin_sign ∷ rest) = omega arith
-stop_le (symbol include ∷ rest) = omega arith
-stop_le (symbol ttl_sign ∷ rest) = omega arith
-stop_le (broken ∷ rest) = omega arith
+stop_le (other ∷ rest) = omega arith
 
 word_le : (found : Option Setting) (word : List ℕ) (rest : List Symbol) (line : (List Setting × Body) × List Symbol)
     → length line.1 ≤ length rest → length (word_of found word rest line).1 ≤ length rest
@@ -68,62 +34,27 @@ word_le None word rest line le = omega (arith, items_le rest, stop_le (first_ite
 line_le : (from : List Symbol) → length (line_of from).1 ≤ length from
 line_le [] = omega arith
 line_le (symbol (char_data word) ∷ rest) = omega (arith, word_le (setting_of word) word rest (line_of rest) (line_le rest))
-line_le (symbol (list words) ∷ rest) = omega arith
-line_le (symbol blank ∷ rest) = omega arith
-line_le (symbol eol ∷ rest) = omega arith
-line_le (symbol at ∷ rest) = omega arith
-line_le (symbol origin_sign ∷ rest) = omega arith
-line_le (symbol include ∷ rest) = omega arith
-line_le (symbol ttl_sign ∷ rest) = omega arith
-line_le (broken ∷ rest) = omega arith
+line_le (other ∷ rest) = omega arith
 
 origin_le : (from : List Symbol) → length (origin_of from).1 ≤ length from
 origin_le [] = omega arith
 origin_le (symbol (char_data word) ∷ rest) = omega arith
-origin_le (symbol (list words) ∷ rest) = omega arith
-origin_le (symbol blank ∷ rest) = omega arith
-origin_le (symbol eol ∷ rest) = omega arith
-origin_le (symbol at ∷ rest) = omega arith
-origin_le (symbol origin_sign ∷ rest) = omega arith
-origin_le (symbol include ∷ rest) = omega arith
-origin_le (symbol ttl_sign ∷ rest) = omega arith
-origin_le (broken ∷ rest) = omega arith
+origin_le (other ∷ rest) = omega arith
 
 default_le : (from : List Symbol) → length (default_of from).1 ≤ length from
 default_le [] = omega arith
 default_le (symbol (char_data word) ∷ rest) = omega arith
-default_le (symbol (list words) ∷ rest) = omega arith
-default_le (symbol blank ∷ rest) = omega arith
-default_le (symbol eol ∷ rest) = omega arith
-default_le (symbol at ∷ rest) = omega arith
-default_le (symbol origin_sign ∷ rest) = omega arith
-default_le (symbol include ∷ rest) = omega arith
-default_le (symbol ttl_sign ∷ rest) = omega arith
-default_le (broken ∷ rest) = omega arith
+default_le (other ∷ rest) = omega arith
 
 include_end_le : (name : List ℕ) (from : List Symbol) → length (include_end name from).1 ≤ length from
 include_end_le name [] = omega arith
-include_end_le name (symbol (char_data word) ∷ rest) = omega arith
-include_end_le name (symbol (list words) ∷ rest) = omega arith
-include_end_le name (symbol blank ∷ rest) = omega arith
 include_end_le name (symbol eol ∷ rest) = omega arith
-include_end_le name (symbol at ∷ rest) = omega arith
-include_end_le name (symbol origin_sign ∷ rest) = omega arith
-include_end_le name (symbol include ∷ rest) = omega arith
-include_end_le name (symbol ttl_sign ∷ rest) = omega arith
-include_end_le name (broken ∷ rest) = omega arith
+include_end_le name (other ∷ rest) = omega arith
 
 include_le : (from : List Symbol) → length (include_of from).1 ≤ length from
 include_le [] = omega arith
 include_le (symbol (char_data name) ∷ rest) = omega (arith, include_end_le name rest)
-include_le (symbol (list words) ∷ rest) = omega arith
-include_le (symbol blank ∷ rest) = omega arith
-include_le (symbol eol ∷ rest) = omega arith
-include_le (symbol at ∷ rest) = omega arith
-include_le (symbol origin_sign ∷ rest) = omega arith
-include_le (symbol include ∷ rest) = omega arith
-include_le (symbol ttl_sign ∷ rest) = omega arith
-include_le (broken ∷ rest) = omega arith
+include_le (other ∷ rest) = omega arith
 
 abbrev IsAfter : ℕ → Option (Entry × List Symbol) → Type 0
 IsAfter n None = Unit {0}
@@ -133,14 +64,12 @@ after : (from : List Symbol) → IsAfter (length from) (first_entry from)
 unfolding first_entry
 after [] = tt
 after (symbol (char_data word) ∷ rest) = omega (arith, line_le rest)
-after (symbol (list words) ∷ rest) = omega arith
 after (symbol blank ∷ rest) = omega (arith, line_le rest)
-after (symbol eol ∷ rest) = omega arith
 after (symbol at ∷ rest) = omega (arith, line_le rest)
 after (symbol origin_sign ∷ rest) = omega (arith, origin_le rest)
 after (symbol include ∷ rest) = omega (arith, include_le rest)
 after (symbol ttl_sign ∷ rest) = omega (arith, default_le rest)
-after (broken ∷ rest) = omega arith
+after (other ∷ rest) = omega arith
 
 pub entries_shrink : Shrinks first_entry (λ from. length from)
 entries_shrink from found is = subst (IsAfter (length from)) is (after from)
@@ -164,12 +93,8 @@ went-on within s to (Err fault) = refl
 fold-taken : (within : Within) (s : ZoneState) (found : Option (Entry × List Symbol)) → fold within s (followed entries found) ≡ resumed within s (taken_by s found)
 unfolding fold apply
 fold-taken within s None = refl
-fold-taken within s (Some (nothing, rest)) = refl
-fold-taken within s (Some (origin_entry text, rest)) = went-on within s rest (apply s (origin_entry text))
-fold-taken within s (Some (ttl_entry text, rest)) = went-on within s rest (apply s (ttl_entry text))
 fold-taken within s (Some (include_entry name, rest)) = refl
-fold-taken within s (Some (owner_line owner settings body, rest)) = went-on within s rest (apply s (owner_line owner settings body))
-fold-taken within s (Some (faulty_entry fault, rest)) = refl
+fold-taken within s (Some (entry, rest)) = went-on within s rest (apply s entry)
 
 pub fold_is : (within : Within) (s : ZoneState) (from : List Symbol) → fold within s (entries from) ≡ resumed within s (taken s from)
 unfolding taken
@@ -271,12 +196,8 @@ remains_opened {texts} {max} {fs} {s} f name text r is same room found = record 
 -- how many turns the entries take, where an included text takes so many
 abbrev pub cost : (List ℕ → ℕ) → List Entry → ℕ
 cost inner [] = 1
-cost inner (nothing ∷ es) = suc (cost inner es)
-cost inner (origin_entry text ∷ es) = suc (cost inner es)
-cost inner (ttl_entry text ∷ es) = suc (cost inner es)
 cost inner (include_entry name ∷ es) = suc (inner name + cost inner es)
-cost inner (owner_line owner settings body ∷ es) = suc (cost inner es)
-cost inner (faulty_entry fault ∷ es) = suc (cost inner es)
+cost inner (entry ∷ es) = suc (cost inner es)
 
 abbrev pub cost_opened : (List ℕ → ℕ) → Option (List ℕ) → ℕ
 cost_opened inner None = 0
@@ -297,12 +218,8 @@ work texts max fs unread = cost (cost_in texts (max - length fs)) (entries (symb
 
 cost_some : (inner : List ℕ → ℕ) (es : List Entry) → 0 < cost inner es
 cost_some inner [] = omega arith
-cost_some inner (nothing ∷ es) = omega arith
-cost_some inner (origin_entry text ∷ es) = omega arith
-cost_some inner (ttl_entry text ∷ es) = omega arith
 cost_some inner (include_entry name ∷ es) = omega arith
-cost_some inner (owner_line owner settings body ∷ es) = omega arith
-cost_some inner (faulty_entry fault ∷ es) = omega arith
+cost_some inner (entry ∷ es) = omega arith
 
 same_rest : (made : Result ZoneState Fault) (t : ZoneState) (rest to : List Symbol) → (made >>= λ s. Ok (went s rest)) ≡ Ok (went t to) → rest ≡ to
 same_rest (Ok s) t rest to is = cc
@@ -311,13 +228,8 @@ same_rest (Err fault) t rest to is = absurd cc
 cost-went : (inner : List ℕ → ℕ) (s t : ZoneState) (found : Option (Entry × List Symbol)) (to : List Symbol)
     → taken_by s found ≡ Ok (went t to) → cost inner (followed entries found) ≡ suc (cost inner (entries to))
 cost-went inner s t None to is = absurd cc
-cost-went inner s t (Some (nothing, rest)) to is = ap (λ (from : List Symbol). suc (cost inner (entries from))) (same_rest (apply s nothing) t rest to is)
-cost-went inner s t (Some (origin_entry text, rest)) to is = ap (λ (from : List Symbol). suc (cost inner (entries from))) (same_rest (apply s (origin_entry text)) t rest to is)
-cost-went inner s t (Some (ttl_entry text, rest)) to is = ap (λ (from : List Symbol). suc (cost inner (entries from))) (same_rest (apply s (ttl_entry text)) t rest to is)
 cost-went inner s t (Some (include_entry name, rest)) to is = absurd cc
-cost-went inner s t (Some (owner_line owner settings body, rest)) to is =
-    ap (λ (from : List Symbol). suc (cost inner (entries from))) (same_rest (apply s (owner_line owner settings body)) t rest to is)
-cost-went inner s t (Some (faulty_entry fault, rest)) to is = ap (λ (from : List Symbol). suc (cost inner (entries from))) (same_rest (apply s (faulty_entry fault)) t rest to is)
+cost-went inner s t (Some (entry, rest)) to is = ap (λ (from : List Symbol). suc (cost inner (entries from))) (same_rest (apply s entry) t rest to is)
 
 no_opening : (made : Result ZoneState Fault) (name : List ℕ) (rest to : List Symbol) → (made >>= λ s. Ok (went s rest)) ≡ Ok (opens name to) → ⊥
 no_opening (Ok s) name rest to is = cc
@@ -326,15 +238,11 @@ no_opening (Err fault) name rest to is = cc
 cost-opens : (inner : List ℕ → ℕ) (s : ZoneState) (found : Option (Entry × List Symbol)) (name : List ℕ) (to : List Symbol)
     → taken_by s found ≡ Ok (opens name to) → cost inner (followed entries found) ≡ suc (inner name + cost inner (entries to))
 cost-opens inner s None name to is = absurd cc
-cost-opens inner s (Some (nothing, rest)) name to is = absurd (no_opening (apply s nothing) name rest to is)
-cost-opens inner s (Some (origin_entry text, rest)) name to is = absurd (no_opening (apply s (origin_entry text)) name rest to is)
-cost-opens inner s (Some (ttl_entry text, rest)) name to is = absurd (no_opening (apply s (ttl_entry text)) name rest to is)
 cost-opens inner s (Some (include_entry named, rest)) name to is =
     let names : named ≡ name = cc in
     let same : rest ≡ to = cc in
     ap (λ (n : List ℕ). suc (inner n + cost inner (entries rest))) names ∙ ap (λ (from : List Symbol). suc (inner name + cost inner (entries from))) same
-cost-opens inner s (Some (owner_line owner settings body, rest)) name to is = absurd (no_opening (apply s (owner_line owner settings body)) name rest to is)
-cost-opens inner s (Some (faulty_entry fault, rest)) name to is = absurd (no_opening (apply s (faulty_entry fault)) name rest to is)
+cost-opens inner s (Some (entry, rest)) name to is = absurd (no_opening (apply s entry) name rest to is)
 
 pub work_went : (texts : Texts) (max : ℕ) (fs : List Frame) (s t : ZoneState) (unread rest : Unread)
     → taken s (symbols unread) ≡ Ok (went t (symbols rest)) → work texts max fs rest < work texts max fs unread

@@ -16,19 +16,14 @@ use Rattle.txt.specs.Entries.{
   Setting,
   class_is,
   default_of,
-  faulty_entry,
   first_entry,
   include_end,
   include_entry,
   include_of,
   first_items,
   line_of,
-  nothing,
-  origin_entry,
   origin_of,
-  owner_line,
   stop_of,
-  ttl_entry,
   ttl_is,
   typed_at,
 }
@@ -53,12 +48,7 @@ went_on made rest = made >>= λ t. Ok (went t rest)
 abbrev pub taken_by : ZoneState → Option (Entry × List Symbol) → Result Taken Fault
 taken_by s None = Ok ended
 taken_by s (Some (include_entry name, rest)) = Ok (opens name rest)
-taken_by s (Some (nothing, rest)) = went_on (apply s nothing) rest
-taken_by s (Some (origin_entry text, rest)) = went_on (apply s (origin_entry text)) rest
-taken_by s (Some (ttl_entry text, rest)) = went_on (apply s (ttl_entry text)) rest
-taken_by s (Some (owner_line owner settings body, rest)) =
-    went_on (apply s (owner_line owner settings body)) rest
-taken_by s (Some (faulty_entry fault, rest)) = went_on (apply s (faulty_entry fault)) rest
+taken_by s (Some (entry, rest)) = went_on (apply s entry) rest
 
 -- what stands next in a list of tokens, and what it makes
 unfoldable pub taken : ZoneState → List Symbol → Result Taken Fault

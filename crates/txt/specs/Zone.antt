@@ -166,11 +166,7 @@ no_texts name = None
 abbrev pub after_entry : (ZoneState → List ℕ → Result ZoneState Fault) → ZoneState → Entry
     → Result ZoneState Fault
 after_entry within s (include_entry name) = within s name
-after_entry within s nothing = apply s nothing
-after_entry within s (origin_entry text) = apply s (origin_entry text)
-after_entry within s (ttl_entry text) = apply s (ttl_entry text)
-after_entry within s (owner_line owner settings body) = apply s (owner_line owner settings body)
-after_entry within s (faulty_entry fault) = apply s (faulty_entry fault)
+after_entry within s entry = apply s entry
 
 -- what entries make of it, one after the other, or the first fault
 unfoldable pub fold : (ZoneState → List ℕ → Result ZoneState Fault) → ZoneState → List Entry
