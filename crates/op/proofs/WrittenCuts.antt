@@ -124,29 +124,29 @@ module _ (m : MessageValue) (limit : ℕ) (fits : Fits m) (kept : MessageKept m)
   abbrev k : State
   k = appended (replicate 12 0) old
 
-  abbrev first : State
-  first = after (in_turn query_written m.queries) k
+  abbrev after_questions : State
+  after_questions = after (in_turn query_written m.queries) k
 
-  abbrev second : State
-  second = after (fitting record_written limit m.answers) first
+  abbrev after_answers : State
+  after_answers = after (fitting record_written limit m.answers) after_questions
 
-  abbrev third : State
-  third = after (fitting record_written limit m.authorities) second
+  abbrev after_authorities : State
+  after_authorities = after (fitting record_written limit m.authorities) after_answers
 
-  abbrev fourth : State
-  fourth = after (fitting record_written limit m.additionals) third
+  abbrev after_additionals : State
+  after_additionals = after (fitting record_written limit m.additionals) after_authorities
 
   abbrev opt : List (Record RData)
   opt = as_list (option_map edns_record (raised m))
 
-  abbrev fifth : State
-  fifth = after (fitting record_written limit opt) fourth
+  abbrev after_edns : State
+  after_edns = after (fitting record_written limit opt) after_additionals
 
   abbrev signature : List (Record RData)
   signature = as_list (option_map signature_record m.signature)
 
-  abbrev sixth : State
-  sixth = after (fitting record_written limit signature) fifth
+  abbrev after_signature : State
+  after_signature = after (fitting record_written limit signature) after_edns
 
   abbrev count : List (Record RData) → State → ℕ
   count rs s = length (that_fit record_written limit rs (length s.bytes) s.suffixes)
@@ -156,25 +156,25 @@ module _ (m : MessageValue) (limit : ℕ) (fits : Fits m) (kept : MessageKept m)
       let (lost, whole, passes) = Fits-cut query_written limit m.queries k in
       none_lost m.queries (that_fit query_written limit m.queries 12 []) lost whole (ltb-false (length (that_fit query_written limit m.queries 12 [])) (length m.queries) asked)
 
-  w_first : length first.bytes ≤ limit
+  w_first : length after_questions.bytes ≤ limit
   w_first =
       let end = fit_end query_written limit m.queries 12 [] room in
       omega (arith, subst (λ (qs : List Query). 12 + length (in_turn query_written qs 12 []).bytes ≤ limit) all_asked end, length-append k.bytes (piece_at (in_turn query_written m.queries) k).bytes)
 
-  w_second : length second.bytes ≤ limit
-  w_second = records_within m.answers first w_first
+  w_second : length after_answers.bytes ≤ limit
+  w_second = records_within m.answers after_questions w_first
 
-  w_third : length third.bytes ≤ limit
-  w_third = records_within m.authorities second w_second
+  w_third : length after_authorities.bytes ≤ limit
+  w_third = records_within m.authorities after_answers w_second
 
-  w_fourth : length fourth.bytes ≤ limit
-  w_fourth = records_within m.additionals third w_third
+  w_fourth : length after_additionals.bytes ≤ limit
+  w_fourth = records_within m.additionals after_authorities w_third
 
-  w_fifth : length fifth.bytes ≤ limit
-  w_fifth = records_within opt fourth w_fourth
+  w_fifth : length after_edns.bytes ≤ limit
+  w_fifth = records_within opt after_additionals w_fourth
 
-  queries : EachWritten QueryWord plain_query query_owner m.queries k first
-  queries = each_of query_written QueryKept QueryWord plain_query query_owner query_says m.queries kept.queries k first refl w_first small
+  queries : EachWritten QueryWord plain_query query_owner m.queries k after_questions
+  queries = each_of query_written QueryKept QueryWord plain_query query_owner query_says m.queries kept.queries k after_questions refl w_first small
 
   limited : IsLimited k
   limited = record { within = room; small = small }
@@ -182,52 +182,52 @@ module _ (m : MessageValue) (limit : ℕ) (fits : Fits m) (kept : MessageKept m)
   abbrev header : Header
   header = record {
     metadata = record m.metadata {
-      truncation = m.metadata.truncation || (nat_lt (count m.answers first) (length m.answers) || (nat_lt (count m.authorities second) (length m.authorities)
-          || (nat_lt (count m.additionals third) (length m.additionals) || (nat_lt (count opt fourth) (length opt) || nat_lt (count signature fifth) (length signature)))));
+      truncation = m.metadata.truncation || (nat_lt (count m.answers after_questions) (length m.answers) || (nat_lt (count m.authorities after_answers) (length m.authorities)
+          || (nat_lt (count m.additionals after_authorities) (length m.additionals) || (nat_lt (count opt after_additionals) (length opt) || nat_lt (count signature after_edns) (length signature)))));
     };
     counts = record {
       queries = length m.queries;
-      answers = count m.answers first;
-      authorities = count m.authorities second;
-      additionals = count m.additionals third + (count opt fourth + count signature fifth);
+      answers = count m.answers after_questions;
+      authorities = count m.authorities after_answers;
+      additionals = count m.additionals after_authorities + (count opt after_additionals + count signature after_edns);
     };
   }
 
   abbrev new : State
-  new = overwritten 0 (header_bytes (raw_header header)) sixth
+  new = overwritten 0 (header_bytes (raw_header header)) after_signature
 
   emitted : Emitted m old new header
   emitted =
-      let answers = records_front m.answers kept.answers first w_first small in
-      let authorities = records_front m.authorities kept.authorities second w_second small in
-      let additionals = records_front m.additionals kept.additionals third w_third small in
-      let edns = records_front opt kept.edns fourth w_fourth small in
-      let signed = records_front signature kept.signature fifth w_fifth small in
-      let none = took_queries m.queries k first queries in
+      let answers = records_front m.answers kept.answers after_questions w_first small in
+      let authorities = records_front m.authorities kept.authorities after_answers w_second small in
+      let additionals = records_front m.additionals kept.additionals after_authorities w_third small in
+      let edns = records_front opt kept.edns after_additionals w_fourth small in
+      let signed = records_front signature kept.signature after_edns w_fifth small in
+      let none = took_queries m.queries k after_questions queries in
       let one = took_front none answers in
       let two = took_front one authorities in
       let three = took_front two additionals in
       let four = took_front three edns in
       let five = took_front four signed in
       record {
-        kept = k;
-        first = first;
-        second = second;
-        third = third;
-        fourth = fourth;
-        fifth = fifth;
-        sixth = sixth;
-        answers_cut = nat_lt (count m.answers first) (length m.answers);
-        authorities_cut = nat_lt (count m.authorities second) (length m.authorities);
-        additionals_cut = nat_lt (count m.additionals third) (length m.additionals);
-        edns_cut = nat_lt (count opt fourth) (length opt);
-        signature_cut = nat_lt (count signature fifth) (length signature);
-        additional_count = count m.additionals third;
-        edns_count = count opt fourth;
-        signature_count = count signature fifth;
+        after_header = k;
+        after_questions = after_questions;
+        after_answers = after_answers;
+        after_authorities = after_authorities;
+        after_additionals = after_additionals;
+        after_edns = after_edns;
+        after_signature = after_signature;
+        answers_cut = nat_lt (count m.answers after_questions) (length m.answers);
+        authorities_cut = nat_lt (count m.authorities after_answers) (length m.authorities);
+        additionals_cut = nat_lt (count m.additionals after_authorities) (length m.additionals);
+        edns_cut = nat_lt (count opt after_additionals) (length opt);
+        signature_cut = nat_lt (count signature after_edns) (length signature);
+        additional_count = count m.additionals after_authorities;
+        edns_count = count opt after_additionals;
+        signature_count = count signature after_edns;
         narrow = record {
           identifier = kept.id;
-          queries = queries_few m.queries k first limited queries refl;
+          queries = queries_few m.queries k after_questions limited queries refl;
           answers = omega (arith, took_few limited one);
           authorities = omega (arith, took_few limited two);
           additionals = omega (arith, took_few limited five);
