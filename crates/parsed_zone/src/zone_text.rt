@@ -109,9 +109,8 @@ pub fn zone_lines(
 pub fn sets_lines(alloc: Global, name: &Name, sets: ZoneSets) -> Result<String, AllocError>
     ensures { IfOk result (λ lines. string_bytes lines ≡ zone_lines (name.now, sets)) }
 {
-    let (first, blocks) = sets.into_blocks()?;
-    let mut lines = zone_lines(alloc, name, first)?;
-    for block in blocks {
+    let mut lines = format!(in alloc; "$ORIGIN {name}\n")?;
+    for block in sets.into_blocks()? {
         add_sets(block, &mut lines)?;
     }
     Ok(lines)

@@ -1,12 +1,13 @@
 -- The sets that records make don't depend on the order of records of other keys.
-use Rattle.std.proofs.Common.{◌≡◌, List, [], ◌∷◌, ◌++◌, refl, ap, sym, ◌∙◌, subst, Bool, true, false, Some, None, Option, Ok}
+use Rattle.std.proofs.Common.{◌≡◌, List, [], ◌∷◌, ◌++◌, ◌+◌, get_or, arith, suc, refl, ap, sym, ◌∙◌, subst, Bool, true, false, Some, None, Option, Ok}
+use Rattle.std.proofs.lemmas.Grind.{get_or_tail}
 use Rattle.std.specs.BTreeMap.{insert_entry, is_at}
 use Rattle.std.specs.Cmp.{tied_itself}
 use Rattle.std.specs.List.{AllByRecursion, filter}
-use Rattle.std.specs.List.Sorted.{IsStrictlySortedBy, IsStableBy, ties}
+use Rattle.std.specs.List.Sorted.{IsSortedBy, IsStrictlySortedBy, IsStableBy, ties}
 use Rattle.std.specs.Map.{keys_of, lookup}
 use Rattle.std.specs.Ordering.{is_eq, is_lt, ordering_reverse}
-use Rattle.std.specs.Prelude.{Err, IfOk, OnOk, Result, cond, is_some, ⊤}
+use Rattle.std.specs.Prelude.{◌≢◌, Err, IfOk, OnOk, Result, cond, is_some, ⊤}
 use Rattle.std.specs.declared.cmp.Ordering.{Ordering}
 use Rattle.std.specs.declared.cmp.Ordering.TheVariants.{Less, Equal, Greater}
 use Rattle.base.proofs.KeyLemmas.{key_cmp-exact, key_cmp-total}
@@ -17,11 +18,11 @@ use Rattle.base_data.specs.Kinds.{type_of_data}
 use Rattle.rr.specs.RecordSet.{SetValue, is_soa, set_of}
 use Rattle.rr.specs.SetChanges.{insert}
 use Rattle.rr.specs.declared.record.Record.{Record}
-use Rattle.txt.specs.Gathered.{KeyedRecords, KnowsSoas, gathered, joined_set, with_all, with_keyed}
+use Rattle.txt.specs.Gathered.{ComesAfter, HasLastKey, IsAscending, KeyedRecords, KnowsSoas, gathered, joined_set, with_all, with_keyed}
 use Rattle.txt.specs.ZoneSets.{AreKeyed, IsKeyed, ZoneSets, sets_with, added_to, set_at}
 use Rattle.rr.specs.Record.{record_key}
 use Rattle.txt.proofs.KeptSets.{insert_kept, new_kept, same_key}
-use Rattle.txt.proofs.SetsInOrder.{AreInOrder, IsAbove, flipped_back, found_last, inserted_after, kept_front, kept_last, kept_push, last_above, none_there, order_front, order_push, put_there, set_last}
+use Rattle.txt.proofs.SetsInOrder.{AreInOrder, IsAbove, flipped_back, found_last, inserted_after, kept_front, kept_last, kept_push, last_above, last_key, none_there, order_front, order_push, put_there, set_last}
 
 own : (key : RrKey) → is_at (key_cmp key) key ≡ true
 own key = ap is_eq (tied_itself key_cmp-total key)
@@ -250,29 +251,68 @@ knows_new soas es e u knows key soa = ap is_some (lookup_put soas e.0 u key) ∙
   go false same = same
 
 -- ---- a run with one record more
--- what a record makes of a run whose last set it joins
+-- what a record makes of a run
+pub record IsGrown (run : ZoneSets) (key : RrKey) (r : Record RData) (after : ZoneSets) : Type 0 where
+  pub sets : after ≡ with_keyed run (key, r)
+  pub kept : AreKeyed after
+  pub ordered : AreInOrder after
+  pub last : HasLastKey after key
+
+-- a record that joins the last set
 pub joins : (run front : ZoneSets) (key : RrKey) (set new : SetValue) (r : Record RData) → run ≡ front ++ (key, set) ∷ [] → key ≡ record_key r
-    → new ≡ (insert set r 0).1 → AreKeyed run → AreInOrder run → (after : ZoneSets) → after ≡ front ++ (key, new) ∷ []
-    → (after ≡ with_keyed run (key, r)) × AreKeyed after × AreInOrder after
+    → new ≡ (insert set r 0).1 → AreKeyed run → AreInOrder run → (after : ZoneSets) → after ≡ front ++ (key, new) ∷ [] → IsGrown run key r after
 joins run front key set new r is own_key changed kept order after made =
     let there : AreKeyed (front ++ (key, set) ∷ []) = subst AreKeyed is kept in
-    let ordered : AreInOrder (front ++ (key, set) ∷ []) = subst AreInOrder is order in
+    let in_order : AreInOrder (front ++ (key, set) ∷ []) = subst AreInOrder is order in
     let old : IsKeyed (record_key r) set = subst (λ (k : RrKey). IsKeyed k set) own_key (kept_last [] front (key, set) there) in
-    let one : IsKeyed key new = subst (λ (k : RrKey). IsKeyed k new) (sym own_key) (subst (IsKeyed (record_key r)) (sym changed) (insert_kept set r old)) in (
-      made ∙ ap (λ (s : SetValue). front ++ (key, s) ∷ []) changed ∙ sym (joined_last front key set r ordered) ∙ ap (λ (zs : ZoneSets). with_keyed zs (key, r)) (sym is),
-      subst AreKeyed (sym made) (kept_push front key new (kept_front front ((key, set) ∷ []) there) one),
-      subst AreInOrder (sym made) (order_push front key new (order_front front ((key, set) ∷ []) ordered) (last_above front key set ordered)),
-    )
+    let one : IsKeyed key new = subst (λ (k : RrKey). IsKeyed k new) (sym own_key) (subst (IsKeyed (record_key r)) (sym changed) (insert_kept set r old)) in
+    record {
+      sets = made ∙ ap (λ (s : SetValue). front ++ (key, s) ∷ []) changed ∙ sym (joined_last front key set r in_order) ∙ ap (λ (zs : ZoneSets). with_keyed zs (key, r)) (sym is);
+      kept = subst AreKeyed (sym made) (kept_push front key new (kept_front front ((key, set) ∷ []) there) one);
+      ordered = subst AreInOrder (sym made) (order_push front key new (order_front front ((key, set) ∷ []) in_order) (last_above front key set in_order));
+      last = subst (λ (zs : ZoneSets). HasLastKey zs key) (sym made) (last_key front (key, new));
+    }
 
--- what a record above all makes of a run
+-- a record above all
 pub follows : (run : ZoneSets) (key : RrKey) (set : SetValue) (r : Record RData) → key ≡ record_key r → set ≡ set_of r → IsAbove key run
-    → AreKeyed run → AreInOrder run → (after : ZoneSets) → after ≡ run ++ (key, set) ∷ [] → (after ≡ with_keyed run (key, r)) × AreKeyed after × AreInOrder after
+    → AreKeyed run → AreInOrder run → (after : ZoneSets) → after ≡ run ++ (key, set) ∷ [] → IsGrown run key r after
 follows run key set r own_key is above kept order after made =
-    let one : IsKeyed key set = subst (λ (k : RrKey). IsKeyed k set) (sym own_key) (subst (IsKeyed (record_key r)) (sym is) (new_kept r)) in (
-      made ∙ ap (λ (s : SetValue). run ++ (key, s) ∷ []) is ∙ sym (new_last run key r above),
-      subst AreKeyed (sym made) (kept_push run key set kept one),
-      subst AreInOrder (sym made) (order_push run key set order above),
-    )
+    let one : IsKeyed key set = subst (λ (k : RrKey). IsKeyed k set) (sym own_key) (subst (IsKeyed (record_key r)) (sym is) (new_kept r)) in
+    record {
+      sets = made ∙ ap (λ (s : SetValue). run ++ (key, s) ∷ []) is ∙ sym (new_last run key r above);
+      kept = subst AreKeyed (sym made) (kept_push run key set kept one);
+      ordered = subst AreInOrder (sym made) (order_push run key set order above);
+      last = subst (λ (zs : ZoneSets). HasLastKey zs key) (sym made) (last_key run (key, set));
+    }
+
+-- the first of these records doesn't come before the last set
+abbrev pub FirstFollows : ZoneSets → KeyedRecords → Type 0
+FirstFollows run [] = ⊤
+FirstFollows run (e ∷ es) = ComesAfter run e.0
+
+pub none_follows : (es : KeyedRecords) → FirstFollows [] es
+none_follows [] = tt
+none_follows (e ∷ es) = λ x at. let none : None ≡ Some x = at in absurd cc
+
+pub first_follows : (run : ZoneSets) (e : RrKey × Record RData) (es : KeyedRecords) → IsAscending (e ∷ es) → HasLastKey run e.0 → FirstFollows run es
+first_follows run e [] up last = tt
+first_follows run e (f ∷ es) up last = λ x at. subst (λ (k : RrKey). key_cmp f.0 k ≢ Less) (sym (last x at)) up.0
+
+pub ascends_after : (e : RrKey × Record RData) (es : KeyedRecords) → IsAscending (e ∷ es) → IsAscending es
+ascends_after e [] up = tt
+ascends_after e (f ∷ es) up = up.1
+
+-- records that were sorted ascend
+pub ascending : (es : KeyedRecords) → IsSortedBy is_below es → IsAscending es
+ascending [] sorted = tt
+ascending (e ∷ []) sorted = tt
+ascending (e ∷ f ∷ es) sorted = (
+  λ less. let below : true ≡ false = sym (ap is_lt less) ∙ sorted 0 e (omega arith) (omega arith) in cc,
+  ascending (f ∷ es) (λ k d from to.
+      let high : get_or (f ∷ es) (k + 1) d ≡ get_or (e ∷ f ∷ es) (suc k + 1) d = ap (λ i. get_or (f ∷ es) i d) (omega arith) ∙ sym (get_or_tail e (f ∷ es) (suc k + 1) d (omega arith)) in
+      let low : get_or (f ∷ es) k d ≡ get_or (e ∷ f ∷ es) (suc k) d = ap (λ i. get_or (f ∷ es) i d) (omega arith) ∙ sym (get_or_tail e (f ∷ es) (suc k) d (omega arith)) in
+      ap (λ x. is_below x (get_or (f ∷ es) k d)) high ∙ ap (is_below (get_or (e ∷ f ∷ es) (suc k + 1) d)) low ∙ sorted (suc k) d (omega arith) (omega (arith, to))),
+)
 
 pub on_ok : {X E P Q : Type 0} (result : Result X E) → (P → Q) → OnOk result P → OnOk result Q
 on_ok (Ok x) f h = f h

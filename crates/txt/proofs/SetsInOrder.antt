@@ -15,6 +15,7 @@ use Rattle.base.proofs.KeyLemmas.{key_cmp-total}
 use Rattle.base.specs.RrKey.{key_cmp}
 use Rattle.base.specs.declared.rr_key.RrKey.{RrKey}
 use Rattle.rr.specs.RecordSet.{SetValue}
+use Rattle.txt.specs.Gathered.{HasLastKey}
 use Rattle.txt.specs.ZoneSets.{AreKeyed, IsKeyed, ZoneSets, set_at}
 
 abbrev pub AreInOrder : ZoneSets → Type 0
@@ -99,6 +100,9 @@ last_of [] e = refl
 last_of (x ∷ es) e =
     let at : length (x ∷ (es ++ e ∷ [])) - 1 ≡ suc (length (es ++ e ∷ []) - 1) = omega (arith, length-append es (e ∷ [])) in
     ap (slice_get (x ∷ (es ++ e ∷ []))) at ∙ last_of es e
+
+pub last_key : (front : ZoneSets) (e : RrKey × SetValue) → HasLastKey (front ++ e ∷ []) e.0
+last_key front e = λ x at. let same : Some e ≡ Some x = sym (last_of front e) ∙ at in cc
 
 -- the entry that stands after the others is the last one
 one_last : (fs front : ZoneSets) (e : RrKey × SetValue) (key : RrKey) (set : SetValue) → fs ≡ front ++ e ∷ [] → slice_get fs (length fs - 1) ≡ Some (key, set)

@@ -1,8 +1,9 @@
 -- The sets that records make, each with its key.
 use Rattle.std.specs.BTreeMap.{insert_entry, is_at}
-use Rattle.std.specs.List.{All}
+use Rattle.std.specs.List.{All, slice_get}
 use Rattle.std.specs.Map.{lookup}
-use Rattle.std.specs.Prelude.{◌≡◌, List, [], ◌∷◌, Option, Some, None, is_some, true, ⊤}
+use Rattle.std.specs.Prelude.{◌≡◌, ◌≢◌, ◌-◌, List, length, [], ◌∷◌, Option, Some, None, is_some, true, ⊤}
+use Rattle.std.specs.declared.cmp.Ordering.TheVariants.{Less}
 use Rattle.base.specs.RrKey.{key_cmp}
 use Rattle.base.specs.declared.rr_key.RrKey.{RrKey}
 use Rattle.base_data.specs.declared.rdata.RData.{RData}
@@ -37,6 +38,22 @@ with_all sets (e ∷ es) = with_all (with_keyed sets e) es
 -- the sets that records make
 abbrev pub gathered : KeyedRecords → ZoneSets
 gathered = with_all []
+
+-- the keys of records never descend
+abbrev pub IsAscending : KeyedRecords → Type 0
+IsAscending [] = ⊤
+IsAscending (e ∷ []) = ⊤
+IsAscending (e ∷ f ∷ es) = (key_cmp f.0 e.0 ≢ Less) × IsAscending (f ∷ es)
+
+-- the key doesn't come before the last one of these
+abbrev pub ComesAfter : ZoneSets → RrKey → Type 0
+ComesAfter sets key = (e : RrKey × SetValue) → slice_get sets (length sets - 1) ≡ Some e
+    → key_cmp key e.0 ≢ Less
+
+-- the last one of these, if there is one, is this key
+abbrev pub HasLastKey : ZoneSets → RrKey → Type 0
+HasLastKey sets key = (e : RrKey × SetValue) → slice_get sets (length sets - 1) ≡ Some e
+    → e.0 ≡ key
 
 -- of the keys of SOA records, those are known that have a set
 abbrev pub KnowsSoas : List (RrKey × ⊤) → KeyedRecords → Type 0

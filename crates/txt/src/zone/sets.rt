@@ -1,14 +1,14 @@
 //! The record sets of a zone, by owner and type.
 
-ghost use Rattle.std.specs.Prelude.{◌≡◌, ◌++◌, ◌-◌, [], IfOk, IsOkUnless, OnOk, Some, length, slice_get, true};
-ghost use Rattle.std.specs.declared.cmp.Ordering.TheVariants.{Equal, Greater};
+ghost use Rattle.std.specs.Prelude.{◌≡◌, ◌∷◌, ◌++◌, [], IfNone, IfOk, IfSome, IsOkUnless, OnOk, true};
+ghost use Rattle.std.specs.declared.cmp.Ordering.TheVariants.{Greater};
 ghost use Rattle.std.specs.List.{AllByRecursion};
 ghost use Rattle.std.specs.List.Sorted.{IsStrictlySortedBy};
 ghost use Rattle.std.specs.Map.{keys_of};
 ghost use Rattle.base.specs.RrKey.{key_cmp};
 ghost use Rattle.base_data.specs.Kinds.{type_of_data};
-ghost use Rattle.rr.specs.RecordSet.{SetValue, is_soa};
-ghost use Rattle.txt.specs.Gathered.{HaveOwnKeys, gathered, with_keyed};
+ghost use Rattle.rr.specs.RecordSet.{is_soa};
+ghost use Rattle.txt.specs.Gathered.{ComesAfter, HasLastKey, HaveOwnKeys, IsAscending, gathered, with_keyed};
 ghost use Rattle.txt.specs.Run.{sets_in};
 ghost use Rattle.txt.specs.Steps.{MakesSets};
 ghost use Rattle.txt.specs.ZoneSets.{AreKeyed, sets_with};
@@ -88,19 +88,15 @@ impl ZoneSets {
         Ok(())
     }
 
-    /// A map of the first sets, at present of none, and the others in blocks, all in the order of their keys. Cheaper
-    /// than the map of all sets.
+    /// The sets in blocks, in the order of their keys. Cheaper than their map.
     ///
     /// # Errors
     ///
     /// If memory runs out.
-    pub fn into_blocks(
-        self,
-    ) -> Result<(BTreeMap<RrKey, RecordSet>, Vec<Vec<(RrKey, RecordSet)>>), AllocError>
-        ensures { IfOk result (λ r. r.0.entries ++ sets_in r.1.items ≡ self) }
+    pub fn into_blocks(self) -> Result<Vec<Vec<(RrKey, RecordSet)>>, AllocError>
+        ensures { IfOk result (λ blocks. sets_in blocks.items ≡ self) }
     {
-        let none = BTreeMap::new(*self.entries.allocator());
-        Ok((none, self.into_run()?.into_blocks()?))
+        self.into_run()?.into_blocks()
     }
 
     /// The map of the sets.
@@ -145,6 +141,7 @@ fn cmp_keys(left: &(RrKey, Record), right: &(RrKey, Record)) -> Ordering
 /// If memory runs out.
 fn gather(entries: Vec<(RrKey, Record)>) -> Result<Run, AllocError>
     requires keyed { HaveOwnKeys entries.items }
+    requires ascending { IsAscending entries.items }
     ensures sets { IfOk result (λ run. run ≡ gathered entries.items) }
     // Each set stands under the key of its owner and type, has a record and is tidy.
     ensures kept { IfOk result (λ run. AreKeyed run) }
@@ -167,43 +164,39 @@ fn add_last(run: &mut Run, key: RrKey, entry: Record) -> Result<(), AllocError>
     requires key { key ≡ record_key entry }
     requires kept { AreKeyed run.old }
     requires ordered { IsStrictlySortedBy key_cmp (keys_of run.old) }
+    // The key doesn't come before that of the last set.
+    requires after { ComesAfter run.old key }
     ensures sets { OnOk result (run.new ≡ with_keyed run.old (key, entry)) }
     // Each set stands under the key of its owner and type, has a record and is tidy.
     ensures kept { OnOk result (AreKeyed run.new) }
     // The sets stand in the order of their keys, each once.
     ensures ordered { OnOk result (IsStrictlySortedBy key_cmp (keys_of run.new)) }
+    ensures last { OnOk result (HasLastKey run.new key) }
 {
-    match order_to_last(run, &key) {
-        // Never so: the records come in the order of their keys.
-        Ordering::Less => Err(AllocError),
-        Ordering::Equal => {
-            let Some((_, mut set)) = run.pop() else {
-                return Ok(());
-            };
+    let set = match take_last(run, &key) {
+        Some(mut set) => {
             set.insert(entry, 0).map_err(|_| AllocError)?;
-            run.push((key, set))
+            set
         }
-        Ordering::Greater => {
-            let set = RecordSet::try_from(entry).map_err(|_| AllocError)?;
-            run.push((key, set))
-        }
-    }
+        None => RecordSet::try_from(entry).map_err(|_| AllocError)?,
+    };
+    run.push((key, set))
 }
 
-/// The order of a key to the last one.
-fn order_to_last(run: &Run, key: &RrKey) -> Ordering
-    requires { IsStrictlySortedBy key_cmp (keys_of run.now) }
-    // Equal only where the last set has this key.
-    ensures last { result ≡ Equal
-        → (set : SetValue) × (slice_get run.now (length run.now - 1) ≡ Some (key.now, set)) }
-    // Greater only where the key comes after all that are there.
-    ensures above { result ≡ Greater
-        → AllByRecursion (λ e. key_cmp key.now e.0 ≡ Greater) run.now }
+/// Takes the last set out if it has this key, which doesn't come before that of the last set.
+fn take_last(run: &mut Run, key: &RrKey) -> Option<RecordSet>
+    requires ordered { IsStrictlySortedBy key_cmp (keys_of run.old) }
+    requires after { ComesAfter run.old key.now }
+    ensures some { IfSome result (λ set. run.old ≡ run.new ++ (key.now, set) ∷ []) }
+    // Else the key comes after all that are there.
+    ensures none { IfNone result ((run.new ≡ run.old)
+        × AllByRecursion (λ e. key_cmp key.now e.0 ≡ Greater) run.old) }
 {
-    match run.last() {
-        Some(last) => key.cmp(&last.0),
-        None => Ordering::Greater,
+    if key.cmp(&run.last()?.0).is_ne() {
+        return None;
     }
+    let (_, set) = run.pop()?;
+    Some(set)
 }
 
 /// The key of a record's owner and type.
