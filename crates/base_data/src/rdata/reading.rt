@@ -88,7 +88,9 @@ pub(crate) trait SizedData: RecordData {
         ensures adds { IfOk result (λ _. AddsPassed [] decoder.old decoder.new) };
 }
 
-/// Reads the data of a kind that ends by itself.
+/// Reads the data of a kind that ends by itself. No reader of a kind is inlined, which is faster: inlined, what is read is
+/// put together of pieces that are as small as some kind needs.
+#[inline(never)]
 pub(crate) fn read_as<R: BinDecodable + RecordData>(
     decoder: &mut BinDecoder<'_>,
 ) -> Result<RData, DecodeError>
@@ -105,6 +107,7 @@ pub(crate) fn read_as<R: BinDecodable + RecordData>(
 }
 
 /// Reads the data of a kind whose end is told by its length.
+#[inline(never)]
 pub(crate) fn read_sized<R: SizedData>(
     decoder: &mut BinDecoder<'_>,
     len: u16,
@@ -122,6 +125,7 @@ pub(crate) fn read_sized<R: SizedData>(
 }
 
 /// Reads the bytes of a type that has no kind of its own (RFC 3597, 3).
+#[inline(never)]
 pub(crate) fn read_carried(
     decoder: &mut BinDecoder<'_>,
     code: RecordType,
