@@ -94,7 +94,7 @@ pub fn zone_lines(
     // The sets that were handed in stand in the order of their keys, each once.
     ensures ordered { IfOk result (λ _. IsOrdered key_cmp sets) }
 {
-    let mut lines = format!(in alloc; "$ORIGIN {name}\n")?;
+    let mut lines = origin_line(alloc, name)?;
     for (_key, set) in sets {
         add_records(set.into_parts().records, &mut lines)?;
     }
@@ -109,11 +109,18 @@ pub fn zone_lines(
 pub fn sets_lines(alloc: Global, name: &Name, sets: ZoneSets) -> Result<String, AllocError>
     ensures { IfOk result (λ lines. string_bytes lines ≡ zone_lines (name.now, sets)) }
 {
-    let mut lines = format!(in alloc; "$ORIGIN {name}\n")?;
+    let mut lines = origin_line(alloc, name)?;
     for block in sets.into_blocks()? {
         add_sets(block, &mut lines)?;
     }
     Ok(lines)
+}
+
+/// The line of an origin (RFC 1035, 5.1).
+fn origin_line(alloc: Global, name: &Name) -> Result<String, AllocError>
+    ensures { IfOk result (λ line. string_bytes line ≡ origin_line name.now) }
+{
+    format!(in alloc; "$ORIGIN {name}\n")
 }
 
 /// Adds the records of sets, a line each.
