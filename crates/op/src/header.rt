@@ -43,6 +43,7 @@ pub struct Header {
 impl Header {
     /// The twelve bytes of the header (RFC 1035, 4.1.1). Bit 0x40 of the fourth is clear, and an opcode whose number
     /// has more than four bits spills into QR.
+    #[inline(always)]
     pub fn to_bytes(&self) -> [u8; 12]
         ensures bytes { result ≡ header_bytes (raw_header self.now) }
         // ID and counts are below 2^16.
