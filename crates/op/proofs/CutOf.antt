@@ -7,31 +7,28 @@ use Rattle.std.proofs.lemmas.List.Elements.{All-cons, All-nil}
 use Rattle.base.specs.Laws.{Holds, IsSpelled, Keeps}
 use Rattle.base.specs.State.{State, Stored}
 use Rattle.base.specs.Words.{Stands}
-use Rattle.base.proofs.ItemLemmas.{Each-keeps}
-use Rattle.base.proofs.LawLemmas.{Keeps-then}
 use Rattle.base.specs.WordLemmas.{first_stands}
 use Rattle.base_data.specs.declared.rdata.RData.{RData}
 use Rattle.rr.specs.Record.{FitsRecord, plain_record}
 use Rattle.rr.specs.declared.record.Record.{Record}
 use Rattle.op.specs.Cut.{IsCut, IsWritten, NoRoom, any_lost, code_range, raised}
 use Rattle.op.specs.EdnsRecord.{edns_record}
-use Rattle.op.specs.Emitted.{Emitted, WritesRecords, query_owner}
+use Rattle.op.specs.Emitted.{Emitted, WritesRecords}
 use Rattle.op.specs.Fits.{Fits, FitsAdditional, FitsEdns, FitsPlain, as_list, signature_record}
 use Rattle.op.specs.Header.{IsHeaderAt, header_bytes, header_value, metadata_value, raw_header}
 use Rattle.op.specs.Message.{IsMessageAt, MessageValue, high_code, message_of}
 use Rattle.op.specs.OpCode.{op_number, op_value}
-use Rattle.op.specs.Query.{QueryWord, plain_query}
 use Rattle.op.specs.ResponseCode.{code_number, code_value}
 use Rattle.op.specs.Section.{HasNeededData, IsPlain, SectionValue, section_of}
 use Rattle.op.specs.declared.edns.Edns.{Edns}
 use Rattle.op.specs.declared.header.Header.{Header}
-use Rattle.op.specs.declared.header.header_counts.HeaderCounts.{HeaderCounts}
 use Rattle.op.specs.declared.header.metadata.Metadata.{Metadata}
 use Rattle.op.specs.declared.op_code.OpCode.{OpCode}
 use Rattle.op.proofs.CodeLemmas.{high_back, metadata_back}
-use Rattle.op.proofs.CutWords.{AreFit, Composed, Ends, all_front, composed, ends, header_len, records_keep, stands_after}
+use Rattle.op.proofs.CutWords.{AreFit, Composed, Ends, all_front, composed, ends, header_len, keeps_additionals, keeps_answers, keeps_authorities, keeps_edns, keeps_questions, keeps_signature, stands_after}
 use Rattle.op.specs.HeaderSays.{header_stands}
 use Rattle.op.proofs.MessageStands.{message_again}
+use Rattle.op.proofs.MessageWrittenLemmas.{same_bits, same_counts}
 use Rattle.op.proofs.SortLemmas.{OneFront, all_end, all_given, one_front, one_opt, sorted_edns, sorted_records, sorted_signature, tail}
 use Rattle.op.proofs.WordsBack.{edns_fits}
 
@@ -80,12 +77,6 @@ same_section : {a b : List (Record RData)} {e f : Option Edns} {s t : Option (Re
     → ◌≡◌ {A = SectionValue} (record { records = a; edns = e; signature = s }) (record { records = b; edns = f; signature = t })
 same_section p q r = rw (p, q, r) refl
 
-same_counts : (c : HeaderCounts) (q a n d : ℕ) → c.queries ≡ q → c.answers ≡ a → c.authorities ≡ n → c.additionals ≡ d → c ≡ record { queries = q; answers = a; authorities = n; additionals = d }
-same_counts c q a n d qs rs ns ds = rw (sym qs, sym rs, sym ns, sym ds) refl
-
-same_bits : (t : Bool) {a b c d f a' b' c' d' f' : Bool} → a ≡ a' → b ≡ b' → c ≡ c' → d ≡ d' → f ≡ f' → (t || (a || (b || (c || (d || f))))) ≡ (t || (a' || (b' || (c' || (d' || f')))))
-same_bits t p q r s u = rw (p, q, r, s, u) refl
-
 module _ (m : MessageValue) (old new : State) (h : Header) (e : Emitted m old new h) (fits : Fits m) (empty : old.bytes ≡ []) (untold : old.suffixes ≡ []) where
   -- ---- the bytes
 
@@ -116,35 +107,17 @@ module _ (m : MessageValue) (old new : State) (h : Header) (e : Emitted m old ne
 
   -- ---- what keeps the limit
 
-  kq : Keeps e.after_header e.after_questions
-  kq = Each-keeps QueryWord plain_query query_owner m.queries e.after_header e.after_questions e.queries
-
-  k1 : Keeps e.after_header e.after_answers
-  k1 = Keeps-then kq (records_keep e.answers)
-
-  k2 : Keeps e.after_header e.after_authorities
-  k2 = Keeps-then k1 (records_keep e.authorities)
-
-  k3 : Keeps e.after_header e.after_additionals
-  k3 = Keeps-then k2 (records_keep e.additionals)
-
-  k4 : Keeps e.after_header e.after_edns
-  k4 = Keeps-then k3 (records_keep e.edns)
-
-  k5 : Keeps e.after_header e.after_signature
-  k5 = Keeps-then k4 (records_keep e.signature)
-
   limit_kept : e.after_header.limit ≡ old.limit
   limit_kept = ap (λ (s : State). s.limit) e.place
 
   grown : length e.after_header.bytes ≤ length e.after_signature.bytes
-  grown = omega (arith, ap length k5.bytes, length-append e.after_header.bytes k5.appended)
+  grown = omega (arith, ap length (keeps_signature e).bytes, length-append e.after_header.bytes (keeps_signature e).appended)
 
   new_len : length new.bytes ≡ length e.after_signature.bytes
   new_len = omega (arith, ap length bytes_are, length-append (header_bytes (raw_header h)) (drop 12 e.after_signature.bytes), length-drop 12 e.after_signature.bytes, header_len (raw_header h), grown, kept_len)
 
   small : length new.bytes ≤ old.limit
-  small = omega (arith, new_len, k5.within, limit_kept, e.room)
+  small = omega (arith, new_len, (keeps_signature e).within, limit_kept, e.room)
 
   -- ---- what was kept
 
@@ -342,14 +315,14 @@ module _ (m : MessageValue) (old new : State) (h : Header) (e : Emitted m old ne
     edns_stands = last.edns;
     signature_stands = last.signature;
     queries = refl;
-    answers = record { lost = e.answers.lost; front = e.answers.whole; full = no_room e.answers kq };
-    authorities = record { lost = e.authorities.lost; front = e.authorities.whole; full = no_room e.authorities k1 };
-    additionals = record { lost = e.additionals.lost; front = e.additionals.whole; full = no_room e.additionals k2 };
+    answers = record { lost = e.answers.lost; front = e.answers.whole; full = no_room e.answers (keeps_questions e) };
+    authorities = record { lost = e.authorities.lost; front = e.authorities.whole; full = no_room e.authorities (keeps_answers e) };
+    additionals = record { lost = e.additionals.lost; front = e.additionals.whole; full = no_room e.additionals (keeps_authorities e) };
     edns =
         record {
           lost = one_edns.rest;
           front = one_edns.front;
-          full = no_room_of edns_record old.limit (length e.after_edns.bytes) one_edns.rest (subst (NoRoom plain_record old.limit (length e.after_edns.bytes)) one_edns.lost_is (no_room e.edns k3));
+          full = no_room_of edns_record old.limit (length e.after_edns.bytes) one_edns.rest (subst (NoRoom plain_record old.limit (length e.after_edns.bytes)) one_edns.lost_is (no_room e.edns (keeps_additionals e)));
         };
     signature = record {
       lost = one_signature.rest;
@@ -357,7 +330,7 @@ module _ (m : MessageValue) (old new : State) (h : Header) (e : Emitted m old ne
       full =
           subst (λ n. NoRoom (λ r. plain_record (signature_record r)) old.limit n one_signature.rest) (sym new_len)
           (no_room_of signature_record old.limit (length e.after_signature.bytes) one_signature.rest
-          (subst (NoRoom plain_record old.limit (length e.after_signature.bytes)) one_signature.lost_is (no_room e.signature k4)));
+          (subst (NoRoom plain_record old.limit (length e.after_signature.bytes)) one_signature.lost_is (no_room e.signature (keeps_edns e))));
     };
     metadata = metadata_is;
     short = words.short;

@@ -63,11 +63,7 @@ module _ {E : Type 0} (word : E → List ℕ → ℕ → ℕ → Type 0) (plain 
           passes = front.8;
         }
     front_counted (Err refusals.Memory) w emits counts = absurd (let is = counts in cc)
-    front_counted (Err refusals.MaxBufferSizeExceeded) w emits counts = absurd emits
-    front_counted (Err refusals.NotOpt) w emits counts = absurd emits
-    front_counted (Err (refusals.Message text)) w emits counts = absurd emits
-    front_counted (Err refusals.NotAResponse) w emits counts = absurd emits
-    front_counted (Err (refusals.Decode e)) w emits counts = absurd emits
+    front_counted (Err other) w emits counts = absurd emits
 
     -- a part that was counted is a front
     pub slice_front : (w : Written) → EmitsPart slice_emits s t a (Ok w) b → WritesFront word plain owner f s.rest.now a b w.count w.is_cut

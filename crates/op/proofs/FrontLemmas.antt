@@ -112,11 +112,7 @@ module _ {E : Type 0} (word : E → List ℕ → ℕ → ℕ → Type 0) (plain 
           | inr (all, left) ↦ absurd (let is = step.0 in cc)
         ]
     one_item (Err refusals.Memory) result first emits counts = rw counts refl
-    one_item (Err refusals.MaxBufferSizeExceeded) result first emits counts = absurd emits
-    one_item (Err refusals.NotOpt) result first emits counts = absurd emits
-    one_item (Err (refusals.Message text)) result first emits counts = absurd emits
-    one_item (Err refusals.NotAResponse) result first emits counts = absurd emits
-    one_item (Err (refusals.Decode e)) result first emits counts = absurd emits
+    one_item (Err other) result first emits counts = absurd emits
 
 -- items whose words are read of a value are that value's items
 module _ {A E : Type 0} (view : A → E) (word : E → List ℕ → ℕ → ℕ → Type 0) (plain : E → ℕ) (owner : E → List (List ℕ)) (f : E → Writing) where

@@ -23,11 +23,7 @@ Left m old new f = (f ≡ refusals.Memory) ⊎ Leaves m old f new
 pub room_failed : (m : MessageValue) (old new : State) (f : ProtoError) → KeepsRoom old (Err f) new → Left m old new f
 room_failed m old new refusals.Memory run = inl refl
 room_failed m old new refusals.MaxBufferSizeExceeded run = inr (run.1, run.0)
-room_failed m old new (refusals.NotAllRecordsWritten count) run = absurd run.1
-room_failed m old new refusals.NotOpt run = absurd run.1
-room_failed m old new (refusals.Message text) run = absurd run.1
-room_failed m old new refusals.NotAResponse run = absurd run.1
-room_failed m old new (refusals.Decode d) run = absurd run.1
+room_failed m old new other run = absurd run.1
 
 module _ (m : MessageValue) (s : Slices) (are : AreOf m s) (old new : State) (place : ℕ) (kept : State) (room : KeepsRoom old (Ok place) kept) where
   -- the questions before one that had no room
@@ -54,8 +50,4 @@ module _ (m : MessageValue) (s : Slices) (are : AreOf m s) (old new : State) (pl
   queries_failed (refusals.NotAllRecordsWritten count) run =
       let front = Emits-front QueryWord plain_query query_owner query_written s.queries.before s.queries.rest kept new count run in
       inr (not_all front.0 front.2 front.1 count front.3 front.4 front.5 front.6 front.7 front.8)
-  queries_failed refusals.MaxBufferSizeExceeded run = absurd run
-  queries_failed refusals.NotOpt run = absurd run
-  queries_failed (refusals.Message text) run = absurd run
-  queries_failed refusals.NotAResponse run = absurd run
-  queries_failed (refusals.Decode d) run = absurd run
+  queries_failed other run = absurd run

@@ -39,11 +39,7 @@ part_failed s t a b (Err (refusals.NotAllRecordsWritten n)) e emits counts =
     let front = Emits-front RecordWord plain_record record_owner record_written s t a b n emits in
     inr (record { kept = front.0; written = front.4; exact = front.7; many = omega (arith, counts.0, front.5) })
 part_failed s t a b (Err refusals.Memory) e emits counts = inl (same_err {Y = Written} e refusals.Memory counts)
-part_failed s t a b (Err refusals.MaxBufferSizeExceeded) e emits counts = absurd emits
-part_failed s t a b (Err refusals.NotOpt) e emits counts = absurd emits
-part_failed s t a b (Err (refusals.Message text)) e emits counts = absurd emits
-part_failed s t a b (Err refusals.NotAResponse) e emits counts = absurd emits
-part_failed s t a b (Err (refusals.Decode d)) e emits counts = absurd emits
+part_failed s t a b (Err other) e emits counts = absurd emits
 
 -- After the state k, with the room for a header, no more records stand than a header can count.
 module _ (k : State) (limited : IsLimited k) (e : ProtoError) where
@@ -150,11 +146,7 @@ has_no_room m old new (refusals.NotAllRecordsWritten count) room left =
     let blank = length-append old.bytes (replicate 12 0) in
     let full = front_full m.queries (appended (replicate 12 0) old) new count left.1 in
     omega (arith, left.0, full, blank, room)
-has_no_room m old new refusals.Memory room left = left
-has_no_room m old new refusals.NotOpt room left = left
-has_no_room m old new (refusals.Message text) room left = left
-has_no_room m old new refusals.NotAResponse room left = left
-has_no_room m old new (refusals.Decode d) room left = left
+has_no_room m old new other room left = left
 
 pub no_room : (m : MessageValue) (old new : State) (e : ProtoError) → old.bytes ≡ [] → Leaves m old e new → IsTooSmall m old.limit e
 no_room m old new refusals.MaxBufferSizeExceeded empty left = omega (arith, left.0, ap length empty)
@@ -162,8 +154,4 @@ no_room m old new (refusals.NotAllRecordsWritten count) empty left =
     let blank = length-append old.bytes (replicate 12 0) in
     let full = front_full m.queries (appended (replicate 12 0) old) new count left.1 in
     (omega (arith, left.0, ap length empty), omega (arith, full, blank, ap length empty))
-no_room m old new refusals.Memory empty left = absurd left
-no_room m old new refusals.NotOpt empty left = absurd left
-no_room m old new (refusals.Message text) empty left = absurd left
-no_room m old new refusals.NotAResponse empty left = absurd left
-no_room m old new (refusals.Decode d) empty left = absurd left
+no_room m old new other empty left = absurd left
