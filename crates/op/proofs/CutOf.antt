@@ -19,7 +19,7 @@ use Rattle.op.specs.Header.{IsHeaderAt, header_bytes, header_value, metadata_val
 use Rattle.op.specs.Message.{IsMessageAt, MessageValue, high_code, message_of}
 use Rattle.op.specs.OpCode.{op_number, op_value}
 use Rattle.op.specs.ResponseCode.{code_number, code_value}
-use Rattle.op.specs.Section.{HasNeededData, IsPlain, SectionValue, section_of}
+use Rattle.op.specs.Section.{HasNeededData, IsPlain, section_of}
 use Rattle.op.specs.declared.edns.Edns.{Edns}
 use Rattle.op.specs.declared.header.Header.{Header}
 use Rattle.op.specs.declared.header.metadata.Metadata.{Metadata}
@@ -28,7 +28,6 @@ use Rattle.op.proofs.CodeLemmas.{high_back, metadata_back}
 use Rattle.op.proofs.CutWords.{AreFit, Composed, Ends, all_front, composed, ends, header_len, keeps_additionals, keeps_answers, keeps_authorities, keeps_edns, keeps_questions, keeps_signature, stands_after}
 use Rattle.op.specs.HeaderSays.{header_stands}
 use Rattle.op.proofs.MessageStands.{message_again}
-use Rattle.op.proofs.MessageWrittenLemmas.{same_bits, same_counts}
 use Rattle.op.proofs.SortLemmas.{OneFront, all_end, all_given, one_front, one_opt, sorted_edns, sorted_records, sorted_signature, tail}
 use Rattle.op.proofs.WordsBack.{edns_fits}
 
@@ -72,10 +71,6 @@ no_room_of f limit place (x ∷ rest) full = full
 lost_of : {X : Type 0} (f : X → Record RData) (rest : List X) → any_lost (map f rest) ≡ any_lost rest
 lost_of f [] = refl
 lost_of f (x ∷ rest) = refl
-
-same_section : {a b : List (Record RData)} {e f : Option Edns} {s t : Option (Record (List ℕ))} → a ≡ b → e ≡ f → s ≡ t
-    → ◌≡◌ {A = SectionValue} (record { records = a; edns = e; signature = s }) (record { records = b; edns = f; signature = t })
-same_section p q r = rw (p, q, r) refl
 
 module _ (m : MessageValue) (old new : State) (h : Header) (e : Emitted m old new h) (fits : Fits m) (empty : old.bytes ≡ []) (untold : old.suffixes ≡ []) where
   -- ---- the bytes
@@ -226,10 +221,11 @@ module _ (m : MessageValue) (old new : State) (h : Header) (e : Emitted m old ne
   plain rs fit = subst (λ o. All (IsPlain o) rs) (sym op_kept) (λ k d below. record { given = (fit k d below).given; placed = (fit k d below).placed })
 
   sorted : section_of (e.additionals.kept ++ tail one_edns.some one_signature.some) ≡ record { records = e.additionals.kept; edns = one_edns.some; signature = one_signature.some }
-  sorted = same_section
-      (sorted_records e.additionals.kept m.metadata.op_code fits_additionals one_edns.some one_signature.some)
-      (sorted_edns e.additionals.kept m.metadata.op_code fits_additionals one_edns.some one_signature.some fits_edns)
-      (sorted_signature e.additionals.kept m.metadata.op_code fits_additionals one_edns.some one_signature.some)
+  sorted = λ i. record {
+    records = sorted_records e.additionals.kept m.metadata.op_code fits_additionals one_edns.some one_signature.some i;
+    edns = sorted_edns e.additionals.kept m.metadata.op_code fits_additionals one_edns.some one_signature.some fits_edns i;
+    signature = sorted_signature e.additionals.kept m.metadata.op_code fits_additionals one_edns.some one_signature.some i;
+  }
 
   all_counted : h.counts.additionals ≡ length (e.additionals.kept ++ tail one_edns.some one_signature.some)
   all_counted =
@@ -253,9 +249,7 @@ module _ (m : MessageValue) (old new : State) (h : Header) (e : Emitted m old ne
     authorities = length e.authorities.kept;
     additionals = length (e.additionals.kept ++ tail one_edns.some one_signature.some);
   }
-  counted =
-      same_counts h.counts (length m.queries) (length e.answers.kept) (length e.authorities.kept)
-      (length (e.additionals.kept ++ tail one_edns.some one_signature.some)) e.query_count e.answers.counted e.authorities.counted all_counted
+  counted = λ i. record { queries = e.query_count i; answers = e.answers.counted i; authorities = e.authorities.counted i; additionals = all_counted i }
 
   abbrev message_word : IsMessageAt new.bytes 0 message (length new.bytes)
   message_word = record {
@@ -288,9 +282,8 @@ module _ (m : MessageValue) (old new : State) (h : Header) (e : Emitted m old ne
   lost_bit = m.metadata.truncation || (any_lost e.answers.lost || (any_lost e.authorities.lost || (any_lost e.additionals.lost || (any_lost one_edns.rest || any_lost one_signature.rest))))
 
   tells : cut_bit ≡ lost_bit
-  tells = same_bits m.metadata.truncation e.answers.tells e.authorities.tells e.additionals.tells
-      (e.edns.tells ∙ ap any_lost one_edns.lost_is ∙ lost_of edns_record one_edns.rest)
-      (e.signature.tells ∙ ap any_lost one_signature.lost_is ∙ lost_of signature_record one_signature.rest)
+  tells = λ i. m.metadata.truncation || (e.answers.tells i || (e.authorities.tells i || (e.additionals.tells i
+      || ((e.edns.tells ∙ ap any_lost one_edns.lost_is ∙ lost_of edns_record one_edns.rest) i || (e.signature.tells ∙ ap any_lost one_signature.lost_is ∙ lost_of signature_record one_signature.rest) i))))
 
   metadata_is : high_code one_edns.some (metadata_value (raw_header h))
       ≡ record m.metadata { truncation = lost_bit; response_code = code_value (code_number m.metadata.response_code % code_range one_edns.some) }

@@ -1,9 +1,8 @@
 -- A message that was composed of slices was emitted.
-use Rattle.std.proofs.Common.{◌≡◌, ℕ, ◌+◌, Bool, true, false, List, [], ◌∷◌, length, refl, ap, sym, ◌∙◌, subst, arith, Result, Ok, Err, Bor, Iter}
+use Rattle.std.proofs.Common.{◌≡◌, ℕ, ◌+◌, Bool, true, false, List, length, refl, ap, sym, ◌∙◌, subst, arith, Result, Ok, Err, Bor, Iter}
 use Rattle.std.specs.Prelude.{◌||◌, ⊤, IsSomeAnd, MatchOption, Option, Some, None}
 use Rattle.std.specs.Option.{option_copied, option_map}
 use Rattle.std.proofs.iter.Yields.{fronts}
-use Rattle.std.proofs.lemmas.List.{append-nil}
 use Rattle.base.specs.Items.{EachWritten, EmitsAll}
 use Rattle.base.specs.State.{State, overwritten}
 use Rattle.base.specs.declared.error.proto_error.ProtoError.{ProtoError}
@@ -24,6 +23,7 @@ use Rattle.op.specs.Query.{QueryWord, plain_query, query_written}
 use Rattle.op.specs.declared.header.Header.{Header}
 use Rattle.op.specs.declared.message.writing.Written.{Written}
 use Rattle.op.specs.declared.query.Query.{Query}
+use Rattle.op.proofs.FrontLemmas.{all_written, front_written}
 use Rattle.op.proofs.RunLemmas.{went}
 use Rattle.base.specs.Written.{Writing, after, in_turn}
 
@@ -38,30 +38,10 @@ module _ {E : Type 0} (word : E → List ℕ → ℕ → ℕ → Type 0) (plain 
     front_counted : (answer : Result ℕ ProtoError) (w : Written) → slice_emits s a answer t b → CountsItems answer (Ok w) → WritesFront word plain owner f s.rest.now a b w.count w.is_cut
     front_counted (Ok n) w emits counts =
         let all = Emits-slice word plain owner f s t a b n emits in
-        record {
-          kept = s.rest.now;
-          lost = [];
-          whole = sym (append-nil s.rest.now);
-          written = all.0;
-          counted = ap (λ v. v.count) counts.1 ∙ all.1;
-          tells = ap (λ v. v.is_cut) counts.1;
-          full = tt;
-          exact = all.2;
-          passes = tt;
-        }
+        all_written word plain owner f refl all.0 all.2 (ap (λ v. v.count) counts.1 ∙ all.1) (ap (λ v. v.is_cut) counts.1)
     front_counted (Err (refusals.NotAllRecordsWritten n)) w emits counts =
         let front = Emits-front word plain owner f s t a b n emits in
-        record {
-          kept = front.0;
-          lost = front.1 ∷ front.2;
-          whole = front.3;
-          written = front.4;
-          counted = ap (λ v. v.count) counts.1 ∙ front.5;
-          tells = ap (λ v. v.is_cut) counts.1;
-          full = front.6;
-          exact = front.7;
-          passes = front.8;
-        }
+        front_written word plain owner f front.0 front.2 front.1 front.3 front.4 front.7 (ap (λ v. v.count) counts.1 ∙ front.5) (ap (λ v. v.is_cut) counts.1) front.6 front.8
     front_counted (Err refusals.Memory) w emits counts = absurd (let is = counts in cc)
     front_counted (Err other) w emits counts = absurd emits
 

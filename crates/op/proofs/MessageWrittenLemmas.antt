@@ -10,6 +10,7 @@ use Rattle.base.specs.Written.{Writing, piece_at, after, both, fitting, in_turn,
 use Rattle.base.proofs.FittingLemmas.{Fits-front}
 use Rattle.base.proofs.WrittenLemmas.{after-both}
 use Rattle.rr.specs.Record.{record_written}
+use Rattle.op.proofs.FrontLemmas.{all_written}
 use Rattle.op.specs.Cut.{any_lost}
 use Rattle.op.specs.Emitted.{Emitted, WritesFront, query_owner}
 use Rattle.op.specs.Header.{header_bytes, raw_header}
@@ -17,7 +18,6 @@ use Rattle.op.specs.Message.{MessageValue}
 use Rattle.op.specs.MessageWritten.{Part, Parts, body, header_of, message_written, part_within, parts_of}
 use Rattle.op.specs.Query.{QueryWord, plain_query, query_written}
 use Rattle.op.specs.declared.header.Header.{Header}
-use Rattle.op.specs.declared.header.header_counts.HeaderCounts.{HeaderCounts}
 use Rattle.op.proofs.CutWords.{keeps_additionals, keeps_answers, keeps_authorities, keeps_edns, keeps_questions, keeps_signature}
 
 abbrev state : ℕ → ℕ → List ℕ → List Stored → State
@@ -73,12 +73,6 @@ module _ {E : Type 0} {word : E → List ℕ → ℕ → ℕ → Type 0} {plain 
 
 -- ---- a message that was emitted
 
-pub same_counts : (c : HeaderCounts) (q a n d : ℕ) → c.queries ≡ q → c.answers ≡ a → c.authorities ≡ n → c.additionals ≡ d → c ≡ record { queries = q; answers = a; authorities = n; additionals = d }
-same_counts c q a n d qs rs ns ds = rw (sym qs, sym rs, sym ns, sym ds) refl
-
-pub same_bits : (t : Bool) {a b c d f a' b' c' d' f' : Bool} → a ≡ a' → b ≡ b' → c ≡ c' → d ≡ d' → f ≡ f' → (t || (a || (b || (c || (d || f))))) ≡ (t || (a' || (b' || (c' || (d' || f')))))
-same_bits t p q r s u = rw (p, q, r, s, u) refl
-
 module _ (m : MessageValue) (old new : State) (h : Header) (e : Emitted m old new h) where
   abbrev parts : Parts
   parts = parts_of old.limit m (length old.bytes + 12) old.suffixes
@@ -91,17 +85,7 @@ module _ (m : MessageValue) (old new : State) (h : Header) (e : Emitted m old ne
 
   -- all questions are a front of them
   asked : WritesFront QueryWord plain_query query_owner query_written m.queries e.after_header e.after_questions (length m.queries) false
-  asked = record {
-    kept = m.queries;
-    lost = [];
-    whole = sym (append-nil m.queries);
-    written = e.queries;
-    counted = refl;
-    tells = refl;
-    full = tt;
-    exact = e.asked;
-    passes = tt;
-  }
+  asked = all_written QueryWord plain_query query_owner query_written refl e.queries e.asked refl refl
 
   pub queries : IsPart query_written parts.queries e.after_header e.after_questions (length m.queries) false
   queries = part_stands asked old.limit (ap (λ (u : State). u.limit) e.place) (within (keeps_questions e)) (length old.bytes + 12) old.suffixes
@@ -142,10 +126,10 @@ module _ (m : MessageValue) (old new : State) (h : Header) (e : Emitted m old ne
   header_is =
       let more : h.counts.additionals ≡ length parts.additionals.kept + (length parts.edns.kept + length parts.signature.kept) =
       omega (arith, e.sum, additionals.counted, edns.counted, signature.counted) in
-      let counts = same_counts h.counts _ _ _ _ (e.query_count ∙ queries.counted) answers.counted authorities.counted more in
-      let metadata = e.metadata ∙ ap (λ (t : Bool). record m.metadata { truncation = t })
-      (same_bits m.metadata.truncation answers.tells authorities.tells additionals.tells edns.tells signature.tells) in
-      λ i. record { metadata = metadata i; counts = counts i }
+      let counted : h.counts ≡ (header_of m parts).counts = λ i. record { queries = (e.query_count ∙ queries.counted) i; answers = answers.counted i; authorities = authorities.counted i; additionals = more i } in
+      let told : (m.metadata.truncation || (e.answers_cut || (e.authorities_cut || (e.additionals_cut || (e.edns_cut || e.signature_cut))))) ≡ (header_of m parts).metadata.truncation =
+      λ i. m.metadata.truncation || (answers.tells i || (authorities.tells i || (additionals.tells i || (edns.tells i || signature.tells i)))) in
+      λ i. record { metadata = (e.metadata ∙ ap (λ (t : Bool). record m.metadata { truncation = t }) told) i; counts = counted i }
 
   -- The bytes of a message that was emitted are a function of the message and the limit.
   pub emitted_exact : new ≡ after (message_written old.limit m) old
