@@ -2,6 +2,7 @@
 use Rattle.std.proofs.Common.{◌≡◌, ℕ, ◌+◌, ◌/◌, ◌%◌, ◌<◌, ◌≤◌, Bool, List, [], ◌∷◌, ◌++◌, length, take, drop, refl, ap, sym, ◌∙◌, subst, arith, length-append, length-drop, Option, Some, None}
 use Rattle.std.specs.Prelude.{All, map, replicate, ◌||◌}
 use Rattle.std.specs.Option.{option_map}
+use Rattle.std.proofs.Math.Path.{transport}
 use Rattle.std.proofs.Math.Seq.{take-length}
 use Rattle.std.proofs.lemmas.List.Elements.{All-cons, All-nil}
 use Rattle.base.specs.Laws.{Holds, IsSpelled, Keeps}
@@ -155,32 +156,17 @@ module _ (m : MessageValue) (old new : State) (h : Header) (e : Emitted m old ne
 
   -- ---- the words
 
-  all : List (Record RData)
-  all = e.additionals.kept ++ tail one_edns.some one_signature.some
-
   words : Composed new.bytes m.queries e.answers.kept e.authorities.kept (e.additionals.kept ++ tail one_edns.some one_signature.some) 12 (length e.after_questions.bytes) (length e.after_answers.bytes)
       (length e.after_authorities.bytes) (length new.bytes)
   words =
-      let c = composed new.bytes m old new h e are_fit holds in
-      let listed_edns = subst (λ es. Composed new.bytes m.queries e.answers.kept e.authorities.kept (e.additionals.kept ++ (es ++ e.signature.kept))
-      (length e.after_header.bytes) (length e.after_questions.bytes) (length e.after_answers.bytes) (length e.after_authorities.bytes) (length e.after_signature.bytes)) one_edns.kept_is c in
-      let listed_signature = subst (λ ss. Composed new.bytes m.queries e.answers.kept e.authorities.kept (e.additionals.kept ++ (as_list (option_map edns_record one_edns.some) ++ ss))
-      (length e.after_header.bytes) (length e.after_questions.bytes) (length e.after_answers.bytes) (length e.after_authorities.bytes) (length e.after_signature.bytes)) one_signature.kept_is listed_edns in
-      let from12 = subst (λ n. Composed new.bytes m.queries e.answers.kept e.authorities.kept (e.additionals.kept ++ tail one_edns.some one_signature.some)
-      n (length e.after_questions.bytes) (length e.after_answers.bytes) (length e.after_authorities.bytes) (length e.after_signature.bytes)) kept_len listed_signature in
-      subst (λ n. Composed new.bytes m.queries e.answers.kept e.authorities.kept (e.additionals.kept ++ tail one_edns.some one_signature.some)
-      12 (length e.after_questions.bytes) (length e.after_answers.bytes) (length e.after_authorities.bytes) n) (sym new_len) from12
+      transport (λ i. Composed new.bytes m.queries e.answers.kept e.authorities.kept (e.additionals.kept ++ (one_edns.kept_is i ++ one_signature.kept_is i))
+      (kept_len i) (length e.after_questions.bytes) (length e.after_answers.bytes) (length e.after_authorities.bytes) (sym new_len i)) (composed new.bytes m old new h e are_fit holds)
 
   last : Ends new.bytes e.additionals.kept (as_list (option_map edns_record one_edns.some)) (as_list (option_map signature_record one_signature.some)) (length e.after_authorities.bytes)
       (length e.after_additionals.bytes) (length e.after_edns.bytes) (length new.bytes)
   last =
-      let c = ends new.bytes m old new h e are_fit holds in
-      let listed_edns = subst (λ es. Ends new.bytes e.additionals.kept es e.signature.kept (length e.after_authorities.bytes) (length e.after_additionals.bytes) (length e.after_edns.bytes) (length e.after_signature.bytes))
-      one_edns.kept_is c in
-      let listed_signature = subst (λ ss. Ends new.bytes e.additionals.kept (as_list (option_map edns_record one_edns.some)) ss
-      (length e.after_authorities.bytes) (length e.after_additionals.bytes) (length e.after_edns.bytes) (length e.after_signature.bytes)) one_signature.kept_is listed_edns in
-      subst (λ n. Ends new.bytes e.additionals.kept (as_list (option_map edns_record one_edns.some)) (as_list (option_map signature_record one_signature.some))
-      (length e.after_authorities.bytes) (length e.after_additionals.bytes) (length e.after_edns.bytes) n) (sym new_len) listed_signature
+      transport (λ i. Ends new.bytes e.additionals.kept (one_edns.kept_is i) (one_signature.kept_is i) (length e.after_authorities.bytes) (length e.after_additionals.bytes) (length e.after_edns.bytes) (sym new_len i))
+      (ends new.bytes m old new h e are_fit holds)
 
   -- ---- the header
 
@@ -195,9 +181,6 @@ module _ (m : MessageValue) (old new : State) (h : Header) (e : Emitted m old ne
 
   abbrev cut_bit : Bool
   cut_bit = m.metadata.truncation || (e.answers_cut || (e.authorities_cut || (e.additionals_cut || (e.edns_cut || e.signature_cut))))
-
-  number : ℕ
-  number = code_number m.metadata.response_code
 
   metadata_read : metadata_value (raw_header h) ≡ record m.metadata { truncation = cut_bit; response_code = code_value (code_number m.metadata.response_code % 16) }
   metadata_read = metadata_back h small_op op_reads ∙ ap (λ (x : Metadata). record x { response_code = code_value (code_number x.response_code % 16) }) e.metadata
