@@ -4,7 +4,7 @@ use Rattle.std.specs.Prelude.{All, map, replicate, ◌||◌}
 use Rattle.std.specs.Option.{option_map}
 use Rattle.std.proofs.Math.Path.{transport}
 use Rattle.std.proofs.Math.Seq.{take-length}
-use Rattle.std.proofs.lemmas.List.Elements.{All-cons, All-nil}
+use Rattle.std.proofs.lemmas.List.Elements.{All-cons, All-nil, All-same}
 use Rattle.base.specs.Laws.{Holds, IsSpelled, Keeps}
 use Rattle.base.specs.State.{State, Stored}
 use Rattle.base.specs.Words.{Stands}
@@ -84,12 +84,9 @@ module _ (m : MessageValue) (old new : State) (h : Header) (e : Emitted m old ne
   kept_len : length e.after_header.bytes ≡ 12
   kept_len = ap (λ (s : State). length s.bytes) e.place ∙ length-append old.bytes (replicate 12 0) ∙ ap (λ (xs : List ℕ). length xs + 12) empty
 
-  kept_suffixes : e.after_header.suffixes ≡ []
-  kept_suffixes = ap (λ (s : State). s.suffixes) e.place ∙ untold
-
   holds : Holds e.after_header e.after_signature new.bytes
   holds = record {
-    table = record { each = subst (λ (ts : List Stored). All (IsSpelled new.bytes (length e.after_header.bytes)) ts) (sym kept_suffixes) (All-nil (IsSpelled new.bytes (length e.after_header.bytes))) };
+    table = record { each = All-same (IsSpelled new.bytes (length e.after_header.bytes)) e.after_header.suffixes [] (ap (λ (s : State). s.suffixes) e.place ∙ untold) (All-nil (IsSpelled new.bytes (length e.after_header.bytes))) };
     bytes =
         let at12 : Stands (drop 12 e.after_signature.bytes) (header_bytes (raw_header h) ++ drop 12 e.after_signature.bytes) 12 = stands_after (header_bytes (raw_header h)) (drop 12 e.after_signature.bytes) refl in
         let there : Stands (drop 12 e.after_signature.bytes) new.bytes 12 = subst (λ xs. Stands (drop 12 e.after_signature.bytes) xs 12) (sym bytes_are) at12 in
@@ -106,14 +103,11 @@ module _ (m : MessageValue) (old new : State) (h : Header) (e : Emitted m old ne
   limit_kept : e.after_header.limit ≡ old.limit
   limit_kept = ap (λ (s : State). s.limit) e.place
 
-  grown : length e.after_header.bytes ≤ length e.after_signature.bytes
-  grown = omega (arith, ap length (keeps_signature e).bytes, length-append e.after_header.bytes (keeps_signature e).appended)
-
   new_len : length new.bytes ≡ length e.after_signature.bytes
-  new_len = omega (arith, ap length bytes_are, length-append (header_bytes (raw_header h)) (drop 12 e.after_signature.bytes), length-drop 12 e.after_signature.bytes, header_len (raw_header h), grown, kept_len)
-
-  small : length new.bytes ≤ old.limit
-  small = omega (arith, new_len, (keeps_signature e).within, limit_kept, e.room)
+  new_len =
+      let grown = ap length (keeps_signature e).bytes ∙ length-append e.after_header.bytes (keeps_signature e).appended in
+      let rest = length-append (header_bytes (raw_header h)) (drop 12 e.after_signature.bytes) in
+      omega (arith, ap length bytes_are, rest, length-drop 12 e.after_signature.bytes, header_len (raw_header h), grown, kept_len)
 
   -- ---- what was kept
 
@@ -138,20 +132,14 @@ module _ (m : MessageValue) (old new : State) (h : Header) (e : Emitted m old ne
   fits_signature : All (λ r. FitsRecord (signature_record r)) (as_list one_signature.some)
   fits_signature = all_front (λ r. FitsRecord (signature_record r)) (as_list m.signature) (as_list one_signature.some) one_signature.rest one_signature.front fits.signature
 
-  opts_fit : All FitsRecord e.edns.kept
-  opts_fit = subst (All FitsRecord) (sym one_edns.kept_is) (edns_fit one_edns.some fits_edns)
-
-  signatures_fit : All FitsRecord e.signature.kept
-  signatures_fit = subst (All FitsRecord) (sym one_signature.kept_is) (signature_fit one_signature.some fits_signature)
-
   are_fit : AreFit e
   are_fit = record {
     queries = fits.queries;
     answers = λ k d below. (fits_answers k d below).fits;
     authorities = λ k d below. (fits_authorities k d below).fits;
     additionals = λ k d below. (fits_additionals k d below).fits;
-    edns = opts_fit;
-    signature = signatures_fit;
+    edns = All-same FitsRecord e.edns.kept _ one_edns.kept_is (edns_fit one_edns.some fits_edns);
+    signature = All-same FitsRecord e.signature.kept _ one_signature.kept_is (signature_fit one_signature.some fits_signature);
   }
 
   -- ---- the words
@@ -175,9 +163,6 @@ module _ (m : MessageValue) (old new : State) (h : Header) (e : Emitted m old ne
 
   op_reads : op_value (op_number h.metadata.op_code) ≡ h.metadata.op_code
   op_reads = subst (λ (o : OpCode). op_value (op_number o) ≡ o) (sym (ap (λ (x : Metadata). x.op_code) e.metadata)) fits.op_code_reads
-
-  header_is : IsHeaderAt new.bytes 0 (header_value (raw_header h))
-  header_is = record { raw = raw_header h; word = (header_stands h new.bytes 0 e.narrow header_there).0; value = refl }
 
   abbrev cut_bit : Bool
   cut_bit = m.metadata.truncation || (e.answers_cut || (e.authorities_cut || (e.additionals_cut || (e.edns_cut || e.signature_cut))))
@@ -243,7 +228,7 @@ module _ (m : MessageValue) (old new : State) (h : Header) (e : Emitted m old ne
     answers = e.answers.kept;
     authorities = e.authorities.kept;
     additionals = e.additionals.kept ++ tail one_edns.some one_signature.some;
-    header_stands = header_is;
+    header_stands = record { raw = raw_header h; word = (header_stands h new.bytes 0 e.narrow header_there).0; value = refl };
     queries_stand = words.queries;
     answers_stand = words.answers;
     authorities_stand = words.authorities;
@@ -283,7 +268,7 @@ module _ (m : MessageValue) (old new : State) (h : Header) (e : Emitted m old ne
 
   cut_of : IsCut m old.limit new.bytes message
   cut_of = record {
-    small = small;
+    small = omega (arith, new_len, (keeps_signature e).within, limit_kept, e.room);
     word = message_word;
     additionals_end = length e.after_additionals.bytes;
     edns_end = length e.after_edns.bytes;
