@@ -106,7 +106,9 @@ uncut_written m limit C c k (no_answers, no_authorities, no_additionals, no_edns
     let truncation = lost ∙ or-false m.metadata.truncation in
     let range : code_range c.edns ≡ code_range m.edns = ap code_range edns ∙ range_raised (with_high_bits m.metadata.response_code) m.edns in
     let metadata : c.metadata ≡ (as_written m).metadata =
-    k.metadata ∙ ap (λ (t : Bool). record m.metadata { truncation = t; response_code = code_value (code_number m.metadata.response_code % code_range c.edns) }) truncation ∙ ap (λ (n : ℕ). record m.metadata { response_code = code_value (code_number m.metadata.response_code % n) }) range in
+    k.metadata
+    ∙ ap (λ (t : Bool). record m.metadata { truncation = t; response_code = code_value (code_number m.metadata.response_code % code_range c.edns) }) truncation
+    ∙ ap (λ (n : ℕ). record m.metadata { response_code = code_value (code_number m.metadata.response_code % n) }) range in
     λ i. record { metadata = metadata i; queries = queries i; answers = answers i; authorities = authorities i; additionals = additionals i; edns = edns i; signature = signature i }
 
 -- ---- a message that was read
