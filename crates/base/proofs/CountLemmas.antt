@@ -7,7 +7,7 @@ use Rattle.std.specs.FinMap as map
 use Rattle.std.specs.FinSet as set
 use Rattle.std.specs.FinSet.{nat_cmp-IsAntisymmetric}
 use Rattle.std.specs.Ordering.{nat_cmp, is_eq, eq_by_cmp}
-use Rattle.std.proofs.Math.Bool.{or-false, or_comm}
+use Rattle.std.proofs.Math.Bool.{or-false, or_assoc, or_comm}
 use Rattle.std.proofs.lemmas.Bool.{cases_Bool, cond-true, cond-false, eqb-true, false≢true}
 use Rattle.std.proofs.lemmas.List.Folds.{list_any-append}
 use Rattle.std.proofs.lemmas.Map.Lookups.{exact_unsigned}
@@ -31,10 +31,7 @@ contains_kept cache q = set.contains-from_list nat_cmp_total (map.keys cache) q 
 
 -- of three tests, one in front
 in_front : (a b c : Bool) → (a || (b || c)) ≡ (b || (a || c))
-in_front true true c = refl
-in_front true false c = refl
-in_front false true c = refl
-in_front false false c = refl
+in_front a b c = sym (or_assoc a b c) ∙ ap (λ (first : Bool). first || c) (or_comm a b) ∙ or_assoc b a c
 
 pub targets_none : targets_of map.empty ≡ set.empty
 targets_none = set.same_set nat_cmp_total nat_cmp-IsAntisymmetric _ _ (λ q.
@@ -119,14 +116,7 @@ pub inserted-none : (s : set.FinSet nat_cmp) → inserted [] s ≡ s
 inserted-none s = same_members (inserted [] s) s (λ q. contains-inserted [] s q ∙ or-false (set.contains s q))
 
 after_all : (a b c : Bool) → (a || (b || (c || false))) ≡ (c || (a || b))
-after_all true true true = refl
-after_all true true false = refl
-after_all true false true = refl
-after_all true false false = refl
-after_all false true true = refl
-after_all false true false = refl
-after_all false false true = refl
-after_all false false false = refl
+after_all a b c = ap (λ (last : Bool). a || (b || last)) (or-false c) ∙ sym (or_assoc a b c) ∙ or_comm (a || b) c
 
 pub inserted-push : (ts : List ℕ) (t : ℕ) (s : set.FinSet nat_cmp) → inserted (ts ++ t ∷ []) s ≡ set.insert (inserted ts s) t
 inserted-push ts t s = same_members _ _ (λ q.

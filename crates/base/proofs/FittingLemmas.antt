@@ -2,16 +2,16 @@
 use Rattle.std.proofs.Common.{◌≡◌, ℕ, ◌+◌, ◌<◌, ◌≤◌, inl, inr, List, [], ◌∷◌, ◌++◌, length, refl, ap, sym, ◌∙◌, subst, arith, length-append, Bool, cond}
 use Rattle.std.proofs.lemmas.Bool.{cases_lt, le-leb, lt-leb}
 use Rattle.base.specs.State.{State, Stored}
-use Rattle.base.specs.Written.{Writing, piece_at, after, in_turn, that_fit, fitting, FirstPasses}
+use Rattle.base.specs.Written.{Writing, piece_at, after, in_turn, that_fit, fitting, FirstPasses, FirstPassesAt}
 use Rattle.base.proofs.WrittenLemmas.{after-both, after-none}
 
 module _ {A : Type 0} (f : A → Writing) where
-  first_fits : (limit : ℕ) (x : A) (xs : List A) (at : ℕ) (stored : List Stored) → at + length (f x at stored).bytes ≤ limit
+  pub first_fits : (limit : ℕ) (x : A) (xs : List A) (at : ℕ) (stored : List Stored) → at + length (f x at stored).bytes ≤ limit
       → that_fit f limit (x ∷ xs) at stored ≡ x ∷ that_fit f limit xs (at + length (f x at stored).bytes) (f x at stored).suffixes
   first_fits limit x xs at stored fits =
       ap (λ (b : Bool). cond b (x ∷ that_fit f limit xs (at + length (f x at stored).bytes) (f x at stored).suffixes) []) (le-leb (at + length (f x at stored).bytes) limit fits)
 
-  none_fits : (limit : ℕ) (x : A) (xs : List A) (at : ℕ) (stored : List Stored) → limit < at + length (f x at stored).bytes → that_fit f limit (x ∷ xs) at stored ≡ []
+  pub none_fits : (limit : ℕ) (x : A) (xs : List A) (at : ℕ) (stored : List Stored) → limit < at + length (f x at stored).bytes → that_fit f limit (x ∷ xs) at stored ≡ []
   none_fits limit x xs at stored full =
       ap (λ (b : Bool). cond b (x ∷ that_fit f limit xs (at + length (f x at stored).bytes) (f x at stored).suffixes) []) (lt-leb (at + length (f x at stored).bytes) limit full)
 
@@ -67,26 +67,26 @@ module _ {A : Type 0} (f : A → Writing) (limit : ℕ) where
 
   -- and whatever the values and the limit are, those that fit are a front of them, and the first of the others would
   -- pass the limit
+  pub Fits-cut_at : (xs : List A) (at : ℕ) (stored : List Stored) → let kept = that_fit f limit xs at stored in let piece = in_turn f kept at stored in
+      (lost : List A) × (xs ≡ kept ++ lost) × FirstPassesAt f limit (at + length piece.bytes) piece.suffixes lost
+  Fits-cut_at [] at stored = ([], refl, tt)
+  Fits-cut_at (x ∷ xs) at stored =
+      let first = f x at stored in
+      let place = at + length first.bytes in
+      elim (cases_lt limit place) [
+        | inl full ↦
+            let here : at ≡ at + 0 = omega arith in
+            rw (none_fits f limit x xs at stored full) (x ∷ xs, refl, subst (λ (k : ℕ). limit < k + length (f x k stored).bytes) here full)
+        | inr fits ↦
+            let (lost, whole, passes) = Fits-cut_at xs place first.suffixes in
+            let piece = in_turn f (that_fit f limit xs place first.suffixes) place first.suffixes in
+            let end : place + length piece.bytes ≡ at + length (first.bytes ++ piece.bytes) = omega (arith, length-append first.bytes piece.bytes) in
+            rw (first_fits f limit x xs at stored fits)
+            (lost, ap (λ (ys : List A). x ∷ ys) whole, subst (λ (k : ℕ). FirstPassesAt f limit k piece.suffixes lost) end passes)
+      ]
+
   pub Fits-cut : (xs : List A) (a : State) → (lost : List A) × (xs ≡ that_fit f limit xs (length a.bytes) a.suffixes ++ lost) × FirstPasses f limit (after (fitting f limit xs) a) lost
-  Fits-cut [] a = ([], refl, tt)
-  Fits-cut (x ∷ xs) a = elim (cases_lt limit (length a.bytes + length (piece_at (f x) a).bytes)) [
-    | inl full ↦
-        let none = none_fits f limit x xs (length a.bytes) a.suffixes full in
-        let stays : a ≡ after (fitting f limit (x ∷ xs)) a = sym (after-none a) ∙ ap (λ (ys : List A). after (in_turn f ys) a) (sym none) in (
-          x ∷ xs,
-          ap (λ (ys : List A). ys ++ x ∷ xs) (sym none),
-          subst (λ (u : State). limit < length u.bytes + length (piece_at (f x) u).bytes) stays full,
-        )
-    | inr fits ↦
-        let m = after (f x) a in
-        let place : length m.bytes ≡ length a.bytes + length (piece_at (f x) a).bytes = length-append a.bytes (piece_at (f x) a).bytes in
-        let first : that_fit f limit (x ∷ xs) (length a.bytes) a.suffixes ≡ x ∷ that_fit f limit xs (length m.bytes) m.suffixes =
-        first_fits f limit x xs (length a.bytes) a.suffixes fits ∙ ap (λ (n : ℕ). x ∷ that_fit f limit xs n m.suffixes) (sym place) in
-        let (lost, whole, full) = Fits-cut xs m in
-        let later : after (fitting f limit xs) m ≡ after (fitting f limit (x ∷ xs)) a =
-        sym (after-both (f x) (in_turn f (that_fit f limit xs (length m.bytes) m.suffixes)) a) ∙ ap (λ (ys : List A). after (in_turn f ys) a) (sym first) in (
-          lost,
-          ap (λ (ys : List A). x ∷ ys) whole ∙ ap (λ (ys : List A). ys ++ lost) (sym first),
-          subst (λ (u : State). FirstPasses f limit u lost) later full,
-        )
-  ]
+  Fits-cut xs a =
+      let (lost, whole, passes) = Fits-cut_at xs (length a.bytes) a.suffixes in
+      let piece = piece_at (fitting f limit xs) a in
+      (lost, whole, subst (λ (k : ℕ). FirstPassesAt f limit k piece.suffixes lost) (sym (length-append a.bytes piece.bytes)) passes)

@@ -14,7 +14,7 @@ use Rattle.base.specs.Reading.{◌>>=◌, Fails}
 use Rattle.base.specs.Spelling.{ByteAt, anywhere, Spelled}
 use Rattle.base.proofs.LabelLemmas.{IsWire-nil, IsWire-push, AreLabels-append, labels_of-nil, labels_of-push, labels_of_is, wire_of-append, size_of-labels_of}
 use Rattle.base.proofs.ReadingLemmas.{labels_at-part, labels_at-label, labels_again, labels_too_long, length-range, IsRight, labels_right}
-use Rattle.base.proofs.WalkLemmas.{PartIs, is_past, is_root, is_cut_label, is_label, is_bits, is_cut_pointer, is_pointer, part_is}
+use Rattle.base.proofs.WalkLemmas.{PartIs, is_root, is_label, is_pointer, part_is}
 
 -- the labels that were read, before those that are read after them
 abbrev pub with_front : List (List ℕ) → Labels → Labels
@@ -82,36 +82,21 @@ module _ {buffer : List ℕ} {first before start at used : ℕ} {bytes : List �
 -- what a label is
 label_part : (bytes : List ℕ) (i n : ℕ) (read : Result NamePart DecodeError) → PartIs bytes i read → read ≡ Ok (label_of n)
     → ByteAt anywhere bytes i n × (1 ≤ n) × (n ≤ 63) × (i + 1 + n ≤ length bytes)
-label_part bytes i n _ (is_past h) is = absurd cc
-label_part bytes i n _ (is_root h) is = absurd cc
-label_part bytes i n _ (is_cut_label h some small cut) is = absurd cc
 label_part bytes i n _ (is_label {n = m} h some small fits) is =
     let same : m ≡ n = cc in
     (subst (ByteAt anywhere bytes i) same h, omega arith, omega arith, omega arith)
-label_part bytes i n _ (is_bits h low high) is = absurd cc
-label_part bytes i n _ (is_cut_pointer h high cut) is = absurd cc
-label_part bytes i n _ (is_pointer h next high) is = absurd cc
+label_part bytes i n _ other is = absurd cc
 
 pub label_fits : (bytes : List ℕ) (i n : ℕ) → part_at bytes i ≡ Ok (label_of n) → i + 1 + n ≤ length bytes
 label_fits bytes i n is = (label_part bytes i n (part_at bytes i) (part_is bytes i) is).3
 
 root_part : (bytes : List ℕ) (i : ℕ) (read : Result NamePart DecodeError) → PartIs bytes i read → read ≡ Ok zero_byte → i + 1 ≤ length bytes
-root_part bytes i _ (is_past h) is = absurd cc
 root_part bytes i _ (is_root h) is = omega (arith, h.inside)
-root_part bytes i _ (is_cut_label h some small cut) is = absurd cc
-root_part bytes i _ (is_label h some small fits) is = absurd cc
-root_part bytes i _ (is_bits h low high) is = absurd cc
-root_part bytes i _ (is_cut_pointer h high cut) is = absurd cc
-root_part bytes i _ (is_pointer h next high) is = absurd cc
+root_part bytes i _ other is = absurd cc
 
 pointer_part : (bytes : List ℕ) (i t : ℕ) (read : Result NamePart DecodeError) → PartIs bytes i read → read ≡ Ok (pointer_to t) → i + 2 ≤ length bytes
-pointer_part bytes i t _ (is_past h) is = absurd cc
-pointer_part bytes i t _ (is_root h) is = absurd cc
-pointer_part bytes i t _ (is_cut_label h some small cut) is = absurd cc
-pointer_part bytes i t _ (is_label h some small fits) is = absurd cc
-pointer_part bytes i t _ (is_bits h low high) is = absurd cc
-pointer_part bytes i t _ (is_cut_pointer h high cut) is = absurd cc
 pointer_part bytes i t _ (is_pointer h next high) is = omega (arith, next.inside)
+pointer_part bytes i t _ other is = absurd cc
 
 either_end : (end : Option ℕ) (e len : ℕ) → unwrap_or end 0 ≤ len → e ≤ len → unwrap_or end e ≤ len
 either_end None e len fits inside = inside

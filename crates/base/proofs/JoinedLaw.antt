@@ -83,12 +83,8 @@ item_token_is word value is here =
       pick : (a o i t d : Bool)
           → (if a then Some at else (if o then Some origin_sign else (if i then Some include
           else (if t then Some ttl_sign else (if d then None else Some (char_data word)))))) ≡ Some value → ⊥
-      pick true o i t d said = cc
-      pick false true i t d said = cc
-      pick false false true t d said = cc
-      pick false false false true d said = cc
       pick false false false false true said = cc
-      pick false false false false false said = cc
+      pick a o i t d said = cc
 
 item-carried : (b text rest : List ℕ) (word : List ℕ) (value : Option TokenValue) (found : Next) → item_token word ≡ value → ComesAfter text rest
     → (0 < length rest → found ≡ token_or_fault (item_token word) (within_line (rest ++ b))) → IsTokenCarried b text (token_or_fault value (within_line rest)) found

@@ -16,7 +16,8 @@ use Rattle.base.specs.declared.error.decode_error.DecodeError.{DecodeError}
 use Rattle.base.specs.declared.name.reading.Part.{Part}
 use Rattle.base.proofs.GatherLemmas.{Gathers, IsWire-append, at_kept, at_root, gathers_label, gathers_none, kept_end, label_fits, root_inside}
 use Rattle.base.proofs.PassLemmas.{Leads, Leads-kept, Leads-label, Leads-none, Leads-root}
-use Rattle.base.proofs.WalkLemmas.{PartIs, is_past, is_root, is_cut_label, is_label, is_bits, is_cut_pointer, is_pointer, part_is, part_at-past, part_at-root, part_at-cut_label, part_at-label, part_at-bits, part_at-cut_pointer, part_at-pointer}
+use Rattle.base.proofs.WalkLemmas.{PartIs, is_past, is_root, is_cut_label, is_label, is_bits, is_cut_pointer, is_pointer, part_is}
+use Rattle.base.proofs.WalkLemmas.{part_at-past, part_at-root, part_at-cut_label, part_at-label, part_at-bits, part_at-cut_pointer, part_at-pointer}
 
 -- what stands at a place, where something does
 abbrev pub found : Part → Result NamePart DecodeError

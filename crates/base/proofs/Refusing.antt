@@ -6,16 +6,8 @@ use Rattle.base.specs.Cuts.{Faults}
 use Rattle.base.specs.TextFaults.{Fault, FailsWith, FailsBy, fault_of}
 
 pub Faults-through : {P Q : Type 0} (e : ParseError) → (P → Q) → Faults e P → Faults e Q
-Faults-through refusals.Memory f is = tt
 Faults-through refusals.Lexer f is = f is
-Faults-through (refusals.UnexpectedToken t) f is = is
-Faults-through (refusals.Message text) f is = is
-Faults-through (refusals.IncludeNotFound name) f is = is
-Faults-through (refusals.UnknownRecordType text) f is = is
-Faults-through (refusals.UnsupportedRecordType type) f is = is
-Faults-through (refusals.BadData type) f is = is
-Faults-through refusals.BadName f is = is
-Faults-through refusals.BadTtl f is = is
+Faults-through other f is = is
 
 FailsBy-through : {A B : Type 0} {made : Result A Fault} {whole : Result B Fault} (fault : Option Fault) → ((f : Fault) → made ≡ Err f → whole ≡ Err f) → FailsBy fault made → FailsBy fault whole
 FailsBy-through None on is = tt

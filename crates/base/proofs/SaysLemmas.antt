@@ -7,7 +7,7 @@ use Rattle.base.specs.declared.error.proto_error.ProtoError.{ProtoError}
 use Rattle.base.specs.Labels.{size_of}
 use Rattle.base.specs.Laws.{IsSpelled, Holds, Keeps, Writes, StoresSuffixes}
 use Rattle.base.specs.Says.{IsThere, Says}
-use Rattle.base.specs.SaysName.{near, near_all, name_each}
+use Rattle.base.specs.SaysName.{added_at, near, near_all, name_each}
 use Rattle.base.specs.State.{State, Stored}
 use Rattle.base.specs.Wire.{Refuses}
 use Rattle.base.specs.Words.{Stands}
@@ -104,13 +104,12 @@ Says-refuses {plain = plain} r f a b says is = Exactly-refuses r plain f a b (sa
 -- a label that fits keeps what stood before
 pub Keeps-label : (x : List ℕ) (xs : List (List ℕ)) (s z : State) → z ≡ after (label_of x xs) s → length s.bytes + (1 + length x) ≤ s.limit → Keeps s z
 Keeps-label x xs s z is within =
-    let n = near x xs (length s.bytes) s.suffixes in
     subst (λ (u : State). Keeps s u) (sym is) (record {
       appended = length x ∷ x;
-      added = n.added;
+      added = added_at x xs (length s.bytes);
       bytes = refl;
-      suffixes = n.is;
-      offsets = near_all (λ (t : Stored). length s.bytes ≤ t.offset) x xs (length s.bytes) s.suffixes n (λ early. omega arith);
+      suffixes = near x xs (length s.bytes) s.suffixes;
+      offsets = near_all (λ (t : Stored). length s.bytes ≤ t.offset) x xs (length s.bytes) (λ early. omega arith);
       limit = refl;
       buffer = refl;
       within = omega (arith, within, length-append s.bytes (length x ∷ x));

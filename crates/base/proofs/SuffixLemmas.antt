@@ -11,7 +11,8 @@ use Rattle.std.specs.Str.{bytes_eq}
 use Rattle.std.specs.declared.alloc.Global.{Global}
 use Rattle.std.proofs.lemmas.Bool.{cases_lt, cases_Bool, false≢true}
 use Rattle.std.proofs.lemmas.List.{get_or_append_left, get_or-append_right, append-nil, append_assoc, take-append-le, take-append-drop, take_all}
-use Rattle.std.proofs.lemmas.List.Elements.{All-push, All-append}
+use Rattle.std.proofs.Math.Seq.{drop-append_seam}
+use Rattle.std.proofs.lemmas.List.Elements.{All-push, All-append, All-drop}
 use Rattle.std.proofs.lemmas.List.Quantifiers.{Any-push, all_pairs_push}
 use Rattle.std.proofs.lemmas.Map.Text.{is_eq-slice_cmp}
 use Rattle.base.specs.Labels.{wire_of, labels_of}
@@ -149,9 +150,7 @@ any_after P xs ys (k, t, inside, at, holds) =
     (length xs + k, t, omega (arith, length-append xs ys), get_or-append_right xs ys (length xs) (length xs + k) t refl (omega arith) ∙ ap (λ (i : ℕ). get_or ys i t) back ∙ at, holds)
 
 all_after : (P : Stored → Type 0) (xs ys : List Stored) → All P (xs ++ ys) → All P ys
-all_after P xs ys h k d inside =
-    let back : length xs + k - length xs ≡ k = omega arith in
-    subst P (get_or-append_right xs ys (length xs) (length xs + k) d refl (omega arith) ∙ ap (λ (i : ℕ). get_or ys i d) back) (h (length xs + k) d (omega (arith, length-append xs ys)))
+all_after P xs ys h = subst (All P) (drop-append_seam xs ys) (All-drop P (length xs) (xs ++ ys) h)
 
 -- what a look-up answers after the first ones
 pub IsTable-finds : (find : List ℕ → Option ℕ) (first others : List Stored) (bytes : List ℕ) (r : Option ℕ) → All (λ t. t.labels ≢ labels_of bytes) first
@@ -165,12 +164,8 @@ IsTable-finds find first others bytes (Some o) none h whole is = any_after (λ (
 pub IsTable-first : (find : List ℕ → Option ℕ) (first others xs : List Stored) (t : Stored) → length others ≡ 0 → xs ≡ first ++ t ∷ [] → IsTable find first others
     → All (λ s. s.labels ≢ t.labels) (first ++ others) → All (λ s. s.offset < t.offset) (first ++ others) → IsTable find xs others
 IsTable-first find first [] xs t none is h absent later = subst (λ (ys : List Stored). IsTable find ys []) (sym is) (record {
-  rises = subst (AllPairs (λ (s u : Stored). s.offset < u.offset)) (sym (append-nil (first ++ t ∷ [])))
-      (all_pairs_push (λ (s u : Stored). s.offset < u.offset) first t (subst (AllPairs (λ (s u : Stored). s.offset < u.offset)) (append-nil first) h.rises)
-      (subst (All (λ (s : Stored). s.offset < t.offset)) (append-nil first) later));
-  once = subst (AllPairs (λ (s u : Stored). s.labels ≢ u.labels)) (sym (append-nil (first ++ t ∷ [])))
-      (all_pairs_push (λ (s u : Stored). s.labels ≢ u.labels) first t (subst (AllPairs (λ (s u : Stored). s.labels ≢ u.labels)) (append-nil first) h.once)
-      (subst (All (λ (s : Stored). s.labels ≢ t.labels)) (append-nil first) absent));
+  rises = rw append-nil (all_pairs_push (λ (s u : Stored). s.offset < u.offset) first t (rw append-nil at h.rises) (rw append-nil at later));
+  once = rw append-nil (all_pairs_push (λ (s u : Stored). s.labels ≢ u.labels) first t (rw append-nil at h.once) (rw append-nil at absent));
   after = h.after;
 })
 IsTable-first find first (u ∷ others) xs t none is h absent later = absurd (omega (arith, none))
@@ -184,10 +179,8 @@ module _ (find after : List ℕ → Option ℕ) (first others : List Stored) (by
 
   pub IsTable-others : IsTable after first (others ++ record { labels = labels_of bytes; offset = o } ∷ [])
   IsTable-others = record {
-    rises = subst (AllPairs (λ (s u : Stored). s.offset < u.offset)) (append_assoc first others (more ∷ []))
-        (all_pairs_push (λ (s u : Stored). s.offset < u.offset) (first ++ others) more h.rises later);
-    once = subst (AllPairs (λ (s u : Stored). s.labels ≢ u.labels)) (append_assoc first others (more ∷ []))
-        (all_pairs_push (λ (s u : Stored). s.labels ≢ u.labels) (first ++ others) more h.once absent);
+    rises = rw (← append_assoc) (all_pairs_push (λ (s u : Stored). s.offset < u.offset) (first ++ others) more h.rises later);
+    once = rw (← append_assoc) (all_pairs_push (λ (s u : Stored). s.labels ≢ u.labels) (first ++ others) more h.once absent);
     after = IsIndexed-push find after others bytes o h.after whole near (all_after (λ (s : Stored). s.labels ≢ labels_of bytes) first others absent)
         (all_after (λ (s : Stored). s.offset < o) first others later) here elsewhere;
   }

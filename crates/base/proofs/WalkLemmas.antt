@@ -86,19 +86,15 @@ cond_same false x y z same = same refl
 after_same : {bytes : List ℕ} {i : ℕ} {part : Result NamePart DecodeError} (s used : ℕ) → PartIs bytes i part → used ≤ 254 → (f g : ℕ → ℕ → ℕ → Labels)
     → ((s' i' used' : ℕ) → used' ≤ 254 → fuel s' used' < fuel s used → f s' i' used' ≡ g s' i' used')
     → (part >>= after_part f bytes s i used) ≡ (part >>= after_part g bytes s i used)
-after_same s used (is_past h) few f g same = refl
-after_same s used (is_root h) few f g same = refl
-after_same s used (is_cut_label h some small cut) few f g same = refl
 after_same {bytes} {i} s used (is_label {n} h some small fits) few f g same =
     cond_same (nat_lt 255 (used + n + 2)) _ _ _ (λ short.
     let short_is : used + n + 2 ≤ 255 = ltb-false 255 (used + n + 2) short in
     ap (with_label (slice_range bytes (i + 1) (i + 1 + n))) (same s (i + 1 + n) (used + n + 1) (omega arith) (omega arith)))
-after_same s used (is_bits h low high) few f g same = refl
-after_same s used (is_cut_pointer h high cut) few f g same = refl
 after_same {i = i} s used (is_pointer {b} {c} h next high) few f g same =
     cond_same (nat_le s (target b c)) _ _ _ (λ below.
     let below_is : target b c < s = leb-false s (target b c) below in
     ap (ending (i + 2)) (same (target b c) (target b c) used few (omega arith)))
+after_same s used other few f g same = refl
 
 pub walk-suc : (n : ℕ) (bytes : List ℕ) (s i used : ℕ) → walk (suc n) bytes s i used ≡ (part_at bytes i >>= after_part (walk n bytes) bytes s i used)
 unfolding walk

@@ -28,53 +28,31 @@ after-both f g s =
 pub after-none : (s : State) → after (just []) s ≡ s
 after-none s = ap (λ (xs : List ℕ). state s.buffer s.limit xs s.suffixes) (append-nil s.bytes)
 
+-- a part that has no more bytes was refused
+pub Exactly-refused : (X Y : Type 0) (e : ProtoError) (f g : Writing) (a s y z : State) → s.limit ≡ a.limit
+    → length s.bytes + length (piece_at g s).bytes ≤ length a.bytes + length (piece_at f a).bytes
+    → Exactly {X = X} g s y (Err e) → Exactly {X = Y} f a z (Err e)
+Exactly-refused X Y refusals.MaxBufferSizeExceeded f g a s y z same fits is = omega (arith, is)
+Exactly-refused X Y other f g a s y z same fits is = is
+
 -- what was written from s on is what was to be written from a on
 pub Exactly-from : {X : Type 0} (r : Result X ProtoError) (f g : Writing) (a s z : State) → after f a ≡ after g s → Exactly g s z r → Exactly f a z r
 Exactly-from (Ok x) f g a s z same is = is ∙ sym same
-Exactly-from (Err refusals.MaxBufferSizeExceeded) f g a s z same is = omega (
-  arith,
-  is,
-  ap (λ (u : State). length u.bytes) same,
-  ap (λ (u : State). u.limit) same,
-  length-append a.bytes (piece_at f a).bytes,
-  length-append s.bytes (piece_at g s).bytes,
-)
-Exactly-from (Err refusals.Memory) f g a s z same is = tt
-Exactly-from (Err (refusals.NotAllRecordsWritten count)) f g a s z same is = is
-Exactly-from (Err refusals.NotOpt) f g a s z same is = is
-Exactly-from (Err (refusals.Message text)) f g a s z same is = is
-Exactly-from (Err refusals.NotAResponse) f g a s z same is = is
-Exactly-from (Err (refusals.Decode e)) f g a s z same is = is
+Exactly-from {X} (Err e) f g a s z same is =
+    let lengths = ap (λ (u : State). length u.bytes) same in
+    Exactly-refused X X e f g a s z z (ap (λ (u : State). u.limit) (sym same))
+    (omega (arith, lengths, length-append a.bytes (piece_at f a).bytes, length-append s.bytes (piece_at g s).bytes)) is
 
 -- the first part was written, and then the second or not
 pub Exactly-then : {X : Type 0} (r : Result X ProtoError) (f g : Writing) (a s z : State) → s ≡ after f a → Exactly g s z r → Exactly (both f g) a z r
 Exactly-then r f g a s z first second = Exactly-from r (both f g) g a s z (after-both f g a ∙ ap (after g) (sym first)) second
 
--- a part that has no more bytes was refused
-pub Exactly-refused : (X Y : Type 0) (e : ProtoError) (f g : Writing) (a s z : State) → s.limit ≡ a.limit
-    → length s.bytes + length (piece_at g s).bytes ≤ length a.bytes + length (piece_at f a).bytes
-    → Exactly {X = X} g s z (Err e) → Exactly {X = Y} f a z (Err e)
-Exactly-refused X Y refusals.MaxBufferSizeExceeded f g a s z same fits is = omega (arith, is)
-Exactly-refused X Y refusals.Memory f g a s z same fits is = tt
-Exactly-refused X Y (refusals.NotAllRecordsWritten count) f g a s z same fits is = is
-Exactly-refused X Y refusals.NotOpt f g a s z same fits is = is
-Exactly-refused X Y (refusals.Message text) f g a s z same fits is = is
-Exactly-refused X Y refusals.NotAResponse f g a s z same fits is = is
-Exactly-refused X Y (refusals.Decode e) f g a s z same fits is = is
-
 -- the first part was refused
 pub Exactly-first : (X Y : Type 0) (e : ProtoError) (f g : Writing) (a s z : State) → Exactly {X = X} f a s (Err e) → Exactly {X = Y} (both f g) a z (Err e)
-Exactly-first X Y refusals.MaxBufferSizeExceeded f g a s z is = omega (
-  arith,
-  is,
-  length-append (piece_at f a).bytes (g (length a.bytes + length (piece_at f a).bytes) (piece_at f a).suffixes).bytes,
-)
-Exactly-first X Y refusals.Memory f g a s z is = tt
-Exactly-first X Y (refusals.NotAllRecordsWritten count) f g a s z is = is
-Exactly-first X Y refusals.NotOpt f g a s z is = is
-Exactly-first X Y (refusals.Message text) f g a s z is = is
-Exactly-first X Y refusals.NotAResponse f g a s z is = is
-Exactly-first X Y (refusals.Decode e) f g a s z is = is
+Exactly-first X Y e f g a s z is =
+    let first = piece_at f a in
+    let more = length-append first.bytes (g (length a.bytes + length first.bytes) first.suffixes).bytes in
+    Exactly-refused X Y e (both f g) f a a s z refl (omega (arith, more)) is
 
 -- the same, said in another way
 pub Exactly-same : {X : Type 0} (r : Result X ProtoError) (f g : Writing) (a z : State) → f ≡ g → Exactly f a z r → Exactly g a z r
@@ -84,12 +62,7 @@ Exactly-same r f g a z same is = subst (λ (h : Writing). Exactly h a z r) same 
 pub Exactly-refuses : {X : Type 0} (r : Result X ProtoError) (n : ℕ) (f : Writing) (a z : State) → length (piece_at f a).bytes ≤ n → Exactly f a z r → Refuses n a r
 Exactly-refuses (Ok x) n f a z few is = tt
 Exactly-refuses (Err refusals.MaxBufferSizeExceeded) n f a z few is = omega (arith, is)
-Exactly-refuses (Err refusals.Memory) n f a z few is = tt
-Exactly-refuses (Err (refusals.NotAllRecordsWritten count)) n f a z few is = is
-Exactly-refuses (Err refusals.NotOpt) n f a z few is = is
-Exactly-refuses (Err (refusals.Message text)) n f a z few is = is
-Exactly-refuses (Err refusals.NotAResponse) n f a z few is = is
-Exactly-refuses (Err (refusals.Decode e)) n f a z few is = is
+Exactly-refuses (Err e) n f a z few is = is
 
 -- ---- names
 

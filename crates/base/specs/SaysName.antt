@@ -1,9 +1,9 @@
 -- What is known of what is written of a name.
 use Rattle.base.specs.declared.limits.TheConstants.{POINTER_LIMIT}
 use Rattle.std.proofs.Common.{◌≡◌, ◌≢◌, ℕ, suc, ◌+◌, ◌-◌, ◌<◌, ◌≤◌, ◌⊎◌, inl, inr, List, [], ◌∷◌, ◌++◌, length, get_or, refl, ap, sym, ◌∙◌, subst, append_assoc, arith, length-append, Bool, true, false, cond}
-use Rattle.std.specs.Prelude.{Option, Some, None, All, Any, nat_le}
+use Rattle.std.specs.Prelude.{Option, Some, None, All, Any, MatchOption, nat_le, if◌then◌else◌}
 use Rattle.std.specs.Int.{w16, to_be_bytes}
-use Rattle.std.proofs.lemmas.Bool.{cases_Bool, cases_lt, leb-true, leb-false}
+use Rattle.std.proofs.lemmas.Bool.{cases_lt, leb-false, lt-leb}
 use Rattle.std.proofs.lemmas.List.{append-nil, get_or_append_left, get_or-append_right}
 use Rattle.std.proofs.lemmas.List.Elements.{All-nil, All-cons, All-append, All-same, All-weaker}
 use Rattle.std.proofs.lemmas.List.Quantifiers.{Any-push}
@@ -20,71 +20,45 @@ use Rattle.base.specs.WordLemmas.{first_stands}
 use Rattle.base.specs.Words.{Stands, NameAt}
 use Rattle.base.specs.Written.{Piece, both, pointer, found_in, pointer_or, label_of, name, plain_name}
 
--- what storing a suffix adds
-pub record Near (x : List ℕ) (xs : List (List ℕ)) (at : ℕ) (stored : List Stored) : Type 0 where
-  pub added : List Stored
-  pub is : (label_of x xs at stored).suffixes ≡ stored ++ added
-  pub which : ((added ≡ []) × (POINTER_LIMIT ≤ at))
-      ⊎ ((added ≡ record { labels = x ∷ xs; offset = at } ∷ []) × (at < POINTER_LIMIT))
+-- the suffix that a label begins, unless it is too far for a pointer
+abbrev pub added_at : List ℕ → List (List ℕ) → ℕ → List Stored
+added_at x xs at =
+    if nat_le POINTER_LIMIT at then [] else record { labels = x ∷ xs; offset = at } ∷ []
 
-near_by : (x : List ℕ) (xs : List (List ℕ)) (at : ℕ) (stored : List Stored) (far : Bool)
-    → nat_le POINTER_LIMIT at ≡ far → Near x xs at stored
-near_by x xs at stored true is = record {
-  added = [];
-  is = ap (λ (b : Bool). cond b stored (stored ++ record { labels = x ∷ xs; offset = at } ∷ [])) is
-      ∙ sym (append-nil stored);
-  which = inl (refl, leb-true POINTER_LIMIT at is);
-}
-near_by x xs at stored false is = record {
-  added = record { labels = x ∷ xs; offset = at } ∷ [];
-  is = ap (λ (b : Bool). cond b stored (stored ++ record { labels = x ∷ xs; offset = at } ∷ [])) is;
-  which = inr (refl, leb-false POINTER_LIMIT at is);
-}
-
--- what storing a label's suffix adds
-pub near : (x : List ℕ) (xs : List (List ℕ)) (at : ℕ) (stored : List Stored) → Near x xs at stored
-near x xs at stored = near_by x xs at stored (nat_le POINTER_LIMIT at) refl
+-- is what storing it adds
+pub near : (x : List ℕ) (xs : List (List ℕ)) (at : ℕ) (stored : List Stored)
+    → (label_of x xs at stored).suffixes ≡ stored ++ added_at x xs at
+near x xs at stored = go (nat_le POINTER_LIMIT at) _ where
+  go : (far : Bool) (own : List Stored)
+      → cond far stored (stored ++ own) ≡ stored ++ cond far [] own
+  go true own = sym (append-nil stored)
+  go false own = refl
 
 -- what holds of the suffix, if it is near, holds of all that is added
 pub near_all : (P : Stored → Type 0) (x : List ℕ) (xs : List (List ℕ)) (at : ℕ)
-    (stored : List Stored) (n : Near x xs at stored)
-    → (at < POINTER_LIMIT → P (record { labels = x ∷ xs; offset = at })) → All P n.added
-near_all P x xs at stored n holds = elim n.which [
-  | inl far ↦ All-same P n.added [] far.0 (All-nil P)
-  | inr close ↦ All-same P n.added _ close.0 (All-cons P _ [] (holds close.1) (All-nil P))
-]
+    → (at < POINTER_LIMIT → P (record { labels = x ∷ xs; offset = at })) → All P (added_at x xs at)
+near_all P x xs at holds = go (nat_le POINTER_LIMIT at) refl where
+  go : (far : Bool) → nat_le POINTER_LIMIT at ≡ far
+      → All P (cond far [] (record { labels = x ∷ xs; offset = at } ∷ []))
+  go true is = All-nil P
+  go false is = All-cons P _ [] (holds (leb-false POINTER_LIMIT at is)) (All-nil P)
 
--- a suffix that is found is stored
-found_any : (ts : List Stored) (labels : List (List ℕ)) (o : ℕ) → found_in ts labels ≡ Some o
-    → Any (λ t. (t.labels ≡ labels) × (t.offset ≡ o)) ts
-found_any [] labels o is = absurd (let no = is in cc)
-found_any (t ∷ ts) labels o is = elim (cases_Bool (same_labels t.labels labels)) [
-  | inl same ↦
-      let at : ◌≡◌ {A = Option ℕ} (Some t.offset) (Some o) = sym
-      (ap (λ (b : Bool). cond b (Some t.offset) (found_in ts labels)) same) ∙ is in
-      let place : t.offset ≡ o = cc in
-      (0, t, omega arith, refl, ((labels_decide t.labels labels).0 same, place))
-  | inr differ ↦
-      let (k, u, inside, at, holds) =
-      found_any ts labels o
-      (sym (ap (λ (b : Bool). cond b (Some t.offset) (found_in ts labels)) differ) ∙ is) in
-      (suc k, u, omega (arith, inside), at, holds)
-]
+-- a suffix that is found is stored, and one that isn't found is not
+abbrev IsFoundIn : List Stored → List (List ℕ) → Option ℕ → Type 0
+IsFoundIn ts labels found = MatchOption found (All (λ t. t.labels ≢ labels) ts)
+    (λ o. Any (λ t. (t.labels ≡ labels) × (t.offset ≡ o)) ts)
 
--- and one that isn't found is not
-unfound : (ts : List Stored) (labels : List (List ℕ)) → found_in ts labels ≡ None
-    → All (λ t. t.labels ≢ labels) ts
-unfound [] labels is = All-nil (λ (t : Stored). t.labels ≢ labels)
-unfound (t ∷ ts) labels is = elim (cases_Bool (same_labels t.labels labels)) [
-  | inl same ↦
-      let at : ◌≡◌ {A = Option ℕ} (Some t.offset) None = sym
-      (ap (λ (b : Bool). cond b (Some t.offset) (found_in ts labels)) same) ∙ is in
-      absurd cc
-  | inr differ ↦ All-cons (λ (u : Stored). u.labels ≢ labels) t ts
-      (λ equal. let yes = (labels_decide t.labels labels).1 equal in absurd cc)
-      (unfound ts labels
-      (sym (ap (λ (b : Bool). cond b (Some t.offset) (found_in ts labels)) differ) ∙ is))
-]
+is_found : (ts : List Stored) (labels : List (List ℕ)) → IsFoundIn ts labels (found_in ts labels)
+is_found [] labels = All-nil (λ (t : Stored). t.labels ≢ labels)
+is_found (t ∷ ts) labels =
+    go (same_labels t.labels labels) refl (found_in ts labels) (is_found ts labels) where
+      go : (b : Bool) → same_labels t.labels labels ≡ b → (later : Option ℕ)
+          → IsFoundIn ts labels later → IsFoundIn (t ∷ ts) labels (cond b (Some t.offset) later)
+      go true same later is = (0, t, omega arith, refl, ((labels_decide t.labels labels).0 same, refl))
+      go false differ None none = All-cons (λ (u : Stored). u.labels ≢ labels) t ts
+          (λ equal. let yes = (labels_decide t.labels labels).1 equal in absurd cc) none
+      go false differ (Some o) (k, u, inside, at, holds) =
+          (suc k, u, omega (arith, inside), at, holds)
 
 -- a name with a label is written as a pointer to where it is stored, or as that label and the others
 abbrev PointsTo : List ℕ → List (List ℕ) → ℕ → List Stored → Type 0
@@ -95,23 +69,18 @@ abbrev HasLabel : List ℕ → List (List ℕ) → ℕ → List Stored → Type 
 HasLabel x xs at stored = All (λ t. t.labels ≢ x ∷ xs) stored
     × (name (x ∷ xs) at stored ≡ both (label_of x xs) (name xs) at stored)
 
-name_by : (x : List ℕ) (xs : List (List ℕ)) (at : ℕ) (stored : List Stored) (r : Option ℕ)
-    → found_in stored (x ∷ xs) ≡ r → PointsTo x xs at stored ⊎ HasLabel x xs at stored
-name_by x xs at stored (Some o) is =
-    inl (
-      o,
-      found_any stored (x ∷ xs) o is,
-      ap (λ (r : Option ℕ). pointer_or (both (label_of x xs) (name xs)) r at stored) is,
-    )
-name_by x xs at stored None is =
-    inr (
-      unfound stored (x ∷ xs) is,
-      ap (λ (r : Option ℕ). pointer_or (both (label_of x xs) (name xs)) r at stored) is,
-    )
-
 name_cases : (x : List ℕ) (xs : List (List ℕ)) (at : ℕ) (stored : List Stored)
     → PointsTo x xs at stored ⊎ HasLabel x xs at stored
-name_cases x xs at stored = name_by x xs at stored (found_in stored (x ∷ xs)) refl
+name_cases x xs at stored =
+    go (found_in stored (x ∷ xs)) refl (is_found stored (x ∷ xs)) where
+      written : {r s : Option ℕ} → r ≡ s → pointer_or (both (label_of x xs) (name xs)) r at stored
+          ≡ pointer_or (both (label_of x xs) (name xs)) s at stored
+      written is = ap (λ (r : Option ℕ). pointer_or (both (label_of x xs) (name xs)) r at stored) is
+
+      go : (r : Option ℕ) → found_in stored (x ∷ xs) ≡ r → IsFoundIn stored (x ∷ xs) r
+          → PointsTo x xs at stored ⊎ HasLabel x xs at stored
+      go (Some o) is any = inl (o, any, written is)
+      go None is none = inr (none, written is)
 
 -- the state of the recursion: what was stored before the name began, and longer suffixes of its own
 record Begun (labels : List (List ℕ)) (s at : ℕ) (stored : List Stored) (B : List ℕ) : Type 0 where
@@ -140,18 +109,19 @@ Begun-next : (x : List ℕ) (xs : List (List ℕ)) (s at : ℕ) (stored : List S
     → HasLabel x xs at stored → Begun (x ∷ xs) s at stored B
     → Begun xs s (next x at) (label_of x xs at stored).suffixes B
 Begun-next x xs s at stored B has b =
-    let n = near x xs at stored in
+    let added = added_at x xs at in
     record {
       old = b.old;
-      own = b.own ++ n.added;
-      is = n.is ∙ ap (λ (ts : List Stored). ts ++ n.added) b.is ∙ append_assoc b.old b.own n.added;
+      own = b.own ++ added;
+      is = near x xs at stored ∙ ap (λ (ts : List Stored). ts ++ added) b.is
+          ∙ append_assoc b.old b.own added;
       le = omega (arith, b.le);
       are = b.are.1;
       table = b.table;
-      longer = All-append (λ (t : Stored). size_of xs < size_of t.labels) b.own n.added
+      longer = All-append (λ (t : Stored). size_of xs < size_of t.labels) b.own added
           (All-weaker (λ (t : Stored). size_of (x ∷ xs) < size_of t.labels)
           (λ (t : Stored). size_of xs < size_of t.labels) (λ t more. omega (arith, more)) b.own
-          b.longer) (near_all (λ (t : Stored). size_of xs < size_of t.labels) x xs at stored n
+          b.longer) (near_all (λ (t : Stored). size_of xs < size_of t.labels) x xs at
           (λ early. omega arith));
       stands = last_stands (length x ∷ x) (rest_of x xs at stored).bytes B at
           (label_bytes x xs s at stored B has b);
@@ -255,18 +225,18 @@ name_added (x ∷ xs) at stored = elim (name_cases x xs at stored) [
     valid = λ s B b. All-nil (IsSpelled B (at + length (name (x ∷ xs) at stored).bytes));
   }
   | inr has ↦
-      let n = near x xs at stored in
+      let added = added_at x xs at in
       let rest = name_added xs (next x at) (label_of x xs at stored).suffixes in
       let end = ends_at x xs at stored has in
       record {
         adds = record {
-          added = n.added ++ rest.adds.added;
+          added = added ++ rest.adds.added;
           is = ap (λ (p : Piece). p.suffixes) has.1 ∙ rest.adds.is
-              ∙ ap (λ (ts : List Stored). ts ++ rest.adds.added) n.is
-              ∙ append_assoc stored n.added rest.adds.added;
+              ∙ ap (λ (ts : List Stored). ts ++ rest.adds.added) (near x xs at stored)
+              ∙ append_assoc stored added rest.adds.added;
           offsets =
-              All-append (λ (t : Stored). at ≤ t.offset) n.added rest.adds.added
-              (near_all (λ (t : Stored). at ≤ t.offset) x xs at stored n (λ early. omega arith))
+              All-append (λ (t : Stored). at ≤ t.offset) added rest.adds.added
+              (near_all (λ (t : Stored). at ≤ t.offset) x xs at (λ early. omega arith))
               (All-weaker (λ (t : Stored). next x at ≤ t.offset) (λ (t : Stored). at ≤ t.offset)
               (λ t later. omega (arith, later)) rest.adds.added rest.adds.offsets);
         };
@@ -274,8 +244,8 @@ name_added (x ∷ xs) at stored = elim (name_cases x xs at stored) [
             let e = at + length (name (x ∷ xs) at stored).bytes in
             let whole : Spelled B (x ∷ xs) at at e =
             spelled_from_later at b.le (name_spelled (x ∷ xs) s at stored B b) in
-            All-append (IsSpelled B e) n.added rest.adds.added
-            (near_all (IsSpelled B e) x xs at stored n
+            All-append (IsSpelled B e) added rest.adds.added
+            (near_all (IsSpelled B e) x xs at
             (λ early.
             record { below = omega (arith, end); fits = early; end = e; spelled = whole }))
             (subst (λ (m : ℕ). All (IsSpelled B m) rest.adds.added) end
@@ -311,10 +281,9 @@ name_short (x ∷ xs) (y ∷ front) at stored (k, t, inside, is_at, is) =
       | inr has ↦
           let first : x ≡ y = cc in
           let tail : xs ≡ front ++ t.labels = cc in
-          let n = near x xs at stored in
           let more : Any (λ u. xs ≡ front ++ u.labels) (label_of x xs at stored).suffixes =
-          any_append (λ u. xs ≡ front ++ u.labels) stored n.added (label_of x xs at stored).suffixes
-          n.is (k, t, inside, is_at, tail) in
+          any_append (λ u. xs ≡ front ++ u.labels) stored (added_at x xs at) _ (near x xs at stored)
+          (k, t, inside, is_at, tail) in
           omega (
             arith,
             name_short xs front (next x at) (label_of x xs at stored).suffixes more,
@@ -342,18 +311,12 @@ stored_here : (P : Stored → Type 0) (x : List ℕ) (xs : List (List ℕ)) (at 
     → P (record { labels = x ∷ xs; offset = at })
     → Any P (name (x ∷ xs) at stored).suffixes
 stored_here P x xs at stored has early holds =
-    let n = near x xs at stored in
     let rest = name_added xs (next x at) (label_of x xs at stored).suffixes in
-    elim n.which [
-      | inl far ↦ absurd (omega (arith, far.1))
-      | inr close ↦
-          let pushed =
-          subst (Any P) (sym (n.is ∙ ap (λ (ts : List Stored). stored ++ ts) close.0))
-          (Any-push P stored (record { labels = x ∷ xs; offset = at }) holds) in
-          subst (λ (p : Piece). Any P p.suffixes) (sym has.1)
-          (any_append P (label_of x xs at stored).suffixes rest.adds.added
-          (rest_of x xs at stored).suffixes rest.adds.is pushed)
-    ]
+    let here : Any P (label_of x xs at stored).suffixes = rw (lt-leb POINTER_LIMIT at early)
+    (Any-push P stored (record { labels = x ∷ xs; offset = at }) holds) in
+    subst (λ (p : Piece). Any P p.suffixes) (sym has.1)
+    (any_append P (label_of x xs at stored).suffixes rest.adds.added
+    (rest_of x xs at stored).suffixes rest.adds.is here)
 
 name_stores : (labels : List (List ℕ)) (at : ℕ) (stored : List Stored) → labels ≢ []
     → at < POINTER_LIMIT → Any (λ t. t.labels ≡ labels) (name labels at stored).suffixes

@@ -110,7 +110,11 @@ that_fit f limit (x ∷ xs) at stored =
 abbrev pub fitting : {A : Type 0} → (A → Writing) → ℕ → List A → Writing
 fitting f limit xs at stored = in_turn f (that_fit f limit xs at stored) at stored
 
--- the own bytes of the first of these, if there is one, would pass the limit
+-- the own bytes of the first of these, if there is one, would pass the limit at this place
+abbrev pub FirstPassesAt : {A : Type 0} → (A → Writing) → ℕ → ℕ → List Stored → List A → Type 0
+FirstPassesAt f limit at stored [] = Unit {0}
+FirstPassesAt f limit at stored (x ∷ xs) = limit < at + length (f x at stored).bytes
+
+-- and so they would in a state
 abbrev pub FirstPasses : {A : Type 0} → (A → Writing) → ℕ → State → List A → Type 0
-FirstPasses f limit s [] = Unit {0}
-FirstPasses f limit s (x ∷ xs) = limit < length s.bytes + length (piece_at (f x) s).bytes
+FirstPasses f limit s xs = FirstPassesAt f limit (length s.bytes) s.suffixes xs

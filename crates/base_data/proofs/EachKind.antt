@@ -61,19 +61,7 @@ carried_at : (code : RecordType) (len : ℕ) (B : List ℕ) (i : ℕ) → IsTrue
 unfolding kind_at
 carried_at types.ZERO len B i carried = cc
 carried_at types.A len B i carried = cc
-carried_at types.NS len B i carried = cc
-carried_at types.CNAME len B i carried = cc
-carried_at types.SOA len B i carried = cc
-carried_at types.NULL len B i carried = cc
-carried_at types.PTR len B i carried = cc
-carried_at types.MX len B i carried = cc
-carried_at types.TXT len B i carried = cc
-carried_at types.AAAA len B i carried = cc
-carried_at types.SRV len B i carried = cc
-carried_at types.OPT len B i carried = cc
-carried_at types.TSIG len B i carried = cc
-carried_at types.ANAME len B i carried = cc
-carried_at _ len B i carried = refl
+carried_at other len B i carried = cc
 
 -- ---- reading, by kind
 
@@ -136,8 +124,6 @@ data_inside (kinds.Unknown code x) B i e inside h = bytes_inside x B i e inside 
 
 -- its names stand at the places that are said to be theirs
 pub names_stand : (d : RData) (B : List ℕ) (i e : ℕ) → DataWord d B i e → IsReadable d → NamesStand B (data_places d B i) (data_names d)
-names_stand (kinds.A x) B i e word readable = no_more
-names_stand (kinds.AAAA x) B i e word readable = no_more
 names_stand (kinds.NS x) B i e word readable = one_more (here_name B i x.name e word readable) no_more
 names_stand (kinds.CNAME x) B i e word readable = one_more (here_name B i x.name e word readable) no_more
 names_stand (kinds.PTR x) B i e word readable = one_more (here_name B i x.name e word readable) no_more
@@ -151,12 +137,7 @@ names_stand (kinds.SOA x) B i e (m, mname, (n, rname, numbers)) (first, second) 
 names_stand (kinds.SRV x) B i e (second, priority, (third, weight, (fourth, port, target))) readable =
     let at : fourth ≡ i + 6 = omega (arith, priority.1, weight.1, port.1) in
     subst (λ (k : ℕ). NamesStand B (k ∷ []) (x.target ∷ [])) at (one_more (here_name B fourth x.target e target readable) no_more)
-names_stand (kinds.TXT x) B i e word readable = no_more
-names_stand (kinds.NULL x) B i e word readable = no_more
-names_stand (kinds.OPT x) B i e word readable = no_more
-names_stand (kinds.TSIG x) B i e word readable = no_more
-names_stand (kinds.Update0 type) B i e word readable = no_more
-names_stand (kinds.Unknown code x) B i e word readable = no_more
+names_stand other B i e word readable = no_more
 
 -- ---- signatures
 

@@ -122,11 +122,7 @@ data_read (kinds.MX x) items is so = any_read (λ y. kinds.MX y) types.MX (λ ow
 data_read (kinds.SOA x) items is so = any_read (λ y. kinds.SOA y) types.SOA (λ own. soa_of own None) _ items x (soa_read x so.0 so.1 so.2) is
 data_read (kinds.SRV x) items is so = any_read (λ y. kinds.SRV y) types.SRV (λ own. srv_of own None) _ items x (srv_read x so.0 so.1) is
 data_read (kinds.TXT x) items is so = any_read (λ y. kinds.TXT y) types.TXT txt_of _ items x (txt_read x so) is
-data_read (kinds.NULL x) items is so = absurd so
-data_read (kinds.OPT x) items is so = absurd so
-data_read (kinds.TSIG x) items is so = absurd so
-data_read (kinds.Update0 type) items is so = absurd so
-data_read (kinds.Unknown code x) items is so = absurd so
+data_read other items is so = absurd so
 
 -- ---- the text of data is its items
 
@@ -152,8 +148,4 @@ text_shown (kinds.MX x) items is = any_shown (kinds.MX x) _ items refl is
 text_shown (kinds.SOA x) items is = any_shown (kinds.SOA x) _ items refl is
 text_shown (kinds.SRV x) items is = any_shown (kinds.SRV x) _ items refl is
 text_shown (kinds.TXT x) items is = any_shown (kinds.TXT x) _ items (ap (join_with_byte 32) (strings_shown x)) is
-text_shown (kinds.NULL x) items is = absurd (none_of is)
-text_shown (kinds.OPT x) items is = absurd (none_of is)
-text_shown (kinds.TSIG x) items is = absurd (none_of is)
-text_shown (kinds.Update0 type) items is = absurd (none_of is)
-text_shown (kinds.Unknown code x) items is = absurd (none_of is)
+text_shown other items is = absurd (none_of is)

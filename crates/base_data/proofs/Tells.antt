@@ -6,7 +6,7 @@ use Rattle.std.specs.Int.{Width}
 use Rattle.std.specs.Prelude.{nat_lt}
 use Rattle.base.proofs.ReadLemmas.{bind_ok, bind_err, number_is, number_again, number_short}
 use Rattle.base.proofs.ReadingLemmas.{name_is, name_fault, name_again}
-use Rattle.base.specs.Faults.{IsFaulty, ended, cut_label, cut_pointer, bad_bits, long, forward, after_label, after_pointer}
+use Rattle.base.specs.Faults.{IsFaulty, after_label, after_pointer}
 use Rattle.base.specs.Names.{name_at}
 use Rattle.base.specs.Reading.{Read, ◌>>=◌, bytes_at, number_at}
 use Rattle.base.specs.Spelling.{IsNameAt}
@@ -59,14 +59,9 @@ tells_number w B i = record {
   ok r = Ok r
 
 never_memory : {B : List ℕ} {s i used : ℕ} {f : DecodeError} → IsFaulty B s i used f → f ≡ faults.Memory → ⊥
-never_memory (ended _) is = cc
-never_memory (cut_label _ _ _ _) is = cc
-never_memory (cut_pointer _ _ _) is = cc
-never_memory (bad_bits _ _ _) is = cc
-never_memory (long _ _ _ _ _) is = cc
-never_memory (forward _ _ _ _) is = cc
 never_memory (after_label _ _ _ _ _ rest) is = never_memory rest is
 never_memory (after_pointer _ _ _ _ rest) is = never_memory rest is
+never_memory other is = cc
 
 pub tells_name : (B : List ℕ) (i : ℕ) → Tells (name_at B i) (λ r. IsNameAt B i r.0 r.1)
 tells_name B i = record {

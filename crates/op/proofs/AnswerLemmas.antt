@@ -1,6 +1,6 @@
 -- What an encoder answers to a message is decided by the message, the limit, the place and the suffixes stored.
 use Rattle.std.proofs.Common.{◌≡◌, ◌⊎◌, ℕ, ◌+◌, ◌-◌, ◌≤◌, Bool, true, false, List, [], ◌++◌, length, refl, ap, sym, ◌∙◌, inl, inr, arith, length-append, Result, Ok, Err}
-use Rattle.std.specs.Prelude.{drop, if◌then◌else◌, nat_lt, replicate}
+use Rattle.std.specs.Prelude.{drop, if◌then◌else◌, replicate}
 use Rattle.std.proofs.lemmas.Bool.{le-ltb, lt-ltb}
 use Rattle.std.proofs.Math.Seq.{drop-append_seam}
 use Rattle.base.specs.State.{State, Stored, appended}
@@ -15,8 +15,8 @@ use Rattle.op.specs.MessageWritten.{Part, message_answer, message_answer_at, mes
 use Rattle.op.specs.Query.{QueryWord, plain_query, query_written}
 use Rattle.op.specs.declared.header.Header.{Header}
 use Rattle.op.specs.declared.query.Query.{Query}
-use Rattle.op.proofs.SucceedsLemmas.{has_no_room, no_room}
-use Rattle.op.proofs.MessageWrittenLemmas.{all_asked, emitted_exact, front_count, front_told}
+use Rattle.op.proofs.SucceedsLemmas.{has_no_room}
+use Rattle.op.proofs.MessageWrittenLemmas.{emitted_exact, part_stands, queries}
 
 -- the answer by the two tests
 abbrev answer_by : List ℕ → Bool → Bool → ℕ → Result (List ℕ) ProtoError
@@ -38,23 +38,14 @@ module _ (m : MessageValue) (old : State) where
   begins : length (old.bytes ++ replicate 12 0) ≡ length old.bytes + 12
   begins = omega (arith, length-append old.bytes (replicate 12 0))
 
-  from_kept : (kept : State) → kept ≡ appended (replicate 12 0) old → asked ≡ part_within query_written old.limit m.queries (length kept.bytes) kept.suffixes
-  from_kept kept place =
-      ap (λ (k : ℕ). part_within query_written old.limit m.queries k old.suffixes) (sym begins)
-      ∙ ap (λ (s : State). part_within query_written old.limit m.queries (length s.bytes) s.suffixes) (sym place)
-
   -- a message that was written is the answer
   pub emitted_answers : (new : State) (h : Header) → Emitted m old new h → answer ≡ Ok (drop (length old.bytes) new.bytes)
   emitted_answers new h e =
       let room : length old.bytes + 12 ≤ old.limit = omega (arith, e.room, ap (λ (s : State). length s.bytes) e.place, begins) in
-      let whole : asked.is_cut ≡ false =
-      ap (λ (q : Part Query). q.is_cut) (from_kept e.after_header e.place)
-      ∙ ap (λ (qs : List Query). nat_lt (length qs) (length m.queries)) (all_asked m old new h e)
-      ∙ le-ltb (length m.queries) (length m.queries) (omega arith) in
       let bytes : drop (length old.bytes) new.bytes ≡ written =
-      ap (λ (s : State). drop (length old.bytes) s.bytes) (emitted_exact m old new h e refl) ∙ drop-append_seam old.bytes written in
+      ap (λ (s : State). drop (length old.bytes) s.bytes) (emitted_exact m old new h e) ∙ drop-append_seam old.bytes written in
       ap (λ (small : Bool). answer_by written small asked.is_cut (length asked.kept)) (le-ltb old.limit (length old.bytes + 12) room)
-      ∙ ap (λ (cut : Bool). answer_by written false cut (length asked.kept)) whole
+      ∙ ap (λ (cut : Bool). answer_by written false cut (length asked.kept)) (sym (queries m old new h e).tells)
       ∙ ap Ok (sym bytes)
 
   -- so is a refusal but for memory
@@ -66,16 +57,11 @@ module _ (m : MessageValue) (old : State) where
       let front : WritesFront QueryWord plain_query query_owner query_written m.queries kept new count true = left.1 in
       let within : length new.bytes ≤ old.limit =
       omega (arith, (Each-keeps QueryWord plain_query query_owner front.kept kept new front.written).within, left.0, length-append old.bytes (replicate 12 0)) in
-      let cut : true ≡ asked.is_cut = front_told front old.limit refl within asked (from_kept kept refl) in
-      let counted : count ≡ length asked.kept = front_count front old.limit refl within asked (from_kept kept refl) in
+      let stands = part_stands front old.limit refl within (length old.bytes + 12) old.suffixes (sym begins) refl in
       ap (λ (small : Bool). answer_by written small asked.is_cut (length asked.kept)) (le-ltb old.limit (length old.bytes + 12) (omega (arith, left.0)))
-      ∙ ap (λ (b : Bool). answer_by written false b (length asked.kept)) (sym cut)
-      ∙ ap (λ (n : ℕ). answer_by written false true n) (sym counted)
-  left_answers new refusals.Memory left = absurd left
-  left_answers new refusals.NotOpt left = absurd left
-  left_answers new (refusals.Message text) left = absurd left
-  left_answers new refusals.NotAResponse left = absurd left
-  left_answers new (refusals.Decode d) left = absurd left
+      ∙ ap (λ (b : Bool). answer_by written false b (length asked.kept)) (sym stands.tells)
+      ∙ ap (λ (n : ℕ). answer_by written false true n) (sym stands.counted)
+  left_answers new other left = absurd left
 
   pub refusal_answers : (new : State) (f : ProtoError) → (f ≡ refusals.Memory) ⊎ Leaves m old f new
       → (f ≡ refusals.Memory) ⊎ (Leaves m old f new × (answer ≡ Err f))

@@ -18,15 +18,7 @@ use Rattle.op.proofs.MessageStands.{message_again, message_stands}
 -- a call that fails where there is a value to read was refused memory
 want_of_memory : {A : Type 0} (f : DecodeError) (r : Result A DecodeError) (x : A) → Fails f r → r ≡ Ok x → f ≡ faults.Memory
 want_of_memory faults.Memory r x fails is = refl
-want_of_memory faults.InsufficientBytes r x fails is = cc
-want_of_memory faults.BadName r x fails is = cc
-want_of_memory (faults.EdnsNameNotRoot owner) r x fails is = cc
-want_of_memory (faults.IncorrectRDataLengthRead read len) r x fails is = cc
-want_of_memory (faults.BadData type) r x fails is = cc
-want_of_memory faults.InvalidEmptyRecord r x fails is = cc
-want_of_memory faults.RecordAfterSig r x fails is = cc
-want_of_memory (faults.RecordNotInAdditionalSection type) r x fails is = cc
-want_of_memory faults.DuplicateEdns r x fails is = cc
+want_of_memory other r x fails is = cc
 
 pub begins : (B : List ℕ) (old new : Reader) (r : Result Message DecodeError) → Reads message_value old new r (message_at B 0) → IfOk r (λ m. (e : ℕ) × IsMessageAt B 0 (message_value m) e)
 begins B old new (Ok m) reads = (new.index, message_stands B 0 (message_value m, new.index) reads.0)
@@ -40,15 +32,7 @@ begins_with B old new (Err f) reads m e stands = want_of_memory f (message_at B 
 -- a call that fails was refused memory, or with the fault that reading meets
 refused_or : {A : Type 0} (f : DecodeError) (r : Result A DecodeError) → Fails f r → (f ≡ faults.Memory) ⊎ (r ≡ Err f)
 refused_or faults.Memory r fails = inl refl
-refused_or faults.InsufficientBytes r fails = inr fails
-refused_or faults.BadName r fails = inr fails
-refused_or (faults.EdnsNameNotRoot owner) r fails = inr fails
-refused_or (faults.IncorrectRDataLengthRead read len) r fails = inr fails
-refused_or (faults.BadData type) r fails = inr fails
-refused_or faults.InvalidEmptyRecord r fails = inr fails
-refused_or faults.RecordAfterSig r fails = inr fails
-refused_or (faults.RecordNotInAdditionalSection type) r fails = inr fails
-refused_or faults.DuplicateEdns r fails = inr fails
+refused_or other r fails = inr fails
 
 -- a call that fails was refused memory, or with the fault that is told of what reading meets
 pub first_fault : {A Y : Type 0} (view : A → Y) (IsFault : DecodeError → Type 0) (old new : Reader) {read : Result (Y × ℕ) DecodeError} → ((f : DecodeError) → read ≡ Err f → IsFault f)

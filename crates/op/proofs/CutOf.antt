@@ -2,34 +2,31 @@
 use Rattle.std.proofs.Common.{◌≡◌, ℕ, ◌+◌, ◌/◌, ◌%◌, ◌<◌, ◌≤◌, Bool, List, [], ◌∷◌, ◌++◌, length, take, drop, refl, ap, sym, ◌∙◌, subst, arith, length-append, length-drop, Option, Some, None}
 use Rattle.std.specs.Prelude.{All, map, replicate, ◌||◌}
 use Rattle.std.specs.Option.{option_map}
+use Rattle.std.proofs.Math.Path.{transport}
 use Rattle.std.proofs.Math.Seq.{take-length}
-use Rattle.std.proofs.lemmas.List.Elements.{All-cons, All-nil}
+use Rattle.std.proofs.lemmas.List.Elements.{All-cons, All-nil, All-same}
 use Rattle.base.specs.Laws.{Holds, IsSpelled, Keeps}
 use Rattle.base.specs.State.{State, Stored}
 use Rattle.base.specs.Words.{Stands}
-use Rattle.base.proofs.ItemLemmas.{Each-keeps}
-use Rattle.base.proofs.LawLemmas.{Keeps-then}
 use Rattle.base.specs.WordLemmas.{first_stands}
 use Rattle.base_data.specs.declared.rdata.RData.{RData}
 use Rattle.rr.specs.Record.{FitsRecord, plain_record}
 use Rattle.rr.specs.declared.record.Record.{Record}
 use Rattle.op.specs.Cut.{IsCut, IsWritten, NoRoom, any_lost, code_range, raised}
 use Rattle.op.specs.EdnsRecord.{edns_record}
-use Rattle.op.specs.Emitted.{Emitted, WritesRecords, query_owner}
+use Rattle.op.specs.Emitted.{Emitted, WritesRecords}
 use Rattle.op.specs.Fits.{Fits, FitsAdditional, FitsEdns, FitsPlain, as_list, signature_record}
 use Rattle.op.specs.Header.{IsHeaderAt, header_bytes, header_value, metadata_value, raw_header}
 use Rattle.op.specs.Message.{IsMessageAt, MessageValue, high_code, message_of}
 use Rattle.op.specs.OpCode.{op_number, op_value}
-use Rattle.op.specs.Query.{QueryWord, plain_query}
 use Rattle.op.specs.ResponseCode.{code_number, code_value}
-use Rattle.op.specs.Section.{HasNeededData, IsPlain, SectionValue, section_of}
+use Rattle.op.specs.Section.{HasNeededData, IsPlain, section_of}
 use Rattle.op.specs.declared.edns.Edns.{Edns}
 use Rattle.op.specs.declared.header.Header.{Header}
-use Rattle.op.specs.declared.header.header_counts.HeaderCounts.{HeaderCounts}
 use Rattle.op.specs.declared.header.metadata.Metadata.{Metadata}
 use Rattle.op.specs.declared.op_code.OpCode.{OpCode}
 use Rattle.op.proofs.CodeLemmas.{high_back, metadata_back}
-use Rattle.op.proofs.CutWords.{AreFit, Composed, Ends, all_front, composed, ends, header_len, records_keep, stands_after}
+use Rattle.op.proofs.CutWords.{AreFit, Composed, Ends, all_front, composed, ends, header_len, keeps_additionals, keeps_answers, keeps_authorities, keeps_edns, keeps_questions, keeps_signature, stands_after}
 use Rattle.op.specs.HeaderSays.{header_stands}
 use Rattle.op.proofs.MessageStands.{message_again}
 use Rattle.op.proofs.SortLemmas.{OneFront, all_end, all_given, one_front, one_opt, sorted_edns, sorted_records, sorted_signature, tail}
@@ -76,16 +73,6 @@ lost_of : {X : Type 0} (f : X → Record RData) (rest : List X) → any_lost (ma
 lost_of f [] = refl
 lost_of f (x ∷ rest) = refl
 
-same_section : {a b : List (Record RData)} {e f : Option Edns} {s t : Option (Record (List ℕ))} → a ≡ b → e ≡ f → s ≡ t
-    → ◌≡◌ {A = SectionValue} (record { records = a; edns = e; signature = s }) (record { records = b; edns = f; signature = t })
-same_section p q r = rw (p, q, r) refl
-
-same_counts : (c : HeaderCounts) (q a n d : ℕ) → c.queries ≡ q → c.answers ≡ a → c.authorities ≡ n → c.additionals ≡ d → c ≡ record { queries = q; answers = a; authorities = n; additionals = d }
-same_counts c q a n d qs rs ns ds = rw (sym qs, sym rs, sym ns, sym ds) refl
-
-same_bits : (t : Bool) {a b c d f a' b' c' d' f' : Bool} → a ≡ a' → b ≡ b' → c ≡ c' → d ≡ d' → f ≡ f' → (t || (a || (b || (c || (d || f))))) ≡ (t || (a' || (b' || (c' || (d' || f')))))
-same_bits t p q r s u = rw (p, q, r, s, u) refl
-
 module _ (m : MessageValue) (old new : State) (h : Header) (e : Emitted m old new h) (fits : Fits m) (empty : old.bytes ≡ []) (untold : old.suffixes ≡ []) where
   -- ---- the bytes
 
@@ -97,12 +84,9 @@ module _ (m : MessageValue) (old new : State) (h : Header) (e : Emitted m old ne
   kept_len : length e.after_header.bytes ≡ 12
   kept_len = ap (λ (s : State). length s.bytes) e.place ∙ length-append old.bytes (replicate 12 0) ∙ ap (λ (xs : List ℕ). length xs + 12) empty
 
-  kept_suffixes : e.after_header.suffixes ≡ []
-  kept_suffixes = ap (λ (s : State). s.suffixes) e.place ∙ untold
-
   holds : Holds e.after_header e.after_signature new.bytes
   holds = record {
-    table = record { each = subst (λ (ts : List Stored). All (IsSpelled new.bytes (length e.after_header.bytes)) ts) (sym kept_suffixes) (All-nil (IsSpelled new.bytes (length e.after_header.bytes))) };
+    table = record { each = All-same (IsSpelled new.bytes (length e.after_header.bytes)) e.after_header.suffixes [] (ap (λ (s : State). s.suffixes) e.place ∙ untold) (All-nil (IsSpelled new.bytes (length e.after_header.bytes))) };
     bytes =
         let at12 : Stands (drop 12 e.after_signature.bytes) (header_bytes (raw_header h) ++ drop 12 e.after_signature.bytes) 12 = stands_after (header_bytes (raw_header h)) (drop 12 e.after_signature.bytes) refl in
         let there : Stands (drop 12 e.after_signature.bytes) new.bytes 12 = subst (λ xs. Stands (drop 12 e.after_signature.bytes) xs 12) (sym bytes_are) at12 in
@@ -116,35 +100,14 @@ module _ (m : MessageValue) (old new : State) (h : Header) (e : Emitted m old ne
 
   -- ---- what keeps the limit
 
-  kq : Keeps e.after_header e.after_questions
-  kq = Each-keeps QueryWord plain_query query_owner m.queries e.after_header e.after_questions e.queries
-
-  k1 : Keeps e.after_header e.after_answers
-  k1 = Keeps-then kq (records_keep e.answers)
-
-  k2 : Keeps e.after_header e.after_authorities
-  k2 = Keeps-then k1 (records_keep e.authorities)
-
-  k3 : Keeps e.after_header e.after_additionals
-  k3 = Keeps-then k2 (records_keep e.additionals)
-
-  k4 : Keeps e.after_header e.after_edns
-  k4 = Keeps-then k3 (records_keep e.edns)
-
-  k5 : Keeps e.after_header e.after_signature
-  k5 = Keeps-then k4 (records_keep e.signature)
-
   limit_kept : e.after_header.limit ≡ old.limit
   limit_kept = ap (λ (s : State). s.limit) e.place
 
-  grown : length e.after_header.bytes ≤ length e.after_signature.bytes
-  grown = omega (arith, ap length k5.bytes, length-append e.after_header.bytes k5.appended)
-
   new_len : length new.bytes ≡ length e.after_signature.bytes
-  new_len = omega (arith, ap length bytes_are, length-append (header_bytes (raw_header h)) (drop 12 e.after_signature.bytes), length-drop 12 e.after_signature.bytes, header_len (raw_header h), grown, kept_len)
-
-  small : length new.bytes ≤ old.limit
-  small = omega (arith, new_len, k5.within, limit_kept, e.room)
+  new_len =
+      let grown = ap length (keeps_signature e).bytes ∙ length-append e.after_header.bytes (keeps_signature e).appended in
+      let rest = length-append (header_bytes (raw_header h)) (drop 12 e.after_signature.bytes) in
+      omega (arith, ap length bytes_are, rest, length-drop 12 e.after_signature.bytes, header_len (raw_header h), grown, kept_len)
 
   -- ---- what was kept
 
@@ -169,50 +132,29 @@ module _ (m : MessageValue) (old new : State) (h : Header) (e : Emitted m old ne
   fits_signature : All (λ r. FitsRecord (signature_record r)) (as_list one_signature.some)
   fits_signature = all_front (λ r. FitsRecord (signature_record r)) (as_list m.signature) (as_list one_signature.some) one_signature.rest one_signature.front fits.signature
 
-  opts_fit : All FitsRecord e.edns.kept
-  opts_fit = subst (All FitsRecord) (sym one_edns.kept_is) (edns_fit one_edns.some fits_edns)
-
-  signatures_fit : All FitsRecord e.signature.kept
-  signatures_fit = subst (All FitsRecord) (sym one_signature.kept_is) (signature_fit one_signature.some fits_signature)
-
   are_fit : AreFit e
   are_fit = record {
     queries = fits.queries;
     answers = λ k d below. (fits_answers k d below).fits;
     authorities = λ k d below. (fits_authorities k d below).fits;
     additionals = λ k d below. (fits_additionals k d below).fits;
-    edns = opts_fit;
-    signature = signatures_fit;
+    edns = All-same FitsRecord e.edns.kept _ one_edns.kept_is (edns_fit one_edns.some fits_edns);
+    signature = All-same FitsRecord e.signature.kept _ one_signature.kept_is (signature_fit one_signature.some fits_signature);
   }
 
   -- ---- the words
 
-  all : List (Record RData)
-  all = e.additionals.kept ++ tail one_edns.some one_signature.some
-
   words : Composed new.bytes m.queries e.answers.kept e.authorities.kept (e.additionals.kept ++ tail one_edns.some one_signature.some) 12 (length e.after_questions.bytes) (length e.after_answers.bytes)
       (length e.after_authorities.bytes) (length new.bytes)
   words =
-      let c = composed new.bytes m old new h e are_fit holds in
-      let listed_edns = subst (λ es. Composed new.bytes m.queries e.answers.kept e.authorities.kept (e.additionals.kept ++ (es ++ e.signature.kept))
-      (length e.after_header.bytes) (length e.after_questions.bytes) (length e.after_answers.bytes) (length e.after_authorities.bytes) (length e.after_signature.bytes)) one_edns.kept_is c in
-      let listed_signature = subst (λ ss. Composed new.bytes m.queries e.answers.kept e.authorities.kept (e.additionals.kept ++ (as_list (option_map edns_record one_edns.some) ++ ss))
-      (length e.after_header.bytes) (length e.after_questions.bytes) (length e.after_answers.bytes) (length e.after_authorities.bytes) (length e.after_signature.bytes)) one_signature.kept_is listed_edns in
-      let from12 = subst (λ n. Composed new.bytes m.queries e.answers.kept e.authorities.kept (e.additionals.kept ++ tail one_edns.some one_signature.some)
-      n (length e.after_questions.bytes) (length e.after_answers.bytes) (length e.after_authorities.bytes) (length e.after_signature.bytes)) kept_len listed_signature in
-      subst (λ n. Composed new.bytes m.queries e.answers.kept e.authorities.kept (e.additionals.kept ++ tail one_edns.some one_signature.some)
-      12 (length e.after_questions.bytes) (length e.after_answers.bytes) (length e.after_authorities.bytes) n) (sym new_len) from12
+      transport (λ i. Composed new.bytes m.queries e.answers.kept e.authorities.kept (e.additionals.kept ++ (one_edns.kept_is i ++ one_signature.kept_is i))
+      (kept_len i) (length e.after_questions.bytes) (length e.after_answers.bytes) (length e.after_authorities.bytes) (sym new_len i)) (composed new.bytes m old new h e are_fit holds)
 
   last : Ends new.bytes e.additionals.kept (as_list (option_map edns_record one_edns.some)) (as_list (option_map signature_record one_signature.some)) (length e.after_authorities.bytes)
       (length e.after_additionals.bytes) (length e.after_edns.bytes) (length new.bytes)
   last =
-      let c = ends new.bytes m old new h e are_fit holds in
-      let listed_edns = subst (λ es. Ends new.bytes e.additionals.kept es e.signature.kept (length e.after_authorities.bytes) (length e.after_additionals.bytes) (length e.after_edns.bytes) (length e.after_signature.bytes))
-      one_edns.kept_is c in
-      let listed_signature = subst (λ ss. Ends new.bytes e.additionals.kept (as_list (option_map edns_record one_edns.some)) ss
-      (length e.after_authorities.bytes) (length e.after_additionals.bytes) (length e.after_edns.bytes) (length e.after_signature.bytes)) one_signature.kept_is listed_edns in
-      subst (λ n. Ends new.bytes e.additionals.kept (as_list (option_map edns_record one_edns.some)) (as_list (option_map signature_record one_signature.some))
-      (length e.after_authorities.bytes) (length e.after_additionals.bytes) (length e.after_edns.bytes) n) (sym new_len) listed_signature
+      transport (λ i. Ends new.bytes e.additionals.kept (one_edns.kept_is i) (one_signature.kept_is i) (length e.after_authorities.bytes) (length e.after_additionals.bytes) (length e.after_edns.bytes) (sym new_len i))
+      (ends new.bytes m old new h e are_fit holds)
 
   -- ---- the header
 
@@ -222,14 +164,8 @@ module _ (m : MessageValue) (old new : State) (h : Header) (e : Emitted m old ne
   op_reads : op_value (op_number h.metadata.op_code) ≡ h.metadata.op_code
   op_reads = subst (λ (o : OpCode). op_value (op_number o) ≡ o) (sym (ap (λ (x : Metadata). x.op_code) e.metadata)) fits.op_code_reads
 
-  header_is : IsHeaderAt new.bytes 0 (header_value (raw_header h))
-  header_is = record { raw = raw_header h; word = (header_stands h new.bytes 0 e.narrow header_there).0; value = refl }
-
   abbrev cut_bit : Bool
   cut_bit = m.metadata.truncation || (e.answers_cut || (e.authorities_cut || (e.additionals_cut || (e.edns_cut || e.signature_cut))))
-
-  number : ℕ
-  number = code_number m.metadata.response_code
 
   metadata_read : metadata_value (raw_header h) ≡ record m.metadata { truncation = cut_bit; response_code = code_value (code_number m.metadata.response_code % 16) }
   metadata_read = metadata_back h small_op op_reads ∙ ap (λ (x : Metadata). record x { response_code = code_value (code_number x.response_code % 16) }) e.metadata
@@ -253,10 +189,11 @@ module _ (m : MessageValue) (old new : State) (h : Header) (e : Emitted m old ne
   plain rs fit = subst (λ o. All (IsPlain o) rs) (sym op_kept) (λ k d below. record { given = (fit k d below).given; placed = (fit k d below).placed })
 
   sorted : section_of (e.additionals.kept ++ tail one_edns.some one_signature.some) ≡ record { records = e.additionals.kept; edns = one_edns.some; signature = one_signature.some }
-  sorted = same_section
-      (sorted_records e.additionals.kept m.metadata.op_code fits_additionals one_edns.some one_signature.some)
-      (sorted_edns e.additionals.kept m.metadata.op_code fits_additionals one_edns.some one_signature.some fits_edns)
-      (sorted_signature e.additionals.kept m.metadata.op_code fits_additionals one_edns.some one_signature.some)
+  sorted = λ i. record {
+    records = sorted_records e.additionals.kept m.metadata.op_code fits_additionals one_edns.some one_signature.some i;
+    edns = sorted_edns e.additionals.kept m.metadata.op_code fits_additionals one_edns.some one_signature.some fits_edns i;
+    signature = sorted_signature e.additionals.kept m.metadata.op_code fits_additionals one_edns.some one_signature.some i;
+  }
 
   all_counted : h.counts.additionals ≡ length (e.additionals.kept ++ tail one_edns.some one_signature.some)
   all_counted =
@@ -280,9 +217,7 @@ module _ (m : MessageValue) (old new : State) (h : Header) (e : Emitted m old ne
     authorities = length e.authorities.kept;
     additionals = length (e.additionals.kept ++ tail one_edns.some one_signature.some);
   }
-  counted =
-      same_counts h.counts (length m.queries) (length e.answers.kept) (length e.authorities.kept)
-      (length (e.additionals.kept ++ tail one_edns.some one_signature.some)) e.query_count e.answers.counted e.authorities.counted all_counted
+  counted = λ i. record { queries = e.query_count i; answers = e.answers.counted i; authorities = e.authorities.counted i; additionals = all_counted i }
 
   abbrev message_word : IsMessageAt new.bytes 0 message (length new.bytes)
   message_word = record {
@@ -293,7 +228,7 @@ module _ (m : MessageValue) (old new : State) (h : Header) (e : Emitted m old ne
     answers = e.answers.kept;
     authorities = e.authorities.kept;
     additionals = e.additionals.kept ++ tail one_edns.some one_signature.some;
-    header_stands = header_is;
+    header_stands = record { raw = raw_header h; word = (header_stands h new.bytes 0 e.narrow header_there).0; value = refl };
     queries_stand = words.queries;
     answers_stand = words.answers;
     authorities_stand = words.authorities;
@@ -315,9 +250,8 @@ module _ (m : MessageValue) (old new : State) (h : Header) (e : Emitted m old ne
   lost_bit = m.metadata.truncation || (any_lost e.answers.lost || (any_lost e.authorities.lost || (any_lost e.additionals.lost || (any_lost one_edns.rest || any_lost one_signature.rest))))
 
   tells : cut_bit ≡ lost_bit
-  tells = same_bits m.metadata.truncation e.answers.tells e.authorities.tells e.additionals.tells
-      (e.edns.tells ∙ ap any_lost one_edns.lost_is ∙ lost_of edns_record one_edns.rest)
-      (e.signature.tells ∙ ap any_lost one_signature.lost_is ∙ lost_of signature_record one_signature.rest)
+  tells = λ i. m.metadata.truncation || (e.answers.tells i || (e.authorities.tells i || (e.additionals.tells i
+      || ((e.edns.tells ∙ ap any_lost one_edns.lost_is ∙ lost_of edns_record one_edns.rest) i || (e.signature.tells ∙ ap any_lost one_signature.lost_is ∙ lost_of signature_record one_signature.rest) i))))
 
   metadata_is : high_code one_edns.some (metadata_value (raw_header h))
       ≡ record m.metadata { truncation = lost_bit; response_code = code_value (code_number m.metadata.response_code % code_range one_edns.some) }
@@ -334,7 +268,7 @@ module _ (m : MessageValue) (old new : State) (h : Header) (e : Emitted m old ne
 
   cut_of : IsCut m old.limit new.bytes message
   cut_of = record {
-    small = small;
+    small = omega (arith, new_len, (keeps_signature e).within, limit_kept, e.room);
     word = message_word;
     additionals_end = length e.after_additionals.bytes;
     edns_end = length e.after_edns.bytes;
@@ -342,14 +276,14 @@ module _ (m : MessageValue) (old new : State) (h : Header) (e : Emitted m old ne
     edns_stands = last.edns;
     signature_stands = last.signature;
     queries = refl;
-    answers = record { lost = e.answers.lost; front = e.answers.whole; full = no_room e.answers kq };
-    authorities = record { lost = e.authorities.lost; front = e.authorities.whole; full = no_room e.authorities k1 };
-    additionals = record { lost = e.additionals.lost; front = e.additionals.whole; full = no_room e.additionals k2 };
+    answers = record { lost = e.answers.lost; front = e.answers.whole; full = no_room e.answers (keeps_questions e) };
+    authorities = record { lost = e.authorities.lost; front = e.authorities.whole; full = no_room e.authorities (keeps_answers e) };
+    additionals = record { lost = e.additionals.lost; front = e.additionals.whole; full = no_room e.additionals (keeps_authorities e) };
     edns =
         record {
           lost = one_edns.rest;
           front = one_edns.front;
-          full = no_room_of edns_record old.limit (length e.after_edns.bytes) one_edns.rest (subst (NoRoom plain_record old.limit (length e.after_edns.bytes)) one_edns.lost_is (no_room e.edns k3));
+          full = no_room_of edns_record old.limit (length e.after_edns.bytes) one_edns.rest (subst (NoRoom plain_record old.limit (length e.after_edns.bytes)) one_edns.lost_is (no_room e.edns (keeps_additionals e)));
         };
     signature = record {
       lost = one_signature.rest;
@@ -357,7 +291,7 @@ module _ (m : MessageValue) (old new : State) (h : Header) (e : Emitted m old ne
       full =
           subst (λ n. NoRoom (λ r. plain_record (signature_record r)) old.limit n one_signature.rest) (sym new_len)
           (no_room_of signature_record old.limit (length e.after_signature.bytes) one_signature.rest
-          (subst (NoRoom plain_record old.limit (length e.after_signature.bytes)) one_signature.lost_is (no_room e.signature k4)));
+          (subst (NoRoom plain_record old.limit (length e.after_signature.bytes)) one_signature.lost_is (no_room e.signature (keeps_edns e))));
     };
     metadata = metadata_is;
     short = words.short;

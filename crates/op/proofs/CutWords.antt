@@ -1,10 +1,10 @@
 -- The words of a message that was written, in the bytes that stand at the end.
-use Rattle.std.proofs.Common.{Bool, ◌≡◌, ℕ, List, [], ◌∷◌, ◌++◌, length, take, refl, ap, sym, ◌∙◌, subst, arith, append_assoc}
+use Rattle.std.proofs.Common.{Bool, ◌≡◌, ℕ, List, [], ◌∷◌, ◌++◌, length, take, refl, ap, sym, ◌∙◌, subst, append_assoc}
 use Rattle.std.specs.Prelude.{All}
-use Rattle.std.proofs.Math.Seq.{drop-append_seam, take-length}
-use Rattle.std.proofs.lemmas.List.Elements.{All-append, All-cons, All-nil, All-tail}
+use Rattle.std.proofs.Math.Seq.{drop-append_seam, take-append_seam, take-length}
+use Rattle.std.proofs.lemmas.List.Elements.{All-append, All-take}
 use Rattle.base.specs.Items.{EachWritten}
-use Rattle.base.specs.Laws.{Holds, IsValid, Keeps}
+use Rattle.base.specs.Laws.{Holds, Keeps}
 use Rattle.base.specs.State.{State}
 use Rattle.base.specs.Words.{BackToBack, Stands}
 use Rattle.base.proofs.ItemLemmas.{Each-keeps, Each-valid}
@@ -25,11 +25,7 @@ use Rattle.op.proofs.WordsBack.{query_back, query_ends, record_back, record_ends
 -- ---- lists
 
 pub all_front : {X : Type 0} (P : X → Type 0) (xs kept lost : List X) → xs ≡ kept ++ lost → All P xs → All P kept
-all_front {X = X} P xs kept lost whole all = front kept (subst (All P) whole all)
-  where
-    front : (ys : List X) → All P (ys ++ lost) → All P ys
-    front [] h = All-nil P
-    front (y ∷ ys) h = All-cons P y ys (h 0 y (omega arith)) (front ys (All-tail P y (ys ++ lost) h))
+all_front P xs kept lost whole all = subst (All P) (take-append_seam kept lost) (All-take P (length kept) (kept ++ lost) (subst (All P) whole all))
 
 module _ {E : Type 0} (word : E → List ℕ → ℕ → ℕ → Type 0) (plain : E → ℕ) (owner : E → List (List ℕ)) where
   pub each_append : (xs ys : List E) (a b c : State) → EachWritten word plain owner xs a b → EachWritten word plain owner ys b c → EachWritten word plain owner (xs ++ ys) a c
@@ -74,9 +70,32 @@ pub record AreFit {m : MessageValue} {old new : State} {h : Header} (e : Emitted
 pub records_keep : {xs : List (Record RData)} {a b : State} {n : ℕ} {is_cut : Bool} → WritesRecords xs a b n is_cut → Keeps a b
 records_keep {a = a} {b = b} w = Each-keeps RecordWord plain_record record_owner w.kept a b w.written
 
+-- what stood before a message stays after each part of it
+module _ {m : MessageValue} {old new : State} {h : Header} (e : Emitted m old new h) where
+  pub keeps_questions : Keeps e.after_header e.after_questions
+  keeps_questions = Each-keeps QueryWord plain_query query_owner m.queries e.after_header e.after_questions e.queries
+
+  pub keeps_answers : Keeps e.after_header e.after_answers
+  keeps_answers = Keeps-then keeps_questions (records_keep e.answers)
+
+  pub keeps_authorities : Keeps e.after_header e.after_authorities
+  keeps_authorities = Keeps-then keeps_answers (records_keep e.authorities)
+
+  pub keeps_additionals : Keeps e.after_header e.after_additionals
+  keeps_additionals = Keeps-then keeps_authorities (records_keep e.additionals)
+
+  pub keeps_edns : Keeps e.after_header e.after_edns
+  keeps_edns = Keeps-then keeps_additionals (records_keep e.edns)
+
+  pub keeps_signature : Keeps e.after_header e.after_signature
+  keeps_signature = Keeps-then keeps_edns (records_keep e.signature)
+
 module _ (B : List ℕ) where
-  records_valid : {xs : List (Record RData)} {a b : State} {n : ℕ} {is_cut : Bool} → WritesRecords xs a b n is_cut → Holds a b B → IsValid b B
-  records_valid {a = a} {b = b} w holds = Each-valid RecordWord plain_record record_owner w.kept a b w.written B holds
+  -- where a front of records and what was written after it stand, both do
+  both_hold : {xs : List (Record RData)} {a b c : State} {n : ℕ} {is_cut : Bool} → WritesRecords xs a b n is_cut → Keeps b c → Holds a c B → Holds a b B × Holds b c B
+  both_hold {a = a} {b} {c} w others holds =
+      let first = Holds-first a b c (records_keep w) others B holds in
+      (first, Holds-second a b c (records_keep w) others B (Each-valid RecordWord plain_record record_owner w.kept a b w.written B first) holds)
 
   section_of_records : (rs : List (Record RData)) (a b : State) (known : List OwnerAt) → All FitsRecord rs → EachWritten RecordWord plain_record record_owner rs a b → Holds a b B
       → Known known a → AreCompressed known → Section RecordWord plain_record record_owner B (IsRecordAt B) (λ i r e w. w.word.owner_end) known rs a b
@@ -91,9 +110,6 @@ module _ (B : List ℕ) (m : MessageValue) (old new : State) (h : Header) (e : E
   last_written : EachWritten RecordWord plain_record record_owner (e.additionals.kept ++ (e.edns.kept ++ e.signature.kept)) e.after_authorities e.after_signature
   last_written = each_append RecordWord plain_record record_owner e.additionals.kept (e.edns.kept ++ e.signature.kept) e.after_authorities e.after_additionals e.after_signature e.additionals.written
       (each_append RecordWord plain_record record_owner e.edns.kept e.signature.kept e.after_additionals e.after_edns e.after_signature e.edns.written e.signature.written)
-
-  kq : Keeps e.after_header e.after_questions
-  kq = Each-keeps QueryWord plain_query query_owner m.queries e.after_header e.after_questions e.queries
 
   k5 : Keeps e.after_edns e.after_signature
   k5 = records_keep e.signature
@@ -111,40 +127,28 @@ module _ (B : List ℕ) (m : MessageValue) (old new : State) (h : Header) (e : E
   k1 = Keeps-then (records_keep e.answers) k2
 
   hq : Holds e.after_header e.after_questions B
-  hq = Holds-first e.after_header e.after_questions e.after_signature kq k1 B holds
+  hq = Holds-first e.after_header e.after_questions e.after_signature (keeps_questions e) k1 B holds
 
   h1 : Holds e.after_questions e.after_signature B
-  h1 = Holds-second e.after_header e.after_questions e.after_signature kq k1 B (Each-valid QueryWord plain_query query_owner m.queries e.after_header e.after_questions e.queries B hq) holds
+  h1 = Holds-second e.after_header e.after_questions e.after_signature (keeps_questions e) k1 B (Each-valid QueryWord plain_query query_owner m.queries e.after_header e.after_questions e.queries B hq) holds
 
-  ha : Holds e.after_questions e.after_answers B
-  ha = Holds-first e.after_questions e.after_answers e.after_signature (records_keep e.answers) k2 B h1
+  answers_hold : Holds e.after_questions e.after_answers B × Holds e.after_answers e.after_signature B
+  answers_hold = both_hold B e.answers k2 h1
 
-  h2 : Holds e.after_answers e.after_signature B
-  h2 = Holds-second e.after_questions e.after_answers e.after_signature (records_keep e.answers) k2 B (records_valid B e.answers ha) h1
+  authorities_hold : Holds e.after_answers e.after_authorities B × Holds e.after_authorities e.after_signature B
+  authorities_hold = both_hold B e.authorities k3 answers_hold.1
 
-  hn : Holds e.after_answers e.after_authorities B
-  hn = Holds-first e.after_answers e.after_authorities e.after_signature (records_keep e.authorities) k3 B h2
+  additionals_hold : Holds e.after_authorities e.after_additionals B × Holds e.after_additionals e.after_signature B
+  additionals_hold = both_hold B e.additionals k4 authorities_hold.1
 
-  h3 : Holds e.after_authorities e.after_signature B
-  h3 = Holds-second e.after_answers e.after_authorities e.after_signature (records_keep e.authorities) k3 B (records_valid B e.authorities hn) h2
-
-  hd : Holds e.after_authorities e.after_additionals B
-  hd = Holds-first e.after_authorities e.after_additionals e.after_signature (records_keep e.additionals) k4 B h3
-
-  h4 : Holds e.after_additionals e.after_signature B
-  h4 = Holds-second e.after_authorities e.after_additionals e.after_signature (records_keep e.additionals) k4 B (records_valid B e.additionals hd) h3
-
-  he : Holds e.after_additionals e.after_edns B
-  he = Holds-first e.after_additionals e.after_edns e.after_signature (records_keep e.edns) k5 B h4
-
-  h5 : Holds e.after_edns e.after_signature B
-  h5 = Holds-second e.after_additionals e.after_edns e.after_signature (records_keep e.edns) k5 B (records_valid B e.edns he) h4
+  edns_hold : Holds e.after_additionals e.after_edns B × Holds e.after_edns e.after_signature B
+  edns_hold = both_hold B e.edns k5 additionals_hold.1
 
   pub ends : Ends B e.additionals.kept e.edns.kept e.signature.kept (length e.after_authorities.bytes) (length e.after_additionals.bytes) (length e.after_edns.bytes) (length e.after_signature.bytes)
   ends = record {
-    additionals = words_of B e.additionals fits.additionals hd;
-    edns = words_of B e.edns fits.edns he;
-    signature = words_of B e.signature fits.signature h5;
+    additionals = words_of B e.additionals fits.additionals additionals_hold.0;
+    edns = words_of B e.edns fits.edns edns_hold.0;
+    signature = words_of B e.signature fits.signature edns_hold.1;
   }
 
   last_fit : All FitsRecord (e.additionals.kept ++ (e.edns.kept ++ e.signature.kept))
@@ -156,11 +160,11 @@ module _ (B : List ℕ) (m : MessageValue) (old new : State) (h : Header) (e : E
   composed =
       let sq = section QueryWord plain_query query_owner B (IsQueryAt B) (λ i q j w. w.word.owner_end) FitsQuery (query_back B) (query_ends B)
       m.queries e.after_header e.after_questions [] fits.queries e.queries hq (none_known e.after_header) tt in
-      let sa = section_of_records B e.answers.kept e.after_questions e.after_answers (query_owners sq.words) fits.answers e.answers.written ha sq.stored sq.short in
+      let sa = section_of_records B e.answers.kept e.after_questions e.after_answers (query_owners sq.words) fits.answers e.answers.written answers_hold.0 sq.stored sq.short in
       let sn = section_of_records B e.authorities.kept e.after_answers e.after_authorities (query_owners sq.words ++ record_owners sa.words)
-      fits.authorities e.authorities.written hn sa.stored sa.short in
+      fits.authorities e.authorities.written authorities_hold.0 sa.stored sa.short in
       let sd = section_of_records B (e.additionals.kept ++ (e.edns.kept ++ e.signature.kept)) e.after_authorities e.after_signature ((query_owners sq.words ++ record_owners sa.words) ++ record_owners sn.words)
-      last_fit last_written h3 sn.stored sn.short in
+      last_fit last_written authorities_hold.1 sn.stored sn.short in
       record {
         queries = sq.words;
         answers = sa.words;

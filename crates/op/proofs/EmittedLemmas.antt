@@ -1,9 +1,8 @@
 -- A message that was composed of slices was emitted.
-use Rattle.std.proofs.Common.{◌≡◌, ℕ, ◌+◌, Bool, true, false, List, [], ◌∷◌, length, refl, ap, sym, ◌∙◌, subst, arith, Result, Ok, Err, Bor, Iter}
+use Rattle.std.proofs.Common.{◌≡◌, ℕ, ◌+◌, Bool, true, false, List, length, refl, ap, sym, ◌∙◌, subst, arith, Result, Ok, Err, Bor, Iter}
 use Rattle.std.specs.Prelude.{◌||◌, ⊤, IsSomeAnd, MatchOption, Option, Some, None}
 use Rattle.std.specs.Option.{option_copied, option_map}
 use Rattle.std.proofs.iter.Yields.{fronts}
-use Rattle.std.proofs.lemmas.List.{append-nil}
 use Rattle.base.specs.Items.{EachWritten, EmitsAll}
 use Rattle.base.specs.State.{State, overwritten}
 use Rattle.base.specs.declared.error.proto_error.ProtoError.{ProtoError}
@@ -22,8 +21,10 @@ use Rattle.op.specs.Message.{MessageValue}
 use Rattle.op.specs.declared.edns.Edns.{Edns}
 use Rattle.op.specs.Query.{QueryWord, plain_query, query_written}
 use Rattle.op.specs.declared.header.Header.{Header}
+use Rattle.op.specs.declared.header.metadata.Metadata.{Metadata}
 use Rattle.op.specs.declared.message.writing.Written.{Written}
 use Rattle.op.specs.declared.query.Query.{Query}
+use Rattle.op.proofs.FrontLemmas.{all_written, front_written}
 use Rattle.op.proofs.RunLemmas.{went}
 use Rattle.base.specs.Written.{Writing, after, in_turn}
 
@@ -38,36 +39,12 @@ module _ {E : Type 0} (word : E → List ℕ → ℕ → ℕ → Type 0) (plain 
     front_counted : (answer : Result ℕ ProtoError) (w : Written) → slice_emits s a answer t b → CountsItems answer (Ok w) → WritesFront word plain owner f s.rest.now a b w.count w.is_cut
     front_counted (Ok n) w emits counts =
         let all = Emits-slice word plain owner f s t a b n emits in
-        record {
-          kept = s.rest.now;
-          lost = [];
-          whole = sym (append-nil s.rest.now);
-          written = all.0;
-          counted = ap (λ v. v.count) counts.1 ∙ all.1;
-          tells = ap (λ v. v.is_cut) counts.1;
-          full = tt;
-          exact = all.2;
-          passes = tt;
-        }
+        all_written word plain owner f refl all.0 all.2 (ap (λ v. v.count) counts.1 ∙ all.1) (ap (λ v. v.is_cut) counts.1)
     front_counted (Err (refusals.NotAllRecordsWritten n)) w emits counts =
         let front = Emits-front word plain owner f s t a b n emits in
-        record {
-          kept = front.0;
-          lost = front.1 ∷ front.2;
-          whole = front.3;
-          written = front.4;
-          counted = ap (λ v. v.count) counts.1 ∙ front.5;
-          tells = ap (λ v. v.is_cut) counts.1;
-          full = front.6;
-          exact = front.7;
-          passes = front.8;
-        }
+        front_written word plain owner f front.0 front.2 front.1 front.3 front.4 front.7 (ap (λ v. v.count) counts.1 ∙ front.5) (ap (λ v. v.is_cut) counts.1) front.6 front.8
     front_counted (Err refusals.Memory) w emits counts = absurd (let is = counts in cc)
-    front_counted (Err refusals.MaxBufferSizeExceeded) w emits counts = absurd emits
-    front_counted (Err refusals.NotOpt) w emits counts = absurd emits
-    front_counted (Err (refusals.Message text)) w emits counts = absurd emits
-    front_counted (Err refusals.NotAResponse) w emits counts = absurd emits
-    front_counted (Err (refusals.Decode e)) w emits counts = absurd emits
+    front_counted (Err other) w emits counts = absurd emits
 
     -- a part that was counted is a front
     pub slice_front : (w : Written) → EmitsPart slice_emits s t a (Ok w) b → WritesFront word plain owner f s.rest.now a b w.count w.is_cut
@@ -110,14 +87,6 @@ pub record Slices : Type 0 where
   pub edns : List (Record RData)
   pub signature : List (Record RData)
 
--- fronts of three lists of records were written
-record ThreeFronts (xs ys zs : List (Record RData)) (a d : State) (answers authorities additionals : Written) : Type 0 where
-  after_answers : State
-  after_authorities : State
-  answers_front : WritesRecords xs a after_answers answers.count answers.is_cut
-  authorities_front : WritesRecords ys after_answers after_authorities authorities.count authorities.is_cut
-  additionals_front : WritesRecords zs after_authorities d additionals.count additionals.is_cut
-
 -- a section that is a slice is written and counted
 abbrev pub EmitsSlice : Slice (Record RData) → State → Result Written ProtoError → State → Type 0
 EmitsSlice x = EmitsPart emits_records x.before x.rest
@@ -126,68 +95,10 @@ EmitsSlice x = EmitsPart emits_records x.before x.rest
 pub records_front : (x : Slice (Record RData)) (a b : State) (w : Written) → EmitsSlice x a (Ok w) b → WritesRecords x.before.rest.now a b w.count w.is_cut
 records_front x a b w part = slice_front RecordWord plain_record record_owner record_written x.before x.rest a b w part
 
--- OPT and the signature were written, and counted with the additionals before them
-record TwoFronts (edns signature : List (Record RData)) (additionals : Written) (a c : State) (total : Written) : Type 0 where
-  after_edns : State
-  opt : Written
-  sum : Written
-  signed : Written
-  opt_front : WritesRecords edns a after_edns opt.count opt.is_cut
-  added : AddsCounts additionals opt (Ok sum)
-  signature_front : WritesRecords signature after_edns c signed.count signed.is_cut
-  added_too : AddsCounts sum signed (Ok total)
-
--- room was kept for the header, and the questions were written after it
-record Begun (queries : List Query) (old : State) (place count : ℕ) (after_questions : State) : Type 0 where
-  kept : State
-  room : KeepsRoom old (Ok place) kept
-  asked : EachWritten QueryWord plain_query query_owner queries kept after_questions
-  exact : after_questions ≡ after (in_turn query_written queries) kept
-  counted : count ≡ length queries
-
--- the pieces of a message that was written
-assemble : {m : MessageValue} {old after_questions after_additionals after_signature new : State} {h : Header} {place queries : ℕ} {answers authorities additionals total : Written} → Begun m.queries old place queries after_questions
-    → ThreeFronts m.answers m.authorities m.additionals after_questions after_additionals answers authorities additionals
-    → TwoFronts (as_list (option_map edns_record (raised m))) (as_list (option_map signature_record m.signature)) additionals after_additionals after_signature total
-    → HasHeader m.metadata queries answers authorities total (Ok h)
-    → new ≡ overwritten place (header_bytes (raw_header h)) after_signature
-    → Emitted m old new h
-assemble {m = m} {after_questions = after_questions} {after_additionals = after_additionals} {after_signature = after_signature} {h = h} {answers = answers} {authorities = authorities} {additionals = additionals} {total = total} begun three two header filled =
-    let fields = header.1 in
-    record {
-      after_header = begun.kept;
-      after_questions = after_questions;
-      after_answers = three.after_answers;
-      after_authorities = three.after_authorities;
-      after_additionals = after_additionals;
-      after_edns = two.after_edns;
-      after_signature = after_signature;
-      answers_cut = answers.is_cut;
-      authorities_cut = authorities.is_cut;
-      additionals_cut = additionals.is_cut;
-      edns_cut = two.opt.is_cut;
-      signature_cut = two.signed.is_cut;
-      additional_count = additionals.count;
-      edns_count = two.opt.count;
-      signature_count = two.signed.count;
-      narrow = header.0;
-      place = begun.room.1;
-      room = begun.room.2;
-      queries = begun.asked;
-      asked = begun.exact;
-      answers = subst (λ n. WritesRecords m.answers after_questions three.after_answers n answers.is_cut) (sym (ap (λ k. k.counts.answers) fields)) three.answers_front;
-      authorities = subst (λ n. WritesRecords m.authorities three.after_answers three.after_authorities n authorities.is_cut) (sym (ap (λ k. k.counts.authorities) fields)) three.authorities_front;
-      additionals = three.additionals_front;
-      edns = two.opt_front;
-      signature = two.signature_front;
-      query_count = ap (λ k. k.counts.queries) fields ∙ begun.counted;
-      sum = ap (λ k. k.counts.additionals) fields ∙ three_counted additionals two.opt two.sum two.signed total two.added two.added_too;
-      metadata =
-          ap (λ k. k.metadata) fields
-          ∙ ap (λ p. record m.metadata { truncation = m.metadata.truncation || (answers.is_cut || (authorities.is_cut || p)) })
-          (any_three additionals two.opt two.sum two.signed total two.added two.added_too);
-      header = filled ∙ ap (λ n. overwritten n (header_bytes (raw_header h)) after_signature) begun.room.0;
-    }
+-- the same front, of the same values and of the same number
+front_as : {xs ys : List (Record RData)} {a b : State} {n k : ℕ} {is_cut : Bool} → xs ≡ ys → n ≡ k → WritesRecords xs a b n is_cut → WritesRecords ys a b k is_cut
+front_as {ys = ys} {a} {b} {n} {k} {is_cut} values number front =
+    subst (λ l. WritesRecords ys a b l is_cut) number (subst (λ zs. WritesRecords zs a b n is_cut) values front)
 
 -- the composition of slices
 abbrev pub Composed : MessageValue → Slices → State → Result Header ProtoError → State → Type 0
@@ -208,85 +119,70 @@ pub record AreOf (m : MessageValue) (s : Slices) : Type 0 where
 abbrev pub Idle : Slices → Type 0
 Idle s = (s.answers.rest ≡ s.answers.before) × (s.authorities.rest ≡ s.authorities.before) × (s.additionals.rest ≡ s.additionals.before)
 
--- what follows each part of a message of slices
-module _ (m : MessageValue) (s : Slices) where
-  abbrev pub Headed : ℕ → ℕ → Written → Written → Written → State → Result Header ProtoError → State → Type 0
-  Headed place queries answers authorities total = AndThen (Tests (HasHeader m.metadata queries answers authorities total)) ⊤ (FillsIn place)
+-- the header was made, and filled in
+header_filled : (metadata : Metadata) (place queries : ℕ) (answers authorities total : Written) {a b : State} {h : Header}
+    → AndThen (Tests (HasHeader metadata queries answers authorities total)) ⊤ (FillsIn place) a (Ok h) b
+    → HasHeader metadata queries answers authorities total (Ok h) × (b ≡ overwritten place (header_bytes (raw_header h)) a)
+header_filled metadata place queries answers authorities total {a} {b} {h} run =
+    let made = went h run in
+    let same : made.value ≡ h = sym (same_value h made.value made.rest.0) in (
+      subst (λ k. HasHeader metadata queries answers authorities total (Ok k)) same made.ran.0,
+      made.rest.1 ∙ ap (overwritten place (header_bytes (raw_header made.value))) made.ran.1 ∙ ap (λ k. overwritten place (header_bytes (raw_header k)) a) same,
+    )
 
-  abbrev pub Extended : ℕ → ℕ → Written → Written → Written → State → Result Header ProtoError → State → Type 0
-  Extended place queries answers authorities additionals =
-      AndThen (WritesRecordItems s.edns) ⊤ (λ opt.
-      AndThen (Tests (AddsCounts additionals opt)) ⊤ (λ sum.
-      AndThen (WritesRecordItems s.signature) ⊤ (λ signed.
-      AndThen (Tests (AddsCounts sum signed)) ⊤ (Headed place queries answers authorities))))
-
-  abbrev pub Sectioned : ℕ → ℕ → State → Result Header ProtoError → State → Type 0
-  Sectioned place queries =
-      AndThen (EmitsSlice s.answers) ((s.authorities.rest ≡ s.authorities.before) × (s.additionals.rest ≡ s.additionals.before)) (λ answers.
-      AndThen (EmitsSlice s.authorities) (s.additionals.rest ≡ s.additionals.before) (λ authorities.
-      AndThen (EmitsSlice s.additionals) ⊤ (Extended place queries answers authorities)))
-
-  abbrev pub Asked : ℕ → State → Result Header ProtoError → State → Type 0
-  Asked place = AndThen (λ a answer b. emits_queries s.queries.before a answer s.queries.rest b) (Idle s) (Sectioned place)
-
-module _ (m : MessageValue) (s : Slices) (are : AreOf m s) (old new : State) (h : Header) where
-  header_done : {place queries : ℕ} {after_questions after_additionals after_signature : State} {answers authorities additionals total : Written} → Begun s.queries.before.rest.now old place queries after_questions
-      → ThreeFronts s.answers.before.rest.now s.authorities.before.rest.now s.additionals.before.rest.now after_questions after_additionals answers authorities additionals
-      → TwoFronts s.edns s.signature additionals after_additionals after_signature total
-      → Headed m s place queries answers authorities total after_signature (Ok h) new → Emitted m old new h
-  header_done {place} {queries} {after_questions} {after_additionals} {after_signature} {answers} {authorities} {additionals} {total} begun three two run =
-      let b = went h run in
-      let same : b.value ≡ h = sym (same_value h b.value b.rest.0) in
-      assemble
-      (subst (λ xs. Begun xs old place queries after_questions) are.queries begun)
-      (subst (λ xs. ThreeFronts xs m.authorities m.additionals after_questions after_additionals answers authorities additionals) are.answers
-      (subst (λ xs. ThreeFronts s.answers.before.rest.now xs m.additionals after_questions after_additionals answers authorities additionals) are.authorities
-      (subst (λ xs. ThreeFronts s.answers.before.rest.now s.authorities.before.rest.now xs after_questions after_additionals answers authorities additionals) are.additionals three)))
-      (subst (λ xs. TwoFronts xs (as_list (option_map signature_record m.signature)) additionals after_additionals after_signature total) are.edns_is
-      (subst (λ xs. TwoFronts s.edns xs additionals after_additionals after_signature total) are.signature_is two))
-      (subst (λ k. HasHeader m.metadata queries answers authorities total (Ok k)) same b.ran.0)
-      (b.rest.1 ∙ ap (λ a. overwritten place (header_bytes (raw_header b.value)) a) b.ran.1 ∙ ap (λ k. overwritten place (header_bytes (raw_header k)) after_signature) same)
-
-  extras_next : {place queries : ℕ} {after_questions after_additionals : State} {answers authorities additionals : Written} → Begun s.queries.before.rest.now old place queries after_questions
-      → ThreeFronts s.answers.before.rest.now s.authorities.before.rest.now s.additionals.before.rest.now after_questions after_additionals answers authorities additionals
-      → Extended m s place queries answers authorities additionals after_additionals (Ok h) new → Emitted m old new h
-  extras_next begun three run =
-      let opt = went h run in
-      let sum = went h opt.rest in
-      let signed = went h sum.rest in
-      let total = went h signed.rest in
-      header_done {after_signature = total.between} {total = total.value} begun three (record {
-        after_edns = opt.between;
-        opt = opt.value;
-        sum = sum.value;
-        signed = signed.value;
-        opt_front = opt.ran;
-        added = sum.ran.0;
-        signature_front =
-            subst (λ b. WritesRecords s.signature opt.between b signed.value.count signed.value.is_cut) (sym total.ran.1)
-            (subst (λ a. WritesRecords s.signature a signed.between signed.value.count signed.value.is_cut) sum.ran.1 signed.ran);
-        added_too = total.ran.0;
-      }) total.rest
-
-  sections_next : {place queries : ℕ} {after_questions : State} → Begun s.queries.before.rest.now old place queries after_questions → Sectioned m s place queries after_questions (Ok h) new → Emitted m old new h
-  sections_next {after_questions = after_questions} begun run =
-      let answers = went h run in
-      let authorities = went h answers.rest in
-      let additionals = went h authorities.rest in
-      extras_next begun (record {
-        after_answers = answers.between;
-        after_authorities = authorities.between;
-        answers_front = records_front s.answers after_questions answers.between answers.value answers.ran;
-        authorities_front = records_front s.authorities answers.between authorities.between authorities.value authorities.ran;
-        additionals_front = records_front s.additionals authorities.between additionals.between additionals.value additionals.ran;
-      }) additionals.rest
-
-  pub emitted_of : Composed m s old (Ok h) new → Emitted m old new h
-  emitted_of run =
-      let room = went h run in
-      let asked = went h room.rest in
-      let all = Emits-slice QueryWord plain_query query_owner query_written s.queries.before s.queries.rest room.between asked.between asked.value asked.ran in
-      sections_next (record { kept = room.between; room = room.ran; asked = all.0; exact = all.2; counted = all.1 }) asked.rest
+-- the pieces of a message that was written
+pub emitted_of : (m : MessageValue) (s : Slices) → AreOf m s → (old new : State) (h : Header) → Composed m s old (Ok h) new → Emitted m old new h
+emitted_of m s are old new h run =
+    let room = went h run in
+    let asked = went h room.rest in
+    let answers = went h asked.rest in
+    let authorities = went h answers.rest in
+    let additionals = went h authorities.rest in
+    let opt = went h additionals.rest in
+    let sum = went h opt.rest in
+    let signed = went h sum.rest in
+    let total = went h signed.rest in
+    let header = header_filled m.metadata room.value asked.value answers.value authorities.value total.value total.rest in
+    let all = Emits-slice QueryWord plain_query query_owner query_written s.queries.before s.queries.rest room.between asked.between asked.value asked.ran in
+    let fields = header.0.1 in
+    record {
+      after_header = room.between;
+      after_questions = asked.between;
+      after_answers = answers.between;
+      after_authorities = authorities.between;
+      after_additionals = additionals.between;
+      after_edns = opt.between;
+      after_signature = signed.between;
+      answers_cut = answers.value.is_cut;
+      authorities_cut = authorities.value.is_cut;
+      additionals_cut = additionals.value.is_cut;
+      edns_cut = opt.value.is_cut;
+      signature_cut = signed.value.is_cut;
+      additional_count = additionals.value.count;
+      edns_count = opt.value.count;
+      signature_count = signed.value.count;
+      narrow = header.0.0;
+      place = room.ran.1;
+      room = room.ran.2;
+      queries = subst (λ qs. EachWritten QueryWord plain_query query_owner qs room.between asked.between) are.queries all.0;
+      asked = all.2 ∙ ap (λ qs. after (in_turn query_written qs) room.between) are.queries;
+      answers = front_as are.answers (sym (ap (λ k. k.counts.answers) fields)) (records_front s.answers asked.between answers.between answers.value answers.ran);
+      authorities = front_as are.authorities (sym (ap (λ k. k.counts.authorities) fields))
+          (records_front s.authorities answers.between authorities.between authorities.value authorities.ran);
+      additionals = front_as are.additionals refl (records_front s.additionals authorities.between additionals.between additionals.value additionals.ran);
+      edns = front_as are.edns_is refl opt.ran;
+      signature = front_as are.signature_is refl (subst (λ a. WritesRecords s.signature a signed.between signed.value.count signed.value.is_cut) sum.ran.1 signed.ran);
+      query_count = ap (λ k. k.counts.queries) fields ∙ all.1 ∙ ap length are.queries;
+      sum = ap (λ k. k.counts.additionals) fields ∙ three_counted additionals.value opt.value sum.value signed.value total.value sum.ran.0 total.ran.0;
+      metadata =
+          ap (λ k. k.metadata) fields
+          ∙ ap (λ p. record m.metadata { truncation = m.metadata.truncation || (answers.value.is_cut || (authorities.value.is_cut || p)) })
+          (any_three additionals.value opt.value sum.value signed.value total.value sum.ran.0 total.ran.0);
+      header =
+          header.1
+          ∙ ap (overwritten room.value (header_bytes (raw_header h))) total.ran.1
+          ∙ ap (λ n. overwritten n (header_bytes (raw_header h)) signed.between) room.ran.0;
+    }
 
 -- the OPT record of EDNS with another high code
 raised_list : (f : Edns → Edns) (o : Option Edns) → as_list (option_map (λ e. edns_record (f e)) o) ≡ as_list (option_map edns_record (option_map f o))

@@ -44,52 +44,51 @@ once_yields s t x (y ∷ ys) item (u, step, yields) =
     none_yields v w (z ∷ zs) none (m, step, others) = let is = step.0 in cc
 
 module _ {E : Type 0} (word : E → List ℕ → ℕ → ℕ → Type 0) (plain : E → ℕ) (owner : E → List (List ℕ)) (f : E → Writing) where
-  -- of one item that was written, or wasn't
-  whole_item : {x : E} {xs : List E} {n : ℕ} (a b : State) (result : Result Written ProtoError) → xs
-      ≡ x ∷ [] → EachWritten word plain owner xs a b → b ≡ after (in_turn f xs) a → n ≡ length xs →
-      Narrows n false result
-      → WritesItems word plain owner f (x ∷ []) a result b
-  whole_item {xs = xs} a b (Ok written) all each exact count narrows = record {
-    kept = xs;
+  -- all items were written
+  pub all_written : {xs kept : List E} {a b : State} {n : ℕ} {is_cut : Bool} → xs ≡ kept → EachWritten word plain owner kept a b → b ≡ after (in_turn f kept) a
+      → n ≡ length kept → is_cut ≡ false → WritesFront word plain owner f xs a b n is_cut
+  all_written {kept = kept} whole each exact count uncut = record {
+    kept = kept;
     lost = [];
-    whole = sym all ∙ sym (append-nil xs);
+    whole = whole ∙ sym (append-nil kept);
     written = each;
-    counted = ap (λ w. w.count) narrows.1 ∙ count;
-    tells = ap (λ w. w.is_cut) narrows.1;
+    counted = count;
+    tells = uncut;
     full = tt;
     exact = exact;
     passes = tt;
   }
-  whole_item {n = n} a b (Err e) all each exact count narrows = let one : n ≡ 1 = count ∙ ap length all in absurd (omega (arith, one, narrows.0))
 
-  no_item : {xs : List E} {n : ℕ} (x : E) (a b : State) (result : Result Written ProtoError) → xs ≡ [] → EachWritten word plain owner xs a b → a.limit < length b.bytes + plain x
-      → b ≡ after (in_turn f xs) a → FirstPasses f a.limit b (x ∷ []) → n ≡ length xs → Narrows n true result → WritesItems word plain owner f (x ∷ []) a result b
-  no_item {xs} x a b (Ok written) none each full exact passes count narrows = record {
-    kept = xs;
-    lost = x ∷ [];
-    whole = ap (λ ys. ys ++ x ∷ []) (sym none);
+  -- the items before one that had no room were written
+  pub front_written : (kept rest : List E) (x : E) {xs : List E} {a b : State} {n : ℕ} {is_cut : Bool} → xs ≡ kept ++ x ∷ rest → EachWritten word plain owner kept a b → b ≡ after (in_turn f kept) a
+      → n ≡ length kept → is_cut ≡ true → a.limit < length b.bytes + plain x → FirstPasses f a.limit b (x ∷ rest) → WritesFront word plain owner f xs a b n is_cut
+  front_written kept rest x whole each exact count cut full passes = record {
+    kept = kept;
+    lost = x ∷ rest;
+    whole = whole;
     written = each;
-    counted = ap (λ w. w.count) narrows.1 ∙ count;
-    tells = ap (λ w. w.is_cut) narrows.1;
+    counted = count;
+    tells = cut;
     full = full;
     exact = exact;
     passes = passes;
   }
+
+  -- of one item that was written, or wasn't
+  whole_item : {x : E} {xs : List E} {n : ℕ} (a b : State) (result : Result Written ProtoError) → xs ≡ x ∷ [] → EachWritten word plain owner xs a b → b ≡ after (in_turn f xs) a → n ≡ length xs
+      → Narrows n false result → WritesItems word plain owner f (x ∷ []) a result b
+  whole_item a b (Ok written) all each exact count narrows = all_written (sym all) each exact (ap (λ w. w.count) narrows.1 ∙ count) (ap (λ w. w.is_cut) narrows.1)
+  whole_item {n = n} a b (Err e) all each exact count narrows = let one : n ≡ 1 = count ∙ ap length all in absurd (omega (arith, one, narrows.0))
+
+  no_item : {xs : List E} {n : ℕ} (x : E) (a b : State) (result : Result Written ProtoError) → xs ≡ [] → EachWritten word plain owner xs a b → a.limit < length b.bytes + plain x
+      → b ≡ after (in_turn f xs) a → FirstPasses f a.limit b (x ∷ []) → n ≡ length xs → Narrows n true result → WritesItems word plain owner f (x ∷ []) a result b
+  no_item {xs} x a b (Ok written) none each full exact passes count narrows =
+      front_written xs [] x (ap (λ ys. ys ++ x ∷ []) (sym none)) each exact (ap (λ w. w.count) narrows.1 ∙ count) (ap (λ w. w.is_cut) narrows.1) full passes
   no_item {n = n} x a b (Err e) none each full exact passes count narrows = let zero : n ≡ 0 = count ∙ ap length none in absurd (omega (arith, zero, narrows.0))
 
   -- of none nothing is written
   pub none_written : (a : State) (result : Result Written ProtoError) → Narrows 0 false result → WritesItems word plain owner f [] a result a
-  none_written a (Ok written) narrows = record {
-    kept = [];
-    lost = [];
-    whole = refl;
-    written = refl;
-    counted = ap (λ w. w.count) narrows.1;
-    tells = ap (λ w. w.is_cut) narrows.1;
-    full = tt;
-    exact = ap (λ (bytes : List ℕ). record a { bytes = bytes }) (sym (append-nil a.bytes));
-    passes = tt;
-  }
+  none_written a (Ok written) narrows = all_written refl refl (ap (λ (bytes : List ℕ). record a { bytes = bytes }) (sym (append-nil a.bytes))) (ap (λ w. w.count) narrows.1) (ap (λ w. w.is_cut) narrows.1)
   none_written a (Err e) narrows = absurd (omega (arith, narrows.0))
 
   module _ (item : Bor E) (s t : Once (Bor E)) (a b : State) where
@@ -112,11 +111,7 @@ module _ {E : Type 0} (word : E → List ℕ → ℕ → ℕ → Type 0) (plain 
           | inr (all, left) ↦ absurd (let is = step.0 in cc)
         ]
     one_item (Err refusals.Memory) result first emits counts = rw counts refl
-    one_item (Err refusals.MaxBufferSizeExceeded) result first emits counts = absurd emits
-    one_item (Err refusals.NotOpt) result first emits counts = absurd emits
-    one_item (Err (refusals.Message text)) result first emits counts = absurd emits
-    one_item (Err refusals.NotAResponse) result first emits counts = absurd emits
-    one_item (Err (refusals.Decode e)) result first emits counts = absurd emits
+    one_item (Err other) result first emits counts = absurd emits
 
 -- items whose words are read of a value are that value's items
 module _ {A E : Type 0} (view : A → E) (word : E → List ℕ → ℕ → ℕ → Type 0) (plain : E → ℕ) (owner : E → List (List ℕ)) (f : E → Writing) where

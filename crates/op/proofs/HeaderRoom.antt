@@ -1,5 +1,5 @@
 -- Room for a header that was kept, and is filled in at the end.
-use Rattle.std.proofs.Common.{◌≡◌, ◌≤◌, length, refl, ap, arith, length-append}
+use Rattle.std.proofs.Common.{◌≡◌, ◌≤◌, length, refl, ap, sym, subst, arith, length-append}
 use Rattle.std.specs.Prelude.{replicate}
 use Rattle.base.specs.Laws.{Keeps}
 use Rattle.base.specs.State.{State, appended, overwritten}
@@ -14,4 +14,5 @@ room_filled h a b c d kept within keeps filled =
     let xs = header_bytes (raw_header h) in
     let first : Keeps a (appended xs a) = Keeps-appended xs a (appended xs a) refl
     (omega (arith, within, ap (λ (s : State). length s.bytes) kept, length-append a.bytes (replicate 12 0), length-append a.bytes xs)) in
-    Keeps-then first (Keeps-filled (replicate 12 0) xs a b c d refl kept keeps filled)
+    let after : Keeps (appended xs a) (overwritten (length a.bytes) xs c) = Keeps-filled (replicate 12 0) xs a c refl (subst (λ (s : State). Keeps s c) kept keeps) in
+    subst (λ (s : State). Keeps a s) (sym filled) (Keeps-then first after)

@@ -23,7 +23,6 @@ mod CutOf
 mod CutWords
 mod MessageFaults
 mod SectionFaults
-pub mod LimitLemmas
 pub mod MessageEquals
 pub mod MessageStands
 pub mod MessageWrittenLemmas

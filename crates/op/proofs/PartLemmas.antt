@@ -1,13 +1,12 @@
 -- What is kept of each part of a message under a limit.
-use Rattle.std.proofs.Common.{◌≡◌, ℕ, ◌+◌, ◌<◌, ◌≤◌, inl, inr, List, [], ◌∷◌, ◌++◌, length, refl, ap, sym, ◌∙◌, subst, arith, length-append, Bool, false, cond}
+use Rattle.std.proofs.Common.{◌≡◌, ℕ, ◌+◌, ◌≤◌, List, ◌++◌, length, ap, sym, ◌∙◌, subst, arith, length-append, false}
 use Rattle.std.specs.Prelude.{nat_lt}
 use Rattle.std.specs.Option.{option_map}
-use Rattle.std.proofs.lemmas.Bool.{cases_lt, le-leb, lt-leb}
 use Rattle.std.proofs.lemmas.Bool.Decides.{nat_tests}
 use Rattle.std.proofs.lemmas.List.{append-nil, nil_from_length}
 use Rattle.base.specs.State.{Stored}
 use Rattle.base.specs.Written.{Writing, in_turn, that_fit}
-use Rattle.base.proofs.FittingLemmas.{all_fit, no_fewer_fit}
+use Rattle.base.proofs.FittingLemmas.{Fits-cut_at, all_fit, no_fewer_fit}
 use Rattle.base_data.specs.declared.rdata.RData.{RData}
 use Rattle.rr.specs.Record.{record_written}
 use Rattle.rr.specs.declared.record.Record.{Record}
@@ -15,53 +14,16 @@ use Rattle.op.specs.Cut.{raised}
 use Rattle.op.specs.EdnsRecord.{edns_record}
 use Rattle.op.specs.Fits.{as_list, signature_record}
 use Rattle.op.specs.Message.{MessageValue}
-use Rattle.op.specs.MessageWritten.{AreWhole, FirstPassesAt, LostForRoom, Part, part_within, part_after, parts_of}
+use Rattle.op.specs.MessageWritten.{AreWhole, LostForRoom, Part, part_within, part_after, parts_of}
 use Rattle.op.specs.Query.{query_written}
 use Rattle.op.specs.declared.query.Query.{Query}
-use Rattle.op.proofs.LimitLemmas.{fits_more}
 
 module _ {E : Type 0} (f : E → Writing) where
-  first_fits : (limit : ℕ) (x : E) (xs : List E) (at : ℕ) (stored : List Stored) → at + length (f x at stored).bytes ≤ limit
-      → that_fit f limit (x ∷ xs) at stored ≡ x ∷ that_fit f limit xs (at + length (f x at stored).bytes) (f x at stored).suffixes
-  first_fits limit x xs at stored fits =
-      ap (λ (b : Bool). cond b (x ∷ that_fit f limit xs (at + length (f x at stored).bytes) (f x at stored).suffixes) []) (le-leb (at + length (f x at stored).bytes) limit fits)
-
-  none_fits : (limit : ℕ) (x : E) (xs : List E) (at : ℕ) (stored : List Stored) → limit < at + length (f x at stored).bytes → that_fit f limit (x ∷ xs) at stored ≡ []
-  none_fits limit x xs at stored full =
-      ap (λ (b : Bool). cond b (x ∷ that_fit f limit xs (at + length (f x at stored).bytes) (f x at stored).suffixes) []) (lt-leb (at + length (f x at stored).bytes) limit full)
-
-  -- those that fit, and the rest, of which the first passes the limit
-  record Cut (limit : ℕ) (xs : List E) (at : ℕ) (stored : List Stored) (kept : List E) : Type 0 where
-    lost : List E
-    whole : xs ≡ kept ++ lost
-    passes : let piece = in_turn f kept at stored in FirstPassesAt f limit (at + length piece.bytes) piece.suffixes lost
-
-  cut_at : (limit : ℕ) (xs : List E) (at : ℕ) (stored : List Stored) → Cut limit xs at stored (that_fit f limit xs at stored)
-  cut_at limit [] at stored = record { lost = []; whole = refl; passes = tt }
-  cut_at limit (x ∷ xs) at stored = elim (cases_lt limit (at + length (f x at stored).bytes)) [
-    | inl full ↦
-        let here : at ≡ at + 0 = omega arith in
-        subst (Cut limit (x ∷ xs) at stored) (sym (none_fits limit x xs at stored full))
-        (record { lost = x ∷ xs; whole = refl; passes = subst (λ (k : ℕ). limit < k + length (f x k stored).bytes) here full })
-    | inr fits ↦
-        let first = f x at stored in
-        let place = at + length first.bytes in
-        let kept = that_fit f limit xs place first.suffixes in
-        let rest = cut_at limit xs place first.suffixes in
-        let piece = in_turn f kept place first.suffixes in
-        let end : place + length piece.bytes ≡ at + length (first.bytes ++ piece.bytes) = omega (arith, length-append first.bytes piece.bytes) in
-        subst (Cut limit (x ∷ xs) at stored) (sym (first_fits limit x xs at stored fits))
-        (record {
-          lost = rest.lost;
-          whole = ap (λ (ys : List E). x ∷ ys) rest.whole;
-          passes = subst (λ (k : ℕ). FirstPassesAt f limit k piece.suffixes rest.lost) end rest.passes;
-        })
-  ]
-
+  -- what is lost of a part is the rest, of which the first passes the limit
   pub part_lost : (limit : ℕ) (xs : List E) (at : ℕ) (stored : List Stored) → LostForRoom f limit xs (part_within f limit xs at stored)
   part_lost limit xs at stored =
-      let cut = cut_at limit xs at stored in
-      record { lost = cut.lost; whole = cut.whole; passes = cut.passes }
+      let (lost, whole, passes) = Fits-cut_at f limit xs at stored in
+      record { lost = lost; whole = whole; passes = passes }
 
   -- a part of these values
   abbrev part_of : List E → List E → ℕ → List Stored → Part E
@@ -72,7 +34,7 @@ module _ {E : Type 0} (f : E → Writing) where
   -- all are kept where the part isn't cut
   kept_all : (limit : ℕ) (xs : List E) (at : ℕ) (stored : List Stored) → (part_within f limit xs at stored).is_cut ≡ false → that_fit f limit xs at stored ≡ xs
   kept_all limit xs at stored uncut =
-      let cut = cut_at limit xs at stored in
+      let cut = part_lost limit xs at stored in
       let kept = that_fit f limit xs at stored in
       let sum = ap length cut.whole ∙ length-append kept cut.lost in
       let none : length cut.lost ≡ 0 = grind (arith, nat_tests, uncut, sum) in
@@ -91,7 +53,7 @@ module _ {E : Type 0} (f : E → Writing) where
   part_grows small large more xs at stored uncut =
       let all = kept_all small xs at stored uncut in
       let grown = no_fewer_fit f small large xs at stored more in
-      let cut = cut_at large xs at stored in
+      let cut = part_lost large xs at stored in
       let kept = that_fit f large xs at stored in
       let sum = ap length cut.whole ∙ length-append kept cut.lost in
       let longer = ap length grown.1 ∙ length-append (that_fit f small xs at stored) grown.0 in
@@ -100,6 +62,13 @@ module _ {E : Type 0} (f : E → Writing) where
       small xs at stored ++ ys) (nil_from_length grown.0 none) ∙ append-nil (that_fit f small xs
       at stored) in
       ap (λ (ys : List E). part_of xs ys at stored) same
+
+  -- no fewer fit under a larger limit
+  pub no_fewer : (small large : ℕ) → small ≤ large → (xs : List E) (at : ℕ) (stored : List Stored)
+      → length (that_fit f small xs at stored) ≤ length (that_fit f large xs at stored)
+  no_fewer small large more xs at stored =
+      let (others, is) = no_fewer_fit f small large xs at stored more in
+      omega (arith, ap length is, length-append (that_fit f small xs at stored) others)
 
   -- a part ends no earlier than the one before it
   pub ends_later : {D : Type 0} (limit : ℕ) (xs : List E) (before : Part D) → before.end ≤ (part_after f limit xs before).end
@@ -144,4 +113,4 @@ answers_grow small large more m at stored uncut =
     let its = (parts_of small m at stored).queries in
     let same = part_grows query_written small large more m.queries at stored uncut in
     let kept = ap (λ (p : Part Query). length (part_after record_written large m.answers p).kept) same in
-    omega (arith, kept, fits_more record_written small large more m.answers its.end its.piece.suffixes)
+    omega (arith, kept, no_fewer record_written small large more m.answers its.end its.piece.suffixes)

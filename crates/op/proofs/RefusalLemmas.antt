@@ -1,7 +1,6 @@
 -- Why writing a message of slices is refused: the header or the questions have no room.
-use Rattle.std.proofs.Common.{◌≡◌, ◌⊎◌, ℕ, ◌+◌, ◌<◌, List, ◌∷◌, ◌++◌, length, inl, inr, refl, ap, sym, ◌∙◌, subst, arith, length-append, Ok, Err}
+use Rattle.std.proofs.Common.{◌≡◌, ◌⊎◌, ℕ, length, inl, inr, refl, ap, sym, ◌∙◌, subst, arith, length-append, Ok, Err}
 use Rattle.std.specs.Prelude.{replicate, true}
-use Rattle.base.specs.Items.{EachWritten}
 use Rattle.base.specs.State.{State}
 use Rattle.base.specs.declared.error.proto_error.ProtoError.{ProtoError}
 use Rattle.base.specs.declared.error.proto_error.ProtoError.TheVariants as refusals
@@ -10,9 +9,8 @@ use Rattle.op.specs.Composition.{KeepsRoom}
 use Rattle.op.specs.Emitted.{Leaves, WritesFront, query_owner}
 use Rattle.op.specs.Message.{MessageValue}
 use Rattle.op.specs.Query.{QueryWord, plain_query, query_written}
-use Rattle.op.specs.declared.query.Query.{Query}
 use Rattle.op.proofs.EmittedLemmas.{AreOf, Slices, emits_queries}
-use Rattle.base.specs.Written.{FirstPasses, after, in_turn}
+use Rattle.op.proofs.FrontLemmas.{front_written}
 
 -- ---- no room
 
@@ -23,39 +21,14 @@ Left m old new f = (f ≡ refusals.Memory) ⊎ Leaves m old f new
 pub room_failed : (m : MessageValue) (old new : State) (f : ProtoError) → KeepsRoom old (Err f) new → Left m old new f
 room_failed m old new refusals.Memory run = inl refl
 room_failed m old new refusals.MaxBufferSizeExceeded run = inr (run.1, run.0)
-room_failed m old new (refusals.NotAllRecordsWritten count) run = absurd run.1
-room_failed m old new refusals.NotOpt run = absurd run.1
-room_failed m old new (refusals.Message text) run = absurd run.1
-room_failed m old new refusals.NotAResponse run = absurd run.1
-room_failed m old new (refusals.Decode d) run = absurd run.1
+room_failed m old new other run = absurd run.1
 
 module _ (m : MessageValue) (s : Slices) (are : AreOf m s) (old new : State) (place : ℕ) (kept : State) (room : KeepsRoom old (Ok place) kept) where
-  -- the questions before one that had no room
-  not_all : (xs rest : List Query) (x : Query) (count : ℕ) → s.queries.before.rest.now ≡ xs ++ x ∷ rest → EachWritten QueryWord plain_query query_owner xs kept new → count ≡ length xs
-      → kept.limit < length new.bytes + plain_query x → new ≡ after (in_turn query_written xs) kept → FirstPasses query_written kept.limit new (x ∷ rest)
-      → Leaves m old (refusals.NotAllRecordsWritten count) new
-  not_all xs rest x count whole each counted full exact passes =
-      let front : WritesFront QueryWord plain_query query_owner query_written m.queries kept new count true = record {
-        kept = xs;
-        lost = x ∷ rest;
-        whole = sym are.queries ∙ whole;
-        written = each;
-        counted = counted;
-        tells = refl;
-        full = full;
-        exact = exact;
-        passes = passes;
-      } in
-      let fits = ap (λ (a : State). length a.bytes) room.1 ∙ length-append old.bytes (replicate 12 0) in
-      (omega (arith, room.2, fits), subst (λ a. WritesFront QueryWord plain_query query_owner query_written m.queries a new count true) room.1 front)
-
   pub queries_failed : (f : ProtoError) → emits_queries s.queries.before kept (Err f) s.queries.rest new → Left m old new f
   queries_failed refusals.Memory run = inl refl
   queries_failed (refusals.NotAllRecordsWritten count) run =
       let front = Emits-front QueryWord plain_query query_owner query_written s.queries.before s.queries.rest kept new count run in
-      inr (not_all front.0 front.2 front.1 count front.3 front.4 front.5 front.6 front.7 front.8)
-  queries_failed refusals.MaxBufferSizeExceeded run = absurd run
-  queries_failed refusals.NotOpt run = absurd run
-  queries_failed (refusals.Message text) run = absurd run
-  queries_failed refusals.NotAResponse run = absurd run
-  queries_failed (refusals.Decode d) run = absurd run
+      let before = front_written QueryWord plain_query query_owner query_written front.0 front.2 front.1 (sym are.queries ∙ front.3) front.4 front.7 front.5 refl front.6 front.8 in
+      let fits = ap (λ (a : State). length a.bytes) room.1 ∙ length-append old.bytes (replicate 12 0) in
+      inr (omega (arith, room.2, fits), subst (λ a. WritesFront QueryWord plain_query query_owner query_written m.queries a new count true) room.1 before)
+  queries_failed other run = absurd run

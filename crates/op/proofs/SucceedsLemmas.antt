@@ -1,6 +1,6 @@
 -- A message of slices is refused for memory, or where header or questions have no room, whatever the encoder holds.
 use Rattle.std.proofs.Common.{◌≡◌, ◌⊎◌, ℕ, true, ◌+◌, ◌-◌, ◌<◌, ◌≤◌, ◌^◌, List, [], ◌∷◌, length, inl, inr, ap, sym, ◌∙◌, subst, arith, length-append, Result, Ok, Err, Iter}
-use Rattle.std.specs.Prelude.{replicate}
+use Rattle.std.specs.Prelude.{⊤, replicate}
 use Rattle.base.specs.Items.{EachWritten}
 use Rattle.base.specs.State.{State, appended}
 use Rattle.base.specs.declared.error.proto_error.ProtoError.{ProtoError}
@@ -10,14 +10,15 @@ use Rattle.base_data.specs.declared.rdata.RData.{RData}
 use Rattle.rr.specs.Record.{RecordWord, plain_record, record_written}
 use Rattle.rr.specs.declared.record.Record.{Record}
 use Rattle.op.specs.Cut.{IsTooSmall, NoRoom, any_lost}
-use Rattle.op.specs.Composition.{CountsItems, KeepsRoom}
+use Rattle.op.specs.Composition.{AddsCounts, AndThen, CountsItems, FillsIn, HasHeader, KeepsRoom, Tests, WritesRecordItems}
+use Rattle.op.specs.declared.header.Header.{Header}
 use Rattle.op.specs.Emitted.{Leaves, WritesFront, WritesRecords, query_owner, record_owner}
 use Rattle.op.specs.Fits.{HasRoom, plain_queries}
 use Rattle.op.specs.Message.{MessageValue}
 use Rattle.op.specs.Query.{QueryWord, plain_query, query_written}
 use Rattle.op.specs.declared.message.writing.Written.{Written}
 use Rattle.op.specs.declared.query.Query.{Query}
-use Rattle.op.proofs.EmittedLemmas.{AreOf, Asked, Composed, EmitsSlice, Extended, Headed, Sectioned, Slice, Slices, emits_records, records_front}
+use Rattle.op.proofs.EmittedLemmas.{AreOf, Composed, EmitsSlice, Idle, Slice, Slices, emits_queries, emits_records, records_front}
 use Rattle.op.proofs.RefusalLemmas.{Left, queries_failed, room_failed}
 use Rattle.op.proofs.RoomLemmas.{IsLimited, Took, plain-append, queries_few, queries_within, took_few, took_front, took_more, took_queries}
 use Rattle.op.proofs.RunLemmas.{failed, same_err}
@@ -39,11 +40,7 @@ part_failed s t a b (Err (refusals.NotAllRecordsWritten n)) e emits counts =
     let front = Emits-front RecordWord plain_record record_owner record_written s t a b n emits in
     inr (record { kept = front.0; written = front.4; exact = front.7; many = omega (arith, counts.0, front.5) })
 part_failed s t a b (Err refusals.Memory) e emits counts = inl (same_err {Y = Written} e refusals.Memory counts)
-part_failed s t a b (Err refusals.MaxBufferSizeExceeded) e emits counts = absurd emits
-part_failed s t a b (Err refusals.NotOpt) e emits counts = absurd emits
-part_failed s t a b (Err (refusals.Message text)) e emits counts = absurd emits
-part_failed s t a b (Err refusals.NotAResponse) e emits counts = absurd emits
-part_failed s t a b (Err (refusals.Decode d)) e emits counts = absurd emits
+part_failed s t a b (Err other) e emits counts = absurd emits
 
 -- After the state k, with the room for a header, no more records stand than a header can count.
 module _ (k : State) (limited : IsLimited k) (e : ProtoError) where
@@ -57,6 +54,27 @@ module _ (k : State) (limited : IsLimited k) (e : ProtoError) where
       elim (part_failed x.before x.rest a b part.0 e part.1 part.2) [ inl memory ↦ memory | inr many ↦ few_written a b n took many ]
 
 -- ---- the whole
+
+-- what follows each part of a message of slices
+module _ (m : MessageValue) (s : Slices) where
+  abbrev Headed : ℕ → ℕ → Written → Written → Written → State → Result Header ProtoError → State → Type 0
+  Headed place queries answers authorities total = AndThen (Tests (HasHeader m.metadata queries answers authorities total)) ⊤ (FillsIn place)
+
+  abbrev Extended : ℕ → ℕ → Written → Written → Written → State → Result Header ProtoError → State → Type 0
+  Extended place queries answers authorities additionals =
+      AndThen (WritesRecordItems s.edns) ⊤ (λ opt.
+      AndThen (Tests (AddsCounts additionals opt)) ⊤ (λ sum.
+      AndThen (WritesRecordItems s.signature) ⊤ (λ signed.
+      AndThen (Tests (AddsCounts sum signed)) ⊤ (Headed place queries answers authorities))))
+
+  abbrev Sectioned : ℕ → ℕ → State → Result Header ProtoError → State → Type 0
+  Sectioned place queries =
+      AndThen (EmitsSlice s.answers) ((s.authorities.rest ≡ s.authorities.before) × (s.additionals.rest ≡ s.additionals.before)) (λ answers.
+      AndThen (EmitsSlice s.authorities) (s.additionals.rest ≡ s.additionals.before) (λ authorities.
+      AndThen (EmitsSlice s.additionals) ⊤ (Extended place queries answers authorities)))
+
+  abbrev Asked : ℕ → State → Result Header ProtoError → State → Type 0
+  Asked place = AndThen (λ a answer b. emits_queries s.queries.before a answer s.queries.rest b) (Idle s) (Sectioned place)
 
 module _ (m : MessageValue) (s : Slices) (are : AreOf m s) (old new : State)
     (small : old.limit < 2 ^ 16) (e : ProtoError) where
@@ -150,11 +168,7 @@ has_no_room m old new (refusals.NotAllRecordsWritten count) room left =
     let blank = length-append old.bytes (replicate 12 0) in
     let full = front_full m.queries (appended (replicate 12 0) old) new count left.1 in
     omega (arith, left.0, full, blank, room)
-has_no_room m old new refusals.Memory room left = left
-has_no_room m old new refusals.NotOpt room left = left
-has_no_room m old new (refusals.Message text) room left = left
-has_no_room m old new refusals.NotAResponse room left = left
-has_no_room m old new (refusals.Decode d) room left = left
+has_no_room m old new other room left = left
 
 pub no_room : (m : MessageValue) (old new : State) (e : ProtoError) → old.bytes ≡ [] → Leaves m old e new → IsTooSmall m old.limit e
 no_room m old new refusals.MaxBufferSizeExceeded empty left = omega (arith, left.0, ap length empty)
@@ -162,8 +176,4 @@ no_room m old new (refusals.NotAllRecordsWritten count) empty left =
     let blank = length-append old.bytes (replicate 12 0) in
     let full = front_full m.queries (appended (replicate 12 0) old) new count left.1 in
     (omega (arith, left.0, ap length empty), omega (arith, full, blank, ap length empty))
-no_room m old new refusals.Memory empty left = absurd left
-no_room m old new refusals.NotOpt empty left = absurd left
-no_room m old new (refusals.Message text) empty left = absurd left
-no_room m old new refusals.NotAResponse empty left = absurd left
-no_room m old new (refusals.Decode d) empty left = absurd left
+no_room m old new other empty left = absurd left

@@ -1,13 +1,12 @@
 -- A message that was read, and of which nothing was cut, is read as the same message.
-use Rattle.std.proofs.Common.{◌≡◌, ℕ, ◌+◌, ◌*◌, ◌/◌, ◌%◌, ◌<◌, ◌^◌, Bool, true, false, List, [], ◌++◌, length, take, drop, refl, ap, sym, ◌∙◌, subst, arith, Option, Some, None}
+use Rattle.std.proofs.Common.{◌≡◌, ℕ, ◌+◌, ◌*◌, ◌/◌, ◌%◌, ◌<◌, ◌^◌, Bool, false, List, [], ◌++◌, length, take, drop, refl, ap, sym, ◌∙◌, subst, arith, Option, Some, None}
 use Rattle.std.specs.Prelude.{All, ◌||◌, find, slice_index}
 use Rattle.std.specs.Option.{option_map}
 use Rattle.std.specs.Int.{w32, from_be_bytes}
+use Rattle.std.proofs.Math.Bool.{or-false}
 use Rattle.std.proofs.lemmas.List.{append-nil, length-drop, length-take}
 use Rattle.std.proofs.lemmas.List.Elements.{All-drop, All-take}
 use Rattle.base.specs.Words.{IsNumberAt}
-use Rattle.base_data.specs.declared.rdata.RData.{RData}
-use Rattle.rr.specs.declared.record.Record.{Record}
 use Rattle.op.specs.Cut.{IsCut, IsUncut, any_lost, as_written, code_range, raised}
 use Rattle.op.specs.Fits.{as_list, with_high_bits}
 use Rattle.op.specs.Message.{IsMessageAt, MessageValue, high_code}
@@ -16,7 +15,6 @@ use Rattle.op.specs.Section.{edns_of, is_opt, section_of}
 use Rattle.op.specs.declared.edns.Edns.{Edns}
 use Rattle.op.specs.declared.header.Header.{Header}
 use Rattle.op.specs.declared.header.metadata.Metadata.{Metadata}
-use Rattle.op.specs.declared.query.Query.{Query}
 use Rattle.op.specs.declared.response_code.ResponseCode.{ResponseCode}
 use Rattle.op.proofs.CodeLemmas.{number_kept}
 use Rattle.op.proofs.ReadFits.{Found, back_all, found, listed_map}
@@ -51,10 +49,6 @@ listed_same (Some x) (Some y) is = cc
 
 none_lost : {X : Type 0} (lost : List X) → lost ≡ [] → any_lost lost ≡ false
 none_lost lost is = ap any_lost is
-
-same_truncation : {a b c d f : Bool} (t : Bool) → a ≡ false → b ≡ false → c ≡ false → d ≡ false → f ≡ false → (t || (a || (b || (c || (d || f))))) ≡ t
-same_truncation true p q r s u = refl
-same_truncation false p q r s u = rw (p, q, r, s, u) refl
 
 -- ---- codes
 
@@ -91,20 +85,11 @@ merged (Some e) m low small is high =
       kept = code_whole e.rcode_high (low % 16) narrow;
     })
 
-same_message : {a b : Metadata} {q r : List Query} {as1 as2 ns1 ns2 ds1 ds2 : List (Record RData)} {f g : Option Edns} {s t : Option (Record (List ℕ))} → a ≡ b → q ≡ r → as1 ≡ as2
-    → ns1 ≡ ns2 → ds1 ≡ ds2 → f ≡ g → s ≡ t
-    → ◌≡◌ {A = MessageValue} (record { metadata = a; queries = q; answers = as1; authorities = ns1; additionals = ds1; edns = f; signature = s })
-    (record { metadata = b; queries = r; answers = as2; authorities = ns2; additionals = ds2; edns = g; signature = t })
-same_message p q r s t u v = rw (p, q, r, s, t, u, v) refl
-
 -- ---- any message
 
 range_raised : (f : Edns → Edns) (o : Option Edns) → code_range (option_map f o) ≡ code_range o
 range_raised f None = refl
 range_raised f (Some e) = refl
-
-same_metadata : (x : Metadata) {t : Bool} {d : ResponseCode} → t ≡ x.truncation → ◌≡◌ {A = Metadata} (record x { truncation = t; response_code = d }) (record x { response_code = d })
-same_metadata x is = rw is refl
 
 -- a message of which nothing was cut is read as it is written
 pub uncut_written : (m : MessageValue) (limit : ℕ) (C : List ℕ) (c : MessageValue) (k : IsCut m limit C c) → IsUncut k → c ≡ as_written m
@@ -115,13 +100,16 @@ uncut_written m limit C c k (no_answers, no_authorities, no_additionals, no_edns
     let additionals : c.additionals ≡ m.additionals = whole_of m.additionals c.additionals k.additionals.lost k.additionals.front no_additionals in
     let edns : c.edns ≡ raised m = listed_same c.edns (raised m) (whole_of (as_list (raised m)) (as_list c.edns) k.edns.lost k.edns.front no_edns) in
     let signature : c.signature ≡ m.signature = listed_same c.signature m.signature (whole_of (as_list m.signature) (as_list c.signature) k.signature.lost k.signature.front no_signature) in
-    let truncation = same_truncation m.metadata.truncation
-    (none_lost k.answers.lost no_answers) (none_lost k.authorities.lost no_authorities) (none_lost k.additionals.lost no_additionals)
-    (none_lost k.edns.lost no_edns) (none_lost k.signature.lost no_signature) in
+    let lost : (m.metadata.truncation || (any_lost k.answers.lost || (any_lost k.authorities.lost || (any_lost k.additionals.lost || (any_lost k.edns.lost || any_lost k.signature.lost))))) ≡ (m.metadata.truncation || false) =
+    λ i. m.metadata.truncation || (none_lost k.answers.lost no_answers i || (none_lost k.authorities.lost no_authorities i
+    || (none_lost k.additionals.lost no_additionals i || (none_lost k.edns.lost no_edns i || none_lost k.signature.lost no_signature i)))) in
+    let truncation = lost ∙ or-false m.metadata.truncation in
     let range : code_range c.edns ≡ code_range m.edns = ap code_range edns ∙ range_raised (with_high_bits m.metadata.response_code) m.edns in
     let metadata : c.metadata ≡ (as_written m).metadata =
-    k.metadata ∙ same_metadata m.metadata truncation ∙ ap (λ (n : ℕ). record m.metadata { response_code = code_value (code_number m.metadata.response_code % n) }) range in
-    same_message metadata queries answers authorities additionals edns signature
+    k.metadata
+    ∙ ap (λ (t : Bool). record m.metadata { truncation = t; response_code = code_value (code_number m.metadata.response_code % code_range c.edns) }) truncation
+    ∙ ap (λ (n : ℕ). record m.metadata { response_code = code_value (code_number m.metadata.response_code % n) }) range in
+    λ i. record { metadata = metadata i; queries = queries i; answers = answers i; authorities = authorities i; additionals = additionals i; edns = edns i; signature = signature i }
 
 -- ---- a message that was read
 
@@ -145,4 +133,4 @@ module _ (B : List ℕ) (i : ℕ) (m : MessageValue) (e : ℕ) (w : IsMessageAt 
   pub uncut_same : (limit : ℕ) (C : List ℕ) (c : MessageValue) (k : IsCut m limit C c) → IsUncut k → c ≡ m
   uncut_same limit C c k uncut =
       let metadata : (as_written m).metadata ≡ m.metadata = ap (λ (d : ResponseCode). record m.metadata { response_code = d }) code_merged.kept in
-      uncut_written m limit C c k uncut ∙ same_message metadata refl refl refl refl code_merged.raised refl
+      uncut_written m limit C c k uncut ∙ (λ i. record m { metadata = metadata i; edns = code_merged.raised i })

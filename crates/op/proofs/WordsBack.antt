@@ -20,7 +20,6 @@ use Rattle.op.specs.Fits.{FitsEdns}
 use Rattle.op.specs.Query.{FitsQuery, IsQueryAt, QueryWord, raw_query}
 use Rattle.op.specs.Section.{edns_of, options_in}
 use Rattle.op.specs.declared.edns.Edns.{Edns}
-use Rattle.op.specs.declared.edns.edns_flags.EdnsFlags.{EdnsFlags}
 use Rattle.op.specs.declared.query.Query.{Query}
 use Rattle.op.proofs.QueryLemmas.{question_same}
 
@@ -92,23 +91,15 @@ flags_back : (ok : Bool) (z n : ℕ) → z < 32768 → n ≡ flags_number (recor
 flags_back true z n small is =
     let bit : nat_le 32768 n ≡ true = le-leb 32768 n (omega arith) in
     let low : n % 32768 ≡ z = omega arith in
-    same_flags bit low
-  where
-    same_flags : {a b : Bool} {x y : ℕ} → a ≡ b → x ≡ y → ◌≡◌ {A = EdnsFlags} (record { dnssec_ok = a; z = x }) (record { dnssec_ok = b; z = y })
-    same_flags p q = rw (p, q) refl
+    λ i. record { dnssec_ok = bit i; z = low i }
 flags_back false z n small is =
     let bit : nat_le 32768 n ≡ false = lt-leb 32768 n (omega arith) in
     let low : n % 32768 ≡ z = omega arith in
-    same_flags bit low
-  where
-    same_flags : {a b : Bool} {x y : ℕ} → a ≡ b → x ≡ y → ◌≡◌ {A = EdnsFlags} (record { dnssec_ok = a; z = x }) (record { dnssec_ok = b; z = y })
-    same_flags p q = rw (p, q) refl
-
-same_edns : {h i v w p q : ℕ} {f g : EdnsFlags} {os ps : List OptionValue} → h ≡ i → v ≡ w → f ≡ g → p ≡ q → os ≡ ps
-    → ◌≡◌ {A = Edns} (record { rcode_high = h; version = v; flags = f; max_payload = p; options = os }) (record { rcode_high = i; version = w; flags = g; max_payload = q; options = ps })
-same_edns high version flags payload options = rw (high, version, flags, payload, options) refl
+    λ i. record { dnssec_ok = bit i; z = low i }
 
 pub edns_back : (e : Edns) → FitsEdns e → edns_of (edns_record e) ≡ e
 edns_back e fits =
     let p = parts e.rcode_high e.version (flags_number e.flags) (opt_ttl e) fits.version (flags_small e.flags.dnssec_ok e.flags.z) refl in
-    same_edns p.high p.version (flags_back e.flags.dnssec_ok e.flags.z (opt_ttl e % 65536) fits.z p.flags) (ap class_number (payload_is e.max_payload fits.payload)) (options_back e.options)
+    let flags = flags_back e.flags.dnssec_ok e.flags.z (opt_ttl e % 65536) fits.z p.flags in
+    let payload = ap class_number (payload_is e.max_payload fits.payload) in
+    λ i. record { rcode_high = p.high i; version = p.version i; flags = flags i; max_payload = payload i; options = options_back e.options i }

@@ -1,9 +1,9 @@
 -- What the definition gives of a message that fits is a cut of it.
-use Rattle.std.proofs.Common.{◌≡◌, ◌∙◌, ℕ, suc, ◌+◌, ◌<◌, ◌≤◌, ◌^◌, Bool, true, false, List, [], ◌∷◌, ◌++◌, length, refl, ap, sym, subst, arith, length-append, Result, Ok, Err, if◌then◌else◌}
-use Rattle.std.specs.Prelude.{All, max, nat_le, nat_lt, replicate, ◌||◌}
+use Rattle.std.proofs.Common.{◌≡◌, ◌∙◌, ℕ, suc, inl, inr, ◌+◌, ◌<◌, ◌≤◌, ◌^◌, Bool, true, false, List, [], ◌∷◌, ◌++◌, length, refl, ap, sym, subst, arith, length-append, Result, Ok, Err, if◌then◌else◌}
+use Rattle.std.specs.Prelude.{All, max, nat_lt, replicate, ◌||◌}
 use Rattle.std.specs.Option.{option_map}
 use Rattle.std.proofs.Math.Nat.{le-max_right}
-use Rattle.std.proofs.lemmas.Bool.{leb-true, ltb-false}
+use Rattle.std.proofs.lemmas.Bool.{cases_lt, ltb-false}
 use Rattle.std.proofs.lemmas.List.{append-nil}
 use Rattle.base.specs.Items.{EachWritten}
 use Rattle.base.specs.Says.{Says}
@@ -11,7 +11,7 @@ use Rattle.base.specs.State.{State, Stored, appended, overwritten}
 use Rattle.base.specs.Written.{FirstPasses, Writing, after, fitting, in_turn, piece_at, that_fit}
 use Rattle.base.specs.declared.error.proto_error.ProtoError.{ProtoError}
 use Rattle.base.specs.declared.error.proto_error.ProtoError.TheVariants as refusals
-use Rattle.base.proofs.FittingLemmas.{Fits-cut}
+use Rattle.base.proofs.FittingLemmas.{Fits-cut, first_fits, none_fits}
 use Rattle.base.proofs.SaysLemmas.{Says-keeps, Says-writes}
 use Rattle.base.proofs.WrittenLemmas.{after-both, after-none}
 use Rattle.base_data.specs.Kinds.{data_says}
@@ -41,20 +41,15 @@ use Rattle.op.proofs.RoomLemmas.{IsLimited, took_few, took_front, took_queries, 
 fit_end : {E : Type 0} (f : E → Writing) (limit : ℕ) (xs : List E) (at : ℕ) (stored : List Stored) → at ≤ limit
     → at + length (in_turn f (that_fit f limit xs at stored) at stored).bytes ≤ limit
 fit_end f limit [] at stored within = omega (arith, within)
-fit_end {E} f limit (x ∷ xs) at stored within =
-    go (nat_le end limit) refl (λ fits. fit_end f limit xs end (f x at stored).suffixes fits)
-  where
-    end : ℕ
-    end = at + length (f x at stored).bytes
-
-    rest : List E
-    rest = that_fit f limit xs end (f x at stored).suffixes
-
-    go : (b : Bool) → nat_le end limit ≡ b → (end ≤ limit → end + length (in_turn f rest end (f x at stored).suffixes).bytes ≤ limit)
-        → at + length (in_turn f (if b then x ∷ rest else []) at stored).bytes ≤ limit
-    go true fits ends =
-        omega (arith, ends (leb-true end limit fits), length-append (f x at stored).bytes (in_turn f rest end (f x at stored).suffixes).bytes)
-    go false full ends = omega (arith, within)
+fit_end f limit (x ∷ xs) at stored within =
+    let first = f x at stored in
+    let end = at + length first.bytes in
+    elim (cases_lt limit end) [
+      | inl full ↦ rw (none_fits f limit x xs at stored full) (omega (arith, within))
+      | inr fits ↦
+          let sum = length-append first.bytes (in_turn f (that_fit f limit xs end first.suffixes) end first.suffixes).bytes in
+          rw (first_fits f limit x xs at stored fits) (omega (arith, fit_end f limit xs end first.suffixes fits, sum))
+    ]
 
 module _ {E : Type 0} (f : E → Writing) (kept : E → Type 0) (word : E → List ℕ → ℕ → ℕ → Type 0) (plain : E → ℕ) (owner : E → List (List ℕ))
     (says : (x : E) → Says (f x) (kept x) (word x) (plain x) (owner x)) where

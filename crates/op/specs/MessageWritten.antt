@@ -1,10 +1,10 @@
 -- What is written of a message under a limit, as a function of both (RFC 1035, 4.1; RFC 2181, 9; RFC 6891, 6.1.3).
-use Rattle.std.specs.Prelude.{◌≡◌, ℕ, Bool, ◌+◌, ◌<◌, ◌||◌, List, [], ◌∷◌, ◌++◌, false, length, nat_lt, if◌then◌else◌, Result, Ok, Err}
+use Rattle.std.specs.Prelude.{◌≡◌, ℕ, Bool, ◌+◌, ◌||◌, List, [], ◌++◌, false, length, nat_lt, if◌then◌else◌, Result, Ok, Err}
 use Rattle.std.specs.Option.{option_map}
 use Rattle.base.specs.State.{Stored}
 use Rattle.base.specs.declared.error.proto_error.ProtoError.{ProtoError}
 use Rattle.base.specs.declared.error.proto_error.ProtoError.TheVariants as refusals
-use Rattle.base.specs.Written.{Piece, Writing, both, in_turn, just, that_fit}
+use Rattle.base.specs.Written.{FirstPassesAt, Piece, Writing, both, in_turn, just, that_fit}
 use Rattle.base_data.specs.declared.rdata.RData.{RData}
 use Rattle.rr.specs.Record.{record_written}
 use Rattle.rr.specs.declared.record.Record.{Record}
@@ -35,11 +35,6 @@ part_within f limit xs at stored =
       end = at + length piece.bytes;
       piece = piece;
     }
-
--- the own bytes of the first of these, if there is one, would pass the limit at this place
-abbrev pub FirstPassesAt : {E : Type 0} → (E → Writing) → ℕ → ℕ → List Stored → List E → Type 0
-FirstPassesAt f limit at stored [] = Unit {0}
-FirstPassesAt f limit at stored (x ∷ xs) = limit < at + length (f x at stored).bytes
 
 -- the part that follows one, whatever became of it
 abbrev pub part_after : {D E : Type 0} → (E → Writing) → ℕ → List E → Part D → Part E

@@ -208,7 +208,9 @@ short : (c : goal.After-copy_from_slice) → c.parts.used + length c.in-Some.lab
 short c = omega (arith, c.if-used-labels-gt-MAX_NAME.false)
 
 -- the labels in the room after it was copied
-whole : (c : goal.After-copy_from_slice) → take (c.parts.used + length c.in-Some.labels.now) (put_mid c.parts.used (c.parts.used + length c.in-Some.labels.now - c.parts.used) c.parts.room c.copy_from_slice.new.self) ≡ take c.parts.used c.parts.room ++ c.in-Some.labels.now
+whole : (c : goal.After-copy_from_slice)
+    → take (c.parts.used + length c.in-Some.labels.now) (put_mid c.parts.used (c.parts.used + length c.in-Some.labels.now - c.parts.used) c.parts.room c.copy_from_slice.new.self)
+    ≡ take c.parts.used c.parts.room ++ c.in-Some.labels.now
 whole c =
     let used = c.parts.used in
     let room = c.parts.room in

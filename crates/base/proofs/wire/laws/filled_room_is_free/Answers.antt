@@ -1,13 +1,8 @@
-use Rattle.std.proofs.Common.{refl}
-use Rattle.base.specs.State.{appended, overwritten}
-use Rattle.std.specs.Prelude.{length}
 use Rattle.base.proofs.PatchLemmas.{Keeps-filled, Writes-filled}
 use Rattle.base.proofs.wire.laws.filled_room_is_free.Goals as goal
 
 pub returns : goal.returns
 returns g c = record {
-  keeps = λ room filling a state size kept.
-      Keeps-filled room filling a (appended room a) state (overwritten (length a.bytes) filling state) size refl kept refl;
-  writes = λ x room filling a state size kept writes.
-      Writes-filled room filling a (appended room a) state (overwritten (length a.bytes) filling state) size refl kept refl writes;
+  keeps = λ room filling a state size kept. Keeps-filled room filling a state size kept;
+  writes = λ x room filling a state size kept writes. Writes-filled room filling a state size kept writes;
 }

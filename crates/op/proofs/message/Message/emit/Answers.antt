@@ -1,39 +1,49 @@
-use Rattle.std.proofs.Common.{◌≡◌, ◌⊎◌, ap, ◌∙◌, length, refl, rules, Err}
+use Rattle.std.proofs.Common.{◌≡◌, ◌⊎◌, ap, ◌∙◌, length, rules, Err}
 use Rattle.std.specs.Option.{option_copied}
 use Rattle.base.specs.Wire.{state_of}
 use Rattle.base.specs.declared.error.proto_error.ProtoError.TheVariants as refusals
 use Rattle.op.proofs.AnswerLemmas.{emitted_answers, only_memory, refusal_answers}
 use Rattle.op.proofs.CutOf.{written_of}
-use Rattle.op.proofs.EmittedLemmas.{emitted_of, raised_edns, slices, unboxed}
+use Rattle.op.proofs.EmittedLemmas.{AreOf, Slices, emitted_of, raised_edns, slices, unboxed}
 use Rattle.op.proofs.MessageWrittenLemmas.{emitted_exact}
 use Rattle.op.proofs.SucceedsLemmas.{composed_failed}
 use Rattle.op.specs.Emitted.{Emitted, Leaves}
 use Rattle.op.specs.Fits.{opt_records, signature_records}
 use Rattle.op.specs.Message.{message_value}
 use Rattle.op.specs.MessageWritten.{message_answer_at}
+use Rattle.op.proofs.message.Message.emit.Goals.{After-emit_message_parts, After-from_residual, In_ok-emit_message_parts}
 use Rattle.op.proofs.message.Message.emit.Goals as goal
 
--- the message was written
-written : (c : goal.In_ok-emit_message_parts) → Emitted (message_value c.args.self.now) (state_of c.args.encoder.now) (state_of c.emit_message_parts.new.encoder) c.in_ok-emit_message_parts.field-0
-written c =
-    let m = message_value c.args.self.now in
+-- the parts that were written
+abbrev parts : After-emit_message_parts → Slices
+parts c =
     let new = c.emit_message_parts.new in
-    let edns = opt_records m.metadata.response_code (option_copied c.as_ref.result) in
-    let signature = signature_records (option_copied c.as_deref.result) in
-    emitted_of m (slices c.iter.result new.queries c.iter-2.result new.answers c.iter-3.result new.authorities c.iter-4.result new.additionals edns signature) (record {
-      queries = c.iter.ensures.rest ∙ c.deref.ensures.value;
-      answers = c.iter-2.ensures.rest ∙ c.deref-2.ensures.value;
-      authorities = c.iter-3.ensures.rest ∙ c.deref-3.ensures.value;
-      additionals = c.iter-4.ensures.rest ∙ c.deref-4.ensures.value;
-      edns_is = raised_edns m _ c.as_ref.ensures.value;
-      signature_is = ap signature_records (unboxed (λ b. b.value) c.args.self.now.signature c.as_deref.result c.as_deref.ensures.cases);
-    }) (state_of c.args.encoder.now) (state_of new.encoder) c.in_ok-emit_message_parts.field-0 c.in_ok-emit_message_parts.ensures.run
+    let edns = opt_records c.args.self.now.metadata.response_code (option_copied c.as_ref.result) in
+    slices c.iter.result new.queries c.iter-2.result new.answers c.iter-3.result new.authorities c.iter-4.result new.additionals edns (signature_records (option_copied c.as_deref.result))
+
+-- and they are those of the message
+are_of : (c : After-emit_message_parts) → AreOf (message_value c.args.self.now) (parts c)
+are_of c = record {
+  queries = c.iter.ensures.rest ∙ c.deref.ensures.value;
+  answers = c.iter-2.ensures.rest ∙ c.deref-2.ensures.value;
+  authorities = c.iter-3.ensures.rest ∙ c.deref-3.ensures.value;
+  additionals = c.iter-4.ensures.rest ∙ c.deref-4.ensures.value;
+  edns_is = raised_edns (message_value c.args.self.now) _ c.as_ref.ensures.value;
+  signature_is = ap signature_records (unboxed (λ b. b.value) c.args.self.now.signature c.as_deref.result c.as_deref.ensures.cases);
+}
+
+-- the message was written
+written : (c : In_ok-emit_message_parts) → Emitted (message_value c.args.self.now) (state_of c.args.encoder.now) (state_of c.emit_message_parts.new.encoder) c.in_ok-emit_message_parts.field-0
+written c =
+    let d = (goal.at.In_ok-emit_message_parts c).After-emit_message_parts in
+    emitted_of (message_value c.args.self.now) (parts d) (are_of d) (state_of c.args.encoder.now) (state_of c.emit_message_parts.new.encoder)
+    c.in_ok-emit_message_parts.field-0 c.in_ok-emit_message_parts.ensures.run
 
 pub returns-clause-emitted : goal.returns-clause-emitted
 returns-clause-emitted c = (c.in_ok-emit_message_parts.field-0, written c)
 
 pub returns-clause-exact : goal.returns-clause-exact
-returns-clause-exact c = emitted_exact (message_value c.args.self.now) _ _ c.in_ok-emit_message_parts.field-0 (written c) refl
+returns-clause-exact c = emitted_exact (message_value c.args.self.now) _ _ c.in_ok-emit_message_parts.field-0 (written c)
 
 pub returns-clause-written : goal.returns-clause-written
 returns-clause-written c fits empty untold =
@@ -43,24 +53,17 @@ pub returns-clause-answer : goal.returns-clause-answer
 returns-clause-answer c = emitted_answers (message_value c.args.self.now) _ _ c.in_ok-emit_message_parts.field-0 (written c)
 
 -- the message was refused
-refused : (c : goal.After-from_residual) → (c.in_err-emit_message_parts.field-0.0 ≡ refusals.Memory) ⊎ (
+refused : (c : After-from_residual) → (c.in_err-emit_message_parts.field-0.0 ≡ refusals.Memory) ⊎ (
     Leaves (message_value c.args.self.now) (state_of c.args.encoder.now) c.in_err-emit_message_parts.field-0.0 (state_of c.emit_message_parts.new.encoder)
     × (message_answer_at (state_of c.args.encoder.now).limit (message_value c.args.self.now) (length (state_of c.args.encoder.now).bytes) (state_of c.args.encoder.now).suffixes
     ≡ Err c.in_err-emit_message_parts.field-0.0))
 refused c =
     let m = message_value c.args.self.now in
-    let new = c.emit_message_parts.new in
-    let edns = opt_records m.metadata.response_code (option_copied c.as_ref.result) in
-    let signature = signature_records (option_copied c.as_deref.result) in
-    refusal_answers m (state_of c.args.encoder.now) (state_of new.encoder) c.in_err-emit_message_parts.field-0.0
-    (composed_failed m (slices c.iter.result new.queries c.iter-2.result new.answers c.iter-3.result new.authorities c.iter-4.result new.additionals edns signature) (record {
-      queries = c.iter.ensures.rest ∙ c.deref.ensures.value;
-      answers = c.iter-2.ensures.rest ∙ c.deref-2.ensures.value;
-      authorities = c.iter-3.ensures.rest ∙ c.deref-3.ensures.value;
-      additionals = c.iter-4.ensures.rest ∙ c.deref-4.ensures.value;
-      edns_is = raised_edns m _ c.as_ref.ensures.value;
-      signature_is = ap signature_records (unboxed (λ b. b.value) c.args.self.now.signature c.as_deref.result c.as_deref.ensures.cases);
-    }) (state_of c.args.encoder.now) (state_of new.encoder) c.emit_message_parts.ensures.narrow c.in_err-emit_message_parts.field-0.0 c.in_err-emit_message_parts.ensures.run)
+    let old = state_of c.args.encoder.now in
+    let new = state_of c.emit_message_parts.new.encoder in
+    let e = c.in_err-emit_message_parts.field-0.0 in
+    let d = (goal.at.After-from_residual c).After-emit_message_parts in
+    refusal_answers m old new e (composed_failed m (parts d) (are_of d) old new c.emit_message_parts.ensures.narrow e c.in_err-emit_message_parts.ensures.run)
 
 pub returns-in_err-emit_message_parts-clause-refused : goal.returns-in_err-emit_message_parts-clause-refused
 returns-in_err-emit_message_parts-clause-refused c =

@@ -1,22 +1,30 @@
-use Rattle.std.proofs.Common.{refl, ap, ◌∙◌, Err, Ok, replicate, rules}
+use Rattle.std.proofs.Common.{ℕ, Result, refl, ap, ◌∙◌, Err, Ok, replicate, rules}
 use Rattle.std.specs.Option.{option_copied}
 use Rattle.std.proofs.lemmas.Result.{err_from_is_err_and}
 use Rattle.base.proofs.LawLemmas.{Keeps-same, Keeps-appended, Keeps-then}
 use Rattle.base.specs.Laws.{Keeps}
-use Rattle.base.specs.State.{overwritten}
+use Rattle.base.specs.State.{State, overwritten}
+use Rattle.base.specs.declared.error.proto_error.ProtoError.{ProtoError}
 use Rattle.base.specs.Wire.{state_of}
 use Rattle.op.proofs.FrontLemmas.{opt_items, signature_items}
 use Rattle.op.proofs.HeaderRoom.{room_filled}
 use Rattle.op.proofs.RunLemmas.{goes, stops}
-use Rattle.op.specs.Composition.{WritesRecordItems}
+use Rattle.op.specs.Composition.{AndThen, EmitsPart, KeepsRoom, WritesRecordItems}
 use Rattle.op.specs.Fits.{opt_records, signature_records}
 use Rattle.op.specs.Header.{header_bytes, raw_header}
-use Rattle.op.proofs.message.writing.emit_message_parts.Goals.{In_ok-opt, In_ok-query_count, In_ok-signed}
+use Rattle.op.specs.declared.header.Header.{Header}
+use Rattle.op.specs.declared.message.writing.Written.{Written}
+use Rattle.op.proofs.message.writing.emit_message_parts.Goals.{In_ok-additionals, In_ok-opt, In_ok-query_count, In_ok-signed}
 use Rattle.op.proofs.message.writing.emit_message_parts.Goals as goal
 
 -- what stood before the questions stays
 begun : (g : _) (c : In_ok-query_count g) → Keeps (state_of c.args.encoder.now) (state_of c.emit.new.encoder)
 begun g c = Keeps-then (Keeps-appended (replicate 12 0) (state_of c.args.encoder.now) (state_of c.place.new.self) c.in_ok-place.ensures.ok.0 c.in_ok-place.ensures.within) c.emit.ensures.keeps
+
+-- and before the records of EDNS and the signature
+sections_keep : (g : _) (c : In_ok-additionals g) → Keeps (state_of c.args.encoder.now) (state_of c.emit_part-3.new.encoder)
+sections_keep g c =
+    Keeps-then (begun g (goal.at.In_ok-additionals g c).In_ok-query_count) (Keeps-then c.emit_part.ensures.keeps (Keeps-then c.emit_part-2.ensures.keeps c.emit_part-3.ensures.keeps))
 
 -- the OPT record was written
 opt_of : (g : _) (c : In_ok-opt g) → WritesRecordItems (opt_records c.args.metadata.now.response_code (option_copied c.args.edns))
@@ -32,6 +40,19 @@ signed_of : (g : _) (c : In_ok-signed g) → WritesRecordItems (signature_record
     c.args.signature)) (state_of c.emit_item.new.encoder) (Ok c.in_ok-signed.signed) (state_of
     c.emit_item-2.new.encoder)
 signed_of g c = signature_items (option_copied c.args.signature) (state_of c.emit_item.new.encoder) (state_of c.emit_item-2.new.encoder) (Ok c.in_ok-signed.signed) c.in_ok-signed.ensures.run
+
+-- the sections were written: what comes after them ends the whole
+after_sections : (g : _) (c : In_ok-additionals g) {i j k l m : Type 0} {next : ℕ → ℕ → Written → Written → Written → State → Result Header ProtoError → State → Type 0} {result : Result Header ProtoError} {z : State}
+    → next c.in_ok-place.place c.in_ok-query_count.query_count c.in_ok-answers.answers c.in_ok-authorities.authorities c.in_ok-additionals.additionals (state_of c.emit_part-3.new.encoder) result z
+    → AndThen KeepsRoom i (λ place. AndThen (λ s answer t. g.Q.EmitAndCount.emits c.args.queries.now s answer c.emit.new.self t) j (λ queries.
+    AndThen (EmitsPart g.A.EmitAndCount.emits c.args.answers.now c.emit_part.new.part) k (λ answers. AndThen (EmitsPart g.N.EmitAndCount.emits c.args.authorities.now c.emit_part-2.new.part) l (λ authorities.
+    AndThen (EmitsPart g.D.EmitAndCount.emits c.args.additionals.now c.emit_part-3.new.part) m (next place queries answers authorities))))) (state_of c.args.encoder.now) result z
+after_sections g c rest =
+    goes c.in_ok-place.place (state_of c.place.new.self) (c.in_ok-place.ensures.ok.1, c.in_ok-place.ensures.ok.0, c.in_ok-place.ensures.within)
+    (goes c.in_ok-query_count.query_count (state_of c.emit.new.encoder) c.in_ok-query_count.ensures.emits
+    (goes c.in_ok-answers.answers (state_of c.emit_part.new.encoder) c.in_ok-answers.ensures.run
+    (goes c.in_ok-authorities.authorities (state_of c.emit_part-2.new.encoder) c.in_ok-authorities.ensures.run
+    (goes c.in_ok-additionals.additionals (state_of c.emit_part-3.new.encoder) c.in_ok-additionals.ensures.run rest))))
 
 pub returns-in_err-place-clause-run : goal.returns-in_err-place-clause-run
 returns-in_err-place-clause-run g c =
@@ -71,76 +92,52 @@ returns-in_err-additionals-clause-run g c =
 pub returns-in_err-opt-clause-run : goal.returns-in_err-opt-clause-run
 returns-in_err-opt-clause-run g c =
     let is = err_from_is_err_and c.from_residual-in_err-opt.result c.from_residual-in_err-opt.ensures.1 in
-    goes c.in_ok-place.place (state_of c.place.new.self) (c.in_ok-place.ensures.ok.1, c.in_ok-place.ensures.ok.0, c.in_ok-place.ensures.within)
-    (goes c.in_ok-query_count.query_count (state_of c.emit.new.encoder) c.in_ok-query_count.ensures.emits
-    (goes c.in_ok-answers.answers (state_of c.emit_part.new.encoder) c.in_ok-answers.ensures.run
-    (goes c.in_ok-authorities.authorities (state_of c.emit_part-2.new.encoder) c.in_ok-authorities.ensures.run
-    (goes c.in_ok-additionals.additionals (state_of c.emit_part-3.new.encoder) c.in_ok-additionals.ensures.run
-    (stops c.in_err-opt.field-0.0 c.in_err-opt.ensures.run (is.1 ∙ ap (λ e. Err e) is.2) tt)))))
+    after_sections g (goal.at.returns-in_err-opt-clause-run g c).In_ok-additionals
+    (stops c.in_err-opt.field-0.0 c.in_err-opt.ensures.run (is.1 ∙ ap (λ e. Err e) is.2) tt)
 
 pub returns-in_err-sum-clause-run : goal.returns-in_err-sum-clause-run
 returns-in_err-sum-clause-run g c =
     let is = err_from_is_err_and c.from_residual-in_err-sum.result c.from_residual-in_err-sum.ensures.1 in
-    goes c.in_ok-place.place (state_of c.place.new.self) (c.in_ok-place.ensures.ok.1, c.in_ok-place.ensures.ok.0, c.in_ok-place.ensures.within)
-    (goes c.in_ok-query_count.query_count (state_of c.emit.new.encoder) c.in_ok-query_count.ensures.emits
-    (goes c.in_ok-answers.answers (state_of c.emit_part.new.encoder) c.in_ok-answers.ensures.run
-    (goes c.in_ok-authorities.authorities (state_of c.emit_part-2.new.encoder) c.in_ok-authorities.ensures.run
-    (goes c.in_ok-additionals.additionals (state_of c.emit_part-3.new.encoder) c.in_ok-additionals.ensures.run
+    after_sections g (goal.at.returns-in_err-sum-clause-run g c).In_ok-additionals
     (goes c.in_ok-opt.opt (state_of c.emit_item.new.encoder) (opt_of g (goal.at.returns-in_err-sum-clause-run g c).In_ok-opt)
-    (stops c.in_err-sum.field-0.0 (c.in_err-sum.ensures, refl) (is.1 ∙ ap (λ e. Err e) is.2) tt))))))
+    (stops c.in_err-sum.field-0.0 (c.in_err-sum.ensures, refl) (is.1 ∙ ap (λ e. Err e) is.2) tt))
 
 pub returns-in_err-signed-clause-run : goal.returns-in_err-signed-clause-run
 returns-in_err-signed-clause-run g c =
     let is = err_from_is_err_and c.from_residual-in_err-signed.result c.from_residual-in_err-signed.ensures.1 in
-    goes c.in_ok-place.place (state_of c.place.new.self) (c.in_ok-place.ensures.ok.1, c.in_ok-place.ensures.ok.0, c.in_ok-place.ensures.within)
-    (goes c.in_ok-query_count.query_count (state_of c.emit.new.encoder) c.in_ok-query_count.ensures.emits
-    (goes c.in_ok-answers.answers (state_of c.emit_part.new.encoder) c.in_ok-answers.ensures.run
-    (goes c.in_ok-authorities.authorities (state_of c.emit_part-2.new.encoder) c.in_ok-authorities.ensures.run
-    (goes c.in_ok-additionals.additionals (state_of c.emit_part-3.new.encoder) c.in_ok-additionals.ensures.run
+    after_sections g (goal.at.returns-in_err-signed-clause-run g c).In_ok-additionals
     (goes c.in_ok-opt.opt (state_of c.emit_item.new.encoder) (opt_of g (goal.at.returns-in_err-signed-clause-run g c).In_ok-opt)
     (goes c.in_ok-sum.sum (state_of c.emit_item.new.encoder) (c.in_ok-sum.ensures, refl)
-    (stops c.in_err-signed.field-0.0 c.in_err-signed.ensures.run (is.1 ∙ ap (λ e. Err e) is.2) tt)))))))
+    (stops c.in_err-signed.field-0.0 c.in_err-signed.ensures.run (is.1 ∙ ap (λ e. Err e) is.2) tt)))
 
 pub returns-in_err-total-clause-run : goal.returns-in_err-total-clause-run
 returns-in_err-total-clause-run g c =
     let is = err_from_is_err_and c.from_residual-in_err-total.result c.from_residual-in_err-total.ensures.1 in
-    goes c.in_ok-place.place (state_of c.place.new.self) (c.in_ok-place.ensures.ok.1, c.in_ok-place.ensures.ok.0, c.in_ok-place.ensures.within)
-    (goes c.in_ok-query_count.query_count (state_of c.emit.new.encoder) c.in_ok-query_count.ensures.emits
-    (goes c.in_ok-answers.answers (state_of c.emit_part.new.encoder) c.in_ok-answers.ensures.run
-    (goes c.in_ok-authorities.authorities (state_of c.emit_part-2.new.encoder) c.in_ok-authorities.ensures.run
-    (goes c.in_ok-additionals.additionals (state_of c.emit_part-3.new.encoder) c.in_ok-additionals.ensures.run
+    after_sections g (goal.at.returns-in_err-total-clause-run g c).In_ok-additionals
     (goes c.in_ok-opt.opt (state_of c.emit_item.new.encoder) (opt_of g (goal.at.returns-in_err-total-clause-run g c).In_ok-opt)
     (goes c.in_ok-sum.sum (state_of c.emit_item.new.encoder) (c.in_ok-sum.ensures, refl)
     (goes c.in_ok-signed.signed (state_of c.emit_item-2.new.encoder) (signed_of g (goal.at.returns-in_err-total-clause-run g c).In_ok-signed)
-    (stops c.in_err-total.field-0.0 (c.in_err-total.ensures, refl) (is.1 ∙ ap (λ e. Err e) is.2) tt))))))))
+    (stops c.in_err-total.field-0.0 (c.in_err-total.ensures, refl) (is.1 ∙ ap (λ e. Err e) is.2) tt))))
 
 pub returns-in_err-header-clause-run : goal.returns-in_err-header-clause-run
 returns-in_err-header-clause-run g c =
     let is = err_from_is_err_and c.from_residual-in_err-header.result c.from_residual-in_err-header.ensures.1 in
-    goes c.in_ok-place.place (state_of c.place.new.self) (c.in_ok-place.ensures.ok.1, c.in_ok-place.ensures.ok.0, c.in_ok-place.ensures.within)
-    (goes c.in_ok-query_count.query_count (state_of c.emit.new.encoder) c.in_ok-query_count.ensures.emits
-    (goes c.in_ok-answers.answers (state_of c.emit_part.new.encoder) c.in_ok-answers.ensures.run
-    (goes c.in_ok-authorities.authorities (state_of c.emit_part-2.new.encoder) c.in_ok-authorities.ensures.run
-    (goes c.in_ok-additionals.additionals (state_of c.emit_part-3.new.encoder) c.in_ok-additionals.ensures.run
+    after_sections g (goal.at.returns-in_err-header-clause-run g c).In_ok-additionals
     (goes c.in_ok-opt.opt (state_of c.emit_item.new.encoder) (opt_of g (goal.at.returns-in_err-header-clause-run g c).In_ok-opt)
     (goes c.in_ok-sum.sum (state_of c.emit_item.new.encoder) (c.in_ok-sum.ensures, refl)
     (goes c.in_ok-signed.signed (state_of c.emit_item-2.new.encoder) (signed_of g (goal.at.returns-in_err-header-clause-run g c).In_ok-signed)
     (goes c.in_ok-total.total (state_of c.emit_item-2.new.encoder) (c.in_ok-total.ensures, refl)
-    (stops c.in_err-header.field-0.0 (c.in_err-header.ensures, refl) (is.1 ∙ ap (λ e. Err e) is.2) tt)))))))))
+    (stops c.in_err-header.field-0.0 (c.in_err-header.ensures, refl) (is.1 ∙ ap (λ e. Err e) is.2) tt)))))
 
 pub returns-clause-run : goal.returns-clause-run
 returns-clause-run g c =
-    goes c.in_ok-place.place (state_of c.place.new.self) (c.in_ok-place.ensures.ok.1, c.in_ok-place.ensures.ok.0, c.in_ok-place.ensures.within)
-    (goes c.in_ok-query_count.query_count (state_of c.emit.new.encoder) c.in_ok-query_count.ensures.emits
-    (goes c.in_ok-answers.answers (state_of c.emit_part.new.encoder) c.in_ok-answers.ensures.run
-    (goes c.in_ok-authorities.authorities (state_of c.emit_part-2.new.encoder) c.in_ok-authorities.ensures.run
-    (goes c.in_ok-additionals.additionals (state_of c.emit_part-3.new.encoder) c.in_ok-additionals.ensures.run
+    after_sections g (goal.at.returns-clause-run g c).In_ok-additionals
     (goes c.in_ok-opt.opt (state_of c.emit_item.new.encoder) (opt_of g (goal.at.returns-clause-run g c).In_ok-opt)
     (goes c.in_ok-sum.sum (state_of c.emit_item.new.encoder) (c.in_ok-sum.ensures, refl)
     (goes c.in_ok-signed.signed (state_of c.emit_item-2.new.encoder) (signed_of g (goal.at.returns-clause-run g c).In_ok-signed)
     (goes c.in_ok-total.total (state_of c.emit_item-2.new.encoder) (c.in_ok-total.ensures, refl)
     (goes c.in_ok-header.header (state_of c.emit_item-2.new.encoder) (c.in_ok-header.ensures, refl)
-    (refl, c.replace.ensures.state))))))))))
+    (refl, c.replace.ensures.state))))))
 
 pub returns-in_err-place-clause-keeps : goal.returns-in_err-place-clause-keeps
 returns-in_err-place-clause-keeps g c = Keeps-same (state_of c.args.encoder.now) (state_of c.place.new.self) c.in_err-place.ensures.err
@@ -151,48 +148,36 @@ returns-in_err-query_count-clause-keeps g c = Keeps-then (Keeps-appended (replic
     c.in_ok-place.ensures.within) c.emit.ensures.keeps
 
 pub returns-in_err-answers-clause-keeps : goal.returns-in_err-answers-clause-keeps
-returns-in_err-answers-clause-keeps g c = Keeps-then (begun g (goal.at.returns-in_err-answers-clause-keeps g c).In_ok-query_count) c.emit_part.ensures.keeps
+returns-in_err-answers-clause-keeps g c =
+    Keeps-then (begun g (goal.at.returns-in_err-answers-clause-keeps g c).In_ok-query_count) c.emit_part.ensures.keeps
 
 pub returns-in_err-authorities-clause-keeps : goal.returns-in_err-authorities-clause-keeps
-returns-in_err-authorities-clause-keeps g c = Keeps-then (begun g
-    (goal.at.returns-in_err-authorities-clause-keeps g c).In_ok-query_count) (Keeps-then
-    c.emit_part.ensures.keeps c.emit_part-2.ensures.keeps)
+returns-in_err-authorities-clause-keeps g c =
+    Keeps-then (begun g (goal.at.returns-in_err-authorities-clause-keeps g c).In_ok-query_count) (Keeps-then c.emit_part.ensures.keeps c.emit_part-2.ensures.keeps)
 
 pub returns-in_err-additionals-clause-keeps : goal.returns-in_err-additionals-clause-keeps
-returns-in_err-additionals-clause-keeps g c = Keeps-then (begun g
-    (goal.at.returns-in_err-additionals-clause-keeps g c).In_ok-query_count) (Keeps-then
-    c.emit_part.ensures.keeps (Keeps-then c.emit_part-2.ensures.keeps c.emit_part-3.ensures.keeps))
+returns-in_err-additionals-clause-keeps g c =
+    Keeps-then (begun g (goal.at.returns-in_err-additionals-clause-keeps g c).In_ok-query_count) (Keeps-then c.emit_part.ensures.keeps (Keeps-then c.emit_part-2.ensures.keeps c.emit_part-3.ensures.keeps))
 
 pub returns-in_err-opt-clause-keeps : goal.returns-in_err-opt-clause-keeps
-returns-in_err-opt-clause-keeps g c = Keeps-then (begun g (goal.at.returns-in_err-opt-clause-keeps g
-    c).In_ok-query_count) (Keeps-then c.emit_part.ensures.keeps (Keeps-then
-    c.emit_part-2.ensures.keeps (Keeps-then c.emit_part-3.ensures.keeps c.emit_item.ensures.keeps)))
+returns-in_err-opt-clause-keeps g c =
+    Keeps-then (sections_keep g (goal.at.returns-in_err-opt-clause-keeps g c).In_ok-additionals) c.emit_item.ensures.keeps
 
 pub returns-in_err-sum-clause-keeps : goal.returns-in_err-sum-clause-keeps
-returns-in_err-sum-clause-keeps g c = Keeps-then (begun g (goal.at.returns-in_err-sum-clause-keeps g
-    c).In_ok-query_count) (Keeps-then c.emit_part.ensures.keeps (Keeps-then
-    c.emit_part-2.ensures.keeps (Keeps-then c.emit_part-3.ensures.keeps c.emit_item.ensures.keeps)))
+returns-in_err-sum-clause-keeps g c =
+    Keeps-then (sections_keep g (goal.at.returns-in_err-sum-clause-keeps g c).In_ok-additionals) c.emit_item.ensures.keeps
 
 pub returns-in_err-signed-clause-keeps : goal.returns-in_err-signed-clause-keeps
-returns-in_err-signed-clause-keeps g c = Keeps-then (begun g
-    (goal.at.returns-in_err-signed-clause-keeps g c).In_ok-query_count) (Keeps-then
-    c.emit_part.ensures.keeps (Keeps-then c.emit_part-2.ensures.keeps (Keeps-then
-    c.emit_part-3.ensures.keeps (Keeps-then c.emit_item.ensures.keeps
-    c.emit_item-2.ensures.keeps))))
+returns-in_err-signed-clause-keeps g c =
+    Keeps-then (sections_keep g (goal.at.returns-in_err-signed-clause-keeps g c).In_ok-additionals) (Keeps-then c.emit_item.ensures.keeps c.emit_item-2.ensures.keeps)
 
 pub returns-in_err-total-clause-keeps : goal.returns-in_err-total-clause-keeps
-returns-in_err-total-clause-keeps g c = Keeps-then (begun g
-    (goal.at.returns-in_err-total-clause-keeps g c).In_ok-query_count) (Keeps-then
-    c.emit_part.ensures.keeps (Keeps-then c.emit_part-2.ensures.keeps (Keeps-then
-    c.emit_part-3.ensures.keeps (Keeps-then c.emit_item.ensures.keeps
-    c.emit_item-2.ensures.keeps))))
+returns-in_err-total-clause-keeps g c =
+    Keeps-then (sections_keep g (goal.at.returns-in_err-total-clause-keeps g c).In_ok-additionals) (Keeps-then c.emit_item.ensures.keeps c.emit_item-2.ensures.keeps)
 
 pub returns-in_err-header-clause-keeps : goal.returns-in_err-header-clause-keeps
-returns-in_err-header-clause-keeps g c = Keeps-then (begun g
-    (goal.at.returns-in_err-header-clause-keeps g c).In_ok-query_count) (Keeps-then
-    c.emit_part.ensures.keeps (Keeps-then c.emit_part-2.ensures.keeps (Keeps-then
-    c.emit_part-3.ensures.keeps (Keeps-then c.emit_item.ensures.keeps
-    c.emit_item-2.ensures.keeps))))
+returns-in_err-header-clause-keeps g c =
+    Keeps-then (sections_keep g (goal.at.returns-in_err-header-clause-keeps g c).In_ok-additionals) (Keeps-then c.emit_item.ensures.keeps c.emit_item-2.ensures.keeps)
 
 pub returns-clause-keeps : goal.returns-clause-keeps
 returns-clause-keeps g c =

@@ -70,7 +70,8 @@ returns-in_err-emit_slice-clause-exact c =
     let s = state_of c.loop-label.encoder in
     let len = ap length (label_bytes _ _ _ c.in-Some.ensures.bytes) in
     let is = err_from_is_err_and c.from_residual.result c.from_residual.ensures.1 in
-    rw (is.1, is.2) (Exactly-refused (Unit {0}) (Unit {0}) c.in_err-emit_slice.field-0.0 (name c.args.self.now.labels) (just (take (1 + length c.in-Some.label.now) c.loop-label.rest.now)) a s (state_of c.emit_slice.new.self) c.loop-label.invariant.keeps.limit
+    rw (is.1, is.2) (Exactly-refused (Unit {0}) (Unit {0}) c.in_err-emit_slice.field-0.0 (name c.args.self.now.labels) (just (take (1 + length c.in-Some.label.now) c.loop-label.rest.now)) a s (state_of c.emit_slice.new.self)
+    (state_of c.emit_slice.new.self) c.loop-label.invariant.keeps.limit
     (omega (arith, len, label-fits a s _ _ _ _ c.loop-label.invariant.exact c.in-Some.ensures.labels c.in_default-find.ensures.value)) c.in_err-emit_slice.ensures.exact)
 
 pub returns-clause-exact : goal.returns-clause-exact
