@@ -12,11 +12,7 @@ pub cut-Keeps : (a b : State) → Keeps a b → cut (length a.bytes) (length a.s
 cut-Keeps a b k =
     let bytes : take (length a.bytes) b.bytes ≡ a.bytes = ap (take (length a.bytes)) k.bytes ∙ take-append_seam a.bytes k.appended in
     let suffixes : take (length a.suffixes) b.suffixes ≡ a.suffixes = ap (take (length a.suffixes)) k.suffixes ∙ take-append_seam a.suffixes k.added in
-    let state : List ℕ → ℕ → ℕ → List Stored → State = λ xs l b ts. record { buffer = b; bytes = xs; limit = l; suffixes = ts } in
-    ap (λ (xs : List ℕ). state xs b.limit b.buffer (take (length a.suffixes) b.suffixes)) bytes
-    ∙ ap (λ (l : ℕ). state a.bytes l b.buffer (take (length a.suffixes) b.suffixes)) k.limit
-    ∙ ap (λ (n : ℕ). state a.bytes a.limit n (take (length a.suffixes) b.suffixes)) k.buffer
-    ∙ ap (λ (ts : List Stored). state a.bytes a.limit a.buffer ts) suffixes
+    λ i. record { buffer = k.buffer i; bytes = bytes i; limit = k.limit i; suffixes = suffixes i }
 
 module _ {E : Type 0} (word : E → List ℕ → ℕ → ℕ → Type 0) (plain : E → ℕ) (owner : E → List (List ℕ)) where
   pub Each-keeps : (xs : List E) (a b : State) → EachWritten word plain owner xs a b → Keeps a b

@@ -1,6 +1,6 @@
 -- The elements of a slice that were written one after another.
 use Rattle.std.proofs.Common.{◌≡◌, ℕ, ◌+◌, ◌<◌, List, [], ◌∷◌, ◌++◌, length, map, refl, ap, sym, ◌∙◌, subst, arith, Ok, Err, Bor, Iter}
-use Rattle.std.proofs.lemmas.List.{append-nil, length-map}
+use Rattle.std.proofs.lemmas.List.{append-nil, length-map, nil_from_length}
 use Rattle.std.proofs.iter.Yields.{fronts}
 use Rattle.std.specs.Iterator.{Yields}
 use Rattle.base.specs.declared.error.proto_error.ProtoError.TheVariants as refusals
@@ -15,17 +15,12 @@ pub Yields-slice : {E : Type 0} (s t : Iter E) (xs : List (Bor E)) → Yields fr
 Yields-slice s t [] same = ap (λ it. it.rest.now) same
 Yields-slice s t (x ∷ xs) (u, step, others) = step ∙ ap (λ rest. x.now ∷ rest) (Yields-slice u t xs others)
 
--- no element is left
-nil : {E : Type 0} (xs : List E) → length xs ≡ 0 → xs ≡ []
-nil [] none = refl
-nil (x ∷ xs) none = absurd (omega arith)
-
 module _ {E : Type 0} (word : E → List ℕ → ℕ → ℕ → Type 0) (plain : E → ℕ) (owner : E → List (List ℕ)) (written : E → Writing) (s t : Iter E) (a b : State) (n : ℕ) where
   -- all elements were written
   pub Emits-slice : EmitsAll (λ (x : Bor E). word x.now) (λ x. plain x.now) (λ x. owner x.now) (λ x. written x.now) fronts s t a b (Ok n)
       → EachWritten word plain owner s.rest.now a b × (n ≡ length s.rest.now) × (b ≡ after (in_turn written s.rest.now) a)
   Emits-slice (xs, (u, yields, stop), each, counted, exact) =
-      let all : s.rest.now ≡ map (λ x. x.now) xs = Yields-slice s u xs yields ∙ ap (λ rest. map (λ x. x.now) xs ++ rest) (nil u.rest.now stop.0) ∙ append-nil (map (λ x. x.now) xs) in (
+      let all : s.rest.now ≡ map (λ x. x.now) xs = Yields-slice s u xs yields ∙ ap (λ rest. map (λ x. x.now) xs ++ rest) (nil_from_length u.rest.now stop.0) ∙ append-nil (map (λ x. x.now) xs) in (
         subst (λ ys. EachWritten word plain owner ys a b) (sym all) (Each-map (λ x. x.now) word plain owner xs a b each),
         counted ∙ sym (length-map xs (λ x. x.now)) ∙ ap length (sym all),
         exact ∙ ap (λ f. after f a) (in_turn-map (λ x. x.now) written xs ∙ ap (in_turn written) (sym all)),

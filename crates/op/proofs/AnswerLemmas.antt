@@ -87,10 +87,7 @@ new_of is = record {
 module _ (m : MessageValue) (limit : ℕ) (old : State) (begun : IsNew limit old) where
   -- what the encoder answers is what any new one does
   same_answer : message_answer limit m ≡ message_answer_at old.limit m (length old.bytes) old.suffixes
-  same_answer =
-      ap (λ (n : ℕ). message_answer_at n m 0 []) (sym begun.within)
-      ∙ ap (λ (bytes : List ℕ). message_answer_at old.limit m (length bytes) []) (sym begun.bytes)
-      ∙ ap (λ (ts : List Stored). message_answer_at old.limit m (length old.bytes) ts) (sym begun.suffixes)
+  same_answer = λ i. message_answer_at (sym begun.within i) m (length (sym begun.bytes i)) (sym begun.suffixes i)
 
   pub new_answer : (written : List ℕ) → message_answer_at old.limit m (length old.bytes) old.suffixes ≡ Ok (drop (length old.bytes) written)
       → message_answer limit m ≡ Ok written
@@ -99,7 +96,4 @@ module _ (m : MessageValue) (limit : ℕ) (old : State) (begun : IsNew limit old
   -- what was written are the bytes of the message
   pub new_written : (new : State) → new ≡ after (message_written old.limit m) old → new.bytes ≡ message_bytes limit m
   new_written new is =
-      ap (λ (t : State). t.bytes) is
-      ∙ ap (λ (bytes : List ℕ). bytes ++ (message_written old.limit m (length bytes) old.suffixes).bytes) begun.bytes
-      ∙ ap (λ (n : ℕ). (message_written n m 0 old.suffixes).bytes) begun.within
-      ∙ ap (λ (ts : List Stored). (message_written limit m 0 ts).bytes) begun.suffixes
+      ap (λ (t : State). t.bytes) is ∙ (λ i. begun.bytes i ++ (message_written (begun.within i) m (length (begun.bytes i)) (begun.suffixes i)).bytes)

@@ -27,6 +27,7 @@ use Rattle.op.specs.declared.header.metadata.Metadata.{Metadata}
 use Rattle.op.specs.declared.op_code.OpCode.{OpCode}
 use Rattle.op.proofs.CodeLemmas.{high_back, metadata_back}
 use Rattle.op.proofs.CutWords.{AreFit, Composed, Ends, all_front, composed, ends, header_len, keeps_additionals, keeps_answers, keeps_authorities, keeps_edns, keeps_questions, keeps_signature, stands_after}
+use Rattle.op.proofs.FrontLemmas.{any_map}
 use Rattle.op.specs.HeaderSays.{header_stands}
 use Rattle.op.proofs.MessageStands.{message_again}
 use Rattle.op.proofs.SortLemmas.{OneFront, all_end, all_given, one_front, one_opt, sorted_edns, sorted_records, sorted_signature, tail}
@@ -68,10 +69,6 @@ signature_fit (Some r) fits = All-cons FitsRecord (signature_record r) [] (fits 
 no_room_of : {X : Type 0} (f : X → Record RData) (limit place : ℕ) (rest : List X) → NoRoom plain_record limit place (map f rest) → NoRoom (λ x. plain_record (f x)) limit place rest
 no_room_of f limit place [] full = tt
 no_room_of f limit place (x ∷ rest) full = full
-
-lost_of : {X : Type 0} (f : X → Record RData) (rest : List X) → any_lost (map f rest) ≡ any_lost rest
-lost_of f [] = refl
-lost_of f (x ∷ rest) = refl
 
 module _ (m : MessageValue) (old new : State) (h : Header) (e : Emitted m old new h) (fits : Fits m) (empty : old.bytes ≡ []) (untold : old.suffixes ≡ []) where
   -- ---- the bytes
@@ -251,7 +248,7 @@ module _ (m : MessageValue) (old new : State) (h : Header) (e : Emitted m old ne
 
   tells : cut_bit ≡ lost_bit
   tells = λ i. m.metadata.truncation || (e.answers.tells i || (e.authorities.tells i || (e.additionals.tells i
-      || ((e.edns.tells ∙ ap any_lost one_edns.lost_is ∙ lost_of edns_record one_edns.rest) i || (e.signature.tells ∙ ap any_lost one_signature.lost_is ∙ lost_of signature_record one_signature.rest) i))))
+      || ((e.edns.tells ∙ ap any_lost one_edns.lost_is ∙ sym (any_map edns_record one_edns.rest)) i || (e.signature.tells ∙ ap any_lost one_signature.lost_is ∙ sym (any_map signature_record one_signature.rest)) i))))
 
   metadata_is : high_code one_edns.some (metadata_value (raw_header h))
       ≡ record m.metadata { truncation = lost_bit; response_code = code_value (code_number m.metadata.response_code % code_range one_edns.some) }

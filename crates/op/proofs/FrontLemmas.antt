@@ -113,6 +113,10 @@ module _ {E : Type 0} (word : E → List ℕ → ℕ → ℕ → Type 0) (plain 
     one_item (Err refusals.Memory) result first emits counts = rw counts refl
     one_item (Err other) result first emits counts = absurd emits
 
+pub any_map : {A E : Type 0} (view : A → E) (xs : List A) → any_lost xs ≡ any_lost (map view xs)
+any_map view [] = refl
+any_map view (x ∷ xs) = refl
+
 -- items whose words are read of a value are that value's items
 module _ {A E : Type 0} (view : A → E) (word : E → List ℕ → ℕ → ℕ → Type 0) (plain : E → ℕ) (owner : E → List (List ℕ)) (f : E → Writing) where
   passes_map : (limit : ℕ) (b : State) (xs : List A) → FirstPasses (λ x. f (view x)) limit b xs → FirstPasses f limit b (map view xs)
@@ -123,10 +127,6 @@ module _ {A E : Type 0} (view : A → E) (word : E → List ℕ → ℕ → ℕ 
   lost_map limit place [] full = full
   lost_map limit place (x ∷ xs) full = full
 
-  any_map : (xs : List A) → any_lost xs ≡ any_lost (map view xs)
-  any_map [] = refl
-  any_map (x ∷ xs) = refl
-
   pub front_map : (xs : List A) (a b : State) (n : ℕ) (is_cut : Bool) → WritesFront (λ x. word (view x)) (λ x. plain (view x)) (λ x. owner (view x)) (λ x. f (view x)) xs a b n is_cut
       → WritesFront word plain owner f (map view xs) a b n is_cut
   front_map xs a b n is_cut front = record {
@@ -135,7 +135,7 @@ module _ {A E : Type 0} (view : A → E) (word : E → List ℕ → ℕ → ℕ 
     whole = ap (map view) front.whole ∙ map-append view front.kept front.lost;
     written = Each-map view word plain owner front.kept a b front.written;
     counted = front.counted ∙ sym (length-map front.kept view);
-    tells = front.tells ∙ any_map front.lost;
+    tells = front.tells ∙ any_map view front.lost;
     full = lost_map a.limit (length b.bytes) front.lost front.full;
     exact = front.exact ∙ ap (λ g. after g a) (in_turn-map view f front.kept);
     passes = passes_map a.limit b front.lost front.passes;

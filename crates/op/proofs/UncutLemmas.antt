@@ -47,9 +47,6 @@ listed_same None (Some y) is = cc
 listed_same (Some x) None is = cc
 listed_same (Some x) (Some y) is = cc
 
-none_lost : {X : Type 0} (lost : List X) → lost ≡ [] → any_lost lost ≡ false
-none_lost lost is = ap any_lost is
-
 -- ---- codes
 
 -- a code with the bits of EDNS above four
@@ -101,8 +98,8 @@ uncut_written m limit C c k (no_answers, no_authorities, no_additionals, no_edns
     let edns : c.edns ≡ raised m = listed_same c.edns (raised m) (whole_of (as_list (raised m)) (as_list c.edns) k.edns.lost k.edns.front no_edns) in
     let signature : c.signature ≡ m.signature = listed_same c.signature m.signature (whole_of (as_list m.signature) (as_list c.signature) k.signature.lost k.signature.front no_signature) in
     let lost : (m.metadata.truncation || (any_lost k.answers.lost || (any_lost k.authorities.lost || (any_lost k.additionals.lost || (any_lost k.edns.lost || any_lost k.signature.lost))))) ≡ (m.metadata.truncation || false) =
-    λ i. m.metadata.truncation || (none_lost k.answers.lost no_answers i || (none_lost k.authorities.lost no_authorities i
-    || (none_lost k.additionals.lost no_additionals i || (none_lost k.edns.lost no_edns i || none_lost k.signature.lost no_signature i)))) in
+    λ i. m.metadata.truncation || (any_lost (no_answers i) || (any_lost (no_authorities i)
+    || (any_lost (no_additionals i) || (any_lost (no_edns i) || any_lost (no_signature i))))) in
     let truncation = lost ∙ or-false m.metadata.truncation in
     let range : code_range c.edns ≡ code_range m.edns = ap code_range edns ∙ range_raised (with_high_bits m.metadata.response_code) m.edns in
     let metadata : c.metadata ≡ (as_written m).metadata =

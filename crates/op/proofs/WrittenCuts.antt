@@ -156,18 +156,6 @@ module _ (m : MessageValue) (limit : ℕ) (fits : Fits m) (kept : MessageKept m)
       let end = fit_end query_written limit m.queries 12 [] room in
       omega (arith, subst (λ (qs : List Query). 12 + length (in_turn query_written qs 12 []).bytes ≤ limit) all_asked end, length-append k.bytes (piece_at (in_turn query_written m.queries) k).bytes)
 
-  w_second : length after_answers.bytes ≤ limit
-  w_second = records_within m.answers after_questions w_first
-
-  w_third : length after_authorities.bytes ≤ limit
-  w_third = records_within m.authorities after_answers w_second
-
-  w_fourth : length after_additionals.bytes ≤ limit
-  w_fourth = records_within m.additionals after_authorities w_third
-
-  w_fifth : length after_edns.bytes ≤ limit
-  w_fifth = records_within opt after_additionals w_fourth
-
   queries : EachWritten QueryWord plain_query query_owner m.queries k after_questions
   queries = each_of query_written QueryKept QueryWord plain_query query_owner query_says m.queries kept.queries k after_questions refl w_first small
 
@@ -193,6 +181,10 @@ module _ (m : MessageValue) (limit : ℕ) (fits : Fits m) (kept : MessageKept m)
 
   emitted : Emitted m old new header
   emitted =
+      let w_second = records_within m.answers after_questions w_first in
+      let w_third = records_within m.authorities after_answers w_second in
+      let w_fourth = records_within m.additionals after_authorities w_third in
+      let w_fifth = records_within opt after_additionals w_fourth in
       let answers = records_front m.answers kept.answers after_questions w_first small in
       let authorities = records_front m.authorities kept.authorities after_answers w_second small in
       let additionals = records_front m.additionals kept.additionals after_authorities w_third small in
