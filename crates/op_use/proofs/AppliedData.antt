@@ -119,7 +119,3 @@ pub distinct_parted : (r : Record RData) (xs : List (Record RData)) → Distinct
 unfolding IsDistinct
 distinct_parted r [] h = h
 distinct_parted r (x ∷ xs) h = distinct_cond x (parted r xs) (not (same_data x.rdata r.rdata)) (far_parted r x xs h.0) (distinct_parted r xs h.1)
-
-pub distinct_one : (r : Record RData) → Distinct (r ∷ [])
-unfolding IsDistinct
-distinct_one r = (tt, tt)

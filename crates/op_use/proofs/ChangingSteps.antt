@@ -5,13 +5,14 @@ use Rattle.base.specs.declared.rr_key.RrKey.{RrKey}
 use Rattle.base_data.specs.declared.rdata.RData.{RData}
 use Rattle.op_use.proofs.AppliedData.{distinct_joined}
 use Rattle.op_use.proofs.HeldSteps.{put_back}
-use Rattle.op_use.proofs.MapSteps.{injected, puts_again}
-use Rattle.op_use.proofs.TakenSets.{none_left, set_left, set_left_fits}
+use Rattle.op_use.proofs.KeptSets.{put_map}
+use Rattle.op_use.proofs.MapSteps.{chained, injected, moved, puts_again}
+use Rattle.op_use.proofs.TakenSets.{changed, last_of, none_left, put_taken, set_left, set_left_fits}
 use Rattle.op_use.proofs.ZoneSteps.{same_key, tied}
 use Rattle.op_use.specs.Applying.{IsZoneMap, IsZoneSet, records_at, records_in}
 use Rattle.op_use.specs.ChangingSets.{AreChanging, IsSame, LacksAll, current, with_changing}
 use Rattle.op_use.specs.HeldZone.{HeldZone}
-use Rattle.op_use.specs.MapUpdates.{Gains, HoldsAt, IsSetTo, Lacks, Puts}
+use Rattle.op_use.specs.MapUpdates.{Gains, HoldsAt, IsSetTo, IsTakenSet, Lacks, Puts}
 use Rattle.rr.specs.RecordSet.{SetValue}
 use Rattle.rr.specs.SetChanges.{joined}
 use Rattle.rr.specs.SetUpdates.{last_ttl, with_records, without, without_data}
@@ -57,17 +58,12 @@ still_there o (Some s) = refl
 pub is_there : (ch m : Sets) (q : RrKey) → is_some (tree.get key_cmp (with_changing ch m) q) ≡ is_some (tree.get key_cmp m q)
 is_there ch m q = ap is_some (found ch m q) ∙ still_there (tree.get key_cmp ch q) (tree.get key_cmp m q)
 
--- none changes
-pub none_changes : (class : DNSClass) (ch m : Sets) → ch.entries ≡ [] → AreChanging class ch m
-none_changes class ch m none = record {
-  is_map = λ k s e. absurd (nothing (sym (ap (lookup (is_at (key_cmp k))) none) ∙ e));
-  there = λ k h. absurd (not_there (sym (ap (λ es. is_some (lookup (is_at (key_cmp k)) es)) none) ∙ h));
-} where
-  nothing : {s : SetValue} → None ≡ Some s → ⊥
-  nothing e = absurd cc
-
-  not_there : false ≡ true → ⊥
-  not_there e = absurd cc
+-- a growth is refused
+pub changing_unchanged : (class : DNSClass) (ch new m n : Sets) → tree.IsUnchanged ch new → tree.IsUnchanged m n → AreChanging class ch m → AreChanging class new n
+changing_unchanged class ch new m n same alike h = record {
+  is_map = λ k s e. h.is_map k s (sym (ap (lookup (is_at (key_cmp k))) same) ∙ e);
+  there = λ k e. ap (λ es. is_some (lookup (is_at (key_cmp k)) es)) alike ∙ h.there k (sym (ap (λ es. is_some (lookup (is_at (key_cmp k)) es)) same) ∙ e);
+}
 
 -- ---- a change of one set
 
@@ -239,6 +235,18 @@ set_joined class k r s t m n fits e is puts = record {
   puts = puts;
 }
 
+-- to one that was taken out, or to a new one
+pub joined_taken : (class : DNSClass) (k : RrKey) (r : Record RData) (s t : SetValue) (m mid n : Sets) → IsTakenSet class k (records_at m k) s → t ≡ with_records s (joined r s.records)
+    → Puts k None m mid → tree.Updates key_cmp mid n k (Some t) → IsSetTo class k (joined r (records_at m k)) m n
+joined_taken class k r s t m mid n h is first puts =
+    let mine = changed class k (records_at m k) (joined r s.records) s t h is (distinct_joined r s.records h.distinct) in
+    let records : t.records ≡ joined r s.records = ap (λ (x : SetValue). x.records) is in
+    moved class k k t.records (joined r (records_at m k)) m n refl (records ∙ ap (joined r) h.records)
+    (chained class k t.records m mid n first (put_taken class k t mid n mine (last_of s t (joined r s.records) is) (λ none. joined_some r s.records (sym records ∙ none)) puts))
+
+pub same_as : (z y : HeldZone) → y ≡ z → IsSame z y
+same_as z y e = subst (λ (x : HeldZone). IsSame x y) e (y.sets, refl, λ q. refl)
+
 pub same_more : (old mid new : HeldZone) → IsSame old mid → IsSame mid new → IsSame old new
 same_more old mid new first next = chain (subst (λ (z : HeldZone). IsSame z new) first.1 next) where
   chain : IsSame (record old { sets = first.0 }) new → IsSame old new
@@ -295,9 +303,6 @@ module _ (k : RrKey) (ch new : Sets) (z y : HeldZone) where
   pub lacks_both : Puts k None ch new → Lacks k z y → Lacks k (shown z ch) (shown y new)
   lacks_both first h = (with_changing new h.0, ap (λ (x : HeldZone). shown x new) h.1, puts_gone ch new z.sets h.0 k first h.2)
 
-  pub both_held : AreChanging z.class ch z.sets → Puts k None ch new → Lacks k z y → AreChanging y.class new y.sets
-  both_held held first h = subst (λ (x : HeldZone). AreChanging x.class new x.sets) (sym h.1) (less_there z.class ch new z.sets h.0 k held first h.2)
-
   pub beside_held : (xs : List (Record RData)) → AreChanging z.class ch z.sets → tree.get key_cmp ch k ≡ None → HoldsAt k xs z y → AreChanging y.class ch y.sets
   beside_held xs held none h = subst (λ (x : HeldZone). AreChanging x.class ch x.sets) (sym h.1) (set_there z.class ch z.sets h.0 k h.2.set held none h.2.puts)
 
@@ -316,13 +321,11 @@ module _ (k : RrKey) (f : List (Record RData) → List (Record RData)) (ch new :
   pub put_beside_held : AreChanging z.class ch z.sets → AreChanging y.class new y.sets
   put_beside_held held = beside_held k new new z y (f (records_at z.sets k)) (less_changing z.class ch new z.sets k held first) (taken_out ch new k first) h
 
--- a record stands alone
-module _ (k : RrKey) (xs : List (Record RData)) (ch new : Sets) (z y x : HeldZone) (first : Puts k None ch new) (out : Lacks k z y) (h : HoldsAt k xs y x) where
-  pub put_alone : HoldsAt k xs (shown z ch) (shown x new)
-  put_alone = put_back k xs (shown z ch) (shown y new) (shown x new) (lacks_both k ch new z y first out) (held_beside k new new y x xs (taken_out ch new k first) h)
-
-  pub put_alone_held : AreChanging z.class ch z.sets → AreChanging x.class new x.sets
-  put_alone_held held = beside_held k new new y x xs (both_held k ch new z y held first out) (taken_out ch new k first) h
+-- a record stands alone where a set was taken out
+pub alone : (k : RrKey) (r : Record RData) (old mid new : HeldZone) → Lacks k old mid → HoldsAt k (joined r (records_at mid.sets k)) mid new → HoldsAt k (r ∷ []) old new
+alone k r old mid new first next = put_back k (r ∷ []) old mid new first (subst (λ xs. HoldsAt k (joined r xs) mid new) none next) where
+  none : records_at mid.sets k ≡ []
+  none = ap (λ (z : HeldZone). records_at z.sets k) first.1 ∙ ap records_in (taken_out old.sets first.0 k first.2)
 
 -- a set is changed that is among those that change
 module _ (k : RrKey) (s t : SetValue) (ch mid : Sets) (z : HeldZone) (held : AreChanging z.class ch z.sets) (e : tree.get key_cmp ch k ≡ Some s) (first : Puts k None ch mid) where
@@ -392,6 +395,20 @@ module _ (k : RrKey) (t : SetValue) (ch new : Sets) (z y : HeldZone) (held : Are
         is_map = less.is_map;
         there = λ q f. ap is_some (h.2 q) ∙ stays (Some t) (tree.get key_cmp z.sets q) (eq_by_cmp key_cmp k q) refl (less.there q f);
       })
+
+-- a zone that is the same, of which some sets are held
+abbrev pub StaysSame : HeldZone → HeldZone → Sets → Type 0
+StaysSame old z ch = IsSame old (shown z ch) × IsZoneMap z.class z.sets × AreChanging z.class ch z.sets
+
+pub closed_next : (old z : HeldZone) (k : RrKey) (t s : SetValue) (ch new n : Sets) → StaysSame old z ch → tree.get key_cmp ch k ≡ Some t → s ≡ t → Puts k None ch new
+    → tree.Updates key_cmp z.sets n k (Some s) → StaysSame old (record z { sets = n }) new
+closed_next old z k t s ch new n h e is first puts =
+    let back : tree.Updates key_cmp z.sets n k (Some t) = subst (λ (x : SetValue). tree.Updates key_cmp z.sets n k (Some x)) is puts in
+    let y : HeldZone = record z { sets = n } in (
+      same_more old (shown z ch) (shown y new) h.0 (closed_same k t ch new z y h.2 e first (n, refl, back.0)),
+      put_map z.class k t z.sets n h.1 (h.2.is_map k t e) back,
+      closed_held k t ch new z y h.2 e first (n, refl, back.0),
+    )
 
 -- none changes yet, or any more
 none_in : (ch : Sets) (es : List (RrKey × SetValue)) → ch.entries ≡ [] → map (current ch) es ≡ es

@@ -22,6 +22,7 @@ mod SameRecords
 mod ServerRowsLemmas
 mod SpelledSteps
 mod TakenSets
+mod TypeSteps
 mod UpdateSteps
 mod WholeSteps
 mod ZoneSteps

@@ -16,10 +16,10 @@ use Rattle.op_use.proofs.SpelledSteps.{alias_comes, alias_kept_out, beside_kept_
 use Rattle.op_use.proofs.SpelledSteps.{needed_stays, other_comes, other_parts, set_goes}
 use Rattle.op_use.proofs.ZoneSteps.{same_sets}
 use Rattle.op_use.specs.Applying.{IsZoneMap, data_in_set, records_at, records_in, zone_of_map}
-use Rattle.op_use.specs.AppliedRecords.{parted}
+use Rattle.op_use.specs.AppliedRecords.{after_by, parted}
 use Rattle.op_use.specs.MapUpdates.{IsAfter, IsSetTo, LeavesOwner}
 use Rattle.op_use.specs.NamedChanges.{datum_of, is_key_left}
-use Rattle.op_use.specs.Server.{OfAny, OfNone, OfZone, added, is_any, is_cname, is_needed, removed, update_by, use_of}
+use Rattle.op_use.specs.Server.{OfAny, OfNone, OfNothing, OfZone, added, is_any, is_cname, is_needed, removed, update_by, use_of}
 use Rattle.rr.specs.Record.{record_key, type_of_record}
 use Rattle.op_use.specs.Zone.{Datum, has_set, has_type_at, is_guarded, is_owned, put}
 use Rattle.rr.specs.RecordSet.{SetValue, is_soa}
@@ -43,6 +43,10 @@ counted origin class m r = ap (λ k. is_soa (type_of_record r) || (is_guarded (z
     (ap length (data_at origin class m (record_key r)) ∙ length-map (records_at m (record_key r)) datum_of)
 
 module _ (origin : NameValue) (class : DNSClass) (m n : BTreeMap RrKey SetValue) (r : Record RData) (old : IsZoneMap class m) where
+  pub after_nothing : use_of class r.dns_class ≡ OfNothing → IsAfter origin class (r ∷ []) m m
+  after_nothing u = same_after origin class m r old (ap (λ how. update_by how (zone_of_map origin class m) r) u)
+      (λ q. ap (λ how. after_by how (zone_of_map origin class m) r q (records_at m q)) u)
+
   pub after_cname_stays : use_of class r.dns_class ≡ OfZone → is_cname (type_of_record r) ≡ true
       → has_type_at (zone_of_map origin class m) r.name (λ t. not (is_cname t)) ≡ true → IsAfter origin class (r ∷ []) m m
   after_cname_stays u c h = same_after origin class m r old (ap (λ how. update_by how (zone_of_map origin class m) r) u ∙ cond-true _ _ _ (cond-true _ _ _ c ∙ h))

@@ -4,7 +4,6 @@ use Rattle.base.specs.declared.dns_class.DNSClass.{DNSClass}
 use Rattle.base.specs.declared.rr_key.RrKey.{RrKey}
 use Rattle.op_use.specs.Applying.{IsZoneMap}
 use Rattle.op_use.specs.HeldZone.{HeldZone}
-use Rattle.op_use.specs.declared.apply.changing_zone.ChangingZone.{ChangingZone}
 use Rattle.rr.specs.RecordSet.{SetValue}
 use Rattle.std.specs.BTreeMap as tree
 use Rattle.std.specs.BTreeMap.{BTreeMap}
@@ -27,14 +26,6 @@ pub record AreChanging (class : DNSClass) (changing sets : BTreeMap RrKey SetVal
   pub is_map : IsZoneMap class changing
   pub there : (k : RrKey) → is_some (tree.get key_cmp changing k) ≡ true
       → is_some (tree.get key_cmp sets k) ≡ true
-
--- the zone as it is now
-abbrev pub zone_now : ChangingZone → HeldZone
-zone_now z = record z.zone { sets = with_changing z.changing z.zone.sets }
-
--- its sets that change are some of its sets
-abbrev pub AreHeld : ChangingZone → Type 0
-AreHeld z = AreChanging z.zone.class z.changing z.zone.sets
 
 -- the new zone has under each key what the old one has
 abbrev pub IsSame : HeldZone → HeldZone → Type 0

@@ -56,18 +56,23 @@ pub fn apply_update(
         r.1) }
     ensures only { IsOkUnless result ProtoError.Memory }
 {
-    let zone = Zone::new(alloc, origin, class, sets.clone()?);
+    let zone = Zone {
+        alloc,
+        origin,
+        class,
+        sets: sets.clone()?,
+    };
     if !is_supported(message) {
-        return Ok((ResponseCode::NotImp, zone.into_sets()));
+        return Ok((ResponseCode::NotImp, zone.sets));
     }
     if let Some(code) = fault(&zone, message)? {
-        return Ok((code, zone.into_sets()));
+        return Ok((code, zone.sets));
     }
     let mut changing = ChangingZone::new(zone);
     changing.update(&message.authorities)?;
     let mut zone = changing.close()?;
     zone.keep_same(sets, &message.authorities)?;
-    Ok((ResponseCode::NoError, zone.into_sets()))
+    Ok((ResponseCode::NoError, zone.sets))
 }
 
 /// The code that an update is refused with, if it is: by its zone section, its prerequisites or the prescan, in this

@@ -10,10 +10,9 @@ ghost use Rattle.rr.specs.declared.record.Record.{Record as Entry};
 ghost use Rattle.std.specs.List.{IsAmong, list_all, list_any};
 ghost use Rattle.std.specs.Prelude.{IfOk, IfSome, true, ◌≡◌};
 
-use crate::apply::prescan::unless;
-use crate::apply::rules::{Use, is_any, use_of};
+use crate::apply::rules::{Use, use_of};
 use crate::apply::zone::{Zone, has_type, key_of};
-use base::{DNSClass, RrKey};
+use base::{DNSClass, RecordType, RrKey};
 use op::ResponseCode;
 use rr::Record;
 use std::alloc::{AllocError, Global};
@@ -34,7 +33,7 @@ impl<'a> Zone<'a> {
             }
         }
         let are_met = self.are_met(entries)?;
-        Ok(unless(are_met, ResponseCode::NXRRSet))
+        Ok((!are_met).then_some(ResponseCode::NXRRSet))
     }
 
     /// What is wrong with a prerequisite by itself. Of one of the zone's class the data is tested later, with its set.
@@ -47,7 +46,7 @@ impl<'a> Zone<'a> {
         if !self.origin.zone_of(&entry.name) {
             return Ok(Some(ResponseCode::NotZone));
         }
-        let of_all = is_any(entry.record_type());
+        let of_all = entry.record_type() == RecordType::ANY;
         match use_of(self.class, entry.dns_class) {
             Use::OfZone => Ok(None),
             Use::OfNothing => Ok(Some(ResponseCode::FormErr)),
@@ -60,7 +59,7 @@ impl<'a> Zone<'a> {
                 } else {
                     ResponseCode::NXRRSet
                 };
-                Ok(unless(self.is_found(entry)?, code))
+                Ok((!self.is_found(entry)?).then_some(code))
             }
             Use::OfNone => {
                 if !entry.rdata.is_update() {
@@ -71,7 +70,7 @@ impl<'a> Zone<'a> {
                 } else {
                     ResponseCode::YXRRSet
                 };
-                Ok(unless(!self.is_found(entry)?, code))
+                Ok(self.is_found(entry)?.then_some(code))
             }
         }
     }
@@ -80,9 +79,8 @@ impl<'a> Zone<'a> {
     fn is_found(&self, entry: &Record) -> Result<bool, AllocError>
         ensures { IfOk result (λ b. b ≡ is_found_in (zone_held self.now) entry.now) }
     {
-        if is_any(entry.record_type()) {
-            let found = has_type(&self.sets, &entry.name, false)?;
-            return Ok(found);
+        if entry.record_type() == RecordType::ANY {
+            return has_type(&self.sets, &entry.name, false);
         }
         let key = key_of(&entry.name, entry.record_type())?;
         Ok(self.sets.contains_key(&key))

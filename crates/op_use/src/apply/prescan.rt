@@ -1,11 +1,12 @@
 //! The fourth step: a look at the updates before the first is carried out (RFC 2136, 3.4.1).
 
 ghost use Rattle.op_use.specs.HeldZone.{HeldZone, zone_held};
-ghost use Rattle.op_use.specs.Server.{first_fault, prescan_fault, unless as unless_so};
+ghost use Rattle.op_use.specs.Server.{first_fault, prescan_fault};
 ghost use Rattle.std.specs.Prelude.{◌≡◌};
 
-use crate::apply::rules::{Use, is_any, is_meta, use_of};
+use crate::apply::rules::{Use, is_meta, use_of};
 use crate::apply::zone::Zone;
+use base::RecordType;
 use op::ResponseCode;
 use rr::Record;
 
@@ -29,26 +30,17 @@ impl<'a> Zone<'a> {
         if !self.origin.zone_of(&entry.name) {
             return Some(ResponseCode::NotZone);
         }
-        match use_of(self.class, entry.dns_class) {
-            Use::OfZone => unless(!is_meta(entry.record_type()), ResponseCode::FormErr),
-            Use::OfAny => unless(
+        let record_type = entry.record_type();
+        let is_right = match use_of(self.class, entry.dns_class) {
+            Use::OfZone => !is_meta(record_type),
+            Use::OfAny => {
                 entry.ttl == 0
                     && entry.rdata.is_update()
-                    && (!is_meta(entry.record_type()) || is_any(entry.record_type())),
-                ResponseCode::FormErr,
-            ),
-            Use::OfNone => unless(
-                entry.ttl == 0 && !is_meta(entry.record_type()),
-                ResponseCode::FormErr,
-            ),
-            Use::OfNothing => Some(ResponseCode::FormErr),
-        }
+                    && (!is_meta(record_type) || record_type == RecordType::ANY)
+            }
+            Use::OfNone => entry.ttl == 0 && !is_meta(record_type),
+            Use::OfNothing => false,
+        };
+        (!is_right).then_some(ResponseCode::FormErr)
     }
-}
-
-/// A code, unless something holds.
-pub(crate) fn unless(holds: bool, code: ResponseCode) -> Option<ResponseCode>
-    ensures { result ≡ unless_so holds code }
-{
-    if holds { None } else { Some(code) }
 }

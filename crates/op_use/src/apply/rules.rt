@@ -2,9 +2,9 @@
 
 ghost use Rattle.base.specs.NameOrder.{same_name};
 ghost use Rattle.op_use.specs.MapUpdates.{use_value};
-ghost use Rattle.op_use.specs.Server.{is_any as is_any_type, is_cname as is_cname_type, is_meta as is_meta_type, use_of as the_use};
+ghost use Rattle.op_use.specs.Server.{is_meta as is_meta_type, use_of as the_use};
 ghost use Rattle.op_use.specs.SoundSet.{is_ordinary as is_ordinary_type};
-ghost use Rattle.rr.specs.RecordSet.{is_ns, is_soa as is_soa_type};
+ghost use Rattle.rr.specs.RecordSet.{is_ns, is_soa};
 ghost use Rattle.std.specs.Prelude.{◌&&◌, ◌||◌, ◌≡◌};
 
 use base::{DNSClass, Name, RecordType};
@@ -39,33 +39,12 @@ pub(crate) fn use_of(zone_class: DNSClass, class: DNSClass) -> Use
     }
 }
 
-/// Whether this is the type SOA.
-pub(crate) fn is_soa(record_type: RecordType) -> bool
-    ensures { result ≡ is_soa_type record_type }
-{
-    matches!(record_type, RecordType::SOA)
-}
-
-/// Whether this is the type CNAME.
-pub(crate) fn is_cname(record_type: RecordType) -> bool
-    ensures { result ≡ is_cname_type record_type }
-{
-    matches!(record_type, RecordType::CNAME)
-}
-
-/// Whether this is the type ANY.
-pub(crate) fn is_any(record_type: RecordType) -> bool
-    ensures { result ≡ is_any_type record_type }
-{
-    matches!(record_type, RecordType::ANY)
-}
-
 /// Whether a set stays where all of its owner goes: SOA and NS at the origin (RFC 2136, 3.4.2.3).
 pub(crate) fn is_guarded(origin: &Name, owner: &Name, record_type: RecordType) -> bool
     ensures { result ≡ (same_name owner.now origin.now
-        && (is_soa_type record_type || is_ns record_type)) }
+        && (is_soa record_type || is_ns record_type)) }
 {
-    *owner == *origin && (is_soa(record_type) || matches!(record_type, RecordType::NS))
+    *owner == *origin && (record_type == RecordType::SOA || record_type == RecordType::NS)
 }
 
 /// Whether updates treat a type like most.

@@ -3,10 +3,9 @@
 ghost use Rattle.op.specs.Message.{message_value};
 ghost use Rattle.op_use.specs.Applying.{is_all_supported, is_supported as is_supported_record, is_supported_prerequisite};
 ghost use Rattle.op_use.specs.Server.{sections_of};
-ghost use Rattle.std.specs.List.{list_all};
 ghost use Rattle.std.specs.Prelude.{◌≡◌};
 
-use crate::apply::rules::{is_any, is_cname, is_ordinary};
+use crate::apply::rules::is_ordinary;
 use base::{DNSClass, RecordType};
 use op::Message;
 use rr::Record;
@@ -15,27 +14,13 @@ use rr::Record;
 pub(crate) fn is_supported(message: &Message) -> bool
     ensures { result ≡ is_all_supported (sections_of (message_value message.now)) }
 {
-    are_prerequisites_supported(&message.answers) && are_updates_supported(&message.authorities)
-}
-
-/// Whether all prerequisites are of types that are supported.
-fn are_prerequisites_supported(entries: &[Record]) -> bool
-    ensures { result ≡ list_all is_supported_prerequisite entries.now }
-{
-    for entry in entries {
-        if !is_supported_prerequisite(entry) {
+    for prerequisite in message.answers.as_slice() {
+        if !is_supported_prerequisite(prerequisite) {
             return false;
         }
     }
-    true
-}
-
-/// Whether all updates are of types that are supported.
-fn are_updates_supported(entries: &[Record]) -> bool
-    ensures { result ≡ list_all is_supported_record entries.now }
-{
-    for entry in entries {
-        if !is_supported_update(entry) {
+    for update in message.authorities.as_slice() {
+        if !is_supported_update(update) {
             return false;
         }
     }
@@ -47,7 +32,7 @@ fn is_supported_prerequisite(entry: &Record) -> bool
     ensures { result ≡ is_supported_prerequisite entry.now }
 {
     is_supported_update(entry)
-        || (is_any(entry.record_type()) && matches!(entry.dns_class, DNSClass::NONE))
+        || (entry.record_type() == RecordType::ANY && matches!(entry.dns_class, DNSClass::NONE))
 }
 
 /// Whether an update is of a type that is supported: an ordinary one, NS, CNAME, or ANY in the class ANY.
@@ -55,7 +40,7 @@ fn is_supported_update(entry: &Record) -> bool
     ensures { result ≡ is_supported_record entry.now }
 {
     is_ordinary(entry.record_type())
-        || matches!(entry.record_type(), RecordType::NS)
-        || is_cname(entry.record_type())
-        || (is_any(entry.record_type()) && matches!(entry.dns_class, DNSClass::ANY))
+        || entry.record_type() == RecordType::NS
+        || entry.record_type() == RecordType::CNAME
+        || (entry.record_type() == RecordType::ANY && matches!(entry.dns_class, DNSClass::ANY))
 }

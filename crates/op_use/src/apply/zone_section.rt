@@ -4,8 +4,8 @@ ghost use Rattle.op_use.specs.HeldZone.{HeldZone, zone_held};
 ghost use Rattle.op_use.specs.Server.{zone_fault};
 ghost use Rattle.std.specs.Prelude.{◌≡◌};
 
-use crate::apply::rules::is_soa;
 use crate::apply::zone::Zone;
+use base::RecordType;
 use op::{Query, ResponseCode};
 
 impl<'a> Zone<'a> {
@@ -16,7 +16,7 @@ impl<'a> Zone<'a> {
         let [query] = queries else {
             return Some(ResponseCode::FormErr);
         };
-        if !is_soa(query.query_type()) {
+        if query.query_type() != RecordType::SOA {
             return Some(ResponseCode::FormErr);
         }
         if *query.name() == *self.origin && query.query_class() == self.class {

@@ -5,32 +5,43 @@ ghost use Rattle.base_data.specs.DataOrder.{data_cmp};
 ghost use Rattle.base_data.specs.declared.rdata.RData.{RData};
 ghost use Rattle.std.specs.Cmp.{eq_by_cmp_equiv, partial_equiv_from_equiv, partial_order_from_agreeing_total};
 ghost use Rattle.std.specs.Ordering.{as_partial_cmp, eq_by_cmp};
-ghost use Rattle.std.specs.Prelude.{refl, ◌≡◌};
+ghost use Rattle.std.specs.Prelude.{IfOk, refl, ◌≡◌};
 
 use base_data::RData;
+use std::alloc::{AllocError, Global};
 use std::cmp::Ordering;
 use std::marker::Model;
 
 /// Data in the order of data.
 #[derive(Drop)]
 pub(super) struct DataKey {
+    /// Its canonical form, which is compared first.
+    octets: Vec<u8>,
     rdata: RData,
 }
 
 impl Model for DataKey {
+    ghost use Rattle.base_data.specs.Kinds.{canonical_data};
     ghost use Rattle.base_data.specs.declared.rdata.RData.{RData};
+    ghost use Rattle.std.specs.Prelude.{◌≡◌};
 
     ghost Value = { RData };
 
     ghost view = { λ k. k.rdata };
+
+    ghost invariant = { λ k. k.octets.items ≡ canonical_data k.rdata };
 }
 
 impl DataKey {
     /// The key of this data.
-    pub(super) fn new(rdata: RData) -> DataKey
-        ensures { result ≡ rdata }
+    pub(super) fn new(alloc: Global, rdata: &RData) -> Result<DataKey, AllocError>
+        ensures { IfOk result (λ key. key ≡ rdata.now) }
     {
-        DataKey { rdata }
+        let octets = rdata.to_canonical(alloc).map_err(|_| AllocError)?;
+        Ok(DataKey {
+            octets,
+            rdata: rdata.clone()?,
+        })
     }
 }
 
@@ -40,7 +51,7 @@ impl PartialEq for DataKey {
     ghost laws = { partial_equiv_from_equiv (eq_by_cmp_equiv data_cmp-total) };
 
     fn eq(&self, other: &DataKey) -> bool {
-        self.rdata.canonical_cmp(&other.rdata) == Ordering::Equal
+        self.cmp(other) == Ordering::Equal
     }
 }
 
@@ -58,7 +69,9 @@ impl Ord for DataKey {
     ghost matches_eq = { λ _ _. refl };
 
     fn cmp(&self, other: &DataKey) -> Ordering {
-        self.rdata.canonical_cmp(&other.rdata)
+        self.octets
+            .cmp(&other.octets)
+            .then_with(|| self.rdata.canonical_cmp(&other.rdata))
     }
 }
 

@@ -69,7 +69,7 @@ impl PlacedRecords {
         ensures err { OnErr result (self.new ≡ self.old) }
     {
         entry.rdata.fits();
-        let key = DataKey::new(entry.rdata.clone()?);
+        let key = DataKey::new(*self.places.allocator(), &entry.rdata)?;
         if let Some(place) = place_of(&self.index, &self.places, &key, &entry) {
             put_at(&mut self.places, place, Some(entry));
             return Ok(());
@@ -90,7 +90,7 @@ impl PlacedRecords {
         ensures err { OnErr result (self.new ≡ self.old) }
     {
         entry.rdata.fits();
-        let key = DataKey::new(entry.rdata.clone()?);
+        let key = DataKey::new(*self.places.allocator(), &entry.rdata)?;
         let Some(place) = place_of(&self.index, &self.places, &key, entry) else {
             return Ok(false);
         };

@@ -1,18 +1,29 @@
-use Rattle.op_use.proofs.HeldSteps.{none_updated, updated_more}
+use Rattle.op_use.proofs.HeldSteps.{none_updated, same_updated, updated_more}
 use Rattle.op_use.proofs.MapSteps.{taken_more}
+use Rattle.op_use.proofs.UpdateSteps.{after_nothing}
 use Rattle.op_use.proofs.apply.changing_zone.ChangingZone.update.Goals as goal
-use Rattle.op_use.specs.ChangingSets.{zone_now}
-use Rattle.op_use.specs.MapUpdates.{IsUpdated}
-use Rattle.std.proofs.Common.{[], subst, take, ◌∷◌}
+use Rattle.op_use.proofs.apply.changing_zone.ChangingZone.update.Goals.{in-OfAny+in_ok-delete-in-OfAny, in-OfNone+in_ok-delete_record-in-OfNone, in-OfNothing, in-OfZone+in_ok-add-in-OfZone}
+use Rattle.op_use.specs.HeldZone.{HeldZone}
+use Rattle.op_use.specs.MapUpdates.{IsUpdated, use_value}
+use Rattle.op_use.specs.Server.{use_of}
+use Rattle.std.proofs.Common.{[], ap, subst, sym, take, ◌∙◌, ◌∷◌}
 
 pub loop-entry-init : goal.loop-entry-init
-loop-entry-init c = (none_updated (zone_now c.args.self.now), c.requires)
+loop-entry-init c = none_updated c.args.self.now
 
 pub loop-entry-preserved : goal.loop-entry-preserved
 loop-entry-preserved c =
-    let rs = c.args.entries.now in (
-      subst (λ us. IsUpdated us (zone_now c.args.self.now) (zone_now c.update_by.new.self)) (taken_more rs c.loop-entry.entry-index c.entry-item.result c.loop-entry-test.true c.entry-item.is)
-          (updated_more (take c.loop-entry.entry-index rs) (c.entry-item.result ∷ []) (zone_now c.args.self.now) (zone_now c.loop-entry.self) (zone_now c.update_by.new.self) c.loop-entry.invariant.0
-          c.in_ok-update_by.ensures.zone),
-      c.in_ok-update_by.ensures.held,
-    )
+    let rs = c.args.entries.now in
+    let z = c.args.self.now in
+    let y = c.loop-entry.self in
+    let r = c.entry-item.result in
+    let one : IsUpdated (r ∷ []) y c.match-use_of.self = elim c.match-use_of.branch [
+      | in-OfAny+in_ok-delete-in-OfAny w ↦ subst (λ (x : HeldZone). IsUpdated (r ∷ []) y x) (sym w.self-is) w.in_ok-delete-in-OfAny.ensures
+      | in-OfNone+in_ok-delete_record-in-OfNone w ↦ subst (λ (x : HeldZone). IsUpdated (r ∷ []) y x) (sym w.self-is) w.in_ok-delete_record-in-OfNone.ensures
+      | in-OfZone+in_ok-add-in-OfZone w ↦ subst (λ (x : HeldZone). IsUpdated (r ∷ []) y x) (sym w.self-is) w.in_ok-add-in-OfZone.ensures
+      | in-OfNothing w ↦ subst (λ (x : HeldZone). IsUpdated (r ∷ []) y x) (sym w.self-is) (same_updated (r ∷ []) y (λ h.
+          after_nothing y.origin y.class y.sets y.sets r h
+          (ap (λ (x : HeldZone). use_of x.class r.dns_class) (sym c.self.view_is) ∙ sym c.use_of.ensures ∙ ap use_value w.in-OfNothing.is)))
+    ] in
+    subst (λ us. IsUpdated us z c.match-use_of.self) (taken_more rs c.loop-entry.entry-index r c.loop-entry-test.true c.entry-item.is)
+    (updated_more (take c.loop-entry.entry-index rs) (r ∷ []) z y c.match-use_of.self c.loop-entry.invariant one)

@@ -1,8 +1,7 @@
 use Rattle.op_use.proofs.apply.changing_zone.ChangingZone.update.Given as goal
-use Rattle.op_use.specs.ChangingSets.{AreHeld, zone_now}
 use Rattle.op_use.specs.MapUpdates.{IsUpdated}
 use Rattle.std.proofs.Common.{take}
 
 -- the updates so far are applied
 abbrev pub invariant-loop-entry : goal.invariant-loop-entry
-invariant-loop-entry l = IsUpdated (take l.entry-index l.entries) (zone_now l.fn.self) (zone_now l.self) × AreHeld l.self
+invariant-loop-entry l = IsUpdated (take l.entry-index l.entries) l.fn.self l.self

@@ -26,7 +26,7 @@ pub invariant_of-self-2 : goal.invariant_of-self-2
 invariant_of-self-2 c =
     let ps = c.self.inside.places.items in
     let is : c.push.new.self.items ≡ c.self.inside.places.items ++ Some c.args.entry ∷ [] = search rules in
-    let key_is : c.new-key.result ≡ c.args.entry.rdata = search rules in
+    let key_is : c.in_ok-key.key ≡ c.args.entry.rdata = c.in_ok-key.ensures in
     let len : c.len-place.result ≡ length c.self.inside.places.items = search rules in
     let updated : (d : RData) → get data_cmp c.insert.new.self d
     ≡ cond (eq_by_cmp data_cmp c.args.entry.rdata d) (Some (length c.self.inside.places.items)) (get data_cmp c.self.inside.index d) = λ d.
