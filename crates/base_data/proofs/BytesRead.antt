@@ -31,16 +31,12 @@ bytes_is len B i r is =
 -- ---- numbers among the bytes that were read
 
 two : (xs : List ℕ) → 2 ≤ length xs → take 2 xs ≡ get_or xs 0 0 ∷ get_or xs 1 0 ∷ []
-two [] some = absurd (omega arith)
-two (a ∷ []) some = absurd (omega arith)
 two (a ∷ b ∷ rest) some = refl
+two xs some = absurd (omega arith)
 
 four : (xs : List ℕ) → 4 ≤ length xs → take 4 xs ≡ get_or xs 0 0 ∷ get_or xs 1 0 ∷ get_or xs 2 0 ∷ get_or xs 3 0 ∷ []
-four [] some = absurd (omega arith)
-four (a ∷ []) some = absurd (omega arith)
-four (a ∷ b ∷ []) some = absurd (omega arith)
-four (a ∷ b ∷ c ∷ []) some = absurd (omega arith)
 four (a ∷ b ∷ c ∷ d ∷ rest) some = refl
+four xs some = absurd (omega arith)
 
 module _ {len : ℕ} {B : List ℕ} {i : ℕ} {r : List ℕ × ℕ} (s : ReadsBytes len B i r) where
   -- a byte that was read, as the byte of what stands after a place

@@ -88,22 +88,18 @@ ipv4_read o are = ap whole_value (rw append-nil at (read_ipv4_complete (ipv4_tex
 
 octets-segments : (n : ℕ) (o : List ℕ) → length o ≡ n + n → ((k : ℕ) → get_or o k 0 < 256) → octets_of (segments_of o) ≡ o
 octets-segments zero [] count bytes = refl
-octets-segments zero (a ∷ o) count bytes = absurd (omega arith)
-octets-segments (suc n) [] count bytes = absurd (omega arith)
-octets-segments (suc n) (a ∷ []) count bytes = absurd (omega arith)
 octets-segments (suc n) (a ∷ b ∷ o) count bytes =
     let low : b < 256 = bytes 1 in
     let high : (a * 256 + b) / 256 ≡ a = omega arith in
     let rest : (a * 256 + b) % 256 ≡ b = omega arith in
     let others = octets-segments n o (omega arith) (λ (k : ℕ). bytes (suc (suc k))) in
     rw (high, rest, others) refl
+octets-segments n o count bytes = absurd (omega arith)
 
 segments-count : (n : ℕ) (o : List ℕ) → length o ≡ n + n → length (segments_of o) ≡ n
 segments-count zero [] count = refl
-segments-count zero (a ∷ o) count = absurd (omega arith)
-segments-count (suc n) [] count = absurd (omega arith)
-segments-count (suc n) (a ∷ []) count = absurd (omega arith)
 segments-count (suc n) (a ∷ b ∷ o) count = ap suc (segments-count n o (omega arith))
+segments-count n o count = absurd (omega arith)
 
 segments-fit : (n : ℕ) (o : List ℕ) → length o ≡ n + n → ((k : ℕ) → get_or o k 0 < 256) → (k : ℕ) → get_or (segments_of o) k 0 < 2 ^ 16
 segments-fit zero [] count bytes k = omega arith

@@ -11,11 +11,8 @@ use Rattle.std.specs.Prelude.{slice_get}
 pub flags_told : (xs ys : List NameValue) → length xs ≤ 2 → length ys ≤ 2
     → ordering_then (option_cmp flag_cmp (slice_get xs 0) (slice_get ys 0)) (option_cmp flag_cmp (slice_get xs 1) (slice_get ys 1)) ≡ flags_cmp (map (λ x. x.absolute) xs) (map (λ y. y.absolute) ys)
 flags_told [] [] p q = refl
-flags_told [] (y ∷ ys) p q = refl
-flags_told (x ∷ xs) [] p q = refl
 flags_told (x ∷ []) (y ∷ []) p q = refl
-flags_told (x ∷ []) (y ∷ y' ∷ ys) p q = refl
-flags_told (x ∷ x' ∷ xs) (y ∷ []) p q = refl
 flags_told (x ∷ x' ∷ []) (y ∷ y' ∷ []) p q = ap (ordering_then (flag_cmp x y)) (sym (then_Equal (flag_cmp x' y')))
 flags_told (x ∷ x' ∷ []) (y ∷ y' ∷ y'' ∷ ys) p q = absurd (omega arith)
 flags_told (x ∷ x' ∷ x'' ∷ xs) (y ∷ y' ∷ ys) p q = absurd (omega arith)
+flags_told xs ys p q = refl

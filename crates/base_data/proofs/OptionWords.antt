@@ -113,8 +113,6 @@ options_inside {B} {i} {e} inside (more {j = j} {x = x} word words) =
 -- options of the same bytes
 pub options_same : (xs ys : List OptionValue) → All FitsOption xs → All FitsOption ys → options_wire xs ≡ options_wire ys → xs ≡ ys
 options_same [] [] p q e = refl
-options_same [] (y ∷ ys) p q e = absurd (omega (arith, ap length e))
-options_same (x ∷ xs) [] p q e = absurd (omega (arith, ap length e))
 options_same (x ∷ xs) (y ∷ ys) p q e =
     let one = All-head FitsOption x xs p in
     let other = All-head FitsOption y ys q in
@@ -124,3 +122,4 @@ options_same (x ∷ xs) (y ∷ ys) p q e =
     let others = options_same xs ys (All-tail FitsOption x xs p) (All-tail FitsOption y ys q) parts.1 in
     let first : x ≡ y = λ i. record { code = code i; bytes = parts.0 i } in
     λ i. first i ∷ others i
+options_same xs ys p q e = absurd (omega (arith, ap length e))

@@ -22,14 +22,10 @@ use Rattle.std.specs.Prelude.{slice_get}
 -- lists of two at most are the same by their first and second items
 two_same : {A : Type 0} (xs ys : List A) → length xs ≤ 2 → length ys ≤ 2 → slice_get xs 0 ≡ slice_get ys 0 → slice_get xs 1 ≡ slice_get ys 1 → xs ≡ ys
 two_same [] [] p q e f = refl
-two_same [] (y ∷ ys) p q e f = cc
-two_same (x ∷ xs) [] p q e f = cc
 two_same (x ∷ []) (y ∷ []) p q e f = cc
-two_same (x ∷ []) (y ∷ y' ∷ ys) p q e f = cc
-two_same (x ∷ x' ∷ xs) (y ∷ []) p q e f = cc
-two_same (x ∷ x' ∷ []) (y ∷ y' ∷ []) p q e f = cc
 two_same (x ∷ x' ∷ []) (y ∷ y' ∷ y'' ∷ ys) p q e f = absurd (omega arith)
 two_same (x ∷ x' ∷ x'' ∷ xs) (y ∷ y' ∷ ys) p q e f = absurd (omega arith)
+two_same xs ys p q e f = cc
 
 name_is : (a b : NameValue) (xs ys : List NameValue) → a ∷ xs ≡ b ∷ ys → a ≡ b
 name_is a b xs ys e = cc

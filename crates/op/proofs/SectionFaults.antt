@@ -40,9 +40,7 @@ record IsBare (a u o : Bool) : Type 0 where
 
 bare : (a u o : Bool) → (a && not (u || o)) ≡ true → IsBare a u o
 bare true false false is = record { empty = refl; update = refl; opt = refl }
-bare true true o is = cc
-bare true false true is = cc
-bare false u o is = cc
+bare a u o is = cc
 
 from_bare : (a u o : Bool) → a ≡ true → u ≡ false → o ≡ false → (a && not (u || o)) ≡ true
 from_bare a u o p q r = rw (p, q, r) refl

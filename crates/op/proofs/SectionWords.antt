@@ -44,11 +44,8 @@ record NoFault (a b c d : Bool) : Type 0 where
   fourth : d ≡ false
 
 no_fault : (a b c d : Bool) (e f g h : DecodeError) → cond a (Some e) (cond b (Some f) (cond c (Some g) (cond d (Some h) None))) ≡ None → NoFault a b c d
-no_fault true b c d e f g h is = cc
-no_fault false true c d e f g h is = cc
-no_fault false false true d e f g h is = cc
-no_fault false false false true e f g h is = cc
 no_fault false false false false e f g h is = record { first = refl; second = refl; third = refl; fourth = refl }
+no_fault a b c d e f g h is = cc
 
 passes : (a b c d : Bool) (e f g h : DecodeError) → NoFault a b c d → cond a (Some e) (cond b (Some f) (cond c (Some g) (cond d (Some h) None))) ≡ None
 passes a b c d e f g h n = rw (n.first, n.second, n.third, n.fourth) refl
@@ -89,9 +86,8 @@ edns_after false false s r = refl
 
 signature_after : (o g : Bool) (s : SectionValue) (r : Record RData) → (g ≡ true → o ≡ false) → is_some (put o g s r).signature ≡ (g || is_some s.signature)
 signature_after true true s r apart = absurd (true≢false (apart refl))
-signature_after true false s r apart = refl
 signature_after false true s r apart = refl
-signature_after false false s r apart = refl
+signature_after o g s r apart = refl
 
 one_more : (o e : Bool) (r : Record RData) (fs : List (Record RData)) → (e && o) ≡ false → length fs + cond (o || e) 1 0 ≤ 1 → length (cond o (r ∷ fs) fs) + cond e 1 0 ≤ 1
 one_more true true r fs apart h = cc
@@ -107,9 +103,8 @@ one_less false e r fs h = h
 
 apart_of : (o e : Bool) (r : Record RData) (fs : List (Record RData)) → length (cond o (r ∷ fs) fs) + cond e 1 0 ≤ 1 → (e && o) ≡ false
 apart_of true true r fs h = absurd (omega (arith, h))
-apart_of true false r fs h = refl
 apart_of false true r fs h = refl
-apart_of false false r fs h = refl
+apart_of o e r fs h = refl
 
 -- ---- from the tests to what they say, and back
 
