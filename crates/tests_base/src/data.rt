@@ -9,7 +9,6 @@ mod reading;
 use base::{BinDecoder, Name, ParseError, RecordType};
 use base_data::{NULL, RData};
 use std::alloc::Global;
-use std::test::Fail;
 
 /// The name of a text.
 fn name(alloc: Global, text: &str) -> Result<Name, ParseError> {
@@ -29,20 +28,20 @@ enum Datum {
     Empty(RecordType),
 }
 
-/// The data of a row.
-fn make(alloc: Global, datum: Datum) -> Result<RData, Fail> {
+/// The data of a row; none where the row isn't read.
+fn make(alloc: Global, datum: Datum) -> Option<RData> {
     match datum {
         Datum::Wire(record_type, bytes) => {
             let len = bytes.len().min(65_535) as u16;
-            Ok(RData::read(&mut BinDecoder::new(alloc, bytes), record_type, len)?)
+            RData::read(&mut BinDecoder::new(alloc, bytes), record_type, len).ok()
         }
         Datum::Text(record_type, items) => {
-            Ok(RData::from_items(alloc, record_type, items, None)?)
+            RData::from_items(alloc, record_type, items, None).ok()
         }
         Datum::Carried(code, bytes) => {
-            let rdata = NULL::new(Vec::from_slice(alloc, bytes)?);
-            Ok(RData::Unknown { code, rdata })
+            let rdata = NULL::new(Vec::from_slice(alloc, bytes).ok()?);
+            Some(RData::Unknown { code, rdata })
         }
-        Datum::Empty(record_type) => Ok(RData::Update0(record_type)),
+        Datum::Empty(record_type) => Some(RData::Update0(record_type)),
     }
 }

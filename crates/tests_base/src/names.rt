@@ -9,9 +9,7 @@ use test_tools::forms::has_text;
 /// Reads the name at `at`, and answers the place after it too.
 fn read_at(alloc: Global, bytes: &[u8], at: usize) -> Result<(Name, usize), DecodeError> {
     let mut decoder = BinDecoder::new(alloc, bytes);
-    for _ in 0..at {
-        decoder.pop()?;
-    }
+    decoder.read_slice(at)?;
     let name = Name::read(&mut decoder)?;
     Ok((name, decoder.index()))
 }

@@ -125,12 +125,24 @@ fn record_types(rt: HostRuntime) {
         let is_type = is_type(rt.alloc(), record_type, number, text);
         assert!(rt; is_type && record_type.is_dnssec() == is_dnssec, "{text}");
     }
+}
+
+#[test]
+fn nameless_record_types(rt: HostRuntime) {
     for &(number, text) in NAMELESS_TYPES {
         assert!(rt; is_nameless_type(rt.alloc(), number, text), "{text}");
     }
+}
+
+#[test]
+fn texts_of_no_record_type(rt: HostRuntime) {
     for &text in NO_TYPES {
         assert!(rt; RecordType::from_text(text) == None, "{text}");
     }
+}
+
+#[test]
+fn record_types_in_order(rt: HostRuntime) {
     assert!(rt; ascends(ASCENDING_TYPES));
     assert!(rt; is_copied(RecordType::Unknown(7)));
     assert!(rt; RecordType::MX.max(RecordType::TXT) == RecordType::TXT);
@@ -208,15 +220,24 @@ fn classes(rt: HostRuntime) {
     for &(class, number, text) in CLASSES {
         assert!(rt; is_class(rt.alloc(), class, number, text), "{text}");
     }
-    assert!(rt; DNSClass::from_text("*") == Some(DNSClass::ANY));
+}
+
+#[test]
+fn nameless_classes(rt: HostRuntime) {
     for &(number, text) in NAMELESS_CLASSES {
         assert!(rt; is_nameless_class(rt.alloc(), number, text), "{text}");
     }
-    assert!(rt; has_text(rt.alloc(), &DNSClass::OPT(1232), "OPT"));
-    assert!(rt; prints(rt.alloc(), &DNSClass::OPT(512)));
+}
+
+#[test]
+fn texts_of_no_class(rt: HostRuntime) {
     for &text in NO_CLASSES {
         assert!(rt; DNSClass::from_text(text) == None, "{text}");
     }
+}
+
+#[test]
+fn classes_of_payloads(rt: HostRuntime) {
     for &(payload, size) in PAYLOADS {
         assert!(rt;
             DNSClass::for_opt(payload) == DNSClass::OPT(size),
@@ -224,6 +245,13 @@ fn classes(rt: HostRuntime) {
         );
         assert!(rt; u16::from(DNSClass::for_opt(payload)) == size, "{payload}");
     }
+}
+
+#[test]
+fn classes_in_order(rt: HostRuntime) {
+    assert!(rt; DNSClass::from_text("*") == Some(DNSClass::ANY));
+    assert!(rt; has_text(rt.alloc(), &DNSClass::OPT(1232), "OPT"));
+    assert!(rt; prints(rt.alloc(), &DNSClass::OPT(512)));
     assert!(rt; ascends(ASCENDING_CLASSES));
     assert!(rt; is_copied(DNSClass::OPT(512)));
     assert!(rt; DNSClass::IN.cmp(&DNSClass::ANY) == Ordering::Less);

@@ -8,7 +8,7 @@ mod names;
 mod rows;
 
 use base::{DecodeError, ProtoError};
-use messages::MESSAGES;
+use messages::{TABLES, messages_of};
 use op::Message;
 use std::alloc::Global;
 use std::test::Fail;
@@ -36,8 +36,10 @@ pub(crate) fn fault_of_text(alloc: Global, text: &str) -> Result<(u8, usize, usi
 
 #[test]
 fn hostile_messages_are_judged(rt: HostRuntime) -> Result<(), Fail> {
-    for &(what, number, text) in MESSAGES {
-        assert!(rt; fault_of_text(rt.alloc(), text)?.0 == number, "{what}");
+    for &table in TABLES {
+        for &(what, number, text) in messages_of(table) {
+            assert!(rt; fault_of_text(rt.alloc(), text)?.0 == number, "{what}");
+        }
     }
     Ok(())
 }

@@ -39,6 +39,10 @@ fn op_codes(rt: HostRuntime) {
         assert!(rt; u8::from(code) == number, "{number}");
         assert!(rt; has_text(rt.alloc(), &code, text), "{number}");
     }
+}
+
+#[test]
+fn op_codes_and_message_types_in_order(rt: HostRuntime) {
     assert!(rt; has_order(&OpCode::Update, &OpCode::Notify, Greater));
     assert!(rt; has_order(&OpCode::Update, &OpCode::Unknown(0), Less));
     assert!(rt; has_order(&MessageType::Query, &MessageType::Response, Less));
@@ -117,6 +121,10 @@ fn response_codes(rt: HostRuntime) {
         assert!(rt; is_numbered(number, code), "{number}");
         assert!(rt; is_called(rt.alloc(), code, name, text), "{number}");
     }
+}
+
+#[test]
+fn unknown_response_codes(rt: HostRuntime) {
     for &number in UNKNOWN {
         let code = ResponseCode::Unknown(number);
         assert!(rt; is_numbered(number, code), "{number}");
@@ -126,7 +134,11 @@ fn response_codes(rt: HostRuntime) {
         );
         assert!(rt; code.name().is_none(), "{number}");
     }
-    // BADVERS shares its number with BADSIG, and is written only
+}
+
+/// BADVERS shares its number with BADSIG, and is written only.
+#[test]
+fn response_codes_in_order(rt: HostRuntime) {
     assert!(rt; u16::from(ResponseCode::BADVERS) == 16);
     assert!(rt;
         is_called(
@@ -157,6 +169,10 @@ fn parts_of_response_codes(rt: HostRuntime) {
     assert!(rt; ResponseCode::default() == ResponseCode::NoError);
     assert!(rt; hash_alike(&ResponseCode::from(1, 3), &ResponseCode::BADMODE));
     assert!(rt; !hash_alike(&ResponseCode::BADVERS, &ResponseCode::BADSIG));
+}
+
+#[test]
+fn a_response_code_takes_the_high_part_over(rt: HostRuntime) {
     let mut metadata = Metadata::new(1, MessageType::Response, OpCode::Query);
     metadata.response_code = ResponseCode::NXDomain;
     metadata.merge_response_code(1);

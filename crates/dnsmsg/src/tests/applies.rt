@@ -95,8 +95,8 @@ const TEN_LEFT: &str =
      ns.example. 3600 IN A 192.0.2.1\nns2.example. 3600 IN A 192.0.2.2\nwww.example. 60 IN A 192.0.2.4\n\
      www.example. 60 IN A 192.0.2.7\nwww.example. 60 IN AAAA 2001:db8::4\n";
 
-/// Updates, the texts of zones, and what is printed of them.
-const APPLIED: &[Applied] = &[
+/// Updates, the texts of zones, and what is printed: sets that are swapped, created and deleted.
+const SETS: &[Applied] = &[
     // a set is swapped once
     (
         &[SWAP],
@@ -138,6 +138,10 @@ const APPLIED: &[Applied] = &[
         &[SOA_AND_NS, "@ 60 TXT x\nwww 300 A 192.0.2.1\n"],
         &["NoError\n", SHOWN, SHOWN_WWW],
     ),
+];
+
+/// The same: what stands beside a CNAME, what is deleted, and the last name server.
+const RULES: &[Applied] = &[
     // nothing stands beside a CNAME
     (
         &[CHANGE, "03777777 C00C 0001 0001 0000003C 0004 C0000201"],
@@ -190,6 +194,10 @@ const APPLIED: &[Applied] = &[
             SHOWN_WWW,
         ],
     ),
+];
+
+/// The same of ten changes.
+const TEN: &[Applied] = &[
     // ten changes after ten prerequisites
     (
         &[
@@ -219,6 +227,10 @@ const APPLIED: &[Applied] = &[
             "www.example. 300 IN A 192.0.2.9\n",
         ],
     ),
+];
+
+/// The same of messages that are no updates of the zone.
+const OTHERS: &[Applied] = &[
     // other messages
     (
         &[
@@ -247,6 +259,10 @@ const APPLIED: &[Applied] = &[
         &[SOA_AND_NS, WWW],
         &["FormErr\n", SHOWN, SHOWN_WWW],
     ),
+];
+
+/// The same of a prerequisite or a change that stands alone.
+const ALONE: &[Applied] = &[
     // a prerequisite or a change that stands alone
     (
         &[ASK, "0178 C00C 00FF 00FF 00000000 0000"],
@@ -311,12 +327,37 @@ fn leaves(
     parts_give(rt, &["apply", "example.", &update], text, 0, printed)
 }
 
-#[test]
-fn rows_of_updates(rt: HostRuntime) -> Result<(), AllocError> {
-    for &(update, text, printed) in APPLIED {
-        leaves(&rt, update, text, printed)?;
+/// Each row leaves what it says.
+fn all_leave(rt: &(impl Abort + AllocGlobal), rows: &[Applied]) -> Result<(), AllocError> {
+    for &(update, text, printed) in rows {
+        leaves(rt, update, text, printed)?;
     }
     Ok(())
+}
+
+#[test]
+fn updates_of_sets(rt: HostRuntime) -> Result<(), AllocError> {
+    all_leave(&rt, SETS)
+}
+
+#[test]
+fn updates_and_the_rules_of_a_zone(rt: HostRuntime) -> Result<(), AllocError> {
+    all_leave(&rt, RULES)
+}
+
+#[test]
+fn updates_of_ten_changes(rt: HostRuntime) -> Result<(), AllocError> {
+    all_leave(&rt, TEN)
+}
+
+#[test]
+fn messages_that_are_no_updates_of_the_zone(rt: HostRuntime) -> Result<(), AllocError> {
+    all_leave(&rt, OTHERS)
+}
+
+#[test]
+fn updates_of_one_record(rt: HostRuntime) -> Result<(), AllocError> {
+    all_leave(&rt, ALONE)
 }
 
 /// Words and texts that are refused.

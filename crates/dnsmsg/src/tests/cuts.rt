@@ -30,8 +30,8 @@ const SAME_OWNER: &str = "000880000001000100000001\
     2878787878787878787878787878787878787878787878787878787878787878787878787878787878\
     c013000100010000003c0004c0000201";
 
-/// Messages, limits, and what is printed.
-const ROWS: &[Row] = &[
+/// Limits of the first response, and what is printed.
+const OF_WWW: &[Row] = &[
     // a message under limits
     (&["cut", "65535"], &[WWW], 0, &[WWW, "\n"]),
     (&["cut", "49"], &[WWW], 0, &[WWW, "\n"]),
@@ -49,12 +49,20 @@ const ROWS: &[Row] = &[
         0,
         &[WWW, "\n"],
     ),
+];
+
+/// Words that name no limit.
+const WORDS: &[Row] = &[
     // wrong words
     (&["cut", "65536"], &[WWW], 2, USAGE),
     (&["cut"], &[WWW], 2, USAGE),
     (&["cut", "x"], &[WWW], 2, USAGE),
     (&["cut", "+5"], &[WWW], 2, USAGE),
     (&["cut", "5", "6"], &[WWW], 2, USAGE),
+];
+
+/// Messages, and what is printed: owners, updates and suffixes.
+const COMPRESSED: &[Row] = &[
     // a second owner is a pointer
     (
         CUT,
@@ -106,6 +114,10 @@ const ROWS: &[Row] = &[
         0,
         &["0000000000010000000000000000010001\n"],
     ),
+];
+
+/// Limits, and what is printed: the bytes of cuts, and whole messages.
+const CUTS: &[Row] = &[
     // bytes of cuts
     (
         &["cut", "47"],
@@ -133,8 +145,23 @@ const ROWS: &[Row] = &[
 ];
 
 #[test]
-fn rows_of_cuts(rt: HostRuntime) -> Result<(), AllocError> {
-    all_give(&rt, ROWS)
+fn cuts_of_a_response(rt: HostRuntime) -> Result<(), AllocError> {
+    all_give(&rt, OF_WWW)
+}
+
+#[test]
+fn limits_that_are_none(rt: HostRuntime) -> Result<(), AllocError> {
+    all_give(&rt, WORDS)
+}
+
+#[test]
+fn cuts_that_write_pointers(rt: HostRuntime) -> Result<(), AllocError> {
+    all_give(&rt, COMPRESSED)
+}
+
+#[test]
+fn bytes_of_cuts(rt: HostRuntime) -> Result<(), AllocError> {
+    all_give(&rt, CUTS)
 }
 
 /// The status and the output under a limit.

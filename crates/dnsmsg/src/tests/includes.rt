@@ -66,6 +66,10 @@ const INCLUDED: &[Row] = &[
         &["$ORIGIN a.\nx.a. 5 IN A 192.0.2.1\n"],
     ),
     (&["zone", "a."], &["$INCLUDE\n"], 1, &["refused 17\n"]),
+];
+
+/// The same: what stays after an included text, and what is in force within it.
+const STAYING: &[Row] = &[
     // the origin stays within an included text; its last owner, class, default and last TTL go on after it
     (
         &["zone", "a.", "f=$ORIGIN b.\ny 6 A 192.0.2.2\n"],
@@ -113,6 +117,11 @@ const INCLUDED: &[Row] = &[
 #[test]
 fn rows_of_included_texts(rt: HostRuntime) -> Result<(), AllocError> {
     all_give(&rt, INCLUDED)
+}
+
+#[test]
+fn rows_of_what_stays_after_an_included_text(rt: HostRuntime) -> Result<(), AllocError> {
+    all_give(&rt, STAYING)
 }
 
 /// A text of a chain: its name, and what it includes.

@@ -82,6 +82,10 @@ example. 300 IN MX 10 mail.example.
 ",
         ],
     ),
+];
+
+/// Messages with EDNS or without records, updates, and a pointer to the header.
+const CODES: &[Row] = &[
     // the code has the bits of EDNS
     (
         READ,
@@ -175,7 +179,7 @@ const EXCHANGE: &str =
 
 const MAIL: &str = "00 0A 04 6D 61 69 6C C0 0C";
 
-/// Inputs that are refused.
+/// Inputs that are refused: no text of bytes, data, and the sections of records.
 const REFUSED: &[Row] = &[
     // other text
     (READ, &["0g"], 1, &["refused 24\n"]),
@@ -204,6 +208,10 @@ const REFUSED: &[Row] = &[
     (READ, &[ADDITIONALS, A, SIGN, A], 1, &["refused 11\n"]),
     (READ, &[ADDITIONALS, A, SIGN, EMPTY_A], 1, &["refused 10\n"]),
     (READ, &[ADDITIONALS, OPT, SIGN, OPT], 1, &["refused 11\n"]),
+];
+
+/// The same: empty records, questions, and messages with more than one fault, of which the first is answered.
+const FAULTS: &[Row] = &[
     // empty records stand in updates
     (
         READ,
@@ -252,6 +260,16 @@ fn rows_of_messages(rt: HostRuntime) -> Result<(), AllocError> {
 }
 
 #[test]
+fn rows_of_codes_and_updates(rt: HostRuntime) -> Result<(), AllocError> {
+    all_give(&rt, CODES)
+}
+
+#[test]
 fn rows_of_refused_messages(rt: HostRuntime) -> Result<(), AllocError> {
     all_give(&rt, REFUSED)
+}
+
+#[test]
+fn rows_of_refused_questions_and_records(rt: HostRuntime) -> Result<(), AllocError> {
+    all_give(&rt, FAULTS)
 }

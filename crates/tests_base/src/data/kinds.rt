@@ -176,14 +176,13 @@ fn strings(rt: HostRuntime) {
 
 /// Whether a text has those strings, and no more.
 fn has_strings(text: &TXT) -> bool {
-    let mut expected = STRINGS.iter();
-    for string in text.strings() {
-        match expected.next() {
-            Some(next) if string == *next => {}
-            _ => return false,
+    let mut strings = text.strings();
+    for expected in &STRINGS {
+        if strings.next() != Some(*expected) {
+            return false;
         }
     }
-    expected.next().is_none()
+    strings.next().is_none()
 }
 
 /// Whether a text that has those strings is read.
@@ -326,22 +325,23 @@ fn fill<T: BinDecodable + PartialEq>(alloc: Global, values: &[&T], wire: &[u8]) 
     decoder.is_empty()
 }
 
+/// Two values, if they could be made.
+type Two<T> = (Result<T, ParseError>, Result<T, ParseError>);
+
 /// Whether two values could be made, are written one after another as these bytes, and are read of them.
 fn have_wire<T: BinEncodable + BinDecodable + PartialEq + Drop>(
     alloc: Global,
-    first: Result<T, ParseError>,
-    second: Result<T, ParseError>,
+    made: Two<T>,
     wire: &[u8],
 ) -> bool {
-    let have_wire = match (&first, &second) {
+    let have_wire = match &made {
         (Ok(first), Ok(second)) => {
             let values = [first, second];
             are_written_as(alloc, &values, wire) && fill(alloc, &values, wire)
         }
         _ => false,
     };
-    drop(first);
-    drop(second);
+    drop(made);
     have_wire
 }
 
@@ -349,45 +349,43 @@ fn have_wire<T: BinEncodable + BinDecodable + PartialEq + Drop>(
 #[test]
 fn two_in_a_row(rt: HostRuntime) {
     let alloc = rt.alloc();
-    let (first, second) = (
+    let hosts = (
         mail_host(alloc, 10, "mail.example."),
         mail_host(alloc, 256, "example."),
     );
-    assert!(rt;
-        have_wire(
-            alloc,
-            first,
-            second,
-            b"\0\x0A\x04mail\x07example\0\x01\0\xC0\x07"
-        )
-    );
+    assert!(rt; have_wire(alloc, hosts, b"\0\x0A\x04mail\x07example\0\x01\0\xC0\x07"));
     let twice = b"\x02ns\x07example\0\x0Ahostmaster\xC0\x03\
         \0\0\0\x01\0\0\x1C\x20\0\0\x0E\x10\0\x12\x75\0\0\0\x01\x2C\
         \xC0\x00\xC0\x0C\0\0\0\x01\0\0\x1C\x20\0\0\x0E\x10\0\x12\x75\0\0\0\x01\x2C";
-    assert!(rt; have_wire(alloc, soa(alloc), soa(alloc), twice));
+    assert!(rt; have_wire(alloc, (soa(alloc), soa(alloc)), twice));
     let twice = b"\0\x01\0\x02\x01\xBB\x01w\x01a\0\0\x01\0\x02\x01\xBB\x01w\x01a\0";
-    assert!(rt; have_wire(alloc, service(alloc), service(alloc), twice));
+    assert!(rt; have_wire(alloc, (service(alloc), service(alloc)), twice));
+}
+
+#[test]
+fn two_names_in_a_row(rt: HostRuntime) {
+    let alloc = rt.alloc();
     let (pointed, plain) = (b"\x01a\0\xC0\x00", b"\x01a\0\x01a\0");
-    let (first, second) = (
+    let servers = (
         name(alloc, "a.").map(NS::new),
         name(alloc, "a.").map(NS::new),
     );
-    assert!(rt; have_wire(alloc, first, second, pointed));
-    let (first, second) = (
+    assert!(rt; have_wire(alloc, servers, pointed));
+    let aliases = (
         name(alloc, "a.").map(CNAME::new),
         name(alloc, "a.").map(CNAME::new),
     );
-    assert!(rt; have_wire(alloc, first, second, pointed));
-    let (first, second) = (
+    assert!(rt; have_wire(alloc, aliases, pointed));
+    let pointers = (
         name(alloc, "a.").map(PTR::new),
         name(alloc, "a.").map(PTR::new),
     );
-    assert!(rt; have_wire(alloc, first, second, pointed));
-    let (first, second) = (
+    assert!(rt; have_wire(alloc, pointers, pointed));
+    let addressed = (
         name(alloc, "a.").map(ANAME::new),
         name(alloc, "a.").map(ANAME::new),
     );
-    assert!(rt; have_wire(alloc, first, second, plain));
+    assert!(rt; have_wire(alloc, addressed, plain));
 }
 
 /// Whether data is empty, of the type of mail hosts, and no mail host.

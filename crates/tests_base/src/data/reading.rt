@@ -7,7 +7,6 @@ use base::{BinDecodable, BinDecoder, DecodeError, RecordType};
 use base_data::{A, MX, RData, RecordData, SOA, SRV};
 use std::alloc::{AllocError, Global};
 use std::net::Ipv4Addr;
-use std::test::Fail;
 use test_tools::forms::{has_text, read};
 
 /// The texts of the table of kinds: each kind once, with no byte of it left to chance.
@@ -42,22 +41,24 @@ const PRINTED: &[(RecordType, &'static [u8], &'static str)] = &[
 ];
 
 /// Whether data is made that has this text.
-fn is_shown_as(alloc: Global, datum: Datum, text: &str) -> Result<bool, Fail> {
-    let data = make(alloc, datum)?;
-    let is_shown = has_text(alloc, &data, text);
+fn is_shown_as(alloc: Global, datum: Datum, text: &str) -> bool {
+    let data = make(alloc, datum);
+    let is_shown = match &data {
+        Some(data) => has_text(alloc, data, text),
+        None => false,
+    };
     drop(data);
-    Ok(is_shown)
+    is_shown
 }
 
 #[test]
-fn every_kind_prints(rt: HostRuntime) -> Result<(), Fail> {
+fn every_kind_prints(rt: HostRuntime) {
     for &(record_type, wire, text) in PRINTED {
         assert!(rt;
-            is_shown_as(rt.alloc(), Wire(record_type, wire), text)?,
+            is_shown_as(rt.alloc(), Wire(record_type, wire), text),
             "{text}"
         );
     }
-    Ok(())
 }
 
 /// Twelve zero bytes and a name `a.`; after them a preference, a name that ends in a pointer, and a byte more.
@@ -75,9 +76,7 @@ fn read_at(
     len: u16,
 ) -> Result<RData, DecodeError> {
     let mut decoder = BinDecoder::new(alloc, bytes);
-    for _ in 0..at {
-        decoder.pop()?;
-    }
+    decoder.read_slice(at)?;
     RData::read(&mut decoder, record_type, len)
 }
 
@@ -88,16 +87,14 @@ fn is_read(
     record_type: RecordType,
     len: u16,
     wanted: Datum,
-) -> Result<bool, Fail> {
-    let wanted = make(alloc, wanted)?;
-    let found = read_at(alloc, bytes, record_type, len);
-    let same = match &found {
-        Ok(found) => *found == wanted,
-        Err(_) => false,
+) -> bool {
+    let data = (make(alloc, wanted), read_at(alloc, bytes, record_type, len));
+    let same = match &data {
+        (Some(wanted), Ok(found)) => found == wanted,
+        _ => false,
     };
-    drop(found);
-    drop(wanted);
-    Ok(same)
+    drop(data);
+    same
 }
 
 /// Bytes and a place, a type and a length, and the data there.
@@ -150,13 +147,17 @@ fn is_bad(read: Result<RData, DecodeError>, record_type: RecordType) -> bool {
 }
 
 #[test]
-fn data_fills_its_length(rt: HostRuntime) -> Result<(), Fail> {
+fn data_is_read_by_its_length(rt: HostRuntime) {
     for &(bytes, at, record_type, len, wanted) in READ {
         assert!(rt;
-            is_read(rt.alloc(), (bytes, at), record_type, len, wanted)?,
+            is_read(rt.alloc(), (bytes, at), record_type, len, wanted),
             "{record_type} of {len}"
         );
     }
+}
+
+#[test]
+fn data_fills_its_length(rt: HostRuntime) {
     for &(bytes, at, record_type, len) in OTHER_LENGTHS {
         assert!(rt;
             is_bad(
@@ -166,7 +167,6 @@ fn data_fills_its_length(rt: HostRuntime) -> Result<(), Fail> {
             "{record_type} of {len}"
         );
     }
-    Ok(())
 }
 
 /// Whether this data is read next, from `len` bytes.

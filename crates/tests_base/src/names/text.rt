@@ -71,29 +71,46 @@ fn names_of_texts(rt: HostRuntime) {
     }
 }
 
-/// Texts under the origin `Example.com.`, and how the names print that are read of them.
-const COMPLETED: &[(&'static str, &'static str)] = &[
-    ("www", "www.Example.com."),
-    ("a.b", "a.b.Example.com."),
-    ("www.", "www."),
-    (".", "."),
-    ("@", "Example.com."),
-    ("@.", r"\@."),
-    (r"\@", r"\@.Example.com."),
+/// Origins, texts under them, and how the names print that are read of these.
+const COMPLETED: &[(&'static str, &'static str, &'static str)] = &[
+    ("Example.com.", "www", "www.Example.com."),
+    ("Example.com.", "a.b", "a.b.Example.com."),
+    ("Example.com.", "www.", "www."),
+    ("Example.com.", ".", "."),
+    ("Example.com.", "@", "Example.com."),
+    ("Example.com.", "@.", r"\@."),
+    ("Example.com.", r"\@", r"\@.Example.com."),
+    (".", "a", "a."),
 ];
 
-#[test]
-fn names_under_an_origin(rt: HostRuntime) -> Result<(), ParseError> {
-    let origin = name(rt.alloc(), "Example.com.")?;
-    for &(text, printed) in COMPLETED {
-        assert!(rt; prints(rt.alloc(), text, Some(&origin), printed), "{text}");
-    }
-    assert!(rt; refusal(rt.alloc(), "", Some(&origin)) == 23);
+/// Whether a text under an origin is read and prints as another.
+fn prints_under(alloc: Global, origin: &str, text: &str, printed: &str) -> bool {
+    let origin = name(alloc, origin);
+    let is_printed = match &origin {
+        Ok(origin) => prints(alloc, text, Some(origin), printed),
+        Err(_) => false,
+    };
     drop(origin);
-    let root = Name::root(rt.alloc());
-    assert!(rt; prints(rt.alloc(), "a", Some(&root), "a."));
-    drop(root);
-    Ok(())
+    is_printed
+}
+
+/// The number of the refusal of a text under an origin; 0 where a name is read or the origin isn't.
+fn refusal_under(alloc: Global, origin: &str, text: &str) -> u8 {
+    let origin = name(alloc, origin);
+    let number = match &origin {
+        Ok(origin) => refusal(alloc, text, Some(origin)),
+        Err(_) => 0,
+    };
+    drop(origin);
+    number
+}
+
+#[test]
+fn names_under_an_origin(rt: HostRuntime) {
+    for &(origin, text, printed) in COMPLETED {
+        assert!(rt; prints_under(rt.alloc(), origin, text, printed), "{text}");
+    }
+    assert!(rt; refusal_under(rt.alloc(), "Example.com.", "") == 23);
 }
 
 /// Whether a text is read as a name of these labels, as the root if it is complete.
@@ -117,61 +134,56 @@ fn labels_of_texts(rt: HostRuntime) {
     assert!(rt; reads_as(rt.alloc(), ".", true, &[]));
 }
 
-/// Appends labels with these numbers of letters, with a dot after each.
-fn push_labels(text: &mut String, lens: &[usize]) -> Result<(), AllocError> {
-    for len in lens {
-        for _ in 0..*len {
-            text.push('a')?;
-        }
-        text.push('.')?;
-    }
-    Ok(())
+/// The length of a text in parts, and the number of its refusal; 0 where it is read.
+fn refusal_of_long(alloc: Global, parts: &[&str]) -> Result<(usize, u8), AllocError> {
+    let text = parts.concat(alloc)?;
+    let said = (text.len(), refusal(alloc, &text, None));
+    drop(text);
+    Ok(said)
 }
 
-/// The number of the refusal of labels with these numbers of letters; 0 where they are read.
-fn refusal_of_long(alloc: Global, lens: &[usize]) -> Result<u8, AllocError> {
-    let mut text = String::new(alloc);
-    push_labels(&mut text, lens)?;
-    let number = refusal(alloc, &text, None);
-    drop(text);
-    Ok(number)
-}
-
-/// The same of one label under an origin of three long ones.
-fn refusal_under_long(alloc: Global, label: &str) -> Result<u8, ParseError> {
-    let mut text = String::new(alloc);
-    push_labels(&mut text, &[63, 63, 63])?;
-    let origin = name(alloc, &text);
-    drop(text);
-    let origin = origin?;
-    let number = refusal(alloc, label, Some(&origin));
+/// The number of the refusal of one label under an origin of three long ones.
+fn refusal_under_long(alloc: Global, label: &str) -> Result<u8, AllocError> {
+    let origin = [L63, ".", L63, ".", L63, "."].concat(alloc)?;
+    let number = refusal_under(alloc, &origin, label);
     drop(origin);
     Ok(number)
 }
 
-/// Lengths of labels, and the number of the refusal; 0 where they are read.
-const LONG: &[(&'static [usize], u8)] = &[
-    (&[63], 0),
-    (&[64], 23),
-    (&[63, 63, 63, 61], 0),
-    (&[63, 63, 63, 62], 23),
-    (&[63, 63, 63, 63], 23),
-];
+/// Labels of 61 to 64 letters.
+const L61: &str = "aaaaaaaaaaaaaaaaaaaaaaaaaaaaaaaaaaaaaaaaaaaaaaaaaaaaaaaaaaaaa";
 
-/// Labels of 61 and of 62 letters.
-const LABELS: [&str; 2] = [
-    "aaaaaaaaaaaaaaaaaaaaaaaaaaaaaaaaaaaaaaaaaaaaaaaaaaaaaaaaaaaaa",
-    "aaaaaaaaaaaaaaaaaaaaaaaaaaaaaaaaaaaaaaaaaaaaaaaaaaaaaaaaaaaaaa",
+const L62: &str = "aaaaaaaaaaaaaaaaaaaaaaaaaaaaaaaaaaaaaaaaaaaaaaaaaaaaaaaaaaaaaa";
+
+const L63: &str = "aaaaaaaaaaaaaaaaaaaaaaaaaaaaaaaaaaaaaaaaaaaaaaaaaaaaaaaaaaaaaaa";
+
+const L64: &str = "aaaaaaaaaaaaaaaaaaaaaaaaaaaaaaaaaaaaaaaaaaaaaaaaaaaaaaaaaaaaaaaa";
+
+/// Labels with a dot after each, how long they are, and the number of the refusal; 0 where they are read.
+const LONG: &[(&'static [&'static str], usize, u8)] = &[
+    (&[L63, "."], 64, 0),
+    (&[L64, "."], 65, 23),
+    (&[L63, ".", L63, ".", L63, ".", L61, "."], 254, 0),
+    (&[L63, ".", L63, ".", L63, ".", L62, "."], 255, 23),
+    (&[L63, ".", L63, ".", L63, ".", L63, "."], 256, 23),
 ];
 
 #[test]
-fn lengths_of_names(rt: HostRuntime) -> Result<(), ParseError> {
-    for &(lens, number) in LONG {
-        assert!(rt; refusal_of_long(rt.alloc(), lens)? == number, "{lens:?}");
+fn lengths_of_names(rt: HostRuntime) -> Result<(), AllocError> {
+    for &(labels, len, number) in LONG {
+        assert!(rt;
+            refusal_of_long(rt.alloc(), labels)? == (len, number),
+            "{len}"
+        );
     }
-    assert!(rt; LABELS[0].len() == 61 && LABELS[1].len() == 62);
-    assert!(rt; refusal_under_long(rt.alloc(), LABELS[0])? == 0);
-    assert!(rt; refusal_under_long(rt.alloc(), LABELS[1])? == 23);
+    Ok(())
+}
+
+#[test]
+fn lengths_of_names_under_an_origin(rt: HostRuntime) -> Result<(), AllocError> {
+    assert!(rt; L61.len() == 61 && L62.len() == 62);
+    assert!(rt; refusal_under_long(rt.alloc(), L61)? == 0);
+    assert!(rt; refusal_under_long(rt.alloc(), L62)? == 23);
     Ok(())
 }
 
@@ -191,57 +203,56 @@ fn compare(alloc: Global, one: &str, other: &str) -> Option<(Ordering, bool, boo
     compared
 }
 
-/// Whether the names of two texts have this order.
-fn have_order(alloc: Global, one: &str, other: &str, order: Ordering) -> bool {
+/// How two names stand to each other.
+#[derive(Clone, Copy)]
+enum Relation {
+    /// They are equal and hash alike.
+    Equal,
+    Unequal,
+    /// The first has this order before the second.
+    Ordered(Ordering),
+    /// The first is a zone of the second, or isn't.
+    Zone(bool),
+}
+
+/// Whether the names of two texts stand so to each other.
+fn stand(alloc: Global, one: &str, other: &str, relation: Relation) -> bool {
     match compare(alloc, one, other) {
-        Some((found, _, _, _)) => found == order,
+        Some((order, are_equal, are_alike, is_zone)) => match relation {
+            Relation::Equal => are_equal && are_alike,
+            Relation::Unequal => !are_equal,
+            Relation::Ordered(wanted) => order == wanted,
+            Relation::Zone(wanted) => is_zone == wanted,
+        },
         None => false,
     }
 }
 
-/// Whether the names of two texts are equal and hash alike, or are not equal.
-fn are_equal(alloc: Global, one: &str, other: &str, equal: bool) -> bool {
-    match compare(alloc, one, other) {
-        Some((_, found, alike, _)) => found == equal && (alike || !equal),
-        None => false,
-    }
-}
-
-/// Whether the name of a text lies in the zone of another, or doesn't.
-fn lies_in(alloc: Global, zone: &str, inner: &str, holds: bool) -> bool {
-    match compare(alloc, zone, inner) {
-        Some((_, _, _, found)) => found == holds,
-        None => false,
-    }
-}
-
-/// Texts of names that aren't equal.
-const UNEQUAL: &[(&'static str, &'static str)] = &[
-    ("a.", "a"),
-    ("a.", "b."),
-    ("a.b.", r"a\.b."),
-    ("[.", "{."),
-    ("@.", "`."),
-    (r"\192.", r"\224."),
-    ("a.", "a.a."),
-];
-
-/// Zones, names, and whether these lie in those.
-const ZONES: &[(&'static str, &'static str, bool)] = &[
-    ("com.", "www.example.COM.", true),
-    ("Example.com.", "www.example.COM.", true),
-    ("www.example.com.", "www.example.com.", true),
-    ("www.example.com.", "com.", false),
-    (".", "a.", true),
-    (".", ".", true),
-    (".", "a", true),
-    ("a.", ".", false),
-    ("com", "example.com.", true),
-    ("com.", "example.com", true),
-    ("ple.com.", "example.com.", false),
-    ("www.", "www.com.", false),
-    ("a.com.", "b.com.", false),
-    ("b.com.", r"a\.b.com.", false),
+/// Texts of names, and how these stand to each other.
+const RELATIONS: &[(&'static str, &'static str, Relation)] = &[
+    ("WWW.a.", "www.A.", Relation::Equal),
+    ("A.b.", "a.B.", Relation::Ordered(Ordering::Equal)),
+    ("a.", "a", Relation::Unequal),
+    ("a.", "b.", Relation::Unequal),
+    ("a.b.", r"a\.b.", Relation::Unequal),
+    ("[.", "{.", Relation::Unequal),
+    ("@.", "`.", Relation::Unequal),
+    (r"\192.", r"\224.", Relation::Unequal),
+    ("a.", "a.a.", Relation::Unequal),
+    ("com.", "www.example.COM.", Relation::Zone(true)),
+    ("Example.com.", "www.example.COM.", Relation::Zone(true)),
+    ("www.example.com.", "www.example.com.", Relation::Zone(true)),
+    ("www.example.com.", "com.", Relation::Zone(false)),
+    (".", "a.", Relation::Zone(true)),
+    (".", ".", Relation::Zone(true)),
+    (".", "a", Relation::Zone(true)),
+    ("a.", ".", Relation::Zone(false)),
+    ("com", "example.com.", Relation::Zone(true)),
+    ("com.", "example.com", Relation::Zone(true)),
+    ("ple.com.", "example.com.", Relation::Zone(false)),
+    ("www.", "www.com.", Relation::Zone(false)),
+    ("a.com.", "b.com.", Relation::Zone(false)),
+    ("b.com.", r"a\.b.com.", Relation::Zone(false)),
 ];
 
 /// Relative names first; then the example of RFC 4034, 6.1.
@@ -267,22 +278,26 @@ const ASCENDING: &[&'static str] = &[
 
 #[test]
 fn names_compared(rt: HostRuntime) {
-    assert!(rt; are_equal(rt.alloc(), "WWW.a.", "www.A.", true));
-    assert!(rt; have_order(rt.alloc(), "A.b.", "a.B.", Ordering::Equal));
-    for &(one, other) in UNEQUAL {
-        assert!(rt; are_equal(rt.alloc(), one, other, false), "{one} {other}");
+    for &(one, other, relation) in RELATIONS {
+        assert!(rt; stand(rt.alloc(), one, other, relation), "{one} {other}");
     }
-    for &(zone, inner, holds) in ZONES {
-        assert!(rt; lies_in(rt.alloc(), zone, inner, holds), "{zone} {inner}");
-    }
-    for (i, one) in ASCENDING.iter().enumerate() {
-        for (j, other) in ASCENDING.iter().enumerate() {
-            assert!(rt;
-                have_order(rt.alloc(), one, other, i.cmp(&j)),
-                "{one} {other}"
-            );
+}
+
+/// Whether each name stands before those that come after it.
+fn ascend(alloc: Global, texts: &[&str]) -> bool {
+    for (i, one) in texts.iter().enumerate() {
+        for (j, other) in texts.iter().enumerate() {
+            if !stand(alloc, one, other, Relation::Ordered(i.cmp(&j))) {
+                return false;
+            }
         }
     }
+    true
+}
+
+#[test]
+fn names_in_their_order(rt: HostRuntime) {
+    assert!(rt; ascend(rt.alloc(), ASCENDING));
 }
 
 /// The lowered name that a text reads as.
@@ -296,30 +311,29 @@ fn lower(alloc: Global, text: &str) -> Result<LowerName, ParseError> {
     }
 }
 
-/// The order of the keys of two texts and types, and whether they are equal.
-fn compare_keys(
-    alloc: Global,
-    one: (&str, RecordType),
-    other: (&str, RecordType),
-) -> Result<(Ordering, bool), ParseError> {
-    let first = RrKey::new(lower(alloc, one.0)?, one.1);
-    match lower(alloc, other.0) {
-        Ok(owner) => {
-            let second = RrKey::new(owner, other.1);
-            let said = (first.cmp(&second), first == second);
-            drop(first);
-            drop(second);
-            Ok(said)
+/// A text of a name, and a type.
+type Key = (&'static str, RecordType);
+
+/// The key of a text and a type.
+fn key(alloc: Global, (text, record_type): Key) -> Result<RrKey, ParseError> {
+    Ok(RrKey::new(lower(alloc, text)?, record_type))
+}
+
+/// Whether the keys of two texts and types have this order, and are equal only where that is equality.
+fn have_order(alloc: Global, one: Key, other: Key, order: Ordering) -> bool {
+    let keys = (key(alloc, one), key(alloc, other));
+    let same = match &keys {
+        (Ok(first), Ok(second)) => {
+            first.cmp(second) == order && (first == second) == (order == Ordering::Equal)
         }
-        Err(e) => {
-            drop(first);
-            Err(e)
-        }
-    }
+        _ => false,
+    };
+    drop(keys);
+    same
 }
 
 /// Keys in their order.
-const ASCENDING_KEYS: &[(&'static str, RecordType)] = &[
+const ASCENDING_KEYS: &[Key] = &[
     ("z", RecordType::ANY),
     ("A.", RecordType::A),
     ("a.", RecordType::NS),
@@ -327,21 +341,23 @@ const ASCENDING_KEYS: &[(&'static str, RecordType)] = &[
     ("b.", RecordType::A),
 ];
 
-#[test]
-fn keys(rt: HostRuntime) -> Result<(), ParseError> {
-    for (i, &one) in ASCENDING_KEYS.iter().enumerate() {
-        for (j, &other) in ASCENDING_KEYS.iter().enumerate() {
-            assert!(rt;
-                compare_keys(rt.alloc(), one, other)?.0 == i.cmp(&j),
-                "{} {}",
-                one.0,
-                other.0
-            );
+/// Whether each key stands before those that come after it.
+fn keys_ascend(alloc: Global, keys: &[Key]) -> bool {
+    for (i, &one) in keys.iter().enumerate() {
+        for (j, &other) in keys.iter().enumerate() {
+            if !have_order(alloc, one, other, i.cmp(&j)) {
+                return false;
+            }
         }
     }
+    true
+}
+
+#[test]
+fn keys(rt: HostRuntime) {
     let (one, other) = (("A.b.", RecordType::MX), ("a.B.", RecordType::MX));
-    assert!(rt; compare_keys(rt.alloc(), one, other)?.1);
-    Ok(())
+    assert!(rt; keys_ascend(rt.alloc(), ASCENDING_KEYS));
+    assert!(rt; have_order(rt.alloc(), one, other, Ordering::Equal));
 }
 
 #[test]

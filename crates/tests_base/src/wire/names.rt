@@ -114,6 +114,10 @@ const ROWS: &[Row] = &[
         16_383,
         b"\x01a\0\xFF\xFF",
     ),
+];
+
+/// Names under a limit, plain names, names after their length, and names among many.
+const MORE_ROWS: &[Row] = &[
     // the limit is reached
     (
         &[(Limit(9), 0), (Name(AB), 0), (Name(b"\x01c\x01b\0"), 0)],
@@ -174,6 +178,13 @@ const ROWS: &[Row] = &[
 #[test]
 fn rows_of_names(rt: HostRuntime) {
     for &(steps, from, wanted) in ROWS {
+        assert!(rt; leave(rt.alloc(), steps, from, wanted), "{wanted:?}");
+    }
+}
+
+#[test]
+fn more_rows_of_names(rt: HostRuntime) {
+    for &(steps, from, wanted) in MORE_ROWS {
         assert!(rt; leave(rt.alloc(), steps, from, wanted), "{wanted:?}");
     }
 }

@@ -1,6 +1,6 @@
 //! Hostile and well made messages, cut at every length and with every byte changed.
 
-use super::messages::MESSAGES;
+use super::messages::{TABLES, messages_of};
 use super::rows::ROWS;
 use base::{BinEncoder, ProtoError};
 use op::Message;
@@ -76,8 +76,10 @@ fn all_are_answered(alloc: Global, text: &str) -> Result<bool, Fail> {
 
 #[test]
 fn hostile_messages_are_answered_however_changed(rt: HostRuntime) -> Result<(), Fail> {
-    for &(what, _, text) in MESSAGES {
-        assert!(rt; all_are_answered(rt.alloc(), text)?, "{what}");
+    for &table in TABLES {
+        for &(what, _, text) in messages_of(table) {
+            assert!(rt; all_are_answered(rt.alloc(), text)?, "{what}");
+        }
     }
     Ok(())
 }

@@ -4,7 +4,10 @@
 //! the buffer ends in with 4, and data that it ends in with 7.
 
 /// What is hostile, the number, and the message in hexadecimal.
-pub(super) const MESSAGES: &[(&'static str, u8, &'static str)] = &[
+pub(super) type Row = (&'static str, u8, &'static str);
+
+/// Pointers of names.
+const POINTERS: &[Row] = &[
     (
         "a pointer to itself",
         5,
@@ -65,6 +68,10 @@ pub(super) const MESSAGES: &[(&'static str, u8, &'static str)] = &[
         5,
         "0001 0000 0002 0000 0000 0000 02 C00D 00 0001 0001 C00D 0001 0001",
     ),
+];
+
+/// Labels, and counts that lie.
+const LABELS_AND_COUNTS: &[Row] = &[
     (
         "a label with the bits 01",
         5,
@@ -110,6 +117,10 @@ pub(super) const MESSAGES: &[(&'static str, u8, &'static str)] = &[
         0,
         "0001 0000 0000 0001 0000 0000 00 0001 0001 00000000 0004 7F000001 00 0001 0001 00000000 0004 7F000001",
     ),
+];
+
+/// Data of addresses and of names.
+const DATA: &[Row] = &[
     (
         "an address of three bytes",
         8,
@@ -175,6 +186,10 @@ pub(super) const MESSAGES: &[(&'static str, u8, &'static str)] = &[
         8,
         "0001 0000 0000 0001 0000 0000 00 0021 0001 00000000 0005 0001 0002 00",
     ),
+];
+
+/// Strings, and options of EDNS.
+const STRINGS_AND_OPTIONS: &[Row] = &[
     (
         "a string that passes its data",
         8,
@@ -215,6 +230,10 @@ pub(super) const MESSAGES: &[(&'static str, u8, &'static str)] = &[
         12,
         "0001 0000 0000 0001 0000 0000 00 0029 0200 00000000 0000",
     ),
+];
+
+/// Records and headers.
+const RECORDS: &[Row] = &[
     (
         "a record after a signature",
         11,
@@ -236,6 +255,10 @@ pub(super) const MESSAGES: &[(&'static str, u8, &'static str)] = &[
         "0001 0000 0000 0000 0000 00",
     ),
     ("nothing", 4, ""),
+];
+
+/// Chains of pointers.
+const CHAINS: &[Row] = &[
     (
         "a name of 255 bytes made of pointers",
         0,
@@ -268,3 +291,35 @@ pub(super) const MESSAGES: &[(&'static str, u8, &'static str)] = &[
      0001 00000000 0004 7F000001",
     ),
 ];
+
+/// What is hostile in the messages of a table.
+#[derive(Clone, Copy)]
+pub(super) enum Table {
+    Pointers,
+    LabelsAndCounts,
+    Data,
+    StringsAndOptions,
+    Records,
+    Chains,
+}
+
+pub(super) const TABLES: &[Table] = &[
+    Table::Pointers,
+    Table::LabelsAndCounts,
+    Table::Data,
+    Table::StringsAndOptions,
+    Table::Records,
+    Table::Chains,
+];
+
+/// The messages of a table. Tables stand apart: what one costs to prove grows with the square of its length.
+pub(super) fn messages_of(table: Table) -> &'static [Row] {
+    match table {
+        Table::Pointers => POINTERS,
+        Table::LabelsAndCounts => LABELS_AND_COUNTS,
+        Table::Data => DATA,
+        Table::StringsAndOptions => STRINGS_AND_OPTIONS,
+        Table::Records => RECORDS,
+        Table::Chains => CHAINS,
+    }
+}
