@@ -1,7 +1,7 @@
 -- Items that were written one after another, and going back after the last that fits.
 use Rattle.std.proofs.Common.{◌≡◌, ℕ, List, [], ◌∷◌, ◌++◌, length, take, map, refl, ap, sym, ◌∙◌, subst}
 use Rattle.std.proofs.Math.Seq.{take-append_seam}
-use Rattle.base.specs.State.{State, Stored, cut}
+use Rattle.base.specs.State.{State, cut}
 use Rattle.base.specs.Words.{BackToBack, none, more}
 use Rattle.base.specs.Laws.{IsValid, Holds, Keeps, Writes}
 use Rattle.base.specs.Items.{EachWritten}

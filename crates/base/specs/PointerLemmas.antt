@@ -1,12 +1,12 @@
 -- Spellings that are written: a zero byte, a label, and a pointer (RFC 1035, 4.1.4).
 use Rattle.base.specs.declared.limits.TheConstants.{MAX_LABEL, POINTER_LIMIT}
-use Rattle.std.proofs.Common.{◌≡◌, ℕ, ◌+◌, ◌/◌, ◌%◌, ◌<◌, ◌≤◌, List, [], ◌∷◌, ◌++◌, length, length-append, refl, ap, sym, ◌∙◌, subst, append_assoc, arith}
-use Rattle.std.proofs.lemmas.List.{append-nil}
+use Rattle.std.proofs.Common.{◌≡◌, ℕ, ◌+◌, ◌/◌, ◌%◌, ◌<◌, ◌≤◌, List, [], ◌∷◌, ◌++◌, length, length-append, refl, sym, subst, append_assoc, arith}
 use Rattle.std.specs.Int.{w16, to_be_bytes}
 use Rattle.base.specs.Labels.{AreLabels, plain_len, size_of, wire_of}
 use Rattle.base.specs.Spelling.{ByteAt, BytesAt, ends, label, pointer, anywhere, target, Spelled}
 use Rattle.base.specs.Words.{Stands}
-use Rattle.base.specs.WordLemmas.{first_stands, stands_inside, stands_at, stands_byte, stands_part}
+use Rattle.base.specs.SaysParts.{last_stands}
+use Rattle.base.specs.WordLemmas.{first_stands, stands_inside, stands_at, stands_byte}
 
 -- how many bytes labels are, each with its length before it
 pub length-wire_of : (labels : List (List ℕ)) → length (wire_of labels) ≡ size_of labels
@@ -44,10 +44,7 @@ pub label_stands : (B x : List ℕ) (xs : List (List ℕ)) (s i e : ℕ) → 1 �
     → length x ≤ MAX_LABEL → Stands (length x ∷ x) B i → Spelled B xs s (i + (1 + length x)) e
     → Spelled B (x ∷ xs) s i e
 label_stands B x xs s i e some small stands rest =
-    let bytes : Stands x B (i + 1) =
-    stands_part (length x ∷ []) x [] B i
-    (subst (λ (ys : List ℕ). Stands ys B i)
-    (ap (λ (ys : List ℕ). length x ∷ ys) (sym (append-nil x))) stands) in
+    let bytes : Stands x B (i + 1) = last_stands (length x ∷ []) x B i stands in
     let next : i + (1 + length x) ≡ i + 1 + length x = omega arith in
     label (byte_first (length x) x B i stands) some small
     (stands_bytes x B (i + 1) (omega arith) bytes) (subst (λ (j : ℕ). Spelled B xs s j e) next rest)
@@ -73,18 +70,13 @@ pub labels_stand : (B : List ℕ) (labels : List (List ℕ)) (s i : ℕ) → Are
 unfolding wire_of
 labels_stand B [] s i are stands = root_stands B s i (i + plain_len []) stands (omega arith)
 labels_stand B (x ∷ xs) s i are stands =
-    let split : ((length x ∷ x) ++ wire_of xs) ++ 0 ∷ [] ≡ (length x ∷ x)
-    ++ ((wire_of xs ++ 0 ∷ []) ++ []) =
-    append_assoc (length x ∷ x) (wire_of xs) (0 ∷ [])
-    ∙ ap (λ (ys : List ℕ). (length x ∷ x) ++ ys) (sym (append-nil (wire_of xs ++ 0 ∷ []))) in
-    let all : Stands ((length x ∷ x) ++ ((wire_of xs ++ 0 ∷ []) ++ [])) B i =
-    subst (λ (ys : List ℕ). Stands ys B i) split stands in
+    let all : Stands ((length x ∷ x) ++ (wire_of xs ++ 0 ∷ [])) B i = rw append_assoc at stands in
     let place : i + length (length x ∷ x) ≡ i + (1 + length x) = omega arith in
     let after : Stands (wire_of xs ++ 0 ∷ []) B (i + (1 + length x)) =
     subst (Stands (wire_of xs ++ 0 ∷ []) B) place
-    (stands_part (length x ∷ x) (wire_of xs ++ 0 ∷ []) [] B i all) in
+    (last_stands (length x ∷ x) (wire_of xs ++ 0 ∷ []) B i all) in
     let rest = labels_stand B xs s (i + (1 + length x)) are.1 after in
     let end : i + (1 + length x) + plain_len xs ≡ i + plain_len (x ∷ xs) = omega arith in
     label_stands B x xs s i (i + plain_len (x ∷ xs)) are.0.some are.0.short
-    (first_stands (length x ∷ x) ((wire_of xs ++ 0 ∷ []) ++ []) B i all)
+    (first_stands (length x ∷ x) (wire_of xs ++ 0 ∷ []) B i all)
     (subst (λ (e : ℕ). Spelled B xs s (i + (1 + length x)) e) end rest)

@@ -3,6 +3,7 @@ use Rattle.base.specs.declared.limits.TheConstants.{POINTER_LIMIT}
 use Rattle.std.proofs.Common.{◌≡◌, ◌≢◌, ℕ, suc, ◌+◌, ◌-◌, ◌<◌, ◌≤◌, ◌⊎◌, inl, inr, List, [], ◌∷◌, ◌++◌, length, get_or, refl, ap, sym, ◌∙◌, subst, append_assoc, arith, length-append, Bool, true, false, cond}
 use Rattle.std.specs.Prelude.{Option, Some, None, All, Any, MatchOption, nat_le, if◌then◌else◌}
 use Rattle.std.specs.Int.{w16, to_be_bytes}
+use Rattle.std.proofs.Math.Path.{transport}
 use Rattle.std.proofs.lemmas.Bool.{cases_lt, leb-false, lt-leb}
 use Rattle.std.proofs.lemmas.List.{append-nil, get_or_append_left, get_or-append_right}
 use Rattle.std.proofs.lemmas.List.Elements.{All-nil, All-cons, All-append, All-same, All-weaker}
@@ -144,26 +145,19 @@ any_old : (rest : List (List ℕ)) (o : ℕ) (old own stored : List Stored) → 
     → All (λ t. size_of rest < size_of t.labels) own
     → Any (λ t. (t.labels ≡ rest) × (t.offset ≡ o)) stored
     → Any (λ t. (t.labels ≡ rest) × (t.offset ≡ o)) old
-any_old rest o old own stored is longer (k, t, inside, at, holds) = elim (cases_lt k (length old)) [
-  | inl low ↦ (
-    k,
-    t,
-    low,
-    sym (get_or_append_left old own t k low)
-        ∙ sym (ap (λ (ts : List Stored). get_or ts k t) is) ∙ at,
-    holds,
-  )
-  | inr high ↦
-      let there : get_or own (k - length old) t
-      ≡ t = sym (get_or-append_right old own (length old) k t refl high)
-      ∙ sym (ap (λ (ts : List Stored). get_or ts k t) is) ∙ at in
-      let small : k - length old < length own =
-      omega (arith, inside, ap length is, length-append old own) in
-      let more : size_of rest < size_of t.labels =
-      subst (λ (u : Stored). size_of rest < size_of u.labels) there
-      (longer (k - length old) t small) in
-      absurd (omega (arith, more, ap size_of holds.0))
-]
+any_old rest o old own stored is longer (k, t, inside, is_at, holds) =
+    let among : get_or (old ++ own) k t ≡ t = ap (λ (ts : List Stored). get_or ts k t) (sym is)
+    ∙ is_at in
+    elim (cases_lt k (length old)) [
+      | inl low ↦ (k, t, low, sym (get_or_append_left old own t k low) ∙ among, holds)
+      | inr high ↦
+          let there = sym (get_or-append_right old own (length old) k t refl high) ∙ among in
+          let small : k - length old < length own =
+          omega (arith, inside, ap length is, length-append old own) in
+          let more = subst (λ (u : Stored). size_of rest < size_of u.labels) there
+          (longer (k - length old) t small) in
+          absurd (omega (arith, more, ap size_of holds.0))
+    ]
 
 points : (x : List ℕ) (xs : List (List ℕ)) (s at o : ℕ) (old : List Stored) (B : List ℕ)
     → All (IsSpelled B s) old → Any (λ t. (t.labels ≡ x ∷ xs) × (t.offset ≡ o)) old
@@ -171,10 +165,7 @@ points : (x : List ℕ) (xs : List (List ℕ)) (s at o : ℕ) (old : List Stored
     → Spelled B (x ∷ xs) s at (at + length (to_be_bytes w16 (49152 + o)))
 points x xs s at o old B table (k, t, inside, is_at, is) stands =
     let spelled : IsSpelled B s t = subst (IsSpelled B s) is_at (table k t inside) in
-    let there : Spelled B (x ∷ xs) o o spelled.end =
-    subst (λ (n : ℕ). Spelled B (x ∷ xs) n n spelled.end) is.1
-    (subst (λ (ls : List (List ℕ)). Spelled B ls t.offset t.offset spelled.end) is.0
-    spelled.spelled) in
+    let there = transport (λ i. Spelled B (is.0 i) (is.1 i) (is.1 i) spelled.end) spelled.spelled in
     pointer_stands (omega (arith, is.1, spelled.below)) (omega (arith, is.1, spelled.fits)) stands
     there (omega arith)
 
