@@ -117,13 +117,6 @@ pub last_run : (fs lent front : ZoneSets) (e : RrKey × SetValue) (key : RrKey) 
     → (set : SetValue) × (slice_get lent (length lent - 1) ≡ Some (key, set)) → fs ≡ front ++ (key, e.1) ∷ []
 last_run fs lent front e key same is at = one_last fs front e key at.0 is (ap (λ (zs : ZoneSets). slice_get zs (length zs - 1)) (sym same) ∙ at.1)
 
-pub none_last : (es : ZoneSets) → slice_get es (length es - 1) ≡ None → es ≡ []
-none_last [] is = refl
-none_last (e ∷ es) is = absurd (later e es is) where
-  later : (x : RrKey × SetValue) (xs : ZoneSets) → slice_get (x ∷ xs) (length (x ∷ xs) - 1) ≡ None → ⊥
-  later x [] is = let no : Some x ≡ None = is in cc
-  later x (y ∷ ys) is = let at : length (x ∷ y ∷ ys) - 1 ≡ suc (length (y ∷ ys) - 1) = omega arith in later y ys (ap (slice_get (x ∷ y ∷ ys)) (sym at) ∙ is)
-
 -- what is above the last one is above all of a list
 pub above_by_last : (k : RrKey) (es fs : ZoneSets) (e : RrKey × SetValue) → AreInOrder (es ++ fs) → slice_get fs (length fs - 1) ≡ Some e → key_cmp k e.0 ≡ Greater → IsAbove k (es ++ fs)
 above_by_last k es fs e order at g =

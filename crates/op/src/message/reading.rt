@@ -84,37 +84,9 @@ impl Message {
             (λ _. AddsPassed (records_places count decoder.old.bytes decoder.old.index) decoder.old
             decoder.new) }
     {
-        let section = Message::read_section(decoder, count, is_additional, op_code)?;
-        Ok((section.records, section.edns, section.signature))
-    }
-
-    /// Reads a section of `count` records, each of which is tested before the next one is read.
-    fn read_section(
-        decoder: &mut BinDecoder<'_>,
-        count: usize,
-        is_additional: bool,
-        op_code: OpCode,
-    ) -> Result<Section, DecodeError>
-        ensures read { Reads section_value decoder.old decoder.new result
-            (section_at is_additional op_code count decoder.old.bytes decoder.old.index) }
-        // These two are as of every read: see `BinDecodable::read`.
-        ensures counts { Counts decoder.old decoder.new result }
-        ensures passed { Passes decoder.old decoder.new result }
-        // The decoder now also keeps the targets of these names' pointers, and no others.
-        ensures adds { IfOk result
-            (λ _. AddsPassed (records_places count decoder.old.bytes decoder.old.index) decoder.old
-            decoder.new) }
-    {
         let mut section = Section::new(decoder.allocator());
-        // a count that is too high makes no more room than the bytes left could fill
-        if count > 2 {
-            section.reserve(count.min(decoder.len() / SHORTEST))?;
-        }
-        for _ in 0..count {
-            let next = Record::read(decoder)?;
-            section.take(decoder.allocator(), next, is_additional, op_code)?;
-        }
-        Ok(section)
+        section.read(decoder, count, is_additional, op_code)?;
+        Ok((section.records, section.edns, section.signature))
     }
 
     /// Reads the three sections, each of the number of records that the header says.
@@ -134,19 +106,13 @@ impl Message {
             (records_places (counts.answers + counts.authorities + counts.additionals)
             decoder.old.bytes decoder.old.index) decoder.old decoder.new) }
     {
-        let answers = Message::read_section(decoder, usize::from(counts.answers), false, op_code)?;
-        let authorities = Message::read_section(
-            decoder,
-            usize::from(counts.authorities),
-            false,
-            op_code,
-        )?;
-        let additionals = Message::read_section(
-            decoder,
-            usize::from(counts.additionals),
-            true,
-            op_code,
-        )?;
+        let alloc = decoder.allocator();
+        let mut answers = Section::new(alloc);
+        answers.read(decoder, usize::from(counts.answers), false, op_code)?;
+        let mut authorities = Section::new(alloc);
+        authorities.read(decoder, usize::from(counts.authorities), false, op_code)?;
+        let mut additionals = Section::new(alloc);
+        additionals.read(decoder, usize::from(counts.additionals), true, op_code)?;
         Ok(Sections {
             answers,
             authorities,
@@ -260,6 +226,41 @@ impl Section {
             edns: None,
             signature: None,
         }
+    }
+
+    /// Reads `count` records into the section, each of which is tested before the next one is read.
+    ///
+    /// # Errors
+    ///
+    /// The first fault; `Memory` if memory runs out. What was read before stays.
+    fn read(
+        &mut self,
+        decoder: &mut BinDecoder<'_>,
+        count: usize,
+        is_additional: bool,
+        op_code: OpCode,
+    ) -> Result<(), DecodeError>
+        requires { section_value self.old ≡ empty_section }
+        ensures read { Reads (λ _. section_value self.new) decoder.old decoder.new result
+            (section_at is_additional op_code count decoder.old.bytes decoder.old.index) }
+        // These two are as of every read: see `BinDecodable::read`.
+        ensures counts { Counts decoder.old decoder.new result }
+        ensures passed { Passes decoder.old decoder.new result }
+        // The decoder now also keeps the targets of these names' pointers, and no others.
+        ensures adds { IfOk result
+            (λ _. AddsPassed (records_places count decoder.old.bytes decoder.old.index) decoder.old
+            decoder.new) }
+    {
+        let alloc = decoder.allocator();
+        // a count that is too high makes no more room than the bytes left could fill
+        if count > 2 {
+            self.reserve(count.min(decoder.len() / SHORTEST))?;
+        }
+        for _ in 0..count {
+            let next = Record::read(decoder)?;
+            self.take(alloc, next, is_additional, op_code)?;
+        }
+        Ok(())
     }
 
     /// Makes room for `count` more records.

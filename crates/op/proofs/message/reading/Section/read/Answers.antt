@@ -2,7 +2,7 @@ use Rattle.std.proofs.Common.{arith, rules}
 use Rattle.std.proofs.lemmas.Result.{err_from_is_err_and}
 use Rattle.base.proofs.AddsLemmas.{adds_many_all, adds_many_more, adds_many_none}
 use Rattle.op.proofs.SectionLemmas.{takes_all, takes_failed, takes_more, takes_unread}
-use Rattle.op.proofs.message.Message.read_section.Goals as goal
+use Rattle.op.proofs.message.reading.Section.read.Goals as goal
 
 pub returns-in_err-next-clause-read : goal.returns-in_err-next-clause-read
 returns-in_err-next-clause-read c =
@@ -15,7 +15,7 @@ returns-in_err-take-clause-read c =
     rw (p.1, p.2) (takes_failed c.loop.invariant.takes c.in_err-take.field-0.0 c.loop-test.true c.in_ok-next.ensures.read.0 c.in_err-take.ensures.err)
 
 pub loop-init : goal.loop-init
-loop-init c = record { takes = search rules; counted = λ counted. (counted, omega (arith, counted, c.allocator.ensures.few)); passed = λ passed. passed; adds = adds_many_none _ _ _ _ }
+loop-init c = record { takes = search rules; counted = λ counted. (counted, omega (arith, counted, c.allocator-alloc.ensures.few)); passed = λ passed. passed; adds = adds_many_none _ _ _ _ }
 
 pub loop-preserved : goal.loop-preserved
 loop-preserved c = record {
