@@ -1,11 +1,8 @@
 -- What the tests of record sets owe to the calls.
-use Rattle.std.proofs.Common.{◌≡◌, true, rules}
-use Rattle.std.specs.Bool.{Decides}
+use Rattle.std.proofs.Common.{◌≡◌, true}
 use Rattle.base.specs.RecordType.{same_type}
 use Rattle.base.specs.declared.record_type.RecordType.{RecordType}
-
-types_decide : (a b : RecordType) → Decides (same_type a b) (a ≡ b)
-types_decide = search rules
+use Rattle.base_data.proofs.SameData.{types_Decide}
 
 pub one_type : (a b : RecordType) → same_type a b ≡ true → a ≡ b
-one_type a b h = (types_decide a b).0 h
+one_type a b h = (types_Decide a b).0 h
