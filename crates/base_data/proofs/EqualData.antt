@@ -24,29 +24,41 @@ aaaa_eq = (aaaa_equality.ghosts).eq
 types_decide : (a b : RecordType) → Decides (same_type a b) (a ≡ b)
 types_decide = search rules
 
-one_sort : (a b : RData) → same_data a b ≡ true → (type_of_data a ≡ type_of_data b) × (kind_rank a ≡ kind_rank b)
-one_sort (kinds.A a) (kinds.A b) h = (refl, refl)
-one_sort (kinds.AAAA a) (kinds.AAAA b) h = (refl, refl)
-one_sort (kinds.NS a) (kinds.NS b) h = (refl, refl)
-one_sort (kinds.CNAME a) (kinds.CNAME b) h = (refl, refl)
-one_sort (kinds.PTR a) (kinds.PTR b) h = (refl, refl)
-one_sort (kinds.ANAME a) (kinds.ANAME b) h = (refl, refl)
-one_sort (kinds.MX a) (kinds.MX b) h = (refl, refl)
-one_sort (kinds.SOA a) (kinds.SOA b) h = (refl, refl)
-one_sort (kinds.SRV a) (kinds.SRV b) h = (refl, refl)
-one_sort (kinds.TXT a) (kinds.TXT b) h = (refl, refl)
-one_sort (kinds.NULL a) (kinds.NULL b) h = (refl, refl)
-one_sort (kinds.OPT a) (kinds.OPT b) h = (refl, refl)
-one_sort (kinds.TSIG a) (kinds.TSIG b) h = (refl, refl)
-one_sort (kinds.Update0 a) (kinds.Update0 b) h = ((types_decide a b).0 h, refl)
-one_sort (kinds.Unknown a x) (kinds.Unknown b y) h = ((types_decide a b).0 (first_so (same_type a b) _ h), refl)
-one_sort _ _ h = absurd cc
-
 pub one_type : (a b : RData) → same_data a b ≡ true → type_of_data a ≡ type_of_data b
-one_type a b h = (one_sort a b h).0
+one_type (kinds.A a) (kinds.A b) h = refl
+one_type (kinds.AAAA a) (kinds.AAAA b) h = refl
+one_type (kinds.NS a) (kinds.NS b) h = refl
+one_type (kinds.CNAME a) (kinds.CNAME b) h = refl
+one_type (kinds.PTR a) (kinds.PTR b) h = refl
+one_type (kinds.ANAME a) (kinds.ANAME b) h = refl
+one_type (kinds.MX a) (kinds.MX b) h = refl
+one_type (kinds.SOA a) (kinds.SOA b) h = refl
+one_type (kinds.SRV a) (kinds.SRV b) h = refl
+one_type (kinds.TXT a) (kinds.TXT b) h = refl
+one_type (kinds.NULL a) (kinds.NULL b) h = refl
+one_type (kinds.OPT a) (kinds.OPT b) h = refl
+one_type (kinds.TSIG a) (kinds.TSIG b) h = refl
+one_type (kinds.Update0 a) (kinds.Update0 b) h = (types_decide a b).0 h
+one_type (kinds.Unknown a x) (kinds.Unknown b y) h = (types_decide a b).0 (first_so (same_type a b) _ h)
+one_type _ _ h = cc
 
 pub one_kind : (a b : RData) → same_data a b ≡ true → kind_rank a ≡ kind_rank b
-one_kind a b h = (one_sort a b h).1
+one_kind (kinds.A a) (kinds.A b) h = refl
+one_kind (kinds.AAAA a) (kinds.AAAA b) h = refl
+one_kind (kinds.NS a) (kinds.NS b) h = refl
+one_kind (kinds.CNAME a) (kinds.CNAME b) h = refl
+one_kind (kinds.PTR a) (kinds.PTR b) h = refl
+one_kind (kinds.ANAME a) (kinds.ANAME b) h = refl
+one_kind (kinds.MX a) (kinds.MX b) h = refl
+one_kind (kinds.SOA a) (kinds.SOA b) h = refl
+one_kind (kinds.SRV a) (kinds.SRV b) h = refl
+one_kind (kinds.TXT a) (kinds.TXT b) h = refl
+one_kind (kinds.NULL a) (kinds.NULL b) h = refl
+one_kind (kinds.OPT a) (kinds.OPT b) h = refl
+one_kind (kinds.TSIG a) (kinds.TSIG b) h = refl
+one_kind (kinds.Update0 a) (kinds.Update0 b) h = refl
+one_kind (kinds.Unknown a x) (kinds.Unknown b y) h = refl
+one_kind _ _ h = cc
 
 pub unknown_same : (s t : RecordType) (a b : List ℕ) → IsTrue (same_data (kinds.Unknown s a) (kinds.Unknown t b)) ↔ (IsTrue (same_type s t) × (a ≡ b))
 unknown_same s t a b =
