@@ -97,7 +97,7 @@ module _ (k : RrKey) (s : SetValue) (old now new : BTreeMap RrKey SetValue) (the
   each_put true q e = inr (sym there ∙ ap (tree.get key_cmp old) (same_key k q e), subst (λ p. records_at now p ≡ records_at old p) (same_key k q e) same)
   each_put false q e = inl refl
 
-  pub put_back_there : IsReturned (λ q. eq_by_cmp key_cmp k q) old now new
+  put_back_there : IsReturned (λ q. eq_by_cmp key_cmp k q) old now new
   put_back_there = record {
     each = λ q. subst (λ o. (o ≡ tree.get key_cmp now q) ⊎ ((o ≡ tree.get key_cmp old q) × (records_at now q ≡ records_at old q))) (sym (puts.0 q)) (each_put (eq_by_cmp key_cmp k q) q refl);
     tested = λ q e alike. puts.0 q ∙ ap (λ b. cond b (Some s) (tree.get key_cmp now q)) e ∙ sym there ∙ ap (tree.get key_cmp old) (same_key k q e);
@@ -181,10 +181,19 @@ zone_unreturned old z = (z.sets, refl, returned_none old z.sets z.sets (λ q. re
 pub zone_returned_of : (s t : RrKey → Bool) (old : BTreeMap RrKey SetValue) (now new : HeldZone) → ((q : RrKey) → t q ≡ true → s q ≡ true) → Returns s old now new → Returns t old now new
 zone_returned_of s t old now new less h = (h.0, h.1, returned_of s t old now.sets h.0 less h.2)
 
-pub zone_returned_more : (s t : RrKey → Bool) (old : BTreeMap RrKey SetValue) (a b c : HeldZone) → Returns s old a b → Returns t old b c → Returns (λ q. s q || t q) old a c
+zone_returned_more : (s t : RrKey → Bool) (old : BTreeMap RrKey SetValue) (a b c : HeldZone) → Returns s old a b → Returns t old b c → Returns (λ q. s q || t q) old a c
 zone_returned_more s t old a b c first next = chain (subst (λ (z : HeldZone). Returns t old z c) first.1 next) where
   chain : Returns t old (record a { sets = first.0 }) c → Returns (λ q. s q || t q) old a c
   chain h = (h.0, h.1, returned_more s t old a.sets first.0 h.0 first.2 h.2)
+
+-- and one more set, which stays or is put back
+module _ (test : RrKey → Bool) (k : RrKey) (old : BTreeMap RrKey SetValue) (a b : HeldZone) (h : Returns test old a b) where
+  pub one_stays : IsReturned (λ q. eq_by_cmp key_cmp k q) old b.sets b.sets → Returns (λ q. test q || eq_by_cmp key_cmp k q) old a b
+  one_stays stays = zone_returned_more test (λ q. eq_by_cmp key_cmp k q) old a b b h (b.sets, refl, stays)
+
+  pub one_put_back : (s : SetValue) (n : BTreeMap RrKey SetValue) → tree.get key_cmp old k ≡ Some s → records_at b.sets k ≡ records_at old k → tree.Updates key_cmp b.sets n k (Some s)
+      → Returns (λ q. test q || eq_by_cmp key_cmp k q) old a (record b { sets = n })
+  one_put_back s n there same puts = zone_returned_more test (λ q. eq_by_cmp key_cmp k q) old a b (record b { sets = n }) h (n, refl, put_back_there k s old b.sets n there same puts)
 
 pub same_class : (test : RrKey → Bool) (old : BTreeMap RrKey SetValue) (now new : HeldZone) → Returns test old now new → IsZoneMap now.class old → IsZoneMap new.class old
 same_class test old now new h before = subst (λ (z : HeldZone). IsZoneMap z.class old) (sym h.1) before

@@ -18,7 +18,6 @@ mod Meaning
 mod MergeSteps
 mod Origins
 mod OwnerKeys
-mod SameRecords
 mod ServerRowsLemmas
 mod SpelledSteps
 mod TakenSets

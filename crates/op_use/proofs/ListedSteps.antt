@@ -64,8 +64,9 @@ and_false : (a : Bool) → (a && false) ≡ false
 and_false true = refl
 and_false false = refl
 
-pub second_false : (a b c : Bool) → b ≡ false → (a && (b && c)) ≡ false
-second_false a b c e = ap (λ x. a && (x && c)) e ∙ and_false a
+pub set_false : (a b c : Bool) → (a && b) ≡ false → (a && (b && c)) ≡ false
+set_false true b c e = ap (λ x. x && c) e
+set_false false b c e = refl
 
 pub third_false : (a b c : Bool) → c ≡ false → (a && (b && c)) ≡ false
 third_false a b c e = ap (λ x. a && (b && x)) e ∙ ap (λ x. a && x) (and_false b) ∙ and_false a

@@ -5,8 +5,7 @@ use Rattle.base.specs.declared.record_type.RecordType.{RecordType}
 use Rattle.op_use.specs.Server.{is_any, is_cname}
 use Rattle.rr.specs.RecordSet.{is_soa}
 use Rattle.std.proofs.Common.{rules}
-use Rattle.std.specs.Bool.{Decides}
-use Rattle.std.specs.Prelude.{true, ◌≡◌}
+use Rattle.std.specs.Prelude.{◌≡◌}
 
 pub soa_is : (t : RecordType) → is_soa t ≡ same_type t types.SOA
 soa_is = search rules
@@ -16,8 +15,3 @@ cname_is = search rules
 
 pub any_is : (t : RecordType) → is_any t ≡ same_type t types.ANY
 any_is = search rules
-
-pub cname_of : (t : RecordType) → same_type t types.CNAME ≡ true → t ≡ types.CNAME
-cname_of t = (decided t types.CNAME).0 where
-  decided : (a b : RecordType) → Decides (same_type a b) (a ≡ b)
-  decided = search rules

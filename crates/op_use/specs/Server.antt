@@ -3,7 +3,6 @@ use Rattle.std.specs.Prelude.{Bool, true, false, not, List, [], ◌∷◌, ◌++
 use Rattle.std.specs.FinMap as fin
 use Rattle.std.specs.List.{filter, list_any, list_all, fold}
 use Rattle.base.specs.NameOrder.{is_zone_of, same_name}
-use Rattle.base_data.specs.Kinds.{type_of_data}
 use Rattle.base_data.specs.RData.{is_empty_data}
 use Rattle.base_data.specs.declared.rdata.RData.{RData}
 use Rattle.base.specs.RecordType.{type_number}

@@ -57,7 +57,6 @@ pub fn apply_update(
     ensures only { IsOkUnless result ProtoError.Memory }
 {
     let zone = Zone {
-        alloc,
         origin,
         class,
         sets: sets.clone()?,
@@ -68,7 +67,7 @@ pub fn apply_update(
     if let Some(code) = fault(&zone, message)? {
         return Ok((code, zone.sets));
     }
-    let mut changing = ChangingZone::new(zone);
+    let mut changing = ChangingZone::new(alloc, zone);
     changing.update(&message.authorities)?;
     let mut zone = changing.close()?;
     zone.keep_same(sets, &message.authorities)?;

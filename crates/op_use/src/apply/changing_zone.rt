@@ -23,7 +23,6 @@ const FEW: usize = 24;
 /// the updates.
 #[derive(Drop)]
 pub(crate) struct ChangingZone<'a> {
-    alloc: Global,
     pub(super) origin: &'a Name,
     pub(super) class: DNSClass,
     /// The sets; those that change often are as they were.
@@ -52,15 +51,14 @@ impl<'a> Model for ChangingZone<'a> {
 
 impl<'a> ChangingZone<'a> {
     /// The zone, to be updated.
-    pub(crate) fn new(zone: Zone<'a>) -> ChangingZone<'a>
+    pub(crate) fn new(alloc: Global, zone: Zone<'a>) -> ChangingZone<'a>
         ensures { result ≡ zone.entry }
     {
         ChangingZone {
-            alloc: zone.alloc,
             origin: zone.origin,
             class: zone.class,
             sets: zone.sets,
-            changing: BTreeMap::new(zone.alloc),
+            changing: BTreeMap::new(alloc),
         }
     }
 
@@ -73,7 +71,6 @@ impl<'a> ChangingZone<'a> {
             self.sets.insert(key, set)?;
         }
         Ok(Zone {
-            alloc: self.alloc,
             origin: self.origin,
             class: self.class,
             sets: self.sets,
@@ -93,14 +90,14 @@ impl<'a> ChangingZone<'a> {
         }
     }
 
-    /// Adds a record to its set: in the place of equal data, or else last.
-    pub(super) fn add_record(&mut self, entry: &Record) -> Result<(), AllocError>
+    /// Adds a record to the set under its key: in the place of equal data, or else last.
+    pub(super) fn add_record(&mut self, key: RrKey, entry: &Record) -> Result<(), AllocError>
+        requires { key ≡ record_key entry.now }
         ensures { OnOk result
             (HoldsAt (record_key entry.now)
             (joined entry.now (records_at self.old.sets (record_key entry.now))) self.old
             self.new) }
     {
-        let key = key_of(&entry.name, entry.record_type())?;
         let copy = entry.clone()?;
         if let Some(mut set) = self.changing.remove(&key) {
             set.renew(copy)?;
@@ -111,7 +108,7 @@ impl<'a> ChangingZone<'a> {
             Some(set) => set,
             None => {
                 let name = entry.name.clone()?;
-                let mut set = RecordSet::new(self.alloc, name, entry.record_type(), 0);
+                let mut set = RecordSet::new(self.origin.allocator(), name, entry.record_type(), 0);
                 set.set_dns_class(self.class);
                 set
             }

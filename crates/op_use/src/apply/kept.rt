@@ -26,45 +26,27 @@ impl<'a> Zone<'a> {
         requires { IsZoneMap self.old.class was.now }
         ensures { OnOk result (Returns (names_set entries.now) was.now self.old self.new) }
     {
-        let mut seen = BTreeSet::new(self.alloc);
+        let mut seen = BTreeSet::new(self.origin.allocator());
         for entry in entries {
             let key = key_of(&entry.name, entry.record_type())?;
             if seen.contains(&key) {
                 continue;
             }
-            let is_compared = self.keep_set(was, &key)?;
-            if !is_compared {
+            seen.insert(key.clone()?)?;
+            let (Some(set), Some(now)) = (was.get(&key), self.sets.get(&key)) else {
+                continue;
+            };
+            if !are_same(set.as_slice(), now.as_slice()) {
                 continue;
             }
-            seen.insert(key)?;
+            let copy = set.clone()?;
+            self.sets.insert(key, copy)?;
         }
         Ok(())
     }
-
-    /// Puts the set under a key back as it was where its records are the same. Answers whether they had to be compared,
-    /// since there are as many of both.
-    fn keep_set(
-        &mut self,
-        was: &BTreeMap<RrKey, RecordSet>,
-        key: &RrKey,
-    ) -> Result<bool, AllocError>
-        requires { IsZoneMap self.old.class was.now }
-        ensures { OnOk result
-            (Returns (λ (q : Key). eq_by_cmp key_cmp key.now q) was.now self.old self.new) }
-    {
-        let (Some(set), Some(now)) = (was.get(key), self.sets.get(key)) else {
-            return Ok(false);
-        };
-        if !are_same(set.as_slice(), now.as_slice()) {
-            return Ok(set.records_count() == now.records_count());
-        }
-        let copy = set.clone()?;
-        self.sets.insert(key.clone()?, copy)?;
-        Ok(true)
-    }
 }
 
-/// Whether records are the same in every field and in this order.
+/// Whether records are the same in every field, the letter case of their names too, and in this order.
 fn are_same(a: &[Record], b: &[Record]) -> bool
     ensures { IsTrue result ↔ (a.now ≡ b.now) }
 {
@@ -72,20 +54,15 @@ fn are_same(a: &[Record], b: &[Record]) -> bool
         return false;
     }
     for place in 0..a.len() {
-        if !is_same(&a[place], &b[place]) {
+        let (x, y) = (&a[place], &b[place]);
+        let is_same = x.ttl == y.ttl
+            && x.dns_class == y.dns_class
+            && x.mdns_cache_flush == y.mdns_cache_flush
+            && x.name.eq_case(&y.name)
+            && x.rdata.eq_case(&y.rdata);
+        if !is_same {
             return false;
         }
     }
     true
-}
-
-/// Whether two records are the same in every field, the letter case of their names too.
-fn is_same(a: &Record, b: &Record) -> bool
-    ensures { IsTrue result ↔ (a.now ≡ b.now) }
-{
-    a.ttl == b.ttl
-        && a.dns_class == b.dns_class
-        && a.mdns_cache_flush == b.mdns_cache_flush
-        && a.name.eq_case(&b.name)
-        && a.rdata.eq_case(&b.rdata)
 }

@@ -8,14 +8,14 @@ ghost use Rattle.op_use.specs.Server.{collected, is_found as is_found_in, is_met
 ghost use Rattle.rr.specs.SetChanges.{has_data_of};
 ghost use Rattle.rr.specs.declared.record.Record.{Record as Entry};
 ghost use Rattle.std.specs.List.{IsAmong, list_all, list_any};
-ghost use Rattle.std.specs.Prelude.{IfOk, IfSome, true, ◌≡◌};
+ghost use Rattle.std.specs.Prelude.{IfOk, IfSome, true, ◌&&◌, ◌≡◌};
 
 use crate::apply::rules::{Use, use_of};
 use crate::apply::zone::{Zone, has_type, key_of};
 use base::{DNSClass, RecordType, RrKey};
 use op::ResponseCode;
-use rr::Record;
-use std::alloc::{AllocError, Global};
+use rr::{Record, RecordSet};
+use std::alloc::AllocError;
 use std::collections::BTreeMap;
 
 impl<'a> Zone<'a> {
@@ -100,9 +100,9 @@ impl<'a> Zone<'a> {
             (collected (zone_held self.now) entries.now)) }
     {
         let asked = self.places_asked(entries)?;
-        let mut held = BTreeMap::new(self.alloc);
+        let mut held = BTreeMap::new(self.origin.allocator());
         for entry in entries {
-            if !is_by_value(self.class, entry) {
+            if !matches!(use_of(self.class, entry.dns_class), Use::OfZone) {
                 continue;
             }
             let key = key_of(&entry.name, entry.record_type())?;
@@ -113,7 +113,7 @@ impl<'a> Zone<'a> {
                 if !are_listed(set.as_slice(), asked.get(&key), self.class, entries, entry)? {
                     return Ok(false);
                 }
-                let places = places_of(set.as_slice(), self.alloc)?;
+                let places = places_of(set)?;
                 held.insert(key.clone()?, places)?;
             }
             if !has_data(set.as_slice(), held.get(&key), entry)? {
@@ -125,10 +125,10 @@ impl<'a> Zone<'a> {
 
     /// Where the data of the prerequisites of the zone's class stands among them, under the key of each set.
     fn places_asked(&self, entries: &[Record]) -> Result<BTreeMap<RrKey, Places>, AllocError> {
-        let mut asked: BTreeMap<RrKey, Places> = BTreeMap::new(self.alloc);
+        let mut asked: BTreeMap<RrKey, Places> = BTreeMap::new(self.origin.allocator());
         for place in 0..entries.len() {
             let entry = &entries[place];
-            if !is_by_value(self.class, entry) {
+            if !matches!(use_of(self.class, entry.dns_class), Use::OfZone) {
                 continue;
             }
             let key = key_of(&entry.name, entry.record_type())?;
@@ -137,19 +137,12 @@ impl<'a> Zone<'a> {
                 places.insert(data, place)?;
                 continue;
             }
-            let mut places = BTreeMap::new(self.alloc);
+            let mut places = BTreeMap::new(self.origin.allocator());
             places.insert(data, place)?;
             asked.insert(key, places)?;
         }
         Ok(asked)
     }
-}
-
-/// Whether a prerequisite is of the zone's class, and so says what data a set has.
-fn is_by_value(class: DNSClass, entry: &Record) -> bool
-    ensures { result ≡ is_by_value class entry.now }
-{
-    matches!(use_of(class, entry.dns_class), Use::OfZone)
 }
 
 /// Whether each record of a set is among those that the prerequisites list for the set of this entry.
@@ -183,23 +176,26 @@ fn is_listed(
     ensures { IfOk result (λ b. b ≡ list_any (asks_for class entry.now known.now) entries.now) }
 {
     if let Some(listed) = look_up(entries, asked, known)? {
-        if is_by_value(class, listed) && is_same_set(entry, listed) {
+        if is_of_set(class, entry, listed) {
             return Ok(true);
         }
     }
     for listed in entries {
-        if known.rdata == listed.rdata && is_by_value(class, listed) && is_same_set(entry, listed) {
+        if known.rdata == listed.rdata && is_of_set(class, entry, listed) {
             return Ok(true);
         }
     }
     Ok(false)
 }
 
-/// Whether two records are of one set: of one type, and of one owner, which takes longest to tell.
-fn is_same_set(a: &Record, b: &Record) -> bool
-    ensures { result ≡ is_same_key a.now b.now }
+/// Whether a prerequisite is of the zone's class and says what data the set of this entry has. The owner is compared
+/// last, since that takes longest.
+fn is_of_set(class: DNSClass, entry: &Record, listed: &Record) -> bool
+    ensures { result ≡ (is_by_value class listed.now && is_same_key entry.now listed.now) }
 {
-    a.record_type() == b.record_type() && a.name == b.name
+    matches!(use_of(class, listed.dns_class), Use::OfZone)
+        && entry.record_type() == listed.record_type()
+        && entry.name == listed.name
 }
 
 /// Whether one of these records has the data of this one.
@@ -217,9 +213,10 @@ fn has_data(records: &[Record], held: Option<&Places>, entry: &Record) -> Result
     Ok(false)
 }
 
-/// Where the data of each of these records stands among them.
-fn places_of(records: &[Record], alloc: Global) -> Result<Places, AllocError> {
-    let mut places = BTreeMap::new(alloc);
+/// Where the data of each record of a set stands among them.
+fn places_of(set: &RecordSet) -> Result<Places, AllocError> {
+    let records = set.as_slice();
+    let mut places = BTreeMap::new(set.name().allocator());
     for place in 0..records.len() {
         let data = canonical(&records[place])?;
         places.insert(data, place)?;

@@ -16,31 +16,24 @@ impl<'a> Zone<'a> {
         ensures { result ≡ first_fault (prescan_fault (zone_held self.now)) entries.now }
     {
         for entry in entries {
-            if let Some(code) = self.update_fault(entry) {
-                return Some(code);
+            if !self.origin.zone_of(&entry.name) {
+                return Some(ResponseCode::NotZone);
+            }
+            let record_type = entry.record_type();
+            let is_right = match use_of(self.class, entry.dns_class) {
+                Use::OfZone => !is_meta(record_type),
+                Use::OfAny => {
+                    entry.ttl == 0
+                        && entry.rdata.is_update()
+                        && (!is_meta(record_type) || record_type == RecordType::ANY)
+                }
+                Use::OfNone => entry.ttl == 0 && !is_meta(record_type),
+                Use::OfNothing => false,
+            };
+            if !is_right {
+                return Some(ResponseCode::FormErr);
             }
         }
         None
-    }
-
-    /// What is wrong with an update.
-    fn update_fault(&self, entry: &Record) -> Option<ResponseCode>
-        ensures { result ≡ prescan_fault (zone_held self.now) entry.now }
-    {
-        if !self.origin.zone_of(&entry.name) {
-            return Some(ResponseCode::NotZone);
-        }
-        let record_type = entry.record_type();
-        let is_right = match use_of(self.class, entry.dns_class) {
-            Use::OfZone => !is_meta(record_type),
-            Use::OfAny => {
-                entry.ttl == 0
-                    && entry.rdata.is_update()
-                    && (!is_meta(record_type) || record_type == RecordType::ANY)
-            }
-            Use::OfNone => entry.ttl == 0 && !is_meta(record_type),
-            Use::OfNothing => false,
-        };
-        (!is_right).then_some(ResponseCode::FormErr)
     }
 }

@@ -2,7 +2,7 @@
 
 ghost use Rattle.op_use.specs.HeldZone.{HeldZone, zone_held};
 ghost use Rattle.op_use.specs.MapUpdates.{IsUpdated};
-ghost use Rattle.op_use.specs.Server.{OfAny, OfNone, OfZone, is_needed as is_needed_in, use_of as the_use};
+ghost use Rattle.op_use.specs.Server.{OfAny, OfZone, is_needed as is_needed_in, use_of as the_use};
 ghost use Rattle.std.specs.Prelude.{IfOk, OnOk, [], ◌∷◌, ◌≡◌};
 
 use crate::apply::changing_zone::ChangingZone;
@@ -20,7 +20,12 @@ impl<'a> ChangingZone<'a> {
         for entry in entries {
             match use_of(self.class, entry.dns_class) {
                 Use::OfAny => self.delete(entry)?,
-                Use::OfNone => self.delete_record(entry)?,
+                Use::OfNone => {
+                    // No SOA goes, and not the last name server of the zone (RFC 2136, 3.4.2.4).
+                    if !self.is_needed(entry)? {
+                        self.take_data(entry)?;
+                    }
+                }
                 Use::OfZone => self.add(entry)?,
                 Use::OfNothing => {}
             }
@@ -33,32 +38,21 @@ impl<'a> ChangingZone<'a> {
         requires { the_use self.old.class entry.now.dns_class ≡ OfZone }
         ensures { OnOk result (IsUpdated (entry.now ∷ []) self.old self.new) }
     {
-        let cname = key_of(&entry.name, RecordType::CNAME)?;
+        let key = key_of(&entry.name, entry.record_type())?;
         if entry.record_type() == RecordType::CNAME {
             if has_type(&self.sets, &entry.name, true)? {
                 return Ok(());
             }
             // The owner has one CNAME at most.
-            self.remove(&cname);
-            self.add_record(entry)?;
+            self.remove(&key);
+            self.add_record(key, entry)?;
             return Ok(());
         }
+        let cname = key_of(&entry.name, RecordType::CNAME)?;
         if self.sets.contains_key(&cname) {
             return Ok(());
         }
-        self.add_record(entry)?;
-        Ok(())
-    }
-
-    /// Takes equal data out, but no SOA, and not the last name server of the zone (RFC 2136, 3.4.2.4).
-    fn delete_record(&mut self, entry: &Record) -> Result<(), AllocError>
-        requires { the_use self.old.class entry.now.dns_class ≡ OfNone }
-        ensures { OnOk result (IsUpdated (entry.now ∷ []) self.old self.new) }
-    {
-        if self.is_needed(entry)? {
-            return Ok(());
-        }
-        self.take_data(entry)?;
+        self.add_record(key, entry)?;
         Ok(())
     }
 

@@ -19,14 +19,13 @@ ghost use Rattle.std.specs.Prelude.{IfOk, OnOk, [], length, not, ◌&&◌, ◌||
 use crate::apply::rules::is_guarded;
 use base::{DNSClass, LowerName, Name, RecordType, RrKey};
 use rr::RecordSet;
-use std::alloc::{AllocError, Global};
+use std::alloc::AllocError;
 use std::collections::BTreeMap;
 use std::marker::Model;
 
 /// The record sets of a zone.
 #[derive(Drop)]
 pub(crate) struct Zone<'a> {
-    pub(super) alloc: Global,
     pub(super) origin: &'a Name,
     pub(super) class: DNSClass,
     pub(super) sets: BTreeMap<RrKey, RecordSet>,

@@ -1,4 +1,4 @@
-use Rattle.base.specs.RrKey.{key_cmp, key_of}
+use Rattle.base.specs.RrKey.{key_cmp}
 use Rattle.base.specs.declared.rr_key.RrKey.{RrKey}
 use Rattle.op_use.proofs.ChangingSteps.{changing_unchanged, joined_held, joined_now, joined_taken, less_changing, less_there, put_beside, put_beside_held, shown}
 use Rattle.op_use.proofs.HeldSteps.{removed_map}
@@ -21,7 +21,7 @@ pub invariant_of-self : goal.invariant_of-self
 invariant_of-self c =
     let i = c.self.inside in (
       c.self.invariant.0,
-      less_changing i.class i.changing c.remove.new.self i.sets c.in_ok-key.key c.self.invariant.1 c.remove.ensures.updates.0,
+      less_changing i.class i.changing c.remove.new.self i.sets c.args.key c.self.invariant.1 c.remove.ensures.updates.0,
     )
 
 pub invariant_of-self-in_err-insert : goal.invariant_of-self-in_err-insert
@@ -29,14 +29,14 @@ invariant_of-self-in_err-insert c =
     let i = c.self.inside in (
       c.self.invariant.0,
       changing_unchanged i.class c.remove.new.self c.insert.new.self i.sets i.sets c.in_err-insert.ensures.err refl
-          (less_changing i.class i.changing c.remove.new.self i.sets c.in_ok-key.key c.self.invariant.1 c.remove.ensures.updates.0),
+          (less_changing i.class i.changing c.remove.new.self i.sets c.args.key c.self.invariant.1 c.remove.ensures.updates.0),
     )
 
 pub invariant_of-self-in-Some : goal.invariant_of-self-in-Some
 invariant_of-self-in-Some c =
     let i = c.self.inside in (
       c.self.invariant.0,
-      joined_held c.in_ok-key.key c.in-Some.set c.renew.new.self i.changing c.remove.new.self (record { origin = i.origin.now; class = i.class; sets = i.sets }) c.self.invariant.1
+      joined_held c.args.key c.in-Some.set c.renew.new.self i.changing c.remove.new.self (record { origin = i.origin.now; class = i.class; sets = i.sets }) c.self.invariant.1
           (sym c.in-Some.ensures.value) c.remove.ensures.updates.0 c.insert.new.self c.in_ok-insert.ensures.updates.0 c.in_ok-copy.copy c.in_ok-renew.ensures.ok,
     )
 
@@ -45,7 +45,7 @@ returns-in-Some c =
     let i = c.self.inside in
     let z : HeldZone = record { origin = i.origin.now; class = i.class; sets = i.sets } in
     let k = record_key c.args.entry.now in
-    let key_is : c.in_ok-key.key ≡ record_key c.args.entry.now = c.in_ok-key.ensures ∙ ap (key_of c.args.entry.now.name) c.record_type.ensures in
+    let key_is : c.args.key ≡ record_key c.args.entry.now = c.requires in
     let e = subst (λ (q : RrKey). get key_cmp i.changing q ≡ Some c.in-Some.set) key_is (sym c.in-Some.ensures.value) in
     let first = subst (λ (q : RrKey). Puts q None i.changing c.remove.new.self) key_is c.remove.ensures.updates.0 in
     let next = subst (λ (q : RrKey). Puts q (Some c.renew.new.self) c.remove.new.self c.insert.new.self) key_is c.in_ok-insert.ensures.updates.0 in
@@ -56,31 +56,31 @@ returns-in-Some c =
 pub invariant_of-self-in_err-name-in-None : goal.invariant_of-self-in_err-name-in-None
 invariant_of-self-in_err-name-in-None c =
     let i = c.self.inside in (
-      removed_map i.class c.in_ok-key.key i.sets c.remove-2.new.self c.self.invariant.0 c.remove-2.ensures.updates,
-      less_there i.class i.changing c.remove.new.self i.sets c.remove-2.new.self c.in_ok-key.key c.self.invariant.1 c.remove.ensures.updates.0 c.remove-2.ensures.updates.0,
+      removed_map i.class c.args.key i.sets c.remove-2.new.self c.self.invariant.0 c.remove-2.ensures.updates,
+      less_there i.class i.changing c.remove.new.self i.sets c.remove-2.new.self c.args.key c.self.invariant.1 c.remove.ensures.updates.0 c.remove-2.ensures.updates.0,
     )
 
 pub invariant_of-self-in_default-renew : goal.invariant_of-self-in_default-renew
 invariant_of-self-in_default-renew c =
     let i = c.self.inside in (
-      removed_map i.class c.in_ok-key.key i.sets c.remove-2.new.self c.self.invariant.0 c.remove-2.ensures.updates,
-      less_there i.class i.changing c.remove.new.self i.sets c.remove-2.new.self c.in_ok-key.key c.self.invariant.1 c.remove.ensures.updates.0 c.remove-2.ensures.updates.0,
+      removed_map i.class c.args.key i.sets c.remove-2.new.self c.self.invariant.0 c.remove-2.ensures.updates,
+      less_there i.class i.changing c.remove.new.self i.sets c.remove-2.new.self c.args.key c.self.invariant.1 c.remove.ensures.updates.0 c.remove-2.ensures.updates.0,
     )
 
 pub invariant_of-self-in_err-insert-2 : goal.invariant_of-self-in_err-insert-2
 invariant_of-self-in_err-insert-2 c =
     let i = c.self.inside in (
       map_copy i.origin.now i.class c.remove-2.new.self c.insert-2.new.self c.in_err-insert-2.ensures.err
-          (removed_map i.class c.in_ok-key.key i.sets c.remove-2.new.self c.self.invariant.0 c.remove-2.ensures.updates),
+          (removed_map i.class c.args.key i.sets c.remove-2.new.self c.self.invariant.0 c.remove-2.ensures.updates),
       changing_unchanged i.class c.remove.new.self c.remove.new.self c.remove-2.new.self c.insert-2.new.self refl c.in_err-insert-2.ensures.err
-          (less_there i.class i.changing c.remove.new.self i.sets c.remove-2.new.self c.in_ok-key.key c.self.invariant.1 c.remove.ensures.updates.0 c.remove-2.ensures.updates.0),
+          (less_there i.class i.changing c.remove.new.self i.sets c.remove-2.new.self c.args.key c.self.invariant.1 c.remove.ensures.updates.0 c.remove-2.ensures.updates.0),
     )
 
 pub invariant_of-self-2 : goal.invariant_of-self-2
 invariant_of-self-2 c =
     let i = c.self.inside in
-    let k = c.in_ok-key.key in
-    let key_is : c.in_ok-key.key ≡ record_key c.args.entry.now = c.in_ok-key.ensures ∙ ap (key_of c.args.entry.now.name) c.record_type.ensures in
+    let k = c.args.key in
+    let key_is : c.args.key ≡ record_key c.args.entry.now = c.requires in
     let set : IsTakenSet i.class k (records_at i.sets k) c.match-remove-2.set = elim c.match-remove-2.branch [
       | in-Some-remove w ↦ subst (λ s. IsTakenSet i.class k (records_at i.sets k) s) (sym w.set-is) (there i.class i.sets k w.in-Some-remove.set c.self.invariant.0 (sym w.in-Some-remove.ensures.value))
       | in-None+in_ok-name-in-None w ↦ subst (λ s. IsTakenSet i.class k (records_at i.sets k) s) (sym w.set-is)
@@ -96,8 +96,8 @@ invariant_of-self-2 c =
 pub returns : goal.returns
 returns c =
     let i = c.self.inside in
-    let k = c.in_ok-key.key in
-    let key_is : c.in_ok-key.key ≡ record_key c.args.entry.now = c.in_ok-key.ensures ∙ ap (key_of c.args.entry.now.name) c.record_type.ensures in
+    let k = c.args.key in
+    let key_is : c.args.key ≡ record_key c.args.entry.now = c.requires in
     let set : IsTakenSet i.class k (records_at i.sets k) c.match-remove-2.set = elim c.match-remove-2.branch [
       | in-Some-remove w ↦ subst (λ s. IsTakenSet i.class k (records_at i.sets k) s) (sym w.set-is) (there i.class i.sets k w.in-Some-remove.set c.self.invariant.0 (sym w.in-Some-remove.ensures.value))
       | in-None+in_ok-name-in-None w ↦ subst (λ s. IsTakenSet i.class k (records_at i.sets k) s) (sym w.set-is)

@@ -95,7 +95,11 @@ returns-in_default-remove c =
     subst (λ (q : RrKey). HoldsAt q (without es (records_at c.args.self.now.sets q)) c.args.self.now (shown y c.remove.new.self)) key_is
     (from_same k (without es) c.args.self.now c.open.new.self (shown y c.remove.new.self) c.in_ok-open.ensures
     (subst (λ (x : HeldZone). HoldsAt k (without es (records_at x.sets k)) x (shown y c.remove.new.self)) c.self.view_is
-    (put_beside k (without es) i.changing c.remove.new.self z y (sym c.in_default.ensures.value) c.remove.ensures.updates.0 (c.remove-2.new.self, refl, none_there i.class k es i.sets c.remove-2.new.self (sym c.in_default-remove.ensures.value) c.remove-2.ensures.updates))))
+    (put_beside k (without es) i.changing c.remove.new.self z y (sym c.in_default.ensures.value) c.remove.ensures.updates.0 (
+      c.remove-2.new.self,
+      refl,
+      none_there i.class k es i.sets c.remove-2.new.self (sym c.in_default-remove.ensures.value) c.remove-2.ensures.updates,
+    ))))
 
 pub invariant_of-self-in-Break-branch-7 : goal.invariant_of-self-in-Break-branch-7
 invariant_of-self-in-Break-branch-7 c =

@@ -1,8 +1,9 @@
-use Rattle.op_use.proofs.HeldSteps.{none_updated, same_updated, updated_more}
+use Rattle.op_use.proofs.HeldSteps.{none_updated, same_updated, set_updated, updated_more}
 use Rattle.op_use.proofs.MapSteps.{taken_more}
-use Rattle.op_use.proofs.UpdateSteps.{after_nothing}
+use Rattle.op_use.proofs.UpdateSteps.{after_kept, after_nothing, after_part}
 use Rattle.op_use.proofs.apply.changing_zone.ChangingZone.update.Goals as goal
-use Rattle.op_use.proofs.apply.changing_zone.ChangingZone.update.Goals.{in-OfAny+in_ok-delete-in-OfAny, in-OfNone+in_ok-delete_record-in-OfNone, in-OfNothing, in-OfZone+in_ok-add-in-OfZone}
+use Rattle.op_use.proofs.apply.changing_zone.ChangingZone.update.Goals.{in-OfAny+in_ok-delete-in-OfAny, in-OfNone+in_ok-is_needed-in-OfNone+else-not-branch, in-OfNothing, in-OfZone+in_ok-add-in-OfZone}
+use Rattle.op_use.proofs.apply.changing_zone.ChangingZone.update.Goals.{in-OfNone+in_ok-is_needed-in-OfNone+then-not-branch+in_ok-take_data-in-OfNone}
 use Rattle.op_use.specs.HeldZone.{HeldZone}
 use Rattle.op_use.specs.MapUpdates.{IsUpdated, use_value}
 use Rattle.op_use.specs.Server.{use_of}
@@ -19,7 +20,14 @@ loop-entry-preserved c =
     let r = c.entry-item.result in
     let one : IsUpdated (r ∷ []) y c.match-use_of.self = elim c.match-use_of.branch [
       | in-OfAny+in_ok-delete-in-OfAny w ↦ subst (λ (x : HeldZone). IsUpdated (r ∷ []) y x) (sym w.self-is) w.in_ok-delete-in-OfAny.ensures
-      | in-OfNone+in_ok-delete_record-in-OfNone w ↦ subst (λ (x : HeldZone). IsUpdated (r ∷ []) y x) (sym w.self-is) w.in_ok-delete_record-in-OfNone.ensures
+      | in-OfNone+in_ok-is_needed-in-OfNone+then-not-branch+in_ok-take_data-in-OfNone w ↦ subst (λ (x : HeldZone). IsUpdated (r ∷ []) y x) (sym w.self-is)
+          (set_updated (r ∷ []) _ _ y _ w.in_ok-take_data-in-OfNone.ensures (λ n put h. after_part y.origin y.class y.sets n r h
+          (ap (λ (x : HeldZone). use_of x.class r.dns_class) (sym c.self.view_is) ∙ sym c.use_of.ensures ∙ ap use_value w.in-OfNone.is)
+          (sym w.in_ok-is_needed-in-OfNone.ensures ∙ w.if-not-branch.true) put))
+      | in-OfNone+in_ok-is_needed-in-OfNone+else-not-branch w ↦ subst (λ (x : HeldZone). IsUpdated (r ∷ []) y x) (sym w.self-is) (same_updated (r ∷ []) y (λ h.
+          after_kept y.origin y.class y.sets y.sets r h
+          (ap (λ (x : HeldZone). use_of x.class r.dns_class) (sym c.self.view_is) ∙ sym c.use_of.ensures ∙ ap use_value w.in-OfNone.is)
+          (sym w.in_ok-is_needed-in-OfNone.ensures ∙ w.if-not-branch.false)))
       | in-OfZone+in_ok-add-in-OfZone w ↦ subst (λ (x : HeldZone). IsUpdated (r ∷ []) y x) (sym w.self-is) w.in_ok-add-in-OfZone.ensures
       | in-OfNothing w ↦ subst (λ (x : HeldZone). IsUpdated (r ∷ []) y x) (sym w.self-is) (same_updated (r ∷ []) y (λ h.
           after_nothing y.origin y.class y.sets y.sets r h

@@ -13,13 +13,14 @@ use Rattle.std.proofs.Common.{ap, rules, subst, sym, true, ◌≡◌, ◌∙◌}
 use Rattle.std.specs.BTreeMap.{get}
 use Rattle.std.specs.List.{list_all, list_any}
 
-pub returns-in_default : goal.returns-in_default
-returns-in_default c =
+pub returns-in_default-get : goal.returns-in_default-get
+returns-in_default-get c =
     let z = c.args.self.now in
     let r = c.entry-item.result in
     let same : c.in_ok-key.key ≡ record_key c.entry-item.result = c.in_ok-key.ensures ∙ ap (key_of c.entry-item.result.name) c.record_type.ensures in
-    let own = ap (λ (y : HeldZone). is_by_value y.class c.entry-item.result) (sym c.self.view_is) ∙ sym c.is_by_value.ensures ∙ c.if-not-is_by_value.false in
-    let none = ap (λ (y : HeldZone). get key_cmp y.sets c.in_ok-key.key) (sym c.self.view_is) ∙ sym c.in_default.ensures.value in
+    let by_value : c.match-matches.matches ≡ is_by_value c.self.inside.class c.entry-item.result = search rules in
+    let own = ap (λ (y : HeldZone). is_by_value y.class c.entry-item.result) (sym c.self.view_is) ∙ sym by_value ∙ c.if-not-matches.false in
+    let none = ap (λ (y : HeldZone). get key_cmp y.sets c.in_ok-key.key) (sym c.self.view_is) ∙ sym c.in_default-get.ensures.value in
     one_fails (passes z.sets z.class c.args.entries.now) c.args.entries.now c.loop-entry.entry-index r _ c.loop-entry-test.true c.entry-item.is
     (not_there z.sets z.class c.args.entries.now r c.in_ok-key.key own same (ap (λ o. list_any (has_data_of c.entry-item.result) (records_in o)) none)) c.loop-entry.invariant.left
     ∙ all_met_same z.origin z.class z.sets c.args.entries.now
@@ -29,7 +30,8 @@ returns-then-not-branch c =
     let z = c.args.self.now in
     let r = c.entry-item.result in
     let same : c.in_ok-key.key ≡ record_key c.entry-item.result = c.in_ok-key.ensures ∙ ap (key_of c.entry-item.result.name) c.record_type.ensures in
-    let own = ap (λ (y : HeldZone). is_by_value y.class c.entry-item.result) (sym c.self.view_is) ∙ sym c.is_by_value.ensures ∙ c.if-not-is_by_value.false in
+    let by_value : c.match-matches.matches ≡ is_by_value c.self.inside.class c.entry-item.result = search rules in
+    let own = ap (λ (y : HeldZone). is_by_value y.class c.entry-item.result) (sym c.self.view_is) ∙ sym by_value ∙ c.if-not-matches.false in
     let there = ap (λ (y : HeldZone). get key_cmp y.sets c.in_ok-key.key) (sym c.self.view_is) ∙ sym c.in-Some.ensures.value in
     let found = sym c.if-not-branch.true ∙ c.in_ok-are_listed.ensures
     ∙ ap (λ (y : HeldZone). list_all (λ x. list_any (asks_for y.class c.entry-item.result x) c.args.entries.now) c.as_slice.result.now) c.self.view_is in
@@ -43,7 +45,8 @@ returns-then-not-branch-2 c =
     let z = c.args.self.now in
     let r = c.entry-item.result in
     let same : c.in_ok-key.key ≡ record_key c.entry-item.result = c.in_ok-key.ensures ∙ ap (key_of c.entry-item.result.name) c.record_type.ensures in
-    let own = ap (λ (y : HeldZone). is_by_value y.class c.entry-item.result) (sym c.self.view_is) ∙ sym c.is_by_value.ensures ∙ c.if-not-is_by_value.false in
+    let by_value : c.match-matches.matches ≡ is_by_value c.self.inside.class c.entry-item.result = search rules in
+    let own = ap (λ (y : HeldZone). is_by_value y.class c.entry-item.result) (sym c.self.view_is) ∙ sym by_value ∙ c.if-not-matches.false in
     let there = ap (λ (y : HeldZone). get key_cmp y.sets c.in_ok-key.key) (sym c.self.view_is) ∙ sym c.in-Some.ensures.value in
     one_fails (passes z.sets z.class c.args.entries.now) c.args.entries.now c.loop-entry.entry-index r _ c.loop-entry-test.true c.entry-item.is
     (not_there z.sets z.class c.args.entries.now r c.in_ok-key.key own same
@@ -56,7 +59,8 @@ loop-entry-preserved c =
     let z = c.args.self.now in
     let r = c.entry-item.result in
     let same : c.in_ok-key.key ≡ record_key c.entry-item.result = c.in_ok-key.ensures ∙ ap (key_of c.entry-item.result.name) c.record_type.ensures in
-    let own = ap (λ (y : HeldZone). is_by_value y.class c.entry-item.result) (sym c.self.view_is) ∙ sym c.is_by_value.ensures ∙ c.if-not-is_by_value.false in
+    let by_value : c.match-matches.matches ≡ is_by_value c.self.inside.class c.entry-item.result = search rules in
+    let own = ap (λ (y : HeldZone). is_by_value y.class c.entry-item.result) (sym c.self.view_is) ∙ sym by_value ∙ c.if-not-matches.false in
     let there : get key_cmp c.args.self.now.sets c.in_ok-key.key ≡ _ = ap (λ (y : HeldZone). get key_cmp y.sets c.in_ok-key.key) (sym c.self.view_is) ∙ sym c.in-Some.ensures.value in
     let known : (complete_at c.args.self.now.sets c.args.self.now.class c.args.entries.now c.in_ok-key.key ≡ true)
     × AreComplete c.args.self.now.sets c.args.self.now.class c.args.entries.now c.if-not-contains_key.held = elim c.if-not-contains_key.branch [
