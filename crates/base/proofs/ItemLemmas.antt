@@ -1,6 +1,7 @@
 -- Items that were written one after another, and going back after the last that fits.
-use Rattle.std.proofs.Common.{◌≡◌, ℕ, List, [], ◌∷◌, ◌++◌, length, take, map, refl, ap, sym, ◌∙◌, subst}
+use Rattle.std.proofs.Common.{◌≡◌, ℕ, Option, Some, List, [], ◌∷◌, ◌++◌, length, take, map, refl, ap, sym, ◌∙◌, subst}
 use Rattle.std.proofs.Math.Seq.{take-append_seam}
+use Rattle.std.specs.Iterator.{Yields, YieldsThen}
 use Rattle.base.specs.State.{State, cut}
 use Rattle.base.specs.Words.{BackToBack, none, more}
 use Rattle.base.specs.Laws.{IsValid, Holds, Keeps, Writes}
@@ -13,6 +14,11 @@ cut-Keeps a b k =
     let bytes : take (length a.bytes) b.bytes ≡ a.bytes = ap (take (length a.bytes)) k.bytes ∙ take-append_seam a.bytes k.appended in
     let suffixes : take (length a.suffixes) b.suffixes ≡ a.suffixes = ap (take (length a.suffixes)) k.suffixes ∙ take-append_seam a.suffixes k.added in
     λ i. record { buffer = k.buffer i; bytes = bytes i; limit = k.limit i; suffixes = suffixes i }
+
+-- the last item given is one item more
+pub Yields-push : {S A : Type 0} (steps : S → Option A → S → Type 0) (xs : List A) (x : A) (s t : S) → YieldsThen steps s xs (Some x) t → Yields steps s (xs ++ x ∷ []) t
+Yields-push steps [] x s t (u, same, step) = (t, subst (λ v. steps v (Some x) t) (sym same) step, refl)
+Yields-push steps (y ∷ ys) x s t (u, (v, first, others), step) = (v, first, Yields-push steps ys x v t (u, others, step))
 
 module _ {E : Type 0} (word : E → List ℕ → ℕ → ℕ → Type 0) (plain : E → ℕ) (owner : E → List (List ℕ)) where
   pub Each-keeps : (xs : List E) (a b : State) → EachWritten word plain owner xs a b → Keeps a b

@@ -81,6 +81,7 @@ impl Header {
 }
 
 /// QR, the opcode, AA, TC and RD.
+#[inline(always)]
 fn high_byte_of(metadata: &Metadata) -> u8
     ensures { let m = metadata.now in result
         ≡ high_byte (is_response m.message_type
@@ -96,6 +97,7 @@ fn high_byte_of(metadata: &Metadata) -> u8
 }
 
 /// RA, AD, CD and the code.
+#[inline(always)]
 fn low_byte_of(metadata: &Metadata) -> u8
     ensures { let m = metadata.now in result
         ≡ low_byte m.recursion_available m.authentic_data m.checking_disabled

@@ -1,6 +1,8 @@
 //! Reads messages (RFC 1035, 4.1).
 
-ghost use Rattle.std.specs.Prelude.{◌≡◌, ◌⊎◌, ◌+◌, Err, IfErr, IfOk, IsOkUnless, MatchResult, Ok, OnOk, ℕ};
+ghost use Rattle.std.specs.FinSet as set;
+ghost use Rattle.base.specs.declared.limits.TheConstants.{POINTER_LIMIT};
+ghost use Rattle.std.specs.Prelude.{◌≡◌, ◌⊎◌, ◌+◌, ◌≤◌, Err, IfErr, IfOk, IsOkUnless, MatchResult, Ok, OnOk, ℕ};
 ghost use Rattle.base.specs.Counts.{Counts, Passes};
 ghost use Rattle.base.specs.Many.{many_at};
 ghost use Rattle.base.specs.Passing.{AddsPassed};
@@ -127,6 +129,7 @@ impl Message {
     /// # Errors
     ///
     /// The first fault; `Memory` if memory runs out. A decoder that refused isn't used again.
+    #[inline(never)]
     #[tactic(auto, unfolding(crate::specs::Message::message_at))]
     pub fn read(decoder: &mut BinDecoder<'_>) -> Result<Message, DecodeError>
         ensures read { Reads message_value decoder.old decoder.new result
@@ -233,6 +236,7 @@ impl Section {
     /// # Errors
     ///
     /// The first fault; `Memory` if memory runs out. What was read before stays.
+    #[inline(always)]
     fn read(
         &mut self,
         decoder: &mut BinDecoder<'_>,
@@ -252,6 +256,36 @@ impl Section {
             decoder.new) }
     {
         let alloc = decoder.allocator();
+        if count == 0 {
+            return Ok(());
+        }
+        self.read_each(alloc, decoder, count, is_additional, op_code)
+    }
+
+    /// Reads these records. It stands by itself so that a section without records, as most messages have some, costs
+    /// no call.
+    #[inline(never)]
+    fn read_each(
+        &mut self,
+        alloc: Global,
+        decoder: &mut BinDecoder<'_>,
+        count: usize,
+        is_additional: bool,
+        op_code: OpCode,
+    ) -> Result<(), DecodeError>
+        requires empty { section_value self.old ≡ empty_section }
+        // No more targets of pointers are kept than a pointer can lead to.
+        requires few { set.len decoder.old.kept ≤ POINTER_LIMIT }
+        ensures read { Reads (λ _. section_value self.new) decoder.old decoder.new result
+            (section_at is_additional op_code count decoder.old.bytes decoder.old.index) }
+        // These two are as of every read: see `BinDecodable::read`.
+        ensures counts { Counts decoder.old decoder.new result }
+        ensures passed { Passes decoder.old decoder.new result }
+        // The decoder now also keeps the targets of these names' pointers, and no others.
+        ensures adds { IfOk result
+            (λ _. AddsPassed (records_places count decoder.old.bytes decoder.old.index) decoder.old
+            decoder.new) }
+    {
         // a count that is too high makes no more room than the bytes left could fill
         if count > 2 {
             self.reserve(count.min(decoder.len() / SHORTEST))?;

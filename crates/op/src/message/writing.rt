@@ -241,6 +241,7 @@ struct Written {
 }
 
 /// Writes a part, and counts what has room.
+#[inline(always)]
 fn emit_part<P: EmitAndCount>(
     part: &mut P,
     encoder: &mut BinEncoder<'_>,

@@ -3,6 +3,8 @@
 ghost use Rattle.base.specs.Items.{IsCountable, EmitsAll, StaysValid};
 ghost use Rattle.base.specs.Laws.{Keeps};
 ghost use Rattle.base.specs.Wire.{state_of};
+ghost use Rattle.std.specs.Iterator.{UpTo};
+ghost use Rattle.std.specs.Prelude.{Some, ◌^◌, ◌-◌};
 
 use crate::error::ProtoError;
 use crate::wire::encodable::BinEncodable;
@@ -17,6 +19,7 @@ impl<'a> BinEncoder<'a> {
     /// # Errors
     ///
     /// `Memory` if memory runs out.
+    #[inline(always)]
     pub fn emit_all<E: BinEncodable + Drop, I: Iterator<Item = E>>(
         &mut self,
         items: &mut I,
@@ -33,8 +36,38 @@ impl<'a> BinEncoder<'a> {
         ensures emits { EmitsAll E.word E.plain_len E.owner E.written I.next_gives items.old
             items.new (state_of self.old) (state_of self.new) result }
     {
+        match items.next() {
+            Some(first) => self.emit_from(first, items),
+            None => Ok(0),
+        }
+    }
+
+    /// Writes this item and those that the iterator gives after it. It stands by itself so that a part without items,
+    /// as most messages have some, costs no call.
+    ///
+    /// # Errors
+    ///
+    /// As of `emit_all`.
+    #[inline(never)]
+    fn emit_from<E: BinEncodable + Drop, I: Iterator<Item = E>>(
+        &mut self,
+        first: E,
+        items: &mut I,
+    ) -> Result<usize, ProtoError>
+        requires can { I.can_next items.old }
+        // It gives fewer items than a `usize` can count, since this one is counted too.
+        requires countable { UpTo (I.remaining items.old) (2 ^ 64 - 2) }
+        ensures keeps { Keeps (state_of self.old) (state_of self.new) }
+        ensures valid { StaysValid (state_of self.old) (state_of self.new) result }
+        // From wherever the iterator gave this item, all were written in turn that it gave, or those
+        // before the first that has no room.
+        ensures emits { (before : I) → I.next_gives before (Some first) items.old
+            → EmitsAll E.word E.plain_len E.owner E.written I.next_gives before items.new
+            (state_of self.old) (state_of self.new) result }
+    {
         let mut count = 0;
-        while let Some(item) = items.next() {
+        let mut next = Some(first);
+        while let Some(item) = next {
             let mark = self.mark();
             match item.emit(self) {
                 Ok(()) => count += 1,
@@ -46,6 +79,7 @@ impl<'a> BinEncoder<'a> {
                     other => return Err(other),
                 },
             }
+            next = items.next();
         }
         Ok(count)
     }
