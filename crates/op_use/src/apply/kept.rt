@@ -32,10 +32,10 @@ impl<'a> Zone<'a> {
             if seen.contains(&key) {
                 continue;
             }
-            seen.insert(key.clone()?)?;
             let (Some(set), Some(now)) = (was.get(&key), self.sets.get(&key)) else {
                 continue;
             };
+            seen.insert(key.clone()?)?;
             if !are_same(set.as_slice(), now.as_slice()) {
                 continue;
             }

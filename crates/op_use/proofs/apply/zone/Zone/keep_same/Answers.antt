@@ -45,7 +45,6 @@ loop-entry-preserved-in_default c =
     let k = c.in_ok-key.key in
     let y : HeldZone = record { origin = c.loop-entry.self-inside.origin.now; class = c.loop-entry.self-inside.class; sets = c.loop-entry.self-inside.sets } in
     let own : c.in_ok-key.key ≡ record_key c.entry-item.result = c.in_ok-key.ensures ∙ ap (key_of c.entry-item.result.name) c.record_type.ensures in
-    let copy_is : c.in_ok-clone.field-0 ≡ c.in_ok-key.key = search rules in
     let before = same_class (names_set (take i es)) c.args.was.now c.args.self.now y c.loop-entry.invariant.back c.requires in
     let missing : (get key_cmp c.args.was.now c.in_ok-key.key ≡ None) ⊎ (get key_cmp c.loop-entry.self-inside.sets c.in_ok-key.key ≡ None) = elim c.in_default.branch [
       | in_default-via-in-Some+in_default w ↦ inr (sym w.in_default.ensures'.value)
@@ -62,8 +61,7 @@ loop-entry-preserved-in_default c =
           (named_both es i c.entry-item.result k c.loop-entry-test.true c.entry-item.is own)
           (one_stays (names_set (take i es)) k c.args.was.now c.args.self.now y c.loop-entry.invariant.back
           (stays_missing y.class k c.args.was.now y.sets before c.loop-entry.invariant.map missing)));
-      named = λ q. seen_more es i c.entry-item.result c.in_ok-clone.field-0 c.loop-entry-test.true c.entry-item.is (copy_is ∙ own) q
-          (contains key_cmp c.loop-entry.seen q) (contains key_cmp c.insert.new.self q) (c.in_ok-insert.ensures.updates.0 q) (c.loop-entry.invariant.named q);
+      named = λ q h. still_named es i c.entry-item.result k c.loop-entry-test.true c.entry-item.is own q (c.loop-entry.invariant.named q h);
     }
 
 pub loop-entry-preserved-then-not-are_same : goal.loop-entry-preserved-then-not-are_same
