@@ -90,16 +90,19 @@ impl BinEncodable for EdnsOption {
 
     ghost says = { option_says };
 
-    /// Writes the code, the number of the bytes, and the bytes (RFC 6891, 6.1.2).
+    /// Writes the code, the number of the bytes, and the bytes (RFC 6891, 6.1.2). The first two are written at once,
+    /// since that is faster.
     ///
     /// # Errors
     ///
     /// `MaxBufferSizeExceeded` where a byte would pass the limit; `Memory` if memory runs out.
     fn emit(&self, encoder: &mut BinEncoder<'_>) -> Result<(), ProtoError> {
         let bytes = self.bytes();
-        self.code().emit(encoder)?;
-        (bytes.len() as u16).emit(encoder)?;
-        encoder.emit_slice(bytes)
+        let [code_high, code_low] = self.code().to_be_bytes();
+        let [len_high, len_low] = (bytes.len() as u16).to_be_bytes();
+        encoder.emit_slice(&[code_high, code_low, len_high, len_low])?;
+        encoder.emit_slice(bytes)?;
+        Ok(())
     }
 }
 
