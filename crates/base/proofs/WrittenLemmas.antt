@@ -1,13 +1,9 @@
 -- What is written, of parts.
-use Rattle.std.proofs.Common.{◌≡◌, ◌≢◌, ℕ, zero, suc, ◌+◌, ◌<◌, ◌≤◌, inl, inr, List, [], ◌∷◌, ◌++◌, length, map, take, get_or, refl, ap, sym, ◌∙◌, subst, append_assoc, arith, length-append, Bool, true, false, cond}
-use Rattle.std.specs.Prelude.{Option, Some, None, Result, Ok, Err, All, Any, MatchOption, nat_le}
-use Rattle.std.specs.List.{AllPairs}
-use Rattle.std.proofs.lemmas.Bool.{cases_Bool}
+use Rattle.std.proofs.Common.{◌≡◌, ℕ, zero, suc, ◌+◌, ◌<◌, ◌≤◌, List, [], ◌∷◌, ◌++◌, length, map, take, get_or, refl, ap, sym, ◌∙◌, subst, append_assoc, arith, length-append, Bool, true, false, cond}
+use Rattle.std.specs.Prelude.{Option, Some, None, Result, Ok, Err, nat_le}
 use Rattle.std.proofs.lemmas.List.{append-nil, take_more}
 use Rattle.base.specs.declared.error.proto_error.ProtoError.{ProtoError}
 use Rattle.base.specs.declared.error.proto_error.ProtoError.TheVariants as refusals
-use Rattle.base.specs.NameOrder.{same_labels}
-use Rattle.base.specs.NameOrderLaws.{labels_decide}
 use Rattle.base.specs.State.{State, Stored, appended, stored}
 use Rattle.base.specs.Wire.{Refuses}
 use Rattle.base.specs.Written.{Writing, piece_at, after, Exactly, just, both, in_turn, pointer, found_in, pointer_or, label_of, name}
@@ -65,38 +61,6 @@ Exactly-refuses (Err refusals.MaxBufferSizeExceeded) n f a z few is = omega (ari
 Exactly-refuses (Err e) n f a z few is = is
 
 -- ---- names
-
--- the first of the stored suffixes has these labels, or not
-found_first : (t : Stored) (ts : List Stored) (labels : List (List ℕ)) → t.labels ≡ labels → found_in (t ∷ ts) labels ≡ Some t.offset
-found_first t ts labels is = ap (λ (b : Bool). cond b (Some t.offset) (found_in ts labels)) ((labels_decide t.labels labels).1 is)
-
-found_later : (t : Stored) (ts : List Stored) (labels : List (List ℕ)) → t.labels ≢ labels → found_in (t ∷ ts) labels ≡ found_in ts labels
-found_later t ts labels other = elim (cases_Bool (same_labels t.labels labels)) [
-  | inl same ↦ absurd (other ((labels_decide t.labels labels).0 same))
-  | inr differ ↦ ap (λ (b : Bool). cond b (Some t.offset) (found_in ts labels)) differ
-]
-
--- no suffix has these labels
-found_none : (ts : List Stored) (labels : List (List ℕ)) → All (λ t. t.labels ≢ labels) ts → found_in ts labels ≡ None
-found_none [] labels none = refl
-found_none (t ∷ ts) labels none =
-    found_later t ts labels (none 0 t (omega arith)) ∙ found_none ts labels (λ k d inside. none (suc k) d (omega arith))
-
--- a suffix has them, and each is there once
-found_some : (ts : List Stored) (labels : List (List ℕ)) (k o : ℕ) (t : Stored) → AllPairs (λ s u. s.labels ≢ u.labels) ts
-    → k < length ts → get_or ts k t ≡ t → t.labels ≡ labels → t.offset ≡ o → found_in ts labels ≡ Some o
-found_some [] labels k o t once inside at is place = absurd (omega arith)
-found_some (u ∷ ts) labels zero o t once inside at is place =
-    found_first u ts labels (ap (λ (v : Stored). v.labels) at ∙ is) ∙ ap (λ (n : ℕ). Some n) (ap (λ (v : Stored). v.offset) at ∙ place)
-found_some (u ∷ ts) labels (suc k) o t once inside at is place =
-    let other : u.labels ≢ labels = λ same. once 0 (suc k) t (omega arith) inside (same ∙ sym is ∙ sym (ap (λ (v : Stored). v.labels) at)) in
-    found_later u ts labels other
-    ∙ found_some ts labels k o t (λ i j d less inner. once (suc i) (suc j) d (omega arith) (omega arith)) (omega arith) at is place
-
-pub found_in-is : (ts : List Stored) (labels : List (List ℕ)) (r : Option ℕ) → AllPairs (λ s u. s.labels ≢ u.labels) ts
-    → MatchOption r (All (λ t. t.labels ≢ labels) ts) (λ offset. Any (λ t. (t.labels ≡ labels) × (t.offset ≡ offset)) ts) → r ≡ found_in ts labels
-found_in-is ts labels None once none = sym (found_none ts labels none)
-found_in-is ts labels (Some o) once (k, t, inside, at, is) = sym (found_some ts labels k o t once inside at is.0 is.1)
 
 -- a pointer to the rest, where it is stored
 pub name-pointer : (rest : List (List ℕ)) (x : List ℕ) (xs : List (List ℕ)) (o : ℕ) (s : State) → rest ≡ x ∷ xs → Some o ≡ found_in s.suffixes rest

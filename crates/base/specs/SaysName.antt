@@ -4,9 +4,9 @@ use Rattle.std.proofs.Common.{◌≡◌, ◌≢◌, ℕ, suc, ◌+◌, ◌<◌, 
 use Rattle.std.specs.Prelude.{Option, Some, None, All, Any, MatchOption, nat_le, if◌then◌else◌}
 use Rattle.std.specs.Int.{w16, to_be_bytes}
 use Rattle.std.proofs.Math.Path.{transport}
-use Rattle.std.proofs.lemmas.Bool.{cases_lt, le-leb, lt-leb}
+use Rattle.std.proofs.lemmas.Bool.{cases_Bool, cases_lt, le-leb, lt-leb}
 use Rattle.std.proofs.lemmas.List.{append-nil}
-use Rattle.std.proofs.lemmas.List.Elements.{All-nil, All-cons, All-append}
+use Rattle.std.proofs.lemmas.List.Elements.{All-nil, All-cons, All-tail, All-append}
 use Rattle.base.specs.Labels.{size_of, plain_len, wire_of, AreLabels, AreNameLabels}
 use Rattle.base.specs.Laws.{IsSpelled}
 use Rattle.base.specs.NameOrder.{same_labels}
@@ -69,24 +69,26 @@ pub found_as : (ts : List Stored) (labels : List (List ℕ)) {r : Option ℕ} �
     → IsFoundIn ts labels r
 found_as ts labels is = subst (IsFoundIn ts labels) is (is_found ts labels)
 
--- where no suffix has the labels, none is found
+-- suffixes of other labels before the others change nothing
+pub found_past : (ts own : List Stored) (labels : List (List ℕ)) → All (λ t. t.labels ≢ labels) ts
+    → found_in (ts ++ own) labels ≡ found_in own labels
+found_past [] own labels none = refl
+found_past (t ∷ ts) own labels none = elim (cases_Bool (same_labels t.labels labels)) [
+  | inl same ↦ absurd (none 0 t (omega arith) ((labels_decide t.labels labels).0 same))
+  | inr differ ↦ rw differ (found_past ts own labels (All-tail (λ u. u.labels ≢ labels) t ts none))
+]
+
 pub none_found : (ts : List Stored) (labels : List (List ℕ)) → All (λ t. t.labels ≢ labels) ts
     → found_in ts labels ≡ None
-none_found ts labels none = go (found_in ts labels) (is_found ts labels) where
-  go : (r : Option ℕ) → IsFoundIn ts labels r → r ≡ None
-  go None is = refl
-  go (Some o) (k, t, inside, at, is) =
-      absurd (none k t inside (ap (λ (u : Stored). u.labels) at ∙ is.0))
+none_found ts labels none = rw append-nil at (found_past ts [] labels none)
 
--- suffixes after the others, all longer, change nothing
-found_among : (old own : List Stored) (labels : List (List ℕ))
-    → All (λ t. size_of labels < size_of t.labels) own
-    → found_in (old ++ own) labels ≡ found_in old labels
-found_among [] own labels longer = none_found own labels
-    (λ k t inside same. omega (arith, longer k t inside, ap size_of same))
-found_among (t ∷ old) own labels longer =
+-- nor do such after them
+pub found_among : (ts own : List Stored) (labels : List (List ℕ))
+    → All (λ t. t.labels ≢ labels) own → found_in (ts ++ own) labels ≡ found_in ts labels
+found_among [] own labels none = none_found own labels none
+found_among (t ∷ ts) own labels none =
     ap (λ (r : Option ℕ). cond (same_labels t.labels labels) (Some t.offset) r)
-    (found_among old own labels longer)
+    (found_among ts own labels none)
 
 -- what writing a name puts: its bytes, where they end, and the suffixes that it adds
 pub record Put : Type 0 where
@@ -140,7 +142,8 @@ wrote_after [] at old own stored is longer =
 wrote_after (x ∷ xs) at old own stored is longer =
     let added = added_at x xs at in
     let same : found_in stored (x ∷ xs) ≡ found_in old (x ∷ xs) =
-    ap (λ (ts : List Stored). found_in ts (x ∷ xs)) is ∙ found_among old own (x ∷ xs) longer in
+    ap (λ (ts : List Stored). found_in ts (x ∷ xs)) is ∙ found_among old own (x ∷ xs)
+    (λ k t inside same. omega (arith, longer k t inside, ap size_of same)) in
     let all : All (λ t. size_of xs < size_of t.labels) (own ++ added) =
     All-append (λ (t : Stored). size_of xs < size_of t.labels) own added
     (λ k t inside. omega (arith, longer k t inside))
