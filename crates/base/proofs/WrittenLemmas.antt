@@ -1,12 +1,11 @@
 -- What is written, of parts.
 use Rattle.std.proofs.Common.{◌≡◌, ℕ, zero, suc, ◌+◌, ◌<◌, ◌≤◌, List, [], ◌∷◌, ◌++◌, length, map, take, get_or, refl, ap, sym, ◌∙◌, subst, append_assoc, arith, length-append, Bool, true, false, cond}
-use Rattle.std.specs.Prelude.{Option, Some, None, Result, Ok, Err, nat_le}
+use Rattle.std.specs.Prelude.{Option, Result, Ok, Err, nat_le}
 use Rattle.std.proofs.lemmas.List.{append-nil, take_more}
 use Rattle.base.specs.declared.error.proto_error.ProtoError.{ProtoError}
 use Rattle.base.specs.declared.error.proto_error.ProtoError.TheVariants as refusals
 use Rattle.base.specs.State.{State, Stored, appended, stored}
-use Rattle.base.specs.Wire.{Refuses}
-use Rattle.base.specs.Written.{Writing, piece_at, after, Exactly, just, both, in_turn, pointer, found_in, pointer_or, label_of, name}
+use Rattle.base.specs.Written.{Writing, piece_at, after, Exactly, just, both, in_turn, found_in, pointer_or, label_of, name}
 
 abbrev state : ℕ → ℕ → List ℕ → List Stored → State
 state buffer limit bytes suffixes = record { buffer = buffer; bytes = bytes; limit = limit; suffixes = suffixes }
@@ -54,32 +53,12 @@ Exactly-first X Y e f g a s z is =
 pub Exactly-same : {X : Type 0} (r : Result X ProtoError) (f g : Writing) (a z : State) → f ≡ g → Exactly f a z r → Exactly g a z r
 Exactly-same r f g a z same is = subst (λ (h : Writing). Exactly h a z r) same is
 
--- where at most as many bytes are written, more than as many would pass the limit where these do
-pub Exactly-refuses : {X : Type 0} (r : Result X ProtoError) (n : ℕ) (f : Writing) (a z : State) → length (piece_at f a).bytes ≤ n → Exactly f a z r → Refuses n a r
-Exactly-refuses (Ok x) n f a z few is = tt
-Exactly-refuses (Err refusals.MaxBufferSizeExceeded) n f a z few is = omega (arith, is)
-Exactly-refuses (Err e) n f a z few is = is
-
 -- ---- names
 
--- a pointer to the rest, where it is stored
-pub name-pointer : (rest : List (List ℕ)) (x : List ℕ) (xs : List (List ℕ)) (o : ℕ) (s : State) → rest ≡ x ∷ xs → Some o ≡ found_in s.suffixes rest
-    → after (name rest) s ≡ after (pointer o) s
-name-pointer rest x xs o s is found =
-    ap (λ (ls : List (List ℕ)). after (name ls) s) is
-    ∙ ap (λ (r : Option ℕ). after (pointer_or (both (label_of x xs) (name xs)) r) s) (sym (found ∙ ap (found_in s.suffixes) is))
-
--- and else a label
-pub name-label : (rest : List (List ℕ)) (x : List ℕ) (xs : List (List ℕ)) (s : State) → rest ≡ x ∷ xs → None ≡ found_in s.suffixes rest
-    → after (name rest) s ≡ after (name xs) (after (label_of x xs) s)
-name-label rest x xs s is found =
-    ap (λ (ls : List (List ℕ)). after (name ls) s) is
-    ∙ ap (λ (r : Option ℕ). after (pointer_or (both (label_of x xs) (name xs)) r) s) (sym (found ∙ ap (found_in s.suffixes) is))
-    ∙ after-both (label_of x xs) (name xs) s
-
--- the zero byte at the end
-pub name-root : (rest : List (List ℕ)) (s : State) → rest ≡ [] → after (name rest) s ≡ after (just (0 ∷ [])) s
-name-root rest s is = ap (λ (ls : List (List ℕ)). after (name ls) s) is
+-- a name with a label, by what is found of it
+pub name-by : (rest : List (List ℕ)) (x : List ℕ) (xs : List (List ℕ)) (r : Option ℕ) (s : State) → rest ≡ x ∷ xs
+    → r ≡ found_in s.suffixes rest → after (name rest) s ≡ after (pointer_or (both (label_of x xs) (name xs)) r) s
+name-by rest x xs r s is found = rw (is, found, is)
 
 store_or_not : (far : Bool) (m : State) (ts : List Stored) → cond far m (record m { suffixes = ts }) ≡ record m { suffixes = cond far m.suffixes ts }
 store_or_not true m ts = refl
@@ -88,20 +67,6 @@ store_or_not false m ts = refl
 -- what writing a label and storing the suffix that it begins makes of a state
 pub label-after : (x : List ℕ) (xs : List (List ℕ)) (s : State) → stored (x ∷ xs) (length s.bytes) (appended (length x ∷ x) s) ≡ after (label_of x xs) s
 label-after x xs s = store_or_not (nat_le 16384 (length s.bytes)) (appended (length x ∷ x) s) (s.suffixes ++ record { labels = x ∷ xs; offset = length s.bytes } ∷ [])
-
--- what a label takes is among what the name takes
-pub label-fits : (a s : State) (labels rest : List (List ℕ)) (x : List ℕ) (xs : List (List ℕ)) → after (name labels) a ≡ after (name rest) s → rest ≡ x ∷ xs → None ≡ found_in s.suffixes rest
-    → length s.bytes + (1 + length x) ≤ length a.bytes + length (piece_at (name labels) a).bytes
-label-fits a s labels rest x xs same is found =
-    let whole = same ∙ name-label rest x xs s is found in
-    let m = after (label_of x xs) s in
-    omega (
-      arith,
-      ap (λ (u : State). length u.bytes) whole,
-      length-append a.bytes (piece_at (name labels) a).bytes,
-      length-append m.bytes (piece_at (name xs) m).bytes,
-      length-append s.bytes (length x ∷ x),
-    )
 
 -- ---- items
 
