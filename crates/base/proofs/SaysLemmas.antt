@@ -1,6 +1,6 @@
 -- What follows of the states of an encoder from what is known of what is written: what stood stays, it was written as
 -- its word, and it was refused only where it has too many bytes.
-use Rattle.std.proofs.Common.{◌≡◌, ℕ, ◌+◌, ◌^◌, ◌<◌, ◌≤◌, List, ◌∷◌, length, drop, refl, ◌∙◌, ap, sym, subst, arith, length-append}
+use Rattle.std.proofs.Common.{◌≡◌, ℕ, ◌+◌, ◌^◌, ◌<◌, ◌≤◌, List, ◌∷◌, length, drop, refl, ◌∙◌, ap, arith, length-append}
 use Rattle.std.specs.Prelude.{Result, Ok, Err, OnOk, max}
 use Rattle.std.proofs.Math.Seq.{drop-append_seam}
 use Rattle.base.specs.declared.error.proto_error.ProtoError.{ProtoError}
@@ -12,6 +12,7 @@ use Rattle.base.specs.SaysName.{added_at, near, near_all, name_wrote, ends_at, s
 use Rattle.base.specs.SaysParts.{any_after}
 use Rattle.base.specs.State.{State, Stored}
 use Rattle.base.specs.Wire.{Refuses}
+use Rattle.base.proofs.LawLemmas.{Keeps-after}
 use Rattle.base.specs.Written.{Writing, Exactly, piece_at, after, label_of, name}
 
 module _ {F : Type 0} {word : List ℕ → ℕ → ℕ → Type 0} {plain : ℕ} {owner : List (List ℕ)} (f : Writing) (a b : State)
@@ -48,16 +49,7 @@ module _ {F : Type 0} {word : List ℕ → ℕ → ℕ → Type 0} {plain : ℕ}
   pub Says-keeps : b ≡ after f a → length b.bytes ≤ max (length a.bytes) a.limit → Keeps a b
   Says-keeps is within =
       let w = s.each (length a.bytes) a.suffixes in
-      record {
-        appended = (piece_at f a).bytes;
-        added = w.added;
-        bytes = ap (λ (u : State). u.bytes) is;
-        suffixes = ap (λ (u : State). u.suffixes) is ∙ w.is;
-        offsets = w.offsets;
-        limit = ap (λ (u : State). u.limit) is;
-        buffer = ap (λ (u : State). u.buffer) is;
-        within = within;
-      }
+      Keeps-after f a b w.added is w.is w.offsets within
 
   -- what was written exactly was written as its word, or refused for more bytes than it has
   pub Exactly-writes : {X : Type 0} (r : Result X ProtoError) → Exactly f a b r → OnOk r F
@@ -89,15 +81,10 @@ name-stores labels a b is =
     }
 
 -- a label that fits keeps what stood before
-pub Keeps-label : (x : List ℕ) (xs : List (List ℕ)) (s z : State) → z ≡ after (label_of x xs) s → length s.bytes + (1 + length x) ≤ s.limit → Keeps s z
+pub Keeps-label : (x : List ℕ) (xs : List (List ℕ)) (s z : State) → z ≡ after (label_of x xs) s
+    → length s.bytes + (1 + length x) ≤ s.limit → Keeps s z
 Keeps-label x xs s z is within =
-    subst (λ (u : State). Keeps s u) (sym is) (record {
-      appended = length x ∷ x;
-      added = added_at x xs (length s.bytes);
-      bytes = refl;
-      suffixes = near x xs (length s.bytes) s.suffixes;
-      offsets = near_all (λ (t : Stored). length s.bytes ≤ t.offset) x xs (length s.bytes) (λ early. omega arith);
-      limit = refl;
-      buffer = refl;
-      within = omega (arith, within, length-append s.bytes (length x ∷ x));
-    })
+    let at = length s.bytes in
+    Keeps-after (label_of x xs) s z (added_at x xs at) is (near x xs at s.suffixes)
+    (near_all (λ (t : Stored). at ≤ t.offset) x xs at (λ early. omega arith))
+    (omega (arith, within, ap (λ (u : State). length u.bytes) is, length-append s.bytes (length x ∷ x)))
