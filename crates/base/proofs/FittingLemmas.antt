@@ -1,5 +1,5 @@
 -- What fits: all where there is room for all, and no fewer under a larger limit.
-use Rattle.std.proofs.Common.{◌≡◌, ℕ, ◌+◌, ◌<◌, ◌≤◌, inl, inr, List, [], ◌∷◌, ◌++◌, length, refl, ap, sym, ◌∙◌, subst, arith, length-append, Bool, cond}
+use Rattle.std.proofs.Common.{◌≡◌, ℕ, ◌+◌, ◌<◌, ◌≤◌, inl, inr, List, [], ◌∷◌, ◌++◌, length, refl, ap, sym, ◌∙◌, subst, arith, length-append}
 use Rattle.std.proofs.lemmas.Bool.{cases_lt, le-leb, lt-leb}
 use Rattle.base.specs.State.{State, Stored}
 use Rattle.base.specs.Written.{Writing, piece_at, after, in_turn, that_fit, fitting, FirstPasses, FirstPassesAt}
@@ -8,12 +8,10 @@ use Rattle.base.proofs.WrittenLemmas.{after-both, after-none}
 module _ {A : Type 0} (f : A → Writing) where
   pub first_fits : (limit : ℕ) (x : A) (xs : List A) (at : ℕ) (stored : List Stored) → at + length (f x at stored).bytes ≤ limit
       → that_fit f limit (x ∷ xs) at stored ≡ x ∷ that_fit f limit xs (at + length (f x at stored).bytes) (f x at stored).suffixes
-  first_fits limit x xs at stored fits =
-      ap (λ (b : Bool). cond b (x ∷ that_fit f limit xs (at + length (f x at stored).bytes) (f x at stored).suffixes) []) (le-leb (at + length (f x at stored).bytes) limit fits)
+  first_fits limit x xs at stored fits = rw (le-leb (at + length (f x at stored).bytes) limit fits)
 
   pub none_fits : (limit : ℕ) (x : A) (xs : List A) (at : ℕ) (stored : List Stored) → limit < at + length (f x at stored).bytes → that_fit f limit (x ∷ xs) at stored ≡ []
-  none_fits limit x xs at stored full =
-      ap (λ (b : Bool). cond b (x ∷ that_fit f limit xs (at + length (f x at stored).bytes) (f x at stored).suffixes) []) (lt-leb (at + length (f x at stored).bytes) limit full)
+  none_fits limit x xs at stored full = rw (lt-leb (at + length (f x at stored).bytes) limit full)
 
   pub all_fit : (limit : ℕ) (xs : List A) (at : ℕ) (stored : List Stored) → at + length (in_turn f xs at stored).bytes ≤ limit → that_fit f limit xs at stored ≡ xs
   all_fit limit [] at stored room = refl
@@ -27,18 +25,11 @@ module _ {A : Type 0} (f : A → Writing) where
       → (others : List A) × (that_fit f more xs at stored ≡ that_fit f limit xs at stored ++ others)
   no_fewer_fit limit more [] at stored larger = ([], refl)
   no_fewer_fit limit more (x ∷ xs) at stored larger = elim (cases_lt limit (at + length (f x at stored).bytes)) [
-    | inl full ↦ (
-      that_fit f more (x ∷ xs) at stored,
-      ap (λ (ys : List A). ys ++ that_fit f more (x ∷ xs) at stored) (sym (none_fits limit x xs at stored full)),
-    )
+    | inl full ↦ rw (none_fits limit x xs at stored full) (that_fit f more (x ∷ xs) at stored, refl)
     | inr fits ↦
-        let place = at + length (f x at stored).bytes in
-        let (others, is) = no_fewer_fit limit more xs place (f x at stored).suffixes larger in (
-          others,
-          first_fits more x xs at stored (omega (arith, fits, larger))
-              ∙ ap (λ (ys : List A). x ∷ ys) is
-              ∙ ap (λ (ys : List A). ys ++ others) (sym (first_fits limit x xs at stored fits)),
-        )
+        let (others, is) = no_fewer_fit limit more xs (at + length (f x at stored).bytes) (f x at stored).suffixes larger in
+        rw (first_fits limit x xs at stored fits, first_fits more x xs at stored (omega (arith, fits, larger)))
+        (others, ap (λ (ys : List A). x ∷ ys) is)
   ]
 
 module _ {A : Type 0} (f : A → Writing) (limit : ℕ) where
@@ -47,8 +38,7 @@ module _ {A : Type 0} (f : A → Writing) (limit : ℕ) where
       → that_fit f limit (kept ++ lost) (length a.bytes) a.suffixes ≡ kept
   Fits-front [] [] a b is within full = refl
   Fits-front [] (x ∷ lost) a b is within full =
-      let same : b ≡ a = is ∙ after-none a in
-      none_fits f limit x lost (length a.bytes) a.suffixes (subst (λ (u : State). limit < length u.bytes + length (piece_at (f x) u).bytes) same full)
+      none_fits f limit x lost (length a.bytes) a.suffixes (rw (is ∙ after-none a) at full)
   Fits-front (y ∷ kept) lost a b is within full =
       let m = after (f y) a in
       let rest : b ≡ after (in_turn f kept) m = is ∙ after-both (f y) (in_turn f kept) a in

@@ -1,6 +1,6 @@
 -- The laws of writing, for what appends bytes and for what is written in parts.
 use Rattle.std.proofs.Common.{rules, ◌≡◌, ℕ, ◌+◌, ◌≤◌, List, [], ◌++◌, length, drop, ap, sym, ◌∙◌, subst, append_assoc, arith, length-append}
-use Rattle.std.specs.Prelude.{Option, Some, None}
+use Rattle.std.specs.Prelude.{Option, Some, None, All, max}
 use Rattle.std.proofs.lemmas.List.{append-nil}
 use Rattle.std.proofs.lemmas.List.Elements.{All-nil, All-append, All-weaker}
 use Rattle.std.proofs.Math.Seq.{drop-append_seam, take-length}
@@ -8,35 +8,35 @@ use Rattle.base.specs.State.{State, Stored, appended}
 use Rattle.base.specs.Words.{Stands}
 use Rattle.base.specs.Laws.{IsValid, Holds, Keeps}
 use Rattle.base.specs.WordLemmas.{first_stands, stands_part}
+use Rattle.base.specs.Written.{Writing, piece_at, after, just}
+use Rattle.base.proofs.WrittenLemmas.{after-none}
 
 pub none_is_not : {A : Type 0} (x : A) → ◌≡◌ {A = Option A} None (Some x) → ⊥
 none_is_not x same = search rules
 
--- nothing was written
-pub Keeps-same : (a b : State) → b ≡ a → Keeps a b
-Keeps-same a b same = record {
-  appended = [];
-  added = [];
-  bytes = ap (λ (s : State). s.bytes) same ∙ sym (append-nil a.bytes);
-  suffixes = ap (λ (s : State). s.suffixes) same ∙ sym (append-nil a.suffixes);
-  offsets = All-nil (λ (t : Stored). length a.bytes ≤ t.offset);
-  limit = ap (λ (s : State). s.limit) same;
-  buffer = ap (λ (s : State). s.buffer) same;
-  within = omega (arith, ap (λ (s : State). length s.bytes) same);
-}
-
--- bytes were appended
-pub Keeps-appended : (xs : List ℕ) (a b : State) → b ≡ appended xs a → length b.bytes ≤ a.limit → Keeps a b
-Keeps-appended xs a b is within = record {
-  appended = xs;
-  added = [];
+-- what was written after what stood keeps it, and suffixes that are added to those before
+pub Keeps-after : (f : Writing) (a b : State) (added : List Stored) → b ≡ after f a
+    → (piece_at f a).suffixes ≡ a.suffixes ++ added → All (λ t. length a.bytes ≤ t.offset) added
+    → length b.bytes ≤ max (length a.bytes) a.limit → Keeps a b
+Keeps-after f a b added is more offsets within = record {
+  appended = (piece_at f a).bytes;
+  added = added;
   bytes = ap (λ (s : State). s.bytes) is;
-  suffixes = ap (λ (s : State). s.suffixes) is ∙ sym (append-nil a.suffixes);
-  offsets = All-nil (λ (t : Stored). length a.bytes ≤ t.offset);
+  suffixes = ap (λ (s : State). s.suffixes) is ∙ more;
+  offsets = offsets;
   limit = ap (λ (s : State). s.limit) is;
   buffer = ap (λ (s : State). s.buffer) is;
-  within = omega arith;
+  within = within;
 }
+
+-- bytes were appended, or nothing was written
+pub Keeps-appended : (xs : List ℕ) (a b : State) → b ≡ appended xs a → length b.bytes ≤ a.limit → Keeps a b
+Keeps-appended xs a b is within = Keeps-after (just xs) a b [] is (sym (append-nil a.suffixes))
+    (All-nil (λ (t : Stored). length a.bytes ≤ t.offset)) (omega arith)
+
+pub Keeps-same : (a b : State) → b ≡ a → Keeps a b
+Keeps-same a b same = Keeps-after (just []) a b [] (same ∙ sym (after-none a)) (sym (append-nil a.suffixes))
+    (All-nil (λ (t : Stored). length a.bytes ≤ t.offset)) (omega (arith, ap (λ (s : State). length s.bytes) same))
 
 -- ---- one writing after another
 

@@ -1,16 +1,11 @@
 -- What is written, of parts.
-use Rattle.std.proofs.Common.{◌≡◌, ◌≢◌, ℕ, zero, suc, ◌+◌, ◌<◌, ◌≤◌, inl, inr, List, [], ◌∷◌, ◌++◌, length, map, take, get_or, refl, ap, sym, ◌∙◌, subst, append_assoc, arith, length-append, Bool, true, false, cond}
-use Rattle.std.specs.Prelude.{Option, Some, None, Result, Ok, Err, All, Any, MatchOption, nat_le}
-use Rattle.std.specs.List.{AllPairs}
-use Rattle.std.proofs.lemmas.Bool.{cases_Bool}
+use Rattle.std.proofs.Common.{◌≡◌, ℕ, zero, suc, ◌+◌, ◌<◌, ◌≤◌, List, [], ◌∷◌, ◌++◌, length, map, take, get_or, refl, ap, sym, ◌∙◌, subst, append_assoc, arith, length-append, Bool, true, false, cond}
+use Rattle.std.specs.Prelude.{Option, Result, Ok, Err, nat_le}
 use Rattle.std.proofs.lemmas.List.{append-nil, take_more}
 use Rattle.base.specs.declared.error.proto_error.ProtoError.{ProtoError}
 use Rattle.base.specs.declared.error.proto_error.ProtoError.TheVariants as refusals
-use Rattle.base.specs.NameOrder.{same_labels}
-use Rattle.base.specs.NameOrderLaws.{labels_decide}
 use Rattle.base.specs.State.{State, Stored, appended, stored}
-use Rattle.base.specs.Wire.{Refuses}
-use Rattle.base.specs.Written.{Writing, piece_at, after, Exactly, just, both, in_turn, pointer, found_in, pointer_or, label_of, name}
+use Rattle.base.specs.Written.{Writing, piece_at, after, Exactly, just, both, in_turn, found_in, pointer_or, label_of, name}
 
 abbrev state : ℕ → ℕ → List ℕ → List Stored → State
 state buffer limit bytes suffixes = record { buffer = buffer; bytes = bytes; limit = limit; suffixes = suffixes }
@@ -58,64 +53,12 @@ Exactly-first X Y e f g a s z is =
 pub Exactly-same : {X : Type 0} (r : Result X ProtoError) (f g : Writing) (a z : State) → f ≡ g → Exactly f a z r → Exactly g a z r
 Exactly-same r f g a z same is = subst (λ (h : Writing). Exactly h a z r) same is
 
--- where at most as many bytes are written, more than as many would pass the limit where these do
-pub Exactly-refuses : {X : Type 0} (r : Result X ProtoError) (n : ℕ) (f : Writing) (a z : State) → length (piece_at f a).bytes ≤ n → Exactly f a z r → Refuses n a r
-Exactly-refuses (Ok x) n f a z few is = tt
-Exactly-refuses (Err refusals.MaxBufferSizeExceeded) n f a z few is = omega (arith, is)
-Exactly-refuses (Err e) n f a z few is = is
-
 -- ---- names
 
--- the first of the stored suffixes has these labels, or not
-found_first : (t : Stored) (ts : List Stored) (labels : List (List ℕ)) → t.labels ≡ labels → found_in (t ∷ ts) labels ≡ Some t.offset
-found_first t ts labels is = ap (λ (b : Bool). cond b (Some t.offset) (found_in ts labels)) ((labels_decide t.labels labels).1 is)
-
-found_later : (t : Stored) (ts : List Stored) (labels : List (List ℕ)) → t.labels ≢ labels → found_in (t ∷ ts) labels ≡ found_in ts labels
-found_later t ts labels other = elim (cases_Bool (same_labels t.labels labels)) [
-  | inl same ↦ absurd (other ((labels_decide t.labels labels).0 same))
-  | inr differ ↦ ap (λ (b : Bool). cond b (Some t.offset) (found_in ts labels)) differ
-]
-
--- no suffix has these labels
-found_none : (ts : List Stored) (labels : List (List ℕ)) → All (λ t. t.labels ≢ labels) ts → found_in ts labels ≡ None
-found_none [] labels none = refl
-found_none (t ∷ ts) labels none =
-    found_later t ts labels (none 0 t (omega arith)) ∙ found_none ts labels (λ k d inside. none (suc k) d (omega arith))
-
--- a suffix has them, and each is there once
-found_some : (ts : List Stored) (labels : List (List ℕ)) (k o : ℕ) (t : Stored) → AllPairs (λ s u. s.labels ≢ u.labels) ts
-    → k < length ts → get_or ts k t ≡ t → t.labels ≡ labels → t.offset ≡ o → found_in ts labels ≡ Some o
-found_some [] labels k o t once inside at is place = absurd (omega arith)
-found_some (u ∷ ts) labels zero o t once inside at is place =
-    found_first u ts labels (ap (λ (v : Stored). v.labels) at ∙ is) ∙ ap (λ (n : ℕ). Some n) (ap (λ (v : Stored). v.offset) at ∙ place)
-found_some (u ∷ ts) labels (suc k) o t once inside at is place =
-    let other : u.labels ≢ labels = λ same. once 0 (suc k) t (omega arith) inside (same ∙ sym is ∙ sym (ap (λ (v : Stored). v.labels) at)) in
-    found_later u ts labels other
-    ∙ found_some ts labels k o t (λ i j d less inner. once (suc i) (suc j) d (omega arith) (omega arith)) (omega arith) at is place
-
-pub found_in-is : (ts : List Stored) (labels : List (List ℕ)) (r : Option ℕ) → AllPairs (λ s u. s.labels ≢ u.labels) ts
-    → MatchOption r (All (λ t. t.labels ≢ labels) ts) (λ offset. Any (λ t. (t.labels ≡ labels) × (t.offset ≡ offset)) ts) → r ≡ found_in ts labels
-found_in-is ts labels None once none = sym (found_none ts labels none)
-found_in-is ts labels (Some o) once (k, t, inside, at, is) = sym (found_some ts labels k o t once inside at is.0 is.1)
-
--- a pointer to the rest, where it is stored
-pub name-pointer : (rest : List (List ℕ)) (x : List ℕ) (xs : List (List ℕ)) (o : ℕ) (s : State) → rest ≡ x ∷ xs → Some o ≡ found_in s.suffixes rest
-    → after (name rest) s ≡ after (pointer o) s
-name-pointer rest x xs o s is found =
-    ap (λ (ls : List (List ℕ)). after (name ls) s) is
-    ∙ ap (λ (r : Option ℕ). after (pointer_or (both (label_of x xs) (name xs)) r) s) (sym (found ∙ ap (found_in s.suffixes) is))
-
--- and else a label
-pub name-label : (rest : List (List ℕ)) (x : List ℕ) (xs : List (List ℕ)) (s : State) → rest ≡ x ∷ xs → None ≡ found_in s.suffixes rest
-    → after (name rest) s ≡ after (name xs) (after (label_of x xs) s)
-name-label rest x xs s is found =
-    ap (λ (ls : List (List ℕ)). after (name ls) s) is
-    ∙ ap (λ (r : Option ℕ). after (pointer_or (both (label_of x xs) (name xs)) r) s) (sym (found ∙ ap (found_in s.suffixes) is))
-    ∙ after-both (label_of x xs) (name xs) s
-
--- the zero byte at the end
-pub name-root : (rest : List (List ℕ)) (s : State) → rest ≡ [] → after (name rest) s ≡ after (just (0 ∷ [])) s
-name-root rest s is = ap (λ (ls : List (List ℕ)). after (name ls) s) is
+-- a name with a label, by what is found of it
+pub name-by : (rest : List (List ℕ)) (x : List ℕ) (xs : List (List ℕ)) (r : Option ℕ) (s : State) → rest ≡ x ∷ xs
+    → r ≡ found_in s.suffixes rest → after (name rest) s ≡ after (pointer_or (both (label_of x xs) (name xs)) r) s
+name-by rest x xs r s is found = rw (is, found, is)
 
 store_or_not : (far : Bool) (m : State) (ts : List Stored) → cond far m (record m { suffixes = ts }) ≡ record m { suffixes = cond far m.suffixes ts }
 store_or_not true m ts = refl
@@ -124,20 +67,6 @@ store_or_not false m ts = refl
 -- what writing a label and storing the suffix that it begins makes of a state
 pub label-after : (x : List ℕ) (xs : List (List ℕ)) (s : State) → stored (x ∷ xs) (length s.bytes) (appended (length x ∷ x) s) ≡ after (label_of x xs) s
 label-after x xs s = store_or_not (nat_le 16384 (length s.bytes)) (appended (length x ∷ x) s) (s.suffixes ++ record { labels = x ∷ xs; offset = length s.bytes } ∷ [])
-
--- what a label takes is among what the name takes
-pub label-fits : (a s : State) (labels rest : List (List ℕ)) (x : List ℕ) (xs : List (List ℕ)) → after (name labels) a ≡ after (name rest) s → rest ≡ x ∷ xs → None ≡ found_in s.suffixes rest
-    → length s.bytes + (1 + length x) ≤ length a.bytes + length (piece_at (name labels) a).bytes
-label-fits a s labels rest x xs same is found =
-    let whole = same ∙ name-label rest x xs s is found in
-    let m = after (label_of x xs) s in
-    omega (
-      arith,
-      ap (λ (u : State). length u.bytes) whole,
-      length-append a.bytes (piece_at (name labels) a).bytes,
-      length-append m.bytes (piece_at (name xs) m).bytes,
-      length-append s.bytes (length x ∷ x),
-    )
 
 -- ---- items
 

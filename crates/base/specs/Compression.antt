@@ -11,8 +11,8 @@ NoneLonger stored [] rest = Unit {0}
 NoneLonger stored (x ∷ front) rest =
     (found_in stored (x ∷ (front ++ rest)) ≡ None) × NoneLonger stored front rest
 
--- the labels before the longest suffix that was stored, and a pointer to that
-pub record EndsInPointer (labels : List (List ℕ)) (at : ℕ) (stored : List Stored) : Type 0 where
+-- the bytes of labels: those before the longest suffix that was stored, and a pointer to that
+pub record EndsInPointer (labels : List (List ℕ)) (stored : List Stored) (bytes : List ℕ) : Type 0 where
   pub front : List (List ℕ)
   pub label : List ℕ
   pub labels_after : List (List ℕ)
@@ -20,14 +20,15 @@ pub record EndsInPointer (labels : List (List ℕ)) (at : ℕ) (stored : List St
   pub parts : labels ≡ front ++ (label ∷ labels_after)
   pub found : found_in stored (label ∷ labels_after) ≡ Some offset
   pub longest : NoneLonger stored front (label ∷ labels_after)
-  pub bytes : (name labels at stored).bytes ≡ wire_of front ++ to_be_bytes w16 (49152 + offset)
+  pub are : bytes ≡ wire_of front ++ to_be_bytes w16 (49152 + offset)
 
 -- all labels and the zero byte, where no suffix was stored
-pub record IsWrittenOut (labels : List (List ℕ)) (at : ℕ) (stored : List Stored) : Type 0 where
+pub record IsWrittenOut (labels : List (List ℕ)) (stored : List Stored) (bytes : List ℕ) : Type 0 where
   pub none : NoneLonger stored labels []
-  pub bytes : (name labels at stored).bytes ≡ wire_of labels ++ 0 ∷ []
+  pub are : bytes ≡ wire_of labels ++ 0 ∷ []
 
 -- A name ends in a pointer to the longest of its suffixes that was stored before it, where one was; and else it
 -- is written out. What a name itself stores is longer than what comes after it, and so isn't found.
 abbrev pub IsCompressed : List (List ℕ) → ℕ → List Stored → Type 0
-IsCompressed labels at stored = EndsInPointer labels at stored ⊎ IsWrittenOut labels at stored
+IsCompressed labels at stored = EndsInPointer labels stored (name labels at stored).bytes
+    ⊎ IsWrittenOut labels stored (name labels at stored).bytes

@@ -14,14 +14,6 @@ unfolding wire_of
 length-wire_of [] = refl
 length-wire_of (x ∷ xs) = omega (arith, length-append x (wire_of xs), length-wire_of xs)
 
--- a piece may begin later
-pub spelled_from_later : {B : List ℕ} {labels : List (List ℕ)} {s i e : ℕ} (t : ℕ) → s ≤ t
-    → Spelled B labels s i e → Spelled B labels t i e
-spelled_from_later t le (ends h) = ends h
-spelled_from_later t le (label h some small at rest) =
-    label h some small at (spelled_from_later t le rest)
-spelled_from_later t le (pointer h next high below rest) = pointer h next high (omega arith) rest
-
 stands_bytes : (xs B : List ℕ) (i : ℕ) → 0 < length xs → Stands xs B i → BytesAt anywhere B i xs
 stands_bytes xs B i some s = record {
   inside = stands_inside xs B i some s;
@@ -41,11 +33,11 @@ root_stands B s i e stands is =
 
 -- where a label with its length stands, and labels are spelled after it, all are spelled
 pub label_stands : (B x : List ℕ) (xs : List (List ℕ)) (s i e : ℕ) → 1 ≤ length x
-    → length x ≤ MAX_LABEL → Stands (length x ∷ x) B i → Spelled B xs s (i + (1 + length x)) e
-    → Spelled B (x ∷ xs) s i e
+    → length x ≤ MAX_LABEL → Stands (length x ∷ x) B i
+    → Spelled B xs s (i + length (length x ∷ x)) e → Spelled B (x ∷ xs) s i e
 label_stands B x xs s i e some small stands rest =
     let bytes : Stands x B (i + 1) = last_stands (length x ∷ []) x B i stands in
-    let next : i + (1 + length x) ≡ i + 1 + length x = omega arith in
+    let next : i + length (length x ∷ x) ≡ i + 1 + length x = omega arith in
     label (byte_first (length x) x B i stands) some small
     (stands_bytes x B (i + 1) (omega arith) bytes) (subst (λ (j : ℕ). Spelled B xs s j e) next rest)
 
@@ -71,12 +63,10 @@ unfolding wire_of
 labels_stand B [] s i are stands = root_stands B s i (i + plain_len []) stands (omega arith)
 labels_stand B (x ∷ xs) s i are stands =
     let all : Stands ((length x ∷ x) ++ (wire_of xs ++ 0 ∷ [])) B i = rw append_assoc at stands in
-    let place : i + length (length x ∷ x) ≡ i + (1 + length x) = omega arith in
-    let after : Stands (wire_of xs ++ 0 ∷ []) B (i + (1 + length x)) =
-    subst (Stands (wire_of xs ++ 0 ∷ []) B) place
+    let next = i + length (length x ∷ x) in
+    let rest = labels_stand B xs s next are.1
     (last_stands (length x ∷ x) (wire_of xs ++ 0 ∷ []) B i all) in
-    let rest = labels_stand B xs s (i + (1 + length x)) are.1 after in
-    let end : i + (1 + length x) + plain_len xs ≡ i + plain_len (x ∷ xs) = omega arith in
+    let end : next + plain_len xs ≡ i + plain_len (x ∷ xs) = omega arith in
     label_stands B x xs s i (i + plain_len (x ∷ xs)) are.0.some are.0.short
     (first_stands (length x ∷ x) (wire_of xs ++ 0 ∷ []) B i all)
-    (subst (λ (e : ℕ). Spelled B xs s (i + (1 + length x)) e) end rest)
+    (subst (λ (e : ℕ). Spelled B xs s next e) end rest)

@@ -1,21 +1,15 @@
 -- What is known of what is written in parts, put together as what is written is.
-use Rattle.std.proofs.Common.{◌≡◌, ℕ, ◌+◌, ◌^◌, ◌<◌, ◌≤◌, List, [], ◌++◌, length, get_or, refl, ap, sym, ◌∙◌, subst, append_assoc, arith, length-append}
+use Rattle.std.proofs.Common.{◌≡◌, ℕ, ◌+◌, ◌-◌, ◌^◌, ◌<◌, ◌≤◌, List, [], ◌++◌, length, get_or, refl, ap, sym, ◌∙◌, subst, append_assoc, arith, length-append}
 use Rattle.std.specs.Prelude.{All, Any}
 use Rattle.std.specs.Int.{w16, to_be_bytes}
-use Rattle.std.proofs.lemmas.List.{append-nil, get_or_append_left}
-use Rattle.std.proofs.lemmas.List.Elements.{All-nil, All-append, All-weaker}
+use Rattle.std.proofs.lemmas.List.{append-nil, get_or_append_left, get_or-append_right}
+use Rattle.std.proofs.lemmas.List.Elements.{All-nil, All-append}
 use Rattle.base.specs.Laws.{IsSpelled}
-use Rattle.base.specs.Says.{IsThere, IsOwned, Says}
+use Rattle.base.specs.Says.{IsThere, IsOwned, SaysAt, Says}
 use Rattle.base.specs.State.{Stored}
 use Rattle.base.specs.WordLemmas.{first_stands, stands_part, number16_stands}
 use Rattle.base.specs.Words.{Stands, Bytes, Number, Then, Sized}
-use Rattle.base.specs.Written.{Writing, just, both, sized}
-
--- what is valid for an earlier place is valid for a later one
-pub spelled_later : (B : List ℕ) (m n : ℕ) → m ≤ n → (t : Stored) → IsSpelled B m t
-    → IsSpelled B n t
-spelled_later B m n le t s =
-    record { below = omega (arith, s.below); fits = s.fits; end = s.end; spelled = s.spelled }
+use Rattle.base.specs.Written.{Piece, Writing, just, both, sized}
 
 -- what is among the first elements is among all
 pub any_append : (P : Stored → Type 0) (xs ys zs : List Stored) → zs ≡ xs ++ ys → Any P xs
@@ -28,20 +22,33 @@ any_append P xs ys zs is (k, t, inside, at, holds) = (
   holds,
 )
 
--- what has no owner owes nothing of one
-pub no_owner : (f : Writing) (fits : Type 0) → IsOwned f fits []
-no_owner f fits = record {
-  end = λ at stored. 0;
-  spelled = λ ok some. absurd (some refl);
-  short = λ some. absurd (some refl);
-  stores = λ some. absurd (some refl);
-}
+-- and so is what is among the others
+pub any_after : (P : Stored → Type 0) (xs ys : List Stored) → Any P ys → Any P (xs ++ ys)
+any_after P xs ys (k, t, inside, at, holds) =
+    let back : length xs + k - length xs ≡ k = omega arith in (
+      length xs + k,
+      t,
+      omega (arith, length-append xs ys),
+      get_or-append_right xs ys (length xs) (length xs + k) t refl (omega arith)
+          ∙ ap (λ (i : ℕ). get_or ys i t) back ∙ at,
+      holds,
+    )
 
 -- suffixes that are spelled before a place are so before a later one
 pub later_table : (B : List ℕ) (m n : ℕ) (ts : List Stored) → m ≤ n → All (IsSpelled B m) ts
     → All (IsSpelled B n) ts
-later_table B m n ts le all =
-    All-weaker (IsSpelled B m) (IsSpelled B n) (spelled_later B m n le) ts all
+later_table B m n ts le all = λ k d inside.
+    let s = all k d inside in
+    record { below = omega (arith, s.below); fits = s.fits; end = s.end; spelled = s.spelled }
+
+-- what has no owner owes nothing of one
+no_owner : (p : Piece) (at : ℕ) (stored : List Stored) (fits : Type 0) → IsOwned p at stored fits []
+no_owner p at stored fits = record {
+  end = 0;
+  spelled = λ ok some. absurd (some refl);
+  short = λ some. absurd (some refl);
+  stores = λ some. absurd (some refl);
+}
 
 -- bytes that are a word wherever they stand
 pub Says-just : (fits : Type 0) (word : List ℕ → ℕ → ℕ → Type 0) (plain : ℕ) (xs : List ℕ)
@@ -50,16 +57,17 @@ pub Says-just : (fits : Type 0) (word : List ℕ → ℕ → ℕ → Type 0) (pl
     → word B at (at + length xs))
     → Says (just xs) fits word plain []
 Says-just fits word plain xs few is_word = record {
-  word_stands = λ ok B at stored h. is_word ok B at h.small h.bytes;
-  valid = λ ok B at stored h. later_table B at (at + length xs) stored (omega arith) h.table;
+  each = λ at stored. record {
+    stands = λ ok B e is h. rw is (
+      is_word ok B at h.small h.bytes,
+      later_table B at (at + length xs) stored (omega arith) h.table,
+    );
+    added = [];
+    is = sym (append-nil stored);
+    offsets = All-nil (λ (t : Stored). at ≤ t.offset);
+    owned = no_owner _ at stored fits;
+  };
   at_most = λ at stored. few;
-  adds = λ at stored.
-      record {
-        added = [];
-        is = sym (append-nil stored);
-        offsets = All-nil (λ (t : Stored). at ≤ t.offset);
-      };
-  owned = no_owner (just xs) fits;
 }
 
 -- where bytes stand, the last of them do
@@ -69,133 +77,92 @@ last_stands xs ys B i h =
     (subst (λ (zs : List ℕ). Stands (xs ++ zs) B i) (sym (append-nil ys)) h)
 
 -- one word after another
-module _ {F G : Type 0} {v w : List ℕ → ℕ → ℕ → Type 0} {n m : ℕ} {owner : List (List ℕ)}
-    (f g : Writing) (s : Says f F v n owner) (r : Says g G w m []) where
-  sum : (at : ℕ) (stored : List Stored)
-      → length (both f g at stored).bytes
-      ≡ length (f at stored).bytes + length
-      (g (at + length (f at stored).bytes) (f at stored).suffixes).bytes
-  sum at stored =
-      length-append (f at stored).bytes
-      (g (at + length (f at stored).bytes) (f at stored).suffixes).bytes
+module _ {F G : Type 0} {v w : List ℕ → ℕ → ℕ → Type 0} {owner : List (List ℕ)} {p q : Piece} {at : ℕ}
+    {stored : List Stored} (s : SaysAt p at stored F v owner)
+    (r : SaysAt q (at + length p.bytes) p.suffixes G w []) where
+  abbrev two : Piece
+  two = record { bytes = p.bytes ++ q.bytes; suffixes = q.suffixes }
 
-  first_there : (B : List ℕ) (at : ℕ) (stored : List Stored) → IsThere (both f g) B at stored
-      → IsThere f B at stored
-  first_there B at stored h = record {
+  first_there : (B : List ℕ) → IsThere two B at stored → IsThere p B at stored
+  first_there B h = record {
     table = h.table;
-    bytes = first_stands (f at stored).bytes
-        (g (at + length (f at stored).bytes) (f at stored).suffixes).bytes B at h.bytes;
-    small = omega (arith, h.small, sum at stored);
+    bytes = first_stands p.bytes q.bytes B at h.bytes;
+    small = omega (arith, h.small, length-append p.bytes q.bytes);
   }
 
-  second_there : F → (B : List ℕ) (at : ℕ) (stored : List Stored) → IsThere (both f g) B at stored
-      → IsThere g B (at + length (f at stored).bytes) (f at stored).suffixes
-  second_there ok B at stored h = record {
-    table = s.valid ok B at stored (first_there B at stored h);
-    bytes = last_stands (f at stored).bytes
-        (g (at + length (f at stored).bytes) (f at stored).suffixes).bytes B at h.bytes;
-    small = omega (arith, h.small, sum at stored);
-  }
-
-  after : (at : ℕ) (stored : List Stored)
-      → at + length (f at stored).bytes + length
-      (g (at + length (f at stored).bytes) (f at stored).suffixes).bytes
-      ≡ at + length (both f g at stored).bytes
-  after at stored = omega (arith, sum at stored)
-
-  pub Says-both : Says (both f g) (F × G) (Then v w) (n + m) owner
-  Says-both = record {
-    word_stands = λ ok B at stored h. (
-      at + length (f at stored).bytes,
-      s.word_stands ok.0 B at stored (first_there B at stored h),
-      subst (λ (e : ℕ). w B (at + length (f at stored).bytes) e) (after at stored)
-          (r.word_stands ok.1 B _ _ (second_there ok.0 B at stored h)),
-    );
-    valid = λ ok B at stored h. subst (λ (e : ℕ). All (IsSpelled B e) (both f g at stored).suffixes)
-        (after at stored) (r.valid ok.1 B _ _ (second_there ok.0 B at stored h));
-    at_most =
-        λ at stored.
-        omega (
-          arith,
-          sum at stored,
-          s.at_most at stored,
-          r.at_most (at + length (f at stored).bytes) (f at stored).suffixes,
-        );
-    adds = λ at stored.
-        let one = s.adds at stored in
-        let two = r.adds (at + length (f at stored).bytes) (f at stored).suffixes in
-        record {
-          added = one.added ++ two.added;
-          is = two.is ∙ ap (λ (ts : List Stored). ts ++ two.added) one.is
-              ∙ append_assoc stored one.added two.added;
-          offsets = All-append (λ (t : Stored). at ≤ t.offset) one.added two.added one.offsets
-              (All-weaker (λ (t : Stored). at + length (f at stored).bytes ≤ t.offset)
-              (λ (t : Stored). at ≤ t.offset) (λ t later. omega (arith, later)) two.added
-              two.offsets);
-        };
+  says_both : SaysAt two at stored (F × G) (Then v w) owner
+  says_both = record {
+    stands = λ ok B e is h.
+        let first = s.stands ok.0 B (at + length p.bytes) refl (first_there B h) in
+        let second = r.stands ok.1 B e (omega (arith, is, length-append p.bytes q.bytes)) (record {
+          table = first.1;
+          bytes = last_stands p.bytes q.bytes B at h.bytes;
+          small = omega (arith, h.small, length-append p.bytes q.bytes);
+        }) in
+        ((at + length p.bytes, first.0, second.0), second.1);
+    added = s.added ++ r.added;
+    is = r.is ∙ ap (λ (ts : List Stored). ts ++ r.added) s.is ∙ append_assoc stored s.added r.added;
+    offsets = All-append (λ (t : Stored). at ≤ t.offset) s.added r.added s.offsets
+        (λ k t inside. omega (arith, r.offsets k t inside));
     owned = record {
       end = s.owned.end;
-      spelled =
-          λ ok some B at stored h. s.owned.spelled ok.0 some B at stored
-          (first_there B at stored h);
+      spelled = λ ok some B h. s.owned.spelled ok.0 some B (first_there B h);
       short = s.owned.short;
-      stores = λ some at stored early.
-          let two = r.adds (at + length (f at stored).bytes) (f at stored).suffixes in
-          any_append (λ t. t.labels ≡ owner) (f at stored).suffixes two.added
-          (both f g at stored).suffixes two.is (s.owned.stores some at stored early);
+      stores = λ some early. any_append (λ t. t.labels ≡ owner) p.suffixes r.added q.suffixes r.is
+          (s.owned.stores some early);
     };
   }
 
+pub Says-both : {F G : Type 0} {v w : List ℕ → ℕ → ℕ → Type 0} {n m : ℕ} {owner : List (List ℕ)}
+    (f g : Writing) → Says f F v n owner → Says g G w m []
+    → Says (both f g) (F × G) (Then v w) (n + m) owner
+Says-both f g s r = record {
+  each = λ at stored. says_both (s.each at stored) (r.each _ (f at stored).suffixes);
+  at_most = λ at stored.
+      let next = at + length (f at stored).bytes in
+      let more = r.at_most next (f at stored).suffixes in
+      omega (
+        arith,
+        s.at_most at stored,
+        more,
+        length-append (f at stored).bytes (g next (f at stored).suffixes).bytes,
+      );
+}
+
 -- a word after its length
-module _ {F : Type 0} {word : List ℕ → ℕ → ℕ → Type 0} {plain : ℕ} {owner : List (List ℕ)}
-    (f : Writing) (s : Says f F word plain owner) where
-  two_more : (at : ℕ) (stored : List Stored)
-      → length (sized f at stored).bytes ≡ 2 + length (f (at + 2) stored).bytes
-  two_more at stored =
-      length-append (to_be_bytes w16 (length (f (at + 2) stored).bytes)) (f (at + 2) stored).bytes
-      ∙ omega arith
+says_sized : {F : Type 0} {word : List ℕ → ℕ → ℕ → Type 0} {owner : List (List ℕ)} {p : Piece} {at : ℕ}
+    {stored : List Stored} → SaysAt p (at + 2) stored F word owner
+    → SaysAt (record { bytes = to_be_bytes w16 (length p.bytes) ++ p.bytes; suffixes = p.suffixes }) at
+    stored F (Sized word) []
+says_sized {F} {p = p} {at} {stored} s =
+    let n = length p.bytes in
+    let len = length-append (to_be_bytes w16 n) p.bytes in
+    record {
+      stands = λ ok B e is h.
+          let inner = s.stands ok B e (omega (arith, is, len)) (record {
+            table = later_table B at (at + 2) stored (omega arith) h.table;
+            bytes = last_stands (to_be_bytes w16 n) p.bytes B at h.bytes;
+            small = omega (arith, h.small, len);
+          }) in
+          let number = number16_stands n B at (omega (arith, h.small, len))
+          (first_stands (to_be_bytes w16 n) p.bytes B at h.bytes) in
+          ((n, omega (arith, is, len), number, inner.0), inner.1);
+      added = s.added;
+      is = s.is;
+      offsets = λ k t inside. omega (arith, s.offsets k t inside);
+      owned = no_owner _ at stored F;
+    }
 
-  inner_there : (B : List ℕ) (at : ℕ) (stored : List Stored) → IsThere (sized f) B at stored
-      → IsThere f B (at + 2) stored
-  inner_there B at stored h =
-      let xs = to_be_bytes w16 (length (f (at + 2) stored).bytes) in
-      let place : at + length xs ≡ at + 2 = omega arith in
-      record {
-        table = later_table B at (at + 2) stored (omega arith) h.table;
-        bytes = subst (Stands (f (at + 2) stored).bytes B) place
-            (last_stands xs (f (at + 2) stored).bytes B at h.bytes);
-        small = omega (arith, h.small, two_more at stored);
-      }
-
-  pub Says-sized : Says (sized f) F (Sized word) (2 + plain) []
-  Says-sized = record {
-    word_stands = λ ok B at stored h.
-        let inner = (f (at + 2) stored).bytes in
-        let i = inner_there B at stored h in
-        let end : at + 2 + length inner ≡ at + length (sized f at stored).bytes =
-        omega (arith, two_more at stored) in (
-          length inner,
-          sym end,
-          number16_stands (length inner) B at i.small
-              (first_stands (to_be_bytes w16 (length inner)) inner B at h.bytes),
-          subst (λ (e : ℕ). word B (at + 2) e) end (s.word_stands ok B (at + 2) stored i),
-        );
-    valid = λ ok B at stored h.
-        let end : at + 2 + length (f (at + 2) stored).bytes
-        ≡ at + length (sized f at stored).bytes = omega (arith, two_more at stored) in
-        subst (λ (e : ℕ). All (IsSpelled B e) (f (at + 2) stored).suffixes) end
-        (s.valid ok B (at + 2) stored (inner_there B at stored h));
-    at_most = λ at stored. omega (arith, two_more at stored, s.at_most (at + 2) stored);
-    adds = λ at stored.
-        let one = s.adds (at + 2) stored in
-        record {
-          added = one.added;
-          is = one.is;
-          offsets = All-weaker (λ (t : Stored). at + 2 ≤ t.offset) (λ (t : Stored). at ≤ t.offset)
-              (λ t later. omega (arith, later)) one.added one.offsets;
-        };
-    owned = no_owner (sized f) F;
-  }
+pub Says-sized : {F : Type 0} {word : List ℕ → ℕ → ℕ → Type 0} {plain : ℕ} {owner : List (List ℕ)}
+    (f : Writing) → Says f F word plain owner → Says (sized f) F (Sized word) (2 + plain) []
+Says-sized f s = record {
+  each = λ at stored. says_sized (s.each (at + 2) stored);
+  at_most = λ at stored. omega (
+    arith,
+    s.at_most (at + 2) stored,
+    length-append (to_be_bytes w16 (length (f (at + 2) stored).bytes)) (f (at + 2) stored).bytes,
+  );
+}
 
 -- bytes as they are
 pub Says-bytes : (xs : List ℕ) → Says (just xs) (Unit {0}) (Bytes xs) (length xs) []
@@ -210,12 +177,17 @@ Says-number n = Says-just (n < 2 ^ 16) (Number w16 n) 2 (to_be_bytes w16 n) (ome
 -- what has a name before it, or nothing, as a part of something else
 pub Says-unowned : {F : Type 0} {word : List ℕ → ℕ → ℕ → Type 0} {plain : ℕ} {owner : List (List ℕ)}
     (f : Writing) → Says f F word plain owner → Says f F word plain []
-Says-unowned {F = F} f s = record {
-  word_stands = s.word_stands;
-  valid = s.valid;
+Says-unowned {F} f s = record {
+  each = λ at stored.
+      let w = s.each at stored in
+      record {
+        stands = w.stands;
+        added = w.added;
+        is = w.is;
+        offsets = w.offsets;
+        owned = no_owner (f at stored) at stored F;
+      };
   at_most = s.at_most;
-  adds = s.adds;
-  owned = no_owner f F;
 }
 
 -- a word that follows from the one that is written, and `more` bytes for `plain`
@@ -224,14 +196,21 @@ pub Says-weaker : {F : Type 0} {word other : List ℕ → ℕ → ℕ → Type 0
     → (G → (B : List ℕ) (i e : ℕ) → word B i e → other B i e) → plain ≤ more
     → Says f F word plain owner → Says f G other more owner
 Says-weaker f G fits follows few s = record {
-  word_stands = λ ok B at stored h. follows ok B at _ (s.word_stands (fits ok) B at stored h);
-  valid = λ ok. s.valid (fits ok);
+  each = λ at stored.
+      let w = s.each at stored in
+      record {
+        stands = λ ok B e is h.
+            let there = w.stands (fits ok) B e is h in
+            (follows ok B at e there.0, there.1);
+        added = w.added;
+        is = w.is;
+        offsets = w.offsets;
+        owned = record {
+          end = w.owned.end;
+          spelled = λ ok. w.owned.spelled (fits ok);
+          short = w.owned.short;
+          stores = w.owned.stores;
+        };
+      };
   at_most = λ at stored. omega (arith, few, s.at_most at stored);
-  adds = s.adds;
-  owned = record {
-    end = s.owned.end;
-    spelled = λ ok. s.owned.spelled (fits ok);
-    short = s.owned.short;
-    stores = s.owned.stores;
-  };
 }

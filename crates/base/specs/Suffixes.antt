@@ -1,14 +1,15 @@
 -- The table of suffixes: a list in order of offset, and an ordered index of it.
 use Rattle.base.specs.declared.limits.TheConstants.{POINTER_LIMIT}
-use Rattle.std.specs.Prelude.{◌≡◌, ◌≢◌, ℕ, ◌<◌, ◌++◌, List, Option, Some, Vec, All, Any}
+use Rattle.std.specs.Prelude.{◌≡◌, ◌≢◌, ℕ, ◌<◌, ◌++◌, List, Option, Some, Vec, All}
 use Rattle.std.specs.BTreeMap.{BTreeMap, get_by}
 use Rattle.std.specs.Cmp.Lexicographic.{slice_cmp}
 use Rattle.std.specs.Int.{w32, to_be_bytes}
 use Rattle.std.specs.List.{AllPairs}
 use Rattle.std.specs.Ordering.{nat_cmp}
 use Rattle.std.specs.declared.alloc.Global.{Global}
-use Rattle.base.specs.Labels.{wire_of}
+use Rattle.base.specs.Labels.{wire_of, IsLabelRun}
 use Rattle.base.specs.State.{Stored, front_number}
+use Rattle.base.specs.Written.{found_in}
 
 -- the offset that the index has at a key
 abbrev pub offset_at : BTreeMap (Vec ℕ Global) ℕ → List ℕ → Option ℕ
@@ -22,17 +23,10 @@ index_key bytes = to_be_bytes w32 (front_number bytes) ++ bytes
 abbrev pub offset_in : BTreeMap (Vec ℕ Global) ℕ → List ℕ → Option ℕ
 offset_in index bytes = offset_at index (index_key bytes)
 
--- The suffixes stand in order of offset, each once; the index finds each at its bytes, and nothing else.
-pub record IsIndexed (find : List ℕ → Option ℕ) (list : List Stored) : Type 0 where
-  pub rises : AllPairs (λ s t. s.offset < t.offset) list
-  pub once : AllPairs (λ s t. s.labels ≢ t.labels) list
-  pub kept : All (λ t. find (wire_of t.labels) ≡ Some t.offset) list
-  pub found : (bytes : List ℕ) (o : ℕ) → find bytes ≡ Some o
-      → (o < POINTER_LIMIT) × Any (λ t. (wire_of t.labels ≡ bytes) × (t.offset ≡ o)) list
-
 -- The first suffixes stand in a list alone, the others in a second one with an index of it; all stand in order of
--- offset, each once.
+-- offset, each once. The index finds each of the others at its bytes, and nothing else.
 pub record IsTable (find : List ℕ → Option ℕ) (first others : List Stored) : Type 0 where
-  pub rises : AllPairs (λ s t. s.offset < t.offset) (first ++ others)
-  pub once : AllPairs (λ s t. s.labels ≢ t.labels) (first ++ others)
-  pub after : IsIndexed find others
+  pub order : AllPairs (λ s t. (s.offset < t.offset) × (s.labels ≢ t.labels)) (first ++ others)
+  pub near : All (λ t. t.offset < POINTER_LIMIT) others
+  pub finds : (labels : List (List ℕ)) → find (wire_of labels) ≡ found_in others labels
+  pub only : (bytes : List ℕ) (o : ℕ) → find bytes ≡ Some o → IsLabelRun bytes

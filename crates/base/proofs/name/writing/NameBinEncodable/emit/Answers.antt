@@ -1,15 +1,15 @@
-use Rattle.std.proofs.Common.{◌≡◌, ℕ, ◌+◌, ◌≤◌, ◌∙◌, List, [], ◌∷◌, ◌++◌, length, length-append, take, refl, subst, ap, sym, arith}
+use Rattle.std.proofs.Common.{◌≡◌, ℕ, ◌+◌, ◌≤◌, ◌∙◌, List, [], ◌∷◌, ◌++◌, length, length-append, take, refl, Err, Some, None, subst, ap, sym, arith}
 use Rattle.std.proofs.lemmas.List.{take_at}
 use Rattle.std.proofs.lemmas.Result.{err_from_is_err_and}
 use Rattle.base.specs.Labels.{AreLabels, IsWire, labels_of}
 use Rattle.base.specs.Laws.{Keeps}
 use Rattle.base.specs.State.{State, appended, stored}
 use Rattle.base.specs.Wire.{state_of}
-use Rattle.base.specs.Written.{after, just, label_of, name, pointer}
+use Rattle.base.specs.Written.{after, both, just, label_of, name, pointer}
 use Rattle.base.proofs.LabelLemmas.{IsWire-wire_of}
 use Rattle.base.proofs.LawLemmas.{Keeps-same, Keeps-then}
 use Rattle.base.proofs.SaysLemmas.{Keeps-label}
-use Rattle.base.proofs.WrittenLemmas.{Exactly-from, Exactly-refused, name-pointer, name-label, name-root, label-after, label-fits}
+use Rattle.base.proofs.WrittenLemmas.{Exactly-first, Exactly-from, Exactly-refused, after-both, name-by, label-after}
 use Rattle.base.proofs.name.writing.NameBinEncodable.emit.Goals as goal
 
 pub loop-label-init : goal.loop-label-init
@@ -51,7 +51,8 @@ loop-label-preserved c =
         );
       };
       keeps = Keeps-then c.loop-label.invariant.keeps (Keeps-label x xs s z st within);
-      exact = c.loop-label.invariant.exact ∙ name-label _ x xs s is c.in_default-find.ensures.value ∙ ap (after (name xs)) (sym st);
+      exact = c.loop-label.invariant.exact ∙ name-by _ x xs None s is c.in_default-find.ensures.value
+          ∙ after-both (label_of x xs) (name xs) s ∙ ap (after (name xs)) (sym st);
     }
 
 -- ---- exactly the name
@@ -61,24 +62,29 @@ returns-in-Some-find-clause-exact c =
     let o = c.in-Some-find.offset in
     let s = state_of c.loop-label.encoder in
     Exactly-from c.emit_u16.result (name c.args.self.now.labels) (pointer o) (state_of c.args.encoder.now) s (state_of c.emit_u16.new.self)
-    (c.loop-label.invariant.exact ∙ name-pointer _ _ _ o s c.in-Some.ensures.labels c.in-Some-find.ensures.value)
+    (c.loop-label.invariant.exact ∙ name-by _ _ _ (Some o) s c.in-Some.ensures.labels c.in-Some-find.ensures.value)
     c.emit_u16.ensures.exact
 
 pub returns-in_err-emit_slice-clause-exact : goal.returns-in_err-emit_slice-clause-exact
 returns-in_err-emit_slice-clause-exact c =
-    let a = state_of c.args.encoder.now in
+    let x = c.in-Some.label.now in
+    let xs = labels_of c.in-Some.tail.now in
     let s = state_of c.loop-label.encoder in
+    let z = state_of c.emit_slice.new.self in
+    let e = c.in_err-emit_slice.field-0.0 in
     let len = ap length (label_bytes _ _ _ c.in-Some.ensures.bytes) in
     let is = err_from_is_err_and c.from_residual.result c.from_residual.ensures.1 in
-    rw (is.1, is.2) (Exactly-refused (Unit {0}) (Unit {0}) c.in_err-emit_slice.field-0.0 (name c.args.self.now.labels) (just (take (1 + length c.in-Some.label.now) c.loop-label.rest.now)) a s (state_of c.emit_slice.new.self)
-    (state_of c.emit_slice.new.self) c.loop-label.invariant.keeps.limit
-    (omega (arith, len, label-fits a s _ _ _ _ c.loop-label.invariant.exact c.in-Some.ensures.labels c.in_default-find.ensures.value)) c.in_err-emit_slice.ensures.exact)
+    rw (is.1, is.2) (Exactly-from {X = Unit {0}} (Err e) (name c.args.self.now.labels) (both (label_of x xs) (name xs))
+    (state_of c.args.encoder.now) s z
+    (c.loop-label.invariant.exact ∙ name-by _ x xs None s c.in-Some.ensures.labels c.in_default-find.ensures.value)
+    (Exactly-first (Unit {0}) (Unit {0}) e (label_of x xs) (name xs) s z z (Exactly-refused (Unit {0}) (Unit {0}) e (label_of x xs)
+    (just (take (1 + length x) c.loop-label.rest.now)) s s z z refl (omega (arith, len)) c.in_err-emit_slice.ensures.exact)))
 
 pub returns-clause-exact : goal.returns-clause-exact
 returns-clause-exact c =
     let s = state_of c.loop-label.encoder in
     Exactly-from c.emit.result (name c.args.self.now.labels) (just (0 ∷ [])) (state_of c.args.encoder.now) s (state_of c.emit.new.self)
-    (c.loop-label.invariant.exact ∙ name-root _ s c.in_default.ensures.labels)
+    (c.loop-label.invariant.exact ∙ ap (λ labels. after (name labels) s) c.in_default.ensures.labels)
     c.emit.ensures.exact
 
 pub returns-clause-keeps : goal.returns-clause-keeps

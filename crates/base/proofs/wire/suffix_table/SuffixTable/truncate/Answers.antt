@@ -1,32 +1,29 @@
-use Rattle.std.proofs.Common.{◌≡◌, ◌∙◌, ◌++◌, ◌∷◌, [], ◌≤◌, ◌+◌, ◌-◌, List, length, length-append, take, sym, ap, subst, arith}
-use Rattle.base.specs.Labels.{wire_of}
+use Rattle.std.proofs.Common.{◌≡◌, ◌∙◌, ◌++◌, ◌∷◌, [], ◌≤◌, ◌+◌, ◌-◌, List, length, length-append, take, refl, sym, ap, subst, arith}
 use Rattle.base.specs.State.{Stored}
-use Rattle.base.specs.Suffixes.{index_key, offset_at, offset_in, IsIndexed}
-use Rattle.base.proofs.SuffixLemmas.{IsIndexed-pop, IsTable-front, cut_last, index_here, index_others, one_key}
+use Rattle.base.specs.Suffixes.{index_key, offset_in, IsTable}
+use Rattle.base.proofs.SuffixLemmas.{IsTable-pop, IsTable-cut, cut_last}
 use Rattle.base.proofs.wire.suffix_table.SuffixTable.truncate.Goals as goal
 
 pub loop-self-preserved-in-Some : goal.loop-self-preserved-in-Some
 loop-self-preserved-in-Some c =
+    let was = c.loop-self.self-inside in
     let front = c.pop.new.self.items in
-    let first = c.loop-self.self-inside.first.items in
-    let is : c.loop-self.self-inside.others.items ≡ front ++ c.in-Some.suffix ∷ [] = c.in-Some.ensures.items in
-    let found = offset_in c.remove.new.self in
-    let bytes = take c.key_into-len.result c.key_into-len.new.room in
-    let key : bytes ≡ index_key (wire_of c.in-Some.suffix.labels) = c.key_into-len.ensures.key ∙ ap index_key c.as_wire.ensures.value in
-    let updates = c.remove.ensures.updates in
-    let here = ap (offset_at c.remove.new.self) (sym key) ∙ index_here bytes c.loop-self.self-inside.index c.remove.new.self _ updates in
-    let h = subst (IsIndexed (offset_in c.loop-self.self-inside.index)) is c.loop-self.invariant.table in
+    let u = c.in-Some.suffix in
+    let is : was.others.items ≡ front ++ u ∷ [] = c.in-Some.ensures.items in
+    let key = c.key_into-len.ensures.key ∙ ap index_key c.as_wire.ensures.value in
     let after = c.loop-self.invariant.after in
-    let fits : c.args.count ≤ length first + length front = omega (arith, ap length is, length-append front (c.in-Some.suffix ∷ []), after) in
+    let fits : c.args.count ≤ length was.first.items + length front =
+    omega (arith, ap length is, length-append front (u ∷ []), after) in
     record {
-      table = IsIndexed-pop _ found front c.in-Some.suffix h here
-          (λ cs other. index_others bytes c.loop-self.self-inside.index c.remove.new.self _ updates (index_key cs) (λ same. other (one_key cs (wire_of c.in-Some.suffix.labels) (same ∙ key))));
-      front = sym (cut_last c.args.count first front c.in-Some.suffix fits) ∙ ap (λ (zs : List Stored). take c.args.count (first ++ zs)) (sym is) ∙ c.loop-self.invariant.front;
+      table = IsTable-pop was.index c.remove.new.self u key c.remove.ensures.updates
+          (subst (IsTable (offset_in was.index) was.first.items) is c.loop-self.invariant.table) refl;
+      front = sym (cut_last c.args.count was.first.items front u fits)
+          ∙ ap (λ (zs : List Stored). take c.args.count (was.first.items ++ zs)) (sym is) ∙ c.loop-self.invariant.front;
       after = after;
     }
 
 pub invariant_of-self : goal.invariant_of-self
 invariant_of-self c =
-    let fits : length c.loop-self.self-inside.others.items ≤ c.args.count - length c.loop-self.self-inside.first.items = omega (arith, c.loop-self.invariant.after) in
-    IsTable-front c.args.count c.loop-self.self-inside.first.items c.self.invariant c.loop-self.invariant.table
-    (c.loop-self.invariant.front ∙ ap (take c.args.count) (sym c.self.view_is)) fits c.truncate.ensures.items
+    let fits : length c.loop-self.self-inside.others.items ≤ c.args.count - length c.loop-self.self-inside.first.items =
+    omega (arith, c.loop-self.invariant.after) in
+    IsTable-cut c.args.count c.loop-self.invariant.table fits c.truncate.ensures.items

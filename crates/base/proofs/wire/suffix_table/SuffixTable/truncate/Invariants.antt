@@ -1,10 +1,10 @@
 use Rattle.std.proofs.Common.{◌≡◌, ◌-◌, ◌++◌, length, take}
-use Rattle.base.specs.Suffixes.{offset_in, IsIndexed}
+use Rattle.base.specs.Suffixes.{offset_in, IsTable}
 use Rattle.base.proofs.wire.suffix_table.SuffixTable.truncate.Given as goal
 
 abbrev pub invariant-loop-self : goal.invariant-loop-self
 invariant-loop-self l = record {
-  table : IsIndexed (offset_in l.self-inside.index) l.self-inside.others.items;
+  table : IsTable (offset_in l.self-inside.index) l.self-inside.first.items l.self-inside.others.items;
   front : take l.count (l.self-inside.first.items ++ l.self-inside.others.items) ≡ take l.count l.fn.self;
   after : l.after ≡ l.count - length l.self-inside.first.items;
 }

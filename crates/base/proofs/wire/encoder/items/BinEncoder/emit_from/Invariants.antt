@@ -1,4 +1,4 @@
-use Rattle.std.proofs.Common.{◌≡◌, ◌+◌, ◌-◌, ◌≤◌, ◌^◌, ℕ, suc, List, Option, Some, None, IfSome, length}
+use Rattle.std.proofs.Common.{◌≡◌, ◌+◌, ◌-◌, ◌<◌, ◌^◌, ℕ, suc, List, Option, Some, None, IfSome, length}
 use Rattle.std.specs.Iterator.{Count, IsFinite, YieldsThen, size}
 use Rattle.base.specs.Items.{EachWritten}
 use Rattle.base.specs.Wire.{state_of}
@@ -17,8 +17,8 @@ invariant-loop-next g l = record {
       × (state_of l.self ≡ after (in_turn g.E.BinEncodable.written xs) (state_of l.fn.self))
       × (l.count ≡ length xs)
       × ((before : g.row.I.Denot) → g.I.Iterator.next_gives before (Some l.fn.first) l.fn.items → YieldsThen g.I.Iterator.next_gives before xs l.next l.items);
-  goes : IfSome l.next (λ _. g.I.Iterator.can_next l.items × IsFinite (g.I.Iterator.remaining l.items));
-  room : l.count + left l.next (g.I.Iterator.remaining l.items) ≤ 2 ^ 64 - 1;
+  goes : IfSome l.next (λ _. g.I.Iterator.can_next l.items × IsFinite (g.I.Iterator.remaining l.items)
+      × (l.count + size (g.I.Iterator.remaining l.items) < 2 ^ 64 - 1));
 }
 
 abbrev pub decreases-loop-next : goal.decreases-loop-next
