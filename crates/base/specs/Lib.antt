@@ -1,3 +1,4 @@
+pub mod AppendError
 pub mod Compression
 pub mod Counts
 pub mod Cuts

@@ -1,6 +1,7 @@
 //! Writes a name (RFC 1035, 4.1.4).
 
 ghost use Rattle.std.specs.Prelude.{◌≡◌, [], ◌∷◌, ◌++◌, OnOk};
+ghost use Rattle.base.specs.AppendError.{told};
 ghost use Rattle.base.specs.Labels.{AreNameLabels, plain_len, wire_of};
 ghost use Rattle.base.specs.Laws.{Keeps};
 ghost use Rattle.base.specs.SaysName.{Says-name};
@@ -11,6 +12,7 @@ ghost use Rattle.base.specs.Written.{Exactly, name, plain_name};
 
 use crate::error::ProtoError;
 use crate::name::{Name, first_label};
+use crate::wire::encoder::append::AppendError;
 use crate::wire::{BinEncodable, BinEncoder};
 
 /// The two bytes of a pointer to offset 0 (RFC 1035, 4.1.4).
@@ -39,21 +41,37 @@ impl BinEncodable for Name {
     /// `MaxBufferSizeExceeded` where a byte would pass the limit; `Memory` if memory runs out. What stood before stays,
     /// and labels that were written before the refusal stand after it.
     fn emit(&self, encoder: &mut BinEncoder<'_>) -> Result<(), ProtoError> {
-        let mut rest = self.as_wire();
-        while let Some((label, tail)) = first_label(rest) {
-            if let Some(offset) = encoder.find(rest) {
-                return encoder.emit_u16(POINTER + offset);
-            }
-            let at = encoder.len();
-            encoder.emit_slice(&rest[..1 + label.len()])?;
-            encoder.store(rest, at)?;
-            rest = tail;
-        }
-        encoder.emit(0)
+        self.append_to(encoder)?;
+        Ok(())
     }
 }
 
 impl Name {
+    /// Writes the name as `emit` does. It stands by itself for its refusal, which is small: where nothing is refused, that
+    /// costs its callers nothing.
+    fn append_to(&self, encoder: &mut BinEncoder<'_>) -> Result<(), AppendError>
+        // Whatever the answer, what stood before stays, and no byte is written past the limit.
+        ensures keeps { Keeps (state_of encoder.old) (state_of encoder.new) }
+        // After `Ok` the labels have 1 to 63 bytes each, and the name has at most 255.
+        ensures fits { OnOk result (AreNameLabels self.now.labels) }
+        // After `Ok` exactly the name was written; refused for the limit only where that would
+        // pass it.
+        ensures exact { Exactly (name self.now.labels)
+            (state_of encoder.old) (state_of encoder.new) (told result) }
+    {
+        let mut rest = self.as_wire();
+        while let Some((label, tail)) = first_label(rest) {
+            if let Some(offset) = encoder.find(rest) {
+                return encoder.append(&(POINTER + offset).to_be_bytes());
+            }
+            let at = encoder.len();
+            encoder.append(&rest[..1 + label.len()])?;
+            encoder.store(rest, at)?;
+            rest = tail;
+        }
+        encoder.append(&[0])
+    }
+
     /// Writes the name without compression, letters as they are; whether it is absolute isn't written. Neither looks
     /// suffixes up nor stores them.
     ///

@@ -5,6 +5,7 @@ ghost use Rattle.std.specs.Prelude.{◌≡◌, ◌+◌, ◌-◌, ◌^◌, ◌<�
 ghost use Rattle.std.specs.Int.{w16, w32, to_be_bytes};
 ghost use Rattle.base.specs.State.{appended, overwritten};
 
+pub(crate) mod append;
 mod items;
 mod rollback;
 mod table;
@@ -148,11 +149,7 @@ impl<'a> BinEncoder<'a> {
             < length (state_of self.old).bytes + length bytes.now
             → IsErrOf result ProtoError.MaxBufferSizeExceeded }
     {
-        let limit = usize::from(self.limit);
-        if limit < self.buffer.len() || limit - self.buffer.len() < bytes.len() {
-            return Err(ProtoError::MaxBufferSizeExceeded);
-        }
-        self.buffer.extend_from_slice(bytes)?;
+        self.append(bytes)?;
         Ok(())
     }
 

@@ -1,16 +1,17 @@
 use Rattle.std.proofs.Common.{◌≡◌, ℕ, ◌+◌, ◌≤◌, ◌∙◌, List, [], ◌∷◌, ◌++◌, length, length-append, take, refl, Err, Some, None, subst, ap, sym, arith}
 use Rattle.std.proofs.lemmas.List.{take_at}
 use Rattle.std.proofs.lemmas.Result.{err_from_is_err_and}
+use Rattle.base.specs.AppendError.{refusal, told}
 use Rattle.base.specs.Labels.{AreLabels, IsWire, labels_of}
 use Rattle.base.specs.Laws.{Keeps}
 use Rattle.base.specs.State.{State, appended, stored}
 use Rattle.base.specs.Wire.{state_of}
-use Rattle.base.specs.Written.{after, both, just, label_of, name, pointer}
+use Rattle.base.specs.Written.{after, both, just, label_of, name}
 use Rattle.base.proofs.LabelLemmas.{IsWire-wire_of}
 use Rattle.base.proofs.LawLemmas.{Keeps-same, Keeps-then}
 use Rattle.base.proofs.SaysLemmas.{Keeps-label}
 use Rattle.base.proofs.WrittenLemmas.{Exactly-first, Exactly-from, Exactly-refused, after-both, name-by, label-after}
-use Rattle.base.proofs.name.writing.NameBinEncodable.emit.Goals as goal
+use Rattle.base.proofs.name.Name.append_to.Goals as goal
 
 pub loop-label-init : goal.loop-label-init
 loop-label-init c =
@@ -34,11 +35,11 @@ loop-label-preserved c =
     let z = state_of c.store.new.self in
     let is = c.in-Some.ensures.labels in
     let slice = label_bytes _ _ _ c.in-Some.ensures.bytes in
-    let wrote = c.in_ok-emit_slice.ensures.exact ∙ ap (λ bytes. appended bytes s) slice in
-    let st : z ≡ after (label_of x xs) s = c.in_ok-store.ensures.ok ∙ ap (λ labels. stored labels c.len-at.result (state_of c.emit_slice.new.self)) is
-    ∙ ap (λ at. stored (x ∷ xs) at (state_of c.emit_slice.new.self)) c.len-at.ensures
+    let wrote = c.in_ok-append.ensures.exact ∙ ap (λ bytes. appended bytes s) slice in
+    let st : z ≡ after (label_of x xs) s = c.in_ok-store.ensures.ok ∙ ap (λ labels. stored labels c.len-at.result (state_of c.append-in-Some.new.self)) is
+    ∙ ap (λ at. stored (x ∷ xs) at (state_of c.append-in-Some.new.self)) c.len-at.ensures
     ∙ ap (λ m. stored (x ∷ xs) (length s.bytes) m) wrote ∙ label-after x xs s in
-    let within : length s.bytes + (1 + length x) ≤ s.limit = omega (arith, c.in_ok-emit_slice.ensures.keeps.within, ap (λ (m : State). length m.bytes) wrote, length-append s.bytes (length x ∷ x)) in
+    let within : length s.bytes + (1 + length x) ≤ s.limit = omega (arith, c.in_ok-append.ensures.keeps.within, ap (λ (m : State). length m.bytes) wrote, length-append s.bytes (length x ∷ x)) in
     record {
       wire = record {
         whole = c.in-Some.ensures.others;
@@ -61,41 +62,41 @@ pub returns-in-Some-find-clause-exact : goal.returns-in-Some-find-clause-exact
 returns-in-Some-find-clause-exact c =
     let o = c.in-Some-find.offset in
     let s = state_of c.loop-label.encoder in
-    Exactly-from c.emit_u16.result (name c.args.self.now.labels) (pointer o) (state_of c.args.encoder.now) s (state_of c.emit_u16.new.self)
-    (c.loop-label.invariant.exact ∙ name-by _ _ _ (Some o) s c.in-Some.ensures.labels c.in-Some-find.ensures.value)
-    c.emit_u16.ensures.exact
+    Exactly-from (told c.append.result) (name c.args.self.now.labels) (just c.to_be_bytes.result) (state_of c.args.encoder.now) s (state_of c.append.new.self)
+    (c.loop-label.invariant.exact ∙ name-by _ _ _ (Some o) s c.in-Some.ensures.labels c.in-Some-find.ensures.value ∙ ap (λ bytes. after (just bytes) s) (sym c.to_be_bytes.ensures))
+    c.append.ensures.exact
 
-pub returns-in_err-emit_slice-clause-exact : goal.returns-in_err-emit_slice-clause-exact
-returns-in_err-emit_slice-clause-exact c =
+pub returns-in_err-append-clause-exact : goal.returns-in_err-append-clause-exact
+returns-in_err-append-clause-exact c =
     let x = c.in-Some.label.now in
     let xs = labels_of c.in-Some.tail.now in
     let s = state_of c.loop-label.encoder in
-    let z = state_of c.emit_slice.new.self in
-    let e = c.in_err-emit_slice.field-0.0 in
+    let z = state_of c.append-in-Some.new.self in
+    let e = refusal c.in_err-append.field-0.0 in
     let len = ap length (label_bytes _ _ _ c.in-Some.ensures.bytes) in
     let is = err_from_is_err_and c.from_residual.result c.from_residual.ensures.1 in
     rw (is.1, is.2) (Exactly-from {X = Unit {0}} (Err e) (name c.args.self.now.labels) (both (label_of x xs) (name xs))
     (state_of c.args.encoder.now) s z
     (c.loop-label.invariant.exact ∙ name-by _ x xs None s c.in-Some.ensures.labels c.in_default-find.ensures.value)
     (Exactly-first (Unit {0}) (Unit {0}) e (label_of x xs) (name xs) s z z (Exactly-refused (Unit {0}) (Unit {0}) e (label_of x xs)
-    (just (take (1 + length x) c.loop-label.rest.now)) s s z z refl (omega (arith, len)) c.in_err-emit_slice.ensures.exact)))
+    (just (take (1 + length x) c.loop-label.rest.now)) s s z z refl (omega (arith, len)) c.in_err-append.ensures.exact)))
 
 pub returns-clause-exact : goal.returns-clause-exact
 returns-clause-exact c =
     let s = state_of c.loop-label.encoder in
-    Exactly-from c.emit.result (name c.args.self.now.labels) (just (0 ∷ [])) (state_of c.args.encoder.now) s (state_of c.emit.new.self)
+    Exactly-from (told c.append-2.result) (name c.args.self.now.labels) (just (0 ∷ [])) (state_of c.args.encoder.now) s (state_of c.append-2.new.self)
     (c.loop-label.invariant.exact ∙ ap (λ labels. after (name labels) s) c.in_default.ensures.labels)
-    c.emit.ensures.exact
+    c.append-2.ensures.exact
 
 pub returns-clause-keeps : goal.returns-clause-keeps
 returns-clause-keeps c =
-    Keeps-then c.loop-label.invariant.keeps c.emit.ensures.keeps
+    Keeps-then c.loop-label.invariant.keeps c.append-2.ensures.keeps
 
 pub returns-in-Some-find-clause-keeps : goal.returns-in-Some-find-clause-keeps
 returns-in-Some-find-clause-keeps c =
-    Keeps-then c.loop-label.invariant.keeps c.emit_u16.ensures.keeps
+    Keeps-then c.loop-label.invariant.keeps c.append.ensures.keeps
 
 pub returns-in_err-store-clause-keeps : goal.returns-in_err-store-clause-keeps
 returns-in_err-store-clause-keeps c =
-    let both = Keeps-then c.loop-label.invariant.keeps c.emit_slice.ensures.keeps in
+    let both = Keeps-then c.loop-label.invariant.keeps c.append-in-Some.ensures.keeps in
     subst (λ (s : State). Keeps (state_of c.args.encoder.now) s) (sym c.in_err-store.ensures.err) both

@@ -3,7 +3,7 @@ use Rattle.base.specs.Labels.{IsWire, labels_of}
 use Rattle.base.specs.Laws.{Keeps}
 use Rattle.base.specs.Wire.{state_of}
 use Rattle.base.specs.Written.{after, name}
-use Rattle.base.proofs.name.writing.NameBinEncodable.emit.Given as goal
+use Rattle.base.proofs.name.Name.append_to.Given as goal
 
 abbrev pub invariant-loop-label : goal.invariant-loop-label
 invariant-loop-label l = record {

@@ -1,0 +1,69 @@
+//! Appends bytes.
+
+ghost use Rattle.std.specs.Prelude.{◌≡◌, ◌+◌, ◌<◌, Err, length, OnErr};
+ghost use Rattle.base.specs.AppendError.{refusal, told};
+ghost use Rattle.base.specs.Laws.{Keeps};
+ghost use Rattle.base.specs.Wire.{state_of};
+ghost use Rattle.base.specs.Written.{Exactly, just};
+ghost use Rattle.base.specs.declared.wire.encoder.append.AppendError.TheVariants as reasons;
+
+use crate::error::ProtoError;
+use crate::wire::encoder::BinEncoder;
+use std::alloc::AllocError;
+
+/// Why bytes were not appended. It is small, since a refusal takes room, and is cleared, in each call that might give
+/// it.
+#[derive(Clone, Copy, Drop)]
+pub(crate) enum AppendError {
+    /// A byte would pass the limit.
+    NoRoom,
+    /// Memory ran out.
+    Memory,
+}
+
+impl From<AllocError> for AppendError {
+    ghost from_gives = { λ _ e. e ≡ reasons.Memory };
+
+    fn from(_e: AllocError) -> AppendError {
+        AppendError::Memory
+    }
+}
+
+impl From<AppendError> for ProtoError {
+    ghost from_gives = { λ reason e. e ≡ refusal reason };
+
+    fn from(reason: AppendError) -> ProtoError {
+        match reason {
+            AppendError::NoRoom => ProtoError::MaxBufferSizeExceeded,
+            AppendError::Memory => ProtoError::Memory,
+        }
+    }
+}
+
+impl<'a> BinEncoder<'a> {
+    /// Appends bytes as they are.
+    ///
+    /// # Errors
+    ///
+    /// If a byte would pass the limit, or memory runs out. Nothing is written then.
+    pub(crate) fn append(&mut self, bytes: &[u8]) -> Result<(), AppendError>
+        // Whatever the answer, what stood before stays, and no byte is written past the limit.
+        ensures keeps { Keeps (state_of self.old) (state_of self.new) }
+        // After `Ok` exactly the bytes were written; refused for the limit only where they would
+        // pass it.
+        ensures exact { Exactly (just bytes.now) (state_of self.old) (state_of self.new)
+            (told result) }
+        ensures err { OnErr result (state_of self.new ≡ state_of self.old) }
+        // Where the bytes would pass the limit, that is why they aren't appended.
+        ensures full { (state_of self.old).limit
+            < length (state_of self.old).bytes + length bytes.now
+            → result ≡ Err reasons.NoRoom }
+    {
+        let limit = usize::from(self.limit);
+        if limit < self.buffer.len() || limit - self.buffer.len() < bytes.len() {
+            return Err(AppendError::NoRoom);
+        }
+        self.buffer.extend_from_slice(bytes)?;
+        Ok(())
+    }
+}
