@@ -1,5 +1,5 @@
 -- A name is compressed as far as it can be.
-use Rattle.std.proofs.Common.{◌≡◌, ℕ, inl, inr, List, ◌∷◌, ◌++◌, ◌⊎◌, [], length, refl, ap, sym, ◌∙◌, append_assoc}
+use Rattle.std.proofs.Common.{ℕ, inl, inr, List, ◌∷◌, ◌⊎◌, [], length, refl, ap, sym, ◌∙◌, append_assoc}
 use Rattle.std.proofs.lemmas.List.{append-nil}
 use Rattle.base.specs.Compression.{EndsInPointer, IsWrittenOut, IsCompressed}
 use Rattle.base.specs.Labels.{wire_of}

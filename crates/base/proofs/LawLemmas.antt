@@ -1,13 +1,14 @@
 -- The laws of writing, for what appends bytes and for what is written in parts.
-use Rattle.std.proofs.Common.{rules, ◌≡◌, ℕ, ◌+◌, ◌≤◌, List, [], ◌++◌, length, drop, ap, sym, ◌∙◌, subst, append_assoc, arith, length-append}
+use Rattle.std.proofs.Common.{rules, ◌≡◌, ℕ, ◌+◌, ◌≤◌, List, [], ◌++◌, length, drop, ap, sym, ◌∙◌, append_assoc, arith, length-append}
 use Rattle.std.specs.Prelude.{Option, Some, None, All, max}
 use Rattle.std.proofs.lemmas.List.{append-nil}
-use Rattle.std.proofs.lemmas.List.Elements.{All-nil, All-append, All-weaker}
+use Rattle.std.proofs.lemmas.List.Elements.{All-nil, All-append}
 use Rattle.std.proofs.Math.Seq.{drop-append_seam, take-length}
 use Rattle.base.specs.State.{State, Stored, appended}
 use Rattle.base.specs.Words.{Stands}
 use Rattle.base.specs.Laws.{IsValid, Holds, Keeps}
-use Rattle.base.specs.WordLemmas.{first_stands, stands_part}
+use Rattle.base.specs.SaysParts.{last_stands}
+use Rattle.base.specs.WordLemmas.{first_stands}
 use Rattle.base.specs.Written.{Writing, piece_at, after, just}
 use Rattle.base.proofs.WrittenLemmas.{after-none}
 
@@ -44,11 +45,10 @@ unfoldable pub Keeps-then : {a b c : State} → Keeps a b → Keeps b c → Keep
 Keeps-then {a} {b} {c} k l = record {
   appended = k.appended ++ l.appended;
   added = k.added ++ l.added;
-  bytes = l.bytes ∙ ap (λ (xs : List ℕ). xs ++ l.appended) k.bytes ∙ append_assoc a.bytes k.appended l.appended;
-  suffixes = l.suffixes ∙ ap (λ (ts : List Stored). ts ++ l.added) k.suffixes ∙ append_assoc a.suffixes k.added l.added;
+  bytes = rw (l.bytes, k.bytes, append_assoc);
+  suffixes = rw (l.suffixes, k.suffixes, append_assoc);
   offsets = All-append (λ (t : Stored). length a.bytes ≤ t.offset) k.added l.added k.offsets
-      (All-weaker (λ (t : Stored). length b.bytes ≤ t.offset) (λ (t : Stored). length a.bytes ≤ t.offset)
-      (λ t later. omega (arith, ap length k.bytes, length-append a.bytes k.appended)) l.added l.offsets);
+      (λ i t inside. omega (arith, l.offsets i t inside, ap length k.bytes, length-append a.bytes k.appended));
   limit = l.limit ∙ k.limit;
   buffer = l.buffer ∙ k.buffer;
   within = omega (arith, k.within, l.within, k.limit);
@@ -56,30 +56,27 @@ Keeps-then {a} {b} {c} k l = record {
 
 -- what was added to the bytes
 pub added_bytes : (a b : State) (xs : List ℕ) → b.bytes ≡ a.bytes ++ xs → drop (length a.bytes) b.bytes ≡ xs
-added_bytes a b xs is = ap (drop (length a.bytes)) is ∙ drop-append_seam a.bytes xs
+added_bytes a b xs is = rw is (drop-append_seam a.bytes xs)
 
 module _ (a b c : State) (k : Keeps a b) (l : Keeps b c) (B : List ℕ) where
   -- what was added by both
   both : drop (length a.bytes) c.bytes ≡ k.appended ++ l.appended
-  both = added_bytes a c (k.appended ++ l.appended) (l.bytes ∙ ap (λ (xs : List ℕ). xs ++ l.appended) k.bytes ∙ append_assoc a.bytes k.appended l.appended)
+  both = rw (l.bytes, k.bytes, append_assoc, drop-append_seam)
 
   -- what holds both holds the first
   pub Holds-first : Holds a c B → Holds a b B
   Holds-first h = record {
     table = h.table;
-    bytes =
-        let all : Stands (k.appended ++ l.appended) B (length a.bytes) = subst (λ (xs : List ℕ). Stands xs B (length a.bytes)) both h.bytes in
-        subst (λ (xs : List ℕ). Stands xs B (length a.bytes)) (sym (added_bytes a b k.appended k.bytes)) (first_stands k.appended l.appended B (length a.bytes) all);
+    bytes = rw (added_bytes a b k.appended k.bytes)
+        (first_stands k.appended l.appended B (length a.bytes) (rw both at h.bytes));
   }
 
   -- what was added by the second stands after the first
   pub Stands-second : Holds a c B → Stands (drop (length b.bytes) c.bytes) B (length b.bytes)
   Stands-second h =
-      let all : Stands (k.appended ++ (l.appended ++ [])) B (length a.bytes) = subst (λ (xs : List ℕ). Stands xs B (length a.bytes))
-      (both ∙ ap (λ (xs : List ℕ). k.appended ++ xs) (sym (append-nil l.appended))) h.bytes in
-      let place : length a.bytes + length k.appended ≡ length b.bytes = sym (ap length k.bytes ∙ length-append a.bytes k.appended) in
-      subst (λ (xs : List ℕ). Stands xs B (length b.bytes)) (sym (added_bytes b c l.appended l.bytes))
-      (subst (Stands l.appended B) place (stands_part k.appended l.appended [] B (length a.bytes) all))
+      let place : length b.bytes ≡ length a.bytes + length k.appended = ap length k.bytes ∙ length-append a.bytes k.appended in
+      rw (added_bytes b c l.appended l.bytes, place)
+      (last_stands k.appended l.appended B (length a.bytes) (rw both at h.bytes))
 
   -- and what holds both holds the second, if the suffixes between them are spelled there
   pub Holds-second : IsValid b B → Holds a c B → Holds b c B

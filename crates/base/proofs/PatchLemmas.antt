@@ -1,5 +1,5 @@
 -- Writing after room that was kept, which is filled at the end.
-use Rattle.std.proofs.Common.{◌≡◌, ℕ, List, ◌++◌, length, ap, append_assoc, arith, length-append}
+use Rattle.std.proofs.Common.{◌≡◌, ℕ, List, ◌++◌, length, ap, ◌∙◌, append_assoc, arith, length-append}
 use Rattle.std.proofs.Math.Seq.{take-append_seam, drop-append_seam, drop-append-add}
 use Rattle.base.specs.State.{State, appended, overwritten}
 use Rattle.base.specs.Laws.{Holds, Keeps, Writes}
@@ -11,28 +11,16 @@ module _ (room xs : List ℕ) (a c : State) (size : length xs ≡ length room) (
   filled = overwritten (length a.bytes) xs c
 
   bytes : filled.bytes ≡ (a.bytes ++ xs) ++ k.appended
-  bytes = rw (
-    k.bytes,
-    append_assoc a.bytes room k.appended,
-    take-append_seam a.bytes (room ++ k.appended),
-    drop-append-add a.bytes (room ++ k.appended) (length xs),
-    size,
-    drop-append_seam room k.appended,
-    append_assoc a.bytes xs k.appended,
-  )
+  bytes = rw (k.bytes, append_assoc, take-append_seam, drop-append-add, size, drop-append_seam, append_assoc)
 
   start : length (a.bytes ++ room) ≡ length (a.bytes ++ xs)
   start = omega (arith, length-append a.bytes room, length-append a.bytes xs)
 
   stop : length c.bytes ≡ length filled.bytes
-  stop = omega (
-    arith,
-    ap length k.bytes,
-    ap length bytes,
-    length-append (a.bytes ++ room) k.appended,
-    length-append (a.bytes ++ xs) k.appended,
-    start,
-  )
+  stop =
+      let old = ap length k.bytes ∙ length-append (a.bytes ++ room) k.appended in
+      let new = ap length bytes ∙ length-append (a.bytes ++ xs) k.appended in
+      omega (arith, start)
 
   -- all is as if the room had been filled from the start
   pub Keeps-filled : Keeps (appended xs a) (overwritten (length a.bytes) xs c)

@@ -12,16 +12,11 @@ state buffer limit bytes suffixes = record { buffer = buffer; bytes = bytes; lim
 
 -- what both write, the second writes after the first
 pub after-both : (f g : Writing) (s : State) → after (both f g) s ≡ after g (after f s)
-after-both f g s =
-    let first = piece_at f s in
-    let place : length (s.bytes ++ first.bytes) ≡ length s.bytes + length first.bytes = length-append s.bytes first.bytes in
-    ap (λ (n : ℕ). state s.buffer s.limit (s.bytes ++ (first.bytes ++ (g n first.suffixes).bytes)) (g n first.suffixes).suffixes) (sym place)
-    ∙ ap (λ (xs : List ℕ). state s.buffer s.limit xs (g (length (s.bytes ++ first.bytes)) first.suffixes).suffixes)
-    (sym (append_assoc s.bytes first.bytes (g (length (s.bytes ++ first.bytes)) first.suffixes).bytes))
+after-both f g s = simp (length-append, append_assoc)
 
 -- no byte changes nothing
 pub after-none : (s : State) → after (just []) s ≡ s
-after-none s = ap (λ (xs : List ℕ). state s.buffer s.limit xs s.suffixes) (append-nil s.bytes)
+after-none s = rw append-nil
 
 -- a part that has no more bytes was refused
 pub Exactly-refused : (X Y : Type 0) (e : ProtoError) (f g : Writing) (a s y z : State) → s.limit ≡ a.limit

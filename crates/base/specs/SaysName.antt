@@ -129,8 +129,7 @@ wrote_by {at = at} {stored = stored} (Some o) is rest =
 wrote_by {x} {xs} {at} {old} {stored} None is rest = record {
   end = rest.end;
   added = added_at x xs at ++ rest.added;
-  is = rest.is ∙ ap (λ (ts : List Stored). ts ++ rest.added) (near x xs at stored)
-      ∙ append_assoc stored (added_at x xs at) rest.added;
+  is = rw (rest.is, near x xs at stored, append_assoc);
   wrote = begins is rest.wrote;
 }
 
@@ -142,16 +141,15 @@ wrote_after [] at old own stored is longer =
 wrote_after (x ∷ xs) at old own stored is longer =
     let added = added_at x xs at in
     let same : found_in stored (x ∷ xs) ≡ found_in old (x ∷ xs) =
-    ap (λ (ts : List Stored). found_in ts (x ∷ xs)) is ∙ found_among old own (x ∷ xs)
-    (λ k t inside same. omega (arith, longer k t inside, ap size_of same)) in
+    rw is (found_among old own (x ∷ xs)
+    (λ k t inside same. omega (arith, longer k t inside, ap size_of same))) in
     let all : All (λ t. size_of xs < size_of t.labels) (own ++ added) =
     All-append (λ (t : Stored). size_of xs < size_of t.labels) own added
     (λ k t inside. omega (arith, longer k t inside))
     (near_all (λ (t : Stored). size_of xs < size_of t.labels) x xs at (λ early. omega arith)) in
     rw same (wrote_by (found_in old (x ∷ xs)) refl
     (wrote_after xs (at + length (length x ∷ x)) old (own ++ added) (label_of x xs at stored).suffixes
-    (near x xs at stored ∙ ap (λ (ts : List Stored). ts ++ added) is ∙ append_assoc old own added)
-    all))
+    (rw (near x xs at stored, is, append_assoc)) all))
 
 pub name_wrote : (labels : List (List ℕ)) (at : ℕ) (stored : List Stored)
     → IsWrote stored labels at stored (name labels at stored)

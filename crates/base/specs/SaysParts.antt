@@ -1,8 +1,8 @@
 -- What is known of what is written in parts, put together as what is written is.
-use Rattle.std.proofs.Common.{◌≡◌, ℕ, ◌+◌, ◌-◌, ◌^◌, ◌<◌, ◌≤◌, List, [], ◌++◌, length, get_or, refl, ap, sym, ◌∙◌, subst, append_assoc, arith, length-append}
+use Rattle.std.proofs.Common.{◌≡◌, ℕ, ◌+◌, ◌^◌, ◌<◌, ◌≤◌, List, [], ◌++◌, length, refl, sym, ◌∙◌, append_assoc, arith, length-append}
 use Rattle.std.specs.Prelude.{All, Any}
 use Rattle.std.specs.Int.{w16, to_be_bytes}
-use Rattle.std.proofs.lemmas.List.{append-nil, get_or_append_left, get_or-append_right}
+use Rattle.std.proofs.lemmas.List.{append-nil, get_or_append_left, get_or-append-add}
 use Rattle.std.proofs.lemmas.List.Elements.{All-nil, All-append}
 use Rattle.base.specs.Laws.{IsSpelled}
 use Rattle.base.specs.Says.{IsThere, IsOwned, SaysAt, Says}
@@ -14,25 +14,13 @@ use Rattle.base.specs.Written.{Piece, Writing, just, both, sized}
 -- what is among the first elements is among all
 pub any_append : (P : Stored → Type 0) (xs ys zs : List Stored) → zs ≡ xs ++ ys → Any P xs
     → Any P zs
-any_append P xs ys zs is (k, t, inside, at, holds) = (
-  k,
-  t,
-  omega (arith, ap length is, length-append xs ys),
-  ap (λ (ts : List Stored). get_or ts k t) is ∙ get_or_append_left xs ys t k inside ∙ at,
-  holds,
-)
+any_append P xs ys zs is (k, t, inside, at, holds) =
+    rw is (k, t, omega (arith, length-append xs ys), get_or_append_left xs ys t k inside ∙ at, holds)
 
 -- and so is what is among the others
 pub any_after : (P : Stored → Type 0) (xs ys : List Stored) → Any P ys → Any P (xs ++ ys)
 any_after P xs ys (k, t, inside, at, holds) =
-    let back : length xs + k - length xs ≡ k = omega arith in (
-      length xs + k,
-      t,
-      omega (arith, length-append xs ys),
-      get_or-append_right xs ys (length xs) (length xs + k) t refl (omega arith)
-          ∙ ap (λ (i : ℕ). get_or ys i t) back ∙ at,
-      holds,
-    )
+    (length xs + k, t, omega (arith, length-append xs ys), get_or-append-add xs ys k t ∙ at, holds)
 
 -- suffixes that are spelled before a place are so before a later one
 pub later_table : (B : List ℕ) (m n : ℕ) (ts : List Stored) → m ≤ n → All (IsSpelled B m) ts
@@ -72,9 +60,7 @@ Says-just fits word plain xs few is_word = record {
 
 -- where bytes stand, the last of them do
 pub last_stands : (xs ys B : List ℕ) (i : ℕ) → Stands (xs ++ ys) B i → Stands ys B (i + length xs)
-last_stands xs ys B i h =
-    stands_part xs ys [] B i
-    (subst (λ (zs : List ℕ). Stands (xs ++ zs) B i) (sym (append-nil ys)) h)
+last_stands xs ys B i h = stands_part xs ys [] B i (rw append-nil h)
 
 -- one word after another
 module _ {F G : Type 0} {v w : List ℕ → ℕ → ℕ → Type 0} {owner : List (List ℕ)} {p q : Piece} {at : ℕ}
@@ -101,7 +87,7 @@ module _ {F G : Type 0} {v w : List ℕ → ℕ → ℕ → Type 0} {owner : Lis
         }) in
         ((at + length p.bytes, first.0, second.0), second.1);
     added = s.added ++ r.added;
-    is = r.is ∙ ap (λ (ts : List Stored). ts ++ r.added) s.is ∙ append_assoc stored s.added r.added;
+    is = rw (r.is, s.is, append_assoc);
     offsets = All-append (λ (t : Stored). at ≤ t.offset) s.added r.added s.offsets
         (λ k t inside. omega (arith, r.offsets k t inside));
     owned = record {
