@@ -1,7 +1,8 @@
 -- A message that was composed of slices was emitted.
-use Rattle.std.proofs.Common.{◌≡◌, ℕ, ◌+◌, Bool, true, false, List, length, refl, ap, sym, ◌∙◌, subst, arith, Result, Ok, Err, Bor, Iter}
+use Rattle.std.proofs.Common.{◌≡◌, ◌⊎◌, inl, inr, ℕ, ◌+◌, Bool, true, false, List, length, refl, ap, sym, ◌∙◌, subst, arith, Result, Ok, Err, Bor, Iter}
 use Rattle.std.specs.Prelude.{◌||◌, ⊤, IsSomeAnd, MatchOption, Option, Some, None}
 use Rattle.std.specs.Option.{option_copied, option_map}
+use Rattle.std.proofs.Math.Bool.{or_assoc}
 use Rattle.std.proofs.iter.Yields.{fronts}
 use Rattle.base.specs.Items.{EachWritten, EmitsAll}
 use Rattle.base.specs.State.{State, overwritten}
@@ -11,7 +12,7 @@ use Rattle.base.proofs.SliceLemmas.{Emits-front, Emits-slice}
 use Rattle.base_data.specs.declared.rdata.RData.{RData}
 use Rattle.rr.specs.Record.{RecordWord, plain_record, record_written}
 use Rattle.rr.specs.declared.record.Record.{Record}
-use Rattle.op.specs.Composition.{AddsCounts, AndThen, Composition, CountsItems, EmitsPart, FillsIn, HasHeader, KeepsRoom, Tests, WritesRecordItems}
+use Rattle.op.specs.Composition.{AddsCounts, AndThen, Composition, CountsItems, EmitsPart, FillsIn, HasHeader, KeepsRoom, Narrows, Tests, WritesRecordItems}
 use Rattle.op.specs.Cut.{raised}
 use Rattle.op.specs.EdnsRecord.{edns_record}
 use Rattle.op.specs.Emitted.{Emitted, WritesFront, WritesRecords, query_owner, record_owner}
@@ -36,19 +37,28 @@ module _ {E : Type 0} (word : E → List ℕ → ℕ → ℕ → Type 0) (plain 
   slice_emits s a answer t b = EmitsAll (λ (x : Bor E). word x.now) (λ x. plain x.now) (λ x. owner x.now) (λ x. f x.now) fronts s t a b answer
 
   module _ (s t : Iter E) (a b : State) where
-    front_counted : (answer : Result ℕ ProtoError) (w : Written) → slice_emits s a answer t b → CountsItems answer (Ok w) → WritesFront word plain owner f s.rest.now a b w.count w.is_cut
-    front_counted (Ok n) w emits counts =
-        let all = Emits-slice word plain owner f s t a b n emits in
-        all_written word plain owner f refl all.0 all.2 (ap (λ v. v.count) counts.1 ∙ all.1) (ap (λ v. v.is_cut) counts.1)
-    front_counted (Err (refusals.NotAllRecordsWritten n)) w emits counts =
+    -- the elements before one that had no room
+    pub cut_front : (n : ℕ) → slice_emits s a (Err (refusals.NotAllRecordsWritten n)) t b → WritesFront word plain owner f s.rest.now a b n true
+    cut_front n emits =
         let front = Emits-front word plain owner f s t a b n emits in
-        front_written word plain owner f front.0 front.2 front.1 front.3 front.4 front.7 (ap (λ v. v.count) counts.1 ∙ front.5) (ap (λ v. v.is_cut) counts.1) front.6 front.8
-    front_counted (Err refusals.Memory) w emits counts = absurd (let is = counts in cc)
-    front_counted (Err other) w emits counts = absurd emits
+        front_written word plain owner f front.0 front.2 front.1 front.3 front.4 front.7 front.5 refl front.6 front.8
+
+    -- memory ran out, or a front was written, and its number is what the answer counts
+    pub counted : (answer : Result ℕ ProtoError) (result : Result Written ProtoError) → slice_emits s a answer t b → CountsItems answer result
+        → (result ≡ Err refusals.Memory) ⊎ ((n : ℕ) × (is_cut : Bool) × WritesFront word plain owner f s.rest.now a b n is_cut × Narrows n is_cut result)
+    counted (Ok n) result emits counts =
+        let all = Emits-slice word plain owner f s t a b n emits in
+        inr (n, false, all_written word plain owner f refl all.0 all.2 all.1 refl, counts)
+    counted (Err (refusals.NotAllRecordsWritten n)) result emits counts = inr (n, true, cut_front n emits, counts)
+    counted (Err refusals.Memory) result emits counts = inl counts
+    counted (Err other) result emits counts = absurd emits
 
     -- a part that was counted is a front
     pub slice_front : (w : Written) → EmitsPart slice_emits s t a (Ok w) b → WritesFront word plain owner f s.rest.now a b w.count w.is_cut
-    slice_front w part = front_counted part.0 w part.1 part.2
+    slice_front w (answer, emits, counts) = elim (counted answer (Ok w) emits counts) [
+      | inl memory ↦ absurd (let is = memory in cc)
+      | inr (n, is_cut, front, narrows) ↦ subst (λ v. WritesFront word plain owner f s.rest.now a b v.count v.is_cut) (sym narrows.1) front
+    ]
 
 -- ---- the whole
 
@@ -56,13 +66,9 @@ module _ {E : Type 0} (word : E → List ℕ → ℕ → ℕ → Type 0) (plain 
 three_counted : (one two sum other total : Written) → AddsCounts one two (Ok sum) → AddsCounts sum other (Ok total) → total.count ≡ one.count + (two.count + other.count)
 three_counted one two sum other total first second = omega (arith, ap (λ w. w.count) first.1, ap (λ w. w.count) second.1)
 
-assoc : (p q r : Bool) → ((p || q) || r) ≡ (p || (q || r))
-assoc true q r = refl
-assoc false q r = refl
-
 any_three : (one two sum other total : Written) → AddsCounts one two (Ok sum) → AddsCounts sum other (Ok total) → total.is_cut ≡ (one.is_cut || (two.is_cut || other.is_cut))
 any_three one two sum other total first second =
-    ap (λ w. w.is_cut) second.1 ∙ ap (λ w. w.is_cut || other.is_cut) first.1 ∙ assoc one.is_cut two.is_cut other.is_cut
+    ap (λ w. w.is_cut) second.1 ∙ ap (λ w. w.is_cut || other.is_cut) first.1 ∙ or_assoc one.is_cut two.is_cut other.is_cut
 
 same_value : {X : Type 0} (x y : X) → ◌≡◌ {A = Result X ProtoError} (Ok x) (Ok y) → x ≡ y
 same_value x y is = cc
@@ -114,10 +120,6 @@ pub record AreOf (m : MessageValue) (s : Slices) : Type 0 where
   pub additionals : s.additionals.before.rest.now ≡ m.additionals
   pub edns_is : s.edns ≡ as_list (option_map edns_record (raised m))
   pub signature_is : s.signature ≡ as_list (option_map signature_record m.signature)
-
--- what is left of no section changes
-abbrev pub Idle : Slices → Type 0
-Idle s = (s.answers.rest ≡ s.answers.before) × (s.authorities.rest ≡ s.authorities.before) × (s.additionals.rest ≡ s.additionals.before)
 
 -- the header was made, and filled in
 header_filled : (metadata : Metadata) (place queries : ℕ) (answers authorities total : Written) {a b : State} {h : Header}

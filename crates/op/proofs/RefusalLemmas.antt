@@ -4,13 +4,11 @@ use Rattle.std.specs.Prelude.{replicate, true}
 use Rattle.base.specs.State.{State}
 use Rattle.base.specs.declared.error.proto_error.ProtoError.{ProtoError}
 use Rattle.base.specs.declared.error.proto_error.ProtoError.TheVariants as refusals
-use Rattle.base.proofs.SliceLemmas.{Emits-front}
 use Rattle.op.specs.Composition.{KeepsRoom}
 use Rattle.op.specs.Emitted.{Leaves, WritesFront, query_owner}
 use Rattle.op.specs.Message.{MessageValue}
 use Rattle.op.specs.Query.{QueryWord, plain_query, query_written}
-use Rattle.op.proofs.EmittedLemmas.{AreOf, Slices, emits_queries}
-use Rattle.op.proofs.FrontLemmas.{front_written}
+use Rattle.op.proofs.EmittedLemmas.{AreOf, Slices, cut_front, emits_queries}
 
 -- ---- no room
 
@@ -27,8 +25,8 @@ module _ (m : MessageValue) (s : Slices) (are : AreOf m s) (old new : State) (pl
   pub queries_failed : (f : ProtoError) → emits_queries s.queries.before kept (Err f) s.queries.rest new → Left m old new f
   queries_failed refusals.Memory run = inl refl
   queries_failed (refusals.NotAllRecordsWritten count) run =
-      let front = Emits-front QueryWord plain_query query_owner query_written s.queries.before s.queries.rest kept new count run in
-      let before = front_written QueryWord plain_query query_owner query_written front.0 front.2 front.1 (sym are.queries ∙ front.3) front.4 front.7 front.5 refl front.6 front.8 in
+      let front = cut_front QueryWord plain_query query_owner query_written s.queries.before s.queries.rest kept new count run in
       let fits = ap (λ (a : State). length a.bytes) room.1 ∙ length-append old.bytes (replicate 12 0) in
-      inr (omega (arith, room.2, fits), subst (λ a. WritesFront QueryWord plain_query query_owner query_written m.queries a new count true) room.1 before)
+      let whole = subst (λ qs. WritesFront QueryWord plain_query query_owner query_written qs kept new count true) are.queries front in
+      inr (omega (arith, room.2, fits), subst (λ a. WritesFront QueryWord plain_query query_owner query_written m.queries a new count true) room.1 whole)
   queries_failed other run = absurd run
