@@ -78,10 +78,13 @@ module _ {E : Type 0} {word : E → List ℕ → ℕ → ℕ → Type 0} {plain 
       → IsPart f (part_after f limit xs p) limit a b n is_cut
   part_next {p = p} {limit} before w = part_stands w limit before.same before.within p.end p.piece.suffixes before.end before.suffixes
 
--- a part, and what is written after it
-part_then : {E : Type 0} {f : E → Writing} {p : Part E} {limit : ℕ} {s t u : State} {n : ℕ} {c : Bool} → IsPart f p limit s t n c → (g : Writing) → u ≡ after g t
-    → u ≡ after (both (in_turn f p.kept) g) s
-part_then {f = f} {p} {s = s} part g rest = rest ∙ ap (after g) part.exact ∙ sym (after-both (in_turn f p.kept) g s)
+-- this was written between two states
+record Wrote (g : Writing) (s u : State) : Type 0 where
+  is : u ≡ after g s
+
+-- a part, and what was written after it
+part_then : {E : Type 0} {f : E → Writing} {p : Part E} {limit : ℕ} {s t u : State} {n : ℕ} {c : Bool} {g : Writing} → IsPart f p limit s t n c → Wrote g t u → Wrote (both (in_turn f p.kept) g) s u
+part_then {f = f} {p} {s = s} {g = g} part rest = record { is = rest.is ∙ ap (after g) part.exact ∙ sym (after-both (in_turn f p.kept) g s) }
 
 -- ---- a message that was emitted
 
@@ -105,8 +108,9 @@ module _ (m : MessageValue) (old new : State) (h : Header) (e : Emitted m old ne
       let additionals = part_next authorities e.additionals in
       let edns = part_next additionals e.edns in
       let signature = part_next edns e.signature in
+      let last : Wrote (in_turn record_written parts.signature.kept) e.after_edns e.after_signature = record { is = signature.exact } in
       let written : e.after_signature ≡ after (body parts) e.after_header =
-      part_then queries _ (part_then answers _ (part_then authorities _ (part_then additionals _ (part_then edns _ signature.exact)))) in
+      (part_then queries (part_then answers (part_then authorities (part_then additionals (part_then edns last))))).is in
       let more : h.counts.additionals ≡ length parts.additionals.kept + (length parts.edns.kept + length parts.signature.kept) =
       omega (arith, e.sum, additionals.counted, edns.counted, signature.counted) in
       let counted : h.counts ≡ (header_of m parts).counts = λ i. record { queries = (e.query_count ∙ queries.counted) i; answers = answers.counted i; authorities = authorities.counted i; additionals = more i } in

@@ -52,7 +52,7 @@ module _ (m : MessageValue) (s : Slices) (are : AreOf m s) (old new : State)
       fails e after_sum (λ memory. memory) (λ signed g ran_signed after_signed.
       let five = took_front four (subst (λ u. WritesRecords s.signature u g signed.count signed.is_cut) ran_sum.1 ran_signed) in
       fails e after_signed (λ test. absurd (omega (arith, took_few limited five, test.0.0, ap (λ w. w.count) ran_sum.0.1))) (λ total u ran_total after_total.
-      fails e after_total (λ test. absurd (omega (arith, test.0.0, few, all.1))) (λ header v ran_header filled. absurd (let is = filled.0 in cc)))))))))))
+      fails e after_total (λ test. absurd (omega (arith, test.0.0, few, all.1))) (λ header v ran_header filled. absurd (let is = filled.0 in cc))))))))))))
 
 -- ---- what follows of the limit
 
