@@ -95,6 +95,7 @@ impl BinEncodable for EdnsOption {
     /// # Errors
     ///
     /// `MaxBufferSizeExceeded` where a byte would pass the limit; `Memory` if memory runs out.
+    #[tactic(auto, using(base::proofs::LawLemmas::writing))]
     fn emit(&self, encoder: &mut BinEncoder<'_>) -> Result<(), ProtoError> {
         let bytes = self.bytes();
         self.code().emit(encoder)?;
