@@ -79,47 +79,23 @@ emits_records = slice_emits RecordWord plain_record record_owner record_written
 abbrev pub emits_queries : Iter Query → State → Result ℕ ProtoError → Iter Query → State → Type 0
 emits_queries = slice_emits QueryWord plain_query query_owner query_written
 
--- a part that is a slice: what is left of it before it is written, and after that
-pub record Slice (E : Type 0) : Type 0 where
-  pub before : Iter E
-  pub rest : Iter E
-
--- the parts of a message that is composed of slices, with the records of EDNS and of the signature
-pub record Slices : Type 0 where
-  pub queries : Slice Query
-  pub answers : Slice (Record RData)
-  pub authorities : Slice (Record RData)
-  pub additionals : Slice (Record RData)
-  pub edns : List (Record RData)
-  pub signature : List (Record RData)
-
--- a section that is a slice is written and counted
-abbrev pub EmitsSlice : Slice (Record RData) → State → Result Written ProtoError → State → Type 0
-EmitsSlice x = EmitsPart emits_records x.before x.rest
-
--- of a section that is a slice a front was written
-pub records_front : (x : Slice (Record RData)) (a b : State) (w : Written) → EmitsSlice x a (Ok w) b → WritesRecords x.before.rest.now a b w.count w.is_cut
-records_front x a b w part = slice_front RecordWord plain_record record_owner record_written x.before x.rest a b w part
+-- of records that are a slice a front was written
+pub records_front : {s t : Iter (Record RData)} {a b : State} {w : Written} → EmitsPart emits_records s t a (Ok w) b → WritesRecords s.rest.now a b w.count w.is_cut
+records_front {s} {t} {a} {b} {w} part = slice_front RecordWord plain_record record_owner record_written s t a b w part
 
 -- the same front, of the same values and of the same number
 front_as : {xs ys : List (Record RData)} {a b : State} {n k : ℕ} {is_cut : Bool} → xs ≡ ys → n ≡ k → WritesRecords xs a b n is_cut → WritesRecords ys a b k is_cut
 front_as {ys = ys} {a} {b} {n} {k} {is_cut} values number front =
     subst (λ l. WritesRecords ys a b l is_cut) number (subst (λ zs. WritesRecords zs a b n is_cut) values front)
 
--- the composition of slices
-abbrev pub Composed : MessageValue → Slices → State → Result Header ProtoError → State → Type 0
-Composed m s =
-    Composition emits_records emits_records emits_records s.answers.before s.answers.rest s.authorities.before s.authorities.rest s.additionals.before s.additionals.rest
-    m.metadata emits_queries s.queries.before s.queries.rest s.edns s.signature
-
--- the slices are the message's
-pub record AreOf (m : MessageValue) (s : Slices) : Type 0 where
-  pub queries : s.queries.before.rest.now ≡ m.queries
-  pub answers : s.answers.before.rest.now ≡ m.answers
-  pub authorities : s.authorities.before.rest.now ≡ m.authorities
-  pub additionals : s.additionals.before.rest.now ≡ m.additionals
-  pub edns_is : s.edns ≡ as_list (option_map edns_record (raised m))
-  pub signature_is : s.signature ≡ as_list (option_map signature_record m.signature)
+-- the slices, and the records of EDNS and the signature, are the message's
+pub record AreOf (m : MessageValue) (q : Iter Query) (a n d : Iter (Record RData)) (edns signature : List (Record RData)) : Type 0 where
+  pub queries : q.rest.now ≡ m.queries
+  pub answers : a.rest.now ≡ m.answers
+  pub authorities : n.rest.now ≡ m.authorities
+  pub additionals : d.rest.now ≡ m.additionals
+  pub edns_is : edns ≡ as_list (option_map edns_record (raised m))
+  pub signature_is : signature ≡ as_list (option_map signature_record m.signature)
 
 -- the header was made, and filled in
 header_filled : (metadata : Metadata) (place queries : ℕ) (answers authorities total : Written) {a b : State} {h : Header}
@@ -133,8 +109,9 @@ header_filled metadata place queries answers authorities total {a} {b} {h} run =
     )
 
 -- the pieces of a message that was written
-pub emitted_of : (m : MessageValue) (s : Slices) → AreOf m s → (old new : State) (h : Header) → Composed m s old (Ok h) new → Emitted m old new h
-emitted_of m s are old new h run =
+pub emitted_of : {m : MessageValue} {q q' : Iter Query} {a a' n n' d d' : Iter (Record RData)} {edns signature : List (Record RData)} {old new : State} {h : Header} → AreOf m q a n d edns signature
+    → Composition emits_records emits_records emits_records a a' n n' d d' m.metadata emits_queries q q' edns signature old (Ok h) new → Emitted m old new h
+emitted_of {m} {q} {q'} {signature = signatures} {h = h} are run =
     let room = went h run in
     let asked = went h room.rest in
     let answers = went h asked.rest in
@@ -145,7 +122,7 @@ emitted_of m s are old new h run =
     let signed = went h sum.rest in
     let total = went h signed.rest in
     let header = header_filled m.metadata room.value asked.value answers.value authorities.value total.value total.rest in
-    let all = Emits-slice QueryWord plain_query query_owner query_written s.queries.before s.queries.rest room.between asked.between asked.value asked.ran in
+    let all = Emits-slice QueryWord plain_query query_owner query_written q q' room.between asked.between asked.value asked.ran in
     let fields = header.0.1 in
     record {
       after_header = room.between;
@@ -168,12 +145,12 @@ emitted_of m s are old new h run =
       room = room.ran.2;
       queries = subst (λ qs. EachWritten QueryWord plain_query query_owner qs room.between asked.between) are.queries all.0;
       asked = all.2 ∙ ap (λ qs. after (in_turn query_written qs) room.between) are.queries;
-      answers = front_as are.answers (sym (ap (λ k. k.counts.answers) fields)) (records_front s.answers asked.between answers.between answers.value answers.ran);
+      answers = front_as are.answers (sym (ap (λ k. k.counts.answers) fields)) (records_front answers.ran);
       authorities = front_as are.authorities (sym (ap (λ k. k.counts.authorities) fields))
-          (records_front s.authorities answers.between authorities.between authorities.value authorities.ran);
-      additionals = front_as are.additionals refl (records_front s.additionals authorities.between additionals.between additionals.value additionals.ran);
+          (records_front authorities.ran);
+      additionals = front_as are.additionals refl (records_front additionals.ran);
       edns = front_as are.edns_is refl opt.ran;
-      signature = front_as are.signature_is refl (subst (λ a. WritesRecords s.signature a signed.between signed.value.count signed.value.is_cut) sum.ran.1 signed.ran);
+      signature = front_as are.signature_is refl (subst (λ a. WritesRecords signatures a signed.between signed.value.count signed.value.is_cut) sum.ran.1 signed.ran);
       query_count = ap (λ k. k.counts.queries) fields ∙ all.1 ∙ ap length are.queries;
       sum = ap (λ k. k.counts.additionals) fields ∙ three_counted additionals.value opt.value sum.value signed.value total.value sum.ran.0 total.ran.0;
       metadata =
@@ -199,15 +176,3 @@ pub unboxed : {X B : Type 0} (value : B → X) (o : Option B) (r : Option (Bor X
 unboxed value None r is = ap option_copied is
 unboxed value (Some x) (Some y) is = ap Some is
 unboxed value (Some x) None is = absurd is
-
--- the iterators over the parts of a message, as they are before it is written and after that, with what EDNS and the
--- signature are as records
-abbrev pub slices : (q q' : Iter Query) (a a' n n' d d' : Iter (Record RData)) → List (Record RData) → List (Record RData) → Slices
-slices q q' a a' n n' d d' edns signature = record {
-  queries = record { before = q; rest = q' };
-  answers = record { before = a; rest = a' };
-  authorities = record { before = n; rest = n' };
-  additionals = record { before = d; rest = d' };
-  edns = edns;
-  signature = signature;
-}

@@ -9,48 +9,49 @@ use Rattle.base_data.specs.declared.rdata.RData.{RData}
 use Rattle.rr.specs.Record.{RecordWord, plain_record, record_written}
 use Rattle.rr.specs.declared.record.Record.{Record}
 use Rattle.op.specs.Cut.{IsTooSmall, NoRoom, any_lost}
+use Rattle.op.specs.Composition.{Composition, EmitsPart}
 use Rattle.op.specs.Emitted.{Leaves, WritesFront, WritesRecords, query_owner, record_owner}
 use Rattle.op.specs.Fits.{HasRoom, plain_queries}
 use Rattle.op.specs.Message.{MessageValue}
 use Rattle.op.specs.Query.{QueryWord, plain_query, query_written}
 use Rattle.op.specs.declared.message.writing.Written.{Written}
 use Rattle.op.specs.declared.query.Query.{Query}
-use Rattle.op.proofs.EmittedLemmas.{AreOf, Composed, EmitsSlice, Slice, Slices, counted, records_front}
+use Rattle.op.proofs.EmittedLemmas.{AreOf, counted, emits_queries, emits_records, records_front}
 use Rattle.op.proofs.RefusalLemmas.{Left, queries_failed, room_failed}
 use Rattle.op.proofs.RoomLemmas.{IsLimited, Took, plain-append, queries_few, queries_within, took_few, took_front, took_queries}
 use Rattle.op.proofs.RunLemmas.{fails, same_err}
 
 -- After the state k, with the room for a header, no more records stand than a header can count.
-slice_failed : {k : State} → IsLimited k → (e : ProtoError) (x : Slice (Record RData)) {a b : State} {n : ℕ} → Took k a n → EmitsSlice x a (Err e) b → e ≡ refusals.Memory
-slice_failed limited e x {a} {b} took (answer, emits, counts) =
-    elim (counted RecordWord plain_record record_owner record_written x.before x.rest a b answer (Err e) emits counts) [
+slice_failed : {k : State} → IsLimited k → (e : ProtoError) {s t : Iter (Record RData)} {a b : State} {n : ℕ} → Took k a n → EmitsPart emits_records s t a (Err e) b → e ≡ refusals.Memory
+slice_failed limited e {s} {t} {a} {b} took (answer, emits, counts) =
+    elim (counted RecordWord plain_record record_owner record_written s t a b answer (Err e) emits counts) [
       | inl memory ↦ same_err {Y = Written} e refusals.Memory memory
       | inr (n, is_cut, front, narrows) ↦ absurd (omega (arith, took_few limited (took_front took front), narrows.0))
     ]
 
-module _ (m : MessageValue) (s : Slices) (are : AreOf m s) (old new : State)
+module _ {m : MessageValue} {q q' : Iter Query} {a a' n n' d d' : Iter (Record RData)} {edns signature : List (Record RData)} (are : AreOf m q a n d edns signature) (old new : State)
     (small : old.limit < 2 ^ 16) (e : ProtoError) where
   -- after the questions nothing but memory is refused
-  pub composed_failed : Composed m s old (Err e) new → Left m old new e
+  pub composed_failed : Composition emits_records emits_records emits_records a a' n n' d d' m.metadata emits_queries q q' edns signature old (Err e) new → Left m old new e
   composed_failed run =
       fails e run (room_failed m old new e) (λ place k room after_room.
-      fails e after_room (queries_failed m s are old new place k room e) (λ n a asked after_asked.
+      fails e after_room (queries_failed m q q' are.queries old new place k room e) (λ count first asked after_asked.
       let same : k.limit ≡ old.limit = ap (λ (t : State). t.limit) room.1 in
       let limited : IsLimited k = record { within = omega (arith, room.2, same); small = omega (arith, same, small) } in
-      let all = Emits-slice QueryWord plain_query query_owner query_written s.queries.before s.queries.rest k a n asked in
-      let few = queries_few s.queries.before.rest.now k a limited all.0 all.2 in
-      let none = took_queries s.queries.before.rest.now k a all.0 in
-      inl (fails e after_asked (slice_failed limited e s.answers none) (λ answers b ran_answers after_answers.
-      let one = took_front none (records_front s.answers a b answers ran_answers) in
-      fails e after_answers (slice_failed limited e s.authorities one) (λ authorities c ran_authorities after_authorities.
-      let two = took_front one (records_front s.authorities b c authorities ran_authorities) in
-      fails e after_authorities (slice_failed limited e s.additionals two) (λ additionals d ran_additionals after_additionals.
-      let three = took_front two (records_front s.additionals c d additionals ran_additionals) in
+      let all = Emits-slice QueryWord plain_query query_owner query_written q q' k first count asked in
+      let few = queries_few q.rest.now k first limited all.0 all.2 in
+      let none = took_queries q.rest.now k first all.0 in
+      inl (fails e after_asked (slice_failed limited e none) (λ answers b ran_answers after_answers.
+      let one = took_front none (records_front ran_answers) in
+      fails e after_answers (slice_failed limited e one) (λ authorities c ran_authorities after_authorities.
+      let two = took_front one (records_front ran_authorities) in
+      fails e after_authorities (slice_failed limited e two) (λ additionals d ran_additionals after_additionals.
+      let three = took_front two (records_front ran_additionals) in
       fails e after_additionals (λ memory. memory) (λ opt f ran_opt after_opt.
       let four = took_front three ran_opt in
       fails e after_opt (λ test. absurd (omega (arith, took_few limited four, test.0.0))) (λ sum t ran_sum after_sum.
       fails e after_sum (λ memory. memory) (λ signed g ran_signed after_signed.
-      let five = took_front four (subst (λ u. WritesRecords s.signature u g signed.count signed.is_cut) ran_sum.1 ran_signed) in
+      let five = took_front four (subst (λ u. WritesRecords signature u g signed.count signed.is_cut) ran_sum.1 ran_signed) in
       fails e after_signed (λ test. absurd (omega (arith, took_few limited five, test.0.0, ap (λ w. w.count) ran_sum.0.1))) (λ total u ran_total after_total.
       fails e after_total (λ test. absurd (omega (arith, test.0.0, few, all.1))) (λ header v ran_header filled. absurd (let is = filled.0 in cc))))))))))))
 
