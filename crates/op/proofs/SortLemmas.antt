@@ -27,20 +27,13 @@ pub record OneFront {X Y : Type 0} (f : X → Y) (o : Option X) (kept lost : Lis
   pub front : as_list o ≡ as_list some ++ rest
   pub lost_is : lost ≡ map f rest
 
-alone : {Y : Type 0} (x y : Y) (kept lost : List Y) → x ∷ [] ≡ y ∷ (kept ++ lost) → y ∷ kept ≡ x ∷ []
-alone x y [] lost whole = cc
-alone x y (z ∷ kept) lost whole = cc
-
-none_lost : {Y : Type 0} (x y : Y) (kept lost : List Y) → x ∷ [] ≡ y ∷ (kept ++ lost) → lost ≡ []
-none_lost x y [] [] whole = refl
-none_lost x y [] (z ∷ lost) whole = cc
-none_lost x y (z ∷ kept) lost whole = cc
-
 pub one_front : {X Y : Type 0} (f : X → Y) (o : Option X) (kept lost : List Y) → as_list (option_map f o) ≡ kept ++ lost → OneFront f o kept lost
 one_front f None [] lost whole = record { some = None; rest = []; kept_is = refl; front = refl; lost_is = sym whole }
 one_front f None (y ∷ kept) lost whole = cc
 one_front f (Some x) [] lost whole = record { some = None; rest = x ∷ []; kept_is = refl; front = refl; lost_is = sym whole }
-one_front f (Some x) (y ∷ kept) lost whole = record { some = Some x; rest = []; kept_is = alone (f x) y kept lost whole; front = refl; lost_is = none_lost (f x) y kept lost whole }
+one_front f (Some x) (y ∷ []) [] whole = record { some = Some x; rest = []; kept_is = sym whole; front = refl; lost_is = refl }
+one_front f (Some x) (y ∷ []) (z ∷ lost) whole = cc
+one_front f (Some x) (y ∷ (z ∷ kept)) lost whole = cc
 
 -- ---- what the records are together
 
@@ -48,13 +41,9 @@ filter_all : {X : Type 0} (p : X → Bool) (xs : List X) → All (λ x. p x ≡ 
 filter_all p [] all = refl
 filter_all p (x ∷ xs) all = rw (all 0 x (omega arith)) (ap (λ ys. x ∷ ys) (filter_all p xs (All-tail (λ y. p y ≡ true) x xs all)))
 
-filter_none : {X : Type 0} (p : X → Bool) (xs : List X) → All (λ x. p x ≡ false) xs → filter p xs ≡ []
-filter_none p [] all = refl
-filter_none p (x ∷ xs) all = rw (all 0 x (omega arith)) (filter_none p xs (All-tail (λ y. p y ≡ false) x xs all))
-
-find_none : {X : Type 0} (p : X → Bool) (xs : List X) → All (λ x. p x ≡ false) xs → find p xs ≡ None
-find_none p [] all = refl
-find_none p (x ∷ xs) all = rw (all 0 x (omega arith)) (find_none p xs (All-tail (λ y. p y ≡ false) x xs all))
+none_pass : {X : Type 0} (p : X → Bool) (xs : List X) → All (λ x. p x ≡ false) xs → (filter p xs ≡ []) × (find p xs ≡ None)
+none_pass p [] all = (refl, refl)
+none_pass p (x ∷ xs) all = rw (all 0 x (omega arith)) (none_pass p xs (All-tail (λ y. p y ≡ false) x xs all))
 
 unsigned_data : (os : List OptionValue) → is_signature_data (opt_data os) ≡ false
 unsigned_data [] = refl
@@ -122,7 +111,7 @@ module _ (ds : List (Record RData)) (op : OpCode) (fits : All (FitsAdditional op
   no_signatures = λ k d below. (fits k d below).not_signature
 
   found : (p : Record RData → Bool) → All (λ r. p r ≡ false) ds → find p (ds ++ tail edns signature) ≡ find p (tail edns signature)
-  found p none = find-append p ds (tail edns signature) ∙ ap (λ o. option_or o (find p (tail edns signature))) (find_none p ds none)
+  found p none = find-append p ds (tail edns signature) ∙ ap (λ o. option_or o (find p (tail edns signature))) (none_pass p ds none).1
 
   -- all of them sorted
   pub sorted : All FitsEdns (as_list edns) → section_of (ds ++ tail edns signature) ≡ record { records = ds; edns = edns; signature = signature }
@@ -154,5 +143,5 @@ module _ (ds : List (Record RData)) (op : OpCode) (fits : All (FitsAdditional op
   pub one_opt : AtMostOneOpt (ds ++ tail edns signature)
   one_opt =
       let same : filter is_opt (ds ++ tail edns signature) ≡ filter is_opt (tail edns signature) = filter-append is_opt ds (tail edns signature)
-      ∙ ap (λ xs. xs ++ filter is_opt (tail edns signature)) (filter_none is_opt ds no_opts) in
+      ∙ ap (λ xs. xs ++ filter is_opt (tail edns signature)) (none_pass is_opt ds no_opts).0 in
       subst (λ (xs : List (Record RData)). length xs ≤ 1) (sym same) (is_tail edns signature).one
