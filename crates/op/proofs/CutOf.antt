@@ -17,7 +17,7 @@ use Rattle.op.specs.Cut.{IsCut, IsFront, IsWritten, NoRoom, any_lost, code_range
 use Rattle.op.specs.EdnsRecord.{edns_record}
 use Rattle.op.specs.Emitted.{Emitted, WritesRecords}
 use Rattle.op.specs.Fits.{Fits, FitsAdditional, FitsEdns, FitsPlain, as_list, signature_record, with_high_bits}
-use Rattle.op.specs.Header.{IsHeaderAt, header_bytes, header_value, metadata_value, raw_header}
+use Rattle.op.specs.Header.{HeaderWord, header_bytes, header_value, metadata_value, raw_header}
 use Rattle.op.specs.Message.{IsMessageAt, MessageValue, high_code, message_of}
 use Rattle.op.specs.OpCode.{op_number, op_value}
 use Rattle.op.specs.ResponseCode.{code_number, code_value}
@@ -60,15 +60,7 @@ module _ (m : MessageValue) (old new : State) (h : Header) (e : Emitted m old ne
         bytes = rw (kept_len, bytes_are) (stands_after (header_bytes (raw_header h)) (drop 12 e.after_signature.bytes) refl);
       }
 
-  header_there : Stands (header_bytes (raw_header h)) new.bytes 0
-  header_there =
-      let whole : Stands (header_bytes (raw_header h) ++ drop 12 e.after_signature.bytes) new.bytes 0 = subst (λ xs. Stands xs new.bytes 0) bytes_are (record { is = take-length new.bytes }) in
-      first_stands (header_bytes (raw_header h)) (drop 12 e.after_signature.bytes) new.bytes 0 whole
-
-  -- ---- what keeps the limit
-
-  limit_kept : e.after_header.limit ≡ old.limit
-  limit_kept = ap (λ (s : State). s.limit) e.place
+  -- ---- what stays, and the length
 
   keeps_all : Keeps e.after_header e.after_signature
   keeps_all = Keeps-then (keeps_questions e) (Keeps-then (records_keep e.answers) (Keeps-then (records_keep e.authorities)
@@ -127,17 +119,13 @@ module _ (m : MessageValue) (old new : State) (h : Header) (e : Emitted m old ne
 
   -- ---- the header
 
-  small_op : op_number h.metadata.op_code < 16
-  small_op = subst (λ (o : OpCode). op_number o < 16) (sym (ap (λ (x : Metadata). x.op_code) e.metadata)) fits.op_code
-
-  op_reads : op_value (op_number h.metadata.op_code) ≡ h.metadata.op_code
-  op_reads = subst (λ (o : OpCode). op_value (op_number o) ≡ o) (sym (ap (λ (x : Metadata). x.op_code) e.metadata)) fits.op_code_reads
-
-  abbrev cut_bit : Bool
-  cut_bit = m.metadata.truncation || (e.answers_cut || (e.authorities_cut || (e.additionals_cut || (e.edns_cut || e.signature_cut))))
-
-  metadata_read : metadata_value (raw_header h) ≡ record m.metadata { truncation = cut_bit; response_code = code_value (code_number m.metadata.response_code % 16) }
-  metadata_read = metadata_back h small_op op_reads ∙ ap (λ (x : Metadata). record x { response_code = code_value (code_number x.response_code % 16) }) e.metadata
+  metadata_read : metadata_value (raw_header h) ≡ record m.metadata {
+    truncation = m.metadata.truncation || (e.answers_cut || (e.authorities_cut || (e.additionals_cut || (e.edns_cut || e.signature_cut))));
+    response_code = code_value (code_number m.metadata.response_code % 16);
+  }
+  metadata_read =
+      let op : h.metadata.op_code ≡ m.metadata.op_code = ap (λ (x : Metadata). x.op_code) e.metadata in
+      metadata_back h (rw op fits.op_code) (rw op fits.op_code_reads) ∙ ap (λ (x : Metadata). record x { response_code = code_value (code_number x.response_code % 16) }) e.metadata
 
   op_kept : op_value (op_number h.metadata.op_code % 16) ≡ m.metadata.op_code
   op_kept = ap (λ (x : Metadata). x.op_code) metadata_read
@@ -157,29 +145,22 @@ module _ (m : MessageValue) (old new : State) (h : Header) (e : Emitted m old ne
   plain : (rs : List (Record RData)) → All (FitsPlain m.metadata.op_code) rs → All (IsPlain (header_value (raw_header h)).metadata.op_code) rs
   plain rs fit = subst (λ o. All (IsPlain o) rs) (sym op_kept) (λ k d below. record { given = (fit k d below).given; placed = (fit k d below).placed })
 
-  all_counted : h.counts.additionals ≡ length (e.additionals.kept ++ tail one_edns.some one_signature.some)
-  all_counted =
-      let edns = ap (λ (rs : List (Record RData)). length rs) one_edns.kept_is in
-      let signature = ap (λ (rs : List (Record RData)). length rs) one_signature.kept_is in
-      omega (
-        arith,
-        e.sum,
-        e.additionals.counted,
-        e.edns.counted,
-        e.signature.counted,
-        edns,
-        signature,
-        length-append e.additionals.kept (tail one_edns.some one_signature.some),
-        length-append (as_list (option_map edns_record one_edns.some)) (as_list (option_map signature_record one_signature.some)),
-      )
-
   counted : h.counts ≡ record {
     queries = length m.queries;
     answers = length e.answers.kept;
     authorities = length e.authorities.kept;
     additionals = length (e.additionals.kept ++ tail one_edns.some one_signature.some);
   }
-  counted = λ i. record { queries = e.query_count i; answers = e.answers.counted i; authorities = e.authorities.counted i; additionals = all_counted i }
+  counted =
+      let edns = ap length one_edns.kept_is in
+      let signature = ap length one_signature.kept_is in
+      let last = length-append (as_list (option_map edns_record one_edns.some)) (as_list (option_map signature_record one_signature.some)) in
+      let all = length-append e.additionals.kept (tail one_edns.some one_signature.some) in
+      let additionals : h.counts.additionals ≡ length (e.additionals.kept ++ tail one_edns.some one_signature.some) = omega (arith, e.sum, e.additionals.counted, e.edns.counted, e.signature.counted) in
+      λ i. record { queries = e.query_count i; answers = e.answers.counted i; authorities = e.authorities.counted i; additionals = additionals i }
+
+  header_word : HeaderWord h new.bytes 0 12
+  header_word = header_stands h new.bytes 0 e.narrow (rw bytes_are (first_stands (header_bytes (raw_header h)) (drop 12 e.after_signature.bytes) _ 0 (record { is = take-length _ })))
 
   abbrev message_word : IsMessageAt new.bytes 0 message (length new.bytes)
   message_word = record {
@@ -190,7 +171,7 @@ module _ (m : MessageValue) (old new : State) (h : Header) (e : Emitted m old ne
     answers = e.answers.kept;
     authorities = e.authorities.kept;
     additionals = e.additionals.kept ++ tail one_edns.some one_signature.some;
-    header_stands = record { raw = raw_header h; word = (header_stands h new.bytes 0 e.narrow header_there).0; value = refl };
+    header_stands = record { raw = raw_header h; word = header_word.0; value = refl };
     queries_stand = words.queries;
     answers_stand = words.answers;
     authorities_stand = words.authorities;
@@ -208,20 +189,21 @@ module _ (m : MessageValue) (old new : State) (h : Header) (e : Emitted m old ne
 
   -- ---- the metadata
 
-  abbrev lost_bit : Bool
-  lost_bit = m.metadata.truncation || (any_lost e.answers.lost || (any_lost e.authorities.lost || (any_lost e.additionals.lost || (any_lost one_edns.rest || any_lost one_signature.rest))))
-
-  tells : cut_bit ≡ lost_bit
-  tells = λ i. m.metadata.truncation || (e.answers.tells i || (e.authorities.tells i || (e.additionals.tells i
-      || ((e.edns.tells ∙ ap any_lost one_edns.lost_is ∙ sym (any_map edns_record one_edns.rest)) i || (e.signature.tells ∙ ap any_lost one_signature.lost_is ∙ sym (any_map signature_record one_signature.rest)) i))))
-
-  metadata_is : high_code one_edns.some (metadata_value (raw_header h))
-      ≡ record m.metadata { truncation = lost_bit; response_code = code_value (code_number m.metadata.response_code % code_range one_edns.some) }
+  metadata_is : high_code one_edns.some (metadata_value (raw_header h)) ≡ record m.metadata {
+    truncation = m.metadata.truncation || (any_lost e.answers.lost || (any_lost e.authorities.lost || (any_lost e.additionals.lost || (any_lost one_edns.rest || any_lost one_signature.rest))));
+    response_code = code_value (code_number m.metadata.response_code % code_range one_edns.some);
+  }
   metadata_is =
+      let code = code_value (code_number m.metadata.response_code % code_range one_edns.some) in
+      let edns = e.edns.tells ∙ ap any_lost one_edns.lost_is ∙ sym (any_map edns_record one_edns.rest) in
+      let signature = e.signature.tells ∙ ap any_lost one_signature.lost_is ∙ sym (any_map signature_record one_signature.rest) in
       high_back one_edns.some (metadata_value (raw_header h)) (code_number m.metadata.response_code)
       (λ k d below. (fits_edns k d below).1) (ap (λ (x : Metadata). x.response_code) metadata_read)
-      ∙ ap (λ (x : Metadata). record x { response_code = code_value (code_number m.metadata.response_code % code_range one_edns.some) }) metadata_read
-      ∙ ap (λ (b : Bool). record m.metadata { truncation = b; response_code = code_value (code_number m.metadata.response_code % code_range one_edns.some) }) tells
+      ∙ ap (λ (x : Metadata). record x { response_code = code }) metadata_read
+      ∙ (λ i. record m.metadata {
+        truncation = m.metadata.truncation || (e.answers.tells i || (e.authorities.tells i || (e.additionals.tells i || (edns i || signature i))));
+        response_code = code;
+      })
 
   -- ---- the cut
 
@@ -236,13 +218,14 @@ module _ (m : MessageValue) (old new : State) (h : Header) (e : Emitted m old ne
 
   cut_of : IsCut m old.limit new.bytes message
   cut_of =
-      let answers = (keeps_questions e).limit ∙ limit_kept in
+      let begun : e.after_header.limit ≡ old.limit = ap (λ (s : State). s.limit) e.place in
+      let answers = (keeps_questions e).limit ∙ begun in
       let authorities = (records_keep e.answers).limit ∙ answers in
       let additionals = (records_keep e.authorities).limit ∙ authorities in
       let edns = (records_keep e.additionals).limit ∙ additionals in
       let signature = (records_keep e.edns).limit ∙ edns in
       record {
-        small = omega (arith, new_len, keeps_all.within, limit_kept, e.room);
+        small = omega (arith, new_len, keeps_all.within, begun, e.room);
         word = message_word;
         additionals_end = length e.after_additionals.bytes;
         edns_end = length e.after_edns.bytes;
