@@ -63,12 +63,12 @@ module _ {E : Type 0} (word : E → List ℕ → ℕ → ℕ → Type 0) (plain 
 -- ---- the whole
 
 -- the sum of three counts
-three_counted : (one two sum other total : Written) → AddsCounts one two (Ok sum) → AddsCounts sum other (Ok total) → total.count ≡ one.count + (two.count + other.count)
-three_counted one two sum other total first second = omega (arith, ap (λ w. w.count) first.1, ap (λ w. w.count) second.1)
-
-any_three : (one two sum other total : Written) → AddsCounts one two (Ok sum) → AddsCounts sum other (Ok total) → total.is_cut ≡ (one.is_cut || (two.is_cut || other.is_cut))
-any_three one two sum other total first second =
-    ap (λ w. w.is_cut) second.1 ∙ ap (λ w. w.is_cut || other.is_cut) first.1 ∙ or_assoc one.is_cut two.is_cut other.is_cut
+summed : (one two sum other total : Written) → AddsCounts one two (Ok sum) → AddsCounts sum other (Ok total)
+    → (total.count ≡ one.count + (two.count + other.count)) × (total.is_cut ≡ (one.is_cut || (two.is_cut || other.is_cut)))
+summed one two sum other total first second = (
+  omega (arith, ap (λ w. w.count) first.1, ap (λ w. w.count) second.1),
+  ap (λ w. w.is_cut) second.1 ∙ ap (λ w. w.is_cut || other.is_cut) first.1 ∙ or_assoc one.is_cut two.is_cut other.is_cut,
+)
 
 same_value : {X : Type 0} (x y : X) → ◌≡◌ {A = Result X ProtoError} (Ok x) (Ok y) → x ≡ y
 same_value x y is = cc
@@ -152,11 +152,11 @@ emitted_of {m} {q} {q'} {signature = signatures} {h = h} are run =
       edns = front_as are.edns_is refl opt.ran;
       signature = front_as are.signature_is refl (subst (λ a. WritesRecords signatures a signed.between signed.value.count signed.value.is_cut) sum.ran.1 signed.ran);
       query_count = ap (λ k. k.counts.queries) fields ∙ all.1 ∙ ap length are.queries;
-      sum = ap (λ k. k.counts.additionals) fields ∙ three_counted additionals.value opt.value sum.value signed.value total.value sum.ran.0 total.ran.0;
+      sum = ap (λ k. k.counts.additionals) fields ∙ (summed additionals.value opt.value sum.value signed.value total.value sum.ran.0 total.ran.0).0;
       metadata =
           ap (λ k. k.metadata) fields
           ∙ ap (λ p. record m.metadata { truncation = m.metadata.truncation || (answers.value.is_cut || (authorities.value.is_cut || p)) })
-          (any_three additionals.value opt.value sum.value signed.value total.value sum.ran.0 total.ran.0);
+          (summed additionals.value opt.value sum.value signed.value total.value sum.ran.0 total.ran.0).1;
       header =
           header.1
           ∙ ap (overwritten room.value (header_bytes (raw_header h))) total.ran.1

@@ -118,13 +118,10 @@ any_map view (x ∷ xs) = refl
 
 -- items whose words are read of a value are that value's items
 module _ {A E : Type 0} (view : A → E) (word : E → List ℕ → ℕ → ℕ → Type 0) (plain : E → ℕ) (owner : E → List (List ℕ)) (f : E → Writing) where
-  passes_map : (limit : ℕ) (b : State) (xs : List A) → FirstPasses (λ x. f (view x)) limit b xs → FirstPasses f limit b (map view xs)
-  passes_map limit b [] full = full
-  passes_map limit b (x ∷ xs) full = full
-
-  lost_map : (limit place : ℕ) (xs : List A) → NoRoom (λ x. plain (view x)) limit place xs → NoRoom plain limit place (map view xs)
-  lost_map limit place [] full = full
-  lost_map limit place (x ∷ xs) full = full
+  lost_map : (limit : ℕ) (b : State) (xs : List A) → NoRoom (λ x. plain (view x)) limit (length b.bytes) xs → FirstPasses (λ x. f (view x)) limit b xs
+      → NoRoom plain limit (length b.bytes) (map view xs) × FirstPasses f limit b (map view xs)
+  lost_map limit b [] full passes = (tt, tt)
+  lost_map limit b (x ∷ xs) full passes = (full, passes)
 
   pub front_map : (xs : List A) (a b : State) (n : ℕ) (is_cut : Bool) → WritesFront (λ x. word (view x)) (λ x. plain (view x)) (λ x. owner (view x)) (λ x. f (view x)) xs a b n is_cut
       → WritesFront word plain owner f (map view xs) a b n is_cut
@@ -135,9 +132,9 @@ module _ {A E : Type 0} (view : A → E) (word : E → List ℕ → ℕ → ℕ 
     written = Each-map view word plain owner front.kept a b front.written;
     counted = front.counted ∙ sym (length-map front.kept view);
     tells = front.tells ∙ any_map view front.lost;
-    full = lost_map a.limit (length b.bytes) front.lost front.full;
+    full = (lost_map a.limit b front.lost front.full front.passes).0;
     exact = front.exact ∙ ap (λ g. after g a) (in_turn-map view f front.kept);
-    passes = passes_map a.limit b front.lost front.passes;
+    passes = (lost_map a.limit b front.lost front.full front.passes).1;
   }
 
   pub items_map : (xs : List A) (a b : State) (result : Result Written ProtoError) → WritesItems (λ x. word (view x)) (λ x. plain (view x)) (λ x. owner (view x)) (λ x. f (view x)) xs a result b
