@@ -1,20 +1,21 @@
 -- The SOA of a zone (RFC 1035, 3.3.13).
 use Rattle.std.specs.Prelude.{ℕ, List, Ok, ◌+◌, ◌^◌, ◌<◌, ◌++◌, codes, [], ◌∷◌, ◌≡◌, true, Option, Some, None}
-use Rattle.std.proofs.Common.{refl, arith}
+use Rattle.std.proofs.Common.{arith}
 use Rattle.std.specs.Int.{w32, to_be_bytes}
 use Rattle.base.specs.Names.{name_at}
 use Rattle.base.specs.Reading.{Read, place_after, number_at, ◌>>=◌}
 use Rattle.base.specs.Labels.{AreLabels, AreNameLabels, NameValue, plain_len}
 use Rattle.base.specs.NameText.{name_text}
-use Rattle.base.specs.Words.{NameAt, Number, Stands, Then}
+use Rattle.base.specs.Words.{NameAt, Number, Then}
 use Rattle.std.specs.Fmt.{decimal}
 use Rattle.base_data.specs.declared.rdata.soa.SOA.{SOA}
 use Rattle.base.specs.Ttl.{ttl_of}
 use Rattle.base_data.specs.Fields.{number_item, name_item, ◌>>?◌}
 use Rattle.base_data.specs.Kind.{HasText, Kind, bare}
 use Rattle.base.specs.SaysName.{Says-name}
-use Rattle.base.specs.SaysParts.{Says-both, Says-just, Says-unowned, last_stands}
-use Rattle.base.specs.WordLemmas.{first_stands, number32_stands}
+use Rattle.base.specs.Says.{Says}
+use Rattle.base.specs.SaysParts.{Says-both, Says-just, Says-unowned, Says-weaker}
+use Rattle.base.specs.WordLemmas.{number32_stands}
 use Rattle.base_data.specs.NameData.{name_octets}
 use Rattle.base.specs.Written.{both, just, name}
 
@@ -99,50 +100,25 @@ soa_text x = name_text x.mname ++
     ++ (decimal x.retry
     ++ (codes " " ++ (decimal x.expire ++ (codes " " ++ (decimal x.minimum))))))))))))
 
+-- a number of four bytes
+pub Says-number32 : (n : ℕ) → Says (just (to_be_bytes w32 n)) (n < 2 ^ 32) (Number w32 n) 4 []
+Says-number32 n = Says-just (n < 2 ^ 32) (Number w32 n) 4 (to_be_bytes w32 n) (omega arith)
+    (λ ok B at small h. (number32_stands n B at ok h, omega arith))
+
 -- the bytes of the numbers are the numbers
-pub soa_numbers_stand : (x : SOA) (B : List ℕ) (i : ℕ) → SOAFits x → Stands (soa_numbers x) B i
-    → SOANumbers x B i (i + 20)
-soa_numbers_stand x B i fits s =
-    let a = to_be_bytes w32 x.serial in
-    let b = to_be_bytes w32 x.refresh in
-    let c = to_be_bytes w32 x.retry in
-    let d = to_be_bytes w32 x.expire in
-    let e = to_be_bytes w32 x.minimum in
-    let after_a = last_stands a (b ++ (c ++ (d ++ e))) B i s in
-    let after_b = last_stands b (c ++ (d ++ e)) B (i + 4) after_a in
-    let after_c = last_stands c (d ++ e) B (i + 4 + 4) after_b in
-    let after_d = last_stands d e B (i + 4 + 4 + 4) after_c in (
-      _,
-      (
-        number32_stands x.serial B i fits.serial (first_stands a (b ++ (c ++ (d ++ e))) B i s),
-        refl,
-      ),
-      (
-        _,
-        (
-          number32_stands x.refresh B (i + 4) fits.refresh
-              (first_stands b (c ++ (d ++ e)) B (i + 4) after_a),
-          refl,
-        ),
-        (
-          _,
-          (
-            number32_stands x.retry B (i + 4 + 4) fits.retry
-                (first_stands c (d ++ e) B (i + 4 + 4) after_b),
-            refl,
-          ),
-          (
-            _,
-            (
-              number32_stands x.expire B (i + 4 + 4 + 4) fits.expire
-                  (first_stands d e B (i + 4 + 4 + 4) after_c),
-              refl,
-            ),
-            (number32_stands x.minimum B (i + 4 + 4 + 4 + 4) fits.minimum after_d, omega arith),
-          ),
-        ),
-      ),
-    )
+pub soa_numbers_say : (x : SOA) → Says (just (soa_numbers x)) (SOAFits x) (SOANumbers x) 20 []
+soa_numbers_say x =
+    let number = λ (n : ℕ). just (to_be_bytes w32 n) in
+    let last = both (number x.expire) (number x.minimum) in
+    let times = both (number x.retry) last in
+    Says-weaker (just (soa_numbers x)) (SOAFits x)
+    (λ fits. (fits.serial, (fits.refresh, (fits.retry, (fits.expire, fits.minimum)))))
+    (λ fits B i e word. word) (omega arith)
+    (Says-both (number x.serial) (both (number x.refresh) times) (Says-number32 x.serial)
+    (Says-both (number x.refresh) times (Says-number32 x.refresh)
+    (Says-both (number x.retry) last (Says-number32 x.retry)
+    (Says-both (number x.expire) (number x.minimum) (Says-number32 x.expire)
+    (Says-number32 x.minimum)))))
 
 -- its first name stands at its place, and the second one after that (RFC 1035, 3.3.13)
 abbrev pub soa_places : List ℕ → ℕ → List ℕ
@@ -159,8 +135,7 @@ soa_kind x = record {
       (Says-unowned (name x.mname.labels) (Says-name x.mname.labels))
       (Says-both (name x.rname.labels) (just (soa_numbers x))
       (Says-unowned (name x.rname.labels) (Says-name x.rname.labels))
-      (Says-just (SOAFits x) (SOANumbers x) 20 (soa_numbers x) (omega arith)
-      (λ fits B at small h. soa_numbers_stand x B at fits h)));
+      (soa_numbers_say x));
   readable = (x.mname.absolute ≡ true) × (x.rname.absolute ≡ true);
   text = soa_text x;
   canonical = name_octets x.mname ++ name_octets x.rname ++ to_be_bytes w32 x.serial

@@ -7,7 +7,6 @@ use Rattle.base.specs.State.{State, Stored, appended}
 use Rattle.base.specs.declared.error.proto_error.ProtoError.{ProtoError}
 use Rattle.base.specs.declared.error.proto_error.ProtoError.TheVariants as refusals
 use Rattle.base.specs.Written.{after}
-use Rattle.base.proofs.ItemLemmas.{Each-keeps}
 use Rattle.op.specs.Emitted.{Emitted, IsNew, Leaves, WritesFront, query_owner}
 use Rattle.op.specs.Fits.{HasRoom}
 use Rattle.op.specs.Message.{MessageValue}
@@ -55,9 +54,8 @@ module _ (m : MessageValue) (old : State) where
   left_answers new (refusals.NotAllRecordsWritten count) left =
       let kept : State = appended (replicate 12 0) old in
       let front : WritesFront QueryWord plain_query query_owner query_written m.queries kept new count true = left.1 in
-      let within : length new.bytes ≤ old.limit =
-      omega (arith, (Each-keeps QueryWord plain_query query_owner front.kept kept new front.written).within, left.0, length-append old.bytes (replicate 12 0)) in
-      let stands = part_stands front old.limit refl within (length old.bytes + 12) old.suffixes (sym begins) refl in
+      let room : length kept.bytes ≤ old.limit = omega (arith, left.0, begins) in
+      let stands = part_stands front old.limit refl room (length old.bytes + 12) old.suffixes (sym begins) refl in
       ap (λ (small : Bool). answer_by written small asked.is_cut (length asked.kept)) (le-ltb old.limit (length old.bytes + 12) (omega (arith, left.0)))
       ∙ ap (λ (b : Bool). answer_by written false b (length asked.kept)) (sym stands.tells)
       ∙ ap (λ (n : ℕ). answer_by written false true n) (sym stands.counted)

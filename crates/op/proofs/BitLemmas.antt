@@ -4,7 +4,7 @@ use Rattle.std.specs.Prelude.{◌||◌}
 use Rattle.std.specs.Int.{from_bool}
 use Rattle.std.proofs.lemmas.Nat.{or_block, or_shifted}
 use Rattle.op.specs.Header.{bit_of, high_byte, low_byte}
-use Rattle.op.specs.HeaderSays.{weighed_is, from_bool_small}
+use Rattle.op.specs.HeaderSays.{weighed_is}
 
 -- a number below the lowest bit of another
 or_below : (x y k m : ℕ) → x ≡ m * 2 ^ k → y < 2 ^ k → bit_or x y ≡ x + y
@@ -31,7 +31,7 @@ or_top p q s small =
 top_of : (p : Bool) (n : ℕ) → bit_or (from_bool p * 128 % 256) (n * 8 % 256) ≡ from_bool (p || bit_of 16 n) * 128 + 8 * (n % 16)
 top_of p n =
     let digit : n / 16 % 2 ≡ from_bool (bit_of 16 n) = digit_is (n / 16 % 2) (omega arith) in
-    let qr : from_bool p * 128 % 256 ≡ from_bool p * 2 ^ 7 + 0 = omega (arith, from_bool_small p) in
+    let qr : from_bool p * 128 % 256 ≡ from_bool p * 2 ^ 7 + 0 = omega (arith, (weighed_is 1 p).1) in
     let op : n * 8 % 256 ≡ from_bool (bit_of 16 n) * 2 ^ 7 + 8 * (n % 16) = omega arith in
     rw (qr, op) (or_top p (bit_of 16 n) (8 * (n % 16)) (omega arith))
 
@@ -44,14 +44,14 @@ high_of p a t d n =
     let q = from_bool (p || bit_of 16 n) in
     let y = from_bool a * 4 % 256 in
     let z = from_bool t * 2 % 256 in
-    let small_a = from_bool_small a in
-    let small_t = from_bool_small t in
-    let small_d = from_bool_small d in
+    let bit_a = weighed_is 4 a in
+    let bit_t = weighed_is 2 t in
+    let bit_d = weighed_is 1 d in
     let first : bit_or x y ≡ x + y = or_below x y 3 (q * 16 + n % 16) (omega arith) (omega arith) in
     let second : bit_or (x + y) z ≡ (x + y) + z = or_below (x + y) z 2 ((q * 16 + n % 16) * 2 + from_bool a) (omega arith) (omega arith) in
     let third : bit_or ((x + y) + z) (from_bool d) ≡ ((x + y) + z) + from_bool d =
     or_below ((x + y) + z) (from_bool d) 1 (((q * 16 + n % 16) * 2 + from_bool a) * 2 + from_bool t) (omega arith) (omega arith) in
-    rw (first, second, third, weighed_is, weighed_is, weighed_is, weighed_is) (omega arith)
+    rw (first, second, third) (omega (arith, (weighed_is 128 (p || bit_of 16 n)).0))
 
 -- byte 3
 pub low_of : (p a c : Bool) (n : ℕ) → bit_or (bit_or (bit_or (from_bool p * 128 % 256) (from_bool a * 32 % 256)) (from_bool c * 16 % 256)) (n % 16) ≡ low_byte p a c (n % 16)
@@ -59,10 +59,10 @@ low_of p a c n =
     let x = from_bool p * 128 % 256 in
     let y = from_bool a * 32 % 256 in
     let z = from_bool c * 16 % 256 in
-    let small_p = from_bool_small p in
-    let small_a = from_bool_small a in
-    let small_c = from_bool_small c in
+    let bit_p = weighed_is 128 p in
+    let bit_a = weighed_is 32 a in
+    let bit_c = weighed_is 16 c in
     let first : bit_or x y ≡ x + y = or_below x y 7 (from_bool p) (omega arith) (omega arith) in
     let second : bit_or (x + y) z ≡ (x + y) + z = or_below (x + y) z 5 (from_bool p * 4 + from_bool a) (omega arith) (omega arith) in
     let third : bit_or ((x + y) + z) (n % 16) ≡ ((x + y) + z) + n % 16 = or_below ((x + y) + z) (n % 16) 4 ((from_bool p * 4 + from_bool a) * 2 + from_bool c) (omega arith) (omega arith) in
-    rw (first, second, third, weighed_is, weighed_is, weighed_is) (omega arith)
+    rw (first, second, third) (omega arith)

@@ -1,6 +1,7 @@
 -- The codes that are put together from a header's bits and those of EDNS.
 use Rattle.std.proofs.Common.{◌≡◌, ℕ, ◌+◌, ◌*◌, ◌/◌, ◌%◌, ◌<◌, Bool, false, refl, ap, ◌∙◌, arith, rules, Option, Some, None}
-use Rattle.std.specs.Prelude.{◌||◌}
+use Rattle.std.specs.Prelude.{All, ◌||◌}
+use Rattle.op.specs.Fits.{as_list}
 use Rattle.op.specs.Header.{bit_of, metadata_value, raw_header}
 use Rattle.op.specs.Message.{high_code}
 use Rattle.op.specs.MessageType.{is_response, kind_value}
@@ -45,11 +46,11 @@ code_back n =
     let whole : (n / 16 % 256) * 16 + (n % 16 % 16 % 16) ≡ n % 4096 = omega arith in
     ap (λ k. code_value ((n / 16 % 256) * 16 + (k % 16 % 16))) low ∙ ap code_value whole
 
-pub high_back : (edns : Option Edns) (m : Metadata) (n : ℕ) → ((e : Edns) → edns ≡ Some e → e.rcode_high ≡ n / 16 % 256) → m.response_code ≡ code_value (n % 16)
+pub high_back : (edns : Option Edns) (m : Metadata) (n : ℕ) → All (λ e. e.rcode_high ≡ n / 16 % 256) (as_list edns) → m.response_code ≡ code_value (n % 16)
     → high_code edns m ≡ record m { response_code = code_value (n % code_range edns) }
 high_back None m n high low = ap (λ c. record m { response_code = c }) low
 high_back (Some e) m n high low =
-    ap (λ c. record m { response_code = c }) (same (high e refl) low ∙ code_back n)
+    ap (λ c. record m { response_code = c }) (same (high 0 e (omega arith)) low ∙ code_back n)
   where
     same : {i j : ℕ} {c d : ResponseCode} → i ≡ j → c ≡ d → code_from i (code_low c) ≡ code_from j (code_low d)
     same p q = rw (p, q) refl

@@ -1,22 +1,23 @@
 -- What writing a message leaves is a cut of it, which is read as it stands.
-use Rattle.std.proofs.Common.{◌≡◌, ℕ, ◌+◌, ◌/◌, ◌%◌, ◌<◌, ◌≤◌, Bool, List, [], ◌∷◌, ◌++◌, length, take, drop, refl, ap, sym, ◌∙◌, subst, arith, length-append, length-drop, Option, Some, None}
+use Rattle.std.proofs.Common.{◌≡◌, ℕ, ◌+◌, ◌/◌, ◌%◌, ◌<◌, ◌≤◌, Bool, List, [], ◌∷◌, ◌++◌, length, take, drop, refl, ap, sym, ◌∙◌, subst, arith, length-append, length-drop, Option}
 use Rattle.std.specs.Prelude.{All, map, replicate, ◌||◌}
 use Rattle.std.specs.Option.{option_map}
 use Rattle.std.proofs.Math.Path.{transport}
 use Rattle.std.proofs.Math.Seq.{take-length}
-use Rattle.std.proofs.lemmas.List.Elements.{All-cons, All-nil, All-same}
+use Rattle.std.proofs.lemmas.List.Elements.{All-nil, All-same}
 use Rattle.base.specs.Laws.{Holds, IsSpelled, Keeps}
 use Rattle.base.specs.State.{State, Stored}
 use Rattle.base.specs.Words.{Stands}
 use Rattle.base.specs.WordLemmas.{first_stands}
+use Rattle.base.proofs.LawLemmas.{Keeps-then}
 use Rattle.base_data.specs.declared.rdata.RData.{RData}
 use Rattle.rr.specs.Record.{FitsRecord, plain_record}
 use Rattle.rr.specs.declared.record.Record.{Record}
-use Rattle.op.specs.Cut.{IsCut, IsWritten, NoRoom, any_lost, code_range, raised}
+use Rattle.op.specs.Cut.{IsCut, IsFront, IsWritten, NoRoom, any_lost, code_range, raised}
 use Rattle.op.specs.EdnsRecord.{edns_record}
 use Rattle.op.specs.Emitted.{Emitted, WritesRecords}
-use Rattle.op.specs.Fits.{Fits, FitsAdditional, FitsEdns, FitsPlain, as_list, signature_record}
-use Rattle.op.specs.Header.{IsHeaderAt, header_bytes, header_value, metadata_value, raw_header}
+use Rattle.op.specs.Fits.{Fits, FitsAdditional, FitsEdns, FitsPlain, as_list, signature_record, with_high_bits}
+use Rattle.op.specs.Header.{HeaderWord, header_bytes, header_value, metadata_value, raw_header}
 use Rattle.op.specs.Message.{IsMessageAt, MessageValue, high_code, message_of}
 use Rattle.op.specs.OpCode.{op_number, op_value}
 use Rattle.op.specs.ResponseCode.{code_number, code_value}
@@ -26,45 +27,15 @@ use Rattle.op.specs.declared.header.Header.{Header}
 use Rattle.op.specs.declared.header.metadata.Metadata.{Metadata}
 use Rattle.op.specs.declared.op_code.OpCode.{OpCode}
 use Rattle.op.proofs.CodeLemmas.{high_back, metadata_back}
-use Rattle.op.proofs.CutWords.{AreFit, Composed, Ends, all_front, composed, ends, header_len, keeps_additionals, keeps_answers, keeps_authorities, keeps_edns, keeps_questions, keeps_signature, stands_after}
+use Rattle.op.proofs.CutWords.{AreFit, Composed, all_front, composed, header_len, keeps_questions, records_keep, stands_after}
 use Rattle.op.proofs.FrontLemmas.{any_map}
 use Rattle.op.specs.HeaderSays.{header_stands}
 use Rattle.op.proofs.MessageStands.{message_again}
-use Rattle.op.proofs.SortLemmas.{OneFront, all_end, all_given, one_front, one_opt, sorted_edns, sorted_records, sorted_signature, tail}
+use Rattle.op.proofs.ReadFits.{listed_map}
+use Rattle.op.proofs.SortLemmas.{OneFront, all_end, all_given, one_front, one_opt, sorted, tail}
 use Rattle.op.proofs.WordsBack.{edns_fits}
 
 -- ---- parts of one or none
-
-abbrev raise : ℕ → Edns → Edns
-raise high e = record e { rcode_high = high }
-
-raise_fits : (high : ℕ) (o : Option Edns) → All FitsEdns (as_list o) → All FitsEdns (as_list (option_map (raise high) o))
-raise_fits high None fits = All-nil FitsEdns
-raise_fits high (Some e) fits =
-    let f = fits 0 e (omega arith) in
-    All-cons FitsEdns (raise high e) [] (record { payload = f.payload; version = f.version; z = f.z }) (All-nil FitsEdns)
-
-raised_high : (high : ℕ) (o some : Option Edns) (rest : List Edns) → as_list (option_map (raise high) o) ≡ as_list some ++ rest → (e : Edns) → some ≡ Some e → e.rcode_high ≡ high
-raised_high high None (Some x) rest whole e is = cc
-raised_high high (Some y) (Some x) rest whole e is =
-    let first : raise high y ≡ x = head (raise high y) x [] rest whole in
-    let same : x ≡ e = some_same x e is in
-    sym (ap (λ (z : Edns). z.rcode_high) (first ∙ same))
-  where
-    head : (a b : Edns) (xs ys : List Edns) → a ∷ xs ≡ b ∷ ys → a ≡ b
-    head a b xs ys w = cc
-
-    some_same : (a b : Edns) → Some a ≡ Some b → a ≡ b
-    some_same a b w = cc
-raised_high high o None rest whole e is = cc
-
-edns_fit : (o : Option Edns) → All FitsEdns (as_list o) → All FitsRecord (as_list (option_map edns_record o))
-edns_fit None fits = All-nil FitsRecord
-edns_fit (Some e) fits = All-cons FitsRecord (edns_record e) [] (edns_fits e (fits 0 e (omega arith))) (All-nil FitsRecord)
-
-signature_fit : (o : Option (Record (List ℕ))) → All (λ r. FitsRecord (signature_record r)) (as_list o) → All FitsRecord (as_list (option_map signature_record o))
-signature_fit None fits = All-nil FitsRecord
-signature_fit (Some r) fits = All-cons FitsRecord (signature_record r) [] (fits 0 r (omega arith)) (All-nil FitsRecord)
 
 no_room_of : {X : Type 0} (f : X → Record RData) (limit place : ℕ) (rest : List X) → NoRoom plain_record limit place (map f rest) → NoRoom (λ x. plain_record (f x)) limit place rest
 no_room_of f limit place [] full = tt
@@ -82,27 +53,22 @@ module _ (m : MessageValue) (old new : State) (h : Header) (e : Emitted m old ne
   kept_len = ap (λ (s : State). length s.bytes) e.place ∙ length-append old.bytes (replicate 12 0) ∙ ap (λ (xs : List ℕ). length xs + 12) empty
 
   holds : Holds e.after_header e.after_signature new.bytes
-  holds = record {
-    table = record { each = All-same (IsSpelled new.bytes (length e.after_header.bytes)) e.after_header.suffixes [] (ap (λ (s : State). s.suffixes) e.place ∙ untold) (All-nil (IsSpelled new.bytes (length e.after_header.bytes))) };
-    bytes =
-        let at12 : Stands (drop 12 e.after_signature.bytes) (header_bytes (raw_header h) ++ drop 12 e.after_signature.bytes) 12 = stands_after (header_bytes (raw_header h)) (drop 12 e.after_signature.bytes) refl in
-        let there : Stands (drop 12 e.after_signature.bytes) new.bytes 12 = subst (λ xs. Stands (drop 12 e.after_signature.bytes) xs 12) (sym bytes_are) at12 in
-        subst (λ (n : ℕ). Stands (drop n e.after_signature.bytes) new.bytes n) (sym kept_len) there;
-  }
+  holds =
+      let none : e.after_header.suffixes ≡ [] = ap (λ (s : State). s.suffixes) e.place ∙ untold in
+      record {
+        table = record { each = All-same (IsSpelled new.bytes (length e.after_header.bytes)) e.after_header.suffixes [] none (All-nil (IsSpelled new.bytes (length e.after_header.bytes))) };
+        bytes = rw (kept_len, bytes_are) (stands_after (header_bytes (raw_header h)) (drop 12 e.after_signature.bytes) refl);
+      }
 
-  header_there : Stands (header_bytes (raw_header h)) new.bytes 0
-  header_there =
-      let whole : Stands (header_bytes (raw_header h) ++ drop 12 e.after_signature.bytes) new.bytes 0 = subst (λ xs. Stands xs new.bytes 0) bytes_are (record { is = take-length new.bytes }) in
-      first_stands (header_bytes (raw_header h)) (drop 12 e.after_signature.bytes) new.bytes 0 whole
+  -- ---- what stays, and the length
 
-  -- ---- what keeps the limit
-
-  limit_kept : e.after_header.limit ≡ old.limit
-  limit_kept = ap (λ (s : State). s.limit) e.place
+  keeps_all : Keeps e.after_header e.after_signature
+  keeps_all = Keeps-then (keeps_questions e) (Keeps-then (records_keep e.answers) (Keeps-then (records_keep e.authorities)
+      (Keeps-then (records_keep e.additionals) (Keeps-then (records_keep e.edns) (records_keep e.signature)))))
 
   new_len : length new.bytes ≡ length e.after_signature.bytes
   new_len =
-      let grown = ap length (keeps_signature e).bytes ∙ length-append e.after_header.bytes (keeps_signature e).appended in
+      let grown = ap length keeps_all.bytes ∙ length-append e.after_header.bytes keeps_all.appended in
       let rest = length-append (header_bytes (raw_header h)) (drop 12 e.after_signature.bytes) in
       omega (arith, ap length bytes_are, rest, length-drop 12 e.after_signature.bytes, header_len (raw_header h), grown, kept_len)
 
@@ -123,8 +89,12 @@ module _ (m : MessageValue) (old new : State) (h : Header) (e : Emitted m old ne
   one_signature : OneFront signature_record m.signature e.signature.kept e.signature.lost
   one_signature = one_front signature_record m.signature e.signature.kept e.signature.lost e.signature.whole
 
-  fits_edns : All FitsEdns (as_list one_edns.some)
-  fits_edns = all_front FitsEdns (as_list (raised m)) (as_list one_edns.some) one_edns.rest one_edns.front (raise_fits (code_number m.metadata.response_code / 16 % 256) m.edns fits.edns)
+  abbrev IsRaised : Edns → Type 0
+  IsRaised x = FitsEdns x × (x.rcode_high ≡ code_number m.metadata.response_code / 16 % 256)
+
+  fits_edns : All IsRaised (as_list one_edns.some)
+  fits_edns = all_front IsRaised (as_list (raised m)) (as_list one_edns.some) one_edns.rest one_edns.front
+      (listed_map FitsEdns IsRaised (with_high_bits m.metadata.response_code) (λ x f. (record { payload = f.payload; version = f.version; z = f.z }, refl)) m.edns fits.edns)
 
   fits_signature : All (λ r. FitsRecord (signature_record r)) (as_list one_signature.some)
   fits_signature = all_front (λ r. FitsRecord (signature_record r)) (as_list m.signature) (as_list one_signature.some) one_signature.rest one_signature.front fits.signature
@@ -135,37 +105,27 @@ module _ (m : MessageValue) (old new : State) (h : Header) (e : Emitted m old ne
     answers = λ k d below. (fits_answers k d below).fits;
     authorities = λ k d below. (fits_authorities k d below).fits;
     additionals = λ k d below. (fits_additionals k d below).fits;
-    edns = All-same FitsRecord e.edns.kept _ one_edns.kept_is (edns_fit one_edns.some fits_edns);
-    signature = All-same FitsRecord e.signature.kept _ one_signature.kept_is (signature_fit one_signature.some fits_signature);
+    edns = All-same FitsRecord e.edns.kept _ one_edns.kept_is (listed_map IsRaised FitsRecord edns_record (λ x f. edns_fits x f.0) one_edns.some fits_edns);
+    signature = All-same FitsRecord e.signature.kept _ one_signature.kept_is (listed_map (λ r. FitsRecord (signature_record r)) FitsRecord signature_record (λ r f. f) one_signature.some fits_signature);
   }
 
   -- ---- the words
 
-  words : Composed new.bytes m.queries e.answers.kept e.authorities.kept (e.additionals.kept ++ tail one_edns.some one_signature.some) 12 (length e.after_questions.bytes) (length e.after_answers.bytes)
-      (length e.after_authorities.bytes) (length new.bytes)
+  words : Composed new.bytes m.queries e.answers.kept e.authorities.kept e.additionals.kept (as_list (option_map edns_record one_edns.some)) (as_list (option_map signature_record one_signature.some))
+      12 (length e.after_questions.bytes) (length e.after_answers.bytes) (length e.after_authorities.bytes) (length e.after_additionals.bytes) (length e.after_edns.bytes) (length new.bytes)
   words =
-      transport (λ i. Composed new.bytes m.queries e.answers.kept e.authorities.kept (e.additionals.kept ++ (one_edns.kept_is i ++ one_signature.kept_is i))
-      (kept_len i) (length e.after_questions.bytes) (length e.after_answers.bytes) (length e.after_authorities.bytes) (sym new_len i)) (composed new.bytes m old new h e are_fit holds)
-
-  last : Ends new.bytes e.additionals.kept (as_list (option_map edns_record one_edns.some)) (as_list (option_map signature_record one_signature.some)) (length e.after_authorities.bytes)
-      (length e.after_additionals.bytes) (length e.after_edns.bytes) (length new.bytes)
-  last =
-      transport (λ i. Ends new.bytes e.additionals.kept (one_edns.kept_is i) (one_signature.kept_is i) (length e.after_authorities.bytes) (length e.after_additionals.bytes) (length e.after_edns.bytes) (sym new_len i))
-      (ends new.bytes m old new h e are_fit holds)
+      transport (λ i. Composed new.bytes m.queries e.answers.kept e.authorities.kept e.additionals.kept (one_edns.kept_is i) (one_signature.kept_is i) (kept_len i) (length e.after_questions.bytes)
+      (length e.after_answers.bytes) (length e.after_authorities.bytes) (length e.after_additionals.bytes) (length e.after_edns.bytes) (sym new_len i)) (composed new.bytes e are_fit holds)
 
   -- ---- the header
 
-  small_op : op_number h.metadata.op_code < 16
-  small_op = subst (λ (o : OpCode). op_number o < 16) (sym (ap (λ (x : Metadata). x.op_code) e.metadata)) fits.op_code
-
-  op_reads : op_value (op_number h.metadata.op_code) ≡ h.metadata.op_code
-  op_reads = subst (λ (o : OpCode). op_value (op_number o) ≡ o) (sym (ap (λ (x : Metadata). x.op_code) e.metadata)) fits.op_code_reads
-
-  abbrev cut_bit : Bool
-  cut_bit = m.metadata.truncation || (e.answers_cut || (e.authorities_cut || (e.additionals_cut || (e.edns_cut || e.signature_cut))))
-
-  metadata_read : metadata_value (raw_header h) ≡ record m.metadata { truncation = cut_bit; response_code = code_value (code_number m.metadata.response_code % 16) }
-  metadata_read = metadata_back h small_op op_reads ∙ ap (λ (x : Metadata). record x { response_code = code_value (code_number x.response_code % 16) }) e.metadata
+  metadata_read : metadata_value (raw_header h) ≡ record m.metadata {
+    truncation = m.metadata.truncation || (e.answers_cut || (e.authorities_cut || (e.additionals_cut || (e.edns_cut || e.signature_cut))));
+    response_code = code_value (code_number m.metadata.response_code % 16);
+  }
+  metadata_read =
+      let op : h.metadata.op_code ≡ m.metadata.op_code = ap (λ (x : Metadata). x.op_code) e.metadata in
+      metadata_back h (rw op fits.op_code) (rw op fits.op_code_reads) ∙ ap (λ (x : Metadata). record x { response_code = code_value (code_number x.response_code % 16) }) e.metadata
 
   op_kept : op_value (op_number h.metadata.op_code % 16) ≡ m.metadata.op_code
   op_kept = ap (λ (x : Metadata). x.op_code) metadata_read
@@ -185,36 +145,22 @@ module _ (m : MessageValue) (old new : State) (h : Header) (e : Emitted m old ne
   plain : (rs : List (Record RData)) → All (FitsPlain m.metadata.op_code) rs → All (IsPlain (header_value (raw_header h)).metadata.op_code) rs
   plain rs fit = subst (λ o. All (IsPlain o) rs) (sym op_kept) (λ k d below. record { given = (fit k d below).given; placed = (fit k d below).placed })
 
-  sorted : section_of (e.additionals.kept ++ tail one_edns.some one_signature.some) ≡ record { records = e.additionals.kept; edns = one_edns.some; signature = one_signature.some }
-  sorted = λ i. record {
-    records = sorted_records e.additionals.kept m.metadata.op_code fits_additionals one_edns.some one_signature.some i;
-    edns = sorted_edns e.additionals.kept m.metadata.op_code fits_additionals one_edns.some one_signature.some fits_edns i;
-    signature = sorted_signature e.additionals.kept m.metadata.op_code fits_additionals one_edns.some one_signature.some i;
-  }
-
-  all_counted : h.counts.additionals ≡ length (e.additionals.kept ++ tail one_edns.some one_signature.some)
-  all_counted =
-      let edns = ap (λ (rs : List (Record RData)). length rs) one_edns.kept_is in
-      let signature = ap (λ (rs : List (Record RData)). length rs) one_signature.kept_is in
-      omega (
-        arith,
-        e.sum,
-        e.additionals.counted,
-        e.edns.counted,
-        e.signature.counted,
-        edns,
-        signature,
-        length-append e.additionals.kept (tail one_edns.some one_signature.some),
-        length-append (as_list (option_map edns_record one_edns.some)) (as_list (option_map signature_record one_signature.some)),
-      )
-
   counted : h.counts ≡ record {
     queries = length m.queries;
     answers = length e.answers.kept;
     authorities = length e.authorities.kept;
     additionals = length (e.additionals.kept ++ tail one_edns.some one_signature.some);
   }
-  counted = λ i. record { queries = e.query_count i; answers = e.answers.counted i; authorities = e.authorities.counted i; additionals = all_counted i }
+  counted =
+      let edns = ap length one_edns.kept_is in
+      let signature = ap length one_signature.kept_is in
+      let last = length-append (as_list (option_map edns_record one_edns.some)) (as_list (option_map signature_record one_signature.some)) in
+      let all = length-append e.additionals.kept (tail one_edns.some one_signature.some) in
+      let additionals : h.counts.additionals ≡ length (e.additionals.kept ++ tail one_edns.some one_signature.some) = omega (arith, e.sum, e.additionals.counted, e.edns.counted, e.signature.counted) in
+      λ i. record { queries = e.query_count i; answers = e.answers.counted i; authorities = e.authorities.counted i; additionals = additionals i }
+
+  header_word : HeaderWord h new.bytes 0 12
+  header_word = header_stands h new.bytes 0 e.narrow (rw bytes_are (first_stands (header_bytes (raw_header h)) (drop 12 e.after_signature.bytes) _ 0 (record { is = take-length _ })))
 
   abbrev message_word : IsMessageAt new.bytes 0 message (length new.bytes)
   message_word = record {
@@ -225,11 +171,11 @@ module _ (m : MessageValue) (old new : State) (h : Header) (e : Emitted m old ne
     answers = e.answers.kept;
     authorities = e.authorities.kept;
     additionals = e.additionals.kept ++ tail one_edns.some one_signature.some;
-    header_stands = record { raw = raw_header h; word = (header_stands h new.bytes 0 e.narrow header_there).0; value = refl };
+    header_stands = record { raw = raw_header h; word = header_word.0; value = refl };
     queries_stand = words.queries;
     answers_stand = words.answers;
     authorities_stand = words.authorities;
-    additionals_stand = words.additionals;
+    additionals_stand = words.all;
     counts = counted;
     answers_plain = plain e.answers.kept fits_answers;
     authorities_plain = plain e.authorities.kept fits_authorities;
@@ -238,61 +184,63 @@ module _ (m : MessageValue) (old new : State) (h : Header) (e : Emitted m old ne
         (sym op_kept) (all_given e.additionals.kept m.metadata.op_code fits_additionals one_edns.some one_signature.some);
     signature_last = all_end e.additionals.kept m.metadata.op_code fits_additionals one_edns.some one_signature.some;
     one_opt = one_opt e.additionals.kept m.metadata.op_code fits_additionals one_edns.some one_signature.some;
-    message = ap (message_of (metadata_value (raw_header h)) m.queries e.answers.kept e.authorities.kept) (sym sorted);
+    message = ap (message_of (metadata_value (raw_header h)) m.queries e.answers.kept e.authorities.kept) (sym (sorted e.additionals.kept m.metadata.op_code fits_additionals one_edns.some one_signature.some (λ k d below. (fits_edns k d below).0)));
   }
 
   -- ---- the metadata
 
-  abbrev lost_bit : Bool
-  lost_bit = m.metadata.truncation || (any_lost e.answers.lost || (any_lost e.authorities.lost || (any_lost e.additionals.lost || (any_lost one_edns.rest || any_lost one_signature.rest))))
-
-  tells : cut_bit ≡ lost_bit
-  tells = λ i. m.metadata.truncation || (e.answers.tells i || (e.authorities.tells i || (e.additionals.tells i
-      || ((e.edns.tells ∙ ap any_lost one_edns.lost_is ∙ sym (any_map edns_record one_edns.rest)) i || (e.signature.tells ∙ ap any_lost one_signature.lost_is ∙ sym (any_map signature_record one_signature.rest)) i))))
-
-  metadata_is : high_code one_edns.some (metadata_value (raw_header h))
-      ≡ record m.metadata { truncation = lost_bit; response_code = code_value (code_number m.metadata.response_code % code_range one_edns.some) }
+  metadata_is : high_code one_edns.some (metadata_value (raw_header h)) ≡ record m.metadata {
+    truncation = m.metadata.truncation || (any_lost e.answers.lost || (any_lost e.authorities.lost || (any_lost e.additionals.lost || (any_lost one_edns.rest || any_lost one_signature.rest))));
+    response_code = code_value (code_number m.metadata.response_code % code_range one_edns.some);
+  }
   metadata_is =
+      let code = code_value (code_number m.metadata.response_code % code_range one_edns.some) in
+      let edns = e.edns.tells ∙ ap any_lost one_edns.lost_is ∙ sym (any_map edns_record one_edns.rest) in
+      let signature = e.signature.tells ∙ ap any_lost one_signature.lost_is ∙ sym (any_map signature_record one_signature.rest) in
       high_back one_edns.some (metadata_value (raw_header h)) (code_number m.metadata.response_code)
-      (raised_high (code_number m.metadata.response_code / 16 % 256) m.edns one_edns.some one_edns.rest one_edns.front) (ap (λ (x : Metadata). x.response_code) metadata_read)
-      ∙ ap (λ (x : Metadata). record x { response_code = code_value (code_number m.metadata.response_code % code_range one_edns.some) }) metadata_read
-      ∙ ap (λ (b : Bool). record m.metadata { truncation = b; response_code = code_value (code_number m.metadata.response_code % code_range one_edns.some) }) tells
+      (λ k d below. (fits_edns k d below).1) (ap (λ (x : Metadata). x.response_code) metadata_read)
+      ∙ ap (λ (x : Metadata). record x { response_code = code }) metadata_read
+      ∙ (λ i. record m.metadata {
+        truncation = m.metadata.truncation || (e.answers.tells i || (e.authorities.tells i || (e.additionals.tells i || (edns i || signature i))));
+        response_code = code;
+      })
 
   -- ---- the cut
 
-  no_room : {rs : List (Record RData)} {a b : State} {n : ℕ} {is_cut : Bool} (w : WritesRecords rs a b n is_cut) → Keeps e.after_header a → NoRoom plain_record old.limit (length b.bytes) w.lost
-  no_room {a = a} {b = b} w keeps = subst (λ l. NoRoom plain_record l (length b.bytes) w.lost) (keeps.limit ∙ limit_kept) w.full
+  abbrev front_of : {rs : List (Record RData)} {a b : State} {n : ℕ} {is_cut : Bool} (w : WritesRecords rs a b n is_cut) → a.limit ≡ old.limit → IsFront plain_record old.limit (length b.bytes) rs w.kept
+  front_of {b = b} w same = record { lost = w.lost; front = w.whole; full = subst (λ l. NoRoom plain_record l (length b.bytes) w.lost) same w.full }
+
+  -- of a list of one or none
+  abbrev front_of_one : {X : Type 0} {f : X → Record RData} {o : Option X} {kept lost : List (Record RData)} {place : ℕ} (one : OneFront f o kept lost) → NoRoom plain_record old.limit place lost
+      → IsFront (λ x. plain_record (f x)) old.limit place (as_list o) (as_list one.some)
+  front_of_one {f = f} {place = place} one full =
+      record { lost = one.rest; front = one.front; full = no_room_of f old.limit place one.rest (subst (NoRoom plain_record old.limit place) one.lost_is full) }
 
   cut_of : IsCut m old.limit new.bytes message
-  cut_of = record {
-    small = omega (arith, new_len, (keeps_signature e).within, limit_kept, e.room);
-    word = message_word;
-    additionals_end = length e.after_additionals.bytes;
-    edns_end = length e.after_edns.bytes;
-    additionals_stand = last.additionals;
-    edns_stands = last.edns;
-    signature_stands = last.signature;
-    queries = refl;
-    answers = record { lost = e.answers.lost; front = e.answers.whole; full = no_room e.answers (keeps_questions e) };
-    authorities = record { lost = e.authorities.lost; front = e.authorities.whole; full = no_room e.authorities (keeps_answers e) };
-    additionals = record { lost = e.additionals.lost; front = e.additionals.whole; full = no_room e.additionals (keeps_authorities e) };
-    edns =
-        record {
-          lost = one_edns.rest;
-          front = one_edns.front;
-          full = no_room_of edns_record old.limit (length e.after_edns.bytes) one_edns.rest (subst (NoRoom plain_record old.limit (length e.after_edns.bytes)) one_edns.lost_is (no_room e.edns (keeps_additionals e)));
-        };
-    signature = record {
-      lost = one_signature.rest;
-      front = one_signature.front;
-      full =
-          subst (λ n. NoRoom (λ r. plain_record (signature_record r)) old.limit n one_signature.rest) (sym new_len)
-          (no_room_of signature_record old.limit (length e.after_signature.bytes) one_signature.rest
-          (subst (NoRoom plain_record old.limit (length e.after_signature.bytes)) one_signature.lost_is (no_room e.signature (keeps_edns e))));
-    };
-    metadata = metadata_is;
-    short = words.short;
-  }
+  cut_of =
+      let begun : e.after_header.limit ≡ old.limit = ap (λ (s : State). s.limit) e.place in
+      let answers = (keeps_questions e).limit ∙ begun in
+      let authorities = (records_keep e.answers).limit ∙ answers in
+      let additionals = (records_keep e.authorities).limit ∙ authorities in
+      let edns = (records_keep e.additionals).limit ∙ additionals in
+      let signature = (records_keep e.edns).limit ∙ edns in
+      record {
+        small = omega (arith, new_len, keeps_all.within, begun, e.room);
+        word = message_word;
+        additionals_end = length e.after_additionals.bytes;
+        edns_end = length e.after_edns.bytes;
+        additionals_stand = words.additionals;
+        edns_stands = words.edns;
+        signature_stands = words.signature;
+        queries = refl;
+        answers = front_of e.answers answers;
+        authorities = front_of e.authorities authorities;
+        additionals = front_of e.additionals additionals;
+        edns = front_of_one one_edns (front_of e.edns edns).full;
+        signature = front_of_one one_signature (subst (λ n. NoRoom plain_record old.limit n e.signature.lost) (sym new_len) (front_of e.signature signature).full);
+        metadata = metadata_is;
+        short = words.short;
+      }
 
   -- what is written of a message that fits, into a new encoder, is a cut, and is read as exactly that
   pub written_of : IsWritten m old.limit new.bytes

@@ -1,7 +1,8 @@
 -- A message that was composed of slices was emitted.
-use Rattle.std.proofs.Common.{◌≡◌, ℕ, ◌+◌, Bool, true, false, List, length, refl, ap, sym, ◌∙◌, subst, arith, Result, Ok, Err, Bor, Iter}
+use Rattle.std.proofs.Common.{◌≡◌, ◌⊎◌, inl, inr, ℕ, ◌+◌, Bool, true, false, List, length, refl, ap, sym, ◌∙◌, subst, arith, Result, Ok, Err, Bor, Iter}
 use Rattle.std.specs.Prelude.{◌||◌, ⊤, IsSomeAnd, MatchOption, Option, Some, None}
 use Rattle.std.specs.Option.{option_copied, option_map}
+use Rattle.std.proofs.Math.Bool.{or_assoc}
 use Rattle.std.proofs.iter.Yields.{fronts}
 use Rattle.base.specs.Items.{EachWritten, EmitsAll}
 use Rattle.base.specs.State.{State, overwritten}
@@ -11,7 +12,7 @@ use Rattle.base.proofs.SliceLemmas.{Emits-front, Emits-slice}
 use Rattle.base_data.specs.declared.rdata.RData.{RData}
 use Rattle.rr.specs.Record.{RecordWord, plain_record, record_written}
 use Rattle.rr.specs.declared.record.Record.{Record}
-use Rattle.op.specs.Composition.{AddsCounts, AndThen, Composition, CountsItems, EmitsPart, FillsIn, HasHeader, KeepsRoom, Tests, WritesRecordItems}
+use Rattle.op.specs.Composition.{AddsCounts, AndThen, Composition, CountsItems, EmitsPart, FillsIn, HasHeader, KeepsRoom, Narrows, Tests, WritesRecordItems}
 use Rattle.op.specs.Cut.{raised}
 use Rattle.op.specs.EdnsRecord.{edns_record}
 use Rattle.op.specs.Emitted.{Emitted, WritesFront, WritesRecords, query_owner, record_owner}
@@ -36,33 +37,38 @@ module _ {E : Type 0} (word : E → List ℕ → ℕ → ℕ → Type 0) (plain 
   slice_emits s a answer t b = EmitsAll (λ (x : Bor E). word x.now) (λ x. plain x.now) (λ x. owner x.now) (λ x. f x.now) fronts s t a b answer
 
   module _ (s t : Iter E) (a b : State) where
-    front_counted : (answer : Result ℕ ProtoError) (w : Written) → slice_emits s a answer t b → CountsItems answer (Ok w) → WritesFront word plain owner f s.rest.now a b w.count w.is_cut
-    front_counted (Ok n) w emits counts =
-        let all = Emits-slice word plain owner f s t a b n emits in
-        all_written word plain owner f refl all.0 all.2 (ap (λ v. v.count) counts.1 ∙ all.1) (ap (λ v. v.is_cut) counts.1)
-    front_counted (Err (refusals.NotAllRecordsWritten n)) w emits counts =
+    -- the elements before one that had no room
+    pub cut_front : (n : ℕ) → slice_emits s a (Err (refusals.NotAllRecordsWritten n)) t b → WritesFront word plain owner f s.rest.now a b n true
+    cut_front n emits =
         let front = Emits-front word plain owner f s t a b n emits in
-        front_written word plain owner f front.0 front.2 front.1 front.3 front.4 front.7 (ap (λ v. v.count) counts.1 ∙ front.5) (ap (λ v. v.is_cut) counts.1) front.6 front.8
-    front_counted (Err refusals.Memory) w emits counts = absurd (let is = counts in cc)
-    front_counted (Err other) w emits counts = absurd emits
+        front_written word plain owner f front.0 front.2 front.1 front.3 front.4 front.7 front.5 refl front.6 front.8
+
+    -- memory ran out, or a front was written, and its number is what the answer counts
+    pub counted : (answer : Result ℕ ProtoError) (result : Result Written ProtoError) → slice_emits s a answer t b → CountsItems answer result
+        → (result ≡ Err refusals.Memory) ⊎ ((n : ℕ) × (is_cut : Bool) × WritesFront word plain owner f s.rest.now a b n is_cut × Narrows n is_cut result)
+    counted (Ok n) result emits counts =
+        let all = Emits-slice word plain owner f s t a b n emits in
+        inr (n, false, all_written word plain owner f refl all.0 all.2 all.1 refl, counts)
+    counted (Err (refusals.NotAllRecordsWritten n)) result emits counts = inr (n, true, cut_front n emits, counts)
+    counted (Err refusals.Memory) result emits counts = inl counts
+    counted (Err other) result emits counts = absurd emits
 
     -- a part that was counted is a front
     pub slice_front : (w : Written) → EmitsPart slice_emits s t a (Ok w) b → WritesFront word plain owner f s.rest.now a b w.count w.is_cut
-    slice_front w part = front_counted part.0 w part.1 part.2
+    slice_front w (answer, emits, counts) = elim (counted answer (Ok w) emits counts) [
+      | inl memory ↦ absurd (let is = memory in cc)
+      | inr (n, is_cut, front, narrows) ↦ subst (λ v. WritesFront word plain owner f s.rest.now a b v.count v.is_cut) (sym narrows.1) front
+    ]
 
 -- ---- the whole
 
 -- the sum of three counts
-three_counted : (one two sum other total : Written) → AddsCounts one two (Ok sum) → AddsCounts sum other (Ok total) → total.count ≡ one.count + (two.count + other.count)
-three_counted one two sum other total first second = omega (arith, ap (λ w. w.count) first.1, ap (λ w. w.count) second.1)
-
-assoc : (p q r : Bool) → ((p || q) || r) ≡ (p || (q || r))
-assoc true q r = refl
-assoc false q r = refl
-
-any_three : (one two sum other total : Written) → AddsCounts one two (Ok sum) → AddsCounts sum other (Ok total) → total.is_cut ≡ (one.is_cut || (two.is_cut || other.is_cut))
-any_three one two sum other total first second =
-    ap (λ w. w.is_cut) second.1 ∙ ap (λ w. w.is_cut || other.is_cut) first.1 ∙ assoc one.is_cut two.is_cut other.is_cut
+summed : (one two sum other total : Written) → AddsCounts one two (Ok sum) → AddsCounts sum other (Ok total)
+    → (total.count ≡ one.count + (two.count + other.count)) × (total.is_cut ≡ (one.is_cut || (two.is_cut || other.is_cut)))
+summed one two sum other total first second = (
+  omega (arith, ap (λ w. w.count) first.1, ap (λ w. w.count) second.1),
+  ap (λ w. w.is_cut) second.1 ∙ ap (λ w. w.is_cut || other.is_cut) first.1 ∙ or_assoc one.is_cut two.is_cut other.is_cut,
+)
 
 same_value : {X : Type 0} (x y : X) → ◌≡◌ {A = Result X ProtoError} (Ok x) (Ok y) → x ≡ y
 same_value x y is = cc
@@ -73,51 +79,23 @@ emits_records = slice_emits RecordWord plain_record record_owner record_written
 abbrev pub emits_queries : Iter Query → State → Result ℕ ProtoError → Iter Query → State → Type 0
 emits_queries = slice_emits QueryWord plain_query query_owner query_written
 
--- a part that is a slice: what is left of it before it is written, and after that
-pub record Slice (E : Type 0) : Type 0 where
-  pub before : Iter E
-  pub rest : Iter E
-
--- the parts of a message that is composed of slices, with the records of EDNS and of the signature
-pub record Slices : Type 0 where
-  pub queries : Slice Query
-  pub answers : Slice (Record RData)
-  pub authorities : Slice (Record RData)
-  pub additionals : Slice (Record RData)
-  pub edns : List (Record RData)
-  pub signature : List (Record RData)
-
--- a section that is a slice is written and counted
-abbrev pub EmitsSlice : Slice (Record RData) → State → Result Written ProtoError → State → Type 0
-EmitsSlice x = EmitsPart emits_records x.before x.rest
-
--- of a section that is a slice a front was written
-pub records_front : (x : Slice (Record RData)) (a b : State) (w : Written) → EmitsSlice x a (Ok w) b → WritesRecords x.before.rest.now a b w.count w.is_cut
-records_front x a b w part = slice_front RecordWord plain_record record_owner record_written x.before x.rest a b w part
+-- of records that are a slice a front was written
+pub records_front : {s t : Iter (Record RData)} {a b : State} {w : Written} → EmitsPart emits_records s t a (Ok w) b → WritesRecords s.rest.now a b w.count w.is_cut
+records_front {s} {t} {a} {b} {w} part = slice_front RecordWord plain_record record_owner record_written s t a b w part
 
 -- the same front, of the same values and of the same number
 front_as : {xs ys : List (Record RData)} {a b : State} {n k : ℕ} {is_cut : Bool} → xs ≡ ys → n ≡ k → WritesRecords xs a b n is_cut → WritesRecords ys a b k is_cut
 front_as {ys = ys} {a} {b} {n} {k} {is_cut} values number front =
     subst (λ l. WritesRecords ys a b l is_cut) number (subst (λ zs. WritesRecords zs a b n is_cut) values front)
 
--- the composition of slices
-abbrev pub Composed : MessageValue → Slices → State → Result Header ProtoError → State → Type 0
-Composed m s =
-    Composition emits_records emits_records emits_records s.answers.before s.answers.rest s.authorities.before s.authorities.rest s.additionals.before s.additionals.rest
-    m.metadata emits_queries s.queries.before s.queries.rest s.edns s.signature
-
--- the slices are the message's
-pub record AreOf (m : MessageValue) (s : Slices) : Type 0 where
-  pub queries : s.queries.before.rest.now ≡ m.queries
-  pub answers : s.answers.before.rest.now ≡ m.answers
-  pub authorities : s.authorities.before.rest.now ≡ m.authorities
-  pub additionals : s.additionals.before.rest.now ≡ m.additionals
-  pub edns_is : s.edns ≡ as_list (option_map edns_record (raised m))
-  pub signature_is : s.signature ≡ as_list (option_map signature_record m.signature)
-
--- what is left of no section changes
-abbrev pub Idle : Slices → Type 0
-Idle s = (s.answers.rest ≡ s.answers.before) × (s.authorities.rest ≡ s.authorities.before) × (s.additionals.rest ≡ s.additionals.before)
+-- the slices, and the records of EDNS and the signature, are the message's
+pub record AreOf (m : MessageValue) (q : Iter Query) (a n d : Iter (Record RData)) (edns signature : List (Record RData)) : Type 0 where
+  pub queries : q.rest.now ≡ m.queries
+  pub answers : a.rest.now ≡ m.answers
+  pub authorities : n.rest.now ≡ m.authorities
+  pub additionals : d.rest.now ≡ m.additionals
+  pub edns_is : edns ≡ as_list (option_map edns_record (raised m))
+  pub signature_is : signature ≡ as_list (option_map signature_record m.signature)
 
 -- the header was made, and filled in
 header_filled : (metadata : Metadata) (place queries : ℕ) (answers authorities total : Written) {a b : State} {h : Header}
@@ -131,8 +109,9 @@ header_filled metadata place queries answers authorities total {a} {b} {h} run =
     )
 
 -- the pieces of a message that was written
-pub emitted_of : (m : MessageValue) (s : Slices) → AreOf m s → (old new : State) (h : Header) → Composed m s old (Ok h) new → Emitted m old new h
-emitted_of m s are old new h run =
+pub emitted_of : {m : MessageValue} {q q' : Iter Query} {a a' n n' d d' : Iter (Record RData)} {edns signature : List (Record RData)} {old new : State} {h : Header} → AreOf m q a n d edns signature
+    → Composition emits_records emits_records emits_records a a' n n' d d' m.metadata emits_queries q q' edns signature old (Ok h) new → Emitted m old new h
+emitted_of {m} {q} {q'} {signature = signatures} {h = h} are run =
     let room = went h run in
     let asked = went h room.rest in
     let answers = went h asked.rest in
@@ -143,7 +122,7 @@ emitted_of m s are old new h run =
     let signed = went h sum.rest in
     let total = went h signed.rest in
     let header = header_filled m.metadata room.value asked.value answers.value authorities.value total.value total.rest in
-    let all = Emits-slice QueryWord plain_query query_owner query_written s.queries.before s.queries.rest room.between asked.between asked.value asked.ran in
+    let all = Emits-slice QueryWord plain_query query_owner query_written q q' room.between asked.between asked.value asked.ran in
     let fields = header.0.1 in
     record {
       after_header = room.between;
@@ -166,18 +145,18 @@ emitted_of m s are old new h run =
       room = room.ran.2;
       queries = subst (λ qs. EachWritten QueryWord plain_query query_owner qs room.between asked.between) are.queries all.0;
       asked = all.2 ∙ ap (λ qs. after (in_turn query_written qs) room.between) are.queries;
-      answers = front_as are.answers (sym (ap (λ k. k.counts.answers) fields)) (records_front s.answers asked.between answers.between answers.value answers.ran);
+      answers = front_as are.answers (sym (ap (λ k. k.counts.answers) fields)) (records_front answers.ran);
       authorities = front_as are.authorities (sym (ap (λ k. k.counts.authorities) fields))
-          (records_front s.authorities answers.between authorities.between authorities.value authorities.ran);
-      additionals = front_as are.additionals refl (records_front s.additionals authorities.between additionals.between additionals.value additionals.ran);
+          (records_front authorities.ran);
+      additionals = front_as are.additionals refl (records_front additionals.ran);
       edns = front_as are.edns_is refl opt.ran;
-      signature = front_as are.signature_is refl (subst (λ a. WritesRecords s.signature a signed.between signed.value.count signed.value.is_cut) sum.ran.1 signed.ran);
+      signature = front_as are.signature_is refl (subst (λ a. WritesRecords signatures a signed.between signed.value.count signed.value.is_cut) sum.ran.1 signed.ran);
       query_count = ap (λ k. k.counts.queries) fields ∙ all.1 ∙ ap length are.queries;
-      sum = ap (λ k. k.counts.additionals) fields ∙ three_counted additionals.value opt.value sum.value signed.value total.value sum.ran.0 total.ran.0;
+      sum = ap (λ k. k.counts.additionals) fields ∙ (summed additionals.value opt.value sum.value signed.value total.value sum.ran.0 total.ran.0).0;
       metadata =
           ap (λ k. k.metadata) fields
           ∙ ap (λ p. record m.metadata { truncation = m.metadata.truncation || (answers.value.is_cut || (authorities.value.is_cut || p)) })
-          (any_three additionals.value opt.value sum.value signed.value total.value sum.ran.0 total.ran.0);
+          (summed additionals.value opt.value sum.value signed.value total.value sum.ran.0 total.ran.0).1;
       header =
           header.1
           ∙ ap (overwritten room.value (header_bytes (raw_header h))) total.ran.1
@@ -197,15 +176,3 @@ pub unboxed : {X B : Type 0} (value : B → X) (o : Option B) (r : Option (Bor X
 unboxed value None r is = ap option_copied is
 unboxed value (Some x) (Some y) is = ap Some is
 unboxed value (Some x) None is = absurd is
-
--- the iterators over the parts of a message, as they are before it is written and after that, with what EDNS and the
--- signature are as records
-abbrev pub slices : (q q' : Iter Query) (a a' n n' d d' : Iter (Record RData)) → List (Record RData) → List (Record RData) → Slices
-slices q q' a a' n n' d d' edns signature = record {
-  queries = record { before = q; rest = q' };
-  answers = record { before = a; rest = a' };
-  authorities = record { before = n; rest = n' };
-  additionals = record { before = d; rest = d' };
-  edns = edns;
-  signature = signature;
-}

@@ -1,5 +1,5 @@
 -- Items that were written, and those that had no room, are a front.
-use Rattle.std.proofs.Common.{◌≡◌, ℕ, ◌+◌, ◌<◌, Bool, true, false, List, [], ◌∷◌, ◌++◌, length, map, refl, ap, sym, ◌∙◌, subst, arith, Option, Some, None, Result, Ok, Err, Bor, ◌⊎◌, inl, inr}
+use Rattle.std.proofs.Common.{◌≡◌, ℕ, ◌+◌, ◌<◌, Bool, true, false, List, [], ◌∷◌, ◌++◌, length, map, refl, ap, sym, ◌∙◌, subst, arith, length-append, ◌^◌, Option, Some, None, Result, Ok, Err, Bor, ◌⊎◌, inl, inr}
 use Rattle.std.specs.Prelude.{IsSomeAnd, MatchOption}
 use Rattle.std.specs.Option.{option_copied, option_map}
 use Rattle.std.specs.Iterator.{Yields}
@@ -25,7 +25,7 @@ use Rattle.op.specs.declared.edns.writing.RaisedEdns.{RaisedEdns}
 use Rattle.op.specs.declared.message.writing.Written.{Written}
 use Rattle.op.specs.declared.response_code.ResponseCode.{ResponseCode}
 use Rattle.base.specs.Written.{FirstPasses, Writing, after, in_turn}
-use Rattle.base.proofs.WrittenLemmas.{in_turn-map}
+use Rattle.base.proofs.WrittenLemmas.{after-none, in_turn-map}
 
 -- the one item came, or is still to come
 once_yields : {A : Type 0} (s t : Once A) (x : A) (xs : List A) → once_item s ≡ Some x → Yields once_steps s xs t → ((xs ≡ []) × (once_item t ≡ Some x)) ⊎ ((xs ≡ x ∷ []) × (once_item t ≡ None))
@@ -74,22 +74,16 @@ module _ {E : Type 0} (word : E → List ℕ → ℕ → ℕ → Type 0) (plain 
     passes = passes;
   }
 
-  -- of one item that was written, or wasn't
-  whole_item : {x : E} {xs : List E} {n : ℕ} (a b : State) (result : Result Written ProtoError) → xs ≡ x ∷ [] → EachWritten word plain owner xs a b → b ≡ after (in_turn f xs) a → n ≡ length xs
-      → Narrows n false result → WritesItems word plain owner f (x ∷ []) a result b
-  whole_item a b (Ok written) all each exact count narrows = all_written (sym all) each exact (ap (λ w. w.count) narrows.1 ∙ count) (ap (λ w. w.is_cut) narrows.1)
-  whole_item {n = n} a b (Err e) all each exact count narrows = let one : n ≡ 1 = count ∙ ap length all in absurd (omega (arith, one, narrows.0))
-
-  no_item : {xs : List E} {n : ℕ} (x : E) (a b : State) (result : Result Written ProtoError) → xs ≡ [] → EachWritten word plain owner xs a b → a.limit < length b.bytes + plain x
-      → b ≡ after (in_turn f xs) a → FirstPasses f a.limit b (x ∷ []) → n ≡ length xs → Narrows n true result → WritesItems word plain owner f (x ∷ []) a result b
-  no_item {xs} x a b (Ok written) none each full exact passes count narrows =
-      front_written xs [] x (ap (λ ys. ys ++ x ∷ []) (sym none)) each exact (ap (λ w. w.count) narrows.1 ∙ count) (ap (λ w. w.is_cut) narrows.1) full passes
-  no_item {n = n} x a b (Err e) none each full exact passes count narrows = let zero : n ≡ 0 = count ∙ ap length none in absurd (omega (arith, zero, narrows.0))
+  -- a front of few items, whose number is narrow
+  narrowed : {xs : List E} {a b : State} {n : ℕ} {is_cut : Bool} (result : Result Written ProtoError) → WritesFront word plain owner f xs a b n is_cut
+      → length xs < 2 ^ 16 → Narrows n is_cut result → WritesItems word plain owner f xs a result b
+  narrowed {xs} {a} {b} (Ok w) front few narrows = subst (λ v. WritesFront word plain owner f xs a b v.count v.is_cut) (sym narrows.1) front
+  narrowed (Err e) front few narrows =
+      absurd (omega (arith, few, narrows.0, front.counted, ap length front.whole, length-append front.kept front.lost))
 
   -- of none nothing is written
   pub none_written : (a : State) (result : Result Written ProtoError) → Narrows 0 false result → WritesItems word plain owner f [] a result a
-  none_written a (Ok written) narrows = all_written refl refl (ap (λ (bytes : List ℕ). record a { bytes = bytes }) (sym (append-nil a.bytes))) (ap (λ w. w.count) narrows.1) (ap (λ w. w.is_cut) narrows.1)
-  none_written a (Err e) narrows = absurd (omega (arith, narrows.0))
+  none_written a result narrows = narrowed result (all_written refl refl (sym (after-none a)) refl refl) (omega arith) narrows
 
   module _ (item : Bor E) (s t : Once (Bor E)) (a b : State) where
     pub one_item : (answer : Result ℕ ProtoError) (result : Result Written ProtoError) → once_item s ≡ Some item
@@ -99,15 +93,20 @@ module _ {E : Type 0} (word : E → List ℕ → ℕ → ℕ → Type 0) (plain 
     one_item (Ok n) result first (xs, (u, yields, stop), each, count, exact) counts =
         elim (once_yields s u item xs first yields) [
           | inl (none, left) ↦ absurd (let is = stop.0 in cc)
-          | inr (all, left) ↦ whole_item a b result (ap (map (λ x. x.now)) all)
-              (Each-map (λ x. x.now) word plain owner xs a b each) (exact ∙ ap (λ g. after g a) (in_turn-map (λ x. x.now) f xs)) (count ∙ sym (length-map xs (λ x. x.now))) counts
+          | inr (all, left) ↦
+              let whole = ap (map (λ x. x.now)) (sym all) in
+              let written = Each-map (λ x. x.now) word plain owner xs a b each in
+              narrowed result (all_written whole written (exact ∙ ap (λ g. after g a) (in_turn-map (λ x. x.now) f xs)) (count ∙ sym (length-map xs (λ x. x.now))) refl)
+              (omega arith) counts
         ]
     one_item (Err (refusals.NotAllRecordsWritten n)) result first (xs, x, (u, yields, step), each, count, full, exact, passes) counts =
         elim (once_yields s u item xs first yields) [
-          | inl (none, left) ↦ no_item item.now a b result (ap (map (λ x. x.now)) none) (Each-map (λ x. x.now) word plain owner xs a b each)
-              (let is = step.0 in let same : x ≡ item = cc in subst (λ (y : Bor E). a.limit < length b.bytes + plain y.now) same full)
-              (exact ∙ ap (λ g. after g a) (in_turn-map (λ x. x.now) f xs))
-              (let is = step.0 in let same : x ≡ item = cc in subst (λ (y : Bor E). FirstPasses f a.limit b (y.now ∷ [])) same passes) (count ∙ sym (length-map xs (λ x. x.now))) counts
+          | inl (none, left) ↦
+              let is : item ≡ x = let next = step.0 in cc in
+              let written = Each-map (λ x. x.now) word plain owner xs a b each in
+              narrowed result (front_written (map (λ x. x.now) xs) [] x.now (λ i. map (λ x. x.now) (sym none i) ++ (is i).now ∷ []) written
+              (exact ∙ ap (λ g. after g a) (in_turn-map (λ x. x.now) f xs)) (count ∙ sym (length-map xs (λ x. x.now))) refl full passes)
+              (omega arith) counts
           | inr (all, left) ↦ absurd (let is = step.0 in cc)
         ]
     one_item (Err refusals.Memory) result first emits counts = rw counts refl
@@ -119,13 +118,10 @@ any_map view (x ∷ xs) = refl
 
 -- items whose words are read of a value are that value's items
 module _ {A E : Type 0} (view : A → E) (word : E → List ℕ → ℕ → ℕ → Type 0) (plain : E → ℕ) (owner : E → List (List ℕ)) (f : E → Writing) where
-  passes_map : (limit : ℕ) (b : State) (xs : List A) → FirstPasses (λ x. f (view x)) limit b xs → FirstPasses f limit b (map view xs)
-  passes_map limit b [] full = full
-  passes_map limit b (x ∷ xs) full = full
-
-  lost_map : (limit place : ℕ) (xs : List A) → NoRoom (λ x. plain (view x)) limit place xs → NoRoom plain limit place (map view xs)
-  lost_map limit place [] full = full
-  lost_map limit place (x ∷ xs) full = full
+  lost_map : (limit : ℕ) (b : State) (xs : List A) → NoRoom (λ x. plain (view x)) limit (length b.bytes) xs → FirstPasses (λ x. f (view x)) limit b xs
+      → NoRoom plain limit (length b.bytes) (map view xs) × FirstPasses f limit b (map view xs)
+  lost_map limit b [] full passes = (tt, tt)
+  lost_map limit b (x ∷ xs) full passes = (full, passes)
 
   pub front_map : (xs : List A) (a b : State) (n : ℕ) (is_cut : Bool) → WritesFront (λ x. word (view x)) (λ x. plain (view x)) (λ x. owner (view x)) (λ x. f (view x)) xs a b n is_cut
       → WritesFront word plain owner f (map view xs) a b n is_cut
@@ -136,9 +132,9 @@ module _ {A E : Type 0} (view : A → E) (word : E → List ℕ → ℕ → ℕ 
     written = Each-map view word plain owner front.kept a b front.written;
     counted = front.counted ∙ sym (length-map front.kept view);
     tells = front.tells ∙ any_map view front.lost;
-    full = lost_map a.limit (length b.bytes) front.lost front.full;
+    full = (lost_map a.limit b front.lost front.full front.passes).0;
     exact = front.exact ∙ ap (λ g. after g a) (in_turn-map view f front.kept);
-    passes = passes_map a.limit b front.lost front.passes;
+    passes = (lost_map a.limit b front.lost front.full front.passes).1;
   }
 
   pub items_map : (xs : List A) (a b : State) (result : Result Written ProtoError) → WritesItems (λ x. word (view x)) (λ x. plain (view x)) (λ x. owner (view x)) (λ x. f (view x)) xs a result b

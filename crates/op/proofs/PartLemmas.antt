@@ -2,6 +2,7 @@
 use Rattle.std.proofs.Common.{◌≡◌, ℕ, ◌+◌, ◌≤◌, List, ◌++◌, length, ap, sym, ◌∙◌, subst, arith, length-append, false}
 use Rattle.std.specs.Prelude.{nat_lt}
 use Rattle.std.specs.Option.{option_map}
+use Rattle.std.proofs.lemmas.Bool.{le-ltb}
 use Rattle.std.proofs.lemmas.Bool.Decides.{nat_tests}
 use Rattle.std.proofs.lemmas.List.{append-nil, nil_from_length}
 use Rattle.base.specs.State.{Stored}
@@ -47,28 +48,21 @@ module _ {E : Type 0} (f : E → Writing) where
       let fits = subst (λ (ys : List E). at + length (in_turn f ys at stored).bytes ≤ limit) all room in
       ap (λ (ys : List E). part_of xs ys at stored) (all_fit f limit xs at stored fits ∙ sym all)
 
-  pub part_grows : (small large : ℕ) → small ≤ large → (xs : List E) (at : ℕ) (stored : List Stored)
-      → (part_within f small xs at stored).is_cut ≡ false → part_within f large xs at stored ≡ part_within f small xs at
-      stored
-  part_grows small large more xs at stored uncut =
-      let all = kept_all small xs at stored uncut in
-      let grown = no_fewer_fit f small large xs at stored more in
-      let cut = part_lost large xs at stored in
-      let kept = that_fit f large xs at stored in
-      let sum = ap length cut.whole ∙ length-append kept cut.lost in
-      let longer = ap length grown.1 ∙ length-append (that_fit f small xs at stored) grown.0 in
-      let none : length grown.0 ≡ 0 = omega (arith, sum, longer, ap length all) in
-      let same : kept ≡ that_fit f small xs at stored = grown.1 ∙ ap (λ (ys : List E). that_fit f
-      small xs at stored ++ ys) (nil_from_length grown.0 none) ∙ append-nil (that_fit f small xs
-      at stored) in
-      ap (λ (ys : List E). part_of xs ys at stored) same
-
   -- no fewer fit under a larger limit
   pub no_fewer : (small large : ℕ) → small ≤ large → (xs : List E) (at : ℕ) (stored : List Stored)
       → length (that_fit f small xs at stored) ≤ length (that_fit f large xs at stored)
   no_fewer small large more xs at stored =
       let (others, is) = no_fewer_fit f small large xs at stored more in
       omega (arith, ap length is, length-append (that_fit f small xs at stored) others)
+
+  -- so what isn't cut is the same under a larger one
+  part_grows : (small large : ℕ) → small ≤ large → (xs : List E) (at : ℕ) (stored : List Stored)
+      → (part_within f small xs at stored).is_cut ≡ false → part_within f large xs at stored ≡ part_within f small xs at
+      stored
+  part_grows small large more xs at stored uncut =
+      let all = kept_all small xs at stored uncut in
+      let whole = le-ltb (length (that_fit f large xs at stored)) (length xs) (omega (arith, no_fewer small large more xs at stored, ap length all)) in
+      ap (λ (ys : List E). part_of xs ys at stored) (kept_all large xs at stored whole ∙ sym all)
 
   -- a part ends no earlier than the one before it
   pub ends_later : {D : Type 0} (limit : ℕ) (xs : List E) (before : Part D) → before.end ≤ (part_after f limit xs before).end

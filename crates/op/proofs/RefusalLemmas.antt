@@ -1,16 +1,15 @@
 -- Why writing a message of slices is refused: the header or the questions have no room.
-use Rattle.std.proofs.Common.{◌≡◌, ◌⊎◌, ℕ, length, inl, inr, refl, ap, sym, ◌∙◌, subst, arith, length-append, Ok, Err}
+use Rattle.std.proofs.Common.{◌≡◌, ◌⊎◌, ℕ, length, inl, inr, refl, ap, sym, ◌∙◌, subst, arith, length-append, Ok, Err, Iter}
 use Rattle.std.specs.Prelude.{replicate, true}
 use Rattle.base.specs.State.{State}
 use Rattle.base.specs.declared.error.proto_error.ProtoError.{ProtoError}
 use Rattle.base.specs.declared.error.proto_error.ProtoError.TheVariants as refusals
-use Rattle.base.proofs.SliceLemmas.{Emits-front}
 use Rattle.op.specs.Composition.{KeepsRoom}
 use Rattle.op.specs.Emitted.{Leaves, WritesFront, query_owner}
 use Rattle.op.specs.Message.{MessageValue}
 use Rattle.op.specs.Query.{QueryWord, plain_query, query_written}
-use Rattle.op.proofs.EmittedLemmas.{AreOf, Slices, emits_queries}
-use Rattle.op.proofs.FrontLemmas.{front_written}
+use Rattle.op.specs.declared.query.Query.{Query}
+use Rattle.op.proofs.EmittedLemmas.{cut_front, emits_queries}
 
 -- ---- no room
 
@@ -23,12 +22,12 @@ room_failed m old new refusals.Memory run = inl refl
 room_failed m old new refusals.MaxBufferSizeExceeded run = inr (run.1, run.0)
 room_failed m old new other run = absurd run.1
 
-module _ (m : MessageValue) (s : Slices) (are : AreOf m s) (old new : State) (place : ℕ) (kept : State) (room : KeepsRoom old (Ok place) kept) where
-  pub queries_failed : (f : ProtoError) → emits_queries s.queries.before kept (Err f) s.queries.rest new → Left m old new f
+module _ (m : MessageValue) (q q' : Iter Query) (are : q.rest.now ≡ m.queries) (old new : State) (place : ℕ) (kept : State) (room : KeepsRoom old (Ok place) kept) where
+  pub queries_failed : (f : ProtoError) → emits_queries q kept (Err f) q' new → Left m old new f
   queries_failed refusals.Memory run = inl refl
   queries_failed (refusals.NotAllRecordsWritten count) run =
-      let front = Emits-front QueryWord plain_query query_owner query_written s.queries.before s.queries.rest kept new count run in
-      let before = front_written QueryWord plain_query query_owner query_written front.0 front.2 front.1 (sym are.queries ∙ front.3) front.4 front.7 front.5 refl front.6 front.8 in
+      let front = cut_front QueryWord plain_query query_owner query_written q q' kept new count run in
       let fits = ap (λ (a : State). length a.bytes) room.1 ∙ length-append old.bytes (replicate 12 0) in
-      inr (omega (arith, room.2, fits), subst (λ a. WritesFront QueryWord plain_query query_owner query_written m.queries a new count true) room.1 before)
+      let whole = subst (λ qs. WritesFront QueryWord plain_query query_owner query_written qs kept new count true) are front in
+      inr (omega (arith, room.2, fits), subst (λ a. WritesFront QueryWord plain_query query_owner query_written m.queries a new count true) room.1 whole)
   queries_failed other run = absurd run

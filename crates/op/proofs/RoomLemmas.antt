@@ -63,16 +63,13 @@ took_queries qs k t each =
     record { keeps = keeps; bytes = omega (arith, ap length keeps.bytes, length-append k.bytes keeps.appended) }
 
 -- after more records
-pub took_more : (rs : List (Record RData)) (k s t : State) (n : ℕ) → Took k s n → EachWritten
-    RecordWord plain_record record_owner rs s t → t ≡ after (in_turn record_written rs) s → Took k t
-    (n + length rs)
-took_more rs k s t n took each exact = record {
-  keeps = Keeps-then took.keeps (Each-keeps RecordWord plain_record record_owner rs s t each);
-  bytes = omega (arith, took.bytes, length_after (in_turn record_written rs) s t exact, each_some record_written record_some rs (length s.bytes) s.suffixes);
-}
-
 pub took_front : {xs : List (Record RData)} {k s t : State} {n m : ℕ} {is_cut : Bool} → Took k s n → WritesRecords xs s t m is_cut → Took k t (n + m)
-took_front {k = k} {s} {t} {n} took front = subst (λ l. Took k t (n + l)) (sym front.counted) (took_more front.kept k s t n took front.written front.exact)
+took_front {s = s} {t} took front = record {
+  keeps = Keeps-then took.keeps (Each-keeps RecordWord plain_record record_owner front.kept s t front.written);
+  bytes =
+      let some = each_some record_written record_some front.kept (length s.bytes) s.suffixes in
+      omega (arith, took.bytes, front.counted, length_after (in_turn record_written front.kept) s t front.exact, some);
+}
 
 -- An encoder with room for what it holds, under a limit that two bytes count.
 pub record IsLimited (k : State) : Type 0 where
@@ -86,16 +83,9 @@ took_few limited took = omega (arith, took.bytes, took.keeps.within, limited.wit
 -- and so are questions
 pub queries_few : (qs : List Query) (k t : State) → IsLimited k → EachWritten QueryWord plain_query query_owner qs k t → t ≡ after (in_turn query_written qs) k → length qs < 2 ^ 16
 queries_few qs k t limited each exact =
-    omega (
-      arith,
-      length_after (in_turn query_written qs) k t exact,
-      each_some query_written
-          query_some qs (length k.bytes) k.suffixes,
-      (Each-keeps QueryWord plain_query query_owner qs
-          k t each).within,
-      limited.within,
-      limited.small,
-    )
+    let keeps = Each-keeps QueryWord plain_query query_owner qs k t each in
+    let some = each_some query_written query_some qs (length k.bytes) k.suffixes in
+    omega (arith, length_after (in_turn query_written qs) k t exact, some, keeps.within, limited.within, limited.small)
 
 pub queries_within : (qs : List Query) (a b : State) → EachWritten QueryWord plain_query query_owner qs a b → length b.bytes ≤ length a.bytes + plain_queries qs
 queries_within [] a b same = omega (arith, ap (λ (s : State). length s.bytes) same)

@@ -1,5 +1,9 @@
 -- Runs one after another, put together and taken apart.
-use Rattle.std.proofs.Common.{◌≡◌, ◌⊎◌, inl, inr, refl, subst, sym, Result, Ok, Err}
+use Rattle.std.proofs.Common.{◌≡◌, ◌∙◌, refl, ap, subst, sym, Result, Ok, Err}
+use Rattle.std.specs.Prelude.{IsErrAnd}
+use Rattle.std.proofs.lemmas.Result.{err_from_is_err_and}
+use Rattle.base.specs.Laws.{Keeps}
+use Rattle.base.proofs.LawLemmas.{Keeps-then}
 use Rattle.base.specs.State.{State}
 use Rattle.base.specs.declared.error.proto_error.ProtoError.{ProtoError}
 use Rattle.op.specs.Composition.{AndThen, Continues}
@@ -20,22 +24,28 @@ module _ {X Y : Type 0} (first : State → Result X ProtoError → State → Typ
   went_by (Ok x) y ran rest = record { value = x; between = b; ran = ran; rest = rest }
   went_by (Err e) y ran rest = absurd (let is = rest.0 in cc)
 
-  failed_by : (answer : Result X ProtoError) (e : ProtoError) → first a answer b → Continues stays next answer b (Err e) c → first a (Err e) c ⊎ Both first next a (Err e) c
-  failed_by (Ok x) e ran rest = inr (record { value = x; between = b; ran = ran; rest = rest })
-  failed_by (Err f) e ran rest =
-      inl (subst (λ s. first a (Err e) s) (sym rest.1) (subst (λ g. first a (Err g) b) (sym (same_err {Y = Y} e f rest.0)) ran))
+  fails_by : {P : Type 0} (answer : Result X ProtoError) (e : ProtoError) → first a answer b → Continues stays next answer b (Err e) c
+      → (first a (Err e) c → P) → ((x : X) (m : State) → first a (Ok x) m → next x m (Err e) c → P) → P
+  fails_by (Ok x) e ran rest at_first later = later x b ran rest
+  fails_by (Err f) e ran rest at_first later =
+      at_first (subst (λ s. first a (Err e) s) (sym rest.1) (subst (λ g. first a (Err g) b) (sym (same_err {Y = Y} e f rest.0)) ran))
 
 module _ {X Y : Type 0} {first : State → Result X ProtoError → State → Type 0} {stays : Type 0} {next : X → State → Result Y ProtoError → State → Type 0} {a c : State} where
-  pub goes : {result : Result Y ProtoError} (x : X) (b : State) → first a (Ok x) b → next x b result c → AndThen first stays next a result c
-  goes x b ran rest = record { answer = Ok x; between = b; ran = ran; rest = rest }
+  -- with a state d that keeps what stood before: that at a refusal, or a later one
+  pub goes : {result : Result Y ProtoError} {d : State} (x : X) (b : State) → Keeps a b → first a (Ok x) b → Keeps b d × next x b result c → Keeps a d × AndThen first stays next a result c
+  goes x b keeps ran rest = (Keeps-then keeps rest.0, record { answer = Ok x; between = b; ran = ran; rest = rest.1 })
 
-  pub stops : {result : Result Y ProtoError} (e : ProtoError) → first a (Err e) c → result ≡ Err e → stays → AndThen first stays next a result c
-  stops e ran is idle = record { answer = Err e; between = c; ran = ran; rest = (is, refl, idle) }
+  pub stops : {result : Result Y ProtoError} (e : ProtoError) → Keeps a c → first a (Err e) c → IsErrAnd result (λ f. f ≡ e) → stays → Keeps a c × AndThen first stays next a result c
+  stops e keeps ran returned idle =
+      let is = err_from_is_err_and _ returned in
+      (keeps, record { answer = Err e; between = c; ran = ran; rest = (is.1 ∙ ap (λ f. Err f) is.2, refl, idle) })
 
   -- after a value of the whole, both were values
   pub went : (y : Y) → AndThen first stays next a (Ok y) c → Both first next a (Ok y) c
   went y s = went_by first stays next a s.between c s.answer y s.ran s.rest
 
-  -- after a refusal of the whole stands that of the first or of the second
-  pub failed : (e : ProtoError) → AndThen first stays next a (Err e) c → first a (Err e) c ⊎ Both first next a (Err e) c
-  failed e s = failed_by first stays next a s.between c s.answer e s.ran s.rest
+  -- what follows of a refusal of the first, and of a value and then a refusal of the second, follows of a refusal of the
+  -- whole
+  pub fails : {P : Type 0} (e : ProtoError) → AndThen first stays next a (Err e) c
+      → (first a (Err e) c → P) → ((x : X) (m : State) → first a (Ok x) m → next x m (Err e) c → P) → P
+  fails e s at_first later = fails_by first stays next a s.between c s.answer e s.ran s.rest at_first later

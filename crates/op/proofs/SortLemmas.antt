@@ -27,20 +27,13 @@ pub record OneFront {X Y : Type 0} (f : X → Y) (o : Option X) (kept lost : Lis
   pub front : as_list o ≡ as_list some ++ rest
   pub lost_is : lost ≡ map f rest
 
-alone : {Y : Type 0} (x y : Y) (kept lost : List Y) → x ∷ [] ≡ y ∷ (kept ++ lost) → y ∷ kept ≡ x ∷ []
-alone x y [] lost whole = cc
-alone x y (z ∷ kept) lost whole = cc
-
-none_lost : {Y : Type 0} (x y : Y) (kept lost : List Y) → x ∷ [] ≡ y ∷ (kept ++ lost) → lost ≡ []
-none_lost x y [] [] whole = refl
-none_lost x y [] (z ∷ lost) whole = cc
-none_lost x y (z ∷ kept) lost whole = cc
-
 pub one_front : {X Y : Type 0} (f : X → Y) (o : Option X) (kept lost : List Y) → as_list (option_map f o) ≡ kept ++ lost → OneFront f o kept lost
 one_front f None [] lost whole = record { some = None; rest = []; kept_is = refl; front = refl; lost_is = sym whole }
 one_front f None (y ∷ kept) lost whole = cc
 one_front f (Some x) [] lost whole = record { some = None; rest = x ∷ []; kept_is = refl; front = refl; lost_is = sym whole }
-one_front f (Some x) (y ∷ kept) lost whole = record { some = Some x; rest = []; kept_is = alone (f x) y kept lost whole; front = refl; lost_is = none_lost (f x) y kept lost whole }
+one_front f (Some x) (y ∷ []) [] whole = record { some = Some x; rest = []; kept_is = sym whole; front = refl; lost_is = refl }
+one_front f (Some x) (y ∷ []) (z ∷ lost) whole = cc
+one_front f (Some x) (y ∷ (z ∷ kept)) lost whole = cc
 
 -- ---- what the records are together
 
@@ -48,13 +41,9 @@ filter_all : {X : Type 0} (p : X → Bool) (xs : List X) → All (λ x. p x ≡ 
 filter_all p [] all = refl
 filter_all p (x ∷ xs) all = rw (all 0 x (omega arith)) (ap (λ ys. x ∷ ys) (filter_all p xs (All-tail (λ y. p y ≡ true) x xs all)))
 
-filter_none : {X : Type 0} (p : X → Bool) (xs : List X) → All (λ x. p x ≡ false) xs → filter p xs ≡ []
-filter_none p [] all = refl
-filter_none p (x ∷ xs) all = rw (all 0 x (omega arith)) (filter_none p xs (All-tail (λ y. p y ≡ false) x xs all))
-
-find_none : {X : Type 0} (p : X → Bool) (xs : List X) → All (λ x. p x ≡ false) xs → find p xs ≡ None
-find_none p [] all = refl
-find_none p (x ∷ xs) all = rw (all 0 x (omega arith)) (find_none p xs (All-tail (λ y. p y ≡ false) x xs all))
+none_pass : {X : Type 0} (p : X → Bool) (xs : List X) → All (λ x. p x ≡ false) xs → (filter p xs ≡ []) × (find p xs ≡ None)
+none_pass p [] all = (refl, refl)
+none_pass p (x ∷ xs) all = rw (all 0 x (omega arith)) (none_pass p xs (All-tail (λ y. p y ≡ false) x xs all))
 
 unsigned_data : (os : List OptionValue) → is_signature_data (opt_data os) ≡ false
 unsigned_data [] = refl
@@ -69,102 +58,90 @@ opt_is_opt e = opt_typed e.options
 abbrev pub tail : Option Edns → Option (Record (List ℕ)) → List (Record RData)
 tail edns signature = as_list (option_map edns_record edns) ++ as_list (option_map signature_record signature)
 
-module _ (ds : List (Record RData)) (op : OpCode) (fits : All (FitsAdditional op) ds) where
+-- what is known of EDNS and the signature after the other records
+record IsTail (edns : Option Edns) (signature : Option (Record (List ℕ))) : Type 0 where
+  ordinary : filter is_plain_record (tail edns signature) ≡ []
+  opt : find is_opt (tail edns signature) ≡ option_map edns_record edns
+  signed : find is_signature (tail edns signature) ≡ option_map signature_record signature
+  ends : EndsWithSignature (tail edns signature)
+  one : AtMostOneOpt (tail edns signature)
+
+is_tail : (edns : Option Edns) (signature : Option (Record (List ℕ))) → IsTail edns signature
+is_tail None None = record { ordinary = refl; opt = refl; signed = refl; ends = tt; one = omega arith }
+is_tail None (Some s) = record { ordinary = refl; opt = refl; signed = refl; ends = (λ _. refl, tt); one = omega arith }
+is_tail (Some e) None = record {
+  ordinary = rw (opt_is_opt e) refl;
+  opt = rw (opt_is_opt e) refl;
+  signed = rw (opt_unsigned e) refl;
+  ends = (λ _. refl, tt);
+  one = rw (opt_is_opt e) (omega arith);
+}
+is_tail (Some e) (Some s) = record {
+  ordinary = rw (opt_is_opt e) refl;
+  opt = rw (opt_is_opt e) refl;
+  signed = rw (opt_unsigned e) refl;
+  ends = (λ is. absurd (true≢false (sym is ∙ opt_unsigned e)), (λ _. refl, tt));
+  one = rw (opt_is_opt e) (omega arith);
+}
+
+edns_kept : (edns : Option Edns) → All FitsEdns (as_list edns) → option_map edns_of (option_map edns_record edns) ≡ edns
+edns_kept None fits_edns = refl
+edns_kept (Some e) fits_edns = ap Some (edns_back e (fits_edns 0 e (omega arith)))
+
+signature_kept : (signature : Option (Record (List ℕ))) → option_map signature_of (option_map signature_record signature) ≡ signature
+signature_kept None = refl
+signature_kept (Some s) = refl
+
+listed : {X Y : Type 0} (P : Y → Type 0) (f : X → Y) → ((x : X) → P (f x)) → (o : Option X) → All P (as_list (option_map f o))
+listed P f holds None = All-nil P
+listed P f holds (Some x) = All-cons P (f x) [] (holds x) (All-nil P)
+
+either : (b : Bool) → (b || true) ≡ true
+either true = refl
+either false = refl
+
+ordinary : (o g : Bool) → o ≡ false → g ≡ false → not (o || g) ≡ true
+ordinary o g is isnt = rw (is, isnt) refl
+
+module _ (ds : List (Record RData)) (op : OpCode) (fits : All (FitsAdditional op) ds) (edns : Option Edns) (signature : Option (Record (List ℕ))) where
   no_opts : All (λ r. is_opt r ≡ false) ds
   no_opts = λ k d below. (fits k d below).not_opt
 
   no_signatures : All (λ r. is_signature r ≡ false) ds
   no_signatures = λ k d below. (fits k d below).not_signature
 
-  ordinary : (o g : Bool) → o ≡ false → g ≡ false → not (o || g) ≡ true
-  ordinary o g is isnt = rw (is, isnt) refl
+  found : (p : Record RData → Bool) → All (λ r. p r ≡ false) ds → find p (ds ++ tail edns signature) ≡ find p (tail edns signature)
+  found p none = find-append p ds (tail edns signature) ∙ ap (λ o. option_or o (find p (tail edns signature))) (none_pass p ds none).1
 
-  ordinaries : All (λ r. is_plain_record r ≡ true) ds
-  ordinaries = λ k d below. ordinary _ _ (fits k d below).not_opt (fits k d below).not_signature
-
-  rest_ordinary : (edns : Option Edns) (signature : Option (Record (List ℕ))) → filter is_plain_record (tail edns signature) ≡ []
-  rest_ordinary None None = refl
-  rest_ordinary None (Some s) = refl
-  rest_ordinary (Some e) None = rw (opt_is_opt e) refl
-  rest_ordinary (Some e) (Some s) = rw (opt_is_opt e) refl
-
-  rest_opt : (edns : Option Edns) (signature : Option (Record (List ℕ))) → find is_opt (tail edns signature) ≡ option_map edns_record edns
-  rest_opt None None = refl
-  rest_opt None (Some s) = refl
-  rest_opt (Some e) None = rw (opt_is_opt e) refl
-  rest_opt (Some e) (Some s) = rw (opt_is_opt e) refl
-
-  rest_signature : (edns : Option Edns) (signature : Option (Record (List ℕ))) → find is_signature (tail edns signature) ≡ option_map signature_record signature
-  rest_signature None None = refl
-  rest_signature None (Some s) = refl
-  rest_signature (Some e) None = rw (opt_unsigned e) refl
-  rest_signature (Some e) (Some s) = rw (opt_unsigned e) refl
-
-  edns_kept : (edns : Option Edns) → All FitsEdns (as_list edns) → option_map edns_of (option_map edns_record edns) ≡ edns
-  edns_kept None fits_edns = refl
-  edns_kept (Some e) fits_edns = ap Some (edns_back e (fits_edns 0 e (omega arith)))
-
-  signature_kept : (signature : Option (Record (List ℕ))) → option_map signature_of (option_map signature_record signature) ≡ signature
-  signature_kept None = refl
-  signature_kept (Some s) = refl
-
-  pub sorted_records : (edns : Option Edns) (signature : Option (Record (List ℕ))) → (section_of (ds ++ tail edns signature)).records ≡ ds
-  sorted_records edns signature =
-      filter-append is_plain_record ds (tail edns signature) ∙ ap (λ xs. filter is_plain_record ds ++ xs) (rest_ordinary edns signature) ∙ append-nil (filter is_plain_record ds)
-      ∙ filter_all is_plain_record ds ordinaries
-
-  found : (p : Record RData → Bool) (t : List (Record RData)) → All (λ r. p r ≡ false) ds → find p (ds ++ t) ≡ find p t
-  found p t none = find-append p ds t ∙ ap (λ o. option_or o (find p t)) (find_none p ds none)
-
-  pub sorted_edns : (edns : Option Edns) (signature : Option (Record (List ℕ))) → All FitsEdns (as_list edns) → (section_of (ds ++ tail edns signature)).edns ≡ edns
-  sorted_edns edns signature fits_edns = ap (option_map edns_of) (found is_opt (tail edns signature) no_opts ∙ rest_opt edns signature) ∙ edns_kept edns fits_edns
-
-  pub sorted_signature : (edns : Option Edns) (signature : Option (Record (List ℕ))) → (section_of (ds ++ tail edns signature)).signature ≡ signature
-  sorted_signature edns signature = ap (option_map signature_of) (found is_signature (tail edns signature) no_signatures ∙ rest_signature edns signature) ∙ signature_kept signature
+  -- all of them sorted
+  pub sorted : All FitsEdns (as_list edns) → section_of (ds ++ tail edns signature) ≡ record { records = ds; edns = edns; signature = signature }
+  sorted fits_edns =
+      let rest = is_tail edns signature in
+      let ordinaries : All (λ r. is_plain_record r ≡ true) ds = λ k d below. ordinary _ _ (fits k d below).not_opt (fits k d below).not_signature in
+      let records = filter-append is_plain_record ds (tail edns signature) ∙ ap (λ xs. filter is_plain_record ds ++ xs) rest.ordinary ∙ append-nil (filter is_plain_record ds)
+      ∙ filter_all is_plain_record ds ordinaries in
+      let opt = ap (option_map edns_of) (found is_opt no_opts ∙ rest.opt) ∙ edns_kept edns fits_edns in
+      let signed = ap (option_map signature_of) (found is_signature no_signatures ∙ rest.signed) ∙ signature_kept signature in
+      λ i. record { records = records i; edns = opt i; signature = signed i }
 
   -- ---- the tests on them
 
-  either : (b : Bool) → (b || true) ≡ true
-  either true = refl
-  either false = refl
-
-  edns_given : (e : Edns) → HasNeededData op (edns_record e)
-  edns_given e empty = rw (opt_is_opt e) (either (is_update op))
-
-  signature_given : (s : Record (List ℕ)) → HasNeededData op (signature_record s)
-  signature_given s empty = absurd (true≢false (sym empty))
-
-  rest_given : (edns : Option Edns) (signature : Option (Record (List ℕ))) → All (HasNeededData op) (tail edns signature)
-  rest_given None None = All-nil (HasNeededData op)
-  rest_given None (Some s) = All-cons (HasNeededData op) (signature_record s) [] (signature_given s) (All-nil (HasNeededData op))
-  rest_given (Some e) None = All-cons (HasNeededData op) (edns_record e) [] (edns_given e) (All-nil (HasNeededData op))
-  rest_given (Some e) (Some s) =
-      All-cons (HasNeededData op) (edns_record e) (signature_record s ∷ []) (edns_given e) (All-cons (HasNeededData op) (signature_record s) [] (signature_given s) (All-nil (HasNeededData op)))
-
-  pub all_given : (edns : Option Edns) (signature : Option (Record (List ℕ))) → All (HasNeededData op) (ds ++ tail edns signature)
-  all_given edns signature = All-append (HasNeededData op) ds (tail edns signature) (λ k d below. (fits k d below).given) (rest_given edns signature)
-
-  rest_ends : (edns : Option Edns) (signature : Option (Record (List ℕ))) → EndsWithSignature (tail edns signature)
-  rest_ends None None = tt
-  rest_ends None (Some s) = (λ _. refl, tt)
-  rest_ends (Some e) None = (λ _. refl, tt)
-  rest_ends (Some e) (Some s) = (λ is. absurd (true≢false (sym is ∙ opt_unsigned e)), (λ _. refl, tt))
+  pub all_given : All (HasNeededData op) (ds ++ tail edns signature)
+  all_given =
+      All-append (HasNeededData op) ds (tail edns signature) (λ k d below. (fits k d below).given)
+      (All-append (HasNeededData op) (as_list (option_map edns_record edns)) (as_list (option_map signature_record signature))
+      (listed (HasNeededData op) edns_record (λ e empty. rw (opt_is_opt e) (either (is_update op))) edns)
+      (listed (HasNeededData op) signature_record (λ s empty. absurd (true≢false (sym empty))) signature))
 
   ends_after : (xs t : List (Record RData)) → All (λ r. is_signature r ≡ false) xs → EndsWithSignature t → EndsWithSignature (xs ++ t)
   ends_after [] t none ends = ends
   ends_after (x ∷ xs) t none ends = (λ is. absurd (true≢false (sym is ∙ none 0 x (omega arith))), ends_after xs t (All-tail (λ r. is_signature r ≡ false) x xs none) ends)
 
-  pub all_end : (edns : Option Edns) (signature : Option (Record (List ℕ))) → EndsWithSignature (ds ++ tail edns signature)
-  all_end edns signature = ends_after ds (tail edns signature) no_signatures (rest_ends edns signature)
+  pub all_end : EndsWithSignature (ds ++ tail edns signature)
+  all_end = ends_after ds (tail edns signature) no_signatures (is_tail edns signature).ends
 
-  rest_one : (edns : Option Edns) (signature : Option (Record (List ℕ))) → AtMostOneOpt (tail edns signature)
-  rest_one None None = omega arith
-  rest_one None (Some s) = omega arith
-  rest_one (Some e) None = rw (opt_is_opt e) (omega arith)
-  rest_one (Some e) (Some s) = rw (opt_is_opt e) (omega arith)
-
-  pub one_opt : (edns : Option Edns) (signature : Option (Record (List ℕ))) → AtMostOneOpt (ds ++ tail edns signature)
-  one_opt edns signature =
+  pub one_opt : AtMostOneOpt (ds ++ tail edns signature)
+  one_opt =
       let same : filter is_opt (ds ++ tail edns signature) ≡ filter is_opt (tail edns signature) = filter-append is_opt ds (tail edns signature)
-      ∙ ap (λ xs. xs ++ filter is_opt (tail edns signature)) (filter_none is_opt ds no_opts) in
-      subst (λ (xs : List (Record RData)). length xs ≤ 1) (sym same) (rest_one edns signature)
+      ∙ ap (λ xs. xs ++ filter is_opt (tail edns signature)) (none_pass is_opt ds no_opts).0 in
+      subst (λ (xs : List (Record RData)). length xs ≤ 1) (sym same) (is_tail edns signature).one

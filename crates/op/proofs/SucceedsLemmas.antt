@@ -1,152 +1,59 @@
 -- A message of slices is refused for memory, or where header or questions have no room, whatever the encoder holds.
 use Rattle.std.proofs.Common.{◌≡◌, ◌⊎◌, ℕ, true, ◌+◌, ◌-◌, ◌<◌, ◌≤◌, ◌^◌, List, [], ◌∷◌, length, inl, inr, ap, sym, ◌∙◌, subst, arith, length-append, Result, Ok, Err, Iter}
 use Rattle.std.specs.Prelude.{⊤, replicate}
-use Rattle.base.specs.Items.{EachWritten}
 use Rattle.base.specs.State.{State, appended}
 use Rattle.base.specs.declared.error.proto_error.ProtoError.{ProtoError}
 use Rattle.base.specs.declared.error.proto_error.ProtoError.TheVariants as refusals
-use Rattle.base.proofs.SliceLemmas.{Emits-front, Emits-slice}
+use Rattle.base.proofs.SliceLemmas.{Emits-slice}
 use Rattle.base_data.specs.declared.rdata.RData.{RData}
 use Rattle.rr.specs.Record.{RecordWord, plain_record, record_written}
 use Rattle.rr.specs.declared.record.Record.{Record}
 use Rattle.op.specs.Cut.{IsTooSmall, NoRoom, any_lost}
-use Rattle.op.specs.Composition.{AddsCounts, AndThen, CountsItems, FillsIn, HasHeader, KeepsRoom, Tests, WritesRecordItems}
-use Rattle.op.specs.declared.header.Header.{Header}
+use Rattle.op.specs.Composition.{Composition, EmitsPart}
 use Rattle.op.specs.Emitted.{Leaves, WritesFront, WritesRecords, query_owner, record_owner}
 use Rattle.op.specs.Fits.{HasRoom, plain_queries}
 use Rattle.op.specs.Message.{MessageValue}
 use Rattle.op.specs.Query.{QueryWord, plain_query, query_written}
 use Rattle.op.specs.declared.message.writing.Written.{Written}
 use Rattle.op.specs.declared.query.Query.{Query}
-use Rattle.op.proofs.EmittedLemmas.{AreOf, Composed, EmitsSlice, Idle, Slice, Slices, emits_queries, emits_records, records_front}
+use Rattle.op.proofs.EmittedLemmas.{AreOf, counted, emits_queries, emits_records, records_front}
 use Rattle.op.proofs.RefusalLemmas.{Left, queries_failed, room_failed}
-use Rattle.op.proofs.RoomLemmas.{IsLimited, Took, plain-append, queries_few, queries_within, took_few, took_front, took_more, took_queries}
-use Rattle.op.proofs.RunLemmas.{failed, same_err}
-use Rattle.base.specs.Written.{after, in_turn}
-
--- records that no header can count were written
-record Many (a b : State) : Type 0 where
-  kept : List (Record RData)
-  written : EachWritten RecordWord plain_record record_owner kept a b
-  exact : b ≡ after (in_turn record_written kept) a
-  many : 2 ^ 16 ≤ length kept
-
--- why a part that is a slice of records is refused
-part_failed : (s t : Iter (Record RData)) (a b : State) (answer : Result ℕ ProtoError) (e : ProtoError) → emits_records s a answer t b → CountsItems answer (Err e) → (e ≡ refusals.Memory) ⊎ Many a b
-part_failed s t a b (Ok n) e emits counts =
-    let all = Emits-slice RecordWord plain_record record_owner record_written s t a b n emits in
-    inr (record { kept = s.rest.now; written = all.0; exact = all.2; many = omega (arith, counts.0, all.1) })
-part_failed s t a b (Err (refusals.NotAllRecordsWritten n)) e emits counts =
-    let front = Emits-front RecordWord plain_record record_owner record_written s t a b n emits in
-    inr (record { kept = front.0; written = front.4; exact = front.7; many = omega (arith, counts.0, front.5) })
-part_failed s t a b (Err refusals.Memory) e emits counts = inl (same_err {Y = Written} e refusals.Memory counts)
-part_failed s t a b (Err other) e emits counts = absurd emits
+use Rattle.op.proofs.RoomLemmas.{IsLimited, Took, plain-append, queries_few, queries_within, took_few, took_front, took_queries}
+use Rattle.op.proofs.RunLemmas.{fails, same_err}
 
 -- After the state k, with the room for a header, no more records stand than a header can count.
-module _ (k : State) (limited : IsLimited k) (e : ProtoError) where
-  few_written : (a b : State) (n : ℕ) → Took k a n → Many a b → e ≡ refusals.Memory
-  few_written a b n took many =
-      let few = took_few limited (took_more many.kept k a b n took many.written many.exact) in
-      absurd (omega (arith, few, many.many))
+slice_failed : {k : State} → IsLimited k → (e : ProtoError) {s t : Iter (Record RData)} {a b : State} {n : ℕ} → Took k a n → EmitsPart emits_records s t a (Err e) b → e ≡ refusals.Memory
+slice_failed limited e {s} {t} {a} {b} took (answer, emits, counts) =
+    elim (counted RecordWord plain_record record_owner record_written s t a b answer (Err e) emits counts) [
+      | inl memory ↦ same_err {Y = Written} e refusals.Memory memory
+      | inr (n, is_cut, front, narrows) ↦ absurd (omega (arith, took_few limited (took_front took front), narrows.0))
+    ]
 
-  slice_failed : (x : Slice (Record RData)) (a b : State) (n : ℕ) → Took k a n → EmitsSlice x a (Err e) b → e ≡ refusals.Memory
-  slice_failed x a b n took part =
-      elim (part_failed x.before x.rest a b part.0 e part.1 part.2) [ inl memory ↦ memory | inr many ↦ few_written a b n took many ]
-
--- ---- the whole
-
--- what follows each part of a message of slices
-module _ (m : MessageValue) (s : Slices) where
-  abbrev Headed : ℕ → ℕ → Written → Written → Written → State → Result Header ProtoError → State → Type 0
-  Headed place queries answers authorities total = AndThen (Tests (HasHeader m.metadata queries answers authorities total)) ⊤ (FillsIn place)
-
-  abbrev Extended : ℕ → ℕ → Written → Written → Written → State → Result Header ProtoError → State → Type 0
-  Extended place queries answers authorities additionals =
-      AndThen (WritesRecordItems s.edns) ⊤ (λ opt.
-      AndThen (Tests (AddsCounts additionals opt)) ⊤ (λ sum.
-      AndThen (WritesRecordItems s.signature) ⊤ (λ signed.
-      AndThen (Tests (AddsCounts sum signed)) ⊤ (Headed place queries answers authorities))))
-
-  abbrev Sectioned : ℕ → ℕ → State → Result Header ProtoError → State → Type 0
-  Sectioned place queries =
-      AndThen (EmitsSlice s.answers) ((s.authorities.rest ≡ s.authorities.before) × (s.additionals.rest ≡ s.additionals.before)) (λ answers.
-      AndThen (EmitsSlice s.authorities) (s.additionals.rest ≡ s.additionals.before) (λ authorities.
-      AndThen (EmitsSlice s.additionals) ⊤ (Extended place queries answers authorities)))
-
-  abbrev Asked : ℕ → State → Result Header ProtoError → State → Type 0
-  Asked place = AndThen (λ a answer b. emits_queries s.queries.before a answer s.queries.rest b) (Idle s) (Sectioned place)
-
-module _ (m : MessageValue) (s : Slices) (are : AreOf m s) (old new : State)
+module _ {m : MessageValue} {q q' : Iter Query} {a a' n n' d d' : Iter (Record RData)} {edns signature : List (Record RData)} (are : AreOf m q a n d edns signature) (old new : State)
     (small : old.limit < 2 ^ 16) (e : ProtoError) where
-  module _ (place : ℕ) (kept : State) (room : KeepsRoom old (Ok place) kept) where
-    limit : kept.limit ≡ old.limit
-    limit = ap (λ (a : State). a.limit) room.1
-
-    limited : IsLimited kept
-    limited = record { within = omega (arith, room.2, limit); small = omega (arith, limit, small) }
-
-    header_failed : {queries : ℕ} {sixth : State} (answers authorities total : Written) → queries < 2 ^ 16 → Headed m s place queries answers authorities total sixth (Err e) new → e ≡ refusals.Memory
-    header_failed answers authorities total few run =
-        elim (failed e run) [
-          | inl test ↦ absurd (omega (arith, test.0.0, few))
-          | inr b ↦ absurd (let is = b.rest.0 in cc)
-        ]
-
-    extras_failed : {queries : ℕ} {fourth : State} (answers authorities additionals : Written) (before : ℕ) → queries < 2 ^ 16 → Took kept fourth (before + additionals.count)
-        → Extended m s place queries answers authorities additionals fourth (Err e) new → e ≡ refusals.Memory
-    extras_failed {fourth = fourth} answers authorities additionals before few took run =
-        elim (failed e run) [
-          | inl memory ↦ memory
-          | inr opt ↦ elim (failed e opt.rest) [
-            | inl test ↦ absurd (omega (arith, took_few limited (took_front took opt.ran), test.0.0))
-            | inr sum ↦ elim (failed e sum.rest) [
-              | inl memory ↦ memory
-              | inr signed ↦
-                  let one = took_front took (subst (λ b. WritesRecords s.edns fourth b opt.value.count opt.value.is_cut) (sym sum.ran.1) opt.ran) in
-                  elim (failed e signed.rest) [
-                    | inl test ↦ absurd (omega (arith, took_few limited (took_front one signed.ran), test.0.0, ap (λ w. w.count) sum.ran.0.1))
-                    | inr total ↦ header_failed answers authorities total.value few total.rest
-                  ]
-            ]
-          ]
-        ]
-
-    sections_failed : {queries : ℕ} {first : State} → queries < 2 ^ 16 → Took kept first 0 → Sectioned m s place queries first (Err e) new → e ≡ refusals.Memory
-    sections_failed {first = first} few took run =
-        elim (failed e run) [
-          | inl part ↦ slice_failed kept limited e s.answers first new 0 took part
-          | inr answers ↦
-              let one = took_front took (records_front s.answers first answers.between answers.value answers.ran) in
-              elim (failed e answers.rest) [
-                | inl part ↦ slice_failed kept limited e s.authorities answers.between new _ one part
-                | inr authorities ↦
-                    let two = took_front one (records_front s.authorities answers.between authorities.between authorities.value authorities.ran) in
-                    elim (failed e authorities.rest) [
-                      | inl part ↦ slice_failed kept limited e s.additionals authorities.between new _ two part
-                      | inr additionals ↦
-                          let three = took_front two (records_front s.additionals authorities.between additionals.between additionals.value additionals.ran) in
-                          extras_failed answers.value authorities.value additionals.value (0 + answers.value.count + authorities.value.count) few three additionals.rest
-                    ]
-              ]
-        ]
-
-    queries_next : Asked m s place kept (Err e) new → Left m old new e
-    queries_next run =
-        elim (failed e run) [
-          | inl queries ↦ queries_failed m s are old new place kept room e queries
-          | inr b ↦ inl (asked_next b.value b.between (Emits-slice QueryWord plain_query query_owner query_written s.queries.before s.queries.rest kept b.between b.value b.ran) b.rest)
-        ]
-      where
-        asked_next : (queries : ℕ) (first : State) → EachWritten QueryWord plain_query query_owner
-            s.queries.before.rest.now kept first × (queries ≡ length s.queries.before.rest.now) ×
-            (first ≡ after (in_turn query_written s.queries.before.rest.now) kept)
-            → Sectioned m s place queries first (Err e) new → e ≡ refusals.Memory
-        asked_next queries first asked rest =
-            let few = queries_few s.queries.before.rest.now kept first limited asked.0 asked.2 in
-            sections_failed (omega (arith, asked.1, few)) (took_queries s.queries.before.rest.now kept first asked.0) rest
-
-  pub composed_failed : Composed m s old (Err e) new → Left m old new e
-  composed_failed run = elim (failed e run) [ inl room ↦ room_failed m old new e room | inr b ↦ queries_next b.value b.between b.ran b.rest ]
+  -- after the questions nothing but memory is refused
+  pub composed_failed : Composition emits_records emits_records emits_records a a' n n' d d' m.metadata emits_queries q q' edns signature old (Err e) new → Left m old new e
+  composed_failed run =
+      fails e run (room_failed m old new e) (λ place k room after_room.
+      fails e after_room (queries_failed m q q' are.queries old new place k room e) (λ count first asked after_asked.
+      let same : k.limit ≡ old.limit = ap (λ (t : State). t.limit) room.1 in
+      let limited : IsLimited k = record { within = omega (arith, room.2, same); small = omega (arith, same, small) } in
+      let all = Emits-slice QueryWord plain_query query_owner query_written q q' k first count asked in
+      let few = queries_few q.rest.now k first limited all.0 all.2 in
+      let none = took_queries q.rest.now k first all.0 in
+      inl (fails e after_asked (slice_failed limited e none) (λ answers b ran_answers after_answers.
+      let one = took_front none (records_front ran_answers) in
+      fails e after_answers (slice_failed limited e one) (λ authorities c ran_authorities after_authorities.
+      let two = took_front one (records_front ran_authorities) in
+      fails e after_authorities (slice_failed limited e two) (λ additionals d ran_additionals after_additionals.
+      let three = took_front two (records_front ran_additionals) in
+      fails e after_additionals (λ memory. memory) (λ opt f ran_opt after_opt.
+      let four = took_front three ran_opt in
+      fails e after_opt (λ test. absurd (omega (arith, took_few limited four, test.0.0))) (λ sum t ran_sum after_sum.
+      fails e after_sum (λ memory. memory) (λ signed g ran_signed after_signed.
+      let five = took_front four (subst (λ u. WritesRecords signature u g signed.count signed.is_cut) ran_sum.1 ran_signed) in
+      fails e after_signed (λ test. absurd (omega (arith, took_few limited five, test.0.0, ap (λ w. w.count) ran_sum.0.1))) (λ total u ran_total after_total.
+      fails e after_total (λ test. absurd (omega (arith, test.0.0, few, all.1))) (λ header v ran_header filled. absurd (let is = filled.0 in cc))))))))))))
 
 -- ---- what follows of the limit
 

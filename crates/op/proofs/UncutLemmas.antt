@@ -21,20 +21,16 @@ use Rattle.op.proofs.ReadFits.{Found, back_all, found, listed_map}
 
 -- ---- numbers of bytes
 
-number_small : (bs : List ℕ) → length bs ≡ 4 → All (λ b. b < 256) bs → from_be_bytes w32 bs < 2 ^ 32
-number_small bs four small =
-    let first : slice_index bs 0 < 256 = small 0 0 (omega (arith, four)) in
-    let second : slice_index bs 1 < 256 = small 1 0 (omega (arith, four)) in
-    let third : slice_index bs 2 < 256 = small 2 0 (omega (arith, four)) in
-    let fourth : slice_index bs 3 < 256 = small 3 0 (omega (arith, four)) in
-    omega (arith, first, second, third, fourth)
-
 ttl_small : (B : List ℕ) (i n : ℕ) → All (λ b. b < 256) B → IsNumberAt w32 B i n → n / 16777216 < 256
 ttl_small B i n small w =
     let bs = take 4 (drop i B) in
     let four : length (take 4 (drop i B)) ≡ 4 = omega (arith, length-take 4 (drop i B), length-drop i B, w.inside) in
     let all : All (λ b. b < 256) (take 4 (drop i B)) = All-take (λ b. b < 256) 4 (drop i B) (All-drop (λ b. b < 256) i B small) in
-    omega (arith, w.is, number_small (take 4 (drop i B)) four all)
+    let first : slice_index bs 0 < 256 = all 0 0 (omega (arith, four)) in
+    let second : slice_index bs 1 < 256 = all 1 0 (omega (arith, four)) in
+    let third : slice_index bs 2 < 256 = all 2 0 (omega (arith, four)) in
+    let fourth : slice_index bs 3 < 256 = all 3 0 (omega (arith, four)) in
+    omega (arith, w.is, first, second, third, fourth)
 
 -- ---- fronts of which nothing is lost
 
@@ -49,38 +45,22 @@ listed_same (Some x) (Some y) is = cc
 
 -- ---- codes
 
--- a code with the bits of EDNS above four
-code_high : (high low : ℕ) → high < 256 → low < 16 → code_number (code_value (high * 16 + low % 16)) / 16 % 256 ≡ high
-code_high high low small narrow = omega (arith, number_kept (high * 16 + low % 16))
-
-code_whole : (high low : ℕ) → high < 256 → code_value (code_number (code_value (high * 16 + low % 16)) % 4096) ≡ code_value (high * 16 + low % 16)
-code_whole high low small =
-    let n : code_number (code_value (high * 16 + low % 16)) % 4096 ≡ high * 16 + low % 16 = omega (arith, number_kept (high * 16 + low % 16)) in
-    ap code_value n
-
-code_four : (low : ℕ) → low < 16 → code_value (code_number (code_value low) % 16) ≡ code_value low
-code_four low small =
-    let n : code_number (code_value low) % 16 ≡ low = omega (arith, number_kept low) in
-    ap code_value n
-
 -- what the code and EDNS of a message that was read have in common
 record IsMerged (edns : Option Edns) (code : ResponseCode) : Type 0 where
   raised : option_map (with_high_bits code) edns ≡ edns
   kept : code_value (code_number code % code_range edns) ≡ code
 
-abbrev high_code_of : ℕ → ℕ → ResponseCode
-high_code_of h n = code_value (h * 16 + n % 16 % 16)
-
 merged : (edns : Option Edns) (m : Metadata) (low : ℕ) → low < 16 → m.response_code ≡ code_value low → All (λ e. e.rcode_high < 256) (as_list edns) → IsMerged edns (high_code edns m).response_code
-merged None m low small is high = subst (IsMerged None) (sym is) (record { raised = refl; kept = code_four low small })
+merged None m low small is high =
+    let four : code_number (code_value low) % 16 ≡ low = omega (arith, number_kept low) in
+    subst (IsMerged None) (sym is) (record { raised = refl; kept = ap code_value four })
 merged (Some e) m low small is high =
     let narrow : e.rcode_high < 256 = high 0 e (omega arith) in
-    let four : code_number m.response_code ≡ low = ap code_number is ∙ number_kept low in
-    let same : high_code_of e.rcode_high (code_number m.response_code) ≡ high_code_of e.rcode_high low = ap (high_code_of e.rcode_high) four in
-    subst (IsMerged (Some e)) (sym same) (record {
-      raised = ap (λ (h : ℕ). Some (record e { rcode_high = h })) (code_high e.rcode_high (low % 16) narrow (omega arith));
-      kept = code_whole e.rcode_high (low % 16) narrow;
-    })
+    let code = e.rcode_high * 16 + low % 16 % 16 in
+    let same : (high_code (Some e) m).response_code ≡ code_value code = ap (λ n. code_value (e.rcode_high * 16 + n % 16 % 16)) (ap code_number is ∙ number_kept low) in
+    let above : code_number (code_value code) / 16 % 256 ≡ e.rcode_high = omega (arith, number_kept code) in
+    let whole : code_number (code_value code) % 4096 ≡ code = omega (arith, number_kept code) in
+    subst (IsMerged (Some e)) (sym same) (record { raised = ap (λ (h : ℕ). Some (record e { rcode_high = h })) above; kept = ap code_value whole })
 
 -- ---- any message
 

@@ -1,9 +1,7 @@
 -- What is known of what is written of a question.
 use Rattle.std.proofs.Common.{◌≡◌, ℕ, ◌+◌, ◌^◌, ◌<◌, List, refl, subst, arith}
 use Rattle.std.specs.Int.{w16, to_be_bytes}
-use Rattle.base.specs.DNSClass.{class_field, class_number}
 use Rattle.base.specs.Labels.{AreNameLabels}
-use Rattle.base.specs.RecordType.{type_number}
 use Rattle.base.specs.Says.{Says}
 use Rattle.base.specs.SaysName.{Says-name}
 use Rattle.base.specs.SaysParts.{Says-both, Says-number, Says-weaker}
@@ -18,20 +16,15 @@ QueryKept q = let raw = raw_query q in AreNameLabels raw.labels
     × ((raw.type < 2 ^ 16) × (raw.class < 2 ^ 16))
 
 -- name, type and class one after another are the fields of a question
-question_word : {type field : ℕ} (q : Query) → type ≡ type_number q.query_type
-    → field ≡ class_field q.mdns_unicast_response (class_number q.query_class)
-    → (B : List ℕ) (i e : ℕ)
-    → Then (NameAt q.name.labels) (Then (Number w16 type) (Number w16 field)) B i e
+question_word : (q : Query) (B : List ℕ) (i e : ℕ) → let raw = raw_query q
+    in Then (NameAt raw.labels) (Then (Number w16 raw.type) (Number w16 raw.class)) B i e
     → QueryWord q B i e
-question_word q type_is is B i e h = record {
-  owner_end = h.0;
-  owner = h.1;
-  type_stands = subst (IsNumberAt w16 B h.0) type_is h.2.1.0;
-  class_stands =
-      subst (λ k.
-      IsNumberAt w16 B k (class_field q.mdns_unicast_response (class_number q.query_class))) h.2.1.1
-      (subst (λ n. IsNumberAt w16 B h.2.0 n) is h.2.2.0);
-  end = omega (arith, h.2.1.1, h.2.2.1);
+question_word q B i e (m, owner, (n, (type, after_type), (class, after_class))) = record {
+  owner_end = m;
+  owner = owner;
+  type_stands = type;
+  class_stands = subst (λ k. IsNumberAt w16 B k (raw_query q).class) after_type class;
+  end = omega arith;
 }
 
 -- where what is written of a question stands, the question stands
@@ -41,6 +34,6 @@ query_says q =
     let raw = raw_query q in
     let type = just (to_be_bytes w16 raw.type) in
     let class = just (to_be_bytes w16 raw.class) in
-    Says-weaker (query_written q) (QueryKept q) (λ ok. ok) (λ ok. question_word q refl refl)
+    Says-weaker (query_written q) (QueryKept q) (λ ok. ok) (λ ok. question_word q)
     (omega arith) (Says-both (name raw.labels) (both type class) (Says-name raw.labels)
     (Says-both type class (Says-number raw.type) (Says-number raw.class)))

@@ -162,6 +162,7 @@ impl BinEncodable for Query {
     /// # Errors
     ///
     /// `MaxBufferSizeExceeded` where a byte would pass the limit; `Memory` if memory runs out.
+    #[tactic(auto, using(base::proofs::LawLemmas::writing))]
     fn emit(&self, encoder: &mut BinEncoder<'_>) -> Result<(), ProtoError> {
         self.name.emit(encoder)?;
         let class = self.query_class.to_field(self.mdns_unicast_response);

@@ -103,6 +103,7 @@ impl BinEncodable for MX {
     /// # Errors
     ///
     /// `MaxBufferSizeExceeded` where a byte would pass the limit; `Memory` if memory runs out.
+    #[tactic(auto, using(base::proofs::LawLemmas::writing))]
     fn emit(&self, encoder: &mut BinEncoder<'_>) -> Result<(), ProtoError> {
         encoder.emit_u16(self.preference)?;
         self.exchange.emit(encoder)

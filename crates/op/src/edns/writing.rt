@@ -95,6 +95,7 @@ impl<'a> BinEncodable for RaisedEdns<'a> {
 }
 
 /// Writes the OPT record of EDNS with these high bits of the response code.
+#[tactic(auto, using(base::proofs::LawLemmas::writing))]
 fn emit_raised(edns: &Edns, rcode_high: u8, encoder: &mut BinEncoder<'_>) -> Result<(), ProtoError>
     // Whatever the answer, what stood before stays, and no byte is written past the limit.
     ensures keeps { Keeps (state_of encoder.old) (state_of encoder.new) }

@@ -96,6 +96,7 @@ impl BinEncodable for EdnsOption {
     /// # Errors
     ///
     /// `MaxBufferSizeExceeded` where a byte would pass the limit; `Memory` if memory runs out.
+    #[tactic(auto, using(base::proofs::LawLemmas::writing))]
     fn emit(&self, encoder: &mut BinEncoder<'_>) -> Result<(), ProtoError> {
         let bytes = self.bytes();
         let [code_high, code_low] = self.code().to_be_bytes();

@@ -1,7 +1,6 @@
 use Rattle.std.proofs.Common.{◌+◌, ◌*◌, ◌∙◌, Err, ap, sym}
 use Rattle.base.specs.DNSClass.{class_number}
 use Rattle.std.proofs.lemmas.Result.{err_from_is_err_and, on_ok_weaker}
-use Rattle.base.proofs.LawLemmas.{Keeps-then}
 use Rattle.op.specs.declared.edns.Edns.{Edns}
 use Rattle.base.proofs.WrittenLemmas.{Exactly-first, Exactly-from, Exactly-then}
 use Rattle.base.specs.Wire.{state_of}
@@ -10,9 +9,6 @@ use Rattle.base_data.specs.OPT.{option_written}
 use Rattle.op.specs.EdnsRecord.{edns_written}
 use Rattle.op.proofs.EdnsLemmas.{edns_after, edns_kept, front_bytes}
 use Rattle.op.proofs.edns.writing.emit_raised.Goals as goal
-
-pub returns-clause-keeps : goal.returns-clause-keeps
-returns-clause-keeps c = Keeps-then c.emit_front.ensures.keeps c.emit_sized.ensures.keeps
 
 pub returns-clause-fits : goal.returns-clause-fits
 returns-clause-fits c =

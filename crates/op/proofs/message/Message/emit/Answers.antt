@@ -4,7 +4,7 @@ use Rattle.base.specs.Wire.{state_of}
 use Rattle.base.specs.declared.error.proto_error.ProtoError.TheVariants as refusals
 use Rattle.op.proofs.AnswerLemmas.{emitted_answers, only_memory, refusal_answers}
 use Rattle.op.proofs.CutOf.{written_of}
-use Rattle.op.proofs.EmittedLemmas.{AreOf, Slices, emitted_of, raised_edns, slices, unboxed}
+use Rattle.op.proofs.EmittedLemmas.{AreOf, emitted_of, raised_edns, unboxed}
 use Rattle.op.proofs.MessageWrittenLemmas.{emitted_exact}
 use Rattle.op.proofs.SucceedsLemmas.{composed_failed}
 use Rattle.op.specs.Emitted.{Emitted, Leaves}
@@ -14,15 +14,9 @@ use Rattle.op.specs.MessageWritten.{message_answer_at}
 use Rattle.op.proofs.message.Message.emit.Goals.{After-emit_message_parts, After-from_residual, In_ok-emit_message_parts}
 use Rattle.op.proofs.message.Message.emit.Goals as goal
 
--- the parts that were written
-abbrev parts : After-emit_message_parts → Slices
-parts c =
-    let new = c.emit_message_parts.new in
-    let edns = opt_records c.args.self.now.metadata.response_code (option_copied c.as_ref.result) in
-    slices c.iter.result new.queries c.iter-2.result new.answers c.iter-3.result new.authorities c.iter-4.result new.additionals edns (signature_records (option_copied c.as_deref.result))
-
--- and they are those of the message
-are_of : (c : After-emit_message_parts) → AreOf (message_value c.args.self.now) (parts c)
+-- the parts that were written are those of the message
+are_of : (c : After-emit_message_parts) → AreOf (message_value c.args.self.now) c.iter.result c.iter-2.result c.iter-3.result c.iter-4.result
+    (opt_records c.args.self.now.metadata.response_code (option_copied c.as_ref.result)) (signature_records (option_copied c.as_deref.result))
 are_of c = record {
   queries = c.iter.ensures.rest ∙ c.deref.ensures.value;
   answers = c.iter-2.ensures.rest ∙ c.deref-2.ensures.value;
@@ -34,10 +28,7 @@ are_of c = record {
 
 -- the message was written
 written : (c : In_ok-emit_message_parts) → Emitted (message_value c.args.self.now) (state_of c.args.encoder.now) (state_of c.emit_message_parts.new.encoder) c.in_ok-emit_message_parts.field-0
-written c =
-    let d = (goal.at.In_ok-emit_message_parts c).After-emit_message_parts in
-    emitted_of (message_value c.args.self.now) (parts d) (are_of d) (state_of c.args.encoder.now) (state_of c.emit_message_parts.new.encoder)
-    c.in_ok-emit_message_parts.field-0 c.in_ok-emit_message_parts.ensures.run
+written c = emitted_of (are_of (goal.at.In_ok-emit_message_parts c).After-emit_message_parts) c.in_ok-emit_message_parts.ensures.run
 
 pub returns-clause-emitted : goal.returns-clause-emitted
 returns-clause-emitted c = (c.in_ok-emit_message_parts.field-0, written c)
@@ -62,8 +53,8 @@ refused c =
     let old = state_of c.args.encoder.now in
     let new = state_of c.emit_message_parts.new.encoder in
     let e = c.in_err-emit_message_parts.field-0.0 in
-    let d = (goal.at.After-from_residual c).After-emit_message_parts in
-    refusal_answers m old new e (composed_failed m (parts d) (are_of d) old new c.emit_message_parts.ensures.narrow e c.in_err-emit_message_parts.ensures.run)
+    let are = are_of (goal.at.After-from_residual c).After-emit_message_parts in
+    refusal_answers m old new e (composed_failed are old new c.emit_message_parts.ensures.narrow e c.in_err-emit_message_parts.ensures.run)
 
 pub returns-in_err-emit_message_parts-clause-refused : goal.returns-in_err-emit_message_parts-clause-refused
 returns-in_err-emit_message_parts-clause-refused c =

@@ -1,6 +1,5 @@
 use Rattle.std.proofs.Common.{ℕ, Result, refl, ap, ◌∙◌, Err, Ok, replicate, rules}
 use Rattle.std.specs.Option.{option_copied}
-use Rattle.std.proofs.lemmas.Result.{err_from_is_err_and}
 use Rattle.base.proofs.LawLemmas.{Keeps-same, Keeps-appended, Keeps-then}
 use Rattle.base.specs.Laws.{Keeps}
 use Rattle.base.specs.State.{State, overwritten}
@@ -14,17 +13,8 @@ use Rattle.op.specs.Fits.{opt_records, signature_records}
 use Rattle.op.specs.Header.{header_bytes, raw_header}
 use Rattle.op.specs.declared.header.Header.{Header}
 use Rattle.op.specs.declared.message.writing.Written.{Written}
-use Rattle.op.proofs.message.writing.emit_message_parts.Goals.{In_ok-additionals, In_ok-opt, In_ok-query_count, In_ok-signed}
+use Rattle.op.proofs.message.writing.emit_message_parts.Goals.{In_ok-additionals, In_ok-opt, In_ok-place, In_ok-signed}
 use Rattle.op.proofs.message.writing.emit_message_parts.Goals as goal
-
--- what stood before the questions stays
-begun : (g : _) (c : In_ok-query_count g) → Keeps (state_of c.args.encoder.now) (state_of c.emit.new.encoder)
-begun g c = Keeps-then (Keeps-appended (replicate 12 0) (state_of c.args.encoder.now) (state_of c.place.new.self) c.in_ok-place.ensures.ok.0 c.in_ok-place.ensures.within) c.emit.ensures.keeps
-
--- and before the records of EDNS and the signature
-sections_keep : (g : _) (c : In_ok-additionals g) → Keeps (state_of c.args.encoder.now) (state_of c.emit_part-3.new.encoder)
-sections_keep g c =
-    Keeps-then (begun g (goal.at.In_ok-additionals g c).In_ok-query_count) (Keeps-then c.emit_part.ensures.keeps (Keeps-then c.emit_part-2.ensures.keeps c.emit_part-3.ensures.keeps))
 
 -- the OPT record was written
 opt_of : (g : _) (c : In_ok-opt g) → WritesRecordItems (opt_records c.args.metadata.now.response_code (option_copied c.args.edns))
@@ -41,143 +31,121 @@ signed_of : (g : _) (c : In_ok-signed g) → WritesRecordItems (signature_record
     c.emit_item-2.new.encoder)
 signed_of g c = signature_items (option_copied c.args.signature) (state_of c.emit_item.new.encoder) (state_of c.emit_item-2.new.encoder) (Ok c.in_ok-signed.signed) c.in_ok-signed.ensures.run
 
+-- nothing was written
+same : (s : State) → Keeps s s
+same s = Keeps-same s s refl
+
+-- room for the header was kept
+placed : (g : _) (c : In_ok-place g) → Keeps (state_of c.args.encoder.now) (state_of c.place.new.self)
+placed g c = Keeps-appended (replicate 12 0) (state_of c.args.encoder.now) (state_of c.place.new.self) c.in_ok-place.ensures.ok.0 c.in_ok-place.ensures.within
+
 -- the sections were written: what comes after them ends the whole
-after_sections : (g : _) (c : In_ok-additionals g) {i j k l m : Type 0} {next : ℕ → ℕ → Written → Written → Written → State → Result Header ProtoError → State → Type 0} {result : Result Header ProtoError} {z : State}
-    → next c.in_ok-place.place c.in_ok-query_count.query_count c.in_ok-answers.answers c.in_ok-authorities.authorities c.in_ok-additionals.additionals (state_of c.emit_part-3.new.encoder) result z
-    → AndThen KeepsRoom i (λ place. AndThen (λ s answer t. g.Q.EmitAndCount.emits c.args.queries.now s answer c.emit.new.self t) j (λ queries.
+after_sections : (g : _) (c : In_ok-additionals g) {i j k l m : Type 0} {next : ℕ → ℕ → Written → Written → Written → State → Result Header ProtoError → State → Type 0} {result : Result Header ProtoError} {y z : State}
+    → Keeps (state_of c.emit_part-3.new.encoder) y × next c.in_ok-place.place c.in_ok-query_count.query_count c.in_ok-answers.answers c.in_ok-authorities.authorities c.in_ok-additionals.additionals (state_of c.emit_part-3.new.encoder) result z
+    → Keeps (state_of c.args.encoder.now) y × AndThen KeepsRoom i (λ place. AndThen (λ s answer t. g.Q.EmitAndCount.emits c.args.queries.now s answer c.emit.new.self t) j (λ queries.
     AndThen (EmitsPart g.A.EmitAndCount.emits c.args.answers.now c.emit_part.new.part) k (λ answers. AndThen (EmitsPart g.N.EmitAndCount.emits c.args.authorities.now c.emit_part-2.new.part) l (λ authorities.
     AndThen (EmitsPart g.D.EmitAndCount.emits c.args.additionals.now c.emit_part-3.new.part) m (next place queries answers authorities))))) (state_of c.args.encoder.now) result z
 after_sections g c rest =
-    goes c.in_ok-place.place (state_of c.place.new.self) (c.in_ok-place.ensures.ok.1, c.in_ok-place.ensures.ok.0, c.in_ok-place.ensures.within)
-    (goes c.in_ok-query_count.query_count (state_of c.emit.new.encoder) c.in_ok-query_count.ensures.emits
-    (goes c.in_ok-answers.answers (state_of c.emit_part.new.encoder) c.in_ok-answers.ensures.run
-    (goes c.in_ok-authorities.authorities (state_of c.emit_part-2.new.encoder) c.in_ok-authorities.ensures.run
-    (goes c.in_ok-additionals.additionals (state_of c.emit_part-3.new.encoder) c.in_ok-additionals.ensures.run rest))))
+    goes c.in_ok-place.place (state_of c.place.new.self) (placed g (goal.at.In_ok-additionals g c).In_ok-place) (c.in_ok-place.ensures.ok.1, c.in_ok-place.ensures.ok.0, c.in_ok-place.ensures.within)
+    (goes c.in_ok-query_count.query_count (state_of c.emit.new.encoder) c.emit.ensures.keeps c.in_ok-query_count.ensures.emits
+    (goes c.in_ok-answers.answers (state_of c.emit_part.new.encoder) c.emit_part.ensures.keeps c.in_ok-answers.ensures.run
+    (goes c.in_ok-authorities.authorities (state_of c.emit_part-2.new.encoder) c.emit_part-2.ensures.keeps c.in_ok-authorities.ensures.run
+    (goes c.in_ok-additionals.additionals (state_of c.emit_part-3.new.encoder) c.emit_part-3.ensures.keeps c.in_ok-additionals.ensures.run rest))))
 
-pub returns-in_err-place-clause-run : goal.returns-in_err-place-clause-run
-returns-in_err-place-clause-run g c =
-    let is = err_from_is_err_and c.from_residual.result c.from_residual.ensures.1 in
-    stops c.in_err-place.field-0.0 (c.in_err-place.ensures.err, c.in_err-place.ensures.refuses) (is.1 ∙ ap (λ e. Err e) is.2) (refl, refl, refl, refl)
+pub returns-in_err-place : goal.returns-in_err-place
+returns-in_err-place g c =
+    let run = stops c.in_err-place.field-0.0 (Keeps-same _ _ c.in_err-place.ensures.err) (c.in_err-place.ensures.err, c.in_err-place.ensures.refuses) c.from_residual.ensures.1 (refl, refl, refl, refl) in
+    record { keeps = run.0; run = run.1; narrow = search rules }
 
-pub returns-in_err-query_count-clause-run : goal.returns-in_err-query_count-clause-run
-returns-in_err-query_count-clause-run g c =
-    let is = err_from_is_err_and c.from_residual-in_err-query_count.result c.from_residual-in_err-query_count.ensures.1 in
-    goes c.in_ok-place.place (state_of c.place.new.self) (c.in_ok-place.ensures.ok.1, c.in_ok-place.ensures.ok.0, c.in_ok-place.ensures.within)
-    (stops c.in_err-query_count.field-0.0 c.in_err-query_count.ensures.emits (is.1 ∙ ap (λ e. Err e) is.2) (refl, refl, refl))
+pub returns-in_err-query_count : goal.returns-in_err-query_count
+returns-in_err-query_count g c =
+    let d = goal.at.returns-in_err-query_count g c in
+    let run = goes c.in_ok-place.place (state_of c.place.new.self) (placed g d.In_ok-place) (c.in_ok-place.ensures.ok.1, c.in_ok-place.ensures.ok.0, c.in_ok-place.ensures.within)
+    (stops c.in_err-query_count.field-0.0 c.emit.ensures.keeps c.in_err-query_count.ensures.emits c.from_residual-in_err-query_count.ensures.1 (refl, refl, refl)) in
+    record { keeps = run.0; run = run.1; narrow = search rules }
 
-pub returns-in_err-answers-clause-run : goal.returns-in_err-answers-clause-run
-returns-in_err-answers-clause-run g c =
-    let is = err_from_is_err_and c.from_residual-in_err-answers.result c.from_residual-in_err-answers.ensures.1 in
-    goes c.in_ok-place.place (state_of c.place.new.self) (c.in_ok-place.ensures.ok.1, c.in_ok-place.ensures.ok.0, c.in_ok-place.ensures.within)
-    (goes c.in_ok-query_count.query_count (state_of c.emit.new.encoder) c.in_ok-query_count.ensures.emits
-    (stops c.in_err-answers.field-0.0 c.in_err-answers.ensures.run (is.1 ∙ ap (λ e. Err e) is.2) (refl, refl)))
+pub returns-in_err-answers : goal.returns-in_err-answers
+returns-in_err-answers g c =
+    let d = goal.at.returns-in_err-answers g c in
+    let run = goes c.in_ok-place.place (state_of c.place.new.self) (placed g d.In_ok-place) (c.in_ok-place.ensures.ok.1, c.in_ok-place.ensures.ok.0, c.in_ok-place.ensures.within)
+    (goes c.in_ok-query_count.query_count (state_of c.emit.new.encoder) c.emit.ensures.keeps c.in_ok-query_count.ensures.emits
+    (stops c.in_err-answers.field-0.0 c.emit_part.ensures.keeps c.in_err-answers.ensures.run c.from_residual-in_err-answers.ensures.1 (refl, refl))) in
+    record { keeps = run.0; run = run.1; narrow = search rules }
 
-pub returns-in_err-authorities-clause-run : goal.returns-in_err-authorities-clause-run
-returns-in_err-authorities-clause-run g c =
-    let is = err_from_is_err_and c.from_residual-in_err-authorities.result c.from_residual-in_err-authorities.ensures.1 in
-    goes c.in_ok-place.place (state_of c.place.new.self) (c.in_ok-place.ensures.ok.1, c.in_ok-place.ensures.ok.0, c.in_ok-place.ensures.within)
-    (goes c.in_ok-query_count.query_count (state_of c.emit.new.encoder) c.in_ok-query_count.ensures.emits
-    (goes c.in_ok-answers.answers (state_of c.emit_part.new.encoder) c.in_ok-answers.ensures.run
-    (stops c.in_err-authorities.field-0.0 c.in_err-authorities.ensures.run (is.1 ∙ ap (λ e. Err e) is.2) refl)))
+pub returns-in_err-authorities : goal.returns-in_err-authorities
+returns-in_err-authorities g c =
+    let d = goal.at.returns-in_err-authorities g c in
+    let run = goes c.in_ok-place.place (state_of c.place.new.self) (placed g d.In_ok-place) (c.in_ok-place.ensures.ok.1, c.in_ok-place.ensures.ok.0, c.in_ok-place.ensures.within)
+    (goes c.in_ok-query_count.query_count (state_of c.emit.new.encoder) c.emit.ensures.keeps c.in_ok-query_count.ensures.emits
+    (goes c.in_ok-answers.answers (state_of c.emit_part.new.encoder) c.emit_part.ensures.keeps c.in_ok-answers.ensures.run
+    (stops c.in_err-authorities.field-0.0 c.emit_part-2.ensures.keeps c.in_err-authorities.ensures.run c.from_residual-in_err-authorities.ensures.1 refl))) in
+    record { keeps = run.0; run = run.1; narrow = search rules }
 
-pub returns-in_err-additionals-clause-run : goal.returns-in_err-additionals-clause-run
-returns-in_err-additionals-clause-run g c =
-    let is = err_from_is_err_and c.from_residual-in_err-additionals.result c.from_residual-in_err-additionals.ensures.1 in
-    goes c.in_ok-place.place (state_of c.place.new.self) (c.in_ok-place.ensures.ok.1, c.in_ok-place.ensures.ok.0, c.in_ok-place.ensures.within)
-    (goes c.in_ok-query_count.query_count (state_of c.emit.new.encoder) c.in_ok-query_count.ensures.emits
-    (goes c.in_ok-answers.answers (state_of c.emit_part.new.encoder) c.in_ok-answers.ensures.run
-    (goes c.in_ok-authorities.authorities (state_of c.emit_part-2.new.encoder) c.in_ok-authorities.ensures.run
-    (stops c.in_err-additionals.field-0.0 c.in_err-additionals.ensures.run (is.1 ∙ ap (λ e. Err e) is.2) tt))))
+pub returns-in_err-additionals : goal.returns-in_err-additionals
+returns-in_err-additionals g c =
+    let d = goal.at.returns-in_err-additionals g c in
+    let run = goes c.in_ok-place.place (state_of c.place.new.self) (placed g d.In_ok-place) (c.in_ok-place.ensures.ok.1, c.in_ok-place.ensures.ok.0, c.in_ok-place.ensures.within)
+    (goes c.in_ok-query_count.query_count (state_of c.emit.new.encoder) c.emit.ensures.keeps c.in_ok-query_count.ensures.emits
+    (goes c.in_ok-answers.answers (state_of c.emit_part.new.encoder) c.emit_part.ensures.keeps c.in_ok-answers.ensures.run
+    (goes c.in_ok-authorities.authorities (state_of c.emit_part-2.new.encoder) c.emit_part-2.ensures.keeps c.in_ok-authorities.ensures.run
+    (stops c.in_err-additionals.field-0.0 c.emit_part-3.ensures.keeps c.in_err-additionals.ensures.run c.from_residual-in_err-additionals.ensures.1 tt)))) in
+    record { keeps = run.0; run = run.1; narrow = search rules }
 
-pub returns-in_err-opt-clause-run : goal.returns-in_err-opt-clause-run
-returns-in_err-opt-clause-run g c =
-    let is = err_from_is_err_and c.from_residual-in_err-opt.result c.from_residual-in_err-opt.ensures.1 in
-    after_sections g (goal.at.returns-in_err-opt-clause-run g c).In_ok-additionals
-    (stops c.in_err-opt.field-0.0 c.in_err-opt.ensures.run (is.1 ∙ ap (λ e. Err e) is.2) tt)
+pub returns-in_err-opt : goal.returns-in_err-opt
+returns-in_err-opt g c =
+    let d = goal.at.returns-in_err-opt g c in
+    let run = after_sections g d.In_ok-additionals
+    (stops c.in_err-opt.field-0.0 c.emit_item.ensures.keeps c.in_err-opt.ensures.run c.from_residual-in_err-opt.ensures.1 tt) in
+    record { keeps = run.0; run = run.1; narrow = search rules }
 
-pub returns-in_err-sum-clause-run : goal.returns-in_err-sum-clause-run
-returns-in_err-sum-clause-run g c =
-    let is = err_from_is_err_and c.from_residual-in_err-sum.result c.from_residual-in_err-sum.ensures.1 in
-    after_sections g (goal.at.returns-in_err-sum-clause-run g c).In_ok-additionals
-    (goes c.in_ok-opt.opt (state_of c.emit_item.new.encoder) (opt_of g (goal.at.returns-in_err-sum-clause-run g c).In_ok-opt)
-    (stops c.in_err-sum.field-0.0 (c.in_err-sum.ensures, refl) (is.1 ∙ ap (λ e. Err e) is.2) tt))
+pub returns-in_err-sum : goal.returns-in_err-sum
+returns-in_err-sum g c =
+    let d = goal.at.returns-in_err-sum g c in
+    let run = after_sections g d.In_ok-additionals
+    (goes c.in_ok-opt.opt (state_of c.emit_item.new.encoder) c.emit_item.ensures.keeps (opt_of g d.In_ok-opt)
+    (stops c.in_err-sum.field-0.0 (same _) (c.in_err-sum.ensures, refl) c.from_residual-in_err-sum.ensures.1 tt)) in
+    record { keeps = run.0; run = run.1; narrow = search rules }
 
-pub returns-in_err-signed-clause-run : goal.returns-in_err-signed-clause-run
-returns-in_err-signed-clause-run g c =
-    let is = err_from_is_err_and c.from_residual-in_err-signed.result c.from_residual-in_err-signed.ensures.1 in
-    after_sections g (goal.at.returns-in_err-signed-clause-run g c).In_ok-additionals
-    (goes c.in_ok-opt.opt (state_of c.emit_item.new.encoder) (opt_of g (goal.at.returns-in_err-signed-clause-run g c).In_ok-opt)
-    (goes c.in_ok-sum.sum (state_of c.emit_item.new.encoder) (c.in_ok-sum.ensures, refl)
-    (stops c.in_err-signed.field-0.0 c.in_err-signed.ensures.run (is.1 ∙ ap (λ e. Err e) is.2) tt)))
+pub returns-in_err-signed : goal.returns-in_err-signed
+returns-in_err-signed g c =
+    let d = goal.at.returns-in_err-signed g c in
+    let run = after_sections g d.In_ok-additionals
+    (goes c.in_ok-opt.opt (state_of c.emit_item.new.encoder) c.emit_item.ensures.keeps (opt_of g d.In_ok-opt)
+    (goes c.in_ok-sum.sum (state_of c.emit_item.new.encoder) (same _) (c.in_ok-sum.ensures, refl)
+    (stops c.in_err-signed.field-0.0 c.emit_item-2.ensures.keeps c.in_err-signed.ensures.run c.from_residual-in_err-signed.ensures.1 tt))) in
+    record { keeps = run.0; run = run.1; narrow = search rules }
 
-pub returns-in_err-total-clause-run : goal.returns-in_err-total-clause-run
-returns-in_err-total-clause-run g c =
-    let is = err_from_is_err_and c.from_residual-in_err-total.result c.from_residual-in_err-total.ensures.1 in
-    after_sections g (goal.at.returns-in_err-total-clause-run g c).In_ok-additionals
-    (goes c.in_ok-opt.opt (state_of c.emit_item.new.encoder) (opt_of g (goal.at.returns-in_err-total-clause-run g c).In_ok-opt)
-    (goes c.in_ok-sum.sum (state_of c.emit_item.new.encoder) (c.in_ok-sum.ensures, refl)
-    (goes c.in_ok-signed.signed (state_of c.emit_item-2.new.encoder) (signed_of g (goal.at.returns-in_err-total-clause-run g c).In_ok-signed)
-    (stops c.in_err-total.field-0.0 (c.in_err-total.ensures, refl) (is.1 ∙ ap (λ e. Err e) is.2) tt))))
+pub returns-in_err-total : goal.returns-in_err-total
+returns-in_err-total g c =
+    let d = goal.at.returns-in_err-total g c in
+    let run = after_sections g d.In_ok-additionals
+    (goes c.in_ok-opt.opt (state_of c.emit_item.new.encoder) c.emit_item.ensures.keeps (opt_of g d.In_ok-opt)
+    (goes c.in_ok-sum.sum (state_of c.emit_item.new.encoder) (same _) (c.in_ok-sum.ensures, refl)
+    (goes c.in_ok-signed.signed (state_of c.emit_item-2.new.encoder) c.emit_item-2.ensures.keeps (signed_of g d.In_ok-signed)
+    (stops c.in_err-total.field-0.0 (same _) (c.in_err-total.ensures, refl) c.from_residual-in_err-total.ensures.1 tt)))) in
+    record { keeps = run.0; run = run.1; narrow = search rules }
 
-pub returns-in_err-header-clause-run : goal.returns-in_err-header-clause-run
-returns-in_err-header-clause-run g c =
-    let is = err_from_is_err_and c.from_residual-in_err-header.result c.from_residual-in_err-header.ensures.1 in
-    after_sections g (goal.at.returns-in_err-header-clause-run g c).In_ok-additionals
-    (goes c.in_ok-opt.opt (state_of c.emit_item.new.encoder) (opt_of g (goal.at.returns-in_err-header-clause-run g c).In_ok-opt)
-    (goes c.in_ok-sum.sum (state_of c.emit_item.new.encoder) (c.in_ok-sum.ensures, refl)
-    (goes c.in_ok-signed.signed (state_of c.emit_item-2.new.encoder) (signed_of g (goal.at.returns-in_err-header-clause-run g c).In_ok-signed)
-    (goes c.in_ok-total.total (state_of c.emit_item-2.new.encoder) (c.in_ok-total.ensures, refl)
-    (stops c.in_err-header.field-0.0 (c.in_err-header.ensures, refl) (is.1 ∙ ap (λ e. Err e) is.2) tt)))))
+pub returns-in_err-header : goal.returns-in_err-header
+returns-in_err-header g c =
+    let d = goal.at.returns-in_err-header g c in
+    let run = after_sections g d.In_ok-additionals
+    (goes c.in_ok-opt.opt (state_of c.emit_item.new.encoder) c.emit_item.ensures.keeps (opt_of g d.In_ok-opt)
+    (goes c.in_ok-sum.sum (state_of c.emit_item.new.encoder) (same _) (c.in_ok-sum.ensures, refl)
+    (goes c.in_ok-signed.signed (state_of c.emit_item-2.new.encoder) c.emit_item-2.ensures.keeps (signed_of g d.In_ok-signed)
+    (goes c.in_ok-total.total (state_of c.emit_item-2.new.encoder) (same _) (c.in_ok-total.ensures, refl)
+    (stops c.in_err-header.field-0.0 (same _) (c.in_err-header.ensures, refl) c.from_residual-in_err-header.ensures.1 tt))))) in
+    record { keeps = run.0; run = run.1; narrow = search rules }
 
 pub returns-clause-run : goal.returns-clause-run
 returns-clause-run g c =
-    after_sections g (goal.at.returns-clause-run g c).In_ok-additionals
-    (goes c.in_ok-opt.opt (state_of c.emit_item.new.encoder) (opt_of g (goal.at.returns-clause-run g c).In_ok-opt)
-    (goes c.in_ok-sum.sum (state_of c.emit_item.new.encoder) (c.in_ok-sum.ensures, refl)
-    (goes c.in_ok-signed.signed (state_of c.emit_item-2.new.encoder) (signed_of g (goal.at.returns-clause-run g c).In_ok-signed)
-    (goes c.in_ok-total.total (state_of c.emit_item-2.new.encoder) (c.in_ok-total.ensures, refl)
-    (goes c.in_ok-header.header (state_of c.emit_item-2.new.encoder) (c.in_ok-header.ensures, refl)
-    (refl, c.replace.ensures.state))))))
-
-pub returns-in_err-place-clause-keeps : goal.returns-in_err-place-clause-keeps
-returns-in_err-place-clause-keeps g c = Keeps-same (state_of c.args.encoder.now) (state_of c.place.new.self) c.in_err-place.ensures.err
-
-pub returns-in_err-query_count-clause-keeps : goal.returns-in_err-query_count-clause-keeps
-returns-in_err-query_count-clause-keeps g c = Keeps-then (Keeps-appended (replicate 12 0) (state_of
-    c.args.encoder.now) (state_of c.place.new.self) c.in_ok-place.ensures.ok.0
-    c.in_ok-place.ensures.within) c.emit.ensures.keeps
-
-pub returns-in_err-answers-clause-keeps : goal.returns-in_err-answers-clause-keeps
-returns-in_err-answers-clause-keeps g c =
-    Keeps-then (begun g (goal.at.returns-in_err-answers-clause-keeps g c).In_ok-query_count) c.emit_part.ensures.keeps
-
-pub returns-in_err-authorities-clause-keeps : goal.returns-in_err-authorities-clause-keeps
-returns-in_err-authorities-clause-keeps g c =
-    Keeps-then (begun g (goal.at.returns-in_err-authorities-clause-keeps g c).In_ok-query_count) (Keeps-then c.emit_part.ensures.keeps c.emit_part-2.ensures.keeps)
-
-pub returns-in_err-additionals-clause-keeps : goal.returns-in_err-additionals-clause-keeps
-returns-in_err-additionals-clause-keeps g c =
-    Keeps-then (begun g (goal.at.returns-in_err-additionals-clause-keeps g c).In_ok-query_count) (Keeps-then c.emit_part.ensures.keeps (Keeps-then c.emit_part-2.ensures.keeps c.emit_part-3.ensures.keeps))
-
-pub returns-in_err-opt-clause-keeps : goal.returns-in_err-opt-clause-keeps
-returns-in_err-opt-clause-keeps g c =
-    Keeps-then (sections_keep g (goal.at.returns-in_err-opt-clause-keeps g c).In_ok-additionals) c.emit_item.ensures.keeps
-
-pub returns-in_err-sum-clause-keeps : goal.returns-in_err-sum-clause-keeps
-returns-in_err-sum-clause-keeps g c =
-    Keeps-then (sections_keep g (goal.at.returns-in_err-sum-clause-keeps g c).In_ok-additionals) c.emit_item.ensures.keeps
-
-pub returns-in_err-signed-clause-keeps : goal.returns-in_err-signed-clause-keeps
-returns-in_err-signed-clause-keeps g c =
-    Keeps-then (sections_keep g (goal.at.returns-in_err-signed-clause-keeps g c).In_ok-additionals) (Keeps-then c.emit_item.ensures.keeps c.emit_item-2.ensures.keeps)
-
-pub returns-in_err-total-clause-keeps : goal.returns-in_err-total-clause-keeps
-returns-in_err-total-clause-keeps g c =
-    Keeps-then (sections_keep g (goal.at.returns-in_err-total-clause-keeps g c).In_ok-additionals) (Keeps-then c.emit_item.ensures.keeps c.emit_item-2.ensures.keeps)
-
-pub returns-in_err-header-clause-keeps : goal.returns-in_err-header-clause-keeps
-returns-in_err-header-clause-keeps g c =
-    Keeps-then (sections_keep g (goal.at.returns-in_err-header-clause-keeps g c).In_ok-additionals) (Keeps-then c.emit_item.ensures.keeps c.emit_item-2.ensures.keeps)
+    let d = goal.at.returns-clause-run g c in
+    (after_sections g d.In_ok-additionals
+    (goes c.in_ok-opt.opt (state_of c.emit_item.new.encoder) c.emit_item.ensures.keeps (opt_of g d.In_ok-opt)
+    (goes c.in_ok-sum.sum (state_of c.emit_item.new.encoder) (same _) (c.in_ok-sum.ensures, refl)
+    (goes c.in_ok-signed.signed (state_of c.emit_item-2.new.encoder) c.emit_item-2.ensures.keeps (signed_of g d.In_ok-signed)
+    (goes c.in_ok-total.total (state_of c.emit_item-2.new.encoder) (same _) (c.in_ok-total.ensures, refl)
+    (goes c.in_ok-header.header (state_of c.emit_item-2.new.encoder) (same _) (c.in_ok-header.ensures, refl)
+    (same _, (refl, c.replace.ensures.state)))))))).1
 
 pub returns-clause-keeps : goal.returns-clause-keeps
 returns-clause-keeps g c =

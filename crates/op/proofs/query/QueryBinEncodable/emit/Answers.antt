@@ -3,16 +3,12 @@ use Rattle.std.specs.Int.{w16, to_be_bytes}
 use Rattle.std.proofs.lemmas.Result.{err_from_is_err_and}
 use Rattle.std.specs.Prelude.{OnOk}
 use Rattle.base.specs.declared.error.proto_error.ProtoError.{ProtoError}
-use Rattle.base.proofs.LawLemmas.{Keeps-then}
 use Rattle.base.proofs.WrittenLemmas.{Exactly-first, Exactly-same, Exactly-then}
 use Rattle.base.specs.DNSClass.{class_field, class_number}
 use Rattle.base.specs.RecordType.{type_number}
 use Rattle.base.specs.Wire.{state_of}
 use Rattle.base.specs.Written.{just, name}
 use Rattle.op.proofs.query.QueryBinEncodable.emit.Goals as goal
-
-pub returns-clause-keeps : goal.returns-clause-keeps
-returns-clause-keeps c = Keeps-then c.emit.ensures.keeps c.emit_fields.ensures.keeps
 
 on_ok_always : {X P : Type 0} (r : Result X ProtoError) → P → OnOk r P
 on_ok_always (Ok x) p = p

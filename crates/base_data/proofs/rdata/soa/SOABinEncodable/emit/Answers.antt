@@ -1,17 +1,10 @@
 use Rattle.std.proofs.Common.{Err, ap}
 use Rattle.std.proofs.lemmas.Result.{err_from_is_err_and}
-use Rattle.base.proofs.LawLemmas.{Keeps-then}
 use Rattle.base.proofs.WrittenLemmas.{Exactly-first, Exactly-same, Exactly-then}
 use Rattle.base.specs.Wire.{state_of}
 use Rattle.base.specs.Written.{both, just, name}
 use Rattle.base_data.specs.SOA.{soa_numbers}
 use Rattle.base_data.proofs.rdata.soa.SOABinEncodable.emit.Goals as goal
-
-pub returns-in_err-emit-2-clause-keeps : goal.returns-in_err-emit-2-clause-keeps
-returns-in_err-emit-2-clause-keeps c = Keeps-then c.emit.ensures.keeps c.emit-2.ensures.keeps
-
-pub returns-clause-keeps : goal.returns-clause-keeps
-returns-clause-keeps c = Keeps-then c.emit.ensures.keeps (Keeps-then c.emit-2.ensures.keeps c.emit_slice.ensures.keeps)
 
 pub returns-in_err-emit-clause-exact : goal.returns-in_err-emit-clause-exact
 returns-in_err-emit-clause-exact c =

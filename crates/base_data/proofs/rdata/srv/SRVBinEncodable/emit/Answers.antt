@@ -1,14 +1,10 @@
 use Rattle.std.proofs.Common.{◌∙◌, Err, ap}
 use Rattle.std.proofs.lemmas.Result.{err_from_is_err_and}
-use Rattle.base.proofs.LawLemmas.{Keeps-then}
 use Rattle.base.proofs.WrittenLemmas.{Exactly-first, Exactly-same, Exactly-then}
 use Rattle.base.specs.Wire.{state_of}
 use Rattle.base.specs.Written.{after, just, plain_name}
 use Rattle.base_data.specs.SRV.{srv_numbers}
 use Rattle.base_data.proofs.rdata.srv.SRVBinEncodable.emit.Goals as goal
-
-pub returns-clause-keeps : goal.returns-clause-keeps
-returns-clause-keeps c = Keeps-then c.emit_slice.ensures.keeps c.emit_plain.ensures.keeps
 
 pub returns-in_err-emit_slice-clause-exact : goal.returns-in_err-emit_slice-clause-exact
 returns-in_err-emit_slice-clause-exact c =

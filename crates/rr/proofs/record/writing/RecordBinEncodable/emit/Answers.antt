@@ -1,6 +1,5 @@
 use Rattle.std.proofs.Common.{ℕ, ◌≡◌, ◌∙◌, Err, ap, subst, sym}
 use Rattle.std.proofs.lemmas.Result.{err_from_is_err_and, on_ok_weaker}
-use Rattle.base.proofs.LawLemmas.{Keeps-then}
 use Rattle.base.specs.DNSClass.{class_field, class_number}
 use Rattle.base.specs.RecordType.{type_number}
 use Rattle.base.specs.Wire.{state_of}
@@ -10,15 +9,6 @@ use Rattle.base.proofs.WrittenLemmas.{Exactly-first, Exactly-same, Exactly-then}
 use Rattle.rr.specs.Record.{fields_of}
 use Rattle.rr.specs.RecordSays.{FieldsFit}
 use Rattle.rr.proofs.record.writing.RecordBinEncodable.emit.Goals as goal
-
-pub returns-in_err-emit-clause-keeps : goal.returns-in_err-emit-clause-keeps
-returns-in_err-emit-clause-keeps g c = c.emit.ensures.keeps
-
-pub returns-in_err-emit_fields-clause-keeps : goal.returns-in_err-emit_fields-clause-keeps
-returns-in_err-emit_fields-clause-keeps g c = Keeps-then c.emit.ensures.keeps c.emit_fields.ensures.keeps
-
-pub returns-clause-keeps : goal.returns-clause-keeps
-returns-clause-keeps g c = Keeps-then c.emit.ensures.keeps (Keeps-then c.emit_fields.ensures.keeps c.emit_sized.ensures.keeps)
 
 pub returns-in_err-emit-clause-fits : goal.returns-in_err-emit-clause-fits
 returns-in_err-emit-clause-fits g c = let p = err_from_is_err_and c.from_residual.result c.from_residual.ensures.1 in rw p.1 tt
