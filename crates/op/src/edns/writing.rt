@@ -108,8 +108,7 @@ fn emit_raised(edns: &Edns, rcode_high: u8, encoder: &mut BinEncoder<'_>) -> Res
 {
     let payload = u16::from(DNSClass::for_opt(edns.max_payload));
     let ttl = ttl_of(rcode_high, edns.version, u16::from(edns.flags));
-    emit_front(payload, ttl, encoder)?;
-    emit_sized(&edns.options, encoder)
+    emit_sized(&front(payload, ttl), &edns.options, encoder)
 }
 
 /// The high code, the version and the flags, from the highest byte on.
@@ -119,22 +118,17 @@ fn ttl_of(rcode_high: u8, version: u8, flags: u16) -> u32
     0x100_0000 * u32::from(rcode_high) + (0x1_0000 * u32::from(version) + u32::from(flags))
 }
 
-/// Writes the name of the root, the type, the payload size and a TTL, the highest byte of each first. They are written
-/// at once, since that is faster.
-fn emit_front(payload: u16, ttl: u32, encoder: &mut BinEncoder<'_>) -> Result<(), ProtoError>
-    // Whatever the answer, what stood before stays, and no byte is written past the limit.
-    ensures keeps { Keeps (state_of encoder.old) (state_of encoder.new) }
+/// The name of the root, the type, the payload size and a TTL, the highest byte of each first, and room for RDLENGTH.
+fn front(payload: u16, ttl: u32) -> [u8; 11]
+    ensures bytes { result
+        ≡ 0 ∷ (fields_of (type_number RecordType.OPT) payload ttl ++ 0 ∷ 0 ∷ []) }
     // The payload size is below 2^16, and the TTL is below 2^32.
     ensures fits { (payload < 2 ^ 16) × (ttl < 2 ^ 32) }
-    // After `Ok` exactly these nine bytes were written; refused for the limit only where they would
-    // pass it.
-    ensures exact { Exactly (just (0 ∷ fields_of (type_number RecordType.OPT) payload ttl))
-        (state_of encoder.old) (state_of encoder.new) result }
 {
     let [type_high, type_low] = u16::from(RecordType::OPT).to_be_bytes();
     let [payload_high, payload_low] = payload.to_be_bytes();
     let [highest, high, low, lowest] = ttl.to_be_bytes();
-    encoder.emit_slice(&[
+    [
         0,
         type_high,
         type_low,
@@ -144,5 +138,7 @@ fn emit_front(payload: u16, ttl: u32, encoder: &mut BinEncoder<'_>) -> Result<()
         high,
         low,
         lowest,
-    ])
+        0,
+        0,
+    ]
 }

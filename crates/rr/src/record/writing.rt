@@ -1,8 +1,6 @@
 //! Writes records.
 
-ghost use Rattle.base.specs.Laws.{Keeps};
-ghost use Rattle.base.specs.Wire.{state_of};
-ghost use Rattle.base.specs.Written.{Exactly, just};
+ghost use Rattle.std.specs.Prelude.{◌≡◌, [], ◌∷◌, ◌++◌};
 ghost use Rattle.rr.specs.Record.{RecordWord, fields_of, plain_record, record_written, with_data};
 ghost use Rattle.rr.specs.RecordSays.{FieldsFit, RecordKept, any_says, record_says};
 
@@ -35,31 +33,21 @@ impl<R: RecordData> BinEncodable for Record<R> {
     fn emit(&self, encoder: &mut BinEncoder<'_>) -> Result<(), ProtoError> {
         self.name.emit(encoder)?;
         let class = self.dns_class.to_field(self.mdns_cache_flush);
-        emit_fields(u16::from(self.record_type()), class, self.ttl, encoder)?;
-        emit_sized(&self.rdata, encoder)
+        let fields = fields(u16::from(self.record_type()), class, self.ttl);
+        emit_sized(&fields, &self.rdata, encoder)
     }
 }
 
-/// Writes type, class and TTL, the highest byte of each first. They are written at once, since that is faster.
-fn emit_fields(
-    record_type: u16,
-    class: u16,
-    ttl: u32,
-    encoder: &mut BinEncoder<'_>,
-) -> Result<(), ProtoError>
-    // Whatever the answer, what stood before stays, and no byte is written past the limit.
-    ensures keeps { Keeps (state_of encoder.old) (state_of encoder.new) }
+/// Type, class and TTL, the highest byte of each first, and room for RDLENGTH.
+fn fields(record_type: u16, class: u16, ttl: u32) -> [u8; 10]
+    ensures bytes { result ≡ fields_of record_type class ttl ++ 0 ∷ 0 ∷ [] }
     // Type and class are below 2^16, and the TTL is below 2^32.
     ensures fits { FieldsFit record_type class ttl }
-    // After `Ok` exactly these eight bytes were written; refused for the limit only where they
-    // would pass it.
-    ensures exact { Exactly (just (fields_of record_type class ttl))
-        (state_of encoder.old) (state_of encoder.new) result }
 {
     let [type_high, type_low] = record_type.to_be_bytes();
     let [class_high, class_low] = class.to_be_bytes();
     let [highest, high, low, lowest] = ttl.to_be_bytes();
-    encoder.emit_slice(&[
-        type_high, type_low, class_high, class_low, highest, high, low, lowest,
-    ])
+    [
+        type_high, type_low, class_high, class_low, highest, high, low, lowest, 0, 0,
+    ]
 }

@@ -1,6 +1,6 @@
 //! Appends bytes.
 
-ghost use Rattle.std.specs.Prelude.{◌≡◌, ◌+◌, ◌<◌, Err, length, OnErr};
+ghost use Rattle.std.specs.Prelude.{◌≡◌, ◌+◌, ◌^◌, ◌<◌, Err, length, OnErr};
 ghost use Rattle.base.specs.AppendError.{refusal, told};
 ghost use Rattle.base.specs.Laws.{Keeps};
 ghost use Rattle.base.specs.Wire.{state_of};
@@ -58,6 +58,8 @@ impl<'a> BinEncoder<'a> {
         ensures full { (state_of self.old).limit
             < length (state_of self.old).bytes + length bytes.now
             → result ≡ Err reasons.NoRoom }
+        // The limit is at most 65,535 bytes.
+        ensures narrow { (state_of self.old).limit < 2 ^ 16 }
     {
         let limit = usize::from(self.limit);
         if limit < self.buffer.len() || limit - self.buffer.len() < bytes.len() {
