@@ -284,6 +284,7 @@ impl BinEncodable for RData {
     /// # Errors
     ///
     /// `MaxBufferSizeExceeded` where a byte would pass the limit; `Memory` if memory runs out.
+    #[tactic(auto, using(base::proofs::LawLemmas::writing))]
     fn emit(&self, encoder: &mut BinEncoder<'_>) -> Result<(), ProtoError> {
         match self {
             RData::A(rdata) => rdata.emit(encoder),

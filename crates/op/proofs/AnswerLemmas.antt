@@ -3,7 +3,7 @@ use Rattle.std.proofs.Common.{◌≡◌, ◌⊎◌, ℕ, ◌+◌, ◌-◌, ◌�
 use Rattle.std.specs.Prelude.{drop, if◌then◌else◌, replicate}
 use Rattle.std.proofs.lemmas.Bool.{le-ltb, lt-ltb}
 use Rattle.std.proofs.Math.Seq.{drop-append_seam}
-use Rattle.base.specs.State.{State, Stored, appended}
+use Rattle.base.specs.State.{State, appended}
 use Rattle.base.specs.declared.error.proto_error.ProtoError.{ProtoError}
 use Rattle.base.specs.declared.error.proto_error.ProtoError.TheVariants as refusals
 use Rattle.base.specs.Written.{after}
@@ -18,7 +18,7 @@ use Rattle.op.proofs.SucceedsLemmas.{has_no_room}
 use Rattle.op.proofs.MessageWrittenLemmas.{emitted_exact, part_stands, queries}
 
 -- the answer by the two tests
-abbrev answer_by : List ℕ → Bool → Bool → ℕ → Result (List ℕ) ProtoError
+abbrev pub answer_by : List ℕ → Bool → Bool → ℕ → Result (List ℕ) ProtoError
 answer_by written small cut count =
     if small then Err refusals.MaxBufferSizeExceeded
     else (if cut then Err (refusals.NotAllRecordsWritten count) else Ok written)
@@ -43,9 +43,7 @@ module _ (m : MessageValue) (old : State) where
       let room : length old.bytes + 12 ≤ old.limit = omega (arith, e.room, ap (λ (s : State). length s.bytes) e.place, begins) in
       let bytes : drop (length old.bytes) new.bytes ≡ written =
       ap (λ (s : State). drop (length old.bytes) s.bytes) (emitted_exact m old new h e) ∙ drop-append_seam old.bytes written in
-      ap (λ (small : Bool). answer_by written small asked.is_cut (length asked.kept)) (le-ltb old.limit (length old.bytes + 12) room)
-      ∙ ap (λ (cut : Bool). answer_by written false cut (length asked.kept)) (sym (queries m old new h e).tells)
-      ∙ ap Ok (sym bytes)
+      (λ i. answer_by written (le-ltb old.limit (length old.bytes + 12) room i) (sym (queries m old new h e).tells i) (length asked.kept)) ∙ ap Ok (sym bytes)
 
   -- so is a refusal but for memory
   left_answers : (new : State) (f : ProtoError) → Leaves m old f new → answer ≡ Err f
@@ -56,9 +54,7 @@ module _ (m : MessageValue) (old : State) where
       let front : WritesFront QueryWord plain_query query_owner query_written m.queries kept new count true = left.1 in
       let room : length kept.bytes ≤ old.limit = omega (arith, left.0, begins) in
       let stands = part_stands front old.limit refl room (length old.bytes + 12) old.suffixes (sym begins) refl in
-      ap (λ (small : Bool). answer_by written small asked.is_cut (length asked.kept)) (le-ltb old.limit (length old.bytes + 12) (omega (arith, left.0)))
-      ∙ ap (λ (b : Bool). answer_by written false b (length asked.kept)) (sym stands.tells)
-      ∙ ap (λ (n : ℕ). answer_by written false true n) (sym stands.counted)
+      λ i. answer_by written (le-ltb old.limit (length old.bytes + 12) left.0 i) (sym stands.tells i) (sym stands.counted i)
   left_answers new other left = absurd left
 
   pub refusal_answers : (new : State) (f : ProtoError) → (f ≡ refusals.Memory) ⊎ Leaves m old f new

@@ -1,13 +1,12 @@
 -- What writing a message leaves is a cut of it, which is read as it stands.
-use Rattle.std.proofs.Common.{◌≡◌, ℕ, ◌+◌, ◌/◌, ◌%◌, ◌<◌, ◌≤◌, Bool, List, [], ◌∷◌, ◌++◌, length, take, drop, refl, ap, sym, ◌∙◌, subst, arith, length-append, length-drop, Option}
+use Rattle.std.proofs.Common.{◌≡◌, ℕ, ◌+◌, ◌/◌, ◌%◌, Bool, List, [], ◌∷◌, ◌++◌, length, take, drop, refl, ap, sym, ◌∙◌, subst, arith, length-append, length-drop, Option}
 use Rattle.std.specs.Prelude.{All, map, replicate, ◌||◌}
 use Rattle.std.specs.Option.{option_map}
 use Rattle.std.proofs.Math.Path.{transport}
 use Rattle.std.proofs.Math.Seq.{take-length}
 use Rattle.std.proofs.lemmas.List.Elements.{All-nil, All-same}
 use Rattle.base.specs.Laws.{Holds, IsSpelled, Keeps}
-use Rattle.base.specs.State.{State, Stored}
-use Rattle.base.specs.Words.{Stands}
+use Rattle.base.specs.State.{State}
 use Rattle.base.specs.WordLemmas.{first_stands}
 use Rattle.base.proofs.LawLemmas.{Keeps-then}
 use Rattle.base_data.specs.declared.rdata.RData.{RData}
@@ -21,11 +20,10 @@ use Rattle.op.specs.Header.{HeaderWord, header_bytes, header_value, metadata_val
 use Rattle.op.specs.Message.{IsMessageAt, MessageValue, high_code, message_of}
 use Rattle.op.specs.OpCode.{op_number, op_value}
 use Rattle.op.specs.ResponseCode.{code_number, code_value}
-use Rattle.op.specs.Section.{HasNeededData, IsPlain, section_of}
+use Rattle.op.specs.Section.{HasNeededData, IsPlain}
 use Rattle.op.specs.declared.edns.Edns.{Edns}
 use Rattle.op.specs.declared.header.Header.{Header}
 use Rattle.op.specs.declared.header.metadata.Metadata.{Metadata}
-use Rattle.op.specs.declared.op_code.OpCode.{OpCode}
 use Rattle.op.proofs.CodeLemmas.{high_back, metadata_back}
 use Rattle.op.proofs.CutWords.{AreFit, Composed, all_front, composed, header_len, keeps_questions, records_keep, stands_after}
 use Rattle.op.proofs.FrontLemmas.{any_map}

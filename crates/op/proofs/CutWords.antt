@@ -1,5 +1,5 @@
 -- The words of a message that was written, in the bytes that stand at the end.
-use Rattle.std.proofs.Common.{Bool, ◌≡◌, ℕ, List, [], ◌∷◌, ◌++◌, length, take, refl, ap, sym, ◌∙◌, subst, append_assoc}
+use Rattle.std.proofs.Common.{Bool, ◌≡◌, ℕ, List, ◌++◌, length, take, refl, ap, sym, ◌∙◌, subst}
 use Rattle.std.specs.Prelude.{All}
 use Rattle.std.proofs.Math.Seq.{drop-append_seam, take-append_seam, take-length}
 use Rattle.std.proofs.lemmas.List.Elements.{All-take}

@@ -30,18 +30,10 @@ use Rattle.base.proofs.WrittenLemmas.{after-none, in_turn-map}
 -- the one item came, or is still to come
 once_yields : {A : Type 0} (s t : Once A) (x : A) (xs : List A) → once_item s ≡ Some x → Yields once_steps s xs t → ((xs ≡ []) × (once_item t ≡ Some x)) ⊎ ((xs ≡ x ∷ []) × (once_item t ≡ None))
 once_yields s t x [] item yields = inl (refl, ap (λ u. once_item u) (sym yields) ∙ item)
-once_yields s t x (y ∷ ys) item (u, step, yields) =
-    let none : once_item u ≡ None = step.1 in
-    let same : y ≡ x = some_same (step.0 ∙ item) in
-    let rest = none_yields u t ys none yields in
-    inr (ap (λ z. z ∷ ys) same ∙ ap (λ zs. x ∷ zs) rest.0, rest.1)
-  where
-    some_same : {B : Type 0} {p q : B} → ◌≡◌ {A = Option B} (Some p) (Some q) → p ≡ q
-    some_same is = cc
-
-    none_yields : {B : Type 0} (v w : Once B) (zs : List B) → once_item v ≡ None → Yields once_steps v zs w → (zs ≡ []) × (once_item w ≡ None)
-    none_yields v w [] none same = (refl, ap (λ z. once_item z) (sym same) ∙ none)
-    none_yields v w (z ∷ zs) none (m, step, others) = let is = step.0 in cc
+once_yields s t x (y ∷ []) item (u, step, yields) =
+    let same : y ≡ x = let first = step.0 in cc in
+    inr (ap (λ z. z ∷ []) same, ap (λ v. once_item v) (sym yields) ∙ step.1)
+once_yields s t x (y ∷ (z ∷ ys)) item (u, step, (v, next, others)) = absurd (let none = step.1 in let some = next.0 in cc)
 
 module _ {E : Type 0} (word : E → List ℕ → ℕ → ℕ → Type 0) (plain : E → ℕ) (owner : E → List (List ℕ)) (f : E → Writing) where
   -- all items were written

@@ -52,22 +52,26 @@ no_front : (front ls : List (List ℕ)) → front ++ ls ≡ [] → ls ≡ []
 no_front [] ls is = is
 no_front (x ∷ front) ls is = cc
 
--- one that is spelled where it was written
-owned_one : {word : List ℕ → ℕ → ℕ → Type 0} {plain : ℕ} {a b : State} {B : List ℕ} (owner : List (List ℕ)) (end : ℕ) → Writes word plain owner a b → Holds a b B
-    → Spelled B owner (length a.bytes) (length a.bytes) end → AreOwned (record { start = length a.bytes; labels = owner; end = end } ∷ []) a b
-owned_one {a = a} {b} {B} owner end writes holds spelled =
-    let o : OwnerAt = record { start = length a.bytes; labels = owner; end = end } in
-    let short = λ (earlier : OwnerAt) (known : IsKnown a earlier).
-        let points : PointsToEarlier earlier o = λ some early front same.
-            let owned : owner ≢ [] = λ empty. some (no_front front earlier.labels (sym same ∙ empty)) in
-            let stored = any_weaker (λ t. t.labels ≡ earlier.labels) (λ t. owner ≡ front ++ t.labels) a.suffixes (λ t is. same ∙ ap (λ (ls : List (List ℕ)). front ++ ls) (sym is)) (known some early) in
-            omega (arith, writes.compresses.short owned front stored, (spelled_once (writes.compresses.spelled owned B holds) spelled).1) in
-        points in
-    record {
-      short = (All-nil (PointsToEarlier o), tt);
-      after_known = λ earlier known. All-cons (PointsToEarlier earlier) o [] (short earlier known) (All-nil (PointsToEarlier earlier));
-      known = All-cons (IsKnown b) o [] writes.compresses.stored (All-nil (IsKnown b));
-    }
+-- an owner that was written after a state
+abbrev written_at : State → List (List ℕ) → ℕ → OwnerAt
+written_at a owner end = record { start = length a.bytes; labels = owner; end = end }
+
+module _ {word : List ℕ → ℕ → ℕ → Type 0} {plain : ℕ} {a b : State} {B : List ℕ} (owner : List (List ℕ)) (end : ℕ) (writes : Writes word plain owner a b) (holds : Holds a b B)
+    (spelled : Spelled B owner (length a.bytes) (length a.bytes) end) where
+  -- it is short after one that is known
+  one_short : (earlier : OwnerAt) → IsKnown a earlier → PointsToEarlier earlier (written_at a owner end)
+  one_short earlier known some early front same =
+      let owned : owner ≢ [] = λ empty. some (no_front front earlier.labels (sym same ∙ empty)) in
+      let stored = any_weaker (λ t. t.labels ≡ earlier.labels) (λ t. owner ≡ front ++ t.labels) a.suffixes
+      (λ t is. same ∙ ap (λ (ls : List (List ℕ)). front ++ ls) (sym is)) (known some early) in
+      omega (arith, writes.compresses.short owned front stored, (spelled_once (writes.compresses.spelled owned B holds) spelled).1)
+
+  owned_one : AreOwned (written_at a owner end ∷ []) a b
+  owned_one = record {
+    short = (All-nil (PointsToEarlier (written_at a owner end)), tt);
+    after_known = λ o known. All-cons (PointsToEarlier o) (written_at a owner end) [] (one_short o known) (All-nil (PointsToEarlier o));
+    known = All-cons (IsKnown b) (written_at a owner end) [] writes.compresses.stored (All-nil (IsKnown b));
+  }
 
 module _ {A : Type 0} {Word : ℕ → A → ℕ → Type 0} (owner : A → List (List ℕ)) (end : (i : ℕ) (x : A) (e : ℕ) → Word i x e → ℕ) where
   -- words after words, which have the owners of both

@@ -1,5 +1,5 @@
 -- Why writing a message of slices is refused: the header or the questions have no room.
-use Rattle.std.proofs.Common.{◌≡◌, ◌⊎◌, ℕ, length, inl, inr, refl, ap, sym, ◌∙◌, subst, arith, length-append, Ok, Err, Iter}
+use Rattle.std.proofs.Common.{◌≡◌, ◌⊎◌, ℕ, length, inl, inr, refl, ap, ◌∙◌, subst, arith, length-append, Ok, Err, Iter}
 use Rattle.std.specs.Prelude.{replicate, true}
 use Rattle.base.specs.State.{State}
 use Rattle.base.specs.declared.error.proto_error.ProtoError.{ProtoError}

@@ -1,6 +1,6 @@
 -- A message of slices is refused for memory, or where header or questions have no room, whatever the encoder holds.
-use Rattle.std.proofs.Common.{◌≡◌, ◌⊎◌, ℕ, true, ◌+◌, ◌-◌, ◌<◌, ◌≤◌, ◌^◌, List, [], ◌∷◌, length, inl, inr, ap, sym, ◌∙◌, subst, arith, length-append, Result, Ok, Err, Iter}
-use Rattle.std.specs.Prelude.{⊤, replicate}
+use Rattle.std.proofs.Common.{◌≡◌, ℕ, true, ◌+◌, ◌-◌, ◌<◌, ◌^◌, List, [], ◌∷◌, length, inl, inr, ap, ◌∙◌, subst, arith, length-append, Err, Iter}
+use Rattle.std.specs.Prelude.{replicate}
 use Rattle.base.specs.State.{State, appended}
 use Rattle.base.specs.declared.error.proto_error.ProtoError.{ProtoError}
 use Rattle.base.specs.declared.error.proto_error.ProtoError.TheVariants as refusals

@@ -31,7 +31,7 @@ use Rattle.op.specs.Query.{QueryWord, plain_query, query_written}
 use Rattle.op.specs.QuerySays.{QueryKept, query_says}
 use Rattle.op.specs.declared.header.Header.{Header}
 use Rattle.op.specs.declared.query.Query.{Query}
-use Rattle.op.proofs.AnswerLemmas.{emitted_answers}
+use Rattle.op.proofs.AnswerLemmas.{answer_by, emitted_answers}
 use Rattle.op.proofs.CutOf.{written_of}
 use Rattle.op.proofs.CutWords.{all_front}
 use Rattle.op.proofs.MessageWrittenLemmas.{part_stands}
@@ -104,15 +104,11 @@ module _ {E : Type 0} (f : E → Writing) (kept : E → Type 0) (word : E → Li
         limited = record { within = end; small = limited.small };
       }
 
--- a record stands where what is written of it stands
-says_record : (r : Record RData) → Says (record_written r) (KeptRecord r) (RecordWord r) (plain_record r) r.name.labels
-says_record r = record_says r (data_says r.rdata)
-
 abbrev RecordsFronted : List (Record RData) → State → Type 0
 RecordsFronted = Fronted RecordWord plain_record record_owner record_written
 
 records_front : (rs : List (Record RData)) → All KeptRecord rs → (a : State) → IsLimited a → RecordsFronted rs a
-records_front = front_of record_written KeptRecord RecordWord plain_record record_owner says_record
+records_front = front_of record_written KeptRecord RecordWord plain_record record_owner (λ r. record_says r (data_says r.rdata))
 
 none_lost : (qs kept lost : List Query) → qs ≡ kept ++ lost → any_lost lost ≡ false → kept ≡ qs
 none_lost qs kept [] whole none = sym (append-nil kept) ∙ sym whole
@@ -203,9 +199,7 @@ written_is_cut m limit B fits kept small is = go (nat_lt limit 12) refl (nat_lt 
     fit : List Query
     fit = that_fit query_written limit m.queries 12 []
 
-    go : (low : Bool) → nat_lt limit 12 ≡ low → (cut : Bool) → nat_lt (length fit) (length m.queries) ≡ cut
-        → (if low then Err refusals.MaxBufferSizeExceeded else (if cut then Err (refusals.NotAllRecordsWritten (length fit)) else Ok (message_written limit m 0 []).bytes)) ≡ Ok B
-        → IsWritten m limit B
+    go : (low : Bool) → nat_lt limit 12 ≡ low → (cut : Bool) → nat_lt (length fit) (length m.queries) ≡ cut → answer_by (message_written limit m 0 []).bytes low cut (length fit) ≡ Ok B → IsWritten m limit B
     go true low cut told answer = absurd (let a = answer in cc)
     go false low true told answer = absurd (let a = answer in cc)
     go false low false told answer = is_cut m limit fits kept small (ltb-false limit 12 low) told B is

@@ -1,5 +1,5 @@
 -- What is known of what is written of a question.
-use Rattle.std.proofs.Common.{◌≡◌, ℕ, ◌+◌, ◌^◌, ◌<◌, List, refl, subst, arith}
+use Rattle.std.proofs.Common.{ℕ, ◌^◌, ◌<◌, List, subst, arith}
 use Rattle.std.specs.Int.{w16, to_be_bytes}
 use Rattle.base.specs.Labels.{AreNameLabels}
 use Rattle.base.specs.Says.{Says}

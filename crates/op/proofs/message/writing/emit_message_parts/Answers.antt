@@ -1,4 +1,4 @@
-use Rattle.std.proofs.Common.{ℕ, Result, refl, ap, ◌∙◌, Err, Ok, replicate, rules}
+use Rattle.std.proofs.Common.{ℕ, Result, refl, ap, ◌∙◌, Ok, replicate, rules}
 use Rattle.std.specs.Option.{option_copied}
 use Rattle.base.proofs.LawLemmas.{Keeps-same, Keeps-appended, Keeps-then}
 use Rattle.base.specs.Laws.{Keeps}

@@ -11,9 +11,6 @@ use Rattle.base_data.proofs.rdata.opt.OPTBinEncodable.emit.Goals as goal
 pub loop-option-init : goal.loop-option-init
 loop-option-init c = record { keeps = Keeps-same _ _ refl; fits = All-nil FitsOption; exact = sym (after-none (state_of c.args.encoder.now)) }
 
-pub returns-in_err-emit-clause-keeps : goal.returns-in_err-emit-clause-keeps
-returns-in_err-emit-clause-keeps c = Keeps-then c.loop-option.invariant.keeps c.in_err-emit.ensures.keeps
-
 pub loop-option-preserved : goal.loop-option-preserved
 loop-option-preserved c =
     let same : c.deref-option-items.result.now ≡ c.args.self.now = c.deref-option-items.ensures.value ∙ c.self.view_is in

@@ -10,12 +10,6 @@ use Rattle.rr.specs.Record.{fields_of}
 use Rattle.rr.specs.RecordSays.{FieldsFit}
 use Rattle.rr.proofs.record.writing.RecordBinEncodable.emit.Goals as goal
 
-pub returns-in_err-emit-clause-fits : goal.returns-in_err-emit-clause-fits
-returns-in_err-emit-clause-fits g c = let p = err_from_is_err_and c.from_residual.result c.from_residual.ensures.1 in rw p.1 tt
-
-pub returns-in_err-emit_fields-clause-fits : goal.returns-in_err-emit_fields-clause-fits
-returns-in_err-emit_fields-clause-fits g c = let p = err_from_is_err_and c.from_residual-in_err-emit_fields.result c.from_residual-in_err-emit_fields.ensures.1 in rw p.1 tt
-
 pub returns-clause-fits : goal.returns-clause-fits
 returns-clause-fits g c =
     let r = c.args.self.now in
