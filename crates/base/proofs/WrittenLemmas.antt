@@ -7,9 +7,6 @@ use Rattle.base.specs.declared.error.proto_error.ProtoError.TheVariants as refus
 use Rattle.base.specs.State.{State, Stored, appended, stored}
 use Rattle.base.specs.Written.{Writing, piece_at, after, Exactly, just, both, in_turn, found_in, pointer_or, label_of, name}
 
-abbrev state : ℕ → ℕ → List ℕ → List Stored → State
-state buffer limit bytes suffixes = record { buffer = buffer; bytes = bytes; limit = limit; suffixes = suffixes }
-
 -- what both write, the second writes after the first
 pub after-both : (f g : Writing) (s : State) → after (both f g) s ≡ after g (after f s)
 after-both f g s = simp (length-append, append_assoc)
@@ -46,7 +43,7 @@ Exactly-first X Y e f g a s z is =
 
 -- the same, said in another way
 pub Exactly-same : {X : Type 0} (r : Result X ProtoError) (f g : Writing) (a z : State) → f ≡ g → Exactly f a z r → Exactly g a z r
-Exactly-same r f g a z same is = subst (λ (h : Writing). Exactly h a z r) same is
+Exactly-same r f g a z same is = rw same at is
 
 -- ---- names
 
@@ -76,17 +73,16 @@ module _ {A : Type 0} (f : A → Writing) where
   pub Exactly-in_turn : (xs : List A) (i : ℕ) (x : A) (X Y : Type 0) (e : ProtoError) (a s z : State) → i < length xs → x ≡ get_or xs i x → s ≡ after (in_turn f (take i xs)) a
       → Exactly {X = X} (f x) s z (Err e) → Exactly {X = Y} (in_turn f xs) a z (Err e)
   Exactly-in_turn [] i x X Y e a s z inside at before is = absurd (omega arith)
-  Exactly-in_turn (y ∷ ys) zero x X Y e a s z inside at before is =
-      Exactly-first X Y e (f y) (in_turn f ys) a z z (subst (λ (u : State). Exactly {X = X} (f y) u z (Err e)) (before ∙ after-none a) (subst (λ (w : A). Exactly {X = X} (f w) s z (Err e)) at is))
+  Exactly-in_turn (y ∷ ys) zero x X Y e a s z inside same before is =
+      Exactly-first X Y e (f y) (in_turn f ys) a z z (subst (λ (u : State). Exactly {X = X} (f y) u z (Err e))
+      (before ∙ after-none a) (subst (λ (w : A). Exactly {X = X} (f w) s z (Err e)) same is))
   Exactly-in_turn (y ∷ ys) (suc i) x X Y e a s z inside at before is =
       Exactly-then {X = Y} (Err e) (f y) (in_turn f ys) a (after (f y) a) z refl
       (Exactly-in_turn ys i x X Y e (after (f y) a) s z (omega arith) at (before ∙ after-both (f y) (in_turn f (take i ys)) a) is)
 
   -- one more of these
   pub after-more : (xs : List A) (i : ℕ) (x : A) (s : State) → i < length xs → x ≡ get_or xs i x → after (in_turn f (take (i + 1) xs)) s ≡ after (f x) (after (in_turn f (take i xs)) s)
-  after-more xs i x s inside at =
-      let next : take (i + 1) xs ≡ take i xs ++ x ∷ [] = take_more xs i x inside ∙ ap (λ (y : A). take i xs ++ y ∷ []) (sym at) in
-      ap (λ (ys : List A). after (in_turn f ys) s) next ∙ after-push (take i xs) x s
+  after-more xs i x s inside at = rw (take_more xs i x inside, ← at) (after-push (take i xs) x s)
 
 -- of items that are read of values
 pub in_turn-map : {A E : Type 0} (view : A → E) (f : E → Writing) (xs : List A) → in_turn (λ x. f (view x)) xs ≡ in_turn f (map view xs)

@@ -1,9 +1,8 @@
-use Rattle.std.proofs.Common.{◌≡◌, ℕ, ◌+◌, ◌≤◌, ◌∙◌, List, [], ◌∷◌, ◌++◌, length, length-append, take, refl, Err, Some, None, subst, ap, sym, arith}
+use Rattle.std.proofs.Common.{◌≡◌, ℕ, ◌+◌, ◌∙◌, List, [], ◌∷◌, ◌++◌, length, length-append, take, refl, Err, Some, None, ap, sym, arith}
 use Rattle.std.proofs.lemmas.List.{take_at}
 use Rattle.std.proofs.lemmas.Result.{err_from_is_err_and}
 use Rattle.base.specs.AppendError.{refusal, told}
-use Rattle.base.specs.Labels.{AreLabels, IsWire, labels_of}
-use Rattle.base.specs.Laws.{Keeps}
+use Rattle.base.specs.Labels.{labels_of}
 use Rattle.base.specs.State.{State, appended, stored}
 use Rattle.base.specs.Wire.{state_of}
 use Rattle.base.specs.Written.{after, both, just, label_of, name}
@@ -18,7 +17,7 @@ loop-label-init c =
     let wire = c.as_wire-rest.ensures in
     let a = state_of c.args.encoder.now in
     record {
-      wire = subst IsWire (sym wire.value) (IsWire-wire_of c.args.self.now.labels wire.labels (omega (arith, wire.plain)));
+      wire = rw wire.value (IsWire-wire_of c.args.self.now.labels wire.labels (omega (arith, wire.plain)));
       keeps = Keeps-same a a refl;
       exact = ap (λ labels. after (name labels) a) (sym wire.cut);
     }
@@ -36,22 +35,17 @@ loop-label-preserved c =
     let is = c.in-Some.ensures.labels in
     let slice = label_bytes _ _ _ c.in-Some.ensures.bytes in
     let wrote = c.in_ok-append.ensures.exact ∙ ap (λ bytes. appended bytes s) slice in
-    let st : z ≡ after (label_of x xs) s = c.in_ok-store.ensures.ok ∙ ap (λ labels. stored labels c.len-at.result (state_of c.append-in-Some.new.self)) is
-    ∙ ap (λ at. stored (x ∷ xs) at (state_of c.append-in-Some.new.self)) c.len-at.ensures
-    ∙ ap (λ m. stored (x ∷ xs) (length s.bytes) m) wrote ∙ label-after x xs s in
-    let within : length s.bytes + (1 + length x) ≤ s.limit = omega (arith, c.in_ok-append.ensures.keeps.within, ap (λ (m : State). length m.bytes) wrote, length-append s.bytes (length x ∷ x)) in
+    let st : z ≡ after (label_of x xs) s =
+    c.in_ok-store.ensures.ok ∙ rw (is, c.len-at.ensures)
+    (ap (λ m. stored (x ∷ xs) (length s.bytes) m) wrote ∙ label-after x xs s) in
+    let len = ap (λ (m : State). length m.bytes) wrote ∙ length-append s.bytes (length x ∷ x) in
     record {
       wire = record {
         whole = c.in-Some.ensures.others;
-        labels = (subst AreLabels is
-            c.loop-label.invariant.wire.labels).1;
-        short = omega (
-          arith,
-          c.in-Some.ensures.shorter,
-          c.loop-label.invariant.wire.short,
-        );
+        labels = (rw is at c.loop-label.invariant.wire.labels).1;
+        short = omega (arith, c.in-Some.ensures.shorter, c.loop-label.invariant.wire.short);
       };
-      keeps = Keeps-then c.loop-label.invariant.keeps (Keeps-label x xs s z st within);
+      keeps = Keeps-then c.loop-label.invariant.keeps (Keeps-label x xs s z st (omega (arith, c.in_ok-append.ensures.keeps.within, len)));
       exact = c.loop-label.invariant.exact ∙ name-by _ x xs None s is c.in_default-find.ensures.value
           ∙ after-both (label_of x xs) (name xs) s ∙ ap (after (name xs)) (sym st);
     }
@@ -89,14 +83,11 @@ returns-clause-exact c =
     c.append-2.ensures.exact
 
 pub returns-clause-keeps : goal.returns-clause-keeps
-returns-clause-keeps c =
-    Keeps-then c.loop-label.invariant.keeps c.append-2.ensures.keeps
+returns-clause-keeps c = Keeps-then c.loop-label.invariant.keeps c.append-2.ensures.keeps
 
 pub returns-in-Some-find-clause-keeps : goal.returns-in-Some-find-clause-keeps
-returns-in-Some-find-clause-keeps c =
-    Keeps-then c.loop-label.invariant.keeps c.append.ensures.keeps
+returns-in-Some-find-clause-keeps c = Keeps-then c.loop-label.invariant.keeps c.append.ensures.keeps
 
 pub returns-in_err-store-clause-keeps : goal.returns-in_err-store-clause-keeps
 returns-in_err-store-clause-keeps c =
-    let both = Keeps-then c.loop-label.invariant.keeps c.append-in-Some.ensures.keeps in
-    subst (λ (s : State). Keeps (state_of c.args.encoder.now) s) (sym c.in_err-store.ensures.err) both
+    rw c.in_err-store.ensures.err (Keeps-then c.loop-label.invariant.keeps c.append-in-Some.ensures.keeps)
