@@ -1,10 +1,10 @@
 //! Writes EDNS as an OPT record (RFC 6891, 6.1.2 and 6.1.3).
 
-ghost use Rattle.std.specs.Prelude.{◌≡◌, ◌+◌, ◌*◌, ◌^◌, ◌<◌, ◌∷◌, MatchResult, OnOk};
+ghost use Rattle.std.specs.Prelude.{◌≡◌, ◌+◌, ◌*◌, ◌^◌, ◌<◌, [], ◌∷◌, ◌++◌, MatchResult, OnOk};
 ghost use Rattle.base.specs.Laws.{Keeps};
 ghost use Rattle.base.specs.RecordType.{type_number};
 ghost use Rattle.base.specs.Wire.{state_of};
-ghost use Rattle.base.specs.Written.{Exactly, just};
+ghost use Rattle.base.specs.Written.{Exactly};
 ghost use Rattle.rr.specs.Record.{fields_of};
 ghost use Rattle.base.specs.declared.error.proto_error.ProtoError.TheVariants as refusals;
 ghost use Rattle.op.specs.EdnsRecord.{EdnsWord, edns_record, edns_written, plain_edns};
