@@ -181,9 +181,10 @@ fn emit_fields(query_type: u16, class: u16, encoder: &mut BinEncoder<'_>) -> Res
     ensures exact { Exactly (just (to_be_bytes w16 query_type ++ to_be_bytes w16 class))
         (state_of encoder.old) (state_of encoder.new) result }
 {
-    let [type_high, type_low] = query_type.to_be_bytes();
-    let [class_high, class_low] = class.to_be_bytes();
-    encoder.emit_slice(&[type_high, type_low, class_high, class_low])
+    let mut fields = [0; 4];
+    fields[..2].copy_from_slice(&query_type.to_be_bytes());
+    fields[2..].copy_from_slice(&class.to_be_bytes());
+    encoder.emit_slice(&fields)
 }
 
 /// What stands after the name of a question.

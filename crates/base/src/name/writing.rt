@@ -40,6 +40,7 @@ impl BinEncodable for Name {
     ///
     /// `MaxBufferSizeExceeded` where a byte would pass the limit; `Memory` if memory runs out. What stood before stays,
     /// and labels that were written before the refusal stand after it.
+    #[inline(always)]
     fn emit(&self, encoder: &mut BinEncoder<'_>) -> Result<(), ProtoError> {
         self.append_to(encoder)?;
         Ok(())
@@ -49,6 +50,7 @@ impl BinEncodable for Name {
 impl Name {
     /// Writes the name as `emit` does. It stands by itself for its refusal, which is small: where nothing is refused, that
     /// costs its callers nothing.
+    #[inline(never)]
     fn append_to(&self, encoder: &mut BinEncoder<'_>) -> Result<(), AppendError>
         // Whatever the answer, what stood before stays, and no byte is written past the limit.
         ensures keeps { Keeps (state_of encoder.old) (state_of encoder.new) }

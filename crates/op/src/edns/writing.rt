@@ -125,20 +125,9 @@ fn front(payload: u16, ttl: u32) -> [u8; 11]
     // The payload size is below 2^16, and the TTL is below 2^32.
     ensures fits { (payload < 2 ^ 16) × (ttl < 2 ^ 32) }
 {
-    let [type_high, type_low] = u16::from(RecordType::OPT).to_be_bytes();
-    let [payload_high, payload_low] = payload.to_be_bytes();
-    let [highest, high, low, lowest] = ttl.to_be_bytes();
-    [
-        0,
-        type_high,
-        type_low,
-        payload_high,
-        payload_low,
-        highest,
-        high,
-        low,
-        lowest,
-        0,
-        0,
-    ]
+    let mut bytes = [0; 11];
+    bytes[1..3].copy_from_slice(&u16::from(RecordType::OPT).to_be_bytes());
+    bytes[3..5].copy_from_slice(&payload.to_be_bytes());
+    bytes[5..9].copy_from_slice(&ttl.to_be_bytes());
+    bytes
 }

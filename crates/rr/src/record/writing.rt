@@ -44,10 +44,9 @@ fn fields(record_type: u16, class: u16, ttl: u32) -> [u8; 10]
     // Type and class are below 2^16, and the TTL is below 2^32.
     ensures fits { FieldsFit record_type class ttl }
 {
-    let [type_high, type_low] = record_type.to_be_bytes();
-    let [class_high, class_low] = class.to_be_bytes();
-    let [highest, high, low, lowest] = ttl.to_be_bytes();
-    [
-        type_high, type_low, class_high, class_low, highest, high, low, lowest, 0, 0,
-    ]
+    let mut bytes = [0; 10];
+    bytes[..2].copy_from_slice(&record_type.to_be_bytes());
+    bytes[2..4].copy_from_slice(&class.to_be_bytes());
+    bytes[4..8].copy_from_slice(&ttl.to_be_bytes());
+    bytes
 }

@@ -99,9 +99,10 @@ impl BinEncodable for EdnsOption {
     #[tactic(auto, using(base::proofs::LawLemmas::writing))]
     fn emit(&self, encoder: &mut BinEncoder<'_>) -> Result<(), ProtoError> {
         let bytes = self.bytes();
-        let [code_high, code_low] = self.code().to_be_bytes();
-        let [len_high, len_low] = (bytes.len() as u16).to_be_bytes();
-        encoder.emit_slice(&[code_high, code_low, len_high, len_low])?;
+        let mut front = [0; 4];
+        front[..2].copy_from_slice(&self.code().to_be_bytes());
+        front[2..].copy_from_slice(&(bytes.len() as u16).to_be_bytes());
+        encoder.emit_slice(&front)?;
         encoder.emit_slice(bytes)?;
         Ok(())
     }
