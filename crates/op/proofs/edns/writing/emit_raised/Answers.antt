@@ -1,8 +1,8 @@
-use Rattle.std.proofs.Common.{◌+◌, ◌*◌, ◌∙◌, Err, ap, sym}
+use Rattle.std.proofs.Common.{◌+◌, ◌*◌, ◌∙◌, ap, sym}
 use Rattle.base.specs.DNSClass.{class_number}
-use Rattle.std.proofs.lemmas.Result.{err_from_is_err_and, on_ok_weaker}
+use Rattle.std.proofs.lemmas.Result.{on_ok_weaker}
 use Rattle.op.specs.declared.edns.Edns.{Edns}
-use Rattle.base.proofs.WrittenLemmas.{Exactly-first, Exactly-from, Exactly-then}
+use Rattle.base.proofs.WrittenLemmas.{Exactly-from, Exactly-then}
 use Rattle.base.specs.Wire.{state_of}
 use Rattle.base.specs.Written.{both, in_turn, just, sized}
 use Rattle.base_data.specs.OPT.{option_written}
@@ -15,19 +15,6 @@ returns-clause-fits c =
     let e : Edns = record c.args.edns.now { rcode_high = c.args.rcode_high } in
     on_ok_weaker c.emit_sized.result (edns_kept e _ _ (c.from-payload.ensures ∙ ap class_number c.for_opt.ensures)
     (c.ttl_of-ttl.ensures ∙ ap (λ n. 16777216 * e.rcode_high + (65536 * e.version + n)) c.from.ensures) c.emit_front.ensures.fits) c.emit_sized.ensures.fits
-
-pub returns-in_err-emit_front-clause-exact : goal.returns-in_err-emit_front-clause-exact
-returns-in_err-emit_front-clause-exact c =
-    let e : Edns = record c.args.edns.now { rcode_high = c.args.rcode_high } in
-    let a = state_of c.args.encoder.now in
-    let z = state_of c.emit_front.new.encoder in
-    let front = just (front_bytes c.from-payload.result c.ttl_of-ttl.result) in
-    let options = sized (in_turn option_written e.options) in
-    let p = err_from_is_err_and c.from_residual.result c.from_residual.ensures.1 in
-    rw (p.1, p.2) (Exactly-from {X = Unit {0}} (Err c.in_err-emit_front.field-0.0) (edns_written e) (both front options) a a z
-    (sym (edns_after e c.from-payload.result c.ttl_of-ttl.result (c.from-payload.ensures ∙ ap class_number c.for_opt.ensures)
-    (c.ttl_of-ttl.ensures ∙ ap (λ n. 16777216 * e.rcode_high + (65536 * e.version + n)) c.from.ensures) a))
-    (Exactly-first (Unit {0}) (Unit {0}) c.in_err-emit_front.field-0.0 front options a z z c.in_err-emit_front.ensures.exact))
 
 pub returns-clause-exact : goal.returns-clause-exact
 returns-clause-exact c =

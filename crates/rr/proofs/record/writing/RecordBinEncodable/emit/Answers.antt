@@ -1,11 +1,11 @@
-use Rattle.std.proofs.Common.{ℕ, ◌≡◌, ◌∙◌, Err, ap, subst, sym}
-use Rattle.std.proofs.lemmas.Result.{err_from_is_err_and, on_ok_weaker}
+use Rattle.std.proofs.Common.{ℕ, ◌≡◌, ◌∙◌, ap, subst, sym}
+use Rattle.std.proofs.lemmas.Result.{on_ok_weaker}
 use Rattle.base.specs.DNSClass.{class_field, class_number}
 use Rattle.base.specs.RecordType.{type_number}
 use Rattle.base.specs.Wire.{state_of}
 use Rattle.base_data.specs.Kinds.{data_written, type_of_data}
 use Rattle.base.specs.Written.{Writing, after, both, just, name, sized}
-use Rattle.base.proofs.WrittenLemmas.{Exactly-first, Exactly-same, Exactly-then}
+use Rattle.base.proofs.WrittenLemmas.{Exactly-same, Exactly-then}
 use Rattle.rr.specs.Record.{fields_of}
 use Rattle.rr.specs.RecordSays.{FieldsFit}
 use Rattle.rr.proofs.record.writing.RecordBinEncodable.emit.Goals as goal
@@ -19,32 +19,6 @@ returns-clause-fits g c =
     on_ok_weaker c.emit_sized.result (λ kept. (c.in_ok-emit.ensures.fits, (fields, kept))) c.emit_sized.ensures.fits
 
 -- ---- exactly the record
-
-pub returns-in_err-emit-clause-exact : goal.returns-in_err-emit-clause-exact
-returns-in_err-emit-clause-exact g c =
-    let r = c.args.self.now in
-    let d = g.R.RecordData.as_rdata r.rdata in
-    let fields = fields_of (type_number (type_of_data d)) (class_field r.mdns_cache_flush (class_number r.dns_class)) r.ttl in
-    let p = err_from_is_err_and c.from_residual.result c.from_residual.ensures.1 in
-    rw (p.1, p.2) (Exactly-first (Unit {0}) (Unit {0}) c.in_err-emit.field-0.0 (name r.name.labels) (both (just fields) (sized (data_written d)))
-    (state_of c.args.encoder.now) (state_of c.emit.new.encoder) (state_of c.emit.new.encoder) c.in_err-emit.ensures.exact)
-
-pub returns-in_err-emit_fields-clause-exact : goal.returns-in_err-emit_fields-clause-exact
-returns-in_err-emit_fields-clause-exact g c =
-    let r = c.args.self.now in
-    let d = g.R.RecordData.as_rdata r.rdata in
-    let class = class_field r.mdns_cache_flush (class_number r.dns_class) in
-    let fields = fields_of (type_number (type_of_data d)) class r.ttl in
-    let type = c.from.ensures ∙ ap type_number c.record_type.ensures in
-    let same : just (fields_of c.from.result c.to_field-class.result r.ttl) ≡ just fields =
-    ap (λ (n : ℕ). just (fields_of n c.to_field-class.result r.ttl)) type ∙ ap (λ (n : ℕ). just (fields_of (type_number (type_of_data d)) n r.ttl)) c.to_field-class.ensures in
-    let p = err_from_is_err_and c.from_residual-in_err-emit_fields.result c.from_residual-in_err-emit_fields.ensures.1 in
-    let m = state_of c.emit.new.encoder in
-    let z = state_of c.emit_fields.new.encoder in
-    rw (p.1, p.2) (Exactly-then {X = Unit {0}} (Err c.in_err-emit_fields.field-0.0) (name r.name.labels) (both (just fields) (sized (data_written d)))
-    (state_of c.args.encoder.now) m z c.in_ok-emit.ensures.exact
-    (Exactly-first (Unit {0}) (Unit {0}) c.in_err-emit_fields.field-0.0 (just fields) (sized (data_written d)) m z z
-    (Exactly-same {X = Unit {0}} (Err c.in_err-emit_fields.field-0.0) _ _ m z same c.in_err-emit_fields.ensures.exact)))
 
 pub returns-clause-exact : goal.returns-clause-exact
 returns-clause-exact g c =
