@@ -1,5 +1,6 @@
 use Rattle.std.proofs.Common.{ℕ, ◌≡◌, ◌∙◌, ap, subst, sym}
 use Rattle.std.proofs.lemmas.Result.{on_ok_weaker}
+use Rattle.base.proofs.LawLemmas.{Keeps-then}
 use Rattle.base.specs.DNSClass.{class_field, class_number}
 use Rattle.base.specs.RecordType.{type_number}
 use Rattle.base.specs.Wire.{state_of}
@@ -9,6 +10,9 @@ use Rattle.base.proofs.WrittenLemmas.{Exactly-same, Exactly-then}
 use Rattle.rr.specs.Record.{fields_of}
 use Rattle.rr.specs.RecordSays.{FieldsFit}
 use Rattle.rr.proofs.record.writing.RecordBinEncodable.emit.Goals as goal
+
+pub returns-clause-keeps : goal.returns-clause-keeps
+returns-clause-keeps g c = Keeps-then c.emit.ensures.keeps (Keeps-then c.emit_fields.ensures.keeps c.emit_sized.ensures.keeps)
 
 pub returns-clause-fits : goal.returns-clause-fits
 returns-clause-fits g c =
