@@ -31,7 +31,7 @@ slice_failed limited e {s} {t} {a} {b} took (answer, emits, counts) =
 
 module _ {m : MessageValue} {q q' : Iter Query} {a a' n n' d d' : Iter (Record RData)} {edns signature : List (Record RData)} (are : AreOf m q a n d edns signature) (old new : State)
     (small : old.limit < 2 ^ 16) (e : ProtoError) where
-  -- after the questions nothing but memory is refused
+  -- the header or the questions have no room, and after them nothing but memory is refused
   pub composed_failed : Composition emits_records emits_records emits_records a a' n n' d d' m.metadata emits_queries q q' edns signature old (Err e) new → Left m old new e
   composed_failed run =
       fails e run (room_failed m old new e) (λ place k room after_room.

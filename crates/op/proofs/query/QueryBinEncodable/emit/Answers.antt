@@ -1,9 +1,8 @@
 use Rattle.std.proofs.Common.{ℕ, ◌≡◌, ◌<◌, ◌^◌, ◌∙◌, ◌++◌, Result, Ok, Err, ap, subst}
 use Rattle.std.specs.Int.{w16, to_be_bytes}
-use Rattle.std.proofs.lemmas.Result.{err_from_is_err_and}
 use Rattle.std.specs.Prelude.{OnOk}
 use Rattle.base.specs.declared.error.proto_error.ProtoError.{ProtoError}
-use Rattle.base.proofs.WrittenLemmas.{Exactly-first, Exactly-same, Exactly-then}
+use Rattle.base.proofs.WrittenLemmas.{Exactly-same, Exactly-then}
 use Rattle.base.specs.DNSClass.{class_field, class_number}
 use Rattle.base.specs.RecordType.{type_number}
 use Rattle.base.specs.Wire.{state_of}
@@ -20,14 +19,6 @@ returns-clause-fits c =
     let fields = subst (λ (n : ℕ). (n < 2 ^ 16) × (class_field q.mdns_unicast_response (class_number q.query_class) < 2 ^ 16)) c.from.ensures
     (subst (λ (n : ℕ). (c.from.result < 2 ^ 16) × (n < 2 ^ 16)) c.to_field-class.ensures c.emit_fields.ensures.fits) in
     on_ok_always c.emit_fields.result (c.in_ok-emit.ensures.fits, fields)
-
-pub returns-in_err-emit-clause-exact : goal.returns-in_err-emit-clause-exact
-returns-in_err-emit-clause-exact c =
-    let q = c.args.self.now in
-    let fields = to_be_bytes w16 (type_number q.query_type) ++ to_be_bytes w16 (class_field q.mdns_unicast_response (class_number q.query_class)) in
-    let p = err_from_is_err_and c.from_residual.result c.from_residual.ensures.1 in
-    rw (p.1, p.2) (Exactly-first (Unit {0}) (Unit {0}) c.in_err-emit.field-0.0 (name q.name.labels) (just fields)
-    (state_of c.args.encoder.now) (state_of c.emit.new.encoder) (state_of c.emit.new.encoder) c.in_err-emit.ensures.exact)
 
 pub returns-clause-exact : goal.returns-clause-exact
 returns-clause-exact c =
