@@ -12,8 +12,9 @@ use Rattle.std.specs.Ordering.{nat_cmp, is_eq}
 use Rattle.std.specs.Str.{bytes_eq}
 use Rattle.std.specs.declared.alloc.Global.{Global}
 use Rattle.std.proofs.lemmas.Bool.{cases_Bool, false≢true}
-use Rattle.std.proofs.lemmas.List.{get_or_append_left, get_or-append-add, get_or_push, drop_more, drop_all, append-nil, append_assoc, take-append-le, take-append-drop, take_all}
-use Rattle.std.proofs.lemmas.List.Elements.{All-nil, All-cons, All-push}
+use Rattle.std.proofs.lemmas.List.{get_or_append_left, get_or_push, drop_more, drop_all, append-nil, append_assoc, take-append-le, take-append-drop, take_all}
+use Rattle.std.proofs.Math.Seq.{drop-append_seam}
+use Rattle.std.proofs.lemmas.List.Elements.{All-nil, All-cons, All-drop, All-pop, All-push}
 use Rattle.std.proofs.lemmas.List.Quantifiers.{all_pairs_push}
 use Rattle.std.proofs.lemmas.Map.Text.{is_eq-slice_cmp}
 use Rattle.base.specs.Labels.{IsLabelRun, wire_of, labels_of}
@@ -32,14 +33,9 @@ so_or_not b decides = elim (cases_Bool b) [
   | inr failed ↦ inr (λ so. false≢true (sym failed ∙ decides.1 so))
 ]
 
--- what holds of all elements holds of the first, and of the others
-all_first : (P : Stored → Type 0) (xs ys : List Stored) → All P (xs ++ ys) → All P xs
-all_first P xs ys h k d inside =
-    subst P (get_or_append_left xs ys d k inside) (h k d (omega (arith, length-append xs ys)))
-
+-- what holds of all elements holds of those after the first
 all_after : (P : Stored → Type 0) (xs ys : List Stored) → All P (xs ++ ys) → All P ys
-all_after P xs ys h k d inside =
-    subst P (get_or-append-add xs ys k d) (h (length xs + k) d (omega (arith, length-append xs ys)))
+all_after P xs ys h = rw drop-append_seam at (All-drop P (length xs) (xs ++ ys) h)
 
 -- ---- what is found
 
@@ -154,7 +150,7 @@ module _ {bs : List ℕ} {w : Option ℕ} (m n : BTreeMap (Vec ℕ Global) ℕ) 
       let unlike = all_after (λ s. s.labels ≢ u.labels) first front (last_unlike (first ++ front) u order) in
       record {
         order = order_first (first ++ front) (u ∷ []) order;
-        near = all_first (λ s. s.offset < POINTER_LIMIT) front (u ∷ []) t.near;
+        near = (All-pop (λ s. s.offset < POINTER_LIMIT) (front ++ u ∷ []) front (Some u) refl t.near).0;
         finds = finds_after (front ++ u ∷ []) front t.finds (gone ∙ sym (none_found front u.labels unlike))
             (λ labels other. found_among front (u ∷ []) labels (alone u labels other));
         only = only_after t.only;

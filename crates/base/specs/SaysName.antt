@@ -292,8 +292,5 @@ Says-plain_name labels =
     let len : length (wire_of labels ++ 0 ∷ []) ≡ plain_len labels =
     length-append (wire_of labels) (0 ∷ []) ∙ ap (λ (n : ℕ). n + 1) (length-wire_of labels) in
     Says-just (AreNameLabels labels) (NameAt labels) (plain_len labels) (wire_of labels ++ 0 ∷ [])
-    (omega (arith, len)) (λ ok B at small stands. (
-      subst (λ (n : ℕ). Spelled B labels at at (at + n)) (sym len)
-          (labels_stand B labels at at ok.0 stands),
-      ok.1,
-    ))
+    (omega (arith, len))
+    (λ ok B at small stands. (rw len (labels_stand B labels at at ok.0 stands), ok.1))

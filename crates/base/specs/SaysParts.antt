@@ -46,10 +46,8 @@ pub Says-just : (fits : Type 0) (word : List ℕ → ℕ → ℕ → Type 0) (pl
     → Says (just xs) fits word plain []
 Says-just fits word plain xs few is_word = record {
   each = λ at stored. record {
-    stands = λ ok B e is h. rw is (
-      is_word ok B at h.small h.bytes,
-      later_table B at (at + length xs) stored (omega arith) h.table,
-    );
+    stands = λ ok B e is h. rw is
+        (is_word ok B at h.small h.bytes, later_table B at _ stored (omega arith) h.table);
     added = [];
     is = sym (append-nil stored);
     offsets = All-nil (λ (t : Stored). at ≤ t.offset);
@@ -106,13 +104,9 @@ Says-both f g s r = record {
   each = λ at stored. says_both (s.each at stored) (r.each _ (f at stored).suffixes);
   at_most = λ at stored.
       let next = at + length (f at stored).bytes in
+      let few = s.at_most at stored in
       let more = r.at_most next (f at stored).suffixes in
-      omega (
-        arith,
-        s.at_most at stored,
-        more,
-        length-append (f at stored).bytes (g next (f at stored).suffixes).bytes,
-      );
+      omega (arith, length-append (f at stored).bytes (g next (f at stored).suffixes).bytes);
 }
 
 -- a word after its length
@@ -143,11 +137,9 @@ pub Says-sized : {F : Type 0} {word : List ℕ → ℕ → ℕ → Type 0} {plai
     (f : Writing) → Says f F word plain owner → Says (sized f) F (Sized word) (2 + plain) []
 Says-sized f s = record {
   each = λ at stored. says_sized (s.each (at + 2) stored);
-  at_most = λ at stored. omega (
-    arith,
-    s.at_most (at + 2) stored,
-    length-append (to_be_bytes w16 (length (f (at + 2) stored).bytes)) (f (at + 2) stored).bytes,
-  );
+  at_most = λ at stored.
+      let bytes = (f (at + 2) stored).bytes in
+      omega (arith, s.at_most (at + 2) stored, length-append (to_be_bytes w16 (length bytes)) bytes);
 }
 
 -- bytes as they are
