@@ -17,14 +17,14 @@ use Rattle.std.proofs.Math.Seq.{drop-append_seam}
 use Rattle.std.proofs.lemmas.List.Elements.{All-nil, All-cons, All-drop, All-pop, All-push}
 use Rattle.std.proofs.lemmas.List.Quantifiers.{all_pairs_push}
 use Rattle.std.proofs.lemmas.Map.Text.{is_eq-slice_cmp}
-use Rattle.base.specs.Labels.{IsLabelRun, wire_of, labels_of}
+use Rattle.base.specs.Labels.{IsLabelRun, wire_of}
 use Rattle.base.specs.NameOrder.{same_labels}
 use Rattle.base.specs.NameOrderLaws.{labels_decide}
 use Rattle.base.specs.SaysName.{found_as, found_past, found_among, none_found}
 use Rattle.base.specs.State.{Stored}
 use Rattle.base.specs.Suffixes.{index_key, offset_at, offset_in, IsTable}
 use Rattle.base.specs.Written.{found_in}
-use Rattle.base.proofs.LabelLemmas.{labels_of-wire_of}
+use Rattle.base.proofs.LabelLemmas.{labels_of-wire_of, labels_of_is}
 
 -- what a test decides is so or not
 so_or_not : {P : Type 0} (b : Bool) → Decides b P → P ⊎ (P → ⊥)
@@ -55,12 +55,11 @@ found_later t ts labels other = found_past (t ∷ []) ts labels (alone t labels 
 pub found_at : (first others : List Stored) (k : ℕ) (t : Stored) (labels : List (List ℕ)) → k < length first
     → t ≡ get_or first k t
     → found_in (drop k first ++ others) labels ≡ found_in (t ∷ (drop (k + 1) first ++ others)) labels
-found_at first others k t labels inside at = ap (λ (ts : List Stored). found_in (ts ++ others) labels)
-    (drop_more first k t inside ∙ ap (λ (s : Stored). s ∷ drop (k + 1) first) (sym at))
+found_at first others k t labels inside at = rw (drop_more first k t inside, ← at)
 
 pub found_end : (first others : List Stored) (k : ℕ) (labels : List (List ℕ)) → length first ≤ k
     → found_in (drop k first ++ others) labels ≡ found_in others labels
-found_end first others k labels all = ap (λ (ts : List Stored). found_in (ts ++ others) labels) (drop_all k first all)
+found_end first others k labels all = rw (drop_all k first all)
 
 -- a pointer can name what is found
 pub found_near : (ts : List Stored) (labels : List (List ℕ)) (r : Option ℕ) → All (λ t. t.offset < POINTER_LIMIT) ts
@@ -116,7 +115,7 @@ module _ {bs : List ℕ} {w : Option ℕ} (m n : BTreeMap (Vec ℕ Global) ℕ) 
   finds_after old new finds is others labels =
       elim (so_or_not (same_labels u.labels labels) (labels_decide u.labels labels)) [
         | inl same ↦ subst (λ (ls : List (List ℕ)). offset_in n (wire_of ls) ≡ found_in new ls) same (here ∙ is)
-        | inr other ↦ elsewhere (wire_of labels) (λ at. other (sym (labels_of-wire_of u.labels) ∙ ap labels_of (sym at)
+        | inr other ↦ elsewhere (wire_of labels) (λ at. other (sym (labels_of_is (wire_of labels) u.labels at)
             ∙ labels_of-wire_of labels)) ∙ finds labels ∙ others labels other
       ]
 
@@ -172,13 +171,14 @@ IsTable-first {others = s ∷ others} u none is t absent later = absurd (omega (
 -- the last of the others is cut off
 pub cut_last : (n : ℕ) (first front : List Stored) (t : Stored) → n ≤ length first + length front
     → take n (first ++ (front ++ t ∷ [])) ≡ take n (first ++ front)
-cut_last n first front t fits = ap (take n) (sym (append_assoc first front (t ∷ [])))
-    ∙ take-append-le n (first ++ front) (t ∷ []) (omega (arith, length-append first front))
+cut_last n first front t fits =
+    rw (← append_assoc) (take-append-le n (first ++ front) (t ∷ []) (omega (arith, length-append first front)))
 
 take_both : (n : ℕ) (xs ys : List Stored) → length ys ≤ n - length xs → take n xs ++ ys ≡ take n (xs ++ ys)
-take_both n xs [] fits = append-nil (take n xs) ∙ ap (take n) (sym (append-nil xs))
-take_both n xs (y ∷ ys) fits = ap (λ (zs : List Stored). zs ++ y ∷ ys) (take_all n xs (omega arith))
-    ∙ sym (take_all n (xs ++ y ∷ ys) (omega (arith, length-append xs (y ∷ ys))))
+take_both n xs [] fits = simp append-nil
+take_both n xs (y ∷ ys) fits =
+    let long : length (xs ++ y ∷ ys) ≤ n = omega (arith, length-append xs (y ∷ ys)) in
+    rw (take_all n xs (omega arith), take_all n (xs ++ y ∷ ys) long)
 
 -- some of the first suffixes are forgotten, where as many of the others are left as may be
 pub IsTable-cut : {find : List ℕ → Option ℕ} {first others xs : List Stored} (n : ℕ) → IsTable find first others
