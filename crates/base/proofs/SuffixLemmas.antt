@@ -88,7 +88,8 @@ last_unlike xs u h k d inside =
 
 -- ---- a change of the index at the key of one suffix
 
-module _ {bs : List ℕ} {w : Option ℕ} (m n : BTreeMap (Vec ℕ Global) ℕ) (u : Stored) (key : bs ≡ index_key (wire_of u.labels))
+module _ {bs : List ℕ} {w : Option ℕ} (m n : BTreeMap (Vec ℕ Global) ℕ) (u : Stored)
+    (key : bs ≡ index_key (wire_of u.labels))
     (h : UpdatesBy (λ x y. slice_cmp nat_cmp x.items y.items) (λ k. slice_cmp nat_cmp bs k.items) m n w) where
   here : offset_in n (wire_of u.labels) ≡ w
   here = ap (offset_at n) (sym key) ∙ h.1
@@ -108,11 +109,11 @@ module _ {bs : List ℕ} {w : Option ℕ} (m n : BTreeMap (Vec ℕ Global) ℕ) 
       (apart (index_key cs) (λ same. other (ap (drop 4) (same ∙ key))))
 
   -- so it finds at all labels what is found in a list that differs as it does
-  finds_after : (old new : List Stored) → ((labels : List (List ℕ)) → offset_in m (wire_of labels) ≡ found_in old labels)
-      → w ≡ found_in new u.labels
+  finds_after : (old new : List Stored) → w ≡ found_in new u.labels
+      → ((labels : List (List ℕ)) → offset_in m (wire_of labels) ≡ found_in old labels)
       → ((labels : List (List ℕ)) → u.labels ≢ labels → found_in old labels ≡ found_in new labels)
       → (labels : List (List ℕ)) → offset_in n (wire_of labels) ≡ found_in new labels
-  finds_after old new finds is others labels =
+  finds_after old new is finds others labels =
       elim (so_or_not (same_labels u.labels labels) (labels_decide u.labels labels)) [
         | inl same ↦ subst (λ (ls : List (List ℕ)). offset_in n (wire_of ls) ≡ found_in new ls) same (here ∙ is)
         | inr other ↦ elsewhere (wire_of labels) (λ at. other (sym (labels_of_is (wire_of labels) u.labels at)
@@ -134,9 +135,8 @@ module _ {bs : List ℕ} {w : Option ℕ} (m n : BTreeMap (Vec ℕ Global) ℕ) 
     order = rw (← append_assoc) (all_pairs_push Before (first ++ others) u t.order
         (λ k d inside. (later k d inside, absent k d inside)));
     near = All-push (λ s. s.offset < POINTER_LIMIT) others u t.near near;
-    finds = finds_after others (others ++ u ∷ []) t.finds
-        (stored ∙ sym (found_past others (u ∷ []) u.labels (all_after (λ s. s.labels ≢ u.labels) first others absent)
-        ∙ found_first u [] u.labels refl))
+    finds = finds_after others (others ++ u ∷ []) (stored ∙ sym (found_past others (u ∷ []) u.labels
+        (all_after (λ s. s.labels ≢ u.labels) first others absent) ∙ found_first u [] u.labels refl)) t.finds
         (λ labels other. sym (found_among others (u ∷ []) labels (alone u labels other)));
     only = only_after t.only;
   }
@@ -150,7 +150,7 @@ module _ {bs : List ℕ} {w : Option ℕ} (m n : BTreeMap (Vec ℕ Global) ℕ) 
       record {
         order = order_first (first ++ front) (u ∷ []) order;
         near = (All-pop (λ s. s.offset < POINTER_LIMIT) (front ++ u ∷ []) front (Some u) refl t.near).0;
-        finds = finds_after (front ++ u ∷ []) front t.finds (gone ∙ sym (none_found front u.labels unlike))
+        finds = finds_after (front ++ u ∷ []) front (gone ∙ sym (none_found front u.labels unlike)) t.finds
             (λ labels other. found_among front (u ∷ []) labels (alone u labels other));
         only = only_after t.only;
       }

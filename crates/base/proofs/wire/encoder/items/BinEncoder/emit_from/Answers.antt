@@ -64,7 +64,8 @@ loop-next-preserved g c =
         omega (arith, length-append was.0 (item ∷ []), was.3),
         λ before gave. (
           c.loop-next.items,
-          Yields-push g.I.Iterator.next_gives was.0 item before c.loop-next.items (rw c.in-Some.is at (was.4 before gave)),
+          Yields-push g.I.Iterator.next_gives was.0 item before c.loop-next.items
+              (rw c.in-Some.is at (was.4 before gave)),
           c.next-next.ensures.steps,
         ),
       );
