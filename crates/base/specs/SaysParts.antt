@@ -60,7 +60,7 @@ Says-just fits word plain xs few is_word = record {
 pub last_stands : (xs ys B : List ℕ) (i : ℕ) → Stands (xs ++ ys) B i → Stands ys B (i + length xs)
 last_stands xs ys B i h = stands_part xs ys [] B i (rw append-nil h)
 
--- one word after another
+-- one piece after another
 module _ {F G : Type 0} {v w : List ℕ → ℕ → ℕ → Type 0} {owner : List (List ℕ)} {p q : Piece} {at : ℕ}
     {stored : List Stored} (s : SaysAt p at stored F v owner)
     (r : SaysAt q (at + length p.bytes) p.suffixes G w []) where
@@ -97,6 +97,7 @@ module _ {F G : Type 0} {v w : List ℕ → ℕ → ℕ → Type 0} {owner : Lis
     };
   }
 
+-- one word after another
 pub Says-both : {F G : Type 0} {v w : List ℕ → ℕ → ℕ → Type 0} {n m : ℕ} {owner : List (List ℕ)}
     (f g : Writing) → Says f F v n owner → Says g G w m []
     → Says (both f g) (F × G) (Then v w) (n + m) owner
@@ -109,7 +110,7 @@ Says-both f g s r = record {
       omega (arith, length-append (f at stored).bytes (g next (f at stored).suffixes).bytes);
 }
 
--- a word after its length
+-- a piece after its length
 says_sized : {F : Type 0} {word : List ℕ → ℕ → ℕ → Type 0} {owner : List (List ℕ)} {p : Piece} {at : ℕ}
     {stored : List Stored} → SaysAt p (at + 2) stored F word owner
     → SaysAt (record { bytes = to_be_bytes w16 (length p.bytes) ++ p.bytes; suffixes = p.suffixes }) at
@@ -133,6 +134,7 @@ says_sized {F} {p = p} {at} {stored} s =
       owned = no_owner _ at stored F;
     }
 
+-- a word after its length
 pub Says-sized : {F : Type 0} {word : List ℕ → ℕ → ℕ → Type 0} {plain : ℕ} {owner : List (List ℕ)}
     (f : Writing) → Says f F word plain owner → Says (sized f) F (Sized word) (2 + plain) []
 Says-sized f s = record {
