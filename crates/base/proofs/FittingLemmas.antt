@@ -27,7 +27,8 @@ module _ {A : Type 0} (f : A → Writing) where
   no_fewer_fit limit more (x ∷ xs) at stored larger = elim (cases_lt limit (at + length (f x at stored).bytes)) [
     | inl full ↦ rw (none_fits limit x xs at stored full) (that_fit f more (x ∷ xs) at stored, refl)
     | inr fits ↦
-        let (others, is) = no_fewer_fit limit more xs (at + length (f x at stored).bytes) (f x at stored).suffixes larger in
+        let place = at + length (f x at stored).bytes in
+        let (others, is) = no_fewer_fit limit more xs place (f x at stored).suffixes larger in
         rw (first_fits limit x xs at stored fits, first_fits more x xs at stored (omega (arith, fits, larger)))
         (others, ap (λ (ys : List A). x ∷ ys) is)
   ]
@@ -43,14 +44,8 @@ module _ {A : Type 0} (f : A → Writing) (limit : ℕ) where
       let m = after (f y) a in
       let rest : b ≡ after (in_turn f kept) m = is ∙ after-both (f y) (in_turn f kept) a in
       let place : length m.bytes ≡ length a.bytes + length (piece_at (f y) a).bytes = length-append a.bytes (piece_at (f y) a).bytes in
-      let fits : length a.bytes + length (piece_at (f y) a).bytes ≤ limit = omega (
-        arith,
-        within,
-        place,
-        ap (λ (u : State). length u.bytes) rest,
-        length-append m.bytes (piece_at (in_turn f
-            kept) m).bytes,
-      ) in
+      let sum = ap (λ (u : State). length u.bytes) rest ∙ length-append m.bytes (piece_at (in_turn f kept) m).bytes in
+      let fits : length a.bytes + length (piece_at (f y) a).bytes ≤ limit = omega (arith, within, place, sum) in
       first_fits f limit y (kept ++ lost) (length a.bytes) a.suffixes fits
       ∙ ap (λ (n : ℕ). y ∷ that_fit f limit (kept ++ lost) n (piece_at (f y) a).suffixes) (sym place)
       ∙ ap (λ (xs : List A). y ∷ xs) (Fits-front kept lost m b rest within full)
@@ -78,5 +73,4 @@ module _ {A : Type 0} (f : A → Writing) (limit : ℕ) where
   pub Fits-cut : (xs : List A) (a : State) → (lost : List A) × (xs ≡ that_fit f limit xs (length a.bytes) a.suffixes ++ lost) × FirstPasses f limit (after (fitting f limit xs) a) lost
   Fits-cut xs a =
       let (lost, whole, passes) = Fits-cut_at xs (length a.bytes) a.suffixes in
-      let piece = piece_at (fitting f limit xs) a in
-      (lost, whole, subst (λ (k : ℕ). FirstPassesAt f limit k piece.suffixes lost) (sym (length-append a.bytes piece.bytes)) passes)
+      (lost, whole, rw length-append passes)

@@ -74,7 +74,8 @@ module _ (a b c : State) (k : Keeps a b) (l : Keeps b c) (B : List ℕ) where
   -- what was added by the second stands after the first
   pub Stands-second : Holds a c B → Stands (drop (length b.bytes) c.bytes) B (length b.bytes)
   Stands-second h =
-      let place : length b.bytes ≡ length a.bytes + length k.appended = ap length k.bytes ∙ length-append a.bytes k.appended in
+      let place : length b.bytes ≡ length a.bytes + length k.appended =
+      ap length k.bytes ∙ length-append a.bytes k.appended in
       rw (added_bytes b c l.appended l.bytes, place)
       (last_stands k.appended l.appended B (length a.bytes) (rw both at h.bytes))
 

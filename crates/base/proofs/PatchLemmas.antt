@@ -11,7 +11,8 @@ module _ (room xs : List ℕ) (a c : State) (size : length xs ≡ length room) (
   filled = overwritten (length a.bytes) xs c
 
   bytes : filled.bytes ≡ (a.bytes ++ xs) ++ k.appended
-  bytes = rw (k.bytes, append_assoc, take-append_seam, drop-append-add, size, drop-append_seam, append_assoc)
+  bytes = rw (k.bytes, append_assoc a.bytes room k.appended, take-append_seam, drop-append-add, size) (rw
+      (drop-append_seam, append_assoc))
 
   start : length (a.bytes ++ room) ≡ length (a.bytes ++ xs)
   start = omega (arith, length-append a.bytes room, length-append a.bytes xs)

@@ -112,9 +112,7 @@ part_is_there bytes piece s k part same is =
 pub range_is_there : (bytes piece : List ℕ) (s i j : ℕ) → piece ≡ drop s bytes → slice_range piece i j ≡ slice_range bytes (s + i) (s + j)
 range_is_there bytes piece s i j same =
     let len : j - i ≡ s + j - (s + i) = omega arith in
-    ap (λ (xs : List ℕ). take (j - i) (drop i xs)) same
-    ∙ ap (take (j - i)) (drop-drop i s bytes)
-    ∙ ap (λ (k : ℕ). take k (drop (s + i) bytes)) len
+    rw (same, drop-drop i s bytes, len)
 
 -- ---- the labels that the last pointer led to
 

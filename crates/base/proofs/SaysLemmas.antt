@@ -67,12 +67,8 @@ pub name-stores : (labels : List (List ℕ)) (a b : State) → b ≡ after (name
     → StoresSuffixes labels a b
 name-stores labels a b is =
     let n = name_wrote labels (length a.bytes) a.suffixes in
-    let end : length b.bytes ≡ n.end = omega (
-      arith,
-      ap (λ (u : State). length u.bytes) is,
-      length-append a.bytes (piece_at (name labels) a).bytes,
-      ends_at n.wrote,
-    ) in
+    let longer = ap (λ (u : State). length u.bytes) is ∙ length-append a.bytes (piece_at (name labels) a).bytes in
+    let end : length b.bytes ≡ n.end = omega (arith, longer, ends_at n.wrote) in
     record {
       each = λ front back parts more early. rw (ap (λ (u : State). u.suffixes) is, n.is)
           (any_after (λ t. (t.labels ≡ back) × (t.offset ≡ length a.bytes + size_of front))

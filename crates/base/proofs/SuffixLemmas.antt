@@ -12,18 +12,19 @@ use Rattle.std.specs.Ordering.{nat_cmp, is_eq}
 use Rattle.std.specs.Str.{bytes_eq}
 use Rattle.std.specs.declared.alloc.Global.{Global}
 use Rattle.std.proofs.lemmas.Bool.{cases_Bool, false≢true}
-use Rattle.std.proofs.lemmas.List.{get_or_append_left, get_or-append-add, get_or_push, drop_more, drop_all, append-nil, append_assoc, take-append-le, take-append-drop, take_all}
-use Rattle.std.proofs.lemmas.List.Elements.{All-nil, All-cons, All-push}
+use Rattle.std.proofs.lemmas.List.{get_or_append_left, get_or_push, drop_more, drop_all, append-nil, append_assoc, take-append-le, take-append-drop, take_all}
+use Rattle.std.proofs.Math.Seq.{drop-append_seam}
+use Rattle.std.proofs.lemmas.List.Elements.{All-nil, All-cons, All-drop, All-pop, All-push}
 use Rattle.std.proofs.lemmas.List.Quantifiers.{all_pairs_push}
 use Rattle.std.proofs.lemmas.Map.Text.{is_eq-slice_cmp}
-use Rattle.base.specs.Labels.{IsLabelRun, wire_of, labels_of}
+use Rattle.base.specs.Labels.{IsLabelRun, wire_of}
 use Rattle.base.specs.NameOrder.{same_labels}
 use Rattle.base.specs.NameOrderLaws.{labels_decide}
 use Rattle.base.specs.SaysName.{found_as, found_past, found_among, none_found}
 use Rattle.base.specs.State.{Stored}
 use Rattle.base.specs.Suffixes.{index_key, offset_at, offset_in, IsTable}
 use Rattle.base.specs.Written.{found_in}
-use Rattle.base.proofs.LabelLemmas.{labels_of-wire_of}
+use Rattle.base.proofs.LabelLemmas.{labels_of-wire_of, labels_of_is}
 
 -- what a test decides is so or not
 so_or_not : {P : Type 0} (b : Bool) → Decides b P → P ⊎ (P → ⊥)
@@ -32,14 +33,9 @@ so_or_not b decides = elim (cases_Bool b) [
   | inr failed ↦ inr (λ so. false≢true (sym failed ∙ decides.1 so))
 ]
 
--- what holds of all elements holds of the first, and of the others
-all_first : (P : Stored → Type 0) (xs ys : List Stored) → All P (xs ++ ys) → All P xs
-all_first P xs ys h k d inside =
-    subst P (get_or_append_left xs ys d k inside) (h k d (omega (arith, length-append xs ys)))
-
+-- what holds of all elements holds of those after the first
 all_after : (P : Stored → Type 0) (xs ys : List Stored) → All P (xs ++ ys) → All P ys
-all_after P xs ys h k d inside =
-    subst P (get_or-append-add xs ys k d) (h (length xs + k) d (omega (arith, length-append xs ys)))
+all_after P xs ys h = rw drop-append_seam at (All-drop P (length xs) (xs ++ ys) h)
 
 -- ---- what is found
 
@@ -59,12 +55,11 @@ found_later t ts labels other = found_past (t ∷ []) ts labels (alone t labels 
 pub found_at : (first others : List Stored) (k : ℕ) (t : Stored) (labels : List (List ℕ)) → k < length first
     → t ≡ get_or first k t
     → found_in (drop k first ++ others) labels ≡ found_in (t ∷ (drop (k + 1) first ++ others)) labels
-found_at first others k t labels inside at = ap (λ (ts : List Stored). found_in (ts ++ others) labels)
-    (drop_more first k t inside ∙ ap (λ (s : Stored). s ∷ drop (k + 1) first) (sym at))
+found_at first others k t labels inside at = rw (drop_more first k t inside, ← at)
 
 pub found_end : (first others : List Stored) (k : ℕ) (labels : List (List ℕ)) → length first ≤ k
     → found_in (drop k first ++ others) labels ≡ found_in others labels
-found_end first others k labels all = ap (λ (ts : List Stored). found_in (ts ++ others) labels) (drop_all k first all)
+found_end first others k labels all = rw (drop_all k first all)
 
 -- a pointer can name what is found
 pub found_near : (ts : List Stored) (labels : List (List ℕ)) (r : Option ℕ) → All (λ t. t.offset < POINTER_LIMIT) ts
@@ -93,7 +88,8 @@ last_unlike xs u h k d inside =
 
 -- ---- a change of the index at the key of one suffix
 
-module _ {bs : List ℕ} {w : Option ℕ} (m n : BTreeMap (Vec ℕ Global) ℕ) (u : Stored) (key : bs ≡ index_key (wire_of u.labels))
+module _ {bs : List ℕ} {w : Option ℕ} (m n : BTreeMap (Vec ℕ Global) ℕ) (u : Stored)
+    (key : bs ≡ index_key (wire_of u.labels))
     (h : UpdatesBy (λ x y. slice_cmp nat_cmp x.items y.items) (λ k. slice_cmp nat_cmp bs k.items) m n w) where
   here : offset_in n (wire_of u.labels) ≡ w
   here = ap (offset_at n) (sym key) ∙ h.1
@@ -113,14 +109,14 @@ module _ {bs : List ℕ} {w : Option ℕ} (m n : BTreeMap (Vec ℕ Global) ℕ) 
       (apart (index_key cs) (λ same. other (ap (drop 4) (same ∙ key))))
 
   -- so it finds at all labels what is found in a list that differs as it does
-  finds_after : (old new : List Stored) → ((labels : List (List ℕ)) → offset_in m (wire_of labels) ≡ found_in old labels)
-      → w ≡ found_in new u.labels
+  finds_after : (old new : List Stored) → w ≡ found_in new u.labels
+      → ((labels : List (List ℕ)) → offset_in m (wire_of labels) ≡ found_in old labels)
       → ((labels : List (List ℕ)) → u.labels ≢ labels → found_in old labels ≡ found_in new labels)
       → (labels : List (List ℕ)) → offset_in n (wire_of labels) ≡ found_in new labels
-  finds_after old new finds is others labels =
+  finds_after old new is finds others labels =
       elim (so_or_not (same_labels u.labels labels) (labels_decide u.labels labels)) [
         | inl same ↦ subst (λ (ls : List (List ℕ)). offset_in n (wire_of ls) ≡ found_in new ls) same (here ∙ is)
-        | inr other ↦ elsewhere (wire_of labels) (λ at. other (sym (labels_of-wire_of u.labels) ∙ ap labels_of (sym at)
+        | inr other ↦ elsewhere (wire_of labels) (λ at. other (sym (labels_of_is (wire_of labels) u.labels at)
             ∙ labels_of-wire_of labels)) ∙ finds labels ∙ others labels other
       ]
 
@@ -139,9 +135,8 @@ module _ {bs : List ℕ} {w : Option ℕ} (m n : BTreeMap (Vec ℕ Global) ℕ) 
     order = rw (← append_assoc) (all_pairs_push Before (first ++ others) u t.order
         (λ k d inside. (later k d inside, absent k d inside)));
     near = All-push (λ s. s.offset < POINTER_LIMIT) others u t.near near;
-    finds = finds_after others (others ++ u ∷ []) t.finds
-        (stored ∙ sym (found_past others (u ∷ []) u.labels (all_after (λ s. s.labels ≢ u.labels) first others absent)
-        ∙ found_first u [] u.labels refl))
+    finds = finds_after others (others ++ u ∷ []) (stored ∙ sym (found_past others (u ∷ []) u.labels
+        (all_after (λ s. s.labels ≢ u.labels) first others absent) ∙ found_first u [] u.labels refl)) t.finds
         (λ labels other. sym (found_among others (u ∷ []) labels (alone u labels other)));
     only = only_after t.only;
   }
@@ -154,8 +149,8 @@ module _ {bs : List ℕ} {w : Option ℕ} (m n : BTreeMap (Vec ℕ Global) ℕ) 
       let unlike = all_after (λ s. s.labels ≢ u.labels) first front (last_unlike (first ++ front) u order) in
       record {
         order = order_first (first ++ front) (u ∷ []) order;
-        near = all_first (λ s. s.offset < POINTER_LIMIT) front (u ∷ []) t.near;
-        finds = finds_after (front ++ u ∷ []) front t.finds (gone ∙ sym (none_found front u.labels unlike))
+        near = (All-pop (λ s. s.offset < POINTER_LIMIT) (front ++ u ∷ []) front (Some u) refl t.near).0;
+        finds = finds_after (front ++ u ∷ []) front (gone ∙ sym (none_found front u.labels unlike)) t.finds
             (λ labels other. found_among front (u ∷ []) labels (alone u labels other));
         only = only_after t.only;
       }
@@ -176,13 +171,14 @@ IsTable-first {others = s ∷ others} u none is t absent later = absurd (omega (
 -- the last of the others is cut off
 pub cut_last : (n : ℕ) (first front : List Stored) (t : Stored) → n ≤ length first + length front
     → take n (first ++ (front ++ t ∷ [])) ≡ take n (first ++ front)
-cut_last n first front t fits = ap (take n) (sym (append_assoc first front (t ∷ [])))
-    ∙ take-append-le n (first ++ front) (t ∷ []) (omega (arith, length-append first front))
+cut_last n first front t fits =
+    rw (← append_assoc) (take-append-le n (first ++ front) (t ∷ []) (omega (arith, length-append first front)))
 
 take_both : (n : ℕ) (xs ys : List Stored) → length ys ≤ n - length xs → take n xs ++ ys ≡ take n (xs ++ ys)
-take_both n xs [] fits = append-nil (take n xs) ∙ ap (take n) (sym (append-nil xs))
-take_both n xs (y ∷ ys) fits = ap (λ (zs : List Stored). zs ++ y ∷ ys) (take_all n xs (omega arith))
-    ∙ sym (take_all n (xs ++ y ∷ ys) (omega (arith, length-append xs (y ∷ ys))))
+take_both n xs [] fits = simp append-nil
+take_both n xs (y ∷ ys) fits =
+    let long : length (xs ++ y ∷ ys) ≤ n = omega (arith, length-append xs (y ∷ ys)) in
+    rw (take_all n xs (omega arith), take_all n (xs ++ y ∷ ys) long)
 
 -- some of the first suffixes are forgotten, where as many of the others are left as may be
 pub IsTable-cut : {find : List ℕ → Option ℕ} {first others xs : List Stored} (n : ℕ) → IsTable find first others

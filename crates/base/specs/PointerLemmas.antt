@@ -28,8 +28,7 @@ byte_first x xs B i s =
 
 -- where a zero byte stands, the root is spelled
 pub root_stands : (B : List ℕ) (s i e : ℕ) → Stands (0 ∷ []) B i → e ≡ i + 1 → Spelled B [] s i e
-root_stands B s i e stands is =
-    subst (λ (n : ℕ). Spelled B [] s i n) (sym is) (ends (byte_first 0 [] B i stands))
+root_stands B s i e stands is = rw is (ends (byte_first 0 [] B i stands))
 
 -- where a label with its length stands, and labels are spelled after it, all are spelled
 pub label_stands : (B x : List ℕ) (xs : List (List ℕ)) (s i e : ℕ) → 1 ≤ length x
@@ -52,8 +51,7 @@ pointer_stands {B} {labels} {s} {i} {t} {f} {e} below near stands rest is =
     byte_first (n / 256 % 256) (n % 256 ∷ []) B i stands in
     let second : ByteAt anywhere B (i + 1) (n % 256) =
     stands_byte (to_be_bytes w16 n) B i 1 (omega arith) stands in
-    subst (λ (m : ℕ). Spelled B labels s i m) (sym is)
-    (pointer first second (omega arith) (omega arith)
+    rw is (pointer {s = s} first second (omega arith) (omega arith)
     (subst (λ (m : ℕ). Spelled B labels m m f) (sym same) rest))
 
 -- labels and a zero byte, with no pointer

@@ -65,6 +65,7 @@ is_found (t ∷ ts) labels =
       go false differ (Some o) (k, u, inside, at, holds) =
           (suc k, u, omega (arith, inside), at, holds)
 
+-- so it is of what the look-up is known to answer
 pub found_as : (ts : List Stored) (labels : List (List ℕ)) {r : Option ℕ} → found_in ts labels ≡ r
     → IsFoundIn ts labels r
 found_as ts labels is = subst (IsFoundIn ts labels) is (is_found ts labels)
@@ -78,6 +79,7 @@ found_past (t ∷ ts) own labels none = elim (cases_Bool (same_labels t.labels l
   | inr differ ↦ rw differ (found_past ts own labels (All-tail (λ u. u.labels ≢ labels) t ts none))
 ]
 
+-- where all have other labels, none is found
 pub none_found : (ts : List Stored) (labels : List (List ℕ)) → All (λ t. t.labels ≢ labels) ts
     → found_in ts labels ≡ None
 none_found ts labels none = rw append-nil at (found_past ts [] labels none)
@@ -151,6 +153,7 @@ wrote_after (x ∷ xs) at old own stored is longer =
     (wrote_after xs (at + length (length x ∷ x)) old (own ++ added) (label_of x xs at stored).suffixes
     (rw (near x xs at stored, is, append_assoc)) all))
 
+-- every name is written so, whatever was stored before it
 pub name_wrote : (labels : List (List ℕ)) (at : ℕ) (stored : List Stored)
     → IsWrote stored labels at stored (name labels at stored)
 name_wrote labels at stored = wrote_after labels at stored [] stored (sym (append-nil stored))
@@ -292,8 +295,5 @@ Says-plain_name labels =
     let len : length (wire_of labels ++ 0 ∷ []) ≡ plain_len labels =
     length-append (wire_of labels) (0 ∷ []) ∙ ap (λ (n : ℕ). n + 1) (length-wire_of labels) in
     Says-just (AreNameLabels labels) (NameAt labels) (plain_len labels) (wire_of labels ++ 0 ∷ [])
-    (omega (arith, len)) (λ ok B at small stands. (
-      subst (λ (n : ℕ). Spelled B labels at at (at + n)) (sym len)
-          (labels_stand B labels at at ok.0 stands),
-      ok.1,
-    ))
+    (omega (arith, len))
+    (λ ok B at small stands. (rw len (labels_stand B labels at at ok.0 stands), ok.1))

@@ -46,10 +46,8 @@ pub Says-just : (fits : Type 0) (word : List ℕ → ℕ → ℕ → Type 0) (pl
     → Says (just xs) fits word plain []
 Says-just fits word plain xs few is_word = record {
   each = λ at stored. record {
-    stands = λ ok B e is h. rw is (
-      is_word ok B at h.small h.bytes,
-      later_table B at (at + length xs) stored (omega arith) h.table,
-    );
+    stands = λ ok B e is h. rw is
+        (is_word ok B at h.small h.bytes, later_table B at _ stored (omega arith) h.table);
     added = [];
     is = sym (append-nil stored);
     offsets = All-nil (λ (t : Stored). at ≤ t.offset);
@@ -62,7 +60,7 @@ Says-just fits word plain xs few is_word = record {
 pub last_stands : (xs ys B : List ℕ) (i : ℕ) → Stands (xs ++ ys) B i → Stands ys B (i + length xs)
 last_stands xs ys B i h = stands_part xs ys [] B i (rw append-nil h)
 
--- one word after another
+-- one piece after another
 module _ {F G : Type 0} {v w : List ℕ → ℕ → ℕ → Type 0} {owner : List (List ℕ)} {p q : Piece} {at : ℕ}
     {stored : List Stored} (s : SaysAt p at stored F v owner)
     (r : SaysAt q (at + length p.bytes) p.suffixes G w []) where
@@ -99,6 +97,7 @@ module _ {F G : Type 0} {v w : List ℕ → ℕ → ℕ → Type 0} {owner : Lis
     };
   }
 
+-- one word after another
 pub Says-both : {F G : Type 0} {v w : List ℕ → ℕ → ℕ → Type 0} {n m : ℕ} {owner : List (List ℕ)}
     (f g : Writing) → Says f F v n owner → Says g G w m []
     → Says (both f g) (F × G) (Then v w) (n + m) owner
@@ -106,16 +105,12 @@ Says-both f g s r = record {
   each = λ at stored. says_both (s.each at stored) (r.each _ (f at stored).suffixes);
   at_most = λ at stored.
       let next = at + length (f at stored).bytes in
+      let few = s.at_most at stored in
       let more = r.at_most next (f at stored).suffixes in
-      omega (
-        arith,
-        s.at_most at stored,
-        more,
-        length-append (f at stored).bytes (g next (f at stored).suffixes).bytes,
-      );
+      omega (arith, length-append (f at stored).bytes (g next (f at stored).suffixes).bytes);
 }
 
--- a word after its length
+-- a piece after its length
 says_sized : {F : Type 0} {word : List ℕ → ℕ → ℕ → Type 0} {owner : List (List ℕ)} {p : Piece} {at : ℕ}
     {stored : List Stored} → SaysAt p (at + 2) stored F word owner
     → SaysAt (record { bytes = to_be_bytes w16 (length p.bytes) ++ p.bytes; suffixes = p.suffixes }) at
@@ -139,15 +134,14 @@ says_sized {F} {p = p} {at} {stored} s =
       owned = no_owner _ at stored F;
     }
 
+-- a word after its length
 pub Says-sized : {F : Type 0} {word : List ℕ → ℕ → ℕ → Type 0} {plain : ℕ} {owner : List (List ℕ)}
     (f : Writing) → Says f F word plain owner → Says (sized f) F (Sized word) (2 + plain) []
 Says-sized f s = record {
   each = λ at stored. says_sized (s.each (at + 2) stored);
-  at_most = λ at stored. omega (
-    arith,
-    s.at_most (at + 2) stored,
-    length-append (to_be_bytes w16 (length (f (at + 2) stored).bytes)) (f (at + 2) stored).bytes,
-  );
+  at_most = λ at stored.
+      let bytes = (f (at + 2) stored).bytes in
+      omega (arith, s.at_most (at + 2) stored, length-append (to_be_bytes w16 (length bytes)) bytes);
 }
 
 -- bytes as they are

@@ -1,4 +1,4 @@
-use Rattle.std.proofs.Common.{◌≡◌, ℕ, ◌+◌, ◌∙◌, List, [], ◌∷◌, ◌++◌, length, length-append, take, refl, Err, Some, None, ap, sym, arith}
+use Rattle.std.proofs.Common.{◌≡◌, ℕ, ◌+◌, ◌≤◌, ◌∙◌, List, [], ◌∷◌, ◌++◌, length, length-append, take, refl, Err, Some, None, ap, sym, arith}
 use Rattle.std.proofs.lemmas.List.{take_at}
 use Rattle.std.proofs.lemmas.Result.{err_from_is_err_and}
 use Rattle.base.specs.AppendError.{refusal, told}
@@ -39,13 +39,15 @@ loop-label-preserved c =
     c.in_ok-store.ensures.ok ∙ rw (is, c.len-at.ensures)
     (ap (λ m. stored (x ∷ xs) (length s.bytes) m) wrote ∙ label-after x xs s) in
     let len = ap (λ (m : State). length m.bytes) wrote ∙ length-append s.bytes (length x ∷ x) in
+    let fits : length s.bytes + (1 + length x) ≤ s.limit =
+    omega (arith, c.in_ok-append.ensures.keeps.within, len) in
     record {
       wire = record {
         whole = c.in-Some.ensures.others;
         labels = (rw is at c.loop-label.invariant.wire.labels).1;
         short = omega (arith, c.in-Some.ensures.shorter, c.loop-label.invariant.wire.short);
       };
-      keeps = Keeps-then c.loop-label.invariant.keeps (Keeps-label x xs s z st (omega (arith, c.in_ok-append.ensures.keeps.within, len)));
+      keeps = Keeps-then c.loop-label.invariant.keeps (Keeps-label x xs s z st fits);
       exact = c.loop-label.invariant.exact ∙ name-by _ x xs None s is c.in_default-find.ensures.value
           ∙ after-both (label_of x xs) (name xs) s ∙ ap (after (name xs)) (sym st);
     }
@@ -72,8 +74,9 @@ returns-in_err-append-clause-exact c =
     rw (is.1, is.2) (Exactly-from {X = Unit {0}} (Err e) (name c.args.self.now.labels) (both (label_of x xs) (name xs))
     (state_of c.args.encoder.now) s z
     (c.loop-label.invariant.exact ∙ name-by _ x xs None s c.in-Some.ensures.labels c.in_default-find.ensures.value)
-    (Exactly-first (Unit {0}) (Unit {0}) e (label_of x xs) (name xs) s z z (Exactly-refused (Unit {0}) (Unit {0}) e (label_of x xs)
-    (just (take (1 + length x) c.loop-label.rest.now)) s s z z refl (omega (arith, len)) c.in_err-append.ensures.exact)))
+    (Exactly-first (Unit {0}) (Unit {0}) e (label_of x xs) (name xs) s z z
+    (Exactly-refused (Unit {0}) (Unit {0}) e (label_of x xs) (just (take (1 + length x) c.loop-label.rest.now)) s s z z
+    refl (omega (arith, len)) c.in_err-append.ensures.exact)))
 
 pub returns-clause-exact : goal.returns-clause-exact
 returns-clause-exact c =

@@ -1,7 +1,6 @@
-use Rattle.std.proofs.Common.{rules, ◌≡◌, ◌≢◌, ◌∙◌, List, Some, ap, get_or, length, refl, sym, arith}
+use Rattle.std.proofs.Common.{rules, ◌≡◌, ◌≢◌, ◌∙◌, Some, ap, length, refl, sym, arith}
 use Rattle.base.specs.Labels.{labels_of}
 use Rattle.base.specs.SaysName.{found_as, none_found}
-use Rattle.base.specs.State.{Stored}
 use Rattle.base.specs.Suffixes.{offset_at, offset_in}
 use Rattle.base.specs.Written.{found_in}
 use Rattle.base.proofs.SuffixLemmas.{found_first, found_later, found_at, found_end, found_near}
@@ -13,16 +12,18 @@ loop-suffix-init c = ap (λ ts. found_in ts (labels_of c.args.wire.now)) (sym c.
 pub loop-suffix-preserved : goal.loop-suffix-preserved
 loop-suffix-preserved c =
     let t = c.suffix-item.result in
-    let at = c.suffix-item.is ∙ ap (λ (ts : List Stored). get_or ts c.loop-suffix.suffix-index t) c.deref-suffix-items.ensures.value in
+    let at = rw c.deref-suffix-items.ensures.value at c.suffix-item.is in
+    let inside = c.self.inside in
     let other : t.labels ≢ labels_of c.args.wire.now = λ same. let yes = c.is.ensures.1 same in absurd cc in
-    c.loop-suffix.invariant ∙ found_at c.self.inside.first.items c.self.inside.others.items _ t _ (omega arith) at ∙ found_later t _ _ other
+    c.loop-suffix.invariant ∙ found_at inside.first.items inside.others.items _ t _ (omega arith) at ∙ found_later t _ _ other
 
 pub returns-then-is-clause-value : goal.returns-then-is-clause-value
 returns-then-is-clause-value c =
     let t = c.suffix-item.result in
-    let at = c.suffix-item.is ∙ ap (λ (ts : List Stored). get_or ts c.loop-suffix.suffix-index t) c.deref-suffix-items.ensures.value in
+    let at = rw c.deref-suffix-items.ensures.value at c.suffix-item.is in
+    let inside = c.self.inside in
     ap Some c.offset.ensures.value
-    ∙ sym (c.loop-suffix.invariant ∙ found_at c.self.inside.first.items c.self.inside.others.items _ t _ (omega arith) at
+    ∙ sym (c.loop-suffix.invariant ∙ found_at inside.first.items inside.others.items _ t _ (omega arith) at
     ∙ found_first t _ (labels_of c.args.wire.now) (c.if-is.ensures.0 refl))
 
 pub returns-then-is_empty-clause-value : goal.returns-then-is_empty-clause-value
@@ -44,5 +45,7 @@ pub returns-clause-found : goal.returns-clause-found
 returns-clause-found c = found_as _ _ (sym (returns-clause-value c))
 
 pub returns-clause-near : goal.returns-clause-near
-returns-clause-near c = found_near c.self.inside.others.items _ _ c.self.invariant.near
-    (returns-clause-value c ∙ c.loop-suffix.invariant ∙ found_end c.self.inside.first.items c.self.inside.others.items _ _ (omega arith))
+returns-clause-near c =
+    let inside = c.self.inside in
+    found_near inside.others.items _ _ c.self.invariant.near (returns-clause-value c
+    ∙ c.loop-suffix.invariant ∙ found_end inside.first.items inside.others.items _ _ (omega arith))

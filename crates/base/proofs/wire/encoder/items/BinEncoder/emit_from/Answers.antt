@@ -1,9 +1,8 @@
-use Rattle.std.proofs.Common.{◌≡◌, ◌<◌, ◌+◌, ℕ, [], ◌∷◌, length, length-append, Err, ap, sym, ◌∙◌, subst, arith}
+use Rattle.std.proofs.Common.{◌≡◌, [], ◌∷◌, length, length-append, ap, sym, ◌∙◌, arith}
 use Rattle.std.proofs.lemmas.Option.{IfSome_then}
-use Rattle.base.specs.declared.error.proto_error.ProtoError.{ProtoError}
-use Rattle.base.specs.State.{State, cut}
+use Rattle.base.specs.State.{State}
 use Rattle.base.specs.Wire.{state_of}
-use Rattle.base.specs.Written.{Exactly, after, piece_at}
+use Rattle.base.specs.Written.{after, piece_at}
 use Rattle.base.proofs.LawLemmas.{Keeps-then}
 use Rattle.base.proofs.ItemLemmas.{cut-Keeps, Each-keeps, Each-push, Each-valid, Yields-push}
 use Rattle.base.proofs.SaysLemmas.{Says-writes}
@@ -17,13 +16,9 @@ returns-in-MaxBufferSizeExceeded g c =
     let new = state_of c.emit.new.encoder in
     let item = c.in-Some.item in
     let rolled : state_of c.roll_back.new.self ≡ s =
-    c.roll_back.ensures
-    ∙ ap (λ (n : ℕ). cut n c.mark-mark.result.count new) c.mark-mark.ensures.len
-    ∙ ap (λ (n : ℕ). cut (length s.bytes) n new) c.mark-mark.ensures.count
-    ∙ cut-Keeps _ _ c.in-Err.ensures.keeps in
-    let passes : s.limit < length s.bytes + length (piece_at (g.E.BinEncodable.written item) s).bytes =
-    subst (λ (e : ProtoError). Exactly {X = Unit {0}} (g.E.BinEncodable.written item) s new (Err e))
-    c.in-MaxBufferSizeExceeded.is c.in-Err.ensures.exact in
+    rw (c.roll_back.ensures, c.mark-mark.ensures.len, c.mark-mark.ensures.count)
+    (cut-Keeps s new c.in-Err.ensures.keeps) in
+    let passes = rw c.in-MaxBufferSizeExceeded.is at c.in-Err.ensures.exact in
     let bytes = ap (λ (u : State). length u.bytes) rolled in
     let piece = ap (λ (u : State). length (piece_at (g.E.BinEncodable.written item) u).bytes) rolled in
     let keeps = Each-keeps g.E.BinEncodable.word g.E.BinEncodable.plain_len g.E.BinEncodable.owner _ _ _ was.1 in
@@ -64,7 +59,8 @@ loop-next-preserved g c =
         omega (arith, length-append was.0 (item ∷ []), was.3),
         λ before gave. (
           c.loop-next.items,
-          Yields-push g.I.Iterator.next_gives was.0 item before c.loop-next.items (rw c.in-Some.is at (was.4 before gave)),
+          Yields-push g.I.Iterator.next_gives was.0 item before c.loop-next.items
+              (rw c.in-Some.is at (was.4 before gave)),
           c.next-next.ensures.steps,
         ),
       );
