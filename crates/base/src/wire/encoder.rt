@@ -33,7 +33,6 @@ pub struct BinEncoder<'a, T: HasSuffixes = SuffixTable> {
 impl<'a, T: HasSuffixes + Drop> Drop for BinEncoder<'a, T> {
     ghost use Rattle.base.specs.Wire.{vector_of};
 
-    #[inline(always)]
     fn drop(self)
         ensures { self.exit.0.now ≡ vector_of self.entry }
     {
