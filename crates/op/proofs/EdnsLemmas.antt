@@ -1,9 +1,7 @@
 -- What is written of EDNS is its OPT record.
 use Rattle.std.proofs.Common.{◌≡◌, ℕ, ◌^◌, ◌<◌, List, [], ◌∷◌, ◌++◌, refl, ap, ◌∙◌, append_assoc, subst, sym, arith}
 use Rattle.std.specs.Prelude.{All}
-use Rattle.std.specs.Int.{w16, w32, to_be_bytes}
 use Rattle.base.specs.State.{State}
-use Rattle.rr.proofs.WriteSteps.{field_bytes, fields_listed, listed}
 use Rattle.base.specs.DNSClass.{class_number, opt_class}
 use Rattle.base.specs.RecordType.{type_number}
 use Rattle.base.specs.declared.record_type.RecordType.TheVariants as types
@@ -23,13 +21,7 @@ opt_type (option ∷ options) = refl
 
 -- the bytes of the root, the type, the payload size and the TTL
 abbrev pub front_bytes : ℕ → ℕ → List ℕ
-front_bytes payload ttl = 0 ∷ field_bytes (type_number types.OPT) payload ttl
-
--- their bytes one by one
-pub front_listed : (payload ttl : ℕ) (types payloads ttls : List ℕ) → types ≡ to_be_bytes w16 41 → payloads ≡ to_be_bytes w16 payload
-    → ttls ≡ to_be_bytes w32 ttl → 0 ∷ listed types payloads ttls ≡ front_bytes payload ttl
-front_listed payload ttl types payloads ttls type_is payload_is ttl_is =
-    ap (λ (xs : List ℕ). 0 ∷ xs) (fields_listed 41 payload ttl types payloads ttls type_is payload_is ttl_is)
+front_bytes payload ttl = 0 ∷ fields_of (type_number types.OPT) payload ttl
 
 -- ---- what is written of EDNS
 

@@ -1,7 +1,7 @@
 -- Questions that stand are questions that are read.
-use Rattle.std.proofs.Common.{◌≡◌, ℕ, ◌+◌, ◌%◌, ◌<◌, Bool, true, false, List, [], ◌∷◌, ◌++◌, get_or, refl, ap, sym, ◌∙◌, subst, arith, inl, inr, Result, Ok, Err}
+use Rattle.std.proofs.Common.{◌≡◌, ℕ, ◌+◌, ◌%◌, ◌<◌, Bool, true, false, List, refl, ap, sym, ◌∙◌, subst, arith, inl, inr, Result, Ok, Err}
 use Rattle.std.specs.Prelude.{◌↔◌}
-use Rattle.std.specs.Int.{w16, to_be_bytes}
+use Rattle.std.specs.Int.{w16}
 use Rattle.std.proofs.lemmas.Bool.{le-leb, lt-leb}
 use Rattle.base.specs.DNSClass.{class_field, class_number, class_of, field_class, field_top}
 use Rattle.base.specs.Labels.{NameValue}
@@ -17,18 +17,6 @@ use Rattle.base.proofs.ReadLemmas.{bind_ok, bind_err, number_is, number_again, n
 use Rattle.base.proofs.ReadingLemmas.{name_is, name_fault, name_again, fault_again}
 use Rattle.op.specs.Query.{FitsQuery, IsQueryAt, IsQueryFault, IsRawQueryAt, RawQuery, query_at, query_value, raw_query}
 use Rattle.op.specs.declared.query.Query.{Query}
-
--- the bytes of type and class
-abbrev field_bytes : ℕ → ℕ → List ℕ
-field_bytes type class = to_be_bytes w16 type ++ to_be_bytes w16 class
-
--- their bytes one by one
-abbrev listed : List ℕ → List ℕ → List ℕ
-listed type class = get_or type 0 0 ∷ get_or type 1 0 ∷ get_or class 0 0 ∷ get_or class 1 0 ∷ []
-
-pub fields_listed : (type class : ℕ) (types classes : List ℕ) → types ≡ to_be_bytes w16 type → classes ≡ to_be_bytes w16 class
-    → listed types classes ≡ field_bytes type class
-fields_listed type class types classes type_is class_is = rw (type_is, class_is) refl
 
 -- the same question, field by field
 pub same_query : {a b : RecordType} {c d : DNSClass} {e f : Bool} (name : NameValue) → a ≡ b → c ≡ d → e ≡ f

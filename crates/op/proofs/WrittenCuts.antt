@@ -1,5 +1,5 @@
 -- What the definition gives of a message that fits is a cut of it.
-use Rattle.std.proofs.Common.{◌≡◌, ◌∙◌, ℕ, suc, inl, inr, ◌+◌, ◌<◌, ◌≤◌, ◌^◌, Bool, true, false, List, [], ◌∷◌, ◌++◌, length, refl, ap, sym, subst, arith, length-append, Result, Ok, Err, if◌then◌else◌}
+use Rattle.std.proofs.Common.{◌≡◌, ◌∙◌, ℕ, suc, inl, inr, ◌+◌, ◌<◌, ◌≤◌, ◌^◌, Bool, true, false, List, [], ◌∷◌, ◌++◌, length, refl, ap, sym, subst, arith, length-append, Result, Ok}
 use Rattle.std.specs.Prelude.{All, max, nat_lt, replicate, ◌||◌}
 use Rattle.std.specs.Option.{option_map}
 use Rattle.std.proofs.Math.Nat.{le-max_right}
@@ -10,7 +10,6 @@ use Rattle.base.specs.Says.{Says}
 use Rattle.base.specs.State.{State, Stored, appended, overwritten}
 use Rattle.base.specs.Written.{FirstPasses, Writing, after, fitting, in_turn, piece_at, that_fit}
 use Rattle.base.specs.declared.error.proto_error.ProtoError.{ProtoError}
-use Rattle.base.specs.declared.error.proto_error.ProtoError.TheVariants as refusals
 use Rattle.base.proofs.FittingLemmas.{Fits-cut, first_fits, none_fits}
 use Rattle.base.proofs.SaysLemmas.{Says-keeps, Says-writes}
 use Rattle.base.proofs.WrittenLemmas.{after-both, after-none}

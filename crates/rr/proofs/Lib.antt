@@ -13,4 +13,3 @@ pub mod SetSteps
 pub mod SetTidy
 pub mod SortedSteps
 pub mod WithoutSteps
-pub mod WriteSteps
