@@ -47,8 +47,8 @@ fn push_record(
     records.push_str(&record)
 }
 
-/// A deletion, an addition and, every other time, an addition of what was deleted, to an update and to a plain list; how
-/// many records that are.
+/// A deletion, an addition and, every other time, an addition of what was deleted, to an update and to a plain list,
+/// and how many records that are.
 fn take_turn(
     alloc: Global,
     records: &mut String,
