@@ -93,11 +93,17 @@ const REFUSED: &[(&'static [u8], usize, u8)] = &[
 
 #[test]
 fn names_on_the_wire(rt: HostRuntime) {
-    for &(bytes, at, labels, end) in READ {
-        assert!(rt; reads_as(rt.alloc(), bytes, at, labels, end), "{bytes:?}");
+    for (i, &(bytes, at, labels, end)) in READ.iter().enumerate() {
+        assert!(rt;
+            reads_as(rt.alloc(), bytes, at, labels, end),
+            "read: row {i}"
+        );
     }
-    for &(bytes, at, number) in REFUSED {
-        assert!(rt; extent(rt.alloc(), bytes, at).0 == number, "{bytes:?}");
+    for (i, &(bytes, at, number)) in REFUSED.iter().enumerate() {
+        assert!(rt;
+            extent(rt.alloc(), bytes, at).0 == number,
+            "refused: row {i}"
+        );
     }
 }
 
@@ -152,10 +158,10 @@ const LONG: &[(
 
 #[test]
 fn names_of_255_bytes_at_most(rt: HostRuntime) -> Result<(), AllocError> {
-    for &(lens, end, left, at, wanted) in LONG {
+    for (i, &(lens, end, left, at, wanted)) in LONG.iter().enumerate() {
         assert!(rt;
             extent_of(rt.alloc(), (lens, end), left, at)? == wanted,
-            "{lens:?} {end:?} {left} {at}"
+            "row {i}"
         );
     }
     Ok(())

@@ -26,19 +26,24 @@ fn address_record(alloc: Global, owner: &str, ttl: u32, address: Ipv4Addr) -> Re
     Ok(Record::from_rdata(name, ttl, RData::A(A::new(address))))
 }
 
+/// The bytes that a text in parts spells.
+fn bytes_of(alloc: Global, parts: &[&str]) -> Result<Vec<u8>, Fail> {
+    let text = parts.concat(alloc)?;
+    Ok(decode(alloc, &text)?)
+}
+
+/// The answer.
+fn answers(alloc: Global) -> Result<Vec<Record>, Fail> {
+    let address = Ipv4Addr::new(93, 184, 215, 14);
+    let answer = address_record(alloc, "www.example.com.", 2, address)?;
+    Ok(vec![in alloc; answer]?)
+}
+
 /// Whether the query of this header, the question and what stands after it is answered by such a response.
 fn responds(alloc: Global, query: (&str, &str), response: (&str, &str)) -> Result<bool, Fail> {
-    let query = [query.0, QUESTION, query.1].concat(alloc)?;
-    let response = [response.0, QUESTION, ANSWER, response.1].concat(alloc)?;
-    let wanted = decode(alloc, &response)?;
-    let received = decode(alloc, &query)?;
-    let answer = address_record(
-        alloc,
-        "www.example.com.",
-        2,
-        Ipv4Addr::new(93, 184, 215, 14),
-    )?;
-    let answers = vec![in alloc; answer]?;
+    let wanted = bytes_of(alloc, &[response.0, QUESTION, ANSWER, response.1])?;
+    let received = bytes_of(alloc, &[query.0, QUESTION, query.1])?;
+    let answers = answers(alloc)?;
     Ok(are_bytes(respond(alloc, &received, answers), &wanted))
 }
 

@@ -12,26 +12,21 @@ fn name(alloc: Global, text: &str) -> Result<Name, ParseError> {
     Name::parse(alloc, text, None)
 }
 
-/// The number of the refusal; 0 where a name is read.
-fn refusal(alloc: Global, text: &str, origin: Option<&Name>) -> u8 {
+/// Stands for a name that prints as another text than is wanted.
+const OTHER: u8 = 255;
+
+/// The number of the refusal of a text; 0 where a name is read that prints as is wanted, or anyhow if nothing is.
+fn answer(alloc: Global, text: &str, origin: Option<&Name>, wanted: Option<&str>) -> u8 {
     let found = Name::parse(alloc, text, origin);
     let number = match &found {
-        Ok(_) => 0,
+        Ok(read) => match wanted {
+            Some(printed) if !has_text(alloc, read, printed) => OTHER,
+            _ => 0,
+        },
         Err(e) => e.number(),
     };
     drop(found);
     number
-}
-
-/// Whether a text is read and prints as another.
-fn prints(alloc: Global, text: &str, origin: Option<&Name>, printed: &str) -> bool {
-    let found = Name::parse(alloc, text, origin);
-    let is_printed = match &found {
-        Ok(read) => has_text(alloc, read, printed),
-        Err(_) => false,
-    };
-    drop(found);
-    is_printed
 }
 
 /// Texts, and how the names print that are read of them.
@@ -64,10 +59,13 @@ const REFUSED: &[&'static str] = &[
 #[test]
 fn names_of_texts(rt: HostRuntime) {
     for &(text, printed) in PRINTED {
-        assert!(rt; prints(rt.alloc(), text, None, printed), "{text}");
+        assert!(rt;
+            answer(rt.alloc(), text, None, Some(printed)) == 0,
+            "{text}"
+        );
     }
     for &text in REFUSED {
-        assert!(rt; refusal(rt.alloc(), text, None) == 23, "{text}");
+        assert!(rt; answer(rt.alloc(), text, None, None) == 23, "{text}");
     }
 }
 
@@ -83,23 +81,12 @@ const COMPLETED: &[(&'static str, &'static str, &'static str)] = &[
     (".", "a", "a."),
 ];
 
-/// Whether a text under an origin is read and prints as another.
-fn prints_under(alloc: Global, origin: &str, text: &str, printed: &str) -> bool {
-    let origin = name(alloc, origin);
-    let is_printed = match &origin {
-        Ok(origin) => prints(alloc, text, Some(origin), printed),
-        Err(_) => false,
-    };
-    drop(origin);
-    is_printed
-}
-
-/// The number of the refusal of a text under an origin; 0 where a name is read or the origin isn't.
-fn refusal_under(alloc: Global, origin: &str, text: &str) -> u8 {
+/// The same of a text under an origin, which has to be read too.
+fn answer_under(alloc: Global, origin: &str, text: &str, wanted: Option<&str>) -> u8 {
     let origin = name(alloc, origin);
     let number = match &origin {
-        Ok(origin) => refusal(alloc, text, Some(origin)),
-        Err(_) => 0,
+        Ok(origin) => answer(alloc, text, Some(origin), wanted),
+        Err(_) => OTHER,
     };
     drop(origin);
     number
@@ -108,9 +95,12 @@ fn refusal_under(alloc: Global, origin: &str, text: &str) -> u8 {
 #[test]
 fn names_under_an_origin(rt: HostRuntime) {
     for &(origin, text, printed) in COMPLETED {
-        assert!(rt; prints_under(rt.alloc(), origin, text, printed), "{text}");
+        assert!(rt;
+            answer_under(rt.alloc(), origin, text, Some(printed)) == 0,
+            "{text}"
+        );
     }
-    assert!(rt; refusal_under(rt.alloc(), "Example.com.", "") == 23);
+    assert!(rt; answer_under(rt.alloc(), "Example.com.", "", None) == 23);
 }
 
 /// Whether a text is read as a name of these labels, as the root if it is complete.
@@ -137,7 +127,7 @@ fn labels_of_texts(rt: HostRuntime) {
 /// The length of a text in parts, and the number of its refusal; 0 where it is read.
 fn refusal_of_long(alloc: Global, parts: &[&str]) -> Result<(usize, u8), AllocError> {
     let text = parts.concat(alloc)?;
-    let said = (text.len(), refusal(alloc, &text, None));
+    let said = (text.len(), answer(alloc, &text, None, None));
     drop(text);
     Ok(said)
 }
@@ -145,7 +135,7 @@ fn refusal_of_long(alloc: Global, parts: &[&str]) -> Result<(usize, u8), AllocEr
 /// The number of the refusal of one label under an origin of three long ones.
 fn refusal_under_long(alloc: Global, label: &str) -> Result<u8, AllocError> {
     let origin = [L63, ".", L63, ".", L63, "."].concat(alloc)?;
-    let number = refusal_under(alloc, &origin, label);
+    let number = answer_under(alloc, &origin, label, None);
     drop(origin);
     Ok(number)
 }

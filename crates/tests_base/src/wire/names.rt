@@ -177,15 +177,15 @@ const MORE_ROWS: &[Row] = &[
 
 #[test]
 fn rows_of_names(rt: HostRuntime) {
-    for &(steps, from, wanted) in ROWS {
-        assert!(rt; leave(rt.alloc(), steps, from, wanted), "{wanted:?}");
+    for (i, &(steps, from, wanted)) in ROWS.iter().enumerate() {
+        assert!(rt; leave(rt.alloc(), steps, from, wanted), "row {i}");
     }
 }
 
 #[test]
 fn more_rows_of_names(rt: HostRuntime) {
-    for &(steps, from, wanted) in MORE_ROWS {
-        assert!(rt; leave(rt.alloc(), steps, from, wanted), "{wanted:?}");
+    for (i, &(steps, from, wanted)) in MORE_ROWS.iter().enumerate() {
+        assert!(rt; leave(rt.alloc(), steps, from, wanted), "row {i}");
     }
 }
 

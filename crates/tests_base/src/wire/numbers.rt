@@ -36,8 +36,8 @@ const ROWS: &[Row] = &[
 
 #[test]
 fn rows_of_numbers(rt: HostRuntime) {
-    for &(steps, from, wanted) in ROWS {
-        assert!(rt; leave(rt.alloc(), steps, from, wanted), "{wanted:?}");
+    for (i, &(steps, from, wanted)) in ROWS.iter().enumerate() {
+        assert!(rt; leave(rt.alloc(), steps, from, wanted), "row {i}");
     }
 }
 

@@ -13,15 +13,28 @@ use std::test::Fail;
 use test_tools::bytes::decode;
 use txt::Parser;
 
+/// The message that a text in parts spells.
+fn message_of(alloc: Global, parts: &[&str]) -> Result<Message, Refusal> {
+    let text = parts.concat(alloc)?;
+    let bytes = decode(alloc, &text)?;
+    Ok(Message::from_vec(alloc, &bytes)?)
+}
+
+/// The key of an owner and a type.
+pub(super) fn key(alloc: Global, owner: &str, record_type: RecordType) -> Result<RrKey, Fail> {
+    let owner = Name::parse(alloc, owner, None)?;
+    let lowered = LowerName::new(alloc, &owner);
+    drop(owner);
+    Ok(RrKey::new(lowered?, record_type))
+}
+
 /// The answer to an update in parts, and the sets of the text's zone after it.
 pub(super) fn apply(
     alloc: Global,
     text: &str,
     update: &[&str],
 ) -> Result<(ResponseCode, BTreeMap<RrKey, RecordSet>), Refusal> {
-    let update = update.concat(alloc)?;
-    let bytes = decode(alloc, &update)?;
-    let message = Message::from_vec(alloc, &bytes)?;
+    let message = message_of(alloc, update)?;
     let origin = Name::parse(alloc, "example.", None)?;
     let includes = BTreeMap::new(alloc);
     let (name, sets) = Parser::new(alloc, text, &includes, Some(origin)).parse()?;
@@ -45,8 +58,7 @@ fn addresses_after(
     text: &str,
     update: &[&str],
 ) -> Result<Option<(u32, usize)>, Fail> {
-    let owner = Name::parse(alloc, "www.example.", None)?;
-    let key = RrKey::new(LowerName::new(alloc, &owner)?, RecordType::A);
+    let key = key(alloc, "www.example.", RecordType::A)?;
     let (_, sets) = apply(alloc, text, update)?;
     Ok(sets.get(&key).map(|set| (set.ttl(), set.records_count())))
 }
@@ -214,8 +226,7 @@ fn count(
     owner: &str,
     record_type: RecordType,
 ) -> Result<usize, Fail> {
-    let owner = Name::parse(alloc, owner, None)?;
-    let key = RrKey::new(LowerName::new(alloc, &owner)?, record_type);
+    let key = key(alloc, owner, record_type)?;
     Ok(sets.get(&key).map_or(0, |set| set.records_count()))
 }
 
