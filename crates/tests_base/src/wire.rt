@@ -51,7 +51,7 @@ fn emit_name(
     let name = name_of(alloc, name)?;
     let emitted = match step {
         Step::Plain(_) => name.emit_plain(encoder),
-        Step::SizedName(_) => emit_sized(&name, encoder),
+        Step::SizedName(_) => emit_sized(&[0; 2], &name, encoder),
         _ => name.emit(encoder),
     };
     drop(name);
@@ -91,7 +91,7 @@ fn take(alloc: Global, step: Step, encoder: &mut BinEncoder<'_>) -> Result<(), P
             emit_name(alloc, step, name, encoder)
         }
         Step::Value(number) => number.emit(encoder),
-        Step::SizedValue(number) => emit_sized(&number, encoder),
+        Step::SizedValue(number) => emit_sized(&[0; 2], &number, encoder),
         Step::Type(record_type) => record_type.emit(encoder),
         Step::Class(class) => class.emit(encoder),
         Step::Letters(count) => emit_letters(alloc, count, encoder),
