@@ -1,5 +1,5 @@
-//! Tests of `base`, `base_data` and `rr`: names, the wire, tokens, types and classes, refusals and their texts; data of
-//! every kind, its bytes, its order and its texts; records and record sets.
+//! Tests of `base` and `base_data`: names, the wire, tokens, types and classes, refusals and their texts; data of every
+//! kind, its bytes, its order and its texts.
 #![tactic(auto)]
 
 #[cfg(test)]
@@ -8,14 +8,6 @@ mod data;
 mod errors;
 #[cfg(test)]
 mod names;
-#[cfg(test)]
-mod records;
-#[cfg(test)]
-mod refused_memory;
-#[cfg(test)]
-mod rows;
-#[cfg(test)]
-mod sets;
 #[cfg(test)]
 mod texts;
 #[cfg(test)]
