@@ -1,6 +1,7 @@
 -- The labels that are kept at the offsets that compression pointers led to.
 use Rattle.base.specs.declared.limits.TheConstants.{MAX_LABELS, POINTER_LIMIT}
-use Rattle.std.specs.Prelude.{◌≡◌, ◌≢◌, ℕ, zero, suc, true, ◌+◌, ◌-◌, ◌^◌, ◌<◌, ◌≤◌, ◌==◌, List, [], ◌∷◌, ◌++◌, All, Option, Some, None, if◌then◌else◌, drop, get_or, length, map, option_map}
+use Rattle.std.specs.Prelude.{◌≡◌, ◌≢◌, ℕ, zero, suc, true, ◌+◌, ◌-◌, ◌^◌, ◌<◌, ◌≤◌, ◌==◌, List}
+use Rattle.std.specs.Prelude.{[], ◌∷◌, ◌++◌, All, Option, Some, None, if◌then◌else◌, drop, get_or, length, map, option_map}
 use Rattle.std.specs.Borrow.{Bor}
 use Rattle.std.specs.FinMap as labels_by
 use Rattle.std.specs.FinSet as set

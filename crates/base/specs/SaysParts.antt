@@ -1,13 +1,13 @@
 -- What is known of what is written in parts, put together as what is written is.
 use Rattle.std.proofs.Common.{◌≡◌, ℕ, ◌+◌, ◌^◌, ◌<◌, ◌≤◌, List, [], ◌++◌, length, refl, sym, ◌∙◌, append_assoc, arith, length-append}
 use Rattle.std.specs.Prelude.{All, Any}
-use Rattle.std.specs.Int.{w16, to_be_bytes}
+use Rattle.std.specs.Int.{w16, w32, to_be_bytes}
 use Rattle.std.proofs.lemmas.List.{append-nil, get_or_append_left, get_or-append-add}
 use Rattle.std.proofs.lemmas.List.Elements.{All-nil, All-append}
 use Rattle.base.specs.Laws.{IsSpelled}
 use Rattle.base.specs.Says.{IsThere, IsOwned, SaysAt, Says}
 use Rattle.base.specs.State.{Stored}
-use Rattle.base.specs.WordLemmas.{first_stands, stands_part, number16_stands}
+use Rattle.base.specs.WordLemmas.{first_stands, stands_part, number16_stands, number32_stands}
 use Rattle.base.specs.Words.{Stands, Bytes, Number, Then, Sized}
 use Rattle.base.specs.Written.{Piece, Writing, just, both, sized}
 
@@ -153,6 +153,11 @@ Says-bytes xs =
 pub Says-number : (n : ℕ) → Says (just (to_be_bytes w16 n)) (n < 2 ^ 16) (Number w16 n) 2 []
 Says-number n = Says-just (n < 2 ^ 16) (Number w16 n) 2 (to_be_bytes w16 n) (omega arith)
     (λ ok B at small h. (number16_stands n B at ok h, omega arith))
+
+-- a number of four bytes
+pub Says-number32 : (n : ℕ) → Says (just (to_be_bytes w32 n)) (n < 2 ^ 32) (Number w32 n) 4 []
+Says-number32 n = Says-just (n < 2 ^ 32) (Number w32 n) 4 (to_be_bytes w32 n) (omega arith)
+    (λ ok B at small h. (number32_stands n B at ok h, omega arith))
 
 -- what has a name before it, or nothing, as a part of something else
 pub Says-unowned : {F : Type 0} {word : List ℕ → ℕ → ℕ → Type 0} {plain : ℕ} {owner : List (List ℕ)}

@@ -14,8 +14,7 @@ use Rattle.base_data.specs.Fields.{number_item, name_item, ◌>>?◌}
 use Rattle.base_data.specs.Kind.{HasText, Kind, bare}
 use Rattle.base.specs.SaysName.{Says-name}
 use Rattle.base.specs.Says.{Says}
-use Rattle.base.specs.SaysParts.{Says-both, Says-just, Says-unowned, Says-weaker}
-use Rattle.base.specs.WordLemmas.{number32_stands}
+use Rattle.base.specs.SaysParts.{Says-both, Says-number32, Says-unowned, Says-weaker}
 use Rattle.base_data.specs.NameData.{name_octets}
 use Rattle.base.specs.Written.{both, just, name}
 
@@ -99,11 +98,6 @@ soa_text x = name_text x.mname ++
     ++ (codes " "
     ++ (decimal x.retry
     ++ (codes " " ++ (decimal x.expire ++ (codes " " ++ (decimal x.minimum))))))))))))
-
--- a number of four bytes
-pub Says-number32 : (n : ℕ) → Says (just (to_be_bytes w32 n)) (n < 2 ^ 32) (Number w32 n) 4 []
-Says-number32 n = Says-just (n < 2 ^ 32) (Number w32 n) 4 (to_be_bytes w32 n) (omega arith)
-    (λ ok B at small h. (number32_stands n B at ok h, omega arith))
 
 -- the bytes of the numbers are the numbers
 pub soa_numbers_say : (x : SOA) → Says (just (soa_numbers x)) (SOAFits x) (SOANumbers x) 20 []

@@ -182,7 +182,10 @@ module _ (m : MessageValue) (old new : State) (h : Header) (e : Emitted m old ne
         (sym op_kept) (all_given e.additionals.kept m.metadata.op_code fits_additionals one_edns.some one_signature.some);
     signature_last = all_end e.additionals.kept m.metadata.op_code fits_additionals one_edns.some one_signature.some;
     one_opt = one_opt e.additionals.kept m.metadata.op_code fits_additionals one_edns.some one_signature.some;
-    message = ap (message_of (metadata_value (raw_header h)) m.queries e.answers.kept e.authorities.kept) (sym (sorted e.additionals.kept m.metadata.op_code fits_additionals one_edns.some one_signature.some (λ k d below. (fits_edns k d below).0)));
+    message =
+        ap (message_of (metadata_value (raw_header h)) m.queries e.answers.kept e.authorities.kept)
+        (sym (sorted e.additionals.kept m.metadata.op_code fits_additionals one_edns.some one_signature.some
+        (λ k d below. (fits_edns k d below).0)));
   }
 
   -- ---- the metadata

@@ -1,5 +1,6 @@
 -- Items that were written, and those that had no room, are a front.
-use Rattle.std.proofs.Common.{◌≡◌, ℕ, ◌+◌, ◌<◌, Bool, true, false, List, [], ◌∷◌, ◌++◌, length, map, refl, ap, sym, ◌∙◌, subst, arith, length-append, ◌^◌, Option, Some, None, Result, Ok, Err, Bor, ◌⊎◌, inl, inr}
+use Rattle.std.proofs.Common.{◌≡◌, ℕ, ◌+◌, ◌<◌, Bool, true, false, List, [], ◌∷◌, ◌++◌, length, map, refl, ap, sym}
+use Rattle.std.proofs.Common.{◌∙◌, subst, arith, length-append, ◌^◌, Option, Some, None, Result, Ok, Err, Bor, ◌⊎◌, inl, inr}
 use Rattle.std.specs.Prelude.{IsSomeAnd, MatchOption}
 use Rattle.std.specs.Option.{option_copied, option_map}
 use Rattle.std.specs.Iterator.{Yields}

@@ -4,11 +4,10 @@ use Rattle.std.specs.Int.{w16, w32, to_be_bytes}
 use Rattle.base.specs.Labels.{AreNameLabels}
 use Rattle.base.specs.Says.{Says}
 use Rattle.base.specs.SaysName.{Says-name}
-use Rattle.base.specs.SaysParts.{Says-both, Says-number, Says-sized, Says-unowned, Says-weaker}
+use Rattle.base.specs.SaysParts.{Says-both, Says-number, Says-number32, Says-sized, Says-unowned, Says-weaker}
 use Rattle.base.specs.Words.{IsNumberAt, NameAt, Number, Sized, Then}
 use Rattle.base.specs.Written.{Writing, both, just, name, sized}
 use Rattle.base_data.specs.Kinds.{DataWord, data_written, plain_data}
-use Rattle.base_data.specs.SOA.{Says-number32}
 use Rattle.base_data.specs.declared.rdata.RData.{RData}
 use Rattle.rr.specs.Record.{RecordWord, plain_record, raw_record, record_written}
 use Rattle.rr.specs.declared.record.Record.{Record}

@@ -41,7 +41,8 @@ placed g c = Keeps-appended (replicate 12 0) (state_of c.args.encoder.now) (stat
 
 -- the sections were written: what comes after them ends the whole
 after_sections : (g : _) (c : In_ok-additionals g) {i j k l m : Type 0} {next : ℕ → ℕ → Written → Written → Written → State → Result Header ProtoError → State → Type 0} {result : Result Header ProtoError} {y z : State}
-    → Keeps (state_of c.emit_part-3.new.encoder) y × next c.in_ok-place.place c.in_ok-query_count.query_count c.in_ok-answers.answers c.in_ok-authorities.authorities c.in_ok-additionals.additionals (state_of c.emit_part-3.new.encoder) result z
+    → Keeps (state_of c.emit_part-3.new.encoder) y × next c.in_ok-place.place c.in_ok-query_count.query_count c.in_ok-answers.answers c.in_ok-authorities.authorities
+    c.in_ok-additionals.additionals (state_of c.emit_part-3.new.encoder) result z
     → Keeps (state_of c.args.encoder.now) y × AndThen KeepsRoom i (λ place. AndThen (λ s answer t. g.Q.EmitAndCount.emits c.args.queries.now s answer c.emit.new.self t) j (λ queries.
     AndThen (EmitsPart g.A.EmitAndCount.emits c.args.answers.now c.emit_part.new.part) k (λ answers. AndThen (EmitsPart g.N.EmitAndCount.emits c.args.authorities.now c.emit_part-2.new.part) l (λ authorities.
     AndThen (EmitsPart g.D.EmitAndCount.emits c.args.additionals.now c.emit_part-3.new.part) m (next place queries answers authorities))))) (state_of c.args.encoder.now) result z
