@@ -1,5 +1,5 @@
 -- The labels of a name that stands in one piece.
-use Rattle.std.proofs.Common.{◌≡◌, ℕ, zero, suc, ◌+◌, ◌-◌, ◌<◌, ◌≤◌, List, [], ◌∷◌, ◌++◌, length, take, drop, get_or, None, Result, Ok, true, ap, sym, ◌∙◌, subst, arith, length-drop}
+use Rattle.std.proofs.Common.{◌≡◌, ℕ, zero, suc, ◌+◌, ◌-◌, ◌<◌, ◌≤◌, List, [], ◌∷◌, ◌++◌, length, take, drop, get_or, get_or-take, None, Result, Ok, true, refl, ap, sym, ◌∙◌, subst, arith, length-drop, length-take, ◌≢◌}
 use Rattle.std.proofs.Math.Seq.{take-add}
 use Rattle.std.specs.Prelude.{All}
 use Rattle.std.proofs.lemmas.List.{append-nil, drop-append-le, drop-drop, drop_all, get_or-drop}
@@ -14,9 +14,9 @@ use Rattle.base.specs.Passing.{IsClosed}
 use Rattle.base.specs.Reader.{Reader}
 use Rattle.base.specs.declared.error.decode_error.DecodeError.{DecodeError}
 use Rattle.base.specs.declared.name.reading.Part.{Part}
-use Rattle.base.proofs.GatherLemmas.{Gathers, IsWire-append, at_kept, at_root, gathers_label, gathers_none, kept_end, label_fits, root_inside}
+use Rattle.base.proofs.GatherLemmas.{Gathers, IsWire-append, at_kept, at_root, gathers_label, gathers_none, kept_end, root_inside}
 use Rattle.base.proofs.PassLemmas.{Leads, Leads-kept, Leads-label, Leads-none, Leads-root}
-use Rattle.base.proofs.WalkLemmas.{PartIs, is_past, is_root, is_cut_label, is_label, is_bits, is_cut_pointer, is_pointer, part_is}
+use Rattle.base.proofs.WalkLemmas.{PartIs, byte, is_past, is_root, is_cut_label, is_label, is_bits, is_cut_pointer, is_pointer, part_is}
 use Rattle.base.proofs.WalkLemmas.{part_at-past, part_at-root, part_at-cut_label, part_at-label, part_at-bits, part_at-cut_pointer, part_at-pointer}
 
 -- what stands at a place, where something does
@@ -59,8 +59,17 @@ module _ {r : Reader} {used : ℕ} (walked : Walked r used) where
         leads = subst (λ (k : ℕ). Leads r.bytes r.index [] r.index k) next (Leads-label walked.leads is (omega arith));
       }
 
-  pub fits : (n : ℕ) → part_at r.bytes (r.index + used) ≡ Ok (label_of n) → r.index + used + 1 + n ≤ length r.bytes
-  fits n is = label_fits r.bytes (r.index + used) n is
+  -- a label's length, where its label ends among the first 255 bytes
+  pub walked_length : (near : List ℕ) (m n : ℕ) → near ≡ take m (drop r.index r.bytes) → m ≤ 255 → used < length near → n ≡ get_or near used 0 → n ≢ 0 → n ≤ 63
+      → used + (1 + n) < length near → Walked r (used + (1 + n))
+  walked_length near m n near_is few begins is some small ends =
+      let at = r.index + used in
+      let len : length near ≤ length r.bytes - r.index = omega (arith, ap length near_is, length-take m (drop r.index r.bytes), length-drop r.index r.bytes) in
+      let short : length near ≤ m = omega (arith, ap length near_is, length-take m (drop r.index r.bytes)) in
+      let there : get_or near used 0 ≡ get_or r.bytes at 0 =
+      ap (λ (xs : List ℕ). get_or xs used 0) near_is ∙ get_or-take m (drop r.index r.bytes) used 0 (omega (arith, begins, short)) ∙ get_or-drop r.index r.bytes used 0 in
+      let here : ByteAt anywhere r.bytes at n = byte r.bytes at n (omega (arith, begins, len)) (sym (is ∙ there)) in
+      walked_label n (1 + n) (part_at-label r.bytes at n here (grind (arith, some)) small (omega (arith, ends, len))) refl (omega (arith, ends, short, few))
 
   pub name_root : part_at r.bytes (r.index + used) ≡ Ok zero_byte → IsName r (own r used ++ []) (r.index + used + 1)
   name_root is =

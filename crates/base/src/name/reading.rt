@@ -13,7 +13,7 @@ ghost use Rattle.base.specs.Spelling.{Spelled};
 
 use crate::error::DecodeError;
 use crate::labels::Labels;
-use crate::limits::{MAX_LABELS, MAX_NAME};
+use crate::limits::{MAX_LABEL, MAX_LABELS, MAX_NAME};
 use crate::name::Name;
 use crate::name::followed::{FollowedPointer, FollowedPointers};
 use crate::wire::{BinDecodable, BinDecoder};
@@ -231,41 +231,38 @@ fn read_in_place<'d>(decoder: &'d BinDecoder<'_>) -> Option<InPlace<'d>>
 {
     let first = decoder.index();
     let own = decoder.rest();
+    // A name that ends within so many bytes isn't too long, so that its length isn't looked at after each label.
+    let near = &own[..own.len().min(MAX_NAME)];
     let mut used = 0;
-    'labels: loop {
-        match read_part(own, used) {
-            Err(_) => return None,
-            Ok(Part::Root) => {
-                return Some(InPlace {
-                    own,
-                    used,
-                    kept: &own[..0],
-                    end: first + used + 1,
-                });
+    while used < near.len() && near[used] != 0 && usize::from(near[used]) <= MAX_LABEL {
+        used += 1 + usize::from(near[used]);
+    }
+    if used >= near.len() {
+        return None;
+    }
+    match read_part(own, used) {
+        Ok(Part::Root) => Some(InPlace {
+            own,
+            used,
+            kept: &own[..0],
+            end: first + used + 1,
+        }),
+        Ok(Part::Pointer(target)) => {
+            if usize::from(target) >= first {
+                return None;
             }
-            Ok(Part::Label(len)) => {
-                let size = 1 + usize::from(len);
-                if used + size + 1 > MAX_NAME {
-                    return None;
-                }
-                used += size;
+            let kept = decoder.labels_at(target)?;
+            if used + kept.len() + 1 > MAX_NAME {
+                return None;
             }
-            Ok(Part::Pointer(target)) => {
-                if usize::from(target) >= first {
-                    return None;
-                }
-                let kept = decoder.labels_at(target)?;
-                if used + kept.len() + 1 > MAX_NAME {
-                    return None;
-                }
-                return Some(InPlace {
-                    own,
-                    used,
-                    kept,
-                    end: first + used + 2,
-                });
-            }
+            Some(InPlace {
+                own,
+                used,
+                kept,
+                end: first + used + 2,
+            })
         }
+        _ => None,
     }
 }
 

@@ -1,8 +1,24 @@
-use Rattle.std.proofs.Common.{◌≡◌, ℕ, ◌+◌, ◌<◌, List, [], ◌++◌, take, drop, ap, sym, ◌∙◌, subst, arith}
+use Rattle.std.proofs.Common.{◌≡◌, ℕ, ◌+◌, ◌<◌, List, [], ◌++◌, Option, Some, None, length, take, drop, ap, sym, ◌∙◌, subst, arith}
+use Rattle.std.specs.Prelude.{IfSome}
+use Rattle.base.specs.declared.name.reading.InPlace.{InPlace}
 use Rattle.base.specs.Pointers.{IsKept}
 use Rattle.base.specs.Reader.{Reader}
-use Rattle.base.proofs.PieceLemmas.{IsName, found, name_kept, name_root, part_is_there, walked_label, walked_none}
+use Rattle.base.proofs.PieceLemmas.{IsName, found, name_kept, name_root, part_is_there, walked_length, walked_none}
 use Rattle.base.proofs.name.reading.read_in_place.Goals as goal
+use Rattle.base.proofs.name.reading.read_in_place.Goals.{in-Ok-Root, in-Ok-Pointer+else-from-first+in_ok-kept-in-Ok-Pointer+else-used-kept-gt-MAX_NAME, in_default}
+
+pub loop-used-init : goal.loop-used-init
+loop-used-init c = λ some. walked_none c.args.decoder.now (omega (arith, c.index-first.ensures.inside, c.index-first.ensures.value))
+
+pub loop-used-preserved : goal.loop-used-preserved
+loop-used-preserved c = λ ends.
+    let n = c.from-in-loop-used.result in
+    let m = c.min.result in
+    let near = take m c.rest-own.result.now in
+    let begins : c.loop-used.used < length near = c.loop-used-test.true in
+    let same : c.from.result ≡ n = c.from.ensures ∙ sym c.from-in-loop-used.ensures in
+    walked_length (c.loop-used.invariant begins) near m n (ap (take m) c.rest-own.ensures) (omega (arith, c.min.ensures)) begins c.from-in-loop-used.ensures
+    (λ none. c.if-near-used-ne0.true (sym c.from-in-loop-used.ensures ∙ none)) (omega (arith, same, c.if-from-le-MAX_LABEL.true)) ends
 
 -- the name that was found, as its parts are lent
 lent : (r : Reader) (own items : List ℕ) (first used more : ℕ) → own ≡ drop r.index r.bytes → first ≡ r.index → IsName r (take used (drop r.index r.bytes) ++ items) (r.index + used + more)
@@ -11,56 +27,42 @@ lent r own items first used more own_is here is =
     subst (λ (bytes : List ℕ). IsName r (take used bytes ++ items) (first + used + more)) (sym own_is)
     (subst (λ (k : ℕ). IsName r (take used (drop r.index r.bytes) ++ items) (k + used + more)) (sym here) is)
 
-pub labels-init : goal.labels-init
-labels-init c = walked_none c.args.decoder.now (omega (arith, c.index-first.ensures.inside, c.index-first.ensures.value))
-
-root : (c : goal.In-Ok-Root) → IsName c.args.decoder.now (take c.labels.used c.rest-own.result.now ++ []) (c.index-first.result + c.labels.used + 1)
-root c =
+-- what was found is the name at the place
+is_name : (c : goal.Joined-this) → IfSome c.match-read_part.result (λ p. IsName c.args.decoder.now (take p.used p.own.now ++ p.kept.now) p.end)
+is_name c =
     let r = c.args.decoder.now in
     let own = c.rest-own.result.now in
-    let is = part_is_there r.bytes own r.index c.labels.used _ c.rest-own.ensures (c.in-Ok-Root.ensures.value ∙ ap found c.in-Ok-Root.field-0-is) in
-    lent r own [] c.index-first.result c.labels.used 1 c.rest-own.ensures c.index-first.ensures.value (name_root c.labels.invariant is)
+    let used = c.loop-used.used in
+    let walked = c.loop-used.invariant c.if-used-near.false in
+    elim c.match-read_part.branch [
+      | in-Ok-Root w ↦ rw w.result-is
+          (lent r own [] c.index-first.result used 1 c.rest-own.ensures c.index-first.ensures.value
+          (name_root walked (part_is_there r.bytes own r.index used _ c.rest-own.ensures (w.in-Ok-Root.ensures.value ∙ ap found w.in-Ok-Root.field-0-is))))
+      | in-Ok-Pointer+else-from-first+in_ok-kept-in-Ok-Pointer+else-used-kept-gt-MAX_NAME w ↦
+          let items = w.in_ok-kept-in-Ok-Pointer.kept.now in
+          let t = w.in-Ok-Pointer.target in
+          let below : t < r.index = omega (arith, w.from-in-Ok-Pointer.ensures, w.if-from-first.false, c.index-first.ensures.value) in
+          let there : IsKept r.bytes t items = w.in_ok-kept-in-Ok-Pointer.ensures.spelled in
+          rw w.result-is
+          (lent r own items c.index-first.result used 2 c.rest-own.ensures c.index-first.ensures.value
+          (name_kept walked items (part_is_there r.bytes own r.index used _ c.rest-own.ensures (w.in-Ok-Pointer.ensures.value ∙ ap found w.in-Ok-Pointer.field-0-is)) below there
+          (omega (arith, w.if-used-kept-gt-MAX_NAME.false)) (sym w.in_ok-kept-in-Ok-Pointer.ensures.is) w.in_ok-kept-in-Ok-Pointer.ensures.closed))
+      | in_default w ↦ rw w.result-is tt
+    ]
 
-pub returns-in-Ok-Root-clause-read : goal.returns-in-Ok-Root-clause-read
-returns-in-Ok-Root-clause-read c = (root c).read
+of_name : (r : Reader) (o : Option InPlace) (P : InPlace → Type 0) → IfSome o (λ p. IsName r (take p.used p.own.now ++ p.kept.now) p.end)
+    → ((p : InPlace) → IsName r (take p.used p.own.now ++ p.kept.now) p.end → P p) → IfSome o P
+of_name r None P is gives = tt
+of_name r (Some p) P is gives = gives p is
 
-pub returns-in-Ok-Root-clause-end : goal.returns-in-Ok-Root-clause-end
-returns-in-Ok-Root-clause-end c = (root c).end
+pub returns-clause-read : goal.returns-clause-read
+returns-clause-read c = of_name _ _ _ (is_name c) (λ p is. is.read)
 
-pub returns-in-Ok-Root-clause-these : goal.returns-in-Ok-Root-clause-these
-returns-in-Ok-Root-clause-these c = (root c).these
+pub returns-clause-wire : goal.returns-clause-wire
+returns-clause-wire c = of_name _ _ _ (is_name c) (λ p is. is.wire)
 
-pub returns-in-Ok-Root-clause-wire : goal.returns-in-Ok-Root-clause-wire
-returns-in-Ok-Root-clause-wire c = (root c).wire
+pub returns-clause-end : goal.returns-clause-end
+returns-clause-end c = of_name _ _ _ (is_name c) (λ p is. is.end)
 
-pub labels-preserved : goal.labels-preserved
-labels-preserved c =
-    let r = c.args.decoder.now in
-    let is = part_is_there r.bytes c.rest-own.result.now r.index c.labels.used _ c.rest-own.ensures (c.in-Ok-Label.ensures.value ∙ ap found c.in-Ok-Label.field-0-is) in
-    walked_label c.labels.invariant c.in-Ok-Label.len (1 + c.from-size.result) is (omega (arith, c.from-size.ensures)) (omega (arith, c.if-used-size-gt-MAX_NAME.false))
-
-kept : (c : goal.Else-used-kept-gt-MAX_NAME) → IsName c.args.decoder.now
-    (take c.labels.used c.rest-own.result.now ++ c.in_ok-kept-in-Ok-Pointer.kept.now)
-    (c.index-first.result + c.labels.used + 2)
-kept c =
-    let r = c.args.decoder.now in
-    let own = c.rest-own.result.now in
-    let is = part_is_there r.bytes own r.index c.labels.used _ c.rest-own.ensures (c.in-Ok-Pointer.ensures.value ∙ ap found c.in-Ok-Pointer.field-0-is) in
-    let items = c.in_ok-kept-in-Ok-Pointer.kept.now in
-    let below : c.in-Ok-Pointer.target < r.index = omega (arith, c.from.ensures, c.if-from-first.false, c.index-first.ensures.value) in
-    let there : IsKept r.bytes c.in-Ok-Pointer.target items = c.in_ok-kept-in-Ok-Pointer.ensures.spelled in
-    lent r own items c.index-first.result c.labels.used 2 c.rest-own.ensures c.index-first.ensures.value
-    (name_kept c.labels.invariant items is below there (omega (arith, c.if-used-kept-gt-MAX_NAME.false))
-    (sym c.in_ok-kept-in-Ok-Pointer.ensures.is) c.in_ok-kept-in-Ok-Pointer.ensures.closed)
-
-pub returns-in-Ok-Pointer-clause-read : goal.returns-in-Ok-Pointer-clause-read
-returns-in-Ok-Pointer-clause-read c = (kept c).read
-
-pub returns-in-Ok-Pointer-clause-wire : goal.returns-in-Ok-Pointer-clause-wire
-returns-in-Ok-Pointer-clause-wire c = (kept c).wire
-
-pub returns-in-Ok-Pointer-clause-end : goal.returns-in-Ok-Pointer-clause-end
-returns-in-Ok-Pointer-clause-end c = (kept c).end
-
-pub returns-in-Ok-Pointer-clause-these : goal.returns-in-Ok-Pointer-clause-these
-returns-in-Ok-Pointer-clause-these c = (kept c).these
+pub returns-clause-these : goal.returns-clause-these
+returns-clause-these c = of_name _ _ _ (is_name c) (λ p is. is.these)

@@ -1,9 +1,10 @@
-use Rattle.std.specs.Prelude.{◌-◌}
+use Rattle.std.specs.Prelude.{◌-◌, ◌<◌, length}
 use Rattle.base.proofs.PieceLemmas.{Walked}
 use Rattle.base.proofs.name.reading.read_in_place.Given as goal
 
-abbrev pub invariant-labels : goal.invariant-labels
-invariant-labels l = Walked l.decoder l.used
+-- a label that begins within the bytes looked at ends there before another part begins there
+abbrev pub invariant-loop-used : goal.invariant-loop-used
+invariant-loop-used l = l.used < length l.near → Walked l.decoder l.used
 
-abbrev pub decreases-labels : goal.decreases-labels
-decreases-labels l = 255 - l.used
+abbrev pub decreases-loop-used : goal.decreases-loop-used
+decreases-loop-used l = 255 - l.used
