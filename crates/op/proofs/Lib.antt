@@ -27,6 +27,7 @@ pub mod MessageEquals
 pub mod MessageStands
 pub mod MessageWrittenLemmas
 mod OwnerLemmas
+mod PlainSections
 mod ReadFits
 mod SectionLemmas
 mod SectionStands

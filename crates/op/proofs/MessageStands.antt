@@ -28,13 +28,13 @@ use Rattle.op.proofs.SectionWords.{Stand}
 
 -- ---- sections outside additionals hold ordinary records alone
 
-not_opt : (t : RecordType) → is_additional_type t ≡ false → is_opt_type t ≡ false
+pub not_opt : (t : RecordType) → is_additional_type t ≡ false → is_opt_type t ≡ false
 not_opt t elsewhere = elim (cases_Bool (is_opt_type t)) [
   | inl is ↦ absurd (true≢false (sym (ap is_additional_type (opt_is t is)) ∙ elsewhere))
   | inr other ↦ other
 ]
 
-not_signature : (r : Record RData) → is_additional r ≡ false → is_signature r ≡ false
+pub not_signature : (r : Record RData) → is_additional r ≡ false → is_signature r ≡ false
 not_signature r elsewhere = elim (cases_Bool (is_signature r)) [
   | inl is ↦ absurd (true≢false (sym (ap is_additional_type (signature_type r.rdata is)) ∙ elsewhere))
   | inr other ↦ other

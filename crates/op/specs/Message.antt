@@ -13,6 +13,7 @@ use Rattle.op.specs.ResponseCode.{code_from, code_low}
 use Rattle.op.specs.Section.{AtMostOneOpt, EndsWithSignature, HasNeededData, IsPlain, SectionValue, sections_at, section_of}
 use Rattle.op.specs.declared.edns.Edns.{Edns}
 use Rattle.op.specs.declared.header.Header.{Header}
+use Rattle.op.specs.declared.header.header_counts.HeaderCounts.{HeaderCounts}
 use Rattle.op.specs.declared.header.metadata.Metadata.{Metadata}
 use Rattle.op.specs.declared.message.Message.{Message}
 use Rattle.op.specs.declared.query.Query.{Query}
@@ -51,6 +52,10 @@ empty_message metadata =
       edns = None;
       signature = None;
     }
+
+-- a message with nothing after its questions
+abbrev pub asking : Metadata → List Query → MessageValue
+asking metadata queries = record (empty_message metadata) { queries = queries }
 
 -- the code of a header with the eight bits of EDNS above it (RFC 6891, 6.1.3)
 abbrev pub high_code : Option Edns → Metadata → Metadata
@@ -103,6 +108,16 @@ pub record IsMessageAt (B : List ℕ) (i : ℕ) (m : MessageValue) (e : ℕ) : T
   -- the message
   pub message : m
       ≡ message_of header.metadata m.queries answers authorities (section_of additionals)
+
+-- what stands after a header and questions, as a message with these
+abbrev pub rest_at : Metadata → List Query → HeaderCounts → List ℕ → ℕ → Read MessageValue
+rest_at metadata queries counts bytes i = do
+  sections ← sections_at metadata.op_code counts bytes i
+  Ok (
+    message_of metadata queries sections.0.answers.records sections.0.authorities.records
+        sections.0.additionals,
+    sections.1,
+  )
 
 -- the message that stands at i, or its first fault: header, questions, answers, authorities, additionals
 unfoldable pub message_at : List ℕ → ℕ → Read MessageValue

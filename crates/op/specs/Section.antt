@@ -21,8 +21,6 @@ use Rattle.rr.specs.declared.record.Record.{Record}
 use Rattle.op.specs.EdnsFlags.{flags_of_number}
 use Rattle.op.specs.declared.edns.Edns.{Edns}
 use Rattle.op.specs.declared.header.header_counts.HeaderCounts.{HeaderCounts}
-use Rattle.op.specs.declared.message.reading.Section.{Section}
-use Rattle.op.specs.declared.message.reading.Sections.{Sections}
 use Rattle.op.specs.declared.op_code.OpCode.{OpCode}
 use Rattle.op.specs.declared.op_code.OpCode.TheVariants as op_codes
 
@@ -98,23 +96,19 @@ pub record SectionValue : Type 0 where
   pub signature : Option (Record (List ℕ))
 
 -- a section that is being read, as contracts see it
-abbrev pub section_value : Section → SectionValue
-section_value s =
+abbrev pub section_value : List (Record RData) → Option Edns
+    → Option (Box (Record (List ℕ))) → SectionValue
+section_value records edns signature =
     record {
-      records = s.records.items;
-      edns = s.edns;
-      signature = option_map (λ b. b.value) s.signature;
+      records = records;
+      edns = edns;
+      signature = option_map (λ b. b.value) signature;
     }
 
 -- what reading a section answers, as contracts see it
 abbrev pub read_section_value : Vec (Record RData) × Option Edns × Option (Box (Record (List ℕ)))
     → SectionValue
-read_section_value parts =
-    record {
-      records = parts.0.items;
-      edns = parts.1;
-      signature = option_map (λ b. b.value) parts.2;
-    }
+read_section_value parts = section_value parts.0.items parts.1 parts.2
 
 -- what records become: EDNS and a signature by themselves, and the other records in their order
 abbrev pub section_of : List (Record RData) → SectionValue
@@ -174,15 +168,6 @@ pub record SectionsValue : Type 0 where
   pub answers : SectionValue
   pub authorities : SectionValue
   pub additionals : SectionValue
-
--- the sections of a message that is being read, as contracts see them
-abbrev pub sections_value : Sections → SectionsValue
-sections_value s =
-    record {
-      answers = section_value s.answers;
-      authorities = section_value s.authorities;
-      additionals = section_value s.additionals;
-    }
 
 -- the three sections at a place, one after another
 abbrev pub sections_at : OpCode → HeaderCounts → List ℕ → ℕ → Read SectionsValue

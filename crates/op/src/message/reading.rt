@@ -2,18 +2,18 @@
 
 ghost use Rattle.std.specs.FinSet as set;
 ghost use Rattle.base.specs.declared.limits.TheConstants.{POINTER_LIMIT};
-ghost use Rattle.std.specs.Prelude.{◌≡◌, ◌⊎◌, ◌+◌, ◌≤◌, Err, IfErr, IfOk, IsOkUnless, MatchResult, Ok, OnOk, ℕ};
+ghost use Rattle.std.specs.Prelude.{[], ◌≡◌, ◌⊎◌, ◌+◌, ◌≤◌, Err, IfErr, IfOk, IsOkUnless, MatchResult, Ok, OnOk, ℕ};
 ghost use Rattle.base.specs.Counts.{Counts, Passes};
 ghost use Rattle.base.specs.Many.{many_at};
 ghost use Rattle.base.specs.Passing.{AddsPassed};
 ghost use Rattle.base.specs.Reading.{Fails, Reads};
 ghost use Rattle.op.specs.Fault.{IsMessageFault, IsQueriesFault, IsSectionFault};
 ghost use Rattle.op.specs.Fits.{Fits};
-ghost use Rattle.op.specs.Message.{high_code, IsMessageAt, message_at, message_value, MessageValue};
+ghost use Rattle.op.specs.Message.{asking, high_code, IsMessageAt, message_at, message_value, MessageValue, rest_at};
 ghost use Rattle.op.specs.Places.{message_places, queries_places, records_places};
 ghost use Rattle.op.specs.Query.{query_at};
 ghost use Rattle.op.specs.ReadsOrDecodes.{ReadsOrDecodes};
-ghost use Rattle.op.specs.Section.{empty_section, fault_in_section, is_additional_type, options_in, read_section_value, section_at, section_value, sections_at, sections_value, tested, section_with};
+ghost use Rattle.op.specs.Section.{empty_section, fault_in_section, is_additional_type, options_in, read_section_value, section_at, section_value, tested, section_with};
 
 use crate::edns::{Edns, opt_edns};
 use crate::header::{Header, HeaderCounts, Metadata};
@@ -86,19 +86,38 @@ impl Message {
             (λ _. AddsPassed (records_places count decoder.old.bytes decoder.old.index) decoder.old
             decoder.new) }
     {
-        let mut section = Section::new(decoder.allocator());
-        section.read(decoder, count, is_additional, op_code)?;
-        Ok((section.records, section.edns, section.signature))
+        let mut records = Vec::new(decoder.allocator());
+        let mut edns = None;
+        let mut signature = None;
+        read_section(
+            &mut records,
+            &mut edns,
+            &mut signature,
+            decoder,
+            count,
+            is_additional,
+            op_code,
+        )?;
+        Ok((records, edns, signature))
     }
 
-    /// Reads the three sections, each of the number of records that the header says.
+    /// Reads the three sections, each of the number of records that the header says, into a message that has its
+    /// header and its questions alone.
+    ///
+    /// # Errors
+    ///
+    /// The first fault; `Memory` if memory runs out. What was read before stays.
+    #[inline(always)]
     fn read_sections(
+        &mut self,
         decoder: &mut BinDecoder<'_>,
         counts: HeaderCounts,
-        op_code: OpCode,
-    ) -> Result<Sections, DecodeError>
-        ensures read { Reads sections_value decoder.old decoder.new result
-            (sections_at op_code counts decoder.old.bytes decoder.old.index) }
+    ) -> Result<(), DecodeError>
+        requires { message_value self.old
+            ≡ asking self.old.metadata self.old.queries.items }
+        ensures read { Reads (λ _. message_value self.new) decoder.old decoder.new result
+            (rest_at self.old.metadata self.old.queries.items counts decoder.old.bytes
+            decoder.old.index) }
         // These two are as of every read: see `BinDecodable::read`.
         ensures counts { Counts decoder.old decoder.new result }
         ensures passed { Passes decoder.old decoder.new result }
@@ -108,18 +127,36 @@ impl Message {
             (records_places (counts.answers + counts.authorities + counts.additionals)
             decoder.old.bytes decoder.old.index) decoder.old decoder.new) }
     {
-        let alloc = decoder.allocator();
-        let mut answers = Section::new(alloc);
-        answers.read(decoder, usize::from(counts.answers), false, op_code)?;
-        let mut authorities = Section::new(alloc);
-        authorities.read(decoder, usize::from(counts.authorities), false, op_code)?;
-        let mut additionals = Section::new(alloc);
-        additionals.read(decoder, usize::from(counts.additionals), true, op_code)?;
-        Ok(Sections {
-            answers,
-            authorities,
-            additionals,
-        })
+        let op_code = self.metadata.op_code;
+        read_section(
+            &mut self.answers,
+            &mut self.edns,
+            &mut self.signature,
+            decoder,
+            usize::from(counts.answers),
+            false,
+            op_code,
+        )?;
+        read_section(
+            &mut self.authorities,
+            &mut self.edns,
+            &mut self.signature,
+            decoder,
+            usize::from(counts.authorities),
+            false,
+            op_code,
+        )?;
+        read_section(
+            &mut self.additionals,
+            &mut self.edns,
+            &mut self.signature,
+            decoder,
+            usize::from(counts.additionals),
+            true,
+            op_code,
+        )?;
+        merge_high_code(&mut self.metadata, &self.edns);
+        Ok(())
     }
 
     /// Reads a message at the decoder's place, and moves after it: the header, the questions and the three sections as
@@ -147,20 +184,19 @@ impl Message {
     {
         let header = Header::read(decoder)?;
         let queries = read_many::<Query>(decoder, usize::from(header.counts.queries))?;
-        let Sections {
-            answers,
-            authorities,
-            additionals,
-        } = Message::read_sections(decoder, header.counts, header.metadata.op_code)?;
-        Ok(Message {
-            metadata: with_high_code(header.metadata, &additionals.edns),
+        let alloc = decoder.allocator();
+        // the records are read into the message itself, so that no section is moved
+        let mut message = Message {
+            metadata: header.metadata,
             queries,
-            answers: answers.records,
-            authorities: authorities.records,
-            additionals: additionals.records,
-            signature: additionals.signature,
-            edns: additionals.edns,
-        })
+            answers: Vec::new(alloc),
+            authorities: Vec::new(alloc),
+            additionals: Vec::new(alloc),
+            signature: None,
+            edns: None,
+        };
+        message.read_sections(decoder, header.counts)?;
+        Ok(message)
     }
 
     /// Reads the message that a buffer begins with. Bytes after it are not looked at.
@@ -189,216 +225,250 @@ impl Message {
     }
 }
 
-/// A header with the eight high bits of EDNS above its code, if there is EDNS.
-fn with_high_code(metadata: Metadata, edns: &Option<Edns>) -> Metadata
-    ensures { result ≡ high_code edns.now metadata }
+/// Puts the eight high bits of EDNS above the code of a header, if there is EDNS.
+#[inline(always)]
+fn merge_high_code(metadata: &mut Metadata, edns: &Option<Edns>)
+    ensures { metadata.new ≡ high_code edns.now metadata.old }
 {
-    let mut merged = metadata;
     if let Some(edns) = edns {
-        merged.merge_response_code(edns.rcode_high);
+        metadata.merge_response_code(edns.rcode_high);
     }
-    merged
 }
 
-/// The records of a section that were read so far.
-#[derive(Drop)]
-struct Section {
-    /// The ordinary records in their order.
-    records: Vec<Record>,
-    /// What an OPT record says.
-    edns: Option<Edns>,
-    /// The signature, after which no record stands.
-    signature: Option<Box<Record<TSIG>>>,
+/// Reads a section of `count` records, each of which is tested before the next one is read: the ordinary ones in their
+/// order, what an OPT record says, and the signature, after which no record stands. There is nothing in the three yet.
+///
+/// # Errors
+///
+/// The first fault; `Memory` if memory runs out. What was read before stays.
+#[inline(always)]
+fn read_section(
+    records: &mut Vec<Record>,
+    edns: &mut Option<Edns>,
+    signature: &mut Option<Box<Record<TSIG>>>,
+    decoder: &mut BinDecoder<'_>,
+    count: usize,
+    is_additional: bool,
+    op_code: OpCode,
+) -> Result<(), DecodeError>
+    requires { section_value records.old.items edns.old signature.old ≡ empty_section }
+    ensures read { Reads (λ _. section_value records.new.items edns.new signature.new)
+        decoder.old decoder.new result
+        (section_at is_additional op_code count decoder.old.bytes decoder.old.index) }
+    // These two are as of every read: see `BinDecodable::read`.
+    ensures counts { Counts decoder.old decoder.new result }
+    ensures passed { Passes decoder.old decoder.new result }
+    // The decoder now also keeps the targets of these names' pointers, and no others.
+    ensures adds { IfOk result
+        (λ _. AddsPassed (records_places count decoder.old.bytes decoder.old.index) decoder.old
+        decoder.new) }
+{
+    let alloc = decoder.allocator();
+    if count == 0 {
+        return Ok(());
+    }
+    read_some(
+        alloc,
+        records,
+        edns,
+        signature,
+        decoder,
+        count,
+        is_additional,
+        op_code,
+    )
 }
 
-/// The three sections of a message that was read.
-#[derive(Drop)]
-struct Sections {
-    answers: Section,
-    authorities: Section,
-    additionals: Section,
+/// Reads the records of a section that has some. It is inlined after that test, so that for a section without records
+/// there is no fault whose place has to be cleared.
+#[inline(always)]
+fn read_some(
+    alloc: Global,
+    records: &mut Vec<Record>,
+    edns: &mut Option<Edns>,
+    signature: &mut Option<Box<Record<TSIG>>>,
+    decoder: &mut BinDecoder<'_>,
+    count: usize,
+    is_additional: bool,
+    op_code: OpCode,
+) -> Result<(), DecodeError>
+    requires empty { section_value records.old.items edns.old signature.old ≡ empty_section }
+    // No more targets of pointers are kept than a pointer can lead to.
+    requires few { set.len decoder.old.kept ≤ POINTER_LIMIT }
+    ensures read { Reads (λ _. section_value records.new.items edns.new signature.new)
+        decoder.old decoder.new result
+        (section_at is_additional op_code count decoder.old.bytes decoder.old.index) }
+    // These two are as of every read: see `BinDecodable::read`.
+    ensures counts { Counts decoder.old decoder.new result }
+    ensures passed { Passes decoder.old decoder.new result }
+    // The decoder now also keeps the targets of these names' pointers, and no others.
+    ensures adds { IfOk result
+        (λ _. AddsPassed (records_places count decoder.old.bytes decoder.old.index) decoder.old
+        decoder.new) }
+{
+    read_each(
+        alloc,
+        records,
+        edns,
+        signature,
+        decoder,
+        count,
+        is_additional,
+        op_code,
+    )?;
+    Ok(())
 }
 
-impl Section {
-    /// A section without records.
-    fn new(alloc: Global) -> Section
-        ensures { section_value result ≡ empty_section }
-    {
-        Section {
-            records: Vec::new(alloc),
-            edns: None,
-            signature: None,
-        }
+/// Reads these records. It stands by itself so that a section without records, as most messages have some, costs
+/// no call.
+#[inline(never)]
+fn read_each(
+    alloc: Global,
+    records: &mut Vec<Record>,
+    edns: &mut Option<Edns>,
+    signature: &mut Option<Box<Record<TSIG>>>,
+    decoder: &mut BinDecoder<'_>,
+    count: usize,
+    is_additional: bool,
+    op_code: OpCode,
+) -> Result<(), DecodeError>
+    requires empty { section_value records.old.items edns.old signature.old ≡ empty_section }
+    // No more targets of pointers are kept than a pointer can lead to.
+    requires few { set.len decoder.old.kept ≤ POINTER_LIMIT }
+    ensures read { Reads (λ _. section_value records.new.items edns.new signature.new)
+        decoder.old decoder.new result
+        (section_at is_additional op_code count decoder.old.bytes decoder.old.index) }
+    // These two are as of every read: see `BinDecodable::read`.
+    ensures counts { Counts decoder.old decoder.new result }
+    ensures passed { Passes decoder.old decoder.new result }
+    // The decoder now also keeps the targets of these names' pointers, and no others.
+    ensures adds { IfOk result
+        (λ _. AddsPassed (records_places count decoder.old.bytes decoder.old.index) decoder.old
+        decoder.new) }
+{
+    // a count that is too high makes no more room than the bytes left could fill
+    if count > 2 {
+        records.reserve(count.min(decoder.len() / SHORTEST))?;
     }
-
-    /// Reads `count` records into the section, each of which is tested before the next one is read.
-    ///
-    /// # Errors
-    ///
-    /// The first fault; `Memory` if memory runs out. What was read before stays.
-    #[inline(always)]
-    fn read(
-        &mut self,
-        decoder: &mut BinDecoder<'_>,
-        count: usize,
-        is_additional: bool,
-        op_code: OpCode,
-    ) -> Result<(), DecodeError>
-        requires { section_value self.old ≡ empty_section }
-        ensures read { Reads (λ _. section_value self.new) decoder.old decoder.new result
-            (section_at is_additional op_code count decoder.old.bytes decoder.old.index) }
-        // These two are as of every read: see `BinDecodable::read`.
-        ensures counts { Counts decoder.old decoder.new result }
-        ensures passed { Passes decoder.old decoder.new result }
-        // The decoder now also keeps the targets of these names' pointers, and no others.
-        ensures adds { IfOk result
-            (λ _. AddsPassed (records_places count decoder.old.bytes decoder.old.index) decoder.old
-            decoder.new) }
-    {
-        let alloc = decoder.allocator();
-        if count == 0 {
-            return Ok(());
-        }
-        self.read_each(alloc, decoder, count, is_additional, op_code)
+    for _ in 0..count {
+        let next = Record::read(decoder)?;
+        take(
+            records,
+            edns,
+            signature,
+            alloc,
+            next,
+            is_additional,
+            op_code,
+        )?;
     }
+    Ok(())
+}
 
-    /// Reads these records. It stands by itself so that a section without records, as most messages have some, costs
-    /// no call.
-    #[inline(never)]
-    fn read_each(
-        &mut self,
-        alloc: Global,
-        decoder: &mut BinDecoder<'_>,
-        count: usize,
-        is_additional: bool,
-        op_code: OpCode,
-    ) -> Result<(), DecodeError>
-        requires empty { section_value self.old ≡ empty_section }
-        // No more targets of pointers are kept than a pointer can lead to.
-        requires few { set.len decoder.old.kept ≤ POINTER_LIMIT }
-        ensures read { Reads (λ _. section_value self.new) decoder.old decoder.new result
-            (section_at is_additional op_code count decoder.old.bytes decoder.old.index) }
-        // These two are as of every read: see `BinDecodable::read`.
-        ensures counts { Counts decoder.old decoder.new result }
-        ensures passed { Passes decoder.old decoder.new result }
-        // The decoder now also keeps the targets of these names' pointers, and no others.
-        ensures adds { IfOk result
-            (λ _. AddsPassed (records_places count decoder.old.bytes decoder.old.index) decoder.old
-            decoder.new) }
-    {
-        // a count that is too high makes no more room than the bytes left could fill
-        if count > 2 {
-            self.reserve(count.min(decoder.len() / SHORTEST))?;
-        }
-        for _ in 0..count {
-            let next = Record::read(decoder)?;
-            self.take(alloc, next, is_additional, op_code)?;
-        }
-        Ok(())
+/// Takes a record that was read, if it may stand after those that were read before.
+///
+/// # Errors
+///
+/// The first test that it fails; `Memory` if memory runs out.
+fn take(
+    records: &mut Vec<Record>,
+    edns: &mut Option<Edns>,
+    signature: &mut Option<Box<Record<TSIG>>>,
+    alloc: Global,
+    next: Record,
+    is_additional: bool,
+    op_code: OpCode,
+) -> Result<(), DecodeError>
+    // After `Ok` the record passes all tests, and the section has it in addition.
+    ensures ok { OnOk result
+        (tested is_additional op_code (section_value records.old.items edns.old signature.old) next
+        ≡ Ok (section_value records.new.items edns.new signature.new)) }
+    // A refusal is the first test that the record fails, or memory ran out.
+    ensures err { IfErr result
+        (λ e. Fails e (tested is_additional op_code
+        (section_value records.old.items edns.old signature.old) next)) }
+{
+    match fault_of(edns, signature, &next, is_additional, op_code) {
+        Some(fault) => Err(fault),
+        None => add(records, edns, signature, alloc, next),
     }
+}
 
-    /// Makes room for `count` more records.
-    ///
-    /// # Errors
-    ///
-    /// If memory runs out, with the section as it was.
-    fn reserve(&mut self, count: usize) -> Result<(), DecodeError>
-        ensures same { section_value self.new ≡ section_value self.old }
-        ensures only { IsOkUnless result DecodeError.Memory }
-    {
-        self.records.reserve(count)?;
-        Ok(())
+/// The first test that the next record fails, given the EDNS and the signature that were read before.
+fn fault_of(
+    edns: &Option<Edns>,
+    signature: &Option<Box<Record<TSIG>>>,
+    next: &Record,
+    is_additional: bool,
+    op_code: OpCode,
+) -> Option<DecodeError>
+    ensures { result
+        ≡ fault_in_section is_additional op_code (section_value [] edns.now signature.now) next.now }
+{
+    let record_type = next.record_type();
+    if next.rdata.is_update() && op_code != OpCode::Update && record_type != RecordType::OPT {
+        return Some(DecodeError::InvalidEmptyRecord);
     }
-
-    /// Takes a record that was read, if it may stand after those that were read before.
-    ///
-    /// # Errors
-    ///
-    /// The first test that it fails; `Memory` if memory runs out.
-    fn take(
-        &mut self,
-        alloc: Global,
-        next: Record,
-        is_additional: bool,
-        op_code: OpCode,
-    ) -> Result<(), DecodeError>
-        // After `Ok` the record passes all tests, and the section has it in addition.
-        ensures ok { OnOk result (tested is_additional op_code (section_value self.old) next
-            ≡ Ok (section_value self.new)) }
-        // A refusal is the first test that the record fails, or memory ran out.
-        ensures err { IfErr result
-            (λ e. Fails e (tested is_additional op_code (section_value self.old) next)) }
-    {
-        match self.fault_of(&next, is_additional, op_code) {
-            Some(fault) => Err(fault),
-            None => self.add(alloc, next),
-        }
+    if signature.is_some() {
+        return Some(DecodeError::RecordAfterSig);
     }
-
-    /// The first test that the next record fails, given those read before.
-    fn fault_of(&self, next: &Record, is_additional: bool, op_code: OpCode) -> Option<DecodeError>
-        ensures { result
-            ≡ fault_in_section is_additional op_code (section_value self.now) next.now }
-    {
-        let record_type = next.record_type();
-        if next.rdata.is_update() && op_code != OpCode::Update && record_type != RecordType::OPT {
-            return Some(DecodeError::InvalidEmptyRecord);
-        }
-        if self.signature.is_some() {
-            return Some(DecodeError::RecordAfterSig);
-        }
-        if !is_additional && stands_among_additionals(record_type) {
-            return Some(DecodeError::RecordNotInAdditionalSection(record_type));
-        }
-        if self.edns.is_some() && record_type == RecordType::OPT {
-            return Some(DecodeError::DuplicateEdns);
-        }
-        None
+    if !is_additional && stands_among_additionals(record_type) {
+        return Some(DecodeError::RecordNotInAdditionalSection(record_type));
     }
+    if edns.is_some() && record_type == RecordType::OPT {
+        return Some(DecodeError::DuplicateEdns);
+    }
+    None
+}
 
-    /// Adds a record that was tested: EDNS and a signature by themselves, another record after the others.
-    ///
-    /// # Errors
-    ///
-    /// If memory runs out.
-    fn add(&mut self, alloc: Global, next: Record) -> Result<(), DecodeError>
-        ensures ok { OnOk result (section_value self.new
-            ≡ section_with (section_value self.old) next) }
-        ensures only { IsOkUnless result DecodeError.Memory }
-    {
-        if next.record_type() == RecordType::OPT {
-            self.edns = Some(opt_edns(next.dns_class, next.ttl, options_of(alloc, next.rdata)));
-            return Ok(());
+/// Adds a record that was tested: EDNS and a signature by themselves, another record after the others.
+///
+/// # Errors
+///
+/// If memory runs out.
+fn add(
+    records: &mut Vec<Record>,
+    edns: &mut Option<Edns>,
+    signature: &mut Option<Box<Record<TSIG>>>,
+    alloc: Global,
+    next: Record,
+) -> Result<(), DecodeError>
+    ensures ok { OnOk result (section_value records.new.items edns.new signature.new
+        ≡ section_with (section_value records.old.items edns.old signature.old) next) }
+    ensures only { IsOkUnless result DecodeError.Memory }
+{
+    if next.record_type() == RecordType::OPT {
+        *edns = Some(opt_edns(next.dns_class, next.ttl, options_of(alloc, next.rdata)));
+        return Ok(());
+    }
+    let Record {
+        name,
+        dns_class,
+        ttl,
+        rdata,
+        mdns_cache_flush,
+    } = next;
+    match rdata {
+        RData::TSIG(rdata) => {
+            let signed = Record {
+                name,
+                dns_class,
+                ttl,
+                rdata,
+                mdns_cache_flush,
+            };
+            *signature = Some(Box::new(alloc, signed)?);
+            Ok(())
         }
-        let Record {
-            name,
-            dns_class,
-            ttl,
-            rdata,
-            mdns_cache_flush,
-        } = next;
-        match rdata {
-            RData::TSIG(rdata) => {
-                let signature = Record {
-                    name,
-                    dns_class,
-                    ttl,
-                    rdata,
-                    mdns_cache_flush,
-                };
-                self.signature = Some(Box::new(alloc, signature)?);
-                Ok(())
-            }
-            rdata => {
-                self.records.push(Record {
-                    name,
-                    dns_class,
-                    ttl,
-                    rdata,
-                    mdns_cache_flush,
-                })?;
-                Ok(())
-            }
+        rdata => {
+            records.push(Record {
+                name,
+                dns_class,
+                ttl,
+                rdata,
+                mdns_cache_flush,
+            })?;
+            Ok(())
         }
     }
 }

@@ -2,7 +2,7 @@ use Rattle.std.proofs.Common.{arith, rules}
 use Rattle.std.proofs.lemmas.Result.{err_from_is_err_and}
 use Rattle.base.proofs.AddsLemmas.{adds_many_all, adds_many_more, adds_many_none}
 use Rattle.op.proofs.SectionLemmas.{takes_all, takes_failed, takes_more, takes_unread}
-use Rattle.op.proofs.message.reading.Section.read_each.Goals as goal
+use Rattle.op.proofs.message.reading.read_each.Goals as goal
 
 pub returns-in_err-next-clause-read : goal.returns-in_err-next-clause-read
 returns-in_err-next-clause-read c =

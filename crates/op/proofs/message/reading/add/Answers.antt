@@ -2,7 +2,7 @@ use Rattle.std.proofs.Common.{rules, ◌≡◌, ◌≢◌, List, ℕ, false, ref
 use Rattle.base_data.specs.RData.{is_signature_data}
 use Rattle.base_data.specs.declared.rdata.RData.{RData}
 use Rattle.base_data.specs.declared.rdata.RData.TheVariants as kinds
-use Rattle.op.proofs.message.reading.Section.add.Goals as goal
+use Rattle.op.proofs.message.reading.add.Goals as goal
 
 -- data of another kind is no signature
 no_signature : (d : RData) → ((x : List ℕ) → d ≢ kinds.TSIG x) → is_signature_data d ≡ false
