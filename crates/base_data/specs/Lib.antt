@@ -8,6 +8,7 @@ pub mod Equality
 pub mod Escape
 pub mod Fields
 pub mod ItemFault
+pub mod InPlace
 pub mod Kind
 pub mod Kinds
 pub mod MX

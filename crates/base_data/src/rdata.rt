@@ -2,11 +2,11 @@
 //! stands here.
 
 ghost use Rattle.base.specs.declared.limits.TheConstants.{POINTER_LIMIT};
-ghost use Rattle.std.specs.Prelude.{◌≡◌, ◌<◌, ◌≤◌, [], IfOk, Some, length, option_copied, slice_get};
+ghost use Rattle.std.specs.Prelude.{◌≡◌, ◌<◌, ◌≤◌, [], IfOk, Some, length, true, option_copied, slice_get};
 ghost use Rattle.std.specs.FinSet as set;
 ghost use Rattle.base.specs.Counts.{Counts, Passes};
 ghost use Rattle.base.specs.Passing.{AddsPassed};
-ghost use Rattle.base.specs.Reading.{Reads};
+ghost use Rattle.base_data.specs.InPlace.{ReadsInto};
 ghost use Rattle.base_data.specs.Kinds.{DataWord, KeptData, canonical_data, data_names, data_places, data_says, data_text, data_written, kind_at, kind_rank, plain_data, type_of_data};
 ghost use Rattle.base_data.specs.RData.{is_empty_data};
 
@@ -45,6 +45,7 @@ pub use ns::NS;
 pub use null::NULL;
 pub use opt::{EdnsOption, OPT};
 pub use ptr::PTR;
+pub use reading::DataError;
 use reading::{read_as, read_carried, read_sized};
 pub use soa::SOA;
 pub use srv::SRV;
@@ -124,43 +125,45 @@ impl RData {
         matches!(self, RData::Update0(_))
     }
 
-    /// Reads the data of a type that begins at the decoder's place, and has a byte at least. Where it ends is not
-    /// looked at.
+    /// Reads the data of a type that begins at the decoder's place, and has a byte at least, in the place of empty
+    /// data. Where it ends is not looked at.
     #[tactic(auto, unfolding(crate::specs::Kinds::kind_at))]
     fn read_kind(
+        &mut self,
         decoder: &mut BinDecoder<'_>,
         record_type: RecordType,
         len: u16,
-    ) -> Result<RData, DecodeError>
+    ) -> Result<(), DataError>
         requires some { 0 < len }
+        requires empty { is_empty_data self.old ≡ true }
         // No more targets of pointers are kept than a pointer can lead to.
         requires few { set.len decoder.old.kept ≤ POINTER_LIMIT }
-        ensures read { Reads (λ x. x) decoder.old decoder.new result
+        ensures read { ReadsInto decoder.old decoder.new self.new result
             (kind_at record_type len decoder.old.bytes decoder.old.index) }
         // These two are as of every read: see `BinDecodable::read`.
         ensures counts { Counts decoder.old decoder.new result }
         ensures passed { Passes decoder.old decoder.new result }
         // The targets that the names of the data pass are kept in addition, and no others.
         ensures adds { IfOk result
-            (λ d. AddsPassed (data_places d decoder.old.bytes decoder.old.index) decoder.old
+            (λ _. AddsPassed (data_places self.new decoder.old.bytes decoder.old.index) decoder.old
             decoder.new) }
     {
         match record_type {
-            RecordType::A => read_as::<A>(decoder),
-            RecordType::AAAA => read_as::<AAAA>(decoder),
-            RecordType::NS => read_as::<NS>(decoder),
-            RecordType::CNAME => read_as::<CNAME>(decoder),
-            RecordType::PTR => read_as::<PTR>(decoder),
-            RecordType::ANAME => read_as::<ANAME>(decoder),
-            RecordType::MX => read_as::<MX>(decoder),
-            RecordType::SOA => read_as::<SOA>(decoder),
-            RecordType::SRV => read_as::<SRV>(decoder),
-            RecordType::TXT => read_sized::<TXT>(decoder, len),
-            RecordType::NULL => read_sized::<NULL>(decoder, len),
-            RecordType::OPT => read_sized::<OPT>(decoder, len),
-            RecordType::TSIG => read_sized::<TSIG>(decoder, len),
-            RecordType::ZERO => Err(DecodeError::BadData(RecordType::ZERO)),
-            code => read_carried(decoder, code, len),
+            RecordType::A => read_as::<A>(self, decoder),
+            RecordType::AAAA => read_as::<AAAA>(self, decoder),
+            RecordType::NS => read_as::<NS>(self, decoder),
+            RecordType::CNAME => read_as::<CNAME>(self, decoder),
+            RecordType::PTR => read_as::<PTR>(self, decoder),
+            RecordType::ANAME => read_as::<ANAME>(self, decoder),
+            RecordType::MX => read_as::<MX>(self, decoder),
+            RecordType::SOA => read_as::<SOA>(self, decoder),
+            RecordType::SRV => read_as::<SRV>(self, decoder),
+            RecordType::TXT => read_sized::<TXT>(self, decoder, len),
+            RecordType::NULL => read_sized::<NULL>(self, decoder, len),
+            RecordType::OPT => read_sized::<OPT>(self, decoder, len),
+            RecordType::TSIG => read_sized::<TSIG>(self, decoder, len),
+            RecordType::ZERO => Err(DataError::BadData),
+            code => read_carried(self, decoder, code, len),
         }
     }
 

@@ -1,12 +1,13 @@
 -- Reading the records of a section, step by step.
-use Rattle.std.proofs.Common.{◌≡◌, ℕ, ◌+◌, ◌-◌, ◌<◌, ◌≤◌, Bool, List, suc, refl, sym, ◌∙◌, arith, Ok, Err}
+use Rattle.std.proofs.Common.{◌≡◌, ℕ, ◌+◌, ◌-◌, ◌<◌, ◌≤◌, Bool, List, None, Some, suc, refl, sym, ◌∙◌, arith, Ok, Err}
 use Rattle.base.specs.declared.error.decode_error.DecodeError.{DecodeError}
+use Rattle.base.specs.declared.error.decode_error.DecodeError.TheVariants as faults
 use Rattle.base.specs.Reading.{Fails}
 use Rattle.base.proofs.ReadLemmas.{Fails-through}
 use Rattle.base_data.specs.declared.rdata.RData.{RData}
 use Rattle.rr.specs.Record.{record_at}
 use Rattle.rr.specs.declared.record.Record.{Record}
-use Rattle.op.specs.Section.{SectionValue, section_at, section_from, tested}
+use Rattle.op.specs.Section.{SectionValue, fault_in_section, section_at, section_from, section_with, tested}
 use Rattle.op.specs.declared.op_code.OpCode.{OpCode}
 
 -- the section read so far, and the records that are still read, are all; in the one buffer
@@ -14,6 +15,15 @@ pub record Takes (inside : Bool) (op : OpCode) (count counter : ℕ) (first byte
   pub whole : section_from inside op s (count - counter) bytes i ≡ section_at inside op count first start
   pub same : bytes ≡ first
   pub below : counter ≤ count
+
+-- a record that passes each test stands in the section
+pub test_passes : (inside : Bool) (op : OpCode) (s t : SectionValue) (r : Record RData) → None ≡ fault_in_section inside op s r → t ≡ section_with s r → tested inside op s r ≡ Ok t
+test_passes inside op s t r none is = rw (sym none, is) refl
+
+-- a record that fails a test is refused for the first such
+pub test_fails : (inside : Bool) (op : OpCode) (s : SectionValue) (r : Record RData) (f : DecodeError) → Some f ≡ fault_in_section inside op s r → Fails f (tested inside op s r)
+test_fails inside op s r faults.Memory fault = tt
+test_fails inside op s r f fault = rw (sym fault) refl
 
 end : (inside : Bool) (op : OpCode) (bytes : List ℕ) (i : ℕ) (s : SectionValue) → section_from inside op s 0 bytes i ≡ Ok (s, i)
 unfolding section_from

@@ -1,16 +1,18 @@
 //! Reads data by type and length.
 
-ghost use Rattle.std.specs.Prelude.{◌≡◌, ◌<◌, IfOk, []};
+ghost use Rattle.std.specs.Prelude.{◌≡◌, ◌<◌, IfOk, [], true};
 ghost use Rattle.base.specs.Counts.{Counts, Passes};
 ghost use Rattle.base.specs.Passing.{AddsPassed};
 ghost use Rattle.base.specs.Reading.{Reads, bytes_at};
 ghost use Rattle.base_data.specs.Kinds.{as_any, data_places};
-ghost use Rattle.base_data.specs.RData.{in_data, rdata_at};
+ghost use Rattle.base_data.specs.InPlace.{ReadsInto, data_fault, reason_of, told};
+ghost use Rattle.base_data.specs.RData.{is_empty_data, rdata_at};
 ghost use Rattle.base_data.specs.declared.rdata.RData.TheVariants as kinds;
 
 use crate::rdata::{NULL, RData};
 use crate::record_data::RecordData;
 use base::{BinDecodable, BinDecoder, DecodeError, RecordType};
+use std::mem;
 
 impl RData {
     /// Reads the data of a type, of `len` bytes (RFC 1035, 3.2.1): data of length 0 is `Update0`, and data of a type
@@ -20,7 +22,6 @@ impl RData {
     ///
     /// `BadData` where the bytes are no data of the type, where the data doesn't fill its length exactly, and for data
     /// of type 0 that has a byte; `Memory` if memory runs out.
-    #[tactic(auto, unfolding(crate::specs::RData::rdata_at))]
     pub fn read(
         decoder: &mut BinDecoder<'_>,
         record_type: RecordType,
@@ -36,30 +37,88 @@ impl RData {
             (λ d. AddsPassed (data_places d decoder.old.bytes decoder.old.index) decoder.old
             decoder.new) }
     {
+        let mut rdata = RData::Update0(record_type);
+        match rdata.read_in_place(decoder, record_type, len) {
+            Ok(()) => Ok(rdata),
+            Err(reason) => Err(reason.fault(record_type)),
+        }
+    }
+
+    /// Reads data as `read` does, but in the place of empty data, since it is faster not to move what was read.
+    ///
+    /// # Errors
+    ///
+    /// What `read` refuses, told by a smaller type.
+    #[tactic(auto, unfolding(crate::specs::RData::rdata_at))]
+    pub fn read_in_place(
+        &mut self,
+        decoder: &mut BinDecoder<'_>,
+        record_type: RecordType,
+        len: u16,
+    ) -> Result<(), DataError>
+        requires empty { is_empty_data self.old ≡ true }
+        ensures read { Reads (λ _. self.new) decoder.old decoder.new (told record_type result)
+            (rdata_at record_type len decoder.old.bytes decoder.old.index) }
+        // These two are as of every read: see `BinDecodable::read`.
+        ensures counts { Counts decoder.old decoder.new result }
+        ensures passed { Passes decoder.old decoder.new result }
+        // The targets that the names of the data pass are kept in addition, and no others.
+        ensures adds { IfOk result
+            (λ _. AddsPassed (data_places self.new decoder.old.bytes decoder.old.index) decoder.old
+            decoder.new) }
+    {
         let end = decoder.index() + usize::from(len);
         if len == 0 {
-            return Ok(RData::Update0(record_type));
+            *self = RData::Update0(record_type);
+            return Ok(());
         }
-        match RData::read_kind(decoder, record_type, len) {
-            Ok(rdata) => {
-                if decoder.index() == end {
-                    Ok(rdata)
-                } else {
-                    Err(DecodeError::BadData(record_type))
-                }
-            }
-            Err(e) => Err(fault_in_data(record_type, e)),
+        self.read_kind(decoder, record_type, len)?;
+        if decoder.index() == end {
+            Ok(())
+        } else {
+            Err(DataError::BadData)
+        }
+    }
+
+    /// Puts data into the place of empty data. That takes no memory and is let go of as it is, since a test of what it
+    /// is would cost time.
+    fn fill(&mut self, rdata: RData)
+        requires empty { is_empty_data self.old ≡ true }
+        ensures { self.new ≡ rdata }
+    {
+        mem::forget(mem::replace(self, rdata));
+    }
+}
+
+/// Why data wasn't read. It is small, since a refusal takes room in each call that might give it.
+#[derive(Clone, Copy, Drop)]
+pub enum DataError {
+    /// Memory ran out.
+    Memory,
+    /// The bytes are no data of the type, or the data doesn't fill its length exactly.
+    BadData,
+}
+
+impl DataError {
+    /// The fault of data of a type.
+    pub fn fault(self, record_type: RecordType) -> DecodeError
+        ensures { result ≡ data_fault record_type self }
+    {
+        match self {
+            DataError::Memory => DecodeError::Memory,
+            DataError::BadData => DecodeError::BadData(record_type),
         }
     }
 }
 
-/// The fault of data of a type in which a fault was met.
-fn fault_in_data(record_type: RecordType, fault: DecodeError) -> DecodeError
-    ensures { result ≡ in_data record_type fault }
-{
-    match fault {
-        DecodeError::Memory => DecodeError::Memory,
-        _ => DecodeError::BadData(record_type),
+impl From<DecodeError> for DataError {
+    ghost from_gives = { λ fault e. e ≡ reason_of fault };
+
+    fn from(fault: DecodeError) -> DataError {
+        match fault {
+            DecodeError::Memory => DataError::Memory,
+            _ => DataError::BadData,
+        }
     }
 }
 
@@ -88,13 +147,15 @@ pub(crate) trait SizedData: RecordData {
         ensures adds { IfOk result (λ _. AddsPassed [] decoder.old decoder.new) };
 }
 
-/// Reads the data of a kind that ends by itself. No reader of a kind is inlined, which is faster: inlined, what is read is
-/// put together of pieces that are as small as some kind needs.
+/// Reads the data of a kind that ends by itself, in the place of empty data. No reader of a kind is inlined, which is
+/// faster: inlined, what is read is put together of pieces that are as small as some kind needs.
 #[inline(never)]
 pub(crate) fn read_as<R: BinDecodable + RecordData>(
+    place: &mut RData,
     decoder: &mut BinDecoder<'_>,
-) -> Result<RData, DecodeError>
-    ensures read { Reads (λ x. x) decoder.old decoder.new result
+) -> Result<(), DataError>
+    requires empty { is_empty_data place.old ≡ true }
+    ensures read { ReadsInto decoder.old decoder.new place.new result
         (as_any R.as_rdata (R.read_at decoder.old.bytes decoder.old.index)) }
     // These two are as of every read: see `BinDecodable::read`.
     ensures counts { Counts decoder.old decoder.new result }
@@ -103,17 +164,20 @@ pub(crate) fn read_as<R: BinDecodable + RecordData>(
     ensures adds { IfOk result
         (λ _. AddsPassed (R.names_at decoder.old.bytes decoder.old.index) decoder.old decoder.new) }
 {
-    Ok(R::read(decoder)?.into_rdata())
+    place.fill(R::read(decoder)?.into_rdata());
+    Ok(())
 }
 
-/// Reads the data of a kind whose end is told by its length.
+/// Reads the data of a kind whose end is told by its length, in the place of empty data.
 #[inline(never)]
 pub(crate) fn read_sized<R: SizedData>(
+    place: &mut RData,
     decoder: &mut BinDecoder<'_>,
     len: u16,
-) -> Result<RData, DecodeError>
-    requires { 0 < len }
-    ensures read { Reads (λ x. x) decoder.old decoder.new result
+) -> Result<(), DataError>
+    requires some { 0 < len }
+    requires empty { is_empty_data place.old ≡ true }
+    ensures read { ReadsInto decoder.old decoder.new place.new result
         (as_any R.as_rdata (R.sized_at len decoder.old.bytes decoder.old.index)) }
     // These two are as of every read: see `BinDecodable::read`.
     ensures counts { Counts decoder.old decoder.new result }
@@ -121,18 +185,21 @@ pub(crate) fn read_sized<R: SizedData>(
     // The data has no names, so no target of a pointer is kept in addition.
     ensures adds { IfOk result (λ _. AddsPassed [] decoder.old decoder.new) }
 {
-    Ok(R::read(decoder, len)?.into_rdata())
+    place.fill(R::read(decoder, len)?.into_rdata());
+    Ok(())
 }
 
-/// Reads the bytes of a type that has no kind of its own (RFC 3597, 3).
+/// Reads the bytes of a type that has no kind of its own, in the place of empty data (RFC 3597, 3).
 #[inline(never)]
 pub(crate) fn read_carried(
+    place: &mut RData,
     decoder: &mut BinDecoder<'_>,
     code: RecordType,
     len: u16,
-) -> Result<RData, DecodeError>
-    requires { 0 < len }
-    ensures read { Reads (λ x. x) decoder.old decoder.new result
+) -> Result<(), DataError>
+    requires some { 0 < len }
+    requires empty { is_empty_data place.old ≡ true }
+    ensures read { ReadsInto decoder.old decoder.new place.new result
         (as_any (kinds.Unknown code) (bytes_at len decoder.old.bytes decoder.old.index)) }
     // These two are as of every read: see `BinDecodable::read`.
     ensures counts { Counts decoder.old decoder.new result }
@@ -141,5 +208,6 @@ pub(crate) fn read_carried(
     ensures adds { IfOk result (λ _. AddsPassed [] decoder.old decoder.new) }
 {
     let rdata = NULL::read(decoder, len)?;
-    Ok(RData::Unknown { code, rdata })
+    place.fill(RData::Unknown { code, rdata });
+    Ok(())
 }

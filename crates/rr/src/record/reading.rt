@@ -1,17 +1,19 @@
 //! Reads records.
 
-ghost use Rattle.std.specs.Prelude.{◌≡◌, ◌+◌, ◌<◌, length, IfErr, IfOk, OnOk};
+ghost use Rattle.std.specs.Prelude.{◌≡◌, ◌+◌, ◌<◌, [], length, IfErr, IfOk, OnOk, true};
 ghost use Rattle.std.specs.Int.{w16, w32};
 ghost use Rattle.base.specs.Counts.{Counts, Passes};
 ghost use Rattle.base.specs.Passing.{AddsPassed};
 ghost use Rattle.base.specs.Reading.{Reads};
 ghost use Rattle.base.specs.Words.{IsNumberAt};
-ghost use Rattle.base_data.specs.Kinds.{data_places};
+ghost use Rattle.base_data.specs.Kinds.{data_places, type_of_data};
+ghost use Rattle.base_data.specs.RData.{is_empty_data};
 ghost use Rattle.rr.specs.Record.{body_at, class_value, flush_value, is_opt_type, record_at, record_places};
 
 use crate::record::Record;
 use base::{BinDecodable, BinDecoder, DNSClass, DecodeError, Name, RecordType};
 use base_data::RData;
+use std::mem;
 
 impl BinDecodable for Record<RData> {
     ghost read_at = { record_at };
@@ -27,14 +29,82 @@ impl BinDecodable for Record<RData> {
     /// record of another owner than the root; `InsufficientBytes` where the end cuts class, TTL or length;
     /// `IncorrectRDataLengthRead` where fewer bytes are left than the length says; `BadData` for data that its type
     /// doesn't read. `Memory` if memory runs out.
-    #[tactic(auto, unfolding(crate::specs::Record::record_at))]
     fn read(decoder: &mut BinDecoder<'_>) -> Result<Record<RData>, DecodeError> {
+        let root = Name::root(decoder.allocator());
+        let mut record = Record::update0(root, 0, RecordType::ZERO);
+        record.read_in_place(decoder)?;
+        Ok(record)
+    }
+}
+
+impl Record<RData> {
+    /// Reads a record as `read` does, but in the place of one of the root without data, since it is faster not to move
+    /// what was read. Answers its type.
+    ///
+    /// # Errors
+    ///
+    /// What `read` refuses.
+    #[tactic(auto, unfolding(crate::specs::Record::record_at))]
+    pub fn read_in_place(&mut self, decoder: &mut BinDecoder<'_>) -> Result<RecordType, DecodeError>
+        requires bare { (self.old.name.labels ≡ []) × (is_empty_data self.old.rdata ≡ true) }
+        ensures read { Reads (λ _. self.new) decoder.old decoder.new result
+            (record_at decoder.old.bytes decoder.old.index) }
+        ensures type_is { IfOk result (λ record_type. type_of_data self.new.rdata ≡ record_type) }
+        // These two are as of every read: see `BinDecodable::read`.
+        ensures counts { Counts decoder.old decoder.new result }
+        ensures passed { Passes decoder.old decoder.new result }
+        // The decoder now also keeps the targets of these names' pointers, and no others.
+        ensures adds { IfOk result
+            (λ _. AddsPassed (record_places decoder.old.bytes decoder.old.index) decoder.old
+            decoder.new) }
+    {
         let name = Name::read(decoder)?;
+        // the root takes no memory, so it is let go of as it is, without a test
+        mem::forget(mem::replace(&mut self.name, name));
         let record_type = RecordType::read(decoder)?;
-        if is_opt(record_type) && !name.is_root() {
-            return Err(DecodeError::EdnsNameNotRoot(name));
+        if is_opt(record_type) && !self.name.is_root() {
+            let root = Name::root(decoder.allocator());
+            return Err(DecodeError::EdnsNameNotRoot(mem::replace(&mut self.name, root)));
         }
-        read_body(decoder, name, record_type)
+        self.read_body(decoder, record_type)?;
+        Ok(record_type)
+    }
+
+    /// Reads what comes after the type of a record, which has its name and no data.
+    #[tactic(auto, unfolding(crate::specs::Record::body_at))]
+    fn read_body(
+        &mut self,
+        decoder: &mut BinDecoder<'_>,
+        record_type: RecordType,
+    ) -> Result<(), DecodeError>
+        requires empty { is_empty_data self.old.rdata ≡ true }
+        ensures read { Reads (λ _. self.new) decoder.old decoder.new result
+            (body_at self.old.name record_type decoder.old.bytes decoder.old.index) }
+        ensures type_is { IfOk result (λ _. type_of_data self.new.rdata ≡ record_type) }
+        // These two are as of every read: see `BinDecodable::read`.
+        ensures counts { Counts decoder.old decoder.new result }
+        ensures passed { Passes decoder.old decoder.new result }
+        // The targets that the names of the data pass are kept in addition, and no others.
+        ensures adds { IfOk result
+            (λ _. AddsPassed (data_places self.new.rdata decoder.old.bytes (decoder.old.index + 8))
+            decoder.old decoder.new) }
+    {
+        let Fields { class, ttl, len } = read_fields(decoder)?;
+        let (dns_class, mdns_cache_flush) = class_of_field(record_type, class);
+        let left = decoder.len();
+        if left < usize::from(len) {
+            return Err(DecodeError::IncorrectRDataLengthRead {
+                read: left,
+                len: usize::from(len),
+            });
+        }
+        self.dns_class = dns_class;
+        self.ttl = ttl;
+        self.mdns_cache_flush = mdns_cache_flush;
+        match self.rdata.read_in_place(decoder, record_type, len) {
+            Ok(()) => Ok(()),
+            Err(reason) => Err(reason.fault(record_type)),
+        }
     }
 }
 
@@ -101,40 +171,4 @@ fn read_fields(decoder: &mut BinDecoder<'_>) -> Result<Fields, DecodeError>
         }),
         _ => Err(DecodeError::InsufficientBytes),
     }
-}
-
-/// Reads what comes after the type of a record.
-#[tactic(auto, unfolding(crate::specs::Record::body_at))]
-fn read_body(
-    decoder: &mut BinDecoder<'_>,
-    name: Name,
-    record_type: RecordType,
-) -> Result<Record<RData>, DecodeError>
-    ensures read { Reads (λ x. x) decoder.old decoder.new result
-        (body_at name record_type decoder.old.bytes decoder.old.index) }
-    // These two are as of every read: see `BinDecodable::read`.
-    ensures counts { Counts decoder.old decoder.new result }
-    ensures passed { Passes decoder.old decoder.new result }
-    // The targets that the names of the data pass are kept in addition, and no others.
-    ensures adds { IfOk result
-        (λ r. AddsPassed (data_places r.rdata decoder.old.bytes (decoder.old.index + 8)) decoder.old
-        decoder.new) }
-{
-    let Fields { class, ttl, len } = read_fields(decoder)?;
-    let (dns_class, mdns_cache_flush) = class_of_field(record_type, class);
-    let left = decoder.len();
-    if left < usize::from(len) {
-        return Err(DecodeError::IncorrectRDataLengthRead {
-            read: left,
-            len: usize::from(len),
-        });
-    }
-    let rdata = RData::read(decoder, record_type, len)?;
-    Ok(Record {
-        name,
-        dns_class,
-        ttl,
-        rdata,
-        mdns_cache_flush,
-    })
 }

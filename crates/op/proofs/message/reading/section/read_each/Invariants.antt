@@ -4,7 +4,7 @@ use Rattle.base.proofs.AddsLemmas.{AddsMany}
 use Rattle.rr.specs.Record.{record_at, record_places}
 use Rattle.op.proofs.SectionLemmas.{Takes}
 use Rattle.op.specs.Section.{section_value}
-use Rattle.op.proofs.message.reading.read_each.Given as goal
+use Rattle.op.proofs.message.reading.section.read_each.Given as goal
 
 abbrev pub invariant-loop : goal.invariant-loop
 invariant-loop l = record {

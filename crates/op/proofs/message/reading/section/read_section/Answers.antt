@@ -2,7 +2,7 @@ use Rattle.std.proofs.Common.{arith, refl}
 use Rattle.base.proofs.AddsLemmas.{adds_many_all, adds_many_none}
 use Rattle.rr.specs.Record.{record_at, record_places}
 use Rattle.op.specs.Section.{section_from}
-use Rattle.op.proofs.message.reading.read_section.Goals as goal
+use Rattle.op.proofs.message.reading.section.read_section.Goals as goal
 
 pub returns-then-count-eq0-clause-read : goal.returns-then-count-eq0-clause-read
 unfolding section_from
