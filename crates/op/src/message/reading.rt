@@ -403,7 +403,8 @@ fn fault_of(
     op_code: OpCode,
 ) -> Option<DecodeError>
     ensures { result
-        ≡ fault_in_section is_additional op_code (section_value [] edns.now signature.now) next.now }
+        ≡ fault_in_section is_additional op_code (section_value [] edns.now signature.now)
+        next.now }
 {
     let record_type = next.record_type();
     if next.rdata.is_update() && op_code != OpCode::Update && record_type != RecordType::OPT {
