@@ -154,6 +154,8 @@ fn read_each(
         }
         if is_edns(record_type) {
             *edns = Some(take_edns(alloc, &mut next));
+        } else if records.len() < records.capacity() && !is_signature(&next.rdata) {
+            records.push(next)?;
         } else {
             add(records, signature, alloc, next)?;
         }
@@ -172,7 +174,8 @@ fn fault_of(
 ) -> Option<DecodeError>
     requires type_is { type_of_data next.now.rdata ≡ record_type }
     ensures { result
-        ≡ fault_in_section is_additional op_code (section_value [] edns.now signature.now) next.now }
+        ≡ fault_in_section is_additional op_code (section_value [] edns.now signature.now)
+        next.now }
 {
     if next.rdata.is_update() && op_code != OpCode::Update && !is_edns(record_type) {
         return Some(DecodeError::InvalidEmptyRecord);
@@ -197,37 +200,14 @@ fn take_edns(alloc: Global, next: &mut Record) -> Edns
     opt_edns(next.dns_class, next.ttl, options)
 }
 
-/// Adds a record that was tested, and is no OPT record: a signature by itself, another record after the others.
-///
-/// # Errors
-///
-/// If memory runs out.
-fn add(
-    records: &mut Vec<Record>,
-    signature: &mut Option<Box<Record<TSIG>>>,
-    alloc: Global,
-    next: Record,
-) -> Result<(), AllocError>
-    requires other { is_opt next ≡ false }
-    // Whatever EDNS there is, the section has that record in addition.
-    ensures { (edns : Option Edns) → OnOk result (section_value records.new.items edns signature.new
-        ≡ section_with (section_value records.old.items edns signature.old) next) }
-{
-    if records.len() < records.capacity() && !is_signature(&next.rdata) {
-        records.push(next)?;
-        return Ok(());
-    }
-    add_slowly(records, signature, alloc, next)
-}
-
-/// Adds a record as `add` does, of any kind and where there is no room yet. It stands by itself so that a record for
-/// which there is room is copied in one piece.
+/// Adds a record that was tested, and is no OPT record: a signature by itself, another record after the others. It
+/// stands by itself so that a record for which there is room is copied whole.
 ///
 /// # Errors
 ///
 /// If memory runs out.
 #[inline(never)]
-fn add_slowly(
+fn add(
     records: &mut Vec<Record>,
     signature: &mut Option<Box<Record<TSIG>>>,
     alloc: Global,
