@@ -14,7 +14,7 @@ def zone(count):
 def measure(root, copy, names):
     """Prints what a record costs of each of these zones, or of each of all, by a copy of the last commit."""
     copy_commit(root, copy)
-    copy_kept(root, copy, [*BELOW, *BETWEEN, "dnsmsg"])
+    copy_kept(root, copy, [*BELOW, *BETWEEN, "commands", "dnsmsg"])
     program = built(f"{copy}/crates/dnsmsg", "dnsmsg", ["header"])
     print("zone | instructions a record", flush=True)
     for name, count in ZONES.items():

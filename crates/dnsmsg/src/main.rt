@@ -1,21 +1,10 @@
 //! `dnsmsg`: DNS messages on the command line.
 #![tactic(auto)]
 
-mod apply_command;
-mod command;
-mod cut_command;
-mod header_command;
-mod hex_input;
-mod input;
-mod limit;
-mod read_command;
-mod refusal;
-mod run;
 #[cfg(test)]
 mod tests;
-mod zone_command;
 
-use run::run;
+use commands::run::run;
 use std::io;
 use std::process::ExitCode;
 

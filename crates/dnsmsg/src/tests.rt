@@ -11,7 +11,7 @@ mod includes;
 mod reads;
 mod zones;
 
-use crate::run::run;
+use commands::run::run;
 use std::alloc::{AllocError, Global};
 use std::io::Read;
 use std::process::Abort;
@@ -46,6 +46,20 @@ type Row = (&'static [&'static str], Parts, u8, Parts);
 /// What is printed where the words name no command.
 const USAGE: Parts = &["usage: dnsmsg COMMAND [WORDS]\n"];
 
+/// Whether a run ends with this status and prints this.
+fn is_so(
+    alloc: Global,
+    words: &[&str],
+    input: &str,
+    status: u8,
+    printed: &str,
+) -> Result<bool, AllocError> {
+    let (ended, output) = run_on(alloc, words, &mut input.as_bytes())?;
+    let is_so = ended == status && output.as_slice() == printed.as_bytes();
+    drop(output);
+    Ok(is_so)
+}
+
 /// A run ends with this status and prints this.
 fn gives(
     rt: &(impl Abort + AllocGlobal),
@@ -54,11 +68,9 @@ fn gives(
     status: u8,
     printed: &str,
 ) -> Result<(), AllocError> {
-    let (ended, output) = run_on(rt.alloc(), words, &mut input.as_bytes())?;
-    assert_eq!(rt;
-        (ended, output.as_slice()),
-        (status, printed.as_bytes()),
-        "{words:?}: {input}"
+    assert!(rt;
+        is_so(rt.alloc(), words, input, status, printed)?,
+        "{input} doesn't give {status} {printed}"
     );
     Ok(())
 }

@@ -1,5 +1,5 @@
 use super::{run_on, words_of};
-use crate::run::run;
+use commands::run::run;
 use std::alloc::{AllocError, Global};
 use std::io::{self, ErrorKind, Read, Write};
 
@@ -113,16 +113,19 @@ fn count_reads(alloc: Global, words: &[&str]) -> Result<(u8, u32), AllocError> {
     Ok((status, input.calls))
 }
 
+/// Words that name no command.
+const WRONG_WORDS: &[&'static [&'static str]] = &[
+    &["header", "x"],
+    &[],
+    &["cut"],
+    &["cut", "65536"],
+    &["zones"],
+];
+
 #[test]
 fn wrong_words_are_judged_before_the_input_is_read(rt: HostRuntime) -> Result<(), AllocError> {
-    for &words in &[
-        &["header", "x"] as &[&str],
-        &[],
-        &["cut"],
-        &["cut", "65536"],
-        &["zones"],
-    ] {
-        assert!(rt; count_reads(rt.alloc(), words)? == (2, 0), "{words:?}");
+    for (i, &words) in WRONG_WORDS.iter().enumerate() {
+        assert!(rt; count_reads(rt.alloc(), words)? == (2, 0), "row {i}");
     }
     assert!(rt; count_reads(rt.alloc(), &["header"])?.1 > 0);
     Ok(())

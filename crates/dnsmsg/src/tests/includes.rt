@@ -1,9 +1,8 @@
 //! Texts that include others: how deep they go, and what stays after an included text.
 
 use super::{Row, all_give};
-use crate::run::run;
+use commands::run::run;
 use std::alloc::{AllocError, Global};
-use std::process::Abort;
 
 /// Texts with their included texts, and what is printed.
 const INCLUDED: &[Row] = &[
@@ -147,24 +146,27 @@ fn chain(alloc: Global, length: usize, last: &str) -> Result<Vec<String>, AllocE
     Ok(words)
 }
 
-/// A chain of `length` included texts, and a text that includes the first, end with this status and print this.
+/// The status and the output of a text that includes the first text of a chain.
+fn run_on_chain(alloc: Global, chain: &[String]) -> (u8, Vec<u8>) {
+    let mut output = Vec::new(alloc);
+    let status = run(alloc, chain, &mut "$INCLUDE 1\n".as_bytes(), &mut output);
+    (status, output)
+}
+
+/// Whether a chain of `length` included texts, and a text that includes the first, end with this status and print this.
 fn chain_gives(
-    rt: &(impl Abort + AllocGlobal),
+    alloc: Global,
     length: usize,
     last: &str,
     status: u8,
     printed: &str,
-) -> Result<(), AllocError> {
-    let alloc = rt.alloc();
+) -> Result<bool, AllocError> {
     let words = chain(alloc, length, last)?;
-    let mut output = Vec::new(alloc);
-    let ended = run(alloc, &words, &mut "$INCLUDE 1\n".as_bytes(), &mut output);
-    assert_eq!(rt;
-        (ended, output.as_slice()),
-        (status, printed.as_bytes()),
-        "{length}: {last}"
-    );
-    Ok(())
+    let (ended, output) = run_on_chain(alloc, &words);
+    drop(words);
+    let gives = ended == status && output.as_slice() == printed.as_bytes();
+    drop(output);
+    Ok(gives)
 }
 
 /// What is printed of a chain that ends with an address.
@@ -185,7 +187,10 @@ const CHAINS: &[(usize, &'static str, u8, &'static str)] = &[
 #[test]
 fn chains_of_included_texts(rt: HostRuntime) -> Result<(), AllocError> {
     for &(length, last, status, printed) in CHAINS {
-        chain_gives(&rt, length, last, status, printed)?;
+        assert!(rt;
+            chain_gives(rt.alloc(), length, last, status, printed)?,
+            "{length}: {last}"
+        );
     }
     Ok(())
 }

@@ -52,8 +52,36 @@ fn is_taken_out<R: RecordData>(
     }
 }
 
-/// Whether data could be made, is of this type, isn't empty, is written as these bytes, has this text, and is taken out
-/// of the data of any record.
+/// Whether data is of this type, isn't empty, is written as these bytes, has this text, and is taken out of the data of
+/// any record.
+fn has_form<R: RecordData>(
+    alloc: Global,
+    value: &R,
+    record_type: RecordType,
+    wire: &[u8],
+    text: &str,
+) -> bool {
+    value.record_type() == record_type
+        && !value.is_update()
+        && is_written_as(alloc, value, wire)
+        && has_text(alloc, value, text)
+        && is_taken_out(alloc, value, record_type, wire)
+}
+
+/// Whether data has this form, and is equal to its copy.
+fn is_value<R: RecordData>(
+    alloc: Global,
+    value: R,
+    record_type: RecordType,
+    wire: &[u8],
+    text: &str,
+) -> bool {
+    let has_form = has_form(alloc, &value, record_type, wire, text);
+    let is_copied = is_copied(value);
+    has_form && is_copied
+}
+
+/// Whether data could be made, has this form, and is equal to its copy.
 fn is_data<R: RecordData, E: Drop>(
     alloc: Global,
     made: Result<R, E>,
@@ -62,13 +90,7 @@ fn is_data<R: RecordData, E: Drop>(
     text: &str,
 ) -> bool {
     match made {
-        Ok(value) => {
-            let is_of_type = value.record_type() == record_type && !value.is_update();
-            let has_form = is_written_as(alloc, &value, wire) && has_text(alloc, &value, text);
-            let is_taken_out = is_taken_out(alloc, &value, record_type, wire);
-            let is_copied = is_copied(value);
-            is_of_type && has_form && is_taken_out && is_copied
-        }
+        Ok(value) => is_value(alloc, value, record_type, wire, text),
         Err(_) => false,
     }
 }
@@ -96,56 +118,36 @@ fn unknown_data(alloc: Global, code: RecordType) -> Result<RData, AllocError> {
 }
 
 #[test]
-fn bytes_alone(rt: HostRuntime) {
+fn addresses(rt: HostRuntime) {
     let alloc = rt.alloc();
     let short = A::new(Ipv4Addr::new(192, 0, 2, 10));
-    let made: Result<A, AllocError> = Ok(short);
-    assert!(rt; is_data(alloc, made, RecordType::A, &[192, 0, 2, 10], "192.0.2.10"));
-    let long = Ipv6Addr::from_segments([0x2001, 0xDB8, 0, 0, 1, 0, 0, 1]);
-    let made: Result<AAAA, AllocError> = Ok(AAAA::new(long));
+    assert!(rt; is_value(alloc, short, RecordType::A, &[192, 0, 2, 10], "192.0.2.10"));
+    let long = AAAA::new(Ipv6Addr::from_segments([0x2001, 0xDB8, 0, 0, 1, 0, 0, 1]));
     let wire = [0x20, 1, 0x0D, 0xB8, 0, 0, 0, 0, 0, 1, 0, 0, 0, 0, 0, 1];
-    assert!(rt; is_data(alloc, made, RecordType::AAAA, &wire, "2001:db8::1:0:0:1"));
-    let (none, some) = (null(alloc, &[]), null(alloc, &[0xAB, 0x0C, 0xFF]));
+    assert!(rt; is_value(alloc, long, RecordType::AAAA, &wire, "2001:db8::1:0:0:1"));
+}
+
+#[test]
+fn bytes_alone(rt: HostRuntime) {
+    let alloc = rt.alloc();
+    let none = null(alloc, &[]);
     assert!(rt; is_data(alloc, none, RecordType::NULL, &[], "\\# 0"));
-    assert!(rt;
-        is_data(
-            alloc,
-            some,
-            RecordType::NULL,
-            &[0xAB, 0x0C, 0xFF],
-            "\\# 3 ab0cff"
-        )
-    );
-    assert!(rt;
-        is_data(
-            alloc,
-            signature(alloc, 9),
-            RecordType::TSIG,
-            &[9],
-            "\\# 1 09"
-        )
-    );
-    assert!(rt;
-        is_data(
-            alloc,
-            unknown_data(alloc, RecordType::NSEC),
-            RecordType::NSEC,
-            &[1],
-            "\\# 1 01"
-        )
-    );
-    let none: Result<OPT, AllocError> = Ok(OPT::new(Vec::new(alloc)));
-    assert!(rt; is_data(alloc, none, RecordType::OPT, &[], "\\# 0"));
-    let wire = [0, 3, 0, 1, 4];
-    assert!(rt;
-        is_data(
-            alloc,
-            one_option(alloc),
-            RecordType::OPT,
-            &wire,
-            "\\# 5 0003000104"
-        )
-    );
+    let wire = [0xAB, 0x0C, 0xFF];
+    let some = null(alloc, &wire);
+    assert!(rt; is_data(alloc, some, RecordType::NULL, &wire, "\\# 3 ab0cff"));
+    let made = signature(alloc, 9);
+    assert!(rt; is_data(alloc, made, RecordType::TSIG, &[9], "\\# 1 09"));
+    let unknown = unknown_data(alloc, RecordType::NSEC);
+    assert!(rt; is_data(alloc, unknown, RecordType::NSEC, &[1], "\\# 1 01"));
+}
+
+#[test]
+fn options(rt: HostRuntime) {
+    let alloc = rt.alloc();
+    let none = OPT::new(Vec::new(alloc));
+    assert!(rt; is_value(alloc, none, RecordType::OPT, &[], "\\# 0"));
+    let (one, wire) = (one_option(alloc), [0, 3, 0, 1, 4]);
+    assert!(rt; is_data(alloc, one, RecordType::OPT, &wire, "\\# 5 0003000104"));
 }
 
 /// Strings, their bytes, and strings with marks that have a meaning in zone text.
@@ -155,23 +157,24 @@ const STRINGS_ON_THE_WIRE: &[u8] = b"\x09say \"a\\b\"\0\x04\x1F\x7E\x7F\xFF";
 
 const MARKS: [&[u8]; 2] = [b"x;y", b"z\"q"];
 
+/// A text of those strings, and one of those marks.
+fn text_of_strings(alloc: Global) -> Result<TXT, ProtoError> {
+    TXT::new(alloc, &STRINGS)
+}
+
+fn text_of_marks(alloc: Global) -> Result<TXT, ProtoError> {
+    TXT::new(alloc, &MARKS)
+}
+
 #[test]
 fn strings(rt: HostRuntime) {
     let alloc = rt.alloc();
-    let text = TXT::new(alloc, &STRINGS);
+    let text = text_of_strings(alloc);
     let shown = "\"say \\\"a\\\\b\\\"\" \"\" \"\\031~\\127\\255\"";
     assert!(rt; is_data(alloc, text, RecordType::TXT, STRINGS_ON_THE_WIRE, shown));
     // quotes are escaped, and semicolons are not
-    let text = TXT::new(alloc, &MARKS);
-    assert!(rt;
-        is_data(
-            alloc,
-            text,
-            RecordType::TXT,
-            b"\x03x;y\x03z\"q",
-            "\"x;y\" \"z\\\"q\""
-        )
-    );
+    let (text, shown) = (text_of_marks(alloc), "\"x;y\" \"z\\\"q\"");
+    assert!(rt; is_data(alloc, text, RecordType::TXT, b"\x03x;y\x03z\"q", shown));
 }
 
 /// Whether a text has those strings, and no more.
@@ -185,6 +188,14 @@ fn has_strings(text: &TXT) -> bool {
     strings.next().is_none()
 }
 
+/// Whether data is a text of those strings.
+fn is_of_strings(data: &RData) -> bool {
+    match TXT::try_borrow(data) {
+        Some(text) => has_strings(text),
+        None => false,
+    }
+}
+
 /// Whether a text that has those strings is read.
 fn are_strings_read(alloc: Global) -> bool {
     let read = RData::read(
@@ -193,8 +204,8 @@ fn are_strings_read(alloc: Global) -> bool {
         16,
     );
     let are_read = match &read {
-        Ok(RData::TXT(text)) => has_strings(text),
-        _ => false,
+        Ok(data) => is_of_strings(data),
+        Err(_) => false,
     };
     drop(read);
     are_read
@@ -325,6 +336,15 @@ fn fill<T: BinDecodable + PartialEq>(alloc: Global, values: &[&T], wire: &[u8]) 
     decoder.is_empty()
 }
 
+/// Whether values are written one after another as these bytes, and are read of them.
+fn stand_in_a_row<T: BinEncodable + BinDecodable + PartialEq>(
+    alloc: Global,
+    values: &[&T],
+    wire: &[u8],
+) -> bool {
+    are_written_as(alloc, values, wire) && fill(alloc, values, wire)
+}
+
 /// Two values, if they could be made.
 type Two<T> = (Result<T, ParseError>, Result<T, ParseError>);
 
@@ -335,10 +355,7 @@ fn have_wire<T: BinEncodable + BinDecodable + PartialEq + Drop>(
     wire: &[u8],
 ) -> bool {
     let have_wire = match &made {
-        (Ok(first), Ok(second)) => {
-            let values = [first, second];
-            are_written_as(alloc, &values, wire) && fill(alloc, &values, wire)
-        }
+        (Ok(first), Ok(second)) => stand_in_a_row(alloc, &[first, second], wire),
         _ => false,
     };
     drop(made);

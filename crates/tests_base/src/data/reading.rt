@@ -170,24 +170,28 @@ fn data_fills_its_length(rt: HostRuntime) {
 }
 
 /// Whether this data is read next, from `len` bytes.
+fn stands_next<R: RecordData>(decoder: &mut BinDecoder<'_>, len: u16, value: &R) -> bool {
+    let found = RData::read(decoder, value.record_type(), len);
+    let same = match &found {
+        Ok(found) => holds(found, value),
+        Err(_) => false,
+    };
+    drop(found);
+    same
+}
+
+/// Whether this data could be made, and is read next, from `len` bytes.
 fn is_next<R: RecordData>(
     decoder: &mut BinDecoder<'_>,
     len: u16,
     made: Result<R, AllocError>,
 ) -> bool {
-    match made {
-        Ok(value) => {
-            let found = RData::read(decoder, value.record_type(), len);
-            let same = match &found {
-                Ok(found) => holds(found, &value),
-                Err(_) => false,
-            };
-            drop(found);
-            drop(value);
-            same
-        }
+    let is_next = match &made {
+        Ok(value) => stands_next(decoder, len, value),
         Err(_) => false,
-    }
+    };
+    drop(made);
+    is_next
 }
 
 #[test]

@@ -363,8 +363,8 @@ fn is_written(
 
 #[test]
 fn messages_are_written(rt: HostRuntime) -> Result<(), Fail> {
-    for &(kind, parts, len, end) in WRITTEN {
-        assert!(rt; is_written(rt.alloc(), kind, parts, len, end)?, "{end:?}");
+    for (i, &(kind, parts, len, end)) in WRITTEN.iter().enumerate() {
+        assert!(rt; is_written(rt.alloc(), kind, parts, len, end)?, "row {i}");
     }
     Ok(())
 }

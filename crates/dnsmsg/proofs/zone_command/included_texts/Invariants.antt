@@ -1,8 +1,0 @@
-use Rattle.std.proofs.Common.{◌≡◌, List, take, ℕ}
-use Rattle.txt.specs.Steps.{texts_in}
-use Rattle.dnsmsg.specs.Words.{as_bytes}
-use Rattle.dnsmsg.specs.ZoneCommand.{text_named}
-use Rattle.dnsmsg.proofs.zone_command.included_texts.Given as goal
-
-abbrev pub invariant-loop-word : goal.invariant-loop-word
-invariant-loop-word l = (name : List ℕ) → texts_in l.includes name ≡ text_named (as_bytes (take l.word-index l.words)) name
