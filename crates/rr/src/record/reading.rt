@@ -1,14 +1,15 @@
 //! Reads records.
 
-ghost use Rattle.std.specs.Prelude.{◌≡◌, ◌+◌, ◌<◌, [], length, IfErr, IfOk, OnOk, true};
+ghost use Rattle.std.specs.Prelude.{◌≡◌, ◌+◌, ◌<◌, length, IfErr, IfOk, OnOk, true};
 ghost use Rattle.std.specs.Int.{w16, w32};
 ghost use Rattle.base.specs.Counts.{Counts, Passes};
 ghost use Rattle.base.specs.Passing.{AddsPassed};
+ghost use Rattle.base.specs.Reader.{Reader};
 ghost use Rattle.base.specs.Reading.{Reads};
 ghost use Rattle.base.specs.Words.{IsNumberAt};
 ghost use Rattle.base_data.specs.Kinds.{data_places, type_of_data};
 ghost use Rattle.base_data.specs.RData.{is_empty_data};
-ghost use Rattle.rr.specs.Record.{body_at, class_value, flush_value, is_opt_type, record_at, record_places};
+ghost use Rattle.rr.specs.Record.{HasOwner, body_at, class_value, flush_value, is_opt_type, record_at, record_places};
 
 use crate::record::Record;
 use base::{BinDecodable, BinDecoder, DNSClass, DecodeError, Name, RecordType};
@@ -30,37 +31,38 @@ impl BinDecodable for Record<RData> {
     /// `IncorrectRDataLengthRead` where fewer bytes are left than the length says; `BadData` for data that its type
     /// doesn't read. `Memory` if memory runs out.
     fn read(decoder: &mut BinDecoder<'_>) -> Result<Record<RData>, DecodeError> {
-        let root = Name::root(decoder.allocator());
-        let mut record = Record::update0(root, 0, RecordType::ZERO);
-        record.read_in_place(decoder)?;
+        let mut record = Record::update0(Name::read(decoder)?, 0, RecordType::ZERO);
+        record.read_after_owner(decoder)?;
         Ok(record)
     }
 }
 
 impl Record<RData> {
-    /// Reads a record as `read` does, but in the place of one of the root without data, since it is faster not to move
-    /// what was read. Answers its type.
+    /// Reads what comes after the owner of a record, in the place of a record that has its owner and no data, since it
+    /// is faster not to move what was read. Answers its type.
     ///
     /// # Errors
     ///
-    /// What `read` refuses.
+    /// What `read` refuses after the owner.
     #[tactic(auto, unfolding(crate::specs::Record::record_at))]
-    pub fn read_in_place(&mut self, decoder: &mut BinDecoder<'_>) -> Result<RecordType, DecodeError>
-        requires bare { (self.old.name.labels ≡ []) × (is_empty_data self.old.rdata ≡ true) }
-        ensures read { Reads (λ _. self.new) decoder.old decoder.new result
-            (record_at decoder.old.bytes decoder.old.index) }
+    pub fn read_after_owner(
+        &mut self,
+        decoder: &mut BinDecoder<'_>,
+    ) -> Result<RecordType, DecodeError>
+        requires empty { is_empty_data self.old.rdata ≡ true }
+        // Where its owner was read before, both read a record together.
+        ensures read { (before : Reader) → HasOwner before decoder.old self.old.name
+            → Reads (λ _. self.new) before decoder.new result
+            (record_at before.bytes before.index) }
         ensures type_is { IfOk result (λ record_type. type_of_data self.new.rdata ≡ record_type) }
         // These two are as of every read: see `BinDecodable::read`.
         ensures counts { Counts decoder.old decoder.new result }
         ensures passed { Passes decoder.old decoder.new result }
-        // The decoder now also keeps the targets of these names' pointers, and no others.
-        ensures adds { IfOk result
-            (λ _. AddsPassed (record_places decoder.old.bytes decoder.old.index) decoder.old
-            decoder.new) }
+        // The decoder now also keeps the targets of the pointers of both, and no others.
+        ensures adds { (before : Reader) → HasOwner before decoder.old self.old.name
+            → IfOk result
+            (λ _. AddsPassed (record_places before.bytes before.index) before decoder.new) }
     {
-        let name = Name::read(decoder)?;
-        // the root takes no memory, so it is let go of as it is, without a test
-        mem::forget(mem::replace(&mut self.name, name));
         let record_type = RecordType::read(decoder)?;
         if is_opt(record_type) && !self.name.is_root() {
             let root = Name::root(decoder.allocator());

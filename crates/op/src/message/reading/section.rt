@@ -14,7 +14,7 @@ ghost use Rattle.op.specs.Section.{edns_of, empty_section, fault_in_section, is_
 
 use crate::edns::{Edns, opt_edns};
 use crate::op_code::OpCode;
-use base::{BinDecoder, DecodeError, Name, RecordType};
+use base::{BinDecodable, BinDecoder, DecodeError, Name, RecordType};
 use base_data::{OPT, RData, TSIG};
 use rr::Record;
 use std::alloc::{AllocError, Global};
@@ -140,16 +140,10 @@ fn read_each(
     }
     for _ in 0..count {
         // the record stays where it was read until it is among the others, since moving it is slow
-        let mut next = Record::update0(Name::root(alloc), 0, RecordType::ZERO);
-        let record_type = next.read_in_place(decoder)?;
-        if let Some(fault) = fault_of(
-            edns,
-            signature,
-            &next,
-            record_type,
-            is_additional,
-            op_code,
-        ) {
+        let owner = Name::read(decoder)?;
+        let mut next = Record::update0(owner, 0, RecordType::ZERO);
+        let record_type = next.read_after_owner(decoder)?;
+        if let Some(fault) = fault_of(edns, signature, &next, record_type, is_additional, op_code) {
             return Err(fault);
         }
         if is_edns(record_type) {

@@ -1,0 +1,39 @@
+use Rattle.std.proofs.Common.{◌≡◌, sym, ◌∙◌, subst, List, ℕ, Ok}
+use Rattle.base.specs.Reading.{Reads}
+use Rattle.rr.specs.Record.{body_at, record_at}
+use Rattle.base.proofs.AddsLemmas.{adds_both}
+use Rattle.rr.proofs.AddsRecord.{record_adds}
+use Rattle.rr.proofs.ReadSteps.{other_type, record_read, root_owner, wrong_owner}
+use Rattle.rr.proofs.RecordLemmas.{not_root}
+use Rattle.rr.proofs.record.reading.Record+RData.read_after_owner.Goals as goal
+use Rattle.rr.proofs.record.reading.Record+RData.read_after_owner.Goals.{else-is_opt-via-then-is_opt+else-not-is_root, else-is_opt-via-else-is_opt}
+
+pub returns-then-not-is_root-clause-read : goal.returns-then-not-is_root-clause-read
+returns-then-not-is_root-clause-read c = λ before has.
+    let owner = c.args.self.now.name in
+    let second = c.args.decoder.now in
+    let type = c.in_ok-record_type.ensures.read in
+    let labelled = not_root before.bytes before.index owner second.index c.is_root.result has.read c.is_root.ensures c.if-not-is_root.true in
+    rw c.replace.ensures.value (wrong_owner before.bytes before.index owner second.index has.read second.bytes has.bytes
+    c.in_ok-record_type.record_type c.read.new.decoder.index type.0 (sym c.is_opt.ensures ∙ c.if-is_opt.true) labelled)
+
+pub returns-clause-read : goal.returns-clause-read
+returns-clause-read c = λ before has.
+    let owner = c.args.self.now.name in
+    let second = c.args.decoder.now in
+    let last = c.read.new.decoder in
+    let kind = c.in_ok-record_type.record_type in
+    let type = c.in_ok-record_type.ensures.read in
+    let is : body_at owner kind before.bytes last.index ≡ record_at before.bytes before.index = elim c.else-is_opt.branch [
+      | else-is_opt-via-then-is_opt+else-not-is_root w ↦ root_owner before.bytes before.index owner second.index has.read second.bytes has.bytes kind last.index type.0 (w.is_root.ensures.0 w.if-not-is_root.false)
+      | else-is_opt-via-else-is_opt w ↦ other_type before.bytes before.index owner second.index has.read second.bytes has.bytes kind last.index type.0 (sym c.is_opt.ensures ∙ w.if-is_opt.false)
+    ] in
+    let same = type.1 ∙ has.bytes in
+    record_read before.bytes before.index owner second.index has.read second.bytes has.bytes kind last.index type.0 before last c.read_body.new.decoder (Ok c.read_body.new.self) same
+    (subst (λ (bytes : List ℕ). Reads (λ x. x) last c.read_body.new.decoder (Ok c.read_body.new.self) (body_at owner kind bytes last.index)) same c.in_ok-read_body.ensures.read) is
+
+pub returns-clause-adds : goal.returns-clause-adds
+returns-clause-adds c = λ before has.
+    let type = c.in_ok-record_type.ensures in
+    let head = adds_both has.adds type.adds in
+    record_adds c.args.decoder.now c.read_body.new.decoder (Ok c.read_body.new.self) has.read type.read.0 head (returns-clause-read c before has) c.in_ok-read_body.ensures.adds
