@@ -55,45 +55,6 @@ pub(super) fn read_section(
     if count == 0 {
         return Ok(());
     }
-    read_some(
-        alloc,
-        records,
-        edns,
-        signature,
-        decoder,
-        count,
-        is_additional,
-        op_code,
-    )
-}
-
-/// Reads the records of a section that has some. It is inlined after that test, so that for a section without records
-/// there is no fault whose place has to be cleared.
-#[inline(always)]
-fn read_some(
-    alloc: Global,
-    records: &mut Vec<Record>,
-    edns: &mut Option<Edns>,
-    signature: &mut Option<Box<Record<TSIG>>>,
-    decoder: &mut BinDecoder<'_>,
-    count: usize,
-    is_additional: bool,
-    op_code: OpCode,
-) -> Result<(), DecodeError>
-    requires empty { section_value records.old.items edns.old signature.old ≡ empty_section }
-    // No more targets of pointers are kept than a pointer can lead to.
-    requires few { set.len decoder.old.kept ≤ POINTER_LIMIT }
-    ensures read { Reads (λ _. section_value records.new.items edns.new signature.new)
-        decoder.old decoder.new result
-        (section_at is_additional op_code count decoder.old.bytes decoder.old.index) }
-    // These two are as of every read: see `BinDecodable::read`.
-    ensures counts { Counts decoder.old decoder.new result }
-    ensures passed { Passes decoder.old decoder.new result }
-    // The decoder now also keeps the targets of these names' pointers, and no others.
-    ensures adds { IfOk result
-        (λ _. AddsPassed (records_places count decoder.old.bytes decoder.old.index) decoder.old
-        decoder.new) }
-{
     read_each(
         alloc,
         records,
@@ -103,8 +64,7 @@ fn read_some(
         count,
         is_additional,
         op_code,
-    )?;
-    Ok(())
+    )
 }
 
 /// Reads these records. It stands by itself so that a section without records, as most messages have some, costs

@@ -10,7 +10,9 @@ pub read_section-requires-2 : goal.read_section-requires-2
 read_section-requires-2 c = still_empty c.args.self.now.metadata.op_code c.args.decoder.now.bytes c.from.result c.args.decoder.now.index c.in_ok-read_section.ensures.read.0 (ap (λ (m : MessageValue). m.authorities) c.requires)
 
 pub read_section-requires-3 : goal.read_section-requires-3
-read_section-requires-3 c = still_empty c.args.self.now.metadata.op_code c.read_section.new.decoder.bytes c.from-2.result c.read_section.new.decoder.index c.in_ok-read_section-2.ensures.read.0 (ap (λ (m : MessageValue). m.additionals) c.requires)
+read_section-requires-3 c =
+    let mid = c.read_section.new.decoder in
+    still_empty c.args.self.now.metadata.op_code mid.bytes c.from-2.result mid.index c.in_ok-read_section-2.ensures.read.0 (ap (λ (m : MessageValue). m.additionals) c.requires)
 
 pub returns-clause-adds : goal.returns-clause-adds
 returns-clause-adds c =
