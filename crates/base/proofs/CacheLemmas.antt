@@ -8,13 +8,16 @@ use Rattle.std.specs.List.{slice_range}
 use Rattle.std.specs.Option.{option_or}
 use Rattle.std.specs.Ordering.{eq_by_cmp, nat_cmp}
 use Rattle.std.proofs.lemmas.Bool.{cases_Bool, cond-true, cond-false, eqb-true, eqb-false, eq-eqb, ne_eqb, false≢true, ltb-true, ltb-false}
-use Rattle.std.proofs.lemmas.List.{drop-append-le, take-append-le, take_all, drop_all, drop-drop, get_or_append_left, get_or-append_right, get_or_past, get_or_default, get_or-set_same, get_or-set_other, map_push, take_more_set}
+use Rattle.std.proofs.lemmas.List.{drop-append-le, take-append-le, take_all, drop_all, drop-drop, get_or_append_left, get_or-append_right, get_or_past, get_or_default, get_or-set_same, get_or-set_other, length-set, map_push, take_more_set}
+use Rattle.std.proofs.lemmas.Slice.{take-put_mid}
+use borrow.Rule.Slice.PartMut.{put_mid}
 use Rattle.std.proofs.lemmas.List.Elements.{All-push, All-same, All-weaker}
 use Rattle.base.specs.declared.wire.pointer_cache.TargetLabels.{TargetLabels}
 use Rattle.base.specs.declared.wire.pointer_cache.TargetLabels.TheVariants.{Lent, Copied}
 use Rattle.base.specs.declared.wire.pointer_cache.Target.{Target}
 use Rattle.base.specs.declared.wire.pointer_cache.TheConstants.{ROOM}
-use Rattle.base.specs.Pointers.{AreThere, IsInside, IsLonger, IsTargetThere, cache_of, entries_from, target_entries, target_labels, labels_from, labels_in, len_at, placed}
+use Rattle.base.proofs.LawLemmas.{none_is_not}
+use Rattle.base.specs.Pointers.{AreThere, copied_bytes, IsInside, IsLonger, IsTargetThere, cache_of, entries_from, target_entries, target_labels, labels_from, labels_in, len_at, placed}
 
 -- ---- a place whose labels are there keeps them, where more is copied after
 
@@ -23,6 +26,15 @@ before place copied some inside = grind (arith, some, inside)
 
 some_labels : (copied : List ℕ) (place : ℕ) → place ≢ 0 → labels_in copied place ≡ Some (labels_from copied place)
 some_labels copied place some = cond-false (place == 0) _ _ (ne_eqb place 0 some)
+
+-- the labels at a place where some are found
+pub found_there : (copied : List ℕ) (place : ℕ) (labels : List ℕ) → labels_in copied place ≡ Some labels → labels_from copied place ≡ labels
+found_there copied place labels is = elim (cases_Bool (place == 0)) [
+  | inl none ↦ absurd (none_is_not labels (sym (cond-true (place == 0) None _ none) ∙ is))
+  | inr some ↦ some_is _ _ (sym (some_labels copied place (eqb-false place 0 some)) ∙ is)
+] where
+  some_is : (xs ys : List ℕ) → ◌≡◌ {A = Option (List ℕ)} (Some xs) (Some ys) → xs ≡ ys
+  some_is xs ys is = cc
 
 len_stays : (copied more : List ℕ) (place : ℕ) → place ≢ 0 → IsInside copied place → len_at (copied ++ more) place ≡ len_at copied place
 len_stays copied more place some inside = get_or_append_left copied more 0 (place - 1) (before place copied some (inside some))
@@ -111,12 +123,28 @@ module _ (copied labels : List ℕ) where
   pub new_inside : IsInside whole (length copied + 1)
   new_inside some = omega (arith, new_len, length-append copied (length labels ∷ labels))
 
+-- labels that are copied inside the value, where nothing is on the heap
+pub copied_inside : (used k : ℕ) (first labels all copied : List ℕ) → length all ≡ 0 → used + 1 + length labels ≤ length first → copied ≡ labels
+    → copied_bytes (used + 1 + length labels) (put_mid (used + 1) k (slice_set first used (length labels)) copied) all ≡ copied_bytes used first all ++ (length labels ∷ labels)
+copied_inside used k first labels (b ∷ bs) copied none fits is = absurd (omega (arith, none))
+copied_inside used k first labels [] copied none fits is = rw is
+    (take-put_mid (used + 1) k (slice_set first used (length labels)) labels (used + 1 + length labels) refl (omega (arith, fits, length-set first used (length labels)))
+    ∙ ap (λ (xs : List ℕ). xs ++ labels) (take_more_set first used (length labels) (omega (arith, fits)))
+    ∙ append_assoc (take used first) (length labels ∷ []) labels)
+
 -- ---- the places by offset, one of them new
 
 inside_or : (copied places : List ℕ) → All (IsInside copied) places → (q : ℕ) → IsInside copied (get_or places q 0)
 inside_or copied places all q = elim (cases_Bool (nat_lt q (length places))) [
   | inl inside ↦ all q 0 (ltb-true q (length places) inside)
   | inr past ↦ λ some. absurd (some (get_or_past places q 0 (ltb-false q (length places) past)))
+]
+
+-- the place of an offset where some labels are found
+pub place_of : (copied places : List ℕ) (q place : ℕ) (labels : List ℕ) → placed copied places q ≡ Some labels → place ≡ get_or places q place → place ≡ get_or places q 0
+place_of copied places q place labels is at = elim (cases_Bool (nat_lt q (length places))) [
+  | inl inside ↦ at ∙ sym (get_or_default places q 0 place (ltb-true q (length places) inside))
+  | inr past ↦ absurd (none_is_not labels (sym (ap (labels_in copied) (get_or_past places q 0 (ltb-false q (length places) past))) ∙ is))
 ]
 
 -- places of 0 after the others are no places
@@ -214,6 +242,11 @@ pub same_found : (copied now others others' : List ℕ) (first first' : List Tar
     → cache_of now others' first' ≡ cache_of copied others first
 same_found copied now others others' first first' same = same_cache _ _ (λ q. get_cache now others' first' q ∙ same q ∙ sym (get_cache copied others first q))
 
+-- caches where no target has a place
+pub no_places : (copied now others others' : List ℕ) (first : List Target) → others ≡ [] → others' ≡ [] → target_entries now first ≡ target_entries copied first
+    → cache_of now others' first ≡ cache_of copied others first
+no_places copied now others others' first none none' same = rw (none, none') (ap (λ (es : List (ℕ × List ℕ)). map.from_entries {R = nat_cmp} (es ++ [])) same)
+
 pub same_inside : (copied old new : List ℕ) → ((q : ℕ) → get_or new q 0 ≡ get_or old q 0) → All (IsInside copied) old → All (IsInside copied) new
 same_inside copied old new same all k d inside = subst (IsInside copied) (sym (same k) ∙ get_or_default new k 0 d inside) (inside_or copied old all k)
 
@@ -221,7 +254,7 @@ none_of : {X : Type 0} (o p : Option X) → option_or o p ≡ None → o ≡ Non
 none_of None p none = refl
 none_of (Some x) p none = none
 
-or_none : {X : Type 0} (o : Option X) → option_or o None ≡ o
+pub or_none : {X : Type 0} (o : Option X) → option_or o None ≡ o
 or_none None = refl
 or_none (Some x) = refl
 

@@ -1,7 +1,7 @@
 -- Copies into a room.
-use Rattle.std.proofs.Common.{◌≡◌, ◌∙◌, ℕ, ◌+◌, ◌-◌, ◌≤◌, List, [], ◌∷◌, ◌++◌, length, take, drop, suc, ap, sym, arith, length-take, length-drop, length-append}
-use Rattle.std.proofs.lemmas.List.{take-take, take-append-le, take-append-drop}
-use Rattle.std.proofs.lemmas.Slice.{take-put_mid}
+use Rattle.std.proofs.Common.{◌≡◌, ◌∙◌, ℕ, ◌+◌, ◌-◌, ◌≤◌, List, [], ◌∷◌, ◌++◌, length, take, drop, suc, ap, sym, arith, append-nil, length-take, length-drop, length-append}
+use Rattle.std.proofs.lemmas.List.{drop_all, take-take, take-append-le, take-append-drop}
+use Rattle.std.proofs.lemmas.Slice.{drop-put_mid, take-put_mid}
 use Rattle.std.specs.Prelude.{slice_range}
 use borrow.Rule.Slice.PartMut.{put_mid}
 
@@ -38,3 +38,15 @@ copied_ends xs first rest last piece k long short front back =
     ∙ ap (λ (ys : List ℕ). ys ++ last) (take-append-le at first rest (omega (arith, len_first)) ∙ ap (take at) front ∙ take-take at piece xs (omega arith))
     ∙ ap (λ (ys : List ℕ). take at xs ++ ys) back
     ∙ take-append-drop at xs
+
+-- the same in a place that is no longer
+pub copied_whole : (xs first rest last : List ℕ) (piece k : ℕ) → piece ≤ length xs → length xs ≤ piece + piece → k ≡ piece → length (first ++ rest) ≡ length xs → first ≡ take piece xs → last ≡ drop (length xs - piece) xs
+    → put_mid (length xs - piece) k (first ++ rest) last ≡ xs
+copied_whole xs first rest last piece k long short few fits front back =
+    let at = length xs - piece in
+    let whole = put_mid at k (first ++ rest) last in
+    let len : length last ≡ k = omega (arith, ap length back, length-drop at xs, few, long) in
+    let nothing : drop (length xs) whole ≡ [] =
+    drop-put_mid at k (first ++ rest) last (length xs) (omega (arith, few, long)) (omega (arith, fits)) len ∙ drop_all (length xs) (first ++ rest) (omega (arith, fits)) in
+    sym (take-append-drop (length xs) whole) ∙ ap (λ (ys : List ℕ). take (length xs) whole ++ ys) nothing ∙ append-nil (take (length xs) whole)
+    ∙ copied_ends xs first rest last piece k long short front back

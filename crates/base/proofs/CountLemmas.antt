@@ -11,7 +11,11 @@ use Rattle.std.proofs.Math.Bool.{or-false, or_assoc, or_comm}
 use Rattle.std.proofs.lemmas.Bool.{cases_Bool, cond-true, cond-false, eqb-true, false≢true}
 use Rattle.std.proofs.lemmas.List.Folds.{list_any-append}
 use Rattle.std.proofs.lemmas.Map.Lookups.{exact_unsigned}
-use Rattle.base.specs.Pointers.{AreKept, Cache, Followed, IsKept, targets_of}
+use Rattle.base.specs.declared.wire.pointer_cache.Source.{Source}
+use Rattle.base.specs.declared.wire.pointer_cache.Source.TheVariants.{Nowhere, Message, Kept}
+use Rattle.base.specs.Labels.{wire_of}
+use Rattle.base.specs.Pointers.{AreKept, Cache, Followed, IsKept, IsSource, KeepsAt, targets_of}
+use Rattle.base.proofs.SpellingLemmas.{spelled_once}
 use Rattle.std.specs.declared.cmp.Ordering.{Ordering}
 use Rattle.std.specs.declared.cmp.Ordering.TheVariants.{Less, Equal, Greater}
 use Rattle.base.specs.Counts.{IsCounted, IsPassed}
@@ -62,6 +66,21 @@ kept_are bytes cache t items are one u xs is = go (eq_by_cmp nat_cmp u t) refl (
       let same : u ≡ t = eqb-true u t (sym (unsigned_tied u t) ∙ tied) in
       subst (λ (k : ℕ). IsKept bytes k xs) (sym same) (subst (IsKept bytes t) (some_is items xs at) one)
   go false differ at = are u xs at
+
+kept_once : {bytes : List ℕ} {t : ℕ} {xs ys : List ℕ} → IsKept bytes t xs → IsKept bytes t ys → xs ≡ ys
+kept_once x y = sym x.wire.whole ∙ ap wire_of (spelled_once x.spelled y.spelled).0 ∙ y.wire.whole
+
+pub kept_at : (bytes : List ℕ) (cache : Cache) (q : ℕ) (labels : List ℕ) → AreKept bytes cache → KeepsAt bytes (targets_of cache) q labels → map.get cache q ≡ Some labels
+kept_at bytes cache q labels are at = go (map.get cache q) refl where
+  go : (o : Option (List ℕ)) → map.get cache q ≡ o → map.get cache q ≡ Some labels
+  go None none = absurd (false≢true (sym (ap is_some none) ∙ sym (contains_kept cache q) ∙ at.0))
+  go (Some items) found = found ∙ ap (λ (xs : List ℕ). Some xs) (kept_once (are q items found) at.1)
+
+-- a source by what is said of its labels
+pub same_source : (A B : ℕ → List ℕ → Type 0) (source : Source) (labels : List ℕ) → ((q : ℕ) → A q labels → B q labels) → IsSource A source labels → IsSource B source labels
+same_source A B Nowhere labels gives is = tt
+same_source A B (Message same) labels gives is = is
+same_source A B (Kept q) labels gives is = gives q is
 
 pub kept_near : (bytes : List ℕ) (cache : Cache) → AreKept bytes cache → (q : ℕ) → set.contains (targets_of cache) q ≡ true → q < 16384
 kept_near bytes cache are q is = go (map.get cache q) refl (sym (contains_kept cache q) ∙ is) where

@@ -1,11 +1,12 @@
 -- The labels of a name that stands in one piece.
-use Rattle.std.proofs.Common.{◌≡◌, ℕ, zero, suc, ◌+◌, ◌-◌, ◌<◌, ◌≤◌, List, [], ◌∷◌, ◌++◌, length, take, drop, get_or, get_or-take, None, Result, Ok, true, refl, ap, sym, ◌∙◌, subst, arith, length-drop, length-take, ◌≢◌}
+use Rattle.std.proofs.Common.{◌≡◌, ◌≢◌, ℕ, zero, suc, ◌+◌, ◌-◌, ◌<◌, ◌≤◌, List, [], ◌∷◌, ◌++◌, length, take, drop, get_or}
+use Rattle.std.proofs.Common.{None, Result, Ok, true, refl, ap, sym, ◌∙◌, subst, arith, get_or-take, length-drop, length-take}
 use Rattle.std.proofs.Math.Seq.{take-add}
 use Rattle.std.specs.Prelude.{All}
 use Rattle.std.proofs.lemmas.List.{append-nil, drop-append-le, drop-drop, drop_all, get_or-drop}
 use Rattle.std.specs.FinSet as set
 use Rattle.std.specs.List.{slice_range}
-use Rattle.base.specs.Pointers.{IsKept, IsLast, PassesThese, part}
+use Rattle.base.specs.Pointers.{IsKept, IsLast, OfLast, PassesThese, part}
 use Rattle.base.specs.Labels.{IsWire, labels_of}
 use Rattle.base.specs.Names.{NamePart, label_of, labels_at, part_at, pointer_to, zero_byte}
 use Rattle.base.specs.declared.name.followed.FollowedPointer.{FollowedPointer}
@@ -135,9 +136,19 @@ last_pushed [] p labels from = sym (drop_all p.from labels (omega (arith, from))
 last_pushed (q ∷ []) p labels from = last_pushed [] p labels from
 last_pushed (q ∷ r ∷ ps) p labels from = last_pushed (r ∷ ps) p labels from
 
-pub last_at : (ps : List FollowedPointer) (lent labels : List ℕ) (i : ℕ) (d : FollowedPointer) → i + 1 ≡ length ps → IsLast lent labels ps → lent ≡ drop (get_or ps i d).from labels
-last_at [] lent labels i d len is = absurd (omega (arith, len))
-last_at (p ∷ []) lent labels zero d len is = is
-last_at (p ∷ []) lent labels (suc i) d len is = absurd (omega (arith, len))
-last_at (p ∷ q ∷ ps) lent labels zero d len is = absurd (omega (arith, len))
-last_at (p ∷ q ∷ ps) lent labels (suc i) d len is = last_at (q ∷ ps) lent labels i d (omega (arith, len)) is
+pub of_last : {Is : List ℕ → Type 0} (ps : List FollowedPointer) (last labels : List ℕ) → IsLast last labels ps → ((xs : List ℕ) → last ≡ xs → Is xs) → OfLast Is labels ps
+of_last [] last labels is gives = tt
+of_last (p ∷ []) last labels is gives = gives (drop p.from labels) is
+of_last (p ∷ q ∷ ps) last labels is gives = of_last (q ∷ ps) last labels is gives
+
+pub of_any : (ps : List FollowedPointer) (labels : List ℕ) → OfLast (λ _. Unit {0}) labels ps
+of_any [] labels = tt
+of_any (p ∷ []) labels = tt
+of_any (p ∷ q ∷ ps) labels = of_any (q ∷ ps) labels
+
+pub last_at : (Is : List ℕ → Type 0) (ps : List FollowedPointer) (labels : List ℕ) (i : ℕ) (d : FollowedPointer) → i + 1 ≡ length ps → OfLast Is labels ps → Is (drop (get_or ps i d).from labels)
+last_at Is [] labels i d len is = absurd (omega (arith, len))
+last_at Is (p ∷ []) labels zero d len is = is
+last_at Is (p ∷ []) labels (suc i) d len is = absurd (omega (arith, len))
+last_at Is (p ∷ q ∷ ps) labels zero d len is = absurd (omega (arith, len))
+last_at Is (p ∷ q ∷ ps) labels (suc i) d len is = last_at Is (q ∷ ps) labels i d (omega (arith, len)) is

@@ -1,7 +1,7 @@
 -- The labels that are kept at the offsets that compression pointers led to.
 use Rattle.base.specs.declared.limits.TheConstants.{MAX_LABELS, POINTER_LIMIT}
 use Rattle.std.specs.Prelude.{◌≡◌, ◌≢◌, ℕ, zero, suc, true, ◌+◌, ◌-◌, ◌^◌, ◌<◌, ◌≤◌, ◌==◌, List}
-use Rattle.std.specs.Prelude.{[], ◌∷◌, ◌++◌, All, Option, Some, None, if◌then◌else◌, drop, get_or, length, map, option_map}
+use Rattle.std.specs.Prelude.{[], ◌∷◌, ◌++◌, All, Option, Some, None, if◌then◌else◌, drop, get_or, length, map, option_map, take}
 use Rattle.std.specs.Borrow.{Bor}
 use Rattle.std.specs.FinMap as labels_by
 use Rattle.std.specs.FinSet as set
@@ -10,6 +10,8 @@ use Rattle.std.specs.Ordering.{nat_cmp}
 use Rattle.base.specs.declared.name.followed.FollowedPointer.{FollowedPointer}
 use Rattle.base.specs.declared.name.reading.Part.{Part}
 use Rattle.base.specs.declared.name.reading.Part.TheVariants.{Root, Label, Pointer}
+use Rattle.base.specs.declared.wire.pointer_cache.Source.{Source}
+use Rattle.base.specs.declared.wire.pointer_cache.Source.TheVariants.{Nowhere, Message, Kept}
 use Rattle.base.specs.declared.wire.pointer_cache.TargetLabels.{TargetLabels}
 use Rattle.base.specs.declared.wire.pointer_cache.TargetLabels.TheVariants.{Lent, Copied}
 use Rattle.base.specs.declared.wire.pointer_cache.Target.{Target}
@@ -43,6 +45,16 @@ targets_of cache = set.from_list (labels_by.keys cache)
 abbrev pub labels_now : Option (Bor (List ℕ)) → Option (List ℕ)
 labels_now found = option_map (λ labels. labels.now) found
 
+-- the labels that are spelled at q are kept, and are these
+abbrev pub KeepsAt : List ℕ → set.FinSet nat_cmp → ℕ → List ℕ → Type 0
+KeepsAt bytes kept q items = (set.contains kept q ≡ true) × IsKept bytes q items
+
+-- these labels are where a source says, given which are kept for which offset
+abbrev pub IsSource : (ℕ → List ℕ → Type 0) → Source → List ℕ → Type 0
+IsSource AreAt Nowhere labels = Unit {0}
+IsSource AreAt (Message same) labels = same.now ≡ labels
+IsSource AreAt (Kept q) labels = AreAt q labels
+
 -- ---- how a cache has them: lent, or at a place among those that were copied
 
 -- how many bytes the labels at a place are: the byte before it
@@ -60,6 +72,11 @@ labels_in copied place = if place == 0 then None else Some (labels_from copied p
 -- the labels at an offset, which has one of these places
 abbrev pub placed : List ℕ → List ℕ → ℕ → Option (List ℕ)
 placed copied places q = labels_in copied (get_or places q 0)
+
+-- the bytes that were copied: those inside the value, unless there were more
+abbrev pub copied_bytes : ℕ → List ℕ → List ℕ → List ℕ
+copied_bytes used first [] = take used first
+copied_bytes used first (b ∷ bs) = b ∷ bs
 
 -- the labels at a place are there
 abbrev pub IsInside : List ℕ → ℕ → Type 0
@@ -111,11 +128,15 @@ abbrev pub AreSpelled : List ℕ → List ℕ → List FollowedPointer → Type 
 AreSpelled bytes labels ps =
     All (λ p. (p.from ≤ length labels) × IsKept bytes p.target (drop p.from labels)) ps
 
--- the labels that the last of these pointers led to
+-- a statement of the labels that the last of these pointers led to
+abbrev pub OfLast : (List ℕ → Type 0) → List ℕ → List FollowedPointer → Type 0
+OfLast Is labels [] = Unit {0}
+OfLast Is labels (p ∷ []) = Is (drop p.from labels)
+OfLast Is labels (p ∷ q ∷ ps) = OfLast Is labels (q ∷ ps)
+
+-- these are the labels that the last of these pointers led to
 abbrev pub IsLast : List ℕ → List ℕ → List FollowedPointer → Type 0
-IsLast lent labels [] = Unit {0}
-IsLast lent labels (p ∷ []) = lent ≡ drop p.from labels
-IsLast lent labels (p ∷ q ∷ ps) = IsLast lent labels (q ∷ ps)
+IsLast last labels ps = OfLast (λ xs. last ≡ xs) labels ps
 
 -- After each pointer kept offsets are passed, and those of the pointers that were followed later.
 abbrev pub PassLater : List ℕ → set.FinSet nat_cmp → List FollowedPointer → Type 0

@@ -122,11 +122,8 @@ impl Labels {
         let len = used + others.len();
         if len <= INLINE_LABELS {
             return Ok(Labels {
-                storage: Storage::Inline(InlineLabels::from_slices(
-                    alloc,
-                    &bytes[..used],
-                    others,
-                    is_fqdn,
+                storage: Storage::Inline(InlineLabels::from_front_and(
+                    alloc, bytes, used, others, is_fqdn,
                 )),
             });
         }

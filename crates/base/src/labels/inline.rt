@@ -55,13 +55,7 @@ impl InlineLabels {
         ensures { result ≡ record { items = slice.now; is_fqdn = is_fqdn } }
     {
         let mut bytes = [0; INLINE_LABELS];
-        if slice.len() >= PIECE {
-            copy_ends(&mut bytes, slice, PIECE);
-        } else if slice.len() >= SHORT_PIECE {
-            copy_ends(&mut bytes, slice, SHORT_PIECE);
-        } else {
-            bytes[..slice.len()].copy_from_slice(slice);
-        }
+        copy_few(&mut bytes[..slice.len()], slice);
         InlineLabels {
             alloc,
             is_fqdn,
@@ -92,20 +86,27 @@ impl InlineLabels {
         }
     }
 
-    /// These bytes, and others after them.
-    pub(crate) fn from_slices(
+    /// The first `used` of these bytes, and others after them.
+    pub(crate) fn from_front_and(
         alloc: Global,
         slice: &[u8],
+        used: usize,
         others: &[u8],
         is_fqdn: bool,
     ) -> InlineLabels
-        requires { length slice.now + length others.now ≤ INLINE_LABELS }
-        ensures { result ≡ record { items = slice.now ++ others.now; is_fqdn = is_fqdn } }
+        requires there { used ≤ length slice.now }
+        requires few { used + length others.now ≤ INLINE_LABELS }
+        ensures { result
+            ≡ record { items = take used slice.now ++ others.now; is_fqdn = is_fqdn } }
     {
-        let len = slice.len() + others.len();
+        let len = used + others.len();
         let mut bytes = [0; INLINE_LABELS];
-        bytes[..slice.len()].copy_from_slice(slice);
-        bytes[slice.len()..len].copy_from_slice(others);
+        if slice.len() >= INLINE_LABELS {
+            bytes.copy_from_slice(&slice[..INLINE_LABELS]);
+        } else {
+            bytes[..used].copy_from_slice(&slice[..used]);
+        }
+        copy_few(&mut bytes[used..len], others);
         InlineLabels {
             alloc,
             is_fqdn,
@@ -160,18 +161,34 @@ impl InlineLabels {
     }
 }
 
-/// Copies a slice to the front: its first piece and its last one, which may overlap. A fixed number of bytes is copied
-/// faster than any other.
+/// Copies a slice into a place of its length.
 #[inline(always)]
-fn copy_ends(bytes: &mut [u8; INLINE_LABELS], slice: &[u8], piece: usize)
+fn copy_few(place: &mut [u8], slice: &[u8])
     requires few { length slice.now ≤ INLINE_LABELS }
+    requires fits { length place.old ≡ length slice.now }
+    ensures { place.new ≡ slice.now }
+{
+    if slice.len() >= PIECE {
+        copy_ends(place, slice, PIECE);
+    } else if slice.len() >= SHORT_PIECE {
+        copy_ends(place, slice, SHORT_PIECE);
+    } else {
+        place.copy_from_slice(slice);
+    }
+}
+
+/// Copies a slice into a place of its length: its first piece and its last one, which may overlap. A fixed number of
+/// bytes is copied faster than any other.
+#[inline(always)]
+fn copy_ends(place: &mut [u8], slice: &[u8], piece: usize)
+    requires fits { length place.old ≡ length slice.now }
     // The slice is no shorter than a piece.
     requires long { piece ≤ length slice.now }
     // Two pieces cover it.
     requires short { length slice.now ≤ piece + piece }
-    ensures { take (length slice.now) bytes.new ≡ slice.now }
+    ensures { place.new ≡ slice.now }
 {
     let last = slice.len() - piece;
-    bytes[..piece].copy_from_slice(&slice[..piece]);
-    bytes[last..slice.len()].copy_from_slice(&slice[last..]);
+    place[..piece].copy_from_slice(&slice[..piece]);
+    place[last..].copy_from_slice(&slice[last..]);
 }

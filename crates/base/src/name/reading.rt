@@ -6,7 +6,7 @@ ghost use Rattle.std.specs.FinSet as set;
 ghost use Rattle.base.specs.Counts.{Counts, Passes};
 ghost use Rattle.base.specs.Labels.{IsWire, labels_of};
 ghost use Rattle.base.specs.Names.{part_at, pointer_to, labels_at, name_at};
-ghost use Rattle.base.specs.Pointers.{AreSpelled, Followed, IsLast, PassLater, PassesThese, part, targets};
+ghost use Rattle.base.specs.Pointers.{AreSpelled, Followed, IsSource, KeepsAt, OfLast, PassLater, PassesThese, part, targets};
 ghost use Rattle.base.specs.Passing.{AddsPassed, inserted, passed};
 ghost use Rattle.base.specs.Reading.{Fails, Reads};
 ghost use Rattle.base.specs.Spelling.{Spelled};
@@ -16,10 +16,14 @@ use crate::labels::Labels;
 use crate::limits::{MAX_LABEL, MAX_LABELS, MAX_NAME};
 use crate::name::Name;
 use crate::name::followed::{FollowedPointer, FollowedPointers};
+use crate::wire::pointer_cache::Source;
 use crate::wire::{BinDecodable, BinDecoder};
 
 /// How many bytes are copied at once for a short label.
-const PIECE: usize = 16;
+const SHORT: usize = 16;
+
+/// How many bytes are copied at once for another label, which has no more.
+const LONG: usize = 1 + MAX_LABEL;
 
 /// What stands at a place of a name.
 #[derive(Drop)]
@@ -62,8 +66,8 @@ fn read_part(buffer: &[u8], at: usize) -> Result<Part, DecodeError>
     Ok(Part::Pointer(256 * u16::from(first - 192) + u16::from(buffer[at + 1])))
 }
 
-/// Copies a label with its length after what is used of the room. A short one is copied as one block of 16 bytes where
-/// both sides have as many, since a fixed number is copied faster.
+/// Copies a label with its length after what is used of the room, as one block of 16 or 64 bytes where both sides have
+/// as many, since a fixed number is copied faster.
 fn copy_label(buffer: &[u8], at: usize, size: usize, room: &mut [u8; MAX_LABELS], used: usize)
     // The bytes to be copied lie within the buffer.
     requires there { at + size ≤ length buffer.now }
@@ -72,8 +76,10 @@ fn copy_label(buffer: &[u8], at: usize, size: usize, room: &mut [u8; MAX_LABELS]
     ensures { take (used + size) room.new
         ≡ take used room.old ++ slice_range buffer.now at (at + size) }
 {
-    if size <= PIECE && used + PIECE <= MAX_LABELS && at + PIECE <= buffer.len() {
-        room[used..used + PIECE].copy_from_slice(&buffer[at..at + PIECE]);
+    if size <= SHORT && used + SHORT <= MAX_LABELS && at + SHORT <= buffer.len() {
+        room[used..used + SHORT].copy_from_slice(&buffer[at..at + SHORT]);
+    } else if size <= LONG && used + LONG <= MAX_LABELS && at + LONG <= buffer.len() {
+        room[used..used + LONG].copy_from_slice(&buffer[at..at + LONG]);
     } else {
         room[used..used + size].copy_from_slice(&buffer[at..at + size]);
     }
@@ -86,8 +92,8 @@ struct Gathered<'a> {
     used: usize,
     /// The place after the name.
     end: usize,
-    /// The labels that the last pointer led to, where they stand there without a further pointer.
-    last: Option<&'a [u8]>,
+    /// Where the labels that the last pointer led to are.
+    last: Source<'a>,
 }
 
 /// Gathers the labels of the name at the decoder's place in `room`, and the pointers that were followed.
@@ -108,9 +114,10 @@ fn gather_labels<'a>(
     // From where a pointer was followed, the labels gathered are those that its target spells.
     ensures kept { IfOk result
         (λ r. AreSpelled decoder.old.bytes (take r.used room.new) followed.new) }
-    // The labels lent are those that the last pointer led to.
-    ensures last { IfOk result
-        (λ r. IfSome r.last (λ labels. IsLast labels.now (take r.used room.new) followed.new)) }
+    // The labels that the last pointer led to are where this says.
+    ensures last { IfOk result (λ r.
+        OfLast (IsSource (KeepsAt decoder.old.bytes decoder.old.kept) r.last)
+        (take r.used room.new) followed.new) }
     // The targets are distinct, and none was kept before; but for the count of pointers followed,
     // which grows by their number, the decoder stays as it was.
     ensures followed { Followed (targets followed.new) decoder.old decoder.new }
@@ -132,7 +139,7 @@ fn gather_labels<'a>(
                 return Ok(Gathered {
                     used,
                     end: end.unwrap_or(start + at + 1),
-                    last: Some(&piece[..at]),
+                    last: Source::Message(&piece[..at]),
                 });
             }
             Part::Label(len) => {
@@ -153,11 +160,16 @@ fn gather_labels<'a>(
                     if used + labels.len() + 1 > MAX_NAME {
                         return Err(DecodeError::BadName);
                     }
+                    let last = if at == 0 {
+                        Source::Kept(target)
+                    } else {
+                        Source::Nowhere
+                    };
                     room[used..used + labels.len()].copy_from_slice(labels);
                     return Ok(Gathered {
                         used: used + labels.len(),
                         end: after,
-                        last: None,
+                        last,
                     });
                 }
                 followed.push(FollowedPointer { target, from: used })?;
@@ -176,12 +188,13 @@ fn keep_targets<'a>(
     decoder: &mut BinDecoder<'a>,
     labels: &[u8],
     followed: &FollowedPointers,
-    last: Option<&'a [u8]>,
+    last: Source<'a>,
 ) -> Result<(), DecodeError>
     // From where a pointer was followed, the labels are those that its target spells.
     requires spelled { AreSpelled decoder.old.bytes labels.now followed.now }
-    // The labels lent are those that the last pointer led to.
-    requires last { IfSome last (λ lent. IsLast lent.now labels.now followed.now) }
+    // The labels that the last pointer led to are where this says.
+    requires last { OfLast (IsSource (KeepsAt decoder.old.bytes decoder.old.kept) last)
+        labels.now followed.now }
     // From each target only kept offsets are passed, and those that were followed after it.
     requires later { PassLater decoder.old.bytes decoder.old.kept followed.now }
     // The targets are distinct, and none is kept yet.
@@ -195,8 +208,12 @@ fn keep_targets<'a>(
 {
     for i in (0..followed.len()).rev() {
         if let Some(pointer) = followed.at(i) {
-            let lent = if i + 1 == followed.len() { last } else { None };
-            decoder.keep(pointer.target, &labels[pointer.from..], lent)?;
+            let source = if i + 1 == followed.len() {
+                last
+            } else {
+                Source::Nowhere
+            };
+            decoder.keep(pointer.target, &labels[pointer.from..], source)?;
         }
     }
     Ok(())
@@ -266,6 +283,36 @@ fn read_in_place<'d>(decoder: &'d BinDecoder<'_>) -> Option<InPlace<'d>>
     }
 }
 
+/// Reads a name with a pointer that has to be followed. It stands by itself, since LLVM would else clear the room of
+/// each name, though few use it.
+///
+/// # Errors
+///
+/// What `read` refuses.
+#[inline(always)]
+#[tactic(auto, unfolding(crate::specs::Names::name_at))]
+fn read_following(decoder: &mut BinDecoder<'_>) -> Result<Name, DecodeError>
+    // These are as of every name: see `read`.
+    ensures read { Reads (λ x. x) decoder.old decoder.new result
+        (name_at decoder.old.bytes decoder.old.index) }
+    ensures counts { Counts decoder.old decoder.new result }
+    ensures passed { Passes decoder.old decoder.new result }
+    ensures passes { IfOk result
+        (λ n. (h : Spelled decoder.old.bytes n.labels decoder.old.index decoder.old.index
+        decoder.new.index)
+        → decoder.new.kept ≡ set.union decoder.old.kept (set.from_list (passed h))) }
+    ensures adds { IfOk result
+        (λ _. AddsPassed (decoder.old.index ∷ []) decoder.old decoder.new) }
+{
+    let mut room = [0; MAX_LABELS];
+    let mut followed = FollowedPointers::new(decoder.allocator());
+    let Gathered { used, end, last } = gather_labels(decoder, &mut room, &mut followed)?;
+    let labels = Labels::from_front(decoder.allocator(), &room, used, true)?;
+    keep_targets(decoder, &room[..used], &followed, last)?;
+    decoder.move_to(end);
+    Ok(Name { labels })
+}
+
 impl BinDecodable for Name {
     ghost read_at = { name_at };
 
@@ -273,7 +320,7 @@ impl BinDecodable for Name {
 
     /// Reads an absolute name at the decoder's place, its pointers followed, and moves after it (RFC 1035, 4.1.4).
     /// Grows memory once for a name whose labels take more than 29 bytes, and to keep the labels of each pointer target
-    /// that it follows. A target that is kept already ends the walk.
+    /// that it follows, where the buffer has more than a few. A target that is kept already ends the walk.
     ///
     /// # Errors
     ///
@@ -312,12 +359,6 @@ impl BinDecodable for Name {
             decoder.move_to(end);
             return Ok(Name { labels });
         }
-        let mut room = [0; MAX_LABELS];
-        let mut followed = FollowedPointers::new(decoder.allocator());
-        let Gathered { used, end, last } = gather_labels(decoder, &mut room, &mut followed)?;
-        let labels = Labels::from_front(decoder.allocator(), &room, used, true)?;
-        keep_targets(decoder, &room[..used], &followed, last)?;
-        decoder.move_to(end);
-        Ok(Name { labels })
+        read_following(decoder)
     }
 }

@@ -6,13 +6,13 @@ ghost use Rattle.std.specs.FinSet as set;
 ghost use Rattle.std.specs.Int.{w16, w32};
 ghost use Rattle.base.specs.Counts.{Counts, Passes};
 ghost use Rattle.base.specs.Passing.{IsClosed, PassesKept};
-ghost use Rattle.base.specs.Pointers.{IsKept};
+ghost use Rattle.base.specs.Pointers.{IsKept, IsSource, KeepsAt};
 ghost use Rattle.base.specs.Reader.{begun};
 ghost use Rattle.base.specs.Reading.{Reads, byte_at, bytes_at, number_at};
 
 use crate::error::DecodeError;
 use crate::limits::POINTER_LIMIT;
-use crate::wire::pointer_cache::PointerCache;
+use crate::wire::pointer_cache::{PointerCache, Source};
 use std::alloc::Global;
 use std::marker::Model;
 
@@ -145,12 +145,12 @@ impl<'a> BinDecoder<'a> {
         self.cache.find(target)
     }
 
-    /// Keeps the labels at an offset that a pointer led to. Where the buffer has them as they are, it may lend them.
+    /// Keeps the labels at an offset that a pointer led to, which may be in the buffer, or kept for another offset.
     pub(crate) fn keep(
         &mut self,
         target: u16,
         labels: &[u8],
-        lent: Option<&'a [u8]>,
+        source: Source<'a>,
     ) -> Result<(), DecodeError>
         // These are the labels that are spelled at the offset.
         requires kept { IsKept self.old.bytes target labels.now }
@@ -158,14 +158,14 @@ impl<'a> BinDecoder<'a> {
         requires new { set.contains self.old.kept target ≡ false }
         // What is spelled there passes kept offsets alone.
         requires after { PassesKept self.old.bytes self.old.kept target }
-        requires lent { IfSome lent (λ same. same.now ≡ labels.now) }
+        requires source { IsSource (KeepsAt self.old.bytes self.old.kept) source labels.now }
         ensures ok { OnOk result (self.new
             ≡ record self.old { kept = set.insert self.old.kept target }) }
         ensures err { OnErr result (self.new ≡ self.old) }
         ensures only { IsOkUnless result DecodeError.Memory }
     {
         let most = self.buffer.len().min(POINTER_LIMIT) as u16;
-        self.cache.insert(target, labels, lent, most)?;
+        self.cache.insert(target, labels, source, most)?;
         Ok(())
     }
 

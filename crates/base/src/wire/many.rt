@@ -10,7 +10,7 @@ use crate::error::DecodeError;
 use crate::wire::decodable::BinDecodable;
 use crate::wire::decoder::BinDecoder;
 
-/// Reads `count` values, one after another.
+/// Reads `count` values, one after another. Makes room for all at once, but for no more than there are bytes left.
 ///
 /// # Errors
 ///
@@ -30,6 +30,9 @@ pub fn read_many<T: BinDecodable>(
         decoder.old decoder.new) }
 {
     let mut values = Vec::new(decoder.allocator());
+    if count > 1 {
+        values.reserve(count.min(decoder.len()))?;
+    }
     for _ in 0..count {
         let value = T::read(decoder)?;
         values.push(value)?;

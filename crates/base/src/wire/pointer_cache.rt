@@ -5,31 +5,39 @@ ghost use Rattle.std.specs.Prelude.{◌≡◌, ◌≢◌, ℕ, ◌+◌, ◌++◌
 ghost use Rattle.std.specs.FinMap as map;
 ghost use Rattle.std.specs.Option.{option_or};
 ghost use Rattle.std.specs.Ordering.{nat_cmp};
-ghost use Rattle.base.specs.Pointers.{IsInside, IsLonger, IsTargetThere, target_entries, target_labels, labels_from, labels_now, placed};
+ghost use Rattle.base.specs.Pointers.{IsInside, IsLonger, IsSource, IsTargetThere, target_entries, target_labels, labels_from, labels_now, placed};
+
+mod copied;
 
 use crate::limits::MAX_LABELS;
+use crate::wire::pointer_cache::copied::CopiedLabels;
 use std::alloc::{AllocError, Global};
 use std::marker::Model;
 
 /// How many targets have room inside the cache.
-const ROOM: usize = 6;
+const ROOM: usize = 16;
 
 /// How many places are made at once.
 const STEP: usize = 256;
 
-/// The bytes that the labels of the longest name take when they are copied, their number before them.
-const ENTRY: usize = 1 + MAX_LABELS;
-
-/// How many bytes the first labels that are copied make room for, so that seldom more are needed.
-const FRONT: usize = 2 * ENTRY;
+/// Where labels that are to be kept are already.
+#[derive(Clone, Copy)]
+pub(crate) enum Source<'a> {
+    /// Nowhere as a whole.
+    Nowhere,
+    /// In the message, as they are.
+    Message(&'a [u8]),
+    /// Among those that are kept: for this offset.
+    Kept(u16),
+}
 
 /// Where the labels at a target are, each with its length before it.
 #[derive(Clone, Copy)]
 enum TargetLabels<'a> {
-    /// In the message, as they are.
-    Lent(&'a [u8]),
     /// Among the copied labels, from this place on.
     Copied(usize),
+    /// In the message, as they are.
+    Lent(&'a [u8]),
 }
 
 /// An offset that a pointer led to, and the labels there.
@@ -42,16 +50,14 @@ struct Target<'a> {
 /// Labels that were copied.
 #[derive(Drop)]
 struct Copies {
-    /// The labels one after another, before each the number of bytes that they are. A place is that of their first
-    /// byte.
-    bytes: Vec<u8>,
+    bytes: CopiedLabels,
     /// By offset, the place of the labels there, and 0 where there is none.
     places: Vec<usize>,
 }
 
-/// The labels at each offset that a pointer led to. The first targets take no memory, unless their labels are copied.
-/// Where there are more of them, each is found by its offset, without a search, since there are few that a pointer can
-/// name.
+/// The labels at each offset that a pointer led to. The first targets take no memory, unless more than 256 bytes of
+/// labels are copied. Where there are more of them, each is found by its offset, without a search, since there are few
+/// that a pointer can name.
 #[derive(Drop)]
 pub(crate) struct PointerCache<'a> {
     count: usize,
@@ -63,7 +69,7 @@ pub(crate) struct PointerCache<'a> {
 }
 
 impl<'a> Model for PointerCache<'a> {
-    ghost use Rattle.std.specs.Prelude.{◌≡◌, ◌≤◌, ℕ, true, List, All, length, take};
+    ghost use Rattle.std.specs.Prelude.{◌≡◌, ◌≤◌, ℕ, true, false, List, [], All, length, take};
     ghost use Rattle.std.specs.Coded.{coded_ℕ, coded_list};
     ghost use Rattle.std.specs.FinMap as map;
     ghost use Rattle.std.specs.Ordering.{nat_cmp};
@@ -75,12 +81,13 @@ impl<'a> Model for PointerCache<'a> {
     ghost coded = { map.code coded_ℕ (coded_list coded_ℕ) };
 
     ghost view = { λ c.
-        cache_of c.copies.bytes.items c.copies.places.items (take c.count c.first) };
+        cache_of c.copies.bytes c.copies.places.items (take c.count c.first) };
 
     ghost invariant = { λ c. ((c.count ≤ ROOM)
-        × ((length c.first ≡ ROOM) × (c.moved ≡ true → c.count ≡ 0)))
-        × (All (IsInside c.copies.bytes.items) c.copies.places.items
-        × All (IsTargetThere c.copies.bytes.items) (take c.count c.first)) };
+        × ((length c.first ≡ ROOM) × ((c.moved ≡ true → c.count ≡ 0)
+        × (c.moved ≡ false → c.copies.places.items ≡ []))))
+        × (All (IsInside c.copies.bytes) c.copies.places.items
+        × All (IsTargetThere c.copies.bytes) (take c.count c.first)) };
 }
 
 /// The labels at a place among copied ones.
@@ -142,73 +149,83 @@ fn reach(places: &mut Vec<usize>, offset: usize, most: usize) -> Result<(), Allo
     Ok(())
 }
 
-/// Copies labels after those that were copied before, and answers their place. Each caller has its own copy of this
-/// function, which is faster.
-#[inline(always)]
-fn copy(copied: &mut Vec<u8>, labels: &[u8]) -> Result<usize, AllocError>
-    requires { length labels.now ≤ MAX_LABELS }
-    ensures place { IfOk result (λ place. place ≡ length copied.old.items + 1) }
-    ensures ok { OnOk result
-        (copied.new.items ≡ copied.old.items ++ length labels.now ∷ labels.now) }
-    ensures err { OnErr result (copied.new.items ≡ copied.old.items) }
-{
-    let room = if copied.is_empty() {
-        FRONT
-    } else {
-        1 + labels.len()
-    };
-    copied.reserve(room)?;
-    copied.push(labels.len() as u8)?;
-    let place = copied.len();
-    copied.extend_from_slice(labels)?;
-    Ok(place)
-}
-
 /// Gives a target a place, and copies its labels if they are lent. Each caller has its own copy of this function too.
 #[inline(always)]
 fn place_one(target: &Target<'_>, copies: &mut Copies, most: u16) -> Result<(), AllocError>
-    requires there { IsTargetThere copies.old.bytes.items target.now }
-    requires inside { All (IsInside copies.old.bytes.items) copies.old.places.items }
+    requires there { IsTargetThere copies.old.bytes target.now }
+    requires inside { All (IsInside copies.old.bytes) copies.old.places.items }
     // Its labels are found by its offset.
     ensures here { OnOk result
-        (placed copies.new.bytes.items copies.new.places.items target.now.offset
-        ≡ Some (target_labels copies.old.bytes.items target.now.labels)) }
+        (placed copies.new.bytes copies.new.places.items target.now.offset
+        ≡ Some (target_labels copies.old.bytes target.now.labels)) }
     // Those of other offsets are found as before.
     ensures others { (q : ℕ) → q ≢ target.now.offset
-        → placed copies.new.bytes.items copies.new.places.items q
-        ≡ placed copies.old.bytes.items copies.old.places.items q }
-    ensures inside { All (IsInside copies.new.bytes.items) copies.new.places.items }
-    ensures longer { IsLonger copies.old.bytes.items copies.new.bytes.items }
+        → placed copies.new.bytes copies.new.places.items q
+        ≡ placed copies.old.bytes copies.old.places.items q }
+    ensures inside { All (IsInside copies.new.bytes) copies.new.places.items }
+    ensures longer { IsLonger copies.old.bytes copies.new.bytes }
     ensures err { (q : ℕ) → OnErr result
-        (placed copies.new.bytes.items copies.new.places.items q
-        ≡ placed copies.old.bytes.items copies.old.places.items q) }
+        (placed copies.new.bytes copies.new.places.items q
+        ≡ placed copies.old.bytes copies.old.places.items q) }
 {
     let offset = usize::from(target.offset);
     reach(&mut copies.places, offset, usize::from(most))?;
     let place = match target.labels {
-        TargetLabels::Lent(labels) => copy(&mut copies.bytes, labels)?,
+        TargetLabels::Lent(labels) => copies.bytes.append(labels)?,
         TargetLabels::Copied(place) => place,
     };
     copies.places[offset] = place;
     Ok(())
 }
 
+/// Gives an offset a place: for a copy of its labels, or that of another offset with the same labels.
+fn place_labels(
+    offset: u16,
+    labels: &[u8],
+    other: Option<u16>,
+    copies: &mut Copies,
+    most: u16,
+) -> Result<(), AllocError>
+    requires short { length labels.now ≤ MAX_LABELS }
+    requires other { IfSome other (λ q.
+        placed copies.old.bytes copies.old.places.items q ≡ Some labels.now) }
+    requires inside { All (IsInside copies.old.bytes) copies.old.places.items }
+    // The labels are found by the offset.
+    ensures here { OnOk result
+        (placed copies.new.bytes copies.new.places.items offset ≡ Some labels.now) }
+    // Those of other offsets are found as before.
+    ensures others { (q : ℕ) → q ≢ offset
+        → placed copies.new.bytes copies.new.places.items q
+        ≡ placed copies.old.bytes copies.old.places.items q }
+    ensures inside { All (IsInside copies.new.bytes) copies.new.places.items }
+    ensures longer { IsLonger copies.old.bytes copies.new.bytes }
+    ensures err { (q : ℕ) → OnErr result
+        (placed copies.new.bytes copies.new.places.items q
+        ≡ placed copies.old.bytes copies.old.places.items q) }
+{
+    let labels = match other {
+        Some(other) => TargetLabels::Copied(copies.places[usize::from(other)]),
+        None => TargetLabels::Lent(labels),
+    };
+    place_one(&Target { offset, labels }, copies, most)
+}
+
 /// Gives each of these targets a place.
 fn place_all(targets: &[Target<'_>], copies: &mut Copies, most: u16) -> Result<(), AllocError>
-    requires there { All (IsTargetThere copies.old.bytes.items) targets.now }
-    requires inside { All (IsInside copies.old.bytes.items) copies.old.places.items }
+    requires there { All (IsTargetThere copies.old.bytes) targets.now }
+    requires inside { All (IsInside copies.old.bytes) copies.old.places.items }
     // By the places alone the same is found as among the targets and then by the places before.
-    ensures ok { (q : ℕ) → OnOk result (placed copies.new.bytes.items copies.new.places.items q
-        ≡ option_or (map.find nat_cmp q (target_entries copies.old.bytes.items targets.now))
-        (placed copies.old.bytes.items copies.old.places.items q)) }
+    ensures ok { (q : ℕ) → OnOk result (placed copies.new.bytes copies.new.places.items q
+        ≡ option_or (map.find nat_cmp q (target_entries copies.old.bytes targets.now))
+        (placed copies.old.bytes copies.old.places.items q)) }
     // Among the targets and then by the places nothing else is found than before.
     ensures kept { (q : ℕ)
-        → option_or (map.find nat_cmp q (target_entries copies.old.bytes.items targets.now))
-        (placed copies.new.bytes.items copies.new.places.items q)
-        ≡ option_or (map.find nat_cmp q (target_entries copies.old.bytes.items targets.now))
-        (placed copies.old.bytes.items copies.old.places.items q) }
-    ensures inside { All (IsInside copies.new.bytes.items) copies.new.places.items }
-    ensures longer { IsLonger copies.old.bytes.items copies.new.bytes.items }
+        → option_or (map.find nat_cmp q (target_entries copies.old.bytes targets.now))
+        (placed copies.new.bytes copies.new.places.items q)
+        ≡ option_or (map.find nat_cmp q (target_entries copies.old.bytes targets.now))
+        (placed copies.old.bytes copies.old.places.items q) }
+    ensures inside { All (IsInside copies.new.bytes) copies.new.places.items }
+    ensures longer { IsLonger copies.old.bytes copies.new.bytes }
 {
     for i in (0..targets.len()).rev() {
         place_one(&targets[i], copies, most)?;
@@ -230,7 +247,7 @@ impl<'a> PointerCache<'a> {
             first: [unused; ROOM],
             moved: false,
             copies: Copies {
-                bytes: Vec::new(alloc),
+                bytes: CopiedLabels::new(alloc),
                 places: Vec::new(alloc),
             },
         }
@@ -241,16 +258,18 @@ impl<'a> PointerCache<'a> {
         ensures { labels_now result ≡ map.get self.now offset }
     {
         if self.moved {
-            return find_by_offset(&self.copies.places, &self.copies.bytes, offset);
+            return find_by_offset(&self.copies.places, self.copies.bytes.as_slice(), offset);
         }
-        match find_among(&self.first[..self.count], &self.copies.bytes, offset) {
-            Some(labels) => Some(labels),
-            None => find_by_offset(&self.copies.places, &self.copies.bytes, offset),
-        }
+        find_among(
+            &self.first[..self.count],
+            self.copies.bytes.as_slice(),
+            offset,
+        )
     }
 
-    /// Keeps the labels at an offset. Where the message lends them, they aren't copied as long as there is room for
-    /// their target among the first. Room for offsets up to `most` is made at once.
+    /// Keeps the labels at an offset. Those of the message aren't copied as long as there is room for their target
+    /// among the first, and those that are kept for another offset aren't where each target has its place. Room for
+    /// offsets up to `most` is made at once.
     ///
     /// # Errors
     ///
@@ -259,61 +278,82 @@ impl<'a> PointerCache<'a> {
         &mut self,
         offset: u16,
         labels: &[u8],
-        lent: Option<&'a [u8]>,
+        source: Source<'a>,
         most: u16,
     ) -> Result<(), AllocError>
         // No labels are kept for the offset yet.
         requires new { map.get self.old offset ≡ None }
         requires short { length labels.now ≤ MAX_LABELS }
-        requires lent { IfSome lent (λ same. same.now ≡ labels.now) }
+        requires source { IsSource (λ other xs. map.get self.old other ≡ Some xs) source
+            labels.now }
         ensures ok { OnOk result (self.new ≡ map.insert self.old offset labels.now) }
         ensures err { OnErr result (self.new ≡ self.old) }
     {
-        if let Some(lent) = lent {
-            if !self.moved && self.count < ROOM {
-                let labels = TargetLabels::Lent(lent);
-                self.first[self.count] = Target { offset, labels };
-                self.count += 1;
-                return Ok(());
+        let other = match source {
+            Source::Nowhere => None,
+            Source::Message(labels) => {
+                if !self.moved && self.count < ROOM {
+                    let labels = TargetLabels::Lent(labels);
+                    self.first[self.count] = Target { offset, labels };
+                    self.count += 1;
+                    return Ok(());
+                }
+                None
             }
-        }
-        self.insert_copy(offset, labels, most)
+            Source::Kept(other) => Some(other),
+        };
+        self.insert_copy(offset, labels, other, most)
     }
 
-    /// Keeps a copy of the labels at an offset. It stands apart from the reading of a name, which is faster so: most
-    /// names keep nothing.
+    /// Keeps the labels at an offset: a copy of them, or, where each target has its place, that of another offset with
+    /// the same labels. It stands apart from the reading of a name, which is faster so: most names keep nothing.
     #[inline(never)]
-    fn insert_copy(&mut self, offset: u16, labels: &[u8], most: u16) -> Result<(), AllocError>
+    fn insert_copy(
+        &mut self,
+        offset: u16,
+        labels: &[u8],
+        other: Option<u16>,
+        most: u16,
+    ) -> Result<(), AllocError>
         requires new { map.get self.old offset ≡ None }
         requires short { length labels.now ≤ MAX_LABELS }
+        requires other { IfSome other (λ q. map.get self.old q ≡ Some labels.now) }
         ensures ok { OnOk result (self.new ≡ map.insert self.old offset labels.now) }
         ensures err { OnErr result (self.new ≡ self.old) }
     {
         if !self.moved && self.count < ROOM {
-            let labels = TargetLabels::Copied(copy(&mut self.copies.bytes, labels)?);
+            let labels = TargetLabels::Copied(self.copies.bytes.append(labels)?);
             self.first[self.count] = Target { offset, labels };
             self.count += 1;
             return Ok(());
         }
-        if !self.moved {
-            self.move_first(most)?;
-        }
-        let target = Target {
-            offset,
-            labels: TargetLabels::Lent(labels),
-        };
-        place_one(&target, &mut self.copies, most)
+        self.insert_place(offset, labels, other, most)
     }
 
-    /// Gives each of the first targets a place, which most messages never need.
-    #[inline(never)]
-    fn move_first(&mut self, most: u16) -> Result<(), AllocError>
-        ensures { self.new ≡ self.old }
+    /// Gives an offset a place, after each of the first targets has got one, which most messages never need: for a copy
+    /// of its labels, or that of another offset with the same labels.
+    fn insert_place(
+        &mut self,
+        offset: u16,
+        labels: &[u8],
+        other: Option<u16>,
+        most: u16,
+    ) -> Result<(), AllocError>
+        requires new { map.get self.old offset ≡ None }
+        requires short { length labels.now ≤ MAX_LABELS }
+        requires other { IfSome other (λ q. map.get self.old q ≡ Some labels.now) }
+        ensures ok { OnOk result (self.new ≡ map.insert self.old offset labels.now) }
+        ensures err { OnErr result (self.new ≡ self.old) }
     {
-        let first = self.first;
-        place_all(&first[..self.count], &mut self.copies, most)?;
-        self.count = 0;
-        self.moved = true;
-        Ok(())
+        if !self.moved {
+            let first = self.first;
+            if let Err(e) = place_all(&first[..self.count], &mut self.copies, most) {
+                self.copies.places.clear();
+                return Err(e);
+            }
+            self.count = 0;
+            self.moved = true;
+        }
+        place_labels(offset, labels, other, &mut self.copies, most)
     }
 }

@@ -112,3 +112,50 @@ fn chains_of_pointers_end(rt: HostRuntime) -> Result<(), Fail> {
     }
     Ok(())
 }
+
+/// Questions for names of one label more each, before a pointer to the name before, and after them each again by a
+/// pointer to it alone.
+fn steps(alloc: Global, names: u8) -> Result<Vec<u8>, AllocError> {
+    let mut wire = header(alloc, names.saturating_mul(2), 0)?;
+    let mut places = Vec::new(alloc);
+    for i in 0..names {
+        let here = wire.len();
+        push_label(&mut wire, 1)?;
+        match places.last() {
+            Some(before) => push_pointer(&mut wire, *before)?,
+            None => wire.push(0)?,
+        }
+        wire.extend_from_slice(&[0, i, 0, 1])?;
+        places.push(here)?;
+    }
+    for (i, place) in places.iter().enumerate() {
+        push_pointer(&mut wire, *place)?;
+        wire.extend_from_slice(&[0, u8::try_from(i).unwrap_or(0), 0, 1])?;
+    }
+    Ok(wire)
+}
+
+/// Whether each name has a label more than its question's type says.
+fn are_read(alloc: Global, names: u8) -> Result<bool, AllocError> {
+    let wire = steps(alloc, names)?;
+    let read = Message::from_vec(alloc, &wire);
+    let mut count: usize = 0;
+    if let Ok(message) = &read {
+        for query in &message.queries {
+            let labels = query.name.as_wire().len() / 2;
+            if labels == 1 + usize::from(u16::from(query.query_type)) {
+                count = count.saturating_add(1);
+            }
+        }
+    }
+    drop(read);
+    Ok(count == 2 * usize::from(names))
+}
+
+#[test]
+fn names_at_many_targets_are_read_again(rt: HostRuntime) -> Result<(), Fail> {
+    for &names in &[1, 2, 12, 16, 17, 18, 60] {
+        assert!(rt; are_read(rt.alloc(), names)?, "{names}");
+    }
+    Ok(())
+}

@@ -6,7 +6,7 @@ use Rattle.std.proofs.lemmas.Result.{err_from_is_err_and}
 use borrow.Rule.Slice.PartMut.{put_mid}
 use Rattle.std.proofs.lemmas.Slice.{take-put_mid}
 use Rattle.base.specs.declared.name.followed.FollowedPointer.{FollowedPointer}
-use Rattle.base.specs.Pointers.{IsKept, IsLast, targets}
+use Rattle.base.specs.Pointers.{IsKept, IsLast, KeepsAt, OfLast, targets}
 use Rattle.base.specs.Labels.{IsWire, labels_of}
 use Rattle.base.specs.Reader.{Reader}
 use Rattle.base.proofs.CountLemmas.{Follows, Follows-none, Follows-push}
@@ -19,8 +19,9 @@ use Rattle.std.proofs.lemmas.List.Elements.{All-nil, All-same, All-weaker, All-p
 use Rattle.base.proofs.TailLemmas.{Tail, Ends, Tail-new, Tail-label, Tail-pointer, Tail-root, Tail-kept}
 use Rattle.base.proofs.PassLemmas.{Lead, Lead-kept, Lead-label, Lead-pointer, Lead-root, Leads, Leads-kept, Leads-label, Leads-none, Leads-pointer, Leads-root}
 use Rattle.base.proofs.GatherLemmas.{Gathers, gathers_none, at_fault, at_long, at_forward, at_root, root_inside, label_fits, gathers_label, gathers_pointer, fails_is, at_kept, at_kept_long, kept_end, IsWire-append}
-use Rattle.base.proofs.PieceLemmas.{found, last_more, last_pushed, part_is_there, range_is_there}
+use Rattle.base.proofs.PieceLemmas.{found, last_more, last_pushed, of_any, of_last, part_is_there, range_is_there}
 use Rattle.base.proofs.name.reading.gather_labels.Goals as goal
+use Rattle.base.proofs.name.reading.gather_labels.Goals.{then-at-eq0, else-at-eq0}
 
 pub parts-init : goal.parts-init
 parts-init c =
@@ -64,7 +65,7 @@ returns-in-Root-clause-end c =
     rw c.unwrap_or.ensures (root_inside c.parts.invariant.gathers is)
 
 pub returns-in-Root-clause-last : goal.returns-in-Root-clause-last
-returns-in-Root-clause-last c = c.parts.invariant.last
+returns-in-Root-clause-last c = of_last c.parts.followed (take c.parts.at c.parts.piece.now) (take c.parts.used c.parts.room) c.parts.invariant.last (λ xs same. same)
 
 pub returns-in-Root-clause-kept : goal.returns-in-Root-clause-kept
 returns-in-Root-clause-kept c =
@@ -254,3 +255,19 @@ returns-in-Some-clause-these c = Leads-kept c.parts.invariant.leads c.args.decod
 pub returns-in-Some-clause-later : goal.returns-in-Some-clause-later
 returns-in-Some-clause-later c =
     Lead-kept c.args.decoder.now.bytes c.parts.start (c.parts.start + c.parts.at) c.args.decoder.now.kept c.parts.followed (pointer_is c) (known c).0 (known c).1 c.parts.invariant.lead
+
+pub returns-in-Some-clause-last : goal.returns-in-Some-clause-last
+returns-in-Some-clause-last c =
+    let labels = take c.parts.used c.parts.room in
+    let items = c.in-Some.labels.now in
+    let known_at : KeepsAt c.args.decoder.now.bytes c.args.decoder.now.kept c.in-Pointer.target items = ((known c).0, kept c) in
+    let inside = All-weaker (Tail c.args.decoder.now.bytes c.parts.start (c.parts.start + c.parts.at) c.parts.used labels) (λ (p : FollowedPointer). p.from ≤ length labels) (λ p tail. tail.inside) c.parts.followed c.parts.invariant.tails in
+    elim c.if-at-eq0.branch [
+      | then-at-eq0 w ↦
+          let none : take c.parts.at c.parts.piece.now ≡ [] = ap (λ (k : ℕ). take k c.parts.piece.now) w.if-at-eq0.true in
+          let last = subst (λ (xs : List ℕ). IsLast xs labels c.parts.followed) none c.parts.invariant.last in
+          rw w.last-is
+          (of_last c.parts.followed items _ (subst (λ (xs : List ℕ). IsLast items xs c.parts.followed) (sym (whole c)) (last_more c.parts.followed [] labels items inside last))
+          (λ xs same. subst (KeepsAt c.args.decoder.now.bytes c.args.decoder.now.kept c.in-Pointer.target) same known_at))
+      | else-at-eq0 w ↦ rw w.last-is (subst (λ (xs : List ℕ). OfLast (λ _. Unit {0}) xs c.parts.followed) (sym (whole c)) (of_any c.parts.followed (labels ++ items)))
+    ]

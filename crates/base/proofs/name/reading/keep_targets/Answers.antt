@@ -1,11 +1,9 @@
-use Rattle.std.proofs.Common.{◌≡◌, ◌∙◌, ◌∷◌, [], ℕ, ◌+◌, ◌-◌, ◌<◌, List, Option, None, Some, length, length-drop, get_or, take, drop, ap, sym, subst, arith}
-use Rattle.std.specs.Borrow.{Bor}
+use Rattle.std.proofs.Common.{◌≡◌, ◌∙◌, ◌∷◌, [], ℕ, ◌+◌, ◌-◌, ◌<◌, List, Option, Some, length, length-drop, get_or, take, drop, ap, sym, subst, arith}
 use Rattle.std.specs.FinSet as set
 use Rattle.std.specs.Ordering.{nat_cmp}
-use Rattle.std.specs.Prelude.{IfSome}
 use Rattle.std.proofs.lemmas.List.{drop_all, drop_more, take_all}
 use Rattle.base.specs.declared.name.followed.FollowedPointer.{FollowedPointer}
-use Rattle.base.specs.Pointers.{IsKept, IsLast, targets}
+use Rattle.base.specs.Pointers.{IsKept, IsSource, KeepsAt, targets}
 use Rattle.base.specs.Passing.{PassesKept, inserted}
 use Rattle.base.specs.Reader.{Reader}
 use Rattle.base.proofs.CountLemmas.{inserted-first, inserted-none}
@@ -68,25 +66,27 @@ keep-requires-clause-after c =
     (subst (λ (p : FollowedPointer). PassesKept old.bytes (inserted (targets (drop c.loop-i.i ps)) old.kept) p.target) (sym at)
     (subst (λ (k : ℕ). PassesKept old.bytes (inserted (targets (drop k ps)) old.kept) (get_or ps i none).target) next after))
 
--- the labels lent are those that the last pointer led to
-lent_is : (ps : List FollowedPointer) (labels : List ℕ) (last : Option (Bor (List ℕ))) (i : ℕ) (p : FollowedPointer) → i + 1 ≡ length ps → p ≡ get_or ps i none → IfSome last (λ lent. IsLast lent.now labels ps)
-    → IfSome last (λ lent. lent.now ≡ take (length labels - p.from) (drop p.from labels))
-lent_is ps labels None i p len at is = tt
-lent_is ps labels (Some lent) i p len at is =
-    let same : lent.now ≡ drop p.from labels = last_at ps lent.now labels i none len is ∙ ap (λ (q : FollowedPointer). drop q.from labels) (sym at) in
-    same ∙ sym (take_all (length labels - p.from) (drop p.from labels) (omega (arith, length-drop p.from labels)))
-
-pub keep-requires-clause-lent : goal.keep-requires-clause-lent
-keep-requires-clause-lent c =
+pub keep-requires-clause-source : goal.keep-requires-clause-source
+keep-requires-clause-source c =
     let ps = c.args.followed.now in
     let labels = c.args.labels.now in
     let i = c.loop-i.i - 1 in
+    let old = c.args.decoder.now in
     let inside : i < length ps = omega (arith, c.loop-i-test.true, c.loop-i.auto.i, c.len-i.ensures) in
     let p = c.in-Some.pointer in
     let at : p ≡ get_or ps i none = same_pointer _ _ (sym c.in-Some.is ∙ c.at.ensures.there none inside) in
+    let whole : take (length labels - p.from) (drop p.from labels) ≡ drop p.from labels = take_all (length labels - p.from) (drop p.from labels) (omega (arith, length-drop p.from labels)) in
     elim c.if-i-len.branch [
-      | then-i-len w ↦ rw w.lent-is (lent_is ps labels c.args.last i p (omega (arith, w.if-i-len.true, c.len.ensures)) at c.requires.last)
-      | else-i-len w ↦ rw w.lent-is tt
+      | then-i-len w ↦
+          let last : i + 1 ≡ length ps = omega (arith, w.if-i-len.true, c.len.ensures) in
+          let none_left : drop c.loop-i.i ps ≡ [] = drop_all c.loop-i.i ps (omega (arith, last)) in
+          let same : c.loop-i.decoder ≡ old =
+          c.loop-i.invariant ∙ ap (λ (kept : set.FinSet nat_cmp). record old { kept = kept }) (ap (λ (qs : List FollowedPointer). inserted (targets qs) old.kept) none_left ∙ inserted-none old.kept) in
+          rw w.source-is
+          (subst (λ (r : Reader). IsSource (KeepsAt r.bytes r.kept) c.args.last (take (length labels - p.from) (drop p.from labels))) (sym same)
+          (subst (IsSource (KeepsAt old.bytes old.kept) c.args.last) (ap (λ (q : FollowedPointer). drop q.from labels) (sym at) ∙ sym whole)
+          (last_at (IsSource (KeepsAt old.bytes old.kept) c.args.last) ps labels i none last c.requires.last)))
+      | else-i-len w ↦ rw w.source-is tt
     ]
 
 pub loop-i-preserved-in-Continue-1 : goal.loop-i-preserved-in-Continue-1

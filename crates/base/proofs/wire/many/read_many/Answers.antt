@@ -6,7 +6,7 @@ use Rattle.base.proofs.wire.many.read_many.Goals as goal
 
 pub returns-in_err-value-clause-read : goal.returns-in_err-value-clause-read
 returns-in_err-value-clause-read g c =
-    let p = err_from_is_err_and c.from_residual.result c.from_residual.ensures.1 in
+    let p = err_from_is_err_and c.from_residual-in_err-value.result c.from_residual-in_err-value.ensures.1 in
     rw (p.1, p.2) (gathers_fault c.in_err-value.field-0.0 c.loop-test.true c.in_err-value.ensures.read c.loop.invariant.gathers)
 
 pub loop-init : goal.loop-init

@@ -8,8 +8,8 @@ use Rattle.base.proofs.wire.pointer_cache.place_all.Given as goal
 
 abbrev pub invariant-loop-i : goal.invariant-loop-i
 invariant-loop-i l = record {
-  found : (q : ℕ) → placed l.copies.bytes.items l.copies.places.items q
-      ≡ option_or (map.find nat_cmp q (target_entries l.fn.copies.bytes.items (drop l.i l.targets))) (placed l.fn.copies.bytes.items l.fn.copies.places.items q);
-  inside : All (IsInside l.copies.bytes.items) l.copies.places.items;
-  longer : IsLonger l.fn.copies.bytes.items l.copies.bytes.items;
+  found : (q : ℕ) → placed l.copies.bytes l.copies.places.items q
+      ≡ option_or (map.find nat_cmp q (target_entries l.fn.copies.bytes (drop l.i l.targets))) (placed l.fn.copies.bytes l.fn.copies.places.items q);
+  inside : All (IsInside l.copies.bytes) l.copies.places.items;
+  longer : IsLonger l.fn.copies.bytes l.copies.bytes;
 }

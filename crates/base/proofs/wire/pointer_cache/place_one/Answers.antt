@@ -9,12 +9,12 @@ pub returns-in_err-place-in-Lent-clause-inside : goal.returns-in_err-place-in-Le
 returns-in_err-place-in-Lent-clause-inside c =
     let old = c.args.copies.now in
     subst (λ (copied : List ℕ). All (IsInside copied) c.reach.new.places.items) (sym c.in_err-place-in-Lent.ensures.err)
-    (same_inside old.bytes.items old.places.items c.reach.new.places.items c.in_ok-reach.ensures.same c.requires.inside)
+    (same_inside old.bytes old.places.items c.reach.new.places.items c.in_ok-reach.ensures.same c.requires.inside)
 
 pub returns-clause-others : goal.returns-clause-others
 returns-clause-others c = λ q other.
     let old = c.args.copies.now in
-    let copied = old.bytes.items in
+    let copied = old.bytes in
     let t = c.from-offset.result in
     let reached = c.reach.new.places.items in
     let apart = λ (same : q ≡ t). other (same ∙ c.from-offset.ensures) in
@@ -34,7 +34,7 @@ returns-clause-others c = λ q other.
 pub returns-clause-inside : goal.returns-clause-inside
 returns-clause-inside c =
     let old = c.args.copies.now in
-    let copied = old.bytes.items in
+    let copied = old.bytes in
     let t = c.from-offset.result in
     let reached = c.reach.new.places.items in
     elim c.match-target.branch [

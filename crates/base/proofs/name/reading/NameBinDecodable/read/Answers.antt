@@ -1,8 +1,6 @@
 use Rattle.std.proofs.Common.{◌≡◌, ◌∙◌, ◌++◌, ℕ, List, ap, arith, sym, take, []}
-use Rattle.std.specs.FinSet as set
-use Rattle.std.specs.Ordering.{nat_cmp}
 use Rattle.base.specs.Labels.{labels_of}
-use Rattle.base.specs.Pointers.{Followed, targets}
+use Rattle.base.specs.Pointers.{Followed}
 use Rattle.base.specs.Passing.{inserted, passed}
 use Rattle.base.specs.Reader.{Reader}
 use Rattle.base.specs.Spelling.{Spelled}
@@ -17,62 +15,6 @@ move_to-requires-clause-on c =
     let old = c.args.decoder.now in
     let wire = take c.in-Some.field-0.used c.in-Some.field-0.own.now ++ c.in-Some.field-0.kept.now in
     omega (arith, ends_after (spelled_is old.bytes old.index 0 c.in-Some.field-0.end wire (omega arith) c.in-Some.ensures.read))
-
-pub move_to-requires-2-clause-on : goal.move_to-requires-2-clause-on
-move_to-requires-2-clause-on c =
-    let old = c.args.decoder.now in
-    let wire = take c.in_ok-used.field-0.used c.gather_labels.new.room in
-    let here = ap (λ (r : Reader). r.index) (c.in_ok-keep_targets.ensures.ok) ∙ ap (λ (r : Reader). r.index) c.in_ok-used.ensures.followed.now in
-    omega (arith, here, ends_after (spelled_is old.bytes old.index 0 c.in_ok-used.field-0.end wire (omega arith) c.in_ok-used.ensures.read))
-
--- what is kept afterwards
-kept_now : (c : goal.After-drop-followed-inside-2) → c.move_to-2.new.self.kept ≡ inserted (targets c.gather_labels.new.followed) c.args.decoder.now.kept
-kept_now c =
-    ap (λ (r : Reader). r.kept) c.move_to-2.ensures
-    ∙ ap (λ (r : Reader). r.kept) c.in_ok-keep_targets.ensures.ok
-    ∙ ap (λ (k : set.FinSet nat_cmp). inserted (targets c.gather_labels.new.followed) k) (ap (λ (r : Reader). r.kept) c.in_ok-used.ensures.followed.now)
-
--- that is what each spelling there passes
-passes : (c : goal.After-drop-followed-inside-2) (xs : List (List ℕ)) (e : ℕ) (h : Spelled c.args.decoder.now.bytes xs c.args.decoder.now.index c.args.decoder.now.index e)
-    → c.move_to-2.new.self.kept ≡ inserted (passed h) c.args.decoder.now.kept
-passes c xs e h =
-    let old = c.args.decoder.now in
-    let ts = targets c.gather_labels.new.followed in
-    kept_now c ∙ passes_are_kept old.bytes old.kept old.index ts c.in_ok-used.ensures.these xs e h
-
-pub returns-clause-passes : goal.returns-clause-passes
-returns-clause-passes c = λ h. passes c _ _ h
-
-spelled : (c : goal.After-drop-followed-inside-2) → Spelled c.args.decoder.now.bytes (labels_of (take c.in_ok-used.field-0.used c.gather_labels.new.room)) c.args.decoder.now.index c.args.decoder.now.index c.in_ok-used.field-0.end
-spelled c =
-    let old = c.args.decoder.now in
-    spelled_is old.bytes old.index 0 c.in_ok-used.field-0.end (take c.in_ok-used.field-0.used c.gather_labels.new.room) (omega arith) c.in_ok-used.ensures.read
-
-bytes_now : (c : goal.After-drop-followed-inside-2) → c.move_to-2.new.self.bytes ≡ c.args.decoder.now.bytes
-bytes_now c =
-    ap (λ (r : Reader). r.bytes) c.move_to-2.ensures
-    ∙ ap (λ (r : Reader). r.bytes) c.in_ok-keep_targets.ensures.ok
-    ∙ ap (λ (r : Reader). r.bytes) c.in_ok-used.ensures.followed.now
-
-pub returns-clause-adds : goal.returns-clause-adds
-returns-clause-adds c = adds_name (spelled c) (bytes_now c) (passes c _ _ (spelled c))
-
-after : (c : goal.After-drop-followed-inside-2) → IsAfterName (targets c.gather_labels.new.followed) c.args.decoder.now c.gather_labels.new.decoder c.move_to-2.new.self (spelled c)
-after c =
-    let moved = c.move_to-2.ensures in
-    record {
-      bytes = bytes_now c;
-      index = ap (λ (r : Reader). r.index) moved;
-      jumps = ap (λ (r : Reader). r.jumps) moved ∙ ap (λ (r : Reader). r.jumps) c.in_ok-keep_targets.ensures.ok;
-      kept = kept_now c;
-      passes = passes c _ _ (spelled c);
-    }
-
-pub returns-clause-counts : goal.returns-clause-counts
-returns-clause-counts c = counted_after (after c) c.in_ok-used.ensures.followed c.allocator-2.ensures.few
-
-pub returns-clause-passed : goal.returns-clause-passed
-returns-clause-passed c = passed_after (spelled c) (after c)
 
 -- ---- a name of one piece
 

@@ -2,9 +2,9 @@ use Rattle.std.proofs.Common.{◌≡◌, ℕ, List, sym, ap, ◌∙◌, subst}
 use Rattle.std.specs.FinSet as set
 use Rattle.std.specs.Ordering.{nat_cmp}
 use Rattle.base.specs.Passing.{IsClosed, PassesKept}
-use Rattle.base.specs.Pointers.{AreKept, Cache, IsKept, targets_of}
+use Rattle.base.specs.Pointers.{AreKept, Cache, IsKept, IsSource, KeepsAt, targets_of}
 use Rattle.base.specs.Reader.{Reader}
-use Rattle.base.proofs.CountLemmas.{kept_are, not_kept, targets_inserted}
+use Rattle.base.proofs.CountLemmas.{kept_are, kept_at, same_source, not_kept, targets_inserted}
 use Rattle.base.proofs.PassLemmas.{closed_inserted}
 use Rattle.base.proofs.wire.decoder.BinDecoder.keep.Goals as goal
 
@@ -34,3 +34,10 @@ returns-clause-ok c =
     let reader : set.FinSet nat_cmp → Reader = λ kept. record { bytes = old.buffer.now; index = old.index; kept = kept; jumps = old.jumps } in
     ap reader (ap targets_of c.in_ok-insert.ensures.ok ∙ targets_inserted old.cache c.args.target c.args.labels.now)
     ∙ ap (λ (r : Reader). record r { kept = set.insert r.kept c.args.target }) c.self.view_is
+
+pub insert-requires-clause-source : goal.insert-requires-clause-source
+insert-requires-clause-source c =
+    let inside = c.self.inside in
+    let are : AreKept inside.buffer.now inside.cache = c.self.invariant.1.0 in
+    let source = subst (λ (r : Reader). IsSource (KeepsAt r.bytes r.kept) c.args.source c.args.labels.now) (sym c.self.view_is) c.requires.source in
+    same_source _ _ c.args.source c.args.labels.now (λ q at. kept_at inside.buffer.now inside.cache q c.args.labels.now are at) source

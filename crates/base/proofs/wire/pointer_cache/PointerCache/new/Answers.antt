@@ -5,4 +5,4 @@ use Rattle.base.specs.Pointers.{entries_from}
 use Rattle.base.proofs.wire.pointer_cache.PointerCache.new.Goals as goal
 
 pub returns : goal.returns
-returns c = ap (λ (places : List ℕ). map.from_entries {R = nat_cmp} (entries_from 0 c.new.result.items places)) c.new-2.ensures.items
+returns c = ap (λ (places : List ℕ). map.from_entries {R = nat_cmp} (entries_from 0 c.new.result places)) c.new-2.ensures.items

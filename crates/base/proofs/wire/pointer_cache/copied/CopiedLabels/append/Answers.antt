@@ -1,0 +1,11 @@
+use Rattle.std.proofs.Common.{rules, ◌≡◌, ◌∙◌, ap, ◌++◌, ◌∷◌, ◌-◌, ◌+◌, List, ℕ, length, arith}
+use Rattle.base.proofs.CacheLemmas.{copied_inside}
+use Rattle.base.proofs.wire.pointer_cache.copied.CopiedLabels.append.Goals as goal
+
+pub returns-then-place-len-le-ROOM-clause-ok : goal.returns-then-place-len-le-ROOM-clause-ok
+returns-then-place-len-le-ROOM-clause-ok c =
+    let old = c.self.inside in
+    let labels = c.args.labels.now in
+    let none : length old.all.items ≡ 0 = search rules in
+    copied_inside old.used (old.used + 1 + length labels - (old.used + 1)) old.first labels old.all.items c.copy_from_slice.new.self none (omega (arith, c.if-place-len-le-ROOM.true)) c.copy_from_slice.ensures.after
+    ∙ ap (λ (xs : List ℕ). xs ++ (length labels ∷ labels)) c.self.view_is

@@ -1,0 +1,93 @@
+//! The labels that were copied.
+
+ghost use Rattle.base.specs.declared.limits.TheConstants.{MAX_LABELS};
+ghost use Rattle.std.specs.Prelude.{◌≡◌, ◌+◌, ◌++◌, ◌∷◌, ◌≤◌, [], length, IfOk, OnErr, OnOk};
+
+use std::alloc::{AllocError, Global};
+use std::marker::Model;
+
+/// How many bytes have room inside the value.
+const ROOM: usize = 256;
+
+/// Labels one after another, before each the number of bytes that they are. A place is that of their first byte.
+///
+/// Up to 256 bytes stand inside the value and take no memory.
+#[derive(Drop)]
+pub(super) struct CopiedLabels {
+    used: usize,
+    /// The bytes, as long as they have room here. What stands after those in use has no meaning.
+    first: [u8; ROOM],
+    /// All bytes, once they are more.
+    all: Vec<u8>,
+}
+
+impl Model for CopiedLabels {
+    ghost use Rattle.std.specs.Prelude.{◌≤◌, ℕ, List};
+    ghost use Rattle.std.specs.Coded.{coded_ℕ, coded_list};
+    ghost use Rattle.base.specs.Pointers.{copied_bytes};
+    ghost use Rattle.base.specs.declared.wire.pointer_cache.copied.TheConstants.{ROOM};
+
+    ghost Value = { List ℕ };
+
+    ghost coded = { coded_list coded_ℕ };
+
+    ghost view = { λ c. copied_bytes c.used c.first c.all.items };
+
+    ghost invariant = { λ c. c.used ≤ ROOM };
+}
+
+impl CopiedLabels {
+    /// No labels. Takes no memory.
+    pub(super) fn new(alloc: Global) -> CopiedLabels
+        ensures { result ≡ [] }
+    {
+        CopiedLabels {
+            used: 0,
+            first: [0; ROOM],
+            all: Vec::new(alloc),
+        }
+    }
+
+    /// The bytes.
+    pub(super) fn as_slice(&self) -> &[u8]
+        ensures { result.now ≡ self.now }
+    {
+        if self.all.is_empty() {
+            &self.first[..self.used]
+        } else {
+            &self.all
+        }
+    }
+
+    /// Copies labels after those that were copied before, and answers their place. Each caller has its own copy of this
+    /// function, which is faster.
+    ///
+    /// # Errors
+    ///
+    /// If memory runs out, with the labels as they were.
+    #[inline(always)]
+    pub(super) fn append(&mut self, labels: &[u8]) -> Result<usize, AllocError>
+        requires { length labels.now ≤ MAX_LABELS }
+        ensures place { IfOk result (λ place. place ≡ length self.old + 1) }
+        ensures ok { OnOk result (self.new ≡ self.old ++ length labels.now ∷ labels.now) }
+        ensures err { OnErr result (self.new ≡ self.old) }
+    {
+        let len = labels.len();
+        if self.all.is_empty() {
+            let place = self.used + 1;
+            if place + len <= ROOM {
+                self.first[self.used] = len as u8;
+                self.first[place..place + len].copy_from_slice(labels);
+                self.used = place + len;
+                return Ok(place);
+            }
+            self.all.reserve(2 * ROOM)?;
+            self.all.extend_from_slice(&self.first[..self.used])?;
+        }
+        self.all.reserve(1 + len)?;
+        self.all.push(len as u8)?;
+        let place = self.all.len();
+        self.all.extend_from_slice(labels)?;
+        Ok(place)
+    }
+}
