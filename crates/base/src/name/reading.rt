@@ -6,7 +6,7 @@ ghost use Rattle.std.specs.FinSet as set;
 ghost use Rattle.base.specs.Counts.{Counts, Passes};
 ghost use Rattle.base.specs.Labels.{IsWire, labels_of};
 ghost use Rattle.base.specs.Names.{part_at, pointer_to, labels_at, name_at};
-ghost use Rattle.base.specs.Pointers.{AreSpelled, Followed, IsSource, KeepsAt, OfLast, PassLater, PassesThese, part, targets};
+ghost use Rattle.base.specs.Pointers.{AreSpelled, Followed, IfInPlace, IfPointer, IsBare, IsSource, KeepsAt, OfLast, PassLater, PassesThese, part, targets};
 ghost use Rattle.base.specs.Passing.{AddsPassed, inserted, passed};
 ghost use Rattle.base.specs.Reading.{Fails, Reads};
 ghost use Rattle.base.specs.Spelling.{Spelled};
@@ -85,6 +85,16 @@ fn copy_label(buffer: &[u8], at: usize, size: usize, room: &mut [u8; MAX_LABELS]
     }
 }
 
+/// Copies kept labels after what is used of the room. The root has none, for which nothing is called.
+fn copy_kept(labels: &[u8], room: &mut [u8; MAX_LABELS], used: usize)
+    requires { used + length labels.now ≤ MAX_LABELS }
+    ensures { take (used + length labels.now) room.new ≡ take used room.old ++ labels.now }
+{
+    if !labels.is_empty() {
+        room[used..used + labels.len()].copy_from_slice(labels);
+    }
+}
+
 /// What was gathered of a name: its labels stand in the room, each with its length before it.
 #[derive(Drop)]
 struct Gathered<'a> {
@@ -96,13 +106,16 @@ struct Gathered<'a> {
     last: Source<'a>,
 }
 
-/// Gathers the labels of the name at the decoder's place in `room`, and the pointers that were followed.
+/// Gathers the labels of the name at the decoder's place in `room`, and the pointers that were followed. Where a first
+/// look found that it is a pointer alone, to a target whose labels aren't kept, that target may be given.
 fn gather_labels<'a>(
     decoder: &mut BinDecoder<'a>,
     room: &mut [u8; MAX_LABELS],
     followed: &mut FollowedPointers,
+    bare: Option<u16>,
 ) -> Result<Gathered<'a>, DecodeError>
     requires none { followed.old ≡ [] }
+    requires bare { IfSome bare (λ t. IsBare decoder.old t) }
     ensures read { MatchResult result
         (λ r. labels_at decoder.old.bytes decoder.old.index decoder.old.index 0
         ≡ Ok (labels_of (take r.used room.new), r.end))
@@ -133,6 +146,12 @@ fn gather_labels<'a>(
     let mut at = 0;
     let mut used = 0;
     let mut end = None;
+    if let Some(target) = bare {
+        followed.push(FollowedPointer { target, from: 0 })?;
+        piece = decoder.follow(target);
+        end = Some(first + 2);
+        start = usize::from(target);
+    }
     'parts: loop {
         match read_part(piece, at)? {
             Part::Root => {
@@ -165,7 +184,7 @@ fn gather_labels<'a>(
                     } else {
                         Source::Nowhere
                     };
-                    room[used..used + labels.len()].copy_from_slice(labels);
+                    copy_kept(labels, room, used);
                     return Ok(Gathered {
                         used: used + labels.len(),
                         end: after,
@@ -233,18 +252,29 @@ struct InPlace<'d> {
     end: usize,
 }
 
-/// The name at the decoder's place, if no pointer need be followed for it: most names have none, or one to a kept
-/// target.
-fn read_in_place<'d>(decoder: &'d BinDecoder<'_>) -> Option<InPlace<'d>>
-    ensures own { IfSome result (λ p. p.used ≤ length p.own.now) }
-    ensures read { IfSome result
+/// What a first look at a name finds.
+#[derive(Drop)]
+enum Look<'d> {
+    /// A name for which no pointer need be followed, as most are: it has none, or one to a kept target.
+    InPlace(InPlace<'d>),
+    /// A pointer alone, to a target whose labels aren't kept.
+    Pointer(u16),
+    /// Another name, or none.
+    Other,
+}
+
+/// Looks at the name at the decoder's place.
+fn first_look<'d>(decoder: &'d BinDecoder<'_>) -> Look<'d>
+    ensures own { IfInPlace result (λ p. p.used ≤ length p.own.now) }
+    ensures read { IfInPlace result
         (λ p. labels_at decoder.now.bytes decoder.now.index decoder.now.index 0
         ≡ Ok (labels_of (take p.used p.own.now ++ p.kept.now), p.end)) }
-    ensures wire { IfSome result (λ p. IsWire (take p.used p.own.now ++ p.kept.now)) }
-    ensures end { IfSome result (λ p. p.end ≤ length decoder.now.bytes) }
+    ensures wire { IfInPlace result (λ p. IsWire (take p.used p.own.now ++ p.kept.now)) }
+    ensures end { IfInPlace result (λ p. p.end ≤ length decoder.now.bytes) }
     // The name passes kept offsets alone.
-    ensures these { IfSome result
+    ensures these { IfInPlace result
         (λ _. PassesThese decoder.now.bytes decoder.now.kept decoder.now.index []) }
+    ensures bare { IfPointer result (λ t. IsBare decoder.now t) }
 {
     let first = decoder.index();
     let own = decoder.rest();
@@ -255,10 +285,10 @@ fn read_in_place<'d>(decoder: &'d BinDecoder<'_>) -> Option<InPlace<'d>>
         used += 1 + usize::from(near[used]);
     }
     if used >= near.len() {
-        return None;
+        return Look::Other;
     }
     match read_part(own, used) {
-        Ok(Part::Root) => Some(InPlace {
+        Ok(Part::Root) => Look::InPlace(InPlace {
             own,
             used,
             kept: &own[..0],
@@ -266,20 +296,25 @@ fn read_in_place<'d>(decoder: &'d BinDecoder<'_>) -> Option<InPlace<'d>>
         }),
         Ok(Part::Pointer(target)) => {
             if usize::from(target) >= first {
-                return None;
+                return Look::Other;
             }
-            let kept = decoder.labels_at(target)?;
-            if used + kept.len() + 1 > MAX_NAME {
-                return None;
+            match decoder.labels_at(target) {
+                Some(kept) => {
+                    if used + kept.len() + 1 > MAX_NAME {
+                        return Look::Other;
+                    }
+                    Look::InPlace(InPlace {
+                        own,
+                        used,
+                        kept,
+                        end: first + used + 2,
+                    })
+                }
+                None if used == 0 => Look::Pointer(target),
+                None => Look::Other,
             }
-            Some(InPlace {
-                own,
-                used,
-                kept,
-                end: first + used + 2,
-            })
         }
-        _ => None,
+        _ => Look::Other,
     }
 }
 
@@ -291,7 +326,8 @@ fn read_in_place<'d>(decoder: &'d BinDecoder<'_>) -> Option<InPlace<'d>>
 /// What `read` refuses.
 #[inline(always)]
 #[tactic(auto, unfolding(crate::specs::Names::name_at))]
-fn read_following(decoder: &mut BinDecoder<'_>) -> Result<Name, DecodeError>
+fn read_following(decoder: &mut BinDecoder<'_>, bare: Option<u16>) -> Result<Name, DecodeError>
+    requires { IfSome bare (λ t. IsBare decoder.old t) }
     // These are as of every name: see `read`.
     ensures read { Reads (λ x. x) decoder.old decoder.new result
         (name_at decoder.old.bytes decoder.old.index) }
@@ -306,7 +342,7 @@ fn read_following(decoder: &mut BinDecoder<'_>) -> Result<Name, DecodeError>
 {
     let mut room = [0; MAX_LABELS];
     let mut followed = FollowedPointers::new(decoder.allocator());
-    let Gathered { used, end, last } = gather_labels(decoder, &mut room, &mut followed)?;
+    let Gathered { used, end, last } = gather_labels(decoder, &mut room, &mut followed, bare)?;
     let labels = Labels::from_front(decoder.allocator(), &room, used, true)?;
     keep_targets(decoder, &room[..used], &followed, last)?;
     decoder.move_to(end);
@@ -346,19 +382,22 @@ impl BinDecodable for Name {
         ensures adds { IfOk result
             (λ _. AddsPassed (decoder.old.index ∷ []) decoder.old decoder.new) }
     {
-        if let Some(
-            InPlace {
-                own,
-                used,
-                kept,
-                end,
-            },
-        ) = read_in_place(decoder)
-        {
-            let labels = Labels::from_front_and(decoder.allocator(), own, used, kept, true)?;
-            decoder.move_to(end);
-            return Ok(Name { labels });
-        }
-        read_following(decoder)
+        let bare = match first_look(decoder) {
+            Look::InPlace(
+                InPlace {
+                    own,
+                    used,
+                    kept,
+                    end,
+                },
+            ) => {
+                let labels = Labels::from_front_and(decoder.allocator(), own, used, kept, true)?;
+                decoder.move_to(end);
+                return Ok(Name { labels });
+            }
+            Look::Pointer(target) => Some(target),
+            Look::Other => None,
+        };
+        read_following(decoder, bare)
     }
 }

@@ -6,7 +6,7 @@ use Rattle.std.proofs.lemmas.Result.{err_from_is_err_and}
 use borrow.Rule.Slice.PartMut.{put_mid}
 use Rattle.std.proofs.lemmas.Slice.{take-put_mid}
 use Rattle.base.specs.declared.name.followed.FollowedPointer.{FollowedPointer}
-use Rattle.base.specs.Pointers.{IsKept, IsLast, KeepsAt, OfLast, targets}
+use Rattle.base.specs.Pointers.{Followed, IsBare, IsKept, IsLast, KeepsAt, OfLast, targets}
 use Rattle.base.specs.Labels.{IsWire, labels_of}
 use Rattle.base.specs.Reader.{Reader}
 use Rattle.base.proofs.CountLemmas.{Follows, Follows-none, Follows-push}
@@ -21,28 +21,61 @@ use Rattle.base.proofs.PassLemmas.{Lead, Lead-kept, Lead-label, Lead-pointer, Le
 use Rattle.base.proofs.GatherLemmas.{Gathers, gathers_none, at_fault, at_long, at_forward, at_root, root_inside, label_fits, gathers_label, gathers_pointer, fails_is, at_kept, at_kept_long, kept_end, IsWire-append}
 use Rattle.base.proofs.PieceLemmas.{found, last_more, last_pushed, of_any, of_last, part_is_there, range_is_there}
 use Rattle.base.proofs.name.reading.gather_labels.Goals as goal
-use Rattle.base.proofs.name.reading.gather_labels.Goals.{then-at-eq0, else-at-eq0}
+use Rattle.base.proofs.name.reading.gather_labels.Goals.{in-Some+in_ok-push, in_default, then-at-eq0, else-at-eq0}
+
+-- memory ran out for the pointer that was found before
+pub returns-in_err-push-clause-followed : goal.returns-in_err-push-clause-followed
+returns-in_err-push-clause-followed c =
+    let old = c.args.decoder.now in
+    let f = Follows-none 0 old in
+    let none : Followed [] old old = record { now = f.now; jumps = f.jumps; all = f.all; few = f.few } in
+    subst (λ (ps : List FollowedPointer). Followed (targets ps) old old) (sym (c.in_err-push.ensures.err ∙ c.requires.none)) none
 
 pub parts-init : goal.parts-init
 parts-init c =
     let old = c.args.decoder.now in
+    let bytes = old.bytes in
     let first : c.index-first.result ≡ old.index = c.index-first.ensures.value in
-    let inside : old.index ≤ length old.bytes = omega (arith, c.index-first.ensures.inside, first) in
-    let place : old.index ≡ c.index-first.result + 0 = omega (arith, first) in
-    rw first (record {
-      piece = c.rest-piece.ensures;
-      gathers = subst (λ (at : ℕ). Gathers old.bytes old.index 0 old.index at 0 [] None) (omega arith) (gathers_none old.bytes old.index 0 inside (omega arith));
-      tails = All-same (Tail old.bytes old.index (old.index + 0) 0 []) _ [] c.requires.none (All-nil (Tail old.bytes old.index (old.index + 0) 0 []));
-      last = subst (λ (ps : List FollowedPointer). IsLast [] [] ps) (sym c.requires.none) tt;
-      leads = subst (λ (ps : List FollowedPointer). Leads old.bytes old.index (targets ps) old.index (old.index + 0)) (sym c.requires.none)
-          (subst (λ (at : ℕ). Leads old.bytes old.index [] old.index at) (omega arith) (Leads-none old.bytes old.index));
-      lead = subst (λ (ps : List FollowedPointer). Lead old.bytes ps old.index (old.index + 0)) (sym c.requires.none) tt;
-      follows = subst (λ (ps : List FollowedPointer). Follows (targets ps) old.index old old) (sym c.requires.none) (Follows-none old.index old);
-    })
+    let inside : old.index ≤ length bytes = omega (arith, c.index-first.ensures.inside, first) in
+    let begun = gathers_none bytes old.index 0 inside (omega arith) in
+    elim c.match-bare.branch [
+      | in-Some+in_ok-push w ↦
+          let t = w.in-Some.target in
+          let bare : IsBare old t = rw w.in-Some.is at c.requires.bare in
+          let one : FollowedPointer = record { target = t; from = 0 } in
+          let items : w.push.new.self ≡ one ∷ [] = w.in_ok-push.ensures.ok ∙ ap (λ (ps : List FollowedPointer). ps ++ one ∷ []) c.requires.none in
+          let here : t ≡ t + 0 = omega arith in
+          let P = Tail bytes t t 0 [] in
+          let tails : All P w.push.new.self =
+          All-same P _ (one ∷ []) items (All-push P [] one (All-nil P) (Tail-new bytes t 0 [] (omega (arith, bare.below, inside)) bare.near (omega arith) begun.few)) in
+          let follows = Follows-push (Follows-none old.index old) bare.below bare.near bare.absent bare.all_near w.follow-piece.ensures.counted in
+          rw (w.decoder-is, w.followed-is, w.piece-is, w.start-is, w.end-is, w.from-start.ensures, first) (record {
+            piece = w.follow-piece.ensures.lent;
+            gathers = subst (λ (k : ℕ). Gathers bytes old.index 0 t k 0 [] (Some (old.index + 2))) here (gathers_pointer begun t bare.is bare.below);
+            tails = subst (λ (k : ℕ). All (Tail bytes t k 0 []) w.push.new.self) here tails;
+            last = subst (IsLast [] []) (sym items) (last_pushed [] one [] (omega arith));
+            leads = subst (λ (k : ℕ). Leads bytes old.index (targets w.push.new.self) t k) here
+                (subst (λ (ps : List FollowedPointer). Leads bytes old.index (targets ps) t t) (sym items) (Leads-pointer (Leads-none bytes old.index) bare.is));
+            lead = subst (λ (k : ℕ). Lead bytes w.push.new.self t k) here
+                (subst (λ (ps : List FollowedPointer). Lead bytes ps t t) (sym items) (Lead-pointer bytes old.index old.index [] one bare.is tt));
+            follows = subst (λ (ps : List FollowedPointer). Follows (targets ps) t old w.follow-piece.new.self) (sym items) follows;
+          })
+      | in_default w ↦
+          rw (w.decoder-is, w.followed-is, w.piece-is, w.start-is, w.end-is, first) (record {
+            piece = c.rest-piece.ensures;
+            gathers = subst (λ (at : ℕ). Gathers bytes old.index 0 old.index at 0 [] None) (omega arith) begun;
+            tails = All-same (Tail bytes old.index (old.index + 0) 0 []) _ [] c.requires.none (All-nil (Tail bytes old.index (old.index + 0) 0 []));
+            last = subst (λ (ps : List FollowedPointer). IsLast [] [] ps) (sym c.requires.none) tt;
+            leads = subst (λ (ps : List FollowedPointer). Leads bytes old.index (targets ps) old.index (old.index + 0)) (sym c.requires.none)
+                (subst (λ (at : ℕ). Leads bytes old.index [] old.index at) (omega arith) (Leads-none bytes old.index));
+            lead = subst (λ (ps : List FollowedPointer). Lead bytes ps old.index (old.index + 0)) (sym c.requires.none) tt;
+            follows = subst (λ (ps : List FollowedPointer). Follows (targets ps) old.index old old) (sym c.requires.none) (Follows-none old.index old);
+          })
+    ]
 
 pub returns-in_err-read_part-clause-read : goal.returns-in_err-read_part-clause-read
 returns-in_err-read_part-clause-read c =
-    let p = err_from_is_err_and c.from_residual.result c.from_residual.ensures.1 in
+    let p = err_from_is_err_and c.from_residual-in_err-read_part.result c.from_residual-in_err-read_part.ensures.1 in
     let fault = c.in_err-read_part.field-0.0 in
     let is = part_is_there c.args.decoder.now.bytes c.parts.piece.now c.parts.start c.parts.at (Err fault) c.parts.invariant.piece c.in_err-read_part.ensures.value in
     rw (p.1, p.2) (fails_is fault _ (at_fault c.parts.invariant.gathers fault is))
@@ -142,9 +175,6 @@ returns-then-from-start-clause-read c =
 bytes_are : {ts : List ℕ} {start : ℕ} {old new : Reader} → Follows ts start old new → new.bytes ≡ old.bytes
 bytes_are f = ap (λ (r : Reader). r.bytes) f.now
 
-pub follow-piece-requires : goal.follow-piece-requires
-follow-piece-requires c = omega (arith, ap length (bytes_are c.parts.invariant.follows), c.parts.invariant.gathers.low, c.from.ensures, c.if-from-start.false)
-
 pub parts-preserved : goal.parts-preserved
 parts-preserved c =
     let old = c.args.decoder.now in
@@ -156,29 +186,29 @@ parts-preserved c =
     let is : part_at bytes at ≡ Ok (pointer_to t) = part_is_there bytes c.parts.piece.now start c.parts.at (Ok (pointer_to t)) c.parts.invariant.piece (c.in_ok-read_part.ensures.value ∙ ap found c.in-Pointer.is) in
     let small = c.read_part.ensures.near t (c.in_ok-read_part.ensures.value ∙ ap found c.in-Pointer.is) in
     let below : t < start = omega (arith, c.from.ensures, c.if-from-start.false) in
-    let absent : set.contains c.parts.decoder.kept t ≡ false = sym c.in_default.ensures.is in
+    let absent : set.contains c.parts.decoder.kept t ≡ false = sym c.in_default-labels_at.ensures.is in
     let used = c.parts.used in
     let labels = take used c.parts.room in
     let g = c.parts.invariant.gathers in
     let one : FollowedPointer = record { target = t; from = used } in
-    let items : c.push.new.self ≡ c.parts.followed ++ one ∷ [] = c.in_ok-push-in-Pointer.ensures.ok in
-    let more : targets c.push.new.self ≡ targets c.parts.followed ++ t ∷ [] = ap targets items ∙ map_push (λ (p : FollowedPointer). p.target) c.parts.followed one in
-    let follows = Follows-push c.parts.invariant.follows below small absent c.labels_at.ensures.near c.follow-piece.ensures.counted in
+    let items : c.push-in-Pointer.new.self ≡ c.parts.followed ++ one ∷ [] = c.in_ok-push-in-Pointer.ensures.ok in
+    let more : targets c.push-in-Pointer.new.self ≡ targets c.parts.followed ++ t ∷ [] = ap targets items ∙ map_push (λ (p : FollowedPointer). p.target) c.parts.followed one in
+    let follows = Follows-push c.parts.invariant.follows below small absent c.labels_at.ensures.near c.follow-piece-in-Pointer.ensures.counted in
     let here : t ≡ t + 0 = omega arith in
     let P = Tail bytes t t used labels in
     let before = All-weaker _ P (λ p tail. Tail-pointer is below tail) c.parts.followed c.parts.invariant.tails in
-    let tails : All P c.push.new.self =
+    let tails : All P c.push-in-Pointer.new.self =
     All-same P _ _ items (All-push P c.parts.followed one before (Tail-new bytes t used labels (omega (arith, g.low)) small (omega (arith, g.len)) g.few)) in
     let end = Some c.unwrap_or-after.result in
-    rw c.from-start.ensures (record {
-      piece = c.follow-piece.ensures.lent ∙ ap (drop t) (bytes_are c.parts.invariant.follows);
+    rw c.from-start-in-Pointer.ensures (record {
+      piece = c.follow-piece-in-Pointer.ensures.lent ∙ ap (drop t) (bytes_are c.parts.invariant.follows);
       gathers = subst (λ (k : ℕ). Gathers bytes first 0 t k used labels end) here (rw c.unwrap_or-after.ensures (gathers_pointer g t is below));
-      tails = subst (λ (k : ℕ). All (Tail bytes t k used labels) c.push.new.self) here tails;
+      tails = subst (λ (k : ℕ). All (Tail bytes t k used labels) c.push-in-Pointer.new.self) here tails;
       last = subst (IsLast [] labels) (sym items) (last_pushed c.parts.followed one labels (omega (arith, g.len)));
-      leads = subst (λ (k : ℕ). Leads bytes first (targets c.push.new.self) t k) here (subst (λ (ts : List ℕ). Leads bytes first ts t t) (sym more) (Leads-pointer c.parts.invariant.leads is));
-      lead = subst (λ (k : ℕ). Lead bytes c.push.new.self t k) here
+      leads = subst (λ (k : ℕ). Leads bytes first (targets c.push-in-Pointer.new.self) t k) here (subst (λ (ts : List ℕ). Leads bytes first ts t t) (sym more) (Leads-pointer c.parts.invariant.leads is));
+      lead = subst (λ (k : ℕ). Lead bytes c.push-in-Pointer.new.self t k) here
           (subst (λ (ps : List FollowedPointer). Lead bytes ps t t) (sym items) (Lead-pointer bytes start at c.parts.followed one is c.parts.invariant.lead));
-      follows = subst (λ (ts : List ℕ). Follows ts t old c.follow-piece.new.self) (sym more) follows;
+      follows = subst (λ (ts : List ℕ). Follows ts t old c.follow-piece-in-Pointer.new.self) (sym more) follows;
     })
 
 kept_is : (B C : List ℕ) (t : ℕ) (xs : List ℕ) → C ≡ B → IsKept C t xs → IsKept B t xs
@@ -189,77 +219,69 @@ pub returns-then-used-labels-gt-MAX_NAME-clause-read :
 returns-then-used-labels-gt-MAX_NAME-clause-read c =
     let bytes = c.args.decoder.now.bytes in
     let is = part_is_there bytes c.parts.piece.now c.parts.start c.parts.at (Ok (pointer_to c.in-Pointer.target)) c.parts.invariant.piece (c.in_ok-read_part.ensures.value ∙ ap found c.in-Pointer.is) in
-    at_kept_long c.parts.invariant.gathers is (omega arith) (kept_is _ _ _ _ (bytes_are c.parts.invariant.follows) c.in-Some.ensures.spelled) (omega arith)
+    at_kept_long c.parts.invariant.gathers is (omega arith) (kept_is _ _ _ _ (bytes_are c.parts.invariant.follows) c.in-Some-labels_at.ensures.spelled) (omega arith)
 
 -- ---- a walk that ends at a kept target
 
 -- what stands at the pointer
-pointer_is : (c : goal.After-copy_from_slice) → part_at c.args.decoder.now.bytes (c.parts.start + c.parts.at) ≡ Ok (pointer_to c.in-Pointer.target)
+pointer_is : (c : goal.After-copy_kept) → part_at c.args.decoder.now.bytes (c.parts.start + c.parts.at) ≡ Ok (pointer_to c.in-Pointer.target)
 pointer_is c = part_is_there c.args.decoder.now.bytes c.parts.piece.now c.parts.start c.parts.at (Ok (pointer_to c.in-Pointer.target)) c.parts.invariant.piece
     (c.in_ok-read_part.ensures.value ∙ ap found c.in-Pointer.is)
 
-below : (c : goal.After-copy_from_slice) → c.in-Pointer.target < c.parts.start
+below : (c : goal.After-copy_kept) → c.in-Pointer.target < c.parts.start
 below c = omega (arith, c.from.ensures, c.if-from-start.false)
 
 -- the labels there are kept
-kept : (c : goal.After-copy_from_slice) → IsKept c.args.decoder.now.bytes c.in-Pointer.target c.in-Some.labels.now
-kept c = kept_is _ _ _ _ (bytes_are c.parts.invariant.follows) c.in-Some.ensures.spelled
+kept : (c : goal.After-copy_kept) → IsKept c.args.decoder.now.bytes c.in-Pointer.target c.in-Some-labels_at.labels.now
+kept c = kept_is _ _ _ _ (bytes_are c.parts.invariant.follows) c.in-Some-labels_at.ensures.spelled
 
-short : (c : goal.After-copy_from_slice) → c.parts.used + length c.in-Some.labels.now + 1 ≤ 255
+short : (c : goal.After-copy_kept) → c.parts.used + length c.in-Some-labels_at.labels.now + 1 ≤ 255
 short c = omega (arith, c.if-used-labels-gt-MAX_NAME.false)
 
 -- the labels in the room after it was copied
-whole : (c : goal.After-copy_from_slice)
-    → take (c.parts.used + length c.in-Some.labels.now) (put_mid c.parts.used (c.parts.used + length c.in-Some.labels.now - c.parts.used) c.parts.room c.copy_from_slice.new.self)
-    ≡ take c.parts.used c.parts.room ++ c.in-Some.labels.now
-whole c =
-    let used = c.parts.used in
-    let room = c.parts.room in
-    let items = c.in-Some.labels.now in
-    let copied = c.copy_from_slice.ensures.after in
-    take-put_mid used (used + length items - used) room c.copy_from_slice.new.self (used + length items) (omega (arith, ap length copied))
-    (omega (arith, ap length copied, c.parts.invariant.gathers.len, length-take used room)) ∙ ap (λ (xs : List ℕ). take used room ++ xs) copied
+whole : (c : goal.After-copy_kept) → take (c.parts.used + length c.in-Some-labels_at.labels.now) c.copy_kept.new.room ≡ take c.parts.used c.parts.room ++ c.in-Some-labels_at.labels.now
+whole c = c.copy_kept.ensures
 
 -- the pointer leads to a kept offset, and with one all that is passed from there is kept
-known : (c : goal.After-copy_from_slice) → (set.contains c.args.decoder.now.kept c.in-Pointer.target ≡ true) × IsClosed c.args.decoder.now.bytes c.args.decoder.now.kept
+known : (c : goal.After-copy_kept) → (set.contains c.args.decoder.now.kept c.in-Pointer.target ≡ true) × IsClosed c.args.decoder.now.bytes c.args.decoder.now.kept
 known c =
     let same = ap (λ (r : Reader). r.kept) c.parts.invariant.follows.now in (
-      ap (λ (k : set.FinSet nat_cmp). set.contains k c.in-Pointer.target) (sym same) ∙ sym c.in-Some.ensures.is,
+      ap (λ (k : set.FinSet nat_cmp). set.contains k c.in-Pointer.target) (sym same) ∙ sym c.in-Some-labels_at.ensures.is,
       subst (λ (k : set.FinSet nat_cmp). IsClosed c.args.decoder.now.bytes k) same
           (subst (λ (bs : List ℕ). IsClosed bs c.parts.decoder.kept) (bytes_are c.parts.invariant.follows) c.labels_at.ensures.closed),
     )
 
-pub returns-in-Some-clause-read : goal.returns-in-Some-clause-read
-returns-in-Some-clause-read c =
+pub returns-in-Some-labels_at-clause-read : goal.returns-in-Some-labels_at-clause-read
+returns-in-Some-labels_at-clause-read c =
     at_kept c.parts.invariant.gathers (pointer_is c) (below c) (kept c) (short c)
-    ∙ ap (λ (e : ℕ). Ok (labels_of (take c.parts.used c.parts.room ++ c.in-Some.labels.now), e)) (sym c.unwrap_or-after.ensures)
+    ∙ ap (λ (e : ℕ). Ok (labels_of (take c.parts.used c.parts.room ++ c.in-Some-labels_at.labels.now), e)) (sym c.unwrap_or-after.ensures)
     ∙ ap (λ (xs : List ℕ). Ok (labels_of xs, c.unwrap_or-after.result)) (sym (whole c))
 
-pub returns-in-Some-clause-end : goal.returns-in-Some-clause-end
-returns-in-Some-clause-end c = rw c.unwrap_or-after.ensures (kept_end c.parts.invariant.gathers (pointer_is c) (below c) (kept c))
+pub returns-in-Some-labels_at-clause-end : goal.returns-in-Some-labels_at-clause-end
+returns-in-Some-labels_at-clause-end c = rw c.unwrap_or-after.ensures (kept_end c.parts.invariant.gathers (pointer_is c) (below c) (kept c))
 
-pub returns-in-Some-clause-wire : goal.returns-in-Some-clause-wire
-returns-in-Some-clause-wire c =
+pub returns-in-Some-labels_at-clause-wire : goal.returns-in-Some-labels_at-clause-wire
+returns-in-Some-labels_at-clause-wire c =
     subst IsWire (sym (whole c))
-    (IsWire-append (take c.parts.used c.parts.room) c.in-Some.labels.now c.parts.invariant.gathers.wire (kept c).wire (omega (arith, c.parts.invariant.gathers.len, short c)))
+    (IsWire-append (take c.parts.used c.parts.room) c.in-Some-labels_at.labels.now c.parts.invariant.gathers.wire (kept c).wire (omega (arith, c.parts.invariant.gathers.len, short c)))
 
-pub returns-in-Some-clause-kept : goal.returns-in-Some-clause-kept
-returns-in-Some-clause-kept c =
+pub returns-in-Some-labels_at-clause-kept : goal.returns-in-Some-labels_at-clause-kept
+returns-in-Some-labels_at-clause-kept c =
     All-weaker _ (Ends c.args.decoder.now.bytes _)
     (λ p tail. Tail-kept {start = c.parts.start} {used = c.parts.used} (pointer_is c) (below c) (kept c) (short c) (whole c) (omega (arith, c.parts.invariant.gathers.len)) tail)
     c.parts.followed c.parts.invariant.tails
 
-pub returns-in-Some-clause-these : goal.returns-in-Some-clause-these
-returns-in-Some-clause-these c = Leads-kept c.parts.invariant.leads c.args.decoder.now.kept (pointer_is c) (known c).0 (known c).1
+pub returns-in-Some-labels_at-clause-these : goal.returns-in-Some-labels_at-clause-these
+returns-in-Some-labels_at-clause-these c = Leads-kept c.parts.invariant.leads c.args.decoder.now.kept (pointer_is c) (known c).0 (known c).1
 
-pub returns-in-Some-clause-later : goal.returns-in-Some-clause-later
-returns-in-Some-clause-later c =
+pub returns-in-Some-labels_at-clause-later : goal.returns-in-Some-labels_at-clause-later
+returns-in-Some-labels_at-clause-later c =
     Lead-kept c.args.decoder.now.bytes c.parts.start (c.parts.start + c.parts.at) c.args.decoder.now.kept c.parts.followed (pointer_is c) (known c).0 (known c).1 c.parts.invariant.lead
 
-pub returns-in-Some-clause-last : goal.returns-in-Some-clause-last
-returns-in-Some-clause-last c =
+pub returns-in-Some-labels_at-clause-last : goal.returns-in-Some-labels_at-clause-last
+returns-in-Some-labels_at-clause-last c =
     let labels = take c.parts.used c.parts.room in
-    let items = c.in-Some.labels.now in
+    let items = c.in-Some-labels_at.labels.now in
     let known_at : KeepsAt c.args.decoder.now.bytes c.args.decoder.now.kept c.in-Pointer.target items = ((known c).0, kept c) in
     let inside = All-weaker (Tail c.args.decoder.now.bytes c.parts.start (c.parts.start + c.parts.at) c.parts.used labels) (λ (p : FollowedPointer). p.from ≤ length labels) (λ p tail. tail.inside) c.parts.followed c.parts.invariant.tails in
     elim c.if-at-eq0.branch [

@@ -13,8 +13,8 @@ use Rattle.base.proofs.name.reading.NameBinDecodable.read.Goals as goal
 pub move_to-requires-clause-on : goal.move_to-requires-clause-on
 move_to-requires-clause-on c =
     let old = c.args.decoder.now in
-    let wire = take c.in-Some.field-0.used c.in-Some.field-0.own.now ++ c.in-Some.field-0.kept.now in
-    omega (arith, ends_after (spelled_is old.bytes old.index 0 c.in-Some.field-0.end wire (omega arith) c.in-Some.ensures.read))
+    let wire = take c.in-InPlace.field-0.used c.in-InPlace.field-0.own.now ++ c.in-InPlace.field-0.kept.now in
+    omega (arith, ends_after (spelled_is old.bytes old.index 0 c.in-InPlace.field-0.end wire (omega arith) c.in-InPlace.ensures.read))
 
 -- ---- a name of one piece
 
@@ -22,20 +22,20 @@ passes_piece : (c : goal.After-move_to) (xs : List (List ℕ)) (e : ℕ) (h : Sp
     → c.move_to.new.self.kept ≡ inserted (passed h) c.args.decoder.now.kept
 passes_piece c xs e h =
     let old = c.args.decoder.now in
-    ap (λ (r : Reader). r.kept) c.move_to.ensures ∙ sym (inserted-none old.kept) ∙ passes_are_kept old.bytes old.kept old.index [] c.in-Some.ensures.these xs e h
+    ap (λ (r : Reader). r.kept) c.move_to.ensures ∙ sym (inserted-none old.kept) ∙ passes_are_kept old.bytes old.kept old.index [] c.in-InPlace.ensures.these xs e h
 
-pub returns-in-Some-clause-passes : goal.returns-in-Some-clause-passes
-returns-in-Some-clause-passes c = λ h. passes_piece c _ _ h
+pub returns-in-InPlace-clause-passes : goal.returns-in-InPlace-clause-passes
+returns-in-InPlace-clause-passes c = λ h. passes_piece c _ _ h
 
 -- the labels of the piece and those that are kept
 abbrev labels : goal.After-move_to → List ℕ
-labels c = take c.in-Some.field-0.used c.in-Some.field-0.own.now ++ c.in-Some.field-0.kept.now
+labels c = take c.in-InPlace.field-0.used c.in-InPlace.field-0.own.now ++ c.in-InPlace.field-0.kept.now
 
-spelled_piece : (c : goal.After-move_to) → Spelled c.args.decoder.now.bytes (labels_of (labels c)) c.args.decoder.now.index c.args.decoder.now.index c.in-Some.field-0.end
-spelled_piece c = spelled_is c.args.decoder.now.bytes c.args.decoder.now.index 0 c.in-Some.field-0.end (labels c) (omega arith) c.in-Some.ensures.read
+spelled_piece : (c : goal.After-move_to) → Spelled c.args.decoder.now.bytes (labels_of (labels c)) c.args.decoder.now.index c.args.decoder.now.index c.in-InPlace.field-0.end
+spelled_piece c = spelled_is c.args.decoder.now.bytes c.args.decoder.now.index 0 c.in-InPlace.field-0.end (labels c) (omega arith) c.in-InPlace.ensures.read
 
-pub returns-in-Some-clause-adds : goal.returns-in-Some-clause-adds
-returns-in-Some-clause-adds c =
+pub returns-in-InPlace-clause-adds : goal.returns-in-InPlace-clause-adds
+returns-in-InPlace-clause-adds c =
     let h = spelled_piece c in
     adds_name h (ap (λ (r : Reader). r.bytes) c.move_to.ensures) (passes_piece c _ _ h)
 
@@ -51,11 +51,11 @@ after_piece c =
       passes = passes_piece c _ _ (spelled_piece c);
     }
 
-pub returns-in-Some-clause-counts : goal.returns-in-Some-clause-counts
-returns-in-Some-clause-counts c =
+pub returns-in-InPlace-clause-counts : goal.returns-in-InPlace-clause-counts
+returns-in-InPlace-clause-counts c =
     let f = Follows-none 0 c.args.decoder.now in
     let followed : Followed [] c.args.decoder.now c.args.decoder.now = record { now = f.now; jumps = f.jumps; all = f.all; few = f.few } in
     counted_after (after_piece c) followed c.allocator.ensures.few
 
-pub returns-in-Some-clause-passed : goal.returns-in-Some-clause-passed
-returns-in-Some-clause-passed c = passed_after (spelled_piece c) (after_piece c)
+pub returns-in-InPlace-clause-passed : goal.returns-in-InPlace-clause-passed
+returns-in-InPlace-clause-passed c = passed_after (spelled_piece c) (after_piece c)

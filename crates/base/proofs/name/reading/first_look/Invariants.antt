@@ -1,6 +1,6 @@
 use Rattle.std.specs.Prelude.{◌-◌, ◌<◌, length}
 use Rattle.base.proofs.PieceLemmas.{Walked}
-use Rattle.base.proofs.name.reading.read_in_place.Given as goal
+use Rattle.base.proofs.name.reading.first_look.Given as goal
 
 -- a label that begins within the bytes looked at ends there before another part begins there
 abbrev pub invariant-loop-used : goal.invariant-loop-used
