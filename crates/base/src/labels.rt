@@ -12,6 +12,10 @@ use crate::limits::INLINE_LABELS;
 use std::alloc::{AllocError, Global};
 use std::marker::Model;
 
+/// For how many bytes the labels of a name that is read have room at least, where they have memory of their own. Few names
+/// have more, so that nearly all take as much, which the allocator hands out again faster than many sizes.
+const HEAP_ROOM: usize = 64;
+
 /// Where labels are.
 #[derive(Debug, Drop)]
 enum Storage {
@@ -94,7 +98,17 @@ impl Labels {
                 storage: Storage::Inline(InlineLabels::from_front(alloc, bytes, used, is_fqdn)),
             });
         }
-        Labels::from_slice(alloc, &bytes[..used], is_fqdn)
+        if used <= INLINE_LABELS {
+            return Labels::from_slice(alloc, &bytes[..used], is_fqdn);
+        }
+        let mut own = Vec::with_capacity(alloc, used.max(HEAP_ROOM))?;
+        own.extend_from_slice(&bytes[..used])?;
+        Ok(Labels {
+            storage: Storage::Heap {
+                is_fqdn,
+                bytes: own,
+            },
+        })
     }
 
     /// The first `used` bytes of `bytes`, then `others`.
@@ -127,7 +141,7 @@ impl Labels {
                 )),
             });
         }
-        let mut both = Vec::with_capacity(alloc, len)?;
+        let mut both = Vec::with_capacity(alloc, len.max(HEAP_ROOM))?;
         both.extend_from_slice(&bytes[..used])?;
         both.extend_from_slice(others)?;
         Ok(Labels {

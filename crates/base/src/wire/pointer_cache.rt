@@ -289,49 +289,25 @@ impl<'a> PointerCache<'a> {
         ensures ok { OnOk result (self.new ≡ map.insert self.old offset labels.now) }
         ensures err { OnErr result (self.new ≡ self.old) }
     {
-        let other = match source {
-            Source::Nowhere => None,
-            Source::Message(labels) => {
-                if !self.moved && self.count < ROOM {
-                    let labels = TargetLabels::Lent(labels);
-                    self.first[self.count] = Target { offset, labels };
-                    self.count += 1;
-                    return Ok(());
-                }
-                None
-            }
-            Source::Kept(other) => Some(other),
-        };
-        self.insert_copy(offset, labels, other, most)
-    }
-
-    /// Keeps the labels at an offset: a copy of them, or, where each target has its place, that of another offset with
-    /// the same labels. It stands apart from the reading of a name, which is faster so: most names keep nothing.
-    #[inline(never)]
-    fn insert_copy(
-        &mut self,
-        offset: u16,
-        labels: &[u8],
-        other: Option<u16>,
-        most: u16,
-    ) -> Result<(), AllocError>
-        requires new { map.get self.old offset ≡ None }
-        requires short { length labels.now ≤ MAX_LABELS }
-        requires other { IfSome other (λ q. map.get self.old q ≡ Some labels.now) }
-        ensures ok { OnOk result (self.new ≡ map.insert self.old offset labels.now) }
-        ensures err { OnErr result (self.new ≡ self.old) }
-    {
         if !self.moved && self.count < ROOM {
-            let labels = TargetLabels::Copied(self.copies.bytes.append(labels)?);
+            let labels = match source {
+                Source::Message(labels) => TargetLabels::Lent(labels),
+                _ => TargetLabels::Copied(self.copies.bytes.append(labels)?),
+            };
             self.first[self.count] = Target { offset, labels };
             self.count += 1;
             return Ok(());
         }
+        let other = match source {
+            Source::Kept(other) => Some(other),
+            _ => None,
+        };
         self.insert_place(offset, labels, other, most)
     }
 
     /// Gives an offset a place, after each of the first targets has got one, which most messages never need: for a copy
     /// of its labels, or that of another offset with the same labels.
+    #[inline(never)]
     fn insert_place(
         &mut self,
         offset: u16,

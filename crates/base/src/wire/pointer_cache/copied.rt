@@ -59,13 +59,11 @@ impl CopiedLabels {
         }
     }
 
-    /// Copies labels after those that were copied before, and answers their place. Each caller has its own copy of this
-    /// function, which is faster.
+    /// Copies labels after those that were copied before, and answers their place.
     ///
     /// # Errors
     ///
     /// If memory runs out, with the labels as they were.
-    #[inline(always)]
     pub(super) fn append(&mut self, labels: &[u8]) -> Result<usize, AllocError>
         requires { length labels.now ≤ MAX_LABELS }
         ensures place { IfOk result (λ place. place ≡ length self.old + 1) }

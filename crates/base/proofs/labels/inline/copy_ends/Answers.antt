@@ -11,4 +11,7 @@ returns c =
     let first : length c.copy_from_slice.new.self ≡ c.args.piece = omega (arith, ap length c.copy_from_slice.ensures.after, length-take c.args.piece slice, c.requires.long) in
     let rest : length (drop c.args.piece place) ≡ length place - c.args.piece = length-drop c.args.piece place in
     let whole = length-append c.copy_from_slice.new.self (drop c.args.piece place) in
-    copied_whole slice _ _ _ c.args.piece _ c.requires.long c.requires.short (omega (arith, first, rest, whole, c.requires.fits, c.requires.long)) (omega (arith, first, rest, whole, c.requires.fits, c.requires.long)) c.copy_from_slice.ensures.after last
+    copied_whole slice _ _ _ c.args.piece _ c.requires.long c.requires.short
+    (omega (arith, first, rest, whole, c.requires.fits, c.requires.long))
+    (omega (arith, first, rest, whole, c.requires.fits, c.requires.long))
+    c.copy_from_slice.ensures.after last

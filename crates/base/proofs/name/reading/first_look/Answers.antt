@@ -1,10 +1,10 @@
-use Rattle.std.proofs.Common.{◌≡◌, ℕ, ◌+◌, ◌<◌, List, [], ◌++◌, Ok, Option, Some, None, length, take, drop, ap, sym, ◌∙◌, subst, arith}
+use Rattle.std.proofs.Common.{◌≡◌, ℕ, ◌+◌, ◌<◌, List, [], ◌++◌, Ok, length, take, drop, ap, sym, ◌∙◌, subst, arith}
 use Rattle.std.specs.Prelude.{is_some}
 use Rattle.base.specs.Names.{part_at, pointer_to}
 use Rattle.base.specs.declared.name.reading.InPlace.{InPlace}
 use Rattle.base.specs.declared.name.reading.Look.{Look}
 use Rattle.base.specs.declared.name.reading.Look.TheVariants as looks
-use Rattle.base.specs.Pointers.{IfInPlace, IsBare, IsKept}
+use Rattle.base.specs.Pointers.{IfInPlace, IsKept}
 use Rattle.base.specs.Reader.{Reader}
 use Rattle.base.proofs.PieceLemmas.{IsName, found, name_kept, name_root, part_is_there, walked_length, walked_none}
 use Rattle.base.proofs.name.reading.first_look.Goals as goal
