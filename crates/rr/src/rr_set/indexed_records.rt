@@ -28,7 +28,6 @@ const FEW: usize = 24;
 const SCANS: u8 = 24;
 
 /// The records of a set, in order, with an index of their data once there are many.
-#[derive(Drop)]
 pub(super) struct IndexedRecords {
     records: Vec<Record>,
     index: Index,
@@ -88,7 +87,8 @@ impl IndexedRecords {
     pub(super) fn into_vec(self) -> Vec<Record>
         ensures { result.items ≡ self }
     {
-        self.records
+        let IndexedRecords { records, index: _ } = self;
+        records
     }
 
     /// Makes the record the only one.
@@ -202,6 +202,16 @@ impl Clone for IndexedRecords {
 
     fn clone(&self) -> Result<IndexedRecords, AllocError> {
         Ok(IndexedRecords::of(self.records.clone()?))
+    }
+}
+
+// By hand, so that a place that lets go of these records has one way on.
+impl Drop for IndexedRecords {
+    fn drop(self) {
+        let IndexedRecords {
+            records: _,
+            index: _,
+        } = self;
     }
 }
 

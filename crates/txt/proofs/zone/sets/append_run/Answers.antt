@@ -6,6 +6,3 @@ sets-preserved-in_ok-insert c = one_more_put _ c.pop.new.self c.insert.new.self.
 
 pub sets-preserved : goal.sets-preserved
 sets-preserved c = one_more_put _ c.pop.new.self c.insert.new.self.entries c.requires c.sets.invariant c.in-Some.ensures.items c.in_ok-insert.ensures.entries
-
-pub sets-preserved-in_ok-insert-2 : goal.sets-preserved-in_ok-insert-2
-sets-preserved-in_ok-insert-2 c = one_more_put _ c.pop.new.self c.insert.new.self.entries c.requires c.sets.invariant c.in-Some.ensures.items c.in_ok-insert.ensures.entries

@@ -17,12 +17,6 @@ loop-key-preserved-in_ok-insert c =
     closed_next c.args.self (record { origin = i.origin.now; class = i.class; sets = i.sets }) c.in-Some.key c.in-Some.set c.in_ok-set.set i.changing c.pop_first.new.self c.insert.new.self c.loop-key.invariant
     c.in-Some.ensures.value c.in_ok-set.ensures c.in-Some.ensures.updates.0 c.in_ok-insert.ensures.updates
 
-pub loop-key-preserved-in_ok-insert-2 : goal.loop-key-preserved-in_ok-insert-2
-loop-key-preserved-in_ok-insert-2 c =
-    let i = c.loop-key.self-inside in
-    closed_next c.args.self (record { origin = i.origin.now; class = i.class; sets = i.sets }) c.in-Some.key c.in-Some.set c.in_ok-set.set i.changing c.pop_first.new.self c.insert.new.self c.loop-key.invariant
-    c.in-Some.ensures.value c.in_ok-set.ensures c.in-Some.ensures.updates.0 c.in_ok-insert.ensures.updates
-
 pub loop-key-preserved : goal.loop-key-preserved
 loop-key-preserved c =
     let i = c.loop-key.self-inside in

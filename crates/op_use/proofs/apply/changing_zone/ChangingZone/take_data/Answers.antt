@@ -101,8 +101,8 @@ returns-in_default-remove c =
       none_there i.class k es i.sets c.remove-2.new.self (sym c.in_default-remove.ensures.value) c.remove-2.ensures.updates,
     ))))
 
-pub invariant_of-self-in-Break-branch-7 : goal.invariant_of-self-in-Break-branch-7
-invariant_of-self-in-Break-branch-7 c =
+pub invariant_of-self-in-Break-branch-6 : goal.invariant_of-self-in-Break-branch-6
+invariant_of-self-in-Break-branch-6 c =
     let i = c.self.inside in (
       removed_map i.class c.in_ok-key.key i.sets c.remove-2.new.self c.self.invariant.0 c.remove-2.ensures.updates,
       less_there i.class i.changing c.remove.new.self i.sets c.remove-2.new.self c.in_ok-key.key c.self.invariant.1 c.remove.ensures.updates.0 c.remove-2.ensures.updates.0,
