@@ -40,7 +40,8 @@ copied_ends xs first rest last piece k long short front back =
     ∙ take-append-drop at xs
 
 -- the same in a place that is no longer
-pub copied_whole : (xs first rest last : List ℕ) (piece k : ℕ) → piece ≤ length xs → length xs ≤ piece + piece → k ≡ piece → length (first ++ rest) ≡ length xs → first ≡ take piece xs → last ≡ drop (length xs - piece) xs
+pub copied_whole : (xs first rest last : List ℕ) (piece k : ℕ) → piece ≤ length xs → length xs ≤ piece + piece → k ≡ piece
+    → length (first ++ rest) ≡ length xs → first ≡ take piece xs → last ≡ drop (length xs - piece) xs
     → put_mid (length xs - piece) k (first ++ rest) last ≡ xs
 copied_whole xs first rest last piece k long short few fits front back =
     let at = length xs - piece in

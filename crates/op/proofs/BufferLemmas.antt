@@ -5,7 +5,7 @@ use Rattle.base.specs.declared.error.decode_error.DecodeError.{DecodeError}
 use Rattle.base.specs.declared.error.decode_error.DecodeError.TheVariants as faults
 use Rattle.base.specs.declared.error.proto_error.ProtoError.{ProtoError}
 use Rattle.base.specs.declared.error.proto_error.ProtoError.TheVariants as refusals
-use Rattle.base.specs.Reader.{Reader}
+use Rattle.base.specs.Reader.{Reader, begun}
 use Rattle.base.specs.Reading.{Fails, Reads}
 use Rattle.op.specs.Message.{IsMessageAt, MessageValue, message_at, message_value}
 use Rattle.op.specs.declared.message.Message.{Message}
@@ -20,14 +20,19 @@ want_of_memory : {A : Type 0} (f : DecodeError) (r : Result A DecodeError) (x : 
 want_of_memory faults.Memory r x fails is = refl
 want_of_memory other r x fails is = cc
 
-pub begins : (B : List ℕ) (old new : Reader) (r : Result Message DecodeError) → Reads message_value old new r (message_at B 0) → IfOk r (λ m. (e : ℕ) × IsMessageAt B 0 (message_value m) e)
-begins B old new (Ok m) reads = (new.index, message_stands B 0 (message_value m, new.index) reads.0)
-begins B old new (Err f) reads = tt
+-- what a message that is read from where a buffer begins tells of it
+begin : (B : List ℕ) (old new : Reader) (r : Result Message DecodeError) → old ≡ begun B → Reads message_value old new r (message_at old.bytes old.index) → Reads message_value (begun B) new r (message_at B 0)
+begin B old new r is reads = subst (λ (d : Reader). Reads message_value d new r (message_at d.bytes d.index)) is reads
 
-pub begins_with : (B : List ℕ) (old new : Reader) (r : Result Message DecodeError) → Reads message_value old new r (message_at B 0) → (m : MessageValue) (e : ℕ) → IsMessageAt B 0 m e
-    → MatchResult r (λ read. message_value read ≡ m) (λ f. f ≡ faults.Memory)
-begins_with B old new (Ok read) reads m e stands = ap (λ (x : MessageValue × ℕ). x.0) (same_ok (sym reads.0 ∙ message_again B 0 m e stands))
-begins_with B old new (Err f) reads m e stands = want_of_memory f (message_at B 0) (m, e) reads (message_again B 0 m e stands)
+pub begins : (B : List ℕ) (old new : Reader) (r : Result Message DecodeError) → old ≡ begun B → Reads message_value old new r (message_at old.bytes old.index)
+    → IfOk r (λ m. (e : ℕ) × IsMessageAt B 0 (message_value m) e)
+begins B old new (Ok m) is reads = (new.index, message_stands B 0 (message_value m, new.index) (begin B old new (Ok m) is reads).0)
+begins B old new (Err f) is reads = tt
+
+pub begins_with : (B : List ℕ) (old new : Reader) (r : Result Message DecodeError) → old ≡ begun B → Reads message_value old new r (message_at old.bytes old.index)
+    → (m : MessageValue) (e : ℕ) → IsMessageAt B 0 m e → MatchResult r (λ read. message_value read ≡ m) (λ f. f ≡ faults.Memory)
+begins_with B old new (Ok read) is reads m e stands = ap (λ (x : MessageValue × ℕ). x.0) (same_ok (sym (begin B old new (Ok read) is reads).0 ∙ message_again B 0 m e stands))
+begins_with B old new (Err f) is reads m e stands = want_of_memory f (message_at B 0) (m, e) (begin B old new (Err f) is reads) (message_again B 0 m e stands)
 
 -- a call that fails was refused memory, or with the fault that reading meets
 refused_or : {A : Type 0} (f : DecodeError) (r : Result A DecodeError) → Fails f r → (f ≡ faults.Memory) ⊎ (r ≡ Err f)
@@ -50,6 +55,7 @@ decode_fault view IsFault old new told (Ok x) reads f is = absurd cc
 decode_fault view IsFault old new {read = read} told (Err e) reads f is =
     elim (refused_or f read (subst (λ (x : ProtoError). FailsToDecode x read) (error_is is) reads)) [ inl memory ↦ inl memory | inr met ↦ inr (told f met) ]
 
-pub read_fits : (B : List ℕ) (old new : Reader) (r : Result Message DecodeError) → Reads message_value old new r (message_at B 0) → IfOk r (λ m. Fits (message_value m))
-read_fits B old new (Ok m) reads = message_fits B 0 (message_value m) new.index (message_stands B 0 (message_value m, new.index) reads.0)
-read_fits B old new (Err f) reads = tt
+pub read_fits : (B : List ℕ) (old new : Reader) (r : Result Message DecodeError) → old ≡ begun B → Reads message_value old new r (message_at old.bytes old.index)
+    → IfOk r (λ m. Fits (message_value m))
+read_fits B old new (Ok m) is reads = message_fits B 0 (message_value m) new.index (message_stands B 0 (message_value m, new.index) (begin B old new (Ok m) is reads).0)
+read_fits B old new (Err f) is reads = tt

@@ -15,6 +15,7 @@ use rr::{ChangingSet, Record, RecordSet};
 use std::alloc::{AllocError, Global};
 use std::collections::BTreeMap;
 use std::marker::Model;
+use std::slice;
 
 /// A set of no more records is changed where it is.
 const FEW: usize = 24;
@@ -98,9 +99,8 @@ impl<'a> ChangingZone<'a> {
             (joined entry.now (records_at self.old.sets (record_key entry.now))) self.old
             self.new) }
     {
-        let copy = entry.clone()?;
         if let Some(mut set) = self.changing.remove(&key) {
-            set.renew(copy)?;
+            set.renew(entry.clone()?)?;
             self.changing.insert(key, set)?;
             return Ok(());
         }
@@ -113,7 +113,7 @@ impl<'a> ChangingZone<'a> {
                 set
             }
         };
-        let Ok(()) = set.renew(copy) else {
+        let Ok(()) = set.renew(entry.clone()?) else {
             return Err(AllocError);
         };
         self.sets.insert(key, set)?;
@@ -141,7 +141,7 @@ impl<'a> ChangingZone<'a> {
         let Some(mut set) = self.sets.remove(&key) else {
             return Ok(());
         };
-        let Ok(_) = set.take_data(&[entry.clone()?]) else {
+        let Ok(_) = set.take_data(slice::from_ref(entry)) else {
             return Err(AllocError);
         };
         if set.is_empty() {

@@ -281,7 +281,9 @@ returns-in-Some-labels_at-clause-last c =
     let labels = take c.parts.used c.parts.room in
     let items = c.in-Some-labels_at.labels.now in
     let known_at : KeepsAt c.args.decoder.now.bytes c.args.decoder.now.kept c.in-Pointer.target items = ((known c).0, kept c) in
-    let inside = All-weaker (Tail c.args.decoder.now.bytes c.parts.start (c.parts.start + c.parts.at) c.parts.used labels) (λ (p : FollowedPointer). p.from ≤ length labels) (λ p tail. tail.inside) c.parts.followed c.parts.invariant.tails in
+    let tail = Tail c.args.decoder.now.bytes c.parts.start (c.parts.start + c.parts.at) c.parts.used labels in
+    let inside = All-weaker tail (λ (p : FollowedPointer). p.from ≤ length labels) (λ p it. it.inside)
+        c.parts.followed c.parts.invariant.tails in
     elim c.if-at-eq0.branch [
       | then-at-eq0 w ↦
           let none : take c.parts.at c.parts.piece.now ≡ [] = ap (λ (k : ℕ). take k c.parts.piece.now) w.if-at-eq0.true in

@@ -1,20 +1,19 @@
-use Rattle.std.proofs.Common.{◌≡◌, IfOk, arith}
+use Rattle.std.proofs.Common.{arith}
 use Rattle.std.proofs.lemmas.Grind.{common_steps}
 use Rattle.op.specs.Fits.{Fits}
-use Rattle.op.specs.Message.{message_value}
 use Rattle.op_use.specs.SoundSet.{IsSendable}
 use Rattle.op_use.specs.UpdateMeaning.{SwapsSets}
-use Rattle.op_use.specs.UpdateMessage.{compare_and_swap, update_message}
 use Rattle.op_use.proofs.BuiltLemmas.{compare_and_swap_fits, swaps_sets, of_built}
 use Rattle.op_use.proofs.update_message.builders.compare_and_swap.Goals as goal
 
+pub returns-clause-built : goal.returns-clause-built
+returns-clause-built c = grind (arith, common_steps)
+
 pub returns-clause-fits : goal.returns-clause-fits
 returns-clause-fits c =
-    let built : IfOk c.update.result (λ m. message_value m ≡ update_message c.args.id c.args.use_edns (compare_and_swap c.args.current c.args.new c.args.origin)) = grind (arith, common_steps) in
     of_built (λ m. IsSendable c.args.origin c.args.current → IsSendable c.args.origin c.args.new
-    → Fits m) _ c.update.result built (compare_and_swap_fits c.args.id c.args.current c.args.new c.args.origin c.args.use_edns)
+    → Fits m) _ c.update.result (returns-clause-built c) (compare_and_swap_fits c.args.id c.args.current c.args.new c.args.origin c.args.use_edns)
 
 pub returns-clause-means : goal.returns-clause-means
 returns-clause-means c =
-    let built : IfOk c.update.result (λ m. message_value m ≡ update_message c.args.id c.args.use_edns (compare_and_swap c.args.current c.args.new c.args.origin)) = grind (arith, common_steps) in
-    of_built (λ m. SwapsSets c.args.current c.args.new c.args.origin m) _ c.update.result built (swaps_sets c.args.id c.args.current c.args.new c.args.origin c.args.use_edns)
+    of_built (λ m. SwapsSets c.args.current c.args.new c.args.origin m) _ c.update.result (returns-clause-built c) (swaps_sets c.args.id c.args.current c.args.new c.args.origin c.args.use_edns)

@@ -6,22 +6,14 @@ use Rattle.op_use.proofs.MapSteps.{kept_after, puts_again}
 use Rattle.op_use.proofs.TakenSets.{none_left, none_there, set_left}
 use Rattle.op_use.proofs.WholeSteps.{map_copy}
 use Rattle.op_use.proofs.apply.changing_zone.ChangingZone.take_data.Goals as goal
-use Rattle.op_use.specs.Applying.{IsZoneMap, records_at}
-use Rattle.op_use.specs.ChangingSets.{AreChanging}
+use Rattle.op_use.specs.Applying.{records_at}
 use Rattle.op_use.specs.HeldZone.{HeldZone}
 use Rattle.op_use.specs.MapUpdates.{HoldsAt}
-use Rattle.rr.proofs.SetSteps.{same_clone}
 use Rattle.rr.specs.Record.{record_key}
 use Rattle.rr.specs.SetUpdates.{without, without_data}
-use Rattle.std.proofs.Common.{Err, None, Ok, Result, Some, [], ap, length, refl, subst, sym, ◌∙◌, ◌∷◌, ◌≡◌}
+use Rattle.std.proofs.Common.{None, Some, [], ap, length, refl, subst, sym, ◌∙◌, ◌∷◌, ◌≡◌}
 use Rattle.std.proofs.lemmas.Bool.{true≢false}
 use Rattle.std.proofs.lemmas.List.{nil_from_length}
-use Rattle.std.specs.Result.{OnErr, OnOk}
-
--- what holds after a growth and after one that is refused
-either : {T E A B : Type 0} (C : Type 0) (r : Result T E) → OnOk r A → OnErr r B → (A → C) → (B → C) → C
-either C (Ok x) done refused f g = f done
-either C (Err e) done refused f g = g refused
 
 pub invariant_of-self : goal.invariant_of-self
 invariant_of-self c =
@@ -52,16 +44,21 @@ returns-then-records_count-eq0 c =
     (gone_now k c.in-Some.set c.take_data.new.self i.changing c.remove.new.self z c.self.invariant.1 (sym c.in-Some.ensures.value) c.remove.ensures.updates.0 y es
     c.in_ok-take_data.ensures.ok empty (c.remove-then-records_count-eq0.new.self, refl, c.remove-then-records_count-eq0.ensures.updates.0))))
 
+pub invariant_of-self-in_err-insert : goal.invariant_of-self-in_err-insert
+invariant_of-self-in_err-insert c =
+    let i = c.self.inside in (
+      c.self.invariant.0,
+      changing_unchanged i.class c.remove.new.self c.insert.new.self i.sets i.sets c.in_err-insert.ensures.err refl
+          (less_changing i.class i.changing c.remove.new.self i.sets c.in_ok-key.key c.self.invariant.1 c.remove.ensures.updates.0),
+    )
+
 pub invariant_of-self-in-Some : goal.invariant_of-self-in-Some
 invariant_of-self-in-Some c =
     let i = c.self.inside in
     let z : HeldZone = record { origin = i.origin.now; class = i.class; sets = i.sets } in (
       c.self.invariant.0,
-      either (AreChanging c.self.inside.class c.insert.new.self c.self.inside.sets) c.insert.result c.insert.ensures.updates c.insert.ensures.err
-          (λ done. left_held c.in_ok-key.key c.in-Some.set c.take_data.new.self i.changing c.remove.new.self z c.self.invariant.1 (sym c.in-Some.ensures.value) c.remove.ensures.updates.0 c.insert.new.self
-          done.0 (c.args.entry.now ∷ []) c.in_ok-take_data.ensures.ok (λ none. c.if-records_count-eq0.false (c.records_count.ensures ∙ ap length none)))
-          (λ refused. changing_unchanged i.class c.remove.new.self c.insert.new.self i.sets i.sets refused refl
-          (less_changing i.class i.changing c.remove.new.self i.sets c.in_ok-key.key c.self.invariant.1 c.remove.ensures.updates.0)),
+      left_held c.in_ok-key.key c.in-Some.set c.take_data.new.self i.changing c.remove.new.self z c.self.invariant.1 (sym c.in-Some.ensures.value) c.remove.ensures.updates.0 c.insert.new.self
+          c.in_ok-insert.ensures.updates.0 (c.args.entry.now ∷ []) c.in_ok-take_data.ensures.ok (λ none. c.if-records_count-eq0.false (c.records_count.ensures ∙ ap length none)),
     )
 
 pub returns-in-Some : goal.returns-in-Some
@@ -101,13 +98,6 @@ returns-in_default-remove c =
       none_there i.class k es i.sets c.remove-2.new.self (sym c.in_default-remove.ensures.value) c.remove-2.ensures.updates,
     ))))
 
-pub invariant_of-self-in-Break-branch-6 : goal.invariant_of-self-in-Break-branch-6
-invariant_of-self-in-Break-branch-6 c =
-    let i = c.self.inside in (
-      removed_map i.class c.in_ok-key.key i.sets c.remove-2.new.self c.self.invariant.0 c.remove-2.ensures.updates,
-      less_there i.class i.changing c.remove.new.self i.sets c.remove-2.new.self c.in_ok-key.key c.self.invariant.1 c.remove.ensures.updates.0 c.remove-2.ensures.updates.0,
-    )
-
 pub invariant_of-self-in_default-take_data : goal.invariant_of-self-in_default-take_data
 invariant_of-self-in_default-take_data c =
     let i = c.self.inside in (
@@ -131,7 +121,7 @@ returns-then-is_empty c =
     let key_is : c.in_ok-key.key ≡ record_key c.args.entry.now = c.in_ok-key.ensures ∙ ap (key_of c.args.entry.now.name) c.record_type.ensures in
     let y : HeldZone = record z { sets = c.remove-2.new.self } in
     let is : c.take_data-2.new.self ≡ without_data (c.args.entry.now ∷ []) c.in-Some-remove.set =
-    c.in-Ok.ensures.ok ∙ ap (λ r. without_data (r ∷ []) c.in-Some-remove.set) (same_clone _ _ c.in_ok-clone.ensures.cases) in
+    c.in-Ok.ensures.ok ∙ ap (λ es. without_data es c.in-Some-remove.set) c.from_ref.ensures.value in
     subst (λ (q : RrKey). HoldsAt q (without es (records_at c.args.self.now.sets q)) c.args.self.now (shown y c.remove.new.self)) key_is
     (from_same k (without es) c.args.self.now c.open.new.self (shown y c.remove.new.self) c.in_ok-open.ensures
     (subst (λ (x : HeldZone). HoldsAt k (without es (records_at x.sets k)) x (shown y c.remove.new.self)) c.self.view_is
@@ -141,6 +131,16 @@ returns-then-is_empty c =
       none_left i.class k es c.in-Some-remove.set c.take_data-2.new.self i.sets c.remove-2.new.self (sym c.in-Some-remove.ensures.value) is (c.is_empty.ensures.0 c.if-is_empty.true) c.remove-2.ensures.updates.0,
     ))))
 
+pub invariant_of-self-in_err-insert-2 : goal.invariant_of-self-in_err-insert-2
+invariant_of-self-in_err-insert-2 c =
+    let i = c.self.inside in
+    let k = c.in_ok-key.key in (
+      map_copy i.origin.now i.class c.remove-2.new.self c.insert-2.new.self c.in_err-insert-2.ensures.err
+          (removed_map i.class k i.sets c.remove-2.new.self c.self.invariant.0 c.remove-2.ensures.updates),
+      changing_unchanged i.class c.remove.new.self c.remove.new.self c.remove-2.new.self c.insert-2.new.self refl c.in_err-insert-2.ensures.err
+          (less_there i.class i.changing c.remove.new.self i.sets c.remove-2.new.self k c.self.invariant.1 c.remove.ensures.updates.0 c.remove-2.ensures.updates.0),
+    )
+
 pub invariant_of-self-2 : goal.invariant_of-self-2
 invariant_of-self-2 c =
     let i = c.self.inside in
@@ -148,22 +148,14 @@ invariant_of-self-2 c =
     let es = c.args.entry.now ∷ [] in
     let z : HeldZone = record { origin = i.origin.now; class = i.class; sets = i.sets } in
     let is : c.take_data-2.new.self ≡ without_data (c.args.entry.now ∷ []) c.in-Some-remove.set =
-    c.in-Ok.ensures.ok ∙ ap (λ r. without_data (r ∷ []) c.in-Some-remove.set) (same_clone _ _ c.in_ok-clone.ensures.cases) in
-    let less = less_there i.class i.changing c.remove.new.self i.sets c.remove-2.new.self k c.self.invariant.1 c.remove.ensures.updates.0 c.remove-2.ensures.updates.0 in
-    either (IsZoneMap c.self.inside.class c.insert-2.new.self × AreChanging c.self.inside.class c.remove.new.self c.insert-2.new.self)
-    c.insert-2.result c.insert-2.ensures.updates c.insert-2.ensures.err
-    (λ done.
+    c.in-Ok.ensures.ok ∙ ap (λ es. without_data es c.in-Some-remove.set) c.from_ref.ensures.value in
     let put = set_left i.class k es c.in-Some-remove.set c.take_data-2.new.self i.sets c.insert-2.new.self (c.self.invariant.0 k c.in-Some-remove.set (sym c.in-Some-remove.ensures.value))
     (sym c.in-Some-remove.ensures.value) is (λ e. true≢false (sym (c.is_empty.ensures.1 e) ∙ c.if-is_empty.false))
-    (puts_again k None (Some c.take_data-2.new.self) i.sets c.remove-2.new.self c.insert-2.new.self c.remove-2.ensures.updates.0 done.0) in (
+    (puts_again k None (Some c.take_data-2.new.self) i.sets c.remove-2.new.self c.insert-2.new.self c.remove-2.ensures.updates.0 c.in_ok-insert-2.ensures.updates.0) in (
       kept_after i.origin.now i.class k (without es (records_at i.sets k)) i.sets c.insert-2.new.self put c.self.invariant.0,
       put_beside_held k (without es) i.changing c.remove.new.self z (record z { sets = c.insert-2.new.self }) (sym c.in_default.ensures.value) c.remove.ensures.updates.0
           (c.insert-2.new.self, refl, put) c.self.invariant.1,
-    ))
-    (λ refused. (
-      map_copy i.origin.now i.class c.remove-2.new.self c.insert-2.new.self refused (removed_map i.class k i.sets c.remove-2.new.self c.self.invariant.0 c.remove-2.ensures.updates),
-      changing_unchanged i.class c.remove.new.self c.remove.new.self c.remove-2.new.self c.insert-2.new.self refl refused less,
-    ))
+    )
 
 pub returns : goal.returns
 returns c =
@@ -174,7 +166,7 @@ returns c =
     let key_is : c.in_ok-key.key ≡ record_key c.args.entry.now = c.in_ok-key.ensures ∙ ap (key_of c.args.entry.now.name) c.record_type.ensures in
     let y : HeldZone = record z { sets = c.insert-2.new.self } in
     let is : c.take_data-2.new.self ≡ without_data (c.args.entry.now ∷ []) c.in-Some-remove.set =
-    c.in-Ok.ensures.ok ∙ ap (λ r. without_data (r ∷ []) c.in-Some-remove.set) (same_clone _ _ c.in_ok-clone.ensures.cases) in
+    c.in-Ok.ensures.ok ∙ ap (λ es. without_data es c.in-Some-remove.set) c.from_ref.ensures.value in
     let put = set_left i.class k es c.in-Some-remove.set c.take_data-2.new.self i.sets c.insert-2.new.self (c.self.invariant.0 k c.in-Some-remove.set (sym c.in-Some-remove.ensures.value))
     (sym c.in-Some-remove.ensures.value) is (λ e. true≢false (sym (c.is_empty.ensures.1 e) ∙ c.if-is_empty.false))
     (puts_again k None (Some c.take_data-2.new.self) i.sets c.remove-2.new.self c.insert-2.new.self c.remove-2.ensures.updates.0 c.in_ok-insert-2.ensures.updates.0) in
