@@ -34,7 +34,7 @@ use std::{slice, vec};
 ///
 /// A set that begins with `new`, `with_ttl` or one record, and is changed by `insert`, `add_rdata`, `new_record` and
 /// `remove` alone, is tidy: its records have its type, no two of them have equal data, and it has one SOA at most.
-#[derive(Debug, Drop)]
+#[derive(Debug)]
 pub struct RecordSet {
     name: Name,
     record_type: RecordType,
@@ -256,14 +256,36 @@ impl RecordSet {
     pub fn into_parts(self) -> RecordSetParts
         ensures { parts_value result ≡ self }
     {
+        let RecordSet {
+            name,
+            record_type,
+            dns_class,
+            ttl,
+            serial,
+            records,
+        } = self;
         RecordSetParts {
-            name: self.name,
-            record_type: self.record_type,
-            dns_class: self.dns_class,
-            ttl: self.ttl,
-            records: self.records.into_vec(),
-            serial: self.serial,
+            name,
+            record_type,
+            dns_class,
+            ttl,
+            records: records.into_vec(),
+            serial,
         }
+    }
+}
+
+// By hand, since with a derived one a proof goes through the fields wherever a set is dropped.
+impl Drop for RecordSet {
+    fn drop(self) {
+        let RecordSet {
+            name: _,
+            record_type: _,
+            dns_class: _,
+            ttl: _,
+            serial: _,
+            records: _,
+        } = self;
     }
 }
 
@@ -358,6 +380,6 @@ impl IntoIterator for RecordSet {
 
     /// The records, in order, each once. Takes no memory.
     fn into_iter(self) -> vec::IntoIter<Record> {
-        self.records.into_vec().into_iter()
+        self.into_parts().records.into_iter()
     }
 }

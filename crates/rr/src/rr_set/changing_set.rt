@@ -20,7 +20,6 @@ use std::mem::replace;
 
 /// A record set while it is changed often: `RecordSet` looks at all of its records for each change, and this one finds
 /// the record that it changes.
-#[derive(Drop)]
 pub struct ChangingSet {
     /// The set, without records.
     set: RecordSet,
@@ -111,11 +110,26 @@ impl ChangingSet {
     pub fn close(self) -> Result<RecordSet, AllocError>
         ensures { IfOk result (λ set. set ≡ self) }
     {
-        let mut set = self.set;
-        set.set_records(self.records.into_vec()?);
-        if self.is_changed {
+        let ChangingSet {
+            mut set,
+            records,
+            is_changed,
+        } = self;
+        set.set_records(records.into_vec()?);
+        if is_changed {
             set.take_last_ttl();
         }
         Ok(set)
+    }
+}
+
+// By hand, since with a derived one a proof goes through the fields wherever a set is dropped.
+impl Drop for ChangingSet {
+    fn drop(self) {
+        let ChangingSet {
+            set: _,
+            records: _,
+            is_changed: _,
+        } = self;
     }
 }

@@ -44,7 +44,7 @@ impl DataKey {
     }
 }
 
-// By hand, so that a place that lets go of a key has one way on, whatever its data.
+// By hand, since with a derived one a proof splits by the kind of data wherever a key is dropped.
 impl Drop for DataKey {
     fn drop(self) {
         let DataKey {

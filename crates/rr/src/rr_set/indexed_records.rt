@@ -205,7 +205,7 @@ impl Clone for IndexedRecords {
     }
 }
 
-// By hand, so that a place that lets go of these records has one way on.
+// By hand, since with a derived one a proof splits by whether there is an index wherever these records are dropped.
 impl Drop for IndexedRecords {
     fn drop(self) {
         let IndexedRecords {

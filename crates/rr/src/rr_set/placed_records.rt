@@ -18,7 +18,6 @@ use std::collections::BTreeMap;
 use std::marker::Model;
 
 /// Records in order, each found by its data at once.
-#[derive(Drop)]
 pub(super) struct PlacedRecords {
     places: Vec<Option<Record>>,
     index: PlaceIndex,
@@ -103,13 +102,29 @@ impl PlacedRecords {
     pub(super) fn into_vec(self) -> Result<Vec<Record>, AllocError>
         ensures { IfOk result (λ records. records.items ≡ self) }
     {
-        let mut records = Vec::with_capacity(*self.places.allocator(), self.count)?;
-        for place in self.places {
+        let PlacedRecords {
+            places,
+            index: _,
+            count,
+        } = self;
+        let mut records = Vec::with_capacity(*places.allocator(), count)?;
+        for place in places {
             if let Some(entry) = place {
                 records.push(entry)?;
             }
         }
         Ok(records)
+    }
+}
+
+// By hand, since with a derived one a proof goes through the fields wherever a value is dropped.
+impl Drop for PlacedRecords {
+    fn drop(self) {
+        let PlacedRecords {
+            places: _,
+            index: _,
+            count: _,
+        } = self;
     }
 }
 

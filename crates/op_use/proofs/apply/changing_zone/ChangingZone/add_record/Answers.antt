@@ -7,22 +7,15 @@ use Rattle.op_use.proofs.TakenSets.{absent, there}
 use Rattle.op_use.proofs.WholeSteps.{map_copy}
 use Rattle.op_use.proofs.apply.changing_zone.ChangingZone.add_record.Goals as goal
 use Rattle.op_use.proofs.apply.changing_zone.ChangingZone.add_record.Goals.{in-None+in_ok-name-in-None, in-Some-remove}
-use Rattle.op_use.specs.Applying.{IsZoneMap, records_at}
-use Rattle.op_use.specs.ChangingSets.{AreChanging}
+use Rattle.op_use.specs.Applying.{records_at}
 use Rattle.op_use.specs.HeldZone.{HeldZone}
 use Rattle.op_use.specs.MapUpdates.{HoldsAt, IsTakenSet, Puts}
 use Rattle.rr.proofs.SetSteps.{same_clone}
 use Rattle.rr.specs.Record.{record_key}
 use Rattle.rr.specs.SetChanges.{joined}
 use Rattle.rr.specs.SetUpdates.{with_records}
-use Rattle.std.proofs.Common.{Err, None, Ok, Result, Some, ap, refl, rules, subst, sym, ◌∙◌, ◌≡◌}
+use Rattle.std.proofs.Common.{None, Some, ap, refl, rules, subst, sym, ◌∙◌, ◌≡◌}
 use Rattle.std.specs.BTreeMap.{get}
-use Rattle.std.specs.Result.{OnErr, OnOk}
-
--- what holds after a growth and after one that is refused
-either : {T E A B : Type 0} (C : Type 0) (r : Result T E) → OnOk r A → OnErr r B → (A → C) → (B → C) → C
-either C (Ok x) done refused f g = f done
-either C (Err e) done refused f g = g refused
 
 pub invariant_of-self : goal.invariant_of-self
 invariant_of-self c =
@@ -31,23 +24,27 @@ invariant_of-self c =
       less_changing i.class i.changing c.remove.new.self i.sets c.args.key c.self.invariant.1 c.remove.ensures.updates.0,
     )
 
-pub invariant_of-self-in-Break-branch-2 : goal.invariant_of-self-in-Break-branch-2
-invariant_of-self-in-Break-branch-2 c =
+pub invariant_of-self-in_err-renew : goal.invariant_of-self-in_err-renew
+invariant_of-self-in_err-renew c =
     let i = c.self.inside in (
       c.self.invariant.0,
       less_changing i.class i.changing c.remove.new.self i.sets c.args.key c.self.invariant.1 c.remove.ensures.updates.0,
     )
 
+pub invariant_of-self-in_err-insert : goal.invariant_of-self-in_err-insert
+invariant_of-self-in_err-insert c =
+    let i = c.self.inside in (
+      c.self.invariant.0,
+      changing_unchanged i.class c.remove.new.self c.insert.new.self i.sets i.sets c.in_err-insert.ensures.err refl
+          (less_changing i.class i.changing c.remove.new.self i.sets c.args.key c.self.invariant.1 c.remove.ensures.updates.0),
+    )
+
 pub invariant_of-self-in-Some : goal.invariant_of-self-in-Some
 invariant_of-self-in-Some c =
-    let i = c.self.inside in
-    let z : HeldZone = record { origin = i.origin.now; class = i.class; sets = i.sets } in (
+    let i = c.self.inside in (
       c.self.invariant.0,
-      either (AreChanging i.class c.insert.new.self i.sets) c.insert.result c.insert.ensures.updates c.insert.ensures.err
-          (λ done. joined_held c.args.key c.in-Some.set c.renew.new.self i.changing c.remove.new.self z c.self.invariant.1
-          (sym c.in-Some.ensures.value) c.remove.ensures.updates.0 c.insert.new.self done.0 c.in_ok-clone.field-0 c.in_ok-renew.ensures.ok)
-          (λ refused. changing_unchanged i.class c.remove.new.self c.insert.new.self i.sets i.sets refused refl
-          (less_changing i.class i.changing c.remove.new.self i.sets c.args.key c.self.invariant.1 c.remove.ensures.updates.0)),
+      joined_held c.args.key c.in-Some.set c.renew.new.self i.changing c.remove.new.self (record { origin = i.origin.now; class = i.class; sets = i.sets }) c.self.invariant.1
+          (sym c.in-Some.ensures.value) c.remove.ensures.updates.0 c.insert.new.self c.in_ok-insert.ensures.updates.0 c.in_ok-clone.field-0 c.in_ok-renew.ensures.ok,
     )
 
 pub returns-in-Some : goal.returns-in-Some
@@ -63,15 +60,15 @@ returns-in-Some c =
     subst (λ (x : HeldZone). HoldsAt k (joined c.args.entry.now (records_at x.sets k)) x (shown z c.insert.new.self)) c.self.view_is
     (joined_now k c.in-Some.set c.renew.new.self i.changing c.remove.new.self z c.self.invariant.1 e first c.insert.new.self next c.args.entry.now is)
 
-pub invariant_of-self-in-Break-branch-5 : goal.invariant_of-self-in-Break-branch-5
-invariant_of-self-in-Break-branch-5 c =
+pub invariant_of-self-in_err-name-in-None : goal.invariant_of-self-in_err-name-in-None
+invariant_of-self-in_err-name-in-None c =
     let i = c.self.inside in (
       removed_map i.class c.args.key i.sets c.remove-2.new.self c.self.invariant.0 c.remove-2.ensures.updates,
       less_there i.class i.changing c.remove.new.self i.sets c.remove-2.new.self c.args.key c.self.invariant.1 c.remove.ensures.updates.0 c.remove-2.ensures.updates.0,
     )
 
-pub invariant_of-self-in-Break-branch-6 : goal.invariant_of-self-in-Break-branch-6
-invariant_of-self-in-Break-branch-6 c =
+pub invariant_of-self-in_err-clone-2 : goal.invariant_of-self-in_err-clone-2
+invariant_of-self-in_err-clone-2 c =
     let i = c.self.inside in (
       removed_map i.class c.args.key i.sets c.remove-2.new.self c.self.invariant.0 c.remove-2.ensures.updates,
       less_there i.class i.changing c.remove.new.self i.sets c.remove-2.new.self c.args.key c.self.invariant.1 c.remove.ensures.updates.0 c.remove-2.ensures.updates.0,
@@ -84,33 +81,31 @@ invariant_of-self-in_default-renew c =
       less_there i.class i.changing c.remove.new.self i.sets c.remove-2.new.self c.args.key c.self.invariant.1 c.remove.ensures.updates.0 c.remove-2.ensures.updates.0,
     )
 
+pub invariant_of-self-in_err-insert-2 : goal.invariant_of-self-in_err-insert-2
+invariant_of-self-in_err-insert-2 c =
+    let i = c.self.inside in (
+      map_copy i.origin.now i.class c.remove-2.new.self c.insert-2.new.self c.in_err-insert-2.ensures.err
+          (removed_map i.class c.args.key i.sets c.remove-2.new.self c.self.invariant.0 c.remove-2.ensures.updates),
+      changing_unchanged i.class c.remove.new.self c.remove.new.self c.remove-2.new.self c.insert-2.new.self refl c.in_err-insert-2.ensures.err
+          (less_there i.class i.changing c.remove.new.self i.sets c.remove-2.new.self c.args.key c.self.invariant.1 c.remove.ensures.updates.0 c.remove-2.ensures.updates.0),
+    )
+
 pub invariant_of-self-2 : goal.invariant_of-self-2
 invariant_of-self-2 c =
     let i = c.self.inside in
     let k = c.args.key in
-    let copy = c.in_ok-clone-2.field-0 in
-    let z : HeldZone = record { origin = i.origin.now; class = i.class; sets = i.sets } in
     let key_is : c.args.key ≡ record_key c.args.entry.now = c.requires in
     let set : IsTakenSet i.class k (records_at i.sets k) c.match-remove-2.set = elim c.match-remove-2.branch [
       | in-Some-remove w ↦ subst (λ s. IsTakenSet i.class k (records_at i.sets k) s) (sym w.set-is) (there i.class i.sets k w.in-Some-remove.set c.self.invariant.0 (sym w.in-Some-remove.ensures.value))
       | in-None+in_ok-name-in-None w ↦ subst (λ s. IsTakenSet i.class k (records_at i.sets k) s) (sym w.set-is)
           (absent i.class i.sets k c.args.entry.now w.set_dns_class.new.self key_is (sym w.in-None.ensures.value) (search rules))
     ] in
-    either (IsZoneMap i.class c.insert-2.new.self × AreChanging i.class c.remove.new.self c.insert-2.new.self)
-    c.insert-2.result c.insert-2.ensures.updates c.insert-2.ensures.err
-    (λ done.
-    let put = joined_taken i.class k copy c.match-remove-2.set c.renew-2.new.self i.sets c.remove-2.new.self c.insert-2.new.self set c.in-Ok.ensures.ok
-    c.remove-2.ensures.updates.0 done in (
-      kept_after i.origin.now i.class k (joined copy (records_at i.sets k)) i.sets c.insert-2.new.self put c.self.invariant.0,
-      put_beside_held k (joined copy) i.changing c.remove.new.self z (record z { sets = c.insert-2.new.self }) (sym c.in_default.ensures.value)
-          c.remove.ensures.updates.0 (c.insert-2.new.self, refl, put) c.self.invariant.1,
-    ))
-    (λ refused. (
-      map_copy i.origin.now i.class c.remove-2.new.self c.insert-2.new.self refused
-          (removed_map i.class c.args.key i.sets c.remove-2.new.self c.self.invariant.0 c.remove-2.ensures.updates),
-      changing_unchanged i.class c.remove.new.self c.remove.new.self c.remove-2.new.self c.insert-2.new.self refl refused
-          (less_there i.class i.changing c.remove.new.self i.sets c.remove-2.new.self c.args.key c.self.invariant.1 c.remove.ensures.updates.0 c.remove-2.ensures.updates.0),
-    ))
+    let put = joined_taken i.class k c.in_ok-clone-2.field-0 c.match-remove-2.set c.renew-2.new.self i.sets c.remove-2.new.self c.insert-2.new.self set c.in-Ok.ensures.ok
+    c.remove-2.ensures.updates.0 c.in_ok-insert-2.ensures.updates in (
+      kept_after i.origin.now i.class k (joined c.in_ok-clone-2.field-0 (records_at i.sets k)) i.sets c.insert-2.new.self put c.self.invariant.0,
+      put_beside_held k (joined c.in_ok-clone-2.field-0) i.changing c.remove.new.self (record { origin = i.origin.now; class = i.class; sets = i.sets })
+          (record { origin = i.origin.now; class = i.class; sets = c.insert-2.new.self }) (sym c.in_default.ensures.value) c.remove.ensures.updates.0 (c.insert-2.new.self, refl, put) c.self.invariant.1,
+    )
 
 pub returns : goal.returns
 returns c =
