@@ -21,12 +21,16 @@ ZoneSets = List (RrKey × SetValue)
 abbrev pub set_at : ZoneSets → RrKey → Option SetValue
 set_at sets key = lookup (is_at (key_cmp key)) sets
 
+-- what a second SOA of an owner makes
+abbrev pub soa_again : Result ZoneSets Fault
+soa_again = Err (says (codes "SOA is already specified"))
+
 -- The sets with one more record. A new key takes the set of its record, and another record goes into its set by
 -- `insert`, with the serial 0; there is one SOA of an owner.
 abbrev pub added_to : ZoneSets → Record RData → Option SetValue → Result ZoneSets Fault
 added_to sets r None = Ok (insert_entry key_cmp sets (record_key r) (set_of r))
 added_to sets r (Some set) =
-    if is_soa (type_of_data r.rdata) then Err (says (codes "SOA is already specified"))
+    if is_soa (type_of_data r.rdata) then soa_again
     else Ok (set_value (is_at (key_cmp (record_key r))) sets (insert set r 0).1)
 
 -- the sets with one record more

@@ -1,17 +1,19 @@
 //! The record sets of a zone, by owner and type.
 
-ghost use Rattle.std.specs.Prelude.{◌≡◌, ◌∷◌, ◌++◌, [], IfNone, IfOk, IfSome, IsOkUnless, OnOk, true};
+ghost use Rattle.std.specs.BTreeMap.{insert_entry, is_at};
+ghost use Rattle.std.specs.Prelude.{◌≡◌, ◌∷◌, ◌++◌, ◌⊎◌, [], IfNone, IfOk, IfSome, IsOkUnless, MatchResult, OnErr, OnOk, false, is_some, true};
 ghost use Rattle.std.specs.declared.cmp.Ordering.TheVariants.{Greater};
 ghost use Rattle.std.specs.List.{AllByRecursion};
 ghost use Rattle.std.specs.List.Sorted.{IsStrictlySortedBy};
-ghost use Rattle.std.specs.Map.{keys_of};
+ghost use Rattle.std.specs.Map.{keys_of, lookup};
 ghost use Rattle.base.specs.RrKey.{key_cmp};
+ghost use Rattle.base.specs.TextFaults.{FailsWith};
 ghost use Rattle.base_data.specs.Kinds.{type_of_data};
 ghost use Rattle.rr.specs.RecordSet.{is_soa};
 ghost use Rattle.txt.specs.Gathered.{ComesAfter, HasLastKey, HaveOwnKeys, IsAscending, gathered, with_keyed};
 ghost use Rattle.txt.specs.Run.{sets_in};
 ghost use Rattle.txt.specs.Steps.{MakesSets};
-ghost use Rattle.txt.specs.ZoneSets.{AreKeyed, sets_with};
+ghost use Rattle.txt.specs.ZoneSets.{AreKeyed, sets_with, soa_again};
 ghost use Rattle.rr.specs.Record.{record_key};
 
 use crate::zone::run::Run;
@@ -79,11 +81,8 @@ impl ZoneSets {
         requires soa { is_soa (type_of_data entry.rdata) ≡ true }
         ensures { MakesSets result self.new (sets_with self.old entry) }
     {
-        if self.soas.contains_key(&key) {
-            return Err(ParseError::Message("SOA is already specified"));
-        }
         self.entries.reserve(1)?;
-        self.soas.insert(key.clone()?, ())?;
+        note(&mut self.soas, &key)?;
         self.entries.push((key, entry))?;
         Ok(())
     }
@@ -125,6 +124,27 @@ impl ZoneSets {
         entries.sort_by(cmp_keys)?;
         gather(entries)
     }
+}
+
+/// Notes the key of an SOA record.
+///
+/// # Errors
+///
+/// `Message` where it is noted already; `Memory` if memory runs out. The keys are then as they were.
+fn note(soas: &mut BTreeMap<RrKey, ()>, key: &RrKey) -> Result<(), ParseError>
+    ensures ok { OnOk result (soas.new.entries ≡ insert_entry key_cmp soas.old.entries key.now tt) }
+    ensures err { OnErr result (soas.new.entries ≡ soas.old.entries) }
+    // Refused only for memory, or where the key is noted.
+    ensures refused { MatchResult result
+        (λ _. is_some (lookup (is_at (key_cmp key.now)) soas.old.entries) ≡ false)
+        (λ e. (e ≡ ParseError.Memory) ⊎ (FailsWith e soa_again
+        × (is_some (lookup (is_at (key_cmp key.now)) soas.old.entries) ≡ true))) }
+{
+    if soas.contains_key(key) {
+        return Err(ParseError::Message("SOA is already specified"));
+    }
+    soas.insert(key.clone()?, ())?;
+    Ok(())
 }
 
 /// The order of the keys of two records.

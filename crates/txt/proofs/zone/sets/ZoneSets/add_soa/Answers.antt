@@ -17,7 +17,7 @@ use Rattle.txt.proofs.zone.sets.ZoneSets.add_soa.Goals as goal
 pub invariant_of-self-2 : goal.invariant_of-self-2
 invariant_of-self-2 c =
     let pushed : c.push.new.self.items ≡ c.self.inside.entries.items ++ (c.args.key, c.args.entry) ∷ [] = search rules in
-    let known : c.insert.new.self.entries ≡ insert_entry key_cmp c.self.inside.soas.entries c.args.key tt = search rules in (
+    let known : c.note.new.soas.entries ≡ insert_entry key_cmp c.self.inside.soas.entries c.args.key tt = search rules in (
       subst HaveOwnKeys (sym pushed) (All-push (λ (e : RrKey × Record RData). e.0 ≡ record_key e.1) c.self.inside.entries.items (c.args.key, c.args.entry)
           c.self.invariant.0 c.requires.key),
       subst (λ (ks : List (RrKey × ⊤)). KnowsSoas ks c.push.new.self.items) (sym known) (subst (KnowsSoas (insert_entry key_cmp c.self.inside.soas.entries c.args.key tt))
