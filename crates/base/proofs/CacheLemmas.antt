@@ -11,7 +11,6 @@ use Rattle.std.proofs.lemmas.Bool.{cases_Bool, cond-true, cond-false, eqb-true, 
 use Rattle.std.proofs.lemmas.List.{drop-append-le, take-append-le, take_all, drop_all, drop-drop, get_or_append_left, get_or-append_right, get_or_past, get_or_default, get_or-set_same, get_or-set_other, length-set, map_push, take_more_set}
 use Rattle.std.proofs.lemmas.Slice.{take-put_mid}
 use borrow.Rule.Slice.PartMut.{put_mid}
-use Rattle.std.proofs.lemmas.List.Elements.{All-push, All-same, All-weaker}
 use Rattle.base.specs.declared.wire.pointer_cache.TargetLabels.{TargetLabels}
 use Rattle.base.specs.declared.wire.pointer_cache.TargetLabels.TheVariants.{Lent, Copied}
 use Rattle.base.specs.declared.wire.pointer_cache.Target.{Target}
@@ -61,16 +60,6 @@ labels_stay copied more place inside = elim (cases_Bool (place == 0)) [
 ]
 
 module _ (copied more : List ℕ) where
-  pub inside_stay : (places : List ℕ) → All (IsInside copied) places → All (IsInside (copied ++ more)) places
-  inside_stay places = All-weaker (IsInside copied) (IsInside (copied ++ more)) (λ place inside. inside_stays copied more place inside) places
-
-  pub are_there_stay : (labels : TargetLabels) → AreThere copied labels → AreThere (copied ++ more) labels
-  are_there_stay (Lent labels) there = there
-  are_there_stay (Copied place) there = (there.0, inside_stays copied more place there.1)
-
-  pub there_stay : (targets : List Target) → All (IsTargetThere copied) targets → All (IsTargetThere (copied ++ more)) targets
-  there_stay targets = All-weaker (IsTargetThere copied) (IsTargetThere (copied ++ more)) (λ target there. are_there_stay target.labels there) targets
-
   pub at_stay : (labels : TargetLabels) → AreThere copied labels → target_labels (copied ++ more) labels ≡ target_labels copied labels
   at_stay (Lent labels) there = refl
   at_stay (Copied place) there = from_stays copied more place there.0 there.1
@@ -321,12 +310,6 @@ module _ (copied others : List ℕ) (first : List Target) (t : ℕ) (none : map.
 
 -- ---- one more among the first, in an array that has room
 
-pub there_set : (copied : List ℕ) (first : List Target) (count offset : ℕ) (labels : TargetLabels) → count < ROOM → length first ≡ ROOM → All (IsTargetThere copied) (take count first) → AreThere copied labels
-    → All (IsTargetThere copied) (take (count + 1) (slice_set first count (record { offset = offset; labels = labels })))
-there_set copied first count offset labels less room all there =
-    let one : Target = record { offset = offset; labels = labels } in
-    All-same (IsTargetThere copied) _ _ (take_more_set first count one (omega (arith, less, room))) (All-push (IsTargetThere copied) (take count first) one all there)
-
 module _ (copied others : List ℕ) (first : List Target) (count offset : ℕ) (less : count < ROOM) (room : length first ≡ ROOM)
     (none : map.get (cache_of copied others (take count first)) offset ≡ None) where
   set_more : (one : Target) → take (count + 1) (slice_set first count one) ≡ take count first ++ one ∷ []
@@ -362,9 +345,6 @@ longer_both {a} {b} {c} first second = record {
 module _ {copied now : List ℕ} (longer : IsLonger copied now) where
   pub longer_at : (labels : TargetLabels) → AreThere copied labels → target_labels now labels ≡ target_labels copied labels
   longer_at labels there = ap (λ (xs : List ℕ). target_labels xs labels) longer.is ∙ at_stay copied longer.more labels there
-
-  pub longer_there : (targets : List Target) → All (IsTargetThere copied) targets → All (IsTargetThere now) targets
-  longer_there targets there = subst (λ (xs : List ℕ). All (IsTargetThere xs) targets) (sym longer.is) (there_stay copied longer.more targets there)
 
   pub longer_entries : (targets : List Target) → All (IsTargetThere copied) targets → target_entries now targets ≡ target_entries copied targets
   longer_entries targets there = ap (λ (xs : List ℕ). target_entries xs targets) longer.is ∙ entries_of_stay copied longer.more targets there

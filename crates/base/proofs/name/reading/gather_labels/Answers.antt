@@ -283,7 +283,7 @@ returns-in-Some-labels_at-clause-last c =
     let known_at : KeepsAt c.args.decoder.now.bytes c.args.decoder.now.kept c.in-Pointer.target items = ((known c).0, kept c) in
     let tail = Tail c.args.decoder.now.bytes c.parts.start (c.parts.start + c.parts.at) c.parts.used labels in
     let inside = All-weaker tail (λ (p : FollowedPointer). p.from ≤ length labels) (λ p it. it.inside)
-        c.parts.followed c.parts.invariant.tails in
+    c.parts.followed c.parts.invariant.tails in
     elim c.if-at-eq0.branch [
       | then-at-eq0 w ↦
           let none : take c.parts.at c.parts.piece.now ≡ [] = ap (λ (k : ℕ). take k c.parts.piece.now) w.if-at-eq0.true in
