@@ -12,9 +12,9 @@ use Rattle.rr.specs.PlacedRecords.{IsNowhere, IsOnlyIn, IsPlaceIndex, present}
 use Rattle.rr.specs.SetChanges.{has_data_of, joined, replaced}
 use Rattle.rr.specs.SetUpdates.{has_data_of_one, without}
 use Rattle.rr.specs.declared.record.Record.{Record}
-use Rattle.std.proofs.Common.{ap, append_assoc, arith, inl, inr, refl, subst, sym, ◌∙◌, ◌⊎◌}
+use Rattle.std.proofs.Common.{ap, append_assoc, arith, drop, get_or, inl, inr, refl, subst, sym, take, ◌∙◌, ◌⊎◌}
 use Rattle.std.proofs.lemmas.Bool.{cases_Bool, cond-false, cond-true}
-use Rattle.std.proofs.lemmas.List.{append-nil}
+use Rattle.std.proofs.lemmas.List.{append-nil, take-append-drop, take_more}
 use Rattle.std.specs.Cmp.{Equal-is}
 use Rattle.std.specs.List.{AllByRecursion, IsDistinct, list_any, slice_get}
 use Rattle.std.specs.Ordering.{eq_by_cmp, on}
@@ -248,9 +248,10 @@ none_before e [] ys h = refl
 none_before e (x ∷ xs) ys h = λ i. far x e xs ys h.0 i || none_before e xs ys h.1 i
 
 -- one more of them
-pub joined_next : (e : Record RData) (xs es ys zs new : List (Record RData)) → IsDistinct (on (λ (r : Record RData). r.rdata) same_data) zs
-    → xs ++ es ≡ zs → es ≡ e ∷ ys → new ≡ joined e xs → new ++ ys ≡ zs
-joined_next e xs es ys zs new apart_all whole first is =
-    let all : xs ++ e ∷ ys ≡ zs = ap (λ us. xs ++ us) (sym first) ∙ whole in
-    ap (λ us. us ++ ys) (is ∙ sym (joined_after e xs (none_before e xs ys (subst (IsDistinct (on (λ (r : Record RData). r.rdata) same_data)) (sym all) apart_all))))
-    ∙ append_assoc xs (e ∷ []) ys ∙ all
+pub joined_next : (i : ℕ) (e : Record RData) (xs zs new : List (Record RData)) → IsDistinct (on (λ (r : Record RData). r.rdata) same_data) zs
+    → i < length zs → e ≡ get_or zs i e → xs ≡ take i zs → new ≡ joined e xs → new ≡ take (i + 1) zs
+joined_next i e xs zs new apart_all below is so_far joins =
+    let more : take i zs ++ e ∷ [] ≡ take (i + 1) zs = ap (λ x. take i zs ++ x ∷ []) is ∙ sym (take_more zs i e below) in
+    let all : take i zs ++ e ∷ drop (i + 1) zs ≡ zs = sym (append_assoc (take i zs) (e ∷ []) (drop (i + 1) zs)) ∙ ap (λ us. us ++ drop (i + 1) zs) more ∙ take-append-drop (i + 1) zs in
+    let apart = subst (IsDistinct (on (λ (r : Record RData). r.rdata) same_data)) (sym all) apart_all in
+    joins ∙ ap (joined e) so_far ∙ sym (joined_after e (take i zs) (none_before e (take i zs) (drop (i + 1) zs) apart)) ∙ more

@@ -105,7 +105,8 @@ impl<'a> Parser<'a> {
             includes,
             origin,
         } = self;
-        let context = read_texts(alloc, text, includes, Context::new(alloc, origin))?;
+        let mut context = Context::new(alloc, origin);
+        read_texts(alloc, text, includes, &mut context)?;
         context.answer()
     }
 }

@@ -100,7 +100,7 @@ impl<'a> ChangingZone<'a> {
             self.new) }
     {
         if let Some(mut set) = self.changing.remove(&key) {
-            set.renew(entry.clone()?)?;
+            set.renew(entry)?;
             self.changing.insert(key, set)?;
             return Ok(());
         }
@@ -164,7 +164,7 @@ impl<'a> ChangingZone<'a> {
         if set.records_count() <= FEW {
             return Ok(());
         }
-        let set = ChangingSet::open(set.clone()?)?;
+        let set = ChangingSet::open(set)?;
         self.changing.insert(key.clone()?, set)?;
         Ok(())
     }

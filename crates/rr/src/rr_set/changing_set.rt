@@ -16,7 +16,6 @@ use crate::rr_set::indexed_records::IndexedRecords;
 use crate::rr_set::placed_records::PlacedRecords;
 use std::alloc::AllocError;
 use std::marker::Model;
-use std::mem::replace;
 
 /// A record set while it is changed often: `RecordSet` looks at all of its records for each change, and this one finds
 /// the record that it changes.
@@ -42,21 +41,29 @@ impl Model for ChangingSet {
 }
 
 impl ChangingSet {
-    /// The set, to be changed. No two of its records have equal data.
+    /// A copy of the set, to be changed. No two of its records have equal data.
     ///
     /// # Errors
     ///
     /// If memory runs out.
-    pub fn open(mut set: RecordSet) -> Result<ChangingSet, AllocError>
-        requires { IsDistinct (on (λ (r : Entry RData). r.rdata) same_data) set.records }
-        ensures { IfOk result (λ changing. changing ≡ set) }
+    pub fn open(set: &RecordSet) -> Result<ChangingSet, AllocError>
+        requires { IsDistinct (on (λ (r : Entry RData). r.rdata) same_data) set.now.records }
+        ensures { IfOk result (λ changing. changing ≡ set.now) }
     {
         let alloc = set.name.allocator();
-        let entries = replace(&mut set.records, IndexedRecords::new(alloc)).into_vec();
         let mut records = PlacedRecords::new(alloc);
+        let entries = set.as_slice();
         for entry in entries {
             records.join(entry)?;
         }
+        let set = RecordSet {
+            name: set.name.clone()?,
+            record_type: set.record_type,
+            dns_class: set.dns_class,
+            ttl: set.ttl,
+            serial: set.serial,
+            records: IndexedRecords::new(alloc),
+        };
         Ok(ChangingSet {
             set,
             records,
@@ -71,15 +78,15 @@ impl ChangingSet {
         self.records.count()
     }
 
-    /// Puts a record in the place of the one of equal data, whatever its letter case and TTL, or after all where there
-    /// is none, as `RecordSet::renew` does.
+    /// Puts a copy of a record in the place of the one of equal data, whatever its letter case and TTL, or after all
+    /// where there is none, as `RecordSet::renew` does.
     ///
     /// # Errors
     ///
     /// If memory runs out; the set is then as it was.
-    pub fn renew(&mut self, entry: Record) -> Result<(), AllocError>
+    pub fn renew(&mut self, entry: &Record) -> Result<(), AllocError>
         ensures ok { OnOk result (self.new
-            ≡ with_records self.old (joined entry self.old.records)) }
+            ≡ with_records self.old (joined entry.now self.old.records)) }
         ensures err { OnErr result (self.new ≡ self.old) }
     {
         self.records.join(entry)?;

@@ -360,16 +360,14 @@ fn push_by_index(
     records.reserve(1)?;
     let tied = places.insert(key, place)?.is_some();
     records.push(entry)?;
-    if tied {
-        return Ok(Entered {
-            is_new: true,
-            place,
-            index: Index::Missing { scans: 0 },
-        });
-    }
+    let index = if tied {
+        Index::Missing { scans: 0 }
+    } else {
+        Index::Made(places)
+    };
     Ok(Entered {
         is_new: true,
         place,
-        index: Index::Made(places),
+        index,
     })
 }

@@ -62,21 +62,22 @@ impl PlacedRecords {
         self.count
     }
 
-    /// Puts a record in the place of the one of equal data, or after the others where there is none.
-    pub(super) fn join(&mut self, entry: Record) -> Result<(), AllocError>
-        ensures ok { OnOk result (self.new ≡ joined entry self.old) }
+    /// Puts a copy of a record in the place of the one of equal data, or after the others where there is none.
+    pub(super) fn join(&mut self, entry: &Record) -> Result<(), AllocError>
+        ensures ok { OnOk result (self.new ≡ joined entry.now self.old) }
         ensures err { OnErr result (self.new ≡ self.old) }
     {
         entry.rdata.fits();
         let key = DataKey::new(*self.places.allocator(), &entry.rdata)?;
-        if let Some(place) = place_of(&self.index, &self.places, &key, &entry) {
-            put_at(&mut self.places, place, Some(entry));
+        if let Some(place) = place_of(&self.index, &self.places, &key, entry) {
+            put_at(&mut self.places, place, Some(entry.clone()?));
             return Ok(());
         }
         let place = self.places.len();
         self.places.reserve(1)?;
+        let copy = entry.clone()?;
         self.index.insert(key, place)?;
-        self.places.push(Some(entry))?;
+        self.places.push(Some(copy))?;
         self.count += 1;
         Ok(())
     }

@@ -22,16 +22,16 @@ struct Frame<'a> {
     origin: Option<Name>,
 }
 
-/// What is in force after all entries of a text and of those that it includes, from what is in force before it.
+/// Carries out all entries of a text, and of those that it includes.
 pub(super) fn read_texts<'a>(
     alloc: Global,
     text: &'a str,
     includes: &'a BTreeMap<String, String>,
-    start: Context,
-) -> Result<Context, ParseError>
-    ensures { Gives (λ c. c) result (folded_text (texts_in includes.now) start text.now) }
+    context: &mut Context,
+) -> Result<(), ParseError>
+    ensures { Gives (λ _. context.new) result
+        (folded_text (texts_in includes.now) context.old text.now) }
 {
-    let mut context = start;
     let mut lexer = Lexer::new(alloc, text);
     let mut below: Vec<Frame<'a>> = Vec::new(alloc);
     'entries: loop {
@@ -52,7 +52,7 @@ pub(super) fn read_texts<'a>(
             }
             Step::End => {
                 let Some(frame) = below.pop() else {
-                    return Ok(context);
+                    return Ok(());
                 };
                 lexer = frame.lexer;
                 context.set_origin(frame.origin);

@@ -18,7 +18,6 @@ use base::{BinDecodable, BinDecoder, DecodeError, Name, RecordType};
 use base_data::{OPT, RData, TSIG};
 use rr::Record;
 use std::alloc::{AllocError, Global};
-use std::mem;
 
 /// How many bytes the shortest record has (RFC 1035, 3.2.1).
 const SHORTEST: usize = 11;
@@ -107,7 +106,7 @@ fn read_each(
             return Err(fault);
         }
         if is_edns(record_type) {
-            *edns = Some(take_edns(alloc, &mut next));
+            *edns = Some(take_edns(alloc, next));
         } else if records.len() < records.capacity() && !is_signature(&next.rdata) {
             records.push(next)?;
         } else {
@@ -146,12 +145,17 @@ fn fault_of(
     None
 }
 
-/// Takes what an OPT record says out of it, its options too.
-fn take_edns(alloc: Global, next: &mut Record) -> Edns
-    ensures { result ≡ edns_of next.old }
+/// What an OPT record says, its options too.
+fn take_edns(alloc: Global, next: Record) -> Edns
+    ensures { result ≡ edns_of next }
 {
-    let options = take_options(alloc, &mut next.rdata);
-    opt_edns(next.dns_class, next.ttl, options)
+    let Record {
+        dns_class,
+        ttl,
+        rdata,
+        ..
+    } = next;
+    opt_edns(dns_class, ttl, take_options(alloc, rdata))
 }
 
 /// Adds a record that was tested, and is no OPT record: a signature by itself, another record after the others. It
@@ -228,13 +232,12 @@ fn stands_among_additionals(record_type: RecordType) -> bool
     )
 }
 
-/// Takes the options out of an OPT record's data; empty data has none.
-fn take_options(alloc: Global, rdata: &mut RData) -> OPT
-    ensures { result ≡ options_in rdata.old }
+/// The options of an OPT record's data; empty data has none.
+fn take_options(alloc: Global, rdata: RData) -> OPT
+    ensures { result ≡ options_in rdata }
 {
-    let none = OPT::new(Vec::new(alloc));
     match rdata {
-        RData::OPT(options) => mem::replace(options, none),
-        _other => none,
+        RData::OPT(options) => options,
+        _other => OPT::new(Vec::new(alloc)),
     }
 }

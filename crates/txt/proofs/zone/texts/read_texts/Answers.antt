@@ -13,7 +13,7 @@ use Rattle.txt.proofs.zone.texts.read_texts.Goals as goal
 
 pub entries-init : goal.entries-init
 entries-init c =
-    remains_begins (texts_in c.args.includes.now) c.args.start c.args.text.now c.new-lexer.result (reverse c.new-below.result.items) (ap reverse c.new-below.ensures.items) c.new-lexer.ensures
+    remains_begins (texts_in c.args.includes.now) c.args.context.now c.args.text.now c.new-lexer.result (reverse c.new-below.result.items) (ap reverse c.new-below.ensures.items) c.new-lexer.ensures
 
 pub entries-smaller-in-Applied : goal.entries-smaller-in-Applied
 entries-smaller-in-Applied c =

@@ -17,13 +17,6 @@ use Rattle.rr.specs.SetUpdates.{with_records}
 use Rattle.std.proofs.Common.{None, Some, ap, refl, rules, subst, sym, ◌∙◌, ◌≡◌}
 use Rattle.std.specs.BTreeMap.{get}
 
-pub invariant_of-self : goal.invariant_of-self
-invariant_of-self c =
-    let i = c.self.inside in (
-      c.self.invariant.0,
-      less_changing i.class i.changing c.remove.new.self i.sets c.args.key c.self.invariant.1 c.remove.ensures.updates.0,
-    )
-
 pub invariant_of-self-in_err-renew : goal.invariant_of-self-in_err-renew
 invariant_of-self-in_err-renew c =
     let i = c.self.inside in (
@@ -44,7 +37,7 @@ invariant_of-self-in-Some c =
     let i = c.self.inside in (
       c.self.invariant.0,
       joined_held c.args.key c.in-Some.set c.renew.new.self i.changing c.remove.new.self (record { origin = i.origin.now; class = i.class; sets = i.sets }) c.self.invariant.1
-          (sym c.in-Some.ensures.value) c.remove.ensures.updates.0 c.insert.new.self c.in_ok-insert.ensures.updates.0 c.in_ok-clone.field-0 c.in_ok-renew.ensures.ok,
+          (sym c.in-Some.ensures.value) c.remove.ensures.updates.0 c.insert.new.self c.in_ok-insert.ensures.updates.0 c.args.entry.now c.in_ok-renew.ensures.ok,
     )
 
 pub returns-in-Some : goal.returns-in-Some
@@ -56,9 +49,8 @@ returns-in-Some c =
     let e = subst (λ (q : RrKey). get key_cmp i.changing q ≡ Some c.in-Some.set) key_is (sym c.in-Some.ensures.value) in
     let first = subst (λ (q : RrKey). Puts q None i.changing c.remove.new.self) key_is c.remove.ensures.updates.0 in
     let next = subst (λ (q : RrKey). Puts q (Some c.renew.new.self) c.remove.new.self c.insert.new.self) key_is c.in_ok-insert.ensures.updates.0 in
-    let is = c.in_ok-renew.ensures.ok ∙ ap (λ r. with_records c.in-Some.set (joined r c.in-Some.set.records)) (same_clone _ _ c.in_ok-clone.ensures.cases) in
     subst (λ (x : HeldZone). HoldsAt k (joined c.args.entry.now (records_at x.sets k)) x (shown z c.insert.new.self)) c.self.view_is
-    (joined_now k c.in-Some.set c.renew.new.self i.changing c.remove.new.self z c.self.invariant.1 e first c.insert.new.self next c.args.entry.now is)
+    (joined_now k c.in-Some.set c.renew.new.self i.changing c.remove.new.self z c.self.invariant.1 e first c.insert.new.self next c.args.entry.now c.in_ok-renew.ensures.ok)
 
 pub invariant_of-self-in_err-name-in-None : goal.invariant_of-self-in_err-name-in-None
 invariant_of-self-in_err-name-in-None c =
@@ -67,8 +59,8 @@ invariant_of-self-in_err-name-in-None c =
       less_there i.class i.changing c.remove.new.self i.sets c.remove-2.new.self c.args.key c.self.invariant.1 c.remove.ensures.updates.0 c.remove-2.ensures.updates.0,
     )
 
-pub invariant_of-self-in_err-clone-2 : goal.invariant_of-self-in_err-clone-2
-invariant_of-self-in_err-clone-2 c =
+pub invariant_of-self-in_err-clone : goal.invariant_of-self-in_err-clone
+invariant_of-self-in_err-clone c =
     let i = c.self.inside in (
       removed_map i.class c.args.key i.sets c.remove-2.new.self c.self.invariant.0 c.remove-2.ensures.updates,
       less_there i.class i.changing c.remove.new.self i.sets c.remove-2.new.self c.args.key c.self.invariant.1 c.remove.ensures.updates.0 c.remove-2.ensures.updates.0,
@@ -100,10 +92,10 @@ invariant_of-self-2 c =
       | in-None+in_ok-name-in-None w ↦ subst (λ s. IsTakenSet i.class k (records_at i.sets k) s) (sym w.set-is)
           (absent i.class i.sets k c.args.entry.now w.set_dns_class.new.self key_is (sym w.in-None.ensures.value) (search rules))
     ] in
-    let put = joined_taken i.class k c.in_ok-clone-2.field-0 c.match-remove-2.set c.renew-2.new.self i.sets c.remove-2.new.self c.insert-2.new.self set c.in-Ok.ensures.ok
+    let put = joined_taken i.class k c.in_ok-clone.field-0 c.match-remove-2.set c.renew-2.new.self i.sets c.remove-2.new.self c.insert-2.new.self set c.in-Ok.ensures.ok
     c.remove-2.ensures.updates.0 c.in_ok-insert-2.ensures.updates in (
-      kept_after i.origin.now i.class k (joined c.in_ok-clone-2.field-0 (records_at i.sets k)) i.sets c.insert-2.new.self put c.self.invariant.0,
-      put_beside_held k (joined c.in_ok-clone-2.field-0) i.changing c.remove.new.self (record { origin = i.origin.now; class = i.class; sets = i.sets })
+      kept_after i.origin.now i.class k (joined c.in_ok-clone.field-0 (records_at i.sets k)) i.sets c.insert-2.new.self put c.self.invariant.0,
+      put_beside_held k (joined c.in_ok-clone.field-0) i.changing c.remove.new.self (record { origin = i.origin.now; class = i.class; sets = i.sets })
           (record { origin = i.origin.now; class = i.class; sets = c.insert-2.new.self }) (sym c.in_default.ensures.value) c.remove.ensures.updates.0 (c.insert-2.new.self, refl, put) c.self.invariant.1,
     )
 
@@ -117,12 +109,12 @@ returns c =
       | in-None+in_ok-name-in-None w ↦ subst (λ s. IsTakenSet i.class k (records_at i.sets k) s) (sym w.set-is)
           (absent i.class i.sets k c.args.entry.now w.set_dns_class.new.self key_is (sym w.in-None.ensures.value) (search rules))
     ] in
-    let put = joined_taken i.class k c.in_ok-clone-2.field-0 c.match-remove-2.set c.renew-2.new.self i.sets c.remove-2.new.self c.insert-2.new.self set c.in-Ok.ensures.ok
+    let put = joined_taken i.class k c.in_ok-clone.field-0 c.match-remove-2.set c.renew-2.new.self i.sets c.remove-2.new.self c.insert-2.new.self set c.in-Ok.ensures.ok
     c.remove-2.ensures.updates.0 c.in_ok-insert-2.ensures.updates in
     let z : HeldZone = record { origin = i.origin.now; class = i.class; sets = i.sets } in
     let y : HeldZone = record z { sets = c.insert-2.new.self } in
-    let now = put_beside k (joined c.in_ok-clone-2.field-0) i.changing c.remove.new.self z y (sym c.in_default.ensures.value) c.remove.ensures.updates.0 (c.insert-2.new.self, refl, put) in
-    let copy_is = same_clone _ _ c.in_ok-clone-2.ensures.cases in
+    let now = put_beside k (joined c.in_ok-clone.field-0) i.changing c.remove.new.self z y (sym c.in_default.ensures.value) c.remove.ensures.updates.0 (c.insert-2.new.self, refl, put) in
+    let copy_is = same_clone _ _ c.in_ok-clone.ensures.cases in
     subst (λ (q : RrKey). HoldsAt q (joined c.args.entry.now (records_at c.args.self.now.sets q)) c.args.self.now (shown y c.remove.new.self)) key_is
     (subst (λ r. HoldsAt k (joined r (records_at c.args.self.now.sets k)) c.args.self.now (shown y c.remove.new.self)) copy_is
-    (subst (λ (x : HeldZone). HoldsAt k (joined c.in_ok-clone-2.field-0 (records_at x.sets k)) x (shown y c.remove.new.self)) c.self.view_is now))
+    (subst (λ (x : HeldZone). HoldsAt k (joined c.in_ok-clone.field-0 (records_at x.sets k)) x (shown y c.remove.new.self)) c.self.view_is now))

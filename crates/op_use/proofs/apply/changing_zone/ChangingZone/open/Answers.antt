@@ -23,9 +23,7 @@ pub returns-then-records_count-le-FEW : goal.returns-then-records_count-le-FEW
 returns-then-records_count-le-FEW c = (c.args.self.now.sets, refl, λ q. refl)
 
 pub open-requires : goal.open-requires
-open-requires c =
-    let copy_is : c.in_ok-clone.field-0 ≡ c.in-Some.set.now = search rules in
-    subst (λ (s : SetValue). IsDistinct (on (λ (r : Record RData). r.rdata) same_data) s.records) (sym copy_is) (c.self.invariant.0 c.args.key.now c.in-Some.set.now (sym c.in-Some.ensures.value)).distinct
+open-requires c = (c.self.invariant.0 c.args.key.now c.in-Some.set.now (sym c.in-Some.ensures.value)).distinct
 
 pub invariant_of-self-in_err-insert : goal.invariant_of-self-in_err-insert
 invariant_of-self-in_err-insert c = (
@@ -36,8 +34,8 @@ invariant_of-self-in_err-insert c = (
 pub invariant_of-self-2 : goal.invariant_of-self-2
 invariant_of-self-2 c =
     let i = c.self.inside in
-    let set_is : c.in_ok-set.set ≡ c.in-Some.set.now = search rules in
-    let key_is : c.in_ok-clone-2.field-0 ≡ c.args.key.now = search rules in
+    let set_is : c.in_ok-set.set ≡ c.in-Some.set.now = c.in_ok-set.ensures in
+    let key_is : c.in_ok-clone.field-0 ≡ c.args.key.now = search rules in
     let puts = subst (λ (k : RrKey). Puts k (Some c.in_ok-set.set) i.changing c.insert.new.self) key_is c.in_ok-insert.ensures.updates.0 in (
       c.self.invariant.0,
       opened_held c.args.key.now c.in_ok-set.set i.changing c.insert.new.self (record { origin = i.origin.now; class = i.class; sets = i.sets })
@@ -49,8 +47,8 @@ pub returns : goal.returns
 returns c =
     let i = c.self.inside in
     let z : HeldZone = record { origin = i.origin.now; class = i.class; sets = i.sets } in
-    let set_is : c.in_ok-set.set ≡ c.in-Some.set.now = search rules in
-    let key_is : c.in_ok-clone-2.field-0 ≡ c.args.key.now = search rules in
+    let set_is : c.in_ok-set.set ≡ c.in-Some.set.now = c.in_ok-set.ensures in
+    let key_is : c.in_ok-clone.field-0 ≡ c.args.key.now = search rules in
     let puts = subst (λ (k : RrKey). Puts k (Some c.in_ok-set.set) i.changing c.insert.new.self) key_is c.in_ok-insert.ensures.updates.0 in
     subst (λ (x : HeldZone). IsSame x (shown z c.insert.new.self)) c.self.view_is
     (opened_same c.args.key.now c.in_ok-set.set i.changing c.insert.new.self z (sym c.contains_key.ensures ∙ c.if-contains_key.false) (sym c.in-Some.ensures.value ∙ ap Some (sym set_is)) puts)

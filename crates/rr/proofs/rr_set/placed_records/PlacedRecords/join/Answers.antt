@@ -1,23 +1,30 @@
 use Rattle.base_data.specs.DataOrder.{data_cmp}
 use Rattle.base_data.specs.declared.rdata.RData.{RData}
 use Rattle.rr.proofs.PlacedLemmas.{Places, count_here, count_push, index_here, index_last, joined_here, joined_last, present_fits}
+use Rattle.rr.proofs.SetSteps.{same_clone}
 use Rattle.rr.proofs.rr_set.placed_records.PlacedRecords.join.Goals as goal
 use Rattle.rr.specs.PlacedRecords.{IsPlaceIndex, present}
 use Rattle.rr.specs.SetChanges.{joined}
-use Rattle.std.proofs.Common.{[], ap, arith, cond, length, rules, subst, sym, ◌++◌, ◌+◌, ◌∙◌, ◌∷◌, ◌≡◌, ℕ}
+use Rattle.rr.specs.declared.record.Record.{Record}
+use Rattle.std.proofs.Common.{[], ap, arith, cond, length, rules, set, subst, sym, ◌++◌, ◌+◌, ◌∙◌, ◌∷◌, ◌≡◌, ℕ}
 use Rattle.std.specs.BTreeMap.{get}
 use Rattle.std.specs.Ordering.{eq_by_cmp}
 use Rattle.std.specs.Prelude.{Some}
 
-pub invariant_of-self : goal.invariant_of-self
-invariant_of-self c = (
-  subst (λ (ps : Places). IsPlaceIndex (get data_cmp c.self.inside.index) ps) (sym c.put_at.ensures)
-      (index_here (get data_cmp c.self.inside.index) c.self.inside.places.items c.in-Some.place c.args.entry c.self.invariant.0 c.in-Some.ensures),
-  c.self.invariant.1 ∙ sym (ap (λ (ps : Places). length (present ps)) c.put_at.ensures ∙ count_here c.args.entry c.self.inside.places.items c.in-Some.place c.in-Some.ensures),
-)
+pub invariant_of-self-in-Some : goal.invariant_of-self-in-Some
+invariant_of-self-in-Some c =
+    let ps = c.self.inside.places.items in
+    let put = c.put_at.ensures ∙ ap (λ (r : Record RData). set ps c.in-Some.place (Some r)) (same_clone _ _ c.in_ok-clone.ensures.cases) in (
+      subst (λ (qs : Places). IsPlaceIndex (get data_cmp c.self.inside.index) qs) (sym put)
+          (index_here (get data_cmp c.self.inside.index) ps c.in-Some.place c.args.entry.now c.self.invariant.0 c.in-Some.ensures),
+      c.self.invariant.1 ∙ sym (ap (λ (qs : Places). length (present qs)) put ∙ count_here c.args.entry.now ps c.in-Some.place c.in-Some.ensures),
+    )
 
 pub returns-in-Some-clause-ok : goal.returns-in-Some-clause-ok
-returns-in-Some-clause-ok c = ap present c.put_at.ensures ∙ joined_here c.args.entry c.self.inside.places.items c.in-Some.place c.in-Some.ensures ∙ ap (joined c.args.entry) c.self.view_is
+returns-in-Some-clause-ok c =
+    let ps = c.self.inside.places.items in
+    let put = c.put_at.ensures ∙ ap (λ (r : Record RData). set ps c.in-Some.place (Some r)) (same_clone _ _ c.in_ok-clone.ensures.cases) in
+    ap present put ∙ joined_here c.args.entry.now ps c.in-Some.place c.in-Some.ensures ∙ ap (joined c.args.entry.now) c.self.view_is
 
 pub overflow_add-self : goal.overflow_add-self
 overflow_add-self c = omega (arith, c.self.invariant.1, present_fits c.self.inside.places.items)
@@ -25,18 +32,21 @@ overflow_add-self c = omega (arith, c.self.invariant.1, present_fits c.self.insi
 pub invariant_of-self-2 : goal.invariant_of-self-2
 invariant_of-self-2 c =
     let ps = c.self.inside.places.items in
-    let is : c.push.new.self.items ≡ c.self.inside.places.items ++ Some c.args.entry ∷ [] = search rules in
-    let key_is : c.in_ok-key.key ≡ c.args.entry.rdata = c.in_ok-key.ensures in
-    let len : c.len-place.result ≡ length c.self.inside.places.items = search rules in
+    let pushed : c.push.new.self.items ≡ ps ++ Some c.in_ok-copy.copy ∷ [] = search rules in
+    let is = pushed ∙ ap (λ (r : Record RData). ps ++ Some r ∷ []) (same_clone _ _ c.in_ok-copy.ensures.cases) in
+    let key_is : c.in_ok-key.key ≡ c.args.entry.now.rdata = c.in_ok-key.ensures in
+    let len : c.len-place.result ≡ length ps = search rules in
     let updated : (d : RData) → get data_cmp c.insert.new.self d
-    ≡ cond (eq_by_cmp data_cmp c.args.entry.rdata d) (Some (length c.self.inside.places.items)) (get data_cmp c.self.inside.index d) = λ d.
+    ≡ cond (eq_by_cmp data_cmp c.args.entry.now.rdata d) (Some (length ps)) (get data_cmp c.self.inside.index d) = λ d.
     c.in_ok-insert.ensures.updates.0 d ∙ (λ i. cond (eq_by_cmp data_cmp (key_is i) d) (Some (len i)) (get data_cmp c.self.inside.index d)) in (
       subst (λ (qs : Places). IsPlaceIndex (get data_cmp c.insert.new.self) qs) (sym is)
-          (index_last (get data_cmp c.self.inside.index) (get data_cmp c.insert.new.self) ps c.args.entry c.self.invariant.0 c.fits.ensures c.in_default.ensures updated),
-      ap (λ (n : ℕ). n + 1) c.self.invariant.1 ∙ sym (ap (λ (qs : Places). length (present qs)) is ∙ count_push ps c.args.entry),
+          (index_last (get data_cmp c.self.inside.index) (get data_cmp c.insert.new.self) ps c.args.entry.now c.self.invariant.0 c.fits.ensures c.in_default.ensures updated),
+      ap (λ (n : ℕ). n + 1) c.self.invariant.1 ∙ sym (ap (λ (qs : Places). length (present qs)) is ∙ count_push ps c.args.entry.now),
     )
 
 pub returns-clause-ok : goal.returns-clause-ok
 returns-clause-ok c =
-    let is : c.push.new.self.items ≡ c.self.inside.places.items ++ Some c.args.entry ∷ [] = search rules in
-    ap present is ∙ joined_last c.args.entry c.self.inside.places.items c.in_default.ensures ∙ ap (joined c.args.entry) c.self.view_is
+    let ps = c.self.inside.places.items in
+    let pushed : c.push.new.self.items ≡ ps ++ Some c.in_ok-copy.copy ∷ [] = search rules in
+    let is = pushed ∙ ap (λ (r : Record RData). ps ++ Some r ∷ []) (same_clone _ _ c.in_ok-copy.ensures.cases) in
+    ap present is ∙ joined_last c.args.entry.now ps c.in_default.ensures ∙ ap (joined c.args.entry.now) c.self.view_is
