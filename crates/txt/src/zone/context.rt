@@ -5,7 +5,8 @@ ghost use Rattle.base.specs.TextFaults.{Gives};
 ghost use Rattle.base.specs.TokenList.{symbols};
 ghost use Rattle.base.specs.Tokens.{texts};
 ghost use Rattle.base_data.specs.Kinds.{data_of};
-ghost use Rattle.std.specs.Prelude.{IfErr, IfOk, List, None, Ok, OnOk, Some, map, ℕ, ◌≡◌};
+ghost use Rattle.base_data.specs.declared.rdata.RData.{RData};
+ghost use Rattle.std.specs.Prelude.{IfErr, IfOk, List, None, Ok, OnOk, Some, false, map, ℕ, ◌≡◌};
 ghost use Rattle.std.specs.Str.{str_to_ascii_uppercase};
 ghost use Rattle.std.specs.String.{string_bytes};
 ghost use Rattle.txt.specs.Entries.{setting_of};
@@ -263,16 +264,25 @@ impl Context {
     fn add_record(&mut self, rdata: RData) -> Result<(), ParseError>
         ensures { MakesState result self.new (recorded self.old rdata) }
     {
-        let entry = self.new_record(rdata)?;
+        let (name, ttl) = self.owner_and_ttl()?;
+        let entry = Record {
+            name,
+            dns_class: self.dns_class,
+            ttl,
+            rdata,
+            mdns_cache_flush: false,
+        };
         self.add(entry)?;
         self.use_up_ttl();
         Ok(())
     }
 
-    /// The record of data, with what is in force: the owner, made absolute, and the pending TTL, else the default,
-    /// else the last.
-    fn new_record(&self, rdata: RData) -> Result<Record, ParseError>
-        ensures { Gives (λ r. r) result (record_of self.now rdata) }
+    /// The owner of a record, made absolute, and its TTL: the pending one, else the default, else the last.
+    fn owner_and_ttl(&self) -> Result<(Name, u32), ParseError>
+        // With these and the class in force, data makes its record.
+        ensures { (rdata : RData) → Gives
+            (λ p. record { name = p.0; dns_class = self.now.dns_class; ttl = p.1; rdata = rdata;
+            mdns_cache_flush = false }) result (record_of self.now rdata) }
     {
         let Some(owner) = &self.owner else {
             return Err(ParseError::Message("record name not specified"));
@@ -281,13 +291,7 @@ impl Context {
         let Some(ttl) = self.pending.or(self.default_ttl.or(self.last_ttl)) else {
             return Err(ParseError::Message("record ttl not specified"));
         };
-        Ok(Record {
-            name,
-            dns_class: self.dns_class,
-            ttl,
-            rdata,
-            mdns_cache_flush: false,
-        })
+        Ok((name, ttl))
     }
 
     /// Puts a record into the sets.

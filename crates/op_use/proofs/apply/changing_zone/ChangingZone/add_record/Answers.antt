@@ -17,8 +17,8 @@ use Rattle.rr.specs.SetUpdates.{with_records}
 use Rattle.std.proofs.Common.{None, Some, ap, refl, rules, subst, sym, ◌∙◌, ◌≡◌}
 use Rattle.std.specs.BTreeMap.{get}
 
-pub invariant_of-self-in_err-renew : goal.invariant_of-self-in_err-renew
-invariant_of-self-in_err-renew c =
+pub invariant_of-self : goal.invariant_of-self
+invariant_of-self c =
     let i = c.self.inside in (
       c.self.invariant.0,
       less_changing i.class i.changing c.remove.new.self i.sets c.args.key c.self.invariant.1 c.remove.ensures.updates.0,
