@@ -281,8 +281,13 @@ impl Context {
     fn owner_and_ttl(&self) -> Result<(Name, u32), ParseError>
         // With these and the class in force, data makes its record.
         ensures { (rdata : RData) → Gives
-            (λ p. record { name = p.0; dns_class = self.now.dns_class; ttl = p.1; rdata = rdata;
-            mdns_cache_flush = false }) result (record_of self.now rdata) }
+            (λ p. record {
+              name = p.0;
+              dns_class = self.now.dns_class;
+              ttl = p.1;
+              rdata = rdata;
+              mdns_cache_flush = false;
+            }) result (record_of self.now rdata) }
     {
         let Some(owner) = &self.owner else {
             return Err(ParseError::Message("record name not specified"));
