@@ -13,8 +13,7 @@ use Rattle.op_use.specs.MapUpdates.{HoldsAt, IsTakenSet, Puts}
 use Rattle.rr.proofs.SetSteps.{same_clone}
 use Rattle.rr.specs.Record.{record_key}
 use Rattle.rr.specs.SetChanges.{joined}
-use Rattle.rr.specs.SetUpdates.{with_records}
-use Rattle.std.proofs.Common.{None, Some, ap, refl, rules, subst, sym, ◌∙◌, ◌≡◌}
+use Rattle.std.proofs.Common.{None, Some, refl, rules, subst, sym, ◌≡◌}
 use Rattle.std.specs.BTreeMap.{get}
 
 pub invariant_of-self : goal.invariant_of-self

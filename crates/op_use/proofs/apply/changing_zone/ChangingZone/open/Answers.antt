@@ -1,6 +1,4 @@
 use Rattle.base.specs.declared.rr_key.RrKey.{RrKey}
-use Rattle.base_data.specs.SameData.{same_data}
-use Rattle.base_data.specs.declared.rdata.RData.{RData}
 use Rattle.op_use.proofs.ChangingSteps.{changing_unchanged, opened_held, opened_same, shown}
 use Rattle.op_use.proofs.apply.changing_zone.ChangingZone.open.Goals as goal
 use Rattle.op_use.specs.Applying.{IsZoneSet}
@@ -8,10 +6,7 @@ use Rattle.op_use.specs.ChangingSets.{IsSame}
 use Rattle.op_use.specs.HeldZone.{HeldZone}
 use Rattle.op_use.specs.MapUpdates.{Puts}
 use Rattle.rr.specs.RecordSet.{SetValue}
-use Rattle.rr.specs.declared.record.Record.{Record}
 use Rattle.std.proofs.Common.{Some, ap, refl, rules, subst, sym, ◌∙◌, ◌≡◌}
-use Rattle.std.specs.List.{IsDistinct}
-use Rattle.std.specs.Ordering.{on}
 
 pub returns-then-contains_key : goal.returns-then-contains_key
 returns-then-contains_key c = (c.args.self.now.sets, refl, λ q. refl)
