@@ -1,10 +1,10 @@
-use Rattle.std.proofs.Common.{rules, ◌≡◌, List, [], ◌∷◌, ap, sym, ◌∙◌, subst, refl}
+use Rattle.std.proofs.Common.{rules, ◌≡◌, ◌∷◌, ap, sym, ◌∙◌, subst}
 use Rattle.std.proofs.lemmas.List.Elements.{All-tail}
 use Rattle.base.specs.declared.rr_key.RrKey.{RrKey}
 use Rattle.base_data.specs.declared.rdata.RData.{RData}
 use Rattle.rr.specs.declared.record.Record.{Record}
 use Rattle.rr.specs.Record.{record_key}
-use Rattle.txt.specs.Gathered.{HaveOwnKeys, IsAscending, KeyedRecords, gathered, with_all}
+use Rattle.txt.specs.Gathered.{HaveOwnKeys, IsAscending, gathered, with_all}
 use Rattle.txt.specs.ZoneSets.{AreKeyed, ZoneSets}
 use Rattle.txt.proofs.Gathering.{FirstFollows, ascends_after, first_follows, none_follows, none_in_order}
 use Rattle.txt.proofs.SetsInOrder.{AreInOrder}

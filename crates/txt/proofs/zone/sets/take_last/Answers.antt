@@ -1,4 +1,4 @@
-use Rattle.std.proofs.Common.{◌≡◌, ◌∷◌, ◌++◌, [], refl, ap, sym, ◌∙◌, Some}
+use Rattle.std.proofs.Common.{◌≡◌, [], refl, ap, sym, ◌∙◌, Some}
 use Rattle.std.specs.Ordering.{is_ne}
 use Rattle.std.specs.declared.cmp.Ordering.{Ordering}
 use Rattle.std.specs.declared.cmp.Ordering.TheVariants.{Less, Equal, Greater}
