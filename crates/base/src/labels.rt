@@ -17,7 +17,7 @@ use std::marker::Model;
 const HEAP_ROOM: usize = 64;
 
 /// Where labels are.
-#[derive(Debug, Drop)]
+#[derive(Drop)]
 enum Storage {
     /// Inside the value.
     Inline(InlineLabels),
@@ -29,7 +29,6 @@ enum Storage {
 ///
 /// Up to 29 bytes stand inside the value and take no memory. The flag stands beside them, so that the value has 32
 /// bytes.
-#[derive(Debug)]
 pub(crate) struct Labels {
     storage: Storage,
 }
@@ -201,7 +200,7 @@ impl Labels {
     }
 }
 
-// By hand, so that a place that lets go of a name has one way on, wherever the bytes are.
+// By hand, as of `Name`.
 impl Drop for Labels {
     fn drop(self) {
         let Labels { storage: _ } = self;

@@ -20,7 +20,7 @@ use std::marker::Model;
 /// A name whose ASCII letters are in lower case.
 ///
 /// Two of them are equal, or tie in the order, only where they are the same: they serve as the keys of maps.
-#[derive(Debug, Drop)]
+#[derive(Debug)]
 pub struct LowerName {
     name: Name,
 }
@@ -35,6 +35,13 @@ impl Model for LowerName {
     ghost view = { λ n. n.name };
 
     ghost invariant = { λ n. folded n.name ≡ n.name.labels };
+}
+
+// By hand, as of `Name`.
+impl Drop for LowerName {
+    fn drop(self) {
+        let LowerName { name: _ } = self;
+    }
 }
 
 impl LowerName {

@@ -1,6 +1,7 @@
-use base::{DNSClass, RecordType};
+use base::{DNSClass, Name, ParseError, RecordType};
 use std::alloc::Global;
 use std::cmp::Ordering;
+use std::fmt;
 use test_tools::forms::{has_text, is_copied};
 use test_tools::hashes::hash_alike;
 use test_tools::texts::prints;
@@ -260,9 +261,9 @@ fn classes_in_order(rt: HostRuntime) {
     assert!(rt; !hash_alike(&DNSClass::OPT(600), &DNSClass::Unknown(600)));
 }
 
-/// Whether a type and a class have this text of their variants.
-fn are_named(alloc: Global, record_type: RecordType, class: DNSClass, text: &str) -> bool {
-    let shown = format!(in alloc; "{record_type:?} {class:?}");
+/// Whether a value has this debug text.
+fn is_shown<T: fmt::Debug>(alloc: Global, value: &T, text: &str) -> bool {
+    let shown = format!(in alloc; "{value:?}");
     let same = match &shown {
         Ok(shown) => shown.as_str() == text,
         Err(_) => false,
@@ -272,8 +273,10 @@ fn are_named(alloc: Global, record_type: RecordType, class: DNSClass, text: &str
 }
 
 #[test]
-fn debug_texts_name_the_variants(rt: HostRuntime) {
-    let record_type = RecordType::Unknown(7);
-    let class = DNSClass::OPT(512);
-    assert!(rt; are_named(rt.alloc(), record_type, class, "Unknown(7) OPT(512)"));
+fn debug_texts(rt: HostRuntime) -> Result<(), ParseError> {
+    let name = Name::parse(rt.alloc(), "www.Example.com.", None)?;
+    assert!(rt; is_shown(rt.alloc(), &name, "Name(\"www.Example.com.\")"));
+    assert!(rt; is_shown(rt.alloc(), &RecordType::Unknown(7), "Unknown(7)"));
+    assert!(rt; is_shown(rt.alloc(), &DNSClass::OPT(512), "OPT(512)"));
+    Ok(())
 }

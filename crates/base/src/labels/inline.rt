@@ -16,7 +16,7 @@ const SHORT_PIECE: usize = 8;
 
 /// Up to 29 bytes of labels, and whether the name is absolute. With the number of bytes and a tag before them they are
 /// 32 bytes. What stands after the labels has no meaning.
-#[derive(Debug, Drop)]
+#[derive(Drop)]
 pub(crate) struct InlineLabels {
     alloc: Global,
     is_fqdn: bool,

@@ -103,3 +103,10 @@ impl fmt::Display for Name {
         f.write_str(dot_if(self.is_fqdn()))
     }
 }
+
+impl fmt::Debug for Name {
+    /// The text of the name within `Name("")`.
+    fn fmt<W: fmt::Write>(&self, f: &mut fmt::Formatter<W>) -> fmt::Result {
+        write!(f, "Name(\"{self}\")")
+    }
+}

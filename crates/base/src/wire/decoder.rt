@@ -17,7 +17,6 @@ use std::alloc::Global;
 use std::marker::Model;
 
 /// Reads values one by one from a buffer, which a name in it may point back into.
-#[derive(Drop)]
 pub struct BinDecoder<'a> {
     alloc: Global,
     buffer: &'a [u8],
@@ -47,6 +46,19 @@ impl<'a> Model for BinDecoder<'a> {
 
     ghost invariant = { λ d. (d.index ≤ length d.buffer.now)
         × (AreKept d.buffer.now d.cache × IsClosed d.buffer.now (targets_of d.cache)) };
+}
+
+// By hand, as of `Name`.
+impl<'a> Drop for BinDecoder<'a> {
+    fn drop(self) {
+        let BinDecoder {
+            alloc: _,
+            buffer: _,
+            index: _,
+            cache: _,
+            jumps: _,
+        } = self;
+    }
 }
 
 impl<'a> BinDecoder<'a> {

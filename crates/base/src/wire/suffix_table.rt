@@ -137,7 +137,7 @@ impl SuffixTable {
         let key = Vec::from_slice(alloc, &room[..len])?;
         self.others.reserve(1)?;
         self.index.insert(key, at)?;
-        self.others.push(suffix)?;
+        self.others.push_reserved(suffix);
         Ok(())
     }
 

@@ -83,7 +83,7 @@ impl CopiedLabels {
             self.all.extend_from_slice(&self.first[..self.used])?;
         }
         self.all.reserve(1 + len)?;
-        self.all.push(len as u8)?;
+        self.all.push_reserved(len as u8);
         let place = self.all.len();
         self.all.extend_from_slice(labels)?;
         Ok(place)

@@ -16,7 +16,7 @@ pub invariant_of-self-2 : goal.invariant_of-self-2
 invariant_of-self-2 c =
     let t : Stored = record { labels = labels_of c.args.wire.now; offset = c.args.at } in
     let key = c.in_ok-key.ensures.items ∙ c.key_into-len.ensures.key ∙ ap index_key (sym c.requires.wire.whole) in
-    let is : c.self.inside.others.items ++ t ∷ [] ≡ c.push.new.self.items = search rules in
+    let is : c.self.inside.others.items ++ t ∷ [] ≡ c.push_reserved.new.self.items = search rules in
     subst (IsTable (offset_in c.insert.new.self) c.self.inside.first.items) is
     (IsTable-push c.self.inside.index c.insert.new.self t key c.in_ok-insert.ensures.updates c.self.invariant refl
     c.requires.near (rw c.self.view_is c.requires.absent) (rw c.self.view_is c.requires.later))
@@ -28,4 +28,4 @@ pub invariant_of-self-in_err-reserve : goal.invariant_of-self-in_err-reserve
 invariant_of-self-in_err-reserve c = rw c.in_err-reserve.ensures.items c.self.invariant
 
 pub returns-clause-ok : goal.returns-clause-ok
-returns-clause-ok c = rw (← c.self.view_is, append_assoc, c.in_ok-push.ensures.items, c.in_ok-reserve.ensures.items, c.in_ok-suffix.ensures) refl
+returns-clause-ok c = rw (← c.self.view_is, append_assoc, c.push_reserved.ensures.items, c.in_ok-reserve.ensures.items, c.in_ok-suffix.ensures) refl
