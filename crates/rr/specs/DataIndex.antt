@@ -1,14 +1,14 @@
 -- The index of the data of records: the place of each at a key, the bytes of the canonical form of its data.
-use Rattle.std.specs.Prelude.{true, false, ℕ, ◌<◌, ◌≡◌, ◌≢◌, List, Option, Some, Vec, get_or, length}
+use Rattle.std.specs.Prelude.{true, false, ℕ, ◌<◌, ◌≤◌, ◌≡◌, ◌≢◌, List, Option, Some, Vec, get_or, length}
 use Rattle.std.specs.BTreeMap.{BTreeMap, get_by}
 use Rattle.std.specs.Cmp.Lexicographic.{slice_cmp}
-use Rattle.std.specs.List.{slice_get}
+use Rattle.std.specs.List.{list_any, slice_get}
 use Rattle.std.specs.Ordering.{nat_cmp}
 use Rattle.std.specs.declared.alloc.Global.{Global}
 use Rattle.base_data.specs.Kinds.{canonical_data}
 use Rattle.base_data.specs.SameData.{same_data}
 use Rattle.base_data.specs.declared.rdata.RData.{RData}
-use Rattle.rr.specs.SetChanges.{first_of}
+use Rattle.rr.specs.SetChanges.{first_of, has_data_of}
 use Rattle.rr.specs.declared.record.Record.{Record}
 use Rattle.rr.specs.declared.rr_set.indexed_records.Index.{Index}
 use Rattle.rr.specs.declared.rr_set.indexed_records.Index.TheVariants.{Missing, Made}
@@ -38,3 +38,9 @@ pub record IsOnlyAt (rdata : RData) (rs : List (Record RData)) (p : ℕ) : Type 
 -- At this place stands the first record of this data.
 abbrev pub IsFirstAt : RData → List (Record RData) → ℕ → Type 0
 IsFirstAt rdata rs p = slice_get rs p ≡ first_of rdata rs
+
+-- The place for r: that of the one record of its data, or after all where there is none.
+pub record IsPlaceFor (r : Record RData) (rs : List (Record RData)) (p : ℕ) : Type 0 where
+  pub within : p ≤ length rs
+  pub known : p < length rs → IsOnlyAt r.rdata rs p
+  pub none : p ≡ length rs → list_any (has_data_of r) rs ≡ false

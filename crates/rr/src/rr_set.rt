@@ -177,15 +177,17 @@ impl TryFrom<Record> for RecordSet {
     ///
     /// `Memory` if memory runs out.
     fn try_from(entry: Record) -> Result<RecordSet, ProtoError> {
-        let name = entry.name.clone()?;
-        // Most sets stay with one record.
-        let mut records = Vec::new(name.allocator());
-        records.reserve_exact(1)?;
-        let mut set = RecordSet::with_ttl(name.allocator(), name, entry.record_type(), entry.ttl);
-        set.dns_class = entry.dns_class;
-        records.push(entry)?;
-        set.set_records(records);
-        Ok(set)
+        // There is room for this one alone, since most sets stay with one record.
+        let records = vec![in entry.name.allocator(); entry]?;
+        let first = &records[0];
+        Ok(RecordSet {
+            name: first.name.clone()?,
+            record_type: first.record_type(),
+            dns_class: first.dns_class,
+            ttl: first.ttl,
+            serial: 0,
+            records: IndexedRecords::of(records),
+        })
     }
 }
 

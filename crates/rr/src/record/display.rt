@@ -12,14 +12,14 @@ impl<R: RecordData> fmt::Display for Record<R> {
 
     /// `name ttl class type data`, as in zone files (RFC 1035, 5.1).
     fn fmt<W: fmt::Write>(&self, f: &mut fmt::Formatter<W>) -> fmt::Result {
-        f.write(&self.name)?;
-        f.write_str(" ")?;
-        f.write(self.ttl)?;
-        f.write_str(" ")?;
-        f.write(self.dns_class)?;
-        f.write_str(" ")?;
-        f.write(self.record_type())?;
-        f.write_str(" ")?;
-        f.write(&self.rdata)
+        write!(
+            f,
+            "{} {} {} {} {}",
+            self.name,
+            self.ttl,
+            self.dns_class,
+            self.record_type(),
+            self.rdata
+        )
     }
 }

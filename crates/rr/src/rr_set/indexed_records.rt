@@ -2,12 +2,12 @@
 
 ghost use Rattle.base_data.specs.Kinds.{canonical_data};
 ghost use Rattle.base_data.specs.declared.rdata.RData.{RData};
-ghost use Rattle.rr.specs.DataIndex.{IsCurrent, IsFirstAt, IsIndexOf, IsOnlyAt, place_at};
+ghost use Rattle.rr.specs.DataIndex.{IsCurrent, IsFirstAt, IsIndexOf, IsOnlyAt, IsPlaceFor, place_at};
 ghost use Rattle.rr.specs.SetChanges.{entered, has_data_of, joined};
 ghost use Rattle.rr.specs.SetUpdates.{has_data_of_one, without};
 ghost use Rattle.rr.specs.declared.record.Record.{Record as Entry};
 ghost use Rattle.std.specs.List.{list_any};
-ghost use Rattle.std.specs.Prelude.{IfOk, IfSome, List, MatchOption, None, OnErr, OnOk, [], false, filter, length, map, not, ◌∷◌, ◌≡◌, ◌≤◌};
+ghost use Rattle.std.specs.Prelude.{IfNone, IfOk, IfSome, List, MatchOption, OnErr, OnOk, [], false, filter, length, map, not, vec_capacity, ◌<◌, ◌∷◌, ◌≡◌, ◌≤◌};
 
 use crate::record::Record;
 use crate::rr_set::scanning::{
@@ -109,12 +109,10 @@ impl IndexedRecords {
         ensures place { IfOk result (λ done. IfSome done.1 (IsFirstAt entry.rdata self.new)) }
         ensures err { OnErr result (self.new ≡ self.old) }
     {
-        let Some(places) = self.index.take(&self.records)? else {
+        let Some(place) = make_room(&mut self.records, &mut self.index, &entry)? else {
             return Ok((enter(&mut self.records, entry)?, None));
         };
-        let done = enter_by_index(&mut self.records, places, entry)?;
-        self.index = done.index;
-        Ok((done.is_new, Some(done.place)))
+        Ok((enter_at(&mut self.records, place, entry), Some(place)))
     }
 
     /// Puts a record in the place of each of equal data, or after the others where there is none.
@@ -122,11 +120,10 @@ impl IndexedRecords {
         ensures ok { OnOk result (self.new ≡ joined entry self.old) }
         ensures err { OnErr result (self.new ≡ self.old) }
     {
-        let Some(places) = self.index.take(&self.records)? else {
+        let Some(place) = make_room(&mut self.records, &mut self.index, &entry)? else {
             return join(&mut self.records, entry);
         };
-        let done = join_by_index(&mut self.records, places, entry)?;
-        self.index = done.index;
+        join_at(&mut self.records, place, entry);
         Ok(())
     }
 
@@ -222,17 +219,6 @@ impl fmt::Debug for IndexedRecords {
     }
 }
 
-/// What putting a record in by an index answers.
-#[derive(Drop)]
-struct Entered {
-    /// Whether the record went in.
-    is_new: bool,
-    /// Where the record of its data stands then.
-    place: usize,
-    /// The index then: none where records of other data have one canonical form.
-    index: Index,
-}
-
 /// The key of data.
 fn key_of(rdata: &RData, alloc: Global) -> Result<Vec<u8>, AllocError>
     ensures { IfOk result (λ key. key.items ≡ canonical_data rdata.now) }
@@ -277,97 +263,74 @@ fn place_of(places: &DataIndex, records: &Vec<Record>, key: &[u8], entry: &Recor
     None
 }
 
-/// Puts a record among others whose index this is, unless an equal one of its TTL is there.
-fn enter_by_index(
+/// Finds where a record goes by the index of these, if there is one then: in the place of the one of equal data, or
+/// after all. Makes room for it, and takes its place into the index.
+fn make_room(
     records: &mut Vec<Record>,
-    places: Box<DataIndex>,
-    entry: Record,
-) -> Result<Entered, AllocError>
-    requires { IsIndexOf (place_at places.value) records.old.items }
-    ensures ok { IfOk result (λ done. (done.is_new, records.new.items)
-        ≡ entered entry records.old.items) }
-    // The place is that of the first record of equal data.
-    ensures place { IfOk result (λ done. IsFirstAt entry.rdata records.new.items done.place) }
-    // An index that is answered has the place of each record then.
-    ensures index { IfOk result (λ done. IsCurrent done.index records.new.items) }
-    ensures err { OnErr result (records.new.items ≡ records.old.items) }
+    index: &mut Index,
+    entry: &Record,
+) -> Result<Option<usize>, AllocError>
+    requires { IsCurrent index.old records.old.items }
+    ensures same { records.new.items ≡ records.old.items }
+    ensures place { IfOk result
+        (λ place. IfSome place (IsPlaceFor entry.now records.old.items)) }
+    ensures room { IfOk result
+        (λ place. IfSome place
+        (λ p. p ≡ length records.old.items → p < vec_capacity records.new)) }
+    // An index that is left is that of these records, and of those with the new one.
+    ensures index { IsCurrent index.new records.old.items }
+    ensures joined { IfOk result
+        (λ place. IfSome place
+        (λ _. IsCurrent index.new (joined entry.now records.old.items))) }
+    // Where no place is told none is left, so that the records may change.
+    ensures missing { IfOk result
+        (λ place. IfNone place ((rs : List (Entry RData)) → IsCurrent index.new rs)) }
 {
+    let Some(mut places) = index.take(records)? else {
+        return Ok(None);
+    };
     let key = key_of(&entry.rdata, *records.allocator())?;
-    if let Some(place) = place_of(&places, records, &key, &entry) {
-        if is_entry(&records[place], &entry) {
-            return Ok(Entered {
-                is_new: false,
-                place,
-                index: Index::Made(places),
-            });
-        }
-        set_at(records, place, entry);
-        return Ok(Entered {
-            is_new: true,
-            place,
-            index: Index::Made(places),
-        });
+    if let Some(place) = place_of(&places, records, &key, entry) {
+        *index = Index::Made(places);
+        return Ok(Some(place));
     }
-    push_by_index(records, places, key, entry)
-}
-
-/// Puts a record in the place of the one of equal data among others whose index this is, or after them where there is
-/// none.
-fn join_by_index(
-    records: &mut Vec<Record>,
-    places: Box<DataIndex>,
-    entry: Record,
-) -> Result<Entered, AllocError>
-    requires { IsIndexOf (place_at places.value) records.old.items }
-    ensures ok { OnOk result (records.new.items ≡ joined entry records.old.items) }
-    // An index that is answered has the place of each record then.
-    ensures index { IfOk result (λ done. IsCurrent done.index records.new.items) }
-    ensures err { OnErr result (records.new.items ≡ records.old.items) }
-{
-    let key = key_of(&entry.rdata, *records.allocator())?;
-    if let Some(known) = place_of(&places, records, &key, &entry) {
-        set_at(records, known, entry);
-        return Ok(Entered {
-            is_new: true,
-            place: known,
-            index: Index::Made(places),
-        });
-    }
-    push_by_index(records, places, key, entry)
-}
-
-/// Puts a record after others whose index this is, none of which has its data. The key is that of its data.
-fn push_by_index(
-    records: &mut Vec<Record>,
-    mut places: Box<DataIndex>,
-    key: Vec<u8>,
-    entry: Record,
-) -> Result<Entered, AllocError>
-    requires indexed { IsIndexOf (place_at places.value) records.old.items }
-    requires key { key.items ≡ canonical_data entry.rdata }
-    requires none { list_any (has_data_of entry) records.old.items ≡ false }
-    ensures ok { IfOk result (λ done. (done.is_new, records.new.items)
-        ≡ entered entry records.old.items) }
-    // The records are the same as where equal data would be replaced, since none has this data.
-    ensures joined { OnOk result (records.new.items ≡ joined entry records.old.items) }
-    // The place is that of the first record of equal data.
-    ensures place { IfOk result (λ done. IsFirstAt entry.rdata records.new.items done.place) }
-    // An index that is answered has the place of each record then.
-    ensures index { IfOk result (λ done. IsCurrent done.index records.new.items) }
-    ensures err { OnErr result (records.new.items ≡ records.old.items) }
-{
     let place = records.len();
     records.reserve(1)?;
-    let tied = places.insert(key, place)?.is_some();
-    records.push(entry)?;
-    let index = if tied {
-        Index::Missing { scans: 0 }
+    // Data of one canonical form can be other data: then there is no index.
+    if places.insert(key, place)?.is_none() {
+        *index = Index::Made(places);
+    }
+    Ok(Some(place))
+}
+
+/// Puts a record at the place for it, unless an equal one of its TTL is there, and answers whether it went in.
+fn enter_at(records: &mut Vec<Record>, place: usize, entry: Record) -> bool
+    requires place { IsPlaceFor entry records.old.items place }
+    requires room { place ≡ length records.old.items → place < vec_capacity records.old }
+    ensures value { (result, records.new.items) ≡ entered entry records.old.items }
+    // The place is that of the first record of equal data then.
+    ensures place { IsFirstAt entry.rdata records.new.items place }
+{
+    if place == records.len() {
+        records.push_reserved(entry);
+        return true;
+    }
+    if is_entry(&records[place], &entry) {
+        return false;
+    }
+    set_at(records, place, entry);
+    true
+}
+
+/// Puts a record at the place for it.
+fn join_at(records: &mut Vec<Record>, place: usize, entry: Record)
+    requires place { IsPlaceFor entry records.old.items place }
+    requires room { place ≡ length records.old.items → place < vec_capacity records.old }
+    ensures { records.new.items ≡ joined entry records.old.items }
+{
+    if place == records.len() {
+        records.push_reserved(entry);
     } else {
-        Index::Made(places)
-    };
-    Ok(Entered {
-        is_new: true,
-        place,
-        index,
-    })
+        set_at(records, place, entry);
+    }
 }

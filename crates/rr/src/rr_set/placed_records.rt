@@ -77,7 +77,7 @@ impl PlacedRecords {
         self.places.reserve(1)?;
         let copy = entry.clone()?;
         self.index.insert(key, place)?;
-        self.places.push(Some(copy))?;
+        self.places.push_reserved(Some(copy));
         self.count += 1;
         Ok(())
     }

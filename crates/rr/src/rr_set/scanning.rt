@@ -37,7 +37,7 @@ pub(super) fn put_alone(records: &mut Vec<Record>, entry: Record) -> Result<(), 
     if records.is_empty() {
         records.push(entry)?;
     } else {
-        records[0] = entry;
+        set_at(records, 0, entry);
     }
     Ok(())
 }

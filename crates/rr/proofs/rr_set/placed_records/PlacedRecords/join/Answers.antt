@@ -32,7 +32,7 @@ overflow_add-self c = omega (arith, c.self.invariant.1, present_fits c.self.insi
 pub invariant_of-self-2 : goal.invariant_of-self-2
 invariant_of-self-2 c =
     let ps = c.self.inside.places.items in
-    let pushed : c.push.new.self.items ≡ ps ++ Some c.in_ok-copy.copy ∷ [] = search rules in
+    let pushed : c.push_reserved.new.self.items ≡ ps ++ Some c.in_ok-copy.copy ∷ [] = search rules in
     let is = pushed ∙ ap (λ (r : Record RData). ps ++ Some r ∷ []) (same_clone _ _ c.in_ok-copy.ensures.cases) in
     let key_is : c.in_ok-key.key ≡ c.args.entry.now.rdata = c.in_ok-key.ensures in
     let len : c.len-place.result ≡ length ps = search rules in
@@ -47,6 +47,6 @@ invariant_of-self-2 c =
 pub returns-clause-ok : goal.returns-clause-ok
 returns-clause-ok c =
     let ps = c.self.inside.places.items in
-    let pushed : c.push.new.self.items ≡ ps ++ Some c.in_ok-copy.copy ∷ [] = search rules in
+    let pushed : c.push_reserved.new.self.items ≡ ps ++ Some c.in_ok-copy.copy ∷ [] = search rules in
     let is = pushed ∙ ap (λ (r : Record RData). ps ++ Some r ∷ []) (same_clone _ _ c.in_ok-copy.ensures.cases) in
     ap present is ∙ joined_last c.args.entry.now ps c.in_default.ensures ∙ ap (joined c.args.entry.now) c.self.view_is
