@@ -108,7 +108,7 @@ fn read_each(
         if is_edns(record_type) {
             *edns = Some(take_edns(alloc, next));
         } else if records.len() < records.capacity() && !is_signature(&next.rdata) {
-            records.push(next)?;
+            records.push_reserved(next);
         } else {
             add(records, signature, alloc, next)?;
         }
