@@ -24,7 +24,7 @@ use Rattle.std.specs.List.{list_any}
 use Rattle.std.specs.Map.{keys_of, lookup}
 use Rattle.std.specs.Ordering.{eq_by_cmp}
 use Rattle.std_collections.specs.Layout.BTreeMap.{with_entries}
-use Rattle.std.specs.Prelude.{Bool, List, None, Option, Some, [], cond, false, is_some, map, option_map, true, unwrap_or, ◌++◌, ◌||◌, ◌∷◌, ◌≡◌, ◌≢◌}
+use Rattle.std.specs.Prelude.{Bool, Err, List, None, Ok, OnErr, OnOk, Option, Result, Some, [], cond, false, is_some, map, option_map, true, unwrap_or, ◌++◌, ◌||◌, ◌∷◌, ◌≡◌, ◌≢◌}
 
 abbrev pub Sets : Type 0
 Sets = BTreeMap RrKey SetValue
@@ -125,6 +125,13 @@ module _ (ch new m n : Sets) (k : RrKey) where
         covered t (Some t) (tree.get key_cmp m q) refl (ap is_some here) ∙ sym here
         ∙ sym (kept (tree.get key_cmp ch q) (tree.get key_cmp m q) (ap (tree.get key_cmp ch) (sym (same_key k q f)) ∙ none))
     step false f = refl
+
+-- there is none to take out
+pub none_out : (ch new : Sets) (k : RrKey) → tree.get key_cmp ch k ≡ None → new ≡ ch → Puts k None ch new
+none_out ch new k none same q = ap (λ (m : Sets). tree.get key_cmp m q) same ∙ step (eq_by_cmp key_cmp k q) refl where
+  step : (b : Bool) → eq_by_cmp key_cmp k q ≡ b → tree.get key_cmp ch q ≡ cond b None (tree.get key_cmp ch q)
+  step true e = ap (tree.get key_cmp ch) (sym (same_key k q e)) ∙ none
+  step false e = refl
 
 -- a set is taken out of those that change, where there is none
 pub none_taken : (ch new : Sets) (k : RrKey) → tree.get key_cmp ch k ≡ None → Puts k None ch new → (q : RrKey) → tree.get key_cmp new q ≡ tree.get key_cmp ch q
@@ -328,44 +335,51 @@ alone k r old mid new first next = put_back k (r ∷ []) old mid new first (subs
   none = ap (λ (z : HeldZone). records_at z.sets k) first.1 ∙ ap records_in (taken_out old.sets first.0 k first.2)
 
 -- a set is changed that is among those that change
-module _ (k : RrKey) (s t : SetValue) (ch mid : Sets) (z : HeldZone) (held : AreChanging z.class ch z.sets) (e : tree.get key_cmp ch k ≡ Some s) (first : Puts k None ch mid) where
+module _ (k : RrKey) (s t : SetValue) (ch new : Sets) (z : HeldZone) (held : AreChanging z.class ch z.sets) (e : tree.get key_cmp ch k ≡ Some s) (puts : Puts k (Some t) ch new) where
   there : is_some (tree.get key_cmp z.sets k) ≡ true
   there = held.there k (ap is_some e)
 
   now : tree.get key_cmp (with_changing ch z.sets) k ≡ Some s
   now = at_changing z.class ch z.sets k s held e
 
-  module _ (new : Sets) (next : Puts k (Some t) mid new) where
-    puts : Puts k (Some t) ch new
-    puts = puts_again k None (Some t) ch mid new first next
-
-    pub joined_now : (r : Record RData) → t ≡ with_records s (joined r s.records) → HoldsAt k (joined r (records_at (with_changing ch z.sets) k)) (shown z ch) (shown z new)
-    joined_now r is = (
-      with_changing new z.sets,
-      refl,
-      set_joined z.class k r s t (with_changing ch z.sets) (with_changing new z.sets) (held.is_map k s e) now is (puts_changing ch new z.sets z.sets k t there puts),
-    )
-
-    pub joined_held : (r : Record RData) → t ≡ with_records s (joined r s.records) → AreChanging z.class new z.sets
-    joined_held r is = more_changing z.class ch new z.sets k t held there (joined_fits z.class k r s t (held.is_map k s e) is) puts
-
-    pub left_now : (es : List (Record RData)) → t ≡ without_data es s → t.records ≢ [] → HoldsAt k (without es (records_at (with_changing ch z.sets) k)) (shown z ch) (shown z new)
-    left_now es is full = (
-      with_changing new z.sets,
-      refl,
-      set_left z.class k es s t (with_changing ch z.sets) (with_changing new z.sets) (held.is_map k s e) now is full (puts_changing ch new z.sets z.sets k t there puts),
-    )
-
-    pub left_held : (es : List (Record RData)) → t ≡ without_data es s → t.records ≢ [] → AreChanging z.class new z.sets
-    left_held es is full = more_changing z.class ch new z.sets k t held there (set_left_fits z.class k es s t (held.is_map k s e) is full) puts
-
-  pub gone_now : (y : HeldZone) (es : List (Record RData)) → t ≡ without_data es s → t.records ≡ [] → Lacks k z y
-      → HoldsAt k (without es (records_at (with_changing ch z.sets) k)) (shown z ch) (shown y mid)
-  gone_now y es is empty out = (
-    with_changing mid out.0,
-    ap (λ (x : HeldZone). shown x mid) out.1,
-    none_left z.class k es s t (with_changing ch z.sets) (with_changing mid out.0) now is empty (puts_gone ch mid z.sets out.0 k first out.2),
+  pub joined_now : {E : Type 0} (r : Record RData) (result : Result (Unit {0}) E) → OnOk result (t ≡ with_records s (joined r s.records))
+      → OnOk result (HoldsAt k (joined r (records_at (with_changing ch z.sets) k)) (shown z ch) (shown z new))
+  joined_now r (Ok x) is = (
+    with_changing new z.sets,
+    refl,
+    set_joined z.class k r s t (with_changing ch z.sets) (with_changing new z.sets) (held.is_map k s e) now is (puts_changing ch new z.sets z.sets k t there puts),
   )
+  joined_now r (Err x) is = tt
+
+  -- or stays as it was, where a growth is refused
+  pub still_held : t ≡ s → AreChanging z.class new z.sets
+  still_held is = more_changing z.class ch new z.sets k t held there (subst (λ x. IsZoneSet z.class k x) (sym is) (held.is_map k s e)) puts
+
+  pub joined_held : {E : Type 0} (r : Record RData) (result : Result (Unit {0}) E) → OnOk result (t ≡ with_records s (joined r s.records)) → OnErr result (t ≡ s) → AreChanging z.class new z.sets
+  joined_held r (Ok x) ok err = more_changing z.class ch new z.sets k t held there (joined_fits z.class k r s t (held.is_map k s e) ok) puts
+  joined_held r (Err x) ok err = still_held err
+
+  pub left_now : (es : List (Record RData)) → t ≡ without_data es s → t.records ≢ [] → HoldsAt k (without es (records_at (with_changing ch z.sets) k)) (shown z ch) (shown z new)
+  left_now es is full = (
+    with_changing new z.sets,
+    refl,
+    set_left z.class k es s t (with_changing ch z.sets) (with_changing new z.sets) (held.is_map k s e) now is full (puts_changing ch new z.sets z.sets k t there puts),
+  )
+
+  pub left_held : (es : List (Record RData)) → t ≡ without_data es s → t.records ≢ [] → AreChanging z.class new z.sets
+  left_held es is full = more_changing z.class ch new z.sets k t held there (set_left_fits z.class k es s t (held.is_map k s e) is full) puts
+
+  module _ (mid : Sets) (next : Puts k None new mid) where
+    pub first : Puts k None ch mid
+    first = puts_again k (Some t) None ch new mid puts next
+
+    pub gone_now : (y : HeldZone) (es : List (Record RData)) → t ≡ without_data es s → t.records ≡ [] → Lacks k z y
+        → HoldsAt k (without es (records_at (with_changing ch z.sets) k)) (shown z ch) (shown y mid)
+    gone_now y es is empty out = (
+      with_changing mid out.0,
+      ap (λ (x : HeldZone). shown x mid) out.1,
+      none_left z.class k es s t (with_changing ch z.sets) (with_changing mid out.0) now is empty (puts_gone ch mid z.sets out.0 k first out.2),
+    )
 
 -- a set comes among those that change
 module _ (k : RrKey) (t : SetValue) (ch new : Sets) (z : HeldZone) (none : is_some (tree.get key_cmp ch k) ≡ false) (e : tree.get key_cmp z.sets k ≡ Some t) (puts : Puts k (Some t) ch new) where

@@ -9,7 +9,7 @@ use Rattle.op_use.proofs.MapZones.{get_zone}
 use Rattle.op_use.proofs.ZoneSteps.{same_key, same_sets}
 use Rattle.op_use.specs.Applying.{IsZoneMap, IsZoneSet, KeepsSame, data_in_set, records_at, records_in, zone_of_map}
 use Rattle.op_use.specs.HeldZone.{HeldZone}
-use Rattle.op_use.specs.Kept.{IsReturned, Returns}
+use Rattle.op_use.specs.Kept.{IsPutBack, IsReturned, Returns}
 use Rattle.op_use.specs.MapUpdates.{IsAfter, names_set}
 use Rattle.op_use.specs.NamedChanges.{datum_of}
 use Rattle.op_use.specs.Server.{is_under}
@@ -82,12 +82,6 @@ module _ (class : DNSClass) (k : RrKey) (old now : BTreeMap RrKey SetValue) (bef
     each = λ q. inl refl;
     tested = λ q e. at_key (λ q. records_at now q ≡ records_at old q → tree.get key_cmp now q ≡ tree.get key_cmp old q)
         (both_none (tree.get key_cmp old k) (tree.get key_cmp now k) refl refl none) q e;
-  }
-
-  pub stays_other : (records_at old k ≡ records_at now k → ⊥) → IsReturned (λ q. eq_by_cmp key_cmp k q) old now now
-  stays_other other = record {
-    each = λ q. inl refl;
-    tested = λ q e. at_key (λ q. records_at now q ≡ records_at old q → tree.get key_cmp now q ≡ tree.get key_cmp old q) (λ same. absurd (other (sym same))) q e;
   }
 
 module _ (k : RrKey) (s : SetValue) (old now new : BTreeMap RrKey SetValue) (there : tree.get key_cmp old k ≡ Some s) (same : records_at now k ≡ records_at old k)
@@ -186,14 +180,10 @@ zone_returned_more s t old a b c first next = chain (subst (λ (z : HeldZone). R
   chain : Returns t old (record a { sets = first.0 }) c → Returns (λ q. s q || t q) old a c
   chain h = (h.0, h.1, returned_more s t old a.sets first.0 h.0 first.2 h.2)
 
--- and one more set, which stays or is put back
+-- and one more set
 module _ (test : RrKey → Bool) (k : RrKey) (old : BTreeMap RrKey SetValue) (a b : HeldZone) (h : Returns test old a b) where
-  pub one_stays : IsReturned (λ q. eq_by_cmp key_cmp k q) old b.sets b.sets → Returns (λ q. test q || eq_by_cmp key_cmp k q) old a b
-  one_stays stays = zone_returned_more test (λ q. eq_by_cmp key_cmp k q) old a b b h (b.sets, refl, stays)
-
-  pub one_put_back : (s : SetValue) (n : BTreeMap RrKey SetValue) → tree.get key_cmp old k ≡ Some s → records_at b.sets k ≡ records_at old k → tree.Updates key_cmp b.sets n k (Some s)
-      → Returns (λ q. test q || eq_by_cmp key_cmp k q) old a (record b { sets = n })
-  one_put_back s n there same puts = zone_returned_more test (λ q. eq_by_cmp key_cmp k q) old a b (record b { sets = n }) h (n, refl, put_back_there k s old b.sets n there same puts)
+  pub one_more : (n : BTreeMap RrKey SetValue) → IsReturned (λ q. eq_by_cmp key_cmp k q) old b.sets n → Returns (λ q. test q || eq_by_cmp key_cmp k q) old a (record b { sets = n })
+  one_more n next = zone_returned_more test (λ q. eq_by_cmp key_cmp k q) old a b (record b { sets = n }) h (n, refl, next)
 
 pub same_class : (test : RrKey → Bool) (old : BTreeMap RrKey SetValue) (now new : HeldZone) → Returns test old now new → IsZoneMap now.class old → IsZoneMap new.class old
 same_class test old now new h before = subst (λ (z : HeldZone). IsZoneMap z.class old) (sym h.1) before
@@ -243,3 +233,30 @@ put_at class k s m false q t old h e f = old q t f
 
 pub put_map : (class : DNSClass) (k : RrKey) (s : SetValue) (m n : BTreeMap RrKey SetValue) → IsZoneMap class m → IsZoneSet class k s → tree.Updates key_cmp m n k (Some s) → IsZoneMap class n
 put_map class k s m n old h puts = λ q t e. put_at class k s m (eq_by_cmp key_cmp k q) q t old h refl (sym (puts.0 q) ∙ e)
+
+-- a set that ends as w, which is put back or stays
+module _ (k : RrKey) (s t w : SetValue) (old now new : BTreeMap RrKey SetValue) (was : tree.get key_cmp old k ≡ Some s) (there : tree.get key_cmp now k ≡ Some t)
+    (puts : tree.Updates key_cmp now new k (Some w)) where
+  left_at : (b : Bool) (q : RrKey) → eq_by_cmp key_cmp k q ≡ b → cond b (Some t) (tree.get key_cmp now q) ≡ tree.get key_cmp now q
+  left_at true q e = sym there ∙ ap (tree.get key_cmp now) (same_key k q e)
+  left_at false q e = refl
+
+  left : w ≡ t → (q : RrKey) → tree.get key_cmp new q ≡ tree.get key_cmp now q
+  left e q = puts.0 q ∙ ap (λ x. cond (eq_by_cmp key_cmp k q) (Some x) (tree.get key_cmp now q)) e ∙ left_at (eq_by_cmp key_cmp k q) q refl
+
+  pub one_returned : IsPutBack s t w → IsReturned (λ q. eq_by_cmp key_cmp k q) old now new
+  one_returned (inl back) = put_back_there k s old now new was (ap records_in there ∙ sym back.1 ∙ sym (ap records_in was)) (subst (λ x. tree.Updates key_cmp now new k (Some x)) back.0 puts)
+  one_returned (inr stays) = record {
+    each = λ q. inl (left stays.0 q);
+    tested = λ q e alike. absurd (stays.1 (sym (ap records_in was) ∙ ap (records_at old) (same_key k q e) ∙ sym alike ∙ ap (records_at now) (sym (same_key k q e)) ∙ ap records_in there));
+  }
+
+  fits_there : (class : DNSClass) → IsZoneMap class old → IsZoneMap class now → IsPutBack s t w → IsZoneSet class k w
+  fits_there class before after (inl back) = subst (λ x. IsZoneSet class k x) (sym back.0) (before k s was)
+  fits_there class before after (inr stays) = subst (λ x. IsZoneSet class k x) (sym stays.0) (after k t there)
+
+  pub returned_one_map : (class : DNSClass) → IsZoneMap class old → IsZoneMap class now → IsPutBack s t w → IsZoneMap class new
+  returned_one_map class before after back = put_map class k w now new after (fits_there class before after back) puts
+
+  pub left_map : (class : DNSClass) → IsZoneMap class now → w ≡ t → IsZoneMap class new
+  left_map class after e = λ q x f. after q x (sym (left e q) ∙ f)

@@ -6,8 +6,8 @@ use Rattle.base_data.specs.SameData.{same_data}
 use Rattle.base_data.specs.declared.rdata.RData.{RData}
 use Rattle.op_use.proofs.MergeSteps.{laws}
 use Rattle.op_use.proofs.ZoneSteps.{same_key}
-use Rattle.op_use.specs.Applying.{records_at, records_in}
-use Rattle.op_use.specs.MapFaults.{asks_for, is_by_value, listed_under, there_under}
+use Rattle.op_use.specs.Applying.{records_in}
+use Rattle.op_use.specs.MapFaults.{AreComplete, asks_for, complete_at, is_by_value, there_under}
 use Rattle.op_use.specs.Server.{is_same_key}
 use Rattle.rr.specs.Record.{record_key}
 use Rattle.rr.specs.RecordSet.{SetValue}
@@ -78,48 +78,42 @@ asked_by class r x q rs among same own named =
     among_any (asks_for class r x) rs q among
     (and_from (is_by_value class q) (is_same_key r q && has_data_of q x) own (and_from (is_same_key r q) (has_data_of q x) named (laws.symm x.rdata q.rdata ∙ same)))
 
-module _ (m : BTreeMap RrKey SetValue) (class : DNSClass) (all : List (Record RData)) where
-  -- whether the set under a key has only data that the records list
-  abbrev pub complete_at : RrKey → Bool
-  complete_at k = list_all (λ x. list_any (λ q. is_by_value class q && (eq_by_cmp key_cmp k (record_key q) && has_data_of q x)) all) (records_at m k)
+and_true : (a : Bool) → (a && true) ≡ a
+and_true true = refl
+and_true false = refl
 
+module _ (m : BTreeMap RrKey SetValue) (class : DNSClass) (all : List (Record RData)) where
   -- whether a prerequisite passes, if it is by value
   abbrev pub passes : Record RData → Bool
-  passes r = not (is_by_value class r) || (there_under m r (record_key r) && listed_under m class all r (record_key r))
+  passes r = not (is_by_value class r) || (there_under m r (record_key r) && complete_at m class all (record_key r))
 
-  -- the keys of which the sets have been looked at: these have only data that is listed
-  abbrev pub AreComplete : {V : Type 0} → BTreeMap RrKey V → Type 0
-  AreComplete {V} held = (q : RrKey) → is_some (tree.get key_cmp held q) ≡ true → complete_at q ≡ true
+  pub passed : (r : Record RData) (b : Bool) → is_by_value class r ≡ true → b ≡ (there_under m r (record_key r) && complete_at m class all (record_key r)) → passes r ≡ b
+  passed r b own met = ap (λ x. not x || (there_under m r (record_key r) && complete_at m class all (record_key r))) own ∙ sym met
 
-  by_parts : (r : Record RData) (k : RrKey) (there listed : Bool) → is_by_value class r ≡ true → k ≡ record_key r → list_any (has_data_of r) (records_at m k) ≡ there → complete_at k ≡ listed
-      → passes r ≡ (there && listed)
-  by_parts r k there listed own same e f = ap (λ b. not b || (there_under m r (record_key r) && listed_under m class all r (record_key r))) own
-      ∙ (λ i. (ap (λ q. list_any (has_data_of r) (records_at m q)) (sym same) ∙ e) i && (ap complete_at (sym same) ∙ f) i)
-
-  pub passed : (r : Record RData) (k : RrKey) → is_by_value class r ≡ true → k ≡ record_key r → list_any (has_data_of r) (records_at m k) ≡ true → complete_at k ≡ true → passes r ≡ true
-  passed r k own same e f = by_parts r k true true own same e f
-
-  pub not_there : (r : Record RData) (k : RrKey) → is_by_value class r ≡ true → k ≡ record_key r → list_any (has_data_of r) (records_at m k) ≡ false → passes r ≡ false
-  not_there r k own same e = by_parts r k false _ own same e refl
-
-  pub not_listed : (r : Record RData) (k : RrKey) → is_by_value class r ≡ true → k ≡ record_key r → complete_at k ≡ false → passes r ≡ false
-  not_listed r k own same f = by_parts r k _ false own same refl f ∙ and_false (list_any (has_data_of r) (records_at m k))
-
-  known_at : {V : Type 0} (held : BTreeMap RrKey V) (k q : RrKey) (v : V) (b : Bool) → eq_by_cmp key_cmp k q ≡ b → complete_at k ≡ true → AreComplete held
-      → is_some (cond b (Some v) (tree.get key_cmp held q)) ≡ true → complete_at q ≡ true
-  known_at held k q v true t good h e = ap complete_at (sym (same_key k q t)) ∙ good
+  known_at : {V : Type 0} (held : BTreeMap RrKey V) (k q : RrKey) (v : V) (b : Bool) → eq_by_cmp key_cmp k q ≡ b → complete_at m class all k ≡ true → AreComplete m class all held
+      → is_some (cond b (Some v) (tree.get key_cmp held q)) ≡ true → complete_at m class all q ≡ true
+  known_at held k q v true t good h e = ap (complete_at m class all) (sym (same_key k q t)) ∙ good
   known_at held k q v false t good h e = h q e
 
   -- one more
-  pub known_more : {V : Type 0} (held after : BTreeMap RrKey V) (k : RrKey) (v : V) → complete_at k ≡ true → AreComplete held → tree.Updates key_cmp held after k (Some v) → AreComplete after
+  pub known_more : {V : Type 0} (held after : BTreeMap RrKey V) (k : RrKey) (v : V) → complete_at m class all k ≡ true → AreComplete m class all held → tree.Updates key_cmp held after k (Some v)
+      → AreComplete m class all after
   known_more held after k v good h puts = λ q e. known_at held k q v (eq_by_cmp key_cmp k q) refl good h (ap is_some (sym (puts.0 q)) ∙ e)
 
   -- what was found of the set under a key
   pub complete_is : (r : Record RData) (k : RrKey) (s : SetValue) (xs : List (Record RData)) (b : Bool) → k ≡ record_key r → tree.get key_cmp m k ≡ Some s → xs ≡ s.records
-      → b ≡ list_all (λ x. list_any (asks_for class r x) all) xs → complete_at k ≡ b
+      → b ≡ list_all (λ x. list_any (asks_for class r x) all) xs → complete_at m class all k ≡ b
   complete_is r k s xs b same e is found =
       (λ i. list_all (λ x. list_any (λ q. is_by_value class q && (eq_by_cmp key_cmp (same i) (record_key q) && has_data_of q x)) all) ((ap records_in e ∙ sym is) i)) ∙ sym found
 
-  pub there_is : (r : Record RData) (k : RrKey) (s : SetValue) (xs : List (Record RData)) (b : Bool) → tree.get key_cmp m k ≡ Some s → xs ≡ s.records → b ≡ list_any (has_data_of r) xs
-      → list_any (has_data_of r) (records_at m k) ≡ b
-  there_is r k s xs b e is found = ap (list_any (has_data_of r)) (ap records_in e ∙ sym is) ∙ sym found
+  pub there_is : (r : Record RData) (k : RrKey) (s : SetValue) (xs : List (Record RData)) (b : Bool) → k ≡ record_key r → tree.get key_cmp m k ≡ Some s → xs ≡ s.records
+      → b ≡ list_any (has_data_of r) xs → there_under m r (record_key r) ≡ b
+  there_is r k s xs b same e is found = ap (there_under m r) (sym same) ∙ ap (list_any (has_data_of r)) (ap records_in e ∙ sym is) ∙ sym found
+
+  -- whether it has the data of a record, where it has only data that is listed
+  pub both_known : (r : Record RData) (k : RrKey) (b : Bool) → k ≡ record_key r → there_under m r (record_key r) ≡ b → complete_at m class all k ≡ true
+      → b ≡ (there_under m r (record_key r) && complete_at m class all (record_key r))
+  both_known r k b same there good = sym ((λ i. there i && (ap (complete_at m class all) (sym same) ∙ good) i) ∙ and_true b)
+
+  pub not_listed : (r : Record RData) (k : RrKey) → k ≡ record_key r → complete_at m class all k ≡ false → false ≡ (there_under m r (record_key r) && complete_at m class all (record_key r))
+  not_listed r k same bad = sym (ap (λ x. there_under m r (record_key r) && x) (ap (complete_at m class all) (sym same) ∙ bad) ∙ and_false (there_under m r (record_key r)))

@@ -10,7 +10,7 @@ use Rattle.op_use.proofs.AppliedData.{any_data}
 use Rattle.op_use.proofs.MapZones.{data_at}
 use Rattle.op_use.specs.AppliedRecords.{records_after, records_answered}
 use Rattle.op_use.specs.Applying.{entry_of, IsApplied, IsZoneMap, KeepsSame, applied, is_all_supported, records_applied, records_at, records_in, zone_of_map}
-use Rattle.op_use.specs.MapFaults.{is_by_value, listed_under, there_under}
+use Rattle.op_use.specs.MapFaults.{complete_at, is_by_value, there_under}
 use Rattle.op_use.specs.MapUpdates.{IsAfter}
 use Rattle.op_use.specs.NamedChanges.{datum_of, is_data_of}
 use Rattle.op_use.specs.Server.{StepCode, Sections, answer, collected, fault, is_met}
@@ -54,7 +54,7 @@ all_data p (x ∷ xs) = ap (λ b. p (datum_of x) && b) (all_data p xs)
 -- the sets of a map that prerequisites by value name
 module _ (origin : NameValue) (class : DNSClass) (m : BTreeMap RrKey SetValue) (rs : List (Record RData)) where
   met_same : (r : Record RData) → is_met (zone_of_map origin class m) (collected (zone_of_map origin class m) rs) r
-      ≡ (there_under m r (record_key r) && listed_under m class rs r (record_key r))
+      ≡ (there_under m r (record_key r) && complete_at m class rs (record_key r))
   met_same r =
       ap (λ ds. list_any (λ d. is_data_of d r) ds
       && list_all (λ d. list_any (λ q. is_same_key r q && is_data_of d q) (collected (zone_of_map origin class m) rs)) ds) (data_at origin class m (record_key r))
@@ -63,10 +63,10 @@ module _ (origin : NameValue) (class : DNSClass) (m : BTreeMap RrKey SetValue) (
       ∙ ap (λ (f : Record RData → Bool). list_any (has_data_of r) (records_at m (record_key r)) && list_all f (records_at m (record_key r)))
       (λ i x. any_filter (λ q. is_same_key r q && has_data_of q x) (λ q. is_of_zone (use_of class q.dns_class)) rs i)
 
-  pub all_met_same : list_all (λ r. not (is_by_value class r) || (there_under m r (record_key r) && listed_under m class rs r (record_key r))) rs
+  pub all_met_same : list_all (λ r. not (is_by_value class r) || (there_under m r (record_key r) && complete_at m class rs (record_key r))) rs
       ≡ list_all (is_met (zone_of_map origin class m) (collected (zone_of_map origin class m) rs)) (collected (zone_of_map origin class m) rs)
   all_met_same = sym (ap (λ (f : Record RData → Bool). list_all f (collected (zone_of_map origin class m) rs)) (λ i r. met_same r i)
-      ∙ all_filter (λ r. there_under m r (record_key r) && listed_under m class rs r (record_key r)) (λ r. is_of_zone (use_of class r.dns_class)) rs)
+      ∙ all_filter (λ r. there_under m r (record_key r) && complete_at m class rs (record_key r)) (λ r. is_of_zone (use_of class r.dns_class)) rs)
 
 -- what an update that is supported leaves under a key
 spelled_as : (origin : NameValue) (class : DNSClass) (m : BTreeMap RrKey SetValue) (s : Sections) (q : RrKey) (found : StepCode) → is_all_supported s ≡ true

@@ -6,7 +6,12 @@ use Rattle.op_use.specs.HeldZone.{HeldZone}
 use Rattle.rr.specs.RecordSet.{SetValue}
 use Rattle.std.specs.BTreeMap as tree
 use Rattle.std.specs.BTreeMap.{BTreeMap}
-use Rattle.std.specs.Prelude.{Bool, true, ◌≡◌, ◌⊎◌}
+use Rattle.std.specs.Prelude.{Bool, true, ◌≡◌, ◌≢◌, ◌⊎◌}
+
+-- a set now is put back as it was if its records are those of old, and else is left as it is
+abbrev pub IsPutBack : SetValue → SetValue → SetValue → Type 0
+IsPutBack old now new = ((new ≡ old) × (old.records ≡ now.records))
+    ⊎ ((new ≡ now) × (old.records ≢ now.records))
 
 -- Each set of the map now is left as it is or, where its records are those of old, put back as old has it: the latter
 -- for certain under a key that passes the test.

@@ -99,10 +99,8 @@ impl<'a> ChangingZone<'a> {
             (joined entry.now (records_at self.old.sets (record_key entry.now))) self.old
             self.new) }
     {
-        if let Some(mut set) = self.changing.remove(&key) {
-            set.renew(entry)?;
-            self.changing.insert(key, set)?;
-            return Ok(());
+        if let Some(set) = self.changing.get_mut(&key) {
+            return set.renew(entry);
         }
         let mut set = match self.sets.remove(&key) {
             Some(set) => set,
@@ -129,13 +127,12 @@ impl<'a> ChangingZone<'a> {
     {
         let key = key_of(&entry.name, entry.record_type())?;
         self.open(&key)?;
-        if let Some(mut set) = self.changing.remove(&key) {
+        if let Some(set) = self.changing.get_mut(&key) {
             set.take_data(entry)?;
             if set.records_count() == 0 {
+                self.changing.remove(&key);
                 self.sets.remove(&key);
-                return Ok(());
             }
-            self.changing.insert(key, set)?;
             return Ok(());
         }
         let Some(mut set) = self.sets.remove(&key) else {

@@ -4,10 +4,10 @@ ghost use Rattle.base.specs.RrKey.{key_cmp};
 ghost use Rattle.base.specs.declared.rr_key.RrKey.{RrKey as Key};
 ghost use Rattle.op_use.specs.Applying.{IsZoneMap};
 ghost use Rattle.op_use.specs.HeldZone.{HeldZone};
-ghost use Rattle.op_use.specs.Kept.{Returns};
+ghost use Rattle.op_use.specs.Kept.{IsPutBack, Returns};
 ghost use Rattle.op_use.specs.MapUpdates.{names_set};
 ghost use Rattle.std.specs.Ordering.{eq_by_cmp};
-ghost use Rattle.std.specs.Prelude.{IsTrue, OnOk, ◌↔◌, ◌≡◌};
+ghost use Rattle.std.specs.Prelude.{IsTrue, OnErr, OnOk, ◌↔◌, ◌≡◌};
 
 use crate::apply::zone::{Zone, key_of};
 use base::RrKey;
@@ -32,18 +32,28 @@ impl<'a> Zone<'a> {
             if seen.contains(&key) {
                 continue;
             }
-            let (Some(set), Some(now)) = (was.get(&key), self.sets.get(&key)) else {
+            let Some(set) = was.get(&key) else {
                 continue;
             };
-            seen.insert(key.clone()?)?;
-            if !are_same(set.as_slice(), now.as_slice()) {
+            let Some(now) = self.sets.get_mut(&key) else {
                 continue;
-            }
-            let copy = set.clone()?;
-            self.sets.insert(key, copy)?;
+            };
+            seen.insert(key)?;
+            put_back(set, now)?;
         }
         Ok(())
     }
+}
+
+/// Puts a set back as it was if its records are the same.
+fn put_back(was: &RecordSet, now: &mut RecordSet) -> Result<(), AllocError>
+    ensures ok { OnOk result (IsPutBack was.now now.old now.new) }
+    ensures err { OnErr result (now.new ≡ now.old) }
+{
+    if are_same(was.as_slice(), now.as_slice()) {
+        *now = was.clone()?;
+    }
+    Ok(())
 }
 
 /// Whether records are the same in every field, the letter case of their names too, and in this order.

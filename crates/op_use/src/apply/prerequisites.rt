@@ -3,12 +3,13 @@
 ghost use Rattle.base_data.specs.SameData.{same_data};
 ghost use Rattle.base_data.specs.declared.rdata.RData.{RData};
 ghost use Rattle.op_use.specs.HeldZone.{HeldZone, zone_held};
-ghost use Rattle.op_use.specs.MapFaults.{asks_for, is_by_value};
+ghost use Rattle.op_use.specs.MapFaults.{AreComplete, asks_for, complete_at, is_by_value, there_under};
 ghost use Rattle.op_use.specs.Server.{collected, is_found as is_found_in, is_met, is_same_key, prerequisite_fault, prerequisites_fault};
+ghost use Rattle.rr.specs.Record.{record_key};
 ghost use Rattle.rr.specs.SetChanges.{has_data_of};
 ghost use Rattle.rr.specs.declared.record.Record.{Record as Entry};
 ghost use Rattle.std.specs.List.{IsAmong, list_all, list_any};
-ghost use Rattle.std.specs.Prelude.{IfOk, IfSome, true, ◌&&◌, ◌≡◌};
+ghost use Rattle.std.specs.Prelude.{IfOk, IfSome, OnOk, true, ◌&&◌, ◌≡◌};
 
 use crate::apply::rules::{Use, use_of};
 use crate::apply::zone::{Zone, has_type, key_of};
@@ -102,44 +103,60 @@ impl<'a> Zone<'a> {
         let asked = self.places_asked(entries)?;
         let mut held = BTreeMap::new(self.origin.allocator());
         for entry in entries {
-            if !matches!(use_of(self.class, entry.dns_class), Use::OfZone) {
-                continue;
-            }
-            let key = key_of(&entry.name, entry.record_type())?;
-            let Some(set) = self.sets.get(&key) else {
-                return Ok(false);
-            };
-            if !held.contains_key(&key) {
-                if !are_listed(set.as_slice(), asked.get(&key), self.class, entries, entry)? {
-                    return Ok(false);
-                }
-                let places = places_of(set)?;
-                held.insert(key.clone()?, places)?;
-            }
-            if !has_data(set.as_slice(), held.get(&key), entry)? {
+            if matches!(use_of(self.class, entry.dns_class), Use::OfZone)
+                && !self.is_met(entry, entries, &asked, &mut held)?
+            {
                 return Ok(false);
             }
         }
         Ok(true)
     }
 
+    /// Whether the set that a prerequisite of the zone's class names has its data, and only data that they list. The
+    /// latter is known of the sets that are held.
+    fn is_met(
+        &self,
+        entry: &Record,
+        entries: &[Record],
+        asked: &BTreeMap<RrKey, Places>,
+        held: &mut BTreeMap<RrKey, Places>,
+    ) -> Result<bool, AllocError>
+        requires { AreComplete self.now.sets self.now.class entries.now held.old }
+        ensures met { IfOk result (λ b. b
+            ≡ (there_under self.now.sets entry.now (record_key entry.now)
+            && complete_at self.now.sets self.now.class entries.now (record_key entry.now))) }
+        ensures known { OnOk result
+            (AreComplete self.now.sets self.now.class entries.now held.new) }
+    {
+        let key = key_of(&entry.name, entry.record_type())?;
+        let Some(set) = self.sets.get(&key) else {
+            return Ok(false);
+        };
+        let records = set.as_slice();
+        if let Some(places) = held.get(&key) {
+            return has_data(records, places, entry);
+        }
+        if !are_listed(records, asked.get(&key), self.class, entries, entry)? {
+            return Ok(false);
+        }
+        let places = places_of(set)?;
+        let is_met = has_data(records, &places, entry)?;
+        held.insert(key, places)?;
+        Ok(is_met)
+    }
+
     /// Where the data of the prerequisites of the zone's class stands among them, under the key of each set.
     fn places_asked(&self, entries: &[Record]) -> Result<BTreeMap<RrKey, Places>, AllocError> {
-        let mut asked: BTreeMap<RrKey, Places> = BTreeMap::new(self.origin.allocator());
-        for place in 0..entries.len() {
-            let entry = &entries[place];
+        let alloc = self.origin.allocator();
+        let mut asked: BTreeMap<RrKey, Places> = BTreeMap::new(alloc);
+        for (place, entry) in entries.iter().enumerate() {
             if !matches!(use_of(self.class, entry.dns_class), Use::OfZone) {
                 continue;
             }
             let key = key_of(&entry.name, entry.record_type())?;
             let data = canonical(entry)?;
-            if let Some(places) = asked.get_mut(&key) {
-                places.insert(data, place)?;
-                continue;
-            }
-            let mut places = BTreeMap::new(self.origin.allocator());
+            let places = asked.entry(key)?.or_insert(BTreeMap::new(alloc));
             places.insert(data, place)?;
-            asked.insert(key, places)?;
         }
         Ok(asked)
     }
@@ -199,10 +216,10 @@ fn is_of_set(class: DNSClass, entry: &Record, listed: &Record) -> bool
 }
 
 /// Whether one of these records has the data of this one.
-fn has_data(records: &[Record], held: Option<&Places>, entry: &Record) -> Result<bool, AllocError>
+fn has_data(records: &[Record], places: &Places, entry: &Record) -> Result<bool, AllocError>
     ensures { IfOk result (λ b. b ≡ list_any (has_data_of entry.now) records.now) }
 {
-    if look_up(records, held, entry)?.is_some() {
+    if look_up(records, Some(places), entry)?.is_some() {
         return Ok(true);
     }
     for known in records {
@@ -217,8 +234,8 @@ fn has_data(records: &[Record], held: Option<&Places>, entry: &Record) -> Result
 fn places_of(set: &RecordSet) -> Result<Places, AllocError> {
     let records = set.as_slice();
     let mut places = BTreeMap::new(set.name().allocator());
-    for place in 0..records.len() {
-        let data = canonical(&records[place])?;
+    for (place, entry) in records.iter().enumerate() {
+        let data = canonical(entry)?;
         places.insert(data, place)?;
     }
     Ok(places)

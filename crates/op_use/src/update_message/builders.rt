@@ -282,13 +282,16 @@ pub fn zone_transfer(
     ensures built { IfOk result (λ m. message_value m ≡ transfer_message id origin last_soa) }
     ensures only { IsOkUnless result ProtoError.Memory }
 {
-    let mut message = Message::query(alloc, id);
     let mut query_type = RecordType::AXFR;
+    let mut authorities = Vec::new(alloc);
     if let Some(soa) = last_soa {
         query_type = RecordType::IXFR;
-        message.add_authority(Record::from_rdata(origin.clone()?, 0, RData::SOA(soa)))?;
+        authorities.push(Record::from_rdata(origin.clone()?, 0, RData::SOA(soa)))?;
     }
-    message.add_query(Query::query(origin, query_type))?;
+    let queries = vec![in alloc; Query::query(origin, query_type)]?;
+    let mut message = Message::query(alloc, id);
+    message.queries = queries;
+    message.authorities = authorities;
     message.set_edns(large_answers(alloc));
     Ok(message)
 }

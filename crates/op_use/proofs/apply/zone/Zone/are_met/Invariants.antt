@@ -1,5 +1,6 @@
-use Rattle.op_use.proofs.ListedSteps.{AreComplete, passes}
+use Rattle.op_use.proofs.ListedSteps.{passes}
 use Rattle.op_use.proofs.apply.zone.Zone.are_met.Given as goal
+use Rattle.op_use.specs.MapFaults.{AreComplete}
 use Rattle.std.proofs.Common.{drop, ◌≡◌}
 use Rattle.std.specs.List.{list_all}
 

@@ -1,0 +1,44 @@
+use Rattle.base.specs.RrKey.{key_cmp, key_of}
+use Rattle.op_use.proofs.ListedSteps.{both_known, complete_is, known_more, not_listed, there_is}
+use Rattle.op_use.proofs.apply.zone.Zone.is_met.Goals as goal
+use Rattle.op_use.specs.HeldZone.{HeldZone}
+use Rattle.op_use.specs.MapFaults.{asks_for}
+use Rattle.rr.specs.Record.{record_key}
+use Rattle.std.proofs.Common.{ap, sym, ◌≡◌, ◌∙◌}
+use Rattle.std.specs.BTreeMap.{get}
+use Rattle.std.specs.List.{list_all, list_any}
+
+pub returns-then-not-branch-clause-met : goal.returns-then-not-branch-clause-met
+returns-then-not-branch-clause-met c =
+    let z = c.args.self.now in
+    let r = c.args.entry.now in
+    let same : c.in_ok-key.key ≡ record_key c.args.entry.now = c.in_ok-key.ensures ∙ ap (key_of c.args.entry.now.name) c.record_type.ensures in
+    let there = ap (λ (y : HeldZone). get key_cmp y.sets c.in_ok-key.key) (sym c.self.view_is) ∙ sym c.in-Some.ensures.value in
+    let found = sym c.if-not-branch.true ∙ c.in_ok-are_listed.ensures
+    ∙ ap (λ (y : HeldZone). list_all (λ x. list_any (asks_for y.class c.args.entry.now x) c.args.entries.now) c.as_slice-records.result.now) c.self.view_is in
+    not_listed z.sets z.class c.args.entries.now r c.in_ok-key.key same
+    (complete_is z.sets z.class c.args.entries.now r c.in_ok-key.key c.in-Some.set.now c.as_slice-records.result.now _ same there c.as_slice-records.ensures found)
+
+pub returns-clause-met : goal.returns-clause-met
+returns-clause-met c =
+    let z = c.args.self.now in
+    let r = c.args.entry.now in
+    let same : c.in_ok-key.key ≡ record_key c.args.entry.now = c.in_ok-key.ensures ∙ ap (key_of c.args.entry.now.name) c.record_type.ensures in
+    let there = ap (λ (y : HeldZone). get key_cmp y.sets c.in_ok-key.key) (sym c.self.view_is) ∙ sym c.in-Some.ensures.value in
+    let found = sym c.if-not-branch.false ∙ c.in_ok-are_listed.ensures
+    ∙ ap (λ (y : HeldZone). list_all (λ x. list_any (asks_for y.class c.args.entry.now x) c.args.entries.now) c.as_slice-records.result.now) c.self.view_is in
+    both_known z.sets z.class c.args.entries.now r c.in_ok-key.key _ same
+    (there_is z.sets z.class c.args.entries.now r c.in_ok-key.key c.in-Some.set.now c.as_slice-records.result.now _ same there c.as_slice-records.ensures c.in_ok-is_met.ensures)
+    (complete_is z.sets z.class c.args.entries.now r c.in_ok-key.key c.in-Some.set.now c.as_slice-records.result.now _ same there c.as_slice-records.ensures found)
+
+pub returns-clause-known : goal.returns-clause-known
+returns-clause-known c =
+    let z = c.args.self.now in
+    let r = c.args.entry.now in
+    let same : c.in_ok-key.key ≡ record_key c.args.entry.now = c.in_ok-key.ensures ∙ ap (key_of c.args.entry.now.name) c.record_type.ensures in
+    let there = ap (λ (y : HeldZone). get key_cmp y.sets c.in_ok-key.key) (sym c.self.view_is) ∙ sym c.in-Some.ensures.value in
+    let found = sym c.if-not-branch.false ∙ c.in_ok-are_listed.ensures
+    ∙ ap (λ (y : HeldZone). list_all (λ x. list_any (asks_for y.class c.args.entry.now x) c.args.entries.now) c.as_slice-records.result.now) c.self.view_is in
+    known_more z.sets z.class c.args.entries.now c.args.held.now c.insert.new.self c.in_ok-key.key _
+    (complete_is z.sets z.class c.args.entries.now r c.in_ok-key.key c.in-Some.set.now c.as_slice-records.result.now _ same there c.as_slice-records.ensures found)
+    c.requires c.in_ok-insert.ensures.updates
