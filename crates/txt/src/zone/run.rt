@@ -1,8 +1,8 @@
 //! Sets in the order of their keys, as they come and until they go into a map.
 
-ghost use Rattle.std.specs.Prelude.{◌≡◌, ◌++◌, ◌∷◌, ◌-◌, [], IfNone, IfOk, OnErr, OnOk, length, slice_get};
+ghost use Rattle.std.specs.Prelude.{◌≡◌, ◌++◌, ◌∷◌, ◌-◌, ◌<◌, [], IfNone, IfOk, OnErr, OnOk, length, slice_get, vec_capacity, vec_len};
 ghost use Rattle.std.specs.Option.{option_copied, option_to_list};
-ghost use Rattle.txt.specs.Run.{sets_in};
+ghost use Rattle.txt.specs.Run.{AreFilled, sets_in, sets_of};
 
 use base::RrKey;
 use rr::RecordSet;
@@ -72,14 +72,8 @@ impl Run {
         ensures items { OnOk result (self.new ≡ self.old ++ entry ∷ []) }
         ensures err { OnErr result (self.new ≡ self.old) }
     {
-        if self.last.len() < BLOCK {
-            self.last.push(entry)?;
-            return Ok(());
-        }
-        self.blocks.reserve(1)?;
-        let mut fresh = Vec::with_capacity(self.alloc, BLOCK)?;
-        fresh.push(entry)?;
-        self.blocks.push(replace(&mut self.last, fresh))?;
+        make_room(self.alloc, &mut self.blocks, &mut self.last)?;
+        self.last.push_reserved(entry);
         Ok(())
     }
 
@@ -116,4 +110,31 @@ impl Run {
         self.last = block;
         Some(entry)
     }
+}
+
+/// Makes room for one more set in the last block. A full one goes after the others, and a new one is the last then.
+///
+/// # Errors
+///
+/// If memory runs out, with the blocks as they were.
+fn make_room(
+    alloc: Global,
+    blocks: &mut Vec<Vec<(RrKey, RecordSet)>>,
+    last: &mut Vec<(RrKey, RecordSet)>,
+) -> Result<(), AllocError>
+    requires { AreFilled blocks.old.items }
+    ensures same { sets_of blocks.new.items last.new.items
+        ≡ sets_of blocks.old.items last.old.items }
+    ensures filled { AreFilled blocks.new.items }
+    ensures room { OnOk result (vec_len last.new < vec_capacity last.new) }
+    ensures err { OnErr result ((blocks.new.items ≡ blocks.old.items)
+        × (last.new.items ≡ last.old.items)) }
+{
+    if last.len() < BLOCK {
+        return last.reserve(1);
+    }
+    blocks.reserve(1)?;
+    let fresh = Vec::with_capacity(alloc, BLOCK)?;
+    blocks.push_reserved(replace(last, fresh));
+    Ok(())
 }

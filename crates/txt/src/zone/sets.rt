@@ -1,16 +1,14 @@
 //! The record sets of a zone, by owner and type.
 
 ghost use Rattle.std.specs.BTreeMap.{insert_entry, is_at};
-ghost use Rattle.std.specs.Prelude.{◌≡◌, ◌∷◌, ◌++◌, ◌⊎◌, [], IfNone, IfOk, IfSome, IsOkUnless, MatchResult, OnErr, OnOk, false, is_some, true};
+ghost use Rattle.std.specs.Prelude.{◌≡◌, ◌∷◌, ◌++◌, ◌<◌, ◌⊎◌, [], IfNone, IfOk, IfSome, IsOkUnless, MatchResult, OnErr, OnOk, false, is_some, true, vec_capacity, vec_len};
 ghost use Rattle.std.specs.declared.cmp.Ordering.TheVariants.{Greater};
 ghost use Rattle.std.specs.List.{AllByRecursion};
 ghost use Rattle.std.specs.List.Sorted.{IsStrictlySortedBy};
 ghost use Rattle.std.specs.Map.{keys_of, lookup};
 ghost use Rattle.base.specs.RrKey.{key_cmp};
 ghost use Rattle.base.specs.TextFaults.{FailsWith};
-ghost use Rattle.base_data.specs.Kinds.{type_of_data};
-ghost use Rattle.rr.specs.RecordSet.{is_soa};
-ghost use Rattle.txt.specs.Gathered.{ComesAfter, HasLastKey, HaveOwnKeys, IsAscending, gathered, with_keyed};
+ghost use Rattle.txt.specs.Gathered.{ComesAfter, HasLastKey, HaveOwnKeys, IsAscending, KnowsSoas, gathered, with_keyed};
 ghost use Rattle.txt.specs.Run.{sets_in};
 ghost use Rattle.txt.specs.Steps.{MakesSets};
 ghost use Rattle.txt.specs.ZoneSets.{AreKeyed, sets_with, soa_again};
@@ -67,23 +65,8 @@ impl ZoneSets {
     pub(super) fn add(&mut self, entry: Record) -> Result<(), ParseError>
         ensures { MakesSets result self.new (sets_with self.old entry) }
     {
-        let key = key_for(*self.entries.allocator(), &entry)?;
-        if entry.record_type() == RecordType::SOA {
-            return self.add_soa(key, entry);
-        }
-        self.entries.push((key, entry))?;
-        Ok(())
-    }
-
-    /// The same for an SOA record.
-    fn add_soa(&mut self, key: RrKey, entry: Record) -> Result<(), ParseError>
-        requires key { key ≡ record_key entry }
-        requires soa { is_soa (type_of_data entry.rdata) ≡ true }
-        ensures { MakesSets result self.new (sets_with self.old entry) }
-    {
-        self.entries.reserve(1)?;
-        note(&mut self.soas, &key)?;
-        self.entries.push((key, entry))?;
+        let key = make_room(&mut self.entries, &mut self.soas, &entry)?;
+        self.entries.push_reserved((key, entry));
         Ok(())
     }
 
@@ -124,6 +107,37 @@ impl ZoneSets {
         entries.sort_by(cmp_keys)?;
         gather(entries)
     }
+}
+
+/// Makes room for a record, and answers its key. The key of an SOA record is noted.
+///
+/// # Errors
+///
+/// `Message` for a second SOA of an owner; `Memory` if memory runs out. The keys are then as they were.
+fn make_room(
+    entries: &mut Vec<(RrKey, Record)>,
+    soas: &mut BTreeMap<RrKey, ()>,
+    entry: &Record,
+) -> Result<RrKey, ParseError>
+    requires { KnowsSoas soas.old.entries entries.old.items }
+    ensures same { entries.new.items ≡ entries.old.items }
+    ensures key { IfOk result (λ key. key ≡ record_key entry.now) }
+    ensures room { OnOk result (vec_len entries.new < vec_capacity entries.new) }
+    // The keys that are noted are right once the record has gone in.
+    ensures soas { OnOk result (KnowsSoas soas.new.entries
+        (entries.old.items ++ (record_key entry.now, entry.now) ∷ [])) }
+    ensures err { OnErr result (soas.new.entries ≡ soas.old.entries) }
+    // The record makes the sets that are made once it has gone in, or is refused.
+    ensures sets { MakesSets result
+        (gathered (entries.old.items ++ (record_key entry.now, entry.now) ∷ []))
+        (sets_with (gathered entries.old.items) entry.now) }
+{
+    entries.reserve(1)?;
+    let key = key_for(*entries.allocator(), entry)?;
+    if entry.record_type() == RecordType::SOA {
+        note(soas, &key)?;
+    }
+    Ok(key)
 }
 
 /// Notes the key of an SOA record.
