@@ -43,10 +43,6 @@ left_all p [] i x h e = absurd (omega arith)
 left_all p (y ∷ ys) zero x h e = ap (λ z. p z && list_all p ys) (sym e)
 left_all p (y ∷ ys) (suc i) x h e = left_all p ys i x (omega arith) e ∙ ap (λ n. p x && list_all p (drop n (y ∷ ys))) (after_one i)
 
-pub all_next : (p : Record RData → Bool) (xs : List (Record RData)) (i : ℕ) (x : Record RData) (b : Bool) → i < length xs → x ≡ slice_index_or xs i x → p x ≡ true
-    → list_all p (drop i xs) ≡ b → list_all p (drop (i + 1) xs) ≡ b
-all_next p xs i x b h e good left = sym (left_all p xs i x h e ∙ ap (λ c. c && list_all p (drop (i + 1) xs)) good) ∙ left
-
 pub one_fails : (p : Record RData → Bool) (xs : List (Record RData)) (i : ℕ) (x : Record RData) (b : Bool) → i < length xs → x ≡ slice_index_or xs i x → p x ≡ false
     → list_all p (drop i xs) ≡ b → false ≡ b
 one_fails p xs i x b h e bad left = sym (left_all p xs i x h e ∙ ap (λ c. c && list_all p (drop (i + 1) xs)) bad) ∙ left
