@@ -43,21 +43,24 @@ pub invariant_of-self-in_err-name-in-None : goal.invariant_of-self-in_err-name-i
 invariant_of-self-in_err-name-in-None c =
     let i = c.self.inside in (
       removed_map i.class c.args.key i.sets c.remove.new.self c.self.invariant.0 c.remove.ensures.updates,
-      less_there i.class i.changing c.get_mut.follows.lender-at-none i.sets c.remove.new.self c.args.key c.self.invariant.1 (none_out i.changing c.get_mut.follows.lender-at-none c.args.key (sym c.in_default.ensures.value) c.get_mut.follows.holds-at-none) c.remove.ensures.updates.0,
+      less_there i.class i.changing c.get_mut.follows.lender-at-none i.sets c.remove.new.self c.args.key c.self.invariant.1
+          (none_out i.changing c.get_mut.follows.lender-at-none c.args.key (sym c.in_default.ensures.value) c.get_mut.follows.holds-at-none) c.remove.ensures.updates.0,
     )
 
 pub invariant_of-self-in_err-clone : goal.invariant_of-self-in_err-clone
 invariant_of-self-in_err-clone c =
     let i = c.self.inside in (
       removed_map i.class c.args.key i.sets c.remove.new.self c.self.invariant.0 c.remove.ensures.updates,
-      less_there i.class i.changing c.get_mut.follows.lender-at-none i.sets c.remove.new.self c.args.key c.self.invariant.1 (none_out i.changing c.get_mut.follows.lender-at-none c.args.key (sym c.in_default.ensures.value) c.get_mut.follows.holds-at-none) c.remove.ensures.updates.0,
+      less_there i.class i.changing c.get_mut.follows.lender-at-none i.sets c.remove.new.self c.args.key c.self.invariant.1
+          (none_out i.changing c.get_mut.follows.lender-at-none c.args.key (sym c.in_default.ensures.value) c.get_mut.follows.holds-at-none) c.remove.ensures.updates.0,
     )
 
 pub invariant_of-self-in_default-renew : goal.invariant_of-self-in_default-renew
 invariant_of-self-in_default-renew c =
     let i = c.self.inside in (
       removed_map i.class c.args.key i.sets c.remove.new.self c.self.invariant.0 c.remove.ensures.updates,
-      less_there i.class i.changing c.get_mut.follows.lender-at-none i.sets c.remove.new.self c.args.key c.self.invariant.1 (none_out i.changing c.get_mut.follows.lender-at-none c.args.key (sym c.in_default.ensures.value) c.get_mut.follows.holds-at-none) c.remove.ensures.updates.0,
+      less_there i.class i.changing c.get_mut.follows.lender-at-none i.sets c.remove.new.self c.args.key c.self.invariant.1
+          (none_out i.changing c.get_mut.follows.lender-at-none c.args.key (sym c.in_default.ensures.value) c.get_mut.follows.holds-at-none) c.remove.ensures.updates.0,
     )
 
 pub invariant_of-self-in_err-insert : goal.invariant_of-self-in_err-insert
@@ -66,7 +69,8 @@ invariant_of-self-in_err-insert c =
       map_copy i.origin.now i.class c.remove.new.self c.insert.new.self c.in_err-insert.ensures.err
           (removed_map i.class c.args.key i.sets c.remove.new.self c.self.invariant.0 c.remove.ensures.updates),
       changing_unchanged i.class c.get_mut.follows.lender-at-none c.get_mut.follows.lender-at-none c.remove.new.self c.insert.new.self refl c.in_err-insert.ensures.err
-          (less_there i.class i.changing c.get_mut.follows.lender-at-none i.sets c.remove.new.self c.args.key c.self.invariant.1 (none_out i.changing c.get_mut.follows.lender-at-none c.args.key (sym c.in_default.ensures.value) c.get_mut.follows.holds-at-none) c.remove.ensures.updates.0),
+          (less_there i.class i.changing c.get_mut.follows.lender-at-none i.sets c.remove.new.self c.args.key c.self.invariant.1
+          (none_out i.changing c.get_mut.follows.lender-at-none c.args.key (sym c.in_default.ensures.value) c.get_mut.follows.holds-at-none) c.remove.ensures.updates.0),
     )
 
 pub invariant_of-self-2 : goal.invariant_of-self-2
@@ -83,7 +87,8 @@ invariant_of-self-2 c =
     c.remove.ensures.updates.0 c.in_ok-insert.ensures.updates in (
       kept_after i.origin.now i.class k (joined c.in_ok-clone.field-0 (records_at i.sets k)) i.sets c.insert.new.self put c.self.invariant.0,
       put_beside_held k (joined c.in_ok-clone.field-0) i.changing c.get_mut.follows.lender-at-none (record { origin = i.origin.now; class = i.class; sets = i.sets })
-          (record { origin = i.origin.now; class = i.class; sets = c.insert.new.self }) (sym c.in_default.ensures.value) (none_out i.changing c.get_mut.follows.lender-at-none c.args.key (sym c.in_default.ensures.value) c.get_mut.follows.holds-at-none) (c.insert.new.self, refl, put) c.self.invariant.1,
+          (record { origin = i.origin.now; class = i.class; sets = c.insert.new.self }) (sym c.in_default.ensures.value)
+          (none_out i.changing c.get_mut.follows.lender-at-none c.args.key (sym c.in_default.ensures.value) c.get_mut.follows.holds-at-none) (c.insert.new.self, refl, put) c.self.invariant.1,
     )
 
 pub returns : goal.returns
@@ -100,7 +105,8 @@ returns c =
     c.remove.ensures.updates.0 c.in_ok-insert.ensures.updates in
     let z : HeldZone = record { origin = i.origin.now; class = i.class; sets = i.sets } in
     let y : HeldZone = record z { sets = c.insert.new.self } in
-    let now = put_beside k (joined c.in_ok-clone.field-0) i.changing c.get_mut.follows.lender-at-none z y (sym c.in_default.ensures.value) (none_out i.changing c.get_mut.follows.lender-at-none c.args.key (sym c.in_default.ensures.value) c.get_mut.follows.holds-at-none) (c.insert.new.self, refl, put) in
+    let now = put_beside k (joined c.in_ok-clone.field-0) i.changing c.get_mut.follows.lender-at-none z y (sym c.in_default.ensures.value)
+    (none_out i.changing c.get_mut.follows.lender-at-none c.args.key (sym c.in_default.ensures.value) c.get_mut.follows.holds-at-none) (c.insert.new.self, refl, put) in
     let copy_is = same_clone _ _ c.in_ok-clone.ensures.cases in
     subst (λ (q : RrKey). HoldsAt q (joined c.args.entry.now (records_at c.args.self.now.sets q)) c.args.self.now (shown y c.get_mut.follows.lender-at-none)) key_is
     (subst (λ r. HoldsAt k (joined r (records_at c.args.self.now.sets k)) c.args.self.now (shown y c.get_mut.follows.lender-at-none)) copy_is

@@ -94,7 +94,8 @@ pub invariant_of-self-in_default-remove : goal.invariant_of-self-in_default-remo
 invariant_of-self-in_default-remove c =
     let i = c.self.inside in (
       removed_map i.class c.in_ok-key.key i.sets c.remove-2.new.self c.self.invariant.0 c.remove-2.ensures.updates,
-      less_there i.class i.changing c.get_mut.follows.lender-at-none i.sets c.remove-2.new.self c.in_ok-key.key c.self.invariant.1 (none_out i.changing c.get_mut.follows.lender-at-none c.in_ok-key.key (sym c.in_default.ensures.value) c.get_mut.follows.holds-at-none) c.remove-2.ensures.updates.0,
+      less_there i.class i.changing c.get_mut.follows.lender-at-none i.sets c.remove-2.new.self c.in_ok-key.key c.self.invariant.1
+          (none_out i.changing c.get_mut.follows.lender-at-none c.in_ok-key.key (sym c.in_default.ensures.value) c.get_mut.follows.holds-at-none) c.remove-2.ensures.updates.0,
     )
 
 pub returns-in_default-remove : goal.returns-in_default-remove
@@ -108,7 +109,8 @@ returns-in_default-remove c =
     subst (λ (q : RrKey). HoldsAt q (without es (records_at c.args.self.now.sets q)) c.args.self.now (shown y c.get_mut.follows.lender-at-none)) key_is
     (from_same k (without es) c.args.self.now c.open.new.self (shown y c.get_mut.follows.lender-at-none) c.in_ok-open.ensures
     (subst (λ (x : HeldZone). HoldsAt k (without es (records_at x.sets k)) x (shown y c.get_mut.follows.lender-at-none)) c.self.view_is
-    (put_beside k (without es) i.changing c.get_mut.follows.lender-at-none z y (sym c.in_default.ensures.value) (none_out i.changing c.get_mut.follows.lender-at-none c.in_ok-key.key (sym c.in_default.ensures.value) c.get_mut.follows.holds-at-none) (
+    (put_beside k (without es) i.changing c.get_mut.follows.lender-at-none z y (sym c.in_default.ensures.value)
+    (none_out i.changing c.get_mut.follows.lender-at-none c.in_ok-key.key (sym c.in_default.ensures.value) c.get_mut.follows.holds-at-none) (
       c.remove-2.new.self,
       refl,
       none_there i.class k es i.sets c.remove-2.new.self (sym c.in_default-remove.ensures.value) c.remove-2.ensures.updates,
@@ -118,14 +120,16 @@ pub invariant_of-self-in_default-take_data : goal.invariant_of-self-in_default-t
 invariant_of-self-in_default-take_data c =
     let i = c.self.inside in (
       removed_map i.class c.in_ok-key.key i.sets c.remove-2.new.self c.self.invariant.0 c.remove-2.ensures.updates,
-      less_there i.class i.changing c.get_mut.follows.lender-at-none i.sets c.remove-2.new.self c.in_ok-key.key c.self.invariant.1 (none_out i.changing c.get_mut.follows.lender-at-none c.in_ok-key.key (sym c.in_default.ensures.value) c.get_mut.follows.holds-at-none) c.remove-2.ensures.updates.0,
+      less_there i.class i.changing c.get_mut.follows.lender-at-none i.sets c.remove-2.new.self c.in_ok-key.key c.self.invariant.1
+          (none_out i.changing c.get_mut.follows.lender-at-none c.in_ok-key.key (sym c.in_default.ensures.value) c.get_mut.follows.holds-at-none) c.remove-2.ensures.updates.0,
     )
 
 pub invariant_of-self-then-is_empty : goal.invariant_of-self-then-is_empty
 invariant_of-self-then-is_empty c =
     let i = c.self.inside in (
       removed_map i.class c.in_ok-key.key i.sets c.remove-2.new.self c.self.invariant.0 c.remove-2.ensures.updates,
-      less_there i.class i.changing c.get_mut.follows.lender-at-none i.sets c.remove-2.new.self c.in_ok-key.key c.self.invariant.1 (none_out i.changing c.get_mut.follows.lender-at-none c.in_ok-key.key (sym c.in_default.ensures.value) c.get_mut.follows.holds-at-none) c.remove-2.ensures.updates.0,
+      less_there i.class i.changing c.get_mut.follows.lender-at-none i.sets c.remove-2.new.self c.in_ok-key.key c.self.invariant.1
+          (none_out i.changing c.get_mut.follows.lender-at-none c.in_ok-key.key (sym c.in_default.ensures.value) c.get_mut.follows.holds-at-none) c.remove-2.ensures.updates.0,
     )
 
 pub returns-then-is_empty : goal.returns-then-is_empty
@@ -141,7 +145,8 @@ returns-then-is_empty c =
     subst (λ (q : RrKey). HoldsAt q (without es (records_at c.args.self.now.sets q)) c.args.self.now (shown y c.get_mut.follows.lender-at-none)) key_is
     (from_same k (without es) c.args.self.now c.open.new.self (shown y c.get_mut.follows.lender-at-none) c.in_ok-open.ensures
     (subst (λ (x : HeldZone). HoldsAt k (without es (records_at x.sets k)) x (shown y c.get_mut.follows.lender-at-none)) c.self.view_is
-    (put_beside k (without es) i.changing c.get_mut.follows.lender-at-none z y (sym c.in_default.ensures.value) (none_out i.changing c.get_mut.follows.lender-at-none c.in_ok-key.key (sym c.in_default.ensures.value) c.get_mut.follows.holds-at-none) (
+    (put_beside k (without es) i.changing c.get_mut.follows.lender-at-none z y (sym c.in_default.ensures.value)
+    (none_out i.changing c.get_mut.follows.lender-at-none c.in_ok-key.key (sym c.in_default.ensures.value) c.get_mut.follows.holds-at-none) (
       c.remove-2.new.self,
       refl,
       none_left i.class k es c.in-Some-remove.set c.take_data-2.new.self i.sets c.remove-2.new.self (sym c.in-Some-remove.ensures.value) is (c.is_empty.ensures.0 c.if-is_empty.true) c.remove-2.ensures.updates.0,
@@ -154,7 +159,8 @@ invariant_of-self-in_err-insert c =
       map_copy i.origin.now i.class c.remove-2.new.self c.insert.new.self c.in_err-insert.ensures.err
           (removed_map i.class k i.sets c.remove-2.new.self c.self.invariant.0 c.remove-2.ensures.updates),
       changing_unchanged i.class c.get_mut.follows.lender-at-none c.get_mut.follows.lender-at-none c.remove-2.new.self c.insert.new.self refl c.in_err-insert.ensures.err
-          (less_there i.class i.changing c.get_mut.follows.lender-at-none i.sets c.remove-2.new.self k c.self.invariant.1 (none_out i.changing c.get_mut.follows.lender-at-none c.in_ok-key.key (sym c.in_default.ensures.value) c.get_mut.follows.holds-at-none) c.remove-2.ensures.updates.0),
+          (less_there i.class i.changing c.get_mut.follows.lender-at-none i.sets c.remove-2.new.self k c.self.invariant.1
+          (none_out i.changing c.get_mut.follows.lender-at-none c.in_ok-key.key (sym c.in_default.ensures.value) c.get_mut.follows.holds-at-none) c.remove-2.ensures.updates.0),
     )
 
 pub invariant_of-self-2 : goal.invariant_of-self-2
@@ -169,7 +175,8 @@ invariant_of-self-2 c =
     (sym c.in-Some-remove.ensures.value) is (λ e. true≢false (sym (c.is_empty.ensures.1 e) ∙ c.if-is_empty.false))
     (puts_again k None (Some c.take_data-2.new.self) i.sets c.remove-2.new.self c.insert.new.self c.remove-2.ensures.updates.0 c.in_ok-insert.ensures.updates.0) in (
       kept_after i.origin.now i.class k (without es (records_at i.sets k)) i.sets c.insert.new.self put c.self.invariant.0,
-      put_beside_held k (without es) i.changing c.get_mut.follows.lender-at-none z (record z { sets = c.insert.new.self }) (sym c.in_default.ensures.value) (none_out i.changing c.get_mut.follows.lender-at-none c.in_ok-key.key (sym c.in_default.ensures.value) c.get_mut.follows.holds-at-none)
+      put_beside_held k (without es) i.changing c.get_mut.follows.lender-at-none z (record z { sets = c.insert.new.self }) (sym c.in_default.ensures.value)
+          (none_out i.changing c.get_mut.follows.lender-at-none c.in_ok-key.key (sym c.in_default.ensures.value) c.get_mut.follows.holds-at-none)
           (c.insert.new.self, refl, put) c.self.invariant.1,
     )
 
@@ -189,4 +196,5 @@ returns c =
     subst (λ (q : RrKey). HoldsAt q (without es (records_at c.args.self.now.sets q)) c.args.self.now (shown y c.get_mut.follows.lender-at-none)) key_is
     (from_same k (without es) c.args.self.now c.open.new.self (shown y c.get_mut.follows.lender-at-none) c.in_ok-open.ensures
     (subst (λ (x : HeldZone). HoldsAt k (without es (records_at x.sets k)) x (shown y c.get_mut.follows.lender-at-none)) c.self.view_is
-    (put_beside k (without es) i.changing c.get_mut.follows.lender-at-none z y (sym c.in_default.ensures.value) (none_out i.changing c.get_mut.follows.lender-at-none c.in_ok-key.key (sym c.in_default.ensures.value) c.get_mut.follows.holds-at-none) (c.insert.new.self, refl, put))))
+    (put_beside k (without es) i.changing c.get_mut.follows.lender-at-none z y (sym c.in_default.ensures.value)
+    (none_out i.changing c.get_mut.follows.lender-at-none c.in_ok-key.key (sym c.in_default.ensures.value) c.get_mut.follows.holds-at-none) (c.insert.new.self, refl, put))))
