@@ -12,3 +12,9 @@ returns-in-len4-clause-found c =
       subst (λ k. IsNumberAt w16 at.bytes k c.from_be_bytes.result) here (subst (IsNumberAt w16 at.bytes (at.index + 0)) (sym c.from_be_bytes.ensures) (number16_among s 0 (omega arith))),
       subst (IsNumberAt w16 at.bytes (at.index + 2)) (sym c.from_be_bytes-in-len4.ensures) (number16_among s 2 (omega arith)),
     )
+
+pub returns-in-len4-clause-counts : goal.returns-in-len4-clause-counts
+returns-in-len4-clause-counts c = c.in_ok-read_slice.ensures.counts
+
+pub returns-in-len4-clause-passed : goal.returns-in-len4-clause-passed
+returns-in-len4-clause-passed c = c.in_ok-read_slice.ensures.passed

@@ -25,3 +25,9 @@ returns-clause-read g c = (gathers_all c.loop-test.false c.loop.invariant.gather
 
 pub returns-clause-adds : goal.returns-clause-adds
 returns-clause-adds g c = adds_many_all c.loop.invariant.adds c.loop-test.false
+
+pub returns-clause-counts : goal.returns-clause-counts
+returns-clause-counts g c = c.loop.invariant.counted
+
+pub returns-clause-passed : goal.returns-clause-passed
+returns-clause-passed g c = c.loop.invariant.passed

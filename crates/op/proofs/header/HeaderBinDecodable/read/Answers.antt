@@ -43,3 +43,9 @@ returns-clause-read c =
     let counts : HeaderCounts = record { queries = c.number-2.result; answers = c.number-3.result; authorities = c.number-4.result; additionals = c.number-5.result } in
     let header : Header = record { metadata = c.metadata_of-metadata.result; counts = counts } in
     ((reads_word at.bytes at.index header c.read_slice.new.self.index).1 (returns-clause-found c), c.in_ok-bytes.ensures.read.1)
+
+pub returns-clause-counts : goal.returns-clause-counts
+returns-clause-counts c = c.in_ok-bytes.ensures.counts
+
+pub returns-clause-passed : goal.returns-clause-passed
+returns-clause-passed c = c.in_ok-bytes.ensures.passed

@@ -38,3 +38,13 @@ pub returns-in_err-read_sections-clause-fault : goal.returns-in_err-read_section
 returns-in_err-read_sections-clause-fault c =
     let at = c.args.decoder.now in
     first_fault message_value (IsMessageFault at.bytes at.index) at c.read_sections.new.decoder (λ f. (refuses_message at.bytes at.index f).0) c.from_residual-in_err-read_sections.result (returns-in_err-read_sections-clause-read c)
+
+pub returns-clause-counts : goal.returns-clause-counts
+returns-clause-counts c = λ counted.
+    let header = c.in_ok-header.ensures.counts counted in
+    let questions = c.in_ok-queries.ensures.counts header.0 in
+    c.in_ok-read_sections.ensures.counts questions.0
+
+pub returns-clause-passed : goal.returns-clause-passed
+returns-clause-passed c = λ passed.
+    c.in_ok-read_sections.ensures.passed (c.in_ok-queries.ensures.passed (c.in_ok-header.ensures.passed passed))

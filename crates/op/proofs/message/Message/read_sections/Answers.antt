@@ -23,3 +23,14 @@ returns-clause-adds c =
     let counted : c.from.result + c.from-2.result + c.from-3.result ≡ c.args.counts.answers + c.args.counts.authorities + c.args.counts.additionals =
     omega (arith, c.from.ensures, c.from-2.ensures, c.from-3.ensures) in
     subst (λ (n : ℕ). AddsPassed (records_places n old.bytes old.index) old c.read_section-3.new.decoder) counted all
+
+pub returns-clause-counts : goal.returns-clause-counts
+returns-clause-counts c = λ counted.
+    let answers = c.in_ok-read_section.ensures.counts counted in
+    let authorities = c.in_ok-read_section-2.ensures.counts answers.0 in
+    c.in_ok-read_section-3.ensures.counts authorities.0
+
+pub returns-clause-passed : goal.returns-clause-passed
+returns-clause-passed c = λ passed.
+    let answers = c.in_ok-read_section.ensures.passed passed in
+    c.in_ok-read_section-3.ensures.passed (c.in_ok-read_section-2.ensures.passed answers)

@@ -20,3 +20,9 @@ returns-clause-read c =
 
 pub returns-clause-adds : goal.returns-clause-adds
 returns-clause-adds c = adds_still {new = c.read_fields.new.decoder} c.in_ok-name.ensures.adds c.in_ok-fields.ensures.after.1 c.in_ok-fields.ensures.kept
+
+pub returns-clause-counts : goal.returns-clause-counts
+returns-clause-counts c = λ counted. c.in_ok-fields.ensures.counts (c.in_ok-name.ensures.counts counted).0
+
+pub returns-clause-passed : goal.returns-clause-passed
+returns-clause-passed c = λ passed. c.in_ok-fields.ensures.passed (c.in_ok-name.ensures.passed passed)

@@ -13,3 +13,9 @@ returns-in-len8-clause-found c =
       subst (IsNumberAt w32 at.bytes (at.index + 2)) (sym c.from_be_bytes-in-len8.ensures) (number32_among s 2 (omega arith)),
       subst (IsNumberAt w16 at.bytes (at.index + 6)) (sym c.from_be_bytes-in-len8-2.ensures) (number16_among s 6 (omega arith)),
     )
+
+pub returns-in-len8-clause-counts : goal.returns-in-len8-clause-counts
+returns-in-len8-clause-counts c = c.in_ok-read_slice.ensures.counts
+
+pub returns-in-len8-clause-passed : goal.returns-in-len8-clause-passed
+returns-in-len8-clause-passed c = c.in_ok-read_slice.ensures.passed

@@ -64,3 +64,9 @@ returns-clause-read c = (takes_all c.loop.invariant.takes c.loop-test.false, c.l
 
 pub returns-clause-adds : goal.returns-clause-adds
 returns-clause-adds c = adds_many_all c.loop.invariant.adds c.loop-test.false
+
+pub returns-clause-counts : goal.returns-clause-counts
+returns-clause-counts c = c.loop.invariant.counted
+
+pub returns-clause-passed : goal.returns-clause-passed
+returns-clause-passed c = c.loop.invariant.passed

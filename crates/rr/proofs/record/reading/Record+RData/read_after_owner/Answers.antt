@@ -37,3 +37,9 @@ returns-clause-adds c = λ before has.
     let type = c.in_ok-record_type.ensures in
     let head = adds_both has.adds type.adds in
     record_adds c.args.decoder.now c.read_body.new.decoder (Ok c.read_body.new.self) has.read type.read.0 head (returns-clause-read c before has) c.in_ok-read_body.ensures.adds
+
+pub returns-clause-counts : goal.returns-clause-counts
+returns-clause-counts c = λ counted. c.in_ok-read_body.ensures.counts (c.in_ok-record_type.ensures.counts counted).0
+
+pub returns-clause-passed : goal.returns-clause-passed
+returns-clause-passed c = λ passed. c.in_ok-read_body.ensures.passed (c.in_ok-record_type.ensures.passed passed)

@@ -35,3 +35,9 @@ returns-in-Err-clause-read c =
     let fault = data_fault c.args.record_type c.in-Err.reason in
     rw c.fault.ensures (data_fails owner c.args.record_type at.bytes at.index found.0 found.1 found.2 fits fault
     (over_both after.1 after.0 (λ (B : List ℕ) (k : ℕ). Fails fault (rdata_at c.args.record_type c.in_ok-class.field-0.len B k)) c.in-Err.ensures.read))
+
+pub returns-in-Ok-clause-counts : goal.returns-in-Ok-clause-counts
+returns-in-Ok-clause-counts c = λ counted. c.in-Ok.ensures.counts (c.in_ok-class.ensures.counts counted).0
+
+pub returns-in-Ok-clause-passed : goal.returns-in-Ok-clause-passed
+returns-in-Ok-clause-passed c = λ passed. c.in-Ok.ensures.passed (c.in_ok-class.ensures.passed passed)
