@@ -90,17 +90,28 @@ fn agrees(
     Ok(same && (!is_of_update || ends_as(alloc, set, rows)?))
 }
 
+/// Whether a change of the set answers as that of the list and leaves the same.
+fn change_agrees(
+    alloc: Global,
+    set: &mut RecordSet,
+    rows: &mut Vec<Row>,
+    (call, ttl, from, to): Change,
+) -> Result<bool, Fail> {
+    let mut right = true;
+    for number in from..to {
+        right = agrees(alloc, set, rows, (call, ttl), number)? && right;
+    }
+    Ok(shows(alloc, set, rows)? && right)
+}
+
 /// Whether the changes of the set answer as those of the list and leave the same. Then the set is given the list
 /// backward, and they are made again.
 fn agree(alloc: Global, set: &mut RecordSet, changes: &[Change]) -> Result<bool, Fail> {
     let mut rows = Vec::new(alloc);
     let mut right = true;
     for _ in 0..2 {
-        for &(call, ttl, from, to) in changes {
-            for number in from..to {
-                right = agrees(alloc, set, &mut rows, (call, ttl), number)? && right;
-            }
-            right = shows(alloc, set, &rows)? && right;
+        for &change in changes {
+            right = change_agrees(alloc, set, &mut rows, change)? && right;
         }
         rows.reverse();
         set.set_records(records(alloc, &rows)?);
@@ -148,54 +159,98 @@ fn many_records_are_renewed(rt: HostRuntime) -> Result<(), Fail> {
     Ok(())
 }
 
+/// Takes the data of these rows out of the set at once, and tells whether it had any.
+fn take_all(alloc: Global, set: &mut RecordSet, rows: &[Row]) -> Result<bool, Fail> {
+    let gone = records(alloc, rows)?;
+    let went = set.take_data(&gone);
+    drop(gone);
+    Ok(went?)
+}
+
+/// Takes the addresses of a range out of a plain list, and tells whether any was there.
+fn take_range(rows: &mut Vec<Row>, (from, to): (u16, u16)) -> bool {
+    let mut went = false;
+    for number in from..to {
+        went = take(rows, number) || went;
+    }
+    went
+}
+
+/// The addresses of a range, as they are taken out.
+fn gone(alloc: Global, (from, to): (u16, u16)) -> Result<Vec<Row>, AllocError> {
+    let mut rows = Vec::new(alloc);
+    for number in from..to {
+        rows.push((Datum::Address(number), DNSClass::NONE, 0))?;
+    }
+    Ok(rows)
+}
+
 /// Takes the addresses of a range out of the set at once, and out of a plain list one by one: whether both answer alike
 /// and leave the same.
 fn part_alike(
     alloc: Global,
     set: &mut RecordSet,
     rows: &mut Vec<Row>,
-    (from, to): (u16, u16),
+    range: (u16, u16),
 ) -> Result<bool, Fail> {
-    let mut gone = Vec::new(alloc);
-    let mut wanted = false;
-    for number in from..to {
-        gone.push((Datum::Address(number), DNSClass::NONE, 0))?;
-        wanted = take(rows, number) || wanted;
+    let went = take_all(alloc, set, &gone(alloc, range)?)?;
+    let same = went == take_range(rows, range);
+    Ok(same && ends_as(alloc, set, rows)? && shows(alloc, set, rows)?)
+}
+
+/// The first addresses, each with its number as its TTL.
+fn numbered(alloc: Global, count: u16) -> Result<Vec<Row>, AllocError> {
+    let mut rows = Vec::new(alloc);
+    for number in 0..count {
+        rows.push((Datum::Address(number), DNSClass::IN, u32::from(number)))?;
     }
-    let went = set.take_data(&records(alloc, &gone)?)?;
-    Ok(went == wanted && ends_as(alloc, set, rows)? && shows(alloc, set, rows)?)
+    Ok(rows)
+}
+
+/// Ranges of addresses that are taken out in turn.
+const RANGES: &[(u16, u16)] = &[
+    (3000, 3002),
+    (0, 1),
+    (100, 900),
+    (100, 900),
+    (1990, 2010),
+    (950, 950),
+    (1, 2000),
+];
+
+/// The last of the ranges, if any, that isn't taken out of a set of many as out of a plain list.
+fn taken_otherwise(alloc: Global) -> Result<Option<(u16, u16)>, Fail> {
+    let mut rows = numbered(alloc, 2000)?;
+    let mut set = set_of(alloc, RecordType::A, (1999, 0, &rows))?;
+    let mut wrong = None;
+    for &range in RANGES {
+        if !part_alike(alloc, &mut set, &mut rows, range)? {
+            wrong = Some(range);
+        }
+    }
+    drop(set);
+    Ok(wrong)
 }
 
 #[test]
 fn many_are_taken_out_at_once(rt: HostRuntime) -> Result<(), Fail> {
-    let mut rows = Vec::new(rt.alloc());
-    for number in 0..2000u16 {
-        rows.push((Datum::Address(number), DNSClass::IN, u32::from(number)))?;
-    }
-    let mut set = set_of(rt.alloc(), RecordType::A, (1999, 0, &rows))?;
-    for run in [
-        (3000, 3002),
-        (0, 1),
-        (100, 900),
-        (100, 900),
-        (1990, 2010),
-        (950, 950),
-        (1, 2000),
-    ] {
-        assert!(rt;
-            part_alike(rt.alloc(), &mut set, &mut rows, run)?,
-            "{run:?}"
-        );
-    }
+    let wrong = taken_otherwise(rt.alloc())?;
+    assert!(rt; wrong.is_none(), "{wrong:?}");
     Ok(())
+}
+
+/// Whether a set of TTL 5 loses something where data that it hasn't is taken out twice, and its TTL then.
+fn without_other_data(alloc: Global) -> Result<(bool, u32), Fail> {
+    let rows = [(Datum::Address(0), DNSClass::IN, 60)];
+    let mut set = set_of(alloc, RecordType::A, (5, 0, &rows))?;
+    let went = take_all(alloc, &mut set, &[(Datum::Address(1), DNSClass::NONE, 0); 2]);
+    let ttl = set.ttl();
+    drop(set);
+    Ok((went?, ttl))
 }
 
 #[test]
 fn a_set_that_loses_nothing_keeps_its_ttl(rt: HostRuntime) -> Result<(), Fail> {
-    let rows = [(Datum::Address(0), DNSClass::IN, 60)];
-    let mut set = set_of(rt.alloc(), RecordType::A, (5, 0, &rows))?;
-    let other = records(rt.alloc(), &[(Datum::Address(1), DNSClass::NONE, 0); 2])?;
-    assert_eq!(rt; set.take_data(&other)?, false);
-    assert_eq!(rt; set.ttl(), 5);
+    assert!(rt; without_other_data(rt.alloc())? == (false, 5));
     Ok(())
 }
