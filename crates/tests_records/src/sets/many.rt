@@ -243,7 +243,11 @@ fn many_are_taken_out_at_once(rt: HostRuntime) -> Result<(), Fail> {
 fn without_other_data(alloc: Global) -> Result<(bool, u32), Fail> {
     let rows = [(Datum::Address(0), DNSClass::IN, 60)];
     let mut set = set_of(alloc, RecordType::A, (5, 0, &rows))?;
-    let went = take_all(alloc, &mut set, &[(Datum::Address(1), DNSClass::NONE, 0); 2]);
+    let went = take_all(
+        alloc,
+        &mut set,
+        &[(Datum::Address(1), DNSClass::NONE, 0); 2],
+    );
     let ttl = set.ttl();
     drop(set);
     Ok((went?, ttl))
