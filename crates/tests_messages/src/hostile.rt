@@ -7,11 +7,11 @@ mod messages;
 mod names;
 mod rows;
 
-use base::{DecodeError, ProtoError};
+use base::DecodeError;
+use changed::all_are_answered;
 use messages::{TABLES, messages_of};
 use op::Message;
 use std::alloc::Global;
-use std::test::Fail;
 use test_tools::bytes::decode;
 
 /// The number of the refusal of a buffer, 0 where it is read, and what it names: how many bytes are left and the length
@@ -28,18 +28,20 @@ pub(crate) fn fault(alloc: Global, wire: &[u8]) -> (u8, usize, usize) {
     fault
 }
 
-/// The same of the bytes that a text spells.
-pub(crate) fn fault_of_text(alloc: Global, text: &str) -> Result<(u8, usize, usize), ProtoError> {
-    let wire = decode(alloc, text)?;
-    Ok(fault(alloc, &wire))
+/// The same of the bytes that a text spells; of no number that is a refusal's if it spells none.
+pub(crate) fn fault_of_text(alloc: Global, text: &str) -> (u8, usize, usize) {
+    match decode(alloc, text) {
+        Ok(wire) => fault(alloc, &wire),
+        Err(_) => (u8::MAX, 0, 0),
+    }
 }
 
 #[test]
-fn hostile_messages_are_judged(rt: HostRuntime) -> Result<(), Fail> {
+fn hostile_messages_are_judged_and_answered_however_changed(rt: HostRuntime) {
     for &table in TABLES {
         for &(what, number, text) in messages_of(table) {
-            assert!(rt; fault_of_text(rt.alloc(), text)?.0 == number, "{what}");
+            assert!(rt; fault_of_text(rt.alloc(), text).0 == number, "{what}");
+            assert!(rt; all_are_answered(rt.alloc(), text), "{what}");
         }
     }
-    Ok(())
 }

@@ -12,7 +12,7 @@ use std::alloc::Global;
 use std::cmp::Ordering::{self, Greater, Less};
 use test_tools::forms::has_text;
 use test_tools::hashes::hash_alike;
-use test_tools::texts::prints;
+use test_tools::texts::all_print;
 
 /// The operations: number, code and text.
 const OP_CODES: &[(u8, OpCode, &'static str)] = &[
@@ -35,22 +35,27 @@ fn has_order<T: PartialOrd>(first: &T, second: &T, order: Ordering) -> bool {
 #[test]
 fn op_codes(rt: HostRuntime) {
     for &(number, code, text) in OP_CODES {
-        assert!(rt; OpCode::from_u8(number) == code, "{number}");
-        assert!(rt; u8::from(code) == number, "{number}");
-        assert!(rt; has_text(rt.alloc(), &code, text), "{number}");
+        let is_numbered = OpCode::from_u8(number) == code && u8::from(code) == number;
+        assert!(rt;
+            is_numbered && has_text(rt.alloc(), &code, text),
+            "{number}"
+        );
     }
 }
 
 #[test]
 fn op_codes_and_message_types_in_order(rt: HostRuntime) {
-    assert!(rt; has_order(&OpCode::Update, &OpCode::Notify, Greater));
-    assert!(rt; has_order(&OpCode::Update, &OpCode::Unknown(0), Less));
-    assert!(rt; has_order(&MessageType::Query, &MessageType::Response, Less));
-    assert!(rt; hash_alike(&OpCode::from_u8(5), &OpCode::Update));
-    assert!(rt; !hash_alike(&OpCode::Update, &OpCode::Unknown(5)));
-    assert!(rt; !hash_alike(&MessageType::Query, &MessageType::Response));
-    assert!(rt; prints(rt.alloc(), &MessageType::Query));
-    assert!(rt; prints(rt.alloc(), &MessageType::Response));
+    assert!(rt;
+        has_order(&OpCode::Update, &OpCode::Notify, Greater)
+            && has_order(&OpCode::Update, &OpCode::Unknown(0), Less)
+            && has_order(&MessageType::Query, &MessageType::Response, Less)
+    );
+    assert!(rt;
+        hash_alike(&OpCode::from_u8(5), &OpCode::Update)
+            && !hash_alike(&OpCode::Update, &OpCode::Unknown(5))
+            && !hash_alike(&MessageType::Query, &MessageType::Response)
+    );
+    assert!(rt; all_print(rt.alloc(), &[MessageType::Query, MessageType::Response]));
 }
 
 /// The response codes that have a name and a number of their own: number, code, name and text.
@@ -104,9 +109,10 @@ const CODES: &[(u16, ResponseCode, &'static str, &'static str)] = &[
 /// Numbers of codes without a name.
 const UNKNOWN: &[u16] = &[11, 15, 24, 4095, 4097, 65535];
 
-/// Whether this response code has this name and text.
+/// Whether this response code has this name, or none where it is empty, and this text.
 fn is_called(alloc: Global, code: ResponseCode, name: &str, text: &str) -> bool {
-    code.name().unwrap_or("") == name && code.to_str() == text && has_text(alloc, &code, text)
+    let is_named = code.name().unwrap_or("") == name && code.name().is_none() == name.is_empty();
+    is_named && code.to_str() == text && has_text(alloc, &code, text)
 }
 
 /// Whether this is the response code of this number.
@@ -118,8 +124,8 @@ fn is_numbered(number: u16, code: ResponseCode) -> bool {
 #[test]
 fn response_codes(rt: HostRuntime) {
     for &(number, code, name, text) in CODES {
-        assert!(rt; is_numbered(number, code), "{number}");
-        assert!(rt; is_called(rt.alloc(), code, name, text), "{number}");
+        let is_called = is_called(rt.alloc(), code, name, text);
+        assert!(rt; is_called && is_numbered(number, code), "{number}");
     }
 }
 
@@ -127,52 +133,46 @@ fn response_codes(rt: HostRuntime) {
 fn unknown_response_codes(rt: HostRuntime) {
     for &number in UNKNOWN {
         let code = ResponseCode::Unknown(number);
-        assert!(rt; is_numbered(number, code), "{number}");
-        assert!(rt;
-            is_called(rt.alloc(), code, "", "Unknown response code"),
-            "{number}"
-        );
-        assert!(rt; code.name().is_none(), "{number}");
+        let is_called = is_called(rt.alloc(), code, "", "Unknown response code");
+        assert!(rt; is_called && is_numbered(number, code), "{number}");
     }
 }
 
 /// BADVERS shares its number with BADSIG, and is written only.
 #[test]
 fn response_codes_in_order(rt: HostRuntime) {
-    assert!(rt; u16::from(ResponseCode::BADVERS) == 16);
+    let bad_version = ResponseCode::BADVERS;
+    let is_called = is_called(rt.alloc(), bad_version, "BADVERS", "Bad option versions");
+    assert!(rt; u16::from(bad_version) == 16 && is_called);
     assert!(rt;
-        is_called(
-            rt.alloc(),
-            ResponseCode::BADVERS,
-            "BADVERS",
-            "Bad option versions"
-        )
+        has_order(&bad_version, &ResponseCode::BADSIG, Less)
+            && has_order(&ResponseCode::Unknown(0), &ResponseCode::BADCOOKIE, Greater)
+            && has_order(&ResponseCode::Unknown(1), &ResponseCode::Unknown(2), Less)
     );
-    assert!(rt; has_order(&ResponseCode::BADVERS, &ResponseCode::BADSIG, Less));
-    assert!(rt; has_order(&ResponseCode::Unknown(0), &ResponseCode::BADCOOKIE, Greater));
-    assert!(rt; has_order(&ResponseCode::Unknown(1), &ResponseCode::Unknown(2), Less));
+}
+
+/// The low and the high part of a response code.
+fn parts(code: ResponseCode) -> (u8, u8) {
+    (code.low(), code.high())
 }
 
 #[test]
 fn parts_of_response_codes(rt: HostRuntime) {
     assert!(rt;
-        (
-            ResponseCode::BADCOOKIE.low(),
-            ResponseCode::BADCOOKIE.high()
-        ) == (7, 1)
+        parts(ResponseCode::BADCOOKIE) == (7, 1)
+            && parts(ResponseCode::Unknown(0xABCD)) == (0x0D, 0xBC)
     );
-    let unknown = ResponseCode::Unknown(0xABCD);
-    assert!(rt; (unknown.low(), unknown.high()) == (0x0D, 0xBC));
-    assert!(rt; ResponseCode::from_low(0xF3) == ResponseCode::NXDomain);
-    assert!(rt; ResponseCode::from(1, 0xF7) == ResponseCode::BADCOOKIE);
-    assert!(rt; ResponseCode::from(0xFF, 0x0F) == ResponseCode::Unknown(4095));
+    assert!(rt;
+        ResponseCode::from_low(0xF3) == ResponseCode::NXDomain
+            && ResponseCode::from(1, 0xF7) == ResponseCode::BADCOOKIE
+            && ResponseCode::from(0xFF, 0x0F) == ResponseCode::Unknown(4095)
+    );
     assert!(rt; ResponseCode::default() == ResponseCode::NoError);
-    assert!(rt; hash_alike(&ResponseCode::from(1, 3), &ResponseCode::BADMODE));
-    assert!(rt; !hash_alike(&ResponseCode::BADVERS, &ResponseCode::BADSIG));
-}
-
-#[test]
-fn a_response_code_takes_the_high_part_over(rt: HostRuntime) {
+    assert!(rt;
+        hash_alike(&ResponseCode::from(1, 3), &ResponseCode::BADMODE)
+            && !hash_alike(&ResponseCode::BADVERS, &ResponseCode::BADSIG)
+    );
+    // metadata takes the high part over
     let mut metadata = Metadata::new(1, MessageType::Response, OpCode::Query);
     metadata.response_code = ResponseCode::NXDomain;
     metadata.merge_response_code(1);
@@ -182,21 +182,7 @@ fn a_response_code_takes_the_high_part_over(rt: HostRuntime) {
 }
 
 #[test]
-fn texts_of_metadata(rt: HostRuntime) {
-    let plain = Metadata::new(10, MessageType::Query, OpCode::Query);
-    assert!(rt; has_text(rt.alloc(), &plain, "10:QUERY::NoError:QUERY"));
-    let mut update = Metadata::new(272, MessageType::Response, OpCode::Update);
-    update.truncation = true;
-    update.recursion_available = true;
-    update.response_code = ResponseCode::NXDomain;
-    assert!(rt; has_text(rt.alloc(), &update, "272:RESPONSE:TC,RA:NXDomain:UPDATE"));
-    let mut unknown = Metadata::new(65535, MessageType::Response, OpCode::Unknown(15));
-    unknown.recursion_desired = true;
-    unknown.checking_disabled = true;
-    unknown.authentic_data = true;
-    unknown.response_code = ResponseCode::Unknown(15);
-    let text = "65535:RESPONSE:RD,CD,AD:Unknown(15):Unknown opcode (15)";
-    assert!(rt; has_text(rt.alloc(), &unknown, text));
+fn texts_of_flags(rt: HostRuntime) {
     let mut flags = Flags {
         authoritative: true,
         truncation: true,
@@ -224,8 +210,7 @@ fn responses(rt: HostRuntime) {
     request.response_code = ResponseCode::Refused;
     let response = Metadata::response_from_request(&request);
     assert!(rt; has_text(rt.alloc(), &response, "7:RESPONSE:RD,CD:NoError:NOTIFY"));
-    assert!(rt; request.flags().authoritative);
-    assert!(rt; !response.flags().authoritative);
+    assert!(rt; request.flags().authoritative && !response.flags().authoritative);
 }
 
 /// The header of a response with this id and number of questions.
@@ -249,11 +234,12 @@ fn headers(rt: HostRuntime) {
         metadata,
         counts: HeaderCounts::default(),
     };
-    assert!(rt; empty == empty);
-    assert!(rt; has_order(&empty, &header_of_two, Less));
+    assert!(rt; empty == empty && has_order(&empty, &header_of_two, Less));
     assert!(rt; empty.counts.additionals == 0);
-    assert!(rt; hash_alike(&header_of_two, &header_of(1, 2)));
-    assert!(rt; !hash_alike(&header_of_two, &header_of(2, 2)));
-    assert!(rt; !hash_alike(&header_of_two, &header_of(1, 3)));
+    assert!(rt;
+        hash_alike(&header_of_two, &header_of(1, 2))
+            && !hash_alike(&header_of_two, &header_of(2, 2))
+            && !hash_alike(&header_of_two, &header_of(1, 3))
+    );
     assert!(rt; hash_alike(&metadata.flags(), &header_of(2, 3).metadata.flags()));
 }

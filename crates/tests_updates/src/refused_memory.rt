@@ -1,19 +1,34 @@
+//! What is sent, each allocation of which `scripts/refused_memory` refuses in turn.
+
 use crate::updates::builders::{SENT, Sent, build};
+use op::Message;
 use std::alloc::Global;
 use std::test::Fail;
 
-/// Whether what is sent is written as these bytes.
+/// Whether the message is written as these bytes, and they are read as the message.
+fn is_sent_as(alloc: Global, message: &Message, wire: &[u8]) -> Result<bool, Fail> {
+    let bytes = message.to_vec()?;
+    let read = Message::from_vec(alloc, wire)?;
+    let is_read = read == *message;
+    drop(read);
+    Ok(is_read && bytes.as_slice() == wire)
+}
+
+/// Whether what is sent is built as such a message.
 fn is_built_as(alloc: Global, sent: Sent, wire: &[u8]) -> Result<bool, Fail> {
     let message = build(alloc, sent)?;
-    let bytes = message.to_vec();
+    let is_sent = is_sent_as(alloc, &message, wire);
     drop(message);
-    Ok(bytes?.as_slice() == wire)
+    is_sent
 }
 
 #[test]
 fn updates_and_questions_for_transfers_are_built(rt: HostRuntime) -> Result<(), Fail> {
     for &(sent, len, wire) in SENT {
-        assert!(rt; is_built_as(rt.alloc(), sent, wire)?, "{len}");
+        assert!(rt;
+            is_built_as(rt.alloc(), sent, wire)? && wire.len() == len,
+            "{len}"
+        );
     }
     Ok(())
 }

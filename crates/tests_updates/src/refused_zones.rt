@@ -41,24 +41,15 @@ const REFUSED: &[(&'static str, &'static str, u8, &'static str)] = &[
     ("a.", "n 60 TYPE11 x\n", 21, "TYPE11"),
 ];
 
-/// Whether the refusal names this.
-fn is_named(refusal: &ParseError, named: &str) -> bool {
+/// What the refusal names.
+fn named(refusal: &ParseError) -> &str {
     match refusal {
-        ParseError::UnexpectedToken(Token::At) => named == "@",
-        ParseError::UnexpectedToken(Token::EOL) => named == "\n",
-        ParseError::Message(text) => *text == named,
-        ParseError::IncludeNotFound(text) => text.as_str() == named,
-        ParseError::UnknownRecordType(text) => text.as_str() == named,
-        _ => false,
+        ParseError::UnexpectedToken(Token::At) => "@",
+        ParseError::UnexpectedToken(Token::EOL) => "\n",
+        ParseError::Message(text) => *text,
+        ParseError::IncludeNotFound(text) | ParseError::UnknownRecordType(text) => text.as_str(),
+        _ => "",
     }
-}
-
-/// The name of a text, none of an empty one.
-fn origin(alloc: Global, text: &str) -> Result<Option<Name>, ParseError> {
-    if text.is_empty() {
-        return Ok(None);
-    }
-    Ok(Some(Name::parse(alloc, text, None)?))
 }
 
 /// One text, `f`, which includes itself.
@@ -70,28 +61,29 @@ fn includes(alloc: Global) -> Result<BTreeMap<String, String>, AllocError> {
     Ok(includes)
 }
 
-/// Whether the text is refused with this number, and the refusal names this.
-fn is_refused(parser: Parser<'_>, number: u8, named: &str) -> bool {
-    match parser.parse() {
-        Ok(zone) => {
-            drop(zone);
-            false
-        }
-        Err(refusal) => {
-            let is_right = refusal.number() == number && is_named(&refusal, named);
-            drop(refusal);
-            is_right
-        }
-    }
+/// Whether a row's text under its origin, or under none, is refused with the row's number, and
+/// the refusal names what the row does.
+fn is_refused(
+    alloc: Global,
+    includes: &BTreeMap<String, String>,
+    &(under, text, number, wanted): &(&str, &str, u8, &str),
+) -> Result<bool, ParseError> {
+    let origin = if under.is_empty() {
+        None
+    } else {
+        Some(Name::parse(alloc, under, None)?)
+    };
+    Ok(match Parser::new(alloc, text, includes, origin).parse() {
+        Ok(_) => false,
+        Err(refusal) => refusal.number() == number && named(&refusal) == wanted,
+    })
 }
 
 #[test]
 fn refusals_name_what_is_wrong(rt: HostRuntime) -> Result<(), Fail> {
-    let alloc = rt.alloc();
-    let includes = includes(alloc)?;
-    for &(under, text, number, named) in REFUSED {
-        let parser = Parser::new(alloc, text, &includes, origin(alloc, under)?);
-        assert!(rt; is_refused(parser, number, named), "{text}");
+    let includes = includes(rt.alloc())?;
+    for row in REFUSED {
+        assert!(rt; is_refused(rt.alloc(), &includes, row)?, "{row:?}");
     }
     Ok(())
 }

@@ -1,148 +1,72 @@
 //! Responses, and what they say; messages with an address.
 
-use base::{Name, ParseError, ProtoError, RecordType};
-use base_data::{A, MX, RData, SOA};
-use op::{Message, OpCode, Query};
+use base::ProtoError;
+use op::Message;
 use op_use::{DnsResponse, SerialMessage};
-use rr::Record;
-use std::alloc::Global;
+use std::alloc::{AllocError, Global};
 use std::net::{Ipv4Addr, SocketAddr, SocketAddrV4};
 use std::test::Fail;
 use test_tools::forms::are_bytes;
 
-/// The name that a text spells.
-fn name(alloc: Global, text: &str) -> Result<Name, ParseError> {
-    Name::parse(alloc, text, None)
+/// The response that is made of the message that bytes begin with.
+fn of_message(alloc: Global, wire: &[u8]) -> Result<DnsResponse, ProtoError> {
+    DnsResponse::from_message(alloc, Message::from_vec(alloc, wire)?)
 }
 
-/// A record that is put into a response.
-#[derive(Clone, Copy)]
-enum Entry {
-    /// An SOA, with a TTL and a minimum.
-    Soa(&'static str, u32, u32),
-    Address(&'static str),
-    Mail(&'static str),
+/// The response that is read of bytes.
+fn of_bytes(alloc: Global, wire: &[u8]) -> Result<DnsResponse, ProtoError> {
+    DnsResponse::from_buffer(alloc, Vec::from_slice(alloc, wire)?)
 }
 
-/// The data of an entry.
-fn data(alloc: Global, entry: Entry) -> RData {
-    match entry {
-        Entry::Soa(_, _, minimum) => {
-            RData::SOA(SOA::new(Name::root(alloc), Name::root(alloc), 1, 2, 3, 4, minimum))
-        }
-        Entry::Address(_) => RData::A(A::new(Ipv4Addr::new(192, 0, 2, 1))),
-        Entry::Mail(_) => RData::MX(MX::new(10, Name::root(alloc))),
-    }
-}
-
-/// The record of an entry.
-fn record(alloc: Global, entry: Entry) -> Result<Record, ParseError> {
-    let (owner, ttl) = match entry {
-        Entry::Soa(owner, ttl, _) => (owner, ttl),
-        Entry::Address(owner) | Entry::Mail(owner) => (owner, 60),
-    };
-    let owner = name(alloc, owner)?;
-    Ok(Record::from_rdata(owner, ttl, data(alloc, entry)))
-}
-
-/// Puts a question, answers and authorities into a message.
-fn fill(
-    alloc: Global,
-    message: &mut Message,
-    (asked, record_type): (&str, RecordType),
-    answers: &[Entry],
-    authorities: &[Entry],
-) -> Result<(), Fail> {
-    message.add_query(Query::query(name(alloc, asked)?, record_type))?;
-    for &entry in answers {
-        message.add_answer(record(alloc, entry)?)?;
-    }
-    for &entry in authorities {
-        message.add_authority(record(alloc, entry)?)?;
-    }
-    Ok(())
-}
-
-/// A response to a question.
-fn response(
-    alloc: Global,
-    question: (&str, RecordType),
-    answers: &[Entry],
-    authorities: &[Entry],
-) -> Result<DnsResponse, Fail> {
-    let mut message = Message::response(alloc, 1, OpCode::Query);
-    match fill(alloc, &mut message, question, answers, authorities) {
-        Ok(()) => Ok(DnsResponse::from_message(alloc, message)?),
-        Err(e) => {
-            drop(message);
-            Err(e)
-        }
-    }
-}
-
-/// Whether some question is answered by a response, and for how long the absence of an answer may be kept.
-fn says(
-    alloc: Global,
-    question: (&str, RecordType),
-    answers: &[Entry],
-    authorities: &[Entry],
-) -> Result<(bool, Option<u32>), Fail> {
-    let response = response(alloc, question, answers, authorities)?;
+/// Whether a response answers its question, and for how long the absence of an answer may be kept.
+fn says(response: DnsResponse) -> (bool, Option<u32>) {
     let said = (response.contains_answer(), response.negative_ttl());
     drop(response);
-    Ok(said)
+    said
 }
 
-/// A question, the answers and authorities of a response, and what it says.
-const SAID: &[(
-    (&'static str, RecordType),
-    &'static [Entry],
-    &'static [Entry],
-    (bool, Option<u32>),
-)] = &[
-    // an SOA answers for names within its zone
+/// The bytes of responses, whether each answers its question, and for how long the absence of an
+/// answer may be kept.
+const SAID: &[(&'static [u8], (bool, Option<u32>))] = &[
+    // an SOA answers for names within its zone: TTL 88640, minimum 5
     (
-        ("AN.EXAMPLE.", RecordType::SOA),
-        &[],
-        &[Entry::Soa("EXAMPLE.", 88640, 5)],
+        b"\x00\x01\x80\x00\x00\x01\x00\x00\x00\x01\x00\x00\x02AN\x07EXAMPLE\x00\x00\x06\x00\x01\
+          \x07EXAMPLE\x00\x00\x06\x00\x01\x00\x01\x5A\x40\x00\x16\x00\x00\
+          \x00\x00\x00\x01\x00\x00\x00\x02\x00\x00\x00\x03\x00\x00\x00\x04\x00\x00\x00\x05",
         (true, Some(5)),
     ),
     // names of answers are compared in any case
     (
-        ("b.", RecordType::A),
-        &[],
-        &[Entry::Address("B.")],
+        b"\x00\x01\x80\x00\x00\x01\x00\x00\x00\x01\x00\x00\x01b\x00\x00\x01\x00\x01\
+          \x01B\x00\x00\x01\x00\x01\x00\x00\x00\x3C\x00\x04\xC0\x00\x02\x01",
         (true, None),
     ),
     (
-        ("b.", RecordType::A),
-        &[],
-        &[Entry::Address("c.")],
+        b"\x00\x01\x80\x00\x00\x01\x00\x00\x00\x01\x00\x00\x01b\x00\x00\x01\x00\x01\
+          \x01c\x00\x00\x01\x00\x01\x00\x00\x00\x3C\x00\x04\xC0\x00\x02\x01",
         (false, None),
     ),
-    // the first SOA says how long
+    // the first SOA says how long: TTLs 10 and 1, minima 20 and 1
     (
-        ("b.", RecordType::A),
-        &[],
-        &[Entry::Soa("a.", 10, 20), Entry::Soa("a.", 1, 1)],
+        b"\x00\x01\x80\x00\x00\x01\x00\x00\x00\x02\x00\x00\x01b\x00\x00\x01\x00\x01\
+          \x01a\x00\x00\x06\x00\x01\x00\x00\x00\x0A\x00\x16\x00\x00\
+          \x00\x00\x00\x01\x00\x00\x00\x02\x00\x00\x00\x03\x00\x00\x00\x04\x00\x00\x00\x14\
+          \x01a\x00\x00\x06\x00\x01\x00\x00\x00\x01\x00\x16\x00\x00\
+          \x00\x00\x00\x01\x00\x00\x00\x02\x00\x00\x00\x03\x00\x00\x00\x04\x00\x00\x00\x01",
         (false, Some(10)),
     ),
-    // any answer answers a question of a type
+    // any answer answers a question of a type: the MX of another name
     (
-        ("b.", RecordType::A),
-        &[Entry::Mail("c.")],
-        &[],
+        b"\x00\x01\x80\x00\x00\x01\x00\x01\x00\x00\x00\x00\x01b\x00\x00\x01\x00\x01\
+          \x01c\x00\x00\x0F\x00\x01\x00\x00\x00\x3C\x00\x03\x00\x0A\x00",
         (true, None),
     ),
 ];
 
 #[test]
 fn responses_say_whether_they_answer_and_for_how_long(rt: HostRuntime) -> Result<(), Fail> {
-    for (i, &(question, answers, authorities, wanted)) in SAID.iter().enumerate() {
-        assert!(rt;
-            says(rt.alloc(), question, answers, authorities)? == wanted,
-            "row {i}"
-        );
+    for &(wire, wanted) in SAID {
+        assert!(rt; says(of_message(rt.alloc(), wire)?) == wanted, "{wire:?}");
     }
     Ok(())
 }
@@ -165,11 +89,10 @@ fn refusal(made: Result<DnsResponse, ProtoError>) -> u8 {
 #[test]
 fn a_query_is_no_response(rt: HostRuntime) -> Result<(), Fail> {
     let alloc = rt.alloc();
-    assert!(rt; refusal(DnsResponse::from_message(alloc, Message::query(alloc, 1))) == 16);
-    let query = vec![in alloc; 0, 1, 0, 0, 0, 0, 0, 0, 0, 0, 0, 0]?;
-    assert!(rt; refusal(DnsResponse::from_buffer(alloc, query)) == 16);
-    let cut = vec![in alloc; 0, 1, 0x80]?;
-    assert!(rt; refusal(DnsResponse::from_buffer(alloc, cut)) == 4);
+    let made = refusal(DnsResponse::from_message(alloc, Message::query(alloc, 1)));
+    let read = refusal(of_bytes(alloc, &[0, 1, 0, 0, 0, 0, 0, 0, 0, 0, 0, 0]));
+    let cut = refusal(of_bytes(alloc, &[0, 1, 0x80]));
+    assert!(rt; (made, read, cut) == (16, 16, 4));
     Ok(())
 }
 
@@ -177,89 +100,90 @@ fn a_query_is_no_response(rt: HostRuntime) -> Result<(), Fail> {
 const RESPONSE: &[u8] =
     b"\x00\x01\x80\x00\x00\x01\x00\x00\x00\x00\x00\x00\x01b\x00\x00\x01\x00\x01";
 
-/// Whether the bytes of a response to `b.` A are these, as they are written and as they were read with a byte after.
-fn has_bytes(alloc: Global) -> Result<(bool, bool), Fail> {
-    let written = response(alloc, ("b.", RecordType::A), &[], &[])?;
-    let is_written = are_bytes(Ok(written.into_buffer()), RESPONSE);
-    let mut bytes = Vec::from_slice(alloc, RESPONSE)?;
-    bytes.push(0xFF)?;
-    let read = DnsResponse::from_buffer(alloc, bytes)?;
-    let is_kept = read.as_buffer().len() == RESPONSE.len() + 1 && read.message().queries.len() == 1;
-    drop(read);
-    Ok((is_written, is_kept))
+/// The same with a byte after it.
+const LONGER: &[u8] =
+    b"\x00\x01\x80\x00\x00\x01\x00\x00\x00\x00\x00\x00\x01b\x00\x00\x01\x00\x01\xFF";
+
+/// Whether a copy of a response has these bytes, and the same message where that is taken out.
+fn is_copied(response: &DnsResponse, wire: &[u8]) -> bool {
+    match response.clone() {
+        Ok(copy) => {
+            let has_bytes = copy.as_buffer() == wire;
+            let message = Message::from(copy);
+            let is_same = message == *response.message();
+            drop(message);
+            has_bytes && is_same
+        }
+        Err(_) => false,
+    }
 }
 
-#[test]
-fn a_response_has_the_bytes_that_it_was_read_from(rt: HostRuntime) -> Result<(), Fail> {
-    assert!(rt; has_bytes(rt.alloc())? == (true, true));
-    Ok(())
-}
-
-/// Whether a change of the message leaves the bytes.
-fn keeps_bytes(alloc: Global) -> Result<bool, Fail> {
-    let mut response = DnsResponse::from_buffer(alloc, Vec::from_slice(alloc, RESPONSE)?)?;
+/// Whether a response has one question, and these bytes, also where its message is changed then.
+fn keeps_bytes(mut response: DnsResponse, wire: &[u8]) -> bool {
+    let is_read = response.message().queries.len() == 1 && response.as_buffer() == wire;
     response.message_mut().metadata.id = 2;
     let (message, bytes) = response.into_parts();
     let is_changed = message.metadata.id == 2;
     drop(message);
-    Ok(is_changed && are_bytes(Ok(bytes), RESPONSE))
+    let is_kept = are_bytes(Ok(bytes), wire);
+    is_read && is_changed && is_kept
+}
+
+/// Whether a response that is read of these bytes has and keeps them, and so does its copy, and one
+/// that is made of their message has the bytes of the message alone.
+fn has_bytes(alloc: Global, wire: &[u8]) -> Result<bool, ProtoError> {
+    let made = of_message(alloc, wire)?;
+    let is_written = are_bytes(Ok(made.into_buffer()), RESPONSE);
+    let response = of_bytes(alloc, wire)?;
+    let is_copied = is_copied(&response, wire);
+    let is_kept = keeps_bytes(response, wire);
+    Ok(is_written && is_copied && is_kept)
 }
 
 #[test]
-fn a_change_leaves_the_bytes(rt: HostRuntime) -> Result<(), Fail> {
-    assert!(rt; keeps_bytes(rt.alloc())?);
+fn a_response_has_the_bytes_that_it_was_read_from(rt: HostRuntime) -> Result<(), Fail> {
+    for &wire in &[RESPONSE, LONGER] {
+        assert!(rt; has_bytes(rt.alloc(), wire)?, "{wire:?}");
+    }
     Ok(())
 }
 
-/// Whether a copy of a response has its bytes, and its message where that is taken out.
-fn is_copied(alloc: Global) -> Result<(bool, bool), Fail> {
-    let response = DnsResponse::from_buffer(alloc, Vec::from_slice(alloc, RESPONSE)?)?;
-    let copy = response.clone()?;
-    let has_bytes = copy.as_buffer() == RESPONSE;
-    let message = Message::from(copy);
-    let is_same = message == *response.message();
-    drop(message);
-    drop(response);
-    Ok((has_bytes, is_same))
+/// The id of the message that the bytes begin with, 0 where there is none.
+fn id(serial: &SerialMessage) -> u16 {
+    match serial.to_message() {
+        Ok(message) => {
+            let id = message.metadata.id;
+            drop(message);
+            id
+        }
+        Err(_) => 0,
+    }
 }
 
-#[test]
-fn a_copy_of_a_response_has_its_message_and_bytes(rt: HostRuntime) -> Result<(), Fail> {
-    assert!(rt; is_copied(rt.alloc())? == (true, true));
-    Ok(())
+/// Whether the bytes are those of the response, with this address.
+fn has_parts(serial: &SerialMessage, addr: SocketAddr) -> bool {
+    id(serial) == 1 && serial.bytes() == RESPONSE && serial.addr() == addr
 }
 
-/// The id of the message that bytes begin with, and whether the address is kept.
-fn of_bytes(alloc: Global) -> Result<(u16, bool), Fail> {
-    let addr = SocketAddr::V4(SocketAddrV4::new(Ipv4Addr::new(192, 0, 2, 1), 53));
-    let serial = SerialMessage::new(Vec::from_slice(alloc, RESPONSE)?, addr);
-    let message = serial.to_message()?;
-    let id = message.metadata.id;
-    drop(message);
-    let (bytes, kept) = serial.into_parts();
-    Ok((id, are_bytes(Ok(bytes), RESPONSE) && kept == addr))
-}
-
-#[test]
-fn a_message_of_bytes_and_an_address(rt: HostRuntime) -> Result<(), Fail> {
-    assert!(rt; of_bytes(rt.alloc())? == (1, true));
-    Ok(())
-}
-
-/// Whether bytes and an address are lent, taken apart and put together again.
-fn goes_round(alloc: Global) -> Result<(bool, bool), Fail> {
-    let addr = SocketAddr::V4(SocketAddrV4::new(Ipv4Addr::new(192, 0, 2, 9), 5353));
-    let serial = SerialMessage::from_parts(Vec::from_slice(alloc, RESPONSE)?, addr);
-    let is_lent = serial.bytes() == RESPONSE && serial.addr() == addr;
-    let parts = <(Vec<u8>, SocketAddr)>::from(serial);
-    let again = SerialMessage::from(parts);
-    let is_kept = again.bytes() == RESPONSE && again.addr() == addr;
-    drop(again);
-    Ok((is_lent, is_kept))
+/// Whether the bytes of the response and an address are lent, taken apart and put together again, in
+/// each way.
+fn goes_round(alloc: Global, addr: SocketAddr) -> Result<bool, AllocError> {
+    let made = SerialMessage::new(Vec::from_slice(alloc, RESPONSE)?, addr);
+    let is_made = has_parts(&made, addr);
+    let again = SerialMessage::from(<(Vec<u8>, SocketAddr)>::from(made));
+    let is_again = has_parts(&again, addr);
+    let (bytes, kept) = again.into_parts();
+    let joined = SerialMessage::from_parts(bytes, kept);
+    let is_joined = has_parts(&joined, addr);
+    drop(joined);
+    Ok(is_made && is_again && is_joined)
 }
 
 #[test]
 fn bytes_and_an_address_go_round(rt: HostRuntime) -> Result<(), Fail> {
-    assert!(rt; goes_round(rt.alloc())? == (true, true));
+    for &(last, port) in &[(1, 53), (9, 5353)] {
+        let addr = SocketAddr::V4(SocketAddrV4::new(Ipv4Addr::new(192, 0, 2, last), port));
+        assert!(rt; goes_round(rt.alloc(), addr)?, "{port}");
+    }
     Ok(())
 }

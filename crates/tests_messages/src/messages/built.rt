@@ -1,11 +1,11 @@
 //! Messages that are put together: their texts, and their bytes.
 
 use super::values::{address, edns_with_option, if_filled, signature};
-use base::{Name, ParseError, RecordType};
+use base::{Name, ProtoError, RecordType};
 use base_data::{NULL, RData};
 use op::{Edns, Message, MessageType, OpCode, Query, ResponseCode};
 use rr::Record;
-use std::alloc::{AllocError, Global};
+use std::alloc::Global;
 use std::test::Fail;
 use test_tools::forms::has_text;
 
@@ -18,6 +18,14 @@ pub(crate) enum Kind {
     Notice(u16),
 }
 
+/// The sections of records.
+#[derive(Clone, Copy)]
+pub(crate) enum Section {
+    Answers,
+    Authorities,
+    Additionals,
+}
+
 /// What is put into a message.
 #[derive(Clone, Copy)]
 pub(crate) enum Part {
@@ -25,29 +33,20 @@ pub(crate) enum Part {
     Rd,
     Code(ResponseCode),
     Ask(&'static str, RecordType),
-    /// Addresses of this owner, of a TTL of 60 where none is given.
-    Answer(&'static str, u32),
-    Authority(&'static str),
-    Additional(&'static str),
-    /// Records of `a.` whose data, one zero byte, is only carried.
-    CarriedAnswer(RecordType),
-    CarriedAdditional(RecordType),
-    /// `a.` 0 NULL of this number of zero bytes.
+    /// An address of this owner and this TTL.
+    Address(Section, &'static str, u32),
+    /// The answer `a.` 0 NULL of this number of zero bytes.
     Zeros(usize),
     Edns,
     /// EDNS whose own high code is 9, and EDNS with an option.
     HighCode,
     Options,
     Signature,
-    /// Questions and addresses that are added at once, the questions for mail exchanges.
+    /// Questions for mail exchanges and addresses that are added at once.
     Asks(&'static [&'static str]),
-    Answers(&'static [&'static str]),
-    Authorities(&'static [&'static str]),
-    Additionals(&'static [&'static str]),
+    Addresses(Section, &'static [&'static str]),
     /// Addresses that become the section.
-    AllAnswers(&'static [&'static str]),
-    AllAuthorities(&'static [&'static str]),
-    AllAdditionals(&'static [&'static str]),
+    Whole(Section, &'static [&'static str]),
 }
 
 /// A message of this kind, without parts.
@@ -61,12 +60,12 @@ fn begin(alloc: Global, kind: Kind) -> Message {
 }
 
 /// The question for a type of a name.
-fn question(alloc: Global, name: &str, asked: RecordType) -> Result<Query, ParseError> {
+fn question(alloc: Global, name: &str, asked: RecordType) -> Result<Query, Fail> {
     Ok(Query::query(Name::parse(alloc, name, None)?, asked))
 }
 
 /// Questions for the mail exchanges of these names.
-fn questions(alloc: Global, names: &[&str]) -> Result<Vec<Query>, ParseError> {
+fn questions(alloc: Global, names: &[&str]) -> Result<Vec<Query>, Fail> {
     let mut queries = Vec::new(alloc);
     for name in names {
         queries.push(question(alloc, name, RecordType::MX)?)?;
@@ -75,7 +74,7 @@ fn questions(alloc: Global, names: &[&str]) -> Result<Vec<Query>, ParseError> {
 }
 
 /// Addresses of these owners.
-fn addresses(alloc: Global, owners: &[&str]) -> Result<Vec<Record>, ParseError> {
+fn addresses(alloc: Global, owners: &[&str]) -> Result<Vec<Record>, Fail> {
     let mut records = Vec::new(alloc);
     for owner in owners {
         records.push(address(alloc, owner, 60)?)?;
@@ -83,70 +82,48 @@ fn addresses(alloc: Global, owners: &[&str]) -> Result<Vec<Record>, ParseError> 
     Ok(records)
 }
 
-/// As many zero bytes.
-fn zeros(alloc: Global, len: usize) -> Result<NULL, AllocError> {
+/// `a.` 0 NULL of as many zero bytes.
+fn zeros(alloc: Global, len: usize) -> Result<Record, Fail> {
+    let owner = Name::parse(alloc, "a.", None)?;
     let mut bytes = Vec::new(alloc);
     bytes.resize(len, 0)?;
-    Ok(NULL::new(bytes))
+    Ok(Record::from_rdata(owner, 0, RData::NULL(NULL::new(bytes))))
 }
 
-/// A record of `a.`.
-fn record(alloc: Global, ttl: u32, rdata: RData) -> Result<Record, ParseError> {
-    match Name::parse(alloc, "a.", None) {
-        Ok(owner) => Ok(Record::from_rdata(owner, ttl, rdata)),
-        Err(e) => {
-            drop(rdata);
-            Err(e)
-        }
+/// Adds a record to a section.
+fn add(message: &mut Message, section: Section, record: Record) -> Result<(), ProtoError> {
+    match section {
+        Section::Answers => message.add_answer(record),
+        Section::Authorities => message.add_authority(record),
+        Section::Additionals => message.add_additional(record),
     }
 }
 
-/// A record of `a.` of a type that has no kind of its own, whose data is one zero byte.
-fn unknown_record(alloc: Global, code: RecordType) -> Result<Record, ParseError> {
-    let rdata = zeros(alloc, 1)?;
-    record(alloc, 60, RData::Unknown { code, rdata })
+/// Adds records to a section.
+fn add_all(
+    message: &mut Message,
+    section: Section,
+    records: Vec<Record>,
+) -> Result<(), ProtoError> {
+    match section {
+        Section::Answers => message.add_answers(records.into_iter()),
+        Section::Authorities => message.add_authorities(records.into_iter()),
+        Section::Additionals => message.add_additionals(records.into_iter()),
+    }
 }
 
-/// Puts a list of questions or records into a message.
-fn put_list(alloc: Global, message: &mut Message, part: Part) -> Result<(), Fail> {
-    match part {
-        Part::Asks(names) => message.add_queries(questions(alloc, names)?.into_iter())?,
-        Part::Answers(owners) => message.add_answers(addresses(alloc, owners)?.into_iter())?,
-        Part::Authorities(owners) => {
-            message.add_authorities(addresses(alloc, owners)?.into_iter())?
+/// Makes records a section that is empty.
+fn insert(message: &mut Message, section: Section, records: Vec<Record>) {
+    match section {
+        Section::Answers if message.answers.is_empty() => message.insert_answers(records),
+        Section::Authorities if message.authorities.is_empty() => {
+            message.insert_authorities(records)
         }
-        Part::Additionals(owners) => {
-            message.add_additionals(addresses(alloc, owners)?.into_iter())?
+        Section::Additionals if message.additionals.is_empty() => {
+            message.insert_additionals(records)
         }
-        Part::AllAnswers(owners) if message.answers.is_empty() => {
-            message.insert_answers(addresses(alloc, owners)?)
-        }
-        Part::AllAuthorities(owners) if message.authorities.is_empty() => {
-            message.insert_authorities(addresses(alloc, owners)?)
-        }
-        Part::AllAdditionals(owners) if message.additionals.is_empty() => {
-            message.insert_additionals(addresses(alloc, owners)?)
-        }
-        _ => {}
+        _ => drop(records),
     }
-    Ok(())
-}
-
-/// Puts a question or a record into a message.
-fn put_record(alloc: Global, message: &mut Message, part: Part) -> Result<(), Fail> {
-    match part {
-        Part::Ask(name, asked) => message.add_query(question(alloc, name, asked)?)?,
-        Part::Answer(owner, ttl) => message.add_answer(address(alloc, owner, ttl)?)?,
-        Part::Authority(owner) => message.add_authority(address(alloc, owner, 60)?)?,
-        Part::Additional(owner) => message.add_additional(address(alloc, owner, 60)?)?,
-        Part::CarriedAnswer(code) => message.add_answer(unknown_record(alloc, code)?)?,
-        Part::CarriedAdditional(code) => message.add_additional(unknown_record(alloc, code)?)?,
-        Part::Zeros(len) => {
-            message.add_answer(record(alloc, 0, RData::NULL(zeros(alloc, len)?))?)?
-        }
-        _ => put_list(alloc, message, part)?,
-    }
-    Ok(())
 }
 
 /// Puts a part into a message.
@@ -154,6 +131,9 @@ fn put(alloc: Global, message: &mut Message, part: Part) -> Result<(), Fail> {
     match part {
         Part::Rd => message.metadata.recursion_desired = true,
         Part::Code(code) => message.metadata.response_code = code,
+        Part::Ask(name, asked) => message.add_query(question(alloc, name, asked)?)?,
+        Part::Address(section, owner, ttl) => add(message, section, address(alloc, owner, ttl)?)?,
+        Part::Zeros(len) => message.add_answer(zeros(alloc, len)?)?,
         Part::Edns => {
             message.set_edns(Edns::new(alloc));
         }
@@ -168,7 +148,9 @@ fn put(alloc: Global, message: &mut Message, part: Part) -> Result<(), Fail> {
         Part::Signature => {
             message.set_signature(signature(alloc)?);
         }
-        _ => put_record(alloc, message, part)?,
+        Part::Asks(names) => message.add_queries(questions(alloc, names)?.into_iter())?,
+        Part::Addresses(section, owners) => add_all(message, section, addresses(alloc, owners)?)?,
+        Part::Whole(section, owners) => insert(message, section, addresses(alloc, owners)?),
     }
     Ok(())
 }
@@ -194,7 +176,7 @@ const TEXTS: &[(Kind, &'static [Part], &'static str, bool)] = &[
         Kind::Query(10),
         &[
             Part::Ask("a.", RecordType::A),
-            Part::Answer("b.", 60),
+            Part::Address(Section::Answers, "b.", 60),
             Part::Edns,
         ],
         "; header 10:QUERY::NoError:QUERY\n; edns version: 0 dnssec_ok: false z_flags: 0 max_payload: 512 opts: 0\n; query\n;; a. IN A; mdns_unicast_response: false\n",
@@ -203,10 +185,10 @@ const TEXTS: &[(Kind, &'static [Part], &'static str, bool)] = &[
     (
         Kind::Refusal(7, ResponseCode::NXDomain),
         &[
-            Part::Answer("a.", 60),
-            Part::Answer("b.", 60),
-            Part::Authority("c."),
-            Part::Additional("d."),
+            Part::Address(Section::Answers, "a.", 60),
+            Part::Address(Section::Answers, "b.", 60),
+            Part::Address(Section::Authorities, "c.", 60),
+            Part::Address(Section::Additionals, "d.", 60),
         ],
         "; header 7:RESPONSE::NXDomain:QUERY\n; query\n; answers 2\na. 60 IN A 192.0.2.1\nb. 60 IN A 192.0.2.1\n; authorities 1\nc. 60 IN A 192.0.2.1\n; additionals 1\nd. 60 IN A 192.0.2.1\n",
         false,
@@ -223,11 +205,11 @@ const TEXTS: &[(Kind, &'static [Part], &'static str, bool)] = &[
         Kind::Response(7),
         &[
             Part::Ask("y.", RecordType::A),
-            Part::Answer("z.", 5),
+            Part::Address(Section::Answers, "z.", 5),
             Part::Asks(&["a.", "b."]),
-            Part::Answers(&["c.", "d."]),
-            Part::Authorities(&["e.", "f."]),
-            Part::Additionals(&["g.", "h."]),
+            Part::Addresses(Section::Answers, &["c.", "d."]),
+            Part::Addresses(Section::Authorities, &["e.", "f."]),
+            Part::Addresses(Section::Additionals, &["g.", "h."]),
         ],
         "; header 7:RESPONSE::NoError:QUERY\n; query\n;; y. IN A; mdns_unicast_response: false\n\
          ;; a. IN MX; mdns_unicast_response: false\n;; b. IN MX; mdns_unicast_response: false\n\
@@ -240,9 +222,9 @@ const TEXTS: &[(Kind, &'static [Part], &'static str, bool)] = &[
     (
         Kind::Response(7),
         &[
-            Part::AllAnswers(&["c.", "d."]),
-            Part::AllAuthorities(&["e."]),
-            Part::AllAdditionals(&["g."]),
+            Part::Whole(Section::Answers, &["c.", "d."]),
+            Part::Whole(Section::Authorities, &["e."]),
+            Part::Whole(Section::Additionals, &["g."]),
         ],
         "; header 7:RESPONSE::NoError:QUERY\n; query\n\
          ; answers 2\nc. 60 IN A 192.0.2.1\nd. 60 IN A 192.0.2.1\n\
@@ -250,14 +232,6 @@ const TEXTS: &[(Kind, &'static [Part], &'static str, bool)] = &[
         false,
     ),
 ];
-
-/// Whether a message is no empty response.
-fn is_filled(alloc: Global, message: &Message) -> bool {
-    let empty = Message::response(alloc, 7, OpCode::Query);
-    let is_other = *message != empty;
-    drop(empty);
-    is_other
-}
 
 /// Whether the message of these parts has this text, is signed or not, and is no empty response.
 fn is_shown(
@@ -268,8 +242,10 @@ fn is_shown(
     is_signed: bool,
 ) -> Result<bool, Fail> {
     let message = build(alloc, kind, parts)?;
+    let empty = Message::response(alloc, 7, OpCode::Query);
+    let is_filled = message != empty;
+    drop(empty);
     let is_shown = has_text(alloc, &message, text) && message.signature.is_some() == is_signed;
-    let is_filled = is_filled(alloc, &message);
     drop(message);
     Ok(is_shown && is_filled)
 }
@@ -327,8 +303,8 @@ const WRITTEN: &[(Kind, &'static [Part], usize, &'static [u8])] = &[
         &[
             Part::Ask("a.", RecordType::A),
             Part::Zeros(100),
-            Part::Answer("z.a.", 0),
-            Part::Answer("z.a.", 0),
+            Part::Address(Section::Answers, "z.a.", 0),
+            Part::Address(Section::Answers, "z.a.", 0),
         ],
         165,
         b"\x01z\xC0\x0C\x00\x01\x00\x01\x00\x00\x00\x00\x00\x04\xC0\x00\x02\x01\xC0\x83\x00\x01\x00\x01\x00\x00\x00\x00\x00\x04\xC0\x00\x02\x01",
@@ -339,8 +315,8 @@ const WRITTEN: &[(Kind, &'static [Part], usize, &'static [u8])] = &[
         &[
             Part::Ask("a.", RecordType::A),
             Part::Zeros(16_400),
-            Part::Answer("z.a.", 0),
-            Part::Answer("z.a.", 0),
+            Part::Address(Section::Answers, "z.a.", 0),
+            Part::Address(Section::Answers, "z.a.", 0),
         ],
         16_467,
         b"\x01z\xC0\x0C\x00\x01\x00\x01\x00\x00\x00\x00\x00\x04\xC0\x00\x02\x01\x01z\xC0\x0C\x00\x01\x00\x01\x00\x00\x00\x00\x00\x04\xC0\x00\x02\x01",
@@ -380,21 +356,23 @@ fn read_code(alloc: Global, parts: &[Part]) -> Result<ResponseCode, Fail> {
     Ok(code)
 }
 
-/// The high bits of the code stand in OPT, and nowhere without it; what doesn't fit is dropped.
+/// Codes that are set, and what is read: the high bits stand in OPT, and nowhere without it; what doesn't fit is dropped.
+const CODES: &[(&'static [Part], ResponseCode)] = &[
+    (
+        &[Part::Code(ResponseCode::BADVERS), Part::HighCode],
+        ResponseCode::BADSIG,
+    ),
+    (&[Part::Code(ResponseCode::BADVERS)], ResponseCode::NoError),
+    (
+        &[Part::Code(ResponseCode::Unknown(4097)), Part::HighCode],
+        ResponseCode::FormErr,
+    ),
+];
+
 #[test]
 fn codes_are_written_and_read(rt: HostRuntime) -> Result<(), Fail> {
-    for &(parts, read) in &[
-        (
-            &[Part::Code(ResponseCode::BADVERS), Part::HighCode] as &[Part],
-            ResponseCode::BADSIG,
-        ),
-        (&[Part::Code(ResponseCode::BADVERS)], ResponseCode::NoError),
-        (
-            &[Part::Code(ResponseCode::Unknown(4097)), Part::HighCode],
-            ResponseCode::FormErr,
-        ),
-    ] {
-        assert!(rt; read_code(rt.alloc(), parts)? == read);
+    for &(parts, code) in CODES {
+        assert!(rt; read_code(rt.alloc(), parts)? == code, "{code}");
     }
     Ok(())
 }

@@ -19,8 +19,8 @@ const FLAGS: &[(u16, bool, u16)] = &[
 fn flags_are_read_and_written(rt: HostRuntime) {
     for &(number, dnssec_ok, z) in FLAGS {
         let flags = EdnsFlags::from(number);
-        assert!(rt; flags == EdnsFlags { dnssec_ok, z }, "{number}");
-        assert!(rt; u16::from(flags) == number, "{number}");
+        let is_read = flags == EdnsFlags { dnssec_ok, z };
+        assert!(rt; is_read && u16::from(flags) == number, "{number}");
     }
     // there are fifteen bits beside DO
     let wide = EdnsFlags {
@@ -54,27 +54,27 @@ fn payload(alloc: Global, told: &[u16]) -> u16 {
 fn the_fields_of_edns(rt: HostRuntime) {
     let edns = edns(rt.alloc());
     let text = "version: 64 dnssec_ok: true z_flags: 1 max_payload: 32776 opts: 0";
-    assert!(rt; has_text(rt.alloc(), &edns, text));
+    let is_shown = has_text(rt.alloc(), &edns, text);
     let bytes = b"\x00\x00\x29\x80\x08\x01\x40\x80\x01\x00\x00";
-    assert!(rt; is_written_as(rt.alloc(), &edns, bytes));
-    assert!(rt; (edns.rcode_high(), edns.version(), edns.flags().z) == (1, 64, 1));
-    assert!(rt; is_copied(edns));
-    assert!(rt; payload(rt.alloc(), &[]) == 512);
-    assert!(rt; payload(rt.alloc(), &[100]) == 512);
-    assert!(rt; payload(rt.alloc(), &[100, DEFAULT_MAX_PAYLOAD_LEN]) == 1232);
-}
-
-/// Whether one option stands there, of this code and not of the other.
-fn has_option(edns: &Edns, code: u16, other: u16) -> bool {
-    let is_found = edns.option(code).is_some() && edns.option(other).is_none();
-    is_found && edns.options().as_ref().len() == 1
+    let is_written = is_written_as(rt.alloc(), &edns, bytes);
+    let fields = (edns.rcode_high(), edns.version(), edns.flags().z);
+    let is_copied = is_copied(edns);
+    assert!(rt; is_shown && is_written && is_copied);
+    assert!(rt; fields == (1, 64, 1));
+    assert!(rt;
+        payload(rt.alloc(), &[]) == 512
+            && payload(rt.alloc(), &[100]) == 512
+            && payload(rt.alloc(), &[100, DEFAULT_MAX_PAYLOAD_LEN]) == 1232
+    );
 }
 
 #[test]
 fn options_are_put_and_found(rt: HostRuntime) -> Result<(), ProtoError> {
     let edns = edns_with_option(rt.alloc())?;
-    assert!(rt; has_option(&edns, 65001, 65002));
+    let is_found = edns.option(65001).is_some() && edns.option(65002).is_none();
+    let len = edns.options().as_ref().len();
     drop(edns);
+    assert!(rt; is_found && len == 1);
     Ok(())
 }
 

@@ -32,10 +32,30 @@ fn is_filled_as(header: &Header, bytes: &[u8; 12]) -> bool {
     header.to_bytes().as_slice() == bytes.as_slice()
 }
 
-/// Whether a header with these two bytes of codes and flags has this text, and is written with these.
-fn is_shown_as(alloc: Global, (high, low): (u8, u8), again: (u8, u8), text: &str) -> bool {
-    let bytes = [0, 0, high, low, 0, 0, 0, 0, 0, 0, 0, 0];
-    let written = [0, 0, again.0, again.1, 0, 0, 0, 0, 0, 0, 0, 0];
+#[test]
+fn headers_on_the_wire(rt: HostRuntime) {
+    let is_read = is_read_as(rt.alloc(), &BYTES, &header());
+    assert!(rt; is_read && is_read_to::<Header>(rt.alloc(), &BYTES, 12) && Header::LEN == 12);
+    let is_written = is_written_back::<Header>(rt.alloc(), &BYTES);
+    assert!(rt; is_written && is_filled_as(&header(), &BYTES));
+    for len in 0..12usize {
+        assert!(rt; is_cut::<Header>(rt.alloc(), &BYTES[..len]), "{len}");
+    }
+    // large codes are cut
+    let mut metadata = Metadata::new(0, MessageType::Query, OpCode::Unknown(16));
+    metadata.response_code = ResponseCode::BADVERS;
+    let large = Header {
+        metadata,
+        counts: HeaderCounts::default(),
+    };
+    assert!(rt; is_filled_as(&large, &[0, 0, 0x80, 0, 0, 0, 0, 0, 0, 0, 0, 0]));
+}
+
+/// Whether a header with this id and these two bytes of codes and flags has this text, and is written with the same, but
+/// for the reserved bit.
+fn is_shown_as(alloc: Global, id: [u8; 2], high: u8, low: u8, text: &str) -> bool {
+    let bytes = [id[0], id[1], high, low, 0, 0, 0, 0, 0, 0, 0, 0];
+    let written = [id[0], id[1], high, low & 0xBF, 0, 0, 0, 0, 0, 0, 0, 0];
     let found: Result<Header, DecodeError> = read(alloc, &bytes);
     let is_shown = match &found {
         Ok(found) => is_filled_as(found, &written) && has_text(alloc, &found.metadata, text),
@@ -45,47 +65,38 @@ fn is_shown_as(alloc: Global, (high, low): (u8, u8), again: (u8, u8), text: &str
     is_shown
 }
 
-/// The bytes of codes and flags, and the text of the header.
-const FLAGS: &[(u8, u8, &'static str)] = &[
-    (0x80, 0x00, "0:RESPONSE::NoError:QUERY"),
-    (0x04, 0x00, "0:QUERY:AA:NoError:QUERY"),
-    (0x02, 0x00, "0:QUERY:TC:NoError:QUERY"),
-    (0x01, 0x00, "0:QUERY:RD:NoError:QUERY"),
-    (0x00, 0x80, "0:QUERY:RA:NoError:QUERY"),
-    (0x00, 0x20, "0:QUERY:AD:NoError:QUERY"),
-    (0x00, 0x10, "0:QUERY:CD:NoError:QUERY"),
-    (0x10, 0x00, "0:QUERY::NoError:STATUS"),
-    (0x20, 0x00, "0:QUERY::NoError:NOTIFY"),
-    (0x00, 0x05, "0:QUERY::Refused:QUERY"),
+/// The id, the bytes of codes and flags, and the text of the header.
+const FLAGS: &[(u16, u8, u8, &'static str)] = &[
+    (0, 0x80, 0x00, "0:RESPONSE::NoError:QUERY"),
+    (0, 0x04, 0x00, "0:QUERY:AA:NoError:QUERY"),
+    (0, 0x02, 0x00, "0:QUERY:TC:NoError:QUERY"),
+    (0, 0x01, 0x00, "0:QUERY:RD:NoError:QUERY"),
+    (0, 0x00, 0x80, "0:QUERY:RA:NoError:QUERY"),
+    (0, 0x00, 0x20, "0:QUERY:AD:NoError:QUERY"),
+    (0, 0x00, 0x10, "0:QUERY:CD:NoError:QUERY"),
+    (0, 0x10, 0x00, "0:QUERY::NoError:STATUS"),
+    (0, 0x20, 0x00, "0:QUERY::NoError:NOTIFY"),
+    (0, 0x00, 0x05, "0:QUERY::Refused:QUERY"),
+    (10, 0x00, 0x00, "10:QUERY::NoError:QUERY"),
+    (272, 0xAA, 0x83, "272:RESPONSE:TC,RA:NXDomain:UPDATE"),
+    (
+        65535,
+        0xF9,
+        0x3F,
+        "65535:RESPONSE:RD,CD,AD:Unknown(15):Unknown opcode (15)",
+    ),
+    // the reserved bit is dropped
+    (0, 0x00, 0x40, "0:QUERY::NoError:QUERY"),
 ];
 
 #[test]
-fn headers_on_the_wire(rt: HostRuntime) {
-    assert!(rt; is_read_as(rt.alloc(), &BYTES, &header()));
-    assert!(rt; is_read_to::<Header>(rt.alloc(), &BYTES, 12));
-    assert!(rt; is_written_back::<Header>(rt.alloc(), &BYTES));
-    assert!(rt; is_filled_as(&header(), &BYTES));
-    assert!(rt; Header::LEN == 12);
-    for len in 0..12usize {
-        assert!(rt; is_cut::<Header>(rt.alloc(), &BYTES[..len]), "{len}");
-    }
-    for &(high, low, text) in FLAGS {
+fn flags_of_a_header(rt: HostRuntime) {
+    for &(id, high, low, text) in FLAGS {
         assert!(rt;
-            is_shown_as(rt.alloc(), (high, low), (high, low), text),
+            is_shown_as(rt.alloc(), id.to_be_bytes(), high, low, text),
             "{text}"
         );
     }
-    // the reserved bit is dropped
-    let text = "0:QUERY::NoError:QUERY";
-    assert!(rt; is_shown_as(rt.alloc(), (0, 0x40), (0, 0), text));
-    // large codes are cut
-    let mut metadata = Metadata::new(0, MessageType::Query, OpCode::Unknown(16));
-    metadata.response_code = ResponseCode::BADVERS;
-    let large = Header {
-        metadata,
-        counts: HeaderCounts::default(),
-    };
-    assert!(rt; is_filled_as(&large, &[0, 0, 0x80, 0, 0, 0, 0, 0, 0, 0, 0, 0]));
 }
 
 /// Whether no header is written after thirteen bytes of twenty-four, and none of its bytes.
@@ -105,9 +116,9 @@ fn fill_in(encoder: &mut BinEncoder<'_>) -> Result<(), ProtoError> {
     Ok(())
 }
 
-/// Whether a header that is filled in stands in its room, and one after it is refused.
-fn is_filled_in(alloc: Global) -> bool {
-    let mut bytes = Vec::new(alloc);
+#[test]
+fn a_header_fills_its_room_or_is_refused(rt: HostRuntime) {
+    let mut bytes = Vec::new(rt.alloc());
     let mut encoder = BinEncoder::new(&mut bytes);
     let filled = fill_in(&mut encoder);
     let is_filled = filled.is_ok();
@@ -116,10 +127,5 @@ fn is_filled_in(alloc: Global) -> bool {
     drop(encoder);
     let is_first = bytes.starts_with(&BYTES);
     drop(bytes);
-    is_filled && is_refused && is_first
-}
-
-#[test]
-fn a_header_fills_its_room_or_is_refused(rt: HostRuntime) {
-    assert!(rt; is_filled_in(rt.alloc()));
+    assert!(rt; is_filled && is_refused && is_first);
 }

@@ -24,69 +24,72 @@ fn stands_as(alloc: Global, query: Query, wire: &[u8], text: &str) -> bool {
 fn a_question(rt: HostRuntime) -> Result<(), ParseError> {
     let name = Name::parse(rt.alloc(), "WWW.example.com.", None)?;
     let text = "WWW.example.com. IN AAAA; mdns_unicast_response: false";
-    assert!(rt; stands_as(rt.alloc(), Query::query(name, RecordType::AAAA), WWW, text));
-    assert!(rt; is_read_with_text::<Query>(rt.alloc(), WWW, text));
-    assert!(rt; is_read_to::<Query>(rt.alloc(), WWW, 21));
+    let stands = stands_as(rt.alloc(), Query::query(name, RecordType::AAAA), WWW, text);
+    let is_read = is_read_with_text::<Query>(rt.alloc(), WWW, text);
+    assert!(rt; stands && is_read && is_read_to::<Query>(rt.alloc(), WWW, 21));
     let text = "name: www.example.com. type: AAAA class: IN";
-    assert!(rt; is_read_with_text::<LowerQuery>(rt.alloc(), WWW, text));
-    assert!(rt; is_written_back::<LowerQuery>(rt.alloc(), WWW));
+    let is_written = is_written_back::<LowerQuery>(rt.alloc(), WWW);
+    assert!(rt; is_written && is_read_with_text::<LowerQuery>(rt.alloc(), WWW, text));
     Ok(())
 }
 
-/// Whether a lower question has this name, and was asked with that one, for this type in this class.
-fn keeps(
-    alloc: Global,
-    question: LowerQuery,
-    (lower, asked): (&str, &str),
-    query_type: RecordType,
-    class: DNSClass,
-) -> bool {
-    let asks = question.query_type() == query_type && question.query_class() == class;
-    let is_lowered = has_text(alloc, question.name(), lower);
-    let is_kept = has_text(alloc, question.original().name(), asked);
-    drop(question);
-    asks && is_lowered && is_kept
-}
-
-/// What is made of that question.
-pub(crate) fn lower(alloc: Global) -> Result<LowerQuery, Fail> {
-    let question: Query = read(alloc, WWW)?;
-    Ok(LowerQuery::try_from(question)?)
+/// Whether a lower question is the one in lower case, and keeps the one that was asked.
+fn is_lowered(alloc: Global, question: &LowerQuery) -> bool {
+    let asks = question.query_type() == RecordType::AAAA && question.query_class() == DNSClass::IN;
+    asks && has_text(alloc, question.name(), "www.example.com.")
+        && has_text(alloc, question.original().name(), "WWW.example.com.")
 }
 
 #[test]
 fn a_lower_question_keeps_the_one_that_was_asked(rt: HostRuntime) -> Result<(), Fail> {
-    let names = ("www.example.com.", "WWW.example.com.");
-    let read: LowerQuery = read(rt.alloc(), WWW)?;
-    assert!(rt; keeps(rt.alloc(), read, names, RecordType::AAAA, DNSClass::IN));
-    let made = lower(rt.alloc())?;
-    assert!(rt; is_read_as(rt.alloc(), WWW, &made));
-    assert!(rt; is_copied(made));
+    let question: LowerQuery = read(rt.alloc(), WWW)?;
+    let is_lowered = is_lowered(rt.alloc(), &question);
+    drop(question);
+    let question: Query = read(rt.alloc(), WWW)?;
+    let made = LowerQuery::try_from(question)?;
+    let is_read = is_read_as(rt.alloc(), WWW, &made);
+    let is_copied = is_copied(made);
+    assert!(rt; is_lowered && is_read && is_copied);
     Ok(())
 }
 
 /// A question of the root with the unicast bit.
 const UNICAST: &[u8] = &[0x00, 0x00, 0x01, 0x80, 0x01];
 
-/// Whether a question for the root asks for unicast, in this class.
-fn asks_for_unicast(query: &Query, class: DNSClass) -> bool {
-    query.name().is_root() && query.query_class() == class && query.mdns_unicast_response()
+/// Whether the bytes begin with a question of this name, for this type in this class, and whether it asks for unicast.
+fn asks(
+    alloc: Global,
+    wire: &[u8],
+    name: &str,
+    query_type: RecordType,
+    class: DNSClass,
+) -> (bool, bool) {
+    let found: Result<Query, DecodeError> = read(alloc, wire);
+    let asks = match &found {
+        Ok(query) => {
+            let is_typed = query.query_type() == query_type && query.query_class() == class;
+            let is_named = has_text(alloc, query.name(), name);
+            (is_typed && is_named, query.mdns_unicast_response())
+        }
+        Err(_) => (false, false),
+    };
+    drop(found);
+    asks
 }
 
 #[test]
-fn the_top_bit_asks_for_unicast(rt: HostRuntime) -> Result<(), DecodeError> {
-    let alloc = rt.alloc();
-    let mut query = Query::new(alloc);
+fn the_top_bit_asks_for_unicast(rt: HostRuntime) {
+    let read = asks(rt.alloc(), UNICAST, ".", RecordType::A, DNSClass::IN);
+    assert!(rt; read == (true, true));
+    let mut query = Query::new(rt.alloc());
     query.set_mdns_unicast_response(true);
-    assert!(rt; stands_as(alloc, query, UNICAST, ". IN A; mdns_unicast_response: true"));
-    let plain = Query::new(alloc);
-    assert!(rt; is_written_as(alloc, &plain, &[0, 0, 1, 0, 1]));
-    assert!(rt; !is_read_as(alloc, UNICAST, &plain));
+    let text = ". IN A; mdns_unicast_response: true";
+    assert!(rt; stands_as(rt.alloc(), query, UNICAST, text));
+    let plain = Query::new(rt.alloc());
+    let is_written = is_written_as(rt.alloc(), &plain, &[0, 0, 1, 0, 1]);
+    let is_read = is_read_as(rt.alloc(), UNICAST, &plain);
     drop(plain);
-    let unicast: Query = read(alloc, UNICAST)?;
-    assert!(rt; asks_for_unicast(&unicast, DNSClass::IN));
-    drop(unicast);
-    Ok(())
+    assert!(rt; is_written && !is_read);
 }
 
 /// Whether the bytes begin with no name.
@@ -98,53 +101,52 @@ fn is_bad_name(alloc: Global, bytes: &[u8]) -> bool {
 }
 
 #[test]
-fn questions_that_are_read_as_others_or_refused(rt: HostRuntime) -> Result<(), DecodeError> {
-    let bytes = [0x01, 0x61, 0x00, 0x00, 0x29, 0x00, 0x64];
-    let read: Query = read(rt.alloc(), &bytes)?;
-    assert!(rt; read.query_type() == RecordType::OPT);
-    assert!(rt; read.query_class() == DNSClass::Unknown(100));
-    drop(read);
+fn questions_that_are_read_as_others_or_refused(rt: HostRuntime) {
+    let wire = [0x01, 0x61, 0x00, 0x00, 0x29, 0x00, 0x64];
+    let read = asks(
+        rt.alloc(),
+        &wire,
+        "a.",
+        RecordType::OPT,
+        DNSClass::Unknown(100),
+    );
+    assert!(rt; read == (true, false));
     assert!(rt; is_bad_name(rt.alloc(), &[0x40, 0x00]));
-    assert!(rt; is_cut::<Query>(rt.alloc(), &[0x03, 0x77, 0x77]));
-    assert!(rt; is_cut::<Query>(rt.alloc(), &[0x00, 0x00, 0x01, 0x00]));
-    Ok(())
+    let ends_in_name = is_cut::<Query>(rt.alloc(), &[0x03, 0x77, 0x77]);
+    assert!(rt; ends_in_name && is_cut::<Query>(rt.alloc(), &[0x00, 0x00, 0x01, 0x00]));
 }
 
-/// The question that the setters make, in this class.
-fn set_fields(alloc: Global, class: DNSClass) -> Result<Query, ParseError> {
+/// Whether the question that the setters make in this class has this text, is its copy, and is the question for `A.` in
+/// IN or not.
+fn is_set(alloc: Global, class: DNSClass, text: &str, is_same: bool) -> Result<bool, ParseError> {
     let name = Name::parse(alloc, "a.", None)?;
+    let other = Name::parse(alloc, "A.", None)?;
     let mut query = Query::new(alloc);
     query
         .set_name(name)
         .set_query_type(RecordType::MX)
         .set_query_class(DNSClass::CH)
         .set_query_class(class);
-    Ok(query)
+    let other = Query::query(other, RecordType::MX);
+    let is_right = (query == other) == is_same && has_text(alloc, &query, text);
+    drop(other);
+    Ok(is_copied(query) && is_right)
 }
 
-/// Whether the question that the setters make in this class is the question for `A.` in IN, and is its copy.
-fn is_other(alloc: Global, class: DNSClass) -> Result<(bool, bool), ParseError> {
-    let query = set_fields(alloc, class)?;
-    match Name::parse(alloc, "A.", None) {
-        Ok(name) => {
-            let other = Query::query(name, RecordType::MX);
-            let same = query == other;
-            drop(other);
-            Ok((same, is_copied(query)))
-        }
-        Err(e) => {
-            drop(query);
-            Err(e)
-        }
-    }
-}
+/// Classes, the texts of the questions, and whether they are the same as the other.
+const SET: &[(DNSClass, &'static str, bool)] = &[
+    (
+        DNSClass::CH,
+        "a. CH MX; mdns_unicast_response: false",
+        false,
+    ),
+    (DNSClass::IN, "a. IN MX; mdns_unicast_response: false", true),
+];
 
 #[test]
 fn setters_change_their_field(rt: HostRuntime) -> Result<(), ParseError> {
-    let query = set_fields(rt.alloc(), DNSClass::CH)?;
-    assert!(rt; has_text(rt.alloc(), &query, "a. CH MX; mdns_unicast_response: false"));
-    drop(query);
-    assert!(rt; is_other(rt.alloc(), DNSClass::CH)? == (false, true));
-    assert!(rt; is_other(rt.alloc(), DNSClass::IN)? == (true, true));
+    for &(class, text, is_same) in SET {
+        assert!(rt; is_set(rt.alloc(), class, text, is_same)?, "{text}");
+    }
     Ok(())
 }

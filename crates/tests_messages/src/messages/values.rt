@@ -1,6 +1,6 @@
 //! Values that several tests write and read.
 
-use base::{DNSClass, Name, ParseError, ProtoError};
+use base::{DNSClass, Name, ProtoError};
 use base_data::{A, EdnsOption, TSIG};
 use op::{Edns, Message};
 use rr::Record;
@@ -30,7 +30,7 @@ pub(crate) fn signature(alloc: Global) -> Result<Box<Record<TSIG>>, AllocError> 
 }
 
 /// `owner` `ttl` A 192.0.2.1.
-pub(crate) fn address(alloc: Global, owner: &str, ttl: u32) -> Result<Record, ParseError> {
+pub(crate) fn address(alloc: Global, owner: &str, ttl: u32) -> Result<Record, Fail> {
     let owner = Name::parse(alloc, owner, None)?;
     let rdata = A::new(Ipv4Addr::new(192, 0, 2, 1));
     Ok(Record::from_rdata(owner, ttl, rdata).into_record_of_rdata())

@@ -1,13 +1,12 @@
 //! Deletions that take turns with additions to one large set, beside a plain list.
 
 use crate::updates::address;
-use crate::updates::applied::{apply, key};
-use base::{RecordType, RrKey};
-use base_data::RData;
+use crate::updates::applied::{apply_bytes, key};
+use base::RecordType;
+use examples::refusal::Refusal;
 use op::ResponseCode;
 use rr::{Record, RecordSet};
 use std::alloc::{AllocError, Global};
-use std::collections::BTreeMap;
 use std::test::Fail;
 
 /// How many addresses `www.example.` has at first, from 192.0.2.1 on.
@@ -20,116 +19,92 @@ const DELETED: u8 = 30;
 const HIGHER: u8 = 100;
 
 /// The zone's text.
-fn zone(alloc: Global) -> Result<String, Fail> {
-    let mut text = String::new(alloc);
-    text.push_str("@ 3600 SOA ns hostmaster 1 2 3 4 5\n@ NS ns\n")?;
+fn zone(alloc: Global) -> Result<String, AllocError> {
+    let mut text = String::from_str(alloc, "@ 3600 SOA ns hostmaster 1 2 3 4 5\n@ NS ns\n")?;
     for place in 0..FIRST {
         let last = place.wrapping_add(1);
-        let line = format!(in alloc; "www 300 A 192.0.2.{last}\n")?;
-        text.push_str(&line)?;
+        write!(text, "www 300 A 192.0.2.{last}\n")?;
     }
     Ok(text)
 }
 
-/// The class and the TTL of a deletion, and of an addition.
-const DELETION: &str = "00FE 00000000";
+/// An update of `example.` up to its records, which are 75.
+const UPDATE: &[u8] =
+    b"\x00\x07\x28\x00\x00\x01\x00\x00\x00\x4B\x00\x00\x07example\x00\x00\x06\x00\x01";
 
-const ADDITION: &str = "0001 0000003C";
+/// A deletion of an address of `www.example.`, and an addition, up to the address's last byte.
+const DELETION: &[u8] = b"\x03www\xC0\x0C\x00\x01\x00\xFE\x00\x00\x00\x00\x00\x04\xC0\x00\x02";
 
-/// Adds the record of an address to those of an update in hexadecimal.
-fn push_record(
-    alloc: Global,
-    records: &mut String,
-    change: &str,
-    last: u8,
-) -> Result<(), AllocError> {
-    let record = format!(in alloc; " 03777777 C00C 0001 {change} 0004 C00002{last:02X}")?;
-    records.push_str(&record)
+const ADDITION: &[u8] = b"\x03www\xC0\x0C\x00\x01\x00\x01\x00\x00\x00\x3C\x00\x04\xC0\x00\x02";
+
+/// Adds the record of an address to those of an update.
+fn push_record(update: &mut Vec<u8>, change: &[u8], last: u8) -> Result<(), AllocError> {
+    update.extend_from_slice(change)?;
+    Ok(update.push(last)?)
 }
 
-/// A deletion, an addition and, every other time, an addition of what was deleted, to an update and to a plain list,
-/// and how many records that are.
-fn take_turn(
-    alloc: Global,
-    records: &mut String,
-    list: &mut Vec<u8>,
-    place: u8,
-) -> Result<u16, AllocError> {
+/// A deletion, an addition and, every other time, an addition of what was deleted, to an update and
+/// to a plain list.
+fn take_turn(update: &mut Vec<u8>, list: &mut Vec<u8>, place: u8) -> Result<(), AllocError> {
     let last = place.wrapping_add(1);
     let higher = last.wrapping_add(HIGHER);
-    push_record(alloc, records, DELETION, last)?;
+    push_record(update, DELETION, last)?;
     list.retain(|known| *known != last);
-    push_record(alloc, records, ADDITION, higher)?;
+    push_record(update, ADDITION, higher)?;
     list.push(higher)?;
     if place % 2 == 0 {
-        push_record(alloc, records, ADDITION, last)?;
+        push_record(update, ADDITION, last)?;
         list.push(last)?;
-        return Ok(3);
     }
-    Ok(2)
+    Ok(())
 }
 
-/// All the turns, and how many records they have.
-fn take_turns(alloc: Global, records: &mut String, list: &mut Vec<u8>) -> Result<u16, AllocError> {
+/// All the turns.
+fn take_turns(update: &mut Vec<u8>, list: &mut Vec<u8>) -> Result<(), AllocError> {
     for place in 0..FIRST {
         list.push(place.wrapping_add(1))?;
     }
-    let mut count: u16 = 0;
     for place in 0..DELETED {
-        count = count.wrapping_add(take_turn(alloc, records, list, place)?);
+        take_turn(update, list, place)?;
     }
-    Ok(count)
+    Ok(())
 }
 
-/// The update of these turns in hexadecimal, and the last bytes of the addresses that are left, in order.
-fn in_turn(alloc: Global) -> Result<(String, Vec<u8>), Fail> {
-    let mut records = String::new(alloc);
-    let mut list: Vec<u8> = Vec::new(alloc);
-    let count = take_turns(alloc, &mut records, &mut list)?;
-    let update = format!(in alloc;
-        "0007 2800 0001 0000 {count:04X} 0000 076578616D706C65 00 0006 0001{records}"
-    )?;
-    Ok((update, list))
+/// Whether the record has this address.
+fn has_address(record: &Record, last: u8) -> bool {
+    let wanted = address(last);
+    let same = record.rdata == wanted;
+    drop(wanted);
+    same
 }
 
-/// Whether records have these addresses, in this order.
-fn are_addresses(records: &[Record], list: &[u8]) -> bool {
-    if records.len() != list.len() {
-        return false;
-    }
-    for place in 0..list.len() {
-        let wanted: RData = address(list[place]);
-        if records[place].rdata != wanted {
+/// Whether the set has the addresses of the list, in this order, with the TTL of the last.
+fn has_list(set: &RecordSet, list: &[u8]) -> bool {
+    let records = set.as_slice();
+    for (record, last) in records.iter().zip(list) {
+        if !has_address(record, *last) {
             return false;
         }
     }
-    true
+    set.ttl() == 60 && records.len() == list.len()
 }
 
-/// Whether the set of the addresses has those of the list, with the TTL of the last.
-fn has_list(alloc: Global, sets: &BTreeMap<RrKey, RecordSet>, list: &[u8]) -> Result<bool, Fail> {
+/// Whether an update leaves the addresses of the list.
+fn leaves(alloc: Global, update: &[u8], list: &[u8]) -> Result<bool, Refusal> {
     let key = key(alloc, "www.example.", RecordType::A)?;
+    let text = zone(alloc)?;
+    let (code, sets) = apply_bytes(alloc, &text, update)?;
     Ok(match sets.get(&key) {
-        Some(set) => set.ttl() == 60 && are_addresses(set.as_slice(), list),
+        Some(set) => code == ResponseCode::NoError && has_list(set, list),
         None => false,
     })
 }
 
-/// Whether an update of the text's zone leaves the addresses of the list.
-fn leaves(alloc: Global, text: &str, update: &str, list: &[u8]) -> Result<bool, Fail> {
-    let (code, sets) = apply(alloc, text, &[update])?;
-    Ok(has_list(alloc, &sets, list)? && matches!(code, ResponseCode::NoError))
-}
-
-/// Whether the update of the turns does.
-fn leaves_the_list(alloc: Global) -> Result<bool, Fail> {
-    let text = zone(alloc)?;
-    let (update, list) = in_turn(alloc)?;
-    leaves(alloc, &text, &update, &list)
-}
-
 #[test]
 fn deletions_take_turns_with_additions(rt: HostRuntime) -> Result<(), Fail> {
-    assert!(rt; leaves_the_list(rt.alloc())?);
+    let mut update = Vec::from_slice(rt.alloc(), UPDATE)?;
+    let mut list: Vec<u8> = Vec::new(rt.alloc());
+    take_turns(&mut update, &mut list)?;
+    assert!(rt; leaves(rt.alloc(), &update, &list)?);
     Ok(())
 }

@@ -1,7 +1,8 @@
 //! Updates that are applied: what TTL a set has then, and prerequisites by value, which ask for sets that have the data
 //! that an update lists, and no other (RFC 2136, 3.2.3).
 
-use base::{DNSClass, LowerName, Name, RecordType, RrKey};
+use crate::updates::name;
+use base::{DNSClass, LowerName, RecordType, RrKey};
 use examples::refusal::Refusal;
 use op::{Message, ResponseCode};
 use op_use::apply_update;
@@ -13,36 +14,59 @@ use std::test::Fail;
 use test_tools::bytes::decode;
 use txt::Parser;
 
-/// The message that a text in parts spells.
-fn message_of(alloc: Global, parts: &[&str]) -> Result<Message, Refusal> {
-    let text = parts.concat(alloc)?;
-    let bytes = decode(alloc, &text)?;
-    Ok(Message::from_vec(alloc, &bytes)?)
-}
-
 /// The key of an owner and a type.
-pub(super) fn key(alloc: Global, owner: &str, record_type: RecordType) -> Result<RrKey, Fail> {
-    let owner = Name::parse(alloc, owner, None)?;
+pub(super) fn key(alloc: Global, owner: &str, record_type: RecordType) -> Result<RrKey, Refusal> {
+    let owner = name(alloc, owner)?;
     let lowered = LowerName::new(alloc, &owner);
     drop(owner);
     Ok(RrKey::new(lowered?, record_type))
 }
 
-/// The answer to an update in parts, and the sets of the text's zone after it.
-pub(super) fn apply(
+/// The answer to an update, and the sets of the text's zone after it.
+fn apply(
     alloc: Global,
     text: &str,
-    update: &[&str],
+    update: &Message,
 ) -> Result<(ResponseCode, BTreeMap<RrKey, RecordSet>), Refusal> {
-    let message = message_of(alloc, update)?;
-    let origin = Name::parse(alloc, "example.", None)?;
+    let origin = name(alloc, "example.")?;
     let includes = BTreeMap::new(alloc);
     let (name, sets) = Parser::new(alloc, text, &includes, Some(origin)).parse()?;
     if !are_sets_in(&sets) {
         return Err(Refusal::Class);
     }
-    Ok(apply_update(alloc, &sets, &name, DNSClass::IN, &message)?)
+    Ok(apply_update(alloc, &sets, &name, DNSClass::IN, update)?)
 }
+
+/// The same of an update's bytes.
+pub(super) fn apply_bytes(
+    alloc: Global,
+    text: &str,
+    update: &[u8],
+) -> Result<(ResponseCode, BTreeMap<RrKey, RecordSet>), Refusal> {
+    let message = Message::from_vec(alloc, update)?;
+    let applied = apply(alloc, text, &message);
+    drop(message);
+    applied
+}
+
+/// The answer to an update that a text in parts spells, and the TTL and the number of records that
+/// the set of an owner and a type has after it.
+fn set_after(
+    alloc: Global,
+    text: &str,
+    update: &[&str],
+    (owner, record_type): (&str, RecordType),
+) -> Result<(ResponseCode, Option<(u32, usize)>), Refusal> {
+    let key = key(alloc, owner, record_type)?;
+    let spelled = update.concat(alloc)?;
+    let bytes = decode(alloc, &spelled)?;
+    let (code, sets) = apply_bytes(alloc, text, &bytes)?;
+    let found = sets.get(&key).map(|set| (set.ttl(), set.records_count()));
+    Ok((code, found))
+}
+
+/// The addresses of `www.example.`.
+const OF_WWW: (&str, RecordType) = ("www.example.", RecordType::A);
 
 /// The SOA of `example.`, and two addresses of `www.example.`.
 const TWO: &str =
@@ -51,34 +75,6 @@ const TWO: &str =
 /// An update of `example.` by one address of `www.example.`, up to the record's class.
 const UPDATE: &str =
     "0007 2800 0001 0000 0001 0000 076578616D706C65 00 0006 0001 03777777 C00C 0001";
-
-/// The TTL that the set of the addresses has after an update, and how many records.
-fn addresses_after(
-    alloc: Global,
-    text: &str,
-    update: &[&str],
-) -> Result<Option<(u32, usize)>, Fail> {
-    let key = key(alloc, "www.example.", RecordType::A)?;
-    let (_, sets) = apply(alloc, text, update)?;
-    Ok(sets.get(&key).map(|set| (set.ttl(), set.records_count())))
-}
-
-/// The TTL of a set is that of its last record: where an address is deleted, and where one is added or given anew.
-#[test]
-fn a_set_has_the_ttl_of_its_last_record(rt: HostRuntime) -> Result<(), Fail> {
-    for &(change, wanted) in &[
-        (" 00FE 00000000 0004 C0000201", (600, 1)),
-        (" 00FE 00000000 0004 C0000202", (300, 1)),
-        (" 0001 0000003C 0004 C0000203", (60, 3)),
-        (" 0001 0000003C 0004 C0000201", (600, 2)),
-    ] {
-        assert!(rt;
-            addresses_after(rt.alloc(), TWO, &[UPDATE, change])? == Some(wanted),
-            "{change}"
-        );
-    }
-    Ok(())
-}
 
 /// The same SOA, and two addresses of `www.example.`, the first of which came last, so that the set has its TTL.
 const RENEWED: &str =
@@ -94,25 +90,38 @@ const AND_CAPITALS: &str = " 03575757 C00C 0001 0001 0000003C 0004 C0000201";
 /// The deletion of their set.
 const NO_WWW: &str = " 03777777 C00C 0001 00FF 00000000 0000";
 
-/// Updates of the two addresses, and the TTL that their set has then: its own where the records are the same in the
-/// end, however that came, and else that of its last record.
-const KEPT: &[(&'static [&'static str], u32)] = &[
-    (&[DELETES, "0001", OF_ZONE, AND_WWW_1], 60),
-    (&[DELETES, "0001", OF_ZONE, NOT_WWW_3], 60),
-    (&[DELETES, "0002", OF_ZONE, NOT_WWW_2, AND_WWW_2], 60),
+/// The zone's text and updates of its addresses, and the TTL and the number of records that their
+/// set has then: its own TTL where the records are the same in the end, however that came, and else
+/// that of its last record.
+const TTLS: &[(&'static str, &'static [&'static str], (u32, usize))] = &[
+    // where an address is deleted, and where one is added or given anew
+    (TWO, &[UPDATE, " 00FE 00000000 0004 C0000201"], (600, 1)),
+    (TWO, &[UPDATE, " 00FE 00000000 0004 C0000202"], (300, 1)),
+    (TWO, &[UPDATE, " 0001 0000003C 0004 C0000203"], (60, 3)),
+    (TWO, &[UPDATE, " 0001 0000003C 0004 C0000201"], (600, 2)),
+    // where the records are the same in the end
+    (RENEWED, &[DELETES, "0001", OF_ZONE, AND_WWW_1], (60, 2)),
+    (RENEWED, &[DELETES, "0001", OF_ZONE, NOT_WWW_3], (60, 2)),
     (
-        &[DELETES, "0003", OF_ZONE, NO_WWW, AND_WWW_1, AND_WWW_2],
-        60,
+        RENEWED,
+        &[DELETES, "0002", OF_ZONE, NOT_WWW_2, AND_WWW_2],
+        (60, 2),
     ),
-    (&[DELETES, "0001", OF_ZONE, AND_CAPITALS], 600),
+    (
+        RENEWED,
+        &[DELETES, "0003", OF_ZONE, NO_WWW, AND_WWW_1, AND_WWW_2],
+        (60, 2),
+    ),
+    (RENEWED, &[DELETES, "0001", OF_ZONE, AND_CAPITALS], (600, 2)),
 ];
 
 #[test]
-fn a_set_of_the_same_records_stays(rt: HostRuntime) -> Result<(), Fail> {
-    for (i, &(update, ttl)) in KEPT.iter().enumerate() {
+fn a_set_has_its_own_ttl_or_that_of_its_last_record(rt: HostRuntime) -> Result<(), Fail> {
+    for &(text, update, wanted) in TTLS {
+        let after = set_after(rt.alloc(), text, update, OF_WWW)?;
         assert!(rt;
-            addresses_after(rt.alloc(), RENEWED, update)? == Some((ttl, 2)),
-            "row {i}"
+            after == (ResponseCode::NoError, Some(wanted)),
+            "{update:?}"
         );
     }
     Ok(())
@@ -136,37 +145,31 @@ const WWW_3: &str = " 03777777 C00C 0001 0001 00000000 0004 C0000203";
 
 const FTP_1: &str = " 03667470 C00C 0001 0001 00000000 0004 C0000201";
 
-/// What an update without changes is answered.
-fn answer(alloc: Global, update: &[&str]) -> Result<ResponseCode, Refusal> {
-    let (code, sets) = apply(alloc, THREE, update)?;
-    drop(sets);
-    Ok(code)
-}
+/// The answers where what an update lists is there, and where it isn't.
+const MET: ResponseCode = ResponseCode::NoError;
 
-/// Updates without changes, and whether what they list is there.
-const LISTED: &[(&'static [&'static str], bool)] = &[
+const UNMET: ResponseCode = ResponseCode::NXRRSet;
+
+/// Updates without changes, and their answers.
+const LISTED: &[(&'static [&'static str], ResponseCode)] = &[
     // sets are looked at one by one, whatever the order of their data, and the same data may be listed twice
-    (&[START, "0001", ZONE, FTP_1], true),
-    (&[START, "0002", ZONE, WWW_2, WWW_1], true),
-    (&[START, "0003", ZONE, WWW_2, FTP_1, WWW_1], true),
-    (&[START, "0004", ZONE, WWW_1, WWW_2, WWW_1, WWW_2], true),
+    (&[START, "0001", ZONE, FTP_1], MET),
+    (&[START, "0002", ZONE, WWW_2, WWW_1], MET),
+    (&[START, "0003", ZONE, WWW_2, FTP_1, WWW_1], MET),
+    (&[START, "0004", ZONE, WWW_1, WWW_2, WWW_1, WWW_2], MET),
     // data that isn't listed for its own set, or that isn't there, fails the update
-    (&[START, "0001", ZONE, WWW_1], false),
-    (&[START, "0002", ZONE, WWW_1, WWW_3], false),
-    (&[START, "0003", ZONE, WWW_1, WWW_2, WWW_3], false),
-    (&[START, "0002", ZONE, WWW_2, FTP_1], false),
-    (&[START, "0003", ZONE, FTP_1, WWW_1, WWW_1], false),
+    (&[START, "0001", ZONE, WWW_1], UNMET),
+    (&[START, "0002", ZONE, WWW_1, WWW_3], UNMET),
+    (&[START, "0003", ZONE, WWW_1, WWW_2, WWW_3], UNMET),
+    (&[START, "0002", ZONE, WWW_2, FTP_1], UNMET),
+    (&[START, "0003", ZONE, FTP_1, WWW_1, WWW_1], UNMET),
 ];
 
 #[test]
 fn sets_are_asked_for_by_value(rt: HostRuntime) -> Result<(), Fail> {
-    for (i, &(update, is_met)) in LISTED.iter().enumerate() {
-        let wanted = if is_met {
-            ResponseCode::NoError
-        } else {
-            ResponseCode::NXRRSet
-        };
-        assert!(rt; answer(rt.alloc(), update)? == wanted, "row {i}");
+    for &(update, wanted) in LISTED {
+        let after = set_after(rt.alloc(), THREE, update, OF_WWW)?;
+        assert!(rt; after == (wanted, Some((300, 2))), "{update:?}");
     }
     Ok(())
 }
@@ -219,31 +222,31 @@ const LEFT: &[(&'static [&'static str], [usize; 3])] = &[
     ),
 ];
 
-/// How many records the set of an owner and a type has.
-fn count(
-    alloc: Global,
-    sets: &BTreeMap<RrKey, RecordSet>,
-    owner: &str,
-    record_type: RecordType,
-) -> Result<usize, Fail> {
-    let key = key(alloc, owner, record_type)?;
-    Ok(sets.get(&key).map_or(0, |set| set.records_count()))
+/// How many records a set has after an update.
+fn count_after(alloc: Global, update: &[&str], set: (&str, RecordType)) -> Result<usize, Refusal> {
+    let (_, found) = set_after(alloc, SERVERS, update, set)?;
+    Ok(match found {
+        Some((_, count)) => count,
+        None => 0,
+    })
 }
 
-/// How many records each set has after an update.
-fn counts_after(alloc: Global, update: &[&str]) -> Result<[usize; 3], Fail> {
-    let (_, sets) = apply(alloc, SERVERS, update)?;
-    Ok([
-        count(alloc, &sets, "www.example.", RecordType::A)?,
-        count(alloc, &sets, "ftp.example.", RecordType::A)?,
-        count(alloc, &sets, "example.", RecordType::NS)?,
-    ])
-}
+/// The sets that are counted.
+const COUNTED: [(&str, RecordType); 3] = [
+    OF_WWW,
+    ("ftp.example.", RecordType::A),
+    ("example.", RecordType::NS),
+];
 
 #[test]
 fn deletions_follow_one_another(rt: HostRuntime) -> Result<(), Fail> {
-    for (i, &(update, left)) in LEFT.iter().enumerate() {
-        assert!(rt; counts_after(rt.alloc(), update)? == left, "row {i}");
+    for &(update, left) in LEFT {
+        for (&set, &count) in COUNTED.iter().zip(&left) {
+            assert!(rt;
+                count_after(rt.alloc(), update, set)? == count,
+                "{update:?}"
+            );
+        }
     }
     Ok(())
 }

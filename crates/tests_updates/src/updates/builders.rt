@@ -1,123 +1,99 @@
-use super::{addresses, host, is_sent_as, name, zone_and_addresses};
-use base::DNSClass;
+use super::{address, hosts, name, set_of, zone_and_addresses, zone_and_name};
+use base::{DNSClass, ParseError};
 use base_data::SOA;
 use op::Message;
 use op_use::update_message::{
     append, compare_and_swap, create, delete_all, delete_by_rdata, delete_rrset, zone_transfer,
 };
-use rr::RecordSet;
+use rr::Record;
 use std::alloc::Global;
 use std::test::Fail;
-
-/// Creates the set of 192.0.2.1, with EDNS.
-fn create_set(alloc: Global) -> Result<Message, Fail> {
-    let (origin, set) = zone_and_addresses(alloc, 60, 1)?;
-    Ok(create(alloc, 1, set, origin, true)?)
-}
-
-/// Appends 192.0.2.1 to a set that must exist.
-fn append_set(alloc: Global) -> Result<Message, Fail> {
-    let (origin, set) = zone_and_addresses(alloc, 60, 1)?;
-    Ok(append(alloc, 3, set, origin, true, false)?)
-}
-
-/// Swaps the set of 192.0.2.1 for that of 192.0.2.1 and 192.0.2.2.
-fn swap_sets(alloc: Global) -> Result<Message, Fail> {
-    let current = addresses(alloc, 300, 1)?;
-    match zone_and_addresses(alloc, 60, 2) {
-        Ok((origin, new)) if origin.zone_of(current.name()) => {
-            Ok(compare_and_swap(alloc, 0x1234, current, new, origin, false)?)
-        }
-        Ok(other) => {
-            drop(other);
-            Err(base::ProtoError::Message("a set outside the zone").into())
-        }
-        Err(e) => Err(e),
-    }
-}
-
-/// Deletes the address 192.0.2.1.
-fn delete_data(alloc: Global) -> Result<Message, Fail> {
-    let (origin, set) = zone_and_addresses(alloc, 60, 1)?;
-    Ok(delete_by_rdata(alloc, 4, set, origin, false)?)
-}
-
-/// Deletes the set of a record, with the cache-flush bit or without.
-fn delete_set(alloc: Global, flush: bool) -> Result<Message, Fail> {
-    let mut gone = host(alloc, 60, 1)?;
-    gone.mdns_cache_flush = flush;
-    let origin = name(alloc, "example.")?;
-    if origin.zone_of(&gone.name) {
-        return Ok(delete_rrset(alloc, 5, gone, origin, false)?);
-    }
-    Err(base::ProtoError::Message("a record outside the zone").into())
-}
-
-/// Deletes all sets of `owner` in `example.`.
-fn delete_name(alloc: Global, owner: &str) -> Result<Message, Fail> {
-    let gone = name(alloc, owner)?;
-    let origin = name(alloc, "example.")?;
-    if origin.zone_of(&gone) {
-        return Ok(delete_all(alloc, 2, gone, origin, DNSClass::IN, false)?);
-    }
-    Err(base::ProtoError::Message("a name outside the zone").into())
-}
-
-/// The question for all of `example.`.
-fn transfer_all(alloc: Global) -> Result<Message, Fail> {
-    Ok(zone_transfer(alloc, 6, name(alloc, "example.")?, None)?)
-}
-
-/// The SOA that a client last had.
-fn soa(alloc: Global) -> Result<SOA, Fail> {
-    let server = name(alloc, "ns.example.")?;
-    match name(alloc, "hostmaster.example.") {
-        Ok(mailbox) => Ok(SOA::new(server, mailbox, 1, 7200, 3600, 1209600, 300)),
-        Err(e) => {
-            drop(server);
-            Err(e.into())
-        }
-    }
-}
-
-/// The question for what changed in `example.`.
-fn transfer_changes(alloc: Global) -> Result<Message, Fail> {
-    let origin = name(alloc, "example.")?;
-    match soa(alloc) {
-        Ok(soa) => Ok(zone_transfer(alloc, 6, origin, Some(soa))?),
-        Err(e) => {
-            drop(origin);
-            Err(e)
-        }
-    }
-}
 
 /// What is sent.
 #[derive(Clone, Copy)]
 pub(crate) enum Sent {
+    /// The set of 192.0.2.1 is created, with EDNS.
     Created,
+    /// 192.0.2.1 is appended to a set that must exist.
     Appended,
-    Swapped,
+    /// Under this id, the set of so many addresses from 192.0.2.1 on is swapped for one of so many.
+    Swapped(u16, u8, u8),
+    /// The address 192.0.2.1 is deleted.
     WithoutData,
-    /// Whether the record has the cache-flush bit.
+    /// The set of a record is deleted, which has the cache-flush bit or not.
     WithoutSet(bool),
+    /// All sets of `example.` are deleted.
     WithoutName,
+    /// The question for all of `example.`.
     Whole,
+    /// The question for what changed in `example.`.
     Changes,
 }
 
 /// The message that is sent.
 pub(crate) fn build(alloc: Global, sent: Sent) -> Result<Message, Fail> {
     match sent {
-        Sent::Created => create_set(alloc),
-        Sent::Appended => append_set(alloc),
-        Sent::Swapped => swap_sets(alloc),
-        Sent::WithoutData => delete_data(alloc),
+        Sent::Created | Sent::Appended | Sent::WithoutData => change_set(alloc, sent),
+        Sent::Swapped(id, had, count) => swap_sets(alloc, id, had, count),
         Sent::WithoutSet(flush) => delete_set(alloc, flush),
-        Sent::WithoutName => delete_name(alloc, "example."),
-        Sent::Whole => transfer_all(alloc),
-        Sent::Changes => transfer_changes(alloc),
+        Sent::WithoutName => delete_name(alloc),
+        Sent::Whole => transfer(alloc, None),
+        Sent::Changes => transfer(alloc, Some(soa(alloc)?)),
     }
+}
+
+/// Creates the set of 192.0.2.1, appends its data, or deletes them.
+fn change_set(alloc: Global, sent: Sent) -> Result<Message, Fail> {
+    let (origin, set) = zone_and_addresses(alloc, 60, 1)?;
+    let made = match sent {
+        Sent::Created => create(alloc, 1, set, origin, true),
+        Sent::Appended => append(alloc, 3, set, origin, true, false),
+        _ => delete_by_rdata(alloc, 4, set, origin, false),
+    };
+    Ok(made?)
+}
+
+/// Swaps the set of `had` addresses for that of `count`.
+fn swap_sets(alloc: Global, id: u16, had: u8, count: u8) -> Result<Message, Fail> {
+    let (origin, owner) = zone_and_name(alloc, "www.example.")?;
+    let same = owner.clone()?;
+    let known = hosts(alloc, 300, had)?;
+    let records = hosts(alloc, 60, count)?;
+    let current = set_of(alloc, same, 300, known);
+    let new = set_of(alloc, owner, 60, records);
+    Ok(compare_and_swap(alloc, id, current, new, origin, false)?)
+}
+
+/// Deletes the set of a record, with the cache-flush bit or without.
+fn delete_set(alloc: Global, flush: bool) -> Result<Message, Fail> {
+    let (origin, owner) = zone_and_name(alloc, "www.example.")?;
+    let mut gone = Record::from_rdata(owner, 60, address(1));
+    gone.mdns_cache_flush = flush;
+    Ok(delete_rrset(alloc, 5, gone, origin, false)?)
+}
+
+/// Deletes all sets of `example.`.
+fn delete_name(alloc: Global) -> Result<Message, Fail> {
+    let (origin, gone) = zone_and_name(alloc, "example.")?;
+    Ok(delete_all(alloc, 2, gone, origin, DNSClass::IN, false)?)
+}
+
+/// The question for `example.`, of a client that has this SOA.
+fn transfer(alloc: Global, known: Option<SOA>) -> Result<Message, Fail> {
+    match name(alloc, "example.") {
+        Ok(origin) => Ok(zone_transfer(alloc, 6, origin, known)?),
+        Err(e) => {
+            drop(known);
+            Err(e.into())
+        }
+    }
+}
+
+/// The SOA that a client last had.
+fn soa(alloc: Global) -> Result<SOA, ParseError> {
+    let server = name(alloc, "ns.example.")?;
+    let mailbox = name(alloc, "hostmaster.example.")?;
+    Ok(SOA::new(server, mailbox, 1, 7200, 3600, 1209600, 300))
 }
 
 /// What is sent, how long it is, and its bytes.
@@ -135,11 +111,18 @@ pub(crate) const SENT: &[(Sent, usize, &'static [u8])] = &[
       \xC0\x19\x00\x01\x00\x01\x00\x00\x00\x3C\x00\x04\xC0\x00\x02\x01",
     ),
     (
-        Sent::Swapped,
+        Sent::Swapped(0x1234, 1, 2),
         93,
         b"\x12\x34\x28\x00\x00\x01\x00\x01\x00\x03\x00\x00\x07example\x00\x00\x06\x00\x01\x03www\xC0\x0C\x00\x01\x00\x01\x00\x00\x00\x00\x00\x04\xC0\x00\x02\x01\
       \xC0\x19\x00\x01\x00\xFE\x00\x00\x00\x00\x00\x04\xC0\x00\x02\x01\xC0\x19\x00\x01\x00\x01\x00\x00\x00\x3C\x00\x04\xC0\x00\x02\x01\
       \xC0\x19\x00\x01\x00\x01\x00\x00\x00\x3C\x00\x04\xC0\x00\x02\x02",
+    ),
+    // a swap of nothing asks for nothing
+    (
+        Sent::Swapped(7, 0, 1),
+        45,
+        b"\x00\x07\x28\x00\x00\x01\x00\x00\x00\x01\x00\x00\x07example\x00\x00\x06\x00\x01\
+          \x03www\xC0\x0C\x00\x01\x00\x01\x00\x00\x00\x3C\x00\x04\xC0\x00\x02\x01",
     ),
     (
         Sent::WithoutData,
@@ -175,34 +158,3 @@ pub(crate) const SENT: &[(Sent, usize, &'static [u8])] = &[
           \x00\x00\x29\x04\xD0\x00\x00\x00\x00\x00\x00",
     ),
 ];
-
-#[test]
-fn updates_and_questions_for_transfers_as_they_are_sent(rt: HostRuntime) -> Result<(), Fail> {
-    for &(sent, len, wire) in SENT {
-        let message = build(rt.alloc(), sent)?;
-        assert!(rt;
-            is_sent_as(rt.alloc(), message, wire) && wire.len() == len,
-            "{len}"
-        );
-    }
-    Ok(())
-}
-
-/// What a swap of no current data asks for.
-fn count_of_prerequisites(alloc: Global) -> Result<usize, Fail> {
-    let none = RecordSet::new(alloc, name(alloc, "www.example.")?, base::RecordType::A, 0);
-    let (origin, new) = zone_and_addresses(alloc, 60, 1)?;
-    if !origin.zone_of(none.name()) {
-        return Ok(usize::MAX);
-    }
-    let message = compare_and_swap(alloc, 7, none, new, origin, false)?;
-    let count = message.answers.len();
-    drop(message);
-    Ok(count)
-}
-
-#[test]
-fn a_swap_of_nothing_asks_for_nothing(rt: HostRuntime) -> Result<(), Fail> {
-    assert!(rt; count_of_prerequisites(rt.alloc())? == 0);
-    Ok(())
-}

@@ -3,6 +3,7 @@
 use super::{host, hosts, name};
 use base::{Name, RecordType};
 use base_data::TSIG;
+use examples::refusal::Refusal;
 use op::{Message, OpCode, Query};
 use op_use::UpdateMessage;
 use rr::Record;
@@ -10,7 +11,7 @@ use std::alloc::{AllocError, Global};
 use std::test::Fail;
 
 /// Adds the zone `example.`, three prerequisites, three updates and an additional record, with TTLs from 0 to 6.
-fn fill<M: UpdateMessage>(alloc: Global, message: &mut M) -> Result<(), Fail> {
+fn fill(alloc: Global, message: &mut Message) -> Result<(), Refusal> {
     message.add_zone(Query::query(name(alloc, "example.")?, RecordType::SOA))?;
     message.add_pre_requisite(host(alloc, 0, 1)?)?;
     message.add_pre_requisites(hosts(alloc, 1, 2)?.into_iter())?;
@@ -21,67 +22,49 @@ fn fill<M: UpdateMessage>(alloc: Global, message: &mut M) -> Result<(), Fail> {
 
 /// Whether the records have these TTLs.
 fn have_ttls(records: &[Record], ttls: &[u32]) -> bool {
-    let are_equal = records
-        .iter()
-        .zip(ttls)
-        .all(|(record, ttl)| record.ttl == *ttl);
-    records.len() == ttls.len() && are_equal
+    for (record, ttl) in records.iter().zip(ttls) {
+        if record.ttl != *ttl {
+            return false;
+        }
+    }
+    records.len() == ttls.len()
 }
 
-/// Whether the message of this id has all that, and no signature.
-fn is_filled<M: UpdateMessage>(message: &M, id: u16) -> bool {
+/// Whether the message has all that, as `UpdateMessage` shows it and in its own sections.
+fn is_filled(message: &Message) -> bool {
     let names_zone = match message.zones().first() {
         Some(zone) => zone.query_type() == RecordType::SOA,
         None => false,
     };
     let asks = have_ttls(message.prerequisites(), &[0, 1, 1]);
+    let has_answers = have_ttls(&message.answers, &[0, 1, 1]);
     let changes = have_ttls(message.updates(), &[3, 4, 4]);
+    let has_authorities = have_ttls(&message.authorities, &[3, 4, 4]);
     let has_more = have_ttls(message.additionals(), &[6]);
-    message.id() == id && message.zones().len() == 1 && names_zone && asks && changes && has_more
-}
-
-/// An update that was filled.
-fn filled_update(alloc: Global) -> Result<Message, Fail> {
-    let mut message = Message::query(alloc, 9);
-    message.metadata.op_code = OpCode::Update;
-    match fill(alloc, &mut message) {
-        Ok(()) => Ok(message),
-        Err(e) => {
-            drop(message);
-            Err(e)
-        }
-    }
+    let has_zone = message.id() == 9 && message.zones().len() == 1 && names_zone;
+    has_zone && asks && has_answers && changes && has_authorities && has_more
 }
 
 #[test]
 fn sections_have_what_was_added(rt: HostRuntime) -> Result<(), Fail> {
-    let message = filled_update(rt.alloc())?;
-    assert!(rt; is_filled(&message, 9));
-    assert!(rt; have_ttls(&message.answers, &[0, 1, 1]));
-    assert!(rt; have_ttls(&message.authorities, &[3, 4, 4]));
+    let mut message = Message::query(rt.alloc(), 9);
+    message.metadata.op_code = OpCode::Update;
+    let filled = fill(rt.alloc(), &mut message);
+    let is_filled = is_filled(&message);
     drop(message);
+    filled?;
+    assert!(rt; is_filled);
     Ok(())
-}
-
-/// Whether the message has a signature.
-fn is_signed<M: UpdateMessage>(message: &M) -> bool {
-    message.signature().is_some()
-}
-
-/// A signature of one byte.
-fn signature(alloc: Global) -> Result<Box<Record<TSIG>>, AllocError> {
-    let rdata = TSIG::new(vec![in alloc; 0xAA]?);
-    let signature = Record::from_rdata(Name::root(alloc), 0, rdata);
-    Ok(Box::new(alloc, signature)?)
 }
 
 /// Whether a message is signed before a signature is set, and after.
 fn are_signed(alloc: Global) -> Result<(bool, bool), AllocError> {
-    let signature = signature(alloc)?;
+    let rdata = TSIG::new(vec![in alloc; 0xAA]?);
+    let signature = Box::new(alloc, Record::from_rdata(Name::root(alloc), 0, rdata))?;
     let mut message = Message::query(alloc, 9);
-    let before = is_signed(&message);
+    let before = message.signature().is_some();
     message.set_signature(signature);
-    let after = is_signed(&message);
+    let after = message.signature().is_some();
     drop(message);
     Ok((before, after))
 }

@@ -3,7 +3,7 @@
 use crate::messages::built::{Kind, Part, build};
 use crate::messages::values::address;
 use base::{DNSClass, Name, RecordType};
-use op::{Edns, Message, OpCode};
+use op::{Edns, Message, MessageType, OpCode};
 use rr::Record;
 use std::alloc::Global;
 use std::test::Fail;
@@ -11,7 +11,7 @@ use test_tools::bytes::decode;
 use test_tools::forms::are_bytes;
 
 /// A response with a question, an answer, an additional record, EDNS with an option, and a signature.
-const SIGNED: &str = "000780000001000100000003\
+pub(crate) const SIGNED: &str = "000780000001000100000003\
     01610000010001\
     c00c001000010000003c0029\
     2878787878787878787878787878787878787878787878787878787878787878787878787878787878\
@@ -19,127 +19,109 @@ const SIGNED: &str = "000780000001000100000003\
     00002904d0000000000018fde900140000000000000000000000000000000000000000\
     0000fa00ff000000000001aa";
 
-/// The message of those bytes.
-pub(crate) fn signed_message(alloc: Global) -> Result<Message, Fail> {
-    let bytes = decode(alloc, SIGNED)?;
+/// The message that a text spells in hexadecimal.
+pub(crate) fn message_of(alloc: Global, text: &str) -> Result<Message, Fail> {
+    let bytes = decode(alloc, text)?;
     let message = Message::from_vec(alloc, &bytes);
     drop(bytes);
     Ok(message?)
 }
 
-/// The bytes of the message without its records and its signature.
-pub(crate) fn truncate(alloc: Global) -> Result<Vec<u8>, Fail> {
-    let message = signed_message(alloc)?;
-    let cut = message.truncate();
-    drop(message);
-    let cut = cut?;
-    let bytes = cut.to_vec();
-    drop(cut);
-    Ok(bytes?)
-}
-
-#[test]
-fn a_truncated_message_keeps_its_question_and_edns(rt: HostRuntime) -> Result<(), Fail> {
-    let bytes = truncate(rt.alloc())?;
-    assert!(rt; bytes.len() == 54);
-    assert!(rt;
-        bytes.starts_with(
-            b"\x00\x07\x82\x00\x00\x01\x00\x00\x00\x00\x00\x01\x01a\x00\x00\x01\x00\x01\x00\x00\x29"
-        )
-    );
-    Ok(())
-}
-
-/// How many answers and additional records are left of A and RRSIG, and of NSEC, that answer a question for a type.
-fn count_left(alloc: Global, asked: RecordType, flag: bool) -> Result<(usize, usize), Fail> {
-    let parts = [
-        Part::Ask("a.", asked),
-        Part::Answer("a.", 60),
-        Part::CarriedAnswer(RecordType::RRSIG),
-        Part::CarriedAdditional(RecordType::NSEC),
-    ];
-    let message = build(alloc, Kind::Response(1), &parts)?.maybe_strip_dnssec_records(flag);
+/// How many answers and additional records are left of the message that a text spells.
+fn count_left(alloc: Global, text: &str, flag: bool) -> Result<(usize, usize), Fail> {
+    let message = message_of(alloc, text)?.maybe_strip_dnssec_records(flag);
     let counts = (message.answers.len(), message.additionals.len());
     drop(message);
     Ok(counts)
 }
 
+/// Responses of A and RRSIG, and of NSEC, to a question for A and to one for RRSIG, whether DO is set, and what is left.
+const STRIPPED: &[(&'static str, bool, (usize, usize))] = &[
+    (
+        "0001 8000 0001 0002 0000 0001 0161 00 0001 0001 C00C 0001 0001 0000003C 0004 C0000201\
+         C00C 002E 0001 0000003C 0001 00 C00C 002F 0001 0000003C 0001 00",
+        false,
+        (1, 0),
+    ),
+    (
+        "0001 8000 0001 0002 0000 0001 0161 00 0001 0001 C00C 0001 0001 0000003C 0004 C0000201\
+         C00C 002E 0001 0000003C 0001 00 C00C 002F 0001 0000003C 0001 00",
+        true,
+        (2, 1),
+    ),
+    (
+        "0001 8000 0001 0002 0000 0001 0161 00 002E 0001 C00C 0001 0001 0000003C 0004 C0000201\
+         C00C 002E 0001 0000003C 0001 00 C00C 002F 0001 0000003C 0001 00",
+        false,
+        (2, 0),
+    ),
+];
+
 #[test]
 fn records_of_dnssec_are_stripped_unless_asked_for(rt: HostRuntime) -> Result<(), Fail> {
-    assert!(rt; count_left(rt.alloc(), RecordType::A, false)? == (1, 0));
-    assert!(rt; count_left(rt.alloc(), RecordType::A, true)? == (2, 1));
-    assert!(rt; count_left(rt.alloc(), RecordType::RRSIG, false)? == (2, 0));
+    for &(text, flag, left) in STRIPPED {
+        assert!(rt;
+            count_left(rt.alloc(), text, flag)? == left,
+            "{flag} {text}"
+        );
+    }
     Ok(())
-}
-
-/// How many records the iterator over all sections gives, and how many are left when they are taken.
-fn count_all(alloc: Global) -> Result<(usize, usize, usize), Fail> {
-    let mut message = signed_message(alloc)?;
-    let all = message.all_sections().count();
-    let taken = message.take_all_sections().count();
-    let rest = message.all_sections().count();
-    drop(message);
-    Ok((all, taken, rest))
 }
 
 #[test]
 fn each_record_of_a_section_is_given_once(rt: HostRuntime) -> Result<(), Fail> {
-    assert!(rt; count_all(rt.alloc())? == (2, 2, 0));
+    let mut message = message_of(rt.alloc(), SIGNED)?;
+    let all = message.all_sections().count();
+    let taken = message.take_all_sections().count();
+    let rest = message.all_sections().count();
+    drop(message);
+    assert!(rt; (all, taken, rest) == (2, 2, 0));
     Ok(())
 }
 
-/// The payload of EDNS made of an OPT record by hand, that of a message with it, and whether it is written as 512.
-fn payload(alloc: Global) -> Result<(u16, u16, bool), Fail> {
-    let mut by_hand = Record::update0(Name::root(alloc), 0, RecordType::OPT);
+/// EDNS made of an OPT record by hand has its payload; a message with it has a payload of 512, and writes that.
+#[test]
+fn a_small_payload_is_taken_as_512(rt: HostRuntime) -> Result<(), Fail> {
+    let mut by_hand = Record::update0(Name::root(rt.alloc()), 0, RecordType::OPT);
     by_hand.dns_class = DNSClass::Unknown(100);
-    let edns = Edns::try_from(&by_hand)?;
+    let edns = Edns::try_from(&by_hand);
+    drop(by_hand);
+    let edns = edns?;
     let own = edns.max_payload();
-    let mut message = Message::response(alloc, 1, OpCode::Query);
+    let mut message = Message::response(rt.alloc(), 1, OpCode::Query);
     message.set_edns(edns);
     let taken = message.max_payload();
     let bytes = message.to_vec();
     drop(message);
     let wire =
         b"\x00\x01\x80\x00\x00\x00\x00\x00\x00\x00\x00\x01\x00\x00\x29\x02\x00\x00\x00\x00\x00\x00\x00";
-    Ok((own, taken, are_bytes(bytes, wire)))
-}
-
-#[test]
-fn a_small_payload_is_taken_as_512(rt: HostRuntime) -> Result<(), Fail> {
-    assert!(rt; payload(rt.alloc())? == (100, 512, true));
+    assert!(rt; (own, taken, are_bytes(bytes, wire)) == (100, 512, true));
     Ok(())
-}
-
-/// The number of the refusal of EDNS out of a record of an address.
-fn of_address(alloc: Global) -> Result<u8, Fail> {
-    match Edns::try_from(&address(alloc, "a.", 60)?) {
-        Ok(edns) => {
-            drop(edns);
-            Ok(0)
-        }
-        Err(e) => Ok(e.number()),
-    }
 }
 
 #[test]
 fn a_record_of_an_address_is_no_edns(rt: HostRuntime) -> Result<(), Fail> {
-    assert!(rt; of_address(rt.alloc())? == 9);
+    let record = address(rt.alloc(), "a.", 60)?;
+    let edns = Edns::try_from(&record);
+    drop(record);
+    let number = match &edns {
+        Ok(_) => 0,
+        Err(e) => e.number(),
+    };
+    drop(edns);
+    assert!(rt; number == 9);
     Ok(())
-}
-
-/// The payload size and the version of a message without EDNS, and whether `into_response` makes it a response.
-fn payload_without_edns(alloc: Global) -> Result<(u16, u8, bool), Fail> {
-    let message = build(alloc, Kind::Query(1), &[Part::Ask("a.", RecordType::A)])?;
-    let said = (message.max_payload(), message.version());
-    let response = message.into_response();
-    let is_response = response.metadata.message_type == op::MessageType::Response;
-    drop(response);
-    Ok((said.0, said.1, is_response))
 }
 
 #[test]
 fn a_message_without_edns_takes_512_bytes(rt: HostRuntime) -> Result<(), Fail> {
-    assert!(rt; payload_without_edns(rt.alloc())? == (512, 0, true));
+    let parts = [Part::Ask("a.", RecordType::A)];
+    let message = build(rt.alloc(), Kind::Query(1), &parts)?;
+    let said = (message.max_payload(), message.version());
+    let response = message.into_response();
+    let message_type = response.metadata.message_type;
+    drop(response);
+    assert!(rt; said == (512, 0) && message_type == MessageType::Response);
     Ok(())
 }
 
@@ -163,17 +145,12 @@ fn is_taken(message: &mut Message) -> bool {
     }
 }
 
-/// Whether a message is signed, its signature can be taken, the message is signed then, and it can be taken once more.
-fn signatures(alloc: Global) -> Result<[bool; 4], Fail> {
-    let mut message = build(alloc, Kind::Response(7), &[Part::Signature])?;
+#[test]
+fn a_signature_is_taken_once(rt: HostRuntime) -> Result<(), Fail> {
+    let mut message = build(rt.alloc(), Kind::Response(7), &[Part::Signature])?;
     let before = (is_signed(&message), is_taken(&mut message));
     let after = (is_signed(&message), is_taken(&mut message));
     drop(message);
-    Ok([before.0, before.1, after.0, after.1])
-}
-
-#[test]
-fn a_signature_is_taken_once(rt: HostRuntime) -> Result<(), Fail> {
-    assert!(rt; signatures(rt.alloc())? == [true, true, false, false]);
+    assert!(rt; (before, after) == ((true, true), (false, false)));
     Ok(())
 }

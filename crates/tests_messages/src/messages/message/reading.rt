@@ -1,6 +1,7 @@
 use base::{BinDecodable, BinDecoder, DecodeError, RecordType};
 use op::{Edns, Message, OpCode, Query};
-use std::alloc::{AllocError, Global};
+use std::alloc::Global;
+use test_tools::forms::is_copied;
 
 /// A response to a question for an address; an OPT record and an address; and a signature.
 const WWW: [u8; 49] = [
@@ -19,17 +20,6 @@ const SIGN: [u8; 12] = [
     0x00, 0x00, 0xFA, 0x00, 0xFF, 0x00, 0x00, 0x00, 0x00, 0x00, 0x01, 0xAA,
 ];
 
-/// Whether a copy is the same message.
-fn is_copied(message: &Message) -> bool {
-    let copied: Result<Message, AllocError> = message.clone();
-    let same = match &copied {
-        Ok(copy) => *copy == *message,
-        Err(_) => false,
-    };
-    drop(copied);
-    same
-}
-
 /// Whether the bytes begin with this question alone, and it ends there.
 fn is_asked(alloc: Global, bytes: &[u8], queries: &Vec<Query>, end: usize) -> bool {
     let mut decoder = BinDecoder::new(alloc, bytes);
@@ -42,24 +32,21 @@ fn is_asked(alloc: Global, bytes: &[u8], queries: &Vec<Query>, end: usize) -> bo
     same && decoder.index() == end
 }
 
-/// Whether a message fills the bytes, asks what stands after its header, has one answer, and is the same as its copy.
-fn is_whole(alloc: Global, bytes: &[u8], question: &[u8]) -> bool {
-    let mut decoder = BinDecoder::new(alloc, bytes);
+#[test]
+fn a_message_is_read_at_its_place(rt: HostRuntime) {
+    let mut decoder = BinDecoder::new(rt.alloc(), &WWW);
     let read = Message::read(&mut decoder);
-    let has_parts = match &read {
+    let has_parts = match read {
         Ok(message) => {
-            let is_asked = is_asked(alloc, question, &message.queries, 21);
-            message.answers.len() == 1 && is_asked && is_copied(message)
+            let is_asked = is_asked(rt.alloc(), &WWW[12..], &message.queries, 21);
+            let has_answer = message.answers.len() == 1;
+            is_copied(message) && is_asked && has_answer
         }
         Err(_) => false,
     };
-    drop(read);
-    has_parts && decoder.index() == bytes.len()
-}
-
-#[test]
-fn a_message_is_read_at_its_place(rt: HostRuntime) {
-    assert!(rt; is_whole(rt.alloc(), &WWW, &WWW[12..]));
+    let end = decoder.index();
+    drop(decoder);
+    assert!(rt; has_parts && end == WWW.len());
 }
 
 /// Whether `count` records outside the additional section are refused, since one of this type is among them.
@@ -72,12 +59,6 @@ fn is_misplaced(alloc: Global, bytes: &[u8], count: usize, record_type: RecordTy
     };
     drop(refused);
     is_misplaced
-}
-
-#[test]
-fn records_that_stand_among_additionals_alone(rt: HostRuntime) {
-    assert!(rt; is_misplaced(rt.alloc(), &OPT_AND_A, 2, RecordType::OPT));
-    assert!(rt; is_misplaced(rt.alloc(), &SIGN, 1, RecordType::TSIG));
 }
 
 /// Whether this is EDNS that nobody has set.
@@ -105,7 +86,9 @@ fn additionals(alloc: Global, bytes: &[u8], count: usize) -> Option<(usize, bool
 }
 
 #[test]
-fn edns_and_a_signature_stand_by_themselves(rt: HostRuntime) {
+fn edns_and_a_signature_stand_by_themselves_among_additionals(rt: HostRuntime) {
+    let is_misplaced_edns = is_misplaced(rt.alloc(), &OPT_AND_A, 2, RecordType::OPT);
+    assert!(rt; is_misplaced_edns && is_misplaced(rt.alloc(), &SIGN, 1, RecordType::TSIG));
     assert!(rt; additionals(rt.alloc(), &OPT_AND_A, 2) == Some((1, true, true, false)));
     assert!(rt; additionals(rt.alloc(), &SIGN, 1) == Some((0, false, false, true)));
 }

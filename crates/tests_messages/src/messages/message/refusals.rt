@@ -1,11 +1,11 @@
 //! What refusals name: the type of data, how many questions had room, and the question that is no name.
 
 use crate::hostile::fault_of_text;
-use base::{BinDecodable, BinDecoder, BinEncoder, ProtoError};
+use crate::messages::message::parts::message_of;
+use base::{BinDecodable, BinDecoder, ProtoError};
 use op::{Header, Message};
 use std::alloc::Global;
 use std::test::Fail;
-use test_tools::bytes::decode;
 
 /// Messages in hexadecimal that are refused for their data, with the number and what it names: the type of the data, or
 /// how many bytes are left and the length of the data.
@@ -35,11 +35,10 @@ const BAD_DATA: &[((u8, usize, usize), &'static str)] = &[
 const MX: usize = 15;
 
 #[test]
-fn bad_data_is_refused_as_what_it_is(rt: HostRuntime) -> Result<(), Fail> {
+fn bad_data_is_refused_as_what_it_is(rt: HostRuntime) {
     for &(fault, text) in BAD_DATA {
-        assert!(rt; fault_of_text(rt.alloc(), text)? == fault, "{text}");
+        assert!(rt; fault_of_text(rt.alloc(), text) == fault, "{text}");
     }
-    Ok(())
 }
 
 /// Two questions: the header has 12 bytes, the first question 9, and the second 8.
@@ -49,32 +48,26 @@ const QUESTIONS: &str = "0007 0100 0002 0000 0000 0000 0161 0162 00 0001 0001 01
 const WITHOUT_ROOM: &[(u16, usize)] = &[(28, 1), (21, 1), (20, 0), (12, 0)];
 
 /// How many questions of the message are written under a limit, where one has no room.
-fn count_written(alloc: Global, message: &Message, limit: u16) -> Option<usize> {
-    let mut bytes = Vec::new(alloc);
-    let mut encoder = BinEncoder::new(&mut bytes);
-    encoder.set_max_size(limit);
-    let emitted = message.emit(&mut encoder);
-    drop(encoder);
-    drop(bytes);
-    let written = match &emitted {
+fn count_written(alloc: Global, limit: u16) -> Result<Option<usize>, Fail> {
+    let message = message_of(alloc, QUESTIONS)?;
+    let written = message.to_vec_within(limit);
+    drop(message);
+    let count = match &written {
         Err(ProtoError::NotAllRecordsWritten { count }) => Some(*count),
         _ => None,
     };
-    drop(emitted);
-    written
+    drop(written);
+    Ok(count)
 }
 
 #[test]
 fn questions_without_room_are_counted(rt: HostRuntime) -> Result<(), Fail> {
-    let bytes = decode(rt.alloc(), QUESTIONS)?;
-    let message = Message::from_vec(rt.alloc(), &bytes)?;
     for &(limit, questions) in WITHOUT_ROOM {
         assert!(rt;
-            count_written(rt.alloc(), &message, limit) == Some(questions),
+            count_written(rt.alloc(), limit)? == Some(questions),
             "{limit}"
         );
     }
-    drop(message);
     Ok(())
 }
 
@@ -89,18 +82,16 @@ fn next_question(decoder: &mut BinDecoder<'_>) -> u8 {
     number
 }
 
-/// The numbers of the first question of a message and of the second.
-fn in_turn(alloc: Global, text: &str) -> Result<(u8, u8), Fail> {
-    let bytes = decode(alloc, text)?;
-    let mut decoder = BinDecoder::new(alloc, &bytes);
-    Header::read(&mut decoder)?;
-    Ok((next_question(&mut decoder), next_question(&mut decoder)))
-}
-
 /// The first name is a pointer to byte 4; the second one leads to byte 0, where a pointer leads forward to byte 4.
 #[test]
-fn a_known_target_is_not_led_to_from_before(rt: HostRuntime) -> Result<(), Fail> {
-    let text = "C004 0000 0002 0000 0000 0000 C004 0001 0001 C000 0001 0001";
-    assert!(rt; in_turn(rt.alloc(), text)? == (0, 5));
-    Ok(())
+fn a_known_target_is_not_led_to_from_before(rt: HostRuntime) {
+    let bytes = b"\xC0\x04\0\0\0\x02\0\0\0\0\0\0\xC0\x04\0\x01\0\x01\xC0\0\0\x01\0\x01";
+    let mut decoder = BinDecoder::new(rt.alloc(), bytes);
+    let header = Header::read(&mut decoder);
+    let is_read = header.is_ok();
+    drop(header);
+    let first = next_question(&mut decoder);
+    let second = next_question(&mut decoder);
+    drop(decoder);
+    assert!(rt; is_read && (first, second) == (0, 5));
 }
