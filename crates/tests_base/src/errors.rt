@@ -7,7 +7,7 @@ use test_tools::forms::has_text;
 use test_tools::texts::prints;
 
 /// Whether a refusal has this text; where none is given, whether it prints.
-fn has_text_of<E: fmt::Display>(alloc: Global, refusal: &E, text: &str) -> bool {
+fn is_shown_as<E: fmt::Display>(alloc: Global, refusal: &E, text: &str) -> bool {
     if text.is_empty() {
         prints(alloc, refusal)
     } else {
@@ -43,8 +43,8 @@ fn refusals_of_reading(rt: HostRuntime) {
         (DecodeError::DuplicateEdns, 13, "more than one EDNS record"),
     ];
     for row in &refusals {
-        let has_text = has_text_of(rt.alloc(), &row.0, row.2);
-        assert!(rt; row.0.number() == row.1 && has_text, "{}", row.1);
+        let is_shown = is_shown_as(rt.alloc(), &row.0, row.2);
+        assert!(rt; row.0.number() == row.1 && is_shown, "{}", row.1);
     }
     drop(refusals);
 }

@@ -13,77 +13,99 @@ use fields::{
     SERVICES_UNDER, SOAS, SOAS_UNDER,
 };
 use std::alloc::{AllocError, Global};
-use std::process::Abort;
-use std::test::Fail;
 use strings::{QUOTES, STRINGS};
 use test_tools::forms::has_text;
 
-/// The items of a text, and the text of the data that they name or the refusal.
-type Row = (&'static [&'static str], &'static str);
+/// The items of a text, with commas between them, and the text of the data that they name; none where they are refused.
+type Row = (&'static str, &'static str);
 
-/// What was read, in its text, or the number of the refusal.
-fn show(alloc: Global, found: Result<RData, ParseError>) -> Result<String, AllocError> {
-    let shown = match &found {
-        Ok(data) => format!(in alloc; "{data}"),
-        Err(e) => format!(in alloc; "refused {}", e.number()),
+/// Stands for no items at all.
+const NONE: &str = "none";
+
+/// Whether data was read that has this text; or, where that is empty, whether there was a refusal of this number.
+fn is_answer(alloc: Global, found: Result<RData, ParseError>, text: &str, number: u8) -> bool {
+    let is_answer = match &found {
+        Ok(data) => has_text(alloc, data, text),
+        Err(e) => text.is_empty() && e.number() == number,
     };
     drop(found);
-    shown
+    is_answer
 }
 
-/// The items, each in a text of its own.
-fn words_of(alloc: Global, items: &[&str]) -> Result<Vec<String>, AllocError> {
+/// The items that stand between commas, each in a text of its own.
+fn words_of(alloc: Global, items: &str) -> Result<Vec<String>, AllocError> {
     let mut words = Vec::new(alloc);
-    for item in items {
-        words.push(String::from_str(alloc, item)?)?;
+    if items != NONE {
+        for item in items.split(',') {
+            words.push(String::from_str(alloc, item)?)?;
+        }
     }
     Ok(words)
 }
 
-/// Whether the items are read as data of this text, or refused so.
+/// Whether the items of a row give its text or the refusal under an origin.
 fn give(
     alloc: Global,
     record_type: RecordType,
-    items: &[&str],
+    (items, text): (&str, &str),
     origin: Option<&Name>,
-    expected: &str,
-) -> Result<bool, AllocError> {
-    let words = words_of(alloc, items)?;
-    let found = RData::from_tokens(alloc, record_type, words.iter(), origin);
+    number: u8,
+) -> bool {
+    let words = words_of(alloc, items);
+    let is_given = match &words {
+        Ok(words) => {
+            let found = RData::from_tokens(alloc, record_type, words.iter(), origin);
+            is_answer(alloc, found, text, number)
+        }
+        Err(_) => false,
+    };
     drop(words);
-    let shown = show(alloc, found)?;
-    let same = shown.as_str() == expected;
-    drop(shown);
-    Ok(same)
+    is_given
 }
 
-/// The number of the first row that doesn't give its text under an origin, where the empty text is none.
+/// The number of the first row that doesn't give its text or the refusal of this number under an origin, if there is
+/// one.
 fn first_fault(
+    alloc: Global,
+    record_type: RecordType,
+    origin: Option<&Name>,
+    rows: &[Row],
+    number: u8,
+) -> Option<usize> {
+    for (i, &row) in rows.iter().enumerate() {
+        if !give(alloc, record_type, row, origin, number) {
+            return Some(i);
+        }
+    }
+    None
+}
+
+/// The same under the origin of a text, which has to be read too; the empty text is none.
+fn first_fault_under(
     alloc: Global,
     record_type: RecordType,
     origin: &str,
     rows: &[Row],
-) -> Result<Option<usize>, Fail> {
-    let origin = match origin {
-        "" => None,
-        text => Some(Name::parse(alloc, text, None)?),
-    };
-    let mut fault = None;
-    for (i, &(items, expected)) in rows.iter().enumerate() {
-        if !give(alloc, record_type, items, origin.as_ref(), expected)? {
-            fault = fault.or(Some(i));
-        }
+    number: u8,
+) -> Option<usize> {
+    if origin.is_empty() {
+        return first_fault(alloc, record_type, None, rows, number);
     }
+    let origin = Name::parse(alloc, origin, None);
+    let fault = match &origin {
+        Ok(origin) => first_fault(alloc, record_type, Some(origin), rows, number),
+        Err(_) => Some(rows.len()),
+    };
     drop(origin);
-    Ok(fault)
+    fault
 }
 
 /// Items of the types without a text form.
 const NO_TEXTS: &[Row] = &[
-    (&[], "refused 22"),
-    (&["192.0.2.1"], "refused 22"),
-    (&[r"\#", "0"], "refused 22"),
-    (&["10", "mail."], "refused 22"),
+    (NONE, ""),
+    ("192.0.2.1", ""),
+    (r"\#,0", ""),
+    ("10,mail.", ""),
 ];
 
 /// A table of rows.
@@ -149,83 +171,57 @@ const OF_TYPES: &[(RecordType, &'static str, Table)] = &[
     (RecordType::SOA, "example.", Table::SoasUnder),
     (RecordType::TXT, "", Table::Strings),
     (RecordType::TXT, "", Table::Quotes),
+    // the types without a text form
+    (RecordType::ZERO, "", Table::NoTexts),
+    (RecordType::NULL, "", Table::NoTexts),
+    (RecordType::SIG, "", Table::NoTexts),
+    (RecordType::KEY, "", Table::NoTexts),
+    (RecordType::OPT, "", Table::NoTexts),
+    (RecordType::DS, "", Table::NoTexts),
+    (RecordType::RRSIG, "", Table::NoTexts),
+    (RecordType::NSEC, "", Table::NoTexts),
+    (RecordType::DNSKEY, "", Table::NoTexts),
+    (RecordType::NSEC3, "", Table::NoTexts),
+    (RecordType::NSEC3PARAM, "", Table::NoTexts),
+    (RecordType::CDS, "", Table::NoTexts),
+    (RecordType::CDNSKEY, "", Table::NoTexts),
+    (RecordType::TSIG, "", Table::NoTexts),
+    (RecordType::IXFR, "", Table::NoTexts),
+    (RecordType::AXFR, "", Table::NoTexts),
+    (RecordType::ANY, "", Table::NoTexts),
+    (RecordType::Unknown(11), "", Table::NoTexts),
+    (RecordType::Unknown(65_280), "", Table::NoTexts),
 ];
 
-/// Asks that each row of a table gives its text under an origin, where the empty text is none.
-fn all_give(
-    rt: &(impl Abort + AllocGlobal),
-    record_type: RecordType,
-    origin: &str,
-    table: Table,
-) -> Result<(), Fail> {
-    let fault = first_fault(rt.alloc(), record_type, origin, rows_of(table))?;
-    assert!(rt; fault == None, "{record_type} {origin}: row {fault:?}");
-    Ok(())
-}
-
 #[test]
-fn items_of_types(rt: HostRuntime) -> Result<(), Fail> {
+fn items_of_types(rt: HostRuntime) {
     for &(record_type, origin, table) in OF_TYPES {
-        all_give(&rt, record_type, origin, table)?;
+        let number = match table {
+            Table::NoTexts => 22,
+            _ => 23,
+        };
+        let rows = rows_of(table);
+        let fault = first_fault_under(rt.alloc(), record_type, origin, rows, number);
+        assert!(rt; fault == None, "{record_type} {origin}: row {fault:?}");
     }
-    Ok(())
-}
-
-/// The types without a text form.
-const WITHOUT_TEXT: &[RecordType] = &[
-    RecordType::ZERO,
-    RecordType::NULL,
-    RecordType::SIG,
-    RecordType::KEY,
-    RecordType::OPT,
-    RecordType::DS,
-    RecordType::RRSIG,
-    RecordType::NSEC,
-    RecordType::DNSKEY,
-    RecordType::NSEC3,
-    RecordType::NSEC3PARAM,
-    RecordType::CDS,
-    RecordType::CDNSKEY,
-    RecordType::TSIG,
-    RecordType::IXFR,
-    RecordType::AXFR,
-    RecordType::ANY,
-    RecordType::Unknown(11),
-    RecordType::Unknown(65_280),
-];
-
-#[test]
-fn types_without_a_text_form(rt: HostRuntime) -> Result<(), Fail> {
-    for &record_type in WITHOUT_TEXT {
-        all_give(&rt, record_type, "", Table::NoTexts)?;
-    }
-    Ok(())
 }
 
 /// Data of items that are given away.
-fn read_of_words(alloc: Global, items: &[&str]) -> Result<RData, ParseError> {
+fn read_of_words(alloc: Global, items: &str) -> Result<RData, ParseError> {
     let words = words_of(alloc, items)?;
     RData::from_tokens(alloc, RecordType::MX, words.into_iter(), None)
-}
-
-/// Whether data was read that prints so.
-fn prints(alloc: Global, found: Result<RData, ParseError>, text: &str) -> bool {
-    let is_shown = match &found {
-        Ok(data) => has_text(alloc, data, text),
-        Err(_) => false,
-    };
-    drop(found);
-    is_shown
 }
 
 #[test]
 fn items_come_in_each_form(rt: HostRuntime) {
     let alloc = rt.alloc();
-    assert!(rt; prints(alloc, read_of_words(alloc, &["10", "mail."]), "10 mail."));
+    let given = read_of_words(alloc, "10,mail.");
+    let are_given = is_answer(alloc, given, "10 mail.", 0);
     let array = RData::from_tokens(alloc, RecordType::MX, ["10", "mail."].into_iter(), None);
-    assert!(rt; prints(alloc, array, "10 mail."));
+    let are_in_array = is_answer(alloc, array, "10 mail.", 0);
     let slice = RData::from_items(alloc, RecordType::MX, &["10", "mail."], None);
-    assert!(rt; prints(alloc, slice, "10 mail."));
+    let are_in_slice = is_answer(alloc, slice, "10 mail.", 0);
+    assert!(rt; are_given && are_in_array && are_in_slice);
 }
 
 /// The text of a string of 255 letters, and of another after it.
@@ -244,33 +240,29 @@ const LONG: &[(&'static str, usize, bool)] = &[
     (r"\097", 256, false),
 ];
 
-/// `count` copies of a text.
-fn repeat(alloc: Global, text: &str, count: usize) -> Result<String, AllocError> {
-    let mut repeated = String::new(alloc);
+/// Appends `count` copies of a letter, and another item.
+fn fill(items: &mut String, letter: &str, count: usize) -> Result<(), AllocError> {
     for _ in 0..count {
-        repeated.push_str(text)?;
+        items.push_str(letter)?;
     }
-    Ok(repeated)
+    items.push_str(",b")
 }
 
 /// Whether a string of `count` copies of a letter, and another, are read so.
-fn is_long(alloc: Global, letter: &str, count: usize, is_read: bool) -> Result<bool, AllocError> {
-    let string = repeat(alloc, letter, count)?;
-    let items = [string.as_str(), "b"];
-    let expected = if is_read { LONGEST } else { "refused 23" };
-    let is_long = give(alloc, RecordType::TXT, &items, None, expected);
-    drop(string);
-    is_long
+fn is_long(alloc: Global, letter: &str, count: usize, is_read: bool) -> bool {
+    let mut items = String::new(alloc);
+    let is_filled = fill(&mut items, letter, count).is_ok();
+    let text = if is_read { LONGEST } else { "" };
+    let is_long = give(alloc, RecordType::TXT, (&items, text), None, 23);
+    drop(items);
+    is_filled && is_long
 }
 
 #[test]
-fn the_longest_strings(rt: HostRuntime) -> Result<(), AllocError> {
+fn the_longest_strings(rt: HostRuntime) {
     assert!(rt; LONGEST.len() == 261);
     for &(letter, count, is_read) in LONG {
-        assert!(rt;
-            is_long(rt.alloc(), letter, count, is_read)?,
-            "{count} of {letter}"
-        );
+        let is_long = is_long(rt.alloc(), letter, count, is_read);
+        assert!(rt; is_long, "{count} of {letter}");
     }
-    Ok(())
 }

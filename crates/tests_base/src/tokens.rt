@@ -16,58 +16,77 @@ fn show_item(shown: &mut String, item: &str) -> Result<(), AllocError> {
     shown.push_str("]")
 }
 
-/// Shows a list, its items in parentheses.
+/// Shows the items of a list after their opening parenthesis.
 fn show_list(shown: &mut String, items: &[String]) -> Result<(), AllocError> {
     shown.push_str("(")?;
     for item in items {
         show_item(shown, item)?;
     }
-    shown.push_str(")")
+    Ok(())
 }
 
-/// A token, as rows show it, but for the space after it.
+/// Shows a token, and the space after it.
 fn show(shown: &mut String, token: &Token) -> Result<(), AllocError> {
     let sign = match token {
-        Token::CharData(item) => return show_item(shown, item),
-        Token::List(items) => return show_list(shown, items),
-        Token::Blank => "_",
-        Token::EOL => "/",
-        Token::At => "@",
-        Token::Origin => "$ORIGIN",
-        Token::Include => "$INCLUDE",
-        Token::Ttl => "$TTL",
+        Token::CharData(item) => {
+            show_item(shown, item)?;
+            " "
+        }
+        Token::List(items) => {
+            show_list(shown, items)?;
+            ") "
+        }
+        Token::Blank => "_ ",
+        Token::EOL => "/ ",
+        Token::At => "@ ",
+        Token::Origin => "$ORIGIN ",
+        Token::Include => "$INCLUDE ",
+        Token::Ttl => "$TTL ",
     };
     shown.push_str(sign)
 }
 
-/// How a lexer ends: at the text's end, or by its fault.
+/// How a lexer ends: at the text's end, or by its fault; empty where a token was read.
 fn end_of(read: &Result<Option<Token>, ParseError>) -> &'static str {
     match read {
+        Ok(Some(_)) => "",
         Ok(None) => "end",
         Err(ParseError::Lexer) => "fault",
-        _ => "neither",
+        Err(_) => "neither",
     }
 }
 
-/// What comes of a text. At its end, and at a fault, the lexer is asked a second time and answers the same.
-fn tokens_of(alloc: Global, text: &str) -> Result<String, AllocError> {
-    let mut shown = String::new(alloc);
-    let mut lexer = Lexer::new(alloc, text);
+/// Shows the tokens that are left. At the text's end, and at a fault, the lexer is asked a second time and answers the
+/// same.
+fn show_all(shown: &mut String, lexer: &mut Lexer<'_>) -> Result<(), AllocError> {
     for _ in 0..ENOUGH {
         let read = lexer.next_token();
-        if let Ok(Some(token)) = &read {
-            show(&mut shown, token)?;
-            shown.push_str(" ")?;
-        } else {
-            let ended = end_of(&read);
+        let ended = end_of(&read);
+        let is_shown = match &read {
+            Ok(Some(token)) => show(shown, token),
+            _ => shown.push_str(ended),
+        };
+        drop(read);
+        is_shown?;
+        if !ended.is_empty() {
             let again = lexer.next_token();
-            if end_of(&again) == ended {
-                shown.push_str(ended)?;
-            }
-            return Ok(shown);
+            let is_other = end_of(&again) != ended;
+            drop(again);
+            return shown.push_str(if is_other { " once" } else { "" });
         }
     }
-    Ok(shown)
+    Ok(())
+}
+
+/// Whether these tokens come of a text.
+fn gives(alloc: Global, text: &str, expected: &str) -> bool {
+    let mut shown = String::new(alloc);
+    let mut lexer = Lexer::new(alloc, text);
+    let is_shown = show_all(&mut shown, &mut lexer).is_ok();
+    drop(lexer);
+    let same = is_shown && shown.as_str() == expected;
+    drop(shown);
+    same
 }
 
 /// A text, and its tokens.
@@ -246,24 +265,23 @@ fn rows_of(table: Table) -> &'static [Row] {
 }
 
 #[test]
-fn rows_of_tokens(rt: HostRuntime) -> Result<(), AllocError> {
+fn rows_of_tokens(rt: HostRuntime) {
     for &table in TABLES {
         for &(text, expected) in rows_of(table) {
-            let shown = tokens_of(rt.alloc(), text)?;
-            assert!(rt; shown.as_str() == expected, "{} gives {}", text, shown);
-            drop(shown);
+            assert!(rt; gives(rt.alloc(), text, expected), "{text}");
         }
     }
-    Ok(())
 }
 
 /// Whether a text says this number of seconds, or no TTL.
 fn says(text: &str, seconds: Option<u32>) -> bool {
-    match parse_ttl(text) {
-        Ok(read) => Some(read) == seconds,
-        Err(ParseError::BadTtl) => seconds.is_none(),
-        Err(_) => false,
-    }
+    let read = parse_ttl(text);
+    let same = match &read {
+        Ok(read) => seconds == Some(*read),
+        Err(e) => seconds == None && matches!(e, ParseError::BadTtl),
+    };
+    drop(read);
+    same
 }
 
 /// Texts, and how many seconds they say, if they are TTLs.

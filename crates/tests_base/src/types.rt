@@ -1,23 +1,16 @@
 use base::{DNSClass, Name, ParseError, RecordType};
 use std::alloc::Global;
-use std::cmp::Ordering;
 use std::fmt;
 use test_tools::forms::{has_text, is_copied};
 use test_tools::hashes::hash_alike;
-use test_tools::texts::prints;
 
-/// Whether the three comparisons of two values answer by this order.
-fn compares<T: Ord>(low: &T, high: &T, order: Ordering) -> bool {
-    low.cmp(high) == order
-        && low.partial_cmp(high) == Some(order)
-        && (low == high) == (order == Ordering::Equal)
-}
-
-/// Whether every value stands where the order has it.
+/// Whether every value stands where the order has it, by each of the three comparisons.
 fn ascends<T: Ord>(values: &[T]) -> bool {
     for (i, low) in values.iter().enumerate() {
         for (k, high) in values.iter().enumerate() {
-            if !compares(low, high, i.cmp(&k)) {
+            let order = i.cmp(&k);
+            let is_ordered = low.cmp(high) == order && low.partial_cmp(high) == Some(order);
+            if !is_ordered || (low == high) != (i == k) {
                 return false;
             }
         }
@@ -25,21 +18,15 @@ fn ascends<T: Ord>(values: &[T]) -> bool {
     true
 }
 
-/// Whether a type stands for this number, and prints and reads as this text.
+/// Whether a type stands for this number, prints as this text, and is read of it if it has a name.
 fn is_type(alloc: Global, record_type: RecordType, number: u16, text: &str) -> bool {
+    let named = match record_type {
+        RecordType::Unknown(_) => None,
+        named => Some(named),
+    };
     u16::from(record_type) == number
         && RecordType::from(number) == record_type
-        && RecordType::from_text(text) == Some(record_type)
-        && has_text(alloc, &record_type, text)
-}
-
-/// Whether a type of this number prints as this text, which doesn't read, and isn't of DNSSEC.
-fn is_nameless_type(alloc: Global, number: u16, text: &str) -> bool {
-    let record_type = RecordType::Unknown(number);
-    RecordType::from(number) == record_type
-        && u16::from(record_type) == number
-        && RecordType::from_text(text) == None
-        && !record_type.is_dnssec()
+        && RecordType::from_text(text) == named
         && has_text(alloc, &record_type, text)
 }
 
@@ -72,35 +59,13 @@ const TYPES: &[(RecordType, u16, &'static str, bool)] = &[
     (RecordType::AXFR, 252, "AXFR", false),
     (RecordType::ANY, 255, "ANY", false),
     (RecordType::ANAME, 65305, "ANAME", false),
-];
-
-const NAMELESS_TYPES: &[(u16, &'static str)] = &[
-    (3, "TYPE3"),
-    (11, "TYPE11"),
-    (249, "TYPE249"),
-    (253, "TYPE253"),
-    (254, "TYPE254"),
-    (65304, "TYPE65304"),
-    (65535, "TYPE65535"),
-];
-
-/// Texts of no type.
-const NO_TYPES: &[&'static str] = &[
-    "",
-    "a",
-    "aaaa",
-    "Mx",
-    "A ",
-    " A",
-    "AA",
-    "NSEC4",
-    "NSEC3PARAMS",
-    "TYPE1",
-    "TYPE65305",
-    "WKS",
-    "*",
-    "IN",
-    "1",
+    (RecordType::Unknown(3), 3, "TYPE3", false),
+    (RecordType::Unknown(11), 11, "TYPE11", false),
+    (RecordType::Unknown(249), 249, "TYPE249", false),
+    (RecordType::Unknown(253), 253, "TYPE253", false),
+    (RecordType::Unknown(254), 254, "TYPE254", false),
+    (RecordType::Unknown(65304), 65304, "TYPE65304", false),
+    (RecordType::Unknown(65535), 65535, "TYPE65535", false),
 ];
 
 const ASCENDING_TYPES: &[RecordType] = &[
@@ -129,42 +94,23 @@ fn record_types(rt: HostRuntime) {
 }
 
 #[test]
-fn nameless_record_types(rt: HostRuntime) {
-    for &(number, text) in NAMELESS_TYPES {
-        assert!(rt; is_nameless_type(rt.alloc(), number, text), "{text}");
-    }
-}
-
-#[test]
-fn texts_of_no_record_type(rt: HostRuntime) {
-    for &text in NO_TYPES {
-        assert!(rt; RecordType::from_text(text) == None, "{text}");
-    }
-}
-
-#[test]
 fn record_types_in_order(rt: HostRuntime) {
     assert!(rt; ascends(ASCENDING_TYPES));
     assert!(rt; is_copied(RecordType::Unknown(7)));
     assert!(rt; RecordType::MX.max(RecordType::TXT) == RecordType::TXT);
-    assert!(rt; hash_alike(&RecordType::from(28), &RecordType::AAAA));
-    assert!(rt; !hash_alike(&RecordType::A, &RecordType::Unknown(1)));
+    let are_alike = hash_alike(&RecordType::from(28), &RecordType::AAAA);
+    assert!(rt; are_alike && !hash_alike(&RecordType::A, &RecordType::Unknown(1)));
 }
 
-/// Whether a class stands for this number, and prints and reads as this text.
+/// Whether a class stands for this number, prints as this text, and is read of it if it has a name.
 fn is_class(alloc: Global, class: DNSClass, number: u16, text: &str) -> bool {
+    let named = match class {
+        DNSClass::Unknown(_) => None,
+        named => Some(named),
+    };
     u16::from(class) == number
         && DNSClass::from(number) == class
-        && DNSClass::from_text(text) == Some(class)
-        && has_text(alloc, &class, text)
-}
-
-/// Whether a class of this number prints as this text, which doesn't read.
-fn is_nameless_class(alloc: Global, number: u16, text: &str) -> bool {
-    let class = DNSClass::Unknown(number);
-    DNSClass::from(number) == class
-        && u16::from(class) == number
-        && DNSClass::from_text(text) == None
+        && DNSClass::from_text(text) == named
         && has_text(alloc, &class, text)
 }
 
@@ -175,18 +121,37 @@ const CLASSES: &[(DNSClass, u16, &'static str)] = &[
     (DNSClass::HS, 4, "HS"),
     (DNSClass::NONE, 254, "NONE"),
     (DNSClass::ANY, 255, "ANY"),
+    (DNSClass::Unknown(0), 0, "CLASS0"),
+    (DNSClass::Unknown(2), 2, "CLASS2"),
+    (DNSClass::Unknown(512), 512, "CLASS512"),
+    (DNSClass::Unknown(65535), 65535, "CLASS65535"),
 ];
 
-const NAMELESS_CLASSES: &[(u16, &'static str)] = &[
-    (0, "CLASS0"),
-    (2, "CLASS2"),
-    (512, "CLASS512"),
-    (65535, "CLASS65535"),
-];
-
-/// Texts of no class.
-const NO_CLASSES: &[&'static str] = &[
-    "", "in", "Any", "CS", "OPT", "**", "* ", "INN", "CLASS1", "1",
+/// Texts, and what they are read as: types and classes in capital letters alone, and `*` as any class.
+const TEXTS: &[(&'static str, Option<RecordType>, Option<DNSClass>)] = &[
+    ("", None, None),
+    ("a", None, None),
+    ("aaaa", None, None),
+    ("Mx", None, None),
+    ("A ", None, None),
+    (" A", None, None),
+    ("AA", None, None),
+    ("NSEC4", None, None),
+    ("NSEC3PARAMS", None, None),
+    ("TYPE1", None, None),
+    ("TYPE65305", None, None),
+    ("WKS", None, None),
+    ("*", None, Some(DNSClass::ANY)),
+    ("IN", None, Some(DNSClass::IN)),
+    ("1", None, None),
+    ("in", None, None),
+    ("Any", None, None),
+    ("CS", None, None),
+    ("OPT", Some(RecordType::OPT), None),
+    ("**", None, None),
+    ("* ", None, None),
+    ("INN", None, None),
+    ("CLASS1", None, None),
 ];
 
 /// What OPT records carry, and the payload that it stands for.
@@ -224,41 +189,34 @@ fn classes(rt: HostRuntime) {
 }
 
 #[test]
-fn nameless_classes(rt: HostRuntime) {
-    for &(number, text) in NAMELESS_CLASSES {
-        assert!(rt; is_nameless_class(rt.alloc(), number, text), "{text}");
-    }
-}
-
-#[test]
-fn texts_of_no_class(rt: HostRuntime) {
-    for &text in NO_CLASSES {
-        assert!(rt; DNSClass::from_text(text) == None, "{text}");
+fn texts_of_types_and_classes(rt: HostRuntime) {
+    for &(text, record_type, class) in TEXTS {
+        let is_type = RecordType::from_text(text) == record_type;
+        assert!(rt; is_type && DNSClass::from_text(text) == class, "{text}");
     }
 }
 
 #[test]
 fn classes_of_payloads(rt: HostRuntime) {
     for &(payload, size) in PAYLOADS {
+        let class = DNSClass::for_opt(payload);
         assert!(rt;
-            DNSClass::for_opt(payload) == DNSClass::OPT(size),
+            class == DNSClass::OPT(size) && u16::from(class) == size,
             "{payload}"
         );
-        assert!(rt; u16::from(DNSClass::for_opt(payload)) == size, "{payload}");
     }
 }
 
 #[test]
 fn classes_in_order(rt: HostRuntime) {
-    assert!(rt; DNSClass::from_text("*") == Some(DNSClass::ANY));
-    assert!(rt; has_text(rt.alloc(), &DNSClass::OPT(1232), "OPT"));
-    assert!(rt; prints(rt.alloc(), &DNSClass::OPT(512)));
+    let is_shown = has_text(rt.alloc(), &DNSClass::OPT(1232), "OPT");
+    assert!(rt; is_shown && has_text(rt.alloc(), &DNSClass::OPT(512), "OPT"));
     assert!(rt; ascends(ASCENDING_CLASSES));
     assert!(rt; is_copied(DNSClass::OPT(512)));
-    assert!(rt; DNSClass::IN.cmp(&DNSClass::ANY) == Ordering::Less);
-    assert!(rt; hash_alike(&DNSClass::from(1), &DNSClass::IN));
-    assert!(rt; hash_alike(&DNSClass::for_opt(100), &DNSClass::OPT(512)));
-    assert!(rt; !hash_alike(&DNSClass::OPT(600), &DNSClass::Unknown(600)));
+    let are_alike = hash_alike(&DNSClass::from(1), &DNSClass::IN);
+    let are_payloads_alike = hash_alike(&DNSClass::for_opt(100), &DNSClass::OPT(512));
+    let is_other = !hash_alike(&DNSClass::OPT(600), &DNSClass::Unknown(600));
+    assert!(rt; are_alike && are_payloads_alike && is_other);
 }
 
 /// Whether a value has this debug text.
@@ -275,8 +233,10 @@ fn is_shown<T: fmt::Debug>(alloc: Global, value: &T, text: &str) -> bool {
 #[test]
 fn debug_texts(rt: HostRuntime) -> Result<(), ParseError> {
     let name = Name::parse(rt.alloc(), "www.Example.com.", None)?;
-    assert!(rt; is_shown(rt.alloc(), &name, "Name(\"www.Example.com.\")"));
-    assert!(rt; is_shown(rt.alloc(), &RecordType::Unknown(7), "Unknown(7)"));
-    assert!(rt; is_shown(rt.alloc(), &DNSClass::OPT(512), "OPT(512)"));
+    let is_name_shown = is_shown(rt.alloc(), &name, "Name(\"www.Example.com.\")");
+    drop(name);
+    let is_type_shown = is_shown(rt.alloc(), &RecordType::Unknown(7), "Unknown(7)");
+    let is_class_shown = is_shown(rt.alloc(), &DNSClass::OPT(512), "OPT(512)");
+    assert!(rt; is_name_shown && is_type_shown && is_class_shown);
     Ok(())
 }

@@ -59,11 +59,11 @@ fn emit_name(
 }
 
 /// Writes `count` zeros.
-fn emit_zeros(count: usize, encoder: &mut BinEncoder<'_>) -> Result<(), ProtoError> {
-    for _ in 0..count {
-        encoder.emit(0)?;
-    }
-    Ok(())
+fn emit_zeros(alloc: Global, count: usize, encoder: &mut BinEncoder<'_>) -> Result<(), ProtoError> {
+    let zeros = vec![in alloc; 0; count]?;
+    let emitted = encoder.emit_slice(&zeros);
+    drop(zeros);
+    emitted
 }
 
 /// Writes `count` names of one label, whose two letters tell its number, from 0 on.
@@ -86,7 +86,7 @@ fn take(alloc: Global, step: Step, encoder: &mut BinEncoder<'_>) -> Result<(), P
         Step::U16(number) => encoder.emit_u16(number),
         Step::U32(number) => encoder.emit_u32(number),
         Step::Bytes(bytes) => encoder.emit_slice(bytes),
-        Step::Zeros(count) => emit_zeros(count, encoder),
+        Step::Zeros(count) => emit_zeros(alloc, count, encoder),
         Step::Name(name) | Step::Plain(name) | Step::SizedName(name) => {
             emit_name(alloc, step, name, encoder)
         }
@@ -118,16 +118,39 @@ fn are_taken(alloc: Global, steps: &[(Step, u8)], encoder: &mut BinEncoder<'_>) 
     true
 }
 
-/// Whether the steps are taken so, and leave these bytes from a place on.
-fn leave(alloc: Global, steps: &[(Step, u8)], from: usize, wanted: &[u8]) -> bool {
-    let mut bytes = Vec::new(alloc);
-    let mut encoder = BinEncoder::new(&mut bytes);
+/// Whether the steps are taken so by an encoder that begins with nothing over what stands, and leave these bytes from
+/// a place on.
+fn leave(
+    alloc: Global,
+    bytes: &mut Vec<u8>,
+    steps: &[(Step, u8)],
+    from: usize,
+    wanted: &[u8],
+) -> bool {
+    let mut encoder = BinEncoder::new(bytes);
+    let begins = encoder.is_empty();
     let are_taken = are_taken(alloc, steps, &mut encoder);
+    let len = encoder.len();
     drop(encoder);
-    let same = are_taken && bytes.get(from..) == Some(wanted);
-    drop(bytes);
-    same
+    begins && are_taken && len == bytes.len() && bytes.get(from..) == Some(wanted)
 }
 
-/// Steps with the numbers of their refusals, a place, and what stands there in the end.
+/// Steps with the numbers of their refusals, a place, and what stands there in the end: see `numbers` and `names`.
 type Row = (&'static [(Step, u8)], usize, &'static [u8]);
+
+const TABLES: &[&'static [Row]] = &[numbers::ROWS, names::ROWS, names::MORE_ROWS];
+
+/// Each encoder writes over what the one before has left.
+#[test]
+fn rows_of_steps(rt: HostRuntime) {
+    let mut bytes = Vec::new(rt.alloc());
+    for (i, &rows) in TABLES.iter().enumerate() {
+        for (j, &(steps, from, wanted)) in rows.iter().enumerate() {
+            assert!(rt;
+                leave(rt.alloc(), &mut bytes, steps, from, wanted),
+                "table {i}, row {j}"
+            );
+        }
+    }
+    drop(bytes);
+}

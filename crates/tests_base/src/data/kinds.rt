@@ -1,19 +1,21 @@
 //! Each kind: what is written and shown of it, and that it is taken out of the data of any record again.
 
-use super::name;
-use base::{
-    BinDecodable, BinDecoder, BinEncodable, BinEncoder, ParseError, ProtoError, RecordType,
-};
+use crate::answers::is_this;
+use crate::names::name;
+use base::{BinDecodable, BinDecoder, BinEncodable, BinEncoder, ParseError, RecordType};
 use base_data::{
     A, AAAA, ANAME, CNAME, EdnsOption, MX, NS, NULL, OPT, PTR, RData, RecordData, SOA, SRV, TSIG,
     TXT,
 };
 use std::alloc::{AllocError, Global};
 use std::net::{Ipv4Addr, Ipv6Addr};
-use test_tools::forms::{are_bytes, has_text, is_copied, is_written_as};
+use test_tools::forms::{has_text, is_copied, is_emitted, is_written_as};
+
+/// The type of data, its bytes and its text.
+type Form = (RecordType, &'static [u8], &'static str);
 
 /// Whether the data of any record is this data.
-pub(super) fn holds<R: RecordData>(any: &RData, value: &R) -> bool {
+fn holds<R: RecordData>(any: &RData, value: &R) -> bool {
     match R::try_borrow(any) {
         Some(borrowed) => borrowed == value,
         None => false,
@@ -23,13 +25,8 @@ pub(super) fn holds<R: RecordData>(any: &RData, value: &R) -> bool {
 /// Whether this data is read of all of the bytes.
 fn is_read(alloc: Global, record_type: RecordType, wire: &[u8], any: &RData) -> bool {
     let len = wire.len().min(65_535) as u16;
-    let read = RData::read(&mut BinDecoder::new(alloc, wire), record_type, len);
-    let same = match &read {
-        Ok(read) => *read == *any,
-        Err(_) => false,
-    };
-    drop(read);
-    same
+    let mut decoder = BinDecoder::new(alloc, wire);
+    is_this(RData::read(&mut decoder, record_type, len), any)
 }
 
 /// Whether a copy of data is data of any record of that type, is taken out again, and is read of these bytes where
@@ -54,13 +51,7 @@ fn is_taken_out<R: RecordData>(
 
 /// Whether data is of this type, isn't empty, is written as these bytes, has this text, and is taken out of the data of
 /// any record.
-fn has_form<R: RecordData>(
-    alloc: Global,
-    value: &R,
-    record_type: RecordType,
-    wire: &[u8],
-    text: &str,
-) -> bool {
+fn has_form<R: RecordData>(alloc: Global, value: &R, (record_type, wire, text): Form) -> bool {
     value.record_type() == record_type
         && !value.is_update()
         && is_written_as(alloc, value, wire)
@@ -69,28 +60,58 @@ fn has_form<R: RecordData>(
 }
 
 /// Whether data has this form, and is equal to its copy.
-fn is_value<R: RecordData>(
-    alloc: Global,
-    value: R,
-    record_type: RecordType,
-    wire: &[u8],
-    text: &str,
-) -> bool {
-    let has_form = has_form(alloc, &value, record_type, wire, text);
+fn is_value<R: RecordData>(alloc: Global, value: R, form: Form) -> bool {
+    let has_form = has_form(alloc, &value, form);
     let is_copied = is_copied(value);
     has_form && is_copied
 }
 
 /// Whether data could be made, has this form, and is equal to its copy.
-fn is_data<R: RecordData, E: Drop>(
+fn is_data<R: RecordData, E: Drop>(alloc: Global, made: Result<R, E>, form: Form) -> bool {
+    match made {
+        Ok(value) => is_value(alloc, value, form),
+        Err(_) => false,
+    }
+}
+
+/// Whether two values are written as these bytes, one after another.
+fn are_written_as<T: BinEncodable>(alloc: Global, first: &T, second: &T, wire: &[u8]) -> bool {
+    let mut bytes = Vec::new(alloc);
+    let mut encoder = BinEncoder::new(&mut bytes);
+    let are_emitted = is_emitted(&mut encoder, first) && is_emitted(&mut encoder, second);
+    drop(encoder);
+    let same = are_emitted && bytes.as_slice() == wire;
+    drop(bytes);
+    same
+}
+
+/// Whether two values are written one after another as these bytes, and are read of them.
+fn stand_in_a_row<T: BinEncodable + BinDecodable + PartialEq + Drop>(
     alloc: Global,
-    made: Result<R, E>,
-    record_type: RecordType,
+    first: &T,
+    second: &T,
     wire: &[u8],
-    text: &str,
+) -> bool {
+    let mut decoder = BinDecoder::new(alloc, wire);
+    are_written_as(alloc, first, second, wire)
+        && is_this(T::read(&mut decoder), first)
+        && is_this(T::read(&mut decoder), second)
+        && decoder.is_empty()
+}
+
+/// Whether data of names could be made, stands in a row with itself as these bytes, has this form, and is equal to its
+/// copy.
+fn is_named<R: RecordData + BinDecodable>(
+    alloc: Global,
+    made: Result<R, ParseError>,
+    form: Form,
+    twice: &[u8],
 ) -> bool {
     match made {
-        Ok(value) => is_value(alloc, value, record_type, wire, text),
+        Ok(value) => {
+            let is_in_a_row = stand_in_a_row(alloc, &value, &value, twice);
+            is_value(alloc, value, form) && is_in_a_row
+        }
         Err(_) => false,
     }
 }
@@ -117,104 +138,12 @@ fn unknown_data(alloc: Global, code: RecordType) -> Result<RData, AllocError> {
     Ok(RData::Unknown { code, rdata })
 }
 
-#[test]
-fn addresses(rt: HostRuntime) {
-    let alloc = rt.alloc();
-    let short = A::new(Ipv4Addr::new(192, 0, 2, 10));
-    assert!(rt; is_value(alloc, short, RecordType::A, &[192, 0, 2, 10], "192.0.2.10"));
-    let long = AAAA::new(Ipv6Addr::from_segments([0x2001, 0xDB8, 0, 0, 1, 0, 0, 1]));
-    let wire = [0x20, 1, 0x0D, 0xB8, 0, 0, 0, 0, 0, 1, 0, 0, 0, 0, 0, 1];
-    assert!(rt; is_value(alloc, long, RecordType::AAAA, &wire, "2001:db8::1:0:0:1"));
-}
-
-#[test]
-fn bytes_alone(rt: HostRuntime) {
-    let alloc = rt.alloc();
-    let none = null(alloc, &[]);
-    assert!(rt; is_data(alloc, none, RecordType::NULL, &[], "\\# 0"));
-    let wire = [0xAB, 0x0C, 0xFF];
-    let some = null(alloc, &wire);
-    assert!(rt; is_data(alloc, some, RecordType::NULL, &wire, "\\# 3 ab0cff"));
-    let made = signature(alloc, 9);
-    assert!(rt; is_data(alloc, made, RecordType::TSIG, &[9], "\\# 1 09"));
-    let unknown = unknown_data(alloc, RecordType::NSEC);
-    assert!(rt; is_data(alloc, unknown, RecordType::NSEC, &[1], "\\# 1 01"));
-}
-
-#[test]
-fn options(rt: HostRuntime) {
-    let alloc = rt.alloc();
-    let none = OPT::new(Vec::new(alloc));
-    assert!(rt; is_value(alloc, none, RecordType::OPT, &[], "\\# 0"));
-    let (one, wire) = (one_option(alloc), [0, 3, 0, 1, 4]);
-    assert!(rt; is_data(alloc, one, RecordType::OPT, &wire, "\\# 5 0003000104"));
-}
-
 /// Strings, their bytes, and strings with marks that have a meaning in zone text.
 const STRINGS: [&[u8]; 3] = [b"say \"a\\b\"", &[], &[0x1F, 0x7E, 0x7F, 0xFF]];
 
 const STRINGS_ON_THE_WIRE: &[u8] = b"\x09say \"a\\b\"\0\x04\x1F\x7E\x7F\xFF";
 
 const MARKS: [&[u8]; 2] = [b"x;y", b"z\"q"];
-
-/// A text of those strings, and one of those marks.
-fn text_of_strings(alloc: Global) -> Result<TXT, ProtoError> {
-    TXT::new(alloc, &STRINGS)
-}
-
-fn text_of_marks(alloc: Global) -> Result<TXT, ProtoError> {
-    TXT::new(alloc, &MARKS)
-}
-
-#[test]
-fn strings(rt: HostRuntime) {
-    let alloc = rt.alloc();
-    let text = text_of_strings(alloc);
-    let shown = "\"say \\\"a\\\\b\\\"\" \"\" \"\\031~\\127\\255\"";
-    assert!(rt; is_data(alloc, text, RecordType::TXT, STRINGS_ON_THE_WIRE, shown));
-    // quotes are escaped, and semicolons are not
-    let (text, shown) = (text_of_marks(alloc), "\"x;y\" \"z\\\"q\"");
-    assert!(rt; is_data(alloc, text, RecordType::TXT, b"\x03x;y\x03z\"q", shown));
-}
-
-/// Whether a text has those strings, and no more.
-fn has_strings(text: &TXT) -> bool {
-    let mut strings = text.strings();
-    for expected in &STRINGS {
-        if strings.next() != Some(*expected) {
-            return false;
-        }
-    }
-    strings.next().is_none()
-}
-
-/// Whether data is a text of those strings.
-fn is_of_strings(data: &RData) -> bool {
-    match TXT::try_borrow(data) {
-        Some(text) => has_strings(text),
-        None => false,
-    }
-}
-
-/// Whether a text that has those strings is read.
-fn are_strings_read(alloc: Global) -> bool {
-    let read = RData::read(
-        &mut BinDecoder::new(alloc, STRINGS_ON_THE_WIRE),
-        RecordType::TXT,
-        16,
-    );
-    let are_read = match &read {
-        Ok(data) => is_of_strings(data),
-        Err(_) => false,
-    };
-    drop(read);
-    are_read
-}
-
-#[test]
-fn strings_are_read(rt: HostRuntime) {
-    assert!(rt; are_strings_read(rt.alloc()));
-}
 
 /// An MX.
 fn mail_host(alloc: Global, preference: u16, text: &str) -> Result<MX, ParseError> {
@@ -238,184 +167,191 @@ fn soa(alloc: Global) -> Result<SOA, ParseError> {
     }
 }
 
-/// The bytes of that SOA.
-const SOA_ON_THE_WIRE: &[u8] = b"\x02ns\x07example\0\x0Ahostmaster\xC0\x03\
-    \0\0\0\x01\0\0\x1C\x20\0\0\x0E\x10\0\x12\x75\0\0\0\x01\x2C";
+/// What the data of a row is.
+#[derive(Clone, Copy)]
+enum Kind {
+    Address,
+    LongAddress,
+    NoBytes,
+    Bytes,
+    Signature,
+    UnknownData,
+    NoOptions,
+    OneOption,
+    Strings,
+    Marks,
+    MailHost,
+}
+
+/// The data of each kind, its type, its bytes and its text.
+const FORMS: &[(Kind, Form)] = &[
+    (
+        Kind::Address,
+        (RecordType::A, &[192, 0, 2, 10], "192.0.2.10"),
+    ),
+    (
+        Kind::LongAddress,
+        (
+            RecordType::AAAA,
+            &[0x20, 1, 0x0D, 0xB8, 0, 0, 0, 0, 0, 1, 0, 0, 0, 0, 0, 1],
+            "2001:db8::1:0:0:1",
+        ),
+    ),
+    (Kind::NoBytes, (RecordType::NULL, &[], "\\# 0")),
+    (
+        Kind::Bytes,
+        (RecordType::NULL, &[0xAB, 0x0C, 0xFF], "\\# 3 ab0cff"),
+    ),
+    (Kind::Signature, (RecordType::TSIG, &[9], "\\# 1 09")),
+    (Kind::UnknownData, (RecordType::NSEC, &[1], "\\# 1 01")),
+    (Kind::NoOptions, (RecordType::OPT, &[], "\\# 0")),
+    (
+        Kind::OneOption,
+        (RecordType::OPT, &[0, 3, 0, 1, 4], "\\# 5 0003000104"),
+    ),
+    (
+        Kind::Strings,
+        (
+            RecordType::TXT,
+            STRINGS_ON_THE_WIRE,
+            "\"say \\\"a\\\\b\\\"\" \"\" \"\\031~\\127\\255\"",
+        ),
+    ),
+    // quotes are escaped, and semicolons are not
+    (
+        Kind::Marks,
+        (RecordType::TXT, b"\x03x;y\x03z\"q", "\"x;y\" \"z\\\"q\""),
+    ),
+    (
+        Kind::MailHost,
+        (
+            RecordType::MX,
+            b"\0\x0A\x04mail\x07example\0",
+            "10 mail.example.",
+        ),
+    ),
+];
+
+/// Whether data of a kind has this form.
+fn is_of_kind(alloc: Global, kind: Kind, form: Form) -> bool {
+    match kind {
+        Kind::Address => is_value(alloc, A::new(Ipv4Addr::new(192, 0, 2, 10)), form),
+        Kind::LongAddress => {
+            let address = Ipv6Addr::from_segments([0x2001, 0xDB8, 0, 0, 1, 0, 0, 1]);
+            is_value(alloc, AAAA::new(address), form)
+        }
+        Kind::NoBytes => is_data(alloc, null(alloc, &[]), form),
+        Kind::Bytes => is_data(alloc, null(alloc, &[0xAB, 0x0C, 0xFF]), form),
+        Kind::Signature => is_data(alloc, signature(alloc, 9), form),
+        Kind::UnknownData => is_data(alloc, unknown_data(alloc, RecordType::NSEC), form),
+        Kind::NoOptions => is_value(alloc, OPT::new(Vec::new(alloc)), form),
+        Kind::OneOption => is_data(alloc, one_option(alloc), form),
+        Kind::Strings => is_data(alloc, TXT::new(alloc, &STRINGS), form),
+        Kind::Marks => is_data(alloc, TXT::new(alloc, &MARKS), form),
+        Kind::MailHost => is_data(alloc, mail_host(alloc, 10, "mail.example."), form),
+    }
+}
+
+#[test]
+fn kinds(rt: HostRuntime) {
+    for &(kind, form) in FORMS {
+        assert!(rt; is_of_kind(rt.alloc(), kind, form), "{}", form.2);
+    }
+}
+
+/// Data of names, its type, its bytes and its text, and the bytes of two of it in a row: names in data are compressed,
+/// but for those of services and of ANAME.
+const NAMED: &[(Form, &'static [u8])] = &[
+    ((RecordType::NS, b"\x01a\0", "a."), b"\x01a\0\xC0\x00"),
+    ((RecordType::CNAME, b"\x01a\0", "a."), b"\x01a\0\xC0\x00"),
+    ((RecordType::PTR, b"\x01a\0", "a."), b"\x01a\0\xC0\x00"),
+    ((RecordType::ANAME, b"\x01a\0", "a."), b"\x01a\0\x01a\0"),
+    (
+        (
+            RecordType::SRV,
+            b"\0\x01\0\x02\x01\xBB\x01w\x01a\0",
+            "1 2 443 w.a.",
+        ),
+        b"\0\x01\0\x02\x01\xBB\x01w\x01a\0\0\x01\0\x02\x01\xBB\x01w\x01a\0",
+    ),
+    (
+        (
+            RecordType::SOA,
+            b"\x02ns\x07example\0\x0Ahostmaster\xC0\x03\
+            \0\0\0\x01\0\0\x1C\x20\0\0\x0E\x10\0\x12\x75\0\0\0\x01\x2C",
+            "ns.example. hostmaster.example. 1 7200 3600 1209600 300",
+        ),
+        b"\x02ns\x07example\0\x0Ahostmaster\xC0\x03\
+        \0\0\0\x01\0\0\x1C\x20\0\0\x0E\x10\0\x12\x75\0\0\0\x01\x2C\
+        \xC0\x00\xC0\x0C\0\0\0\x01\0\0\x1C\x20\0\0\x0E\x10\0\x12\x75\0\0\0\x01\x2C",
+    ),
+];
+
+/// Whether data of names has this form, and that in a row.
+fn is_of_names(alloc: Global, form: Form, twice: &[u8]) -> bool {
+    match form.0 {
+        RecordType::NS => is_named(alloc, name(alloc, "a.").map(NS::new), form, twice),
+        RecordType::CNAME => is_named(alloc, name(alloc, "a.").map(CNAME::new), form, twice),
+        RecordType::PTR => is_named(alloc, name(alloc, "a.").map(PTR::new), form, twice),
+        RecordType::ANAME => is_named(alloc, name(alloc, "a.").map(ANAME::new), form, twice),
+        RecordType::SRV => is_named(alloc, service(alloc), form, twice),
+        RecordType::SOA => is_named(alloc, soa(alloc), form, twice),
+        _ => false,
+    }
+}
 
 #[test]
 fn names(rt: HostRuntime) {
-    let alloc = rt.alloc();
-    let a = b"\x01a\0";
-    assert!(rt;
-        is_data(
-            alloc,
-            name(alloc, "a.").map(NS::new),
-            RecordType::NS,
-            a,
-            "a."
-        )
-    );
-    assert!(rt;
-        is_data(
-            alloc,
-            name(alloc, "a.").map(CNAME::new),
-            RecordType::CNAME,
-            a,
-            "a."
-        )
-    );
-    assert!(rt;
-        is_data(
-            alloc,
-            name(alloc, "a.").map(PTR::new),
-            RecordType::PTR,
-            a,
-            "a."
-        )
-    );
-    assert!(rt;
-        is_data(
-            alloc,
-            name(alloc, "a.").map(ANAME::new),
-            RecordType::ANAME,
-            a,
-            "a."
-        )
-    );
-    let mx = mail_host(alloc, 10, "mail.example.");
-    let wire = b"\0\x0A\x04mail\x07example\0";
-    assert!(rt; is_data(alloc, mx, RecordType::MX, wire, "10 mail.example."));
-    let wire = b"\0\x01\0\x02\x01\xBB\x01w\x01a\0";
-    assert!(rt; is_data(alloc, service(alloc), RecordType::SRV, wire, "1 2 443 w.a."));
-    let text = "ns.example. hostmaster.example. 1 7200 3600 1209600 300";
-    assert!(rt; is_data(alloc, soa(alloc), RecordType::SOA, SOA_ON_THE_WIRE, text));
-}
-
-/// Writes values, one after another.
-fn emit<T: BinEncodable>(encoder: &mut BinEncoder<'_>, values: &[&T]) -> Result<(), ProtoError> {
-    for value in values {
-        value.emit(encoder)?;
-    }
-    Ok(())
-}
-
-/// Whether values are written as these bytes, one after another.
-fn are_written_as<T: BinEncodable>(alloc: Global, values: &[&T], wire: &[u8]) -> bool {
-    let mut bytes = Vec::new(alloc);
-    let mut encoder = BinEncoder::new(&mut bytes);
-    let emitted = emit(&mut encoder, values);
-    drop(encoder);
-    match emitted {
-        Ok(()) => are_bytes(Ok(bytes), wire),
-        Err(_) => {
-            drop(bytes);
-            false
-        }
+    for &(form, twice) in NAMED {
+        assert!(rt; is_of_names(rt.alloc(), form, twice), "{}", form.0);
     }
 }
 
-/// Whether a value stands at the decoder's place.
-fn stands_next<T: BinDecodable + PartialEq>(decoder: &mut BinDecoder<'_>, value: &T) -> bool {
-    let read = T::read(decoder);
-    let same = match &read {
-        Ok(read) => *read == *value,
-        Err(_) => false,
+#[test]
+fn mail_hosts_in_a_row(rt: HostRuntime) {
+    let hosts = (
+        mail_host(rt.alloc(), 10, "mail.example."),
+        mail_host(rt.alloc(), 256, "example."),
+    );
+    let wire = b"\0\x0A\x04mail\x07example\0\x01\0\xC0\x07";
+    let are_in_a_row = match &hosts {
+        (Ok(first), Ok(second)) => stand_in_a_row(rt.alloc(), first, second, wire),
+        _ => false,
     };
-    drop(read);
-    same
+    drop(hosts);
+    assert!(rt; are_in_a_row);
 }
 
-/// Whether values fill these bytes, one after another.
-fn fill<T: BinDecodable + PartialEq>(alloc: Global, values: &[&T], wire: &[u8]) -> bool {
-    let mut decoder = BinDecoder::new(alloc, wire);
-    for value in values {
-        if !stands_next(&mut decoder, *value) {
+/// Whether a text has those strings, and no more.
+fn has_strings(text: &TXT) -> bool {
+    let mut strings = text.strings();
+    for expected in &STRINGS {
+        if strings.next() != Some(*expected) {
             return false;
         }
     }
-    decoder.is_empty()
+    strings.next().is_none()
 }
 
-/// Whether values are written one after another as these bytes, and are read of them.
-fn stand_in_a_row<T: BinEncodable + BinDecodable + PartialEq>(
-    alloc: Global,
-    values: &[&T],
-    wire: &[u8],
-) -> bool {
-    are_written_as(alloc, values, wire) && fill(alloc, values, wire)
-}
-
-/// Two values, if they could be made.
-type Two<T> = (Result<T, ParseError>, Result<T, ParseError>);
-
-/// Whether two values could be made, are written one after another as these bytes, and are read of them.
-fn have_wire<T: BinEncodable + BinDecodable + PartialEq + Drop>(
-    alloc: Global,
-    made: Two<T>,
-    wire: &[u8],
-) -> bool {
-    let have_wire = match &made {
-        (Ok(first), Ok(second)) => stand_in_a_row(alloc, &[first, second], wire),
+#[test]
+fn strings_are_read(rt: HostRuntime) {
+    let mut decoder = BinDecoder::new(rt.alloc(), STRINGS_ON_THE_WIRE);
+    let read = RData::read(&mut decoder, RecordType::TXT, 16);
+    let are_read = match &read {
+        Ok(RData::TXT(text)) => has_strings(text),
         _ => false,
     };
-    drop(made);
-    have_wire
-}
-
-/// Names in data are compressed, but for those of services and of ANAME.
-#[test]
-fn two_in_a_row(rt: HostRuntime) {
-    let alloc = rt.alloc();
-    let hosts = (
-        mail_host(alloc, 10, "mail.example."),
-        mail_host(alloc, 256, "example."),
-    );
-    assert!(rt; have_wire(alloc, hosts, b"\0\x0A\x04mail\x07example\0\x01\0\xC0\x07"));
-    let twice = b"\x02ns\x07example\0\x0Ahostmaster\xC0\x03\
-        \0\0\0\x01\0\0\x1C\x20\0\0\x0E\x10\0\x12\x75\0\0\0\x01\x2C\
-        \xC0\x00\xC0\x0C\0\0\0\x01\0\0\x1C\x20\0\0\x0E\x10\0\x12\x75\0\0\0\x01\x2C";
-    assert!(rt; have_wire(alloc, (soa(alloc), soa(alloc)), twice));
-    let twice = b"\0\x01\0\x02\x01\xBB\x01w\x01a\0\0\x01\0\x02\x01\xBB\x01w\x01a\0";
-    assert!(rt; have_wire(alloc, (service(alloc), service(alloc)), twice));
-}
-
-#[test]
-fn two_names_in_a_row(rt: HostRuntime) {
-    let alloc = rt.alloc();
-    let (pointed, plain) = (b"\x01a\0\xC0\x00", b"\x01a\0\x01a\0");
-    let servers = (
-        name(alloc, "a.").map(NS::new),
-        name(alloc, "a.").map(NS::new),
-    );
-    assert!(rt; have_wire(alloc, servers, pointed));
-    let aliases = (
-        name(alloc, "a.").map(CNAME::new),
-        name(alloc, "a.").map(CNAME::new),
-    );
-    assert!(rt; have_wire(alloc, aliases, pointed));
-    let pointers = (
-        name(alloc, "a.").map(PTR::new),
-        name(alloc, "a.").map(PTR::new),
-    );
-    assert!(rt; have_wire(alloc, pointers, pointed));
-    let addressed = (
-        name(alloc, "a.").map(ANAME::new),
-        name(alloc, "a.").map(ANAME::new),
-    );
-    assert!(rt; have_wire(alloc, addressed, plain));
-}
-
-/// Whether data is empty, of the type of mail hosts, and no mail host.
-fn is_no_mail_host(none: RData) -> bool {
-    let is_empty = none.record_type() == RecordType::MX && none.is_update();
-    let is_other = MX::try_borrow(&none).is_none();
-    drop(none);
-    is_empty && is_other
+    drop(read);
+    assert!(rt; are_read);
 }
 
 #[test]
 fn empty_data_is_of_no_kind(rt: HostRuntime) {
-    assert!(rt; is_no_mail_host(RData::Update0(RecordType::MX)));
+    let none = RData::Update0(RecordType::MX);
+    let is_empty = none.record_type() == RecordType::MX && none.is_update();
+    let is_other = MX::try_borrow(&none).is_none();
+    drop(none);
+    assert!(rt; is_empty && is_other);
 }
 
 /// RFC 5952, 4 and 5.
@@ -431,7 +367,10 @@ const SHORTENED: &[([u16; 8], &'static str)] = &[
 fn long_addresses(rt: HostRuntime) {
     for &(groups, text) in SHORTENED {
         let address = AAAA::new(Ipv6Addr::from_segments(groups));
-        assert!(rt; has_text(rt.alloc(), &address, text), "{text}");
-        assert!(rt; AAAA::new(address.address()) == address, "{text}");
+        let is_shown = has_text(rt.alloc(), &address, text);
+        assert!(rt;
+            is_shown && AAAA::new(address.address()) == address,
+            "{text}"
+        );
     }
 }

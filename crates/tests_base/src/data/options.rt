@@ -5,7 +5,7 @@ ghost use Rattle.std.specs.Prelude.{◌≤◌, length};
 use base::{BinDecoder, DecodeError, ProtoError, RecordType};
 use base_data::{EdnsOption, OPT, RData};
 use std::alloc::{AllocError, Global};
-use test_tools::forms::{has_text, is_copied, is_written_as};
+use test_tools::forms::{equals_its_copy, has_text, is_written_as};
 
 /// Inserts an option of a code and of bytes.
 fn insert(options: &mut OPT, code: u16, bytes: &[u8]) -> Result<(), ProtoError>
@@ -32,23 +32,19 @@ fn is_found(options: &OPT, code: u16, bytes: &[u8]) -> bool {
     }
 }
 
-/// How many options are left without those of a code.
-fn count_without(mut options: OPT, code: u16) -> usize {
-    options.remove(code);
-    let count = options.as_ref().len();
-    drop(options);
-    count
-}
-
 #[test]
 fn two_options_of_three(rt: HostRuntime) -> Result<(), ProtoError> {
     let alloc = rt.alloc();
-    let options = two_options(alloc)?;
-    assert!(rt; is_written_as(alloc, &options, &[0, 3, 0, 2, 0xBB, 0xCC, 0, 10, 0, 0]));
-    assert!(rt; has_text(alloc, &options, "\\# 10 00030002bbcc000a0000"));
-    assert!(rt; is_found(&options, 3, &[0xBB, 0xCC]) && options.get(4).is_none());
-    assert!(rt; count_without(options, 3) == 1);
-    assert!(rt; is_copied(two_options(alloc)?));
+    let are_copied = equals_its_copy(two_options(alloc));
+    let mut options = two_options(alloc)?;
+    let wire = [0, 3, 0, 2, 0xBB, 0xCC, 0, 10, 0, 0];
+    let are_written = is_written_as(alloc, &options, &wire);
+    let are_shown = has_text(alloc, &options, "\\# 10 00030002bbcc000a0000");
+    let are_found = is_found(&options, 3, &[0xBB, 0xCC]) && options.get(4).is_none();
+    options.remove(3);
+    let is_one_left = options.as_ref().len() == 1;
+    drop(options);
+    assert!(rt; are_copied && are_written && are_shown && are_found && is_one_left);
     Ok(())
 }
 
@@ -83,5 +79,6 @@ fn read_options_go_by_the_first(alloc: Global, read: Result<RData, DecodeError>)
 fn options_of_one_code(rt: HostRuntime) {
     let mut decoder = BinDecoder::new(rt.alloc(), &ONE_CODE_TWICE);
     let read = RData::read(&mut decoder, RecordType::OPT, 9);
-    assert!(rt; read_options_go_by_the_first(rt.alloc(), read));
+    let go_by_the_first = read_options_go_by_the_first(rt.alloc(), read);
+    assert!(rt; go_by_the_first);
 }

@@ -1,10 +1,11 @@
 //! Data that is read by its length.
 
-use super::Datum::{self, Carried, Empty, Text, Wire};
-use super::kinds::{holds, null, signature};
-use super::make;
+use super::Datum::{self, Wire};
+use super::kinds::{null, signature};
+use super::{MAIL_HOST, make, read_at};
+use crate::answers::{is_cut, is_this};
 use base::{BinDecodable, BinDecoder, DecodeError, RecordType};
-use base_data::{A, MX, RData, RecordData, SOA, SRV};
+use base_data::{A, MX, RData, SOA, SRV};
 use std::alloc::{AllocError, Global};
 use std::net::Ipv4Addr;
 use test_tools::forms::{has_text, read};
@@ -61,68 +62,6 @@ fn every_kind_prints(rt: HostRuntime) {
     }
 }
 
-/// Twelve zero bytes and a name `a.`; after them a preference, a name that ends in a pointer, and a byte more.
-const MAIL_HOST: &[u8] = &[
-    0, 0, 0, 0, 0, 0, 0, 0, 0, 0, 0, 0, 1, b'a', 0, 0, 10, 1, b'b', 0xC0, 12, 9,
-];
-
-const ADDRESS: &[u8] = &[192, 0, 2, 1];
-
-/// What is read of the bytes from a place on, of this type and length.
-fn read_at(
-    alloc: Global,
-    (bytes, at): (&[u8], usize),
-    record_type: RecordType,
-    len: u16,
-) -> Result<RData, DecodeError> {
-    let mut decoder = BinDecoder::new(alloc, bytes);
-    decoder.read_slice(at)?;
-    RData::read(&mut decoder, record_type, len)
-}
-
-/// Whether that is this data.
-fn is_read(
-    alloc: Global,
-    bytes: (&[u8], usize),
-    record_type: RecordType,
-    len: u16,
-    wanted: Datum,
-) -> bool {
-    let data = (make(alloc, wanted), read_at(alloc, bytes, record_type, len));
-    let same = match &data {
-        (Some(wanted), Ok(found)) => found == wanted,
-        _ => false,
-    };
-    drop(data);
-    same
-}
-
-/// Bytes and a place, a type and a length, and the data there.
-const READ: &[(&'static [u8], usize, RecordType, u16, Datum)] = &[
-    (
-        MAIL_HOST,
-        15,
-        RecordType::MX,
-        6,
-        Text(RecordType::MX, &["10", "B.A."]),
-    ),
-    (
-        ADDRESS,
-        0,
-        RecordType::A,
-        4,
-        Text(RecordType::A, &["192.0.2.1"]),
-    ),
-    (ADDRESS, 0, RecordType::A, 0, Empty(RecordType::A)),
-    (
-        ADDRESS,
-        0,
-        RecordType::NSEC,
-        2,
-        Carried(RecordType::NSEC, &[192, 0]),
-    ),
-];
-
 /// Bytes and a place, a type and a length that the data there hasn't.
 const OTHER_LENGTHS: &[(&'static [u8], usize, RecordType, u16)] = &[
     (MAIL_HOST, 15, RecordType::MX, 5),
@@ -147,47 +86,17 @@ fn is_bad(read: Result<RData, DecodeError>, record_type: RecordType) -> bool {
 }
 
 #[test]
-fn data_is_read_by_its_length(rt: HostRuntime) {
-    for &(bytes, at, record_type, len, wanted) in READ {
-        assert!(rt;
-            is_read(rt.alloc(), (bytes, at), record_type, len, wanted),
-            "{record_type} of {len}"
-        );
-    }
-}
-
-#[test]
 fn data_fills_its_length(rt: HostRuntime) {
     for &(bytes, at, record_type, len) in OTHER_LENGTHS {
-        assert!(rt;
-            is_bad(
-                read_at(rt.alloc(), (bytes, at), record_type, len),
-                record_type
-            ),
-            "{record_type} of {len}"
-        );
+        let read = read_at(rt.alloc(), record_type, bytes, at, len);
+        assert!(rt; is_bad(read, record_type), "{record_type} of {len}");
     }
-}
-
-/// Whether this data is read next, from `len` bytes.
-fn stands_next<R: RecordData>(decoder: &mut BinDecoder<'_>, len: u16, value: &R) -> bool {
-    let found = RData::read(decoder, value.record_type(), len);
-    let same = match &found {
-        Ok(found) => holds(found, value),
-        Err(_) => false,
-    };
-    drop(found);
-    same
 }
 
 /// Whether this data could be made, and is read next, from `len` bytes.
-fn is_next<R: RecordData>(
-    decoder: &mut BinDecoder<'_>,
-    len: u16,
-    made: Result<R, AllocError>,
-) -> bool {
+fn is_next(decoder: &mut BinDecoder<'_>, len: u16, made: Result<RData, AllocError>) -> bool {
     let is_next = match &made {
-        Ok(value) => stands_next(decoder, len, value),
+        Ok(any) => is_this(RData::read(decoder, any.record_type(), len), any),
         Err(_) => false,
     };
     drop(made);
@@ -197,31 +106,22 @@ fn is_next<R: RecordData>(
 #[test]
 fn bytes_are_read_by_their_number(rt: HostRuntime) {
     let mut decoder = BinDecoder::new(rt.alloc(), &[1, 2, 3]);
-    assert!(rt; is_next(&mut decoder, 2, null(rt.alloc(), &[1, 2])));
-    assert!(rt; is_next(&mut decoder, 1, signature(rt.alloc(), 3)));
-    assert!(rt;
-        is_bad(
-            RData::read(&mut decoder, RecordType::TSIG, 1),
-            RecordType::TSIG
-        )
+    let are_bytes = is_next(&mut decoder, 2, null(rt.alloc(), &[1, 2]).map(RData::NULL));
+    let is_signature = is_next(&mut decoder, 1, signature(rt.alloc(), 3).map(RData::TSIG));
+    let is_end = is_bad(
+        RData::read(&mut decoder, RecordType::TSIG, 1),
+        RecordType::TSIG,
     );
-}
-
-/// Whether no address stands at the decoder's place.
-fn is_cut(decoder: &mut BinDecoder<'_>) -> bool {
-    let read = A::read(decoder);
-    let is_cut = matches!(&read, Err(DecodeError::InsufficientBytes));
-    drop(read);
-    is_cut
+    assert!(rt; are_bytes && is_signature && is_end);
 }
 
 #[test]
-fn addresses_are_read_alone(rt: HostRuntime) -> Result<(), DecodeError> {
+fn addresses_are_read_alone(rt: HostRuntime) {
     let mut decoder = BinDecoder::new(rt.alloc(), &[192, 0, 2, 10, 1, 2, 3]);
-    let host = A::read(&mut decoder)?;
-    assert!(rt; host == A::new(Ipv4Addr::new(192, 0, 2, 10)));
-    assert!(rt; is_cut(&mut decoder));
-    Ok(())
+    let host = A::new(Ipv4Addr::new(192, 0, 2, 10));
+    let is_read = is_this(A::read(&mut decoder), &host);
+    let is_cut = is_cut(A::read(&mut decoder));
+    assert!(rt; is_read && is_cut);
 }
 
 /// Whether the host of a service has this priority, weight, port and target.
@@ -278,9 +178,9 @@ fn is_soa(alloc: Global, wire: &[u8], names: (&str, &str), numbers: [u32; 5]) ->
 #[test]
 fn fields_stand_in_their_order(rt: HostRuntime) {
     let wire = [0, 1, 0, 2, 0, 3, 1, b't', 0];
-    assert!(rt; is_service(rt.alloc(), &wire, (1, 2, 3), "t."));
-    assert!(rt; is_exchange(rt.alloc(), b"\x01\x02\x01e\x00", 258, "e."));
-    let wire =
-        b"\x01m\x00\x01r\x00\x00\x00\x00\x01\x00\x00\x00\x02\x00\x00\x00\x03\x00\x00\x00\x04\x00\x00\x00\x05";
-    assert!(rt; is_soa(rt.alloc(), wire, ("m.", "r."), [1, 2, 3, 4, 5]));
+    let is_service = is_service(rt.alloc(), &wire, (1, 2, 3), "t.");
+    let is_exchange = is_exchange(rt.alloc(), b"\x01\x02\x01e\x00", 258, "e.");
+    let wire = b"\x01m\0\x01r\0\0\0\0\x01\0\0\0\x02\0\0\0\x03\0\0\0\x04\0\0\0\x05";
+    let is_soa = is_soa(rt.alloc(), wire, ("m.", "r."), [1, 2, 3, 4, 5]);
+    assert!(rt; is_service && is_exchange && is_soa);
 }

@@ -1,16 +1,11 @@
 //! Names in texts, and names compared.
 
-use super::has_labels;
+use super::{has_labels, name};
 use base::{LowerName, Name, ParseError, RecordType, RrKey};
 use std::alloc::{AllocError, Global};
 use std::cmp::Ordering;
 use test_tools::forms::{has_text, is_copied};
 use test_tools::hashes::hash_alike;
-
-/// The name that a text spells.
-fn name(alloc: Global, text: &str) -> Result<Name, ParseError> {
-    Name::parse(alloc, text, None)
-}
 
 /// Stands for a name that prints as another text than is wanted.
 const OTHER: u8 = 255;
@@ -29,48 +24,40 @@ fn answer(alloc: Global, text: &str, origin: Option<&Name>, wanted: Option<&str>
     number
 }
 
-/// Texts, and how the names print that are read of them.
-const PRINTED: &[(&'static str, &'static str)] = &[
-    ("www.example.com.", "www.example.com."),
-    ("WWW.Example.com", "WWW.Example.com"),
-    (".", "."),
-    ("a", "a"),
-    ("a.", "a."),
-    (r"a\.b.c.", r"a\.b.c."),
-    (r"\065.", "A."),
-    (r"\000.", r"\000."),
-    (r"\255\127\032\033\126", r"\255\127\032!~"),
-    (r"a\ b.", r"a\032b."),
-    (r"\@", r"\@"),
-    ("a@b.", r"a\@b."),
-    ("@.", r"\@."),
-    ("a;b.$x.\"y\".(z).", r#"a\;b.\$x.\"y\".\(z\)."#),
-    (r"a\\b.", r"a\\b."),
-    (r"\a\-", "a-"),
-    ("*._sip._tcp.", "*._sip._tcp."),
-    (r"\092.\046.", r"\\.\.."),
-];
-
-const REFUSED: &[&'static str] = &[
-    "", "..", "a..b", ".a", "a..", r"\25", r"\2", r"\256", r"\999", r"\2a5", r"a\", "@", "a b",
-    " ", "a\tb", "\u{7F}", "\u{E9}", "\\\u{E9}", r"\1 2",
-];
-
-#[test]
-fn names_of_texts(rt: HostRuntime) {
-    for &(text, printed) in PRINTED {
-        assert!(rt;
-            answer(rt.alloc(), text, None, Some(printed)) == 0,
-            "{text}"
-        );
+/// The same of a text under an origin, which has to be read too; the empty text is none.
+fn answer_under(alloc: Global, origin: &str, text: &str, wanted: Option<&str>) -> u8 {
+    if origin.is_empty() {
+        return answer(alloc, text, None, wanted);
     }
-    for &text in REFUSED {
-        assert!(rt; answer(rt.alloc(), text, None, None) == 23, "{text}");
-    }
+    let origin = name(alloc, origin);
+    let number = match &origin {
+        Ok(origin) => answer(alloc, text, Some(origin), wanted),
+        Err(_) => OTHER,
+    };
+    drop(origin);
+    number
 }
 
-/// Origins, texts under them, and how the names print that are read of these.
-const COMPLETED: &[(&'static str, &'static str, &'static str)] = &[
+/// Origins, of which the empty text is none, texts under them, and how the names print that are read of these.
+const PRINTED: &[(&'static str, &'static str, &'static str)] = &[
+    ("", "www.example.com.", "www.example.com."),
+    ("", "WWW.Example.com", "WWW.Example.com"),
+    ("", ".", "."),
+    ("", "a", "a"),
+    ("", "a.", "a."),
+    ("", r"a\.b.c.", r"a\.b.c."),
+    ("", r"\065.", "A."),
+    ("", r"\000.", r"\000."),
+    ("", r"\255\127\032\033\126", r"\255\127\032!~"),
+    ("", r"a\ b.", r"a\032b."),
+    ("", r"\@", r"\@"),
+    ("", "a@b.", r"a\@b."),
+    ("", "@.", r"\@."),
+    ("", "a;b.$x.\"y\".(z).", r#"a\;b.\$x.\"y\".\(z\)."#),
+    ("", r"a\\b.", r"a\\b."),
+    ("", r"\a\-", "a-"),
+    ("", "*._sip._tcp.", "*._sip._tcp."),
+    ("", r"\092.\046.", r"\\.\.."),
     ("Example.com.", "www", "www.Example.com."),
     ("Example.com.", "a.b", "a.b.Example.com."),
     ("Example.com.", "www.", "www."),
@@ -81,26 +68,26 @@ const COMPLETED: &[(&'static str, &'static str, &'static str)] = &[
     (".", "a", "a."),
 ];
 
-/// The same of a text under an origin, which has to be read too.
-fn answer_under(alloc: Global, origin: &str, text: &str, wanted: Option<&str>) -> u8 {
-    let origin = name(alloc, origin);
-    let number = match &origin {
-        Ok(origin) => answer(alloc, text, Some(origin), wanted),
-        Err(_) => OTHER,
-    };
-    drop(origin);
-    number
-}
+const REFUSED: &[&'static str] = &[
+    "", "..", "a..b", ".a", "a..", r"\25", r"\2", r"\256", r"\999", r"\2a5", r"a\", "@", "a b",
+    " ", "a\tb", "\u{7F}", "\u{E9}", "\\\u{E9}", r"\1 2",
+];
 
 #[test]
-fn names_under_an_origin(rt: HostRuntime) {
-    for &(origin, text, printed) in COMPLETED {
+fn names_of_texts(rt: HostRuntime) {
+    for &(origin, text, printed) in PRINTED {
         assert!(rt;
             answer_under(rt.alloc(), origin, text, Some(printed)) == 0,
             "{text}"
         );
     }
-    assert!(rt; answer_under(rt.alloc(), "Example.com.", "", None) == 23);
+}
+
+#[test]
+fn texts_of_no_name(rt: HostRuntime) {
+    for &text in REFUSED {
+        assert!(rt; answer(rt.alloc(), text, None, None) == 23, "{text}");
+    }
 }
 
 /// Whether a text is read as a name of these labels, as the root if it is complete.
@@ -120,24 +107,21 @@ fn reads_as(alloc: Global, text: &str, is_complete: bool, labels: &[&[u8]]) -> b
 #[test]
 fn labels_of_texts(rt: HostRuntime) {
     let labels = [b"Ab.\xFF".as_slice(), b"@".as_slice(), b"c".as_slice()];
-    assert!(rt; reads_as(rt.alloc(), r"\065b\.\255.\@.c", false, &labels));
-    assert!(rt; reads_as(rt.alloc(), ".", true, &[]));
+    let are_read = reads_as(rt.alloc(), r"\065b\.\255.\@.c", false, &labels);
+    assert!(rt; are_read && reads_as(rt.alloc(), ".", true, &[]));
 }
 
-/// The length of a text in parts, and the number of its refusal; 0 where it is read.
-fn refusal_of_long(alloc: Global, parts: &[&str]) -> Result<(usize, u8), AllocError> {
-    let text = parts.concat(alloc)?;
-    let said = (text.len(), answer(alloc, &text, None, None));
+/// The length of a text in parts, and the number of its refusal under an origin in parts; 0 where it is read.
+fn refusal_of_long(alloc: Global, origin: &[&str], parts: &[&str]) -> (usize, u8) {
+    let origin: Result<String, AllocError> = origin.concat(alloc);
+    let text: Result<String, AllocError> = parts.concat(alloc);
+    let said = match (&origin, &text) {
+        (Ok(origin), Ok(text)) => (text.len(), answer_under(alloc, origin, text, None)),
+        _ => (0, OTHER),
+    };
     drop(text);
-    Ok(said)
-}
-
-/// The number of the refusal of one label under an origin of three long ones.
-fn refusal_under_long(alloc: Global, label: &str) -> Result<u8, AllocError> {
-    let origin = [L63, ".", L63, ".", L63, "."].concat(alloc)?;
-    let number = answer_under(alloc, &origin, label, None);
     drop(origin);
-    Ok(number)
+    said
 }
 
 /// Labels of 61 to 64 letters.
@@ -149,48 +133,25 @@ const L63: &str = "aaaaaaaaaaaaaaaaaaaaaaaaaaaaaaaaaaaaaaaaaaaaaaaaaaaaaaaaaaaaa
 
 const L64: &str = "aaaaaaaaaaaaaaaaaaaaaaaaaaaaaaaaaaaaaaaaaaaaaaaaaaaaaaaaaaaaaaaa";
 
-/// Labels with a dot after each, how long they are, and the number of the refusal; 0 where they are read.
-const LONG: &[(&'static [&'static str], usize, u8)] = &[
-    (&[L63, "."], 64, 0),
-    (&[L64, "."], 65, 23),
-    (&[L63, ".", L63, ".", L63, ".", L61, "."], 254, 0),
-    (&[L63, ".", L63, ".", L63, ".", L62, "."], 255, 23),
-    (&[L63, ".", L63, ".", L63, ".", L63, "."], 256, 23),
+/// The parts of an origin, if there is one, and of a text, how long that is, and the number of its refusal; 0 where it
+/// is read.
+const LONG: &[(&'static [&'static str], &'static [&'static str], usize, u8)] = &[
+    (&[], &[L63, "."], 64, 0),
+    (&[], &[L64, "."], 65, 23),
+    (&[], &[L63, ".", L63, ".", L63, ".", L61, "."], 254, 0),
+    (&[], &[L63, ".", L63, ".", L63, ".", L62, "."], 255, 23),
+    (&[], &[L63, ".", L63, ".", L63, ".", L63, "."], 256, 23),
+    (&[L63, ".", L63, ".", L63, "."], &[L61], 61, 0),
+    (&[L63, ".", L63, ".", L63, "."], &[L62], 62, 23),
+    (&["Example.com."], &[], 0, 23),
 ];
 
 #[test]
-fn lengths_of_names(rt: HostRuntime) -> Result<(), AllocError> {
-    for &(labels, len, number) in LONG {
-        assert!(rt;
-            refusal_of_long(rt.alloc(), labels)? == (len, number),
-            "{len}"
-        );
+fn lengths_of_names(rt: HostRuntime) {
+    for &(origin, parts, len, number) in LONG {
+        let said = refusal_of_long(rt.alloc(), origin, parts);
+        assert!(rt; said == (len, number), "{len}");
     }
-    Ok(())
-}
-
-#[test]
-fn lengths_of_names_under_an_origin(rt: HostRuntime) -> Result<(), AllocError> {
-    assert!(rt; L61.len() == 61 && L62.len() == 62);
-    assert!(rt; refusal_under_long(rt.alloc(), L61)? == 0);
-    assert!(rt; refusal_under_long(rt.alloc(), L62)? == 23);
-    Ok(())
-}
-
-/// How the names of two texts stand to each other, if they are names: their order, whether they are equal, whether they
-/// hash alike, and whether the first is a zone of the second.
-fn compare(alloc: Global, one: &str, other: &str) -> Option<(Ordering, bool, bool, bool)> {
-    let names = (name(alloc, one), name(alloc, other));
-    let compared = match &names {
-        (Ok(first), Ok(second)) => {
-            let alike = hash_alike(first, second);
-            let is_zone = first.zone_of(second);
-            Some((first.cmp(second), first == second, alike, is_zone))
-        }
-        _ => None,
-    };
-    drop(names);
-    compared
 }
 
 /// How two names stand to each other.
@@ -205,17 +166,25 @@ enum Relation {
     Zone(bool),
 }
 
+/// Whether two names stand so to each other.
+fn relate(first: &Name, second: &Name, relation: Relation) -> bool {
+    match relation {
+        Relation::Equal => first == second && hash_alike(first, second),
+        Relation::Unequal => first != second,
+        Relation::Ordered(wanted) => first.cmp(second) == wanted,
+        Relation::Zone(wanted) => first.zone_of(second) == wanted,
+    }
+}
+
 /// Whether the names of two texts stand so to each other.
 fn stand(alloc: Global, one: &str, other: &str, relation: Relation) -> bool {
-    match compare(alloc, one, other) {
-        Some((order, are_equal, are_alike, is_zone)) => match relation {
-            Relation::Equal => are_equal && are_alike,
-            Relation::Unequal => !are_equal,
-            Relation::Ordered(wanted) => order == wanted,
-            Relation::Zone(wanted) => is_zone == wanted,
-        },
-        None => false,
-    }
+    let names = (name(alloc, one), name(alloc, other));
+    let do_stand = match &names {
+        (Ok(first), Ok(second)) => relate(first, second, relation),
+        _ => false,
+    };
+    drop(names);
+    do_stand
 }
 
 /// Texts of names, and how these stand to each other.
@@ -273,21 +242,14 @@ fn names_compared(rt: HostRuntime) {
     }
 }
 
-/// Whether each name stands before those that come after it.
-fn ascend(alloc: Global, texts: &[&str]) -> bool {
-    for (i, one) in texts.iter().enumerate() {
-        for (j, other) in texts.iter().enumerate() {
-            if !stand(alloc, one, other, Relation::Ordered(i.cmp(&j))) {
-                return false;
-            }
-        }
-    }
-    true
-}
-
 #[test]
 fn names_in_their_order(rt: HostRuntime) {
-    assert!(rt; ascend(rt.alloc(), ASCENDING));
+    for (i, one) in ASCENDING.iter().enumerate() {
+        for (j, other) in ASCENDING.iter().enumerate() {
+            let order = Relation::Ordered(i.cmp(&j));
+            assert!(rt; stand(rt.alloc(), one, other, order), "{one} {other}");
+        }
+    }
 }
 
 /// The lowered name that a text reads as.
@@ -322,38 +284,31 @@ fn have_order(alloc: Global, one: Key, other: Key, order: Ordering) -> bool {
     same
 }
 
-/// Keys in their order.
-const ASCENDING_KEYS: &[Key] = &[
-    ("z", RecordType::ANY),
-    ("A.", RecordType::A),
-    ("a.", RecordType::NS),
-    ("B.a.", RecordType::A),
-    ("b.", RecordType::A),
+/// Keys, and their places in the order: two have the same.
+const KEYS: &[(Key, u8)] = &[
+    (("z", RecordType::ANY), 0),
+    (("A.", RecordType::A), 1),
+    (("a.", RecordType::NS), 2),
+    (("B.a.", RecordType::A), 3),
+    (("b.", RecordType::A), 4),
+    (("A.b.", RecordType::MX), 5),
+    (("a.B.", RecordType::MX), 5),
 ];
-
-/// Whether each key stands before those that come after it.
-fn keys_ascend(alloc: Global, keys: &[Key]) -> bool {
-    for (i, &one) in keys.iter().enumerate() {
-        for (j, &other) in keys.iter().enumerate() {
-            if !have_order(alloc, one, other, i.cmp(&j)) {
-                return false;
-            }
-        }
-    }
-    true
-}
 
 #[test]
 fn keys(rt: HostRuntime) {
-    let (one, other) = (("A.b.", RecordType::MX), ("a.B.", RecordType::MX));
-    assert!(rt; keys_ascend(rt.alloc(), ASCENDING_KEYS));
-    assert!(rt; have_order(rt.alloc(), one, other, Ordering::Equal));
+    for &(one, i) in KEYS {
+        for &(other, j) in KEYS {
+            assert!(rt; have_order(rt.alloc(), one, other, i.cmp(&j)), "{i} {j}");
+        }
+    }
 }
 
 #[test]
 fn lowered_names(rt: HostRuntime) -> Result<(), ParseError> {
     let lowered = lower(rt.alloc(), "WWW.Example.Com")?;
-    assert!(rt; has_text(rt.alloc(), &lowered, "www.example.com"));
-    assert!(rt; is_copied(lowered));
+    let is_shown = has_text(rt.alloc(), &lowered, "www.example.com");
+    let is_copied = is_copied(lowered);
+    assert!(rt; is_shown && is_copied);
     Ok(())
 }

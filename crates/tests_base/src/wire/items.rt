@@ -3,8 +3,8 @@
 ghost use Rattle.std.specs.Prelude.{◌≡◌, Ok};
 
 use super::Step::{self, Letters, Limit, Name as Named};
-use super::{are_taken, name_of};
-use base::{BinEncoder, DecodeError, EmitAndCount, Name, ProtoError};
+use super::are_taken;
+use base::{BinDecoder, BinEncoder, DecodeError, EmitAndCount, Name, ProtoError, read_many};
 use std::alloc::Global;
 
 /// A part that answers a number and writes nothing.
@@ -43,83 +43,53 @@ fn emit_and_count<P: EmitAndCount>(part: &mut P, encoder: &mut BinEncoder<'_>) -
     count_of(part.emit(encoder))
 }
 
-/// Writes parts that fit, and answers whether they count right.
-fn whole_parts_count(encoder: &mut BinEncoder<'_>) -> bool {
+/// Writes parts that fit and one that is cut, and answers whether they count right.
+fn parts_are_counted(encoder: &mut BinEncoder<'_>) -> bool {
     let careless = emit_and_count(&mut Careless { number: 7 }, encoder);
     let before = encoder.len();
     let whole = emit_and_count(&mut [1u16, 2, 3].iter(), encoder);
-    careless == (7, true) && before == 0 && whole == (3, true)
-}
-
-/// Writes parts that fit and one that is cut, and answers whether they count right.
-fn parts_are_counted(encoder: &mut BinEncoder<'_>) -> bool {
-    let whole = whole_parts_count(encoder);
     encoder.set_max_size(9);
     let cut = emit_and_count(&mut [4u16, 5, 6].iter(), encoder);
-    whole && cut == (1, false)
-}
-
-/// Whether parts count right and are written so.
-fn parts_are_written(alloc: Global, wanted: &[u8]) -> bool {
-    let mut bytes = Vec::new(alloc);
-    let mut encoder = BinEncoder::new(&mut bytes);
-    let are_counted = parts_are_counted(&mut encoder);
-    drop(encoder);
-    let same = are_counted && bytes.as_slice() == wanted;
-    drop(bytes);
-    same
+    careless == (7, true) && before == 0 && whole == (3, true) && cut == (1, false)
 }
 
 #[test]
 fn parts_count(rt: HostRuntime) {
-    assert!(rt; parts_are_written(rt.alloc(), b"\x00\x01\x00\x02\x00\x03\x00\x04"));
+    let mut bytes = Vec::new(rt.alloc());
+    let mut encoder = BinEncoder::new(&mut bytes);
+    let are_counted = parts_are_counted(&mut encoder);
+    drop(encoder);
+    let same = bytes.as_slice() == b"\x00\x01\x00\x02\x00\x03\x00\x04".as_slice();
+    drop(bytes);
+    assert!(rt; are_counted && same);
 }
 
-/// Whether two numbers fit and the third, which doesn't, is taken.
-fn two_fit(numbers: &[u16], encoder: &mut BinEncoder<'_>) -> bool {
-    let mut items = numbers.iter();
+/// Whether two numbers fit and the third, which doesn't, is taken; and none are written of none, and none where no byte
+/// fits.
+fn two_fit(encoder: &mut BinEncoder<'_>) -> bool {
+    let mut items = [1u16, 2, 3].iter();
     encoder.set_max_size(5);
     let two = count_of(encoder.emit_all(&mut items));
-    two == (2, false) && items.len() == 0 && encoder.len() == 4
-}
-
-/// Whether none of no numbers are written, and none where no byte fits.
-fn none_fit(numbers: &[u16], encoder: &mut BinEncoder<'_>) -> bool {
+    let is_third_taken = items.len() == 0 && encoder.len() == 4;
     let none = count_of(encoder.emit_all(&mut [].iter() as &mut std::slice::Iter<'_, u16>));
     encoder.set_max_size(0);
-    let without_room = count_of(encoder.emit_all(&mut numbers.iter()));
-    none == (0, true) && without_room == (0, false)
-}
-
-/// Whether what fits of the numbers is written so.
-fn fitting_are_written(alloc: Global, numbers: &[u16], wanted: &[u8]) -> bool {
-    let mut bytes = Vec::new(alloc);
-    let mut encoder = BinEncoder::new(&mut bytes);
-    let two = two_fit(numbers, &mut encoder);
-    let none = none_fit(numbers, &mut encoder);
-    drop(encoder);
-    let same = two && none && bytes.as_slice() == wanted;
-    drop(bytes);
-    same
+    let without_room = count_of(encoder.emit_all(&mut [1u16, 2, 3].iter()));
+    two == (2, false) && is_third_taken && none == (0, true) && without_room == (0, false)
 }
 
 #[test]
 fn numbers_that_fit(rt: HostRuntime) {
-    assert!(rt; fitting_are_written(rt.alloc(), &[1, 2, 3], b"\x00\x01\x00\x02"));
+    let mut bytes = Vec::new(rt.alloc());
+    let mut encoder = BinEncoder::new(&mut bytes);
+    let two_fit = two_fit(&mut encoder);
+    drop(encoder);
+    let same = bytes.as_slice() == b"\x00\x01\x00\x02".as_slice();
+    drop(bytes);
+    assert!(rt; two_fit && same);
 }
 
 /// `a.b.`, `c.b.` and `d.e.`.
-fn three_names(alloc: Global) -> Result<Vec<Name>, DecodeError> {
-    let mut names = Vec::new(alloc);
-    for &name in &[
-        b"\x01a\x01b\0".as_slice(),
-        b"\x01c\x01b\0".as_slice(),
-        b"\x01d\x01e\0".as_slice(),
-    ] {
-        names.push(name_of(alloc, name)?)?;
-    }
-    Ok(names)
-}
+const THREE_NAMES: &[u8] = b"\x01a\x01b\0\x01c\x01b\0\x01d\x01e\0";
 
 /// Names that are written again.
 const AGAIN: &[(Step, u8)] = &[
@@ -165,7 +135,7 @@ const STARTS: &[(u8, u8)] = &[
 
 #[test]
 fn suffixes_go_with_their_bytes(rt: HostRuntime) -> Result<(), DecodeError> {
-    let names = three_names(rt.alloc())?;
+    let names = read_many::<Name>(&mut BinDecoder::new(rt.alloc(), THREE_NAMES), 3)?;
     for &(count, start) in STARTS {
         let wanted = [
             1,

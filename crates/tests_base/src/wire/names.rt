@@ -1,15 +1,14 @@
 //! Names that are written: what is pointed at, and what isn't.
 
 use super::Step::{self, Bytes, Letters, Limit, Name, Plain, SizedName, SizedValue, Zeros};
-use super::{Row, are_taken, leave};
+use super::{Row, are_taken};
 use base::BinEncoder;
-use std::alloc::Global;
 
 /// The name `a.b.`.
 const AB: &[u8] = b"\x01a\x01b\0";
 
 /// Names that are written, and their bytes.
-const ROWS: &[Row] = &[
+pub(super) const ROWS: &[Row] = &[
     // stored suffixes
     (
         &[(Name(AB), 0), (Name(b"\x01c\x01b\0"), 0)],
@@ -117,7 +116,7 @@ const ROWS: &[Row] = &[
 ];
 
 /// Names under a limit, plain names, names after their length, and names among many.
-const MORE_ROWS: &[Row] = &[
+pub(super) const MORE_ROWS: &[Row] = &[
     // the limit is reached
     (
         &[(Limit(9), 0), (Name(AB), 0), (Name(b"\x01c\x01b\0"), 0)],
@@ -175,20 +174,6 @@ const MORE_ROWS: &[Row] = &[
     ),
 ];
 
-#[test]
-fn rows_of_names(rt: HostRuntime) {
-    for (i, &(steps, from, wanted)) in ROWS.iter().enumerate() {
-        assert!(rt; leave(rt.alloc(), steps, from, wanted), "row {i}");
-    }
-}
-
-#[test]
-fn more_rows_of_names(rt: HostRuntime) {
-    for (i, &(steps, from, wanted)) in MORE_ROWS.iter().enumerate() {
-        assert!(rt; leave(rt.alloc(), steps, from, wanted), "row {i}");
-    }
-}
-
 /// A name that fits, and two that don't.
 const FIRST_ALONE: &[(Step, u8)] = &[
     (Limit(8), 0),
@@ -197,19 +182,14 @@ const FIRST_ALONE: &[(Step, u8)] = &[
     (Plain(AB), 1),
 ];
 
-/// Whether a second name and a plain one are refused, where only the first fits in eight bytes, and no more are
-/// written.
-fn is_first_alone(alloc: Global) -> bool {
-    let mut bytes = Vec::new(alloc);
+/// Where only the first fits in eight bytes, a second name and a plain one are refused, and no more are written.
+#[test]
+fn names_past_the_limit_are_refused(rt: HostRuntime) {
+    let mut bytes = Vec::new(rt.alloc());
     let mut encoder = BinEncoder::new(&mut bytes);
-    let are_taken = are_taken(alloc, FIRST_ALONE, &mut encoder);
+    let are_taken = are_taken(rt.alloc(), FIRST_ALONE, &mut encoder);
     drop(encoder);
     let is_first = bytes.get(..5) == Some(AB) && bytes.len() <= 8;
     drop(bytes);
-    are_taken && is_first
-}
-
-#[test]
-fn names_past_the_limit_are_refused(rt: HostRuntime) {
-    assert!(rt; is_first_alone(rt.alloc()));
+    assert!(rt; are_taken && is_first);
 }

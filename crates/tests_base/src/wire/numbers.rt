@@ -1,12 +1,11 @@
 //! Numbers that are written, and limits.
 
-use super::Step::{self, Byte, Bytes, Class, Limit, Type, U16, U32, Value};
-use super::{Row, are_taken, leave, refusal};
+use super::Row;
+use super::Step::{Byte, Bytes, Class, Limit, Type, U16, U32, Value, Zeros};
 use base::{BinEncoder, DNSClass, ProtoError, RecordType};
-use std::alloc::{AllocError, Global};
 
-/// Numbers, types and classes that are written, and their bytes.
-const ROWS: &[Row] = &[
+/// Numbers, types and classes that are written over other bytes, and their bytes.
+pub(super) const ROWS: &[Row] = &[
     // types and classes
     (
         &[
@@ -32,94 +31,50 @@ const ROWS: &[Row] = &[
         0,
         &[1, 2, 3, 4, 5],
     ),
+    // each width
+    (
+        &[
+            (Byte(0x01), 0),
+            (U16(0x0203), 0),
+            (U32(0x0405_0607), 0),
+            (Bytes(&[8, 9]), 0),
+            (Value(0x0A0B), 0),
+        ],
+        0,
+        &[1, 2, 3, 4, 5, 6, 7, 8, 9, 0x0A, 0x0B],
+    ),
+    // the first limit is the largest message
+    (&[(Zeros(65_535), 0), (Byte(0), 1)], 65_535, &[]),
 ];
 
-#[test]
-fn rows_of_numbers(rt: HostRuntime) {
-    for (i, &(steps, from, wanted)) in ROWS.iter().enumerate() {
-        assert!(rt; leave(rt.alloc(), steps, from, wanted), "row {i}");
-    }
-}
-
-/// Numbers of each width.
-const NUMBERS: &[(Step, u8)] = &[
-    (Byte(0x01), 0),
-    (U16(0x0203), 0),
-    (U32(0x0405_0607), 0),
-    (Bytes(&[8, 9]), 0),
-    (Value(0x0A0B), 0),
-];
-
-/// Whether the encoder is empty over what stands, and then as long as what is written.
-fn fill(alloc: Global, bytes: &mut Vec<u8>) -> bool {
-    let mut encoder = BinEncoder::new(bytes);
-    let empty = encoder.is_empty();
-    let taken = are_taken(alloc, NUMBERS, &mut encoder);
-    empty && taken && encoder.len() == 11
-}
-
-#[test]
-fn an_encoder_begins_with_nothing(rt: HostRuntime) -> Result<(), AllocError> {
-    let mut bytes = vec![in rt.alloc(); 9, 9, 9]?;
-    assert!(rt; fill(rt.alloc(), &mut bytes));
-    assert!(rt; bytes.as_slice() == [1, 2, 3, 4, 5, 6, 7, 8, 9, 0x0A, 0x0B].as_slice());
-    drop(bytes);
-    Ok(())
-}
-
-/// The number of the refusal of a byte after these; 0 for none.
-fn refusal_after(alloc: Global, most: &[u8]) -> (u8, u8, usize) {
-    let mut bytes = Vec::new(alloc);
-    let mut encoder = BinEncoder::new(&mut bytes);
-    let whole = refusal(encoder.emit_slice(most));
-    let after = refusal(encoder.emit(0));
-    let len = encoder.len();
-    drop(encoder);
-    drop(bytes);
-    (whole, after, len)
-}
-
-#[test]
-fn the_first_limit_is_the_largest_message(rt: HostRuntime) -> Result<(), AllocError> {
-    let most = vec![in rt.alloc(); 0; 65_535]?;
-    assert!(rt; refusal_after(rt.alloc(), &most) == (0, 1, 65_535));
-    drop(most);
-    Ok(())
-}
-
-/// Fills room after a byte, and answers how much stood after it, before three bytes came and then. No room of two bytes
-/// is left then.
-fn fill_room(encoder: &mut BinEncoder<'_>) -> Result<(usize, usize, bool), ProtoError> {
+/// Fills room after a byte, and answers whether nothing stood after it, before three bytes came.
+fn fill_room(encoder: &mut BinEncoder<'_>) -> Result<bool, ProtoError> {
     encoder.emit(7)?;
     let place = encoder.place::<u16>()?;
     let before = encoder.len_since_place(&place);
     encoder.emit_slice(&[1, 2, 3])?;
     let then = encoder.len_since_place(&place);
     encoder.replace(place, &0x1003);
-    encoder.set_max_size(7);
+    Ok(before == 0 && then == 3)
+}
+
+/// Whether no room of two bytes is left under this limit.
+fn is_full(encoder: &mut BinEncoder<'_>, limit: u16) -> bool {
+    encoder.set_max_size(limit);
     let none = encoder.place::<u16>();
     let is_full = matches!(&none, Err(ProtoError::MaxBufferSizeExceeded));
     drop(none);
-    Ok((before, then, is_full))
-}
-
-/// Whether room is filled so.
-fn is_filled_as(alloc: Global, wanted: &[u8]) -> bool {
-    let mut bytes = Vec::new(alloc);
-    let mut encoder = BinEncoder::new(&mut bytes);
-    let found = fill_room(&mut encoder);
-    drop(encoder);
-    let is_filled = match &found {
-        Ok((before, then, is_full)) => *before == 0 && *then == 3 && *is_full,
-        Err(_) => false,
-    };
-    drop(found);
-    let same = is_filled && bytes.as_slice() == wanted;
-    drop(bytes);
-    same
+    is_full
 }
 
 #[test]
 fn room_is_kept_and_filled(rt: HostRuntime) {
-    assert!(rt; is_filled_as(rt.alloc(), &[7, 0x10, 3, 1, 2, 3]));
+    let mut bytes = Vec::new(rt.alloc());
+    let mut encoder = BinEncoder::new(&mut bytes);
+    let is_filled = matches!(fill_room(&mut encoder), Ok(true));
+    let is_full = is_full(&mut encoder, 7);
+    drop(encoder);
+    let same = bytes.as_slice() == [7, 0x10, 3, 1, 2, 3].as_slice();
+    drop(bytes);
+    assert!(rt; is_filled && is_full && same);
 }

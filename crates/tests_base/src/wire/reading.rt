@@ -1,72 +1,44 @@
 //! Numbers, types, classes and names that are read.
 
-use super::name_of;
-use base::{
-    BinDecodable, BinDecoder, BinEncodable, BinEncoder, DNSClass, DecodeError, Name, ProtoError,
-    RecordType, read_many,
-};
-use std::alloc::Global;
-use std::test::Fail;
-
-/// Whether too few bytes were left.
-fn is_cut<T: Drop>(answer: Result<T, DecodeError>) -> bool {
-    let is_cut = matches!(&answer, Err(DecodeError::InsufficientBytes));
-    drop(answer);
-    is_cut
-}
-
-/// Whether a value was read, and is this.
-fn is_this<T: PartialEq + Drop>(read: Result<T, DecodeError>, wanted: &T) -> bool {
-    let same = match &read {
-        Ok(value) => *value == *wanted,
-        Err(_) => false,
-    };
-    drop(read);
-    same
-}
-
-/// Whether a number of one byte, of two and of four are read, in this order.
-fn each_is_read(decoder: &mut BinDecoder<'_>) -> bool {
-    let one = is_this(decoder.pop(), &1);
-    let two = is_this(decoder.read_u16(), &0x0203);
-    let four = is_this(decoder.read_u32(), &0x0405_0607);
-    one && two && four
-}
+use super::Step::Name as Named;
+use super::leave;
+use crate::answers::{is_cut, is_this};
+use crate::names::has_labels;
+use base::{BinDecodable, BinDecoder, DNSClass, Name, RecordType, read_many};
 
 #[test]
 fn numbers_are_read_high_byte_first(rt: HostRuntime) {
     let mut decoder = BinDecoder::new(rt.alloc(), &[1, 2, 3, 4, 5, 6, 7, 8, 9]);
-    assert!(rt; decoder.len() == 9);
-    assert!(rt; each_is_read(&mut decoder));
-    assert!(rt; decoder.index() == 7);
-    assert!(rt; is_this(u16::read(&mut decoder), &0x0809));
-    assert!(rt; decoder.is_empty());
-    assert!(rt; is_cut(decoder.pop()));
-}
-
-/// Whether numbers of one, two and four bytes are refused where one byte is missing.
-fn each_is_cut(alloc: Global) -> bool {
-    let one = is_cut(BinDecoder::new(alloc, &[]).pop());
-    let two = is_cut(BinDecoder::new(alloc, &[1]).read_u16());
-    let four = is_cut(BinDecoder::new(alloc, &[1, 2, 3]).read_u32());
-    one && two && four
+    let is_whole = decoder.len() == 9;
+    let are_read = is_this(decoder.pop(), &1)
+        && is_this(decoder.read_u16(), &0x0203)
+        && is_this(decoder.read_u32(), &0x0405_0607)
+        && decoder.index() == 7
+        && is_this(u16::read(&mut decoder), &0x0809);
+    let is_empty = decoder.is_empty();
+    let is_cut = is_cut(decoder.pop());
+    assert!(rt; is_whole && are_read && is_empty && is_cut);
 }
 
 #[test]
 fn a_number_that_the_end_cuts_is_refused(rt: HostRuntime) {
-    assert!(rt; each_is_cut(rt.alloc()));
+    let one = is_cut(BinDecoder::new(rt.alloc(), &[]).pop());
+    let two = is_cut(BinDecoder::new(rt.alloc(), &[1]).read_u16());
+    let four = is_cut(BinDecoder::new(rt.alloc(), &[1, 2, 3]).read_u32());
+    assert!(rt; one && two && four);
 }
 
 #[test]
 fn types_and_classes_of_numbers(rt: HostRuntime) {
     let bytes = b"\x00\x0F\xFF\x19\x03\xE8\x00\x01\x04\xD0";
     let mut decoder = BinDecoder::new(rt.alloc(), bytes.as_slice());
-    assert!(rt; is_this(RecordType::read(&mut decoder), &RecordType::MX));
-    assert!(rt; is_this(RecordType::read(&mut decoder), &RecordType::ANAME));
-    assert!(rt; is_this(RecordType::read(&mut decoder), &RecordType::Unknown(1000)));
-    assert!(rt; is_this(DNSClass::read(&mut decoder), &DNSClass::IN));
-    assert!(rt; is_this(DNSClass::read(&mut decoder), &DNSClass::Unknown(1232)));
-    assert!(rt; is_cut(DNSClass::read(&mut decoder)));
+    let are_types = is_this(RecordType::read(&mut decoder), &RecordType::MX)
+        && is_this(RecordType::read(&mut decoder), &RecordType::ANAME)
+        && is_this(RecordType::read(&mut decoder), &RecordType::Unknown(1000));
+    let are_classes = is_this(DNSClass::read(&mut decoder), &DNSClass::IN)
+        && is_this(DNSClass::read(&mut decoder), &DNSClass::Unknown(1232));
+    let is_cut = is_cut(DNSClass::read(&mut decoder));
+    assert!(rt; are_types && are_classes && is_cut);
 }
 
 /// Whether the numbers that are read next are these.
@@ -84,38 +56,20 @@ fn are_next(decoder: &mut BinDecoder<'_>, wanted: &[u16]) -> bool {
 fn values_are_read_in_turn(rt: HostRuntime) {
     let buffer = [0, 1, 0, 2, 1, 0, 9];
     let mut decoder = BinDecoder::new(rt.alloc(), &buffer);
-    assert!(rt; are_next(&mut decoder, &[]));
-    assert!(rt; are_next(&mut decoder, &[1, 2, 256]));
-    assert!(rt; decoder.index() == 6);
-    assert!(rt; is_cut(read_many::<u16>(&mut decoder, 1)));
+    let are_read = are_next(&mut decoder, &[]) && are_next(&mut decoder, &[1, 2, 256]);
+    let end = decoder.index();
+    let is_cut = is_cut(read_many::<u16>(&mut decoder, 1));
+    assert!(rt; are_read && end == 6 && is_cut);
 }
 
-/// Writes two names.
-fn emit_two(
-    alloc: Global,
-    bytes: &mut Vec<u8>,
-    one: &[u8],
-    other: &[u8],
-) -> Result<(), ProtoError> {
-    let mut encoder = BinEncoder::new(bytes);
-    let first = name_of(alloc, one)?;
-    let emitted = first.emit(&mut encoder);
-    drop(first);
-    emitted?;
-    let second = name_of(alloc, other)?;
-    let emitted = second.emit(&mut encoder);
-    drop(second);
-    emitted
-}
+/// Two names that end alike.
+const TWO_NAMES: &[u8] = b"\x01a\x01b\0\x01C\xC0\x02";
 
-/// Whether the name that is read next is absolute and has these two labels.
-fn is_next(decoder: &mut BinDecoder<'_>, first: &[u8], second: &[u8]) -> bool {
+/// Whether the name that is read next is absolute and has these labels.
+fn is_next(decoder: &mut BinDecoder<'_>, labels: &[&[u8]]) -> bool {
     let found = Name::read(decoder);
     let is_next = match &found {
-        Ok(name) => {
-            let labels = name.label(0) == Some(first) && name.label(1) == Some(second);
-            labels && name.label_count() == 2 && name.is_fqdn()
-        }
+        Ok(name) => name.is_fqdn() && has_labels(name, labels),
         Err(_) => false,
     };
     drop(found);
@@ -123,12 +77,12 @@ fn is_next(decoder: &mut BinDecoder<'_>, first: &[u8], second: &[u8]) -> bool {
 }
 
 #[test]
-fn names_are_read_as_they_were_written(rt: HostRuntime) -> Result<(), Fail> {
+fn names_are_read_as_they_were_written(rt: HostRuntime) {
     let mut bytes = Vec::new(rt.alloc());
-    emit_two(rt.alloc(), &mut bytes, b"\x01a\x01b\0", b"\x01C\x01b\0")?;
-    let mut decoder = BinDecoder::new(rt.alloc(), &bytes);
-    assert!(rt; is_next(&mut decoder, b"a", b"b"));
-    assert!(rt; is_next(&mut decoder, b"C", b"b"));
-    assert!(rt; decoder.is_empty());
-    Ok(())
+    let names = [(Named(b"\x01a\x01b\0"), 0), (Named(b"\x01C\x01b\0"), 0)];
+    let are_written = leave(rt.alloc(), &mut bytes, &names, 0, TWO_NAMES);
+    drop(bytes);
+    let mut decoder = BinDecoder::new(rt.alloc(), TWO_NAMES);
+    let are_read = is_next(&mut decoder, &[b"a", b"b"]) && is_next(&mut decoder, &[b"C", b"b"]);
+    assert!(rt; are_written && are_read && decoder.is_empty());
 }
