@@ -4,15 +4,17 @@ use Rattle.base.specs.declared.dns_class.DNSClass.{DNSClass}
 use Rattle.base.specs.declared.rr_key.RrKey.{RrKey}
 use Rattle.base_data.specs.declared.rdata.RData.{RData}
 use Rattle.op_use.proofs.AppliedData.{distinct_joined}
-use Rattle.op_use.proofs.HeldSteps.{put_back}
+use Rattle.op_use.proofs.HeldSteps.{put_back, removed_map}
 use Rattle.op_use.proofs.KeptSets.{put_map}
-use Rattle.op_use.proofs.MapSteps.{chained, injected, moved, puts_again}
-use Rattle.op_use.proofs.TakenSets.{changed, last_of, none_left, put_taken, set_left, set_left_fits}
+use Rattle.op_use.proofs.MapSteps.{injected, kept_after, puts_again}
+use Rattle.op_use.proofs.LeftSets.{none_left, set_left, set_left_fits}
+use Rattle.op_use.proofs.WholeSteps.{map_copy}
 use Rattle.op_use.proofs.ZoneSteps.{same_key, tied}
 use Rattle.op_use.specs.Applying.{IsZoneMap, IsZoneSet, records_at, records_in}
 use Rattle.op_use.specs.ChangingSets.{AreChanging, IsSame, LacksAll, current, with_changing}
 use Rattle.op_use.specs.HeldZone.{HeldZone}
-use Rattle.op_use.specs.MapUpdates.{Gains, HoldsAt, IsSetTo, IsTakenSet, Lacks, Puts}
+use Rattle.op_use.specs.MapUpdates.{Gains, HoldsAt, IsSetTo, Lacks, Puts}
+use Rattle.rr.specs.Record.{record_key, type_of_record}
 use Rattle.rr.specs.RecordSet.{SetValue}
 use Rattle.rr.specs.SetChanges.{joined}
 use Rattle.rr.specs.SetUpdates.{last_ttl, with_records, without, without_data}
@@ -20,7 +22,7 @@ use Rattle.rr.specs.declared.record.Record.{Record}
 use Rattle.std.proofs.Common.{ap, inl, inr, refl, subst, sym, ◌∙◌, ◌⊎◌}
 use Rattle.std.specs.BTreeMap as tree
 use Rattle.std.specs.BTreeMap.{BTreeMap, is_at}
-use Rattle.std.specs.List.{list_any}
+use Rattle.std.specs.List.{IsDistinct, list_any}
 use Rattle.std.specs.Map.{keys_of, lookup}
 use Rattle.std.specs.Ordering.{eq_by_cmp}
 use Rattle.std_collections.specs.Layout.BTreeMap.{with_entries}
@@ -231,6 +233,11 @@ pub joined_fits : (class : DNSClass) (k : RrKey) (r : Record RData) (s t : SetVa
 joined_fits class k r s t h is = subst (λ x. IsZoneSet class k x) (sym is)
     (record { own_key = h.own_key; own_class = h.own_class; filled = joined_some r s.records; distinct = distinct_joined r s.records h.distinct })
 
+pub renewed_fits : {E : Type 0} (class : DNSClass) (k : RrKey) (r : Record RData) (s t : SetValue) (result : Result (Unit {0}) E) → IsZoneSet class k s
+    → OnOk result (t ≡ with_records s (joined r s.records)) → OnErr result (t ≡ s) → IsZoneSet class k t
+renewed_fits class k r s t (Ok x) h ok err = joined_fits class k r s t h ok
+renewed_fits class k r s t (Err x) h ok err = subst (λ x. IsZoneSet class k x) (sym err) h
+
 -- a record is joined to a set
 pub set_joined : (class : DNSClass) (k : RrKey) (r : Record RData) (s t : SetValue) (m n : Sets) → IsZoneSet class k s → tree.get key_cmp m k ≡ Some s → t ≡ with_records s (joined r s.records)
     → Puts k (Some t) m n → IsSetTo class k (joined r (records_at m k)) m n
@@ -242,14 +249,20 @@ set_joined class k r s t m n fits e is puts = record {
   puts = puts;
 }
 
--- to one that was taken out, or to a new one
-pub joined_taken : (class : DNSClass) (k : RrKey) (r : Record RData) (s t : SetValue) (m mid n : Sets) → IsTakenSet class k (records_at m k) s → t ≡ with_records s (joined r s.records)
-    → Puts k None m mid → tree.Updates key_cmp mid n k (Some t) → IsSetTo class k (joined r (records_at m k)) m n
-joined_taken class k r s t m mid n h is first puts =
-    let mine = changed class k (records_at m k) (joined r s.records) s t h is (distinct_joined r s.records h.distinct) in
-    let records : t.records ≡ joined r s.records = ap (λ (x : SetValue). x.records) is in
-    moved class k k t.records (joined r (records_at m k)) m n refl (records ∙ ap (joined r) h.records)
-    (chained class k t.records m mid n first (put_taken class k t mid n mine (last_of s t (joined r s.records) is) (λ none. joined_some r s.records (sym records ∙ none)) puts))
+-- or begins one
+pub set_begun : (class : DNSClass) (k : RrKey) (r : Record RData) (s : SetValue) (m mid n : Sets) → k ≡ record_key r → tree.get key_cmp m k ≡ None → mid ≡ m
+    → s ≡ record { name = r.name; record_type = type_of_record r; dns_class = class; ttl = r.ttl; records = r ∷ []; serial = 0 }
+    → tree.Updates key_cmp mid n k (Some s) → IsSetTo class k (joined r (records_at m k)) m n
+unfolding IsDistinct
+set_begun class k r s m mid n own none same is puts =
+    let fits : IsZoneSet class k s = subst (λ x. IsZoneSet class k x) (sym is) (record { own_key = sym own; own_class = refl; filled = λ e. absurd cc; distinct = distinct_joined r [] tt }) in
+    record {
+      set = Some s;
+      records = ap (λ (x : SetValue). x.records) is ∙ ap (λ o. joined r (records_in o)) (sym none);
+      fits = λ x f. subst (λ y. IsZoneSet class k y) (injected s x f) fits;
+      ttl = λ x f. inr (subst (λ (y : SetValue). y.ttl ≡ last_ttl y.records) (sym is ∙ injected s x f) refl);
+      puts = subst (λ (x : Sets). Puts k (Some s) x n) same puts.0;
+    }
 
 pub same_as : (z y : HeldZone) → y ≡ z → IsSame z y
 same_as z y e = subst (λ (x : HeldZone). IsSame x y) e (y.sets, refl, λ q. refl)
@@ -265,12 +278,23 @@ held_from k xs old mid new first next = chain (subst (λ (z : HeldZone). HoldsAt
   chain : HoldsAt k xs (record old { sets = first.0 }) new → HoldsAt k xs old new
   chain h = (h.0, h.1, set_from old.class k xs old.sets first.0 h.0 first.2 h.2)
 
+-- the same is said of an equal key and of the zone as it was
+pub told : {E T : Type 0} (result : Result T E) (k q : RrKey) (f : List (Record RData) → List (Record RData)) (x old new : HeldZone) → k ≡ q → x ≡ old
+    → OnOk result (HoldsAt k (f (records_at x.sets k)) x new) → OnOk result (HoldsAt q (f (records_at old.sets q)) old new)
+told result k q f x old new own is h = subst (λ (j : RrKey). OnOk result (HoldsAt j (f (records_at old.sets j)) old new)) own
+    (subst (λ (y : HeldZone). OnOk result (HoldsAt k (f (records_at y.sets k)) y new)) is h)
+
 same_records_at : (k : RrKey) (old new : HeldZone) → IsSame old new → records_at new.sets k ≡ records_at old.sets k
 same_records_at k old new h = ap (λ (z : HeldZone). records_at z.sets k) h.1 ∙ ap records_in (h.2 k)
 
 pub from_same : (k : RrKey) (f : List (Record RData) → List (Record RData)) (old mid new : HeldZone) → IsSame old mid → HoldsAt k (f (records_at mid.sets k)) mid new
     → HoldsAt k (f (records_at old.sets k)) old new
 from_same k f old mid new same h = held_from k (f (records_at old.sets k)) old mid new same (subst (λ xs. HoldsAt k (f xs) mid new) (same_records_at k old mid same) h)
+
+pub told_from : (k q : RrKey) (f : List (Record RData) → List (Record RData)) (x mid old new : HeldZone) → k ≡ q → x ≡ mid → IsSame old mid
+    → HoldsAt k (f (records_at x.sets k)) x new → HoldsAt q (f (records_at old.sets q)) old new
+told_from k q f x mid old new own is same h = subst (λ (j : RrKey). HoldsAt j (f (records_at old.sets j)) old new) own
+    (from_same k f old mid new same (subst (λ (y : HeldZone). HoldsAt k (f (records_at y.sets k)) y new) is h))
 
 -- sets are taken out one after the other
 pub none_lacks : (z : HeldZone) → LacksAll [] z z
@@ -310,9 +334,6 @@ module _ (k : RrKey) (ch new : Sets) (z y : HeldZone) where
   pub lacks_both : Puts k None ch new → Lacks k z y → Lacks k (shown z ch) (shown y new)
   lacks_both first h = (with_changing new h.0, ap (λ (x : HeldZone). shown x new) h.1, puts_gone ch new z.sets h.0 k first h.2)
 
-  pub beside_held : (xs : List (Record RData)) → AreChanging z.class ch z.sets → tree.get key_cmp ch k ≡ None → HoldsAt k xs z y → AreChanging y.class ch y.sets
-  beside_held xs held none h = subst (λ (x : HeldZone). AreChanging x.class ch x.sets) (sym h.1) (set_there z.class ch z.sets h.0 k h.2.set held none h.2.puts)
-
   held_beside : (xs : List (Record RData)) → tree.get key_cmp ch k ≡ None → HoldsAt k xs z y → HoldsAt k xs (shown z ch) (shown y ch)
   held_beside xs none h = (with_changing ch h.0, ap (λ (x : HeldZone). shown x ch) h.1, set_beside z.class k xs ch z.sets h.0 none h.2)
 
@@ -325,8 +346,53 @@ module _ (k : RrKey) (f : List (Record RData) → List (Record RData)) (ch new :
       (subst (λ xs. HoldsAt k (f xs) (shown z new) (shown y new)) (ap records_in (sym (at_kept ch z.sets k none)))
       (held_beside k new new z y (f (records_at z.sets k)) (taken_out ch new k first) h))
 
-  pub put_beside_held : AreChanging z.class ch z.sets → AreChanging y.class new y.sets
-  put_beside_held held = beside_held k new new z y (f (records_at z.sets k)) (less_changing z.class ch new z.sets k held first) (taken_out ch new k first) h
+-- nothing was changed
+pub unchanged_held : (z : HeldZone) (ch new mid n : Sets) → new ≡ ch → mid ≡ z.sets → tree.IsUnchanged mid n → IsZoneMap z.class z.sets → AreChanging z.class ch z.sets
+    → IsZoneMap z.class n × AreChanging z.class new n
+unchanged_held z ch new mid n same alike still is_map held =
+    let there : IsZoneMap z.class mid = subst (λ (x : Sets). IsZoneMap z.class x) (sym alike) is_map in
+    let both : AreChanging z.class new mid = subst (λ (x : Sets). AreChanging z.class x mid) (sym same) (subst (λ (x : Sets). AreChanging z.class ch x) (sym alike) held) in
+    (map_copy z.origin z.class mid n still there, changing_unchanged z.class new new mid n refl still both)
+
+-- a set of the map itself is put
+module _ (k : RrKey) (ch new n : Sets) (z : HeldZone) (none : tree.get key_cmp ch k ≡ None) (same : new ≡ ch) where
+  pub placed_held : (xs : List (Record RData)) → IsSetTo z.class k xs z.sets n → IsZoneMap z.class z.sets → AreChanging z.class ch z.sets → IsZoneMap z.class n × AreChanging z.class new n
+  placed_held xs h is_map held = (
+    kept_after z.origin z.class k xs z.sets n h is_map,
+    subst (λ (x : Sets). AreChanging z.class x n) (sym same) (set_there z.class ch z.sets n k h.set held none h.puts),
+  )
+
+  pub placed_now : (f : List (Record RData) → List (Record RData)) → IsSetTo z.class k (f (records_at z.sets k)) z.sets n
+      → HoldsAt k (f (records_at (with_changing ch z.sets) k)) (shown z ch) (shown (record z { sets = n }) new)
+  placed_now f h = put_beside k f ch new z (record z { sets = n }) none (none_out ch new k none same) (n, refl, h)
+
+  -- or changed
+  module _ (s t : SetValue) (e : tree.get key_cmp z.sets k ≡ Some s) (puts : tree.Updates key_cmp z.sets n k (Some t)) where
+    pub changed_held : IsZoneMap z.class z.sets → AreChanging z.class ch z.sets → IsZoneSet z.class k t → IsZoneMap z.class n × AreChanging z.class new n
+    changed_held is_map held fits = (
+      put_map z.class k t z.sets n is_map fits puts,
+      subst (λ (x : Sets). AreChanging z.class x n) (sym same) (set_there z.class ch z.sets n k (Some t) held none puts.0),
+    )
+
+    pub joined_placed : {E : Type 0} (r : Record RData) (result : Result (Unit {0}) E) → IsZoneSet z.class k s → OnOk result (t ≡ with_records s (joined r s.records))
+        → OnOk result (HoldsAt k (joined r (records_at (with_changing ch z.sets) k)) (shown z ch) (shown (record z { sets = n }) new))
+    joined_placed r (Ok x) fits is = placed_now (joined r) (set_joined z.class k r s t z.sets n fits e is puts.0)
+    joined_placed r (Err x) fits is = tt
+
+    -- and goes, when it has no more records
+    module _ (newer p : Sets) (first : Puts k None new newer) (next : Puts k None n p) where
+      beside : Puts k None ch newer
+      beside = subst (λ (x : Sets). Puts k None x newer) same first
+
+      out : Puts k None z.sets p
+      out = puts_again k (Some t) None z.sets n p puts.0 next
+
+      pub gone_held : IsZoneMap z.class z.sets → AreChanging z.class ch z.sets → IsZoneMap z.class p × AreChanging z.class newer p
+      gone_held is_map held = (removed_map z.class k z.sets p is_map out, less_there z.class ch newer z.sets p k held beside out)
+
+      pub gone_placed : (es : List (Record RData)) → t ≡ without_data es s → t.records ≡ []
+          → HoldsAt k (without es (records_at (with_changing ch z.sets) k)) (shown z ch) (shown (record z { sets = p }) newer)
+      gone_placed es is empty = put_beside k (without es) ch newer z (record z { sets = p }) none beside (p, refl, none_left z.class k es s t z.sets p e is empty out)
 
 -- a record stands alone where a set was taken out
 pub alone : (k : RrKey) (r : Record RData) (old mid new : HeldZone) → Lacks k old mid → HoldsAt k (joined r (records_at mid.sets k)) mid new → HoldsAt k (r ∷ []) old new
@@ -356,8 +422,7 @@ module _ (k : RrKey) (s t : SetValue) (ch new : Sets) (z : HeldZone) (held : Are
   still_held is = more_changing z.class ch new z.sets k t held there (subst (λ x. IsZoneSet z.class k x) (sym is) (held.is_map k s e)) puts
 
   pub joined_held : {E : Type 0} (r : Record RData) (result : Result (Unit {0}) E) → OnOk result (t ≡ with_records s (joined r s.records)) → OnErr result (t ≡ s) → AreChanging z.class new z.sets
-  joined_held r (Ok x) ok err = more_changing z.class ch new z.sets k t held there (joined_fits z.class k r s t (held.is_map k s e) ok) puts
-  joined_held r (Err x) ok err = still_held err
+  joined_held r result ok err = more_changing z.class ch new z.sets k t held there (renewed_fits z.class k r s t result (held.is_map k s e) ok err) puts
 
   pub left_now : (es : List (Record RData)) → t ≡ without_data es s → t.records ≢ [] → HoldsAt k (without es (records_at (with_changing ch z.sets) k)) (shown z ch) (shown z new)
   left_now es is full = (

@@ -48,8 +48,8 @@ gone_set : (class : DNSClass) (m : BTreeMap RrKey SetValue) (b : Bool) (q : RrKe
 gone_set class m true q s old e = absurd cc
 gone_set class m false q s old e = old q s e
 
-pub removed_map : (class : DNSClass) (k : RrKey) (m n : BTreeMap RrKey SetValue) → IsZoneMap class m → tree.Updates key_cmp m n k None → IsZoneMap class n
-removed_map class k m n old h = λ q s e. gone_set class m (eq_by_cmp key_cmp k q) q s old (sym (h.0 q) ∙ e)
+pub removed_map : (class : DNSClass) (k : RrKey) (m n : BTreeMap RrKey SetValue) → IsZoneMap class m → Puts k None m n → IsZoneMap class n
+removed_map class k m n old h = λ q s e. gone_set class m (eq_by_cmp key_cmp k q) q s old (sym (h q) ∙ e)
 
 pub removed_set : (class : DNSClass) (k : RrKey) (m n : BTreeMap RrKey SetValue) → Puts k None m n → IsSetTo class k [] m n
 removed_set class k m n h = record { set = None; records = refl; fits = λ s e. absurd cc; ttl = λ s e. absurd cc; puts = h }

@@ -20,7 +20,7 @@ mod Origins
 mod OwnerKeys
 mod ServerRowsLemmas
 mod SpelledSteps
-mod TakenSets
+mod LeftSets
 mod TypeSteps
 mod UpdateSteps
 mod WholeSteps

@@ -3,12 +3,11 @@ use Rattle.base.specs.Labels.{NameValue}
 use Rattle.base.specs.RrKey.{key_cmp}
 use Rattle.base.specs.declared.dns_class.DNSClass.{DNSClass}
 use Rattle.base.specs.declared.rr_key.RrKey.{RrKey}
-use Rattle.base_data.specs.SameData.{same_data}
 use Rattle.base_data.specs.declared.rdata.RData.{RData}
 use Rattle.op_use.specs.AppliedRecords.{records_after}
 use Rattle.op_use.specs.Applying.{records_at, IsZoneMap, IsZoneSet, TakesFrom, TakesTtls, names_owner, records_in, zone_of_map}
 use Rattle.op_use.specs.HeldZone.{HeldZone}
-use Rattle.op_use.specs.NamedChanges.{is_key_left, set_key}
+use Rattle.op_use.specs.NamedChanges.{is_key_left}
 use Rattle.op_use.specs.Server.{OfAny, OfNone, OfNothing, OfZone, Use as UseValue, is_under, update}
 use Rattle.op_use.specs.Zone.{Zone}
 use Rattle.op_use.specs.declared.apply.rules.Use.TheVariants as uses
@@ -18,8 +17,8 @@ use Rattle.rr.specs.SetUpdates.{last_ttl}
 use Rattle.rr.specs.declared.record.Record.{Record}
 use Rattle.std.specs.BTreeMap as tree
 use Rattle.std.specs.BTreeMap.{BTreeMap}
-use Rattle.std.specs.List.{IsDistinct, fold, list_any}
-use Rattle.std.specs.Ordering.{eq_by_cmp, on}
+use Rattle.std.specs.List.{fold, list_any}
+use Rattle.std.specs.Ordering.{eq_by_cmp}
 use Rattle.std.specs.Prelude.{Bool, List, None, Option, Some, cond, false, ◌≡◌, ◌⊎◌}
 
 -- whether an update names the set under a key
@@ -57,14 +56,6 @@ pub record IsSetTo (class : DNSClass) (k : RrKey) (xs : List (Record RData))
   pub ttl : (s : SetValue) → set ≡ Some s
       → (tree.get key_cmp old k ≡ Some s) ⊎ (s.ttl ≡ last_ttl s.records)
   pub puts : Puts k set old new
-
--- a set that is taken out to be changed: of this class, of this key, and with these records, no two of equal data
-pub record IsTakenSet (of_class : DNSClass) (k : RrKey) (xs : List (Record RData))
-    (s : SetValue) : Type 0 where
-  pub own_key : set_key s ≡ k
-  pub own_class : s.dns_class ≡ of_class
-  pub distinct : IsDistinct (on (λ (r : Record RData). r.rdata) same_data) s.records
-  pub records : s.records ≡ xs
 
 -- the new zone is the old one after the updates rs
 abbrev pub IsUpdated : List (Record RData) → HeldZone → HeldZone → Type 0

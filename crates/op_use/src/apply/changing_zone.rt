@@ -3,11 +3,11 @@
 ghost use Rattle.op_use.specs.Applying.{records_at};
 ghost use Rattle.op_use.specs.ChangingSets.{AreChanging, IsSame, with_changing};
 ghost use Rattle.op_use.specs.HeldZone.{HeldZone};
-ghost use Rattle.op_use.specs.MapUpdates.{HoldsAt, Lacks};
-ghost use Rattle.rr.specs.Record.{record_key};
+ghost use Rattle.op_use.specs.MapUpdates.{HoldsAt, Lacks, Puts};
+ghost use Rattle.rr.specs.Record.{record_key, type_of_record};
 ghost use Rattle.rr.specs.SetChanges.{joined};
-ghost use Rattle.rr.specs.SetUpdates.{without};
-ghost use Rattle.std.specs.Prelude.{IfOk, OnOk, [], length, ◌∷◌, ◌≡◌};
+ghost use Rattle.rr.specs.SetUpdates.{with_records, without};
+ghost use Rattle.std.specs.Prelude.{IfOk, None, OnErr, OnOk, [], length, ◌∷◌, ◌≡◌};
 
 use crate::apply::zone::{Zone, key_of};
 use base::{DNSClass, Name, RrKey};
@@ -20,8 +20,7 @@ use std::slice;
 /// A set of no more records is changed where it is.
 const FEW: usize = 24;
 
-/// A zone while it is updated. Where a growth is refused, a set that was taken out may be lost, or be as it was before
-/// the updates.
+/// A zone while it is updated. Where a growth is refused, a set that was large may be as it was before the updates.
 #[derive(Drop)]
 pub(crate) struct ChangingZone<'a> {
     pub(super) origin: &'a Name,
@@ -102,18 +101,10 @@ impl<'a> ChangingZone<'a> {
         if let Some(set) = self.changing.get_mut(&key) {
             return set.renew(entry);
         }
-        let mut set = match self.sets.remove(&key) {
-            Some(set) => set,
-            None => {
-                let name = entry.name.clone()?;
-                let mut set = RecordSet::new(self.origin.allocator(), name, entry.record_type(), 0);
-                set.set_dns_class(self.class);
-                set
-            }
-        };
-        let Ok(()) = set.renew(entry.clone()?) else {
-            return Err(AllocError);
-        };
+        if let Some(set) = self.sets.get_mut(&key) {
+            return renew(set, entry);
+        }
+        let set = set_of(self.class, entry)?;
         self.sets.insert(key, set)?;
         Ok(())
     }
@@ -130,21 +121,19 @@ impl<'a> ChangingZone<'a> {
         if let Some(set) = self.changing.get_mut(&key) {
             set.take_data(entry)?;
             if set.records_count() == 0 {
-                self.changing.remove(&key);
-                self.sets.remove(&key);
+                take_out(&mut self.changing, &mut self.sets, &key);
             }
             return Ok(());
         }
-        let Some(mut set) = self.sets.remove(&key) else {
+        let Some(set) = self.sets.get_mut(&key) else {
             return Ok(());
         };
         let Ok(_) = set.take_data(slice::from_ref(entry)) else {
             return Err(AllocError);
         };
         if set.is_empty() {
-            return Ok(());
+            take_out(&mut self.changing, &mut self.sets, &key);
         }
-        self.sets.insert(key, set)?;
         Ok(())
     }
 
@@ -170,7 +159,49 @@ impl<'a> ChangingZone<'a> {
     pub(super) fn remove(&mut self, key: &RrKey)
         ensures { Lacks key.now self.old self.new }
     {
-        self.changing.remove(key);
-        self.sets.remove(key);
+        take_out(&mut self.changing, &mut self.sets, key);
     }
+}
+
+/// Takes the set under a key out of both maps.
+fn take_out(
+    changing: &mut BTreeMap<RrKey, ChangingSet>,
+    sets: &mut BTreeMap<RrKey, RecordSet>,
+    key: &RrKey,
+)
+    ensures changing { Puts key.now None changing.old changing.new }
+    ensures sets { Puts key.now None sets.old sets.new }
+{
+    changing.remove(key);
+    sets.remove(key);
+}
+
+/// A set of one record, of a zone of this class.
+fn set_of(class: DNSClass, entry: &Record) -> Result<RecordSet, AllocError>
+    ensures { IfOk result (λ s. s ≡ record {
+      name = entry.now.name;
+      record_type = type_of_record entry.now;
+      dns_class = class;
+      ttl = entry.now.ttl;
+      records = entry.now ∷ [];
+      serial = 0;
+    }) }
+{
+    let name = entry.name.clone()?;
+    let mut set = RecordSet::new(name.allocator(), name, entry.record_type(), 0);
+    set.set_dns_class(class);
+    renew(&mut set, entry)?;
+    Ok(set)
+}
+
+/// Puts a copy of a record into a set, in the place of equal data, or else last.
+fn renew(set: &mut RecordSet, entry: &Record) -> Result<(), AllocError>
+    ensures ok { OnOk result (set.new
+        ≡ with_records set.old (joined entry.now set.old.records)) }
+    ensures err { OnErr result (set.new ≡ set.old) }
+{
+    let Ok(()) = set.renew(entry.clone()?) else {
+        return Err(AllocError);
+    };
+    Ok(())
 }

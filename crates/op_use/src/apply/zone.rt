@@ -5,7 +5,7 @@ ghost use Rattle.base.specs.RrKey.{key_of as the_key};
 ghost use Rattle.base.specs.declared.rr_key.RrKey.{RrKey as Key};
 ghost use Rattle.op_use.specs.Applying.{IsZoneMap, IsZoneSet, records_at};
 ghost use Rattle.op_use.specs.HeldZone.{HeldZone};
-ghost use Rattle.op_use.specs.MapUpdates.{Gains, HoldsAt, IsTakenSet, Lacks};
+ghost use Rattle.op_use.specs.MapUpdates.{Gains, HoldsAt, Lacks};
 ghost use Rattle.op_use.specs.Server.{is_cname as is_cname_type};
 ghost use Rattle.rr.specs.Record.{record_key, type_of_record};
 ghost use Rattle.op_use.specs.Zone.{is_owned};
