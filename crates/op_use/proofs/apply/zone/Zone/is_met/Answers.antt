@@ -42,3 +42,9 @@ returns-clause-known c =
     known_more z.sets z.class c.args.entries.now c.args.held.now c.insert.new.self c.in_ok-key.key _
     (complete_is z.sets z.class c.args.entries.now r c.in_ok-key.key c.in-Some.set.now c.as_slice-records.result.now _ same there c.as_slice-records.ensures found)
     c.requires c.in_ok-insert.ensures.updates
+
+pub returns-in_default-clause-known : goal.returns-in_default-clause-known
+returns-in_default-clause-known c = c.requires
+
+pub returns-then-not-branch-clause-known : goal.returns-then-not-branch-clause-known
+returns-then-not-branch-clause-known c = c.requires
