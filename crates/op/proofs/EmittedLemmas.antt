@@ -102,66 +102,65 @@ header_filled : (metadata : Metadata) (place queries : ℕ) (answers authorities
     → AndThen (Tests (HasHeader metadata queries answers authorities total)) ⊤ (FillsIn place) a (Ok h) b
     → HasHeader metadata queries answers authorities total (Ok h) × (b ≡ overwritten place (header_bytes (raw_header h)) a)
 header_filled metadata place queries answers authorities total {a} {b} {h} run =
-    let made = went h run in
-    let same : made.value ≡ h = sym (same_value h made.value made.rest.0) in (
-      subst (λ k. HasHeader metadata queries answers authorities total (Ok k)) same made.ran.0,
-      made.rest.1 ∙ ap (overwritten place (header_bytes (raw_header made.value))) made.ran.1 ∙ ap (λ k. overwritten place (header_bytes (raw_header k)) a) same,
-    )
+    went h run (λ header k made filled.
+    let same : header ≡ h = sym (same_value h header filled.0) in (
+      subst (λ x. HasHeader metadata queries answers authorities total (Ok x)) same made.0,
+      filled.1 ∙ ap (overwritten place (header_bytes (raw_header header))) made.1 ∙ ap (λ x. overwritten place (header_bytes (raw_header x)) a) same,
+    ))
 
 -- the pieces of a message that was written
 pub emitted_of : {m : MessageValue} {q q' : Iter Query} {a a' n n' d d' : Iter (Record RData)} {edns signature : List (Record RData)} {old new : State} {h : Header} → AreOf m q a n d edns signature
     → Composition emits_records emits_records emits_records a a' n n' d d' m.metadata emits_queries q q' edns signature old (Ok h) new → Emitted m old new h
 emitted_of {m} {q} {q'} {signature = signatures} {h = h} are run =
-    let room = went h run in
-    let asked = went h room.rest in
-    let answers = went h asked.rest in
-    let authorities = went h answers.rest in
-    let additionals = went h authorities.rest in
-    let opt = went h additionals.rest in
-    let sum = went h opt.rest in
-    let signed = went h sum.rest in
-    let total = went h signed.rest in
-    let header = header_filled m.metadata room.value asked.value answers.value authorities.value total.value total.rest in
-    let all = Emits-slice QueryWord plain_query query_owner query_written q q' room.between asked.between asked.value asked.ran in
+    went h run (λ place after_header room after_room.
+    went h after_room (λ count after_questions asked after_asked.
+    went h after_asked (λ answers after_answers ran_answers rest_answers.
+    went h rest_answers (λ authorities after_authorities ran_authorities rest_authorities.
+    went h rest_authorities (λ additionals after_additionals ran_additionals rest_additionals.
+    went h rest_additionals (λ opt after_edns ran_opt after_opt.
+    went h after_opt (λ sum t ran_sum after_sum.
+    went h after_sum (λ signed after_signature ran_signed after_signed.
+    went h after_signed (λ total u ran_total after_total.
+    let header = header_filled m.metadata place count answers authorities total after_total in
+    let all = Emits-slice QueryWord plain_query query_owner query_written q q' after_header after_questions count asked in
     let fields = header.0.1 in
+    let sums = summed additionals opt sum signed total ran_sum.0 ran_total.0 in
     record {
-      after_header = room.between;
-      after_questions = asked.between;
-      after_answers = answers.between;
-      after_authorities = authorities.between;
-      after_additionals = additionals.between;
-      after_edns = opt.between;
-      after_signature = signed.between;
-      answers_cut = answers.value.is_cut;
-      authorities_cut = authorities.value.is_cut;
-      additionals_cut = additionals.value.is_cut;
-      edns_cut = opt.value.is_cut;
-      signature_cut = signed.value.is_cut;
-      additional_count = additionals.value.count;
-      edns_count = opt.value.count;
-      signature_count = signed.value.count;
+      after_header = after_header;
+      after_questions = after_questions;
+      after_answers = after_answers;
+      after_authorities = after_authorities;
+      after_additionals = after_additionals;
+      after_edns = after_edns;
+      after_signature = after_signature;
+      answers_cut = answers.is_cut;
+      authorities_cut = authorities.is_cut;
+      additionals_cut = additionals.is_cut;
+      edns_cut = opt.is_cut;
+      signature_cut = signed.is_cut;
+      additional_count = additionals.count;
+      edns_count = opt.count;
+      signature_count = signed.count;
       narrow = header.0.0;
-      place = room.ran.1;
-      room = room.ran.2;
-      queries = subst (λ qs. EachWritten QueryWord plain_query query_owner qs room.between asked.between) are.queries all.0;
-      asked = all.2 ∙ ap (λ qs. after (in_turn query_written qs) room.between) are.queries;
-      answers = front_as are.answers (sym (ap (λ k. k.counts.answers) fields)) (records_front answers.ran);
-      authorities = front_as are.authorities (sym (ap (λ k. k.counts.authorities) fields))
-          (records_front authorities.ran);
-      additionals = front_as are.additionals refl (records_front additionals.ran);
-      edns = front_as are.edns_is refl opt.ran;
-      signature = front_as are.signature_is refl (subst (λ a. WritesRecords signatures a signed.between signed.value.count signed.value.is_cut) sum.ran.1 signed.ran);
+      place = room.1;
+      room = room.2;
+      queries = subst (λ qs. EachWritten QueryWord plain_query query_owner qs after_header after_questions) are.queries all.0;
+      asked = all.2 ∙ ap (λ qs. after (in_turn query_written qs) after_header) are.queries;
+      answers = front_as are.answers (sym (ap (λ k. k.counts.answers) fields)) (records_front ran_answers);
+      authorities = front_as are.authorities (sym (ap (λ k. k.counts.authorities) fields)) (records_front ran_authorities);
+      additionals = front_as are.additionals refl (records_front ran_additionals);
+      edns = front_as are.edns_is refl ran_opt;
+      signature = front_as are.signature_is refl (subst (λ a. WritesRecords signatures a after_signature signed.count signed.is_cut) ran_sum.1 ran_signed);
       query_count = ap (λ k. k.counts.queries) fields ∙ all.1 ∙ ap length are.queries;
-      sum = ap (λ k. k.counts.additionals) fields ∙ (summed additionals.value opt.value sum.value signed.value total.value sum.ran.0 total.ran.0).0;
+      sum = ap (λ k. k.counts.additionals) fields ∙ sums.0;
       metadata =
           ap (λ k. k.metadata) fields
-          ∙ ap (λ p. record m.metadata { truncation = m.metadata.truncation || (answers.value.is_cut || (authorities.value.is_cut || p)) })
-          (summed additionals.value opt.value sum.value signed.value total.value sum.ran.0 total.ran.0).1;
+          ∙ ap (λ p. record m.metadata { truncation = m.metadata.truncation || (answers.is_cut || (authorities.is_cut || p)) }) sums.1;
       header =
           header.1
-          ∙ ap (overwritten room.value (header_bytes (raw_header h))) total.ran.1
-          ∙ ap (λ n. overwritten n (header_bytes (raw_header h)) signed.between) room.ran.0;
-    }
+          ∙ ap (overwritten place (header_bytes (raw_header h))) ran_total.1
+          ∙ ap (λ n. overwritten n (header_bytes (raw_header h)) after_signature) room.0;
+    })))))))))
 
 -- the OPT record of EDNS with another high code
 raised_list : (f : Edns → Edns) (o : Option Edns) → as_list (option_map (λ e. edns_record (f e)) o) ≡ as_list (option_map edns_record (option_map f o))

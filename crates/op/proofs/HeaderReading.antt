@@ -4,7 +4,7 @@ use Rattle.std.specs.Int.{w16}
 use Rattle.std.specs.Prelude.{◌↔◌}
 use Rattle.base.specs.declared.error.decode_error.DecodeError.{DecodeError}
 use Rattle.base.specs.declared.error.decode_error.DecodeError.TheVariants as faults
-use Rattle.base.specs.Reading.{Read, byte_at, number_at}
+use Rattle.base.specs.Reading.{Read, ◌>>=◌, byte_at, number_at}
 use Rattle.base.specs.Spelling.{ByteAt, anywhere}
 use Rattle.base.specs.Words.{IsNumberAt}
 use Rattle.base.proofs.ReadLemmas.{bind_ok, bind_err, number_is, number_short, number_again, byte_is, byte_short, byte_again, IsShort}
@@ -36,65 +36,78 @@ raw_of id high low counts = record {
 ok_same : {A : Type 0} (x y : A) → ◌≡◌ {A = Result A DecodeError} (Ok x) (Ok y) → x ≡ y
 ok_same x y is = cc
 
+-- the header of fields that stand there
+pub header_there : {B : List ℕ} {i id high low : ℕ} (counts : HeaderCounts) → IsNumberAt w16 B i id → ByteAt anywhere B (i + 2) high → ByteAt anywhere B (i + 3) low
+    → IsNumberAt w16 B (i + 4) counts.queries → IsNumberAt w16 B (i + 6) counts.answers → IsNumberAt w16 B (i + 8) counts.authorities → IsNumberAt w16 B (i + 10) counts.additionals
+    → IsHeaderAt B i (record { metadata = metadata_of_bytes id high low; counts = counts })
+header_there {B} {i} {id} {high} {low} counts id_stands high_stands low_stands queries answers authorities additionals = record {
+  raw = raw_of id high low counts;
+  word = record {
+    id = id_stands;
+    high = high;
+    high_stands = high_stands;
+    response = refl;
+    opcode = refl;
+    authoritative = refl;
+    truncation = refl;
+    recursion_desired = refl;
+    low = low;
+    low_stands = low_stands;
+    recursion_available = refl;
+    authentic_data = refl;
+    checking_disabled = refl;
+    code = refl;
+    queries = queries;
+    answers = answers;
+    authorities = authorities;
+    additionals = additionals;
+  };
+  value = refl;
+}
+
 -- a header that was read, and the place after it
 record IsReadHeader (B : List ℕ) (i : ℕ) (r : Header × ℕ) : Type 0 where
   word : IsHeaderAt B i r.0
   after : r.1 ≡ i + 12
 
+-- what follows of two values that were read, one with the other
+pub read_then : {A B P : Type 0} (r : Result A DecodeError) (f : A → Result B DecodeError) (y : B) → (r >>= f) ≡ Ok y → ((x : A) → r ≡ Ok x → f x ≡ Ok y → P) → P
+read_then r f y is next =
+    let both = bind_ok r f y is in
+    next both.value both.first both.second
+
 header_is : (B : List ℕ) (i : ℕ) (r : Header × ℕ) → header_at B i ≡ Ok r → IsReadHeader B i r
 unfolding header_at
 header_is B i r is =
-    let id = bind_ok (number_at w16 B i) _ r is in
-    let high = bind_ok (byte_at B id.value.1) _ r id.second in
-    let low = bind_ok (byte_at B high.value.1) _ r high.second in
-    let queries = bind_ok (number_at w16 B low.value.1) _ r low.second in
-    let answers = bind_ok (number_at w16 B queries.value.1) _ r queries.second in
-    let authorities = bind_ok (number_at w16 B answers.value.1) _ r answers.second in
-    let additionals = bind_ok (number_at w16 B authorities.value.1) _ r authorities.second in
-    let id_is = number_is w16 B i id.value id.first in
-    let high_is = byte_is B id.value.1 high.value high.first in
-    let low_is = byte_is B high.value.1 low.value low.first in
-    let queries_is = number_is w16 B low.value.1 queries.value queries.first in
-    let answers_is = number_is w16 B queries.value.1 answers.value answers.first in
-    let authorities_is = number_is w16 B answers.value.1 authorities.value authorities.first in
-    let additionals_is = number_is w16 B authorities.value.1 additionals.value additionals.first in
-    let counts : HeaderCounts = record { queries = queries.value.0; answers = answers.value.0; authorities = authorities.value.0; additionals = additionals.value.0 } in
-    let p0 : id.value.1 ≡ i + 2 = id_is.after in
-    let p1 : high.value.1 ≡ i + 3 = omega (arith, high_is.after) in
-    let p2 : low.value.1 ≡ i + 4 = omega (arith, low_is.after) in
-    let p3 : queries.value.1 ≡ i + 6 = omega (arith, queries_is.after) in
-    let p4 : answers.value.1 ≡ i + 8 = omega (arith, answers_is.after) in
-    let p5 : authorities.value.1 ≡ i + 10 = omega (arith, authorities_is.after) in
-    let p6 : additionals.value.1 ≡ i + 12 = omega (arith, additionals_is.after) in
-    let header : Header = record { metadata = metadata_of_bytes id.value.0 high.value.0 low.value.0; counts = counts } in
-    let same = ok_same (header, additionals.value.1) r additionals.second in
-    record {
-      word = record {
-        raw = raw_of id.value.0 high.value.0 low.value.0 counts;
-        word = record {
-          id = id_is.stands;
-          high = high.value.0;
-          high_stands = byte_moved B id.value.1 (i + 2) high.value.0 p0 high_is.stands;
-          response = refl;
-          opcode = refl;
-          authoritative = refl;
-          truncation = refl;
-          recursion_desired = refl;
-          low = low.value.0;
-          low_stands = byte_moved B high.value.1 (i + 3) low.value.0 p1 low_is.stands;
-          recursion_available = refl;
-          authentic_data = refl;
-          checking_disabled = refl;
-          code = refl;
-          queries = number_moved B low.value.1 (i + 4) counts.queries p2 queries_is.stands;
-          answers = number_moved B queries.value.1 (i + 6) counts.answers p3 answers_is.stands;
-          authorities = number_moved B answers.value.1 (i + 8) counts.authorities p4 authorities_is.stands;
-          additionals = number_moved B authorities.value.1 (i + 10) counts.additionals p5 additionals_is.stands;
-        };
-        value = sym (ap (λ (x : Header × ℕ). x.0) same);
-      };
-      after = sym (ap (λ (x : Header × ℕ). x.1) same) ∙ p6;
-    }
+    read_then (number_at w16 B i) _ r is (λ id id_read is1.
+    read_then (byte_at B id.1) _ r is1 (λ high high_read is2.
+    read_then (byte_at B high.1) _ r is2 (λ low low_read is3.
+    read_then (number_at w16 B low.1) _ r is3 (λ queries queries_read is4.
+    read_then (number_at w16 B queries.1) _ r is4 (λ answers answers_read is5.
+    read_then (number_at w16 B answers.1) _ r is5 (λ authorities authorities_read is6.
+    read_then (number_at w16 B authorities.1) _ r is6 (λ additionals additionals_read is7.
+    let id_is = number_is w16 B i id id_read in
+    let high_is = byte_is B id.1 high high_read in
+    let low_is = byte_is B high.1 low low_read in
+    let queries_is = number_is w16 B low.1 queries queries_read in
+    let answers_is = number_is w16 B queries.1 answers answers_read in
+    let authorities_is = number_is w16 B answers.1 authorities authorities_read in
+    let additionals_is = number_is w16 B authorities.1 additionals additionals_read in
+    let p0 : id.1 ≡ i + 2 = id_is.after in
+    let p1 : high.1 ≡ i + 3 = omega (arith, high_is.after) in
+    let p2 : low.1 ≡ i + 4 = omega (arith, low_is.after) in
+    let p3 : queries.1 ≡ i + 6 = omega (arith, queries_is.after) in
+    let p4 : answers.1 ≡ i + 8 = omega (arith, answers_is.after) in
+    let p5 : authorities.1 ≡ i + 10 = omega (arith, authorities_is.after) in
+    let p6 : additionals.1 ≡ i + 12 = omega (arith, additionals_is.after) in
+    let counts : HeaderCounts = record { queries = queries.0; answers = answers.0; authorities = authorities.0; additionals = additionals.0 } in
+    let header : Header = record { metadata = metadata_of_bytes id.0 high.0 low.0; counts = counts } in
+    let there : IsHeaderAt B i header = header_there counts id_is.stands (byte_moved B id.1 (i + 2) high.0 p0 high_is.stands)
+    (byte_moved B high.1 (i + 3) low.0 p1 low_is.stands) (number_moved B low.1 (i + 4) queries.0 p2 queries_is.stands)
+    (number_moved B queries.1 (i + 6) answers.0 p3 answers_is.stands) (number_moved B answers.1 (i + 8) authorities.0 p4 authorities_is.stands)
+    (number_moved B authorities.1 (i + 10) additionals.0 p5 additionals_is.stands) in
+    let same : (header, additionals.1) ≡ r = ok_same (header, additionals.1) r is7 in
+    subst (IsReadHeader B i) same (record { word = there; after = p6 }))))))))
 
 later : (B : List ℕ) (e e' : ℕ) (f : DecodeError) → e ≤ e' → IsShort B e f → IsShort B e' f
 later B e e' f le s = record { fault = s.fault; short = omega (arith, s.short) }
@@ -150,35 +163,6 @@ reads_word B i h e = (
   λ is. let r = header_is B i (h, e) is in (r.word, r.after),
   λ is. header_again B i h is.0 ∙ ap (λ (k : ℕ). Ok (h, k)) (sym is.1),
 )
-
--- the header of fields that stand there
-pub header_there : {B : List ℕ} {i id high low : ℕ} (counts : HeaderCounts) → IsNumberAt w16 B i id → ByteAt anywhere B (i + 2) high → ByteAt anywhere B (i + 3) low
-    → IsNumberAt w16 B (i + 4) counts.queries → IsNumberAt w16 B (i + 6) counts.answers → IsNumberAt w16 B (i + 8) counts.authorities → IsNumberAt w16 B (i + 10) counts.additionals
-    → IsHeaderAt B i (record { metadata = metadata_of_bytes id high low; counts = counts })
-header_there {B} {i} {id} {high} {low} counts id_stands high_stands low_stands queries answers authorities additionals = record {
-  raw = raw_of id high low counts;
-  word = record {
-    id = id_stands;
-    high = high;
-    high_stands = high_stands;
-    response = refl;
-    opcode = refl;
-    authoritative = refl;
-    truncation = refl;
-    recursion_desired = refl;
-    low = low;
-    low_stands = low_stands;
-    recursion_available = refl;
-    authentic_data = refl;
-    checking_disabled = refl;
-    code = refl;
-    queries = queries;
-    answers = answers;
-    authorities = authorities;
-    additionals = additionals;
-  };
-  value = refl;
-}
 
 -- a header needs twelve bytes
 header_inside : (B : List ℕ) (i : ℕ) (h : Header) → IsHeaderAt B i h → i + 12 ≤ length B

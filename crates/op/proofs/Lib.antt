@@ -21,6 +21,7 @@ mod BufferLemmas
 mod CodeLemmas
 mod CutOf
 mod CutWords
+mod LineLemmas
 mod MessageFaults
 mod SectionFaults
 pub mod MessageEquals

@@ -7,7 +7,6 @@ use Rattle.base.specs.declared.record_type.RecordType.{RecordType}
 use Rattle.base.specs.Many.{many_at}
 use Rattle.base.specs.Words.{BackToBack}
 use Rattle.base.proofs.ManyLemmas.{many_again, many_stand}
-use Rattle.base.proofs.ReadLemmas.{bind_ok}
 use Rattle.base_data.proofs.EachKind.{signature_type}
 use Rattle.base_data.specs.Kinds.{type_of_data}
 use Rattle.base_data.specs.declared.rdata.RData.{RData}
@@ -21,7 +20,7 @@ use Rattle.op.specs.Section.{EndsWithSignature, IsPlain, IsSectionAt, SectionVal
 use Rattle.op.specs.Section.{sections_at, section_of, SectionsValue}
 use Rattle.op.specs.declared.op_code.OpCode.{OpCode}
 use Rattle.op.specs.declared.query.Query.{Query}
-use Rattle.op.proofs.HeaderReading.{reads_word}
+use Rattle.op.proofs.HeaderReading.{read_then, reads_word}
 use Rattle.op.proofs.QueryLemmas.{reads_question}
 use Rattle.op.proofs.SectionStands.{IsSection, same_ok, section_is, section_read}
 use Rattle.op.proofs.SectionWords.{Stand}
@@ -143,34 +142,33 @@ plain_read op B rs i e words plain =
 pub message_stands : (B : List ℕ) (i : ℕ) (r : MessageValue × ℕ) → message_at B i ≡ Ok r → IsMessageAt B i r.0 r.1
 unfolding message_at
 message_stands B i r is =
-    let header = bind_ok (header_at B i) _ r is in
-    let h = header.value.0 in
+    read_then (header_at B i) _ r is (λ header header_read is1.
+    let h = header.0 in
     let op = h.metadata.op_code in
-    let queries = bind_ok (many_at query_at h.counts.queries B header.value.1) _ r header.second in
-    let sections = bind_ok (sections_at op h.counts B queries.value.1) _ r queries.second in
-    let all = sections.value in
-    let answers = bind_ok (section_at false op h.counts.answers B queries.value.1) _ all sections.first in
-    let authorities = bind_ok (section_at false op h.counts.authorities B answers.value.1) _ all answers.second in
-    let additionals = bind_ok (section_at true op h.counts.additionals B authorities.value.1) _ all authorities.second in
-    let three : (record { answers = answers.value.0; authorities = authorities.value.0; additionals = additionals.value.0 }, additionals.value.1) ≡ all = same_ok additionals.second in
-    let stands = (reads_word B i h header.value.1).0 header.first in
-    let qs = queries_stand B h.counts.queries header.value.1 queries.value queries.first in
-    let first = plain_stand op B h.counts.answers queries.value.1 answers.value answers.first in
-    let second = plain_stand op B h.counts.authorities answers.value.1 authorities.value authorities.first in
-    let third = records_stand true op B h.counts.additionals authorities.value.1 additionals.value additionals.first in
-    let m : MessageValue = message_of h.metadata queries.value.0 answers.value.0.records authorities.value.0.records additionals.value.0 in
-    let made : SectionsValue × ℕ → MessageValue × ℕ = λ s. (message_of h.metadata queries.value.0 s.0.answers.records s.0.authorities.records s.0.additionals, s.1) in
-    let same : (m, additionals.value.1) ≡ r = ap made three ∙ same_ok sections.second in
-    let word : IsMessageAt B i m additionals.value.1 = record {
+    read_then (many_at query_at h.counts.queries B header.1) _ r is1 (λ queries queries_read is2.
+    read_then (sections_at op h.counts B queries.1) _ r is2 (λ all all_read is3.
+    read_then (section_at false op h.counts.answers B queries.1) _ all all_read (λ answers answers_read is4.
+    read_then (section_at false op h.counts.authorities B answers.1) _ all is4 (λ authorities authorities_read is5.
+    read_then (section_at true op h.counts.additionals B authorities.1) _ all is5 (λ additionals additionals_read is6.
+    let three : (record { answers = answers.0; authorities = authorities.0; additionals = additionals.0 }, additionals.1) ≡ all = same_ok is6 in
+    let stands = (reads_word B i h header.1).0 header_read in
+    let qs = queries_stand B h.counts.queries header.1 queries queries_read in
+    let first = plain_stand op B h.counts.answers queries.1 answers answers_read in
+    let second = plain_stand op B h.counts.authorities answers.1 authorities authorities_read in
+    let third = records_stand true op B h.counts.additionals authorities.1 additionals additionals_read in
+    let m : MessageValue = message_of h.metadata queries.0 answers.0.records authorities.0.records additionals.0 in
+    let made : SectionsValue × ℕ → MessageValue × ℕ = λ s. (message_of h.metadata queries.0 s.0.answers.records s.0.authorities.records s.0.additionals, s.1) in
+    let same : (m, additionals.1) ≡ r = ap made three ∙ same_ok is3 in
+    let word : IsMessageAt B i m additionals.1 = record {
       header = h;
-      queries_end = queries.value.1;
-      answers_end = answers.value.1;
-      authorities_end = authorities.value.1;
-      answers = answers.value.0.records;
-      authorities = authorities.value.0.records;
+      queries_end = queries.1;
+      answers_end = answers.1;
+      authorities_end = authorities.1;
+      answers = answers.0.records;
+      authorities = authorities.0.records;
       additionals = third.records;
       header_stands = stands.0;
-      queries_stand = subst (λ j. BackToBack (IsQueryAt B) j queries.value.0 queries.value.1) stands.1 qs.0;
+      queries_stand = subst (λ j. BackToBack (IsQueryAt B) j queries.0 queries.1) stands.1 qs.0;
       answers_stand = first.words;
       authorities_stand = second.words;
       additionals_stand = third.words;
@@ -180,9 +178,9 @@ message_stands B i r is =
       additionals_given = third.stand.given;
       signature_last = third.stand.ends;
       one_opt = omega (arith, third.stand.one);
-      message = ap (message_of h.metadata queries.value.0 answers.value.0.records authorities.value.0.records) third.whole;
+      message = ap (message_of h.metadata queries.0 answers.0.records authorities.0.records) third.whole;
     } in
-    subst (λ (x : MessageValue × ℕ). IsMessageAt B i x.0 x.1) same word
+    subst (λ (x : MessageValue × ℕ). IsMessageAt B i x.0 x.1) same word))))))
 
 pub message_again : (B : List ℕ) (i : ℕ) (m : MessageValue) (e : ℕ) → IsMessageAt B i m e → message_at B i ≡ Ok (m, e)
 unfolding message_at

@@ -8,21 +8,13 @@ use Rattle.base.specs.State.{State}
 use Rattle.base.specs.declared.error.proto_error.ProtoError.{ProtoError}
 use Rattle.op.specs.Composition.{AndThen, Continues}
 
--- a run answered a value, and the next one an answer
-pub record Both {X Y : Type 0} (first : State → Result X ProtoError → State → Type 0) (next : X → State → Result Y ProtoError → State → Type 0) (a : State) (result : Result Y ProtoError)
-    (c : State) : Type 0 where
-  pub value : X
-  pub between : State
-  pub ran : first a (Ok value) between
-  pub rest : next value between result c
-
 pub same_err : {Y : Type 0} (e f : ProtoError) → ◌≡◌ {A = Result Y ProtoError} (Err e) (Err f) → e ≡ f
 same_err e f is = cc
 
 module _ {X Y : Type 0} (first : State → Result X ProtoError → State → Type 0) (stays : Type 0) (next : X → State → Result Y ProtoError → State → Type 0) (a b c : State) where
-  went_by : (answer : Result X ProtoError) (y : Y) → first a answer b → Continues stays next answer b (Ok y) c → Both first next a (Ok y) c
-  went_by (Ok x) y ran rest = record { value = x; between = b; ran = ran; rest = rest }
-  went_by (Err e) y ran rest = absurd (let is = rest.0 in cc)
+  went_by : {P : Type 0} (answer : Result X ProtoError) (y : Y) → first a answer b → Continues stays next answer b (Ok y) c → ((x : X) → first a (Ok x) b → next x b (Ok y) c → P) → P
+  went_by (Ok x) y ran rest both = both x ran rest
+  went_by (Err e) y ran rest both = absurd (let is = rest.0 in cc)
 
   fails_by : {P : Type 0} (answer : Result X ProtoError) (e : ProtoError) → first a answer b → Continues stays next answer b (Err e) c
       → (first a (Err e) c → P) → ((x : X) (m : State) → first a (Ok x) m → next x m (Err e) c → P) → P
@@ -40,9 +32,9 @@ module _ {X Y : Type 0} {first : State → Result X ProtoError → State → Typ
       let is = err_from_is_err_and _ returned in
       (keeps, record { answer = Err e; between = c; ran = ran; rest = (is.1 ∙ ap (λ f. Err f) is.2, refl, idle) })
 
-  -- after a value of the whole, both were values
-  pub went : (y : Y) → AndThen first stays next a (Ok y) c → Both first next a (Ok y) c
-  went y s = went_by first stays next a s.between c s.answer y s.ran s.rest
+  -- what follows of two values follows of a value of the whole
+  pub went : {P : Type 0} (y : Y) → AndThen first stays next a (Ok y) c → ((x : X) (b : State) → first a (Ok x) b → next x b (Ok y) c → P) → P
+  went y s both = went_by first stays next a s.between c s.answer y s.ran s.rest (λ x. both x s.between)
 
   -- what follows of a refusal of the first, and of a value and then a refusal of the second, follows of a refusal of the
   -- whole

@@ -1,4 +1,4 @@
-use Rattle.std.proofs.Common.{◌≡◌, ◌⊎◌, subst}
+use Rattle.std.proofs.Common.{◌≡◌, ◌⊎◌, rules, subst}
 use Rattle.std.specs.Prelude.{IfErr}
 use Rattle.base.specs.declared.error.decode_error.DecodeError.TheVariants as faults
 use Rattle.base.specs.Reader.{Reader}
@@ -11,6 +11,9 @@ returns-clause-found c = begins c.args.buffer.now c.new.result c.read.new.decode
 
 pub returns-clause-only : goal.returns-clause-only
 returns-clause-only c = begins_with c.args.buffer.now c.new.result c.read.new.decoder c.read.result c.new.ensures c.read.ensures.read
+
+pub returns-clause-refused : goal.returns-clause-refused
+returns-clause-refused c = search rules
 
 pub returns-clause-fits : goal.returns-clause-fits
 returns-clause-fits c = read_fits c.args.buffer.now c.new.result c.read.new.decoder c.read.result c.new.ensures c.read.ensures.read

@@ -1,4 +1,5 @@
 use Rattle.std.proofs.Common.{rules}
+use Rattle.std.proofs.lemmas.Result.{err_from_is_err_and}
 use Rattle.op.specs.Fault.{IsMessageFault}
 use Rattle.op.specs.Message.{message_at, message_value}
 use Rattle.op.proofs.AddsMessage.{adds_message}
@@ -30,6 +31,10 @@ returns-in_err-queries-clause-fault c =
     let at = c.args.decoder.now in
     first_fault message_value (IsMessageFault at.bytes at.index) at c.read_many.new.decoder (λ f. (refuses_message at.bytes at.index f).0) c.from_residual-in_err-queries.result (returns-in_err-queries-clause-read c)
 
+pub returns-in_err-queries-clause-counts : goal.returns-in_err-queries-clause-counts
+returns-in_err-queries-clause-counts c =
+    rw (err_from_is_err_and c.from_residual-in_err-queries.result c.from_residual-in_err-queries.ensures.1).1 (λ counted. c.in_err-queries.ensures.counts (c.in_ok-header.ensures.counts counted).0)
+
 pub returns-in_err-read_sections-clause-read : goal.returns-in_err-read_sections-clause-read
 unfolding message_at
 returns-in_err-read_sections-clause-read c = search rules
@@ -38,6 +43,11 @@ pub returns-in_err-read_sections-clause-fault : goal.returns-in_err-read_section
 returns-in_err-read_sections-clause-fault c =
     let at = c.args.decoder.now in
     first_fault message_value (IsMessageFault at.bytes at.index) at c.read_sections.new.decoder (λ f. (refuses_message at.bytes at.index f).0) c.from_residual-in_err-read_sections.result (returns-in_err-read_sections-clause-read c)
+
+pub returns-in_err-read_sections-clause-counts : goal.returns-in_err-read_sections-clause-counts
+returns-in_err-read_sections-clause-counts c =
+    rw (err_from_is_err_and c.from_residual-in_err-read_sections.result c.from_residual-in_err-read_sections.ensures.1).1
+    (λ counted. c.in_err-read_sections.ensures.counts (c.in_ok-queries.ensures.counts (c.in_ok-header.ensures.counts counted).0).0)
 
 pub returns-clause-counts : goal.returns-clause-counts
 returns-clause-counts c = λ counted.

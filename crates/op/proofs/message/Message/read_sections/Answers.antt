@@ -1,4 +1,5 @@
 use Rattle.std.proofs.Common.{◌≡◌, ℕ, ◌+◌, ap, arith, subst}
+use Rattle.std.proofs.lemmas.Result.{err_from_is_err_and}
 use Rattle.base.specs.Passing.{AddsPassed}
 use Rattle.op.proofs.AddsMessage.{adds_sections}
 use Rattle.op.proofs.PlainSections.{still_empty}
@@ -23,6 +24,15 @@ returns-clause-adds c =
     let counted : c.from.result + c.from-2.result + c.from-3.result ≡ c.args.counts.answers + c.args.counts.authorities + c.args.counts.additionals =
     omega (arith, c.from.ensures, c.from-2.ensures, c.from-3.ensures) in
     subst (λ (n : ℕ). AddsPassed (records_places n old.bytes old.index) old c.read_section-3.new.decoder) counted all
+
+pub returns-in_err-read_section-2-clause-counts : goal.returns-in_err-read_section-2-clause-counts
+returns-in_err-read_section-2-clause-counts c =
+    rw (err_from_is_err_and c.from_residual-in_err-read_section-2.result c.from_residual-in_err-read_section-2.ensures.1).1 (λ counted. c.in_err-read_section-2.ensures.counts (c.in_ok-read_section.ensures.counts counted).0)
+
+pub returns-in_err-read_section-3-clause-counts : goal.returns-in_err-read_section-3-clause-counts
+returns-in_err-read_section-3-clause-counts c =
+    rw (err_from_is_err_and c.from_residual-in_err-read_section-3.result c.from_residual-in_err-read_section-3.ensures.1).1
+    (λ counted. c.in_err-read_section-3.ensures.counts (c.in_ok-read_section-2.ensures.counts (c.in_ok-read_section.ensures.counts counted).0).0)
 
 pub returns-clause-counts : goal.returns-clause-counts
 returns-clause-counts c = λ counted.

@@ -57,90 +57,94 @@ after_sections g c rest =
 narrow_of : (g : _) (c : Start g) → (state_of c.args.encoder.now).limit < 2 ^ 16
 narrow_of g c = search rules
 
+-- what is owed at a return
+owed : {K R N : Type 0} → K × R → N → record { keeps : K; run : R; narrow : N }
+owed both narrow = record { keeps = both.0; run = both.1; narrow = narrow }
+
 pub returns-in_err-place : goal.returns-in_err-place
 returns-in_err-place g c =
     let d = goal.at.returns-in_err-place g c in
-    let run = stops c.in_err-place.field-0.0 (Keeps-same _ _ c.in_err-place.ensures.err) (c.in_err-place.ensures.err, c.in_err-place.ensures.refuses) c.from_residual.ensures.1 (refl, refl, refl, refl) in
-    record { keeps = run.0; run = run.1; narrow = narrow_of g d.Start }
+    owed (stops c.in_err-place.field-0.0 (Keeps-same _ _ c.in_err-place.ensures.err) (c.in_err-place.ensures.err, c.in_err-place.ensures.refuses) c.from_residual.ensures.1 (refl, refl, refl, refl))
+    (narrow_of g d.Start)
 
 pub returns-in_err-query_count : goal.returns-in_err-query_count
 returns-in_err-query_count g c =
     let d = goal.at.returns-in_err-query_count g c in
-    let run = goes c.in_ok-place.place (state_of c.place.new.self) (placed g d.In_ok-place) (c.in_ok-place.ensures.ok.1, c.in_ok-place.ensures.ok.0, c.in_ok-place.ensures.within)
-    (stops c.in_err-query_count.field-0.0 c.emit.ensures.keeps c.in_err-query_count.ensures.emits c.from_residual-in_err-query_count.ensures.1 (refl, refl, refl)) in
-    record { keeps = run.0; run = run.1; narrow = narrow_of g d.Start }
+    owed (goes c.in_ok-place.place (state_of c.place.new.self) (placed g d.In_ok-place) (c.in_ok-place.ensures.ok.1, c.in_ok-place.ensures.ok.0, c.in_ok-place.ensures.within)
+    (stops c.in_err-query_count.field-0.0 c.emit.ensures.keeps c.in_err-query_count.ensures.emits c.from_residual-in_err-query_count.ensures.1 (refl, refl, refl)))
+    (narrow_of g d.Start)
 
 pub returns-in_err-answers : goal.returns-in_err-answers
 returns-in_err-answers g c =
     let d = goal.at.returns-in_err-answers g c in
-    let run = goes c.in_ok-place.place (state_of c.place.new.self) (placed g d.In_ok-place) (c.in_ok-place.ensures.ok.1, c.in_ok-place.ensures.ok.0, c.in_ok-place.ensures.within)
+    owed (goes c.in_ok-place.place (state_of c.place.new.self) (placed g d.In_ok-place) (c.in_ok-place.ensures.ok.1, c.in_ok-place.ensures.ok.0, c.in_ok-place.ensures.within)
     (goes c.in_ok-query_count.query_count (state_of c.emit.new.encoder) c.emit.ensures.keeps c.in_ok-query_count.ensures.emits
-    (stops c.in_err-answers.field-0.0 c.emit_part.ensures.keeps c.in_err-answers.ensures.run c.from_residual-in_err-answers.ensures.1 (refl, refl))) in
-    record { keeps = run.0; run = run.1; narrow = narrow_of g d.Start }
+    (stops c.in_err-answers.field-0.0 c.emit_part.ensures.keeps c.in_err-answers.ensures.run c.from_residual-in_err-answers.ensures.1 (refl, refl))))
+    (narrow_of g d.Start)
 
 pub returns-in_err-authorities : goal.returns-in_err-authorities
 returns-in_err-authorities g c =
     let d = goal.at.returns-in_err-authorities g c in
-    let run = goes c.in_ok-place.place (state_of c.place.new.self) (placed g d.In_ok-place) (c.in_ok-place.ensures.ok.1, c.in_ok-place.ensures.ok.0, c.in_ok-place.ensures.within)
+    owed (goes c.in_ok-place.place (state_of c.place.new.self) (placed g d.In_ok-place) (c.in_ok-place.ensures.ok.1, c.in_ok-place.ensures.ok.0, c.in_ok-place.ensures.within)
     (goes c.in_ok-query_count.query_count (state_of c.emit.new.encoder) c.emit.ensures.keeps c.in_ok-query_count.ensures.emits
     (goes c.in_ok-answers.answers (state_of c.emit_part.new.encoder) c.emit_part.ensures.keeps c.in_ok-answers.ensures.run
-    (stops c.in_err-authorities.field-0.0 c.emit_part-2.ensures.keeps c.in_err-authorities.ensures.run c.from_residual-in_err-authorities.ensures.1 refl))) in
-    record { keeps = run.0; run = run.1; narrow = narrow_of g d.Start }
+    (stops c.in_err-authorities.field-0.0 c.emit_part-2.ensures.keeps c.in_err-authorities.ensures.run c.from_residual-in_err-authorities.ensures.1 refl))))
+    (narrow_of g d.Start)
 
 pub returns-in_err-additionals : goal.returns-in_err-additionals
 returns-in_err-additionals g c =
     let d = goal.at.returns-in_err-additionals g c in
-    let run = goes c.in_ok-place.place (state_of c.place.new.self) (placed g d.In_ok-place) (c.in_ok-place.ensures.ok.1, c.in_ok-place.ensures.ok.0, c.in_ok-place.ensures.within)
+    owed (goes c.in_ok-place.place (state_of c.place.new.self) (placed g d.In_ok-place) (c.in_ok-place.ensures.ok.1, c.in_ok-place.ensures.ok.0, c.in_ok-place.ensures.within)
     (goes c.in_ok-query_count.query_count (state_of c.emit.new.encoder) c.emit.ensures.keeps c.in_ok-query_count.ensures.emits
     (goes c.in_ok-answers.answers (state_of c.emit_part.new.encoder) c.emit_part.ensures.keeps c.in_ok-answers.ensures.run
     (goes c.in_ok-authorities.authorities (state_of c.emit_part-2.new.encoder) c.emit_part-2.ensures.keeps c.in_ok-authorities.ensures.run
-    (stops c.in_err-additionals.field-0.0 c.emit_part-3.ensures.keeps c.in_err-additionals.ensures.run c.from_residual-in_err-additionals.ensures.1 tt)))) in
-    record { keeps = run.0; run = run.1; narrow = narrow_of g d.Start }
+    (stops c.in_err-additionals.field-0.0 c.emit_part-3.ensures.keeps c.in_err-additionals.ensures.run c.from_residual-in_err-additionals.ensures.1 tt)))))
+    (narrow_of g d.Start)
 
 pub returns-in_err-opt : goal.returns-in_err-opt
 returns-in_err-opt g c =
     let d = goal.at.returns-in_err-opt g c in
-    let run = after_sections g d.In_ok-additionals
-    (stops c.in_err-opt.field-0.0 c.emit_item.ensures.keeps c.in_err-opt.ensures.run c.from_residual-in_err-opt.ensures.1 tt) in
-    record { keeps = run.0; run = run.1; narrow = narrow_of g d.Start }
+    owed (after_sections g d.In_ok-additionals
+    (stops c.in_err-opt.field-0.0 c.emit_item.ensures.keeps c.in_err-opt.ensures.run c.from_residual-in_err-opt.ensures.1 tt))
+    (narrow_of g d.Start)
 
 pub returns-in_err-sum : goal.returns-in_err-sum
 returns-in_err-sum g c =
     let d = goal.at.returns-in_err-sum g c in
-    let run = after_sections g d.In_ok-additionals
+    owed (after_sections g d.In_ok-additionals
     (goes c.in_ok-opt.opt (state_of c.emit_item.new.encoder) c.emit_item.ensures.keeps (opt_of g d.In_ok-opt)
-    (stops c.in_err-sum.field-0.0 (same _) (c.in_err-sum.ensures, refl) c.from_residual-in_err-sum.ensures.1 tt)) in
-    record { keeps = run.0; run = run.1; narrow = narrow_of g d.Start }
+    (stops c.in_err-sum.field-0.0 (same _) (c.in_err-sum.ensures, refl) c.from_residual-in_err-sum.ensures.1 tt)))
+    (narrow_of g d.Start)
 
 pub returns-in_err-signed : goal.returns-in_err-signed
 returns-in_err-signed g c =
     let d = goal.at.returns-in_err-signed g c in
-    let run = after_sections g d.In_ok-additionals
+    owed (after_sections g d.In_ok-additionals
     (goes c.in_ok-opt.opt (state_of c.emit_item.new.encoder) c.emit_item.ensures.keeps (opt_of g d.In_ok-opt)
     (goes c.in_ok-sum.sum (state_of c.emit_item.new.encoder) (same _) (c.in_ok-sum.ensures, refl)
-    (stops c.in_err-signed.field-0.0 c.emit_item-2.ensures.keeps c.in_err-signed.ensures.run c.from_residual-in_err-signed.ensures.1 tt))) in
-    record { keeps = run.0; run = run.1; narrow = narrow_of g d.Start }
+    (stops c.in_err-signed.field-0.0 c.emit_item-2.ensures.keeps c.in_err-signed.ensures.run c.from_residual-in_err-signed.ensures.1 tt))))
+    (narrow_of g d.Start)
 
 pub returns-in_err-total : goal.returns-in_err-total
 returns-in_err-total g c =
     let d = goal.at.returns-in_err-total g c in
-    let run = after_sections g d.In_ok-additionals
+    owed (after_sections g d.In_ok-additionals
     (goes c.in_ok-opt.opt (state_of c.emit_item.new.encoder) c.emit_item.ensures.keeps (opt_of g d.In_ok-opt)
     (goes c.in_ok-sum.sum (state_of c.emit_item.new.encoder) (same _) (c.in_ok-sum.ensures, refl)
     (goes c.in_ok-signed.signed (state_of c.emit_item-2.new.encoder) c.emit_item-2.ensures.keeps (signed_of g d.In_ok-signed)
-    (stops c.in_err-total.field-0.0 (same _) (c.in_err-total.ensures, refl) c.from_residual-in_err-total.ensures.1 tt)))) in
-    record { keeps = run.0; run = run.1; narrow = narrow_of g d.Start }
+    (stops c.in_err-total.field-0.0 (same _) (c.in_err-total.ensures, refl) c.from_residual-in_err-total.ensures.1 tt)))))
+    (narrow_of g d.Start)
 
 pub returns-in_err-header : goal.returns-in_err-header
 returns-in_err-header g c =
     let d = goal.at.returns-in_err-header g c in
-    let run = after_sections g d.In_ok-additionals
+    owed (after_sections g d.In_ok-additionals
     (goes c.in_ok-opt.opt (state_of c.emit_item.new.encoder) c.emit_item.ensures.keeps (opt_of g d.In_ok-opt)
     (goes c.in_ok-sum.sum (state_of c.emit_item.new.encoder) (same _) (c.in_ok-sum.ensures, refl)
     (goes c.in_ok-signed.signed (state_of c.emit_item-2.new.encoder) c.emit_item-2.ensures.keeps (signed_of g d.In_ok-signed)
     (goes c.in_ok-total.total (state_of c.emit_item-2.new.encoder) (same _) (c.in_ok-total.ensures, refl)
-    (stops c.in_err-header.field-0.0 (same _) (c.in_err-header.ensures, refl) c.from_residual-in_err-header.ensures.1 tt))))) in
-    record { keeps = run.0; run = run.1; narrow = narrow_of g d.Start }
+    (stops c.in_err-header.field-0.0 (same _) (c.in_err-header.ensures, refl) c.from_residual-in_err-header.ensures.1 tt))))))
+    (narrow_of g d.Start)
 
 pub returns-clause-run : goal.returns-clause-run
 returns-clause-run g c =

@@ -1,5 +1,6 @@
 use Rattle.std.proofs.Common.{◌+◌, ◌∙◌, List, ℕ, subst}
 use Rattle.std.specs.Int.{w16}
+use Rattle.std.proofs.lemmas.Result.{err_from_is_err_and}
 use Rattle.base.specs.Words.{IsNumberAt}
 use Rattle.base.proofs.AddsLemmas.{adds_still}
 use Rattle.op.proofs.QueryLemmas.{query_read, same_query}
@@ -20,6 +21,10 @@ returns-clause-read c =
 
 pub returns-clause-adds : goal.returns-clause-adds
 returns-clause-adds c = adds_still {new = c.read_fields.new.decoder} c.in_ok-name.ensures.adds c.in_ok-fields.ensures.after.1 c.in_ok-fields.ensures.kept
+
+pub returns-in_err-fields-clause-counts : goal.returns-in_err-fields-clause-counts
+returns-in_err-fields-clause-counts c =
+    rw (err_from_is_err_and c.from_residual-in_err-fields.result c.from_residual-in_err-fields.ensures.1).1 (λ counted. c.in_err-fields.ensures.counts (c.in_ok-name.ensures.counts counted).0)
 
 pub returns-clause-counts : goal.returns-clause-counts
 returns-clause-counts c = λ counted. c.in_ok-fields.ensures.counts (c.in_ok-name.ensures.counts counted).0

@@ -1,15 +1,8 @@
-use Rattle.std.proofs.Common.{◌≡◌, ℕ, ◌+◌, ◌<◌, List, [], ◌∷◌, ◌++◌, length, take, get_or, true, refl, ap, sym, ◌∙◌, append-nil}
+use Rattle.std.proofs.Common.{refl, true}
 use Rattle.std.proofs.Output.{has_written_append, has_written_of_eq}
-use Rattle.std.proofs.lemmas.Grind.{flat_map-append}
-use Rattle.std.proofs.lemmas.List.{take_more}
-use Rattle.std.specs.List.{flat_map}
 use Rattle.op.specs.MessageText.{query_line}
+use Rattle.op.proofs.LineLemmas.{one_more}
 use Rattle.op.proofs.message.display.QueryLinesDisplay.fmt.Goals as goal
-
-one_more : {X A : Type 0} (f : X → List A) (xs : List X) (i : ℕ) (x : X) → i < length xs → x ≡ get_or xs i x → flat_map f (take i xs) ++ f x ≡ flat_map f (take (i + 1) xs)
-one_more f xs i x within is =
-    sym (ap (flat_map f) (take_more xs i x within ∙ ap (λ y. take i xs ++ y ∷ []) (sym is))
-    ∙ (flat_map-append f (take i xs) (x ∷ []) ∙ ap (λ ys. flat_map f (take i xs) ++ ys) (append-nil (f x))))
 
 pub loop-query-preserved : goal.loop-query-preserved
 loop-query-preserved g c = λ plain.

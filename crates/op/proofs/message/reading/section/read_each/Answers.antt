@@ -35,10 +35,22 @@ returns-in-Some-clause-read c =
     takes_failed c.loop.invariant.takes c.in-Some.fault c.loop-test.true read.0
     (test_fails c.args.is_additional c.args.op_code (section_value c.loop.records.items c.loop.edns c.loop.signature) c.read_after_owner.new.self c.in-Some.fault c.in-Some.ensures)
 
+pub returns-in_err-owner-clause-counts : goal.returns-in_err-owner-clause-counts
+returns-in_err-owner-clause-counts c =
+    rw (err_from_is_err_and c.from_residual-in_err-owner.result c.from_residual-in_err-owner.ensures.1).1 (λ counted. c.in_err-owner.ensures.counts (c.loop.invariant.counted counted).0)
+
+pub returns-in_err-record_type-clause-counts : goal.returns-in_err-record_type-clause-counts
+returns-in_err-record_type-clause-counts c =
+    rw (err_from_is_err_and c.from_residual-in_err-record_type.result c.from_residual-in_err-record_type.ensures.1).1
+    (λ counted. c.in_err-record_type.ensures.counts (c.in_ok-owner.ensures.counts (c.loop.invariant.counted counted).0).0)
+
+pub returns-in-Some-clause-counts : goal.returns-in-Some-clause-counts
+returns-in-Some-clause-counts c = λ counted. (c.in_ok-record_type.ensures.counts (c.in_ok-owner.ensures.counts (c.loop.invariant.counted counted).0).0).1
+
 pub returns-in_err-add-clause-counts : goal.returns-in_err-add-clause-counts
 returns-in_err-add-clause-counts c =
-    let p = err_from_is_err_and c.from_residual-in_err-add.result c.from_residual-in_err-add.ensures.1 in
-    rw p.1 (λ counted. (c.in_ok-record_type.ensures.counts (c.in_ok-owner.ensures.counts (c.loop.invariant.counted counted).0).0).1)
+    rw (err_from_is_err_and c.from_residual-in_err-add.result c.from_residual-in_err-add.ensures.1).1
+    (λ counted. (c.in_ok-record_type.ensures.counts (c.in_ok-owner.ensures.counts (c.loop.invariant.counted counted).0).0).1)
 
 pub loop-init : goal.loop-init
 loop-init c = record { takes = search rules; counted = λ counted. (counted, omega (arith, counted, c.requires.few)); passed = λ passed. passed; adds = adds_many_none _ _ _ _ }
