@@ -1,6 +1,6 @@
 -- What an index of data says of the records, and what putting one in does to it.
 use Rattle.std.proofs.Common.{ℕ, zero, suc, Bool, true, false, List, [], ◌∷◌, ◌++◌, ◌≡◌, ◌≢◌, ◌<◌, ◌≤◌, ◌-◌, ◌&&◌, nat_eq}
-use Rattle.std.proofs.Common.{map, ◌||◌, ◌⊎◌, inl, inr, refl, sym, ap, subst, ◌∙◌, length, get_or, set, arith, if◌then◌else◌, length-append}
+use Rattle.std.proofs.Common.{map, ◌||◌, ◌⊎◌, inl, inr, refl, sym, ap, subst, ◌∙◌, length, get_or, set, arith, cond, if◌then◌else◌, length-append}
 use Rattle.std.specs.Prelude.{Option, Some, None, Vec, is_some}
 use Rattle.std.specs.BTreeMap.{BTreeMap, UpdatesBy}
 use Rattle.std.specs.Cmp.{eq_by_cmp_equiv, second_so}
@@ -27,7 +27,7 @@ use Rattle.base_data.proofs.MXLemmas.{mx_same}
 use Rattle.base_data.proofs.NameWords.{name_same}
 use Rattle.base_data.proofs.SOALemmas.{soa_same}
 use Rattle.base_data.proofs.SRVLemmas.{srv_same}
-use Rattle.rr.specs.DataIndex.{IsCurrent, IsFirstAt, IsIndexOf, IsOnlyAt, place_at}
+use Rattle.rr.specs.DataIndex.{IsCurrent, IsFirstAt, IsIndexOf, IsOnlyAt, IsPlaceFor, place_at}
 use Rattle.rr.specs.SetChanges.{entered, first_of, has_data_of, has_entry, joined, replaced}
 use Rattle.rr.specs.declared.record.Record.{Record}
 use Rattle.rr.specs.declared.rr_set.indexed_records.Index.{Index}
@@ -339,3 +339,17 @@ index_mapped find f same rs h = record { at = at } where
   at i d inside =
       let within : i < length rs = omega (arith, length-map rs f, inside) in
       ap (λ (x : RData). find (canonical_data x)) (same_mapped f same rs i d within) ∙ h.at i d within
+
+-- the place for a record is that of the one that has its data, or after all
+pub place_known : (r : Record RData) (rs : List (Record RData)) (p : ℕ) → IsOnlyAt r.rdata rs p → IsPlaceFor r rs p
+place_known r rs p h = record { within = omega (arith, h.inside); known = λ _. h; none = λ last. absurd (omega (arith, last, h.inside)) }
+
+pub place_last : (r : Record RData) (rs : List (Record RData)) (p : ℕ) → p ≡ length rs → list_any (has_data_of r) rs ≡ false → IsPlaceFor r rs p
+place_last r rs p last none = record { within = omega (arith, last); known = λ inside. absurd (omega (arith, last, inside)); none = λ _. none }
+
+-- an index of records, with r too, is one of what is left where r was put in
+pub current_entered : (index : Index) (r : Record RData) (xs ys : List (Record RData)) (b : Bool) → (b, ys) ≡ entered r xs → IsCurrent index xs → IsCurrent index (joined r xs) → IsCurrent index ys
+current_entered index r xs ys b is old more = subst (λ (p : Bool × List (Record RData)). IsCurrent index p.1) (sym is) (by (has_entry r xs)) where
+  by : (c : Bool) → IsCurrent index (cond {A = Bool × List (Record RData)} c (false, xs) (true, joined r xs)).1
+  by true = old
+  by false = more

@@ -13,7 +13,7 @@ use Rattle.rr.specs.SetChanges.{has_data_of, joined, replaced}
 use Rattle.rr.specs.SetUpdates.{has_data_of_one, without}
 use Rattle.rr.specs.declared.record.Record.{Record}
 use Rattle.std.proofs.Common.{ap, append_assoc, arith, drop, get_or, inl, inr, refl, subst, sym, take, ◌∙◌, ◌⊎◌}
-use Rattle.std.proofs.lemmas.Bool.{cases_Bool, cond-false, cond-true}
+use Rattle.std.proofs.lemmas.Bool.{cond-false, cond-true, false_from_ne_true}
 use Rattle.std.proofs.lemmas.List.{append-nil, take-append-drop, take_more}
 use Rattle.std.specs.Cmp.{Equal-is}
 use Rattle.std.specs.List.{AllByRecursion, IsDistinct, list_any, slice_get}
@@ -52,6 +52,9 @@ some_same x y e = cc
 
 none_some : {X : Type 0} (x : X) → None ≡ Some x → ⊥
 none_some x e = absurd cc
+
+false_true : false ≡ true → ⊥
+false_true e = absurd cc
 
 -- ---- the records after a change
 
@@ -189,6 +192,40 @@ inside r ps p h = within ps p h.here where
   within (x ∷ xs) zero e = omega arith
   within (x ∷ xs) (suc q) e = omega (arith, within xs q e)
 
+-- ---- what is found by the index
+
+module _ (find : RData → Option ℕ) (ps : Places) (d : RData) (h : IsPlaceIndex find ps) (fits : FitsTypes d) where
+  -- it has no place
+  pub not_found : None ≡ find d → IsNowhere d ps
+  not_found none = record { others = λ i r e. false_from_ne_true _ (λ same. none_some i (none ∙ h.at i r d e fits same)) }
+
+  module _ (p : ℕ) (found : Some p ≡ find d) where
+    there : (i : ℕ) (r : Record RData) → slice_get ps i ≡ Some (Some r) → same_data r.rdata d ≡ true → p ≡ i
+    there i r e same = some_same p i (found ∙ h.at i r d e fits same)
+
+    not_there : ((r : Record RData) → slice_get ps p ≡ Some (Some r) → same_data r.rdata d ≡ false) → IsNowhere d ps
+    not_there other = record {
+      others = λ i r e. false_from_ne_true _ (λ same. false_true (sym (other r (ap (slice_get ps) (there i r e same) ∙ e)) ∙ same));
+    }
+
+    -- the place is past all, or empty, or that of other data
+    pub past_there : slice_get ps p ≡ None → IsNowhere d ps
+    past_there none = not_there (λ r e. absurd (none_some _ (sym none ∙ e)))
+
+    pub empty_there : slice_get ps p ≡ Some None → IsNowhere d ps
+    empty_there none = not_there (λ r e. absurd (none_some r (some_same _ _ (sym none ∙ e))))
+
+    pub other_there : (r : Record RData) → slice_get ps p ≡ Some (Some r) → same_data r.rdata d ≡ false → IsNowhere d ps
+    other_there r here other = not_there (λ x e. ap (λ (y : Record RData). same_data y.rdata d) (some_same x r (some_same _ _ (sym e ∙ here))) ∙ other)
+
+    pub found_there : (r : Record RData) → slice_get ps p ≡ Some (Some r) → same_data r.rdata d ≡ true → IsOnlyIn d ps p
+    found_there r here same = record {
+      known = r;
+      here = here;
+      same = same;
+      others = λ i x e other. false_from_ne_true _ (λ is. other (sym (there i x e is)));
+    }
+
 -- ---- the index after a change
 
 pub index_here : (find : RData → Option ℕ) (ps : Places) (p : ℕ) (r : Record RData) → IsPlaceIndex find ps → IsOnlyIn r.rdata ps p → IsPlaceIndex find (set ps p (Some r))
@@ -216,12 +253,8 @@ tied : (a b : RData) → FitsTypes a → FitsTypes b → same_data a b ≡ true 
 tied a b fits fits_too same = (Equal-is (data_cmp a b)).1 ((data_ties a b fits fits_too).1 same)
 
 apart : (a b : RData) → FitsTypes a → FitsTypes b → same_data a b ≡ false → eq_by_cmp data_cmp a b ≡ false
-apart a b fits fits_too other = elim (cases_Bool (eq_by_cmp data_cmp a b)) [
-  | inl e ↦ absurd (truth (sym ((data_ties a b fits fits_too).0 ((Equal-is (data_cmp a b)).0 e)) ∙ other))
-  | inr e ↦ e
-] where
-  truth : true ≡ false → ⊥
-  truth e = absurd cc
+apart a b fits fits_too other =
+    false_from_ne_true _ (λ e. false_true (sym other ∙ (data_ties a b fits fits_too).0 ((Equal-is (data_cmp a b)).0 e)))
 
 pub index_last : (find after : RData → Option ℕ) (ps : Places) (r : Record RData) → IsPlaceIndex find ps → FitsTypes r.rdata → IsNowhere r.rdata ps
     → ((d : RData) → after d ≡ cond (eq_by_cmp data_cmp r.rdata d) (Some (length ps)) (find d)) → IsPlaceIndex after (ps ++ Some r ∷ [])

@@ -76,6 +76,10 @@ type_then : {X : Type 0} (r : Read ℕ) (g : RecordType → ℕ → Result X Dec
 type_then (Ok n) g type e is = ap (λ (x : RecordType × ℕ). g x.0 x.1) (same_ok (type_of n.0, n.1) (type, e) is)
 type_then (Err f) g type e is = cc
 
+type_none : {X : Type 0} (r : Read ℕ) (g : RecordType → ℕ → Result X DecodeError) (f : DecodeError) → (r >>= typed) ≡ Err f → (r >>= λ n. g (type_of n.0) n.1) ≡ Err f
+type_none (Ok n) g f is = cc
+type_none (Err e) g f is = cc
+
 type_same : (again B : List ℕ) (i : ℕ) (r : Read RecordType) → again ≡ B → type_at again i ≡ r → type_at B i ≡ r
 type_same again B i r same is = subst (λ (bytes : List ℕ). type_at bytes i ≡ r) same is
 
@@ -88,6 +92,11 @@ unfolding record_at
 name_fails B i f fails = Fails-through f (name_at B i) (record_at B i) (λ no. rw no refl) fails
 
 module _ (B : List ℕ) (i : ℕ) (owner : NameValue) (type_place : ℕ) (owner_is : name_at B i ≡ Ok (owner, type_place)) (second : List ℕ) (same : second ≡ B) where
+  pub type_fails : (f : DecodeError) → Fails f (type_at second type_place) → Fails f (record_at B i)
+  unfolding record_at
+  type_fails f fails = Fails-through f (type_at second type_place) (record_at B i)
+      (λ no. rw owner_is (type_none (number_at w16 B type_place) (after_type B owner) f (type_same second B type_place (Err f) same no))) fails
+
   module _ (type : RecordType) (e : ℕ) (type_is : type_at second type_place ≡ Ok (type, e)) where
     head_is : record_at B i ≡ after_type B owner type e
     unfolding record_at

@@ -130,7 +130,7 @@ module _ (owner : NameValue) (type : RecordType) (B : List ℕ) (i len : ℕ) (c
   at_data : i + 6 + 2 ≡ i + 8
   at_data = omega arith
 
-  body_long : length B < i + 8 + len → body_at owner type B i ≡ Err (faults.IncorrectRDataLengthRead (length B - (i + 8)) len)
+  pub body_long : length B < i + 8 + len → body_at owner type B i ≡ Err (faults.IncorrectRDataLengthRead (length B - (i + 8)) len)
   unfolding body_at
   body_long short = let test = lt-ltb (length B) (i + 8 + len) short in rw (class_there, ttl_there, at_len, len_there, at_data, test) refl
 

@@ -1,12 +1,12 @@
 -- Steps of putting a record among others.
-use Rattle.std.proofs.Common.{ℕ, zero, suc, Bool, true, false, not, List, [], ◌∷◌, ◌++◌, ◌≡◌, ◌<◌, ◌+◌, ◌==◌, ◌||◌, ◌&&◌, nat_eq, refl, sym, ap, subst, ◌∙◌, length}
+use Rattle.std.proofs.Common.{ℕ, zero, suc, Bool, true, false, not, List, [], ◌∷◌, ◌++◌, ◌≡◌, ◌<◌, ◌≤◌, ◌+◌, ◌==◌, ◌||◌, ◌&&◌, nat_eq, refl, sym, ap, subst, ◌∙◌, length}
 use Rattle.std.proofs.Common.{take, drop, set, get_or, arith, if◌then◌else◌}
 use Rattle.std.specs.List.{AllByRecursion, list_any}
 use Rattle.base_data.specs.declared.rdata.RData.{RData}
 use Rattle.rr.specs.declared.record.Record.{Record}
 use Rattle.std.proofs.lemmas.Bool.Decides.{nat_tests}
 use Rattle.std.proofs.lemmas.Bool.{cond-true, cond-false, or_parts}
-use Rattle.std.proofs.lemmas.List.{length-set}
+use Rattle.std.proofs.lemmas.List.{append-nil, drop_all, length-set, take_all}
 use Rattle.base.specs.NameOrder.{folded, same_name}
 use Rattle.base.specs.NameOrderLaws.{same_by-equiv}
 use Rattle.base_data.specs.Kinds.{type_of_data}
@@ -60,6 +60,10 @@ replaced_none r (x ∷ xs) h =
     let parts : (has_data_of r x ≡ false) × (list_any (has_data_of r) xs ≡ false) = or_parts (has_data_of r x) _ h in
     let first : (if has_data_of r x then r else x) ≡ x = cond-false (has_data_of r x) r x parts.0 in
     λ i. first i ∷ replaced_none r xs parts.1 i
+
+-- nothing is left to be replaced
+pub replaced_all : (r : Record RData) (xs : List (Record RData)) (i : ℕ) → length xs ≤ i → replaced r (take i xs) ++ drop i xs ≡ replaced r xs
+replaced_all r xs i h = (λ j. replaced r (take_all i xs h j) ++ drop_all i xs h j) ∙ append-nil (replaced r xs)
 
 one_more : (i : ℕ) → suc i ≡ i + 1
 one_more i = omega arith

@@ -1,11 +1,11 @@
-use Rattle.std.proofs.Common.{rules, ℕ, ◌≡◌, ◌∙◌, List, ap, length, not, subst, sym}
+use Rattle.std.proofs.Common.{arith, rules, ℕ, ◌≡◌, ◌∙◌, List, ap, length, not, subst, sym}
 use Rattle.std.specs.BTreeMap.{BTreeMap}
 use Rattle.std.specs.Prelude.{Vec}
 use Rattle.std.specs.declared.alloc.Global.{Global}
 use Rattle.base_data.specs.declared.rdata.RData.{RData}
 use Rattle.rr.specs.DataIndex.{IsIndexOf, place_at}
 use Rattle.rr.specs.declared.record.Record.{Record}
-use Rattle.rr.proofs.IndexLemmas.{index_set, index_wider, joined_after, joined_at, none_of, place_here, place_is, place_others, pushed}
+use Rattle.rr.proofs.IndexLemmas.{index_set, index_wider, joined_after, joined_at, none_of, place_here, place_is, place_known, place_last, place_others, pushed}
 use Rattle.rr.proofs.rr_set.indexed_records.make_room.Goals as goal
 
 pub returns-in-Some-place_of-clause-joined : goal.returns-in-Some-place_of-clause-joined
@@ -44,3 +44,52 @@ returns-then-is_none-clause-joined c =
     let len : c.len-place.result ≡ length c.args.records.now.items = search rules in
     pushed m n rs _ r ks c.len-place.result indexed c.in_ok-key.ensures (sym c.in_ok-insert.ensures.old ∙ free)
     (place_here ks m n _ updates) (place_others ks m n _ updates) len (sym (joined_after r rs c.in_default-place_of.ensures))
+
+pub returns-in-Some-place_of-clause-place : goal.returns-in-Some-place_of-clause-place
+returns-in-Some-place_of-clause-place c = place_known c.args.entry.now c.args.records.now.items c.in-Some-place_of.place c.in-Some-place_of.ensures
+
+pub returns-in-Some-place_of-clause-room : goal.returns-in-Some-place_of-clause-room
+returns-in-Some-place_of-clause-room c = λ last. absurd (omega (arith, last, c.in-Some-place_of.ensures.inside))
+
+pub returns-in-Some-place_of-clause-index : goal.returns-in-Some-place_of-clause-index
+returns-in-Some-place_of-clause-index c = rw c.in-Some.is at c.in_ok-places.ensures.index
+
+pub returns-then-is_none-clause-place : goal.returns-then-is_none-clause-place
+returns-then-is_none-clause-place c =
+    let len : c.len-place.result ≡ length c.args.records.now.items = search rules in
+    place_last c.args.entry.now c.args.records.now.items c.len-place.result len c.in_default-place_of.ensures
+
+pub returns-else-is_none-clause-place : goal.returns-else-is_none-clause-place
+returns-else-is_none-clause-place c =
+    let len : c.len-place.result ≡ length c.args.records.now.items = search rules in
+    place_last c.args.entry.now c.args.records.now.items c.len-place.result len c.in_default-place_of.ensures
+
+pub returns-else-is_none-clause-index : goal.returns-else-is_none-clause-index
+returns-else-is_none-clause-index c = c.take.ensures.missing _
+
+pub returns-else-is_none-clause-joined : goal.returns-else-is_none-clause-joined
+returns-else-is_none-clause-joined c = c.take.ensures.missing _
+
+pub returns-in_default-clause-missing : goal.returns-in_default-clause-missing
+returns-in_default-clause-missing c = c.take.ensures.missing
+
+pub returns-in_err-key-clause-index : goal.returns-in_err-key-clause-index
+returns-in_err-key-clause-index c = c.take.ensures.missing _
+
+pub returns-in_err-places-clause-index : goal.returns-in_err-places-clause-index
+returns-in_err-places-clause-index c = c.take.ensures.missing _
+
+pub returns-in_err-reserve-clause-index : goal.returns-in_err-reserve-clause-index
+returns-in_err-reserve-clause-index c = c.take.ensures.missing _
+
+pub returns-in_err-insert-clause-index : goal.returns-in_err-insert-clause-index
+returns-in_err-insert-clause-index c = c.take.ensures.missing _
+
+pub returns-in_default-clause-index : goal.returns-in_default-clause-index
+returns-in_default-clause-index c = c.take.ensures.missing _
+
+pub returns-then-is_none-clause-room : goal.returns-then-is_none-clause-room
+returns-then-is_none-clause-room c = λ last. omega (arith, c.in_ok-reserve.ensures.ok, c.reserve.ensures.len, c.len-place.ensures)
+
+pub returns-else-is_none-clause-room : goal.returns-else-is_none-clause-room
+returns-else-is_none-clause-room c = λ last. omega (arith, c.in_ok-reserve.ensures.ok, c.reserve.ensures.len, c.len-place.ensures)

@@ -1,10 +1,11 @@
 use Rattle.std.proofs.Common.{sym, ◌∙◌, ap, ◌==◌, ◌<◌, arith, length}
-use Rattle.rr.proofs.SetSteps.{any_found, any_passed, copy_pushed, copy_skipped, within_push}
+use Rattle.rr.proofs.SetSteps.{any_found, any_passed, copy_pushed, copy_skipped, replaced_all, within_push}
 use Rattle.rr.proofs.rr_set.scanning.copies_for.Goals as goal
 use Rattle.rr.proofs.rr_set.scanning.copies_for.Goals.{then-eq+in_ok-push_copy, else-eq}
-use Rattle.std.specs.List.{AllByRecursion}
-use Rattle.std.proofs.Common.{refl, subst}
-use Rattle.rr.specs.SetChanges.{renewed}
+use Rattle.std.specs.List.{AllByRecursion, list_any}
+use Rattle.std.proofs.Common.{not, refl, subst, ◌≤◌}
+use Rattle.std.proofs.lemmas.List.{take_all}
+use Rattle.rr.specs.SetChanges.{has_data_of, renewed}
 
 pub loop-i-preserved : goal.loop-i-preserved
 loop-i-preserved c =
@@ -28,3 +29,19 @@ loop-i-preserved c =
             ∙ any_passed r c.index.result.now xs (length c.loop-i.copies.items == 0) i below c.loop-i.invariant.2 c.index.ensures (sym c.eq.ensures ∙ w.if-eq.false),
       )
     ]
+
+pub loop-i-init : goal.loop-i-init
+loop-i-init c = rw c.new-copies.ensures.items (refl, tt, refl)
+
+pub returns-clause-renewed : goal.returns-clause-renewed
+returns-clause-renewed c =
+    let all : length c.args.records.now.items ≤ c.loop-i.i = omega arith in
+    c.loop-i.invariant.0 ∙ replaced_all c.args.entry.now c.args.records.now.items c.loop-i.i all
+
+pub returns-clause-within : goal.returns-clause-within
+returns-clause-within c = c.loop-i.invariant.1
+
+pub returns-clause-any : goal.returns-clause-any
+returns-clause-any c =
+    let all : length c.args.records.now.items ≤ c.loop-i.i = omega arith in
+    c.loop-i.invariant.2 ∙ ap (λ xs. not (list_any (has_data_of c.args.entry.now) xs)) (take_all c.loop-i.i c.args.records.now.items all)

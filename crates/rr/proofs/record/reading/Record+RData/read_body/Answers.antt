@@ -1,10 +1,42 @@
-use Rattle.std.proofs.Common.{◌≡◌, ℕ, List, length, ◌-◌, ◌∙◌, Ok}
+use Rattle.std.proofs.Common.{◌≡◌, ℕ, List, length, ◌-◌, ◌<◌, ◌+◌, ◌∙◌, Ok, Err, sym, arith}
+use Rattle.std.proofs.lemmas.Result.{err_from_is_err_and}
+use Rattle.base.proofs.AddsLemmas.{adds_both, adds_none}
+use Rattle.base.specs.Passing.{AddsPassed}
 use Rattle.base.specs.Reading.{Fails}
+use Rattle.base.specs.declared.error.decode_error.DecodeError.TheVariants.{IncorrectRDataLengthRead}
+use Rattle.base_data.specs.Kinds.{data_places}
 use Rattle.base_data.specs.InPlace.{data_fault}
 use Rattle.base_data.specs.RData.{rdata_at}
 use Rattle.base_data.proofs.DataRows.{data_says}
+use Rattle.rr.proofs.RecordFaults.{body_cut, body_long}
 use Rattle.rr.proofs.ReadSteps.{body_read, data_fails, over_both, placed, room}
 use Rattle.rr.proofs.record.reading.Record+RData.read_body.Goals as goal
+
+pub returns-in_err-class-clause-read : goal.returns-in_err-class-clause-read
+returns-in_err-class-clause-read c =
+    let p = err_from_is_err_and c.from_residual.result c.from_residual.ensures.1 in
+    let at = c.args.decoder.now in
+    let short = c.in_err-class.ensures.short in
+    rw (p.1, p.2, short.0) (body_cut c.args.self.now.name c.args.record_type at.bytes at.index short.1)
+
+pub returns-in_err-class-clause-counts : goal.returns-in_err-class-clause-counts
+returns-in_err-class-clause-counts c =
+    let p = err_from_is_err_and c.from_residual.result c.from_residual.ensures.1 in
+    rw p.1 c.in_err-class.ensures.counts
+
+pub returns-then-left-from-clause-read : goal.returns-then-left-from-clause-read
+returns-then-left-from-clause-read c =
+    let at = c.args.decoder.now in
+    let len = c.in_ok-class.field-0.len in
+    let after = c.in_ok-class.ensures.after in
+    let counted = c.in_ok-class.ensures.found.2 in
+    let left = c.len-left.ensures.left ∙ placed after.1 after.0 (λ (B : List ℕ) (k : ℕ). length B - k) in
+    let short : length at.bytes < at.index + 8 + len = omega (arith, c.if-left-from.true, left, c.from.ensures, counted.inside) in
+    body_long c.args.self.now.name c.args.record_type at.bytes at.index len counted short
+    ∙ (λ i. Err (IncorrectRDataLengthRead (sym left i) (sym c.from-then-left-from.ensures i)))
+
+pub returns-then-left-from-clause-counts : goal.returns-then-left-from-clause-counts
+returns-then-left-from-clause-counts c = λ counted. (c.in_ok-class.ensures.counts counted).1
 
 pub returns-in-Ok-clause-read : goal.returns-in-Ok-clause-read
 returns-in-Ok-clause-read c =
@@ -41,3 +73,13 @@ returns-in-Ok-clause-counts c = λ counted. c.in-Ok.ensures.counts (c.in_ok-clas
 
 pub returns-in-Ok-clause-passed : goal.returns-in-Ok-clause-passed
 returns-in-Ok-clause-passed c = λ passed. c.in-Ok.ensures.passed (c.in_ok-class.ensures.passed passed)
+
+pub returns-in-Ok-clause-adds : goal.returns-in-Ok-clause-adds
+returns-in-Ok-clause-adds c =
+    let after = c.in_ok-class.ensures.after in
+    let new = c.read_in_place.new in
+    over_both after.1 after.0 (λ (B : List ℕ) (k : ℕ). AddsPassed (data_places new.self B k) c.args.decoder.now new.decoder)
+    (adds_both (adds_none after.1 c.in_ok-class.ensures.kept) c.in-Ok.ensures.adds)
+
+pub returns-in-Err-clause-counts : goal.returns-in-Err-clause-counts
+returns-in-Err-clause-counts c = λ counted. c.in-Err.ensures.counts (c.in_ok-class.ensures.counts counted).0

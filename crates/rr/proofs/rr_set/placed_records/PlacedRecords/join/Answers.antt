@@ -1,12 +1,13 @@
 use Rattle.base_data.specs.DataOrder.{data_cmp}
 use Rattle.base_data.specs.declared.rdata.RData.{RData}
-use Rattle.rr.proofs.PlacedLemmas.{Places, count_here, count_push, index_here, index_last, joined_here, joined_last, present_fits}
+use Rattle.rr.proofs.PlacedLemmas.{Places, count_here, count_push, index_here, index_last, inside, joined_here, joined_last, present_fits}
 use Rattle.rr.proofs.SetSteps.{same_clone}
 use Rattle.rr.proofs.rr_set.placed_records.PlacedRecords.join.Goals as goal
 use Rattle.rr.specs.PlacedRecords.{IsPlaceIndex, present}
 use Rattle.rr.specs.SetChanges.{joined}
 use Rattle.rr.specs.declared.record.Record.{Record}
 use Rattle.std.proofs.Common.{[], ap, arith, cond, length, rules, set, subst, sym, ◌++◌, ◌+◌, ◌∙◌, ◌∷◌, ◌≡◌, ℕ}
+use Rattle.std.proofs.lemmas.Result.{err_from_is_err_and}
 use Rattle.std.specs.BTreeMap.{get}
 use Rattle.std.specs.Ordering.{eq_by_cmp}
 use Rattle.std.specs.Prelude.{Some}
@@ -50,3 +51,32 @@ returns-clause-ok c =
     let pushed : c.push_reserved.new.self.items ≡ ps ++ Some c.in_ok-copy.copy ∷ [] = search rules in
     let is = pushed ∙ ap (λ (r : Record RData). ps ++ Some r ∷ []) (same_clone _ _ c.in_ok-copy.ensures.cases) in
     ap present is ∙ joined_last c.args.entry.now ps c.in_default.ensures ∙ ap (joined c.args.entry.now) c.self.view_is
+
+pub place_of-requires-clause-indexed : goal.place_of-requires-clause-indexed
+place_of-requires-clause-indexed c = c.self.invariant.0
+
+pub place_of-requires-clause-key : goal.place_of-requires-clause-key
+place_of-requires-clause-key c = c.in_ok-key.ensures
+
+pub place_of-requires-clause-fits : goal.place_of-requires-clause-fits
+place_of-requires-clause-fits c = c.fits.ensures
+
+pub put_at-requires : goal.put_at-requires
+put_at-requires c = inside c.args.entry.now c.self.inside.places.items c.in-Some.place c.in-Some.ensures
+
+pub invariant_of-self : goal.invariant_of-self
+invariant_of-self c = c.self.invariant
+
+pub invariant_of-self-in_err-reserve : goal.invariant_of-self-in_err-reserve
+invariant_of-self-in_err-reserve c = rw c.reserve.ensures.items c.self.invariant
+
+pub invariant_of-self-in_err-copy : goal.invariant_of-self-in_err-copy
+invariant_of-self-in_err-copy c = rw c.reserve.ensures.items c.self.invariant
+
+pub invariant_of-self-in_err-insert : goal.invariant_of-self-in_err-insert
+invariant_of-self-in_err-insert c = rw (c.in_err-insert.ensures.err, c.reserve.ensures.items) c.self.invariant
+
+pub returns-in_err-insert-clause-err : goal.returns-in_err-insert-clause-err
+returns-in_err-insert-clause-err c =
+    let p = err_from_is_err_and c.from_residual-in_err-insert.result c.from_residual-in_err-insert.ensures.1 in
+    rw p.1 (ap present c.reserve.ensures.items ∙ c.self.view_is)
