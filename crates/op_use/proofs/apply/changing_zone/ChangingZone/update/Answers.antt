@@ -8,6 +8,7 @@ use Rattle.op_use.specs.HeldZone.{HeldZone}
 use Rattle.op_use.specs.MapUpdates.{IsUpdated, use_value}
 use Rattle.op_use.specs.Server.{use_of}
 use Rattle.std.proofs.Common.{[], ap, subst, sym, take, ◌∙◌, ◌∷◌}
+use Rattle.std.proofs.lemmas.Result.{err_from_is_err_and}
 
 pub loop-entry-init : goal.loop-entry-init
 loop-entry-init c = none_updated c.args.self.now
@@ -35,3 +36,24 @@ loop-entry-preserved c =
     ] in
     subst (λ us. IsUpdated us z c.match-use_of.self) (taken_more rs c.loop-entry.entry-index r c.loop-entry-test.true c.entry-item.is)
     (updated_more (take c.loop-entry.entry-index rs) (r ∷ []) z y c.match-use_of.self c.loop-entry.invariant one)
+
+pub returns-in_err-delete-in-OfAny : goal.returns-in_err-delete-in-OfAny
+returns-in_err-delete-in-OfAny c =
+    let p = err_from_is_err_and c.from_residual.result c.from_residual.ensures.1 in
+    rw p.1 tt
+
+pub returns-in_err-is_needed-in-OfNone : goal.returns-in_err-is_needed-in-OfNone
+returns-in_err-is_needed-in-OfNone c =
+    let p = err_from_is_err_and c.from_residual-in_err-is_needed-in-OfNone.result c.from_residual-in_err-is_needed-in-OfNone.ensures.1 in
+    rw p.1 tt
+
+pub returns-in_err-add-in-OfZone : goal.returns-in_err-add-in-OfZone
+returns-in_err-add-in-OfZone c =
+    let p = err_from_is_err_and c.from_residual-in_err-add-in-OfZone.result c.from_residual-in_err-add-in-OfZone.ensures.1 in
+    rw p.1 tt
+
+pub delete-requires : goal.delete-requires
+delete-requires c = ap (λ (x : HeldZone). use_of x.class c.entry-item.result.dns_class) (sym c.self.view_is) ∙ sym c.use_of.ensures ∙ ap use_value c.in-OfAny.is
+
+pub add-requires : goal.add-requires
+add-requires c = ap (λ (x : HeldZone). use_of x.class c.entry-item.result.dns_class) (sym c.self.view_is) ∙ sym c.use_of.ensures ∙ ap use_value c.in-OfZone.is
