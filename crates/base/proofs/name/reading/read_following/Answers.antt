@@ -67,3 +67,15 @@ returns-clause-counts c = counted_after (after c) c.in_ok-used.ensures.followed 
 
 pub returns-clause-passed : goal.returns-clause-passed
 returns-clause-passed c = passed_after (spelled c) (after c)
+
+pub keep_targets-requires-clause-spelled : goal.keep_targets-requires-clause-spelled
+keep_targets-requires-clause-spelled c = rw c.in_ok-used.ensures.followed.now c.in_ok-used.ensures.kept
+
+pub keep_targets-requires-clause-last : goal.keep_targets-requires-clause-last
+keep_targets-requires-clause-last c = rw c.in_ok-used.ensures.followed.now c.in_ok-used.ensures.last
+
+pub keep_targets-requires-clause-later : goal.keep_targets-requires-clause-later
+keep_targets-requires-clause-later c = rw c.in_ok-used.ensures.followed.now c.in_ok-used.ensures.later
+
+pub keep_targets-requires-clause-new : goal.keep_targets-requires-clause-new
+keep_targets-requires-clause-new c = rw c.in_ok-used.ensures.followed.now c.in_ok-used.ensures.followed.all
