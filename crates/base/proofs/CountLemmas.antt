@@ -271,6 +271,12 @@ counted_after past f some counted =
       omega (arith, past.jumps, raised, counted, few, f.all),
     )
 
+-- a read of a name is refused
+pub counted_refused : {ts : List ℕ} {old new : Reader} → Followed ts old new → set.len old.kept ≤ 16384 → IsCounted old → new.jumps ≤ 16384
+counted_refused f some counted =
+    let few = f.few some in
+    omega (arith, f.jumps (omega (arith, counted, few, f.all)), counted, few, f.all)
+
 pub passed_after : {ts : List ℕ} {old new last : Reader} {xs : List (List ℕ)} {e : ℕ} (h : Spelled old.bytes xs old.index old.index e) → IsAfterName ts old new last h → IsPassed old → IsPassed last
 passed_after h past p = one_passed h p past.bytes past.index past.passes
 

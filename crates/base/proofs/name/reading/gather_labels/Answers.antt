@@ -12,7 +12,7 @@ use Rattle.base.specs.Names.{label_of, part_at, pointer_to, zero_byte}
 use Rattle.std.specs.FinSet as set
 use Rattle.std.specs.Ordering.{nat_cmp}
 use Rattle.base.specs.Passing.{IsClosed}
-use Rattle.std.proofs.lemmas.List.{map_push}
+use Rattle.std.proofs.lemmas.List.{length-take-le, map_push}
 use Rattle.std.proofs.lemmas.List.Elements.{All-nil, All-same, All-weaker, All-push}
 use Rattle.base.proofs.TailLemmas.{Tail, Ends, Tail-new, Tail-label, Tail-pointer, Tail-root, Tail-kept}
 use Rattle.base.proofs.PassLemmas.{Lead, Lead-kept, Lead-label, Lead-pointer, Lead-root, Leads, Leads-kept, Leads-label, Leads-none, Leads-pointer, Leads-root}
@@ -104,6 +104,10 @@ returns-in_err-read_part c =
 -- the bytes of the piece that are read
 piece_len : (bytes piece : List ℕ) (start at : ℕ) → piece ≡ drop start bytes → start + at ≤ length bytes → at ≤ length piece
 piece_len bytes piece start at same inside = omega (arith, ap length same, length-drop start bytes, inside)
+
+pub slice_bounds-result-end : goal.slice_bounds-result-end
+slice_bounds-result-end c =
+    sym (length-take-le c.parts.at c.parts.piece.now (piece_len c.args.decoder.now.bytes c.parts.piece.now c.parts.start c.parts.at c.parts.invariant.piece c.parts.invariant.gathers.inside))
 
 pub returns-in-Root-clause-read : goal.returns-in-Root-clause-read
 returns-in-Root-clause-read c =
@@ -231,6 +235,10 @@ parts-preserved c =
           (subst (λ (ps : List FollowedPointer). Lead bytes ps t t) (sym items) (Lead-pointer bytes start at c.parts.followed one is c.parts.invariant.lead));
       follows = subst (λ (ts : List ℕ). Follows ts t old c.follow-piece-in-Pointer.new.self) (sym more) follows;
     })
+
+pub follow-piece-requires-in-Pointer : goal.follow-piece-requires-in-Pointer
+follow-piece-requires-in-Pointer c =
+    omega (arith, c.from.ensures, c.if-from-start.false, c.parts.invariant.gathers.low, ap length (bytes_are c.parts.invariant.follows))
 
 -- memory ran out for another pointer
 pub returns-in_err-push-in-Pointer : goal.returns-in_err-push-in-Pointer

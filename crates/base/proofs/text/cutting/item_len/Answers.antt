@@ -1,5 +1,6 @@
 use Rattle.std.proofs.Common.{◌≡◌, ◌+◌, ◌<◌, true, false, length, take, drop, get_or, Bool, refl, subst, sym, ◌∙◌, arith}
 use Rattle.std.specs.Prelude.{not, ◌&&◌, ◌==◌}
+use Rattle.std.proofs.lemmas.Bool.{ne_eqb}
 use Rattle.base.specs.Tokens.{before, item}
 use Rattle.base.proofs.Cutting.{item_more}
 use Rattle.base.proofs.text.cutting.item_len.Goals as goal
@@ -14,3 +15,12 @@ bytes-preserved-then-c-eq92 c =
     let one = item_more text at false c.bytes-test.true (sym c.ends_item.ensures ∙ c.if-ends_item.false) c.bytes.invariant.1 in
     let kept = subst (λ (k : Bool). before (take (at + 1) text) (item k (drop (at + 1) text)) ≡ item false text) sign one in
     (omega (arith, inside), item_more text (at + 1) true inside refl kept)
+
+-- another byte belongs to it alone
+pub bytes-preserved : goal.bytes-preserved
+bytes-preserved c =
+    let text = c.args.text.now in
+    let at = c.bytes.at in
+    let one = item_more text at false c.bytes-test.true (sym c.ends_item.ensures ∙ c.if-ends_item.false) c.bytes.invariant.1 in
+    let kept = subst (λ (k : Bool). before (take (at + 1) text) (item k (drop (at + 1) text)) ≡ item false text) (ne_eqb (get_or text at 0) 92 c.if-c-eq92.false) one in
+    (omega arith, kept)
