@@ -37,7 +37,7 @@ returns-clause-writes g c = λ plain ok.
       | in_default+else-loop-b-test w ↦
           let was : HasWritten g.W.Write.write_str_gives c.args.f.now (label_text label) w.loop-b.f =
           subst (λ (xs : List ℕ). HasWritten g.W.Write.write_str_gives c.args.f.now (label_text xs) w.loop-b.f)
-              (take_all w.loop-b.b-index label (omega (arith, w.loop-b-test.false))) (w.loop-b.invariant plain) in
+          (take_all w.loop-b.b-index label (omega (arith, w.loop-b-test.false))) (w.loop-b.invariant plain) in
           let more = rw w.f-is at c.write_str-2.ensures.writes in
           put_two g.W.Write.write_str_gives _ _ _ _ _ _ was (more was.plain ok) refl
     ])
