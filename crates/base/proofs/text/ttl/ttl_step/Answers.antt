@@ -1,6 +1,5 @@
-use Rattle.std.proofs.Common.{◌≡◌, ℕ, ◌+◌, ◌*◌, ◌^◌, ◌≤◌, List, Some, None, true, false, ap, sym, ◌∙◌, arith}
-use Rattle.std.specs.Char.{is_ascii_digit}
-use Rattle.base.specs.Ttl.{below_limit, digit_after, unit_of}
+use Rattle.std.proofs.Common.{ap, sym, ◌∙◌, arith}
+use Rattle.base.specs.Ttl.{below_limit}
 use Rattle.base.proofs.TtlLemmas.{digit_too_many, step_bare, step_other, step_unit, unit_too_many}
 use Rattle.base.proofs.text.ttl.ttl_step.Goals as goal
 
