@@ -1,10 +1,10 @@
--- Which tokens take memory.
-use Rattle.std.proofs.Common.{◌≡◌, ℕ, refl, sym, ◌∙◌, ap, ◌≢◌, List, [], ◌∷◌, drop, get_or, length, Option, Some, None, Bool, true, false}
+-- The token that a text begins with, and which tokens take memory.
+use Rattle.std.proofs.Common.{◌≡◌, ℕ, refl, sym, ◌∙◌, ap, ◌≢◌, List, [], ◌∷◌, get_or, length, Option, Some, None, Bool, true, false}
 use Rattle.std.specs.Prelude.{◌==◌, ◌&&◌, codes, slice_get}
 use Rattle.std.specs.Str.{bytes_eq}
 use Rattle.std.proofs.lemmas.Bool.{ne_eqb}
 use Rattle.base.specs.Cuts.{TakesNone}
-use Rattle.base.specs.Tokens.{Unread, begins_blank, begins_with, element, element_of, eol, is_line_end, item, item_token, list_items, next, next_item, next_list, next_quoted, past_blanks, past_comment, past_line_end, quoted, token, token_or_fault, visible, within_line}
+use Rattle.base.specs.Tokens.{Unread, begins_blank, begins_with, is_line_end, item, item_token, list_items, next, next_item, next_list, next_quoted, past_blanks, past_comment, quoted, token_or_fault, visible, within_line}
 
 quoted_takes : (cut : Option (List ℕ × List ℕ)) → TakesNone (next_quoted cut) → ⊥
 quoted_takes None never = never
@@ -63,25 +63,6 @@ visible_item [] first is goes quotes opens closes = absurd (cc is)
 visible_item (c ∷ text) first is goes quotes opens closes =
     let same : c ≡ first = cc is in
     rw (ap is_line_end same ∙ goes, ap (λ b. b == 34) same ∙ ne_eqb first 34 quotes, ap (λ b. b == 40) same ∙ ne_eqb first 40 opens, ap (λ b. b == 41) same ∙ ne_eqb first 41 closes) refl
-
-pub visible_end : (text rest : List ℕ) (first : ℕ) → slice_get text 0 ≡ Some first → is_line_end first ≡ true → rest ≡ past_line_end (get_or text 0 0) (drop 1 text)
-    → visible text ≡ token eol (record { text = rest; at_line_start = true })
-unfolding visible
-visible_end [] rest first is ends at = absurd (cc is)
-visible_end (c ∷ text) rest first is ends at = let same : c ≡ first = cc is in rw (ap is_line_end same ∙ ends, at) refl
-
--- what stands next within parentheses, by its first byte
-pub element_quoted : (text rest : List ℕ) (first : ℕ) → slice_get text 0 ≡ Some first → first ≡ 34 → text ≡ get_or text 0 0 ∷ rest → element text ≡ element_of (quoted false rest)
-unfolding element
-element_quoted [] rest first is quote at = absurd cc
-element_quoted (c ∷ text) rest first is quote at = let same : c ≡ 34 = cc quote in let tail : text ≡ rest = cc at in rw (same, tail) refl
-
-pub element_item : (text : List ℕ) (first : ℕ) → slice_get text 0 ≡ Some first → first ≢ 41 → first ≢ 40 → first ≢ 36 → first ≢ 34 → element text ≡ element_of (item false text)
-unfolding element
-element_item [] first is closes opens sign quotes = absurd (cc is)
-element_item (c ∷ text) first is closes opens sign quotes =
-    let same : c ≡ first = cc is in
-    rw (ap (λ b. b == 41) same ∙ ne_eqb first 41 closes, ap (λ b. b == 40) same ∙ ne_eqb first 40 opens, ap (λ b. b == 36) same ∙ ne_eqb first 36 sign, ap (λ b. b == 34) same ∙ ne_eqb first 34 quotes) refl
 
 -- what comes next where no blanks of a line's beginning do
 pub next_visible : (unread : Unread) (rest text : List ℕ) → (unread.at_line_start && begins_blank
