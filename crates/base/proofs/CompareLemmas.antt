@@ -13,7 +13,7 @@ use Rattle.std.specs.Bool.{Decides, one_answer}
 use Rattle.std.specs.Char.{to_ascii_lowercase}
 use Rattle.std.proofs.lemmas.Bool.{cond-true, false≢true, lt-ltb}
 use Rattle.std.proofs.lemmas.Slice.Eq.{ends_is}
-use Rattle.std.proofs.lemmas.List.{map-append, drop-map, drop_more, length-map, length-reverse, length-take-le, reverse-append, take-append-drop, drop_at, drop_all, drop-drop}
+use Rattle.std.proofs.lemmas.List.{map-append, drop-map, drop_more, get_or-take, length-map, length-reverse, length-take-le, reverse-append, take-append-drop, drop_at, drop_all, drop-drop}
 use Rattle.base.specs.Labels.{NameValue, AreLabels, IsWire, wire_of, labels_of}
 use Rattle.base.specs.NameOrder.{folded, folded_labels, is_zone_of, lowered, same_labels, labels_cmp, name_cmp}
 use Rattle.base.specs.NameOrderLaws.{labels_decide, labels_tie}
@@ -196,11 +196,14 @@ shorter_ended m n i is = elim (one_ended m n) [
   ))
 ]
 
--- the next bytes decide first, unless they are equal
-pub cmp_next : (xs ys : List ℕ) (i : ℕ) (order : Ordering) → i < length xs → i < length ys → order ≡ nat_cmp (to_ascii_lowercase (get_or xs i 0)) (to_ascii_lowercase (get_or ys i 0))
+-- the next bytes that both have decide first, unless they are equal
+pub cmp_next : (xs ys : List ℕ) (m i : ℕ) (order : Ordering) → m ≡ min (length xs) (length ys) → i < m → order ≡ nat_cmp (to_ascii_lowercase (get_or (take m xs) i 0)) (to_ascii_lowercase (get_or (take m ys) i 0))
     → slice_cmp nat_cmp (map to_ascii_lowercase (drop i xs)) (map to_ascii_lowercase (drop i ys))
     ≡ ordering_then order (slice_cmp nat_cmp (map to_ascii_lowercase (drop (i + 1) xs)) (map to_ascii_lowercase (drop (i + 1) ys)))
-cmp_next xs ys i order x y is = rw (is, drop_more xs i 0 x, drop_more ys i 0 y) refl
+cmp_next xs ys m i order shared inside is =
+    let x : i < length xs = omega (arith, inside, shared, min-le_left (length xs) (length ys)) in
+    let y : i < length ys = omega (arith, inside, shared, min-le_right (length xs) (length ys)) in
+    rw (is, get_or-take m xs i 0 inside, get_or-take m ys i 0 inside, drop_more xs i 0 x, drop_more ys i 0 y) refl
 
 pub then-ne : (a b : Ordering) → is_ne a ≡ true → ordering_then a b ≡ a
 then-ne Less b differ = refl

@@ -1,6 +1,4 @@
-use Rattle.std.proofs.Common.{sym, ap, ◌∙◌, arith, ◌≡◌, ◌<◌, length, refl}
-use Rattle.std.proofs.Math.Nat.{min-le_left, min-le_right}
-use Rattle.std.proofs.lemmas.List.{get_or-take}
+use Rattle.std.proofs.Common.{sym, ap, ◌∙◌, arith, ◌≡◌, refl}
 use Rattle.std.specs.Char.{to_ascii_lowercase}
 use Rattle.std.specs.Cmp.{nat_cmp_is}
 use Rattle.std.specs.declared.cmp.Ordering.TheVariants.{Equal}
@@ -15,36 +13,16 @@ returns c =
 
 pub loop-i-preserved : goal.loop-i-preserved
 loop-i-preserved c =
-    let left = c.args.left.now in
-    let right = c.args.right.now in
-    let i = c.loop-i.i in
-    let x : i < length left = omega (arith, c.loop-i-test.true, c.min-shared.ensures, min-le_left (length left) (length right)) in
-    let y : i < length right = omega (arith, c.loop-i-test.true, c.min-shared.ensures, min-le_right (length left) (length right)) in
+    let next = cmp_next c.args.left.now c.args.right.now c.min-shared.result c.loop-i.i in
     elim c.if-front-i.branch [
       | then-front-i+else-is_ne w ↦
-          let order = w.cmp-order.ensures ∙ rw (
-            w.to_ascii_lowercase.ensures.value,
-            w.to_ascii_lowercase-then-front-i.ensures.value,
-            get_or-take c.min-shared.result left i 0 c.loop-i-test.true,
-            get_or-take c.min-shared.result right i 0 c.loop-i-test.true,
-          ) refl in
-          sym (cmp_next left right i w.cmp-order.result x y order ∙ then-eq w.cmp-order.result _ (sym w.is_ne.ensures ∙ w.if-is_ne.false)) ∙ c.loop-i.invariant
-      | else-front-i w ↦
-          let same = ap to_ascii_lowercase (sym (get_or-take c.min-shared.result left i 0 c.loop-i-test.true) ∙ w.if-front-i.false ∙ get_or-take c.min-shared.result right i 0 c.loop-i-test.true) in
-          sym (cmp_next left right i Equal x y (nat_cmp_is _ _ Equal same)) ∙ c.loop-i.invariant
+          let order = w.cmp-order.ensures ∙ rw (w.to_ascii_lowercase.ensures.value, w.to_ascii_lowercase-then-front-i.ensures.value) refl in
+          sym (next w.cmp-order.result c.min-shared.ensures c.loop-i-test.true order ∙ then-eq w.cmp-order.result _ (sym w.is_ne.ensures ∙ w.if-is_ne.false)) ∙ c.loop-i.invariant
+      | else-front-i w ↦ sym (next Equal c.min-shared.ensures c.loop-i-test.true (nat_cmp_is _ _ Equal (ap to_ascii_lowercase w.if-front-i.false))) ∙ c.loop-i.invariant
     ]
 
 pub returns-then-is_ne : goal.returns-then-is_ne
 returns-then-is_ne c =
-    let left = c.args.left.now in
-    let right = c.args.right.now in
-    let i = c.loop-i.i in
-    let x : i < length left = omega (arith, c.loop-i-test.true, c.min-shared.ensures, min-le_left (length left) (length right)) in
-    let y : i < length right = omega (arith, c.loop-i-test.true, c.min-shared.ensures, min-le_right (length left) (length right)) in
-    let order = c.cmp-order.ensures ∙ rw (
-      c.to_ascii_lowercase.ensures.value,
-      c.to_ascii_lowercase-then-front-i.ensures.value,
-      get_or-take c.min-shared.result left i 0 c.loop-i-test.true,
-      get_or-take c.min-shared.result right i 0 c.loop-i-test.true,
-    ) refl in
-    sym (cmp_next left right i c.cmp-order.result x y order ∙ then-ne c.cmp-order.result _ (sym c.is_ne.ensures ∙ c.if-is_ne.true)) ∙ c.loop-i.invariant
+    let order = c.cmp-order.ensures ∙ rw (c.to_ascii_lowercase.ensures.value, c.to_ascii_lowercase-then-front-i.ensures.value) refl in
+    sym (cmp_next c.args.left.now c.args.right.now c.min-shared.result c.loop-i.i c.cmp-order.result c.min-shared.ensures c.loop-i-test.true order
+    ∙ then-ne c.cmp-order.result _ (sym c.is_ne.ensures ∙ c.if-is_ne.true)) ∙ c.loop-i.invariant
