@@ -1,19 +1,19 @@
 -- Labels in lower case, and the order of labels from the last on.
-use Rattle.std.proofs.Common.{◌≡◌, ℕ, zero, suc, ◌+◌, ◌-◌, ◌≤◌, ◌⊎◌, inl, inr, List, [], ◌∷◌, ◌++◌}
-use Rattle.std.proofs.Common.{length, map, reverse, take, drop, refl, ap, sym, ◌∙◌, arith, Bool, true, length-append, length-drop, min, subst}
+use Rattle.std.proofs.Common.{◌≡◌, ℕ, zero, suc, ◌+◌, ◌-◌, ◌≤◌, ◌⊎◌, inl, inr, List, [], ◌∷◌, ◌++◌, ◌<◌, get_or}
+use Rattle.std.proofs.Common.{length, map, reverse, take, drop, refl, ap, sym, ◌∙◌, arith, Bool, true, false, length-append, length-drop, min, subst}
 use Rattle.std.proofs.Math.Nat.{min-le_left, min-le_right, min-eq_left, min-eq_right}
 use Rattle.std.proofs.lemmas.Bool.Decides.{nat_tests}
 use Rattle.std.specs.declared.cmp.Ordering.{Ordering}
 use Rattle.std.specs.declared.cmp.Ordering.TheVariants.{Less, Equal, Greater}
 use Rattle.std.specs.Cmp.{Equal-is}
 use Rattle.std.specs.Cmp.Lexicographic.{bytes_decides, slice_cmp}
-use Rattle.std.specs.Ordering.{bool_cmp, nat_cmp, ordering_then}
+use Rattle.std.specs.Ordering.{bool_cmp, is_ne, nat_cmp, ordering_then}
 use Rattle.std.specs.Prelude.{IsTrue, ◌↔◌, nat_lt}
 use Rattle.std.specs.Bool.{Decides, one_answer}
 use Rattle.std.specs.Char.{to_ascii_lowercase}
-use Rattle.std.proofs.lemmas.Bool.{cond-true, lt-ltb}
+use Rattle.std.proofs.lemmas.Bool.{cond-true, false≢true, lt-ltb}
 use Rattle.std.proofs.lemmas.Slice.Eq.{ends_is}
-use Rattle.std.proofs.lemmas.List.{map-append, drop-map, length-map, length-reverse, length-take-le, reverse-append, take-append-drop, drop_at, drop_all, drop-drop}
+use Rattle.std.proofs.lemmas.List.{map-append, drop-map, drop_more, get_or-take, length-map, length-reverse, length-take-le, reverse-append, take-append-drop, drop_at, drop_all, drop-drop}
 use Rattle.base.specs.Labels.{NameValue, AreLabels, IsWire, wire_of, labels_of}
 use Rattle.base.specs.NameOrder.{folded, folded_labels, is_zone_of, lowered, same_labels, labels_cmp, name_cmp}
 use Rattle.base.specs.NameOrderLaws.{labels_decide, labels_tie}
@@ -195,6 +195,25 @@ shorter_ended m n i is = elim (one_ended m n) [
         (arith, above)),
   ))
 ]
+
+-- the next bytes that both have decide first, unless they are equal
+pub cmp_next : (xs ys : List ℕ) (m i : ℕ) (order : Ordering) → m ≡ min (length xs) (length ys) → i < m → order ≡ nat_cmp (to_ascii_lowercase (get_or (take m xs) i 0)) (to_ascii_lowercase (get_or (take m ys) i 0))
+    → slice_cmp nat_cmp (map to_ascii_lowercase (drop i xs)) (map to_ascii_lowercase (drop i ys))
+    ≡ ordering_then order (slice_cmp nat_cmp (map to_ascii_lowercase (drop (i + 1) xs)) (map to_ascii_lowercase (drop (i + 1) ys)))
+cmp_next xs ys m i order shared inside is =
+    let x : i < length xs = omega (arith, inside, shared, min-le_left (length xs) (length ys)) in
+    let y : i < length ys = omega (arith, inside, shared, min-le_right (length xs) (length ys)) in
+    rw (is, get_or-take m xs i 0 inside, get_or-take m ys i 0 inside, drop_more xs i 0 x, drop_more ys i 0 y) refl
+
+pub then-ne : (a b : Ordering) → is_ne a ≡ true → ordering_then a b ≡ a
+then-ne Less b differ = refl
+then-ne Equal b differ = absurd (false≢true differ)
+then-ne Greater b differ = refl
+
+pub then-eq : (a b : Ordering) → is_ne a ≡ false → ordering_then a b ≡ b
+then-eq Less b same = absurd (false≢true (sym same))
+then-eq Equal b same = refl
+then-eq Greater b same = absurd (false≢true (sym same))
 
 -- where the shorter list has ended, the longer is the greater
 pub ended_after : (xs ys : List ℕ) (i : ℕ) → i ≡ min (length xs) (length ys)

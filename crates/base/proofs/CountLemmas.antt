@@ -1,7 +1,8 @@
 -- The offsets that are kept, as a set, and how many pointers are followed.
 use Rattle.std.proofs.Common.{◌≡◌, ℕ, zero, suc, ◌+◌, ◌-◌, ◌^◌, ◌<◌, ◌≤◌, inl, inr, Bool}
 use Rattle.std.proofs.Common.{true, false, cond, List, [], ◌∷◌, ◌++◌, length, refl, ap, sym, ◌∙◌, subst, arith, length-append}
-use Rattle.std.specs.Prelude.{Option, Some, None, is_some, min, nat_eq, All, ◌||◌, ◌&&◌, not}
+use Rattle.std.specs.Prelude.{Option, Some, None, is_some, min, nat_eq, All, ◌||◌, ◌&&◌, not, Result, Ok, Err}
+use Rattle.std.specs.Result.{IsErr}
 use Rattle.std.specs.Cmp.{nat_cmp_total, eq_by_cmp_equiv, unsigned_tied, unsigned_ties}
 use Rattle.std.specs.FinMap as map
 use Rattle.std.specs.FinSet as set
@@ -18,7 +19,7 @@ use Rattle.base.specs.Pointers.{AreKept, Cache, Followed, IsKept, IsSource, Keep
 use Rattle.base.proofs.SpellingLemmas.{spelled_once}
 use Rattle.std.specs.declared.cmp.Ordering.{Ordering}
 use Rattle.std.specs.declared.cmp.Ordering.TheVariants.{Less, Equal, Greater}
-use Rattle.base.specs.Counts.{IsCounted, IsPassed}
+use Rattle.base.specs.Counts.{Counts, IsCounted, IsPassed, Passes}
 use Rattle.base.specs.Passing.{NamesPass, is_among, inserted, one_more, passed}
 use Rattle.base.specs.Spelling.{Spelled, ends, label, pointer}
 use Rattle.base.specs.Reader.{Reader}
@@ -270,5 +271,20 @@ counted_after past f some counted =
       omega (arith, past.jumps, raised, counted, few, f.all),
     )
 
+-- a read of a name is refused
+pub counted_refused : {ts : List ℕ} {old new : Reader} → Followed ts old new → set.len old.kept ≤ 16384 → IsCounted old → new.jumps ≤ 16384
+counted_refused f some counted =
+    let few = f.few some in
+    omega (arith, f.jumps (omega (arith, counted, few, f.all)), counted, few, f.all)
+
 pub passed_after : {ts : List ℕ} {old new last : Reader} {xs : List (List ℕ)} {e : ℕ} (h : Spelled old.bytes xs old.index old.index e) → IsAfterName ts old new last h → IsPassed old → IsPassed last
 passed_after h past p = one_passed h p past.bytes past.index past.passes
+
+-- after a refusal, only how many pointers were followed is said
+pub Counts-refused : {X E : Type 0} (old new : Reader) (r : Result X E) → IsErr r → (IsCounted old → new.jumps ≤ 16384) → Counts old new r
+Counts-refused old new (Ok x) refused few = absurd (false≢true refused)
+Counts-refused old new (Err e) refused few = few
+
+pub Passes-refused : {X E : Type 0} (old new : Reader) (r : Result X E) → IsErr r → Passes old new r
+Passes-refused old new (Ok x) refused = absurd (false≢true refused)
+Passes-refused old new (Err e) refused = tt

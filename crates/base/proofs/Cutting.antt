@@ -2,7 +2,7 @@
 use Rattle.std.proofs.Common.{◌≡◌, ℕ, ◌+◌, ◌<◌, ◌≤◌, List, [], ◌∷◌, ◌++◌, length, take, drop, get_or, refl, ap, sym, ◌∙◌, arith, append_assoc, Option, Some, None, Bool, true, false}
 use Rattle.std.specs.Prelude.{not, ◌&&◌, ◌==◌, ◌≢◌, slice_get}
 use Rattle.std.proofs.lemmas.Bool.Decides.{nat_tests}
-use Rattle.std.proofs.lemmas.List.{drop_more, take_more}
+use Rattle.std.proofs.lemmas.List.{append-nil, drop_more, take_more}
 use Rattle.base.specs.Tokens.{before, ends_item, is_line_end, item, line_end, past_separators, quoted, separates}
 
 before-before : (a b : List ℕ) (c : Option (List ℕ × List ℕ)) → before a (before b c) ≡ before (a ++ b) c
@@ -24,6 +24,11 @@ item_step kept c rest goes = rw goes refl
 pub item_more : (text : List ℕ) (i : ℕ) (kept : Bool) → i < length text → not kept && ends_item (get_or text i 0) ≡ false
     → before (take i text) (item kept (drop i text)) ≡ item false text → before (take (i + 1) text) (item (not kept && get_or text i 0 == 92) (drop (i + 1) text)) ≡ item false text
 item_more text i kept inside goes whole = cut_more (item kept) (item (not kept && get_or text i 0 == 92)) text i inside (λ rest. item_step kept (get_or text i 0) rest goes) ∙ whole
+
+-- before a byte that ends it, the item is cut off
+pub item_end : (text : List ℕ) (i : ℕ) → i < length text → ends_item (get_or text i 0) ≡ true → before (take i text) (item false (drop i text)) ≡ Some (take i text, drop i text)
+unfolding item
+item_end text i inside ends = rw (drop_more text i 0 inside, ends, append-nil) refl
 
 quoted_step : (kept : Bool) (c : ℕ) (rest : List ℕ) → not kept && c == 34 ≡ false → quoted kept (c ∷ rest) ≡ before (c ∷ []) (quoted (not kept && c == 92) rest)
 unfolding quoted

@@ -1,10 +1,12 @@
 -- The decimal digits of an escaped byte (RFC 1035, 5.1).
-use Rattle.std.proofs.Common.{◌≡◌, ℕ, ◌+◌, ◌-◌, ◌^◌, ◌<◌, ◌≤◌, ◌/◌, ◌%◌, [], ◌∷◌, ◌++◌, ap, ◌∙◌, arith, false, ⊎_elim}
+use Rattle.std.proofs.Common.{◌≡◌, ℕ, ◌+◌, ◌-◌, ◌^◌, ◌<◌, ◌≤◌, ◌/◌, ◌%◌, [], ◌∷◌, ◌++◌, ap, ◌∙◌, arith, true, false, ⊎_elim}
 use Rattle.std.proofs.lemmas.Bool.{cases_lt}
 use Rattle.std.proofs.lemmas.Fmt.{decimal_digit, decimal_step}
+use Rattle.std.proofs.Math.Utf8.{encode}
+use Rattle.std.proofs.lemmas.Str.{encode_ascii}
 use Rattle.std.specs.Char.{is_ascii_graphic}
 use Rattle.std.specs.Fmt.{decimal, format_spec, padded_integral, char_count}
-use Rattle.base.specs.NameText.{byte_text, decimal_text}
+use Rattle.base.specs.NameText.{byte_text, decimal_text, is_special}
 
 -- a number of two digits
 two_digits : (n : ℕ) → 10 ≤ n → n < 100 → decimal n ≡ (48 + n / 10) ∷ (48 + n % 10) ∷ []
@@ -31,3 +33,10 @@ three_places n small = ⊎_elim
 -- a byte that isn't printable, or is a space, is written as its number
 pub escaped : (b : ℕ) → is_ascii_graphic b ≡ false → decimal_text b ≡ byte_text b
 escaped b plain = search (plain, arith)
+
+-- a special one is written after a backslash, and any other as itself
+pub special : (b : ℕ) → is_ascii_graphic b ≡ true → is_special b ≡ true → 92 ∷ encode b ≡ byte_text b
+special b graphic is = rw (encode_ascii b (search (graphic, arith)), is) (search (graphic, arith))
+
+pub plain : (b : ℕ) → is_ascii_graphic b ≡ true → is_special b ≡ false → encode b ≡ byte_text b
+plain b graphic is = rw (encode_ascii b (search (graphic, arith)), is) (search (graphic, arith))

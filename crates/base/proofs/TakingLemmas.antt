@@ -1,7 +1,8 @@
--- Which tokens take memory.
-use Rattle.std.proofs.Common.{◌≡◌, ℕ, refl, sym, ◌∙◌, ap, List, [], ◌∷◌, length, Option, Some, None, Bool, true, false}
+-- The token that a text begins with, and which tokens take memory.
+use Rattle.std.proofs.Common.{◌≡◌, ℕ, refl, sym, ◌∙◌, ap, ◌≢◌, List, [], ◌∷◌, get_or, length, Option, Some, None, Bool, true, false}
 use Rattle.std.specs.Prelude.{◌==◌, ◌&&◌, codes, slice_get}
 use Rattle.std.specs.Str.{bytes_eq}
+use Rattle.std.proofs.lemmas.Bool.{ne_eqb}
 use Rattle.base.specs.Cuts.{TakesNone}
 use Rattle.base.specs.Tokens.{Unread, begins_blank, begins_with, is_line_end, item, item_token, list_items, next, next_item, next_list, next_quoted, past_blanks, past_comment, quoted, token_or_fault, visible, within_line}
 
@@ -44,6 +45,24 @@ visible_takes (c ∷ text) first is goes = go (c == 34) refl (c == 40) refl (c =
   go false quotes true o closing k = rw (no_end, quotes, o) (list_takes (list_items (length text) text))
   go false quotes false o true k = rw (no_end, quotes, o, k) (λ never. never)
   go false quotes false o false k = rw (no_end, quotes, o, k) (item_takes (item false (c ∷ text)))
+
+-- the token that a text begins with, by its first byte
+pub visible_quoted : (text rest : List ℕ) (first : ℕ) → slice_get text 0 ≡ Some first → first ≡ 34 → text ≡ get_or text 0 0 ∷ rest → visible text ≡ next_quoted (quoted false rest)
+unfolding visible
+visible_quoted [] rest first is quote at = absurd cc
+visible_quoted (c ∷ text) rest first is quote at = let same : c ≡ 34 = cc quote in let tail : text ≡ rest = cc at in rw (same, tail) refl
+
+pub visible_list : (text rest : List ℕ) (first : ℕ) → slice_get text 0 ≡ Some first → first ≡ 40 → text ≡ get_or text 0 0 ∷ rest → visible text ≡ next_list (list_items (length rest) rest)
+unfolding visible
+visible_list [] rest first is opens at = absurd cc
+visible_list (c ∷ text) rest first is opens at = let same : c ≡ 40 = cc opens in let tail : text ≡ rest = cc at in rw (same, tail) refl
+
+pub visible_item : (text : List ℕ) (first : ℕ) → slice_get text 0 ≡ Some first → is_line_end first ≡ false → first ≢ 34 → first ≢ 40 → first ≢ 41 → visible text ≡ next_item (item false text)
+unfolding visible
+visible_item [] first is goes quotes opens closes = absurd (cc is)
+visible_item (c ∷ text) first is goes quotes opens closes =
+    let same : c ≡ first = cc is in
+    rw (ap is_line_end same ∙ goes, ap (λ b. b == 34) same ∙ ne_eqb first 34 quotes, ap (λ b. b == 40) same ∙ ne_eqb first 40 opens, ap (λ b. b == 41) same ∙ ne_eqb first 41 closes) refl
 
 -- what comes next where no blanks of a line's beginning do
 pub next_visible : (unread : Unread) (rest text : List ℕ) → (unread.at_line_start && begins_blank

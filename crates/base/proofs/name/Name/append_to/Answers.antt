@@ -1,5 +1,5 @@
 use Rattle.std.proofs.Common.{◌≡◌, ℕ, ◌+◌, ◌≤◌, ◌∙◌, List, [], ◌∷◌, ◌++◌, length, length-append, take, refl, Err, Some, None, ap, sym, arith}
-use Rattle.std.proofs.lemmas.List.{take_at}
+use Rattle.std.proofs.lemmas.List.{length-take-le, take_at}
 use Rattle.std.proofs.lemmas.Result.{err_from_is_err_and}
 use Rattle.base.specs.AppendError.{refusal, told}
 use Rattle.base.specs.Labels.{labels_of}
@@ -25,6 +25,18 @@ loop-label-init c =
 -- a label with its length before it
 label_bytes : (rest x tail : List ℕ) → rest ≡ (length x ∷ x) ++ tail → take (1 + length x) rest ≡ length x ∷ x
 label_bytes rest x tail is = ap (take (1 + length x)) is ∙ take_at (length x ∷ x) tail (1 + length x) (omega arith)
+
+pub slice_bounds-append-end-in-Some : goal.slice_bounds-append-end-in-Some
+slice_bounds-append-end-in-Some c =
+    let x = c.in-Some.label.now in
+    sym (length-take-le (1 + length x) c.loop-label.rest.now (omega (arith, ap length c.in-Some.ensures.bytes, length-append (length x ∷ x) c.in-Some.tail.now)))
+
+pub store-requires-clause-stands : goal.store-requires-clause-stands
+store-requires-clause-stands c =
+    let x = c.in-Some.label.now in
+    let s = state_of c.loop-label.encoder in
+    let wrote = c.in_ok-append.ensures.exact ∙ ap (λ bytes. appended bytes s) (label_bytes _ _ _ c.in-Some.ensures.bytes) in
+    omega (arith, c.len-at.ensures, ap (λ (u : State). length u.bytes) wrote, length-append s.bytes (length x ∷ x))
 
 pub loop-label-preserved : goal.loop-label-preserved
 loop-label-preserved c =

@@ -1,4 +1,5 @@
 use Rattle.std.proofs.Common.{◌≡◌, ◌≤◌, ap, arith, length, refl, subst, sym, ◌∙◌}
+use Rattle.std.proofs.lemmas.Bool.{false≢true}
 use Rattle.std.specs.Prelude.{map}
 use Rattle.std.specs.Char.{to_ascii_lowercase}
 use Rattle.base.specs.Labels.{IsWire, NameValue, labels_of, wire_of}
@@ -25,4 +26,4 @@ returns-in_err-labels-clause-inline c = λ short.
     let labels = ap (λ (n : NameValue). length (wire_of n.labels)) c.self.view_is in
     let wire = ap length c.self.invariant.whole in
     let few : length c.as_slice.result.now ≤ 29 = omega (arith, short, labels, wire, ap length c.as_slice.ensures) in
-    absurd (let none = c.in_err-labels.ensures.inline few in cc)
+    absurd (false≢true (c.in_err-labels.ensures.inline few))

@@ -12,7 +12,7 @@ use Rattle.base.specs.Names.{label_of, part_at, pointer_to, zero_byte}
 use Rattle.std.specs.FinSet as set
 use Rattle.std.specs.Ordering.{nat_cmp}
 use Rattle.base.specs.Passing.{IsClosed}
-use Rattle.std.proofs.lemmas.List.{map_push}
+use Rattle.std.proofs.lemmas.List.{length-take-le, map_push}
 use Rattle.std.proofs.lemmas.List.Elements.{All-nil, All-same, All-weaker, All-push}
 use Rattle.base.proofs.TailLemmas.{Tail, Ends, Tail-new, Tail-label, Tail-pointer, Tail-root, Tail-kept}
 use Rattle.base.proofs.PassLemmas.{Lead, Lead-kept, Lead-label, Lead-pointer, Lead-root, Leads, Leads-kept, Leads-label, Leads-none, Leads-pointer, Leads-root}
@@ -21,13 +21,26 @@ use Rattle.base.proofs.PieceLemmas.{found, last_more, last_pushed, of_any, of_la
 use Rattle.base.proofs.name.reading.gather_labels.Goals as goal
 use Rattle.base.proofs.name.reading.gather_labels.Goals.{in-Some+in_ok-push, in_default, then-at-eq0, else-at-eq0}
 
+-- what was followed
+followed_by : {ts : List ℕ} {start : ℕ} {old new : Reader} → Follows ts start old new → Followed ts old new
+followed_by f = record { now = f.now; jumps = f.jumps; all = f.all; few = f.few }
+
 -- memory ran out for the pointer that was found before
-pub returns-in_err-push-clause-followed : goal.returns-in_err-push-clause-followed
-returns-in_err-push-clause-followed c =
+pub returns-in_err-push : goal.returns-in_err-push
+returns-in_err-push c =
     let old = c.args.decoder.now in
-    let f = Follows-none 0 old in
-    let none : Followed [] old old = record { now = f.now; jumps = f.jumps; all = f.all; few = f.few } in
-    subst (λ (ps : List FollowedPointer). Followed (targets ps) old old) (sym (c.in_err-push.ensures.err ∙ c.requires.none)) none
+    let p = err_from_is_err_and c.from_residual.result c.from_residual.ensures.1 in
+    rw (p.1, p.2) (record {
+      read = tt;
+      used = tt;
+      end = tt;
+      wire = tt;
+      kept = tt;
+      last = tt;
+      followed = subst (λ (ps : List FollowedPointer). Followed (targets ps) old old) (sym (c.in_err-push.ensures.err ∙ c.requires.none)) (followed_by (Follows-none 0 old));
+      these = tt;
+      later = tt;
+    })
 
 pub parts-init : goal.parts-init
 parts-init c =
@@ -71,16 +84,30 @@ parts-init c =
           })
     ]
 
-pub returns-in_err-read_part-clause-read : goal.returns-in_err-read_part-clause-read
-returns-in_err-read_part-clause-read c =
+pub returns-in_err-read_part : goal.returns-in_err-read_part
+returns-in_err-read_part c =
     let p = err_from_is_err_and c.from_residual-in_err-read_part.result c.from_residual-in_err-read_part.ensures.1 in
     let fault = c.in_err-read_part.field-0.0 in
     let is = part_is_there c.args.decoder.now.bytes c.parts.piece.now c.parts.start c.parts.at (Err fault) c.parts.invariant.piece c.in_err-read_part.ensures.value in
-    rw (p.1, p.2) (fails_is fault _ (at_fault c.parts.invariant.gathers fault is))
+    rw (p.1, p.2) (record {
+      read = fails_is fault _ (at_fault c.parts.invariant.gathers fault is);
+      used = tt;
+      end = tt;
+      wire = tt;
+      kept = tt;
+      last = tt;
+      followed = followed_by c.parts.invariant.follows;
+      these = tt;
+      later = tt;
+    })
 
 -- the bytes of the piece that are read
 piece_len : (bytes piece : List ℕ) (start at : ℕ) → piece ≡ drop start bytes → start + at ≤ length bytes → at ≤ length piece
 piece_len bytes piece start at same inside = omega (arith, ap length same, length-drop start bytes, inside)
+
+pub slice_bounds-result-end : goal.slice_bounds-result-end
+slice_bounds-result-end c =
+    sym (length-take-le c.parts.at c.parts.piece.now (piece_len c.args.decoder.now.bytes c.parts.piece.now c.parts.start c.parts.at c.parts.invariant.piece c.parts.invariant.gathers.inside))
 
 pub returns-in-Root-clause-read : goal.returns-in-Root-clause-read
 returns-in-Root-clause-read c =
@@ -207,6 +234,26 @@ parts-preserved c =
       lead = subst (λ (k : ℕ). Lead bytes c.push-in-Pointer.new.self t k) here
           (subst (λ (ps : List FollowedPointer). Lead bytes ps t t) (sym items) (Lead-pointer bytes start at c.parts.followed one is c.parts.invariant.lead));
       follows = subst (λ (ts : List ℕ). Follows ts t old c.follow-piece-in-Pointer.new.self) (sym more) follows;
+    })
+
+pub follow-piece-requires-in-Pointer : goal.follow-piece-requires-in-Pointer
+follow-piece-requires-in-Pointer c =
+    omega (arith, c.from.ensures, c.if-from-start.false, c.parts.invariant.gathers.low, ap length (bytes_are c.parts.invariant.follows))
+
+-- memory ran out for another pointer
+pub returns-in_err-push-in-Pointer : goal.returns-in_err-push-in-Pointer
+returns-in_err-push-in-Pointer c =
+    let p = err_from_is_err_and c.from_residual-in_err-push-in-Pointer.result c.from_residual-in_err-push-in-Pointer.ensures.1 in
+    rw (p.1, p.2, c.in_err-push-in-Pointer.ensures.err) (record {
+      read = tt;
+      used = tt;
+      end = tt;
+      wire = tt;
+      kept = tt;
+      last = tt;
+      followed = followed_by c.parts.invariant.follows;
+      these = tt;
+      later = tt;
     })
 
 kept_is : (B C : List ℕ) (t : ℕ) (xs : List ℕ) → C ≡ B → IsKept C t xs → IsKept B t xs

@@ -1,13 +1,15 @@
-use Rattle.std.proofs.Common.{◌≡◌, ◌∙◌, ℕ, List, ap, arith, take}
+use Rattle.std.proofs.Common.{rules, ◌≡◌, ◌∙◌, ℕ, List, ap, arith, take}
 use Rattle.std.specs.FinSet as set
 use Rattle.std.specs.Ordering.{nat_cmp}
+use Rattle.std.proofs.lemmas.Result.{err_from_is_err_and}
 use Rattle.base.specs.Labels.{labels_of}
+use Rattle.base.specs.Names.{name_at}
 use Rattle.base.specs.Pointers.{targets}
 use Rattle.base.specs.Passing.{inserted, passed}
 use Rattle.base.specs.Reader.{Reader}
 use Rattle.base.specs.Spelling.{Spelled}
 use Rattle.base.proofs.AddsLemmas.{adds_name}
-use Rattle.base.proofs.CountLemmas.{IsAfterName, counted_after, ends_after, passed_after}
+use Rattle.base.proofs.CountLemmas.{IsAfterName, counted_after, counted_refused, ends_after, passed_after}
 use Rattle.base.proofs.GatherLemmas.{spelled_is}
 use Rattle.base.proofs.PassLemmas.{passes_are_kept}
 use Rattle.base.proofs.name.reading.read_following.Goals as goal
@@ -67,3 +69,51 @@ returns-clause-counts c = counted_after (after c) c.in_ok-used.ensures.followed 
 
 pub returns-clause-passed : goal.returns-clause-passed
 returns-clause-passed c = passed_after (spelled c) (after c)
+
+pub keep_targets-requires-clause-spelled : goal.keep_targets-requires-clause-spelled
+keep_targets-requires-clause-spelled c = rw c.in_ok-used.ensures.followed.now c.in_ok-used.ensures.kept
+
+pub keep_targets-requires-clause-last : goal.keep_targets-requires-clause-last
+keep_targets-requires-clause-last c = rw c.in_ok-used.ensures.followed.now c.in_ok-used.ensures.last
+
+pub keep_targets-requires-clause-later : goal.keep_targets-requires-clause-later
+keep_targets-requires-clause-later c = rw c.in_ok-used.ensures.followed.now c.in_ok-used.ensures.later
+
+pub keep_targets-requires-clause-new : goal.keep_targets-requires-clause-new
+keep_targets-requires-clause-new c = rw c.in_ok-used.ensures.followed.now c.in_ok-used.ensures.followed.all
+
+-- ---- refusals
+
+pub returns-in_err-used : goal.returns-in_err-used
+unfolding name_at
+returns-in_err-used c =
+    let p = err_from_is_err_and c.from_residual.result c.from_residual.ensures.1 in
+    rw (p.1, p.2) (record {
+      read = search rules;
+      counts = counted_refused c.in_err-used.ensures.followed c.allocator.ensures.few;
+      passed = tt;
+      passes = tt;
+      adds = tt;
+    })
+
+pub returns-in_err-labels : goal.returns-in_err-labels
+returns-in_err-labels c =
+    let p = err_from_is_err_and c.from_residual-in_err-labels.result c.from_residual-in_err-labels.ensures.1 in
+    rw (p.1, p.2) (record {
+      read = tt;
+      counts = counted_refused c.in_ok-used.ensures.followed c.allocator.ensures.few;
+      passed = tt;
+      passes = tt;
+      adds = tt;
+    })
+
+pub returns-in_err-keep_targets : goal.returns-in_err-keep_targets
+returns-in_err-keep_targets c =
+    let p = err_from_is_err_and c.from_residual-in_err-keep_targets.result c.from_residual-in_err-keep_targets.ensures.1 in
+    rw (p.1, p.2, c.in_err-keep_targets.ensures.only) (record {
+      read = tt;
+      counts = λ counted. omega (arith, c.in_err-keep_targets.ensures.err, counted_refused c.in_ok-used.ensures.followed c.allocator.ensures.few counted);
+      passed = tt;
+      passes = tt;
+      adds = tt;
+    })

@@ -1,6 +1,7 @@
 use Rattle.std.proofs.Common.{arith, rules}
-use Rattle.std.proofs.lemmas.Result.{err_from_is_err_and}
+use Rattle.std.proofs.lemmas.Result.{IfOk-from_err, err_from_is_err_and}
 use Rattle.base.proofs.AddsLemmas.{adds_many_all, adds_many_more, adds_many_none}
+use Rattle.base.proofs.CountLemmas.{Counts-refused, Passes-refused}
 use Rattle.base.proofs.ManyLemmas.{gathers_more, gathers_all, gathers_fault}
 use Rattle.base.proofs.wire.many.read_many.Goals as goal
 
@@ -31,3 +32,29 @@ returns-clause-counts g c = c.loop.invariant.counted
 
 pub returns-clause-passed : goal.returns-clause-passed
 returns-clause-passed g c = c.loop.invariant.passed
+
+-- a refusal keeps what was counted
+pub returns-in_err-value-clause-counts : goal.returns-in_err-value-clause-counts
+returns-in_err-value-clause-counts g c =
+    Counts-refused c.args.decoder.now c.read.new.decoder _ c.from_residual-in_err-value.ensures.0 (λ counted. c.in_err-value.ensures.counts (c.loop.invariant.counted counted).0)
+
+pub returns-in_err-value-clause-passed : goal.returns-in_err-value-clause-passed
+returns-in_err-value-clause-passed g c = Passes-refused c.args.decoder.now c.read.new.decoder _ c.from_residual-in_err-value.ensures.0
+
+pub returns-in_err-value-clause-adds : goal.returns-in_err-value-clause-adds
+returns-in_err-value-clause-adds g c = IfOk-from_err _ _ c.from_residual-in_err-value.ensures.0
+
+pub returns-in_err-push-clause-read : goal.returns-in_err-push-clause-read
+returns-in_err-push-clause-read g c =
+    let p = err_from_is_err_and c.from_residual-in_err-push.result c.from_residual-in_err-push.ensures.1 in
+    rw (p.1, p.2) tt
+
+pub returns-in_err-push-clause-counts : goal.returns-in_err-push-clause-counts
+returns-in_err-push-clause-counts g c =
+    Counts-refused c.args.decoder.now c.read.new.decoder _ c.from_residual-in_err-push.ensures.0 (λ counted. (c.in_ok-value.ensures.counts (c.loop.invariant.counted counted).0).1)
+
+pub returns-in_err-push-clause-passed : goal.returns-in_err-push-clause-passed
+returns-in_err-push-clause-passed g c = Passes-refused c.args.decoder.now c.read.new.decoder _ c.from_residual-in_err-push.ensures.0
+
+pub returns-in_err-push-clause-adds : goal.returns-in_err-push-clause-adds
+returns-in_err-push-clause-adds g c = IfOk-from_err _ _ c.from_residual-in_err-push.ensures.0

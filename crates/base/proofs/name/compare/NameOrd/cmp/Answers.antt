@@ -1,4 +1,4 @@
-use Rattle.std.proofs.Common.{◌≡◌, ◌≢◌, ℕ, ap, ◌∙◌, drop, length, arith, length-drop, Option, Some, None}
+use Rattle.std.proofs.Common.{◌≡◌, ◌≢◌, ℕ, ap, refl, ◌∙◌, drop, length, arith, length-drop, Option, Some, None}
 use Rattle.std.specs.Option.{IfNone, IfSome, unwrap_or}
 use Rattle.std.specs.Ordering.{bool_cmp, ordering_then}
 use Rattle.std.specs.declared.cmp.Ordering.{Ordering}
@@ -18,7 +18,7 @@ returns c =
     let left : labels_of c.past_labels-after.result.now ≡ drop c.saturating_sub.result mine.labels = c.past_labels-after.ensures.labels ∙ ap (drop _) c.as_wire-left.ensures.cut in
     let right : labels_of c.past_labels-others_after.result.now ≡ drop c.saturating_sub-2.result others.labels =
     c.past_labels-others_after.ensures.labels ∙ ap (drop _) c.as_wire-right.ensures.cut in
-    let flags : c.cmp-flags.result ≡ bool_cmp mine.absolute others.absolute = cc (c.cmp-flags.ensures, c.is_fqdn.ensures, c.is_fqdn-2.ensures) in
+    let flags : c.cmp-flags.result ≡ bool_cmp mine.absolute others.absolute = c.cmp-flags.ensures ∙ rw (c.is_fqdn.ensures, c.is_fqdn-2.ensures) refl in
     let same : length (labels_of c.past_labels-after.result.now) ≡ length (labels_of c.past_labels-others_after.result.now) =
     omega (
       arith,

@@ -1,4 +1,5 @@
 use Rattle.std.proofs.Common.{rules, ◌≡◌, ◌≢◌, ◌∙◌, Some, ap, length, refl, sym, arith}
+use Rattle.std.proofs.lemmas.Bool.{false≢true}
 use Rattle.base.specs.Labels.{labels_of}
 use Rattle.base.specs.SaysName.{found_as, none_found}
 use Rattle.base.specs.Suffixes.{offset_at, offset_in}
@@ -14,7 +15,7 @@ loop-suffix-preserved c =
     let t = c.suffix-item.result in
     let at = rw c.deref-suffix-items.ensures.value at c.suffix-item.is in
     let inside = c.self.inside in
-    let other : t.labels ≢ labels_of c.args.wire.now = λ same. let yes = c.is.ensures.1 same in absurd cc in
+    let other : t.labels ≢ labels_of c.args.wire.now = λ same. false≢true (sym c.if-is.false ∙ c.is.ensures.1 same) in
     c.loop-suffix.invariant ∙ found_at inside.first.items inside.others.items _ t _ (omega arith) at ∙ found_later t _ _ other
 
 pub returns-then-is-clause-value : goal.returns-then-is-clause-value

@@ -1,4 +1,5 @@
 use Rattle.std.proofs.Common.{rules, ◌≡◌, ◌∙◌, ◌++◌, ◌∷◌, [], length, sym, ap, subst, append_assoc, refl}
+use Rattle.std.proofs.lemmas.Result.{err_from_is_err_and}
 use Rattle.base.specs.Labels.{labels_of}
 use Rattle.base.specs.State.{Stored}
 use Rattle.base.specs.Suffixes.{index_key, offset_in, IsTable}
@@ -29,3 +30,14 @@ invariant_of-self-in_err-reserve c = rw c.in_err-reserve.ensures.items c.self.in
 
 pub returns-clause-ok : goal.returns-clause-ok
 returns-clause-ok c = rw (← c.self.view_is, append_assoc, c.push_reserved.ensures.items, c.in_ok-reserve.ensures.items, c.in_ok-suffix.ensures) refl
+
+-- memory ran out
+pub returns-in_err-reserve : goal.returns-in_err-reserve
+returns-in_err-reserve c =
+    let p = err_from_is_err_and c.from_residual-in_err-reserve.result c.from_residual-in_err-reserve.ensures.1 in
+    rw (p.1, c.in_err-reserve.ensures.items) (record { ok = tt; err = c.self.view_is })
+
+pub returns-in_err-insert : goal.returns-in_err-insert
+returns-in_err-insert c =
+    let p = err_from_is_err_and c.from_residual-in_err-insert.result c.from_residual-in_err-insert.ensures.1 in
+    rw (p.1, c.in_ok-reserve.ensures.items) (record { ok = tt; err = c.self.view_is })
