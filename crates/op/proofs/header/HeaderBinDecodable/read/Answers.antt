@@ -1,6 +1,7 @@
 use Rattle.std.proofs.Common.{◌≡◌, ◌+◌, sym, subst, arith}
 use Rattle.std.specs.Int.{w16}
 use Rattle.base.specs.Words.{IsNumberAt}
+use Rattle.base.proofs.AddsLemmas.{adds_none}
 use Rattle.base_data.proofs.BytesRead.{byte_among, bytes_is, number16_among}
 use Rattle.op.specs.Header.{IsHeaderAt}
 use Rattle.op.specs.declared.header.Header.{Header}
@@ -49,3 +50,6 @@ returns-clause-counts c = c.in_ok-bytes.ensures.counts
 
 pub returns-clause-passed : goal.returns-clause-passed
 returns-clause-passed c = c.in_ok-bytes.ensures.passed
+
+pub returns-clause-adds : goal.returns-clause-adds
+returns-clause-adds c = adds_none c.in_ok-bytes.ensures.read.1 c.in_ok-bytes.ensures.kept
