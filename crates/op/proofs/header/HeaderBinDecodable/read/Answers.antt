@@ -10,6 +10,15 @@ use Rattle.op.specs.declared.header.metadata.Metadata.{Metadata}
 use Rattle.op.proofs.HeaderReading.{header_there, reads_word}
 use Rattle.op.proofs.header.HeaderBinDecodable.read.Goals as goal
 
+pub number-requires : goal.number-requires
+number-requires c = omega (arith, (bytes_is 12 _ _ _ c.in_ok-bytes.ensures.read.0).counted)
+
+pub bounds-bytes-2 : goal.bounds-bytes-2
+bounds-bytes-2 c = omega (arith, (bytes_is 12 _ _ _ c.in_ok-bytes.ensures.read.0).counted)
+
+pub bounds-bytes-3 : goal.bounds-bytes-3
+bounds-bytes-3 c = omega (arith, (bytes_is 12 _ _ _ c.in_ok-bytes.ensures.read.0).counted)
+
 pub number-requires-2 : goal.number-requires-2
 number-requires-2 c = omega (arith, (bytes_is 12 _ _ _ c.in_ok-bytes.ensures.read.0).counted)
 
