@@ -9,6 +9,7 @@ use Rattle.base.proofs.ReadLemmas.{bind_ok}
 use Rattle.base_data.proofs.Tells.{same_ok}
 use Rattle.rr.specs.Record.{record_at, record_places}
 use Rattle.op.specs.Header.{header_at}
+use Rattle.op.specs.Message.{MessageValue, message_at, rest_at}
 use Rattle.op.specs.Places.{counted_places, message_places, queries_places, records_places}
 use Rattle.op.specs.Query.{query_at}
 use Rattle.op.specs.Section.{SectionValue, section_at, section_from, tested}
@@ -76,3 +77,12 @@ adds_message {header} {count} {questions} {old} {first} {second} {new} header_is
     (qs ++ records_places n old.bytes (place_after (many_at query_at header.counts.queries
     old.bytes first.index))) old new) questions_there
     (subst (λ (rs : List ℕ). AddsPassed (queries_places count first.bytes first.index ++ rs) old new) records_there both))
+
+-- a message of its header, its questions and its records
+pub reads_message : {header : Header} {count : ℕ} {questions : List Query} {r : MessageValue × ℕ} {B first second : List ℕ} {j k : ℕ} (i : ℕ) → header_at B i ≡ Ok (header, j) → first ≡ B
+    → many_at query_at count first j ≡ Ok (questions, k) → count ≡ header.counts.queries → second ≡ first → rest_at header.metadata questions header.counts second k ≡ Ok r → message_at B i ≡ Ok r
+unfolding message_at
+reads_message {header} {count} {questions} {r} {B} {j = j} {k} i header_is kept questions_are counted same records =
+    let there = subst (λ (b : List ℕ). many_at query_at count b j ≡ Ok (questions, k)) kept questions_are in
+    let asked = subst (λ (n : ℕ). many_at query_at n B j ≡ Ok (questions, k)) counted there in
+    rw (header_is, asked) (subst (λ (b : List ℕ). rest_at header.metadata questions header.counts b k ≡ Ok r) (same ∙ kept) records)

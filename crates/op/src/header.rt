@@ -170,7 +170,7 @@ impl BinDecodable for Header {
     /// # Errors
     ///
     /// `InsufficientBytes` where fewer than twelve bytes are left.
-    #[tactic(auto, using(base::proofs::AddsLemmas::adds_none), unfolding(crate::specs::Header::header_at))]
+    #[tactic(auto, unfolding(crate::specs::Header::header_at))]
     fn read(decoder: &mut BinDecoder<'_>) -> Result<Header, DecodeError>
         ensures read { Reads (λ x. x) decoder.old decoder.new result
             (header_at decoder.old.bytes decoder.old.index) }

@@ -167,7 +167,6 @@ impl Message {
     ///
     /// The first fault; `Memory` if memory runs out. A decoder that refused isn't used again.
     #[inline(never)]
-    #[tactic(auto, unfolding(crate::specs::Message::message_at))]
     pub fn read(decoder: &mut BinDecoder<'_>) -> Result<Message, DecodeError>
         ensures read { Reads message_value decoder.old decoder.new result
             (message_at decoder.old.bytes decoder.old.index) }

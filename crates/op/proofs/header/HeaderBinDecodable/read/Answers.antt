@@ -1,6 +1,7 @@
 use Rattle.std.proofs.Common.{◌≡◌, ◌+◌, sym, subst, arith}
 use Rattle.std.specs.Int.{w16}
 use Rattle.base.specs.Words.{IsNumberAt}
+use Rattle.base.proofs.AddsLemmas.{adds_none}
 use Rattle.base_data.proofs.BytesRead.{byte_among, bytes_is, number16_among}
 use Rattle.op.specs.Header.{IsHeaderAt}
 use Rattle.op.specs.declared.header.Header.{Header}
@@ -8,6 +9,15 @@ use Rattle.op.specs.declared.header.header_counts.HeaderCounts.{HeaderCounts}
 use Rattle.op.specs.declared.header.metadata.Metadata.{Metadata}
 use Rattle.op.proofs.HeaderReading.{header_there, reads_word}
 use Rattle.op.proofs.header.HeaderBinDecodable.read.Goals as goal
+
+pub number-requires : goal.number-requires
+number-requires c = omega (arith, (bytes_is 12 _ _ _ c.in_ok-bytes.ensures.read.0).counted)
+
+pub bounds-bytes-2 : goal.bounds-bytes-2
+bounds-bytes-2 c = omega (arith, (bytes_is 12 _ _ _ c.in_ok-bytes.ensures.read.0).counted)
+
+pub bounds-bytes-3 : goal.bounds-bytes-3
+bounds-bytes-3 c = omega (arith, (bytes_is 12 _ _ _ c.in_ok-bytes.ensures.read.0).counted)
 
 pub number-requires-2 : goal.number-requires-2
 number-requires-2 c = omega (arith, (bytes_is 12 _ _ _ c.in_ok-bytes.ensures.read.0).counted)
@@ -49,3 +59,6 @@ returns-clause-counts c = c.in_ok-bytes.ensures.counts
 
 pub returns-clause-passed : goal.returns-clause-passed
 returns-clause-passed c = c.in_ok-bytes.ensures.passed
+
+pub returns-clause-adds : goal.returns-clause-adds
+returns-clause-adds c = adds_none c.in_ok-bytes.ensures.read.1 c.in_ok-bytes.ensures.kept

@@ -1,8 +1,8 @@
-use Rattle.std.proofs.Common.{rules}
+use Rattle.std.proofs.Common.{◌∙◌, rules}
 use Rattle.std.proofs.lemmas.Result.{err_from_is_err_and}
 use Rattle.op.specs.Fault.{IsMessageFault}
 use Rattle.op.specs.Message.{message_at, message_value}
-use Rattle.op.proofs.AddsMessage.{adds_message}
+use Rattle.op.proofs.AddsMessage.{adds_message, reads_message}
 use Rattle.op.proofs.BufferLemmas.{first_fault}
 use Rattle.op.proofs.MessageFaults.{refuses_message}
 use Rattle.op.proofs.message.Message.read.Goals as goal
@@ -12,6 +12,13 @@ returns-clause-adds c =
     let header = c.in_ok-header.ensures in
     let questions = c.in_ok-queries.ensures in
     adds_message header.read.0 questions.read.0 c.from.ensures header.adds questions.adds c.in_ok-read_sections.ensures.adds
+
+pub returns-clause-read : goal.returns-clause-read
+returns-clause-read c =
+    let header = c.in_ok-header.ensures.read in
+    let questions = c.in_ok-queries.ensures.read in
+    let records = c.in_ok-read_sections.ensures.read in
+    (reads_message c.args.decoder.now.index header.0 header.1 questions.0 c.from.ensures questions.1 records.0, records.1 ∙ questions.1 ∙ header.1)
 
 pub returns-in_err-header-clause-read : goal.returns-in_err-header-clause-read
 unfolding message_at
