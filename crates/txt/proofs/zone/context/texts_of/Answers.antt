@@ -9,8 +9,15 @@ returns-in_err-push c = IfOk-from_err c.from_residual.result _ c.from_residual.e
 
 pub loop-item-preserved : goal.loop-item-preserved
 loop-item-preserved c =
-    rw (c.in_ok-push.ensures.items, map-append, c.loop-item.invariant, c.as_str.ensures.value, c.item-item.is,
-    take_more c.args.items.now c.loop-item.item-index c.item-item.result c.loop-item-test.true, map-append) refl
+    rw (
+      c.in_ok-push.ensures.items,
+      map-append,
+      c.loop-item.invariant,
+      c.as_str.ensures.value,
+      c.item-item.is,
+      take_more c.args.items.now c.loop-item.item-index c.item-item.result c.loop-item-test.true,
+      map-append,
+    ) refl
 
 pub returns : goal.returns
 returns c = c.loop-item.invariant ∙ ap texts (take_all c.loop-item.item-index c.args.items.now c.loop-item-test.false)

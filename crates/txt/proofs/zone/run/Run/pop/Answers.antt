@@ -12,5 +12,5 @@ invariant_of-self-2 c = (
 
 pub returns-then-not-is_empty-clause-items : goal.returns-then-not-is_empty-clause-items
 returns-then-not-is_empty-clause-items c =
-  sym c.self.view_is ∙ ap (λ (sets : ZoneSets). sets_of c.self.inside.blocks.items sets) c.in_ok-entry.ensures.items
-  ∙ sym (append_assoc (sets_in c.self.inside.blocks.items) c.pop.new.self.items (c.in_ok-entry.entry ∷ []))
+    sym c.self.view_is ∙ ap (λ (sets : ZoneSets). sets_of c.self.inside.blocks.items sets) c.in_ok-entry.ensures.items
+    ∙ sym (append_assoc (sets_in c.self.inside.blocks.items) c.pop.new.self.items (c.in_ok-entry.entry ∷ []))
