@@ -1,4 +1,4 @@
-use Rattle.std.proofs.Common.{ap, sym, ◌∙◌, ◌++◌, ◌∷◌, [], append_assoc}
+use Rattle.std.proofs.Common.{ap, sym, ◌∙◌, ◌∷◌, [], append_assoc}
 use Rattle.txt.specs.Run.{sets_in, sets_of}
 use Rattle.txt.specs.ZoneSets.{ZoneSets}
 use Rattle.txt.proofs.BlockLemmas.{filled_front, filled_last}
