@@ -20,7 +20,7 @@ use Rattle.std.specs.BTreeMap as tree
 use Rattle.std.specs.BTreeMap.{BTreeMap}
 use Rattle.std.specs.List.{IsAmong, list_all, list_any}
 use Rattle.std.specs.Ordering.{eq_by_cmp}
-use Rattle.std.specs.Prelude.{Bool, List, Some, [], cond, drop, false, length, not, slice_index_or, suc, true, zero, ℕ, ◌&&◌, ◌+◌, ◌<◌, ◌≤◌, ◌||◌, ◌∷◌, ◌≡◌}
+use Rattle.std.specs.Prelude.{Bool, List, None, Some, [], cond, drop, false, length, not, slice_index_or, suc, true, zero, ℕ, ◌&&◌, ◌+◌, ◌<◌, ◌≤◌, ◌||◌, ◌∷◌, ◌≡◌}
 
 -- a record that fails a test is passed over
 after_one : (i : ℕ) → suc (i + 1) ≡ suc i + 1
@@ -110,6 +110,10 @@ module _ (m : BTreeMap RrKey SetValue) (class : DNSClass) (all : List (Record RD
   pub both_known : (r : Record RData) (k : RrKey) (b : Bool) → k ≡ record_key r → there_under m r (record_key r) ≡ b → complete_at m class all k ≡ true
       → b ≡ (there_under m r (record_key r) && complete_at m class all (record_key r))
   both_known r k b same there good = sym ((λ i. there i && (ap (complete_at m class all) (sym same) ∙ good) i) ∙ and_true b)
+
+  -- no set is there
+  pub none_there : (r : Record RData) (k : RrKey) → k ≡ record_key r → tree.get key_cmp m k ≡ None → false ≡ (there_under m r (record_key r) && complete_at m class all (record_key r))
+  none_there r k same e = ap (λ b. b && complete_at m class all (record_key r)) (sym (ap (there_under m r) (sym same) ∙ ap (list_any (has_data_of r)) (ap records_in e)))
 
   pub not_listed : (r : Record RData) (k : RrKey) → k ≡ record_key r → complete_at m class all k ≡ false → false ≡ (there_under m r (record_key r) && complete_at m class all (record_key r))
   not_listed r k same bad = sym (ap (λ x. there_under m r (record_key r) && x) (ap (complete_at m class all) (sym same) ∙ bad) ∙ and_false (there_under m r (record_key r)))

@@ -154,9 +154,8 @@ impl<'a> Zone<'a> {
                 continue;
             }
             let key = key_of(&entry.name, entry.record_type())?;
-            let data = canonical(entry)?;
             let places = asked.entry(key)?.or_insert(BTreeMap::new(alloc));
-            places.insert(data, place)?;
+            places.insert(canonical(entry)?, place)?;
         }
         Ok(asked)
     }
@@ -235,8 +234,7 @@ fn places_of(set: &RecordSet) -> Result<Places, AllocError> {
     let records = set.as_slice();
     let mut places = BTreeMap::new(set.name().allocator());
     for (place, entry) in records.iter().enumerate() {
-        let data = canonical(entry)?;
-        places.insert(data, place)?;
+        places.insert(canonical(entry)?, place)?;
     }
     Ok(places)
 }

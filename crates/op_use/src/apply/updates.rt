@@ -38,22 +38,21 @@ impl<'a> ChangingZone<'a> {
         requires { the_use self.old.class entry.now.dns_class ≡ OfZone }
         ensures { OnOk result (IsUpdated (entry.now ∷ []) self.old self.new) }
     {
-        let key = key_of(&entry.name, entry.record_type())?;
         if entry.record_type() == RecordType::CNAME {
             if has_type(&self.sets, &entry.name, true)? {
                 return Ok(());
             }
             // The owner has one CNAME at most.
+            let key = key_of(&entry.name, entry.record_type())?;
             self.remove(&key);
-            self.add_record(key, entry)?;
-            return Ok(());
+            return self.add_record(key, entry);
         }
         let cname = key_of(&entry.name, RecordType::CNAME)?;
         if self.sets.contains_key(&cname) {
             return Ok(());
         }
-        self.add_record(key, entry)?;
-        Ok(())
+        let key = key_of(&entry.name, entry.record_type())?;
+        self.add_record(key, entry)
     }
 
     /// Takes a set out, or all of an owner; at the origin SOA and NS stay (RFC 2136, 3.4.2.3).

@@ -313,8 +313,9 @@ fn update(
 {
     let mut zone = Query::query(origin, RecordType::SOA);
     zone.set_query_class(dns_class);
+    let zones = vec![in alloc; zone]?;
     let mut message = Message::new(alloc, id, MessageType::Query, OpCode::Update);
-    message.add_query(zone)?;
+    message.queries = zones;
     message.answers = prerequisites;
     message.authorities = updates;
     if use_edns {

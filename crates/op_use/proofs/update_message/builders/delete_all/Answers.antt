@@ -1,13 +1,18 @@
-use Rattle.std.proofs.Common.{arith}
-use Rattle.std.proofs.lemmas.Grind.{common_steps}
+use Rattle.std.proofs.Common.{[], ap, ◌∙◌, ◌∷◌}
+use Rattle.std.proofs.lemmas.Result.{IfOk-weaker}
+use Rattle.base_data.specs.declared.rdata.RData.{RData}
+use Rattle.rr.specs.declared.record.Record.{Record}
 use Rattle.op.specs.Fits.{Fits}
 use Rattle.op_use.specs.SoundSet.{IsSendableOwner}
 use Rattle.op_use.specs.UpdateMeaning.{DeletesName}
+use Rattle.op_use.specs.UpdateMessage.{sections, update_message}
 use Rattle.op_use.proofs.BuiltLemmas.{delete_all_fits, deletes_name, of_built}
 use Rattle.op_use.proofs.update_message.builders.delete_all.Goals as goal
 
 pub returns-clause-built : goal.returns-clause-built
-returns-clause-built c = grind (arith, common_steps)
+returns-clause-built c =
+    let gone = c.in_ok-updates.ensures.items ∙ ap (λ (r : Record RData). r ∷ []) c.empty_record-gone.ensures in
+    IfOk-weaker c.update.result _ _ (λ m built. built ∙ (λ i. update_message c.args.id c.args.use_edns (sections c.args.origin c.args.dns_class (c.new.ensures.items i) (gone i)))) c.update.ensures.built
 
 pub returns-clause-fits : goal.returns-clause-fits
 returns-clause-fits c =

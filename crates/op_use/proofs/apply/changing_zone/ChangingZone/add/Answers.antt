@@ -13,6 +13,7 @@ use Rattle.op_use.specs.Server.{is_cname}
 use Rattle.op_use.specs.Zone.{is_owned}
 use Rattle.rr.specs.Record.{record_key}
 use Rattle.std.proofs.Common.{List, [], ap, is_some, not, subst, sym, ◌&&◌, ◌∙◌, ◌∷◌, ◌≡◌}
+use Rattle.std.proofs.lemmas.Result.{on_ok_weaker}
 use Rattle.std.specs.BTreeMap.{get, keys}
 use Rattle.std.specs.List.{list_any}
 
@@ -22,7 +23,7 @@ returns-then-branch c =
     let beside = λ (ks : List RrKey). list_any (λ (k : RrKey). is_owned c.args.entry.now.name k && not (is_cname k.record_type)) ks in
     same_updated (c.args.entry.now ∷ []) z (λ h.
     after_cname_stays z.origin z.class z.sets z.sets c.args.entry.now h c.requires
-    (ap is_cname (sym c.record_type-2.ensures) ∙ cname_is c.record_type-2.result ∙ sym c.eq.ensures ∙ c.if-eq.true)
+    (ap is_cname (sym c.record_type.ensures) ∙ cname_is c.record_type.result ∙ sym c.eq.ensures ∙ c.if-eq.true)
     (types_at z.origin z.class z.sets c.args.entry.now.name (λ t. not (is_cname t)) ∙ ap (λ (y : HeldZone). beside (keys y.sets)) (sym c.self.view_is)
     ∙ ap beside (same_keys c.self.inside.changing c.self.inside.sets) ∙ sym c.in_ok-has_type.ensures ∙ c.if-branch.true))
 
@@ -30,14 +31,15 @@ pub returns-then-eq : goal.returns-then-eq
 returns-then-eq c =
     let z = c.args.self.now in
     let beside = λ (ks : List RrKey). list_any (λ (k : RrKey). is_owned c.args.entry.now.name k && not (is_cname k.record_type)) ks in
-    let own : c.in_ok-key.key ≡ record_key c.args.entry.now = c.in_ok-key.ensures ∙ ap (key_of c.args.entry.now.name) c.record_type.ensures in
+    let own : c.in_ok-key.key ≡ record_key c.args.entry.now = c.in_ok-key.ensures ∙ ap (key_of c.args.entry.now.name) c.record_type-then-eq.ensures in
     let out = subst (λ (k : RrKey). Lacks k z c.remove.new.self) own c.remove.ensures in
-    set_updated (c.args.entry.now ∷ []) _ _ z _ (alone (record_key c.args.entry.now) c.args.entry.now z c.remove.new.self c.add_record.new.self out c.in_ok-add_record.ensures) (λ n put h.
+    on_ok_weaker c.add_record.result (λ held.
+    set_updated (c.args.entry.now ∷ []) _ _ z _ (alone (record_key c.args.entry.now) c.args.entry.now z c.remove.new.self c.add_record.new.self out held) (λ n put h.
     after_cname z.origin z.class z.sets n c.args.entry.now h c.requires
-    (ap is_cname (sym c.record_type-2.ensures) ∙ cname_is c.record_type-2.result ∙ sym c.eq.ensures ∙ c.if-eq.true)
+    (ap is_cname (sym c.record_type.ensures) ∙ cname_is c.record_type.result ∙ sym c.eq.ensures ∙ c.if-eq.true)
     (types_at z.origin z.class z.sets c.args.entry.now.name (λ t. not (is_cname t)) ∙ ap (λ (y : HeldZone). beside (keys y.sets)) (sym c.self.view_is)
     ∙ ap beside (same_keys c.self.inside.changing c.self.inside.sets) ∙ sym c.in_ok-has_type.ensures ∙ c.if-branch.false)
-    put)
+    put)) c.add_record.ensures
 
 pub returns-then-contains_key : goal.returns-then-contains_key
 returns-then-contains_key c =
@@ -45,7 +47,7 @@ returns-then-contains_key c =
     let alias = key_of c.args.entry.now.name types.CNAME in
     same_updated (c.args.entry.now ∷ []) z (λ h.
     after_beside_cname z.origin z.class z.sets z.sets c.args.entry.now h c.requires
-    (ap is_cname (sym c.record_type-2.ensures) ∙ cname_is c.record_type-2.result ∙ sym c.eq.ensures ∙ c.if-eq.false)
+    (ap is_cname (sym c.record_type.ensures) ∙ cname_is c.record_type.result ∙ sym c.eq.ensures ∙ c.if-eq.false)
     (set_at z.origin z.class z.sets alias ∙ ap (λ (y : HeldZone). is_some (get key_cmp y.sets alias)) (sym c.self-2.view_is)
     ∙ is_there c.self-2.inside.changing c.self-2.inside.sets alias
     ∙ ap (λ k. is_some (get key_cmp c.self-2.inside.sets k)) (sym c.in_ok-cname.ensures) ∙ sym c.contains_key.ensures ∙ c.if-contains_key.true))
@@ -54,10 +56,11 @@ pub returns : goal.returns
 returns c =
     let z = c.args.self.now in
     let alias = key_of c.args.entry.now.name types.CNAME in
-    set_updated (c.args.entry.now ∷ []) _ _ z _ c.in_ok-add_record-2.ensures (λ n put h.
+    on_ok_weaker c.add_record-2.result (λ held.
+    set_updated (c.args.entry.now ∷ []) _ _ z _ held (λ n put h.
     after_join z.origin z.class z.sets n c.args.entry.now h c.requires
-    (ap is_cname (sym c.record_type-2.ensures) ∙ cname_is c.record_type-2.result ∙ sym c.eq.ensures ∙ c.if-eq.false)
+    (ap is_cname (sym c.record_type.ensures) ∙ cname_is c.record_type.result ∙ sym c.eq.ensures ∙ c.if-eq.false)
     (set_at z.origin z.class z.sets alias ∙ ap (λ (y : HeldZone). is_some (get key_cmp y.sets alias)) (sym c.self-2.view_is)
     ∙ is_there c.self-2.inside.changing c.self-2.inside.sets alias
     ∙ ap (λ k. is_some (get key_cmp c.self-2.inside.sets k)) (sym c.in_ok-cname.ensures) ∙ sym c.contains_key.ensures ∙ c.if-contains_key.false)
-    put)
+    put)) c.add_record-2.ensures
