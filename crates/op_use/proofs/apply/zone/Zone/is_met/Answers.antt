@@ -5,7 +5,7 @@ use Rattle.op_use.specs.HeldZone.{HeldZone}
 use Rattle.op_use.specs.MapFaults.{AreComplete, asks_for, complete_at, there_under}
 use Rattle.rr.specs.Record.{record_key}
 use Rattle.rr.specs.SetChanges.{has_data_of}
-use Rattle.std.proofs.Common.{ap, is_some, sym, ◌&&◌, ◌≡◌, ◌∙◌}
+use Rattle.std.proofs.Common.{Some, ap, is_some, sym, ◌&&◌, ◌≡◌, ◌∙◌}
 use Rattle.std.proofs.lemmas.Result.{IfOk-weaker}
 use Rattle.std.specs.BTreeMap.{get}
 use Rattle.std.specs.List.{list_all, list_any}
@@ -64,10 +64,11 @@ returns-in-Some-get-clause-met c =
     let r = c.args.entry.now in
     let same : c.in_ok-key.key ≡ record_key c.args.entry.now = c.in_ok-key.ensures ∙ ap (key_of c.args.entry.now.name) c.record_type.ensures in
     let there = ap (λ (y : HeldZone). get key_cmp y.sets c.in_ok-key.key) (sym c.self.view_is) ∙ sym c.in-Some.ensures.value in
+    let held : get key_cmp c.args.held.now c.in_ok-key.key ≡ Some c.in-Some-get.places.now = sym c.in-Some-get.ensures.value in
     IfOk-weaker c.has_data.result (λ b. b ≡ list_any (has_data_of r) c.as_slice-records.result.now)
     (λ b. b ≡ (there_under z.sets r (record_key r) && complete_at z.sets z.class c.args.entries.now (record_key r))) (λ b found. both_known z.sets z.class c.args.entries.now r c.in_ok-key.key b same
     (there_is z.sets z.class c.args.entries.now r c.in_ok-key.key c.in-Some.set.now c.as_slice-records.result.now b same there c.as_slice-records.ensures found)
-    (c.requires c.in_ok-key.key (ap is_some (sym c.in-Some-get.ensures.value)))) c.has_data.ensures
+    (c.requires c.in_ok-key.key (ap is_some held))) c.has_data.ensures
 
 pub returns-in-Some-get-clause-known : goal.returns-in-Some-get-clause-known
 returns-in-Some-get-clause-known c =
