@@ -1,6 +1,6 @@
 -- Runs one after another, put together and taken apart.
 use Rattle.std.proofs.Common.{◌≡◌, ◌∙◌, refl, ap, subst, sym, Result, Ok, Err}
-use Rattle.std.specs.Prelude.{IsErrAnd}
+use Rattle.std.specs.Prelude.{IsErrAnd, ⊤}
 use Rattle.std.proofs.lemmas.Result.{err_from_is_err_and}
 use Rattle.base.specs.Laws.{Keeps}
 use Rattle.base.proofs.LawLemmas.{Keeps-then}
@@ -41,3 +41,20 @@ module _ {X Y : Type 0} {first : State → Result X ProtoError → State → Typ
   pub fails : {P : Type 0} (e : ProtoError) → AndThen first stays next a (Err e) c
       → (first a (Err e) c → P) → ((x : X) (m : State) → first a (Ok x) m → next x m (Err e) c → P) → P
   fails e s at_first later = fails_by first stays next a s.between c s.answer e s.ran s.rest at_first later
+
+  -- the same of what is said of the first in other words
+  pub first_as : {result : Result Y ProtoError} {other : State → Result X ProtoError → State → Type 0} → ((answer : Result X ProtoError) (b : State) → first a answer b → other a answer b)
+      → AndThen first stays next a result c → AndThen other stays next a result c
+  first_as same s = record { answer = s.answer; between = s.between; ran = same s.answer s.between s.ran; rest = s.rest }
+
+module _ {X Y Z : Type 0} {first : State → Result X ProtoError → State → Type 0} {second : X → State → Result Y ProtoError → State → Type 0} {next : Y → State → Result Z ProtoError → State → Type 0} {others : X → State → Result Z ProtoError → State → Type 0} {a c : State} {result : Result Z ProtoError} where
+  regrouped_by : (answer : Result X ProtoError) (b m : State) (last : Result Y ProtoError) → first a answer b → Continues ⊤ second answer b last m → Continues ⊤ next last m result c
+      → ((x : X) → AndThen (second x) ⊤ next b result c → others x b result c) → AndThen first ⊤ others a result c
+  regrouped_by (Ok x) b m last ran ran_last rest nested = record { answer = Ok x; between = b; ran = ran; rest = nested x (record { answer = last; between = m; ran = ran_last; rest = rest }) }
+  regrouped_by (Err e) b m (Ok y) ran ran_last rest nested = absurd (let is = ran_last.0 in cc)
+  regrouped_by (Err e) b m (Err f) ran ran_last rest nested =
+      record { answer = Err e; between = b; ran = ran; rest = (rest.0 ∙ ap (λ g. Err g) (same_err {Y = Y} f e ran_last.0), rest.1 ∙ ran_last.1, tt) }
+
+  -- two runs as one, and then the next: the first run, and then the others
+  pub regrouped : AndThen (AndThen first ⊤ second) ⊤ next a result c → ((x : X) (b : State) → AndThen (second x) ⊤ next b result c → others x b result c) → AndThen first ⊤ others a result c
+  regrouped s nested = regrouped_by s.ran.answer s.ran.between s.between s.answer s.ran.ran s.ran.rest s.rest (λ x. nested x s.ran.between)

@@ -2,11 +2,11 @@
 
 ghost use Rattle.base.specs.declared.limits.TheConstants.{MAX_MESSAGE};
 ghost use Rattle.std.specs.Option.{option_copied};
-ghost use Rattle.std.specs.Prelude.{◌≡◌, ◌⊎◌, [], ◌-◌, ◌<◌, ◌^◌, drop, Err, IfErr, IfOk, IsOkUnless, length, Ok};
+ghost use Rattle.std.specs.Prelude.{◌≡◌, ◌⊎◌, [], ◌-◌, ◌<◌, ◌^◌, drop, Err, IfErr, IfOk, IsOkUnless, length, Ok, ⊤};
 ghost use Rattle.base.specs.Laws.{Keeps};
 ghost use Rattle.base.specs.Wire.{state_of};
 ghost use Rattle.base.specs.Written.{after};
-ghost use Rattle.op.specs.Composition.{AddsCounts, Composition, CountsItems, EmitsPart, HasHeader, Narrows, WritesItems};
+ghost use Rattle.op.specs.Composition.{AddsCounts, AndThen, Composition, CountsItems, EmitsPart, HasHeader, Narrows, Tests, WritesItems, WritesRecordItems};
 ghost use Rattle.op.specs.Cut.{IsTooSmall, IsWritten};
 ghost use Rattle.op.specs.Emitted.{Emitted, EmittedNew, Leaves, LeavesNew};
 ghost use Rattle.op.specs.Fits.{Fits, HasRoom, as_list, opt_records, signature_records};
@@ -17,6 +17,7 @@ ghost use Rattle.op.specs.declared.header.Header.{Header as WrittenHeader};
 use crate::edns::{Edns, RaisedEdns};
 use crate::header::{Header, HeaderCounts, Metadata};
 use crate::message::Message;
+use crate::response_code::ResponseCode;
 use base::limits::{MAX_MESSAGE, MIN_PAYLOAD};
 use base::{BinEncodable, BinEncoder, EmitAndCount, ProtoError};
 use base_data::TSIG;
@@ -216,17 +217,14 @@ where
     let query_count = queries.emit(encoder)?;
     let answers = emit_part(answers, encoder)?;
     let authorities = emit_part(authorities, encoder)?;
-    let additionals = emit_part(additionals, encoder)?;
-    let high = metadata.response_code.high();
-    let raised = edns.map(|edns| RaisedEdns {
+    let additionals = emit_additionals(
+        additionals,
         edns,
-        rcode_high: high,
-    });
-    let opt = emit_item(raised.as_ref(), encoder)?;
-    let sum = add_counts(additionals, opt)?;
-    let signed = emit_item(signature, encoder)?;
-    let total = add_counts(sum, signed)?;
-    let header = header_of(*metadata, query_count, answers, authorities, total)?;
+        metadata.response_code,
+        signature,
+        encoder,
+    )?;
+    let header = header_of(*metadata, query_count, answers, authorities, additionals)?;
     encoder.replace(place, &header);
     Ok(header)
 }
@@ -256,23 +254,54 @@ fn emit_part<P: EmitAndCount>(
     count_items(part.emit(encoder))
 }
 
-/// Writes an item if there is one, and counts it if it has room.
+/// Writes the additional records, EDNS and the signature, each of which is cut if it has no room, and counts them
+/// together.
 #[inline(always)]
-fn emit_item<E: BinEncodable>(
+fn emit_additionals<D: EmitAndCount>(
+    records: &mut D,
+    edns: Option<&Edns>,
+    code: ResponseCode,
+    signature: Option<&Record<TSIG>>,
+    encoder: &mut BinEncoder<'_>,
+) -> Result<Written, ProtoError>
+    requires { D.can_emit records.old }
+    // Whatever the answer, what stood before stays, and no byte is written past the limit.
+    ensures keeps { Keeps (state_of encoder.old) (state_of encoder.new) }
+    // The records are written as their own `emit` says, and EDNS and the signature after them; the
+    // sum of what stands is tested after each of the two.
+    ensures run { AndThen (EmitsPart D.emits records.old records.new) ⊤ (λ counted.
+        AndThen (WritesRecordItems (opt_records code (option_copied edns.entry))) ⊤ (λ opt.
+        AndThen (Tests (AddsCounts counted opt)) ⊤ (λ sum.
+        AndThen (WritesRecordItems (signature_records (option_copied signature.entry))) ⊤
+        (λ signed. Tests (AddsCounts sum signed)))))
+        (state_of encoder.old) result (state_of encoder.new) }
+{
+    let counted = emit_part(records, encoder)?;
+    let rcode_high = code.high();
+    let raised = edns.map(|edns| RaisedEdns { edns, rcode_high });
+    let with_opt = add_item(counted, raised.as_ref(), encoder)?;
+    add_item(with_opt, signature, encoder)
+}
+
+/// Writes an item if there is one, and counts it, if it has room, with what was written before.
+#[inline(always)]
+fn add_item<E: BinEncodable>(
+    before: Written,
     item: Option<&E>,
     encoder: &mut BinEncoder<'_>,
 ) -> Result<Written, ProtoError>
     // Whatever the answer, what stood before stays, and no byte is written past the limit.
     ensures keeps { Keeps (state_of encoder.old) (state_of encoder.new) }
-    // An item was written, or is cut since it has no room; refused for memory alone.
-    ensures run { WritesItems E.word E.plain_len E.owner E.written
-        (as_list (option_copied item.entry))
+    // The item is written, or is cut since it has no room, and then the sum is tested.
+    ensures run { AndThen (WritesItems E.word E.plain_len E.owner E.written
+        (as_list (option_copied item.entry))) ⊤ (λ written. Tests (AddsCounts before written))
         (state_of encoder.old) result (state_of encoder.new) }
 {
-    match item {
-        Some(item) => count_items(encoder.emit_all(&mut iter::once(item))),
-        None => narrow(0, false),
-    }
+    let Some(item) = item else {
+        return Ok(before);
+    };
+    let written = count_items(encoder.emit_all(&mut iter::once(item)))?;
+    add_counts(before, written)
 }
 
 /// What a part's answer counts: all its items, or those before the one that had no room.
