@@ -13,7 +13,7 @@ use Rattle.op.specs.Composition.{AddsCounts, AndThen, EmitsPart, KeepsRoom, Test
 use Rattle.op.specs.Header.{header_bytes, raw_header}
 use Rattle.op.specs.declared.header.Header.{Header}
 use Rattle.op.specs.declared.message.writing.Written.{Written}
-use Rattle.op.proofs.message.writing.emit_message_parts.Goals.{In_ok-authorities, In_ok-place, Start}
+use Rattle.op.proofs.message.writing.emit_message_parts.Goals.{In_ok-answers, In_ok-authorities, In_ok-place, In_ok-query_count, Start}
 use Rattle.op.proofs.message.writing.emit_message_parts.Goals as goal
 
 -- nothing was written
@@ -24,7 +24,30 @@ same s = Keeps-same s s refl
 placed : (g : _) (c : In_ok-place g) → Keeps (state_of c.args.encoder.now) (state_of c.place.new.self)
 placed g c = Keeps-appended (replicate 12 0) (state_of c.args.encoder.now) (state_of c.place.new.self) c.in_ok-place.ensures.ok.0 c.in_ok-place.ensures.within
 
--- the questions and two sections were written: what comes after them ends the whole
+-- what comes after the room for the header ends the whole
+after_place : (g : _) (c : In_ok-place g) {i : Type 0} {next : ℕ → State → Result Header ProtoError → State → Type 0} {result : Result Header ProtoError} {y z : State}
+    → Keeps (state_of c.place.new.self) y × next c.in_ok-place.place (state_of c.place.new.self) result z
+    → Keeps (state_of c.args.encoder.now) y × AndThen KeepsRoom i next (state_of c.args.encoder.now) result z
+after_place g c rest =
+    goes c.in_ok-place.place (state_of c.place.new.self) (placed g c) (c.in_ok-place.ensures.ok.1, c.in_ok-place.ensures.ok.0, c.in_ok-place.ensures.within) rest
+
+-- the same of the questions
+after_queries : (g : _) (c : In_ok-query_count g) {i j : Type 0} {next : ℕ → ℕ → State → Result Header ProtoError → State → Type 0} {result : Result Header ProtoError} {y z : State}
+    → Keeps (state_of c.emit.new.encoder) y × next c.in_ok-place.place c.in_ok-query_count.query_count (state_of c.emit.new.encoder) result z
+    → Keeps (state_of c.args.encoder.now) y × AndThen KeepsRoom i (λ place. AndThen (λ s answer t. g.Q.EmitAndCount.emits c.args.queries.now s answer c.emit.new.self t) j
+    (next place)) (state_of c.args.encoder.now) result z
+after_queries g c rest =
+    after_place g (goal.at.In_ok-query_count g c).In_ok-place (goes c.in_ok-query_count.query_count (state_of c.emit.new.encoder) c.emit.ensures.keeps c.in_ok-query_count.ensures.emits rest)
+
+-- the same of the answers
+after_answers : (g : _) (c : In_ok-answers g) {i j k : Type 0} {next : ℕ → ℕ → Written → State → Result Header ProtoError → State → Type 0} {result : Result Header ProtoError} {y z : State}
+    → Keeps (state_of c.emit_part.new.encoder) y × next c.in_ok-place.place c.in_ok-query_count.query_count c.in_ok-answers.answers (state_of c.emit_part.new.encoder) result z
+    → Keeps (state_of c.args.encoder.now) y × AndThen KeepsRoom i (λ place. AndThen (λ s answer t. g.Q.EmitAndCount.emits c.args.queries.now s answer c.emit.new.self t) j (λ queries.
+    AndThen (EmitsPart g.A.EmitAndCount.emits c.args.answers.now c.emit_part.new.part) k (next place queries))) (state_of c.args.encoder.now) result z
+after_answers g c rest =
+    after_queries g (goal.at.In_ok-answers g c).In_ok-query_count (goes c.in_ok-answers.answers (state_of c.emit_part.new.encoder) c.emit_part.ensures.keeps c.in_ok-answers.ensures.run rest)
+
+-- the same of the authorities
 after_authorities : (g : _) (c : In_ok-authorities g) {i j k l : Type 0} {next : ℕ → ℕ → Written → Written → State → Result Header ProtoError → State → Type 0} {result : Result Header ProtoError} {y z : State}
     → Keeps (state_of c.emit_part-2.new.encoder) y × next c.in_ok-place.place c.in_ok-query_count.query_count c.in_ok-answers.answers c.in_ok-authorities.authorities
     (state_of c.emit_part-2.new.encoder) result z
@@ -32,10 +55,7 @@ after_authorities : (g : _) (c : In_ok-authorities g) {i j k l : Type 0} {next :
     AndThen (EmitsPart g.A.EmitAndCount.emits c.args.answers.now c.emit_part.new.part) k (λ answers. AndThen (EmitsPart g.N.EmitAndCount.emits c.args.authorities.now c.emit_part-2.new.part) l
     (next place queries answers)))) (state_of c.args.encoder.now) result z
 after_authorities g c rest =
-    goes c.in_ok-place.place (state_of c.place.new.self) (placed g (goal.at.In_ok-authorities g c).In_ok-place) (c.in_ok-place.ensures.ok.1, c.in_ok-place.ensures.ok.0, c.in_ok-place.ensures.within)
-    (goes c.in_ok-query_count.query_count (state_of c.emit.new.encoder) c.emit.ensures.keeps c.in_ok-query_count.ensures.emits
-    (goes c.in_ok-answers.answers (state_of c.emit_part.new.encoder) c.emit_part.ensures.keeps c.in_ok-answers.ensures.run
-    (goes c.in_ok-authorities.authorities (state_of c.emit_part-2.new.encoder) c.emit_part-2.ensures.keeps c.in_ok-authorities.ensures.run rest)))
+    after_answers g (goal.at.In_ok-authorities g c).In_ok-answers (goes c.in_ok-authorities.authorities (state_of c.emit_part-2.new.encoder) c.emit_part-2.ensures.keeps c.in_ok-authorities.ensures.run rest)
 
 -- the additional records, EDNS and the signature as one run are the parts one after another
 module _ {P : Type 0} {first : State → Result Written ProtoError → State → Type 0} {opt signature : List (Record RData)} {next : Written → State → Result Header ProtoError → State → Type 0} {a c : State} {result : Result Header ProtoError} where
@@ -63,25 +83,22 @@ returns-in_err-place g c =
 pub returns-in_err-query_count : goal.returns-in_err-query_count
 returns-in_err-query_count g c =
     let d = goal.at.returns-in_err-query_count g c in
-    owed (goes c.in_ok-place.place (state_of c.place.new.self) (placed g d.In_ok-place) (c.in_ok-place.ensures.ok.1, c.in_ok-place.ensures.ok.0, c.in_ok-place.ensures.within)
+    owed (after_place g d.In_ok-place
     (stops c.in_err-query_count.field-0.0 c.emit.ensures.keeps c.in_err-query_count.ensures.emits c.from_residual-in_err-query_count.ensures.1 (refl, refl, refl)))
     (narrow_of g d.Start)
 
 pub returns-in_err-answers : goal.returns-in_err-answers
 returns-in_err-answers g c =
     let d = goal.at.returns-in_err-answers g c in
-    owed (goes c.in_ok-place.place (state_of c.place.new.self) (placed g d.In_ok-place) (c.in_ok-place.ensures.ok.1, c.in_ok-place.ensures.ok.0, c.in_ok-place.ensures.within)
-    (goes c.in_ok-query_count.query_count (state_of c.emit.new.encoder) c.emit.ensures.keeps c.in_ok-query_count.ensures.emits
-    (stops c.in_err-answers.field-0.0 c.emit_part.ensures.keeps c.in_err-answers.ensures.run c.from_residual-in_err-answers.ensures.1 (refl, refl))))
+    owed (after_queries g d.In_ok-query_count
+    (stops c.in_err-answers.field-0.0 c.emit_part.ensures.keeps c.in_err-answers.ensures.run c.from_residual-in_err-answers.ensures.1 (refl, refl)))
     (narrow_of g d.Start)
 
 pub returns-in_err-authorities : goal.returns-in_err-authorities
 returns-in_err-authorities g c =
     let d = goal.at.returns-in_err-authorities g c in
-    owed (goes c.in_ok-place.place (state_of c.place.new.self) (placed g d.In_ok-place) (c.in_ok-place.ensures.ok.1, c.in_ok-place.ensures.ok.0, c.in_ok-place.ensures.within)
-    (goes c.in_ok-query_count.query_count (state_of c.emit.new.encoder) c.emit.ensures.keeps c.in_ok-query_count.ensures.emits
-    (goes c.in_ok-answers.answers (state_of c.emit_part.new.encoder) c.emit_part.ensures.keeps c.in_ok-answers.ensures.run
-    (stops c.in_err-authorities.field-0.0 c.emit_part-2.ensures.keeps c.in_err-authorities.ensures.run c.from_residual-in_err-authorities.ensures.1 refl))))
+    owed (after_answers g d.In_ok-answers
+    (stops c.in_err-authorities.field-0.0 c.emit_part-2.ensures.keeps c.in_err-authorities.ensures.run c.from_residual-in_err-authorities.ensures.1 refl))
     (narrow_of g d.Start)
 
 pub returns-in_err-additionals : goal.returns-in_err-additionals
