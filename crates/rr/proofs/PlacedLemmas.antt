@@ -256,18 +256,28 @@ apart : (a b : RData) → FitsTypes a → FitsTypes b → same_data a b ≡ fals
 apart a b fits fits_too other =
     false_from_ne_true _ (λ e. false_true (sym other ∙ (data_ties a b fits fits_too).0 ((Equal-is (data_cmp a b)).0 e)))
 
-pub index_last : (find after : RData → Option ℕ) (ps : Places) (r : Record RData) → IsPlaceIndex find ps → FitsTypes r.rdata → IsNowhere r.rdata ps
-    → ((d : RData) → after d ≡ cond (eq_by_cmp data_cmp r.rdata d) (Some (length ps)) (find d)) → IsPlaceIndex after (ps ++ Some r ∷ [])
-index_last find after ps r h own none updated = record { at = at } where
-  at : (i : ℕ) (x : Record RData) (d : RData) → slice_get (ps ++ Some r ∷ []) i ≡ Some (Some x) → FitsTypes d → same_data x.rdata d ≡ true → after d ≡ Some i
-  at i x d e fits same = elim (push_at ps (Some r) (Some x) i e) [
-    | inl before ↦
-        let other : same_data r.rdata d ≡ false = data_laws.symm r.rdata d ∙ sym (data_laws.congr x.rdata d r.rdata same) ∙ none.others i x before in
-        updated d ∙ cond-false _ _ _ (apart r.rdata d own fits other) ∙ h.at i x d before fits same
-    | inr last ↦
-        let with_r : same_data r.rdata d ≡ true = ap (λ (y : Record RData). same_data y.rdata d) (some_same r x last.1) ∙ same in
-        updated d ∙ cond-true _ _ _ (tied r.rdata d own fits with_r) ∙ ap Some (sym last.0)
-  ]
+module _ (find after : RData → Option ℕ) (ps : Places) (r : Record RData) (h : IsPlaceIndex find ps) (own : FitsTypes r.rdata) (none : IsNowhere r.rdata ps)
+    (key : RData) (n : ℕ) (key_is : key ≡ r.rdata) (n_is : n ≡ length ps) (updates : (d : RData) → after d ≡ cond (eq_by_cmp data_cmp key d) (Some n) (find d)) where
+  updated : (d : RData) → after d ≡ cond (eq_by_cmp data_cmp r.rdata d) (Some (length ps)) (find d)
+  updated d = updates d ∙ (λ i. cond (eq_by_cmp data_cmp (key_is i) d) (Some (n_is i)) (find d))
+
+  -- the place of the record is known, and it is not there yet
+  pub index_ahead : IsPlaceIndex after ps
+  index_ahead = record {
+    at = λ i x d e fits same.
+        let other : same_data r.rdata d ≡ false = data_laws.symm r.rdata d ∙ sym (data_laws.congr x.rdata d r.rdata same) ∙ none.others i x e in
+        updated d ∙ cond-false _ _ _ (apart r.rdata d own fits other) ∙ h.at i x d e fits same;
+  }
+
+  pub index_last : IsPlaceIndex after (ps ++ Some r ∷ [])
+  index_last = record { at = at } where
+    at : (i : ℕ) (x : Record RData) (d : RData) → slice_get (ps ++ Some r ∷ []) i ≡ Some (Some x) → FitsTypes d → same_data x.rdata d ≡ true → after d ≡ Some i
+    at i x d e fits same = elim (push_at ps (Some r) (Some x) i e) [
+      | inl before ↦ index_ahead.at i x d before fits same
+      | inr last ↦
+          let with_r : same_data r.rdata d ≡ true = ap (λ (y : Record RData). same_data y.rdata d) (some_same r x last.1) ∙ same in
+          updated d ∙ cond-true _ _ _ (tied r.rdata d own fits with_r) ∙ ap Some (sym last.0)
+    ]
 
 -- ---- records of which no two have equal data, one after the other
 

@@ -24,7 +24,7 @@ pub(super) struct PlacedRecords {
     count: usize,
 }
 
-/// The place of each record by its data. The data of records that were taken out may be there still.
+/// The place of each record by its data. Data of which there is no record may be there too.
 type PlaceIndex = BTreeMap<DataKey, usize>;
 
 impl Model for PlacedRecords {
@@ -73,10 +73,9 @@ impl PlacedRecords {
             put_at(&mut self.places, place, Some(entry.clone()?));
             return Ok(());
         }
-        let place = self.places.len();
+        self.index.insert(key, self.places.len())?;
         self.places.reserve(1)?;
         let copy = entry.clone()?;
-        self.index.insert(key, place)?;
         self.places.push_reserved(Some(copy));
         self.count += 1;
         Ok(())
