@@ -48,13 +48,23 @@ pub(super) fn join(records: &mut Vec<Record>, entry: Record) -> Result<(), Alloc
     ensures ok { OnOk result (records.new.items ≡ joined entry records.old.items) }
     ensures err { OnErr result (records.new.items ≡ records.old.items) }
 {
-    let copies = copies_for(records, &entry)?;
-    if copies.is_empty() {
+    if !replace(records, &entry)? {
         records.push(entry)?;
-    } else {
-        renew(records, copies);
     }
     Ok(())
+}
+
+/// Puts a copy of the record in the place of each of equal data, and answers whether there is one.
+fn replace(records: &mut Vec<Record>, entry: &Record) -> Result<bool, AllocError>
+    ensures any { IfOk result (λ is_any. is_any
+        ≡ list_any (has_data_of entry.now) records.old.items) }
+    ensures ok { OnOk result (records.new.items ≡ replaced entry.now records.old.items) }
+    ensures err { OnErr result (records.new.items ≡ records.old.items) }
+{
+    let copies = copies_for(records, entry)?;
+    let is_any = !copies.is_empty();
+    renew(records, copies);
+    Ok(is_any)
 }
 
 /// A copy of the record for each place whose record has the same data.
