@@ -158,7 +158,7 @@ within_step xs ys ps qs p e write h =
     subst (λ n. AllByRecursion (λ (q : ℕ × Record RData). q.0 < n) qs) (sym (ap length write ∙ length-set xs p.0 p.1))
     ((subst (λ us. AllByRecursion (λ (q : ℕ × Record RData). q.0 < length xs) us) e h).1)
 
-pub len_step : (m n : ℕ) (ps qs : List (ℕ × Record RData)) (p : ℕ × Record RData) → ps ≡ p ∷ qs → n + 1 ≡ m → m ≡ length ps → n ≡ length qs
+pub len_step : {X : Type 0} (m n : ℕ) (ps qs : List X) (p : X) → ps ≡ p ∷ qs → n + 1 ≡ m → m ≡ length ps → n ≡ length qs
 len_step m n ps qs p e less h = omega (arith, less, h, ap length e)
 
 pub renew_end : (xs zs : List (Record RData)) (ps : List (ℕ × Record RData)) (m : ℕ) → renewed ps xs ≡ zs → m ≡ 0 → m ≡ length ps → xs ≡ zs
