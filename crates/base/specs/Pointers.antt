@@ -31,6 +31,12 @@ pub record IsKept (bytes : List ℕ) (t : ℕ) (items : List ℕ) : Type 0 where
   pub wire : IsWire items
   pub spelled : Spelled bytes (labels_of items) t t end
 
+-- after this many bytes of labels, those that are spelled at t are too long for a name
+pub record AreTooLong (bytes : List ℕ) (t used : ℕ) : Type 0 where
+  pub items : List ℕ
+  pub kept : IsKept bytes t items
+  pub long : MAX_LABELS < used + length items
+
 -- the labels by the offset that a pointer led to
 abbrev pub Cache : Type 0
 Cache = labels_by.FinMap nat_cmp (List ℕ)

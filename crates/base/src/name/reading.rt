@@ -1,13 +1,13 @@
 //! Reads a name (RFC 1035, 4.1.4).
 
 ghost use Rattle.base.specs.declared.limits.TheConstants.{MAX_LABELS, POINTER_LIMIT};
-ghost use Rattle.std.specs.Prelude.{◌≡◌, ℕ, ◌<◌, ◌≤◌, ◌+◌, ◌++◌, ◌∷◌, [], Ok, Err, length, take, slice_range, IfOk, IfSome, OnOk, OnErr, IsOkUnless, MatchResult};
+ghost use Rattle.std.specs.Prelude.{◌≡◌, ℕ, ◌<◌, ◌≤◌, ◌+◌, ◌++◌, ◌∷◌, [], Ok, Err, length, take, slice_range, IfErr, IfOk, IfSome, OnOk, OnErr, IsOkUnless, MatchResult, is_some, true};
 ghost use Rattle.std.specs.FinSet as set;
 ghost use Rattle.base.specs.Counts.{Counts, Passes};
 ghost use Rattle.base.specs.Labels.{IsWire, labels_of};
 ghost use Rattle.base.specs.Names.{part_at, pointer_to, labels_at, name_at};
-ghost use Rattle.base.specs.Pointers.{AreSpelled, Followed, IfInPlace, IfPointer, IsBare, IsSource, KeepsAt, OfLast, PassLater, PassesThese, part, targets};
-ghost use Rattle.base.specs.Passing.{AddsPassed, inserted, passed};
+ghost use Rattle.base.specs.Pointers.{AreSpelled, AreTooLong, Followed, IfInPlace, IfPointer, IsBare, IsKept, IsSource, KeepsAt, OfLast, PassLater, PassesThese, part, targets};
+ghost use Rattle.base.specs.Passing.{AddsPassed, IsClosed, inserted, passed};
 ghost use Rattle.base.specs.Reading.{Fails, Reads};
 ghost use Rattle.base.specs.Spelling.{Spelled};
 
@@ -95,6 +95,49 @@ fn copy_kept(labels: &[u8], room: &mut [u8; MAX_LABELS], used: usize)
     }
 }
 
+/// The labels that a pointer leads to, where they are kept. It stands in a piece of the name that begins at `start`,
+/// after as many bytes of labels as are used.
+///
+/// # Errors
+///
+/// `BadName` where it doesn't lead below that start (RFC 1035, 4.1.4), and where the name would have more than 255
+/// bytes (2.3.4).
+fn kept_labels<'d>(
+    decoder: &'d BinDecoder<'_>,
+    target: u16,
+    start: usize,
+    used: usize,
+) -> Result<Option<&'d [u8]>, DecodeError>
+    requires { used ≤ MAX_LABELS }
+    ensures below { IfOk result (λ _. target < start) }
+    ensures is { IfOk result
+        (λ found. is_some found ≡ set.contains decoder.now.kept target) }
+    ensures spelled { IfOk result (λ found.
+        IfSome found (λ labels. IsKept decoder.now.bytes target labels.now)) }
+    ensures short { IfOk result (λ found.
+        IfSome found (λ labels. used + length labels.now ≤ MAX_LABELS)) }
+    ensures err { IsOkUnless result DecodeError.BadName }
+    // A target below the start is refused only for the length of the labels there.
+    ensures refused { IfErr result (λ _. target < start
+        → AreTooLong decoder.now.bytes target used) }
+    // Each offset that is kept is below 16,384, so that a pointer can name it.
+    ensures near { OnOk result
+        ((q : ℕ) → set.contains decoder.now.kept q ≡ true → q < POINTER_LIMIT) }
+    // What is spelled at a kept offset passes kept offsets alone.
+    ensures closed { OnOk result (IsClosed decoder.now.bytes decoder.now.kept) }
+{
+    if usize::from(target) >= start {
+        return Err(DecodeError::BadName);
+    }
+    let Some(labels) = decoder.labels_at(target) else {
+        return Ok(None);
+    };
+    if used + labels.len() > MAX_LABELS {
+        return Err(DecodeError::BadName);
+    }
+    Ok(Some(labels))
+}
+
 /// What was gathered of a name: its labels stand in the room, each with its length before it.
 #[derive(Drop)]
 struct Gathered<'a> {
@@ -171,14 +214,8 @@ fn gather_labels<'a>(
                 at += size;
             }
             Part::Pointer(target) => {
-                if usize::from(target) >= start {
-                    return Err(DecodeError::BadName);
-                }
                 let after = end.unwrap_or(start + at + 2);
-                if let Some(labels) = decoder.labels_at(target) {
-                    if used + labels.len() + 1 > MAX_NAME {
-                        return Err(DecodeError::BadName);
-                    }
+                if let Some(labels) = kept_labels(decoder, target, start, used)? {
                     let last = if at == 0 {
                         Source::Kept(target)
                     } else {
@@ -287,33 +324,23 @@ fn first_look<'d>(decoder: &'d BinDecoder<'_>) -> Look<'d>
     if used >= near.len() {
         return Look::Other;
     }
-    match read_part(own, used) {
-        Ok(Part::Root) => Look::InPlace(InPlace {
+    match read_part(own, used).ok() {
+        Some(Part::Root) => Look::InPlace(InPlace {
             own,
             used,
             kept: &own[..0],
             end: first + used + 1,
         }),
-        Ok(Part::Pointer(target)) => {
-            if usize::from(target) >= first {
-                return Look::Other;
-            }
-            match decoder.labels_at(target) {
-                Some(kept) => {
-                    if used + kept.len() + 1 > MAX_NAME {
-                        return Look::Other;
-                    }
-                    Look::InPlace(InPlace {
-                        own,
-                        used,
-                        kept,
-                        end: first + used + 2,
-                    })
-                }
-                None if used == 0 => Look::Pointer(target),
-                None => Look::Other,
-            }
-        }
+        Some(Part::Pointer(target)) => match kept_labels(decoder, target, first, used).ok() {
+            Some(Some(kept)) => Look::InPlace(InPlace {
+                own,
+                used,
+                kept,
+                end: first + used + 2,
+            }),
+            Some(None) if used == 0 => Look::Pointer(target),
+            _ => Look::Other,
+        },
         _ => Look::Other,
     }
 }

@@ -1,14 +1,16 @@
-use Rattle.std.proofs.Common.{◌≡◌, ℕ, ◌+◌, ◌-◌, ◌<◌, ◌≤◌, true, false, Some, None, List, [], ◌∷◌, ◌++◌, length, take, drop, Ok, Err, ap, sym, subst, ◌∙◌, arith, length-drop}
+use Rattle.std.proofs.Common.{inl, inr, ◌≡◌, ℕ, ◌+◌, ◌-◌, ◌<◌, ◌≤◌, true, false, Some, None, List, [], ◌∷◌, ◌++◌, length, take, drop, Ok, Err, ap, sym, subst, ◌∙◌, arith, length-drop}
 use Rattle.std.proofs.Math.Seq.{take-add}
-use Rattle.std.specs.Prelude.{All}
+use Rattle.std.specs.Prelude.{All, is_some}
 use Rattle.std.specs.List.{slice_range}
+use Rattle.std.proofs.lemmas.Bool.{cases_lt}
 use Rattle.std.proofs.lemmas.Result.{err_from_is_err_and}
+use Rattle.base.specs.declared.error.decode_error.DecodeError.TheVariants as faults
 use Rattle.base.specs.declared.name.followed.FollowedPointer.{FollowedPointer}
 use Rattle.base.specs.Pointers.{Followed, IsBare, IsKept, IsLast, KeepsAt, OfLast, targets}
 use Rattle.base.specs.Labels.{IsWire, labels_of}
 use Rattle.base.specs.Reader.{Reader}
 use Rattle.base.proofs.CountLemmas.{Follows, Follows-none, Follows-push}
-use Rattle.base.specs.Names.{label_of, part_at, pointer_to, zero_byte}
+use Rattle.base.specs.Names.{label_of, labels_at, part_at, pointer_to, zero_byte}
 use Rattle.std.specs.FinSet as set
 use Rattle.std.specs.Ordering.{nat_cmp}
 use Rattle.base.specs.Passing.{IsClosed}
@@ -191,11 +193,6 @@ parts-preserved-in-Label c =
       follows = c.parts.invariant.follows;
     }
 
-pub returns-then-from-start-clause-read : goal.returns-then-from-start-clause-read
-returns-then-from-start-clause-read c =
-    let is = part_is_there c.args.decoder.now.bytes c.parts.piece.now c.parts.start c.parts.at (Ok (pointer_to c.in-Pointer.target)) c.parts.invariant.piece (c.in_ok-read_part.ensures.value ∙ ap found c.in-Pointer.is) in
-    at_forward c.parts.invariant.gathers c.in-Pointer.target is (omega arith)
-
 -- the reader has the same bytes and keeps the same targets
 bytes_are : {ts : List ℕ} {start : ℕ} {old new : Reader} → Follows ts start old new → new.bytes ≡ old.bytes
 bytes_are f = ap (λ (r : Reader). r.bytes) f.now
@@ -210,15 +207,15 @@ parts-preserved c =
     let t = c.in-Pointer.target in
     let is : part_at bytes at ≡ Ok (pointer_to t) = part_is_there bytes c.parts.piece.now start c.parts.at (Ok (pointer_to t)) c.parts.invariant.piece (c.in_ok-read_part.ensures.value ∙ ap found c.in-Pointer.is) in
     let small = c.read_part.ensures.near t (c.in_ok-read_part.ensures.value ∙ ap found c.in-Pointer.is) in
-    let below : t < start = omega (arith, c.from.ensures, c.if-from-start.false) in
-    let absent : set.contains c.parts.decoder.kept t ≡ false = sym c.in_default-labels_at.ensures.is in
+    let below : t < start = c.in_ok-labels-in-Pointer.ensures.below in
+    let absent : set.contains c.parts.decoder.kept t ≡ false = sym c.in_ok-labels-in-Pointer.ensures.is ∙ ap is_some c.in_default-2.is in
     let used = c.parts.used in
     let labels = take used c.parts.room in
     let g = c.parts.invariant.gathers in
     let one : FollowedPointer = record { target = t; from = used } in
     let items : c.push-in-Pointer.new.self ≡ c.parts.followed ++ one ∷ [] = c.in_ok-push-in-Pointer.ensures.ok in
     let more : targets c.push-in-Pointer.new.self ≡ targets c.parts.followed ++ t ∷ [] = ap targets items ∙ map_push (λ (p : FollowedPointer). p.target) c.parts.followed one in
-    let follows = Follows-push c.parts.invariant.follows below small absent c.labels_at.ensures.near c.follow-piece-in-Pointer.ensures.counted in
+    let follows = Follows-push c.parts.invariant.follows below small absent c.in_ok-labels-in-Pointer.ensures.near c.follow-piece-in-Pointer.ensures.counted in
     let here : t ≡ t + 0 = omega arith in
     let P = Tail bytes t t used labels in
     let before = All-weaker _ P (λ p tail. Tail-pointer is below tail) c.parts.followed c.parts.invariant.tails in
@@ -238,7 +235,7 @@ parts-preserved c =
 
 pub follow-piece-requires-in-Pointer : goal.follow-piece-requires-in-Pointer
 follow-piece-requires-in-Pointer c =
-    omega (arith, c.from.ensures, c.if-from-start.false, c.parts.invariant.gathers.low, ap length (bytes_are c.parts.invariant.follows))
+    omega (arith, c.in_ok-labels-in-Pointer.ensures.below, c.parts.invariant.gathers.low, ap length (bytes_are c.parts.invariant.follows))
 
 -- memory ran out for another pointer
 pub returns-in_err-push-in-Pointer : goal.returns-in_err-push-in-Pointer
@@ -259,12 +256,33 @@ returns-in_err-push-in-Pointer c =
 kept_is : (B C : List ℕ) (t : ℕ) (xs : List ℕ) → C ≡ B → IsKept C t xs → IsKept B t xs
 kept_is B C t xs same kept = subst (λ (bytes : List ℕ). IsKept bytes t xs) same kept
 
-pub returns-then-used-labels-gt-MAX_NAME-clause-read :
-    goal.returns-then-used-labels-gt-MAX_NAME-clause-read
-returns-then-used-labels-gt-MAX_NAME-clause-read c =
+-- a pointer that doesn't lead below its piece, or to labels that are too long
+pub returns-in_err-labels-in-Pointer : goal.returns-in_err-labels-in-Pointer
+returns-in_err-labels-in-Pointer c =
     let bytes = c.args.decoder.now.bytes in
-    let is = part_is_there bytes c.parts.piece.now c.parts.start c.parts.at (Ok (pointer_to c.in-Pointer.target)) c.parts.invariant.piece (c.in_ok-read_part.ensures.value ∙ ap found c.in-Pointer.is) in
-    at_kept_long c.parts.invariant.gathers is (omega arith) (kept_is _ _ _ _ (bytes_are c.parts.invariant.follows) c.in-Some-labels_at.ensures.spelled) (omega arith)
+    let t = c.in-Pointer.target in
+    let g = c.parts.invariant.gathers in
+    let p = err_from_is_err_and c.from_residual-in_err-labels-in-Pointer.result c.from_residual-in_err-labels-in-Pointer.ensures.1 in
+    let e = c.in_err-labels-in-Pointer.field-0.0 in
+    let is = part_is_there bytes c.parts.piece.now c.parts.start c.parts.at (Ok (pointer_to t)) c.parts.invariant.piece (c.in_ok-read_part.ensures.value ∙ ap found c.in-Pointer.is) in
+    let refuses : labels_at bytes c.args.decoder.now.index c.args.decoder.now.index 0 ≡ Err faults.BadName =
+    elim (cases_lt t c.parts.start) [
+      | inl below ↦
+          let far = c.in_err-labels-in-Pointer.ensures.refused below in
+          at_kept_long g is below (kept_is _ _ _ _ (bytes_are c.parts.invariant.follows) far.kept) (omega (arith, far.long))
+      | inr above ↦ at_forward g t is above
+    ] in
+    rw (p.1, p.2) (record {
+      read = fails_is e _ (refuses ∙ ap Err (sym c.in_err-labels-in-Pointer.ensures.err));
+      used = tt;
+      end = tt;
+      wire = tt;
+      kept = tt;
+      last = tt;
+      followed = followed_by c.parts.invariant.follows;
+      these = tt;
+      later = tt;
+    })
 
 -- ---- a walk that ends at a kept target
 
@@ -274,59 +292,59 @@ pointer_is c = part_is_there c.args.decoder.now.bytes c.parts.piece.now c.parts.
     (c.in_ok-read_part.ensures.value ∙ ap found c.in-Pointer.is)
 
 below : (c : goal.After-copy_kept) → c.in-Pointer.target < c.parts.start
-below c = omega (arith, c.from.ensures, c.if-from-start.false)
+below c = c.in_ok-labels-in-Pointer.ensures.below
 
 -- the labels there are kept
-kept : (c : goal.After-copy_kept) → IsKept c.args.decoder.now.bytes c.in-Pointer.target c.in-Some-labels_at.labels.now
-kept c = kept_is _ _ _ _ (bytes_are c.parts.invariant.follows) c.in-Some-labels_at.ensures.spelled
+kept : (c : goal.After-copy_kept) → IsKept c.args.decoder.now.bytes c.in-Pointer.target c.in-Some-2.labels.now
+kept c = kept_is _ _ _ _ (bytes_are c.parts.invariant.follows) (rw c.in-Some-2.is at c.in_ok-labels-in-Pointer.ensures.spelled)
 
-short : (c : goal.After-copy_kept) → c.parts.used + length c.in-Some-labels_at.labels.now + 1 ≤ 255
-short c = omega (arith, c.if-used-labels-gt-MAX_NAME.false)
+short : (c : goal.After-copy_kept) → c.parts.used + length c.in-Some-2.labels.now + 1 ≤ 255
+short c = omega (arith, rw c.in-Some-2.is at c.in_ok-labels-in-Pointer.ensures.short)
 
 -- the labels in the room after it was copied
-whole : (c : goal.After-copy_kept) → take (c.parts.used + length c.in-Some-labels_at.labels.now) c.copy_kept.new.room ≡ take c.parts.used c.parts.room ++ c.in-Some-labels_at.labels.now
+whole : (c : goal.After-copy_kept) → take (c.parts.used + length c.in-Some-2.labels.now) c.copy_kept.new.room ≡ take c.parts.used c.parts.room ++ c.in-Some-2.labels.now
 whole c = c.copy_kept.ensures
 
 -- the pointer leads to a kept offset, and with one all that is passed from there is kept
 known : (c : goal.After-copy_kept) → (set.contains c.args.decoder.now.kept c.in-Pointer.target ≡ true) × IsClosed c.args.decoder.now.bytes c.args.decoder.now.kept
 known c =
     let same = ap (λ (r : Reader). r.kept) c.parts.invariant.follows.now in (
-      ap (λ (k : set.FinSet nat_cmp). set.contains k c.in-Pointer.target) (sym same) ∙ sym c.in-Some-labels_at.ensures.is,
+      ap (λ (k : set.FinSet nat_cmp). set.contains k c.in-Pointer.target) (sym same) ∙ sym c.in_ok-labels-in-Pointer.ensures.is ∙ ap is_some c.in-Some-2.is,
       subst (λ (k : set.FinSet nat_cmp). IsClosed c.args.decoder.now.bytes k) same
-          (subst (λ (bs : List ℕ). IsClosed bs c.parts.decoder.kept) (bytes_are c.parts.invariant.follows) c.labels_at.ensures.closed),
+          (subst (λ (bs : List ℕ). IsClosed bs c.parts.decoder.kept) (bytes_are c.parts.invariant.follows) c.in_ok-labels-in-Pointer.ensures.closed),
     )
 
-pub returns-in-Some-labels_at-clause-read : goal.returns-in-Some-labels_at-clause-read
-returns-in-Some-labels_at-clause-read c =
+pub returns-in-Some-2-clause-read : goal.returns-in-Some-2-clause-read
+returns-in-Some-2-clause-read c =
     at_kept c.parts.invariant.gathers (pointer_is c) (below c) (kept c) (short c)
-    ∙ ap (λ (e : ℕ). Ok (labels_of (take c.parts.used c.parts.room ++ c.in-Some-labels_at.labels.now), e)) (sym c.unwrap_or-after.ensures)
+    ∙ ap (λ (e : ℕ). Ok (labels_of (take c.parts.used c.parts.room ++ c.in-Some-2.labels.now), e)) (sym c.unwrap_or-after.ensures)
     ∙ ap (λ (xs : List ℕ). Ok (labels_of xs, c.unwrap_or-after.result)) (sym (whole c))
 
-pub returns-in-Some-labels_at-clause-end : goal.returns-in-Some-labels_at-clause-end
-returns-in-Some-labels_at-clause-end c = rw c.unwrap_or-after.ensures (kept_end c.parts.invariant.gathers (pointer_is c) (below c) (kept c))
+pub returns-in-Some-2-clause-end : goal.returns-in-Some-2-clause-end
+returns-in-Some-2-clause-end c = rw c.unwrap_or-after.ensures (kept_end c.parts.invariant.gathers (pointer_is c) (below c) (kept c))
 
-pub returns-in-Some-labels_at-clause-wire : goal.returns-in-Some-labels_at-clause-wire
-returns-in-Some-labels_at-clause-wire c =
+pub returns-in-Some-2-clause-wire : goal.returns-in-Some-2-clause-wire
+returns-in-Some-2-clause-wire c =
     subst IsWire (sym (whole c))
-    (IsWire-append (take c.parts.used c.parts.room) c.in-Some-labels_at.labels.now c.parts.invariant.gathers.wire (kept c).wire (omega (arith, c.parts.invariant.gathers.len, short c)))
+    (IsWire-append (take c.parts.used c.parts.room) c.in-Some-2.labels.now c.parts.invariant.gathers.wire (kept c).wire (omega (arith, c.parts.invariant.gathers.len, short c)))
 
-pub returns-in-Some-labels_at-clause-kept : goal.returns-in-Some-labels_at-clause-kept
-returns-in-Some-labels_at-clause-kept c =
+pub returns-in-Some-2-clause-kept : goal.returns-in-Some-2-clause-kept
+returns-in-Some-2-clause-kept c =
     All-weaker _ (Ends c.args.decoder.now.bytes _)
     (λ p tail. Tail-kept {start = c.parts.start} {used = c.parts.used} (pointer_is c) (below c) (kept c) (short c) (whole c) (omega (arith, c.parts.invariant.gathers.len)) tail)
     c.parts.followed c.parts.invariant.tails
 
-pub returns-in-Some-labels_at-clause-these : goal.returns-in-Some-labels_at-clause-these
-returns-in-Some-labels_at-clause-these c = Leads-kept c.parts.invariant.leads c.args.decoder.now.kept (pointer_is c) (known c).0 (known c).1
+pub returns-in-Some-2-clause-these : goal.returns-in-Some-2-clause-these
+returns-in-Some-2-clause-these c = Leads-kept c.parts.invariant.leads c.args.decoder.now.kept (pointer_is c) (known c).0 (known c).1
 
-pub returns-in-Some-labels_at-clause-later : goal.returns-in-Some-labels_at-clause-later
-returns-in-Some-labels_at-clause-later c =
+pub returns-in-Some-2-clause-later : goal.returns-in-Some-2-clause-later
+returns-in-Some-2-clause-later c =
     Lead-kept c.args.decoder.now.bytes c.parts.start (c.parts.start + c.parts.at) c.args.decoder.now.kept c.parts.followed (pointer_is c) (known c).0 (known c).1 c.parts.invariant.lead
 
-pub returns-in-Some-labels_at-clause-last : goal.returns-in-Some-labels_at-clause-last
-returns-in-Some-labels_at-clause-last c =
+pub returns-in-Some-2-clause-last : goal.returns-in-Some-2-clause-last
+returns-in-Some-2-clause-last c =
     let labels = take c.parts.used c.parts.room in
-    let items = c.in-Some-labels_at.labels.now in
+    let items = c.in-Some-2.labels.now in
     let known_at : KeepsAt c.args.decoder.now.bytes c.args.decoder.now.kept c.in-Pointer.target items = ((known c).0, kept c) in
     let tail = Tail c.args.decoder.now.bytes c.parts.start (c.parts.start + c.parts.at) c.parts.used labels in
     let inside = All-weaker tail (λ (p : FollowedPointer). p.from ≤ length labels) (λ p it. it.inside)
