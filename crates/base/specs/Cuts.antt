@@ -6,7 +6,7 @@ use Rattle.std.specs.String.{string_bytes}
 use Rattle.base.specs.declared.error.parse_error.ParseError.{ParseError}
 use Rattle.base.specs.declared.error.parse_error.ParseError.TheVariants as refusals
 use Rattle.base.specs.declared.text.token.Token.{Token}
-use Rattle.base.specs.Tokens.{Element, Next, Unread, blank, closes, ends, eol, faulty, item_token, misplaced, one, token, value_of, within_line}
+use Rattle.base.specs.Tokens.{Element, Next, Unread, blank, char_data, closes, ends, eol, faulty, item_token, misplaced, one, token, value_of, within_line}
 
 -- A refusal is that memory ran out, which may happen at any time, or the lexer's, and then this holds.
 abbrev pub Faults : ParseError → Type 0 → Type 0
@@ -43,6 +43,12 @@ AnswersElement (Err e) found = Faults e (found ≡ misplaced)
 abbrev pub AnswersItem : Result Token ParseError → List ℕ → Type 0
 AnswersItem (Ok t) word = item_token word ≡ Some (value_of t)
 AnswersItem (Err e) word = Faults e (item_token word ≡ None)
+
+-- What was answered is the sign that an item is, none for another item, or the item is no token.
+abbrev pub AnswersSign : Result (Option Token) ParseError → List ℕ → Type 0
+AnswersSign (Ok (Some t)) word = item_token word ≡ Some (value_of t)
+AnswersSign (Ok None) word = item_token word ≡ Some (char_data word)
+AnswersSign (Err e) word = Faults e (item_token word ≡ None)
 
 -- A token that was cut off within a line, and what is after it.
 abbrev pub AnswersToken : Result (Token × Bor (List ℕ)) ParseError → Next → Type 0

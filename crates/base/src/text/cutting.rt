@@ -6,7 +6,7 @@ ghost use Rattle.std.specs.Prelude.{◌≡◌, ◌≤◌, ◌<◌, ◌+◌, ◌�
 ghost use Rattle.std.specs.Option.{option_map};
 ghost use Rattle.std.specs.Str.{IsCharBoundary};
 ghost use Rattle.std.specs.String.{string_bytes};
-ghost use Rattle.base.specs.Cuts.{AnswersElement, AnswersItem, AnswersNext, CutsOff};
+ghost use Rattle.base.specs.Cuts.{AnswersElement, AnswersItem, AnswersNext, AnswersSign, CutsOff};
 ghost use Rattle.base.specs.Tokens.{before, begins_blank, element, element_of, ends_item, is_blank, is_line_end, item, item_token};
 ghost use Rattle.base.specs.Tokens.{line_end, list_items, next, past_blanks, past_comment, past_line_end, past_separators, quoted, separates, texts, visible};
 
@@ -198,20 +198,13 @@ fn take_element(alloc: Global, text: &str) -> Result<(Option<String>, &str), Par
     ensures { AnswersElement result (element (past_separators false text.now)) }
 {
     let rest = past_separators(text);
-    match first_byte(rest) {
-        None => Err(ParseError::Lexer),
-        Some(b')') => Ok((None, past_first(rest))),
-        Some(b'(') => Err(ParseError::Lexer),
-        Some(b'$') => Err(ParseError::Lexer),
-        Some(b'"') => {
-            let (word, tail) = take_quoted(alloc, past_first(rest))?;
-            Ok((Some(word), tail))
-        }
-        Some(_) => {
-            let (word, tail) = take_item(alloc, rest)?;
-            Ok((Some(word), tail))
-        }
-    }
+    let (word, tail) = match first_byte(rest) {
+        Some(b')') => return Ok((None, past_first(rest))),
+        None | Some(b'(' | b'$') => return Err(ParseError::Lexer),
+        Some(b'"') => take_quoted(alloc, past_first(rest))?,
+        Some(_) => take_item(alloc, rest)?,
+    };
+    Ok((Some(word), tail))
 }
 
 /// The items within parentheses and what is after the closing one, of the text after the opening one.
@@ -249,30 +242,32 @@ pub(super) fn token_of(word: String) -> Result<Token, ParseError>
     ensures { AnswersItem result (string_bytes word) }
 {
     match first_byte(word.as_str()) {
-        Some(b'@') => sign_of(word),
-        Some(b'$') => sign_of(word),
+        Some(b'@' | b'$') => match sign_of(word.as_str())? {
+            Some(sign) => Ok(sign),
+            None => Ok(Token::CharData(word)),
+        },
         _ => Ok(Token::CharData(word)),
     }
 }
 
-/// The same for an item that begins with `@` or `$`.
-fn sign_of(word: String) -> Result<Token, ParseError>
-    ensures { AnswersItem result (string_bytes word) }
+/// The sign that an item is which begins with `@` or `$`, where it is one.
+fn sign_of(word: &str) -> Result<Option<Token>, ParseError>
+    ensures { AnswersSign result word.now }
 {
-    if word.as_str() == "@" {
-        return Ok(Token::At);
+    if word == "@" {
+        return Ok(Some(Token::At));
     }
-    if word.as_str() == "$ORIGIN" {
-        return Ok(Token::Origin);
+    if word == "$ORIGIN" {
+        return Ok(Some(Token::Origin));
     }
-    if word.as_str() == "$INCLUDE" {
-        return Ok(Token::Include);
+    if word == "$INCLUDE" {
+        return Ok(Some(Token::Include));
     }
-    if word.as_str() == "$TTL" {
-        return Ok(Token::Ttl);
+    if word == "$TTL" {
+        return Ok(Some(Token::Ttl));
     }
-    if first_byte(word.as_str()) == Some(b'$') {
+    if first_byte(word) == Some(b'$') {
         return Err(ParseError::Lexer);
     }
-    Ok(Token::CharData(word))
+    Ok(None)
 }
