@@ -1,4 +1,5 @@
 use Rattle.std.proofs.Common.{◌≡◌, [], ◌∷◌, length, length-append, ap, sym, ◌∙◌, arith}
+use Rattle.std.proofs.Math.Seq.{take-append_seam}
 use Rattle.std.proofs.lemmas.Option.{IfSome_then}
 use Rattle.base.specs.State.{State}
 use Rattle.base.specs.Wire.{state_of}
@@ -8,6 +9,11 @@ use Rattle.base.proofs.ItemLemmas.{cut-Keeps, Each-keeps, Each-push, Each-valid,
 use Rattle.base.proofs.SaysLemmas.{Says-writes}
 use Rattle.base.proofs.WrittenLemmas.{after-push}
 use Rattle.base.proofs.wire.encoder.items.BinEncoder.emit_from.Goals as goal
+
+pub roll_back-requires : goal.roll_back-requires
+roll_back-requires g c =
+    rw (c.mark-mark.ensures.len, c.mark-mark.ensures.count, c.in-Err.ensures.keeps.suffixes, take-append_seam)
+    c.loop-next.self.below
 
 pub returns-in-MaxBufferSizeExceeded : goal.returns-in-MaxBufferSizeExceeded
 returns-in-MaxBufferSizeExceeded g c =
