@@ -1,5 +1,4 @@
-use Rattle.std.proofs.Common.{arith}
-use Rattle.std.proofs.lemmas.Grind.{common_steps}
+use Rattle.std.proofs.Common.{rules}
 use Rattle.op.specs.Fits.{Fits}
 use Rattle.op_use.specs.SoundSet.{IsSendable}
 use Rattle.op_use.specs.UpdateMeaning.{SwapsSets}
@@ -7,7 +6,7 @@ use Rattle.op_use.proofs.BuiltLemmas.{compare_and_swap_fits, swaps_sets, of_buil
 use Rattle.op_use.proofs.update_message.builders.compare_and_swap.Goals as goal
 
 pub returns-clause-built : goal.returns-clause-built
-returns-clause-built c = grind (arith, common_steps)
+returns-clause-built c = search rules
 
 pub returns-clause-fits : goal.returns-clause-fits
 returns-clause-fits c =
