@@ -47,7 +47,10 @@ module _ {X Y : Type 0} {first : State → Result X ProtoError → State → Typ
       → AndThen first stays next a result c → AndThen other stays next a result c
   first_as same s = record { answer = s.answer; between = s.between; ran = same s.answer s.between s.ran; rest = s.rest }
 
-module _ {X Y Z : Type 0} {first : State → Result X ProtoError → State → Type 0} {second : X → State → Result Y ProtoError → State → Type 0} {next : Y → State → Result Z ProtoError → State → Type 0} {others : X → State → Result Z ProtoError → State → Type 0} {a c : State} {result : Result Z ProtoError} where
+module _ {X Y Z : Type 0} {first : State → Result X ProtoError → State → Type 0}
+    {second : X → State → Result Y ProtoError → State → Type 0}
+    {next : Y → State → Result Z ProtoError → State → Type 0}
+    {others : X → State → Result Z ProtoError → State → Type 0} {a c : State} {result : Result Z ProtoError} where
   regrouped_by : (answer : Result X ProtoError) (b m : State) (last : Result Y ProtoError) → first a answer b → Continues ⊤ second answer b last m → Continues ⊤ next last m result c
       → ((x : X) → AndThen (second x) ⊤ next b result c → others x b result c) → AndThen first ⊤ others a result c
   regrouped_by (Ok x) b m last ran ran_last rest nested = record { answer = Ok x; between = b; ran = ran; rest = nested x (record { answer = last; between = m; ran = ran_last; rest = rest }) }

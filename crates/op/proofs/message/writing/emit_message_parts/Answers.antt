@@ -58,7 +58,9 @@ after_authorities g c rest =
     after_answers g (goal.at.In_ok-authorities g c).In_ok-answers (goes c.in_ok-authorities.authorities (state_of c.emit_part-2.new.encoder) c.emit_part-2.ensures.keeps c.in_ok-authorities.ensures.run rest)
 
 -- the additional records, EDNS and the signature as one run are the parts one after another
-module _ {P : Type 0} {first : State → Result Written ProtoError → State → Type 0} {opt signature : List (Record RData)} {next : Written → State → Result Header ProtoError → State → Type 0} {a c : State} {result : Result Header ProtoError} where
+module _ {P : Type 0} {first : State → Result Written ProtoError → State → Type 0}
+    {opt signature : List (Record RData)} {next : Written → State → Result Header ProtoError → State → Type 0}
+    {a c : State} {result : Result Header ProtoError} where
   as_listed : P × AndThen (AndThen first ⊤ (λ counted. AndThen (WritesRecordItems opt) ⊤ (λ opt. AndThen (Tests (AddsCounts counted opt)) ⊤ (λ sum.
       AndThen (WritesRecordItems signature) ⊤ (λ signed. Tests (AddsCounts sum signed)))))) ⊤ next a result c
       → P × AndThen first ⊤ (λ counted. AndThen (WritesRecordItems opt) ⊤ (λ opt. AndThen (Tests (AddsCounts counted opt)) ⊤ (λ sum.
