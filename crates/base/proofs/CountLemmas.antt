@@ -1,8 +1,7 @@
 -- The offsets that are kept, as a set, and how many pointers are followed.
 use Rattle.std.proofs.Common.{◌≡◌, ℕ, zero, suc, ◌+◌, ◌-◌, ◌^◌, ◌<◌, ◌≤◌, inl, inr, Bool}
 use Rattle.std.proofs.Common.{true, false, cond, List, [], ◌∷◌, ◌++◌, length, refl, ap, sym, ◌∙◌, subst, arith, length-append}
-use Rattle.std.specs.Prelude.{Option, Some, None, is_some, min, nat_eq, All, ◌||◌, ◌&&◌, not, Result, Ok, Err}
-use Rattle.std.specs.Result.{IsErr}
+use Rattle.std.specs.Prelude.{Option, Some, None, is_some, min, nat_eq, ◌||◌, ◌&&◌, not}
 use Rattle.std.specs.Cmp.{nat_cmp_total, eq_by_cmp_equiv, unsigned_tied, unsigned_ties}
 use Rattle.std.specs.FinMap as map
 use Rattle.std.specs.FinSet as set
@@ -19,8 +18,8 @@ use Rattle.base.specs.Pointers.{AreKept, Cache, Followed, IsKept, IsSource, Keep
 use Rattle.base.proofs.SpellingLemmas.{spelled_once}
 use Rattle.std.specs.declared.cmp.Ordering.{Ordering}
 use Rattle.std.specs.declared.cmp.Ordering.TheVariants.{Less, Equal, Greater}
-use Rattle.base.specs.Counts.{Counts, IsCounted, IsPassed, Passes}
-use Rattle.base.specs.Passing.{NamesPass, is_among, inserted, one_more, passed}
+use Rattle.base.specs.Tracks.{IsBounded, IsCounted}
+use Rattle.base.specs.Passing.{is_among, inserted, passed}
 use Rattle.base.specs.Spelling.{Spelled, ends, label, pointer}
 use Rattle.base.specs.Reader.{Reader}
 
@@ -237,21 +236,6 @@ both_lists ts us = same_members _ _ (λ q.
     ∙ sym (list_any-append (λ (y : ℕ). nat_eq y q) ts us)
     ∙ sym (set.contains-from_list_nat (ts ++ us) q))
 
-one_passed : {old last : Reader} {xs : List (List ℕ)} {e : ℕ} (h : Spelled old.bytes xs old.index old.index e) → IsPassed old
-    → last.bytes ≡ old.bytes → last.index ≡ e → last.kept ≡ inserted (passed h) old.kept → IsPassed last
-one_passed {old} {last} {xs} {e} h p bytes index kept =
-    let past = ends_after h in
-    record {
-      names = old.index ∷ p.names;
-      offsets = passed h ++ p.offsets;
-      before = before past;
-      pass = subst (λ (bs : List ℕ). NamesPass bs (old.index ∷ p.names) (passed h ++ p.offsets)) (sym bytes) (one_more h p.pass);
-      exact = kept ∙ ap (inserted (passed h)) p.exact ∙ both_lists (passed h) p.offsets;
-    } where
-      before : old.index < e → All (λ (i : ℕ). i < last.index) (old.index ∷ p.names)
-      before past zero d inside = omega (arith, index, past)
-      before past (suc k) d inside = omega (arith, index, past, p.before k d (omega (arith, inside)))
-
 -- A decoder after a name: pointers to these offsets were followed, and with them all that the name passes is kept.
 pub record IsAfterName {xs : List (List ℕ)} {e : ℕ} (ts : List ℕ) (old new last : Reader) (h : Spelled old.bytes xs old.index old.index e) : Type 0 where
   pub bytes : last.bytes ≡ old.bytes
@@ -262,29 +246,15 @@ pub record IsAfterName {xs : List (List ℕ)} {e : ℕ} (ts : List ℕ) (old new
 
 -- a read of a name ends: with all that it passes kept, or with a refusal
 pub counted_after : {ts : List ℕ} {old new last : Reader} {xs : List (List ℕ)} {e : ℕ} {h : Spelled old.bytes xs old.index old.index e} → IsAfterName ts old new last h
-    → Followed ts old new → set.len old.kept ≤ 16384 → IsCounted old → IsCounted last × (last.jumps ≤ 16384)
-counted_after past f some counted =
-    let few = f.few some in
-    let raised = f.jumps (omega (arith, counted, few, f.all)) in
-    let len = ap set.len past.kept in (
-      omega (arith, past.jumps, raised, counted, len, f.all),
-      omega (arith, past.jumps, raised, counted, few, f.all),
-    )
+    → Followed ts old new → IsCounted old → IsCounted last
+counted_after past f counted =
+    let few = f.few counted.few in
+    let raised = f.jumps (omega (arith, counted.exact, few, f.all)) in
+    let len = ap set.len past.kept in
+    record { exact = omega (arith, past.jumps, raised, counted.exact, len, f.all); few = omega (arith, few, len) }
 
 -- a read of a name is refused
-pub counted_refused : {ts : List ℕ} {old new : Reader} → Followed ts old new → set.len old.kept ≤ 16384 → IsCounted old → new.jumps ≤ 16384
-counted_refused f some counted =
-    let few = f.few some in
-    omega (arith, f.jumps (omega (arith, counted, few, f.all)), counted, few, f.all)
-
-pub passed_after : {ts : List ℕ} {old new last : Reader} {xs : List (List ℕ)} {e : ℕ} (h : Spelled old.bytes xs old.index old.index e) → IsAfterName ts old new last h → IsPassed old → IsPassed last
-passed_after h past p = one_passed h p past.bytes past.index past.passes
-
--- after a refusal, only how many pointers were followed is said
-pub Counts-refused : {X E : Type 0} (old new : Reader) (r : Result X E) → IsErr r → (IsCounted old → new.jumps ≤ 16384) → Counts old new r
-Counts-refused old new (Ok x) refused few = absurd (false≢true refused)
-Counts-refused old new (Err e) refused few = few
-
-pub Passes-refused : {X E : Type 0} (old new : Reader) (r : Result X E) → IsErr r → Passes old new r
-Passes-refused old new (Ok x) refused = absurd (false≢true refused)
-Passes-refused old new (Err e) refused = tt
+pub counted_refused : {ts : List ℕ} {old new : Reader} → Followed ts old new → IsBounded old new
+counted_refused f counted =
+    let few = f.few counted.few in
+    omega (arith, f.jumps (omega (arith, counted.exact, few, f.all)), counted.exact, few, f.all)

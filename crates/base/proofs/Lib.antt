@@ -1,4 +1,3 @@
-pub mod AddsLemmas
 pub mod CacheLemmas
 pub mod CharLemmas
 pub mod ClassTexts
@@ -42,6 +41,7 @@ pub mod TakingLemmas
 pub mod TextLawLemmas
 pub mod TextLemmas
 pub mod TokenLemmas
+pub mod TrackLemmas
 pub mod TtlLawLemmas
 pub mod TtlLemmas
 pub mod TypeTexts

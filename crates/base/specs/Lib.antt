@@ -1,6 +1,5 @@
 pub mod AppendError
 pub mod Compression
-pub mod Counts
 pub mod Cuts
 pub mod DNSClass
 pub mod DecodeError
@@ -37,6 +36,7 @@ pub mod TextFaults
 pub mod TokenList
 pub mod TokenText
 pub mod Tokens
+pub mod Tracks
 pub mod Ttl
 pub mod TtlText
 pub mod Wire

@@ -3,7 +3,6 @@ use Rattle.std.specs.Prelude.{◌≡◌, ℕ, Bool, true, List, [], ◌∷◌, �
 use Rattle.std.specs.FinSet as set
 use Rattle.std.specs.List.{list_any}
 use Rattle.std.specs.Ordering.{nat_cmp}
-use Rattle.base.specs.Reader.{Reader}
 use Rattle.base.specs.Spelling.{SpelledIn, Spelled, ends, label, pointer, target}
 
 -- the offsets that the pointers of a spelling lead to, in order
@@ -39,10 +38,3 @@ pub data NamesPass (bytes : List ℕ) : List ℕ → List ℕ → Type 0 where
   no_names : NamesPass bytes [] []
   one_more : {i e : ℕ} {xs : List (List ℕ)} {places ts : List ℕ} → (h : Spelled bytes xs i i e)
       → NamesPass bytes places ts → NamesPass bytes (i ∷ places) (passed h ++ ts)
-
--- A read kept exactly the offsets that the names at these places pass, beside those from before.
-pub record AddsPassed (names : List ℕ) (old new : Reader) : Type 0 where
-  pub bytes : new.bytes ≡ old.bytes
-  pub offsets : List ℕ
-  pub pass : NamesPass old.bytes names offsets
-  pub exact : new.kept ≡ inserted offsets old.kept

@@ -1,11 +1,8 @@
 //! The kinds of record data, each in a file of its own, and the data of any record: what goes through all kinds
 //! stands here.
 
-ghost use Rattle.base.specs.declared.limits.TheConstants.{POINTER_LIMIT};
-ghost use Rattle.std.specs.Prelude.{◌≡◌, ◌<◌, ◌≤◌, [], IfOk, Some, length, true, option_copied, slice_get};
-ghost use Rattle.std.specs.FinSet as set;
-ghost use Rattle.base.specs.Counts.{Counts, Passes};
-ghost use Rattle.base.specs.Passing.{AddsPassed};
+ghost use Rattle.std.specs.Prelude.{◌≡◌, ◌<◌, ◌≤◌, [], Some, length, true, option_copied, slice_get};
+ghost use Rattle.base.specs.Tracks.{Tracks};
 ghost use Rattle.base_data.specs.InPlace.{ReadsInto};
 ghost use Rattle.base_data.specs.Kinds.{DataWord, KeptData, canonical_data, data_names, data_places, data_says, data_text, data_written, kind_at, kind_rank, plain_data, type_of_data};
 ghost use Rattle.base_data.specs.RData.{is_empty_data};
@@ -136,17 +133,11 @@ impl RData {
     ) -> Result<(), DataError>
         requires some { 0 < len }
         requires empty { is_empty_data self.old ≡ true }
-        // No more targets of pointers are kept than a pointer can lead to.
-        requires few { set.len decoder.old.kept ≤ POINTER_LIMIT }
         ensures read { ReadsInto decoder.old decoder.new self.new result
             (kind_at record_type len decoder.old.bytes decoder.old.index) }
-        // These two are as of every read: see `BinDecodable::read`.
-        ensures counts { Counts decoder.old decoder.new result }
-        ensures passed { Passes decoder.old decoder.new result }
-        // The targets that the names of the data pass are kept in addition, and no others.
-        ensures adds { IfOk result
-            (λ _. AddsPassed (data_places self.new decoder.old.bytes decoder.old.index) decoder.old
-            decoder.new) }
+        // As of every read, see `BinDecodable::read`: of the names of the data.
+        ensures tracks { Tracks (λ _. data_places self.new decoder.old.bytes decoder.old.index)
+            decoder.old decoder.new result }
     {
         match record_type {
             RecordType::A => read_as::<A>(self, decoder),

@@ -1,11 +1,11 @@
 -- The places of the names of sections that stand one after another.
 use Rattle.std.proofs.Common.{◌≡◌, ◌∙◌, ℕ, ◌+◌, zero, suc, Bool, false, List, [], ◌++◌, Ok, ap, sym, subst, arith, append_assoc}
 use Rattle.base.specs.Many.{many_at, many_names}
-use Rattle.base.specs.Passing.{AddsPassed}
 use Rattle.base.specs.Reader.{Reader}
 use Rattle.base.specs.Reading.{Read, place_after}
-use Rattle.base.proofs.AddsLemmas.{adds_both}
+use Rattle.base.specs.Tracks.{Tracked}
 use Rattle.base.proofs.ReadLemmas.{bind_ok}
+use Rattle.base.proofs.TrackLemmas.{tracked_both}
 use Rattle.base_data.proofs.Tells.{same_ok}
 use Rattle.rr.specs.Record.{record_at, record_places}
 use Rattle.op.specs.Header.{header_at}
@@ -37,30 +37,35 @@ places_joined inside op bytes m (suc n) i s t j is =
 
 -- a section after records
 pub adds_section : {old mid new : Reader} {s : SectionValue} (n m : ℕ) (inside : Bool) (op : OpCode) → section_at inside op n old.bytes old.index ≡ Ok (s, mid.index)
-    → AddsPassed (records_places n old.bytes old.index) old mid → AddsPassed (records_places m mid.bytes mid.index) mid new → AddsPassed (records_places (n + m) old.bytes old.index) old new
+    → Tracked (records_places n old.bytes old.index) old mid → Tracked (records_places m mid.bytes mid.index) mid new
+    → Tracked (records_places (n + m) old.bytes old.index) old new
 adds_section {old} {mid} {new} {s} n m inside op is first second =
-    let both = adds_both first second in
+    let both = tracked_both first second in
     let there : records_places n old.bytes old.index ++ records_places m mid.bytes mid.index ≡ records_places (n + m) old.bytes old.index =
     ap (λ (bs : List ℕ). records_places n old.bytes old.index ++ records_places m bs mid.index) first.bytes ∙ sym (places_joined inside op old.bytes m n old.index _ s mid.index is) in
-    subst (λ (qs : List ℕ). AddsPassed qs old new) there both
+    subst (λ (qs : List ℕ). Tracked qs old new) there both
 
 -- three sections
 pub adds_sections : {old first second new : Reader} {s t : SectionValue} (a b c : ℕ) (op : OpCode) → section_at false op a old.bytes old.index ≡ Ok (s, first.index)
-    → section_at false op b first.bytes first.index ≡ Ok (t, second.index) → AddsPassed (records_places a old.bytes old.index) old first
-    → AddsPassed (records_places b first.bytes first.index) first second → AddsPassed (records_places c second.bytes second.index) second new
-    → AddsPassed (records_places (a + b + c) old.bytes old.index) old new
+    → section_at false op b first.bytes first.index ≡ Ok (t, second.index)
+    → Tracked (records_places a old.bytes old.index) old first
+    → Tracked (records_places b first.bytes first.index) first second
+    → Tracked (records_places c second.bytes second.index) second new
+    → Tracked (records_places (a + b + c) old.bytes old.index) old new
 adds_sections {old} {new = new} a b c op answers_are authorities_are answers authorities additionals =
     let others = adds_section b c false op authorities_are authorities additionals in
     let all = adds_section a (b + c) false op answers_are answers others in
     let sum : a + (b + c) ≡ a + b + c = omega arith in
-    subst (λ (n : ℕ). AddsPassed (records_places n old.bytes old.index) old new) sum all
+    subst (λ (n : ℕ). Tracked (records_places n old.bytes old.index) old new) sum all
 
 -- questions and records after a header
 pub adds_message : {header : Header} {count : ℕ} {questions : List Query} {old first second new : Reader} → header_at old.bytes old.index ≡ Ok (header, first.index)
-    → many_at query_at count first.bytes first.index ≡ Ok (questions, second.index) → count ≡ header.counts.queries → AddsPassed [] old first
-    → AddsPassed (queries_places count first.bytes first.index) first second
-    → AddsPassed (records_places (header.counts.answers + header.counts.authorities + header.counts.additionals) second.bytes second.index) second new
-    → AddsPassed (message_places old.bytes old.index) old new
+    → many_at query_at count first.bytes first.index ≡ Ok (questions, second.index) → count ≡ header.counts.queries
+    → Tracked [] old first
+    → Tracked (queries_places count first.bytes first.index) first second
+    → Tracked (records_places (header.counts.answers + header.counts.authorities + header.counts.additionals)
+    second.bytes second.index) second new
+    → Tracked (message_places old.bytes old.index) old new
 adds_message {header} {count} {questions} {old} {first} {second} {new} header_is questions_are counted none asked records =
     let n = header.counts.answers + header.counts.authorities + header.counts.additionals in
     let bytes : second.bytes ≡ old.bytes = asked.bytes ∙ none.bytes in
@@ -71,12 +76,13 @@ adds_message {header} {count} {questions} {old} {first} {second} {new} header_is
     ∙ ap (λ (k : ℕ). place_after (many_at query_at k old.bytes first.index)) counted in
     let records_there : records_places n second.bytes second.index ≡ records_places n old.bytes (place_after (many_at query_at header.counts.queries old.bytes first.index)) =
     ap (λ (B : List ℕ). records_places n B second.index) bytes ∙ ap (records_places n old.bytes) last in
-    let both : AddsPassed (queries_places count first.bytes first.index ++ records_places n second.bytes second.index) old new = adds_both none (adds_both asked records) in
+    let both : Tracked (queries_places count first.bytes first.index ++ records_places n second.bytes second.index) old
+    new = tracked_both none (tracked_both asked records) in
     let there : counted_places (Ok (header, first.index)) old.bytes ≡ message_places old.bytes old.index = sym (ap (λ (r : Read Header). counted_places r old.bytes) header_is) in
-    subst (λ (places : List ℕ). AddsPassed places old new) there (subst (λ (qs : List ℕ). AddsPassed
+    subst (λ (places : List ℕ). Tracked places old new) there (subst (λ (qs : List ℕ). Tracked
     (qs ++ records_places n old.bytes (place_after (many_at query_at header.counts.queries
     old.bytes first.index))) old new) questions_there
-    (subst (λ (rs : List ℕ). AddsPassed (queries_places count first.bytes first.index ++ rs) old new) records_there both))
+    (subst (λ (rs : List ℕ). Tracked (queries_places count first.bytes first.index ++ rs) old new) records_there both))
 
 -- a message of its header, its questions and its records
 pub reads_message : {header : Header} {count : ℕ} {questions : List Query} {r : MessageValue × ℕ} {B first second : List ℕ} {j k : ℕ} (i : ℕ) → header_at B i ≡ Ok (header, j) → first ≡ B

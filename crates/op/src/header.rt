@@ -2,8 +2,7 @@
 
 ghost use Rattle.std.specs.Prelude.{◌≡◌, ◌↔◌, ◌<◌, ◌+◌, ◌%◌, ◌≤◌, ◌||◌, ◌^◌, ℕ, List, [], ◌∷◌, length, slice_index, Ok, Err, IfOk, OnOk, OnErr, IsOkUnless, IsErrOf};
 ghost use Rattle.std.specs.Int.{w16, from_be_bytes};
-ghost use Rattle.base.specs.Counts.{Counts, Passes};
-ghost use Rattle.base.specs.Passing.{AddsPassed};
+ghost use Rattle.base.specs.Tracks.{Tracks};
 ghost use Rattle.base.specs.Reading.{Reads};
 ghost use Rattle.base.specs.State.{appended};
 ghost use Rattle.base.specs.Laws.{Keeps};
@@ -174,11 +173,8 @@ impl BinDecodable for Header {
     fn read(decoder: &mut BinDecoder<'_>) -> Result<Header, DecodeError>
         ensures read { Reads (λ x. x) decoder.old decoder.new result
             (header_at decoder.old.bytes decoder.old.index) }
-        // These two are as of every read: see `BinDecodable::read`.
-        ensures counts { Counts decoder.old decoder.new result }
-        ensures passed { Passes decoder.old decoder.new result }
-        // A header has no names, so no target of a pointer is kept in addition.
-        ensures adds { IfOk result (λ _. AddsPassed [] decoder.old decoder.new) }
+        // As of every read, see `BinDecodable::read`: a header has no names.
+        ensures tracks { Tracks (λ _. []) decoder.old decoder.new result }
         // The header stands at the place, and the decoder after its twelve bytes.
         ensures found { IfOk result (λ h. IsHeaderAt decoder.old.bytes decoder.old.index h
             × (decoder.new.index ≡ decoder.old.index + 12)) }

@@ -2,10 +2,10 @@
 
 ghost use Rattle.std.specs.Prelude.{◌≡◌, ◌↔◌, ◌+◌, ◌++◌, ◌<◌, ◌^◌, ℕ, List, length, Ok, Err, Some, IfErr, IfOk, OnOk, IsTrue, [], true};
 ghost use Rattle.std.specs.Int.{w16, to_be_bytes};
-ghost use Rattle.base.specs.Counts.{Counts, Passes};
 ghost use Rattle.base.specs.Laws.{Keeps};
 ghost use Rattle.base.specs.NameOrder.{same_name};
 ghost use Rattle.base.specs.Wire.{state_of};
+ghost use Rattle.base.specs.Tracks.{Tracks};
 ghost use Rattle.base.specs.Words.{IsNumberAt};
 ghost use Rattle.base.specs.Written.{Exactly, just};
 ghost use Rattle.op.specs.Places.{query_places};
@@ -205,19 +205,14 @@ fn read_fields(decoder: &mut BinDecoder<'_>) -> Result<Fields, DecodeError>
     // Refused only where fewer than four bytes are left.
     ensures short { IfErr result (λ e. (e ≡ DecodeError.InsufficientBytes)
         × (length decoder.old.bytes < decoder.old.index + 4)) }
-    // No target of a pointer is kept in addition.
-    ensures kept { decoder.new.kept ≡ decoder.old.kept }
-    // These two are as of every read: see `BinDecodable::read`.
-    ensures counts { Counts decoder.old decoder.new result }
-    ensures passed { Passes decoder.old decoder.new result }
+    // As of every read, see `BinDecodable::read`: no name is read.
+    ensures tracks { Tracks (λ _. []) decoder.old decoder.new result }
 {
-    match decoder.read_slice(4)? {
-        [type_high, type_low, class_high, class_low] => Ok(Fields {
-            query_type: u16::from_be_bytes([*type_high, *type_low]),
-            class: u16::from_be_bytes([*class_high, *class_low]),
-        }),
-        _ => Err(DecodeError::InsufficientBytes),
-    }
+    let [type_high, type_low, class_high, class_low] = decoder.read_array::<4>()?;
+    Ok(Fields {
+        query_type: u16::from_be_bytes([type_high, type_low]),
+        class: u16::from_be_bytes([class_high, class_low]),
+    })
 }
 
 impl BinDecodable for Query {

@@ -7,7 +7,7 @@ use Rattle.base.specs.Faults.{IsFaulty}
 use Rattle.base.specs.Labels.{NameValue, plain_len}
 use Rattle.base.specs.NameText.{name_text}
 use Rattle.base.specs.Names.{name_at}
-use Rattle.base.specs.Passing.{AddsPassed}
+use Rattle.base.specs.Tracks.{Tracked}
 use Rattle.base.specs.Reader.{Reader}
 use Rattle.base.specs.Reading.{Read, ◌>>=◌, place_after, number_at}
 use Rattle.base.specs.RecordType.{type_number, type_of, type_text}
@@ -187,7 +187,7 @@ record_at bytes i = do
 pub record HasOwner (before after : Reader) (owner : NameValue) : Type 0 where
   pub read : name_at before.bytes before.index ≡ Ok (owner, after.index)
   pub bytes : after.bytes ≡ before.bytes
-  pub adds : AddsPassed (before.index ∷ []) before after
+  pub tracks : Tracked (before.index ∷ []) before after
 
 -- the names of a record: its owner's, and those of its data from the left
 abbrev pub record_names : Record RData → List NameValue

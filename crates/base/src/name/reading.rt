@@ -3,13 +3,13 @@
 ghost use Rattle.base.specs.declared.limits.TheConstants.{MAX_LABELS, POINTER_LIMIT};
 ghost use Rattle.std.specs.Prelude.{◌≡◌, ℕ, ◌<◌, ◌≤◌, ◌+◌, ◌++◌, ◌∷◌, [], Ok, Err, length, take, slice_range, IfErr, IfOk, IfSome, OnOk, OnErr, IsOkUnless, MatchResult, is_some, true};
 ghost use Rattle.std.specs.FinSet as set;
-ghost use Rattle.base.specs.Counts.{Counts, Passes};
 ghost use Rattle.base.specs.Labels.{IsWire, labels_of};
 ghost use Rattle.base.specs.Names.{part_at, pointer_to, labels_at, name_at};
 ghost use Rattle.base.specs.Pointers.{AreSpelled, AreTooLong, Followed, IfInPlace, IfPointer, IsBare, IsKept, IsSource, KeepsAt, OfLast, PassLater, PassesThese, part, targets};
-ghost use Rattle.base.specs.Passing.{AddsPassed, IsClosed, inserted, passed};
+ghost use Rattle.base.specs.Passing.{IsClosed, inserted, passed};
 ghost use Rattle.base.specs.Reading.{Fails, Reads};
 ghost use Rattle.base.specs.Spelling.{Spelled};
+ghost use Rattle.base.specs.Tracks.{Tracks};
 
 use crate::error::DecodeError;
 use crate::labels::Labels;
@@ -358,14 +358,11 @@ fn read_following(decoder: &mut BinDecoder<'_>, bare: Option<u16>) -> Result<Nam
     // These are as of every name: see `read`.
     ensures read { Reads (λ x. x) decoder.old decoder.new result
         (name_at decoder.old.bytes decoder.old.index) }
-    ensures counts { Counts decoder.old decoder.new result }
-    ensures passed { Passes decoder.old decoder.new result }
     ensures passes { IfOk result
         (λ n. (h : Spelled decoder.old.bytes n.labels decoder.old.index decoder.old.index
         decoder.new.index)
         → decoder.new.kept ≡ set.union decoder.old.kept (set.from_list (passed h))) }
-    ensures adds { IfOk result
-        (λ _. AddsPassed (decoder.old.index ∷ []) decoder.old decoder.new) }
+    ensures tracks { Tracks (λ _. decoder.old.index ∷ []) decoder.old decoder.new result }
 {
     let mut room = [0; MAX_LABELS];
     let mut followed = FollowedPointers::new(decoder.allocator());
@@ -394,20 +391,13 @@ impl BinDecodable for Name {
     fn read(decoder: &mut BinDecoder<'_>) -> Result<Name, DecodeError>
         ensures read { Reads (λ x. x) decoder.old decoder.new result
             (name_at decoder.old.bytes decoder.old.index) }
-        // Where as many pointers were followed as targets are kept, that stays so after `Ok`, and
-        // even after a refusal no more were followed than a pointer can name offsets.
-        ensures counts { Counts decoder.old decoder.new result }
-        // Where exactly those targets are kept that the names before the place pass, that stays so
-        // after `Ok`.
-        ensures passed { Passes decoder.old decoder.new result }
         // The targets of the pointers in the name's spelling are kept in addition, and no others.
         ensures passes { IfOk result
             (λ n. (h : Spelled decoder.old.bytes n.labels decoder.old.index decoder.old.index
             decoder.new.index)
             → decoder.new.kept ≡ set.union decoder.old.kept (set.from_list (passed h))) }
         // The same, said as of every read: see `BinDecodable::read`.
-        ensures adds { IfOk result
-            (λ _. AddsPassed (decoder.old.index ∷ []) decoder.old decoder.new) }
+        ensures tracks { Tracks (λ _. decoder.old.index ∷ []) decoder.old decoder.new result }
     {
         let bare = match first_look(decoder) {
             Look::InPlace(

@@ -11,10 +11,9 @@ use crate::wire::decoder::BinDecoder;
 /// `read_at` is what a buffer spells at a place: the value and the place after it, or the first fault. `names_at` are
 /// the places of the names of the value that is read there.
 pub trait BinDecodable: Drop {
-    ghost use Rattle.std.specs.Prelude.{ℕ, List, [], IfOk};
-    ghost use Rattle.base.specs.Counts.{Counts, Passes};
-    ghost use Rattle.base.specs.Passing.{AddsPassed};
+    ghost use Rattle.std.specs.Prelude.{ℕ, List, []};
     ghost use Rattle.base.specs.Reading.{Read, Reads};
+    ghost use Rattle.base.specs.Tracks.{Tracks};
 
     ghost read_at: { List ℕ → ℕ → Read Self };
 
@@ -28,23 +27,16 @@ pub trait BinDecodable: Drop {
     fn read(decoder: &mut BinDecoder<'_>) -> Result<Self, DecodeError>
         ensures read { Reads (λ x. x) decoder.old decoder.new result
             (read_at decoder.old.bytes decoder.old.index) }
-        // Where as many pointers were followed as targets are kept, that stays so after `Ok`, and
-        // even after a refusal no more were followed than a pointer can name offsets.
-        ensures counts { Counts decoder.old decoder.new result }
-        // Where exactly those targets are kept that the names before the place pass, that stays so
-        // after `Ok`.
-        ensures passed { Passes decoder.old decoder.new result }
         // The targets that the names at the places of `names_at` pass are kept in addition, and no
-        // others.
-        ensures adds { IfOk result
-            (λ _. AddsPassed (names_at decoder.old.bytes decoder.old.index) decoder.old
-            decoder.new) };
+        // others. Where as many pointers were followed as targets are kept, that stays so, and even
+        // after a refusal no more were followed than a pointer can name offsets.
+        ensures tracks { Tracks (λ _. names_at decoder.old.bytes decoder.old.index) decoder.old
+            decoder.new result };
 }
 
 impl BinDecodable for u16 {
     ghost read_at = { number_at w16 };
 
-    #[tactic(auto, using(crate::proofs::AddsLemmas::adds_none))]
     fn read(decoder: &mut BinDecoder<'_>) -> Result<u16, DecodeError> {
         decoder.read_u16()
     }

@@ -1,14 +1,14 @@
 //! Reads a message's bytes.
 
 ghost use Rattle.base.specs.declared.limits.TheConstants.{POINTER_LIMIT};
-ghost use Rattle.std.specs.Prelude.{◌≡◌, ℕ, true, false, ◌+◌, ◌-◌, ◌^◌, ◌<◌, ◌≤◌, length, min, drop, nat_le, is_some, IfSome, OnOk, OnErr, IsOkUnless};
+ghost use Rattle.std.specs.Prelude.{◌≡◌, ℕ, true, false, ◌+◌, ◌-◌, ◌^◌, ◌<◌, ◌≤◌, length, min, drop, nat_le, is_some, IfSome, OnOk, OnErr, IsOkUnless, []};
 ghost use Rattle.std.specs.FinSet as set;
 ghost use Rattle.std.specs.Int.{w16, w32};
-ghost use Rattle.base.specs.Counts.{Counts, Passes};
 ghost use Rattle.base.specs.Passing.{IsClosed, PassesKept};
 ghost use Rattle.base.specs.Pointers.{IsKept, IsSource, KeepsAt};
 ghost use Rattle.base.specs.Reader.{begun};
 ghost use Rattle.base.specs.Reading.{Reads, byte_at, bytes_at, number_at};
+ghost use Rattle.base.specs.Tracks.{IsCounted, Tracks};
 
 use crate::error::DecodeError;
 use crate::limits::POINTER_LIMIT;
@@ -82,8 +82,6 @@ impl<'a> BinDecoder<'a> {
         ensures inside { result ≤ length self.now.bytes }
         // A buffer has fewer than 2^63 bytes.
         ensures addressable { length self.now.bytes < 2 ^ 63 }
-        // No more targets of pointers are kept than a pointer can lead to.
-        ensures few { set.len self.now.kept ≤ POINTER_LIMIT }
     {
         self.index
     }
@@ -91,8 +89,6 @@ impl<'a> BinDecoder<'a> {
     /// How many bytes are left.
     pub fn len(&self) -> usize
         ensures left { result ≡ length self.now.bytes - self.now.index }
-        // No more targets of pointers are kept than a pointer can lead to.
-        ensures few { set.len self.now.kept ≤ POINTER_LIMIT }
     {
         self.buffer.len() - self.index
     }
@@ -105,10 +101,7 @@ impl<'a> BinDecoder<'a> {
     }
 
     /// The allocator that values read here take their memory from.
-    pub fn allocator(&self) -> Global
-        // No more targets of pointers are kept than a pointer can lead to.
-        ensures few { set.len self.now.kept ≤ POINTER_LIMIT }
-    {
+    pub fn allocator(&self) -> Global {
         self.alloc
     }
 
@@ -137,8 +130,9 @@ impl<'a> BinDecoder<'a> {
     /// that is refused.
     pub fn jumps(&self) -> usize
         ensures value { result ≡ self.now.jumps }
-        // No more targets of pointers are kept than a pointer can lead to.
-        ensures few { set.len self.now.kept ≤ POINTER_LIMIT }
+        // Where that is the number of targets that are kept, the decoder is counted: no more are
+        // kept than a pointer can lead to.
+        ensures counted { result ≡ set.len self.now.kept → IsCounted self.now }
     {
         self.jumps
     }
@@ -200,11 +194,8 @@ impl<'a> BinDecoder<'a> {
         ensures only { IsOkUnless result DecodeError.InsufficientBytes }
         ensures read { Reads (λ b. b) self.old self.new result
             (byte_at self.old.bytes self.old.index) }
-        // These two are as of every read: see `BinDecodable::read`.
-        ensures counts { Counts self.old self.new result }
-        ensures passed { Passes self.old self.new result }
-        // No target of a pointer is kept in addition.
-        ensures kept { self.new.kept ≡ self.old.kept }
+        // As of every read, see `BinDecodable::read`: no name is read.
+        ensures tracks { Tracks (λ _. []) self.old self.new result }
     {
         match self.buffer.get(self.index) {
             Some(byte) => {
@@ -224,11 +215,8 @@ impl<'a> BinDecoder<'a> {
         ensures only { IsOkUnless result DecodeError.InsufficientBytes }
         ensures read { Reads (λ n. n) self.old self.new result
             (number_at w16 self.old.bytes self.old.index) }
-        // These two are as of every read: see `BinDecodable::read`.
-        ensures counts { Counts self.old self.new result }
-        ensures passed { Passes self.old self.new result }
-        // No target of a pointer is kept in addition.
-        ensures kept { self.new.kept ≡ self.old.kept }
+        // As of every read, see `BinDecodable::read`: no name is read.
+        ensures tracks { Tracks (λ _. []) self.old self.new result }
     {
         match &self.buffer[self.index..] {
             [high, low, ..] => {
@@ -248,11 +236,8 @@ impl<'a> BinDecoder<'a> {
         ensures only { IsOkUnless result DecodeError.InsufficientBytes }
         ensures read { Reads (λ n. n) self.old self.new result
             (number_at w32 self.old.bytes self.old.index) }
-        // These two are as of every read: see `BinDecodable::read`.
-        ensures counts { Counts self.old self.new result }
-        ensures passed { Passes self.old self.new result }
-        // No target of a pointer is kept in addition.
-        ensures kept { self.new.kept ≡ self.old.kept }
+        // As of every read, see `BinDecodable::read`: no name is read.
+        ensures tracks { Tracks (λ _. []) self.old self.new result }
     {
         match &self.buffer[self.index..] {
             [highest, high, low, lowest, ..] => {
@@ -272,11 +257,8 @@ impl<'a> BinDecoder<'a> {
         ensures only { IsOkUnless result DecodeError.InsufficientBytes }
         ensures read { Reads (λ bytes. bytes.now) self.old self.new result
             (bytes_at len self.old.bytes self.old.index) }
-        // These two are as of every read: see `BinDecodable::read`.
-        ensures counts { Counts self.old self.new result }
-        ensures passed { Passes self.old self.new result }
-        // No target of a pointer is kept in addition.
-        ensures kept { self.new.kept ≡ self.old.kept }
+        // As of every read, see `BinDecodable::read`: no name is read.
+        ensures tracks { Tracks (λ _. []) self.old self.new result }
     {
         let start = self.index;
         if len > self.buffer.len() - start {
@@ -284,5 +266,22 @@ impl<'a> BinDecoder<'a> {
         }
         self.index += len;
         Ok(&self.buffer[start..start + len])
+    }
+
+    /// Reads `N` bytes, just as they stand.
+    ///
+    /// # Errors
+    ///
+    /// `InsufficientBytes` where fewer are left.
+    pub fn read_array<const N: usize>(&mut self) -> Result<[u8; N], DecodeError>
+        ensures only { IsOkUnless result DecodeError.InsufficientBytes }
+        ensures read { Reads (λ bytes. bytes) self.old self.new result
+            (bytes_at N self.old.bytes self.old.index) }
+        // As of every read, see `BinDecodable::read`: no name is read.
+        ensures tracks { Tracks (λ _. []) self.old self.new result }
+    {
+        let mut bytes = [0; N];
+        bytes.copy_from_slice(self.read_slice(N)?);
+        Ok(bytes)
     }
 }

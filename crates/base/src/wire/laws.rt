@@ -2,28 +2,34 @@
 
 ghost use Rattle.std.specs.Prelude.{◌≡◌, ℕ, ◌+◌, ◌^◌, ◌<◌, ◌≤◌, List, ◌++◌, length, OnOk, Result};
 ghost use Rattle.std.specs.FinSet as set;
-ghost use Rattle.base.specs.Counts.{IsCounted, IsPassed};
 ghost use Rattle.base.specs.Laws.{Keeps, Writes};
-ghost use Rattle.base.specs.Passing.{AddsPassed, NamesPass};
+ghost use Rattle.base.specs.Passing.{NamesPass};
 ghost use Rattle.base.specs.Reader.{Reader, begun};
 ghost use Rattle.base.specs.State.{State, Stored, appended, overwritten};
+ghost use Rattle.base.specs.Tracks.{IsCounted, IsPassed, Tracked};
 ghost use Rattle.base.specs.Wire.{Refuses};
 ghost use Rattle.base.specs.Written.{in_turn, that_fit, after, fitting, Exactly, FirstPasses};
 ghost use Rattle.base.specs.declared.error.proto_error.ProtoError.{ProtoError};
 
 use crate::wire::encodable::BinEncodable;
 
-/// A new decoder keeps nothing and has followed no pointer, so that the clauses `counts` and `passed` of each read tell
-/// of all that is read from there on.
+/// A new decoder keeps nothing and has followed no pointer, so that the clause `tracks` of each read tells of all that is
+/// read from there on.
 pub fn a_new_decoder_is_counted()
     ensures counted { (bytes : List ℕ) → IsCounted (begun bytes) }
     ensures passed { (bytes : List ℕ) → IsPassed (begun bytes) }
 {}
 
-/// What a new decoder keeps after a read is exactly what the names pass that were read: the clause `adds` of the read
+/// Where exactly those targets are kept that the names before the place pass, that stays so after a read.
+pub fn reads_keep_what_is_passed()
+    ensures { (names : List ℕ) (old new : Reader) → Tracked names old new → IsPassed old
+        → IsPassed new }
+{}
+
+/// What a new decoder keeps after a read is exactly what the names pass that were read: the clause `tracks` of the read
 /// tells their places.
 pub fn a_new_decoder_keeps_what_is_passed()
-    ensures { (bytes names : List ℕ) (new : Reader) → AddsPassed names (begun bytes) new
+    ensures { (bytes names : List ℕ) (new : Reader) → Tracked names (begun bytes) new
         → (offsets : List ℕ) × NamesPass bytes names offsets × (new.kept ≡ set.from_list offsets) }
 {}
 

@@ -1,10 +1,8 @@
 //! Reads values one after another.
 
-ghost use Rattle.std.specs.Prelude.{IfOk};
-ghost use Rattle.base.specs.Counts.{Counts, Passes};
 ghost use Rattle.base.specs.Many.{many_at, many_names};
-ghost use Rattle.base.specs.Passing.{AddsPassed};
 ghost use Rattle.base.specs.Reading.{Reads};
+ghost use Rattle.base.specs.Tracks.{Tracks};
 
 use crate::error::DecodeError;
 use crate::wire::decodable::BinDecodable;
@@ -21,13 +19,10 @@ pub fn read_many<T: BinDecodable>(
 ) -> Result<Vec<T>, DecodeError>
     ensures read { Reads (λ v. v.items) decoder.old decoder.new result
         (many_at T.read_at count decoder.old.bytes decoder.old.index) }
-    // These two are as of every read: see `BinDecodable::read`.
-    ensures counts { Counts decoder.old decoder.new result }
-    ensures passed { Passes decoder.old decoder.new result }
-    // The targets that the names of all these values pass are kept in addition, and no others.
-    ensures adds { IfOk result
-        (λ _. AddsPassed (many_names T.read_at T.names_at count decoder.old.bytes decoder.old.index)
-        decoder.old decoder.new) }
+    // As of every read: see `BinDecodable::read`. The names are those of all these values.
+    ensures tracks { Tracks
+        (λ _. many_names T.read_at T.names_at count decoder.old.bytes decoder.old.index)
+        decoder.old decoder.new result }
 {
     let mut values = Vec::new(decoder.allocator());
     if count > 1 {

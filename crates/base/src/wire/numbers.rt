@@ -42,7 +42,6 @@ impl BinDecodable for RecordType {
     /// # Errors
     ///
     /// `InsufficientBytes` where less than two bytes are left.
-    #[tactic(auto, using(crate::proofs::AddsLemmas::adds_none))]
     #[inline(always)]
     fn read(decoder: &mut BinDecoder<'_>) -> Result<RecordType, DecodeError> {
         Ok(RecordType::from(decoder.read_u16()?))
@@ -73,7 +72,6 @@ impl BinDecodable for DNSClass {
     /// # Errors
     ///
     /// `InsufficientBytes` where less than two bytes are left.
-    #[tactic(auto, using(crate::proofs::AddsLemmas::adds_none))]
     fn read(decoder: &mut BinDecoder<'_>) -> Result<DNSClass, DecodeError> {
         Ok(DNSClass::from(decoder.read_u16()?))
     }

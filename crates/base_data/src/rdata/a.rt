@@ -84,14 +84,10 @@ impl BinDecodable for A {
     /// # Errors
     ///
     /// `InsufficientBytes` where fewer are left.
-    #[tactic(auto, using(base::proofs::AddsLemmas::adds_none))]
     fn read(decoder: &mut BinDecoder<'_>) -> Result<A, DecodeError> {
-        match decoder.read_slice(4)? {
-            [a, b, c, d] => Ok(A {
-                octets: [*a, *b, *c, *d],
-            }),
-            _ => Err(DecodeError::InsufficientBytes),
-        }
+        Ok(A {
+            octets: decoder.read_array()?,
+        })
     }
 }
 

@@ -86,11 +86,10 @@ impl BinDecodable for AAAA {
     /// # Errors
     ///
     /// `InsufficientBytes` where fewer are left.
-    #[tactic(auto, using(base::proofs::AddsLemmas::adds_none))]
     fn read(decoder: &mut BinDecoder<'_>) -> Result<AAAA, DecodeError> {
-        let mut octets = [0; 16];
-        octets.copy_from_slice(decoder.read_slice(16)?);
-        Ok(AAAA { octets })
+        Ok(AAAA {
+            octets: decoder.read_array()?,
+        })
     }
 }
 

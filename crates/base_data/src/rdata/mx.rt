@@ -78,7 +78,7 @@ impl BinDecodable for MX {
     /// # Errors
     ///
     /// The first fault, `InsufficientBytes` or `BadName`; `Memory` if memory runs out.
-    #[tactic(auto, unfolding(crate::specs::MX::mx_at))]
+    #[tactic(auto, using(base::proofs::TrackLemmas::tracked_then), unfolding(crate::specs::MX::mx_at))]
     fn read(decoder: &mut BinDecoder<'_>) -> Result<MX, DecodeError> {
         Ok(MX {
             preference: decoder.read_u16()?,

@@ -66,7 +66,6 @@ impl SizedData for NULL {
     /// # Errors
     ///
     /// `InsufficientBytes` where fewer are left; `Memory` if memory runs out.
-    #[tactic(auto, using(base::proofs::AddsLemmas::adds_none))]
     fn read(decoder: &mut BinDecoder<'_>, len: u16) -> Result<NULL, DecodeError> {
         let bytes = decoder.read_slice(usize::from(len))?;
         Ok(NULL::new(Vec::from_slice(decoder.allocator(), bytes)?))

@@ -1,9 +1,8 @@
 //! Reads data by type and length.
 
-ghost use Rattle.std.specs.Prelude.{◌≡◌, ◌<◌, IfOk, [], true};
-ghost use Rattle.base.specs.Counts.{Counts, Passes};
-ghost use Rattle.base.specs.Passing.{AddsPassed};
+ghost use Rattle.std.specs.Prelude.{◌≡◌, ◌<◌, [], true};
 ghost use Rattle.base.specs.Reading.{Reads, bytes_at};
+ghost use Rattle.base.specs.Tracks.{Tracks};
 ghost use Rattle.base_data.specs.Kinds.{as_any, data_places};
 ghost use Rattle.base_data.specs.InPlace.{ReadsInto, data_fault, reason_of, told};
 ghost use Rattle.base_data.specs.RData.{is_empty_data, rdata_at};
@@ -29,13 +28,9 @@ impl RData {
     ) -> Result<RData, DecodeError>
         ensures read { Reads (λ x. x) decoder.old decoder.new result
             (rdata_at record_type len decoder.old.bytes decoder.old.index) }
-        // These two are as of every read: see `BinDecodable::read`.
-        ensures counts { Counts decoder.old decoder.new result }
-        ensures passed { Passes decoder.old decoder.new result }
-        // The targets that the names of the data pass are kept in addition, and no others.
-        ensures adds { IfOk result
-            (λ d. AddsPassed (data_places d decoder.old.bytes decoder.old.index) decoder.old
-            decoder.new) }
+        // As of every read, see `BinDecodable::read`: of the names of the data.
+        ensures tracks { Tracks (λ d. data_places d decoder.old.bytes decoder.old.index) decoder.old
+            decoder.new result }
     {
         let mut rdata = RData::Update0(record_type);
         match rdata.read_in_place(decoder, record_type, len) {
@@ -59,13 +54,9 @@ impl RData {
         requires empty { is_empty_data self.old ≡ true }
         ensures read { Reads (λ _. self.new) decoder.old decoder.new (told record_type result)
             (rdata_at record_type len decoder.old.bytes decoder.old.index) }
-        // These two are as of every read: see `BinDecodable::read`.
-        ensures counts { Counts decoder.old decoder.new result }
-        ensures passed { Passes decoder.old decoder.new result }
-        // The targets that the names of the data pass are kept in addition, and no others.
-        ensures adds { IfOk result
-            (λ _. AddsPassed (data_places self.new decoder.old.bytes decoder.old.index) decoder.old
-            decoder.new) }
+        // As of every read, see `BinDecodable::read`: of the names of the data.
+        ensures tracks { Tracks (λ _. data_places self.new decoder.old.bytes decoder.old.index)
+            decoder.old decoder.new result }
     {
         let end = decoder.index() + usize::from(len);
         if len == 0 {
@@ -124,10 +115,9 @@ impl From<DecodeError> for DataError {
 
 /// Data whose end is told by its length alone.
 pub(crate) trait SizedData: RecordData {
-    ghost use Rattle.std.specs.Prelude.{◌<◌, ℕ, List, [], IfOk};
-    ghost use Rattle.base.specs.Counts.{Counts, Passes};
-    ghost use Rattle.base.specs.Passing.{AddsPassed};
+    ghost use Rattle.std.specs.Prelude.{◌<◌, ℕ, List, []};
     ghost use Rattle.base.specs.Reading.{Read, Reads};
+    ghost use Rattle.base.specs.Tracks.{Tracks};
 
     ghost sized_at: { ℕ → List ℕ → ℕ → Read Self };
 
@@ -140,11 +130,8 @@ pub(crate) trait SizedData: RecordData {
         requires { 0 < len }
         ensures read { Reads (λ x. x) decoder.old decoder.new result
             (sized_at len decoder.old.bytes decoder.old.index) }
-        // These two are as of every read: see `BinDecodable::read`.
-        ensures counts { Counts decoder.old decoder.new result }
-        ensures passed { Passes decoder.old decoder.new result }
-        // The data has no names, so no target of a pointer is kept in addition.
-        ensures adds { IfOk result (λ _. AddsPassed [] decoder.old decoder.new) };
+        // As of every read, see `BinDecodable::read`: the data has no names.
+        ensures tracks { Tracks (λ _. []) decoder.old decoder.new result };
 }
 
 /// Reads the data of a kind that ends by itself, in the place of empty data. No reader of a kind is inlined, which is
@@ -157,12 +144,9 @@ pub(crate) fn read_as<R: BinDecodable + RecordData>(
     requires empty { is_empty_data place.old ≡ true }
     ensures read { ReadsInto decoder.old decoder.new place.new result
         (as_any R.as_rdata (R.read_at decoder.old.bytes decoder.old.index)) }
-    // These two are as of every read: see `BinDecodable::read`.
-    ensures counts { Counts decoder.old decoder.new result }
-    ensures passed { Passes decoder.old decoder.new result }
-    // The targets that the names of the data pass are kept in addition, and no others.
-    ensures adds { IfOk result
-        (λ _. AddsPassed (R.names_at decoder.old.bytes decoder.old.index) decoder.old decoder.new) }
+    // As of every read, see `BinDecodable::read`: of the names of the data.
+    ensures tracks { Tracks (λ _. R.names_at decoder.old.bytes decoder.old.index) decoder.old
+        decoder.new result }
 {
     place.fill(R::read(decoder)?.into_rdata());
     Ok(())
@@ -179,11 +163,8 @@ pub(crate) fn read_sized<R: SizedData>(
     requires empty { is_empty_data place.old ≡ true }
     ensures read { ReadsInto decoder.old decoder.new place.new result
         (as_any R.as_rdata (R.sized_at len decoder.old.bytes decoder.old.index)) }
-    // These two are as of every read: see `BinDecodable::read`.
-    ensures counts { Counts decoder.old decoder.new result }
-    ensures passed { Passes decoder.old decoder.new result }
-    // The data has no names, so no target of a pointer is kept in addition.
-    ensures adds { IfOk result (λ _. AddsPassed [] decoder.old decoder.new) }
+    // As of every read, see `BinDecodable::read`: the data has no names.
+    ensures tracks { Tracks (λ _. []) decoder.old decoder.new result }
 {
     place.fill(R::read(decoder, len)?.into_rdata());
     Ok(())
@@ -201,11 +182,8 @@ pub(crate) fn read_carried(
     requires empty { is_empty_data place.old ≡ true }
     ensures read { ReadsInto decoder.old decoder.new place.new result
         (as_any (kinds.Unknown code) (bytes_at len decoder.old.bytes decoder.old.index)) }
-    // These two are as of every read: see `BinDecodable::read`.
-    ensures counts { Counts decoder.old decoder.new result }
-    ensures passed { Passes decoder.old decoder.new result }
-    // The data has no names, so no target of a pointer is kept in addition.
-    ensures adds { IfOk result (λ _. AddsPassed [] decoder.old decoder.new) }
+    // As of every read, see `BinDecodable::read`: the data has no names.
+    ensures tracks { Tracks (λ _. []) decoder.old decoder.new result }
 {
     let rdata = NULL::read(decoder, len)?;
     place.fill(RData::Unknown { code, rdata });

@@ -69,7 +69,6 @@ impl SizedData for TSIG {
     /// # Errors
     ///
     /// `InsufficientBytes` where fewer are left; `Memory` if memory runs out.
-    #[tactic(auto, using(base::proofs::AddsLemmas::adds_none))]
     fn read(decoder: &mut BinDecoder<'_>, len: u16) -> Result<TSIG, DecodeError> {
         let bytes = decoder.read_slice(usize::from(len))?;
         Ok(TSIG::new(Vec::from_slice(decoder.allocator(), bytes)?))

@@ -130,7 +130,6 @@ impl SizedData for TXT {
     /// # Errors
     ///
     /// `InsufficientBytes` where fewer are left or the last string doesn't end with them; `Memory` if memory runs out.
-    #[tactic(auto, using(base::proofs::AddsLemmas::adds_none))]
     fn read(decoder: &mut BinDecoder<'_>, len: u16) -> Result<TXT, DecodeError> {
         let bytes = decoder.read_slice(usize::from(len))?;
         if !are_strings(bytes) {

@@ -1,11 +1,8 @@
 //! Reads messages (RFC 1035, 4.1).
 
-ghost use Rattle.std.specs.FinSet as set;
-ghost use Rattle.base.specs.declared.limits.TheConstants.{POINTER_LIMIT};
 ghost use Rattle.std.specs.Prelude.{[], ◌≡◌, ◌⊎◌, ◌+◌, ◌≤◌, Err, IfErr, IfOk, IsOkUnless, MatchResult, Ok, OnOk, ℕ};
-ghost use Rattle.base.specs.Counts.{Counts, Passes};
 ghost use Rattle.base.specs.Many.{many_at};
-ghost use Rattle.base.specs.Passing.{AddsPassed};
+ghost use Rattle.base.specs.Tracks.{Tracks};
 ghost use Rattle.base.specs.Reading.{Fails, Reads};
 ghost use Rattle.op.specs.Fault.{IsMessageFault, IsQueriesFault, IsSectionFault};
 ghost use Rattle.op.specs.Fits.{Fits};
@@ -41,17 +38,13 @@ impl Message {
         // A refusal is `Decode` of the fault met in reading `count` questions, or of `Memory`.
         ensures read { ReadsOrDecodes (λ v. v.items) decoder.old decoder.new result
             (many_at query_at count decoder.old.bytes decoder.old.index) }
-        // These two are as of every read: see `BinDecodable::read`.
-        ensures counts { Counts decoder.old decoder.new result }
-        ensures passed { Passes decoder.old decoder.new result }
         // Unless memory ran out, `Decode` has the first fault in the terms of the standard.
         ensures fault { (f : DecodeError) → result ≡ Err (ProtoError.Decode f)
             → (f ≡ DecodeError.Memory)
             ⊎ IsQueriesFault count decoder.old.bytes decoder.old.index f }
-        // The decoder now also keeps the targets of these names' pointers, and no others.
-        ensures adds { IfOk result
-            (λ _. AddsPassed (queries_places count decoder.old.bytes decoder.old.index) decoder.old
-            decoder.new) }
+        // As of every read, see `BinDecodable::read`: of the names of the questions.
+        ensures tracks { Tracks (λ _. queries_places count decoder.old.bytes decoder.old.index)
+            decoder.old decoder.new result }
     {
         Ok(read_many::<Query>(decoder, count)?)
     }
@@ -78,13 +71,9 @@ impl Message {
         // A refusal is the first fault in the terms of the standard, unless memory ran out.
         ensures fault { IfErr result (λ f. (f ≡ DecodeError.Memory)
             ⊎ IsSectionFault is_additional op_code count decoder.old.bytes decoder.old.index f) }
-        // These two are as of every read: see `BinDecodable::read`.
-        ensures counts { Counts decoder.old decoder.new result }
-        ensures passed { Passes decoder.old decoder.new result }
-        // The decoder now also keeps the targets of these names' pointers, and no others.
-        ensures adds { IfOk result
-            (λ _. AddsPassed (records_places count decoder.old.bytes decoder.old.index) decoder.old
-            decoder.new) }
+        // As of every read, see `BinDecodable::read`: of the names of the records.
+        ensures tracks { Tracks (λ _. records_places count decoder.old.bytes decoder.old.index)
+            decoder.old decoder.new result }
     {
         let mut records = Vec::new(decoder.allocator());
         let mut edns = None;
@@ -118,14 +107,10 @@ impl Message {
         ensures read { Reads (λ _. message_value self.new) decoder.old decoder.new result
             (rest_at self.old.metadata self.old.queries.items counts decoder.old.bytes
             decoder.old.index) }
-        // These two are as of every read: see `BinDecodable::read`.
-        ensures counts { Counts decoder.old decoder.new result }
-        ensures passed { Passes decoder.old decoder.new result }
-        // The decoder now also keeps the targets of these names' pointers, and no others.
-        ensures adds { IfOk result
-            (λ _. AddsPassed
-            (records_places (counts.answers + counts.authorities + counts.additionals)
-            decoder.old.bytes decoder.old.index) decoder.old decoder.new) }
+        // As of every read, see `BinDecodable::read`: of the names of the records.
+        ensures tracks { Tracks
+            (λ _. records_places (counts.answers + counts.authorities + counts.additionals)
+            decoder.old.bytes decoder.old.index) decoder.old decoder.new result }
     {
         let op_code = self.metadata.op_code;
         read_section(
@@ -173,13 +158,9 @@ impl Message {
         // A refusal is the first fault in the terms of the standard, unless memory ran out.
         ensures fault { IfErr result (λ f. (f ≡ DecodeError.Memory)
             ⊎ IsMessageFault decoder.old.bytes decoder.old.index f) }
-        // These two are as of every read: see `BinDecodable::read`.
-        ensures counts { Counts decoder.old decoder.new result }
-        ensures passed { Passes decoder.old decoder.new result }
-        // The decoder now also keeps the targets of these names' pointers, and no others.
-        ensures adds { IfOk result
-            (λ _. AddsPassed (message_places decoder.old.bytes decoder.old.index) decoder.old
-            decoder.new) }
+        // As of every read, see `BinDecodable::read`: of the names of the message.
+        ensures tracks { Tracks (λ _. message_places decoder.old.bytes decoder.old.index)
+            decoder.old decoder.new result }
     {
         let header = Header::read(decoder)?;
         let queries = read_many::<Query>(decoder, usize::from(header.counts.queries))?;

@@ -1,11 +1,10 @@
 //! Reads records.
 
-ghost use Rattle.std.specs.Prelude.{◌≡◌, ◌+◌, ◌<◌, length, IfErr, IfOk, OnOk, true};
+ghost use Rattle.std.specs.Prelude.{◌≡◌, ◌+◌, ◌<◌, length, IfErr, IfOk, OnOk, [], true};
 ghost use Rattle.std.specs.Int.{w16, w32};
-ghost use Rattle.base.specs.Counts.{Counts, Passes};
-ghost use Rattle.base.specs.Passing.{AddsPassed};
 ghost use Rattle.base.specs.Reader.{Reader};
 ghost use Rattle.base.specs.Reading.{Reads};
+ghost use Rattle.base.specs.Tracks.{Tracks};
 ghost use Rattle.base.specs.Words.{IsNumberAt};
 ghost use Rattle.base_data.specs.Kinds.{data_places, type_of_data};
 ghost use Rattle.base_data.specs.RData.{is_empty_data};
@@ -55,13 +54,9 @@ impl Record<RData> {
             → Reads (λ _. self.new) before decoder.new result
             (record_at before.bytes before.index) }
         ensures type_is { IfOk result (λ record_type. type_of_data self.new.rdata ≡ record_type) }
-        // These two are as of every read: see `BinDecodable::read`.
-        ensures counts { Counts decoder.old decoder.new result }
-        ensures passed { Passes decoder.old decoder.new result }
-        // The decoder now also keeps the targets of the pointers of both, and no others.
-        ensures adds { (before : Reader) → HasOwner before decoder.old self.old.name
-            → IfOk result
-            (λ _. AddsPassed (record_places before.bytes before.index) before decoder.new) }
+        // Both are as of every read, see `BinDecodable::read`: of the names of the record.
+        ensures tracks { (before : Reader) → HasOwner before decoder.old self.old.name
+            → Tracks (λ _. record_places before.bytes before.index) before decoder.new result }
     {
         let record_type = RecordType::read(decoder)?;
         if is_opt(record_type) && !self.name.is_root() {
@@ -83,13 +78,10 @@ impl Record<RData> {
         ensures read { Reads (λ _. self.new) decoder.old decoder.new result
             (body_at self.old.name record_type decoder.old.bytes decoder.old.index) }
         ensures type_is { IfOk result (λ _. type_of_data self.new.rdata ≡ record_type) }
-        // These two are as of every read: see `BinDecodable::read`.
-        ensures counts { Counts decoder.old decoder.new result }
-        ensures passed { Passes decoder.old decoder.new result }
-        // The targets that the names of the data pass are kept in addition, and no others.
-        ensures adds { IfOk result
-            (λ _. AddsPassed (data_places self.new.rdata decoder.old.bytes (decoder.old.index + 8))
-            decoder.old decoder.new) }
+        // As of every read, see `BinDecodable::read`: of the names of the data.
+        ensures tracks { Tracks
+            (λ _. data_places self.new.rdata decoder.old.bytes (decoder.old.index + 8))
+            decoder.old decoder.new result }
     {
         let Fields { class, ttl, len } = read_fields(decoder)?;
         let (dns_class, mdns_cache_flush) = class_of_field(record_type, class);
@@ -150,27 +142,22 @@ fn read_fields(decoder: &mut BinDecoder<'_>) -> Result<Fields, DecodeError>
     // Refused only where fewer than eight bytes are left.
     ensures short { IfErr result (λ e. (e ≡ DecodeError.InsufficientBytes)
         × (length decoder.old.bytes < decoder.old.index + 8)) }
-    // No target of a pointer is kept in addition.
-    ensures kept { decoder.new.kept ≡ decoder.old.kept }
-    // These two are as of every read: see `BinDecodable::read`.
-    ensures counts { Counts decoder.old decoder.new result }
-    ensures passed { Passes decoder.old decoder.new result }
+    // As of every read, see `BinDecodable::read`: no name is read.
+    ensures tracks { Tracks (λ _. []) decoder.old decoder.new result }
 {
-    match decoder.read_slice(8)? {
-        [
-            class_high,
-            class_low,
-            highest,
-            high,
-            low,
-            lowest,
-            len_high,
-            len_low,
-        ] => Ok(Fields {
-            class: u16::from_be_bytes([*class_high, *class_low]),
-            ttl: u32::from_be_bytes([*highest, *high, *low, *lowest]),
-            len: u16::from_be_bytes([*len_high, *len_low]),
-        }),
-        _ => Err(DecodeError::InsufficientBytes),
-    }
+    let [
+        class_high,
+        class_low,
+        highest,
+        high,
+        low,
+        lowest,
+        len_high,
+        len_low,
+    ] = decoder.read_array::<8>()?;
+    Ok(Fields {
+        class: u16::from_be_bytes([class_high, class_low]),
+        ttl: u32::from_be_bytes([highest, high, low, lowest]),
+        len: u16::from_be_bytes([len_high, len_low]),
+    })
 }

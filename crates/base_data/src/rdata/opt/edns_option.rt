@@ -116,7 +116,7 @@ impl BinDecodable for EdnsOption {
     /// # Errors
     ///
     /// `InsufficientBytes` where the buffer ends before; `Memory` if memory runs out.
-    #[tactic(auto, using(base::proofs::AddsLemmas::adds_none))]
+    #[tactic(auto, using(base::proofs::TrackLemmas::tracked_then))]
     fn read(decoder: &mut BinDecoder<'_>) -> Result<EdnsOption, DecodeError> {
         let code = decoder.read_u16()?;
         let len = decoder.read_u16()?;

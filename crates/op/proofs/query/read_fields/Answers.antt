@@ -4,17 +4,11 @@ use Rattle.base.specs.Words.{IsNumberAt}
 use Rattle.base_data.proofs.BytesRead.{bytes_is, number16_among}
 use Rattle.op.proofs.query.read_fields.Goals as goal
 
-pub returns-in-len4-clause-found : goal.returns-in-len4-clause-found
-returns-in-len4-clause-found c =
+pub returns-clause-found : goal.returns-clause-found
+returns-clause-found c =
     let at = c.args.decoder.now in
-    let s = bytes_is 4 at.bytes at.index _ c.in_ok-read_slice.ensures.read.0 in
+    let s = bytes_is 4 at.bytes at.index _ c.in_ok-type_high.ensures.read.0 in
     let here : at.index + 0 ≡ at.index = omega arith in (
       subst (λ k. IsNumberAt w16 at.bytes k c.from_be_bytes.result) here (subst (IsNumberAt w16 at.bytes (at.index + 0)) (sym c.from_be_bytes.ensures) (number16_among s 0 (omega arith))),
-      subst (IsNumberAt w16 at.bytes (at.index + 2)) (sym c.from_be_bytes-in-len4.ensures) (number16_among s 2 (omega arith)),
+      subst (IsNumberAt w16 at.bytes (at.index + 2)) (sym c.from_be_bytes-2.ensures) (number16_among s 2 (omega arith)),
     )
-
-pub returns-in-len4-clause-counts : goal.returns-in-len4-clause-counts
-returns-in-len4-clause-counts c = c.in_ok-read_slice.ensures.counts
-
-pub returns-in-len4-clause-passed : goal.returns-in-len4-clause-passed
-returns-in-len4-clause-passed c = c.in_ok-read_slice.ensures.passed

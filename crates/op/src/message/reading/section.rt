@@ -1,10 +1,7 @@
 //! Reads the records of a section (RFC 1035, 4.1.3).
 
-ghost use Rattle.std.specs.FinSet as set;
-ghost use Rattle.base.specs.declared.limits.TheConstants.{POINTER_LIMIT};
 ghost use Rattle.std.specs.Prelude.{[], ◌≡◌, ◌≤◌, IfOk, OnOk, Option, false, ℕ};
-ghost use Rattle.base.specs.Counts.{Counts, Passes};
-ghost use Rattle.base.specs.Passing.{AddsPassed};
+ghost use Rattle.base.specs.Tracks.{Tracks};
 ghost use Rattle.base.specs.Reading.{Reads};
 ghost use Rattle.base_data.specs.Kinds.{type_of_data};
 ghost use Rattle.base_data.specs.RData.{is_signature_data};
@@ -42,20 +39,15 @@ pub(super) fn read_section(
     ensures read { Reads (λ _. section_value records.new.items edns.new signature.new)
         decoder.old decoder.new result
         (section_at is_additional op_code count decoder.old.bytes decoder.old.index) }
-    // These two are as of every read: see `BinDecodable::read`.
-    ensures counts { Counts decoder.old decoder.new result }
-    ensures passed { Passes decoder.old decoder.new result }
-    // The decoder now also keeps the targets of these names' pointers, and no others.
-    ensures adds { IfOk result
-        (λ _. AddsPassed (records_places count decoder.old.bytes decoder.old.index) decoder.old
-        decoder.new) }
+    // As of every read, see `BinDecodable::read`: of the names of the records.
+    ensures tracks { Tracks (λ _. records_places count decoder.old.bytes decoder.old.index)
+        decoder.old decoder.new result }
 {
-    let alloc = decoder.allocator();
     if count == 0 {
         return Ok(());
     }
     read_each(
-        alloc,
+        decoder.allocator(),
         records,
         edns,
         signature,
@@ -80,18 +72,12 @@ fn read_each(
     op_code: OpCode,
 ) -> Result<(), DecodeError>
     requires empty { section_value records.old.items edns.old signature.old ≡ empty_section }
-    // No more targets of pointers are kept than a pointer can lead to.
-    requires few { set.len decoder.old.kept ≤ POINTER_LIMIT }
     ensures read { Reads (λ _. section_value records.new.items edns.new signature.new)
         decoder.old decoder.new result
         (section_at is_additional op_code count decoder.old.bytes decoder.old.index) }
-    // These two are as of every read: see `BinDecodable::read`.
-    ensures counts { Counts decoder.old decoder.new result }
-    ensures passed { Passes decoder.old decoder.new result }
-    // The decoder now also keeps the targets of these names' pointers, and no others.
-    ensures adds { IfOk result
-        (λ _. AddsPassed (records_places count decoder.old.bytes decoder.old.index) decoder.old
-        decoder.new) }
+    // As of every read, see `BinDecodable::read`: of the names of the records.
+    ensures tracks { Tracks (λ _. records_places count decoder.old.bytes decoder.old.index)
+        decoder.old decoder.new result }
 {
     // a count that is too high makes no more room than the bytes left could fill
     if count > 2 {

@@ -8,10 +8,10 @@ use Rattle.base.specs.Pointers.{targets}
 use Rattle.base.specs.Passing.{inserted, passed}
 use Rattle.base.specs.Reader.{Reader}
 use Rattle.base.specs.Spelling.{Spelled}
-use Rattle.base.proofs.AddsLemmas.{adds_name}
-use Rattle.base.proofs.CountLemmas.{IsAfterName, counted_after, counted_refused, ends_after, passed_after}
+use Rattle.base.proofs.CountLemmas.{IsAfterName, counted_refused, ends_after}
 use Rattle.base.proofs.GatherLemmas.{spelled_is}
 use Rattle.base.proofs.PassLemmas.{passes_are_kept}
+use Rattle.base.proofs.TrackLemmas.{tracked_name}
 use Rattle.base.proofs.name.reading.read_following.Goals as goal
 
 pub move_to-requires-clause-on : goal.move_to-requires-clause-on
@@ -50,9 +50,6 @@ bytes_now c =
     ∙ ap (λ (r : Reader). r.bytes) c.in_ok-keep_targets.ensures.ok
     ∙ ap (λ (r : Reader). r.bytes) c.in_ok-used.ensures.followed.now
 
-pub returns-clause-adds : goal.returns-clause-adds
-returns-clause-adds c = adds_name (spelled c) (bytes_now c) (passes c _ _ (spelled c))
-
 after : (c : goal.After-drop-followed-inside-2) → IsAfterName (targets c.gather_labels.new.followed) c.args.decoder.now c.gather_labels.new.decoder c.move_to.new.self (spelled c)
 after c =
     let moved = c.move_to.ensures in
@@ -64,11 +61,8 @@ after c =
       passes = passes c _ _ (spelled c);
     }
 
-pub returns-clause-counts : goal.returns-clause-counts
-returns-clause-counts c = counted_after (after c) c.in_ok-used.ensures.followed c.allocator.ensures.few
-
-pub returns-clause-passed : goal.returns-clause-passed
-returns-clause-passed c = passed_after (spelled c) (after c)
+pub returns-clause-tracks : goal.returns-clause-tracks
+returns-clause-tracks c = tracked_name (after c) c.in_ok-used.ensures.followed
 
 pub keep_targets-requires-clause-spelled : goal.keep_targets-requires-clause-spelled
 keep_targets-requires-clause-spelled c = rw c.in_ok-used.ensures.followed.now c.in_ok-used.ensures.kept
@@ -90,10 +84,8 @@ returns-in_err-used c =
     let p = err_from_is_err_and c.from_residual.result c.from_residual.ensures.1 in
     rw (p.1, p.2) (record {
       read = search rules;
-      counts = counted_refused c.in_err-used.ensures.followed c.allocator.ensures.few;
-      passed = tt;
       passes = tt;
-      adds = tt;
+      tracks = counted_refused c.in_err-used.ensures.followed;
     })
 
 pub returns-in_err-labels : goal.returns-in_err-labels
@@ -101,10 +93,8 @@ returns-in_err-labels c =
     let p = err_from_is_err_and c.from_residual-in_err-labels.result c.from_residual-in_err-labels.ensures.1 in
     rw (p.1, p.2) (record {
       read = tt;
-      counts = counted_refused c.in_ok-used.ensures.followed c.allocator.ensures.few;
-      passed = tt;
       passes = tt;
-      adds = tt;
+      tracks = counted_refused c.in_ok-used.ensures.followed;
     })
 
 pub returns-in_err-keep_targets : goal.returns-in_err-keep_targets
@@ -112,8 +102,11 @@ returns-in_err-keep_targets c =
     let p = err_from_is_err_and c.from_residual-in_err-keep_targets.result c.from_residual-in_err-keep_targets.ensures.1 in
     rw (p.1, p.2, c.in_err-keep_targets.ensures.only) (record {
       read = tt;
-      counts = λ counted. omega (arith, c.in_err-keep_targets.ensures.err, counted_refused c.in_ok-used.ensures.followed c.allocator.ensures.few counted);
-      passed = tt;
       passes = tt;
-      adds = tt;
+      tracks = λ counted. omega (
+        arith,
+        c.in_err-keep_targets.ensures.err,
+        counted_refused c.in_ok-used.ensures.followed
+            counted,
+      );
     })

@@ -1,13 +1,9 @@
-use Rattle.std.specs.Prelude.{◌≤◌}
-use Rattle.base.specs.Counts.{IsCounted, IsPassed}
-use Rattle.base.proofs.AddsLemmas.{AddsMany}
 use Rattle.base.proofs.ManyLemmas.{Gathers}
+use Rattle.base.proofs.TrackLemmas.{TracksMany}
 use Rattle.base.proofs.wire.many.read_many.Given as goal
 
 abbrev pub invariant-loop : goal.invariant-loop
 invariant-loop g l = record {
   gathers : Gathers g.T.BinDecodable.read_at l.count l.counter l.fn.decoder.bytes l.decoder.bytes l.fn.decoder.index l.decoder.index l.values.items;
-  counted : IsCounted l.fn.decoder → IsCounted l.decoder × (l.decoder.jumps ≤ 16384);
-  passed : IsPassed l.fn.decoder → IsPassed l.decoder;
-  adds : AddsMany g.T.BinDecodable.read_at g.T.BinDecodable.names_at l.count l.counter l.fn.decoder l.decoder;
+  tracks : TracksMany g.T.BinDecodable.read_at g.T.BinDecodable.names_at l.count l.counter l.fn.decoder l.decoder;
 }

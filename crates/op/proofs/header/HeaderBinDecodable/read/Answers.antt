@@ -1,7 +1,6 @@
 use Rattle.std.proofs.Common.{◌≡◌, ◌+◌, sym, subst, arith}
 use Rattle.std.specs.Int.{w16}
 use Rattle.base.specs.Words.{IsNumberAt}
-use Rattle.base.proofs.AddsLemmas.{adds_none}
 use Rattle.base_data.proofs.BytesRead.{byte_among, bytes_is, number16_among}
 use Rattle.op.specs.Header.{IsHeaderAt}
 use Rattle.op.specs.declared.header.Header.{Header}
@@ -54,11 +53,5 @@ returns-clause-read c =
     let header : Header = record { metadata = c.metadata_of-metadata.result; counts = counts } in
     ((reads_word at.bytes at.index header c.read_slice.new.self.index).1 (returns-clause-found c), c.in_ok-bytes.ensures.read.1)
 
-pub returns-clause-counts : goal.returns-clause-counts
-returns-clause-counts c = c.in_ok-bytes.ensures.counts
-
-pub returns-clause-passed : goal.returns-clause-passed
-returns-clause-passed c = c.in_ok-bytes.ensures.passed
-
-pub returns-clause-adds : goal.returns-clause-adds
-returns-clause-adds c = adds_none c.in_ok-bytes.ensures.read.1 c.in_ok-bytes.ensures.kept
+pub returns-clause-tracks : goal.returns-clause-tracks
+returns-clause-tracks c = c.in_ok-bytes.ensures.tracks

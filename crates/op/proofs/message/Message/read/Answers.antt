@@ -1,5 +1,6 @@
 use Rattle.std.proofs.Common.{◌∙◌, rules}
 use Rattle.std.proofs.lemmas.Result.{err_from_is_err_and}
+use Rattle.base.proofs.TrackLemmas.{bounded_after, tracked_both}
 use Rattle.op.specs.Fault.{IsMessageFault}
 use Rattle.op.specs.Message.{message_at, message_value}
 use Rattle.op.proofs.AddsMessage.{adds_message, reads_message}
@@ -7,11 +8,12 @@ use Rattle.op.proofs.BufferLemmas.{first_fault}
 use Rattle.op.proofs.MessageFaults.{refuses_message}
 use Rattle.op.proofs.message.Message.read.Goals as goal
 
-pub returns-clause-adds : goal.returns-clause-adds
-returns-clause-adds c =
+pub returns-clause-tracks : goal.returns-clause-tracks
+returns-clause-tracks c =
     let header = c.in_ok-header.ensures in
     let questions = c.in_ok-queries.ensures in
-    adds_message header.read.0 questions.read.0 c.from.ensures header.adds questions.adds c.in_ok-read_sections.ensures.adds
+    adds_message header.read.0 questions.read.0 c.from.ensures header.tracks questions.tracks
+    c.in_ok-read_sections.ensures.tracks
 
 pub returns-clause-read : goal.returns-clause-read
 returns-clause-read c =
@@ -38,9 +40,10 @@ returns-in_err-queries-clause-fault c =
     let at = c.args.decoder.now in
     first_fault message_value (IsMessageFault at.bytes at.index) at c.read_many.new.decoder (λ f. (refuses_message at.bytes at.index f).0) c.from_residual-in_err-queries.result (returns-in_err-queries-clause-read c)
 
-pub returns-in_err-queries-clause-counts : goal.returns-in_err-queries-clause-counts
-returns-in_err-queries-clause-counts c =
-    rw (err_from_is_err_and c.from_residual-in_err-queries.result c.from_residual-in_err-queries.ensures.1).1 (λ counted. c.in_err-queries.ensures.counts (c.in_ok-header.ensures.counts counted).0)
+pub returns-in_err-queries-clause-tracks : goal.returns-in_err-queries-clause-tracks
+returns-in_err-queries-clause-tracks c =
+    rw (err_from_is_err_and c.from_residual-in_err-queries.result c.from_residual-in_err-queries.ensures.1).1
+    (bounded_after c.read_many.new.decoder c.in_ok-header.ensures.tracks c.in_err-queries.ensures.tracks)
 
 pub returns-in_err-read_sections-clause-read : goal.returns-in_err-read_sections-clause-read
 unfolding message_at
@@ -51,17 +54,9 @@ returns-in_err-read_sections-clause-fault c =
     let at = c.args.decoder.now in
     first_fault message_value (IsMessageFault at.bytes at.index) at c.read_sections.new.decoder (λ f. (refuses_message at.bytes at.index f).0) c.from_residual-in_err-read_sections.result (returns-in_err-read_sections-clause-read c)
 
-pub returns-in_err-read_sections-clause-counts : goal.returns-in_err-read_sections-clause-counts
-returns-in_err-read_sections-clause-counts c =
+pub returns-in_err-read_sections-clause-tracks : goal.returns-in_err-read_sections-clause-tracks
+returns-in_err-read_sections-clause-tracks c =
     rw (err_from_is_err_and c.from_residual-in_err-read_sections.result c.from_residual-in_err-read_sections.ensures.1).1
-    (λ counted. c.in_err-read_sections.ensures.counts (c.in_ok-queries.ensures.counts (c.in_ok-header.ensures.counts counted).0).0)
-
-pub returns-clause-counts : goal.returns-clause-counts
-returns-clause-counts c = λ counted.
-    let header = c.in_ok-header.ensures.counts counted in
-    let questions = c.in_ok-queries.ensures.counts header.0 in
-    c.in_ok-read_sections.ensures.counts questions.0
-
-pub returns-clause-passed : goal.returns-clause-passed
-returns-clause-passed c = λ passed.
-    c.in_ok-read_sections.ensures.passed (c.in_ok-queries.ensures.passed (c.in_ok-header.ensures.passed passed))
+    (bounded_after c.read_sections.new.decoder
+    (tracked_both c.in_ok-header.ensures.tracks c.in_ok-queries.ensures.tracks)
+    c.in_err-read_sections.ensures.tracks)

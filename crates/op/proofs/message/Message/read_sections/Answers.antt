@@ -1,6 +1,7 @@
 use Rattle.std.proofs.Common.{◌≡◌, ℕ, ◌+◌, ap, arith, subst}
 use Rattle.std.proofs.lemmas.Result.{err_from_is_err_and}
-use Rattle.base.specs.Passing.{AddsPassed}
+use Rattle.base.specs.Tracks.{Tracked}
+use Rattle.base.proofs.TrackLemmas.{bounded_after, tracked_both}
 use Rattle.op.proofs.AddsMessage.{adds_sections}
 use Rattle.op.proofs.PlainSections.{still_empty}
 use Rattle.op.specs.Message.{MessageValue}
@@ -15,32 +16,27 @@ read_section-requires-3 c =
     let mid = c.read_section.new.decoder in
     still_empty c.args.self.now.metadata.op_code mid.bytes c.from-2.result mid.index c.in_ok-read_section-2.ensures.read.0 (ap (λ (m : MessageValue). m.additionals) c.requires)
 
-pub returns-clause-adds : goal.returns-clause-adds
-returns-clause-adds c =
+pub returns-clause-tracks : goal.returns-clause-tracks
+returns-clause-tracks c =
     let old = c.args.decoder.now in
     let answers = c.in_ok-read_section.ensures in
     let authorities = c.in_ok-read_section-2.ensures in
-    let all = adds_sections c.from.result c.from-2.result c.from-3.result c.args.self.now.metadata.op_code answers.read.0 authorities.read.0 answers.adds authorities.adds c.in_ok-read_section-3.ensures.adds in
+    let all = adds_sections c.from.result c.from-2.result c.from-3.result c.args.self.now.metadata.op_code
+    answers.read.0 authorities.read.0 answers.tracks authorities.tracks c.in_ok-read_section-3.ensures.tracks in
     let counted : c.from.result + c.from-2.result + c.from-3.result ≡ c.args.counts.answers + c.args.counts.authorities + c.args.counts.additionals =
     omega (arith, c.from.ensures, c.from-2.ensures, c.from-3.ensures) in
-    subst (λ (n : ℕ). AddsPassed (records_places n old.bytes old.index) old c.read_section-3.new.decoder) counted all
+    subst (λ (n : ℕ). Tracked (records_places n old.bytes old.index) old c.read_section-3.new.decoder) counted all
 
-pub returns-in_err-read_section-2-clause-counts : goal.returns-in_err-read_section-2-clause-counts
-returns-in_err-read_section-2-clause-counts c =
-    rw (err_from_is_err_and c.from_residual-in_err-read_section-2.result c.from_residual-in_err-read_section-2.ensures.1).1 (λ counted. c.in_err-read_section-2.ensures.counts (c.in_ok-read_section.ensures.counts counted).0)
+pub returns-in_err-read_section-2-clause-tracks : goal.returns-in_err-read_section-2-clause-tracks
+returns-in_err-read_section-2-clause-tracks c =
+    rw (err_from_is_err_and c.from_residual-in_err-read_section-2.result
+    c.from_residual-in_err-read_section-2.ensures.1).1
+    (bounded_after c.read_section-2.new.decoder c.in_ok-read_section.ensures.tracks
+    c.in_err-read_section-2.ensures.tracks)
 
-pub returns-in_err-read_section-3-clause-counts : goal.returns-in_err-read_section-3-clause-counts
-returns-in_err-read_section-3-clause-counts c =
+pub returns-in_err-read_section-3-clause-tracks : goal.returns-in_err-read_section-3-clause-tracks
+returns-in_err-read_section-3-clause-tracks c =
     rw (err_from_is_err_and c.from_residual-in_err-read_section-3.result c.from_residual-in_err-read_section-3.ensures.1).1
-    (λ counted. c.in_err-read_section-3.ensures.counts (c.in_ok-read_section-2.ensures.counts (c.in_ok-read_section.ensures.counts counted).0).0)
-
-pub returns-clause-counts : goal.returns-clause-counts
-returns-clause-counts c = λ counted.
-    let answers = c.in_ok-read_section.ensures.counts counted in
-    let authorities = c.in_ok-read_section-2.ensures.counts answers.0 in
-    c.in_ok-read_section-3.ensures.counts authorities.0
-
-pub returns-clause-passed : goal.returns-clause-passed
-returns-clause-passed c = λ passed.
-    let answers = c.in_ok-read_section.ensures.passed passed in
-    c.in_ok-read_section-3.ensures.passed (c.in_ok-read_section-2.ensures.passed answers)
+    (bounded_after c.read_section-3.new.decoder
+    (tracked_both c.in_ok-read_section.ensures.tracks c.in_ok-read_section-2.ensures.tracks)
+    c.in_err-read_section-3.ensures.tracks)

@@ -4,10 +4,10 @@ use Rattle.base.specs.Pointers.{Followed}
 use Rattle.base.specs.Passing.{inserted, passed}
 use Rattle.base.specs.Reader.{Reader}
 use Rattle.base.specs.Spelling.{Spelled}
-use Rattle.base.proofs.AddsLemmas.{adds_name}
-use Rattle.base.proofs.CountLemmas.{Follows-none, IsAfterName, counted_after, ends_after, inserted-none, passed_after}
+use Rattle.base.proofs.CountLemmas.{Follows-none, IsAfterName, ends_after, inserted-none}
 use Rattle.base.proofs.GatherLemmas.{spelled_is}
 use Rattle.base.proofs.PassLemmas.{passes_are_kept}
+use Rattle.base.proofs.TrackLemmas.{tracked_name}
 use Rattle.base.proofs.name.reading.NameBinDecodable.read.Goals as goal
 
 pub move_to-requires-clause-on : goal.move_to-requires-clause-on
@@ -34,11 +34,6 @@ labels c = take c.in-InPlace.field-0.used c.in-InPlace.field-0.own.now ++ c.in-I
 spelled_piece : (c : goal.After-move_to) → Spelled c.args.decoder.now.bytes (labels_of (labels c)) c.args.decoder.now.index c.args.decoder.now.index c.in-InPlace.field-0.end
 spelled_piece c = spelled_is c.args.decoder.now.bytes c.args.decoder.now.index 0 c.in-InPlace.field-0.end (labels c) (omega arith) c.in-InPlace.ensures.read
 
-pub returns-in-InPlace-clause-adds : goal.returns-in-InPlace-clause-adds
-returns-in-InPlace-clause-adds c =
-    let h = spelled_piece c in
-    adds_name h (ap (λ (r : Reader). r.bytes) c.move_to.ensures) (passes_piece c _ _ h)
-
 after_piece : (c : goal.After-move_to) → IsAfterName [] c.args.decoder.now c.args.decoder.now c.move_to.new.self (spelled_piece c)
 after_piece c =
     let old = c.args.decoder.now in
@@ -51,11 +46,8 @@ after_piece c =
       passes = passes_piece c _ _ (spelled_piece c);
     }
 
-pub returns-in-InPlace-clause-counts : goal.returns-in-InPlace-clause-counts
-returns-in-InPlace-clause-counts c =
+pub returns-in-InPlace-clause-tracks : goal.returns-in-InPlace-clause-tracks
+returns-in-InPlace-clause-tracks c =
     let f = Follows-none 0 c.args.decoder.now in
     let followed : Followed [] c.args.decoder.now c.args.decoder.now = record { now = f.now; jumps = f.jumps; all = f.all; few = f.few } in
-    counted_after (after_piece c) followed c.allocator.ensures.few
-
-pub returns-in-InPlace-clause-passed : goal.returns-in-InPlace-clause-passed
-returns-in-InPlace-clause-passed c = passed_after (spelled_piece c) (after_piece c)
+    tracked_name (after_piece c) followed

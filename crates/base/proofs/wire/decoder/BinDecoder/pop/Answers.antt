@@ -1,16 +1,5 @@
-use Rattle.std.proofs.Common.{◌≤◌, arith, subst, sym}
-use Rattle.std.specs.FinSet as set
-use Rattle.base.specs.Counts.{IsCounted}
-use Rattle.base.specs.Reader.{Reader}
-use Rattle.base.proofs.CountLemmas.{few_kept}
+use Rattle.base.proofs.TrackLemmas.{tracked_on}
 use Rattle.base.proofs.wire.decoder.BinDecoder.pop.Goals as goal
 
-pub returns-in-Some-clause-counts : goal.returns-in-Some-clause-counts
-returns-in-Some-clause-counts c = λ counted.
-    let same = subst IsCounted (sym c.self.view_is) counted in
-    (same, omega (arith, same, few_kept _ _ c.self.invariant.1.0))
-
-pub returns-in-None-clause-counts : goal.returns-in-None-clause-counts
-returns-in-None-clause-counts c = λ counted.
-    let few = subst (λ (r : Reader). set.len r.kept ≤ 16384) c.self.view_is (few_kept _ _ c.self.invariant.1.0) in
-    omega (arith, counted, few)
+pub returns-in-Some-clause-tracks : goal.returns-in-Some-clause-tracks
+returns-in-Some-clause-tracks c = tracked_on 1 c.self.view_is

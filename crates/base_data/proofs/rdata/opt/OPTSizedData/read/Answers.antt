@@ -1,6 +1,6 @@
 use Rattle.std.proofs.Common.{◌≡◌, ◌+◌, ◌∙◌, arith, rules}
 use Rattle.std.proofs.lemmas.Result.{err_from_is_err_and}
-use Rattle.base.proofs.AddsLemmas.{adds_both, adds_itself}
+use Rattle.base.proofs.TrackLemmas.{tracked_both, tracked_itself}
 use Rattle.base_data.proofs.OptionLemmas.{gathered_more, gathered_fault, gathered_all, opt_at-to}
 use Rattle.base_data.proofs.rdata.opt.OPTSizedData.read.Goals as goal
 
@@ -14,7 +14,7 @@ returns-in_err-read-clause-read c =
     (gathered_fault c.in_err-read.field-0.0 (omega (arith, c.options-test.true, begins)) c.in_err-read.ensures.read c.options.invariant.gathered)
 
 pub options-init : goal.options-init
-options-init c = record { gathered = search rules; counted = λ counted. (counted, omega (arith, counted, c.index.ensures.few)); passed = λ passed. passed; adds = adds_itself c.args.decoder.now }
+options-init c = record { gathered = search rules; tracked = tracked_itself c.args.decoder.now }
 
 pub options-preserved : goal.options-preserved
 options-preserved c =
@@ -22,9 +22,7 @@ options-preserved c =
     record {
       gathered = rw (c.in_ok-push.ensures.items, c.in_ok-read.ensures.read.1)
           (gathered_more (omega (arith, c.options-test.true, begins)) c.in_ok-read.ensures.read.0 c.options.invariant.gathered);
-      counted = λ counted. c.in_ok-read.ensures.counts (c.options.invariant.counted counted).0;
-      passed = λ passed. c.in_ok-read.ensures.passed (c.options.invariant.passed passed);
-      adds = adds_both c.options.invariant.adds c.in_ok-read.ensures.adds;
+      tracked = tracked_both c.options.invariant.tracked c.in_ok-read.ensures.tracks;
     }
 
 pub returns-clause-read : goal.returns-clause-read

@@ -1,15 +1,12 @@
-use Rattle.std.proofs.Common.{◌-◌, ◌≤◌, []}
-use Rattle.base.specs.Counts.{IsCounted, IsPassed}
-use Rattle.base.specs.Passing.{AddsPassed}
+use Rattle.std.proofs.Common.{◌-◌, []}
+use Rattle.base.specs.Tracks.{Tracked}
 use Rattle.base_data.proofs.OptionLemmas.{AreGathered}
 use Rattle.base_data.proofs.rdata.opt.OPTSizedData.read.Given as goal
 
 abbrev pub invariant-options : goal.invariant-options
 invariant-options l = record {
   gathered : AreGathered l.len l.end l.fn.decoder.bytes l.decoder.bytes l.fn.decoder.index l.decoder.index l.options.items;
-  counted : IsCounted l.fn.decoder → IsCounted l.decoder × (l.decoder.jumps ≤ 16384);
-  passed : IsPassed l.fn.decoder → IsPassed l.decoder;
-  adds : AddsPassed [] l.fn.decoder l.decoder;
+  tracked : Tracked [] l.fn.decoder l.decoder;
 }
 
 abbrev pub decreases-options : goal.decreases-options

@@ -3,8 +3,8 @@ use Rattle.std.proofs.lemmas.Result.{err_from_is_err_and}
 use Rattle.base.specs.Reader.{Reader}
 use Rattle.base.specs.Reading.{Fails, Reads}
 use Rattle.rr.specs.Record.{HasOwner, body_at, record_at}
-use Rattle.base.proofs.AddsLemmas.{adds_both}
-use Rattle.rr.proofs.AddsRecord.{record_adds}
+use Rattle.base.proofs.TrackLemmas.{bounded_after, bounded_here, tracked_both}
+use Rattle.rr.proofs.AddsRecord.{record_tracks}
 use Rattle.rr.proofs.ReadSteps.{other_type, record_read, root_owner, type_fails, wrong_owner}
 use Rattle.rr.proofs.RecordLemmas.{not_root}
 use Rattle.rr.proofs.record.reading.Record+RData.read_after_owner.Goals as goal
@@ -16,10 +16,10 @@ returns-in_err-record_type-clause-read c = λ before has.
     let second = c.args.decoder.now in
     rw (p.1, p.2) (type_fails before.bytes before.index c.args.self.now.name second.index has.read second.bytes has.bytes c.in_err-record_type.field-0.0 c.in_err-record_type.ensures.read)
 
-pub returns-in_err-record_type-clause-counts : goal.returns-in_err-record_type-clause-counts
-returns-in_err-record_type-clause-counts c =
+pub returns-in_err-record_type-clause-tracks : goal.returns-in_err-record_type-clause-tracks
+returns-in_err-record_type-clause-tracks c = λ before has.
     let p = err_from_is_err_and c.from_residual.result c.from_residual.ensures.1 in
-    rw p.1 c.in_err-record_type.ensures.counts
+    rw p.1 (bounded_after c.read.new.decoder has.tracks c.in_err-record_type.ensures.tracks)
 
 pub returns-then-not-is_root-clause-read : goal.returns-then-not-is_root-clause-read
 returns-then-not-is_root-clause-read c = λ before has.
@@ -30,8 +30,9 @@ returns-then-not-is_root-clause-read c = λ before has.
     rw c.replace.ensures.value (wrong_owner before.bytes before.index owner second.index has.read second.bytes has.bytes
     c.in_ok-record_type.record_type c.read.new.decoder.index type.0 (sym c.is_opt.ensures ∙ c.if-is_opt.true) labelled)
 
-pub returns-then-not-is_root-clause-counts : goal.returns-then-not-is_root-clause-counts
-returns-then-not-is_root-clause-counts c = λ counted. (c.in_ok-record_type.ensures.counts counted).1
+pub returns-then-not-is_root-clause-tracks : goal.returns-then-not-is_root-clause-tracks
+returns-then-not-is_root-clause-tracks c =
+    λ before has. bounded_here (tracked_both has.tracks c.in_ok-record_type.ensures.tracks)
 
 -- the body is that of the record, whose owner isn't a wrong one
 is_record : (c : After-read_body) (before : Reader) → HasOwner before c.args.decoder.now c.args.self.now.name
@@ -60,10 +61,11 @@ returns-in_err-read_body-clause-read c = λ before has.
     rw (p.1, p.2) (subst (Fails fault) (is_record (goal.at.returns-in_err-read_body-clause-read c).After-read_body before has)
     (subst (λ (bytes : List ℕ). Fails fault (body_at owner kind bytes last.index)) same c.in_err-read_body.ensures.read))
 
-pub returns-in_err-read_body-clause-counts : goal.returns-in_err-read_body-clause-counts
-returns-in_err-read_body-clause-counts c =
+pub returns-in_err-read_body-clause-tracks : goal.returns-in_err-read_body-clause-tracks
+returns-in_err-read_body-clause-tracks c = λ before has.
     let p = err_from_is_err_and c.from_residual-in_err-read_body.result c.from_residual-in_err-read_body.ensures.1 in
-    rw p.1 (λ counted. c.in_err-read_body.ensures.counts (c.in_ok-record_type.ensures.counts counted).0)
+    rw p.1 (bounded_after c.read_body.new.decoder (tracked_both has.tracks c.in_ok-record_type.ensures.tracks)
+    c.in_err-read_body.ensures.tracks)
 
 pub returns-clause-read : goal.returns-clause-read
 returns-clause-read c = λ before has.
@@ -77,14 +79,9 @@ returns-clause-read c = λ before has.
     record_read before.bytes before.index owner second.index has.read second.bytes has.bytes kind last.index type.0 before last c.read_body.new.decoder (Ok c.read_body.new.self) same
     (subst (λ (bytes : List ℕ). Reads (λ x. x) last c.read_body.new.decoder (Ok c.read_body.new.self) (body_at owner kind bytes last.index)) same c.in_ok-read_body.ensures.read) is
 
-pub returns-clause-adds : goal.returns-clause-adds
-returns-clause-adds c = λ before has.
+pub returns-clause-tracks : goal.returns-clause-tracks
+returns-clause-tracks c = λ before has.
     let type = c.in_ok-record_type.ensures in
-    let head = adds_both has.adds type.adds in
-    record_adds c.args.decoder.now c.read_body.new.decoder (Ok c.read_body.new.self) has.read type.read.0 head (returns-clause-read c before has) c.in_ok-read_body.ensures.adds
-
-pub returns-clause-counts : goal.returns-clause-counts
-returns-clause-counts c = λ counted. c.in_ok-read_body.ensures.counts (c.in_ok-record_type.ensures.counts counted).0
-
-pub returns-clause-passed : goal.returns-clause-passed
-returns-clause-passed c = λ passed. c.in_ok-read_body.ensures.passed (c.in_ok-record_type.ensures.passed passed)
+    let head = tracked_both has.tracks type.tracks in
+    record_tracks c.args.decoder.now c.read_body.new.decoder (Ok c.read_body.new.self) has.read type.read.0 head
+    (returns-clause-read c before has) c.in_ok-read_body.ensures.tracks

@@ -1,7 +1,7 @@
 use Rattle.std.proofs.Common.{◌≡◌, ℕ, List, length, ◌-◌, ◌<◌, ◌+◌, ◌∙◌, Ok, Err, sym, arith}
 use Rattle.std.proofs.lemmas.Result.{err_from_is_err_and}
-use Rattle.base.proofs.AddsLemmas.{adds_both, adds_none}
-use Rattle.base.specs.Passing.{AddsPassed}
+use Rattle.base.proofs.TrackLemmas.{bounded_after, bounded_here, tracked_both}
+use Rattle.base.specs.Tracks.{Tracked}
 use Rattle.base.specs.Reading.{Fails}
 use Rattle.base.specs.declared.error.decode_error.DecodeError.TheVariants.{IncorrectRDataLengthRead}
 use Rattle.base_data.specs.Kinds.{data_places}
@@ -19,10 +19,10 @@ returns-in_err-class-clause-read c =
     let short = c.in_err-class.ensures.short in
     rw (p.1, p.2, short.0) (body_cut c.args.self.now.name c.args.record_type at.bytes at.index short.1)
 
-pub returns-in_err-class-clause-counts : goal.returns-in_err-class-clause-counts
-returns-in_err-class-clause-counts c =
+pub returns-in_err-class-clause-tracks : goal.returns-in_err-class-clause-tracks
+returns-in_err-class-clause-tracks c =
     let p = err_from_is_err_and c.from_residual.result c.from_residual.ensures.1 in
-    rw p.1 c.in_err-class.ensures.counts
+    rw p.1 c.in_err-class.ensures.tracks
 
 pub returns-then-left-from-clause-read : goal.returns-then-left-from-clause-read
 returns-then-left-from-clause-read c =
@@ -35,8 +35,8 @@ returns-then-left-from-clause-read c =
     body_long c.args.self.now.name c.args.record_type at.bytes at.index len counted short
     ∙ (λ i. Err (IncorrectRDataLengthRead (sym left i) (sym c.from-then-left-from.ensures i)))
 
-pub returns-then-left-from-clause-counts : goal.returns-then-left-from-clause-counts
-returns-then-left-from-clause-counts c = λ counted. (c.in_ok-class.ensures.counts counted).1
+pub returns-then-left-from-clause-tracks : goal.returns-then-left-from-clause-tracks
+returns-then-left-from-clause-tracks c = bounded_here c.in_ok-class.ensures.tracks
 
 pub returns-in-Ok-clause-read : goal.returns-in-Ok-clause-read
 returns-in-Ok-clause-read c =
@@ -68,18 +68,14 @@ returns-in-Err-clause-read c =
     rw c.fault.ensures (data_fails owner c.args.record_type at.bytes at.index found.0 found.1 found.2 fits fault
     (over_both after.1 after.0 (λ (B : List ℕ) (k : ℕ). Fails fault (rdata_at c.args.record_type c.in_ok-class.field-0.len B k)) c.in-Err.ensures.read))
 
-pub returns-in-Ok-clause-counts : goal.returns-in-Ok-clause-counts
-returns-in-Ok-clause-counts c = λ counted. c.in-Ok.ensures.counts (c.in_ok-class.ensures.counts counted).0
-
-pub returns-in-Ok-clause-passed : goal.returns-in-Ok-clause-passed
-returns-in-Ok-clause-passed c = λ passed. c.in-Ok.ensures.passed (c.in_ok-class.ensures.passed passed)
-
-pub returns-in-Ok-clause-adds : goal.returns-in-Ok-clause-adds
-returns-in-Ok-clause-adds c =
+pub returns-in-Ok-clause-tracks : goal.returns-in-Ok-clause-tracks
+returns-in-Ok-clause-tracks c =
     let after = c.in_ok-class.ensures.after in
     let new = c.read_in_place.new in
-    over_both after.1 after.0 (λ (B : List ℕ) (k : ℕ). AddsPassed (data_places new.self B k) c.args.decoder.now new.decoder)
-    (adds_both (adds_none after.1 c.in_ok-class.ensures.kept) c.in-Ok.ensures.adds)
+    over_both after.1 after.0 (λ (B : List ℕ) (k : ℕ). Tracked (data_places new.self B k) c.args.decoder.now
+    new.decoder)
+    (tracked_both c.in_ok-class.ensures.tracks c.in-Ok.ensures.tracks)
 
-pub returns-in-Err-clause-counts : goal.returns-in-Err-clause-counts
-returns-in-Err-clause-counts c = λ counted. c.in-Err.ensures.counts (c.in_ok-class.ensures.counts counted).0
+pub returns-in-Err-clause-tracks : goal.returns-in-Err-clause-tracks
+returns-in-Err-clause-tracks c =
+    bounded_after c.read_in_place.new.decoder c.in_ok-class.ensures.tracks c.in-Err.ensures.tracks
