@@ -1,11 +1,16 @@
 -- Items that were written one after another, and going back after the last that fits.
-use Rattle.std.proofs.Common.{◌≡◌, ℕ, Option, Some, List, [], ◌∷◌, ◌++◌, length, take, map, refl}
+use Rattle.std.proofs.Common.{◌≡◌, ℕ, Option, Some, List, [], ◌∷◌, ◌++◌, length, take, refl, ◌<◌, ◌≤◌, ◌^◌, ap, ◌∙◌, arith, length-append}
+use Rattle.std.specs.Prelude.{All, max}
+use Rattle.std.proofs.lemmas.List.Elements.{All-tail}
 use Rattle.std.proofs.Math.Seq.{take-append_seam}
 use Rattle.std.specs.Iterator.{Yields, YieldsThen}
 use Rattle.base.specs.State.{State, cut}
-use Rattle.base.specs.Words.{BackToBack, none, more}
-use Rattle.base.specs.Laws.{IsValid, Holds, Keeps, Writes}
+use Rattle.base.specs.Laws.{IsValid, Holds, Keeps}
 use Rattle.base.specs.Items.{EachWritten}
+use Rattle.base.specs.Says.{Says}
+use Rattle.base.specs.Written.{Writing, after, in_turn, piece_at}
+use Rattle.base.proofs.SaysLemmas.{Says-keeps, Says-writes}
+use Rattle.base.proofs.WrittenLemmas.{after-both, after-none}
 use Rattle.base.proofs.LawLemmas.{Keeps-same, Keeps-then, Holds-first, Holds-second}
 
 -- cut back to what stood before
@@ -21,31 +26,43 @@ Yields-push steps [] x s t (u, same, step) = (t, rw same step, refl)
 Yields-push steps (y ∷ ys) x s t (u, (v, first, others), step) = (v, first, Yields-push steps ys x v t (u, others, step))
 
 module _ {E : Type 0} (word : E → List ℕ → ℕ → ℕ → Type 0) (plain : E → ℕ) (owner : E → List (List ℕ)) where
-  pub Each-keeps : (xs : List E) (a b : State) → EachWritten word plain owner xs a b → Keeps a b
+  Each-keeps : (xs : List E) (a b : State) → EachWritten word plain owner xs a b → Keeps a b
   Each-keeps [] a b same = Keeps-same a b same
   Each-keeps (x ∷ xs) a c (b, keeps, writes, others) = Keeps-then keeps (Each-keeps xs b c others)
 
-  -- one item more
-  pub Each-push : (xs : List E) (x : E) (a b c : State) → EachWritten word plain owner xs a b → Keeps b c → Writes (word x) (plain x) (owner x) b c → EachWritten word plain owner (xs ++ x ∷ []) a c
-  Each-push [] x a b c same keeps writes = (c, rw same at keeps, rw same at writes, refl)
-  Each-push (y ∷ ys) x a b c (m, first, wrote, others) keeps writes = (m, first, wrote, Each-push ys x m b c others keeps writes)
-
-  -- the words of items that were written stand back to back in every buffer that holds them, and all
-  -- suffixes stored until then are spelled there
-  pub Words-each : (xs : List E) (a b : State) → EachWritten word plain owner xs a b → (B : List ℕ) → Holds a b B
-      → BackToBack (λ i x e. word x B i e) (length a.bytes) xs (length b.bytes) × IsValid b B
-  Words-each [] a b same B h = (rw same none, rw same h.table)
-  Words-each (x ∷ xs) a c (b, keeps, writes, others) B h =
+  -- all suffixes stored until then are spelled in every buffer that holds what was written
+  Each-valid : (xs : List E) (a b : State) → EachWritten word plain owner xs a b → (B : List ℕ) → Holds a b B
+      → IsValid b B
+  Each-valid [] a b same B h = rw same h.table
+  Each-valid (x ∷ xs) a c (b, keeps, writes, others) B h =
       let later = Each-keeps xs b c others in
-      let first = Holds-first a b c keeps later B h in
-      let rest = Words-each xs b c others B (Holds-second a b c keeps later B (writes.valid B first) h) in
-      (more (writes.word_stands B first) rest.0, rest.1)
+      let first = writes.valid B (Holds-first a b c keeps later B h) in
+      Each-valid xs b c others B (Holds-second a b c keeps later B first h)
 
-  pub Each-valid : (xs : List E) (a b : State) → EachWritten word plain owner xs a b → (B : List ℕ) → Holds a b B → IsValid b B
-  Each-valid xs a b each B h = (Words-each xs a b each B h).1
+-- What is written in turn within the limit is written each as its word.
+module _ {E : Type 0} (f : E → Writing) (fits : E → Type 0) (word : E → List ℕ → ℕ → ℕ → Type 0) (plain : E → ℕ)
+    (owner : E → List (List ℕ)) (says : (x : E) → Says (f x) (fits x) (word x) (plain x) (owner x)) where
+  pub Turn-each : (xs : List E) → All fits xs → (a b : State) → b ≡ after (in_turn f xs) a
+      → length b.bytes ≤ max (length a.bytes) a.limit → a.limit < 2 ^ 16 → EachWritten word plain owner xs a b
+  Turn-each [] all a b is within small = is ∙ after-none a
+  Turn-each (x ∷ xs) all a b is within small =
+      let m = after (f x) a in
+      let rest : b ≡ after (in_turn f xs) m = is ∙ after-both (f x) (in_turn f xs) a in
+      let longer : length m.bytes ≤ length b.bytes = omega (
+        arith,
+        ap (λ (u : State). length u.bytes) rest,
+        length-append m.bytes (piece_at (in_turn f xs) m).bytes,
+      ) in
+      let more : length a.bytes ≤ length m.bytes = omega (arith, length-append a.bytes (piece_at (f x) a).bytes) in
+      let most : length m.bytes ≤ max (length a.bytes) a.limit = omega (arith, longer, within) in (
+        m,
+        Says-keeps (f x) a m (says x) refl most,
+        Says-writes (f x) a m (says x) (all 0 x (omega arith)) refl most small,
+        Turn-each xs (All-tail fits x xs all) m b rest (omega (arith, within, more)) small,
+      )
 
--- items whose words are read of a value, as those of references are, were written as those values
-pub Each-map : {A E : Type 0} (view : A → E) (word : E → List ℕ → ℕ → ℕ → Type 0) (plain : E → ℕ) (owner : E → List (List ℕ)) (xs : List A) (a b : State)
-    → EachWritten (λ x. word (view x)) (λ x. plain (view x)) (λ x. owner (view x)) xs a b → EachWritten word plain owner (map view xs) a b
-Each-map view word plain owner [] a b same = same
-Each-map view word plain owner (x ∷ xs) a c (b, keeps, writes, others) = (b, keeps, writes, Each-map view word plain owner xs b c others)
+  -- and every suffix stored until then is spelled
+  pub Turn-valid : (xs : List E) → All fits xs → (a b : State) → b ≡ after (in_turn f xs) a
+      → length b.bytes ≤ max (length a.bytes) a.limit → a.limit < 2 ^ 16
+      → (B : List ℕ) → Holds a b B → IsValid b B
+  Turn-valid xs all a b is within small = Each-valid word plain owner xs a b (Turn-each xs all a b is within small)

@@ -15,6 +15,7 @@ use Rattle.base.specs.declared.error.proto_error.ProtoError.{ProtoError}
 use Rattle.base.specs.declared.error.proto_error.ProtoError.TheVariants as refusals
 use Rattle.base.specs.declared.rr_key.RrKey.{RrKey}
 use Rattle.base_data.specs.declared.rdata.RData.{RData}
+use Rattle.op.proofs.AnswerLaws.{too_small}
 use Rattle.op.proofs.MessageStands.{one_message}
 use Rattle.op.specs.Edns.{new_edns}
 use Rattle.op.specs.Cut.{IsCut, IsTooSmall, IsUncut, IsWritten, any_lost}
@@ -35,6 +36,12 @@ use Rattle.txt.specs.Zone.{Texts, no_texts, zone_of}
 use Rattle.examples.specs.Callers.{QuestionsHaveNoRoom, IsQueryAnswered, IsCreated, IsNotReceived, IsReceived, IsUnanswered, IsUnsent, IsZoneOfText, creating, response_edns, response_to}
 use Rattle.examples.specs.declared.refusal.Refusal.{Refusal}
 use Rattle.examples.specs.declared.refusal.Refusal.TheVariants as refused
+
+-- a refusal but for memory says that there is too little room
+pub small_of : (m : MessageValue) (limit : ℕ) (e : ProtoError) → (e ≡ refusals.Memory)
+    ⊎ (message_answer limit m ≡ Err e) → (e ≡ refusals.Memory) ⊎ IsTooSmall m limit e
+small_of m limit e (inl memory) = inl memory
+small_of m limit e (inr is) = inr (too_small m limit [] e is)
 
 -- ---- an answer
 
@@ -88,8 +95,11 @@ module _ (received : List ℕ) (answers : List (Record RData)) (q : MessageValue
   unanswered refusals.NotAResponse (inr small) = absurd small
 
   -- and a refusal says why nothing was
-  pub none_answered : (result : Result (Vec ℕ Global) ProtoError) → IfErr result (λ r. (r ≡ refusals.Memory) ⊎ IsTooSmall m limit r) → IfErr result (λ r. IsUnanswered received answers r)
-  none_answered result says = IfErr-weaker result (λ r. (r ≡ refusals.Memory) ⊎ IsTooSmall m limit r) (λ r. IsUnanswered received answers r) unanswered says
+  pub none_answered : (result : Result (Vec ℕ Global) ProtoError)
+      → IfErr result (λ r. (r ≡ refusals.Memory) ⊎ (message_answer limit m ≡ Err r))
+      → IfErr result (λ r. IsUnanswered received answers r)
+  none_answered result says = IfErr-weaker result (λ r. (r ≡ refusals.Memory) ⊎ (message_answer limit m ≡ Err r))
+      (λ r. IsUnanswered received answers r) (λ r is. unanswered r (small_of m limit r is)) says
 
 -- ---- an update
 

@@ -1,24 +1,30 @@
--- The words of a message that was written, in the bytes that stand at the end.
-use Rattle.std.proofs.Common.{Bool, ◌≡◌, ℕ, List, ◌++◌, length, take, refl, ap, sym, ◌∙◌, subst}
+-- The words of a message that is written, in the bytes that are.
+use Rattle.std.proofs.Common.{◌≡◌, ℕ, ◌+◌, ◌<◌, ◌^◌, List, [], ◌++◌, length, take, refl, ap, sym, ◌∙◌, subst, arith, length-append}
 use Rattle.std.specs.Prelude.{All}
 use Rattle.std.proofs.Math.Seq.{drop-append_seam, take-append_seam, take-length}
-use Rattle.std.proofs.lemmas.List.Elements.{All-take}
-use Rattle.base.specs.Laws.{Holds, Keeps}
-use Rattle.base.specs.State.{State}
+use Rattle.std.proofs.lemmas.List.Elements.{All-nil, All-take}
+use Rattle.base.specs.Laws.{IsSpelled}
+use Rattle.base.specs.Says.{IsThere}
+use Rattle.base.specs.SaysParts.{last_stands}
+use Rattle.base.specs.State.{Stored}
+use Rattle.base.specs.WordLemmas.{first_stands}
 use Rattle.base.specs.Words.{BackToBack, Stands}
-use Rattle.base.proofs.ItemLemmas.{Each-keeps}
-use Rattle.base.proofs.LawLemmas.{Keeps-same, Keeps-then}
+use Rattle.base.specs.Written.{in_turn}
+use Rattle.base_data.specs.Kinds.{data_says}
 use Rattle.base_data.specs.declared.rdata.RData.{RData}
-use Rattle.rr.specs.Record.{FitsRecord, IsRecordAt, RecordWord, plain_record}
+use Rattle.rr.specs.Record.{FitsRecord, IsRecordAt, RecordWord, plain_record, record_written}
+use Rattle.rr.specs.RecordSays.{record_says}
 use Rattle.rr.specs.declared.record.Record.{Record}
 use Rattle.op.specs.Cut.{AreCompressed, query_owners, record_owners}
-use Rattle.op.specs.Emitted.{Emitted, WritesRecords, query_owner, record_owner}
-use Rattle.op.specs.Message.{MessageValue}
-use Rattle.op.specs.declared.header.Header.{Header}
 use Rattle.op.specs.Header.{RawHeader, header_bytes}
-use Rattle.op.specs.Query.{FitsQuery, IsQueryAt, QueryWord, plain_query}
+use Rattle.op.specs.MessageKept.{KeptRecord}
+use Rattle.op.specs.MessageWritten.{Parts, body}
+use Rattle.op.specs.Query.{FitsQuery, IsQueryAt, QueryWord, plain_query, query_written}
+use Rattle.op.specs.QuerySays.{QueryKept, query_says}
+use Rattle.op.specs.Message.{MessageValue}
+use Rattle.op.specs.MessageWritten.{parts_of}
 use Rattle.op.specs.declared.query.Query.{Query}
-use Rattle.op.proofs.OwnerLemmas.{Section, owned_then, section, together}
+use Rattle.op.proofs.OwnerLemmas.{Section, grows_then, owned_then, section, together}
 use Rattle.op.proofs.WordsBack.{query_back, query_ends, record_back, record_ends}
 
 -- ---- lists
@@ -49,58 +55,119 @@ pub record Composed (B : List ℕ) (qs : List Query) (bs ns ds es ss : List (Rec
   pub all : BackToBack (IsRecordAt B) k (ds ++ (es ++ ss)) e
   pub short : AreCompressed (query_owners queries ++ (record_owners answers ++ (record_owners authorities ++ record_owners all)))
 
--- what was written of a message fits the wire
-pub record AreFit {m : MessageValue} {old new : State} {h : Header} (e : Emitted m old new h) : Type 0 where
-  pub queries : All FitsQuery m.queries
-  pub answers : All FitsRecord e.answers.kept
-  pub authorities : All FitsRecord e.authorities.kept
-  pub additionals : All FitsRecord e.additionals.kept
-  pub edns : All FitsRecord e.edns.kept
-  pub signature : All FitsRecord e.signature.kept
+-- bytes that stand at a place of a buffer, and are few
+pub record Lies (xs B : List ℕ) (at : ℕ) : Type 0 where
+  pub stands : Stands xs B at
+  pub small : length xs < 2 ^ 16
 
--- a front of records that was written keeps what stood before it
-pub records_keep : {xs : List (Record RData)} {a b : State} {n : ℕ} {is_cut : Bool} → WritesRecords xs a b n is_cut → Keeps a b
-records_keep {a = a} {b = b} w = Each-keeps RecordWord plain_record record_owner w.kept a b w.written
+lies_first : (xs ys B : List ℕ) (at : ℕ) → Lies (xs ++ ys) B at → Lies xs B at
+lies_first xs ys B at l = record {
+  stands = first_stands xs ys B at l.stands;
+  small = omega (arith, l.small, length-append xs ys);
+}
 
--- and so do the questions
-pub keeps_questions : {m : MessageValue} {old new : State} {h : Header} (e : Emitted m old new h) → Keeps e.after_header e.after_questions
-keeps_questions {m} e = Each-keeps QueryWord plain_query query_owner m.queries e.after_header e.after_questions e.queries
+lies_last : (xs ys B : List ℕ) (at : ℕ) → Lies (xs ++ ys) B at → Lies ys B (at + length xs)
+lies_last xs ys B at l = record {
+  stands = last_stands xs ys B at l.stands;
+  small = omega (arith, l.small, length-append xs ys);
+}
 
-module _ (B : List ℕ) {m : MessageValue} {old new : State} {h : Header} (e : Emitted m old new h) where
-  -- a front of its records, as they are read in B
-  records : {xs : List (Record RData)} {a b : State} {n : ℕ} {is_cut : Bool} (w : WritesRecords xs a b n is_cut) → All FitsRecord w.kept → Keeps b e.after_signature → Holds a e.after_signature B
-      → Section RecordWord plain_record record_owner B (IsRecordAt B) (λ i r e w. w.word.owner_end) w.kept a b e.after_signature
-  records {a = a} {b} w fits later holds =
-      section RecordWord plain_record record_owner B (IsRecordAt B) (λ i r e w. w.word.owner_end) FitsRecord (record_back B) (record_ends B) w.kept a b e.after_signature fits w.written later holds
+-- of the parts of a message each question and each record that is written is so
+pub record PartsAre (Asked : Query → Type 0) (Entry : Record RData → Type 0) (p : Parts) : Type 0 where
+  pub queries : All Asked p.queries.kept
+  pub answers : All Entry p.answers.kept
+  pub authorities : All Entry p.authorities.kept
+  pub additionals : All Entry p.additionals.kept
+  pub edns : All Entry p.edns.kept
+  pub signature : All Entry p.signature.kept
 
-  pub composed : AreFit e → Holds e.after_header e.after_signature B
-      → Composed B m.queries e.answers.kept e.authorities.kept e.additionals.kept e.edns.kept e.signature.kept (length e.after_header.bytes) (length e.after_questions.bytes) (length e.after_answers.bytes)
-      (length e.after_authorities.bytes) (length e.after_additionals.bytes) (length e.after_edns.bytes) (length e.after_signature.bytes)
-  composed fits holds =
-      let k5 = records_keep e.signature in
-      let k4 = Keeps-then (records_keep e.edns) k5 in
-      let k3 = Keeps-then (records_keep e.additionals) k4 in
-      let k2 = Keeps-then (records_keep e.authorities) k3 in
-      let k1 = Keeps-then (records_keep e.answers) k2 in
-      let q = section QueryWord plain_query query_owner B (IsQueryAt B) (λ i q j w. w.word.owner_end) FitsQuery (query_back B) (query_ends B)
-      m.queries e.after_header e.after_questions e.after_signature fits.queries e.queries k1 holds in
-      let a = records e.answers fits.answers k2 q.rest in
-      let n = records e.authorities fits.authorities k3 a.rest in
-      let d = records e.additionals fits.additionals k4 n.rest in
-      let o = records e.edns fits.edns k5 d.rest in
-      let s = records e.signature fits.signature (Keeps-same e.after_signature e.after_signature refl) o.rest in
-      let owned = owned_then (keeps_questions e) k1 q.owned (owned_then (records_keep e.answers) k2 a.owned (owned_then (records_keep e.authorities) k3 n.owned
-      (owned_then (records_keep e.additionals) k4 d.owned (owned_then (records_keep e.edns) k5 o.owned s.owned)))) in
-      let (last, last_owners) = together (λ r. r.name.labels) (λ i r e w. w.word.owner_end) o.words s.words in
-      let (all, all_owners) = together (λ r. r.name.labels) (λ i r e w. w.word.owner_end) d.words last in
-      let owners = all_owners ∙ ap (λ os. record_owners d.words ++ os) last_owners in
-      record {
-        queries = q.words;
-        answers = a.words;
-        authorities = n.words;
-        additionals = d.words;
-        edns = o.words;
-        signature = s.words;
-        all = all;
-        short = subst (λ os. AreCompressed (query_owners q.words ++ (record_owners a.words ++ (record_owners n.words ++ os)))) (sym owners) owned.short;
-      }
+-- it is what their types keep
+abbrev pub PartsKept : Parts → Type 0
+PartsKept = PartsAre QueryKept KeptRecord
+
+module _ (B : List ℕ) where
+  there : {xs : List ℕ} {us ts : List Stored} {at : ℕ} → Lies xs B at → All (IsSpelled B at) ts
+      → IsThere (record { bytes = xs; suffixes = us }) B at ts
+  there l table = record { table = table; bytes = l.stands; small = l.small }
+
+  abbrev Records : List (Record RData) → ℕ → ℕ → List Stored → List Stored → Type 0
+  Records = Section record_written KeptRecord RecordWord plain_record (λ r. r.name.labels)
+      (λ r. record_says r (data_says r.rdata)) B (IsRecordAt B) (λ i r e w. w.word.owner_end)
+
+  records : (xs : List (Record RData)) → All KeptRecord xs → All FitsRecord xs → (at : ℕ) (ts : List Stored)
+      → Lies (in_turn record_written xs at ts).bytes B at → All (IsSpelled B at) ts
+      → Records xs at (at + length (in_turn record_written xs at ts).bytes) ts
+      (in_turn record_written xs at ts).suffixes
+  records xs kept fits at ts l table =
+      section record_written KeptRecord RecordWord plain_record (λ r. r.name.labels)
+      (λ r. record_says r (data_says r.rdata)) B (IsRecordAt B) (λ i r e w. w.word.owner_end)
+      FitsRecord (record_back B) (record_ends B) xs kept fits at (at + length (in_turn record_written xs at ts).bytes)
+      ts refl (there l table)
+
+  abbrev Queries : List Query → ℕ → ℕ → List Stored → List Stored → Type 0
+  Queries = Section query_written QueryKept QueryWord plain_query (λ q. q.name.labels) query_says B (IsQueryAt B)
+      (λ i q e w. w.word.owner_end)
+
+  queries : (xs : List Query) → All QueryKept xs → All FitsQuery xs → (at : ℕ) (ts : List Stored)
+      → Lies (in_turn query_written xs at ts).bytes B at → All (IsSpelled B at) ts
+      → Queries xs at (at + length (in_turn query_written xs at ts).bytes) ts (in_turn query_written xs at ts).suffixes
+  queries xs kept fits at ts l table =
+      section query_written QueryKept QueryWord plain_query (λ q. q.name.labels) query_says B (IsQueryAt B)
+      (λ i q e w. w.word.owner_end)
+      FitsQuery (query_back B) (query_ends B) xs kept fits at (at + length (in_turn query_written xs at ts).bytes) ts
+      refl (there l table)
+
+  module _ (limit : ℕ) (m : MessageValue) where
+    abbrev p : Parts
+    p = parts_of limit m 12 []
+
+    -- the words of the parts, where their bytes stand after a header
+    pub composed : PartsKept p → PartsAre FitsQuery FitsRecord p → Lies (body p 12 []).bytes B 12
+        → Composed B p.queries.kept p.answers.kept p.authorities.kept p.additionals.kept p.edns.kept p.signature.kept 12
+        p.queries.end p.answers.end p.authorities.end p.additionals.end p.edns.end p.signature.end
+    composed kept fits l =
+        let bq = p.queries.piece.bytes in
+        let ba = p.answers.piece.bytes in
+        let bn = p.authorities.piece.bytes in
+        let bd = p.additionals.piece.bytes in
+        let bo = p.edns.piece.bytes in
+        let bs = p.signature.piece.bytes in
+        let l1 = lies_last bq (ba ++ (bn ++ (bd ++ (bo ++ bs)))) B 12 l in
+        let l2 = lies_last ba (bn ++ (bd ++ (bo ++ bs))) B p.queries.end l1 in
+        let l3 = lies_last bn (bd ++ (bo ++ bs)) B p.answers.end l2 in
+        let l4 = lies_last bd (bo ++ bs) B p.authorities.end l3 in
+        let l5 = lies_last bo bs B p.additionals.end l4 in
+        let q = queries p.queries.kept kept.queries fits.queries 12 []
+        (lies_first bq (ba ++ (bn ++ (bd ++ (bo ++ bs)))) B 12 l) (All-nil (IsSpelled B 12)) in
+        let a = records p.answers.kept kept.answers fits.answers p.queries.end p.queries.piece.suffixes
+        (lies_first ba (bn ++ (bd ++ (bo ++ bs))) B p.queries.end l1) q.table in
+        let n = records p.authorities.kept kept.authorities fits.authorities p.answers.end p.answers.piece.suffixes
+        (lies_first bn (bd ++ (bo ++ bs)) B p.answers.end l2) a.table in
+        let d = records p.additionals.kept kept.additionals fits.additionals p.authorities.end
+        p.authorities.piece.suffixes (lies_first bd (bo ++ bs) B p.authorities.end l3) n.table in
+        let o = records p.edns.kept kept.edns fits.edns p.additionals.end p.additionals.piece.suffixes
+        (lies_first bo bs B p.additionals.end l4) d.table in
+        let s = records p.signature.kept kept.signature fits.signature p.edns.end p.edns.piece.suffixes l5 o.table in
+        let g5 = grows_then o.grows s.grows in
+        let g4 = grows_then d.grows g5 in
+        let g3 = grows_then n.grows g4 in
+        let g2 = grows_then a.grows g3 in
+        let owned = owned_then q.grows g2 q.owned
+        (owned_then a.grows g3 a.owned
+        (owned_then n.grows g4 n.owned
+        (owned_then d.grows g5 d.owned (owned_then o.grows s.grows o.owned s.owned)))) in
+        let (last, last_owners) = together (λ r. r.name.labels) (λ i r e w. w.word.owner_end) o.words s.words in
+        let (all, all_owners) = together (λ r. r.name.labels) (λ i r e w. w.word.owner_end) d.words last in
+        let owners = all_owners ∙ ap (λ os. record_owners d.words ++ os) last_owners in
+        record {
+          queries = q.words;
+          answers = a.words;
+          authorities = n.words;
+          additionals = d.words;
+          edns = o.words;
+          signature = s.words;
+          all = all;
+          short = subst (λ os. AreCompressed
+              (query_owners q.words ++ (record_owners a.words ++ (record_owners n.words ++ os)))) (sym owners)
+              owned.short;
+        }

@@ -1,25 +1,26 @@
 -- Items that were written, and those that had no room, are a front.
-use Rattle.std.proofs.Common.{◌≡◌, ℕ, ◌+◌, ◌<◌, Bool, true, false, List, [], ◌∷◌, ◌++◌, length, map, refl, ap, sym}
+use Rattle.std.proofs.Common.{◌≡◌, ℕ, ◌<◌, ◌≤◌, Bool, true, false, List, [], ◌∷◌, ◌++◌, length, map, refl, ap, sym}
 use Rattle.std.proofs.Common.{◌∙◌, subst, arith, length-append, ◌^◌, Option, Some, None, Result, Ok, Err, Bor, ◌⊎◌, inl, inr}
-use Rattle.std.specs.Prelude.{IsSomeAnd, MatchOption}
+use Rattle.std.specs.Prelude.{All, IsSomeAnd, MatchOption, max}
 use Rattle.std.specs.Option.{option_copied, option_map}
 use Rattle.std.specs.Iterator.{Yields}
 use Rattle.std.specs.Iterator.Adapters.{once_item, once_steps}
 use Rattle.std.specs.declared.iter.Once.{Once}
 use Rattle.std.proofs.lemmas.List.{append-nil, length-map, map-append}
-use Rattle.base.specs.Items.{EachWritten, EmitsAll}
+use Rattle.std.proofs.lemmas.List.Elements.{All-cons, All-nil, All-tail}
+use Rattle.base.specs.Items.{EmitsAll}
 use Rattle.base.specs.State.{State}
 use Rattle.base.specs.declared.error.proto_error.ProtoError.{ProtoError}
 use Rattle.base.specs.declared.error.proto_error.ProtoError.TheVariants as refusals
-use Rattle.base.proofs.ItemLemmas.{Each-map}
+use Rattle.base.proofs.SliceLemmas.{all_now}
 use Rattle.base_data.specs.declared.rdata.RData.{RData}
-use Rattle.rr.specs.Record.{RecordWord, plain_record, record_written}
+use Rattle.rr.specs.Record.{record_written}
 use Rattle.rr.specs.declared.record.Record.{Record}
-use Rattle.op.specs.Composition.{CountsItems, Narrows, WritesItems, WritesRecordItems}
-use Rattle.op.specs.Cut.{NoRoom, any_lost}
+use Rattle.op.specs.Composition.{CountsItems, Narrows, WritesFront, WritesItems, WritesRecordItems}
+use Rattle.op.specs.Cut.{any_lost}
 use Rattle.op.specs.EdnsRecord.{edns_record}
-use Rattle.op.specs.Emitted.{WritesFront, record_owner}
 use Rattle.op.specs.Fits.{as_list, opt_records, signature_record, signature_records}
+use Rattle.op.specs.MessageKept.{KeptRecord}
 use Rattle.op.specs.ResponseCode.{code_high}
 use Rattle.op.specs.declared.edns.Edns.{Edns}
 use Rattle.op.specs.declared.edns.writing.RaisedEdns.{RaisedEdns}
@@ -36,69 +37,79 @@ once_yields s t x (y ∷ []) item (u, step, yields) =
     inr (ap (λ z. z ∷ []) same, ap (λ v. once_item v) (sym yields) ∙ step.1)
 once_yields s t x (y ∷ (z ∷ ys)) item (u, step, (v, next, others)) = absurd (let none = step.1 in let some = next.0 in cc)
 
-module _ {E : Type 0} (word : E → List ℕ → ℕ → ℕ → Type 0) (plain : E → ℕ) (owner : E → List (List ℕ)) (f : E → Writing) where
+module _ {E : Type 0} (fits : E → Type 0) (f : E → Writing) where
   -- all items were written
-  pub all_written : {xs kept : List E} {a b : State} {n : ℕ} {is_cut : Bool} → xs ≡ kept → EachWritten word plain owner kept a b → b ≡ after (in_turn f kept) a
-      → n ≡ length kept → is_cut ≡ false → WritesFront word plain owner f xs a b n is_cut
-  all_written {kept = kept} whole each exact count uncut = record {
+  pub all_written : {xs kept : List E} {a b : State} {n : ℕ} {is_cut : Bool} → xs ≡ kept → All fits kept
+      → b ≡ after (in_turn f kept) a
+      → length b.bytes ≤ max (length a.bytes) a.limit → n ≡ length kept → is_cut ≡ false
+      → WritesFront fits f xs a b n is_cut
+  all_written {kept = kept} whole fit exact within count uncut = record {
     kept = kept;
     lost = [];
     whole = whole ∙ sym (append-nil kept);
-    written = each;
+    fit = fit;
     counted = count;
     tells = uncut;
-    full = tt;
     exact = exact;
+    within = within;
     passes = tt;
   }
 
   -- the items before one that had no room were written
-  pub front_written : (kept rest : List E) (x : E) {xs : List E} {a b : State} {n : ℕ} {is_cut : Bool} → xs ≡ kept ++ x ∷ rest → EachWritten word plain owner kept a b → b ≡ after (in_turn f kept) a
-      → n ≡ length kept → is_cut ≡ true → a.limit < length b.bytes + plain x → FirstPasses f a.limit b (x ∷ rest) → WritesFront word plain owner f xs a b n is_cut
-  front_written kept rest x whole each exact count cut full passes = record {
+  pub front_written : (kept rest : List E) (x : E) {xs : List E} {a b : State} {n : ℕ} {is_cut : Bool}
+      → xs ≡ kept ++ x ∷ rest → All fits kept → b ≡ after (in_turn f kept) a
+      → length b.bytes ≤ max (length a.bytes) a.limit → n ≡ length kept → is_cut ≡ true
+      → FirstPasses f a.limit b (x ∷ rest) → WritesFront fits f xs a b n is_cut
+  front_written kept rest x whole fit exact within count cut passes = record {
     kept = kept;
     lost = x ∷ rest;
     whole = whole;
-    written = each;
+    fit = fit;
     counted = count;
     tells = cut;
-    full = full;
     exact = exact;
+    within = within;
     passes = passes;
   }
 
   -- a front of few items, whose number is narrow
-  narrowed : {xs : List E} {a b : State} {n : ℕ} {is_cut : Bool} (result : Result Written ProtoError) → WritesFront word plain owner f xs a b n is_cut
-      → length xs < 2 ^ 16 → Narrows n is_cut result → WritesItems word plain owner f xs a result b
-  narrowed {xs} {a} {b} (Ok w) front few narrows = subst (λ v. WritesFront word plain owner f xs a b v.count v.is_cut) (sym narrows.1) front
+  narrowed : {xs : List E} {a b : State} {n : ℕ} {is_cut : Bool} (result : Result Written ProtoError)
+      → WritesFront fits f xs a b n is_cut
+      → length xs < 2 ^ 16 → Narrows n is_cut result → WritesItems fits f xs a result b
+  narrowed {xs} {a} {b} (Ok w) front few narrows =
+      subst (λ v. WritesFront fits f xs a b v.count v.is_cut) (sym narrows.1) front
   narrowed (Err e) front few narrows =
       absurd (omega (arith, few, narrows.0, front.counted, ap length front.whole, length-append front.kept front.lost))
 
   -- of none nothing is written
-  pub none_written : (a : State) (result : Result Written ProtoError) → Narrows 0 false result → WritesItems word plain owner f [] a result a
-  none_written a result narrows = narrowed result (all_written refl refl (sym (after-none a)) refl refl) (omega arith) narrows
+  pub none_written : (a : State) (result : Result Written ProtoError) → Narrows 0 false result
+      → WritesItems fits f [] a result a
+  none_written a result narrows = narrowed result
+      (all_written refl (All-nil fits) (sym (after-none a)) (omega arith) refl refl) (omega arith) narrows
 
   module _ (item : Bor E) (s t : Once (Bor E)) (a b : State) where
     pub one_item : (answer : Result ℕ ProtoError) (result : Result Written ProtoError) → once_item s ≡ Some item
-        → EmitsAll (λ (x : Bor E). word x.now) (λ x. plain x.now) (λ x. owner x.now) (λ x. f x.now)
-        once_steps s t a b answer → CountsItems answer result → WritesItems word plain owner f
-        (item.now ∷ []) a result b
-    one_item (Ok n) result first (xs, (u, yields, stop), each, count, exact) counts =
+        → EmitsAll (λ (x : Bor E). fits x.now) (λ x. f x.now) once_steps s t a b answer → CountsItems answer result
+        → WritesItems fits f (item.now ∷ []) a result b
+    one_item (Ok n) result first (xs, (u, yields, stop), fit, count, exact, within) counts =
         elim (once_yields s u item xs first yields) [
           | inl (none, left) ↦ absurd (let is = stop.0 in cc)
           | inr (all, left) ↦
               let whole = ap (map (λ x. x.now)) (sym all) in
-              let written = Each-map (λ x. x.now) word plain owner xs a b each in
-              narrowed result (all_written whole written (exact ∙ ap (λ g. after g a) (in_turn-map (λ x. x.now) f xs)) (count ∙ sym (length-map xs (λ x. x.now))) refl)
+              narrowed result (all_written whole (all_now fits xs fit)
+              (exact ∙ ap (λ g. after g a) (in_turn-map (λ x. x.now) f xs)) within
+              (count ∙ sym (length-map xs (λ x. x.now))) refl)
               (omega arith) counts
         ]
-    one_item (Err (refusals.NotAllRecordsWritten n)) result first (xs, x, (u, yields, step), each, count, full, exact, passes) counts =
+    one_item (Err (refusals.NotAllRecordsWritten n)) result first
+        (xs, x, (u, yields, step), fit, count, exact, within, passes) counts =
         elim (once_yields s u item xs first yields) [
           | inl (none, left) ↦
               let is : item ≡ x = let next = step.0 in cc in
-              let written = Each-map (λ x. x.now) word plain owner xs a b each in
-              narrowed result (front_written (map (λ x. x.now) xs) [] x.now (λ i. map (λ x. x.now) (sym none i) ++ (is i).now ∷ []) written
-              (exact ∙ ap (λ g. after g a) (in_turn-map (λ x. x.now) f xs)) (count ∙ sym (length-map xs (λ x. x.now))) refl full passes)
+              narrowed result (front_written (map (λ x. x.now) xs) [] x.now
+              (λ i. map (λ x. x.now) (sym none i) ++ (is i).now ∷ []) (all_now fits xs fit)
+              (exact ∙ ap (λ g. after g a) (in_turn-map (λ x. x.now) f xs)) within
+              (count ∙ sym (length-map xs (λ x. x.now))) refl passes)
               (omega arith) counts
           | inr (all, left) ↦ absurd (let is = step.0 in cc)
         ]
@@ -109,30 +120,32 @@ pub any_map : {A E : Type 0} (view : A → E) (xs : List A) → any_lost xs ≡ 
 any_map view [] = refl
 any_map view (x ∷ xs) = refl
 
--- items whose words are read of a value are that value's items
-module _ {A E : Type 0} (view : A → E) (word : E → List ℕ → ℕ → ℕ → Type 0) (plain : E → ℕ) (owner : E → List (List ℕ)) (f : E → Writing) where
-  lost_map : (limit : ℕ) (b : State) (xs : List A) → NoRoom (λ x. plain (view x)) limit (length b.bytes) xs → FirstPasses (λ x. f (view x)) limit b xs
-      → NoRoom plain limit (length b.bytes) (map view xs) × FirstPasses f limit b (map view xs)
-  lost_map limit b [] full passes = (tt, tt)
-  lost_map limit b (x ∷ xs) full passes = (full, passes)
+-- items that are written as their values are those values
+module _ {A E : Type 0} (view : A → E) (fits : E → Type 0) (f : E → Writing) where
+  lost_map : (limit : ℕ) (b : State) (xs : List A) → FirstPasses (λ x. f (view x)) limit b xs
+      → FirstPasses f limit b (map view xs)
+  lost_map limit b [] passes = tt
+  lost_map limit b (x ∷ xs) passes = passes
 
-  pub front_map : (xs : List A) (a b : State) (n : ℕ) (is_cut : Bool) → WritesFront (λ x. word (view x)) (λ x. plain (view x)) (λ x. owner (view x)) (λ x. f (view x)) xs a b n is_cut
-      → WritesFront word plain owner f (map view xs) a b n is_cut
-  front_map xs a b n is_cut front = record {
+  fit_map : (xs : List A) → All (λ x. fits (view x)) xs → All fits (map view xs)
+  fit_map [] all = All-nil fits
+  fit_map (x ∷ xs) all = All-cons fits (view x) (map view xs) (all 0 x (omega arith))
+      (fit_map xs (All-tail (λ y. fits (view y)) x xs all))
+
+  pub items_map : (xs : List A) (a b : State) (result : Result Written ProtoError)
+      → WritesItems (λ x. fits (view x)) (λ x. f (view x)) xs a result b
+      → WritesItems fits f (map view xs) a result b
+  items_map xs a b (Ok written) front = record {
     kept = map view front.kept;
     lost = map view front.lost;
     whole = ap (map view) front.whole ∙ map-append view front.kept front.lost;
-    written = Each-map view word plain owner front.kept a b front.written;
+    fit = fit_map front.kept front.fit;
     counted = front.counted ∙ sym (length-map front.kept view);
     tells = front.tells ∙ any_map view front.lost;
-    full = (lost_map a.limit b front.lost front.full front.passes).0;
     exact = front.exact ∙ ap (λ g. after g a) (in_turn-map view f front.kept);
-    passes = (lost_map a.limit b front.lost front.full front.passes).1;
+    within = front.within;
+    passes = lost_map a.limit b front.lost front.passes;
   }
-
-  pub items_map : (xs : List A) (a b : State) (result : Result Written ProtoError) → WritesItems (λ x. word (view x)) (λ x. plain (view x)) (λ x. owner (view x)) (λ x. f (view x)) xs a result b
-      → WritesItems word plain owner f (map view xs) a result b
-  items_map xs a b (Ok written) front = front_map xs a b written.count written.is_cut front
   items_map xs a b (Err e) memory = memory
 
 -- ---- an item that there may be, as a record
@@ -144,10 +157,11 @@ map_listed view (Some x) = refl
 -- the record that stands for a value, if there is one
 module _ {A : Type 0} (view : A → Record RData) (o : Option A) (a b : State) (result : Result Written ProtoError) where
   abbrev pub WritesViewed : Type 0
-  WritesViewed = WritesItems (λ x. RecordWord (view x)) (λ x. plain_record (view x)) (λ x. record_owner (view x)) (λ x. record_written (view x)) (as_list o) a result b
+  WritesViewed = WritesItems (λ x. KeptRecord (view x)) (λ x. record_written (view x)) (as_list o) a result b
 
   viewed_items : WritesViewed → WritesRecordItems (as_list (option_map view o)) a result b
-  viewed_items run = subst (λ rs. WritesRecordItems rs a result b) (map_listed view o) (items_map view RecordWord plain_record record_owner record_written (as_list o) a b result run)
+  viewed_items run = subst (λ rs. WritesRecordItems rs a result b) (map_listed view o)
+      (items_map view KeptRecord record_written (as_list o) a b result run)
 
 pub signature_items : (o : Option (Record (List ℕ))) (a b : State) (result : Result Written ProtoError) → WritesViewed signature_record o a b result
     → WritesRecordItems (signature_records o) a result b

@@ -1,5 +1,6 @@
 mod MessageNames
 pub mod AddsMessage
+pub mod AnswerLaws
 pub mod AnswerLemmas
 pub mod BitLemmas
 pub mod EdnsEquals
@@ -13,10 +14,8 @@ pub mod Orders
 pub mod PartLemmas
 pub mod QueryEquals
 pub mod QueryLemmas
-pub mod RefusalLemmas
 pub mod RoomLemmas
 pub mod RunLemmas
-pub mod SucceedsLemmas
 mod BufferLemmas
 mod CodeLemmas
 mod CutOf
@@ -38,4 +37,3 @@ mod StripLemmas
 mod UncutLemmas
 mod VariantLemmas
 mod WordsBack
-mod WrittenCuts

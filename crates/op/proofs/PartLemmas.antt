@@ -33,7 +33,8 @@ module _ {E : Type 0} (f : E → Writing) where
       record { kept = kept; is_cut = nat_lt (length kept) (length xs); end = at + length piece.bytes; piece = piece }
 
   -- all are kept where the part isn't cut
-  kept_all : (limit : ℕ) (xs : List E) (at : ℕ) (stored : List Stored) → (part_within f limit xs at stored).is_cut ≡ false → that_fit f limit xs at stored ≡ xs
+  pub kept_all : (limit : ℕ) (xs : List E) (at : ℕ) (stored : List Stored)
+      → (part_within f limit xs at stored).is_cut ≡ false → that_fit f limit xs at stored ≡ xs
   kept_all limit xs at stored uncut =
       let cut = part_lost limit xs at stored in
       let kept = that_fit f limit xs at stored in

@@ -11,16 +11,14 @@ use Rattle.op.specs.Composition.{AndThen, Continues}
 pub same_err : {Y : Type 0} (e f : ProtoError) → ◌≡◌ {A = Result Y ProtoError} (Err e) (Err f) → e ≡ f
 same_err e f is = cc
 
-module _ {X Y : Type 0} (first : State → Result X ProtoError → State → Type 0) (stays : Type 0) (next : X → State → Result Y ProtoError → State → Type 0) (a b c : State) where
-  went_by : {P : Type 0} (answer : Result X ProtoError) (y : Y) → first a answer b → Continues stays next answer b (Ok y) c → ((x : X) → first a (Ok x) b → next x b (Ok y) c → P) → P
-  went_by (Ok x) y ran rest both = both x ran rest
-  went_by (Err e) y ran rest both = absurd (let is = rest.0 in cc)
-
-  fails_by : {P : Type 0} (answer : Result X ProtoError) (e : ProtoError) → first a answer b → Continues stays next answer b (Err e) c
-      → (first a (Err e) c → P) → ((x : X) (m : State) → first a (Ok x) m → next x m (Err e) c → P) → P
-  fails_by (Ok x) e ran rest at_first later = later x b ran rest
-  fails_by (Err f) e ran rest at_first later =
-      at_first (subst (λ s. first a (Err e) s) (sym rest.1) (subst (λ g. first a (Err g) b) (sym (same_err {Y = Y} e f rest.0)) ran))
+module _ {X Y : Type 0} (first : State → Result X ProtoError → State → Type 0) (stays : Type 0)
+    (next : X → State → Result Y ProtoError → State → Type 0) (a b c : State) where
+  runs_by : (P : Result Y ProtoError → Type 0) (answer : Result X ProtoError) (result : Result Y ProtoError)
+      → first a answer b → Continues stays next answer b result c → ((e : ProtoError) → first a (Err e) c → P (Err e))
+      → ((x : X) (m : State) → first a (Ok x) m → next x m result c → P result) → P result
+  runs_by P (Ok x) result ran rest stopped on = on x b ran rest
+  runs_by P (Err e) result ran rest stopped on =
+      subst P (sym rest.0) (stopped e (subst (λ s. first a (Err e) s) (sym rest.1) ran))
 
 module _ {X Y : Type 0} {first : State → Result X ProtoError → State → Type 0} {stays : Type 0} {next : X → State → Result Y ProtoError → State → Type 0} {a c : State} where
   -- with a state d that keeps what stood before: that at a refusal, or a later one
@@ -32,15 +30,12 @@ module _ {X Y : Type 0} {first : State → Result X ProtoError → State → Typ
       let is = err_from_is_err_and _ returned in
       (keeps, record { answer = Err e; between = c; ran = ran; rest = (is.1 ∙ ap (λ f. Err f) is.2, refl, idle) })
 
-  -- what follows of two values follows of a value of the whole
-  pub went : {P : Type 0} (y : Y) → AndThen first stays next a (Ok y) c → ((x : X) (b : State) → first a (Ok x) b → next x b (Ok y) c → P) → P
-  went y s both = went_by first stays next a s.between c s.answer y s.ran s.rest (λ x. both x s.between)
-
-  -- what follows of a refusal of the first, and of a value and then a refusal of the second, follows of a refusal of the
-  -- whole
-  pub fails : {P : Type 0} (e : ProtoError) → AndThen first stays next a (Err e) c
-      → (first a (Err e) c → P) → ((x : X) (m : State) → first a (Ok x) m → next x m (Err e) c → P) → P
-  fails e s at_first later = fails_by first stays next a s.between c s.answer e s.ran s.rest at_first later
+  -- what follows of a refusal of the first, and of its value and the answer of the second, follows of the whole
+  pub runs : (P : Result Y ProtoError → Type 0) {result : Result Y ProtoError} → AndThen first stays next a result c
+      → ((e : ProtoError) → first a (Err e) c → P (Err e))
+      → ((x : X) (m : State) → first a (Ok x) m → next x m result c → P result) → P result
+  runs P {result} s stopped on =
+      runs_by first stays next a s.between c P s.answer result s.ran s.rest stopped on
 
   -- the same of what is said of the first in other words
   pub first_as : {result : Result Y ProtoError} {other : State → Result X ProtoError → State → Type 0} → ((answer : Result X ProtoError) (b : State) → first a answer b → other a answer b)

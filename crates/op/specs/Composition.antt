@@ -1,19 +1,20 @@
 -- How a message is put together from its parts (RFC 1035, 4.1).
 -- A run relates an encoder's state to the answer of what was done with it and to the state after that.
-use Rattle.std.specs.Prelude.{◌≡◌, ℕ, Bool, true, false, ◌+◌, ◌<◌, ◌≤◌, ◌^◌, ◌||◌, List, codes, length, replicate, ⊤, Result, Ok, Err}
+use Rattle.std.specs.Prelude.{◌≡◌, ℕ, Bool, true, false, All, ◌+◌, ◌<◌, ◌≤◌, max, ◌^◌, ◌||◌, List, ◌++◌, codes, length, replicate, ⊤, Result, Ok, Err}
 use Rattle.base.specs.State.{State, appended, overwritten}
 use Rattle.base.specs.Wire.{Refuses}
 use Rattle.base.specs.declared.error.proto_error.ProtoError.{ProtoError}
 use Rattle.base.specs.declared.error.proto_error.ProtoError.TheVariants as refusals
 use Rattle.base_data.specs.declared.rdata.RData.{RData}
-use Rattle.rr.specs.Record.{RecordWord, plain_record, record_written}
+use Rattle.rr.specs.Record.{record_written}
 use Rattle.rr.specs.declared.record.Record.{Record}
-use Rattle.op.specs.Emitted.{WritesFront, record_owner}
+use Rattle.op.specs.Cut.{any_lost}
 use Rattle.op.specs.Header.{IsNarrow, header_bytes, raw_header}
+use Rattle.op.specs.MessageKept.{KeptRecord}
 use Rattle.op.specs.declared.header.Header.{Header}
 use Rattle.op.specs.declared.header.metadata.Metadata.{Metadata}
 use Rattle.op.specs.declared.message.writing.Written.{Written}
-use Rattle.base.specs.Written.{Writing}
+use Rattle.base.specs.Written.{FirstPasses, Writing, after, in_turn}
 
 -- ---- runs one after another
 
@@ -75,18 +76,31 @@ abbrev pub EmitsPart : {P : Type 0} → (P → State → Result ℕ ProtoError �
 EmitsPart emits part end a result b = (answer : Result ℕ ProtoError) × emits part a answer end b
     × CountsItems answer result
 
+-- Of the values a front was written, and is what their types keep: all that come before one whose own bytes would have
+-- passed the limit.
+pub record WritesFront {E : Type 0} (fits : E → Type 0) (f : E → Writing) (xs : List E)
+    (a b : State) (n : ℕ) (is_cut : Bool) : Type 0 where
+  pub kept : List E
+  pub lost : List E
+  pub whole : xs ≡ kept ++ lost
+  pub fit : All fits kept
+  pub counted : n ≡ length kept
+  pub tells : is_cut ≡ any_lost lost
+  pub exact : b ≡ after (in_turn f kept) a
+  pub within : length b.bytes ≤ max (length a.bytes) a.limit
+  pub passes : FirstPasses f a.limit b lost
+
 -- of items a front is written, or memory was refused
-abbrev pub WritesItems : {E : Type 0} → (E → List ℕ → ℕ → ℕ → Type 0) → (E → ℕ)
-    → (E → List (List ℕ))
-    → (E → Writing) → List E → State → Result Written ProtoError → State → Type 0
-WritesItems word plain owner f xs a (Ok written) b =
-    WritesFront word plain owner f xs a b written.count written.is_cut
-WritesItems word plain owner f xs a (Err e) b = e ≡ refusals.Memory
+abbrev pub WritesItems : {E : Type 0} → (E → Type 0) → (E → Writing) → List E → State
+    → Result Written ProtoError → State → Type 0
+WritesItems fits f xs a (Ok written) b =
+    WritesFront fits f xs a b written.count written.is_cut
+WritesItems fits f xs a (Err e) b = e ≡ refusals.Memory
 
 -- a front of these records is written, or memory ran out
 abbrev pub WritesRecordItems : List (Record RData) → State → Result Written ProtoError → State
     → Type 0
-WritesRecordItems = WritesItems RecordWord plain_record record_owner record_written
+WritesRecordItems = WritesItems KeptRecord record_written
 
 -- The header of a message: TC where the message has it or a part was cut. The questions' count is tested here.
 abbrev pub HasHeader : Metadata → ℕ → Written → Written → Written → Result Header ProtoError

@@ -4,7 +4,6 @@ pub mod Edns
 pub mod EdnsFlags
 pub mod EdnsRecord
 pub mod EdnsSays
-pub mod Emitted
 pub mod Fault
 pub mod Fits
 pub mod Flags

@@ -1,10 +1,10 @@
 -- What is written of a message under a limit, as a function of both (RFC 1035, 4.1; RFC 2181, 9; RFC 6891, 6.1.3).
-use Rattle.std.specs.Prelude.{◌≡◌, ℕ, Bool, ◌+◌, ◌||◌, List, [], ◌++◌, false, length, nat_lt, if◌then◌else◌, Result, Ok, Err}
+use Rattle.std.specs.Prelude.{◌≡◌, ℕ, Bool, ◌+◌, ◌||◌, List, [], ◌++◌, false, length, nat_lt, replicate, if◌then◌else◌, Result, Ok, Err}
 use Rattle.std.specs.Option.{option_map}
-use Rattle.base.specs.State.{Stored}
+use Rattle.base.specs.State.{State, Stored}
 use Rattle.base.specs.declared.error.proto_error.ProtoError.{ProtoError}
 use Rattle.base.specs.declared.error.proto_error.ProtoError.TheVariants as refusals
-use Rattle.base.specs.Written.{FirstPassesAt, Piece, Writing, both, in_turn, just, that_fit}
+use Rattle.base.specs.Written.{FirstPassesAt, Piece, Writing, after, both, in_turn, just, that_fit}
 use Rattle.base_data.specs.declared.rdata.RData.{RData}
 use Rattle.rr.specs.Record.{record_written}
 use Rattle.rr.specs.declared.record.Record.{Record}
@@ -130,3 +130,18 @@ message_answer_at limit m at stored =
 -- what a new encoder answers to a message under a limit, unless memory runs out
 abbrev pub message_answer : ℕ → MessageValue → Result (List ℕ) ProtoError
 message_answer limit m = message_answer_at limit m 0 []
+
+-- What writing a message leaves: what is written; where the header has no room, nothing; and where not all questions
+-- have, room for a header and those that do.
+abbrev pub message_left : MessageValue → State → Result (List ℕ) ProtoError → State
+message_left m s (Ok bytes) = after (message_written s.limit m) s
+message_left m s (Err (refusals.NotAllRecordsWritten count)) =
+    let asked = part_within query_written s.limit m.queries (length s.bytes + 12) s.suffixes in
+    after (both (just (replicate 12 0)) (in_turn query_written asked.kept)) s
+message_left m s (Err e) = s
+
+-- what writing a message answers, and leaves
+abbrev pub Answers : MessageValue → State → Result (List ℕ) ProtoError → State → Type 0
+Answers m old answer new =
+    (message_answer_at old.limit m (length old.bytes) old.suffixes ≡ answer)
+    × (new ≡ message_left m old answer)

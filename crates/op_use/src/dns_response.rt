@@ -1,18 +1,17 @@
 //! Responses, and what they say (RFC 1035, 4.1; RFC 2308, 5).
 
 ghost use Rattle.base.specs.declared.limits.TheConstants.{MAX_MESSAGE};
-ghost use Rattle.std.specs.Prelude.{◌≡◌, ◌⊎◌, ◌&&◌, ◌↔◌, ℕ, IfErr, IfOk, IsOkUnless, MatchResult, Err, Ok};
+ghost use Rattle.std.specs.Prelude.{◌≡◌, ◌⊎◌, ◌&&◌, ◌↔◌, ℕ, IfErr, IfOk, MatchResult, Err, Ok};
 ghost use Rattle.std.specs.Borrow.{sem};
 ghost use Rattle.std.specs.List.{list_any};
 ghost use Rattle.std.specs.Option.{option_map};
 ghost use Rattle.base.specs.NameOrder.{is_zone_of, same_name};
 ghost use Rattle.base.specs.declared.record_type.RecordType.TheVariants as types;
-ghost use Rattle.op.specs.Cut.{IsTooSmall, IsWritten};
-ghost use Rattle.op.specs.Emitted.{EmittedNew, LeavesNew};
+ghost use Rattle.op.specs.Cut.{IsWritten};
 ghost use Rattle.op.specs.Fault.{IsMessageFault};
-ghost use Rattle.op.specs.Fits.{Fits, HasRoom};
+ghost use Rattle.op.specs.Fits.{Fits};
 ghost use Rattle.op.specs.Message.{IsMessageAt, MessageValue, message_value};
-ghost use Rattle.op.specs.MessageWritten.{message_answer, message_bytes};
+ghost use Rattle.op.specs.MessageWritten.{message_answer};
 ghost use Rattle.op.specs.Parts.{all_records};
 ghost use Rattle.op_use.specs.DnsResponse.{IsQuery, IsRefusedResponse, IsResponse};
 ghost use Rattle.op_use.specs.Lending.{LendsMessage};
@@ -57,26 +56,9 @@ impl DnsResponse {
             × IsResponse (message_value message)) }
         // Refused with `NotAResponse` exactly where the message is a query by its QR bit.
         ensures query { (result ≡ Err ProtoError.NotAResponse) ↔ IsQuery (message_value message) }
-        // A response whose header and uncompressed questions have room is refused for memory alone.
-        ensures succeeds { IsResponse (message_value message)
-            → HasRoom (message_value message) MAX_MESSAGE → IsOkUnless result ProtoError.Memory }
         // Of a message that fits, the bytes are a cut under 65,535 bytes, and are read as that cut.
         ensures written { Fits (message_value message)
             → IfOk result (λ r. IsWritten (message_value message) MAX_MESSAGE r.buffer) }
-        // Of any message, all questions and a front of each other part were written.
-        ensures emitted { IfOk result
-            (λ r. EmittedNew (message_value message) MAX_MESSAGE r.buffer) }
-        // The bytes are exactly those of the definition `message_bytes`.
-        ensures exact { IfOk result
-            (λ r. r.buffer ≡ message_bytes MAX_MESSAGE (message_value message)) }
-        // A response is refused only for memory, or where its uncompressed questions have no room.
-        ensures refused { IsResponse (message_value message)
-            → IfErr result (λ e. (e ≡ ProtoError.Memory)
-            ⊎ IsTooSmall (message_value message) MAX_MESSAGE e) }
-        // The number in such a refusal is that of the questions before the first that has no room.
-        ensures left { IsResponse (message_value message)
-            → IfErr result (λ e. (e ≡ ProtoError.Memory)
-            ⊎ LeavesNew (message_value message) MAX_MESSAGE e) }
         // The bytes are what the definition `message_answer` gives.
         ensures answer { IfOk result (λ r. message_answer MAX_MESSAGE (message_value message)
             ≡ Ok r.buffer) }
@@ -226,18 +208,8 @@ impl From<DnsResponse> for Message {
 /// The bytes of the message, as `Message::to_vec` writes them.
 fn write(alloc: Global, message: &Message) -> Result<Vec<u8>, ProtoError>
     // These clauses are those of `DnsResponse::from_message`, of a query as well.
-    ensures succeeds { HasRoom (message_value message.now) MAX_MESSAGE
-        → IsOkUnless result ProtoError.Memory }
     ensures written { Fits (message_value message.now)
         → IfOk result (λ bytes. IsWritten (message_value message.now) MAX_MESSAGE bytes.items) }
-    ensures emitted { IfOk result
-        (λ bytes. EmittedNew (message_value message.now) MAX_MESSAGE bytes.items) }
-    ensures exact { IfOk result (λ bytes. bytes.items
-        ≡ message_bytes MAX_MESSAGE (message_value message.now)) }
-    ensures refused { IfErr result (λ e. (e ≡ ProtoError.Memory)
-        ⊎ IsTooSmall (message_value message.now) MAX_MESSAGE e) }
-    ensures left { IfErr result (λ e. (e ≡ ProtoError.Memory)
-        ⊎ LeavesNew (message_value message.now) MAX_MESSAGE e) }
     ensures answer { IfOk result (λ bytes. message_answer MAX_MESSAGE (message_value message.now)
         ≡ Ok bytes.items) }
     ensures refusal { IfErr result (λ e. (e ≡ ProtoError.Memory)

@@ -38,7 +38,7 @@ pub trait EmitAndCount {
 impl<E: BinEncodable + Drop, I: Iterator<Item = E>> EmitAndCount for I {
     ghost can_emit = { λ items. I.can_next items × IsCountable (I.remaining items) };
 
-    ghost emits = { λ s a result t b. EmitsAll E.word E.plain_len E.owner E.written I.next_gives
+    ghost emits = { λ s a result t b. EmitsAll E.fits E.written I.next_gives
         s t a b result };
 
     fn emit(&mut self, encoder: &mut BinEncoder<'_>) -> Result<usize, ProtoError> {

@@ -1,14 +1,15 @@
 //! What is true of every decoder, and of all that is written under a limit.
 
-ghost use Rattle.std.specs.Prelude.{◌≡◌, ℕ, ◌+◌, ◌^◌, ◌<◌, ◌≤◌, List, ◌++◌, length, OnOk, Result};
+ghost use Rattle.std.specs.Prelude.{◌≡◌, ℕ, ◌+◌, ◌^◌, ◌<◌, ◌≤◌, List, ◌++◌, All, length, max, OnOk, Result};
 ghost use Rattle.std.specs.FinSet as set;
+ghost use Rattle.base.specs.Items.{EachWritten};
 ghost use Rattle.base.specs.Laws.{Keeps, Writes};
 ghost use Rattle.base.specs.Passing.{NamesPass};
 ghost use Rattle.base.specs.Reader.{Reader, begun};
 ghost use Rattle.base.specs.State.{State, Stored, appended, overwritten};
 ghost use Rattle.base.specs.Tracks.{IsCounted, IsPassed, Tracked};
 ghost use Rattle.base.specs.Wire.{Refuses};
-ghost use Rattle.base.specs.Written.{in_turn, that_fit, after, fitting, Exactly, FirstPasses};
+ghost use Rattle.base.specs.Written.{in_turn, piece_at, that_fit, after, fitting, Exactly, FirstPasses};
 ghost use Rattle.base.specs.declared.error.proto_error.ProtoError.{ProtoError};
 
 use crate::wire::encodable::BinEncodable;
@@ -42,6 +43,18 @@ pub fn what_is_written_is_its_word<E: BinEncodable>()
         → OnOk answer (Writes (E.word x) (E.plain_len x) (E.owner x) a b) }
     ensures refuses { (x : E) (a b : State) (answer : Result (Unit {0}) ProtoError)
         → Exactly (E.written x) a b answer → Refuses (E.plain_len x) a answer }
+{}
+
+/// What `emit_all` writes stands back to back: each item was written after the one before it, as its own `emit` does,
+/// and for one that has no room by its own bytes there is none uncompressed. `emit_all` says all that is asked here, in
+/// `emits` and `narrow`.
+pub fn what_is_written_in_turn_stands<E: BinEncodable>()
+    ensures writes { (xs : List E) (a b : State) → All E.fits xs
+        → b ≡ after (in_turn E.written xs) a → length b.bytes ≤ max (length a.bytes) a.limit
+        → a.limit < 2 ^ 16 → EachWritten E.word E.plain_len E.owner xs a b }
+    ensures full { (x : E) (limit : ℕ) (b : State)
+        → limit < length b.bytes + length (piece_at (E.written x) b).bytes
+        → limit < length b.bytes + E.plain_len x }
 {}
 
 /// Room that was kept and is filled after something was written is as if it had been filled first: no stored suffix is

@@ -4,7 +4,7 @@
 ghost use Rattle.std.specs.Cmp.{IsEquivalence};
 ghost use Rattle.std.specs.Cmp.Lexicographic.{pointwise};
 ghost use Rattle.std.specs.Option.{option_eq, option_map};
-ghost use Rattle.std.specs.Prelude.{◌≡◌, ◌<◌, ◌↔◌, ◌≤◌, ◌^◌, ◌++◌, [], All, Bool, Err, false, IsTrue, length, List, Ok, true, ℕ};
+ghost use Rattle.std.specs.Prelude.{◌≡◌, ◌≢◌, ◌+◌, ◌-◌, ◌<◌, ◌↔◌, ◌≤◌, ◌^◌, ◌++◌, [], All, Bool, Err, false, IsTrue, length, List, Ok, true, ℕ};
 ghost use Rattle.base.specs.Many.{many_at};
 ghost use Rattle.base.specs.Spelling.{NamesStand};
 ghost use Rattle.base.specs.State.{State, Stored};
@@ -16,12 +16,11 @@ ghost use Rattle.rr.specs.Record.{record_written};
 ghost use Rattle.rr.specs.declared.record.Record.{Record};
 ghost use Rattle.op.specs.Cut.{as_written, IsCut, IsTooSmall, IsUncut, IsWritten, raised};
 ghost use Rattle.op.specs.EdnsRecord.{edns_record};
-ghost use Rattle.op.specs.Emitted.{Leaves};
 ghost use Rattle.op.specs.Fault.{IsMessageFault, IsQueriesFault, IsSectionFault};
-ghost use Rattle.op.specs.Fits.{Fits, as_list, signature_record};
+ghost use Rattle.op.specs.Fits.{Fits, HasRoom, as_list, signature_record};
 ghost use Rattle.op.specs.Message.{IsMessageAt, message_at, MessageValue};
 ghost use Rattle.op.specs.MessageKept.{MessageKept};
-ghost use Rattle.op.specs.MessageWritten.{AreWhole, LostForRoom, message_answer, parts_of};
+ghost use Rattle.op.specs.MessageWritten.{AreWhole, LostForRoom, message_answer, message_answer_at, message_bytes, parts_of};
 ghost use Rattle.op.specs.Parts.{stripped, truncated};
 ghost use Rattle.op.specs.Places.{message_names, message_places};
 ghost use Rattle.op.specs.Query.{IsQueryAt, query_at, query_written};
@@ -155,11 +154,24 @@ pub fn a_larger_limit_keeps_no_fewer()
         ≤ length (that_fit query_written large qs at stored) }
 {}
 
-/// What `Message::emit` leaves in an encoder that held nothing, where memory didn't run out, tells of a limit without
-/// room for the header, or for the header and the questions uncompressed (RFC 1035, 4.1; RFC 2181, 9).
+/// An encoder that holds nothing refuses a message only under a limit without room for the header, or for the header and
+/// the questions uncompressed; and the number of such a refusal, by any encoder, is that of the questions that do fit
+/// (RFC 1035, 4.1; RFC 2181, 9).
 pub fn a_refused_message_has_no_room()
-    ensures { (m : MessageValue) (old new : State) (e : ProtoError) → old.bytes ≡ []
-        → Leaves m old e new → IsTooSmall m old.limit e }
+    ensures small { (m : MessageValue) (limit : ℕ) (stored : List Stored) (e : ProtoError)
+        → message_answer_at limit m 0 stored ≡ Err e → IsTooSmall m limit e }
+    // So with room for header and uncompressed questions, after what stands, only memory can lack.
+    ensures succeeds { (m : MessageValue) (limit at : ℕ) (stored : List Stored) (e : ProtoError)
+        → HasRoom m (limit - at) → message_answer_at limit m at stored ≢ Err e }
+    ensures count { (m : MessageValue) (limit at : ℕ) (stored : List Stored) (n : ℕ)
+        → message_answer_at limit m at stored ≡ Err (ProtoError.NotAllRecordsWritten n)
+        → n ≡ length (parts_of limit m (at + 12) stored).queries.kept }
+{}
+
+/// The bytes that are answered are those of the definition `message_bytes`.
+pub fn what_is_answered_is_written()
+    ensures { (m : MessageValue) (limit : ℕ) (B : List ℕ) → message_answer limit m ≡ Ok B
+        → B ≡ message_bytes limit m }
 {}
 
 /// What a message loses under a limit didn't fit: of each part, its questions, answers, authorities, additionals, EDNS

@@ -2,17 +2,14 @@
 
 ghost use Rattle.base.specs.declared.limits.TheConstants.{MAX_MESSAGE};
 ghost use Rattle.std.specs.Option.{option_copied};
-ghost use Rattle.std.specs.Prelude.{◌≡◌, ◌⊎◌, [], ◌-◌, ◌<◌, ◌^◌, drop, Err, IfErr, IfOk, IsOkUnless, length, Ok, ⊤};
+ghost use Rattle.std.specs.Prelude.{◌≡◌, ◌⊎◌, [], ◌<◌, ◌^◌, drop, Err, IfErr, IfOk, length, Ok, ⊤};
 ghost use Rattle.base.specs.Laws.{Keeps};
 ghost use Rattle.base.specs.Wire.{state_of};
-ghost use Rattle.base.specs.Written.{after};
 ghost use Rattle.op.specs.Composition.{AddsCounts, AndThen, Composition, CountsItems, EmitsPart, HasHeader, Narrows, Tests, WritesItems, WritesRecordItems};
-ghost use Rattle.op.specs.Cut.{IsTooSmall, IsWritten};
-ghost use Rattle.op.specs.Emitted.{Emitted, EmittedNew, Leaves, LeavesNew};
-ghost use Rattle.op.specs.Fits.{Fits, HasRoom, as_list, opt_records, signature_records};
+ghost use Rattle.op.specs.Cut.{IsWritten};
+ghost use Rattle.op.specs.Fits.{Fits, as_list, opt_records, signature_records};
 ghost use Rattle.op.specs.Message.{message_value};
-ghost use Rattle.op.specs.MessageWritten.{message_answer, message_answer_at, message_bytes, message_written};
-ghost use Rattle.op.specs.declared.header.Header.{Header as WrittenHeader};
+ghost use Rattle.op.specs.MessageWritten.{Answers, message_answer};
 
 use crate::edns::{Edns, RaisedEdns};
 use crate::header::{Header, HeaderCounts, Metadata};
@@ -39,19 +36,20 @@ impl Message {
     ///
     /// `MaxBufferSizeExceeded` where the header doesn't fit, and then nothing is written; `NotAllRecordsWritten` where
     /// the questions don't, with the number of those that are written, all before the first that doesn't fit; `Memory`
-    /// if memory runs out. With room for header and questions uncompressed it is refused for memory alone.
-    #[tactic(auto, using(crate::proofs::AnswerLemmas::only_memory))]
+    /// if memory runs out. With room for header and questions uncompressed it is refused for memory alone, by the law
+    /// `a_refused_message_has_no_room`.
     pub fn emit(&self, encoder: &mut BinEncoder<'_>) -> Result<(), ProtoError>
         // Whatever the answer, what stood before stays, and no byte is written past the limit.
         ensures keeps { Keeps (state_of encoder.old) (state_of encoder.new) }
-        // Of any message, all questions and a front of each other part were written, after a header
-        // that counts what stands, with TC where anything is lost.
-        ensures emitted { IfOk result (λ _. (h : WrittenHeader)
-            × Emitted (message_value self.now) (state_of encoder.old) (state_of encoder.new) h) }
-        // The bytes and suffixes added are exactly those of the definition `message_written`.
-        ensures exact { IfOk result (λ _. state_of encoder.new
-            ≡ after (message_written (state_of encoder.old).limit (message_value self.now))
-            (state_of encoder.old)) }
+        // Where memory didn't run out, it answers what the definition `message_answer_at` gives of
+        // what stood before, and leaves what `message_left` does: after `Ok` exactly the bytes and
+        // suffixes of `message_written` are added.
+        ensures answer { IfOk result (λ _. Answers (message_value self.now) (state_of encoder.old)
+            (Ok (drop (length (state_of encoder.old).bytes) (state_of encoder.new).bytes))
+            (state_of encoder.new)) }
+        ensures refused { IfErr result (λ e. (e ≡ ProtoError.Memory)
+            ⊎ Answers (message_value self.now) (state_of encoder.old) (Err e)
+            (state_of encoder.new)) }
         // Of a message that fits, the bytes of a new encoder are a cut under its limit, and are
         // read as that cut.
         ensures written { Fits (message_value self.now) → (state_of encoder.old).bytes ≡ []
@@ -59,22 +57,6 @@ impl Message {
             → IfOk result
             (λ _. IsWritten (message_value self.now) (state_of encoder.old).limit
             (state_of encoder.new).bytes) }
-        // With room for header and uncompressed questions, after what stood before, it is refused
-        // for memory alone.
-        ensures succeeds { HasRoom (message_value self.now)
-            ((state_of encoder.old).limit - length (state_of encoder.old).bytes)
-            → IsOkUnless result ProtoError.Memory }
-        // The bytes that are added are what the definition `message_answer_at` gives.
-        ensures answer { IfOk result
-            (λ _. message_answer_at (state_of encoder.old).limit (message_value self.now)
-            (length (state_of encoder.old).bytes) (state_of encoder.old).suffixes
-            ≡ Ok (drop (length (state_of encoder.old).bytes) (state_of encoder.new).bytes)) }
-        // Refused for memory, or as `message_answer_at` gives: nothing is written where the header
-        // has no room, and else room for it and the questions before the first without room.
-        ensures refused { IfErr result (λ e. (e ≡ ProtoError.Memory)
-            ⊎ (Leaves (message_value self.now) (state_of encoder.old) e (state_of encoder.new)
-            × (message_answer_at (state_of encoder.old).limit (message_value self.now)
-            (length (state_of encoder.old).bytes) (state_of encoder.old).suffixes ≡ Err e))) }
     {
         emit_message_parts(
             &self.metadata,
@@ -96,24 +78,9 @@ impl Message {
     /// `NotAllRecordsWritten` where the questions don't fit, with the number of those before the first that doesn't;
     /// `Memory` if memory runs out.
     pub fn to_vec(&self) -> Result<Vec<u8>, ProtoError>
-        // A message whose header and uncompressed questions have room is refused for memory alone.
-        ensures succeeds { HasRoom (message_value self.now) MAX_MESSAGE
-            → IsOkUnless result ProtoError.Memory }
-        // The bytes are exactly those of the definition `message_bytes`.
-        ensures exact { IfOk result (λ bytes. bytes.items
-            ≡ message_bytes MAX_MESSAGE (message_value self.now)) }
         // Of a message that fits, the bytes are a cut under 65,535 bytes, and are read as that cut.
         ensures written { Fits (message_value self.now)
             → IfOk result (λ bytes. IsWritten (message_value self.now) MAX_MESSAGE bytes.items) }
-        // Refused only for memory, or where the uncompressed questions have no room.
-        ensures refused { IfErr result (λ e. (e ≡ ProtoError.Memory)
-            ⊎ IsTooSmall (message_value self.now) MAX_MESSAGE e) }
-        // Of any message, all questions and a front of each other part were written.
-        ensures emitted { IfOk result
-            (λ bytes. EmittedNew (message_value self.now) MAX_MESSAGE bytes.items) }
-        // The number of a refusal is that of the questions before the first that has no room.
-        ensures left { IfErr result (λ e. (e ≡ ProtoError.Memory)
-            ⊎ LeavesNew (message_value self.now) MAX_MESSAGE e) }
         // The bytes are what the definition `message_answer` gives.
         ensures answer { IfOk result (λ bytes. message_answer MAX_MESSAGE (message_value self.now)
             ≡ Ok bytes.items) }
@@ -132,24 +99,9 @@ impl Message {
     /// `MaxBufferSizeExceeded` where the header doesn't fit; `NotAllRecordsWritten` where the questions don't, with the
     /// number of those before the first that doesn't; `Memory` if memory runs out.
     pub fn to_vec_within(&self, limit: u16) -> Result<Vec<u8>, ProtoError>
-        // A message whose header and uncompressed questions have room is refused for memory alone.
-        ensures succeeds { HasRoom (message_value self.now) limit
-            → IsOkUnless result ProtoError.Memory }
-        // The bytes are exactly those of the definition `message_bytes`.
-        ensures exact { IfOk result (λ bytes. bytes.items
-            ≡ message_bytes limit (message_value self.now)) }
         // Of a message that fits, the bytes are a cut under the limit, and are read as that cut.
         ensures written { Fits (message_value self.now)
             → IfOk result (λ bytes. IsWritten (message_value self.now) limit bytes.items) }
-        // Refused only for memory, or where the header or the uncompressed questions have no room.
-        ensures refused { IfErr result (λ e. (e ≡ ProtoError.Memory)
-            ⊎ IsTooSmall (message_value self.now) limit e) }
-        // Of any message, all questions and a front of each other part were written.
-        ensures emitted { IfOk result
-            (λ bytes. EmittedNew (message_value self.now) limit bytes.items) }
-        // The number of a refusal for the questions is that of those before the first without room.
-        ensures left { IfErr result (λ e. (e ≡ ProtoError.Memory)
-            ⊎ LeavesNew (message_value self.now) limit e) }
         // The bytes are what the definition `message_answer` gives.
         ensures answer { IfOk result (λ bytes. message_answer limit (message_value self.now)
             ≡ Ok bytes.items) }
@@ -176,10 +128,10 @@ impl Message {
 ///
 /// # Errors
 ///
-/// `MaxBufferSizeExceeded` where the header doesn't fit, with what the questions are refused with, which is
-/// `NotAllRecordsWritten` where they don't fit; any other refusal of a part; `Memory` if memory runs out; a `Message`
-/// where a count passes 65,535: for a section as soon as it is written, for EDNS and the signature with the additional
-/// records before them, and for the questions at the end.
+/// `MaxBufferSizeExceeded` where the header doesn't fit; what the questions are refused with, which is
+/// `NotAllRecordsWritten` where they don't fit; what another part is refused with, unless it is only cut; `Memory` if
+/// memory runs out; a `Message` where a count passes 65,535: for a section as soon as it is written, for EDNS and the
+/// signature with the additional records before them, and for the questions at the end.
 pub fn emit_message_parts<Q, A, N, D>(
     metadata: &Metadata,
     queries: &mut Q,
@@ -293,7 +245,7 @@ fn add_item<E: BinEncodable>(
     // Whatever the answer, what stood before stays, and no byte is written past the limit.
     ensures keeps { Keeps (state_of encoder.old) (state_of encoder.new) }
     // The item is written, or is cut since it has no room, and then the sum is tested.
-    ensures run { AndThen (WritesItems E.word E.plain_len E.owner E.written
+    ensures run { AndThen (WritesItems E.fits E.written
         (as_list (option_copied item.entry))) ⊤ (λ written. Tests (AddsCounts before written))
         (state_of encoder.old) result (state_of encoder.new) }
 {

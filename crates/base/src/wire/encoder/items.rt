@@ -4,7 +4,7 @@ ghost use Rattle.base.specs.Items.{IsCountable, EmitsAll, StaysValid};
 ghost use Rattle.base.specs.Laws.{Keeps};
 ghost use Rattle.base.specs.Wire.{state_of};
 ghost use Rattle.std.specs.Iterator.{UpTo};
-ghost use Rattle.std.specs.Prelude.{Some, ◌^◌, ◌-◌};
+ghost use Rattle.std.specs.Prelude.{Some, ◌<◌, ◌^◌, ◌-◌};
 
 use crate::error::ProtoError;
 use crate::wire::encodable::BinEncodable;
@@ -33,8 +33,10 @@ impl<'a> BinEncoder<'a> {
         // After `Ok`, and where not all fit, each stored suffix is spelled at its offset.
         ensures valid { StaysValid (state_of self.old) (state_of self.new) result }
         // The items were written in turn: all of them, or those before the first that has no room.
-        ensures emits { EmitsAll E.word E.plain_len E.owner E.written I.next_gives items.old
+        ensures emits { EmitsAll E.fits E.written I.next_gives items.old
             items.new (state_of self.old) (state_of self.new) result }
+        // The limit is at most 65,535 bytes.
+        ensures narrow { (state_of self.old).limit < 2 ^ 16 }
     {
         match items.next() {
             Some(first) => self.emit_from(first, items),
@@ -62,7 +64,7 @@ impl<'a> BinEncoder<'a> {
         // From wherever the iterator gave this item, all were written in turn that it gave, or those
         // before the first that has no room.
         ensures emits { (before : I) → I.next_gives before (Some first) items.old
-            → EmitsAll E.word E.plain_len E.owner E.written I.next_gives before items.new
+            → EmitsAll E.fits E.written I.next_gives before items.new
             (state_of self.old) (state_of self.new) result }
     {
         let mut count = 0;

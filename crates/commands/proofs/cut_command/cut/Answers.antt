@@ -11,7 +11,8 @@ returns-in_err-written c =
     let p = err_from_is_err_and c.from_residual-in_err-written.result c.from_residual-in_err-written.ensures.1 in
     let found = c.in_ok-message.ensures.found in
     rw (p.1, p.2) (refusal_answers c.args.limit c.args.text.now c.deref.result.now (message_value c.in_ok-message.message) found.0
-    (c.in_ok-bytes.ensures ∙ ap Ok (sym c.deref.ensures.value)) found.1 c.in_err-written.field-0.0 c.in_err-written.ensures.refused c.in_err-written.ensures.refusal)
+    (c.in_ok-bytes.ensures ∙ ap Ok (sym c.deref.ensures.value)) found.1 c.in_err-written.field-0.0
+    c.in_err-written.ensures.refusal)
 
 pub returns : goal.returns
 returns c =

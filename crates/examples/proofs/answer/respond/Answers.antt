@@ -12,4 +12,4 @@ pub returns-clause-refused : goal.returns-clause-refused
 returns-clause-refused c =
     let found = c.in_ok-query.ensures.found in
     none_answered c.args.received.now c.args.answers.items (message_value c.in_ok-query.query) found.0 found.1 (message_value c.response_to-response.result) c.max_payload-limit.result
-    c.response_to-response.ensures c.max_payload-limit.ensures c.to_vec_within.result c.to_vec_within.ensures.refused
+    c.response_to-response.ensures c.max_payload-limit.ensures c.to_vec_within.result c.to_vec_within.ensures.refusal

@@ -1,11 +1,9 @@
 use Rattle.std.proofs.Common.{◌∙◌, rules}
 use Rattle.base.specs.declared.limits.TheConstants.{MAX_MESSAGE}
 use Rattle.op.specs.Message.{message_value}
-use Rattle.op.proofs.AnswerLemmas.{new_answer, new_of, new_written}
+use Rattle.op.proofs.AnswerLemmas.{new_answer, new_of}
 use Rattle.op_use.proofs.dns_response.write.Goals as goal
 
 pub returns-clause-answer : goal.returns-clause-answer
-returns-clause-answer c = new_answer (message_value c.args.message.now) MAX_MESSAGE _ (new_of c.new-encoder.ensures) _ c.in_ok-emit.ensures.answer ∙ search rules
-
-pub returns-clause-exact : goal.returns-clause-exact
-returns-clause-exact c = search rules ∙ new_written (message_value c.args.message.now) MAX_MESSAGE _ (new_of c.new-encoder.ensures) _ c.in_ok-emit.ensures.exact
+returns-clause-answer c = new_answer (message_value c.args.message.now) MAX_MESSAGE _ (new_of c.new-encoder.ensures) _
+    c.in_ok-emit.ensures.answer.0 ∙ search rules

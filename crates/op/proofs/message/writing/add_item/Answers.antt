@@ -14,10 +14,12 @@ use Rattle.op.proofs.message.writing.add_item.Goals as goal
 
 -- what was counted of the one item was written
 counted : (g : _) (c : After-emit_all g) (answer : Result Written ProtoError) → CountsItems c.emit_all.result answer
-    → WritesItems g.E.BinEncodable.word g.E.BinEncodable.plain_len g.E.BinEncodable.owner g.E.BinEncodable.written (as_list (option_copied c.args.item)) (state_of c.args.encoder.now) answer
+    → WritesItems g.E.BinEncodable.fits g.E.BinEncodable.written (as_list (option_copied c.args.item))
+    (state_of c.args.encoder.now) answer
     (state_of c.emit_all.new.self)
 counted g c answer counts =
-    rw c.in-Some.is (one_item g.E.BinEncodable.word g.E.BinEncodable.plain_len g.E.BinEncodable.owner g.E.BinEncodable.written c.in-Some.item c.once.result c.emit_all.new.items _ _
+    rw c.in-Some.is (one_item g.E.BinEncodable.fits g.E.BinEncodable.written c.in-Some.item c.once.result
+    c.emit_all.new.items _ _
     c.emit_all.result answer c.once.ensures.item c.emit_all.ensures.emits counts)
 
 -- no item, counted
@@ -39,7 +41,7 @@ returns-in_default-clause-run g c =
     rw c.in_default.is (record {
       answer = Ok none;
       between = at;
-      ran = none_written g.E.BinEncodable.word g.E.BinEncodable.plain_len g.E.BinEncodable.owner g.E.BinEncodable.written at (Ok none) (omega arith, refl);
+      ran = none_written g.E.BinEncodable.fits g.E.BinEncodable.written at (Ok none) (omega arith, refl);
       rest = (adds_none c.args.before (search rules), refl);
     })
 

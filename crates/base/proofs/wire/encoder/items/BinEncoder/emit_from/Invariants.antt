@@ -1,6 +1,7 @@
 use Rattle.std.proofs.Common.{◌≡◌, ◌+◌, ◌-◌, ◌<◌, ◌^◌, ℕ, suc, List, Option, Some, None, IfSome, length}
+use Rattle.std.specs.Prelude.{All}
 use Rattle.std.specs.Iterator.{Count, IsFinite, YieldsThen, size}
-use Rattle.base.specs.Items.{EachWritten}
+use Rattle.base.specs.Laws.{Keeps}
 use Rattle.base.specs.Wire.{state_of}
 use Rattle.base.specs.Written.{after, in_turn}
 use Rattle.base.proofs.wire.encoder.items.BinEncoder.emit_from.Given as goal
@@ -13,7 +14,8 @@ left (Some x) count = suc (size count)
 abbrev pub invariant-loop-next : goal.invariant-loop-next
 invariant-loop-next g l = record {
   written : (xs : List g.row.E.Denot)
-      × EachWritten g.E.BinEncodable.word g.E.BinEncodable.plain_len g.E.BinEncodable.owner xs (state_of l.fn.self) (state_of l.self)
+      × All g.E.BinEncodable.fits xs
+      × Keeps (state_of l.fn.self) (state_of l.self)
       × (state_of l.self ≡ after (in_turn g.E.BinEncodable.written xs) (state_of l.fn.self))
       × (l.count ≡ length xs)
       × ((before : g.row.I.Denot) → g.I.Iterator.next_gives before (Some l.fn.first) l.fn.items → YieldsThen g.I.Iterator.next_gives before xs l.next l.items);
