@@ -27,8 +27,7 @@ enum Storage {
 
 /// The labels of a name or of a suffix, each with its length before it, and whether the name is absolute.
 ///
-/// Up to 29 bytes stand inside the value and take no memory. The flag stands beside them, so that the value has 32
-/// bytes.
+/// Up to 29 bytes stand inside the value. The flag stands beside them, so that the value has 32 bytes.
 pub(crate) struct Labels {
     storage: Storage,
 }
@@ -82,7 +81,7 @@ impl Labels {
     ///
     /// # Errors
     ///
-    /// If memory runs out; up to 29 bytes take none.
+    /// If memory runs out.
     pub(crate) fn from_front(
         alloc: Global,
         bytes: &[u8],
@@ -114,7 +113,7 @@ impl Labels {
     ///
     /// # Errors
     ///
-    /// If memory runs out; up to 29 bytes take none.
+    /// If memory runs out.
     pub(crate) fn from_front_and(
         alloc: Global,
         bytes: &[u8],

@@ -9,7 +9,7 @@ pub const MAX_LABELS: usize = 254;
 /// The bytes of the longest label (RFC 1035, 2.3.4).
 pub const MAX_LABEL: usize = 63;
 
-/// The bytes of labels, each with its length before it, up to which a name takes no memory of its own.
+/// The bytes of labels, each with its length before it, up to which they stand inside a name.
 pub const INLINE_LABELS: usize = 29;
 
 /// The bytes of the longest character string (RFC 1035, 3.3).

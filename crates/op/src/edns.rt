@@ -164,7 +164,8 @@ impl TryFrom<&Record> for Edns {
 
     ghost try_from_gives = { λ opt result. MatchResult result
         (λ edns. IsOptData opt.now.rdata × (edns ≡ edns_of opt.now))
-        (λ e. (e ≡ refusals.Memory) ⊎ ((e ≡ refusals.NotOpt) × ¬ (IsOptData opt.now.rdata))) };
+        (λ e. ((e ≡ refusals.Memory) × IsOptData opt.now.rdata)
+        ⊎ ((e ≡ refusals.NotOpt) × ¬ (IsOptData opt.now.rdata))) };
 
     /// What an OPT record says (RFC 6891, 6.1.3). Its class number is the payload size, below 512 too.
     ///

@@ -32,7 +32,7 @@ impl Name {
     /// 0x7E.
     ///
     /// Where an origin is given, its labels are appended to a relative name, which becomes absolute; and `@` alone is
-    /// the origin. Grows memory once at most, where the labels take more than 29 bytes.
+    /// the origin.
     ///
     /// # Errors
     ///

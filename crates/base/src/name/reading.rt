@@ -379,8 +379,8 @@ impl BinDecodable for Name {
     ghost names_at = { λ _ i. i ∷ [] };
 
     /// Reads an absolute name at the decoder's place, its pointers followed, and moves after it (RFC 1035, 4.1.4).
-    /// Grows memory once for a name whose labels take more than 29 bytes, and to keep the labels of each pointer target
-    /// that it follows, where the buffer has more than a few. A target that is kept already ends the walk.
+    /// May grow memory for the labels, and to keep those of each pointer target that it follows, where the buffer has
+    /// more than a few. A target that is kept already ends the walk.
     ///
     /// # Errors
     ///

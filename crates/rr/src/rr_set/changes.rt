@@ -8,7 +8,7 @@ ghost use Rattle.rr.specs.SetUpdates.{has_data_of_one, with_records, without_dat
 ghost use Rattle.rr.specs.contracts.rr_set.RecordSet.{the_row};
 ghost use Rattle.std.specs.Borrow.{follows_so, sem};
 ghost use Rattle.std.specs.List.{list_any};
-ghost use Rattle.std.specs.Prelude.{IfOk, IfSome, OnErr, OnOk, length, option_map, true, ⊤, ◌≡◌, ◌≤◌};
+ghost use Rattle.std.specs.Prelude.{IfOk, IfSome, IsTrue, OnErr, OnOk, is_ok, length, option_map, true, ⊤, ◌≡◌, ◌≤◌};
 ghost use mathlib.Core.Option.{none};
 
 use crate::record::Record;
@@ -248,6 +248,8 @@ impl RecordSet {
             ≡ list_any (has_data_of_one entries.now) self.old.records) }
         ensures ok { OnOk result (self.new ≡ without_data entries.now self.old) }
         ensures err { OnErr result (self.new ≡ self.old) }
+        // One record takes no memory, and so is never refused.
+        ensures one { length entries.now ≡ 1 → IsTrue (is_ok result) }
         // A refusal is `Memory`.
         ensures memory { IsMemory result }
     {

@@ -7,7 +7,7 @@ ghost use Rattle.rr.specs.SetChanges.{entered, has_data_of, joined};
 ghost use Rattle.rr.specs.SetUpdates.{has_data_of_one, without};
 ghost use Rattle.rr.specs.declared.record.Record.{Record as Entry};
 ghost use Rattle.std.specs.List.{list_any};
-ghost use Rattle.std.specs.Prelude.{IfNone, IfOk, IfSome, List, MatchOption, OnErr, OnOk, [], false, filter, length, map, not, vec_capacity, ◌<◌, ◌∷◌, ◌≡◌, ◌≤◌};
+ghost use Rattle.std.specs.Prelude.{IfNone, IfOk, IfSome, IsTrue, List, MatchOption, OnErr, OnOk, [], false, filter, is_ok, length, map, not, vec_capacity, ◌<◌, ◌∷◌, ◌≡◌, ◌≤◌};
 
 use crate::record::Record;
 use crate::rr_set::scanning::{
@@ -141,6 +141,8 @@ impl IndexedRecords {
             ≡ list_any (has_data_of_one entries.now) self.old) }
         ensures ok { OnOk result (self.new ≡ without entries.now self.old) }
         ensures err { OnErr result (self.new ≡ self.old) }
+        // One record takes no memory, and so is never refused.
+        ensures one { length entries.now ≡ 1 → IsTrue (is_ok result) }
     {
         let count = self.records.len();
         take_all(&mut self.records, entries)?;

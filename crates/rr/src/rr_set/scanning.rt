@@ -8,7 +8,7 @@ ghost use Rattle.rr.specs.SetUpdates.{without};
 ghost use Rattle.rr.specs.SortedData.{IsInOrder, IsSortedDataOf};
 ghost use Rattle.rr.specs.declared.record.Record.{Record as Entry};
 ghost use Rattle.std.specs.List.{AllByRecursion, list_any};
-ghost use Rattle.std.specs.Prelude.{IfOk, OnErr, OnOk, [], filter, length, map, nat_eq, not, set, true, ◌&&◌, ◌++◌, ◌<◌, ◌==◌, ◌∷◌, ◌≡◌, ◌≤◌};
+ghost use Rattle.std.specs.Prelude.{IfOk, IsTrue, OnErr, OnOk, [], filter, is_ok, length, map, nat_eq, not, set, true, ◌&&◌, ◌++◌, ◌<◌, ◌==◌, ◌∷◌, ◌≡◌, ◌≤◌};
 
 use crate::record::Record;
 use base::{DNSClass, RecordType};
@@ -169,6 +169,8 @@ pub(super) fn take_data(records: &mut Vec<Record>, entry: &Record)
 pub(super) fn take_all(records: &mut Vec<Record>, entries: &[Record]) -> Result<(), AllocError>
     ensures ok { OnOk result (records.new.items ≡ without entries.now records.old.items) }
     ensures err { OnErr result (records.new.items ≡ records.old.items) }
+    // One record takes no memory, and so is never refused.
+    ensures one { length entries.now ≡ 1 → IsTrue (is_ok result) }
 {
     if let [entry] = entries {
         take_data(records, entry);
