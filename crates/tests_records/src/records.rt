@@ -18,8 +18,10 @@ const WWW: [u8; 31] = [
     0x00, 0x00, 0x01, 0x00, 0x01, 0x00, 0x00, 0x00, 0x05, 0x00, 0x04, 0xC0, 0xA8, 0x00, 0x01,
 ];
 
-/// The owner of that record, and its row.
+/// The owner of that record, one that has memory of its own, and the row of both.
 const OWNER: &str = "www.example.com.";
+
+const LONG_OWNER: &str = "a-name-with-memory-of-its-own.";
 
 const ROW: Row = (Text(RecordType::A, &["192.168.0.1"]), DNSClass::IN, 5);
 
@@ -43,15 +45,15 @@ fn refusal_under(alloc: Global, entry: &Record<A>, limit: u16) -> u8 {
     number
 }
 
-/// That record, its data of its kind.
-fn www(alloc: Global) -> Result<Record<A>, Fail> {
-    let name = Name::parse(alloc, OWNER, None)?;
+/// That record of this owner, its data of its kind.
+fn address_of(alloc: Global, owner: &str) -> Result<Record<A>, Fail> {
+    let name = Name::parse(alloc, owner, None)?;
     Ok(Record::from_rdata(name, 5, A::new(Ipv4Addr::new(192, 168, 0, 1))))
 }
 
 #[test]
 fn a_record_is_written(rt: HostRuntime) -> Result<(), Fail> {
-    let entry = www(rt.alloc())?;
+    let entry = address_of(rt.alloc(), OWNER)?;
     assert!(rt; is_written_as(rt.alloc(), &entry, &WWW));
     assert!(rt; refusal_under(rt.alloc(), &entry, 31) == 0);
     assert!(rt; refusal_under(rt.alloc(), &entry, 30) == 1);
@@ -210,16 +212,17 @@ fn faults_of_records(rt: HostRuntime) {
 
 #[test]
 fn seconds_come_off_down_to_none(rt: HostRuntime) -> Result<(), Fail> {
-    let mut entry = www(rt.alloc())?;
+    let mut entry = address_of(rt.alloc(), OWNER)?;
     assert!(rt; entry.decrement_ttl(7).ttl == 0);
     assert!(rt; entry.dns_class == DNSClass::IN);
     drop(entry);
     Ok(())
 }
 
-/// Whether a record is mapped to itself where the closure answers its data, and to none where it answers none.
-fn is_mapped(alloc: Global) -> Result<bool, Fail> {
-    let mut entry = www(alloc)?;
+/// Whether the record of an owner is mapped to itself where the closure answers its data, and to none where it answers
+/// none.
+fn is_mapped(alloc: Global, owner: &str) -> Result<bool, Fail> {
+    let mut entry = address_of(alloc, owner)?;
     entry.mdns_cache_flush = true;
     let copied: Result<Record<A>, AllocError> = entry.clone();
     let same = is_itself(copied?, &entry);
@@ -242,11 +245,13 @@ fn is_itself(entry: Record<A>, other: &Record<A>) -> bool {
 
 #[test]
 fn a_record_is_mapped(rt: HostRuntime) -> Result<(), Fail> {
-    assert!(rt; is_mapped(rt.alloc())?);
+    for owner in [OWNER, LONG_OWNER] {
+        assert!(rt; is_mapped(rt.alloc(), owner)?, "{owner}");
+    }
     Ok(())
 }
 
-/// Whether what is shown is `www.example.com.` 5 IN A 192.168.0.1, without a cache-flush bit, as this record.
+/// Whether what is shown is 5 IN A 192.168.0.1, without a cache-flush bit, of the owner of this record, and is it.
 fn is_shown(shown: RecordRef<'_, A>, entry: &Record) -> Result<bool, ProtoError> {
     let address = shown.data().address() == Ipv4Addr::new(192, 168, 0, 1);
     let typed = shown.record_type() == RecordType::A && shown.dns_class() == DNSClass::IN;
@@ -273,10 +278,12 @@ fn is_borrowed(entry: &Record) -> Result<bool, ProtoError> {
 
 #[test]
 fn a_record_is_borrowed_by_its_kind(rt: HostRuntime) -> Result<(), Fail> {
-    let entry = record(rt.alloc(), OWNER, ROW)?;
-    let borrowed = is_borrowed(&entry);
-    drop(entry);
-    assert!(rt; borrowed?);
+    for owner in [OWNER, LONG_OWNER] {
+        let entry = record(rt.alloc(), owner, ROW)?;
+        let borrowed = is_borrowed(&entry);
+        drop(entry);
+        assert!(rt; borrowed?, "{owner}");
+    }
     Ok(())
 }
 

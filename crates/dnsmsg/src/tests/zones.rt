@@ -31,6 +31,21 @@ const ZONES: &[Row] = &[
             "$ORIGIN a.\nc.a. 60 CH TXT \"x\"\nc.a. 60 CH TXT \"y\"\ns.a. 60 IN SRV 1 2 443 w.a.\nt.a. 60 IN TXT \"x;y\" \"z\\\"q\"\nv6.a. 60 IN AAAA 2001:db8::1:0:0:1\n",
         ],
     ),
+    // an owner, data and an origin that have memory of their own
+    (
+        &["zone", "a-name-with-memory-of-its-own."],
+        &[
+            "another-name-with-memory-of-its-own 60 A 192.0.2.1\nanother-name-with-memory-of-its-own A 192.0.2.2\n MX 10 a-name-with-memory-of-its-own.\n MX 20 mail\n",
+        ],
+        0,
+        &[
+            "$ORIGIN a-name-with-memory-of-its-own.\n",
+            "another-name-with-memory-of-its-own.a-name-with-memory-of-its-own. 60 IN A 192.0.2.1\n",
+            "another-name-with-memory-of-its-own.a-name-with-memory-of-its-own. 60 IN A 192.0.2.2\n",
+            "another-name-with-memory-of-its-own.a-name-with-memory-of-its-own. 60 IN MX 10 a-name-with-memory-of-its-own.\n",
+            "another-name-with-memory-of-its-own.a-name-with-memory-of-its-own. 60 IN MX 20 mail.a-name-with-memory-of-its-own.\n",
+        ],
+    ),
     // owners and TTLs
     (
         &["zone", "-"],

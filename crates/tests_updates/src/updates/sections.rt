@@ -1,6 +1,6 @@
 //! What is added to a message through `UpdateMessage` stands in its sections, and is seen through it.
 
-use super::{host, hosts, name};
+use super::{EXAMPLE, HOST, host, hosts, zone_and_name};
 use base::{Name, RecordType};
 use base_data::TSIG;
 use examples::refusal::Refusal;
@@ -12,12 +12,13 @@ use std::test::Fail;
 
 /// Adds the zone `example.`, three prerequisites, three updates and an additional record, with TTLs from 0 to 6.
 fn fill(alloc: Global, message: &mut Message) -> Result<(), Refusal> {
-    message.add_zone(Query::query(name(alloc, "example.")?, RecordType::SOA))?;
-    message.add_pre_requisite(host(alloc, 0, 1)?)?;
-    message.add_pre_requisites(hosts(alloc, 1, 2)?.into_iter())?;
-    message.add_update(host(alloc, 3, 1)?)?;
-    message.add_updates(hosts(alloc, 4, 2)?.into_iter())?;
-    Ok(message.add_additional(host(alloc, 6, 1)?)?)
+    let (zone, owner) = zone_and_name(alloc, EXAMPLE, HOST)?;
+    message.add_zone(Query::query(zone, RecordType::SOA))?;
+    message.add_pre_requisite(host(&owner, 0, 1)?)?;
+    message.add_pre_requisites(hosts(&owner, 1, 2)?.into_iter())?;
+    message.add_update(host(&owner, 3, 1)?)?;
+    message.add_updates(hosts(&owner, 4, 2)?.into_iter())?;
+    Ok(message.add_additional(host(&owner, 6, 1)?)?)
 }
 
 /// Whether the records have these TTLs.
