@@ -10,7 +10,7 @@ use std::alloc::{AllocError, Global};
 use std::cmp::Ordering::{self, Equal, Greater, Less};
 use std::net::Ipv4Addr;
 use std::test::Fail;
-use test_tools::forms::{is_read_with_text, is_written_as, read};
+use test_tools::forms::{is_read_with_text, is_written_as, is_written_back, read};
 
 /// The bytes of an address record of `www.example.com.`.
 const WWW: [u8; 31] = [
@@ -124,6 +124,82 @@ fn records_are_written_and_read(rt: HostRuntime) -> Result<(), Fail> {
             is_read_with_text::<Record>(rt.alloc(), bytes, text),
             "{text}"
         );
+    }
+    Ok(())
+}
+
+/// Types, and data of them on the wire, without names that are written as pointers.
+const DATA: &[(RecordType, &'static [u8])] = &[
+    (RecordType::A, &[192, 0, 2, 1]),
+    (
+        RecordType::AAAA,
+        &[0x20, 1, 0x0D, 0xB8, 0, 0, 0, 0, 0, 1, 0, 0, 0, 0, 0, 1],
+    ),
+    (RecordType::NS, b"\x01b\0"),
+    (RecordType::CNAME, b"\x01b\0"),
+    (RecordType::PTR, b"\x01b\0"),
+    (RecordType::ANAME, b"\x01b\0"),
+    (RecordType::MX, b"\0\x0A\x01b\0"),
+    (
+        RecordType::SOA,
+        b"\x01b\0\x01c\0\0\0\0\x01\0\0\0\x02\0\0\0\x03\0\0\0\x04\0\0\0\x05",
+    ),
+    (RecordType::SRV, b"\0\x01\0\x02\x01\xBB\x01b\0"),
+    (RecordType::TXT, b"\x01x\x02yz"),
+    (RecordType::NULL, &[1, 2, 3]),
+    (RecordType::OPT, &[0, 3, 0, 1, 4]),
+    (RecordType::TSIG, &[0xAA]),
+    (RecordType::Unknown(11), &[1, 2]),
+];
+
+/// Appends a record to bytes: its owner, of one label of `len` letters or the root, its type, class 512, a TTL and data.
+fn push_record(
+    bytes: &mut Vec<u8>,
+    len: u8,
+    (record_type, data): (RecordType, &[u8]),
+) -> Result<(), AllocError> {
+    if len > 0 {
+        bytes.push(len)?;
+        bytes.resize(1 + usize::from(len), b'a')?;
+    }
+    bytes.push(0)?;
+    bytes.extend_from_slice(&u16::from(record_type).to_be_bytes())?;
+    bytes.extend_from_slice(&[2, 0, 0, 0, 0, 60])?;
+    let len = data.len().min(65_535) as u16;
+    bytes.extend_from_slice(&len.to_be_bytes())?;
+    bytes.extend_from_slice(data)
+}
+
+/// Whether such a record is read, and written as the same bytes.
+fn is_written_back_of(
+    alloc: Global,
+    len: u8,
+    data: (RecordType, &[u8]),
+) -> Result<bool, AllocError> {
+    let mut bytes = Vec::new(alloc);
+    push_record(&mut bytes, len, data)?;
+    let is_back = is_written_back::<Record>(alloc, &bytes);
+    drop(bytes);
+    Ok(is_back)
+}
+
+#[test]
+fn records_of_each_type_are_written_after_owners_of_each_length(
+    rt: HostRuntime,
+) -> Result<(), AllocError> {
+    for &(record_type, data) in DATA {
+        // the owner of an OPT record is the root
+        let longest = if record_type == RecordType::OPT {
+            0
+        } else {
+            63
+        };
+        for len in 0..=longest {
+            assert!(rt;
+                is_written_back_of(rt.alloc(), len, (record_type, data))?,
+                "{record_type} after {len} letters"
+            );
+        }
     }
     Ok(())
 }

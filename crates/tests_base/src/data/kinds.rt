@@ -29,8 +29,8 @@ fn is_read(alloc: Global, record_type: RecordType, wire: &[u8], any: &RData) -> 
     is_this(RData::read(&mut decoder, record_type, len), any)
 }
 
-/// Whether a copy of data is data of any record of that type, is taken out again, and is read of these bytes where
-/// there are any.
+/// Whether a copy of data is data of any record of that type, is taken out again, is read of these bytes where there are
+/// any, and is equal to its own copy.
 fn is_taken_out<R: RecordData>(
     alloc: Global,
     value: &R,
@@ -42,8 +42,7 @@ fn is_taken_out<R: RecordData>(
             let any = copy.into_rdata();
             let is_same = any.record_type() == record_type && holds(&any, value);
             let is_read = wire.is_empty() || is_read(alloc, record_type, wire, &any);
-            drop(any);
-            is_same && is_read
+            is_copied(any) && is_same && is_read
         }
         Err(_) => false,
     }

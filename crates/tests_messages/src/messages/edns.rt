@@ -92,9 +92,12 @@ fn is_of_record(edns: &Edns, ttl: u32) -> Result<bool, ProtoError> {
 
 #[test]
 fn a_record_is_made_of_edns(rt: HostRuntime) -> Result<(), ProtoError> {
-    let edns = edns(rt.alloc());
-    let is_of_record = is_of_record(&edns, 0x0140_8001);
-    drop(edns);
-    assert!(rt; is_of_record?);
+    let plain = edns(rt.alloc());
+    let is_of_record_without = is_of_record(&plain, 0x0140_8001);
+    drop(plain);
+    let with_option = edns_with_option(rt.alloc())?;
+    let is_of_record_with = is_of_record(&with_option, 0);
+    drop(with_option);
+    assert!(rt; is_of_record_without? && is_of_record_with?);
     Ok(())
 }

@@ -9,7 +9,10 @@ use rr::{Record, RecordSet};
 use std::alloc::{AllocError, Global};
 use std::test::Fail;
 
-/// How many addresses `www.example.` has at first, from 192.0.2.1 on.
+/// The owner of the set, whose name has memory of its own.
+const OWNER: &str = "a-name-with-memory-of-its-own.example.";
+
+/// How many addresses it has at first, from 192.0.2.1 on.
 const FIRST: u8 = 40;
 
 /// The deletions are of the first of them, so many.
@@ -23,7 +26,7 @@ fn zone(alloc: Global) -> Result<String, AllocError> {
     let mut text = String::from_str(alloc, "@ 3600 SOA ns hostmaster 1 2 3 4 5\n@ NS ns\n")?;
     for place in 0..FIRST {
         let last = place.wrapping_add(1);
-        write!(text, "www 300 A 192.0.2.{last}\n")?;
+        write!(text, "{OWNER} 300 A 192.0.2.{last}\n")?;
     }
     Ok(text)
 }
@@ -32,10 +35,12 @@ fn zone(alloc: Global) -> Result<String, AllocError> {
 const UPDATE: &[u8] =
     b"\x00\x07\x28\x00\x00\x01\x00\x00\x00\x4B\x00\x00\x07example\x00\x00\x06\x00\x01";
 
-/// A deletion of an address of `www.example.`, and an addition, up to the address's last byte.
-const DELETION: &[u8] = b"\x03www\xC0\x0C\x00\x01\x00\xFE\x00\x00\x00\x00\x00\x04\xC0\x00\x02";
+/// A deletion of an address of that owner, and an addition, up to the address's last byte.
+const DELETION: &[u8] =
+    b"\x1Da-name-with-memory-of-its-own\xC0\x0C\x00\x01\x00\xFE\x00\x00\x00\x00\x00\x04\xC0\x00\x02";
 
-const ADDITION: &[u8] = b"\x03www\xC0\x0C\x00\x01\x00\x01\x00\x00\x00\x3C\x00\x04\xC0\x00\x02";
+const ADDITION: &[u8] =
+    b"\x1Da-name-with-memory-of-its-own\xC0\x0C\x00\x01\x00\x01\x00\x00\x00\x3C\x00\x04\xC0\x00\x02";
 
 /// Adds the record of an address to those of an update.
 fn push_record(update: &mut Vec<u8>, change: &[u8], last: u8) -> Result<(), AllocError> {
@@ -91,7 +96,7 @@ fn has_list(set: &RecordSet, list: &[u8]) -> bool {
 
 /// Whether an update leaves the addresses of the list.
 fn leaves(alloc: Global, update: &[u8], list: &[u8]) -> Result<bool, Refusal> {
-    let key = key(alloc, "www.example.", RecordType::A)?;
+    let key = key(alloc, OWNER, RecordType::A)?;
     let text = zone(alloc)?;
     let (code, sets) = apply_bytes(alloc, &text, update)?;
     Ok(match sets.get(&key) {

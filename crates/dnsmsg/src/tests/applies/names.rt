@@ -1,6 +1,7 @@
 //! Updates of names that are spelled in other letters, and of names that have memory of their own.
 
-use super::{Applied, CHANGE, CNAME, SHOWN, SHOWN_WWW, SOA_AND_NS, WWW, all_leave};
+use super::{ASK, Applied, CHANGE, CNAME, SHOWN, SHOWN_WWW, SOA_AND_NS, WWW, all_leave};
+use crate::tests::{Row, all_give};
 use std::alloc::AllocError;
 
 /// Updates, the texts of zones, and what is printed: what replaces equal data has the spelling of the update's record,
@@ -44,11 +45,13 @@ const SPELLED: &[Applied] = &[
     ),
 ];
 
-/// The two addresses of an owner whose name has memory of its own, the owner on the wire, and how the second is printed.
+/// The two addresses of an owner whose name has memory of its own, the owner on the wire, and how both are printed.
 const LONG: &str =
     "a-name-with-memory-of-its-own 300 A 192.0.2.1\na-name-with-memory-of-its-own A 192.0.2.2\n";
 
 const LONG_OWNER: &str = "1D612D6E616D652D776974682D6D656D6F72792D6F662D6974732D6F776E C00C";
+
+const SHOWN_FIRST: &str = "a-name-with-memory-of-its-own.example. 300 IN A 192.0.2.1\n";
 
 const SHOWN_LONG: &str = "a-name-with-memory-of-its-own.example. 300 IN A 192.0.2.2\n";
 
@@ -88,6 +91,78 @@ const LONG_NAMES: &[Applied] = &[
     ),
 ];
 
+/// The same of prerequisites and changes of that owner that stand alone (RFC 2136, 2.4 and 2.5).
+const LONG_ALONE: &[Applied] = &[
+    (
+        &[ASK, LONG_OWNER, "00FF 00FF 00000000 0000"],
+        &[SOA_AND_NS, WWW],
+        &["NXDomain\n", SHOWN, SHOWN_WWW],
+    ),
+    (
+        &[ASK, LONG_OWNER, "0001 00FE 00000000 0000"],
+        &[SOA_AND_NS, LONG],
+        &["YXRRSet\n", SHOWN, SHOWN_FIRST, SHOWN_LONG],
+    ),
+    // its set goes
+    (
+        &[CHANGE, LONG_OWNER, "0001 00FF 00000000 0000"],
+        &[SOA_AND_NS, LONG, WWW],
+        &["NoError\n", SHOWN, SHOWN_WWW],
+    ),
+    // it is given a CNAME, but for one that has addresses
+    (
+        &[CHANGE, LONG_OWNER, "0005 0001 0000003C 0002 C00C"],
+        &[SOA_AND_NS],
+        &[
+            "NoError\n",
+            SHOWN,
+            "a-name-with-memory-of-its-own.example. 60 IN CNAME example.\n",
+        ],
+    ),
+    (
+        &[CHANGE, LONG_OWNER, "0005 0001 0000003C 0002 C00C"],
+        &[SOA_AND_NS, LONG],
+        &["NoError\n", SHOWN, SHOWN_FIRST, SHOWN_LONG],
+    ),
+];
+
+/// Additions to a zone that has nothing, twelve owners at once.
+const OWNERS: &[Applied] = &[(
+    &[
+        "0007 2800 0001 0000 000C 0000 076578616D706C65 00 0006 0001",
+        "0161 C00C 0001 0001 0000003C 0004 C0000201 0162 C00C 0001 0001 0000003C 0004 C0000201\
+         0163 C00C 0001 0001 0000003C 0004 C0000201 0164 C00C 0001 0001 0000003C 0004 C0000201\
+         0165 C00C 0001 0001 0000003C 0004 C0000201 0166 C00C 0001 0001 0000003C 0004 C0000201\
+         0167 C00C 0001 0001 0000003C 0004 C0000201 0168 C00C 0001 0001 0000003C 0004 C0000201\
+         0169 C00C 0001 0001 0000003C 0004 C0000201 016A C00C 0001 0001 0000003C 0004 C0000201\
+         016B C00C 0001 0001 0000003C 0004 C0000201 016C C00C 0001 0001 0000003C 0004 C0000201",
+    ],
+    &[],
+    &[
+        "NoError\n$ORIGIN example.\n\
+         a.example. 60 IN A 192.0.2.1\nb.example. 60 IN A 192.0.2.1\nc.example. 60 IN A 192.0.2.1\n\
+         d.example. 60 IN A 192.0.2.1\ne.example. 60 IN A 192.0.2.1\nf.example. 60 IN A 192.0.2.1\n\
+         g.example. 60 IN A 192.0.2.1\nh.example. 60 IN A 192.0.2.1\ni.example. 60 IN A 192.0.2.1\n\
+         j.example. 60 IN A 192.0.2.1\nk.example. 60 IN A 192.0.2.1\nl.example. 60 IN A 192.0.2.1\n",
+    ],
+)];
+
+/// The last name server of a zone whose own name has memory of its own stays.
+const LONG_ZONE: &[Row] = &[(
+    &[
+        "apply",
+        "a-name-with-memory-of-its-own.",
+        "0007 2800 0001 0000 0001 0000 1D612D6E616D652D776974682D6D656D6F72792D6F662D6974732D6F776E 00 0006 0001\
+         C00C 0002 00FE 00000000 0005 026E73 C00C",
+    ],
+    &["@ 60 NS ns\n"],
+    0,
+    &[
+        "NoError\n$ORIGIN a-name-with-memory-of-its-own.\n\
+         a-name-with-memory-of-its-own. 60 IN NS ns.a-name-with-memory-of-its-own.\n",
+    ],
+)];
+
 #[test]
 fn updates_keep_their_spelling(rt: HostRuntime) -> Result<(), AllocError> {
     all_leave(&rt, SPELLED)
@@ -95,5 +170,16 @@ fn updates_keep_their_spelling(rt: HostRuntime) -> Result<(), AllocError> {
 
 #[test]
 fn updates_of_long_names(rt: HostRuntime) -> Result<(), AllocError> {
-    all_leave(&rt, LONG_NAMES)
+    all_leave(&rt, LONG_NAMES)?;
+    all_leave(&rt, LONG_ALONE)
+}
+
+#[test]
+fn updates_of_a_zone_of_a_long_name(rt: HostRuntime) -> Result<(), AllocError> {
+    all_give(&rt, LONG_ZONE)
+}
+
+#[test]
+fn updates_of_a_zone_without_sets(rt: HostRuntime) -> Result<(), AllocError> {
+    all_leave(&rt, OWNERS)
 }
