@@ -51,13 +51,25 @@ fn address_of(alloc: Global, owner: &str) -> Result<Record<A>, Fail> {
     Ok(Record::from_rdata(name, 5, A::new(Ipv4Addr::new(192, 168, 0, 1))))
 }
 
+/// Owners, and how long their records are. Before the data of the second stand 32 bytes, for which a buffer has room.
+const LENGTHS: &[(&'static str, u16)] = &[
+    (OWNER, 31),
+    ("a-name-of-20-letters.", 36),
+    (LONG_OWNER, 45),
+];
+
 #[test]
 fn a_record_is_written(rt: HostRuntime) -> Result<(), Fail> {
     let entry = address_of(rt.alloc(), OWNER)?;
     assert!(rt; is_written_as(rt.alloc(), &entry, &WWW));
-    assert!(rt; refusal_under(rt.alloc(), &entry, 31) == 0);
-    assert!(rt; refusal_under(rt.alloc(), &entry, 30) == 1);
     drop(entry);
+    for &(owner, len) in LENGTHS {
+        let entry = address_of(rt.alloc(), owner)?;
+        let refused = refusal_under(rt.alloc(), &entry, len - 1);
+        let written = refusal_under(rt.alloc(), &entry, len);
+        drop(entry);
+        assert!(rt; (refused, written) == (1, 0), "{owner}");
+    }
     Ok(())
 }
 
@@ -147,12 +159,13 @@ const DATA: &[(RecordType, &'static [u8])] = &[
     (RecordType::SRV, b"\0\x01\0\x02\x01\xBB\x01b\0"),
     (RecordType::TXT, b"\x01x\x02yz"),
     (RecordType::NULL, &[1, 2, 3]),
-    (RecordType::OPT, &[0, 3, 0, 1, 4]),
+    (RecordType::OPT, &[0, 3, 0, 4, 1, 2, 3, 4]),
     (RecordType::TSIG, &[0xAA]),
     (RecordType::Unknown(11), &[1, 2]),
 ];
 
-/// Appends a record to bytes: its owner, of one label of `len` letters or the root, its type, class 512, a TTL and data.
+/// Appends a record to bytes: its owner, of one label of `len` letters or the root, its type, class 512, a TTL and
+/// data.
 fn push_record(
     bytes: &mut Vec<u8>,
     len: u8,
@@ -229,9 +242,9 @@ fn an_opt_record_has_a_payload_size(rt: HostRuntime) {
     assert!(rt; is_empty_opt(rt.alloc(), &wide, 0x8008, &wide));
 }
 
-/// The root 0 ANY TSIG AA.
+/// The root 0 ANY TSIG of eight bytes AA.
 fn signature(alloc: Global) -> Result<Record<TSIG>, Fail> {
-    let rdata = TSIG::new(vec![in alloc; 0xAA]?);
+    let rdata = TSIG::new(vec![in alloc; 0xAA; 8]?);
     let mut entry = Record::from_rdata(Name::root(alloc), 0, rdata);
     entry.dns_class = DNSClass::ANY;
     Ok(entry)
@@ -250,8 +263,8 @@ fn signature_stands_as(alloc: Global, bytes: &[u8]) -> Result<bool, Fail> {
 
 #[test]
 fn a_signature_is_written_by_its_kind(rt: HostRuntime) -> Result<(), Fail> {
-    let bytes = [0, 0, 0xFA, 0, 0xFF, 0, 0, 0, 0, 0, 1, 0xAA];
-    assert!(rt; signature_stands_as(rt.alloc(), &bytes)?);
+    let bytes = b"\0\0\xFA\0\xFF\0\0\0\0\0\x08\xAA\xAA\xAA\xAA\xAA\xAA\xAA\xAA";
+    assert!(rt; signature_stands_as(rt.alloc(), bytes)?);
     Ok(())
 }
 

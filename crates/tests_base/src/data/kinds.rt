@@ -29,8 +29,8 @@ fn is_read(alloc: Global, record_type: RecordType, wire: &[u8], any: &RData) -> 
     is_this(RData::read(&mut decoder, record_type, len), any)
 }
 
-/// Whether a copy of data is data of any record of that type, is taken out again, is read of these bytes where there are
-/// any, and is equal to its own copy.
+/// Whether a copy of data is data of any record of that type, is taken out again, is read of these bytes where there
+/// are any, and is equal to its own copy.
 fn is_taken_out<R: RecordData>(
     alloc: Global,
     value: &R,

@@ -73,8 +73,10 @@ fn options_are_put_and_found(rt: HostRuntime) -> Result<(), ProtoError> {
     let edns = edns_with_option(rt.alloc())?;
     let is_found = edns.option(65001).is_some() && edns.option(65002).is_none();
     let len = edns.options().as_ref().len();
+    let bytes = b"\x00\x00\x29\x02\x00\x00\x00\x00\x00\x00\x06\xFD\xE9\x00\x02\x01\x02";
+    let is_written = is_written_as(rt.alloc(), &edns, bytes);
     drop(edns);
-    assert!(rt; is_found && len == 1);
+    assert!(rt; is_found && len == 1 && is_written);
     Ok(())
 }
 

@@ -43,7 +43,8 @@ fn is_asked(alloc: Global, bytes: &[u8], queries: &Vec<Query>, end: usize) -> bo
     same && decoder.index() == end
 }
 
-/// Whether these bytes, all of them, are a message of one answer that is its copy, and whose question takes so many bytes.
+/// Whether these bytes, all of them, are a message of one answer that is equal to its copy, and whose question takes so
+/// many bytes.
 fn is_read_at_its_place(alloc: Global, wire: &[u8], len: usize) -> bool {
     let mut decoder = BinDecoder::new(alloc, wire);
     let read = Message::read(&mut decoder);
