@@ -65,7 +65,7 @@ fn a_record_is_written(rt: HostRuntime) -> Result<(), Fail> {
     drop(entry);
     for &(owner, len) in LENGTHS {
         let entry = address_of(rt.alloc(), owner)?;
-        let refused = refusal_under(rt.alloc(), &entry, len - 1);
+        let refused = refusal_under(rt.alloc(), &entry, len.saturating_sub(1));
         let written = refusal_under(rt.alloc(), &entry, len);
         drop(entry);
         assert!(rt; (refused, written) == (1, 0), "{owner}");
