@@ -51,7 +51,7 @@ fn address_of(alloc: Global, owner: &str) -> Result<Record<A>, Fail> {
     Ok(Record::from_rdata(name, 5, A::new(Ipv4Addr::new(192, 168, 0, 1))))
 }
 
-/// Owners, and how long their records are. Before the data of the second stand 32 bytes, for which a buffer has room.
+/// Owners, and how long their records are.
 const LENGTHS: &[(&'static str, u16)] = &[
     (OWNER, 31),
     ("a-name-of-20-letters.", 36),
