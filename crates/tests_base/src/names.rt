@@ -192,9 +192,24 @@ fn is_copied_relative(mut name: Name, labels: &[&[u8]]) -> bool {
     same
 }
 
+/// Names and their labels: up to 29 bytes stand inside a name, and more in memory of their own.
+const COPIED: &[(&'static [u8], &'static [&'static [u8]])] = &[
+    (b"\x01*\x03com\0", &[b"*", b"com"]),
+    (
+        b"\x1Ca-name-that-stands-in-itself\0",
+        &[b"a-name-that-stands-in-itself"],
+    ),
+    (
+        b"\x1Da-name-with-memory-of-its-own\0",
+        &[b"a-name-with-memory-of-its-own"],
+    ),
+];
+
 #[test]
 fn a_copy_has_the_flag_and_the_labels(rt: HostRuntime) -> Result<(), DecodeError> {
-    let (name, _) = read_at(rt.alloc(), b"\x01*\x03com\0", 0)?;
-    assert!(rt; is_copied_relative(name, &[b"*", b"com"]));
+    for (i, &(bytes, labels)) in COPIED.iter().enumerate() {
+        let (name, _) = read_at(rt.alloc(), bytes, 0)?;
+        assert!(rt; is_copied_relative(name, labels), "row {i}");
+    }
     Ok(())
 }

@@ -235,8 +235,11 @@ fn debug_texts(rt: HostRuntime) -> Result<(), ParseError> {
     let name = Name::parse(rt.alloc(), "www.Example.com.", None)?;
     let is_name_shown = is_shown(rt.alloc(), &name, "Name(\"www.Example.com.\")");
     drop(name);
-    let is_type_shown = is_shown(rt.alloc(), &RecordType::Unknown(7), "Unknown(7)");
-    let is_class_shown = is_shown(rt.alloc(), &DNSClass::OPT(512), "OPT(512)");
-    assert!(rt; is_name_shown && is_type_shown && is_class_shown);
+    let are_types_shown = is_shown(rt.alloc(), &RecordType::Unknown(7), "Unknown(7)")
+        && is_shown(rt.alloc(), &RecordType::MX, "MX");
+    let are_classes_shown = is_shown(rt.alloc(), &DNSClass::OPT(512), "OPT(512)")
+        && is_shown(rt.alloc(), &DNSClass::Unknown(7), "Unknown(7)")
+        && is_shown(rt.alloc(), &DNSClass::IN, "IN");
+    assert!(rt; is_name_shown && are_types_shown && are_classes_shown);
     Ok(())
 }

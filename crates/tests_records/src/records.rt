@@ -10,7 +10,7 @@ use std::alloc::{AllocError, Global};
 use std::cmp::Ordering::{self, Equal, Greater, Less};
 use std::net::Ipv4Addr;
 use std::test::Fail;
-use test_tools::forms::{is_read_with_text, is_written_as, read};
+use test_tools::forms::{is_read_with_text, is_written_as, is_written_back, read};
 
 /// The bytes of an address record of `www.example.com.`.
 const WWW: [u8; 31] = [
@@ -18,8 +18,10 @@ const WWW: [u8; 31] = [
     0x00, 0x00, 0x01, 0x00, 0x01, 0x00, 0x00, 0x00, 0x05, 0x00, 0x04, 0xC0, 0xA8, 0x00, 0x01,
 ];
 
-/// The owner of that record, and its row.
+/// The owner of that record, one that has memory of its own, and the row of both.
 const OWNER: &str = "www.example.com.";
+
+const LONG_OWNER: &str = "a-name-with-memory-of-its-own.";
 
 const ROW: Row = (Text(RecordType::A, &["192.168.0.1"]), DNSClass::IN, 5);
 
@@ -43,19 +45,31 @@ fn refusal_under(alloc: Global, entry: &Record<A>, limit: u16) -> u8 {
     number
 }
 
-/// That record, its data of its kind.
-fn www(alloc: Global) -> Result<Record<A>, Fail> {
-    let name = Name::parse(alloc, OWNER, None)?;
+/// That record of this owner, its data of its kind.
+fn address_of(alloc: Global, owner: &str) -> Result<Record<A>, Fail> {
+    let name = Name::parse(alloc, owner, None)?;
     Ok(Record::from_rdata(name, 5, A::new(Ipv4Addr::new(192, 168, 0, 1))))
 }
 
+/// Owners, and how long their records are.
+const LENGTHS: &[(&'static str, u16)] = &[
+    (OWNER, 31),
+    ("a-name-of-20-letters.", 36),
+    (LONG_OWNER, 45),
+];
+
 #[test]
 fn a_record_is_written(rt: HostRuntime) -> Result<(), Fail> {
-    let entry = www(rt.alloc())?;
+    let entry = address_of(rt.alloc(), OWNER)?;
     assert!(rt; is_written_as(rt.alloc(), &entry, &WWW));
-    assert!(rt; refusal_under(rt.alloc(), &entry, 31) == 0);
-    assert!(rt; refusal_under(rt.alloc(), &entry, 30) == 1);
     drop(entry);
+    for &(owner, len) in LENGTHS {
+        let entry = address_of(rt.alloc(), owner)?;
+        let refused = refusal_under(rt.alloc(), &entry, len.saturating_sub(1));
+        let written = refusal_under(rt.alloc(), &entry, len);
+        drop(entry);
+        assert!(rt; (refused, written) == (1, 0), "{owner}");
+    }
     Ok(())
 }
 
@@ -126,6 +140,83 @@ fn records_are_written_and_read(rt: HostRuntime) -> Result<(), Fail> {
     Ok(())
 }
 
+/// Types, and data of them on the wire, without names that are written as pointers.
+const DATA: &[(RecordType, &'static [u8])] = &[
+    (RecordType::A, &[192, 0, 2, 1]),
+    (
+        RecordType::AAAA,
+        &[0x20, 1, 0x0D, 0xB8, 0, 0, 0, 0, 0, 1, 0, 0, 0, 0, 0, 1],
+    ),
+    (RecordType::NS, b"\x01b\0"),
+    (RecordType::CNAME, b"\x01b\0"),
+    (RecordType::PTR, b"\x01b\0"),
+    (RecordType::ANAME, b"\x01b\0"),
+    (RecordType::MX, b"\0\x0A\x01b\0"),
+    (
+        RecordType::SOA,
+        b"\x01b\0\x01c\0\0\0\0\x01\0\0\0\x02\0\0\0\x03\0\0\0\x04\0\0\0\x05",
+    ),
+    (RecordType::SRV, b"\0\x01\0\x02\x01\xBB\x01b\0"),
+    (RecordType::TXT, b"\x01x\x02yz"),
+    (RecordType::NULL, &[1, 2, 3]),
+    (RecordType::OPT, &[0, 3, 0, 4, 1, 2, 3, 4]),
+    (RecordType::TSIG, &[0xAA]),
+    (RecordType::Unknown(11), &[1, 2]),
+];
+
+/// Appends a record to bytes: its owner, of one label of `len` letters or the root, its type, class 512, a TTL and
+/// data.
+fn push_record(
+    bytes: &mut Vec<u8>,
+    len: u8,
+    (record_type, data): (RecordType, &[u8]),
+) -> Result<(), AllocError> {
+    if len > 0 {
+        bytes.push(len)?;
+        bytes.resize(1 + usize::from(len), b'a')?;
+    }
+    bytes.push(0)?;
+    bytes.extend_from_slice(&u16::from(record_type).to_be_bytes())?;
+    bytes.extend_from_slice(&[2, 0, 0, 0, 0, 60])?;
+    let len = data.len().min(65_535) as u16;
+    bytes.extend_from_slice(&len.to_be_bytes())?;
+    bytes.extend_from_slice(data)
+}
+
+/// Whether such a record is read, and written as the same bytes.
+fn is_written_back_of(
+    alloc: Global,
+    len: u8,
+    data: (RecordType, &[u8]),
+) -> Result<bool, AllocError> {
+    let mut bytes = Vec::new(alloc);
+    push_record(&mut bytes, len, data)?;
+    let is_back = is_written_back::<Record>(alloc, &bytes);
+    drop(bytes);
+    Ok(is_back)
+}
+
+#[test]
+fn records_of_each_type_are_written_after_owners_of_each_length(
+    rt: HostRuntime,
+) -> Result<(), AllocError> {
+    for &(record_type, data) in DATA {
+        // the owner of an OPT record is the root
+        let longest = if record_type == RecordType::OPT {
+            0
+        } else {
+            63
+        };
+        for len in 0..=longest {
+            assert!(rt;
+                is_written_back_of(rt.alloc(), len, (record_type, data))?,
+                "{record_type} after {len} letters"
+            );
+        }
+    }
+    Ok(())
+}
+
 /// Whether these bytes are read as an empty OPT record of this payload size, which flushes no cache, and is written as
 /// `written`.
 fn is_empty_opt(alloc: Global, bytes: &[u8], payload: u16, written: &[u8]) -> bool {
@@ -151,9 +242,9 @@ fn an_opt_record_has_a_payload_size(rt: HostRuntime) {
     assert!(rt; is_empty_opt(rt.alloc(), &wide, 0x8008, &wide));
 }
 
-/// The root 0 ANY TSIG AA.
+/// The root 0 ANY TSIG of eight bytes AA.
 fn signature(alloc: Global) -> Result<Record<TSIG>, Fail> {
-    let rdata = TSIG::new(vec![in alloc; 0xAA]?);
+    let rdata = TSIG::new(vec![in alloc; 0xAA; 8]?);
     let mut entry = Record::from_rdata(Name::root(alloc), 0, rdata);
     entry.dns_class = DNSClass::ANY;
     Ok(entry)
@@ -172,8 +263,8 @@ fn signature_stands_as(alloc: Global, bytes: &[u8]) -> Result<bool, Fail> {
 
 #[test]
 fn a_signature_is_written_by_its_kind(rt: HostRuntime) -> Result<(), Fail> {
-    let bytes = [0, 0, 0xFA, 0, 0xFF, 0, 0, 0, 0, 0, 1, 0xAA];
-    assert!(rt; signature_stands_as(rt.alloc(), &bytes)?);
+    let bytes = b"\0\0\xFA\0\xFF\0\0\0\0\0\x08\xAA\xAA\xAA\xAA\xAA\xAA\xAA\xAA";
+    assert!(rt; signature_stands_as(rt.alloc(), bytes)?);
     Ok(())
 }
 
@@ -210,16 +301,17 @@ fn faults_of_records(rt: HostRuntime) {
 
 #[test]
 fn seconds_come_off_down_to_none(rt: HostRuntime) -> Result<(), Fail> {
-    let mut entry = www(rt.alloc())?;
+    let mut entry = address_of(rt.alloc(), OWNER)?;
     assert!(rt; entry.decrement_ttl(7).ttl == 0);
     assert!(rt; entry.dns_class == DNSClass::IN);
     drop(entry);
     Ok(())
 }
 
-/// Whether a record is mapped to itself where the closure answers its data, and to none where it answers none.
-fn is_mapped(alloc: Global) -> Result<bool, Fail> {
-    let mut entry = www(alloc)?;
+/// Whether the record of an owner is mapped to itself where the closure answers its data, and to none where it answers
+/// none.
+fn is_mapped(alloc: Global, owner: &str) -> Result<bool, Fail> {
+    let mut entry = address_of(alloc, owner)?;
     entry.mdns_cache_flush = true;
     let copied: Result<Record<A>, AllocError> = entry.clone();
     let same = is_itself(copied?, &entry);
@@ -242,11 +334,13 @@ fn is_itself(entry: Record<A>, other: &Record<A>) -> bool {
 
 #[test]
 fn a_record_is_mapped(rt: HostRuntime) -> Result<(), Fail> {
-    assert!(rt; is_mapped(rt.alloc())?);
+    for owner in [OWNER, LONG_OWNER] {
+        assert!(rt; is_mapped(rt.alloc(), owner)?, "{owner}");
+    }
     Ok(())
 }
 
-/// Whether what is shown is `www.example.com.` 5 IN A 192.168.0.1, without a cache-flush bit, as this record.
+/// Whether what is shown is 5 IN A 192.168.0.1, without a cache-flush bit, of the owner of this record, and is it.
 fn is_shown(shown: RecordRef<'_, A>, entry: &Record) -> Result<bool, ProtoError> {
     let address = shown.data().address() == Ipv4Addr::new(192, 168, 0, 1);
     let typed = shown.record_type() == RecordType::A && shown.dns_class() == DNSClass::IN;
@@ -273,10 +367,12 @@ fn is_borrowed(entry: &Record) -> Result<bool, ProtoError> {
 
 #[test]
 fn a_record_is_borrowed_by_its_kind(rt: HostRuntime) -> Result<(), Fail> {
-    let entry = record(rt.alloc(), OWNER, ROW)?;
-    let borrowed = is_borrowed(&entry);
-    drop(entry);
-    assert!(rt; borrowed?);
+    for owner in [OWNER, LONG_OWNER] {
+        let entry = record(rt.alloc(), owner, ROW)?;
+        let borrowed = is_borrowed(&entry);
+        drop(entry);
+        assert!(rt; borrowed?, "{owner}");
+    }
     Ok(())
 }
 

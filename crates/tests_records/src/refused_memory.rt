@@ -1,8 +1,8 @@
-use crate::rows::Datum::{self, Address, Soa, Text};
+use crate::rows::Datum::{self, Address, Number, Soa, Text};
 use crate::rows::Row;
 use crate::sets::{Call, Step, is_right, leaves, records, set_of};
 use base::DNSClass::IN;
-use base::RecordType::{self, A, CNAME, NS, SOA};
+use base::RecordType::{self, A, CNAME, NS, NULL, SOA};
 use rr::{Record, RecordSet};
 use std::alloc::Global;
 use std::test::Fail;
@@ -67,9 +67,9 @@ const CNAME_A: Datum = Text(CNAME, &["a."]);
 
 const CNAME_B: Datum = Text(CNAME, &["b."]);
 
-const NS_1: Datum = Text(NS, &["ns1.example."]);
+const NS_1: Datum = Text(NS, &["ns1.a-name-with-memory-of-its-own."]);
 
-const NS_2: Datum = Text(NS, &["ns2.example."]);
+const NS_2: Datum = Text(NS, &["ns2.a-name-with-memory-of-its-own."]);
 
 /// The type of a set, its changes, and what is left.
 const SETS: &[(RecordType, &'static [Change], &'static [Row])] = &[
@@ -128,26 +128,50 @@ fn data_is_put_in_and_removed(rt: HostRuntime) -> Result<(), Fail> {
     Ok(())
 }
 
-/// Whether enough addresses for an index to be made go in, in this way: 25 of them, 24 times the first again, and
-/// three more, of which the first makes the index.
-fn fills(alloc: Global, set: &mut RecordSet, way: Call) -> Result<bool, Fail> {
+/// The data of a number: an address, or bytes, of which each copy takes memory.
+fn numbered(record_type: RecordType, number: u16) -> Datum {
+    match record_type {
+        A => Address(number),
+        _ => Number(number),
+    }
+}
+
+/// Whether enough data of a type for an index to be made goes in, in this way: 25 of them, 24 times the first again,
+/// and three more, of which the first makes the index.
+fn fills(
+    alloc: Global,
+    set: &mut RecordSet,
+    record_type: RecordType,
+    way: Call,
+) -> Result<bool, Fail> {
     let mut right = true;
     for number in 0..52u16 {
         let is_new = number < 25 || number >= 49;
-        let datum = Address(if is_new { number } else { 0 });
+        let datum = numbered(record_type, if is_new { number } else { 0 });
         right = is_right(alloc, set, step(way, Change::Put(datum, is_new, true)))? && right;
     }
     Ok(set.records_count() == 28 && right)
 }
 
+/// Whether an empty set of a type is filled so.
+fn is_filled(alloc: Global, record_type: RecordType, way: Call) -> Result<bool, Fail> {
+    let mut set = set_of(alloc, record_type, (5, 0, &[]))?;
+    let filled = fills(alloc, &mut set, record_type, way);
+    drop(set);
+    filled
+}
+
 #[test]
 fn addresses_are_put_in_by_an_index(rt: HostRuntime) -> Result<(), Fail> {
     for way in WAYS {
-        let mut set = set_of(rt.alloc(), A, (5, 0, &[]))?;
-        let filled = fills(rt.alloc(), &mut set, way);
-        drop(set);
-        assert!(rt; filled?);
+        assert!(rt; is_filled(rt.alloc(), A, way)?);
     }
+    Ok(())
+}
+
+#[test]
+fn bytes_are_put_in_by_an_index(rt: HostRuntime) -> Result<(), Fail> {
+    assert!(rt; is_filled(rt.alloc(), NULL, Call::Insert)?);
     Ok(())
 }
 

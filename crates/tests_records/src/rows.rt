@@ -1,7 +1,7 @@
 //! Data and records of rows.
 
 use base::{DNSClass, Name, ParseError, RecordType};
-use base_data::{A, RData, RecordData, SOA};
+use base_data::{A, NULL, RData, RecordData, SOA};
 use rr::Record;
 use std::alloc::Global;
 use std::net::Ipv4Addr;
@@ -11,6 +11,8 @@ use std::net::Ipv4Addr;
 pub(crate) enum Datum {
     /// The address that begins with 93.184 and ends in this number.
     Address(u16),
+    /// The two bytes of this number, carried for the type NULL.
+    Number(u16),
     /// What these items spell.
     Text(RecordType, &'static [&'static str]),
     /// An SOA of this serial and first name.
@@ -38,6 +40,10 @@ fn soa(first: Name, serial: u32) -> RData {
 pub(crate) fn data(alloc: Global, datum: Datum) -> Result<RData, ParseError> {
     match datum {
         Datum::Address(number) => Ok(address(number)),
+        Datum::Number(number) => {
+            let bytes = Vec::from_slice(alloc, &number.to_be_bytes())?;
+            Ok(RData::NULL(NULL::new(bytes)))
+        }
         Datum::Text(record_type, items) => RData::from_items(alloc, record_type, items, None),
         Datum::Soa(serial, name) => Ok(soa(Name::parse(alloc, name, None)?, serial)),
         Datum::Empty(record_type) => Ok(RData::Update0(record_type)),

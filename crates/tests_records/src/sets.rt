@@ -14,8 +14,8 @@ use rr::{Record, RecordSet};
 use std::alloc::Global;
 use std::test::Fail;
 
-/// The owner of the sets.
-pub(crate) const OWNER: &str = "example.";
+/// The owner of the sets. It has more than 29 bytes, so that each copy of it takes memory.
+pub(crate) const OWNER: &str = "a-name-with-memory-of-its-own.";
 
 /// What is done to a set with a record.
 #[derive(Clone, Copy)]

@@ -1,6 +1,6 @@
 //! The callers that docs/CALLING.md quotes.
 
-use crate::updates::{name, zone_and_addresses};
+use crate::updates::{EXAMPLE, LONG_ZONE, name, zone_and_addresses};
 use base::ProtoError;
 use base_data::{A, RData};
 use examples::answer::respond;
@@ -101,20 +101,22 @@ const SOA_AND_NS: &str = "@ 3600 SOA ns hostmaster 1 2 3 4 5\n@ NS ns\n";
 
 const WITH_WWW: &str = "@ 3600 SOA ns hostmaster 1 2 3 4 5\n@ NS ns\nwww 300 A 192.0.2.2\n";
 
-/// The code and the number of sets where an address of `www` is created in the zone of the text.
-fn creates(alloc: Global, text: &str) -> Result<(ResponseCode, usize), Fail> {
-    let (origin, set) = zone_and_addresses(alloc, 60, 1)?;
+/// The code and the number of sets where an address of `www` is created in the zone of this name and text.
+fn creates(alloc: Global, zone: &str, text: &str) -> Result<(ResponseCode, usize), Fail> {
+    let (origin, set) = zone_and_addresses(alloc, zone, 60, 1)?;
     let (code, sets) = create_in(alloc, &origin, text, set)?;
     Ok((code, sets.len()))
 }
 
 #[test]
 fn a_set_is_created_once(rt: HostRuntime) -> Result<(), Fail> {
-    for &(text, wanted) in &[
-        (SOA_AND_NS, (ResponseCode::NoError, 3)),
-        (WITH_WWW, (ResponseCode::YXRRSet, 3)),
+    for &(zone, text, wanted) in &[
+        (EXAMPLE, SOA_AND_NS, (ResponseCode::NoError, 3)),
+        (EXAMPLE, WITH_WWW, (ResponseCode::YXRRSet, 3)),
+        (LONG_ZONE, SOA_AND_NS, (ResponseCode::NoError, 3)),
+        (LONG_ZONE, WITH_WWW, (ResponseCode::YXRRSet, 3)),
     ] {
-        assert!(rt; creates(rt.alloc(), text)? == wanted, "{text}");
+        assert!(rt; creates(rt.alloc(), zone, text)? == wanted, "{zone} {text}");
     }
     Ok(())
 }

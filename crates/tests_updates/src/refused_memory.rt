@@ -1,6 +1,7 @@
 //! What is sent, each allocation of which `scripts/refused_memory` refuses in turn.
 
-use crate::updates::builders::{SENT, Sent, build};
+use crate::updates::builders::{LONG_SENT, SENT, Sent, build};
+use crate::updates::{EXAMPLE, LONG_ZONE};
 use op::Message;
 use std::alloc::Global;
 use std::test::Fail;
@@ -14,9 +15,9 @@ fn is_sent_as(alloc: Global, message: &Message, wire: &[u8]) -> Result<bool, Fai
     Ok(is_read && bytes.as_slice() == wire)
 }
 
-/// Whether what is sent is built as such a message.
-fn is_built_as(alloc: Global, sent: Sent, wire: &[u8]) -> Result<bool, Fail> {
-    let message = build(alloc, sent)?;
+/// Whether what is sent of a zone is built as such a message.
+fn is_built_as(alloc: Global, zone: &str, sent: Sent, wire: &[u8]) -> Result<bool, Fail> {
+    let message = build(alloc, zone, sent)?;
     let is_sent = is_sent_as(alloc, &message, wire);
     drop(message);
     is_sent
@@ -26,7 +27,18 @@ fn is_built_as(alloc: Global, sent: Sent, wire: &[u8]) -> Result<bool, Fail> {
 fn updates_and_questions_for_transfers_are_built(rt: HostRuntime) -> Result<(), Fail> {
     for &(sent, len, wire) in SENT {
         assert!(rt;
-            is_built_as(rt.alloc(), sent, wire)? && wire.len() == len,
+            is_built_as(rt.alloc(), EXAMPLE, sent, wire)? && wire.len() == len,
+            "{len}"
+        );
+    }
+    Ok(())
+}
+
+#[test]
+fn the_same_is_built_of_a_zone_whose_name_takes_memory(rt: HostRuntime) -> Result<(), Fail> {
+    for &(sent, len, wire) in LONG_SENT {
+        assert!(rt;
+            is_built_as(rt.alloc(), LONG_ZONE, sent, wire)? && wire.len() == len,
             "{len}"
         );
     }

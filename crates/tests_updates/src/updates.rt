@@ -24,26 +24,34 @@ fn address(last: u8) -> RData {
     RData::A(A::new(Ipv4Addr::new(192, 0, 2, last)))
 }
 
-/// `www.example.` with this TTL and 192.0.2.`last`.
-fn host(alloc: Global, ttl: u32, last: u8) -> Result<Record, ParseError> {
-    Ok(Record::from_rdata(name(alloc, "www.example.")?, ttl, address(last)))
+/// The zone of most tests, and one whose name has more than 29 bytes, so that each copy of it takes memory.
+pub(super) const EXAMPLE: &str = "example.";
+
+pub(super) const LONG_ZONE: &str = "a-name-with-memory-of-its-own.";
+
+/// The host of each zone.
+const HOST: &str = "www";
+
+/// A record of this owner with this TTL and 192.0.2.`last`.
+fn host(owner: &Name, ttl: u32, last: u8) -> Result<Record, ParseError> {
+    Ok(Record::from_rdata(owner.clone()?, ttl, address(last)))
 }
 
-/// The addresses 192.0.2.1 to 192.0.2.`count`, with a TTL.
-fn hosts(alloc: Global, ttl: u32, count: u8) -> Result<Vec<Record>, ParseError> {
-    let mut records = Vec::new(alloc);
+/// The addresses 192.0.2.1 to 192.0.2.`count` of this owner, with a TTL.
+fn hosts(owner: &Name, ttl: u32, count: u8) -> Result<Vec<Record>, ParseError> {
+    let mut records = Vec::new(owner.allocator());
     for last in 0..count {
-        records.push(host(alloc, ttl, last.saturating_add(1))?)?;
+        records.push(host(owner, ttl, last.saturating_add(1))?)?;
     }
     Ok(records)
 }
 
-/// `example.` and a name, if that lies in this zone.
-fn zone_and_name(alloc: Global, owner: &str) -> Result<(Name, Name), ParseError>
+/// The name of a zone and the one that a text spells under it, if that lies in this zone.
+fn zone_and_name(alloc: Global, zone: &str, owner: &str) -> Result<(Name, Name), ParseError>
     ensures { IfOk result (λ p. is_zone_of p.0 p.1 ≡ true) }
 {
-    let origin = name(alloc, "example.")?;
-    let owner = name(alloc, owner)?;
+    let origin = name(alloc, zone)?;
+    let owner = Name::parse(alloc, owner, Some(&origin))?;
     if origin.zone_of(&owner) {
         return Ok((origin, owner));
     }
@@ -59,15 +67,16 @@ fn set_of(alloc: Global, owner: Name, ttl: u32, records: Vec<Record>) -> RecordS
     set
 }
 
-/// `example.`, and the set of these addresses of `www.example.`, with a TTL.
+/// The name of a zone, and the set of these addresses of its host, with a TTL.
 pub(super) fn zone_and_addresses(
     alloc: Global,
+    zone: &str,
     ttl: u32,
     count: u8,
 ) -> Result<(Name, RecordSet), ParseError>
     ensures { IfOk result (λ p. is_zone_of p.0 p.1.name ≡ true) }
 {
-    let (origin, owner) = zone_and_name(alloc, "www.example.")?;
-    let records = hosts(alloc, ttl, count)?;
+    let (origin, owner) = zone_and_name(alloc, zone, HOST)?;
+    let records = hosts(&owner, ttl, count)?;
     Ok((origin, set_of(alloc, owner, ttl, records)))
 }

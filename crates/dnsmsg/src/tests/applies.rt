@@ -1,5 +1,7 @@
 //! Rows of the command `apply`.
 
+mod names;
+
 use super::{Parts, Row, USAGE, all_give, parts_give};
 use std::alloc::AllocError;
 use std::process::Abort;

@@ -24,6 +24,82 @@ impl Read for BrokenReader {
     }
 }
 
+/// Gives a text in pieces, and before each of them is interrupted once.
+#[derive(Drop)]
+struct InterruptedReader<'a> {
+    left: &'a [u8],
+    piece: usize,
+    is_interrupted: bool,
+}
+
+impl Read for InterruptedReader<'_> {
+    fn read(&mut self, buf: &mut [u8]) -> io::Result<usize> {
+        self.is_interrupted = !self.is_interrupted;
+        if self.is_interrupted {
+            return Err(io::Error::from(ErrorKind::Interrupted));
+        }
+        let len = self.piece.min(self.left.len()).min(buf.len());
+        buf[..len].copy_from_slice(&self.left[..len]);
+        self.left = &self.left[len..];
+        Ok(len)
+    }
+}
+
+/// Whether a run on a text in pieces of this length ends well and prints this.
+fn is_read_in_pieces(
+    alloc: Global,
+    words: &[&str],
+    text: &[u8],
+    piece: usize,
+    printed: &[u8],
+) -> Result<bool, AllocError> {
+    let mut input = InterruptedReader {
+        left: text,
+        piece,
+        is_interrupted: false,
+    };
+    let (status, output) = run_on(alloc, words, &mut input)?;
+    Ok(status == 0 && output.as_slice() == printed)
+}
+
+#[test]
+fn an_interrupted_read_is_tried_again(rt: HostRuntime) -> Result<(), AllocError> {
+    let printed =
+        b"272:RESPONSE:TC,RA:NXDomain:UPDATE\ncounts 34935 26197 17459 8721\n0110aa838877665544332211\n";
+    for piece in [1, 5, HEADER.len()] {
+        assert!(rt;
+            is_read_in_pieces(rt.alloc(), &["header"], HEADER, piece, printed)?,
+            "{piece}"
+        );
+    }
+    Ok(())
+}
+
+/// A response with the answer `a.` 0 NULL, up to its data, of 50,000 bytes.
+const LARGE: &[u8] = b"000780000000000100000000 01610000 0a0001 00000000 c350";
+
+/// As many zero bytes.
+const ZEROS: usize = 50_000;
+
+/// That message in hexadecimal, with a line end.
+fn large_message(alloc: Global) -> Result<Vec<u8>, AllocError> {
+    let mut text = Vec::new(alloc);
+    text.extend(LARGE.iter().copied().filter(|byte| *byte != b' '))?;
+    text.resize(text.len().saturating_add(2 * ZEROS), b'0')?;
+    text.push(b'\n')?;
+    Ok(text)
+}
+
+/// A message that needs no cut is printed as it was read: 100,051 bytes in more than 3,000 reads, of which every other
+/// one is interrupted.
+#[test]
+fn a_large_input_is_read_to_its_end(rt: HostRuntime) -> Result<(), AllocError> {
+    let text = large_message(rt.alloc())?;
+    let words = ["cut", "65535"];
+    assert!(rt; is_read_in_pieces(rt.alloc(), &words, &text, 64, &text)?);
+    Ok(())
+}
+
 /// Fails at its first write.
 #[derive(Drop)]
 struct BrokenWriter;

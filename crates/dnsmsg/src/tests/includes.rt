@@ -13,6 +13,15 @@ const INCLUDED: &[Row] = &[
         0,
         &["$ORIGIN a.\nx.a. 5 IN A 192.0.2.1\ny.b. 6 IN A 192.0.2.2\n"],
     ),
+    // and the origin of a name that has memory of its own
+    (
+        &["zone", "-", "f=$ORIGIN b.\ny 6 A 192.0.2.2\n"],
+        &["$ORIGIN a-name-with-memory-of-its-own.\n$INCLUDE f\nx 5 A 192.0.2.1\n"],
+        0,
+        &[
+            "$ORIGIN a-name-with-memory-of-its-own.\nx.a-name-with-memory-of-its-own. 5 IN A 192.0.2.1\ny.b. 6 IN A 192.0.2.2\n",
+        ],
+    ),
     (&["zone", "a."], &["$INCLUDE g\n"], 1, &["refused 20\n"]),
     (&["zone", "a."], &["$INCLUDE g"], 0, &["$ORIGIN a.\n"]),
     (

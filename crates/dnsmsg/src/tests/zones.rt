@@ -1,7 +1,7 @@
 //! Rows of the command `zone`.
 
-use super::{Row, USAGE, all_give};
-use std::alloc::AllocError;
+use super::{Row, USAGE, all_give, gives};
+use std::alloc::{AllocError, Global};
 
 /// The words of a text under the origin `a.`.
 const A: &[&str] = &["zone", "a."];
@@ -29,6 +29,21 @@ const ZONES: &[Row] = &[
         0,
         &[
             "$ORIGIN a.\nc.a. 60 CH TXT \"x\"\nc.a. 60 CH TXT \"y\"\ns.a. 60 IN SRV 1 2 443 w.a.\nt.a. 60 IN TXT \"x;y\" \"z\\\"q\"\nv6.a. 60 IN AAAA 2001:db8::1:0:0:1\n",
+        ],
+    ),
+    // an owner, data and an origin that have memory of their own
+    (
+        &["zone", "a-name-with-memory-of-its-own."],
+        &[
+            "another-name-with-memory-of-its-own 60 A 192.0.2.1\nanother-name-with-memory-of-its-own A 192.0.2.2\n MX 10 a-name-with-memory-of-its-own.\n MX 20 mail\n",
+        ],
+        0,
+        &[
+            "$ORIGIN a-name-with-memory-of-its-own.\n",
+            "another-name-with-memory-of-its-own.a-name-with-memory-of-its-own. 60 IN A 192.0.2.1\n",
+            "another-name-with-memory-of-its-own.a-name-with-memory-of-its-own. 60 IN A 192.0.2.2\n",
+            "another-name-with-memory-of-its-own.a-name-with-memory-of-its-own. 60 IN MX 10 a-name-with-memory-of-its-own.\n",
+            "another-name-with-memory-of-its-own.a-name-with-memory-of-its-own. 60 IN MX 20 mail.a-name-with-memory-of-its-own.\n",
         ],
     ),
     // owners and TTLs
@@ -107,4 +122,26 @@ fn rows_of_zones(rt: HostRuntime) -> Result<(), AllocError> {
 #[test]
 fn rows_of_refused_zones(rt: HostRuntime) -> Result<(), AllocError> {
     all_give(&rt, REFUSED)
+}
+
+/// The numbers of owners, of which there are more than sets in a block.
+const FIRST: u32 = 100;
+
+const LAST: u32 = 299;
+
+/// The text of a zone with an address for each, and what is printed of it under the origin `a.`.
+fn many_owners(alloc: Global) -> Result<(String, String), AllocError> {
+    let mut text = String::new(alloc);
+    let mut printed = String::from_str(alloc, "$ORIGIN a.\n")?;
+    for number in FIRST..=LAST {
+        write!(text, "n{number} 60 A 192.0.2.1\n")?;
+        write!(printed, "n{number}.a. 60 IN A 192.0.2.1\n")?;
+    }
+    Ok((text, printed))
+}
+
+#[test]
+fn a_zone_of_many_owners(rt: HostRuntime) -> Result<(), AllocError> {
+    let (text, printed) = many_owners(rt.alloc())?;
+    gives(&rt, A, &text, 0, &printed)
 }

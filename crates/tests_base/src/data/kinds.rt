@@ -29,8 +29,8 @@ fn is_read(alloc: Global, record_type: RecordType, wire: &[u8], any: &RData) -> 
     is_this(RData::read(&mut decoder, record_type, len), any)
 }
 
-/// Whether a copy of data is data of any record of that type, is taken out again, and is read of these bytes where
-/// there are any.
+/// Whether a copy of data is data of any record of that type, is taken out again, is read of these bytes where there
+/// are any, and is equal to its own copy.
 fn is_taken_out<R: RecordData>(
     alloc: Global,
     value: &R,
@@ -42,8 +42,7 @@ fn is_taken_out<R: RecordData>(
             let any = copy.into_rdata();
             let is_same = any.record_type() == record_type && holds(&any, value);
             let is_read = wire.is_empty() || is_read(alloc, record_type, wire, &any);
-            drop(any);
-            is_same && is_read
+            is_copied(any) && is_same && is_read
         }
         Err(_) => false,
     }
@@ -151,14 +150,14 @@ fn mail_host(alloc: Global, preference: u16, text: &str) -> Result<MX, ParseErro
 }
 
 /// An SRV.
-fn service(alloc: Global) -> Result<SRV, ParseError> {
-    Ok(SRV::new(1, 2, 443, name(alloc, "w.a.")?))
+fn service(alloc: Global, text: &str) -> Result<SRV, ParseError> {
+    Ok(SRV::new(1, 2, 443, name(alloc, text)?))
 }
 
-/// An SOA, with names under `example.`.
-fn soa(alloc: Global) -> Result<SOA, ParseError> {
-    let server = name(alloc, "ns.example.")?;
-    match name(alloc, "hostmaster.example.") {
+/// An SOA of a server and a mailbox.
+fn soa(alloc: Global, server: &str, mailbox: &str) -> Result<SOA, ParseError> {
+    let server = name(alloc, server)?;
+    match name(alloc, mailbox) {
         Ok(mailbox) => Ok(SOA::new(server, mailbox, 1, 7200, 3600, 1_209_600, 300)),
         Err(e) => {
             drop(server);
@@ -180,7 +179,7 @@ enum Kind {
     OneOption,
     Strings,
     Marks,
-    MailHost,
+    MailHost(&'static str),
 }
 
 /// The data of each kind, its type, its bytes and its text.
@@ -223,11 +222,19 @@ const FORMS: &[(Kind, Form)] = &[
         (RecordType::TXT, b"\x03x;y\x03z\"q", "\"x;y\" \"z\\\"q\""),
     ),
     (
-        Kind::MailHost,
+        Kind::MailHost("mail.example."),
         (
             RecordType::MX,
             b"\0\x0A\x04mail\x07example\0",
             "10 mail.example.",
+        ),
+    ),
+    (
+        Kind::MailHost("a-name-with-memory-of-its-own."),
+        (
+            RecordType::MX,
+            b"\0\x0A\x1Da-name-with-memory-of-its-own\0",
+            "10 a-name-with-memory-of-its-own.",
         ),
     ),
 ];
@@ -248,7 +255,7 @@ fn is_of_kind(alloc: Global, kind: Kind, form: Form) -> bool {
         Kind::OneOption => is_data(alloc, one_option(alloc), form),
         Kind::Strings => is_data(alloc, TXT::new(alloc, &STRINGS), form),
         Kind::Marks => is_data(alloc, TXT::new(alloc, &MARKS), form),
-        Kind::MailHost => is_data(alloc, mail_host(alloc, 10, "mail.example."), form),
+        Kind::MailHost(text) => is_data(alloc, mail_host(alloc, 10, text), form),
     }
 }
 
@@ -259,14 +266,38 @@ fn kinds(rt: HostRuntime) {
     }
 }
 
-/// Data of names, its type, its bytes and its text, and the bytes of two of it in a row: names in data are compressed,
-/// but for those of services and of ANAME.
-const NAMED: &[(Form, &'static [u8])] = &[
-    ((RecordType::NS, b"\x01a\0", "a."), b"\x01a\0\xC0\x00"),
-    ((RecordType::CNAME, b"\x01a\0", "a."), b"\x01a\0\xC0\x00"),
-    ((RecordType::PTR, b"\x01a\0", "a."), b"\x01a\0\xC0\x00"),
-    ((RecordType::ANAME, b"\x01a\0", "a."), b"\x01a\0\x01a\0"),
+/// Names, of which an SOA has two and all else one; data of them, its type, its bytes and its text; and the bytes of
+/// two of it in a row: names in data are compressed, but for those of services and of ANAME.
+type Named = (&'static str, &'static str, Form, &'static [u8]);
+
+const NAMED: &[Named] = &[
     (
+        "a.",
+        "",
+        (RecordType::NS, b"\x01a\0", "a."),
+        b"\x01a\0\xC0\x00",
+    ),
+    (
+        "a.",
+        "",
+        (RecordType::CNAME, b"\x01a\0", "a."),
+        b"\x01a\0\xC0\x00",
+    ),
+    (
+        "a.",
+        "",
+        (RecordType::PTR, b"\x01a\0", "a."),
+        b"\x01a\0\xC0\x00",
+    ),
+    (
+        "a.",
+        "",
+        (RecordType::ANAME, b"\x01a\0", "a."),
+        b"\x01a\0\x01a\0",
+    ),
+    (
+        "w.a.",
+        "",
         (
             RecordType::SRV,
             b"\0\x01\0\x02\x01\xBB\x01w\x01a\0",
@@ -275,6 +306,8 @@ const NAMED: &[(Form, &'static [u8])] = &[
         b"\0\x01\0\x02\x01\xBB\x01w\x01a\0\0\x01\0\x02\x01\xBB\x01w\x01a\0",
     ),
     (
+        "ns.example.",
+        "hostmaster.example.",
         (
             RecordType::SOA,
             b"\x02ns\x07example\0\x0Ahostmaster\xC0\x03\
@@ -287,23 +320,93 @@ const NAMED: &[(Form, &'static [u8])] = &[
     ),
 ];
 
+/// The same of names that have memory of their own.
+const LONG_NAMED: &[Named] = &[
+    (
+        "a-name-with-memory-of-its-own.",
+        "",
+        (
+            RecordType::NS,
+            b"\x1Da-name-with-memory-of-its-own\0",
+            "a-name-with-memory-of-its-own.",
+        ),
+        b"\x1Da-name-with-memory-of-its-own\0\xC0\x00",
+    ),
+    (
+        "a-name-with-memory-of-its-own.",
+        "",
+        (
+            RecordType::CNAME,
+            b"\x1Da-name-with-memory-of-its-own\0",
+            "a-name-with-memory-of-its-own.",
+        ),
+        b"\x1Da-name-with-memory-of-its-own\0\xC0\x00",
+    ),
+    (
+        "a-name-with-memory-of-its-own.",
+        "",
+        (
+            RecordType::PTR,
+            b"\x1Da-name-with-memory-of-its-own\0",
+            "a-name-with-memory-of-its-own.",
+        ),
+        b"\x1Da-name-with-memory-of-its-own\0\xC0\x00",
+    ),
+    (
+        "a-name-with-memory-of-its-own.",
+        "",
+        (
+            RecordType::ANAME,
+            b"\x1Da-name-with-memory-of-its-own\0",
+            "a-name-with-memory-of-its-own.",
+        ),
+        b"\x1Da-name-with-memory-of-its-own\0\x1Da-name-with-memory-of-its-own\0",
+    ),
+    (
+        "a-name-with-memory-of-its-own.",
+        "",
+        (
+            RecordType::SRV,
+            b"\0\x01\0\x02\x01\xBB\x1Da-name-with-memory-of-its-own\0",
+            "1 2 443 a-name-with-memory-of-its-own.",
+        ),
+        b"\0\x01\0\x02\x01\xBB\x1Da-name-with-memory-of-its-own\0\
+        \0\x01\0\x02\x01\xBB\x1Da-name-with-memory-of-its-own\0",
+    ),
+    (
+        "ns.a-name-with-memory-of-its-own.",
+        "hostmaster.a-name-with-memory-of-its-own.",
+        (
+            RecordType::SOA,
+            b"\x02ns\x1Da-name-with-memory-of-its-own\0\x0Ahostmaster\xC0\x03\
+            \0\0\0\x01\0\0\x1C\x20\0\0\x0E\x10\0\x12\x75\0\0\0\x01\x2C",
+            "ns.a-name-with-memory-of-its-own. hostmaster.a-name-with-memory-of-its-own. 1 7200 3600 1209600 300",
+        ),
+        b"\x02ns\x1Da-name-with-memory-of-its-own\0\x0Ahostmaster\xC0\x03\
+        \0\0\0\x01\0\0\x1C\x20\0\0\x0E\x10\0\x12\x75\0\0\0\x01\x2C\
+        \xC0\x00\xC0\x22\0\0\0\x01\0\0\x1C\x20\0\0\x0E\x10\0\x12\x75\0\0\0\x01\x2C",
+    ),
+];
+
 /// Whether data of names has this form, and that in a row.
-fn is_of_names(alloc: Global, form: Form, twice: &[u8]) -> bool {
+fn is_of_names(alloc: Global, (one, other, form, twice): Named) -> bool {
     match form.0 {
-        RecordType::NS => is_named(alloc, name(alloc, "a.").map(NS::new), form, twice),
-        RecordType::CNAME => is_named(alloc, name(alloc, "a.").map(CNAME::new), form, twice),
-        RecordType::PTR => is_named(alloc, name(alloc, "a.").map(PTR::new), form, twice),
-        RecordType::ANAME => is_named(alloc, name(alloc, "a.").map(ANAME::new), form, twice),
-        RecordType::SRV => is_named(alloc, service(alloc), form, twice),
-        RecordType::SOA => is_named(alloc, soa(alloc), form, twice),
+        RecordType::NS => is_named(alloc, name(alloc, one).map(NS::new), form, twice),
+        RecordType::CNAME => is_named(alloc, name(alloc, one).map(CNAME::new), form, twice),
+        RecordType::PTR => is_named(alloc, name(alloc, one).map(PTR::new), form, twice),
+        RecordType::ANAME => is_named(alloc, name(alloc, one).map(ANAME::new), form, twice),
+        RecordType::SRV => is_named(alloc, service(alloc, one), form, twice),
+        RecordType::SOA => is_named(alloc, soa(alloc, one, other), form, twice),
         _ => false,
     }
 }
 
 #[test]
 fn names(rt: HostRuntime) {
-    for &(form, twice) in NAMED {
-        assert!(rt; is_of_names(rt.alloc(), form, twice), "{}", form.0);
+    for table in [NAMED, LONG_NAMED] {
+        for &row in table {
+            assert!(rt; is_of_names(rt.alloc(), row), "{} {}", row.0, row.2.0);
+        }
     }
 }
 

@@ -304,11 +304,22 @@ fn keys(rt: HostRuntime) {
     }
 }
 
+/// Names, and the same in lower case; the second has memory of its own.
+const LOWERED: &[(&'static str, &'static str)] = &[
+    ("WWW.Example.Com", "www.example.com"),
+    (
+        "A-Name-With-Memory-Of-Its-Own.",
+        "a-name-with-memory-of-its-own.",
+    ),
+];
+
 #[test]
 fn lowered_names(rt: HostRuntime) -> Result<(), ParseError> {
-    let lowered = lower(rt.alloc(), "WWW.Example.Com")?;
-    let is_shown = has_text(rt.alloc(), &lowered, "www.example.com");
-    let is_copied = is_copied(lowered);
-    assert!(rt; is_shown && is_copied);
+    for &(text, wanted) in LOWERED {
+        let lowered = lower(rt.alloc(), text)?;
+        let is_shown = has_text(rt.alloc(), &lowered, wanted);
+        let is_copied = is_copied(lowered);
+        assert!(rt; is_shown && is_copied, "{text}");
+    }
     Ok(())
 }

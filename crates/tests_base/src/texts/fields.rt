@@ -8,6 +8,10 @@ pub(super) const NAMES: &[Row] = &[
     (".", "."),
     ("ns", "ns"),
     ("ns.sub", "ns.sub"),
+    (
+        "a-name-with-memory-of-its-own.",
+        "a-name-with-memory-of-its-own.",
+    ),
     (r"a\.b.\065.", r"a\.b.A."),
     ("*.example.", "*.example."),
     ("@", ""),
@@ -83,6 +87,10 @@ pub(super) const SERVICES: &[Row] = &[
     ("0,0,0,.", "0 0 0 ."),
     ("65535,65535,65535,sip", "65535 65535 65535 sip"),
     ("01,002,0003,sip.", "1 2 3 sip."),
+    (
+        "1,2,3,a-name-with-memory-of-its-own.",
+        "1 2 3 a-name-with-memory-of-its-own.",
+    ),
     ("65536,2,3,sip.", ""),
     ("1,65536,3,sip.", ""),
     ("1,2,65536,sip.", ""),

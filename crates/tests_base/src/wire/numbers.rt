@@ -1,7 +1,9 @@
 //! Numbers that are written, and limits.
 
-use super::Row;
-use super::Step::{Byte, Bytes, Class, Limit, Type, U16, U32, Value, Zeros};
+use super::Step::{
+    Byte, Bytes, Class, Limit, Name, Plain, SizedName, SizedValue, Type, U16, U32, Value, Zeros,
+};
+use super::{Row, Step, leave};
 use base::{BinEncoder, DNSClass, ProtoError, RecordType};
 
 /// Numbers, types and classes that are written over other bytes, and their bytes.
@@ -46,6 +48,37 @@ pub(super) const ROWS: &[Row] = &[
     // the first limit is the largest message
     (&[(Zeros(65_535), 0), (Byte(0), 1)], 65_535, &[]),
 ];
+
+/// Values, and their bytes.
+const VALUES: &[(Step, &'static [u8])] = &[
+    (Byte(1), &[1]),
+    (U16(0x0203), &[2, 3]),
+    (U32(0x0405_0607), &[4, 5, 6, 7]),
+    (Bytes(&[8, 9, 10]), &[8, 9, 10]),
+    (Value(0x0A0B), &[0x0A, 0x0B]),
+    (SizedValue(0x0C0D), &[0, 2, 0x0C, 0x0D]),
+    (Type(RecordType::MX), &[0, 15]),
+    (Class(DNSClass::IN), &[0, 1]),
+    (Name(b"\x01a\0"), b"\x01a\0"),
+    (Plain(b"\x01b\0"), b"\x01b\0"),
+    (SizedName(b"\x01c\0"), b"\0\x03\x01c\0"),
+];
+
+/// More than a buffer has room for at first, so that its room ends in each of these places.
+const ENDS: usize = 65;
+
+#[test]
+fn values_are_written_wherever_room_ends(rt: HostRuntime) {
+    for &(value, wanted) in VALUES {
+        for before in 0..ENDS {
+            let mut bytes = Vec::new(rt.alloc());
+            let steps = [(Zeros(before), 0), (value, 0)];
+            let is_written = leave(rt.alloc(), &mut bytes, &steps, before, wanted);
+            drop(bytes);
+            assert!(rt; is_written, "{wanted:?} after {before}");
+        }
+    }
+}
 
 /// Fills room after a byte, and answers whether nothing stood after it, before three bytes came.
 fn fill_room(encoder: &mut BinEncoder<'_>) -> Result<bool, ProtoError> {

@@ -62,6 +62,24 @@ fn values_are_read_in_turn(rt: HostRuntime) {
     assert!(rt; are_read && end == 6 && is_cut);
 }
 
+/// A name that has memory of its own, and one that ends in a pointer to it.
+const LONG_NAMES: &[u8] = b"\x1Da-name-with-memory-of-its-own\0\x01b\xC0\x00";
+
+#[test]
+fn many_names_are_read(rt: HostRuntime) {
+    let found = read_many::<Name>(&mut BinDecoder::new(rt.alloc(), LONG_NAMES), 2);
+    let label = b"a-name-with-memory-of-its-own".as_slice();
+    let are_read = match &found {
+        Ok(names) => match names.as_slice() {
+            [first, second] => has_labels(first, &[label]) && has_labels(second, &[b"b", label]),
+            _ => false,
+        },
+        Err(_) => false,
+    };
+    drop(found);
+    assert!(rt; are_read);
+}
+
 /// Two names that end alike.
 const TWO_NAMES: &[u8] = b"\x01a\x01b\0\x01C\xC0\x02";
 

@@ -218,6 +218,18 @@ const TEXTS: &[(Kind, &'static [Part], &'static str, bool)] = &[
          ; additionals 2\ng. 60 IN A 192.0.2.1\nh. 60 IN A 192.0.2.1\n",
         false,
     ),
+    // many are added to nothing
+    (
+        Kind::Response(7),
+        &[
+            Part::Asks(&["a.", "b."]),
+            Part::Addresses(Section::Answers, &["c.", "d."]),
+        ],
+        "; header 7:RESPONSE::NoError:QUERY\n; query\n\
+         ;; a. IN MX; mdns_unicast_response: false\n;; b. IN MX; mdns_unicast_response: false\n\
+         ; answers 2\nc. 60 IN A 192.0.2.1\nd. 60 IN A 192.0.2.1\n; authorities 0\n; additionals 0\n",
+        false,
+    ),
     // sections are taken over
     (
         Kind::Response(7),

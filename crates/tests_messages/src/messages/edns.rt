@@ -73,8 +73,10 @@ fn options_are_put_and_found(rt: HostRuntime) -> Result<(), ProtoError> {
     let edns = edns_with_option(rt.alloc())?;
     let is_found = edns.option(65001).is_some() && edns.option(65002).is_none();
     let len = edns.options().as_ref().len();
+    let bytes = b"\x00\x00\x29\x02\x00\x00\x00\x00\x00\x00\x06\xFD\xE9\x00\x02\x01\x02";
+    let is_written = is_written_as(rt.alloc(), &edns, bytes);
     drop(edns);
-    assert!(rt; is_found && len == 1);
+    assert!(rt; is_found && len == 1 && is_written);
     Ok(())
 }
 
@@ -92,9 +94,12 @@ fn is_of_record(edns: &Edns, ttl: u32) -> Result<bool, ProtoError> {
 
 #[test]
 fn a_record_is_made_of_edns(rt: HostRuntime) -> Result<(), ProtoError> {
-    let edns = edns(rt.alloc());
-    let is_of_record = is_of_record(&edns, 0x0140_8001);
-    drop(edns);
-    assert!(rt; is_of_record?);
+    let plain = edns(rt.alloc());
+    let is_of_record_without = is_of_record(&plain, 0x0140_8001);
+    drop(plain);
+    let with_option = edns_with_option(rt.alloc())?;
+    let is_of_record_with = is_of_record(&with_option, 0);
+    drop(with_option);
+    assert!(rt; is_of_record_without? && is_of_record_with?);
     Ok(())
 }

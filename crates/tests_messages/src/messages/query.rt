@@ -9,8 +9,10 @@ use test_tools::forms::{
     is_written_back, read,
 };
 
-/// A question in upper and lower case.
+/// Questions in upper and lower case; the name of the second has memory of its own.
 const WWW: &[u8] = b"\x03WWW\x07example\x03com\x00\x00\x1C\x00\x01";
+
+const LONG: &[u8] = b"\x1DA-Name-With-Memory-Of-Its-Own\x00\x00\x1C\x00\x01";
 
 /// Whether a question is written as these bytes, and read from them, and has this text.
 fn stands_as(alloc: Global, query: Query, wire: &[u8], text: &str) -> bool {
@@ -34,22 +36,47 @@ fn a_question(rt: HostRuntime) -> Result<(), ParseError> {
 }
 
 /// Whether a lower question is the one in lower case, and keeps the one that was asked.
-fn is_lowered(alloc: Global, question: &LowerQuery) -> bool {
+fn is_lowered(alloc: Global, question: &LowerQuery, lower: &str, asked: &str) -> bool {
     let asks = question.query_type() == RecordType::AAAA && question.query_class() == DNSClass::IN;
-    asks && has_text(alloc, question.name(), "www.example.com.")
-        && has_text(alloc, question.original().name(), "WWW.example.com.")
+    asks && has_text(alloc, question.name(), lower)
+        && has_text(alloc, question.original().name(), asked)
 }
+
+/// Whether that is so of the lower question of these bytes, and the one that is made of their question is read of them,
+/// and is equal to its copy.
+fn keeps_what_was_asked(
+    alloc: Global,
+    wire: &[u8],
+    lower: &str,
+    asked: &str,
+) -> Result<bool, Fail> {
+    let question: LowerQuery = read(alloc, wire)?;
+    let is_lowered = is_lowered(alloc, &question, lower, asked);
+    drop(question);
+    let question: Query = read(alloc, wire)?;
+    let made = LowerQuery::try_from(question)?;
+    let is_read = is_read_as(alloc, wire, &made);
+    Ok(is_copied(made) && is_read && is_lowered)
+}
+
+/// Questions, their names in lower case, and as they were asked.
+const ASKED: &[(&'static [u8], &'static str, &'static str)] = &[
+    (WWW, "www.example.com.", "WWW.example.com."),
+    (
+        LONG,
+        "a-name-with-memory-of-its-own.",
+        "A-Name-With-Memory-Of-Its-Own.",
+    ),
+];
 
 #[test]
 fn a_lower_question_keeps_the_one_that_was_asked(rt: HostRuntime) -> Result<(), Fail> {
-    let question: LowerQuery = read(rt.alloc(), WWW)?;
-    let is_lowered = is_lowered(rt.alloc(), &question);
-    drop(question);
-    let question: Query = read(rt.alloc(), WWW)?;
-    let made = LowerQuery::try_from(question)?;
-    let is_read = is_read_as(rt.alloc(), WWW, &made);
-    let is_copied = is_copied(made);
-    assert!(rt; is_lowered && is_read && is_copied);
+    for &(wire, lower, asked) in ASKED {
+        assert!(rt;
+            keeps_what_was_asked(rt.alloc(), wire, lower, asked)?,
+            "{asked}"
+        );
+    }
     Ok(())
 }
 
@@ -116,11 +143,17 @@ fn questions_that_are_read_as_others_or_refused(rt: HostRuntime) {
     assert!(rt; ends_in_name && is_cut::<Query>(rt.alloc(), &[0x00, 0x00, 0x01, 0x00]));
 }
 
-/// Whether the question that the setters make in this class has this text, is its copy, and is the question for `A.` in
-/// IN or not.
-fn is_set(alloc: Global, class: DNSClass, text: &str, is_same: bool) -> Result<bool, ParseError> {
-    let name = Name::parse(alloc, "a.", None)?;
-    let other = Name::parse(alloc, "A.", None)?;
+/// Whether the question that the setters make of the first name in this class has this text, is its copy, and is the
+/// question for the second name in IN or not.
+fn is_set(
+    alloc: Global,
+    (one, other): (&str, &str),
+    class: DNSClass,
+    text: &str,
+    is_same: bool,
+) -> Result<bool, ParseError> {
+    let name = Name::parse(alloc, one, None)?;
+    let other = Name::parse(alloc, other, None)?;
     let mut query = Query::new(alloc);
     query
         .set_name(name)
@@ -133,20 +166,35 @@ fn is_set(alloc: Global, class: DNSClass, text: &str, is_same: bool) -> Result<b
     Ok(is_copied(query) && is_right)
 }
 
-/// Classes, the texts of the questions, and whether they are the same as the other.
-const SET: &[(DNSClass, &'static str, bool)] = &[
+/// Names, classes, the texts of the questions, and whether they are the same as the other.
+const SET: &[((&'static str, &'static str), DNSClass, &'static str, bool)] = &[
     (
+        ("a.", "A."),
         DNSClass::CH,
         "a. CH MX; mdns_unicast_response: false",
         false,
     ),
-    (DNSClass::IN, "a. IN MX; mdns_unicast_response: false", true),
+    (
+        ("a.", "A."),
+        DNSClass::IN,
+        "a. IN MX; mdns_unicast_response: false",
+        true,
+    ),
+    (
+        (
+            "a-name-with-memory-of-its-own.",
+            "A-Name-With-Memory-Of-Its-Own.",
+        ),
+        DNSClass::IN,
+        "a-name-with-memory-of-its-own. IN MX; mdns_unicast_response: false",
+        true,
+    ),
 ];
 
 #[test]
 fn setters_change_their_field(rt: HostRuntime) -> Result<(), ParseError> {
-    for &(class, text, is_same) in SET {
-        assert!(rt; is_set(rt.alloc(), class, text, is_same)?, "{text}");
+    for &(names, class, text, is_same) in SET {
+        assert!(rt; is_set(rt.alloc(), names, class, text, is_same)?, "{text}");
     }
     Ok(())
 }

@@ -23,7 +23,7 @@ fn hints_are_exact(set: &RecordSet) -> bool {
     all && one && none && !entries.is_empty()
 }
 
-/// Two records of `example.` with a TTL of 3600.
+/// Two records with a TTL of 3600.
 const ADDED: [Row; 2] = [
     (Address(24), DNSClass::IN, 3600),
     (Address(25), DNSClass::IN, 3600),
@@ -51,7 +51,7 @@ fn hints_tell_how_many_are_left(rt: HostRuntime) -> Result<(), Fail> {
     Ok(())
 }
 
-/// Two records of `example.`.
+/// Two records.
 const FOREIGN: [Row; 2] = [
     (Address(24), DNSClass::CH, 1),
     (Address(25), DNSClass::IN, 2),

@@ -1,6 +1,6 @@
 //! What is added to a message through `UpdateMessage` stands in its sections, and is seen through it.
 
-use super::{host, hosts, name};
+use super::{EXAMPLE, HOST, host, hosts, zone_and_name};
 use base::{Name, RecordType};
 use base_data::TSIG;
 use examples::refusal::Refusal;
@@ -10,14 +10,16 @@ use rr::Record;
 use std::alloc::{AllocError, Global};
 use std::test::Fail;
 
-/// Adds the zone `example.`, three prerequisites, three updates and an additional record, with TTLs from 0 to 6.
+/// Adds the zone `example.`, five prerequisites, five updates and an additional record, with TTLs from 0 to 6: four of
+/// each at once, which takes more room than the one before.
 fn fill(alloc: Global, message: &mut Message) -> Result<(), Refusal> {
-    message.add_zone(Query::query(name(alloc, "example.")?, RecordType::SOA))?;
-    message.add_pre_requisite(host(alloc, 0, 1)?)?;
-    message.add_pre_requisites(hosts(alloc, 1, 2)?.into_iter())?;
-    message.add_update(host(alloc, 3, 1)?)?;
-    message.add_updates(hosts(alloc, 4, 2)?.into_iter())?;
-    Ok(message.add_additional(host(alloc, 6, 1)?)?)
+    let (zone, owner) = zone_and_name(alloc, EXAMPLE, HOST)?;
+    message.add_zone(Query::query(zone, RecordType::SOA))?;
+    message.add_pre_requisite(host(&owner, 0, 1)?)?;
+    message.add_pre_requisites(hosts(&owner, 1, 4)?.into_iter())?;
+    message.add_update(host(&owner, 3, 1)?)?;
+    message.add_updates(hosts(&owner, 4, 4)?.into_iter())?;
+    Ok(message.add_additional(host(&owner, 6, 1)?)?)
 }
 
 /// Whether the records have these TTLs.
@@ -36,10 +38,10 @@ fn is_filled(message: &Message) -> bool {
         Some(zone) => zone.query_type() == RecordType::SOA,
         None => false,
     };
-    let asks = have_ttls(message.prerequisites(), &[0, 1, 1]);
-    let has_answers = have_ttls(&message.answers, &[0, 1, 1]);
-    let changes = have_ttls(message.updates(), &[3, 4, 4]);
-    let has_authorities = have_ttls(&message.authorities, &[3, 4, 4]);
+    let asks = have_ttls(message.prerequisites(), &[0, 1, 1, 1, 1]);
+    let has_answers = have_ttls(&message.answers, &[0, 1, 1, 1, 1]);
+    let changes = have_ttls(message.updates(), &[3, 4, 4, 4, 4]);
+    let has_authorities = have_ttls(&message.authorities, &[3, 4, 4, 4, 4]);
     let has_more = have_ttls(message.additionals(), &[6]);
     let has_zone = message.id() == 9 && message.zones().len() == 1 && names_zone;
     has_zone && asks && has_answers && changes && has_authorities && has_more

@@ -3,7 +3,7 @@ use op::{Edns, Message, OpCode, Query};
 use std::alloc::Global;
 use test_tools::forms::is_copied;
 
-/// A response to a question for an address; an OPT record and an address; and a signature.
+/// A response to a question for an address.
 const WWW: [u8; 49] = [
     0x10, 0x00, 0x81, 0x80, 0x00, 0x01, 0x00, 0x01, 0x00, 0x00, 0x00, 0x00, 0x03, 0x77, 0x77, 0x77,
     0x07, 0x65, 0x78, 0x61, 0x6D, 0x70, 0x6C, 0x65, 0x03, 0x63, 0x6F, 0x6D, 0x00, 0x00, 0x01, 0x00,
@@ -11,6 +11,17 @@ const WWW: [u8; 49] = [
     0x0E,
 ];
 
+/// A response of an owner that has memory of its own: a question, an address, a name server, an address, an OPT record
+/// with an option, and a signature.
+const LONG: &[u8] =
+    b"\x10\x00\x81\x80\x00\x01\x00\x01\x00\x01\x00\x03\x1Da-name-with-memory-of-its-own\x00\x00\x01\x00\x01\
+      \xC0\x0C\x00\x01\x00\x01\x00\x00\x00\x02\x00\x04\x5D\xB8\xD7\x0E\
+      \xC0\x0C\x00\x02\x00\x01\x00\x00\x00\x02\x00\x02\xC0\x0C\
+      \xC0\x0C\x00\x01\x00\x01\x00\x00\x00\x02\x00\x04\x5D\xB8\xD7\x0E\
+      \x00\x00\x29\x02\x00\x00\x00\x00\x00\x00\x05\x00\x03\x00\x01\x04\
+      \x00\x00\xFA\x00\xFF\x00\x00\x00\x00\x00\x01\xAA";
+
+/// An OPT record and an address; and a signature.
 const OPT_AND_A: [u8; 26] = [
     0x00, 0x00, 0x29, 0x02, 0x00, 0x00, 0x00, 0x00, 0x00, 0x00, 0x00, 0x00, 0x00, 0x01, 0x00, 0x01,
     0x00, 0x00, 0x00, 0x00, 0x00, 0x04, 0x7F, 0x00, 0x00, 0x01,
@@ -32,13 +43,15 @@ fn is_asked(alloc: Global, bytes: &[u8], queries: &Vec<Query>, end: usize) -> bo
     same && decoder.index() == end
 }
 
-#[test]
-fn a_message_is_read_at_its_place(rt: HostRuntime) {
-    let mut decoder = BinDecoder::new(rt.alloc(), &WWW);
+/// Whether these bytes, all of them, are a message of one answer that is equal to its copy, and whose question takes so
+/// many bytes.
+fn is_read_at_its_place(alloc: Global, wire: &[u8], len: usize) -> bool {
+    let mut decoder = BinDecoder::new(alloc, wire);
     let read = Message::read(&mut decoder);
     let has_parts = match read {
         Ok(message) => {
-            let is_asked = is_asked(rt.alloc(), &WWW[12..], &message.queries, 21);
+            let question = wire.get(12..).unwrap_or(wire);
+            let is_asked = is_asked(alloc, question, &message.queries, len);
             let has_answer = message.answers.len() == 1;
             is_copied(message) && is_asked && has_answer
         }
@@ -46,7 +59,13 @@ fn a_message_is_read_at_its_place(rt: HostRuntime) {
     };
     let end = decoder.index();
     drop(decoder);
-    assert!(rt; has_parts && end == WWW.len());
+    has_parts && end == wire.len()
+}
+
+#[test]
+fn a_message_is_read_at_its_place(rt: HostRuntime) {
+    assert!(rt; is_read_at_its_place(rt.alloc(), &WWW, 21));
+    assert!(rt; is_read_at_its_place(rt.alloc(), LONG, 35));
 }
 
 /// Whether `count` records outside the additional section are refused, since one of this type is among them.
