@@ -1,13 +1,7 @@
 /* The caller's own allocator: the library takes its memory from an arena of fixed size, and not from malloc. It asks for
- * three functions, which a program may define itself in the place of those that the toolchain has over malloc:
- *
- *   rattle_alloc(size, align)                 a block of so many bytes, aligned to `align`, a power of two up to 16
- *   rattle_realloc(block, kept, size, align)  the block with so many bytes, whose first `kept` bytes are as they were
- *   rattle_dealloc(block)                     the block is free again
- *
- * The first two answer whether there is memory, and the block; where there is none, a pointer that isn't null all the
- * same, and the old block stays. Here blocks are laid one after the other, the last one alone is given back, and all are
- * free when none is left, as after each call. */
+ * the three functions that stand at the end of fuzsbanel.h, which a program may define itself in the place of those that
+ * the archive has over malloc. Here blocks are laid one after the other, and all are free when none is left, as after each
+ * call. */
 #include "fuzsbanel.h"
 
 #include <inttypes.h>
@@ -16,36 +10,27 @@
 
 #define SIZE 4096
 
-struct tried {
-    bool ok;
-    void *block;
-};
-
-struct tried rattle_alloc(size_t size, size_t align);
-struct tried rattle_realloc(void *block, size_t kept, size_t size, size_t align);
-void rattle_dealloc(void *block);
-
 static _Alignas(16) unsigned char arena[SIZE];
 static unsigned char none;
 static size_t used, blocks, most;
 
-struct tried rattle_alloc(size_t size, size_t align)
+struct rattle_block rattle_alloc(size_t size, size_t align)
 {
     size_t start = (used + align - 1) & ~(align - 1);
     if (size == 0)
         size = 1;
     if (start > SIZE || size > SIZE - start)
-        return (struct tried){false, &none};
+        return (struct rattle_block){false, &none};
     used = start + size;
     blocks++;
     if (used > most)
         most = used;
-    return (struct tried){true, arena + start};
+    return (struct rattle_block){true, arena + start};
 }
 
-struct tried rattle_realloc(void *block, size_t kept, size_t size, size_t align)
+struct rattle_block rattle_realloc(void *block, size_t kept, size_t size, size_t align)
 {
-    struct tried grown = rattle_alloc(size, align);
+    struct rattle_block grown = rattle_alloc(size, align);
     if (grown.ok) {
         memcpy(grown.block, block, kept < size ? kept : size);
         rattle_dealloc(block);

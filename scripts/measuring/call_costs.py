@@ -2,7 +2,7 @@
 from counting import of_one
 from messages import all_messages
 
-SHOWN = ["small_query", "answer_cname", "referral", "answer30", "dnssec_answer", "update"]
+SHOWN = ["small_query", "answer_cname", "referral", "answer30", "dnssec_answer", "update", "chain_in_data64"]
 
 # each column: its heading, which program, and what it loops
 COLUMNS = [
@@ -10,7 +10,8 @@ COLUMNS = [
     ("`fuzsbanel_check`", "archive", "check"),
     ("ldns", "ldns", "read"),
     ("trust-dns", "trust-dns", "read"),
-    ("walked in C", "archive", "walk"),
+    ("by places", "archive", "walk"),
+    ("`fuzsbanel_walk`", "archive", "whole"),
     ("cut", "own", "cut"),
     ("`fuzsbanel_cut`", "archive", "cut"),
     ("trust-dns", "trust-dns", "cut"),
