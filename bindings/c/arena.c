@@ -13,15 +13,18 @@
 static _Alignas(16) unsigned char arena[SIZE];
 static unsigned char none;
 static size_t used, blocks, most;
+/* how many blocks are still given out */
+static size_t left = SIZE_MAX;
 
 struct rattle_block rattle_alloc(size_t size, size_t align)
 {
     size_t start = (used + align - 1) & ~(align - 1);
     if (size == 0)
         size = 1;
-    if (start > SIZE || size > SIZE - start)
+    if (left == 0 || start > SIZE || size > SIZE - start)
         return (struct rattle_block){false, &none};
     used = start + size;
+    left--;
     blocks++;
     if (used > most)
         most = used;
@@ -48,6 +51,27 @@ void rattle_dealloc(void *block)
 /* A question for the address of example. */
 static const uint8_t query[] = {0, 1, 1, 0, 0, 1, 0, 0, 0, 0, 0, 0, 7, 'e', 'x', 'a', 'm', 'p', 'l', 'e', 0, 0, 1, 0, 1};
 
+/* Whether a walk writes nothing where memory runs out, at each block in turn that it asks for. */
+static bool walk_is_all_or_nothing(void)
+{
+    struct fuzsbanel_item items[2];
+    uint8_t names[16];
+    struct fuzsbanel_room room;
+    int64_t answer;
+    bool holds = true;
+    size_t allowed = 0;
+    do {
+        memset(items, 0xA5, sizeof items);
+        memset(names, 0xA5, sizeof names);
+        left = allowed++;
+        answer = fuzsbanel_walk(query, sizeof query, items, 2, names, sizeof names, &room);
+        if (answer == -FUZSBANEL_MEMORY)
+            holds = holds && names[0] == 0xA5 && items[0].section == 0xA5 && room.items == 0 && blocks == 0;
+    } while (answer == -FUZSBANEL_MEMORY);
+    left = SIZE_MAX;
+    return holds && allowed > 1 && answer == (int64_t)sizeof query && room.items == 1 && room.names == 9;
+}
+
 int main(void)
 {
     uint8_t out[512];
@@ -67,5 +91,7 @@ int main(void)
         len += (size_t)sprintf(zone + len, "h%d 300 A 192.0.2.%d\n", i, i);
     int64_t answer = fuzsbanel_zone((const uint8_t *)"example.", 8, (const uint8_t *)zone, len, out, sizeof out, &needed);
     printf("a large zone: %" PRId64 ", blocks left %zu\n", answer, blocks);
-    return answer == -FUZSBANEL_MEMORY && blocks == 0 ? 0 : 1;
+    bool walks = walk_is_all_or_nothing();
+    printf("a walk without memory writes nothing: %s\n", walks ? "yes" : "no");
+    return answer == -FUZSBANEL_MEMORY && blocks == 0 && walks ? 0 : 1;
 }
