@@ -246,7 +246,7 @@ GROWING += [(single, (16, 32, 64)), (owners, (4, 8, 16)), (siblings, (4, 8, 16))
 
 
 # a worst case for calls that know nothing of what was read before
-ALONE = [(chain_in_data, 64)]
+ALONE = [(chain_in_data, (18, 64))]
 
 
 def all_messages():
@@ -256,5 +256,6 @@ def all_messages():
     for make, sizes in GROWING:
         for size in sizes:
             yield f"{make.__name__}{size}", make(size * 1024), 2
-    for make, size in ALONE:
-        yield f"{make.__name__}{size}", make(size * 1024), 1
+    for make, sizes in ALONE:
+        for size in sizes:
+            yield f"{make.__name__}{size}", make(size * 1024), 1
